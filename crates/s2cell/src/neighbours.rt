@@ -57,3 +57,6 @@ impl CellId {
         Some(self.parent(((TOP_BIT - highest) / 2) as u8))
     }
 }
+
+#[cfg(test)]
+mod tests;
