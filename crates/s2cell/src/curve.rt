@@ -64,3 +64,6 @@ impl CellId {
         }
     }
 }
+
+#[cfg(test)]
+mod tests;

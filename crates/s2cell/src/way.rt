@@ -84,7 +84,7 @@ fn four_digits(leaf: u64, behind: u32) -> u8
 
 /// The first digits of the leaf at a place, one level after the other, and the orientation behind
 /// them.
-fn first_digits(start: u8, i: u32, j: u32, levels: u32) -> (u64, u8)
+pub fn first_digits(start: u8, i: u32, j: u32, levels: u32) -> (u64, u8)
     requires start { start < 4 }
     requires i { i < 2 ^ 30 }
     requires j { j < 2 ^ 30 }
@@ -104,7 +104,7 @@ fn first_digits(start: u8, i: u32, j: u32, levels: u32) -> (u64, u8)
 }
 
 /// The first bits of a leaf's place, one level after the other, and the orientation behind them.
-fn first_bits(start: u8, leaf: u64, levels: u32) -> (u32, u32, u8)
+pub fn first_bits(start: u8, leaf: u64, levels: u32) -> (u32, u32, u8)
     requires start { start < 4 }
     requires leaf { leaf < 4 ^ 30 }
     requires levels { levels ≤ 30 }
