@@ -4,7 +4,7 @@ ghost use Rattle.std.specs.Prelude.{◌≡◌, ◌≤◌, ◌<◌, ◌+◌, ◌�
 ghost use Rattle.std.specs.Vec.{vec_len, vec_capacity};
 ghost use Rattle.std.specs.List.Sorted.{IsNonDecreasing};
 ghost use Rattle.s2cell.specs.Cell.{covers, first_leaf};
-ghost use Rattle.s2union.specs.Union.{IsLocal, IsNormalForm, has_leaf};
+ghost use Rattle.s2union.specs.Union.{IsLocal, IsNormalForm, IsShortest, has_leaf};
 ghost use Rattle.s2union.specs.Packed.{IsPacked};
 
 use crate::merging::{parent_of_family, settled};
@@ -16,6 +16,7 @@ pub fn normalise(mut cells: Vec<CellId>) -> CellUnion
     ensures leaves { (x : ℕ) → has_leaf result.cells x ≡ has_leaf cells.items x }
     ensures local { IsLocal result.cells }
     ensures normal { IsNormalForm (has_leaf cells.items) result.cells }
+    ensures shortest { IsShortest (has_leaf cells.items) result.cells }
     ensures room { result.room ≡ vec_capacity cells }
 {
     cells.sort_unstable();

@@ -1,7 +1,6 @@
-use Rattle.std.proofs.Common.{arith, refl, ◌≡◌, ◌+◌, ◌-◌, ◌*◌, ◌^◌, ◌%◌}
+use Rattle.std.proofs.Common.{arith, refl}
 use Rattle.s2cell.specs.Cell.{IsCell}
-use Rattle.s2cell.specs.Descendant.{descendant_of}
-use Rattle.s2cell.proofs.Descendants.{DescendantFits, descendant_fits, descendant_bits, IsCell-descendant_of}
+use Rattle.s2cell.proofs.Descendants.{descendant_fits, descendant_bits, IsCell-descendant_of}
 use Rattle.s2cell.proofs.cell.CellId.descendant.Goals as goal
 
 pub overflow_mul-result : goal.overflow_mul-result
