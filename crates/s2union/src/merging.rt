@@ -1,12 +1,10 @@
 //! The merging core: a cell behind packed cells.
-ghost use Rattle.std.specs.Prelude.{◌≡◌, ◌≤◌, ◌<◌, ◌+◌, ◌↔◌, ℕ, IsTrue, MatchOption, length, take, All, AllPairs, ◌||◌, slice_index, slice_index_or, ◌⊎◌, ◌-◌, ◌*◌, ◌^◌, ◌++◌, ◌∷◌, [], IfOk, OnOk, OnErr, IfSome, ◌&&◌, true, false, not};
-ghost use Rattle.std.specs.Bool.{OnFalse};
+
+ghost use Rattle.std.specs.Prelude.{◌≡◌, ◌≤◌, ◌<◌, ◌+◌, ◌↔◌, ℕ, IsTrue, MatchOption, length, take, All, ◌||◌, slice_index, ◌-◌, ◌*◌, ◌++◌, ◌∷◌, [], OnOk, OnErr, IfSome};
 ghost use Rattle.std.specs.Vec.{vec_len, vec_capacity};
-ghost use Rattle.std.specs.List.Sorted.{IsNonDecreasing};
-ghost use Rattle.s2cell.specs.Cell.{IsCell, level_of, child_of, covers, first_leaf, size_of, IsInside};
-ghost use Rattle.s2union.specs.Union.{IsLocal, IsNormalForm, has_leaf, LiesIn, between, EndsBy, IsWithin, ShareSome};
-ghost use Rattle.s2union.specs.Count.{count_below};
-ghost use Rattle.s2union.specs.Packed.{EndsBefore, IsFamily, IsPacked, Merges, Behind};
+ghost use Rattle.s2cell.specs.Cell.{IsCell, level_of, covers, first_leaf, IsInside};
+ghost use Rattle.s2union.specs.Union.{has_leaf};
+ghost use Rattle.s2union.specs.Packed.{EndsBefore, IsFamily, IsPacked, Merges};
 
 use s2cell::CellId;
 use std::alloc::AllocError;

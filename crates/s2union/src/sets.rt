@@ -1,12 +1,11 @@
 //! The set operations.
-ghost use Rattle.std.specs.Prelude.{◌≡◌, ◌≤◌, ◌<◌, ◌+◌, ◌↔◌, ℕ, IsTrue, MatchOption, length, take, All, AllPairs, ◌||◌, slice_index, slice_index_or, ◌⊎◌, ◌-◌, ◌*◌, ◌^◌, ◌++◌, ◌∷◌, [], IfOk, OnOk, OnErr, IfSome, ◌&&◌, true, false, not};
-ghost use Rattle.std.specs.Bool.{OnFalse};
-ghost use Rattle.std.specs.Vec.{vec_len, vec_capacity};
-ghost use Rattle.std.specs.List.Sorted.{IsNonDecreasing};
-ghost use Rattle.s2cell.specs.Cell.{IsCell, level_of, child_of, covers, first_leaf, size_of, IsInside};
-ghost use Rattle.s2union.specs.Union.{IsLocal, IsNormalForm, has_leaf, LiesIn, between, EndsBy, IsWithin, ShareSome};
-ghost use Rattle.s2union.specs.Count.{count_below};
-ghost use Rattle.s2union.specs.Packed.{EndsBefore, IsFamily, IsPacked, Merges, Behind};
+
+ghost use Rattle.std.specs.Prelude.{◌≡◌, ◌≤◌, ◌<◌, ◌+◌, ℕ, length, ◌||◌, ◌*◌, ◌^◌, [], IfOk, OnOk, ◌&&◌, not};
+ghost use Rattle.std.specs.Vec.{vec_capacity};
+ghost use Rattle.s2cell.specs.Cell.{first_leaf, size_of};
+ghost use Rattle.s2union.specs.Union.{IsLocal, IsNormalForm, has_leaf, between, EndsBy};
+ghost use Rattle.s2union.specs.Sets.{either, shared, without};
+ghost use Rattle.s2union.specs.Packed.{IsPacked};
 
 use crate::merging::{add_behind, add_reserved};
 use crate::union::CellUnion;
@@ -14,16 +13,54 @@ use s2cell::CellId;
 use std::alloc::{AllocError, Global};
 
 impl CellUnion {
-    /// The leaves of either.
+    /// The leaves of either. One pass over both; it takes room for the cells of both beforehand, and refuses only where
+    /// there is no memory. S2 calls it `Union`.
     pub fn union(&self, other: &CellUnion) -> Result<CellUnion, AllocError>
         ensures local { IfOk result (λ u. IsLocal u.cells) }
         ensures leaves { IfOk result (λ u. (x : ℕ) → has_leaf u.cells x ≡ (has_leaf self.now.cells x || has_leaf other.now.cells x)) }
+        ensures normal { IfOk result (λ u. IsNormalForm (either (has_leaf self.now.cells) (has_leaf other.now.cells)) u.cells) }
     {
-        let mut cells = Vec::with_capacity(
-            *self.cells.allocator(),
-            self.cells.len() + other.cells.len(),
-        )?;
+        let room = self.cells.len() + other.cells.len();
+        let mut cells = Vec::with_capacity(*self.cells.allocator(), room)?;
         join(&mut cells, self.cells(), other.cells());
+        Ok(CellUnion { cells })
+    }
+
+    /// The leaves that both have. One pass over both; it takes room for the cells of both beforehand, and refuses only
+    /// where there is no memory. S2 calls it `Intersection`.
+    pub fn intersection(&self, other: &CellUnion) -> Result<CellUnion, AllocError>
+        ensures local { IfOk result (λ u. IsLocal u.cells) }
+        ensures leaves { IfOk result (λ u. (x : ℕ) → has_leaf u.cells x ≡ (has_leaf self.now.cells x && has_leaf other.now.cells x)) }
+        ensures normal { IfOk result (λ u. IsNormalForm (shared (has_leaf self.now.cells) (has_leaf other.now.cells)) u.cells) }
+    {
+        let room = self.cells.len() + other.cells.len();
+        let mut cells = Vec::with_capacity(*self.cells.allocator(), room)?;
+        share(&mut cells, self.cells(), other.cells());
+        Ok(CellUnion { cells })
+    }
+
+    /// The leaves of this union that the other has not. One pass over both and the cells that come out; refused only
+    /// where there is no memory. S2 calls it `Difference`.
+    pub fn difference(&self, other: &CellUnion) -> Result<CellUnion, AllocError>
+        ensures local { IfOk result (λ u. IsLocal u.cells) }
+        ensures leaves { IfOk result (λ u. (x : ℕ) → has_leaf u.cells x ≡ (has_leaf self.now.cells x && not (has_leaf other.now.cells x))) }
+        ensures normal { IfOk result (λ u. IsNormalForm (without (has_leaf self.now.cells) (has_leaf other.now.cells)) u.cells) }
+    {
+        let mut cells = Vec::new(*self.cells.allocator());
+        subtract(&mut cells, self.cells(), other.cells())?;
+        Ok(CellUnion { cells })
+    }
+
+    /// All leaves from the first of `x` to the last of `y`, across faces too. A few steps a cell that comes out;
+    /// refused only where there is no memory. S2 calls it `InitFromMinMax`.
+    pub fn from_range(alloc: Global, x: CellId, y: CellId) -> Result<CellUnion, AllocError>
+        requires { first_leaf x < first_leaf y + size_of y }
+        ensures local { IfOk result (λ u. IsLocal u.cells) }
+        ensures leaves { IfOk result (λ u. (n : ℕ) → has_leaf u.cells n ≡ between (first_leaf x) (first_leaf y + size_of y) n) }
+        ensures normal { IfOk result (λ u. IsNormalForm (between (first_leaf x) (first_leaf y + size_of y)) u.cells) }
+    {
+        let mut cells = Vec::new(alloc);
+        tile(&mut cells, x.first_leaf(), y.end_leaf())?;
         Ok(CellUnion { cells })
     }
 }
@@ -47,32 +84,6 @@ fn join(list: &mut Vec<CellId>, xs: &[CellId], ys: &[CellId])
             add_reserved(list, ys[j]);
             j += 1;
         }
-    }
-}
-
-impl CellUnion {
-    /// All leaves from the first of `x` to the last of `y`.
-    pub fn from_range(alloc: Global, x: CellId, y: CellId) -> Result<CellUnion, AllocError>
-        requires { first_leaf x < first_leaf y + size_of y }
-        ensures local { IfOk result (λ u. IsLocal u.cells) }
-        ensures leaves { IfOk result (λ u. (n : ℕ) → has_leaf u.cells n ≡ between (first_leaf x) (first_leaf y + size_of y) n) }
-    {
-        let mut cells = Vec::new(alloc);
-        tile(&mut cells, x.first_leaf(), y.end_leaf())?;
-        Ok(CellUnion { cells })
-    }
-
-    /// The leaves that both have.
-    pub fn intersection(&self, other: &CellUnion) -> Result<CellUnion, AllocError>
-        ensures local { IfOk result (λ u. IsLocal u.cells) }
-        ensures leaves { IfOk result (λ u. (x : ℕ) → has_leaf u.cells x ≡ (has_leaf self.now.cells x && has_leaf other.now.cells x)) }
-    {
-        let mut cells = Vec::with_capacity(
-            *self.cells.allocator(),
-            self.cells.len() + other.cells.len(),
-        )?;
-        share(&mut cells, self.cells(), other.cells());
-        Ok(CellUnion { cells })
     }
 }
 
@@ -101,18 +112,6 @@ fn share(list: &mut Vec<CellId>, xs: &[CellId], ys: &[CellId])
         } else {
             j += 1;
         }
-    }
-}
-
-impl CellUnion {
-    /// The leaves of this union that the other has not.
-    pub fn difference(&self, other: &CellUnion) -> Result<CellUnion, AllocError>
-        ensures local { IfOk result (λ u. IsLocal u.cells) }
-        ensures leaves { IfOk result (λ u. (x : ℕ) → has_leaf u.cells x ≡ (has_leaf self.now.cells x && not (has_leaf other.now.cells x))) }
-    {
-        let mut cells = Vec::new(*self.cells.allocator());
-        subtract(&mut cells, self.cells(), other.cells())?;
-        Ok(CellUnion { cells })
     }
 }
 

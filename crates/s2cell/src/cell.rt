@@ -1,0 +1,72 @@
+//! The type of a cell, and what its identifier tells at once.
+ghost use Rattle.std.specs.Prelude.{◌≡◌, ◌<◌, ◌≤◌, ◌*◌, ◌^◌, IsTrue, ◌↔◌, SomeIff, ℕ};
+ghost use Rattle.s2cell.specs.Cell.{IsCell, IsCellAt, level_of, place_of, face_of};
+
+use std::marker::Model;
+
+/// How many bits lie below those of the face.
+const FACE_SHIFT: u32 = 61;
+
+/// A cell, by its identifier (`S2CellId`). Every value is one of the 6 * (4^31 - 1) / 3 cells.
+///
+/// Cells compare as their identifiers do, which is the order of their middles along the curve.
+#[derive(Clone, Copy, PartialEq, Eq, PartialOrd, Ord, Hash, Debug)]
+pub struct CellId {
+    pub(crate) id: u64,
+}
+
+impl Model for CellId {
+    ghost Value = { ℕ };
+
+    ghost view = { λ c. c.id };
+
+    ghost inverse = { λ n. record { id = n } };
+
+    ghost invariant = { λ c. IsCell c.id };
+}
+
+impl CellId {
+    /// The cell with this identifier (`S2CellId(id)` and `is_valid`). None exactly where no cell
+    /// has it: its face is above 5, or its lowest set bit is no marker of a level.
+    pub fn from_id(id: u64) -> Option<CellId>
+        ensures { SomeIff result (IsCell id) id }
+    {
+        let zeros = id.trailing_zeros();
+        if zeros <= 60 && zeros % 2 == 0 && id >> FACE_SHIFT < 6 {
+            Some(CellId { id })
+        } else {
+            None
+        }
+    }
+
+    /// The identifier.
+    pub fn id(self) -> u64
+        ensures value { result ≡ self }
+        ensures cell { IsCellAt (level_of self) (place_of self) self }
+        ensures most { result < 6 * 2 ^ 61 }
+    {
+        self.id
+    }
+
+    /// The face that the cell lies on, 0 to 5.
+    pub fn face(self) -> u8
+        ensures { result ≡ face_of self }
+    {
+        (self.id >> FACE_SHIFT) as u8
+    }
+
+    /// The level, from 0 for a face to 30 for a leaf.
+    pub fn level(self) -> u8
+        ensures value { result ≡ level_of self }
+        ensures most { result ≤ 30 }
+    {
+        30 - (self.id.trailing_zeros() / 2) as u8
+    }
+
+    /// Whether the cell is a leaf, which has no children.
+    pub fn is_leaf(self) -> bool
+        ensures { IsTrue result ↔ (level_of self ≡ 30) }
+    {
+        self.id & 1 == 1
+    }
+}

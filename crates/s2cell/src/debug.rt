@@ -1,0 +1,1 @@
+//! Debug texts: the face, a slash, and one digit for each level.
