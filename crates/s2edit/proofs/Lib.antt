@@ -6,3 +6,6 @@ pub mod Leading
 pub mod SetLemmas
 pub mod DiffLemmas
 pub mod Differing
+pub mod Runs
+pub mod Replay
+pub mod OneEnd

@@ -5,3 +5,4 @@ pub mod Chain
 pub mod Change
 pub mod Editor
 pub mod Laws
+pub mod Edits

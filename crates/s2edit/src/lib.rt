@@ -9,11 +9,13 @@
 
 mod change;
 mod editor;
+mod edits;
 mod lacking;
 mod register;
 
 pub use change::{Change, law_of_changes};
 pub use editor::{EditFault, Editor};
+pub use edits::{Edit, EditTally, Outcome, law_of_runs, run_edits};
 pub use register::Register;
 
 /// How many registers there are, named by the letters from `a` on.
