@@ -1,7 +1,7 @@
 -- Ascending lists of cells as sets of cells.
-use Rattle.std.proofs.Common.{◌≡◌, ℕ, ◌<◌, ◌≤◌, ◌+◌, Bool, true, false, not, ◌||◌, ◌&&◌, eqb, ltb, cond, List, [], ◌∷◌, ◌++◌, length, get_or, zero, suc, refl, sym, ap, ◌∙◌, subst, inl, inr, ◌⊎◌, ⊎_elim, arith, rules, eqb-true, eq-eqb, ne_eqb, ltb-true, ltb-false}
+use Rattle.std.proofs.Common.{◌≡◌, ℕ, ◌<◌, ◌+◌, true, false, not, ◌||◌, ◌&&◌, eqb, ltb, List, [], ◌∷◌, get_or, zero, suc, refl, ap, ◌∙◌, subst, ⊎_elim, arith, ltb-true}
 use Rattle.std.proofs.lemmas.Grind.{common_steps}
-use Rattle.std.proofs.lemmas.Bool.{cond_both, cases_order, cases_eq, cases_Bool, true≢false, false≢true, eqb-false}
+use Rattle.std.proofs.lemmas.Bool.{cond_both, cases_order}
 use Rattle.std.specs.List.Sorted.{IsStrictlyIncreasing}
 use Rattle.s2union.specs.Apply.{has, without, insert_cell, insert_cells, applied}
 use Rattle.s2union.specs.Merge.{AllAbove, IsAscending}

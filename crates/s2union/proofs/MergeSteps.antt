@@ -1,11 +1,11 @@
 -- One step of the walk along a list and the two lists of a change.
-use Rattle.std.proofs.Common.{◌≡◌, ℕ, ◌<◌, ◌≤◌, ◌+◌, zero, suc, ◌≢◌, Bool, true, false, not, ◌||◌, ◌&&◌, ◌↔◌, eqb, ltb, cond, List, [], ◌∷◌, ◌++◌, length, refl, sym, ap, ◌∙◌, subst, inl, inr, ◌⊎◌, ⊎_elim, arith, eqb-true, eq-eqb, ne_eqb, lt-ltb, le-ltb, drop, take, get_or, ◌-◌}
+use Rattle.std.proofs.Common.{◌≡◌, ℕ, ◌<◌, ◌≢◌, true, false, ◌||◌, eqb, ltb, List, [], ◌∷◌, length, refl, sym, ap, ◌∙◌, subst, ⊎_elim, arith, eqb-true, eq-eqb, ne_eqb, lt-ltb, le-ltb, drop, take, get_or, ◌-◌}
 use Rattle.std.proofs.lemmas.Grind.{common_steps}
 use Rattle.std.proofs.lemmas.List.{take_all}
-use Rattle.std.proofs.lemmas.Bool.{cond-true, cond-false, cases_order, false≢true, true≢false, or_cases, or_left, or_right, or_parts}
+use Rattle.std.proofs.lemmas.Bool.{cond-true, cond-false, false≢true, true≢false, or_cases, or_left, or_right, or_parts}
 use Rattle.s2union.specs.Apply.{has, without, insert_cell, insert_cells, applied}
 use Rattle.std.specs.declared.cmp.Ordering.TheVariants.{Less, Equal, Greater}
-use Rattle.s2union.specs.Merge.{Left, CanApply, Goes, Ascend, AllAbove, IsAscending, IsHead, made}
+use Rattle.s2union.specs.Merge.{CanApply, Goes, Ascend, AllAbove, IsAscending, IsHead}
 use Rattle.s2union.proofs.CellLists.{has-below, AllAbove-trans, AllAbove-without}
 
 insert_cell-below : (p : ℕ) (us : List ℕ) → AllAbove p us → insert_cell p us ≡ p ∷ us

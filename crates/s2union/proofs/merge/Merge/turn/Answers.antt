@@ -1,4 +1,4 @@
-use Rattle.std.proofs.Common.{◌≡◌, ℕ, List, [], ◌∷◌, ap, sym, ◌∙◌, subst, drop, get_or}
+use Rattle.std.proofs.Common.{[], ◌∷◌, sym, subst, drop, get_or}
 use Rattle.s2union.specs.Merge.{Left, Goes, CanApply}
 use Rattle.s2union.proofs.MergeSteps.{put_turn, keep_turn, take_turn, put_misfit, out_misfit, behind_first}
 use Rattle.s2union.proofs.merge.Merge.turn.Goals as goal

@@ -1,7 +1,7 @@
-use Rattle.std.proofs.Common.{◌≡◌, ℕ, List, [], ◌∷◌, ap, sym, ◌∙◌, subst, length, arith}
+use Rattle.std.proofs.Common.{[], ◌∷◌, ap, sym, ◌∙◌, subst, arith}
 use Rattle.std.proofs.lemmas.Grind.{common_steps}
 use Rattle.s2union.specs.Merge.{Left, Goes, CanApply}
-use Rattle.s2union.proofs.MergeSteps.{last_turn, end_misfit, no_more}
+use Rattle.s2union.proofs.MergeSteps.{last_turn, end_misfit}
 use Rattle.s2union.proofs.merge.Merge.turn_behind.Goals as goal
 
 pub returns-in-Some : goal.returns-in-Some
