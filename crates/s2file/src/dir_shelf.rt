@@ -1,6 +1,7 @@
 //! A folder as a shelf.
-ghost use Rattle.std.specs.Prelude.{◌≡◌, None, false};
+ghost use Rattle.std.specs.Prelude.{◌≡◌, IfOk};
 ghost use Rattle.s2file.specs.Shelf.{one_more};
+ghost use Rattle.s2file.specs.DirShelf.{folder_files};
 
 use crate::shelf::{Shelf, ShelfFault};
 use std::alloc::AllocError;
@@ -26,6 +27,7 @@ impl<R: Files + AllocGlobal> DirShelf<R> {
     pub fn at(rt: R, path: &str) -> Result<DirShelf<R>, AllocError>
     where
         R: Drop,
+        ensures { IfOk result (λ shelf. (folder_files shelf).failures ≡ 0) }
     {
         let path = String::from_str(rt.alloc(), path)?;
         Ok(DirShelf {
@@ -52,7 +54,7 @@ fn failed(failures: &mut u64) -> ShelfFault
 }
 
 impl<R: Files + AllocGlobal> Shelf for DirShelf<R> {
-    ghost files = { λ shelf. record { tells = false; at = λ _. None; failures = shelf.failures } };
+    ghost files = { folder_files };
 
     fn get(&mut self, name: &str) -> Result<Option<Vec<u8>>, ShelfFault> {
         let path = self.path_of(name)?;
