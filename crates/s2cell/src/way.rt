@@ -28,7 +28,7 @@ fn digit_for(orientation: u8, wanted: u8) -> u8
 }
 
 /// The quadrant that a digit picks at an orientation.
-fn quadrant_for(orientation: u8, digit: u8) -> u8
+pub fn quadrant_for(orientation: u8, digit: u8) -> u8
     requires orientation { orientation < 4 }
     requires digit { digit < 4 }
     ensures picked { result ≡ quadrant orientation digit }
@@ -38,7 +38,7 @@ fn quadrant_for(orientation: u8, digit: u8) -> u8
 }
 
 /// The orientation behind a digit.
-fn turned(orientation: u8, digit: u8) -> u8
+pub fn turned(orientation: u8, digit: u8) -> u8
     requires orientation { orientation < 4 }
     requires digit { digit < 4 }
     ensures turned { result ≡ bit_xor orientation (turn digit) }
