@@ -1,14 +1,14 @@
 -- The squares of a cell's children: the quarters of its own, in the order that its orientation gives.
-use Rattle.std.proofs.Common.{◌≡◌, ℕ, ◌+◌, ◌-◌, ◌*◌, ◌/◌, ◌%◌, ◌^◌, ◌<◌, ◌≤◌, refl, sym, ◌∙◌, ap, arith, subst, bit_xor}
+use Rattle.std.proofs.Common.{◌≡◌, ℕ, ◌+◌, ◌-◌, ◌*◌, ◌/◌, ◌%◌, ◌^◌, ◌<◌, refl, sym, ◌∙◌, ap, arith, subst, bit_xor}
 use Rattle.std.proofs.Math.Nat.{div-one}
-use Rattle.std.proofs.lemmas.Nat.{pow-add, div-mul-add, mod-mul-add, mod_below, div-add-mod'}
+use Rattle.std.proofs.lemmas.Nat.{pow-add, mod_below}
 use Rattle.s2cell.specs.Cell.{IsCell, IsCellAt, level_of, place_of, face_of, child_of}
 use Rattle.s2cell.specs.Curve.{At, orientation_after, quadrant, turn}
 use Rattle.s2cell.specs.Square.{IsSquareOf, IsPlaced, orientation_of}
-use Rattle.s2cell.proofs.CellLemmas.{four_pos, own_place, level_of_cell, place_of_cell}
+use Rattle.s2cell.proofs.CellLemmas.{four_pos, level_of_cell, place_of_cell}
 use Rattle.s2cell.proofs.Calls.{IsCellAt-child_of, IsCell-child_of}
 use Rattle.s2cell.proofs.Quadrants.{quadrant_below}
-use Rattle.s2cell.proofs.Levels.{at_bounds, orientation_below, blocks}
+use Rattle.s2cell.proofs.Levels.{orientation_below, blocks}
 use Rattle.s2cell.proofs.Places.{place_exists}
 use Rattle.s2cell.proofs.Walk.{Way, way_one, way_join}
 use Rattle.s2cell.proofs.Squares.{square_from_place, one_square}

@@ -1,7 +1,18 @@
 //! The way along the curve from a face down to a leaf, in both directions: from a place to the
 //! leaf's digits, and from the digits to the place.
 //!
-//! The first two levels go one by one, the other twenty-eight four at a time by a table.
+//! The curve enters a square at one of four orientations and passes its quadrants in turn; the
+//! digits 0 to 3 count them:
+//!
+//! ```text
+//!     orientation      0         1         2         3
+//!         j  1        1 2       3 2       3 0       1 0
+//!            0        0 3       0 1       2 1       2 3
+//!         i           0 1       0 1       0 1       0 1
+//! ```
+//!
+//! Each quadrant is passed the same way at an orientation of its own, 30 levels down to the leaves.
+//! Here the first two levels go one by one, and the other twenty-eight four at a time by a table.
 
 ghost use Rattle.std.specs.Prelude.{◌≡◌, ◌+◌, ◌*◌, ◌-◌, ◌/◌, ◌%◌, ◌^◌, ◌<◌, ◌≤◌, bit_xor};
 ghost use Rattle.s2cell.specs.Curve.{At, quadrant, turn, orientation_after};

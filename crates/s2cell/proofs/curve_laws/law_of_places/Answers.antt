@@ -1,4 +1,4 @@
-use Rattle.std.proofs.Common.{ℕ, ◌+◌, ◌*◌, ◌/◌, ◌%◌, ◌^◌, arith, refl}
+use Rattle.std.proofs.Common.{◌+◌, ◌*◌, ◌/◌, ◌%◌, ◌^◌, arith, refl}
 use Rattle.s2cell.proofs.Levels.{at_bounds}
 use Rattle.s2cell.proofs.Places.{place_exists, leaf_exists}
 use Rattle.s2cell.proofs.Squares.{one_place, one_leaf, next_beside, place_of_leaf}
