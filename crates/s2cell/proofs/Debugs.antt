@@ -1,9 +1,7 @@
 -- Reading and writing debug texts.
-use Rattle.std.proofs.Common.{◌≡◌, ◌≢◌, ℕ, suc, zero, ◌+◌, ◌-◌, ◌*◌, ◌/◌, ◌%◌, ◌^◌, ◌<◌, ◌≤◌, refl, sym, ◌∙◌, ap, arith, List, [], ◌∷◌, length, take, drop, get_or, All, bit_and, set, get_or-set_other, get_or-set_same, below_more, lit<}
+use Rattle.std.proofs.Common.{◌≡◌, ◌≢◌, ℕ, suc, ◌+◌, ◌-◌, ◌*◌, ◌/◌, ◌%◌, ◌^◌, ◌<◌, ◌≤◌, refl, sym, ◌∙◌, ap, arith, List, [], ◌∷◌, length, take, drop, get_or, bit_and, set, get_or-set_other, get_or-set_same, below_more, lit<}
 use Rattle.std.proofs.Math.Nat.{div-div-eq-div-mul, mod-eq_of_lt, mul-le-mul_right, pow-le-pow_right}
-use Rattle.std.proofs.Math.Logic.{⊎_elim}
-use Rattle.std.proofs.lemmas.Bool.{cases_lt}
-use Rattle.std.proofs.lemmas.Nat.{pow-add, pow_pos, mod-mul-add, div-mul-add, and_mask}
+use Rattle.std.proofs.lemmas.Nat.{pow-add, mod-mul-add, div-mul-add, and_mask}
 use Rattle.std.proofs.lemmas.List.{length-take-le, length-drop, length-set, take_all, get_or-drop}
 use Rattle.std.proofs.lemmas.Str.{digit_value-digit_char, digit_value_digit}
 use Rattle.std.proofs.lemmas.Str.Parse.{digit_from_value}

@@ -57,8 +57,7 @@ impl CellId {
         ensures others { IsCell other }
     {
         let _ = &self.id;
-        let _ = &other.id;
-        self.range_min() <= other && other <= self.range_max()
+        self.range_min().id <= other.id && other.id <= self.range_max().id
     }
 
     /// Whether the two cells share a leaf, which is where one of them contains the other.
