@@ -1,13 +1,12 @@
 //! The merging core: a cell behind packed cells.
 
-ghost use Rattle.std.specs.Prelude.{◌≡◌, ◌≤◌, ◌<◌, ◌+◌, ◌↔◌, ℕ, IsTrue, MatchOption, length, take, All, ◌||◌, slice_index, ◌-◌, ◌*◌, ◌++◌, ◌∷◌, [], OnOk, OnErr, IfSome};
+ghost use Rattle.std.specs.Prelude.{◌≡◌, ◌≤◌, ◌<◌, ◌+◌, ◌↔◌, ℕ, IsTrue, MatchOption, length, take, All, ◌||◌, slice_index, ◌-◌, ◌*◌, ◌++◌, ◌∷◌, [], IfSome};
 ghost use Rattle.std.specs.Vec.{vec_len, vec_capacity};
 ghost use Rattle.s2cell.specs.Cell.{IsCell, level_of, covers, first_leaf, IsInside};
 ghost use Rattle.s2union.specs.Union.{has_leaf};
 ghost use Rattle.s2union.specs.Packed.{EndsBefore, IsFamily, IsPacked, Merges};
 
 use s2cell::CellId;
-use std::alloc::AllocError;
 
 /// Adds the leaves of a cell to packed cells, where there is room for one more.
 pub(crate) fn add_reserved(list: &mut Vec<CellId>, cell: CellId)
@@ -24,44 +23,6 @@ pub(crate) fn add_reserved(list: &mut Vec<CellId>, cell: CellId)
         list.truncate(kept);
         list.push_reserved(last);
     }
-}
-
-/// Adds a cell to packed cells that end before it.
-pub(crate) fn add_behind(list: &mut Vec<CellId>, cell: CellId) -> Result<(), AllocError>
-    requires packed { IsPacked list.old.items }
-    requires after { All (λ c. EndsBefore c cell) list.old.items }
-    requires is_cell { IsCell cell }
-    ensures packed { IsPacked list.new.items }
-    ensures leaves { OnOk result ((x : ℕ) → has_leaf list.new.items x ≡ (has_leaf list.old.items x || covers cell x)) }
-{
-    let (kept, last) = merged(list.as_slice(), cell);
-    if kept < list.len() {
-        list[kept] = last;
-        list.truncate(kept + 1);
-    } else {
-        list.push(last)?;
-    }
-    Ok(())
-}
-
-/// Adds the leaves of a cell to packed cells, none of which begins behind its middle.
-pub(crate) fn add(list: &mut Vec<CellId>, cell: CellId) -> Result<(), AllocError>
-    requires packed { IsPacked list.old.items }
-    requires starts { All (λ c. 2 * first_leaf c < cell) list.old.items }
-    ensures packed { IsPacked list.new.items }
-    ensures starts { All (λ c. 2 * first_leaf c < cell) list.new.items }
-    ensures leaves { OnOk result ((x : ℕ) → has_leaf list.new.items x ≡ (has_leaf list.old.items x || covers cell x)) }
-    ensures unchanged { OnErr result (list.new.items ≡ list.old.items) }
-{
-    if let Some((kept, last)) = settled(list.as_slice(), cell) {
-        if kept < list.len() {
-            list[kept] = last;
-            list.truncate(kept + 1);
-        } else {
-            list.push(last)?;
-        }
-    }
-    Ok(())
 }
 
 /// How many cells of the front stay, and the cell after them, where a cell is added; None where the last one holds it.

@@ -1,13 +1,13 @@
 //! The set operations.
 
-ghost use Rattle.std.specs.Prelude.{◌≡◌, ◌≤◌, ◌<◌, ◌+◌, ℕ, length, ◌||◌, ◌*◌, ◌^◌, [], IfOk, OnOk, ◌&&◌, not};
+ghost use Rattle.std.specs.Prelude.{MatchOption, slice_index, ◌≡◌, ◌≤◌, ◌<◌, ◌+◌, ℕ, length, ◌||◌, ◌*◌, ◌^◌, [], IfOk, OnOk, ◌&&◌, not};
 ghost use Rattle.std.specs.Vec.{vec_capacity};
 ghost use Rattle.s2cell.specs.Cell.{first_leaf, size_of};
-ghost use Rattle.s2union.specs.Union.{IsLocal, IsNormalForm, has_leaf, between, EndsBy};
+ghost use Rattle.s2union.specs.Union.{IsLocal, IsNormalForm, has_leaf, between};
 ghost use Rattle.s2union.specs.Sets.{either, shared, without};
-ghost use Rattle.s2union.specs.Packed.{IsPacked};
+ghost use Rattle.s2union.specs.Packed.{FillsGap};
 
-use crate::merging::{add_behind, add_reserved};
+use crate::merging::add_reserved;
 use crate::union::CellUnion;
 use s2cell::CellId;
 use std::alloc::{AllocError, Global};
@@ -60,7 +60,7 @@ impl CellUnion {
         ensures normal { IfOk result (λ u. IsNormalForm (between (first_leaf x) (first_leaf y + size_of y)) u.cells) }
     {
         let mut cells = Vec::new(alloc);
-        tile(&mut cells, x.first_leaf(), y.end_leaf())?;
+        fill_gap(&mut cells, x.first_leaf(), y.end_leaf())?;
         Ok(CellUnion { cells })
     }
 }
@@ -120,42 +120,57 @@ fn subtract(list: &mut Vec<CellId>, xs: &[CellId], ys: &[CellId]) -> Result<(), 
     requires empty { list.old.items ≡ [] }
     requires x_local { IsLocal xs.now }
     requires y_local { IsLocal ys.now }
-    ensures local { IsLocal list.new.items }
+    ensures local { OnOk result (IsLocal list.new.items) }
     ensures leaves { OnOk result ((x : ℕ) → has_leaf list.new.items x ≡ (has_leaf xs.now x && not (has_leaf ys.now x))) }
 {
     let mut lo = 0;
     let mut i = 0;
     let mut j = 0;
     while i < xs.len() {
-        let cell = xs[i];
-        let start = cell.first_leaf().max(lo);
-        let end = cell.end_leaf();
-        if j < ys.len() && ys[j].first_leaf() < end {
-            let taken = ys[j];
-            tile(list, start, taken.first_leaf())?;
-            lo = taken.end_leaf().max(start);
-            j += 1;
-        } else {
-            tile(list, start, end)?;
-            lo = end.max(start);
-            i += 1;
+        let x = xs[i];
+        let start = x.first_leaf().max(lo);
+        let end = x.end_leaf();
+        match cell_before(ys, j, end) {
+            Some(y) => {
+                fill_gap(list, start, y.first_leaf())?;
+                lo = y.end_leaf().max(start);
+                j += 1;
+            }
+            None => {
+                fill_gap(list, start, end)?;
+                lo = end.max(start);
+                i += 1;
+            }
         }
     }
     Ok(())
 }
 
-/// Adds the leaves from `lo` to before `hi` behind packed cells that end by `lo`.
-fn tile(list: &mut Vec<CellId>, lo: u64, hi: u64) -> Result<(), AllocError>
-    requires packed { IsPacked list.old.items }
-    requires below { EndsBy list.old.items lo }
-    requires within { hi ≤ 6 * 4 ^ 30 }
-    ensures packed { IsPacked list.new.items }
-    ensures leaves { OnOk result ((x : ℕ) → has_leaf list.new.items x ≡ (has_leaf list.old.items x || between lo hi x)) }
+/// The cell at the place `at`, if there is one that begins before the leaf `end`.
+fn cell_before(cells: &[CellId], at: usize, end: u64) -> Option<CellId>
+    ensures { MatchOption result (at < length cells.now → end ≤ first_leaf (slice_index cells.now at)) (λ c. (at < length cells.now) × (slice_index cells.now at ≡ c) × (first_leaf c < end)) }
+{
+    if at >= cells.len() {
+        return None;
+    }
+    let cell = cells[at];
+    if cell.first_leaf() < end {
+        Some(cell)
+    } else {
+        None
+    }
+}
+
+/// Adds the normal form of the leaves from `lo` to before `hi`: the largest cell that begins at the first and fits, and
+/// so on behind it.
+fn fill_gap(list: &mut Vec<CellId>, lo: u64, hi: u64) -> Result<(), AllocError>
+    requires { hi ≤ 6 * 4 ^ 30 }
+    ensures { OnOk result (FillsGap list.old.items list.new.items lo hi) }
 {
     let mut first = lo;
     while first < hi {
         let cell = CellId::tile(first, hi);
-        add_behind(list, cell)?;
+        list.push(cell)?;
         first = cell.end_leaf();
     }
     Ok(())
