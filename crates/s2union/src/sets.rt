@@ -1,11 +1,12 @@
 //! The set operations.
 
-ghost use Rattle.std.specs.Prelude.{MatchOption, slice_index, ◌≡◌, ◌≤◌, ◌<◌, ◌+◌, ℕ, length, ◌||◌, ◌*◌, ◌^◌, [], IfOk, OnOk, ◌&&◌, not};
-ghost use Rattle.std.specs.Vec.{vec_capacity};
+ghost use Rattle.std.specs.Prelude.{All, MatchOption, slice_index, ◌≡◌, ◌≤◌, ◌<◌, ◌+◌, ℕ, length, ◌||◌, ◌*◌, ◌^◌, [], IfOk, OnOk, ◌&&◌, not};
+ghost use Rattle.std.specs.Vec.{vec_len, vec_capacity};
+ghost use Rattle.std.specs.List.Sorted.{IsStrictlyIncreasing};
 ghost use Rattle.s2cell.specs.Cell.{first_leaf, size_of};
 ghost use Rattle.s2union.specs.Union.{IsLocal, IsNormalForm, has_leaf, between};
 ghost use Rattle.s2union.specs.Sets.{either, shared, without};
-ghost use Rattle.s2union.specs.Packed.{FillsGap};
+ghost use Rattle.s2union.specs.Packed.{FillsGap, IsPacked};
 
 use crate::merging::add_reserved;
 use crate::union::CellUnion;
@@ -76,14 +77,33 @@ fn join(list: &mut Vec<CellId>, xs: &[CellId], ys: &[CellId])
 {
     let mut i = 0;
     let mut j = 0;
-    while i < xs.len() || j < ys.len() {
-        if j >= ys.len() || i < xs.len() && xs[i] < ys[j] {
-            add_reserved(list, xs[i]);
-            i += 1;
-        } else {
-            add_reserved(list, ys[j]);
-            j += 1;
-        }
+    while i < xs.len() && j < ys.len() {
+        // A choice and two sums in place of branches, which would be guessed wrong half the time.
+        let x = xs[i];
+        let y = ys[j];
+        let is_x = x < y;
+        add_reserved(list, if is_x { x } else { y });
+        i += is_x as usize;
+        j += !is_x as usize;
+    }
+    if i < xs.len() {
+        add_all(list, &xs[i..]);
+    } else {
+        add_all(list, &ys[j..]);
+    }
+}
+
+/// Adds the leaves of ascending cells to packed cells, where there is room for all.
+fn add_all(list: &mut Vec<CellId>, cells: &[CellId])
+    requires packed { IsPacked list.old.items }
+    requires ascending { IsStrictlyIncreasing cells.now }
+    requires starts { 0 < length cells.now → All (λ c. 2 * first_leaf c < slice_index cells.now 0) list.old.items }
+    requires room { vec_len list.old + length cells.now ≤ vec_capacity list.old }
+    ensures packed { IsPacked list.new.items }
+    ensures leaves { (x : ℕ) → has_leaf list.new.items x ≡ (has_leaf list.old.items x || has_leaf cells.now x) }
+{
+    for cell in cells {
+        add_reserved(list, *cell);
     }
 }
 

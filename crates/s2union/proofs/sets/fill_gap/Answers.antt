@@ -1,5 +1,4 @@
 use Rattle.std.proofs.Common.{rules, arith, ◌≡◌, ◌++◌, ◌∷◌, []}
-use Rattle.s2cell.specs.Cell.{first_leaf, size_of}
 use Rattle.s2union.proofs.Tiling.{tiling_step, tiling_done}
 use Rattle.s2union.proofs.sets.fill_gap.Goals as goal
 

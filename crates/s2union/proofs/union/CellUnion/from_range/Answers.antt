@@ -1,6 +1,5 @@
 use Rattle.std.proofs.Common.{◌+◌, []}
 use Rattle.s2cell.specs.Cell.{first_leaf, size_of}
-use Rattle.s2union.specs.Union.{between}
 use Rattle.s2union.specs.Packed.{FillsGap}
 use Rattle.s2union.proofs.Normal.{local_from_normal}
 use Rattle.s2union.proofs.Picking.{fill_alone, fill_alone_leaves}
