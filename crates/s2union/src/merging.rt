@@ -1,4 +1,10 @@
-//! The merging core: a cell behind packed cells.
+//! The merging core: how one more cell goes behind cells that are packed.
+//!
+//! Packed cells follow each other, and no four neighbours are a family, the children of one cell.
+//! A cell that comes behind them in order of identifiers lies in the last of them, or around some
+//! at the end, or behind all; and where it is the last of a family, it gives way to the parent,
+//! which may be the last of a family again. So the end of the list is a stack, and each cell is
+//! put on it once and taken off once at most.
 
 ghost use Rattle.std.specs.Prelude.{◌≡◌, ◌≤◌, ◌<◌, ◌+◌, ◌↔◌, ℕ, IsTrue, MatchOption, length, take, All, ◌||◌, slice_index, ◌-◌, ◌*◌, ◌++◌, ◌∷◌, [], IfSome};
 ghost use Rattle.std.specs.Vec.{vec_len, vec_capacity};
@@ -25,7 +31,8 @@ pub(crate) fn add_reserved(list: &mut Vec<CellId>, cell: CellId)
     }
 }
 
-/// How many cells of the front stay, and the cell after them, where a cell is added; None where the last one holds it.
+/// What the front becomes where a cell is added: how many cells of it stay, and the one that
+/// follows them. None where the last cell of the front holds the new one.
 pub(crate) fn settled(front: &[CellId], cell: CellId) -> Option<(usize, CellId)>
     requires packed { IsPacked front.now }
     requires starts { All (λ c. 2 * first_leaf c < cell) front.now }
@@ -42,7 +49,7 @@ pub(crate) fn settled(front: &[CellId], cell: CellId) -> Option<(usize, CellId)>
     Some((kept, last))
 }
 
-/// How many cells of the front lie outside the cell.
+/// How many cells of the front lie outside the cell, which come first.
 pub(crate) fn outside(front: &[CellId], cell: CellId) -> usize
     requires packed { IsPacked front.now }
     requires starts { All (λ c. 2 * first_leaf c < cell) front.now }
@@ -59,7 +66,7 @@ pub(crate) fn outside(front: &[CellId], cell: CellId) -> usize
     kept
 }
 
-/// How many cells of the front stay, and the cell after them, where `cell` is added and families are merged.
+/// The same for a cell behind the whole front: only families are merged.
 pub(crate) fn merged(front: &[CellId], cell: CellId) -> (usize, CellId)
     requires packed { IsPacked front.now }
     requires after { All (λ c. EndsBefore c cell) front.now }

@@ -1,4 +1,4 @@
-//! The set operations.
+//! The set operations, each a pass over two sorted lists side by side.
 
 ghost use Rattle.std.specs.Prelude.{All, MatchOption, slice_index, ◌≡◌, ◌≤◌, ◌<◌, ◌+◌, ℕ, length, ◌||◌, ◌*◌, ◌^◌, [], IfOk, OnOk, ◌&&◌, not};
 ghost use Rattle.std.specs.Vec.{vec_len, vec_capacity};
@@ -14,8 +14,8 @@ use s2cell::CellId;
 use std::alloc::{AllocError, Global};
 
 impl CellUnion {
-    /// The leaves of either. One pass over both; it takes room for the cells of both beforehand, and refuses only where
-    /// there is no memory. S2 calls it `Union`.
+    /// The leaves of either. One pass over both; it takes room for the cells of both beforehand,
+    /// and refuses only where there is no memory. S2 calls it `Union`.
     pub fn union(&self, other: &CellUnion) -> Result<CellUnion, AllocError>
         ensures local { IfOk result (λ u. IsLocal u.cells) }
         ensures leaves { IfOk result (λ u. (x : ℕ) → has_leaf u.cells x ≡ (has_leaf self.now.cells x || has_leaf other.now.cells x)) }
@@ -27,8 +27,8 @@ impl CellUnion {
         Ok(CellUnion { cells })
     }
 
-    /// The leaves that both have. One pass over both; it takes room for the cells of both beforehand, and refuses only
-    /// where there is no memory. S2 calls it `Intersection`.
+    /// The leaves that both have. One pass over both; it takes room for the cells of both
+    /// beforehand, and refuses only where there is no memory. S2 calls it `Intersection`.
     pub fn intersection(&self, other: &CellUnion) -> Result<CellUnion, AllocError>
         ensures local { IfOk result (λ u. IsLocal u.cells) }
         ensures leaves { IfOk result (λ u. (x : ℕ) → has_leaf u.cells x ≡ (has_leaf self.now.cells x && has_leaf other.now.cells x)) }
@@ -40,8 +40,8 @@ impl CellUnion {
         Ok(CellUnion { cells })
     }
 
-    /// The leaves of this union that the other has not. One pass over both and the cells that come out; refused only
-    /// where there is no memory. S2 calls it `Difference`.
+    /// The leaves of this union that the other has not. One pass over both and the cells that come
+    /// out; refused only where there is no memory. S2 calls it `Difference`.
     pub fn difference(&self, other: &CellUnion) -> Result<CellUnion, AllocError>
         ensures local { IfOk result (λ u. IsLocal u.cells) }
         ensures leaves { IfOk result (λ u. (x : ℕ) → has_leaf u.cells x ≡ (has_leaf self.now.cells x && not (has_leaf other.now.cells x))) }
@@ -52,8 +52,8 @@ impl CellUnion {
         Ok(CellUnion { cells })
     }
 
-    /// All leaves from the first of `x` to the last of `y`, across faces too. A few steps a cell that comes out;
-    /// refused only where there is no memory. S2 calls it `InitFromMinMax`.
+    /// All leaves from the first of `x` to the last of `y`, across faces too. A few steps a cell
+    /// that comes out; refused only where there is no memory. S2 has `InitFromMinMax` for leaves.
     pub fn from_range(alloc: Global, x: CellId, y: CellId) -> Result<CellUnion, AllocError>
         requires { first_leaf x < first_leaf y + size_of y }
         ensures local { IfOk result (λ u. IsLocal u.cells) }
@@ -181,8 +181,8 @@ fn cell_before(cells: &[CellId], at: usize, end: u64) -> Option<CellId>
     }
 }
 
-/// Adds the normal form of the leaves from `lo` to before `hi`: the largest cell that begins at the first and fits, and
-/// so on behind it.
+/// Adds the normal form of the leaves from `lo` to before `hi`: the largest cell that begins at the
+/// first and fits, and so on behind it.
 fn fill_gap(list: &mut Vec<CellId>, lo: u64, hi: u64) -> Result<(), AllocError>
     requires { hi ≤ 6 * 4 ^ 30 }
     ensures { OnOk result (FillsGap list.old.items list.new.items lo hi) }
