@@ -10,7 +10,7 @@ use Rattle.s2edit.specs.declared.edits.Outcome.{Outcome}
 use Rattle.s2edit.specs.declared.edits.Outcome.TheVariants.{Done, Refused, NoMemory}
 
 -- a list is in a register, or it isn't
-is_there : (t : List (List ℕ)) (r : ℕ) (x : List ℕ) → (slice_get t r ≡ Some x) ⊎ (slice_get t r ≡ Some x → ⊥)
+pub is_there : (t : List (List ℕ)) (r : ℕ) (x : List ℕ) → (slice_get t r ≡ Some x) ⊎ (slice_get t r ≡ Some x → ⊥)
 is_there [] r x = inr (λ e. cc)
 is_there (u ∷ t) zero x =
     elim (bytes_eq u x) as (λ b. bytes_eq u x ≡ b → (Some u ≡ Some x) ⊎ (Some u ≡ Some x → ⊥)) [

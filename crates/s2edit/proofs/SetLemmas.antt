@@ -6,7 +6,7 @@ use Rattle.s2union.proofs.Normal.{same_from_leaves}
 use Rattle.s2edit.specs.History.{History, changed, undone, redone, Assigned, sets, sets_of}
 
 module _ {A : Type 0} {B : Type 0} (f : A → B) where
-  slice_get_map : (xs : List A) (k : ℕ) (x : A) → slice_get xs k ≡ Some x → slice_get (map f xs) k ≡ Some (f x)
+  pub slice_get_map : (xs : List A) (k : ℕ) (x : A) → slice_get xs k ≡ Some x → slice_get (map f xs) k ≡ Some (f x)
   slice_get_map [] k x h = absurd (cc)
   slice_get_map (y ∷ xs) zero x h = let e : y ≡ x = cc in ap (λ z. Some (f z)) e
   slice_get_map (y ∷ xs) (suc k) x h = slice_get_map xs k x h

@@ -1,8 +1,8 @@
 //! The editor: registers, and the history of their changes.
 ghost use Rattle.std.specs.Prelude.{◌≡◌, ◌+◌, ◌<◌, ◌≤◌, ◌↔◌, [], ◌∷◌, length, replicate, IfOk, OnOk, OnErr, IsOk, IfSome, IsNone, slice_get, slice_set, Some, vec_len, MatchOption};
-ghost use Rattle.s2union.specs.Union.{has_leaf};
+ghost use Rattle.s2union.specs.Union.{has_leaf, IsLocal};
 ghost use Rattle.s2union.specs.Apply.{applied, Fits};
-ghost use Rattle.s2edit.specs.History.{untouched, Assigned, sets, undone, redone, numbers};
+ghost use Rattle.s2edit.specs.History.{untouched, Assigned, sets, undone, redone, numbers, EachList};
 ghost use Rattle.s2edit.specs.Leads.{list_at, table_at, Leads};
 ghost use Rattle.s2edit.specs.Chain.{lists_of, union_of, AllRoomy};
 
@@ -199,9 +199,12 @@ impl Editor {
         self.future.get(n)
     }
 
-    /// The most cells that a register may have.
+    /// The most cells that a register may have. No list of the present state, of an earlier one or of one that
+    /// was undone has more, and each is normalised.
     pub fn limit(&self) -> usize
-        ensures { result ≡ self.now.limit }
+        ensures value { result ≡ self.now.limit }
+        ensures few { EachList (λ u. length u ≤ self.now.limit) self.now }
+        ensures local { EachList IsLocal self.now }
     {
         self.limit
     }
