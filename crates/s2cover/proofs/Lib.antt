@@ -4,3 +4,4 @@ mod Visits
 mod Formed
 mod Rectangles
 mod Regions
+mod Coverings
