@@ -50,7 +50,8 @@ impl CellId {
 
     /// The face that the cell lies on, 0 to 5.
     pub fn face(self) -> u8
-        ensures { result ≡ face_of self }
+        ensures value { result ≡ face_of self }
+        ensures most { result < 6 }
     {
         (self.id >> FACE_SHIFT) as u8
     }

@@ -1,7 +1,18 @@
 //! The way along the curve from a face down to a leaf, in both directions: from a place to the
 //! leaf's digits, and from the digits to the place.
 //!
-//! The first two levels go one by one, the other twenty-eight four at a time by a table.
+//! The curve enters a square at one of four orientations and passes its quadrants in turn; the
+//! digits 0 to 3 count them:
+//!
+//! ```text
+//!     orientation      0         1         2         3
+//!         j  1        1 2       3 2       3 0       1 0
+//!            0        0 3       0 1       2 1       2 3
+//!         i           0 1       0 1       0 1       0 1
+//! ```
+//!
+//! Each quadrant is passed the same way at an orientation of its own, 30 levels down to the leaves.
+//! Here the first two levels go one by one, and the other twenty-eight four at a time by a table.
 
 ghost use Rattle.std.specs.Prelude.{◌≡◌, ◌+◌, ◌*◌, ◌-◌, ◌/◌, ◌%◌, ◌^◌, ◌<◌, ◌≤◌, bit_xor};
 ghost use Rattle.s2cell.specs.Curve.{At, quadrant, turn, orientation_after};
@@ -28,7 +39,7 @@ fn digit_for(orientation: u8, wanted: u8) -> u8
 }
 
 /// The quadrant that a digit picks at an orientation.
-fn quadrant_for(orientation: u8, digit: u8) -> u8
+pub fn quadrant_for(orientation: u8, digit: u8) -> u8
     requires orientation { orientation < 4 }
     requires digit { digit < 4 }
     ensures picked { result ≡ quadrant orientation digit }
@@ -38,7 +49,7 @@ fn quadrant_for(orientation: u8, digit: u8) -> u8
 }
 
 /// The orientation behind a digit.
-fn turned(orientation: u8, digit: u8) -> u8
+pub fn turned(orientation: u8, digit: u8) -> u8
     requires orientation { orientation < 4 }
     requires digit { digit < 4 }
     ensures turned { result ≡ bit_xor orientation (turn digit) }
@@ -84,7 +95,7 @@ fn four_digits(leaf: u64, behind: u32) -> u8
 
 /// The first digits of the leaf at a place, one level after the other, and the orientation behind
 /// them.
-fn first_digits(start: u8, i: u32, j: u32, levels: u32) -> (u64, u8)
+pub fn first_digits(start: u8, i: u32, j: u32, levels: u32) -> (u64, u8)
     requires start { start < 4 }
     requires i { i < 2 ^ 30 }
     requires j { j < 2 ^ 30 }
@@ -104,7 +115,7 @@ fn first_digits(start: u8, i: u32, j: u32, levels: u32) -> (u64, u8)
 }
 
 /// The first bits of a leaf's place, one level after the other, and the orientation behind them.
-fn first_bits(start: u8, leaf: u64, levels: u32) -> (u32, u32, u8)
+pub fn first_bits(start: u8, leaf: u64, levels: u32) -> (u32, u32, u8)
     requires start { start < 4 }
     requires leaf { leaf < 4 ^ 30 }
     requires levels { levels ≤ 30 }

@@ -1,4 +1,3 @@
-use Rattle.s2cell.specs.Curve.{quadrant}
 use Rattle.s2cell.proofs.Quadrants.{digit_of, digits, digit_of_below, quadrant_of_digit}
 use Rattle.s2cell.proofs.way.digit_for.Goals as goal
 
