@@ -2,3 +2,6 @@ mod Runs
 mod Forms
 mod Visits
 mod Formed
+mod Rectangles
+mod Regions
+mod Coverings

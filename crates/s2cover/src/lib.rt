@@ -15,7 +15,14 @@
 
 mod covering;
 mod descent;
+mod rect;
 mod region;
+mod union;
 
-pub use covering::{inner, outer};
+pub use covering::{covering_sets, inner, outer};
+pub use rect::FaceRect;
 pub use region::{CoverFault, Part, Region};
+pub use union::Clip;
+
+#[cfg(test)]
+mod tests;
