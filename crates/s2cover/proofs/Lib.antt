@@ -1,0 +1,7 @@
+mod Runs
+mod Forms
+mod Visits
+mod Formed
+mod Rectangles
+mod Regions
+mod Coverings
