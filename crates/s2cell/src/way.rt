@@ -14,49 +14,10 @@
 //! Each quadrant is passed the same way at an orientation of its own, 30 levels down to the leaves.
 //! Here the first two levels go one by one, and the other twenty-eight four at a time by a table.
 
-ghost use Rattle.std.specs.Prelude.{◌≡◌, ◌+◌, ◌*◌, ◌-◌, ◌/◌, ◌%◌, ◌^◌, ◌<◌, ◌≤◌, bit_xor};
-ghost use Rattle.s2cell.specs.Curve.{At, quadrant, turn, orientation_after};
+ghost use Rattle.std.specs.Prelude.{◌≡◌, ◌+◌, ◌*◌, ◌-◌, ◌/◌, ◌%◌, ◌^◌, ◌<◌, ◌≤◌};
+ghost use Rattle.s2cell.specs.Curve.{At, orientation_after};
 
 use crate::tables;
-
-/// The digit that picks a quadrant, by `4 * orientation + quadrant`.
-static DIGITS: [u8; 16] = [0, 1, 3, 2, 0, 3, 1, 2, 2, 3, 1, 0, 2, 1, 3, 0];
-
-/// The quadrant that a digit picks, by `4 * orientation + digit`.
-static QUADRANTS: [u8; 16] = [0, 1, 3, 2, 0, 2, 3, 1, 3, 2, 0, 1, 3, 1, 0, 2];
-
-/// What a digit exclusive-ors the orientation with.
-static TURNS: [u8; 4] = [1, 0, 0, 3];
-
-/// The digit that picks a quadrant at an orientation.
-fn digit_for(orientation: u8, wanted: u8) -> u8
-    requires orientation { orientation < 4 }
-    requires wanted { wanted < 4 }
-    ensures picks { quadrant orientation result ≡ wanted }
-    ensures digit { result < 4 }
-{
-    DIGITS[4 * orientation as usize + wanted as usize]
-}
-
-/// The quadrant that a digit picks at an orientation.
-pub fn quadrant_for(orientation: u8, digit: u8) -> u8
-    requires orientation { orientation < 4 }
-    requires digit { digit < 4 }
-    ensures picked { result ≡ quadrant orientation digit }
-    ensures quadrant { result < 4 }
-{
-    QUADRANTS[4 * orientation as usize + digit as usize]
-}
-
-/// The orientation behind a digit.
-pub fn turned(orientation: u8, digit: u8) -> u8
-    requires orientation { orientation < 4 }
-    requires digit { digit < 4 }
-    ensures turned { result ≡ bit_xor orientation (turn digit) }
-    ensures orientation { result < 4 }
-{
-    orientation ^ TURNS[digit as usize]
-}
 
 /// The quadrant in which a place lies at one level, from one bit of each coordinate.
 fn quadrant_of_place(i: u32, j: u32, shift: u32) -> u8
@@ -107,9 +68,9 @@ pub fn first_digits(start: u8, i: u32, j: u32, levels: u32) -> (u64, u8)
     let mut orientation = start;
     let mut leaf: u64 = 0;
     for level in 0..levels {
-        let digit = digit_for(orientation, quadrant_of_place(i, j, 29 - level));
-        leaf = 4 * leaf + u64::from(digit);
-        orientation = turned(orientation, digit);
+        let step = tables::leaf_step(orientation, quadrant_of_place(i, j, 29 - level));
+        leaf = 4 * leaf + u64::from(step >> 2);
+        orientation = step & 3;
     }
     (leaf, orientation)
 }
@@ -127,11 +88,10 @@ pub fn first_bits(start: u8, leaf: u64, levels: u32) -> (u32, u32, u8)
     let mut i: u32 = 0;
     let mut j: u32 = 0;
     for level in 0..levels {
-        let digit = digit_of_leaf(leaf, 29 - level);
-        let picked = quadrant_for(orientation, digit);
-        i = 2 * i + u32::from(picked / 2);
-        j = 2 * j + u32::from(picked % 2);
-        orientation = turned(orientation, digit);
+        let step = tables::place_step(orientation, digit_of_leaf(leaf, 29 - level));
+        i = 2 * i + u32::from(step >> 3);
+        j = 2 * j + u32::from((step >> 2) & 1);
+        orientation = step & 3;
     }
     (i, j, orientation)
 }
