@@ -54,20 +54,18 @@ fn four_digits(leaf: u64, behind: u32) -> u8
     ((leaf >> (2 * behind)) & 255) as u8
 }
 
-/// The first digits of the leaf at a place, one level after the other, and the orientation behind
-/// them.
-pub fn first_digits(start: u8, i: u32, j: u32, levels: u32) -> (u64, u8)
+/// The first two digits of the leaf at a place, and the orientation behind them.
+fn first_digits(start: u8, i: u32, j: u32) -> (u64, u8)
     requires start { start < 4 }
     requires i { i < 2 ^ 30 }
     requires j { j < 2 ^ 30 }
-    requires levels { levels ≤ 30 }
-    ensures digits { At levels start result.0 (i / 2 ^ (30 - levels)) (j / 2 ^ (30 - levels)) }
-    ensures turned { result.1 ≡ orientation_after levels start result.0 }
+    ensures digits { At 2 start result.0 (i / 2 ^ 28) (j / 2 ^ 28) }
+    ensures turned { result.1 ≡ orientation_after 2 start result.0 }
     ensures orientation { result.1 < 4 }
 {
     let mut orientation = start;
     let mut leaf: u64 = 0;
-    for level in 0..levels {
+    for level in 0..2u32 {
         let step = tables::leaf_step(orientation, quadrant_of_place(i, j, 29 - level));
         leaf = 4 * leaf + u64::from(step >> 2);
         orientation = step & 3;
@@ -75,19 +73,18 @@ pub fn first_digits(start: u8, i: u32, j: u32, levels: u32) -> (u64, u8)
     (leaf, orientation)
 }
 
-/// The first bits of a leaf's place, one level after the other, and the orientation behind them.
-pub fn first_bits(start: u8, leaf: u64, levels: u32) -> (u32, u32, u8)
+/// The first two bits of each coordinate of a leaf, and the orientation behind them.
+fn first_bits(start: u8, leaf: u64) -> (u32, u32, u8)
     requires start { start < 4 }
     requires leaf { leaf < 4 ^ 30 }
-    requires levels { levels ≤ 30 }
-    ensures place { At levels start (leaf / 4 ^ (30 - levels)) result.0 result.1 }
-    ensures turned { result.2 ≡ orientation_after levels start (leaf / 4 ^ (30 - levels)) }
+    ensures place { At 2 start (leaf / 4 ^ 28) result.0 result.1 }
+    ensures turned { result.2 ≡ orientation_after 2 start (leaf / 4 ^ 28) }
     ensures orientation { result.2 < 4 }
 {
     let mut orientation = start;
     let mut i: u32 = 0;
     let mut j: u32 = 0;
-    for level in 0..levels {
+    for level in 0..2u32 {
         let step = tables::place_step(orientation, digit_of_leaf(leaf, 29 - level));
         i = 2 * i + u32::from(step >> 3);
         j = 2 * j + u32::from((step >> 2) & 1);
@@ -105,7 +102,7 @@ pub fn leaf_at(start: u8, i: u32, j: u32) -> u64
     ensures place { At 30 start result i j }
     ensures leaf { result < 4 ^ 30 }
 {
-    let (mut leaf, mut orientation) = first_digits(start, i, j, 2);
+    let (mut leaf, mut orientation) = first_digits(start, i, j);
     for block in 0..7u32 {
         let shift = 24 - 4 * block;
         let entry = tables::leaf_entry(orientation, four_bits(i, shift), four_bits(j, shift));
@@ -124,7 +121,7 @@ pub fn place_at(start: u8, leaf: u64) -> (u32, u32)
     ensures i { result.0 < 2 ^ 30 }
     ensures j { result.1 < 2 ^ 30 }
 {
-    let (mut i, mut j, mut orientation) = first_bits(start, leaf, 2);
+    let (mut i, mut j, mut orientation) = first_bits(start, leaf);
     for block in 0..7u32 {
         let entry = tables::place_entry(orientation, four_digits(leaf, 24 - 4 * block));
         i = 16 * i + u32::from(entry >> 6);

@@ -1,5 +1,4 @@
-use Rattle.std.proofs.Common.{◌+◌, ◌*◌, get_or}
-use Rattle.s2cell.proofs.Quadrants.{IsLeafStep, leaf_steps, leaf_step_is}
+use Rattle.s2cell.proofs.Quadrants.{leaf_steps, leaf_step_is}
 use Rattle.s2cell.proofs.tables.leaf_step.Goals as goal
 
 pub returns-clause-picks : goal.returns-clause-picks

@@ -1,5 +1,4 @@
-use Rattle.std.proofs.Common.{◌+◌, ◌*◌, get_or}
-use Rattle.s2cell.proofs.Quadrants.{IsPlaceStep, place_steps, place_step_is}
+use Rattle.s2cell.proofs.Quadrants.{place_steps, place_step_is}
 use Rattle.s2cell.proofs.tables.place_step.Goals as goal
 
 pub returns-clause-picked : goal.returns-clause-picked
