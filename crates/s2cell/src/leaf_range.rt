@@ -1,5 +1,5 @@
 //! The numbers of a cell's leaves along the curve, and the cells that tile a run of leaves.
-ghost use Rattle.std.specs.Prelude.{◌≡◌, ◌<◌, ◌≤◌, ◌+◌, ◌*◌, ◌^◌};
+ghost use Rattle.std.specs.Prelude.{◌≡◌, ◌<◌, ◌≤◌, ◌+◌, ◌*◌, ◌^◌, ℕ};
 ghost use Rattle.s2cell.specs.Cell.{IsCell, first_leaf, size_of};
 
 use crate::CellId;
@@ -41,6 +41,8 @@ impl CellId {
         requires within { end ≤ 6 * 4 ^ 30 }
         ensures first { first_leaf result ≡ first }
         ensures end { first_leaf result + size_of result ≤ end }
+        ensures largest { (c : ℕ) → IsCell c → first_leaf c ≡ first
+            → first_leaf c + size_of c ≤ end → size_of c ≤ size_of result }
         ensures cell { IsCell result }
     {
         let aligned = first.trailing_zeros() / 2;

@@ -1,6 +1,6 @@
 use Rattle.std.proofs.Common.{◌+◌, ◌*◌, ◌%◌, ◌^◌, arith, refl}
 use Rattle.s2cell.proofs.CellLemmas.{cell_leaves}
-use Rattle.s2cell.proofs.Tiles.{tile_of}
+use Rattle.s2cell.proofs.Tiles.{tile_of, size_of_tile, tile_largest}
 use Rattle.s2cell.proofs.cell.CellId.tile.Goals as goal
 
 pub overflow_add-result : goal.overflow_add-result
@@ -24,3 +24,10 @@ returns-clause-end c = (tile_of c.args.first c.args.end c.min-steps.result _ c.r
 
 pub returns-clause-cell : goal.returns-clause-cell
 returns-clause-cell c = (tile_of c.args.first c.args.end c.min-steps.result _ c.requires.some c.requires.within (omega arith) (omega arith) (omega arith) refl).cell
+
+pub returns-clause-largest : goal.returns-clause-largest
+returns-clause-largest c =
+    let k = c.min-steps.result in
+    let tile = tile_of c.args.first c.args.end k _ c.requires.some c.requires.within (omega arith) (omega arith) (omega arith) refl in
+    λ other is_cell start stop. tile_largest c.args.first c.args.end k _ other c.requires.some c.requires.within
+    (size_of_tile c.args.first c.args.end k _ (omega arith) refl tile) (λ j shallow zeros room. omega arith) is_cell start stop
