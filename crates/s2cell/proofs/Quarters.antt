@@ -140,15 +140,16 @@ placed_face f id o c e = record {
 pub placed_orientation : (c face i j size o : ℕ) → IsPlaced c face i j size o → o < 4
 placed_orientation c face i j size o p = subst (λ z. z < 4) (sym p.orientation_is) (orientation_small c)
 
--- by the calls' results: the quadrant, its halves and the turned orientation
-pub placed_child : (c face i j size o p d q a b u : ℕ) → IsPlaced c face i j size o → level_of c < 30 → p < 4
-    → d ≡ child_of c p → q ≡ quadrant o p → a ≡ q / 2 → b ≡ q % 2 → u ≡ bit_xor o (turn p)
+-- by an entry of the table of one level
+pub placed_child : (c face i j size o p d e a b u : ℕ) → IsPlaced c face i j size o → level_of c < 30 → p < 4
+    → d ≡ child_of c p → e / 4 ≡ quadrant o p → e % 4 ≡ bit_xor o (turn p) → e < 16 → a ≡ e / 8 → b ≡ e / 4 % 2 → u ≡ e % 4
     → IsPlaced d face (i + size / 2 * a) (j + size / 2 * b) (size / 2) u
-placed_child c face i j size o p d q a b u w h hp ed eq ea eb eu =
+placed_child c face i j size o p d e a b u w h hp ed eq et he ea eb eu =
     let own = orientation_of c in
-    let turned : u ≡ orientation_of d = eu ∙ ap (λ z. bit_xor z (turn p)) w.orientation_is ∙ sym (orientation_of_child c p w.cell h hp) ∙ ap orientation_of (sym ed) in
-    let picked : q ≡ quadrant own p = eq ∙ ap (λ z. quadrant z p) w.orientation_is in
-    let first : i + size / 2 * a ≡ i + quadrant own p / 2 * (size / 2) = ap (λ z. i + size / 2 * z) (ea ∙ ap (λ z. z / 2) picked) ∙ omega arith in
+    let turned : u ≡ orientation_of d = eu ∙ et ∙ ap (λ z. bit_xor z (turn p)) w.orientation_is ∙ sym (orientation_of_child c p w.cell h hp) ∙ ap orientation_of (sym ed) in
+    let picked : e / 4 ≡ quadrant own p = eq ∙ ap (λ z. quadrant z p) w.orientation_is in
+    let one : a ≡ e / 4 / 2 = omega arith in
+    let first : i + size / 2 * a ≡ i + quadrant own p / 2 * (size / 2) = ap (λ z. i + size / 2 * z) (one ∙ ap (λ z. z / 2) picked) ∙ omega arith in
     let second : j + size / 2 * b ≡ j + quadrant own p % 2 * (size / 2) = ap (λ z. j + size / 2 * z) (eb ∙ ap (λ z. z % 2) picked) ∙ omega arith in
     record {
       cell = IsCell-child_of c p d w.cell h hp ed;

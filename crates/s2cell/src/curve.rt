@@ -47,11 +47,14 @@ impl CellId {
     /// through many cells carries the squares with it instead (`PlacedCell`).
     pub fn square(self) -> Square
         ensures square { IsSquareOf self result.face result.i result.j result.size }
-        ensures leaf { level_of self ≡ 30 → IsPlaceOf (first_leaf self) result.face result.i result.j × (result.size ≡ 1) }
+        ensures leaf { level_of self ≡ 30
+            → IsPlaceOf (first_leaf self) result.face result.i result.j × (result.size ≡ 1) }
         ensures only { level_of self ≡ 30
-            → (face i j : ℕ) → IsPlaceOf (first_leaf self) face i j → (face ≡ result.face) × (i ≡ result.i) × (j ≡ result.j) }
+            → (face i j : ℕ) → IsPlaceOf (first_leaf self) face i j
+            → (face ≡ result.face) × (i ≡ result.i) × (j ≡ result.j) }
         ensures next { level_of self ≡ 30
-            → (i j : ℕ) → IsPlaceOf (first_leaf self + 1) result.face i j → AreNeighbours result.i result.j i j }
+            → (i j : ℕ) → IsPlaceOf (first_leaf self + 1) result.face i j
+            → AreNeighbours result.i result.j i j }
     {
         let face = self.face();
         let (i, j) = way::place_at(face % 2, self.first_leaf() % FACE_LEAVES);

@@ -4,7 +4,7 @@ ghost use Rattle.std.specs.Prelude.{◌≡◌, ◌+◌, ◌<◌};
 ghost use Rattle.s2cell.specs.Cell.{level_of, child_of, face_of};
 ghost use Rattle.s2cell.specs.Square.{IsPlaced};
 
-use crate::{CellId, Square, way};
+use crate::{CellId, Square, tables};
 
 /// A cell with its square, and the orientation at which the curve enters it.
 ///
@@ -52,17 +52,17 @@ impl PlacedCell {
         ensures level { level_of result.cell ≡ level_of self.cell + 1 }
         ensures placed { IsPlaced result.cell result.square.face result.square.i result.square.j result.square.size result.orientation }
     {
-        let quadrant = way::quadrant_for(self.orientation, p);
+        let step = tables::place_step(self.orientation, p);
         let half = self.square.size / 2;
         PlacedCell {
             cell: self.cell.child(p),
             square: Square {
                 face: self.square.face,
-                i: self.square.i + half * u32::from(quadrant / 2),
-                j: self.square.j + half * u32::from(quadrant % 2),
+                i: self.square.i + half * u32::from(step >> 3),
+                j: self.square.j + half * u32::from((step >> 2) & 1),
                 size: half,
             },
-            orientation: way::turned(self.orientation, p),
+            orientation: step & 3,
         }
     }
 }
