@@ -1,39 +1,36 @@
-//! Whether a union has leaves.
-ghost use Rattle.std.specs.Prelude.{◌≡◌, ◌≤◌, ◌<◌, ◌+◌, ◌↔◌, ℕ, IsTrue, MatchOption, length, take, All, AllPairs, ◌||◌, slice_index, slice_index_or, ◌⊎◌, ◌-◌, ◌*◌, ◌^◌, ◌++◌, ◌∷◌, [], IfOk, OnOk, OnErr, IfSome, ◌&&◌, true, false, not};
-ghost use Rattle.std.specs.Bool.{OnFalse};
-ghost use Rattle.std.specs.Vec.{vec_len, vec_capacity};
-ghost use Rattle.std.specs.List.Sorted.{IsNonDecreasing};
-ghost use Rattle.s2cell.specs.Cell.{IsCell, level_of, child_of, covers, first_leaf, size_of, IsInside};
-ghost use Rattle.s2union.specs.Union.{IsLocal, IsNormalForm, has_leaf, LiesIn, between, EndsBy, IsWithin, ShareSome};
-ghost use Rattle.s2union.specs.Count.{count_below};
-ghost use Rattle.s2union.specs.Packed.{EndsBefore, IsFamily, IsPacked, Merges, Behind};
+//! Whether a union has the leaves of a cell or of another union.
+
+ghost use Rattle.std.specs.Prelude.{◌≡◌, ◌≤◌, ◌<◌, ◌+◌, ◌↔◌, IsTrue, length, slice_index, ◌⊎◌};
+ghost use Rattle.s2cell.specs.Cell.{covers, first_leaf, size_of};
+ghost use Rattle.s2union.specs.Union.{IsLocal, has_leaf, IsWithin, ShareSome};
+ghost use Rattle.s2union.specs.Packed.{IsPacked, Behind};
 
 use crate::union::CellUnion;
 use s2cell::CellId;
 
 impl CellUnion {
-    /// Whether it has all leaves of the cell.
+    /// Whether it has all leaves of the cell. Logarithmic in its cells. S2 calls it `Contains`.
     pub fn contains_cell(&self, cell: CellId) -> bool
         ensures { IsTrue result ↔ IsWithin (covers cell) (has_leaf self.now.cells) }
     {
         holds(self.cells(), cell)
     }
 
-    /// Whether it has a leaf of the cell.
+    /// Whether it has a leaf of the cell. Logarithmic in its cells. S2 calls it `Intersects`.
     pub fn intersects_cell(&self, cell: CellId) -> bool
         ensures { IsTrue result ↔ ShareSome (covers cell) (has_leaf self.now.cells) }
     {
         meets(self.cells(), cell)
     }
 
-    /// Whether it has all leaves of the other.
+    /// Whether it has all leaves of the other. One pass over both, to the first cell that it lacks.
     pub fn contains(&self, other: &CellUnion) -> bool
         ensures { IsTrue result ↔ IsWithin (has_leaf other.now.cells) (has_leaf self.now.cells) }
     {
         holds_all(self.cells(), other.cells())
     }
 
-    /// Whether the two share a leaf.
+    /// Whether the two share a leaf. One pass over both, to the first leaf that they share.
     pub fn intersects(&self, other: &CellUnion) -> bool
         ensures { IsTrue result ↔ ShareSome (has_leaf self.now.cells) (has_leaf other.now.cells) }
     {
@@ -59,7 +56,8 @@ fn meets(cells: &[CellId], cell: CellId) -> bool
     at < cells.len() && cells[at].first_leaf() < cell.end_leaf()
 }
 
-/// How many cells end by the leaf `lo`.
+/// How many cells end by the leaf `lo`, which come first. It looks at three cells at once and sums
+/// what they say, since a branch on each would be guessed wrong half the time.
 pub(crate) fn find(cells: &[CellId], lo: u64) -> usize
     requires { IsPacked cells.now }
     ensures within { result ≤ length cells.now }

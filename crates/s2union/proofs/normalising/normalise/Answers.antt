@@ -3,6 +3,7 @@ use Rattle.std.proofs.lemmas.List.Sorted.{IsNonDecreasingBy-from_sort, list_any-
 use Rattle.s2cell.specs.Cell.{covers}
 use Rattle.s2union.specs.Union.{has_leaf}
 use Rattle.s2union.proofs.Normal.{normal_from_local, normal_form_same}
+use Rattle.s2union.proofs.Shortest.{shortest}
 use Rattle.s2union.proofs.PackedLocal.{local_from_packed}
 use Rattle.s2union.proofs.normalising.normalise.Goals as goal
 
@@ -24,3 +25,6 @@ returns-clause-normal c =
     normal_form_same (has_leaf c.compact.new.cells.items) (has_leaf c.args.cells.items) c.compact.new.cells.items
     (λ x. c.compact.ensures.leaves x ∙ sym (list_any-IsPermutation (λ n. covers n x) c.args.cells.items c.sort_unstable.new.self.items c.sort_unstable.ensures.permutation))
     (normal_from_local c.compact.new.cells.items (local_from_packed c.compact.new.cells.items c.compact.ensures.packed))
+
+pub returns-clause-shortest : goal.returns-clause-shortest
+returns-clause-shortest c = shortest (has_leaf c.args.cells.items) c.compact.new.cells.items (returns-clause-local c) (returns-clause-leaves c)
