@@ -1,0 +1,4 @@
+mod Runs
+mod Forms
+mod Visits
+mod Formed

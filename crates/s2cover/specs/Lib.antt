@@ -1,0 +1,2 @@
+pub mod Coverings
+pub mod Descent

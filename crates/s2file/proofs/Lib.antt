@@ -1,0 +1,5 @@
+pub mod Numbers
+pub mod Reading
+pub mod Files
+pub mod Texts
+pub mod Named

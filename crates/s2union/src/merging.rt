@@ -1,0 +1,148 @@
+//! The merging core: a cell behind packed cells.
+
+ghost use Rattle.std.specs.Prelude.{◌≡◌, ◌≤◌, ◌<◌, ◌+◌, ◌↔◌, ℕ, IsTrue, MatchOption, length, take, All, ◌||◌, slice_index, ◌-◌, ◌*◌, ◌++◌, ◌∷◌, [], OnOk, OnErr, IfSome};
+ghost use Rattle.std.specs.Vec.{vec_len, vec_capacity};
+ghost use Rattle.s2cell.specs.Cell.{IsCell, level_of, covers, first_leaf, IsInside};
+ghost use Rattle.s2union.specs.Union.{has_leaf};
+ghost use Rattle.s2union.specs.Packed.{EndsBefore, IsFamily, IsPacked, Merges};
+
+use s2cell::CellId;
+use std::alloc::AllocError;
+
+/// Adds the leaves of a cell to packed cells, where there is room for one more.
+pub(crate) fn add_reserved(list: &mut Vec<CellId>, cell: CellId)
+    requires packed { IsPacked list.old.items }
+    requires starts { All (λ c. 2 * first_leaf c < cell) list.old.items }
+    requires room { vec_len list.old < vec_capacity list.old }
+    ensures packed { IsPacked list.new.items }
+    ensures starts { All (λ c. 2 * first_leaf c < cell) list.new.items }
+    ensures leaves { (x : ℕ) → has_leaf list.new.items x ≡ (has_leaf list.old.items x || covers cell x) }
+    ensures few { vec_len list.new ≤ vec_len list.old + 1 }
+    ensures room { vec_capacity list.new ≡ vec_capacity list.old }
+{
+    if let Some((kept, last)) = settled(list.as_slice(), cell) {
+        list.truncate(kept);
+        list.push_reserved(last);
+    }
+}
+
+/// Adds a cell to packed cells that end before it.
+pub(crate) fn add_behind(list: &mut Vec<CellId>, cell: CellId) -> Result<(), AllocError>
+    requires packed { IsPacked list.old.items }
+    requires after { All (λ c. EndsBefore c cell) list.old.items }
+    requires is_cell { IsCell cell }
+    ensures packed { IsPacked list.new.items }
+    ensures leaves { OnOk result ((x : ℕ) → has_leaf list.new.items x ≡ (has_leaf list.old.items x || covers cell x)) }
+{
+    let (kept, last) = merged(list.as_slice(), cell);
+    if kept < list.len() {
+        list[kept] = last;
+        list.truncate(kept + 1);
+    } else {
+        list.push(last)?;
+    }
+    Ok(())
+}
+
+/// Adds the leaves of a cell to packed cells, none of which begins behind its middle.
+pub(crate) fn add(list: &mut Vec<CellId>, cell: CellId) -> Result<(), AllocError>
+    requires packed { IsPacked list.old.items }
+    requires starts { All (λ c. 2 * first_leaf c < cell) list.old.items }
+    ensures packed { IsPacked list.new.items }
+    ensures starts { All (λ c. 2 * first_leaf c < cell) list.new.items }
+    ensures leaves { OnOk result ((x : ℕ) → has_leaf list.new.items x ≡ (has_leaf list.old.items x || covers cell x)) }
+    ensures unchanged { OnErr result (list.new.items ≡ list.old.items) }
+{
+    if let Some((kept, last)) = settled(list.as_slice(), cell) {
+        if kept < list.len() {
+            list[kept] = last;
+            list.truncate(kept + 1);
+        } else {
+            list.push(last)?;
+        }
+    }
+    Ok(())
+}
+
+/// How many cells of the front stay, and the cell after them, where a cell is added; None where the last one holds it.
+pub(crate) fn settled(front: &[CellId], cell: CellId) -> Option<(usize, CellId)>
+    requires packed { IsPacked front.now }
+    requires starts { All (λ c. 2 * first_leaf c < cell) front.now }
+    ensures cases { MatchOption result ((x : ℕ) → has_leaf front.now x ≡ (has_leaf front.now x || covers cell x)) (λ r. Merges front.now cell r.0 r.1) }
+    ensures starts { IfSome result (λ r. All (λ c. 2 * first_leaf c < cell) (take r.0 front.now ++ r.1 ∷ [])) }
+{
+    let n = front.len();
+    if n > 0 && front[n - 1].contains(cell) {
+        return None;
+    }
+    let _ = cell.id();
+    let kept = outside(front, cell);
+    let (kept, last) = merged(&front[..kept], cell);
+    Some((kept, last))
+}
+
+/// How many cells of the front lie outside the cell.
+pub(crate) fn outside(front: &[CellId], cell: CellId) -> usize
+    requires packed { IsPacked front.now }
+    requires starts { All (λ c. 2 * first_leaf c < cell) front.now }
+    requires is_cell { IsCell cell }
+    requires not_held { 0 < length front.now → IsInside cell (slice_index front.now (length front.now - 1)) → ⊥ }
+    ensures within { result ≤ length front.now }
+    ensures after { All (λ c. EndsBefore c cell) (take result front.now) }
+    ensures leaves { (x : ℕ) → (has_leaf (take result front.now) x || covers cell x) ≡ (has_leaf front.now x || covers cell x) }
+{
+    let mut kept = front.len();
+    while kept > 0 && cell.contains(front[kept - 1]) {
+        kept -= 1;
+    }
+    kept
+}
+
+/// How many cells of the front stay, and the cell after them, where `cell` is added and families are merged.
+pub(crate) fn merged(front: &[CellId], cell: CellId) -> (usize, CellId)
+    requires packed { IsPacked front.now }
+    requires after { All (λ c. EndsBefore c cell) front.now }
+    requires is_cell { IsCell cell }
+    ensures { Merges front.now cell result.0 result.1 }
+{
+    let mut kept = front.len();
+    let mut last = cell;
+    while kept >= 3 {
+        match parent_of_family(front[kept - 3], front[kept - 2], front[kept - 1], last) {
+            Some(parent) => {
+                last = parent;
+                kept -= 3;
+            }
+            None => break,
+        }
+    }
+    (kept, last)
+}
+
+/// The cell whose children these four are, in order.
+pub(crate) fn parent_of_family(a: CellId, b: CellId, c: CellId, d: CellId) -> Option<CellId>
+    ensures { MatchOption result ((p : ℕ) → IsFamily a b c d p → ⊥) (λ p. IsFamily a b c d p) }
+{
+    if c.id() + 2 * d.leaf_count() != d.id() {
+        return None;
+    }
+    let level = d.level();
+    if level == 0 {
+        return None;
+    }
+    let parent = d.parent(level - 1);
+    if is_family(parent, a, b, c, d) {
+        Some(parent)
+    } else {
+        None
+    }
+}
+
+/// Whether these four are the children of `parent`, in order.
+pub(crate) fn is_family(parent: CellId, a: CellId, b: CellId, c: CellId, d: CellId) -> bool
+    requires { level_of parent < 30 }
+    ensures { IsTrue result ↔ IsFamily a b c d parent }
+{
+    let _ = parent.id();
+    a == parent.child(0) && b == parent.child(1) && c == parent.child(2) && d == parent.child(3)
+}

@@ -1,0 +1,105 @@
+//! The type of a normalised union, and what it says of itself.
+
+ghost use Rattle.std.specs.Prelude.{◌≡◌, ◌≤◌, ◌↔◌, IsTrue, length, ◌*◌, ◌^◌, [], IfOk};
+ghost use Rattle.std.specs.Vec.{vec_capacity};
+ghost use Rattle.s2union.specs.Union.{IsLocal, IsNormalForm, has_leaf};
+ghost use Rattle.s2union.specs.Count.{count_below};
+
+use s2cell::CellId;
+use std::alloc::{AllocError, Global};
+use std::marker::Model;
+
+/// A set of leaves, as the one normalised list of cells that covers it.
+///
+/// The cells ascend by identifier and share no leaf, and no four of them are the children of one parent. Cells of
+/// level 0, the faces, have no parent and stay apart. Unions of the same leaves have the same cells, whatever they
+/// were made from. S2 calls it `S2CellUnion`.
+#[derive(Drop)]
+pub struct CellUnion {
+    pub(crate) cells: Vec<CellId>,
+}
+
+impl Model for CellUnion {
+    ghost use Rattle.std.specs.Vec.{vec_capacity};
+    ghost use Rattle.s2union.specs.Union.{Union, IsLocal};
+
+    ghost Value = { Union };
+
+    ghost view = { λ u. record { cells = u.cells.items; room = vec_capacity u.cells } };
+
+    ghost invariant = { λ u. IsLocal u.cells.items };
+}
+
+impl CellUnion {
+    /// The union without a leaf, which takes no memory.
+    pub fn empty(alloc: Global) -> CellUnion
+        ensures cells { result.cells ≡ [] }
+        ensures room { result.room ≡ 0 }
+    {
+        CellUnion {
+            cells: Vec::new(alloc),
+        }
+    }
+
+    /// The cells, ascending: the normal form of the leaves.
+    pub fn cells(&self) -> &[CellId]
+        ensures value { result.now ≡ self.now.cells }
+        ensures local { IsLocal self.now.cells }
+        ensures normal { IsNormalForm (has_leaf self.now.cells) self.now.cells }
+    {
+        self.cells.as_slice()
+    }
+
+    /// How many cells it has.
+    pub fn len(&self) -> usize
+        ensures { result ≡ length self.now.cells }
+    {
+        self.cells.len()
+    }
+
+    /// Whether it has no cell, and so no leaf.
+    pub fn is_empty(&self) -> bool
+        ensures { IsTrue result ↔ (self.now.cells ≡ []) }
+    {
+        self.cells.is_empty()
+    }
+
+    /// How many leaves it has, of the `6 * 4^30` that there are. Linear in its cells.
+    pub fn leaf_count(&self) -> u64
+        ensures value { result ≡ count_below (has_leaf self.now.cells) (6 * 4 ^ 30) }
+        ensures most { result ≤ 6 * 4 ^ 30 }
+    {
+        count(self.cells())
+    }
+
+    /// A second union of the same cells. Refused only where there is no memory.
+    pub fn try_clone(&self) -> Result<CellUnion, AllocError>
+        ensures { IfOk result (λ u. u.cells ≡ self.now.cells) }
+    {
+        let cells = Vec::from_slice(*self.cells.allocator(), self.cells())?;
+        Ok(CellUnion { cells })
+    }
+
+    /// The list itself, with its room.
+    pub fn into_cells(self) -> Vec<CellId>
+        ensures value { result.items ≡ self.cells }
+        ensures room { vec_capacity result ≡ self.room }
+        ensures local { IsLocal self.cells }
+    {
+        let CellUnion { cells } = self;
+        cells
+    }
+}
+
+/// How many leaves the cells of a local list have.
+fn count(cells: &[CellId]) -> u64
+    requires { IsLocal cells.now }
+    ensures value { result ≡ count_below (has_leaf cells.now) (6 * 4 ^ 30) }
+    ensures most { result ≤ 6 * 4 ^ 30 }
+{
+    let mut total = 0;
+    for cell in cells {
+        total += cell.leaf_count();
+    }
+    total
+}
