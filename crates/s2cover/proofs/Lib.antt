@@ -2,3 +2,5 @@ mod Runs
 mod Forms
 mod Visits
 mod Formed
+mod Rectangles
+mod Regions

@@ -15,7 +15,11 @@
 
 mod covering;
 mod descent;
+mod rect;
 mod region;
+mod union;
 
 pub use covering::{inner, outer};
+pub use rect::FaceRect;
 pub use region::{CoverFault, Part, Region};
+pub use union::Clip;

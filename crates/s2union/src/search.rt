@@ -57,7 +57,7 @@ fn meets(cells: &[CellId], cell: CellId) -> bool
 }
 
 /// How many cells end by the leaf `lo`.
-fn find(cells: &[CellId], lo: u64) -> usize
+pub(crate) fn find(cells: &[CellId], lo: u64) -> usize
     requires { IsPacked cells.now }
     ensures within { result ≤ length cells.now }
     ensures behind { Behind cells.now result lo }
