@@ -7,7 +7,7 @@ use Rattle.s2cell.proofs.cell.CellId.square.Goals.{After-wrapping_neg-2}
 made : (c : After-wrapping_neg-2) → IsSquareOf c.args.self c.face-face.result (bit_and c.place_at-i.result.0 c.wrapping_neg.result) (bit_and c.place_at-i.result.1 c.wrapping_neg-2.result) (1 * 2 ^ (30 - c.level.result) % 2 ^ 32)
 made c =
     square_computed c.args.self c.face-face.result c.first_leaf.result c.level.result c.place_at-i.result.0 c.place_at-i.result.1 c.wrapping_neg.result c.wrapping_neg-2.result
-    c.first_leaf.ensures.own c.face-face.ensures c.first_leaf.ensures.value c.level.ensures.value c.level.ensures.most
+    c.first_leaf.ensures.own c.face-face.ensures.value c.first_leaf.ensures.value c.level.ensures.value c.level.ensures.most
     c.place_at-i.ensures.place c.place_at-i.ensures.i c.place_at-i.ensures.j c.wrapping_neg.type_inv c.wrapping_neg.ensures c.wrapping_neg-2.type_inv c.wrapping_neg-2.ensures
 
 pub returns-clause-square : goal.returns-clause-square
