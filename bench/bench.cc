@@ -140,7 +140,7 @@ struct Unions {
 };
 
 static void sets(Table& table, const Unions& u) {
-  Room room(400000);
+  Room room(2000000);
   S2CellUnion made;
   auto row = [&](Row it, const List& xs, const List& ys, PeerOperation peer, Operation proved) {
     S2CellUnion x = peer_union(xs), y = peer_union(ys);

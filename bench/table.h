@@ -23,6 +23,29 @@ struct Row {
   double goal;
 };
 
+// The least time of the rounds, in nanoseconds.
+class Best {
+ public:
+  void measure(const Side& side) {
+    once_ = std::min(once_, time_of(side, 1));
+    if (side.more > 0) all_ = std::min(all_, time_of(side, side.more + 1));
+  }
+
+  // The time of one time more: what is done once for all times falls out of the difference.
+  double of(const Side& side) const { return side.more == 0 ? once_ : (all_ - once_) / side.more; }
+
+ private:
+  static double now() { return std::chrono::duration<double, std::nano>(std::chrono::steady_clock::now().time_since_epoch()).count(); }
+
+  static double time_of(const Side& side, uint32_t times) {
+    double start = now();
+    side.work(times);
+    return now() - start;
+  }
+
+  double once_ = 1e300, all_ = 1e300;
+};
+
 class Table {
  public:
   Table(const char* only, int rounds) : only_(only), rounds_(rounds) {
@@ -35,13 +58,13 @@ class Table {
   // `units` of the row may be 0: then it is what `units` says once the work is done.
   void row(Row row, const Side& peer, const Side& proved, const std::function<size_t()>& units = nullptr) {
     if (!wants(row.name)) return;
-    double peer_best = 1e300, proved_best = 1e300;
+    Best peer_best, proved_best;
     for (int round = 0; round < rounds_; round++) {
-      peer_best = std::min(peer_best, time_of(peer));
-      proved_best = std::min(proved_best, time_of(proved));
+      peer_best.measure(peer);
+      proved_best.measure(proved);
     }
     if (units) row.units = units();
-    double peer_ns = peer_best / row.units, proved_ns = proved_best / row.units;
+    double peer_ns = peer_best.of(peer) / row.units, proved_ns = proved_best.of(proved) / row.units;
     u64 peer_sum = peer.sum(), proved_sum = proved.sum();
     bool is_equal = peer_sum == proved_sum && (row.sum == 0 || row.sum == proved_sum);
     all_equal_ = all_equal_ && is_equal;
@@ -56,21 +79,6 @@ class Table {
   }
 
  private:
-  static double now() { return std::chrono::duration<double, std::nano>(std::chrono::steady_clock::now().time_since_epoch()).count(); }
-
-  static double timed(const Side& side, uint32_t times) {
-    double start = now();
-    side.work(times);
-    return now() - start;
-  }
-
-  // The time of one time more: what is done once for all times falls out of the difference.
-  static double time_of(const Side& side) {
-    if (side.more == 0) return timed(side, 1);
-    double once = timed(side, 1);
-    return (timed(side, side.more + 1) - once) / side.more;
-  }
-
   const char* only_;
   int rounds_;
   bool all_equal_ = true;
