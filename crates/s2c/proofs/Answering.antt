@@ -12,7 +12,7 @@ pub answers_more : (P : ℕ → Type 0) (bs : List Bool) (k : ℕ) (b : Bool) �
 answers_more P bs k b room so_far last i within =
     let up_to : i ≤ k = omega arith in
     ⊎_elim
-      (λ e. subst (λ n. IsTrue (slice_index_or (slice_set bs k b) n false) ↔ P n) (sym e)
-        (subst (λ a. IsTrue a ↔ P k) (sym (get_or-set_same bs k b false room)) last))
-      (λ before. subst (λ a. IsTrue a ↔ P i) (sym (get_or-set_other bs k i b false (λ e. omega (arith, e, before)))) (so_far i before))
-      (eq-or-lt_of_le up_to)
+    (λ e. subst (λ n. IsTrue (slice_index_or (slice_set bs k b) n false) ↔ P n) (sym e)
+    (subst (λ a. IsTrue a ↔ P k) (sym (get_or-set_same bs k b false room)) last))
+    (λ before. subst (λ a. IsTrue a ↔ P i) (sym (get_or-set_other bs k i b false (λ e. omega (arith, e, before)))) (so_far i before))
+    (eq-or-lt_of_le up_to)

@@ -14,4 +14,6 @@ mod files;
 mod lists;
 mod questions;
 mod sets;
+#[cfg(test)]
+mod tests;
 mod unions;

@@ -63,13 +63,13 @@ pub extern "C" fn s2c_contains(
 ) -> bool
     ensures { IsTrue result → (IsTrue answer.new ↔ IsWithin (has_leaf ys.now) (has_leaf xs.now)) }
 {
-    let (Some(x), Some(y)) = (union_of(alloc, xs), union_of(alloc, ys)) else {
+    let (Some(whole), Some(part)) = (union_of(alloc, xs), union_of(alloc, ys)) else {
         return false;
     };
     for _ in 1..times {
-        *answer = x.contains(&y);
+        *answer = whole.contains(&part);
     }
-    *answer = x.contains(&y);
+    *answer = whole.contains(&part);
     true
 }
 
@@ -88,7 +88,7 @@ pub extern "C" fn s2c_intersects(
         return false;
     };
     for _ in 1..times {
-        *answer = x.intersects(&y);
+        *answer = y.intersects(&x);
     }
     *answer = x.intersects(&y);
     true
