@@ -1,19 +1,19 @@
 -- The cell of the greatest level that contains two cells, by the highest bit in which they differ.
-use Rattle.std.proofs.Common.{◌≡◌, ℕ, zero, suc, ◌+◌, ◌-◌, ◌*◌, ◌/◌, ◌%◌, ◌^◌, ◌<◌, ◌≤◌, refl, sym, ◌∙◌, ap, arith, lit<, bit_xor, bit_and, ◌↔◌, max}
+use Rattle.std.proofs.Common.{◌≡◌, ℕ, suc, ◌+◌, ◌-◌, ◌*◌, ◌/◌, ◌%◌, ◌^◌, ◌<◌, ◌≤◌, refl, sym, ◌∙◌, ap, arith, lit<, bit_xor, max}
 use Rattle.std.proofs.Math.Logic.{⊎_elim}
 use Rattle.std.proofs.Math.Nat.{pow-suc, pow-le-pow_right, div-eq_of_lt-le, mul-le-mul_right}
 use Rattle.std.specs.Int.Bits.{xor_self}
 use Rattle.std.specs.Int.Count.{count_leading_zeros}
 use Rattle.std.proofs.lemmas.Bool.{cases_lt}
-use Rattle.std.proofs.lemmas.Nat.{pow_pos, and_le_l, and_le_r, xor_block, xor_lt, mod_below, div-add-mod', div_below, leading_top}
+use Rattle.std.proofs.lemmas.Nat.{pow_pos, and_le_l, and_le_r, xor_block, xor_lt, mod_below, div-add-mod', leading_top}
 use lib.Bits.{xor_add_and}
-use Rattle.s2cell.specs.Cell.{IsCell, IsInside, level_of, place_of, size_of, first_leaf, parent_of, face_of}
+use Rattle.s2cell.specs.Cell.{IsCell, level_of, place_of, size_of, first_leaf, parent_of, face_of}
 use Rattle.s2cell.specs.Neighbours.{IsCommonAncestor}
 use Rattle.s2cell.proofs.Lowest.{four_pow}
-use Rattle.s2cell.proofs.CellLemmas.{own_place, cell_leaves, four_pos, first_leaf_of_cell}
+use Rattle.s2cell.proofs.CellLemmas.{own_place, cell_leaves, first_leaf_of_cell}
 use Rattle.s2cell.proofs.Calls.{size_at, shallow, IsCell-parent_of, face_bits}
 use Rattle.s2cell.proofs.Leaves.{Within, inside_from_within, within_from_inside}
-use Rattle.s2cell.proofs.Family.{parent_around, parent_level, level_le}
+use Rattle.s2cell.proofs.Family.{parent_around, parent_level}
 
 -- ---- bits
 

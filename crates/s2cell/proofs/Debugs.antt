@@ -1,9 +1,7 @@
 -- Reading and writing debug texts.
-use Rattle.std.proofs.Common.{◌≡◌, ◌≢◌, ℕ, suc, zero, ◌+◌, ◌-◌, ◌*◌, ◌/◌, ◌%◌, ◌^◌, ◌<◌, ◌≤◌, refl, sym, ◌∙◌, ap, arith, List, [], ◌∷◌, length, take, drop, get_or, All, bit_and, set, get_or-set_other, get_or-set_same, below_more, lit<}
+use Rattle.std.proofs.Common.{◌≡◌, ◌≢◌, ℕ, suc, ◌+◌, ◌-◌, ◌*◌, ◌/◌, ◌%◌, ◌^◌, ◌<◌, ◌≤◌, refl, sym, ◌∙◌, ap, arith, List, [], ◌∷◌, length, take, drop, get_or, bit_and, set, get_or-set_other, get_or-set_same, below_more, lit<}
 use Rattle.std.proofs.Math.Nat.{div-div-eq-div-mul, mod-eq_of_lt, mul-le-mul_right, pow-le-pow_right}
-use Rattle.std.proofs.Math.Logic.{⊎_elim}
-use Rattle.std.proofs.lemmas.Bool.{cases_lt}
-use Rattle.std.proofs.lemmas.Nat.{pow-add, pow_pos, mod-mul-add, div-mul-add, and_mask}
+use Rattle.std.proofs.lemmas.Nat.{pow-add, mod-mul-add, div-mul-add, and_mask}
 use Rattle.std.proofs.lemmas.List.{length-take-le, length-drop, length-set, take_all, get_or-drop}
 use Rattle.std.proofs.lemmas.Str.{digit_value-digit_char, digit_value_digit}
 use Rattle.std.proofs.lemmas.Str.Parse.{digit_from_value}
@@ -163,7 +161,7 @@ id_room rest face i place h m r =
     let p : 4 ^ i ≤ 4 ^ 30 = pow-le-pow_right {n = 4} (lit< tt) {i = i} {j = 30} (omega arith) in
     omega arith
 
-face_of_cell_at : (k m n : ℕ) → IsCellAt k m n → face_of n ≡ m / 4 ^ k
+pub face_of_cell_at : (k m n : ℕ) → IsCellAt k m n → face_of n ≡ m / 4 ^ k
 unfolding face_of
 face_of_cell_at k m n c = rw (place_of_cell k m n c, level_of_cell k m n c) refl
 
@@ -215,3 +213,20 @@ debug_short text n d =
     let l = d.length_is in
     let len : length (drop 2 text) ≡ length text - 2 = length-drop 2 text in
     (omega arith, omega arith)
+
+place_parts : (n : ℕ) → place_of n ≡ face_of n * 4 ^ level_of n + place_of n % 4 ^ level_of n
+unfolding face_of
+place_parts n = omega arith
+
+-- a debug text is that of one cell
+pub debug_one_cell : (m n : ℕ) (text : List ℕ) → IsDebug text m → IsDebug text n → m ≡ n
+debug_one_cell m n text d e =
+    let own_m = own_place m d.cell in
+    let own_n = own_place n e.cell in
+    let level : level_of m ≡ level_of n = let l = d.length_is in let k = e.length_is in omega arith in
+    let face : face_of m ≡ face_of n = let f = d.face in let g = e.face in omega arith in
+    let digits : place_of m % 4 ^ level_of m ≡ place_of n % 4 ^ level_of n = sym d.value ∙ e.value in
+    let place : place_of m ≡ place_of n =
+    place_parts m ∙ ap (λ x. x * 4 ^ level_of m + place_of m % 4 ^ level_of m) face ∙ ap (λ x. face_of n * 4 ^ x + place_of m % 4 ^ level_of m) level
+    ∙ ap (λ x. face_of n * 4 ^ level_of n + x) digits ∙ sym (place_parts n) in
+    own_m.id ∙ ap (λ x. (2 * x + 1) * 4 ^ (30 - level_of m)) place ∙ ap (λ x. (2 * place_of n + 1) * 4 ^ (30 - x)) level ∙ sym own_n.id

@@ -8,9 +8,9 @@ use Rattle.std.proofs.Math.Nat.{pow-suc, pow-zero, mul-pos, mod-lt, mod-one, div
 use Rattle.std.proofs.Math.Seq.{take-suc, get_or-append_seam}
 use Rattle.std.proofs.lemmas.List.{take_all}
 use Rattle.std.proofs.lemmas.List.Elements.{All-push}
-use Rattle.std.proofs.lemmas.Nat.{pow-add, pow_pos, div-mul-add, mod-mul-add}
+use Rattle.std.proofs.lemmas.Nat.{div-mul-add, mod-mul-add}
 use Rattle.std.proofs.lemmas.Str.{digit_value-digit_char}
-use Rattle.std.proofs.lemmas.Int.Digits.{digits_value_push, digits_value_more, digits_push, digits_more}
+use Rattle.std.proofs.lemmas.Int.Digits.{digits_value_push, digits_value_more, digits_push}
 use Rattle.std.specs.Str.Parse.{AllDigits, digits_value}
 use Rattle.std.specs.Char.{digit_value, digit_char}
 use Rattle.s2cell.specs.Text.{in_digits}

@@ -1,14 +1,14 @@
 -- The squares of a cell's children: the quarters of its own, in the order that its orientation gives.
-use Rattle.std.proofs.Common.{◌≡◌, ℕ, ◌+◌, ◌-◌, ◌*◌, ◌/◌, ◌%◌, ◌^◌, ◌<◌, ◌≤◌, refl, sym, ◌∙◌, ap, arith, subst, bit_xor}
-use Rattle.std.proofs.Math.Nat.{pow-suc, div-eq_of_lt}
-use Rattle.std.proofs.lemmas.Nat.{pow-add, div-mul-add, mod-mul-add, mod_below, div-add-mod'}
+use Rattle.std.proofs.Common.{◌≡◌, ℕ, ◌+◌, ◌-◌, ◌*◌, ◌/◌, ◌%◌, ◌^◌, ◌<◌, refl, sym, ◌∙◌, ap, arith, subst, bit_xor}
+use Rattle.std.proofs.Math.Nat.{div-one}
+use Rattle.std.proofs.lemmas.Nat.{pow-add, mod_below}
 use Rattle.s2cell.specs.Cell.{IsCell, IsCellAt, level_of, place_of, face_of, child_of}
 use Rattle.s2cell.specs.Curve.{At, orientation_after, quadrant, turn}
-use Rattle.s2cell.specs.Square.{IsSquareOf, orientation_of}
-use Rattle.s2cell.proofs.CellLemmas.{four_pos, own_place, level_of_cell, place_of_cell}
+use Rattle.s2cell.specs.Square.{IsSquareOf, IsPlaced, orientation_of}
+use Rattle.s2cell.proofs.CellLemmas.{four_pos, level_of_cell, place_of_cell}
 use Rattle.s2cell.proofs.Calls.{IsCellAt-child_of, IsCell-child_of}
 use Rattle.s2cell.proofs.Quadrants.{quadrant_below}
-use Rattle.s2cell.proofs.Levels.{at_bounds, orientation_below, blocks}
+use Rattle.s2cell.proofs.Levels.{orientation_below, blocks}
 use Rattle.s2cell.proofs.Places.{place_exists}
 use Rattle.s2cell.proofs.Walk.{Way, way_one, way_join}
 use Rattle.s2cell.proofs.Squares.{square_from_place, one_square}
@@ -113,3 +113,46 @@ square_of_face c ic e =
     let way : At 0 (face_of c % 2) (place_of c % 4 ^ 0) 0 0 = (omega arith, refl, refl) in
     let at : At (level_of c) (face_of c % 2) (place_of c % 4 ^ level_of c) 0 0 = rw e way in
     rw e at (square_from_place c 0 0 ic at)
+
+-- the cell of a face
+pub record IsFaceCell (f id : ℕ) : Type 0 where
+  pub cell : IsCell id
+  pub level : level_of id ≡ 0
+  pub face : face_of id ≡ f
+
+pub face_cell : (f id : ℕ) → f < 6 → id ≡ (2 * f + 1) * 4 ^ 30 → IsFaceCell f id
+unfolding face_of
+face_cell f id h e =
+    let i : IsCellAt 0 f id = record { level = omega arith; place = omega arith; id = e } in
+    let l = level_of_cell 0 f id i in
+    let p = place_of_cell 0 f id i in
+    record { cell = (0, f, i); level = l; face = ap (λ z. z / 4 ^ level_of id) p ∙ ap (λ z. f / 4 ^ z) l ∙ div-one f }
+
+-- ---- placed cells
+
+pub placed_face : (f id o : ℕ) → IsFaceCell f id → o ≡ f % 2 → IsPlaced id f 0 0 (2 ^ 30) o
+placed_face f id o c e = record {
+  cell = c.cell;
+  square = rw c.face at (square_of_face id c.cell c.level);
+  orientation_is = e ∙ ap (λ z. z % 2) (sym c.face) ∙ sym (orientation_of_face id c.level);
+}
+
+pub placed_orientation : (c face i j size o : ℕ) → IsPlaced c face i j size o → o < 4
+placed_orientation c face i j size o p = subst (λ z. z < 4) (sym p.orientation_is) (orientation_small c)
+
+-- by an entry of the table of one level
+pub placed_child : (c face i j size o p d e a b u : ℕ) → IsPlaced c face i j size o → level_of c < 30 → p < 4
+    → d ≡ child_of c p → e / 4 ≡ quadrant o p → e % 4 ≡ bit_xor o (turn p) → e < 16 → a ≡ e / 8 → b ≡ e / 4 % 2 → u ≡ e % 4
+    → IsPlaced d face (i + size / 2 * a) (j + size / 2 * b) (size / 2) u
+placed_child c face i j size o p d e a b u w h hp ed eq et he ea eb eu =
+    let own = orientation_of c in
+    let turned : u ≡ orientation_of d = eu ∙ et ∙ ap (λ z. bit_xor z (turn p)) w.orientation_is ∙ sym (orientation_of_child c p w.cell h hp) ∙ ap orientation_of (sym ed) in
+    let picked : e / 4 ≡ quadrant own p = eq ∙ ap (λ z. quadrant z p) w.orientation_is in
+    let one : a ≡ e / 4 / 2 = omega arith in
+    let first : i + size / 2 * a ≡ i + quadrant own p / 2 * (size / 2) = ap (λ z. i + size / 2 * z) (one ∙ ap (λ z. z / 2) picked) ∙ omega arith in
+    let second : j + size / 2 * b ≡ j + quadrant own p % 2 * (size / 2) = ap (λ z. j + size / 2 * z) (eb ∙ ap (λ z. z % 2) picked) ∙ omega arith in
+    record {
+      cell = IsCell-child_of c p d w.cell h hp ed;
+      square = rw (ed, first, second) (square_of_child c p face i j size w.cell h hp w.square);
+      orientation_is = turned;
+    }

@@ -1,19 +1,17 @@
 -- The square of a cell: where its leaves stand on its face.
-use Rattle.std.proofs.Common.{◌≡◌, ℕ, ◌+◌, ◌-◌, ◌*◌, ◌/◌, ◌%◌, ◌^◌, ◌<◌, ◌≤◌, refl, sym, ◌∙◌, ap, arith, subst, bit_and, bit_xor, true}
-use Rattle.std.proofs.Math.Nat.{div-eq_of_lt-le, mul-le-mul_right, div-one}
+use Rattle.std.proofs.Common.{◌≡◌, ℕ, ◌+◌, ◌-◌, ◌*◌, ◌/◌, ◌%◌, ◌^◌, ◌<◌, ◌≤◌, refl, sym, ◌∙◌, ap, arith, subst, bit_and, true}
+use Rattle.std.proofs.Math.Nat.{div-eq_of_lt-le, mul-le-mul_right}
 use Rattle.std.proofs.lemmas.Nat.{pow_pos, pow-add, pow_below, one_shl, div-mul-add, mod-mul-add, mod_below, div-add-mod'}
 use Rattle.std.proofs.lemmas.Nat.Bits.{and_high_mask}
-use Rattle.s2cell.specs.Cell.{IsCell, IsCellAt, level_of, place_of, face_of, first_leaf, size_of, child_of, covers}
-use Rattle.s2cell.specs.Curve.{At, IsPlaceOf, AreNeighbours, orientation_after, quadrant, turn}
-use Rattle.s2cell.specs.Square.{InSquare, IsSquareOf, orientation_of}
-use Rattle.s2cell.proofs.CellLemmas.{four_pos, own_place, cell_leaves, first_leaf_of_cell, size_of_cell, level_of_cell, place_of_cell, all_leaves}
-use Rattle.s2cell.proofs.Calls.{IsCellAt-child_of, leaf_cell}
+use Rattle.s2cell.specs.Cell.{IsCell, IsCellAt, level_of, place_of, face_of, first_leaf, covers}
+use Rattle.s2cell.specs.Curve.{At, IsPlaceOf, AreNeighbours}
+use Rattle.s2cell.specs.Square.{InSquare, IsSquareOf}
+use Rattle.s2cell.proofs.CellLemmas.{four_pos, own_place, cell_leaves, first_leaf_of_cell, size_of_cell, level_of_cell, all_leaves}
+use Rattle.s2cell.proofs.Calls.{leaf_cell}
 use Rattle.s2cell.proofs.Leaves.{covers_there, covers_from}
-use Rattle.s2cell.proofs.Quadrants.{quadrant_below}
-use Rattle.s2cell.proofs.Levels.{at_bounds, at_above, at_join, parts, orientation_join, orientation_below}
+use Rattle.s2cell.proofs.Levels.{at_bounds, at_above, parts}
 use Rattle.s2cell.proofs.Places.{same_place, same_leaf, same_parts, place_exists, leaf_exists}
 use Rattle.s2cell.proofs.Steps.{next_to}
-use Rattle.s2cell.proofs.Walk.{Way, way_one, way_join}
 
 -- ---- the leaves of a cell, counted from the first leaf of its face
 

@@ -1,10 +1,10 @@
 -- The way down the curve, as the code goes it: what each step adds to the way so far.
-use Rattle.std.proofs.Common.{◌≡◌, ℕ, suc, zero, ◌+◌, ◌-◌, ◌*◌, ◌/◌, ◌%◌, ◌^◌, ◌<◌, ◌≤◌, refl, sym, ◌∙◌, ap, arith, subst, bit_xor}
+use Rattle.std.proofs.Common.{◌≡◌, ℕ, ◌+◌, ◌-◌, ◌*◌, ◌/◌, ◌%◌, ◌^◌, ◌<◌, ◌≤◌, refl, sym, ◌∙◌, ap, arith, subst, bit_xor}
 use Rattle.std.proofs.Math.Nat.{div-div-eq-div-mul, div-eq_of_lt, div-one, pow-le-pow_right}
 use Rattle.std.proofs.lemmas.Nat.{pow-add, div-add-mod'}
 use Rattle.s2cell.specs.Curve.{At, orientation_after, quadrant, turn}
 use Rattle.s2cell.specs.Entries.{IsPlaceEntry, IsLeafEntry}
-use Rattle.s2cell.proofs.Quadrants.{quadrant_below, turn_keeps}
+use Rattle.s2cell.proofs.Quadrants.{turn_keeps}
 use Rattle.s2cell.proofs.Levels.{at_bounds, at_step, at_join, orientation_join}
 
 -- the way of `k` levels to the cell of a leaf, and the orientation `t` there
@@ -81,14 +81,14 @@ to_leaf_more k b o n i j t m u r h w below eu =
     (way_join k b o n (i / 2 ^ (30 - k)) (j / 2 ^ (30 - k)) t m (i / 2 ^ s % 2 ^ b) (j / 2 ^ s % 2 ^ b) r w below)
     refl (sym eu) (rw e (bits_more i b s)) (rw e (bits_more j b s))
 
--- one level more, by the results of the calls
-pub to_leaf_one : (k o n i j t q p m u : ℕ) → k < 30 → o < 4 → WayToLeaf k o n i j t
-    → q ≡ 2 * (i / 2 ^ (29 - k) % 2) + j / 2 ^ (29 - k) % 2 → quadrant t p ≡ q → p < 4 → m ≡ p → u ≡ bit_xor t (turn p)
+-- one level more by an entry
+pub to_leaf_one : (k o n i j t q e m u : ℕ) → k < 30 → o < 4 → WayToLeaf k o n i j t
+    → q ≡ 2 * (i / 2 ^ (29 - k) % 2) + j / 2 ^ (29 - k) % 2 → quadrant t (e / 4) ≡ q → e % 4 ≡ bit_xor t (turn (e / 4)) → e < 16 → m ≡ e / 4 → u ≡ e % 4
     → WayToLeaf (k + 1) o (4 * n + m) i j u
-to_leaf_one k o n i j t q p m u hk ho w eq picks hp em eu =
-    let e : 30 - (k + 1) ≡ 29 - k = omega arith in
-    let one = way_one t p (i / 2 ^ (29 - k) % 2) (j / 2 ^ (29 - k) % 2) u w.below hp (omega arith) (omega arith) (sym eq ∙ sym picks) eu in
-    to_leaf_more k 1 o n i j t p (4 * n + m) u (omega arith) w (rw e one) (omega arith)
+to_leaf_one k o n i j t q e m u hk ho w eq picks turned he em eu =
+    let s : 30 - (k + 1) ≡ 29 - k = omega arith in
+    let one = way_one t (e / 4) (i / 2 ^ (29 - k) % 2) (j / 2 ^ (29 - k) % 2) u w.below (omega arith) (omega arith) (omega arith) (sym eq ∙ sym picks) (eu ∙ turned) in
+    to_leaf_more k 1 o n i j t (e / 4) (4 * n + m) u (omega arith) w (rw s one) (omega arith)
 
 -- four levels more by an entry
 pub to_leaf_four : (b o n i j t e x y u r : ℕ) → b < 7 → WayToLeaf (2 + 4 * b) o n i j t
@@ -129,16 +129,14 @@ to_place_more k b o n x y t u v r x' y' h w below ex ey =
     (way_join k b o (n / 4 ^ (30 - k)) x y t (n / 4 ^ s % 4 ^ b) u v r w below)
     refl (rw e (digits_more n b s)) (sym ex) (sym ey)
 
--- one level more, by the results of the calls
-pub to_place_one : (k o n x y t p q a b u : ℕ) → k < 30 → o < 4 → WayToPlace k o n x y t
-    → p ≡ n / 4 ^ (29 - k) % 4 → q ≡ quadrant t p → a ≡ q / 2 → b ≡ q % 2 → u ≡ bit_xor t (turn p)
+-- one level more by an entry
+pub to_place_one : (k o n x y t p e a b u : ℕ) → k < 30 → o < 4 → WayToPlace k o n x y t
+    → p ≡ n / 4 ^ (29 - k) % 4 → e / 4 ≡ quadrant t p → e % 4 ≡ bit_xor t (turn p) → e < 16 → a ≡ e / 8 → b ≡ e / 4 % 2 → u ≡ e % 4
     → WayToPlace (k + 1) o n (2 * x + a) (2 * y + b) u
-to_place_one k o n x y t p q a b u hk ho w ep eq ea eb eu =
-    let e : 30 - (k + 1) ≡ 29 - k = omega arith in
-    let hp : p < 4 = omega arith in
-    let hq : q < 4 = subst (λ z. z < 4) (sym eq) (quadrant_below t p w.below hp) in
-    let one = way_one t p a b u w.below hp (omega arith) (omega arith) (omega arith) eu in
-    to_place_more k 1 o n x y t a b u (2 * x + a) (2 * y + b) (omega arith) w (rw (e, ← ep) one) (omega arith) (omega arith)
+to_place_one k o n x y t p e a b u hk ho w ep picked turned he ea eb eu =
+    let s : 30 - (k + 1) ≡ 29 - k = omega arith in
+    let one = way_one t p a b u w.below (omega arith) (omega arith) (omega arith) (omega arith) (eu ∙ turned) in
+    to_place_more k 1 o n x y t a b u (2 * x + a) (2 * y + b) (omega arith) w (rw (s, ← ep) one) (omega arith) (omega arith)
 
 -- four levels more by an entry
 pub to_place_four : (b o n x y t d e u v r : ℕ) → b < 7 → WayToPlace (2 + 4 * b) o n x y t

@@ -1,6 +1,6 @@
 -- The squares that cells cover on their faces.
 use Rattle.std.specs.Prelude.{◌≡◌, ℕ, ◌+◌, ◌-◌, ◌^◌, ◌%◌, ◌<◌, ◌≤◌, true}
-use Rattle.s2cell.specs.Cell.{level_of, place_of, face_of, covers}
+use Rattle.s2cell.specs.Cell.{IsCell, level_of, place_of, face_of, covers}
 use Rattle.s2cell.specs.Curve.{IsPlaceOf, orientation_after}
 
 -- the place `x`, `y` lies in the square whose least coordinates are `i` and `j`
@@ -21,3 +21,9 @@ pub record IsSquareOf (c face i j size : ℕ) : Type 0 where
 -- the orientation at which the curve enters the cell `c`
 unfoldable pub orientation_of : ℕ → ℕ
 orientation_of c = orientation_after (level_of c) (face_of c % 2) (place_of c % 4 ^ level_of c)
+
+-- the cell `c` with this square and this orientation
+pub record IsPlaced (c face i j size orientation : ℕ) : Type 0 where
+  pub cell : IsCell c
+  pub square : IsSquareOf c face i j size
+  pub orientation_is : orientation ≡ orientation_of c

@@ -24,9 +24,8 @@ pub struct Square {
 const FACE_LEAVES: u64 = 1 << 60;
 
 impl CellId {
-    /// The leaf at a place of a face; its coordinates go from 0 to 2^30 - 1.
-    ///
-    /// Each place has one leaf, and each leaf one place. Constant time, no memory.
+    /// The leaf at a place of a face (`FromFaceIJ`): the face is 0 to 5, and each coordinate is 0
+    /// to 2^30 - 1. Each place has one leaf, and each leaf one place.
     pub fn from_face_ij(face: u8, i: u32, j: u32) -> CellId
         requires face { face < 6 }
         requires i { i < 2 ^ 30 }
@@ -39,19 +38,23 @@ impl CellId {
         CellId { id: 2 * leaf + 1 }
     }
 
-    /// The square of the cell: its face, its least coordinates and its side, which is
-    /// 2^(30 - level) leaves.
+    /// The square of the cell: its face, its least coordinates and its side, which has
+    /// 2^(30 - level) leaves (`ToFaceIJOrientation`, which answers some place in the cell, and
+    /// `GetSizeIJ`).
     ///
-    /// The cell's leaves stand at all places of this square, and at no other. Of a leaf it is the
-    /// leaf's one place with the size 1; the next leaf of the face lies beside it. Constant time,
-    /// no memory. S2: `to_face_ij_orientation` of a leaf, `GetSizeIJ`, `IJLevelToBoundUV`'s corner.
+    /// The cell's leaves stand at all places of the square, and at no other. Of a leaf the square is
+    /// its one place with the size 1, and the next leaf of the face lies beside it. A walk down
+    /// through many cells carries the squares with it instead (`PlacedCell`).
     pub fn square(self) -> Square
         ensures square { IsSquareOf self result.face result.i result.j result.size }
-        ensures leaf { level_of self ≡ 30 → IsPlaceOf (first_leaf self) result.face result.i result.j × (result.size ≡ 1) }
+        ensures leaf { level_of self ≡ 30
+            → IsPlaceOf (first_leaf self) result.face result.i result.j × (result.size ≡ 1) }
         ensures only { level_of self ≡ 30
-            → (face i j : ℕ) → IsPlaceOf (first_leaf self) face i j → (face ≡ result.face) × (i ≡ result.i) × (j ≡ result.j) }
+            → (face i j : ℕ) → IsPlaceOf (first_leaf self) face i j
+            → (face ≡ result.face) × (i ≡ result.i) × (j ≡ result.j) }
         ensures next { level_of self ≡ 30
-            → (i j : ℕ) → IsPlaceOf (first_leaf self + 1) result.face i j → AreNeighbours result.i result.j i j }
+            → (i j : ℕ) → IsPlaceOf (first_leaf self + 1) result.face i j
+            → AreNeighbours result.i result.j i j }
     {
         let face = self.face();
         let (i, j) = way::place_at(face % 2, self.first_leaf() % FACE_LEAVES);

@@ -37,6 +37,7 @@ impl CellId {
         ensures debug { IsDebug result.items self }
         ensures value { result.items ≡ debug_of self }
     {
+        // The digits of all levels down to the leaves, then a cut behind the cell's own.
         let mut digits = [0u8; 32];
         digits[0] = b'0' + self.face();
         digits[1] = b'/';

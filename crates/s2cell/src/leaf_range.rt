@@ -1,5 +1,5 @@
 //! The numbers of a cell's leaves along the curve, and the cells that tile a run of leaves.
-ghost use Rattle.std.specs.Prelude.{◌≡◌, ◌<◌, ◌≤◌, ◌+◌, ◌*◌, ◌^◌};
+ghost use Rattle.std.specs.Prelude.{ℕ, ◌≡◌, ◌<◌, ◌≤◌, ◌+◌, ◌*◌, ◌^◌};
 ghost use Rattle.s2cell.specs.Cell.{IsCell, first_leaf, size_of};
 
 use crate::CellId;
@@ -42,6 +42,8 @@ impl CellId {
         ensures first { first_leaf result ≡ first }
         ensures end { first_leaf result + size_of result ≤ end }
         ensures cell { IsCell result }
+        ensures largest { (q : ℕ) → IsCell q → first_leaf q ≡ first
+            → first_leaf q + size_of q ≤ end → size_of q ≤ size_of result }
     {
         let aligned = first.trailing_zeros() / 2;
         let fitting = (63 - (end - first).leading_zeros()) / 2;

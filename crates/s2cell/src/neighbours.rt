@@ -13,10 +13,8 @@ const END: u64 = 6 << 61;
 const TOP_BIT: u32 = 60;
 
 impl CellId {
-    /// The next cell of the same level along the curve, also on the next face; None exactly at the
-    /// last cell of the level.
-    ///
-    /// S2's `next`, which there leaves the six faces at the end.
+    /// The next cell of the same level along the curve, also on the next face (`next`). None
+    /// exactly at the last cell of the level, where S2's leaves the six faces.
     pub fn next(self) -> Option<CellId>
         ensures { MatchOption result (IsLast self) (λ c. IsNext self c) }
     {
@@ -24,10 +22,8 @@ impl CellId {
         if id < END { Some(CellId { id }) } else { None }
     }
 
-    /// The cell before this one of the same level along the curve, also on the face before; None
-    /// exactly at the first cell of the level.
-    ///
-    /// S2's `prev`, which there leaves the six faces at the start.
+    /// The previous cell of the same level along the curve, also on the face before (`prev`). None
+    /// exactly at the first cell of the level, where S2's leaves the six faces.
     pub fn prev(self) -> Option<CellId>
         ensures { MatchOption result (IsFirst self) (λ c. IsNext c self) }
     {
@@ -39,11 +35,11 @@ impl CellId {
         }
     }
 
-    /// The cell of the greatest level that contains both cells; None exactly where their faces
-    /// differ.
+    /// The cell of the greatest level that contains both cells (`GetCommonAncestorLevel`, and the
+    /// parent at it). None exactly where their faces differ.
     ///
-    /// By the highest bit in which the two differ, so in constant time. S2's
-    /// `GetCommonAncestorLevel`, and the parent at it.
+    /// The highest bit in which the identifiers differ tells the level; where one cell contains the
+    /// other its marker stands higher.
     pub fn common_ancestor(self, other: CellId) -> Option<CellId>
         ensures ancestor { IfSome result (λ c. IsCommonAncestor self other c) }
         ensures faces { IsSome result ↔ (face_of self ≡ face_of other) }

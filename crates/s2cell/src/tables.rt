@@ -1,9 +1,33 @@
-//! Four levels of the curve at once, in both directions, by two constant tables.
+//! The levels of the curve by constant tables, in both directions: one level, or four at once.
 
-ghost use Rattle.std.specs.Prelude.{◌≡◌, ◌<◌, slice_index};
+ghost use Rattle.std.specs.Prelude.{◌≡◌, ◌/◌, ◌%◌, ◌<◌, bit_xor, slice_index};
+ghost use Rattle.s2cell.specs.Curve.{quadrant, turn};
 ghost use Rattle.s2cell.specs.Entries.{IsPlaceEntry, IsLeafEntry};
 
-/// An entry of a table.
+/// The quadrant and the next orientation (`4 * quadrant + orientation`) at an orientation and a
+/// digit.
+pub fn place_step(orientation: u8, digit: u8) -> u8
+    requires orientation { orientation < 4 }
+    requires digit { digit < 4 }
+    ensures picked { result / 4 ≡ quadrant orientation digit }
+    ensures turned { result % 4 ≡ bit_xor orientation (turn digit) }
+    ensures entry { result < 16 }
+{
+    PLACE_STEPS[4 * digit as usize + orientation as usize]
+}
+
+/// The digit and the next orientation (`4 * digit + orientation`) at an orientation and a quadrant.
+pub fn leaf_step(orientation: u8, wanted: u8) -> u8
+    requires orientation { orientation < 4 }
+    requires wanted { wanted < 4 }
+    ensures picks { quadrant orientation (result / 4) ≡ wanted }
+    ensures turned { result % 4 ≡ bit_xor orientation (turn (result / 4)) }
+    ensures entry { result < 16 }
+{
+    LEAF_STEPS[4 * wanted as usize + orientation as usize]
+}
+
+/// An entry of a table of four levels.
 fn entry(table: &[u16; 1024], at: usize) -> u16
     requires { at < 1024 }
     ensures { result ≡ slice_index table.now at }
@@ -33,6 +57,12 @@ pub fn leaf_entry(orientation: u8, i: u8, j: u8) -> u16
         64 * i as usize + 4 * j as usize + orientation as usize,
     )
 }
+
+/// By `4 * digit + orientation`: `4 * quadrant + next orientation`.
+static PLACE_STEPS: [u8; 16] = [1, 0, 15, 14, 4, 9, 10, 7, 12, 13, 2, 3, 11, 6, 5, 8];
+
+/// By `4 * quadrant + orientation`: `4 * digit + next orientation`.
+static LEAF_STEPS: [u8; 16] = [1, 0, 10, 11, 4, 14, 13, 7, 15, 5, 6, 12, 8, 9, 3, 2];
 
 /// By `4 * digits + orientation`: `64 * i + 4 * j + next orientation`.
 static PLACES: [u16; 1024] = [

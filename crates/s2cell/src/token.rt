@@ -16,7 +16,8 @@ impl CellId {
     /// digits, or the identifier that they write is no cell's; `X`, which S2 prints for an invalid
     /// identifier, is one of these.
     pub fn from_token(text: &[u8]) -> Option<CellId>
-        ensures { MatchOption result ((n : ℕ) → IsReading text.now n → IsCell n → ⊥) (λ c. IsReading text.now c) }
+        ensures { MatchOption result ((n : ℕ) → IsReading text.now n → IsCell n → ⊥)
+            (λ c. IsReading text.now c) }
     {
         if text.is_empty() || text.len() > TOKEN_LEN {
             return None;
@@ -38,6 +39,7 @@ impl CellId {
         ensures token { IsToken result.items self }
         ensures value { result.items ≡ token_of self }
     {
+        // All sixteen digits, then a cut: faster than a test for the end at each digit.
         let mut digits = [0u8; TOKEN_LEN];
         for k in 0..16u32 {
             digits[k as usize] = hex_digit(((self.id >> (60 - 4 * k)) & 15) as u8);

@@ -1,51 +1,23 @@
 //! The way along the curve from a face down to a leaf, in both directions: from a place to the
 //! leaf's digits, and from the digits to the place.
 //!
-//! The first two levels go one by one, the other twenty-eight four at a time by a table.
+//! The curve enters a square at one of four orientations and passes its quadrants in turn; the
+//! digits 0 to 3 count them:
+//!
+//! ```text
+//!     orientation      0         1         2         3
+//!         j  1        1 2       3 2       3 0       1 0
+//!            0        0 3       0 1       2 1       2 3
+//!         i           0 1       0 1       0 1       0 1
+//! ```
+//!
+//! Each quadrant is passed the same way at an orientation of its own, 30 levels down to the leaves.
+//! Here the first two levels go one by one, and the other twenty-eight four at a time by a table.
 
-ghost use Rattle.std.specs.Prelude.{◌≡◌, ◌+◌, ◌*◌, ◌-◌, ◌/◌, ◌%◌, ◌^◌, ◌<◌, ◌≤◌, bit_xor};
-ghost use Rattle.s2cell.specs.Curve.{At, quadrant, turn, orientation_after};
+ghost use Rattle.std.specs.Prelude.{◌≡◌, ◌+◌, ◌*◌, ◌-◌, ◌/◌, ◌%◌, ◌^◌, ◌<◌, ◌≤◌};
+ghost use Rattle.s2cell.specs.Curve.{At, orientation_after};
 
 use crate::tables;
-
-/// The digit that picks a quadrant, by `4 * orientation + quadrant`.
-static DIGITS: [u8; 16] = [0, 1, 3, 2, 0, 3, 1, 2, 2, 3, 1, 0, 2, 1, 3, 0];
-
-/// The quadrant that a digit picks, by `4 * orientation + digit`.
-static QUADRANTS: [u8; 16] = [0, 1, 3, 2, 0, 2, 3, 1, 3, 2, 0, 1, 3, 1, 0, 2];
-
-/// What a digit exclusive-ors the orientation with.
-static TURNS: [u8; 4] = [1, 0, 0, 3];
-
-/// The digit that picks a quadrant at an orientation.
-fn digit_for(orientation: u8, wanted: u8) -> u8
-    requires orientation { orientation < 4 }
-    requires wanted { wanted < 4 }
-    ensures picks { quadrant orientation result ≡ wanted }
-    ensures digit { result < 4 }
-{
-    DIGITS[4 * orientation as usize + wanted as usize]
-}
-
-/// The quadrant that a digit picks at an orientation.
-fn quadrant_for(orientation: u8, digit: u8) -> u8
-    requires orientation { orientation < 4 }
-    requires digit { digit < 4 }
-    ensures picked { result ≡ quadrant orientation digit }
-    ensures quadrant { result < 4 }
-{
-    QUADRANTS[4 * orientation as usize + digit as usize]
-}
-
-/// The orientation behind a digit.
-fn turned(orientation: u8, digit: u8) -> u8
-    requires orientation { orientation < 4 }
-    requires digit { digit < 4 }
-    ensures turned { result ≡ bit_xor orientation (turn digit) }
-    ensures orientation { result < 4 }
-{
-    orientation ^ TURNS[digit as usize]
-}
 
 /// The quadrant in which a place lies at one level, from one bit of each coordinate.
 fn quadrant_of_place(i: u32, j: u32, shift: u32) -> u8
@@ -82,45 +54,41 @@ fn four_digits(leaf: u64, behind: u32) -> u8
     ((leaf >> (2 * behind)) & 255) as u8
 }
 
-/// The first digits of the leaf at a place, one level after the other, and the orientation behind
-/// them.
-pub fn first_digits(start: u8, i: u32, j: u32, levels: u32) -> (u64, u8)
+/// The first two digits of the leaf at a place, and the orientation behind them.
+fn first_digits(start: u8, i: u32, j: u32) -> (u64, u8)
     requires start { start < 4 }
     requires i { i < 2 ^ 30 }
     requires j { j < 2 ^ 30 }
-    requires levels { levels ≤ 30 }
-    ensures digits { At levels start result.0 (i / 2 ^ (30 - levels)) (j / 2 ^ (30 - levels)) }
-    ensures turned { result.1 ≡ orientation_after levels start result.0 }
+    ensures digits { At 2 start result.0 (i / 2 ^ 28) (j / 2 ^ 28) }
+    ensures turned { result.1 ≡ orientation_after 2 start result.0 }
     ensures orientation { result.1 < 4 }
 {
     let mut orientation = start;
     let mut leaf: u64 = 0;
-    for level in 0..levels {
-        let digit = digit_for(orientation, quadrant_of_place(i, j, 29 - level));
-        leaf = 4 * leaf + u64::from(digit);
-        orientation = turned(orientation, digit);
+    for level in 0..2u32 {
+        let step = tables::leaf_step(orientation, quadrant_of_place(i, j, 29 - level));
+        leaf = 4 * leaf + u64::from(step >> 2);
+        orientation = step & 3;
     }
     (leaf, orientation)
 }
 
-/// The first bits of a leaf's place, one level after the other, and the orientation behind them.
-pub fn first_bits(start: u8, leaf: u64, levels: u32) -> (u32, u32, u8)
+/// The first two bits of each coordinate of a leaf, and the orientation behind them.
+fn first_bits(start: u8, leaf: u64) -> (u32, u32, u8)
     requires start { start < 4 }
     requires leaf { leaf < 4 ^ 30 }
-    requires levels { levels ≤ 30 }
-    ensures place { At levels start (leaf / 4 ^ (30 - levels)) result.0 result.1 }
-    ensures turned { result.2 ≡ orientation_after levels start (leaf / 4 ^ (30 - levels)) }
+    ensures place { At 2 start (leaf / 4 ^ 28) result.0 result.1 }
+    ensures turned { result.2 ≡ orientation_after 2 start (leaf / 4 ^ 28) }
     ensures orientation { result.2 < 4 }
 {
     let mut orientation = start;
     let mut i: u32 = 0;
     let mut j: u32 = 0;
-    for level in 0..levels {
-        let digit = digit_of_leaf(leaf, 29 - level);
-        let picked = quadrant_for(orientation, digit);
-        i = 2 * i + u32::from(picked / 2);
-        j = 2 * j + u32::from(picked % 2);
-        orientation = turned(orientation, digit);
+    for level in 0..2u32 {
+        let step = tables::place_step(orientation, digit_of_leaf(leaf, 29 - level));
+        i = 2 * i + u32::from(step >> 3);
+        j = 2 * j + u32::from((step >> 2) & 1);
+        orientation = step & 3;
     }
     (i, j, orientation)
 }
@@ -134,7 +102,7 @@ pub fn leaf_at(start: u8, i: u32, j: u32) -> u64
     ensures place { At 30 start result i j }
     ensures leaf { result < 4 ^ 30 }
 {
-    let (mut leaf, mut orientation) = first_digits(start, i, j, 2);
+    let (mut leaf, mut orientation) = first_digits(start, i, j);
     for block in 0..7u32 {
         let shift = 24 - 4 * block;
         let entry = tables::leaf_entry(orientation, four_bits(i, shift), four_bits(j, shift));
@@ -153,7 +121,7 @@ pub fn place_at(start: u8, leaf: u64) -> (u32, u32)
     ensures i { result.0 < 2 ^ 30 }
     ensures j { result.1 < 2 ^ 30 }
 {
-    let (mut i, mut j, mut orientation) = first_bits(start, leaf, 2);
+    let (mut i, mut j, mut orientation) = first_bits(start, leaf);
     for block in 0..7u32 {
         let entry = tables::place_entry(orientation, four_digits(leaf, 24 - 4 * block));
         i = 16 * i + u32::from(entry >> 6);

@@ -4,3 +4,6 @@ mod Visits
 mod Formed
 mod Rectangles
 mod Regions
+mod Coverings
+mod Searches
+mod Squares

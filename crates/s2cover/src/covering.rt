@@ -1,8 +1,8 @@
 //! The outer and the inner covering of any region.
-ghost use Rattle.std.specs.Prelude.{◌≡◌, ◌+◌, ◌-◌, ◌*◌, ◌^◌, ◌<◌, ◌≤◌, ℕ, Bool, true, false, List, length, vec_len, IfOk, IfErr};
+ghost use Rattle.std.specs.Prelude.{◌≡◌, ◌+◌, ◌-◌, ◌*◌, ◌^◌, ◌<◌, ◌≤◌, ◌↔◌, ℕ, Bool, true, false, List, length, vec_len, IfOk, IfErr};
 ghost use Rattle.s2cell.specs.Cell.{IsCell, id_at};
 ghost use Rattle.s2union.specs.Union.{has_leaf, IsLocal, IsNormalForm};
-ghost use Rattle.s2cover.specs.Coverings.{outer_set, inner_set};
+ghost use Rattle.s2cover.specs.Coverings.{IsInInner, IsInOuter, inner_set, outer_set};
 ghost use Rattle.s2cover.specs.Descent.{covering_set};
 
 use crate::descent::visit;
@@ -52,6 +52,13 @@ pub fn inner<R: Region>(
 {
     cover(alloc, region, false, level, max)
 }
+
+/// A law: the leaves of the outer covering are those of all cells of the level that share a leaf with the region, the
+/// leaves of the inner one those of all cells of the level that lie inside it.
+pub fn covering_sets()
+    ensures outer { (R : ℕ → Bool) (k x : ℕ) → k ≤ 30 → (outer_set R k x ≡ true) ↔ IsInOuter R k x }
+    ensures inner { (R : ℕ → Bool) (k x : ℕ) → k ≤ 30 → (inner_set R k x ≡ true) ↔ IsInInner R k x }
+{}
 
 /// The outer covering where `whole`, else the inner one.
 fn cover<R: Region>(

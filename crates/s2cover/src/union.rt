@@ -25,6 +25,7 @@ impl Region for CellUnion {
 }
 
 /// The leaves of a union that stand in a rectangle. It refers to the union and copies none of it.
+#[derive(Clone, Copy)]
 pub struct Clip<'a> {
     /// The union.
     pub union: &'a CellUnion,

@@ -1,5 +1,5 @@
 -- The change between two lists.
-use Rattle.std.proofs.Common.{◌≡◌, ℕ, List, [], ◌∷◌, refl, sym, ap, ◌∙◌, length, arith}
+use Rattle.std.proofs.Common.{◌≡◌, ℕ, List, [], ◌∷◌, refl, sym, ap, ◌∙◌, arith}
 use Rattle.std.proofs.lemmas.Grind.{common_steps}
 use Rattle.s2union.specs.Union.{IsLocal}
 use Rattle.s2union.specs.Apply.{without}
@@ -25,7 +25,3 @@ between-nothing r us vs e =
   where
     between_of : (r : ℕ) (vs us : List ℕ) → Diff
     between_of r vs us = between r us vs
-
-pub empty_list : (us : List ℕ) → length us ≡ 0 → us ≡ []
-empty_list [] e = refl
-empty_list (u ∷ us) e = absurd (omega arith)

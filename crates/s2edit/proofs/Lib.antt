@@ -9,3 +9,4 @@ pub mod Differing
 pub mod Runs
 pub mod Replay
 pub mod OneEnd
+pub mod SetRuns

@@ -1,14 +1,13 @@
 -- The tables that kept changes lead to, one after another.
 use Rattle.std.specs.Prelude.{◌≢◌, ℕ, ◌<◌, ◌≤◌, List, [], ◌∷◌, length, map, slice_set}
 use Rattle.s2union.specs.Union.{Union, IsLocal}
-use Rattle.s2union.specs.Apply.{applied, Fits}
-use Rattle.s2edit.specs.History.{History}
-use Rattle.s2edit.specs.Diff.{Diff, inverse}
+use Rattle.s2edit.specs.History.{History, AllLists}
+use Rattle.s2edit.specs.Diff.{Diff, apply, FitsList, inverse}
 use Rattle.s2edit.specs.Leads.{list_at}
 
 -- the list that the change leads to
 abbrev pub list_after : List (List ℕ) → Diff → List ℕ
-list_after t d = applied d.out d.put (list_at t d.register)
+list_after t d = apply d (list_at t d.register)
 
 -- the table that the change leads to
 abbrev pub table_after : List (List ℕ) → Diff → List (List ℕ)
@@ -22,7 +21,7 @@ tables_after t (d ∷ ds) = table_after t d ∷ tables_after (table_after t d) d
 -- the change can be made in the table, changes it, and leaves at most limit cells in the register
 pub record FitsTable (limit : ℕ) (t : List (List ℕ)) (d : Diff) : Type 0 where
   pub in_range : d.register < length t
-  pub fits : Fits d.out d.put (list_at t d.register)
+  pub fits : FitsList d (list_at t d.register)
   pub few : length (list_after t d) ≤ limit
   pub changes : list_after t d ≢ list_at t d.register
 
@@ -42,8 +41,7 @@ pub record IsWithin (limit : ℕ) (cells : List ℕ) : Type 0 where
 
 -- each list of the table is one
 abbrev pub AllWithin : ℕ → List (List ℕ) → Type 0
-AllWithin limit [] = Unit {0}
-AllWithin limit (u ∷ us) = IsWithin limit u × AllWithin limit us
+AllWithin limit t = AllLists (IsWithin limit) t
 
 -- each union has room for n cells
 abbrev pub AllRoomy : ℕ → List Union → Type 0

@@ -1,7 +1,7 @@
 -- A change of one register, as a contract sees it.
 use Rattle.std.specs.Prelude.{◌≡◌, ℕ, true, false, List}
 use Rattle.std.specs.List.Sorted.{IsStrictlyIncreasing}
-use Rattle.s2union.specs.Apply.{has, without}
+use Rattle.s2union.specs.Apply.{has, without, applied, Fits}
 
 -- the cells that are taken out of the register's list, and those that are put in
 pub record Diff : Type 0 where
@@ -14,6 +14,14 @@ pub record IsDiff (out put : List ℕ) : Type 0 where
   pub out_ascends : IsStrictlyIncreasing out
   pub put_ascends : IsStrictlyIncreasing put
   pub apart : (x : ℕ) → has out x ≡ true → has put x ≡ false
+
+-- the list that the change makes of `u`
+abbrev pub apply : Diff → List ℕ → List ℕ
+apply d u = applied d.out d.put u
+
+-- the change can be made in `u`
+abbrev pub FitsList : Diff → List ℕ → Type 0
+FitsList d u = Fits d.out d.put u
 
 -- the change that takes this one back
 abbrev pub inverse : Diff → Diff

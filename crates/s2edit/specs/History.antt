@@ -64,3 +64,18 @@ cells_lost (u ∷ t) (v ∷ t') = length (without u v) + cells_lost t t'
 -- the numbers of a move from one table to another: of cells taken out, and of cells put in
 abbrev pub numbers : List (List ℕ) → List (List ℕ) → ℕ × ℕ
 numbers t t' = (cells_lost t t', cells_lost t' t)
+
+-- each list of a table, and of each of a list of tables
+abbrev pub AllLists : (List ℕ → Type 0) → List (List ℕ) → Type 0
+AllLists P [] = Unit {0}
+AllLists P (u ∷ t) = P u × AllLists P t
+
+abbrev pub AllTables : (List ℕ → Type 0) → List (List (List ℕ)) → Type 0
+AllTables P [] = Unit {0}
+AllTables P (t ∷ ts) = AllLists P t × AllTables P ts
+
+-- each list of each table, of the earlier and the undone ones too
+pub record EachList (P : List ℕ → Type 0) (h : History (List ℕ)) : Type 0 where
+  pub past : AllTables P h.past
+  pub now : AllLists P h.now
+  pub future : AllTables P h.future

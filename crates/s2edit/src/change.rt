@@ -1,5 +1,6 @@
 //! Changes of a register.
-ghost use Rattle.std.specs.Prelude.{◌≡◌, [], IfOk, IsOk};
+ghost use Rattle.std.specs.Prelude.{◌≡◌, [], IfOk, IsOk, ◌↔◌, IsTrue};
+ghost use Rattle.s2edit.specs.Diff.{FitsList};
 ghost use Rattle.s2edit.specs.Laws.{LawOfChanges};
 
 use crate::lacking::lacking;
@@ -81,6 +82,16 @@ impl Change {
             out: put,
             put: out,
         }
+    }
+
+    /// Whether the change can be made in the union's list: every cell of `out` is in it, no cell of `put`
+    /// is, and the list without `out` and with `put` is normalised.
+    ///
+    /// One pass over the three lists. Takes no memory.
+    pub fn fits(&self, union: &CellUnion) -> bool
+        ensures { IsTrue result ↔ FitsList self.now union.now.cells }
+    {
+        union.can_apply(&self.out, &self.put)
     }
 }
 

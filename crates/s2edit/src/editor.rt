@@ -1,8 +1,8 @@
 //! The editor: registers, and the history of their changes.
 ghost use Rattle.std.specs.Prelude.{◌≡◌, ◌+◌, ◌<◌, ◌≤◌, ◌↔◌, [], ◌∷◌, length, replicate, IfOk, OnOk, OnErr, IsOk, IfSome, IsNone, slice_get, slice_set, Some, vec_len, MatchOption};
-ghost use Rattle.s2union.specs.Union.{has_leaf};
+ghost use Rattle.s2union.specs.Union.{has_leaf, IsLocal};
 ghost use Rattle.s2union.specs.Apply.{applied, Fits};
-ghost use Rattle.s2edit.specs.History.{untouched, Assigned, sets, undone, redone, numbers};
+ghost use Rattle.s2edit.specs.History.{untouched, Assigned, sets, undone, redone, numbers, EachList};
 ghost use Rattle.s2edit.specs.Leads.{list_at, table_at, Leads};
 ghost use Rattle.s2edit.specs.Chain.{lists_of, union_of, AllRoomy};
 
@@ -184,7 +184,8 @@ impl Editor {
     /// The kept change that undo number `n` from now would take back, counted from 0; None exactly where
     /// fewer states may be undone. It leads from the earlier state to the later one.
     pub fn change_back(&self, n: usize) -> Option<&Change>
-        ensures { MatchOption result (length self.now.past ≤ n)
+        ensures none { IsNone result ↔ (length self.now.past ≤ n) }
+        ensures leads { IfSome result
             (λ c. Leads c.now (table_at (self.now.now ∷ self.now.past) (n + 1)) (table_at (self.now.now ∷ self.now.past) n)) }
     {
         self.past.get(n)
@@ -193,15 +194,20 @@ impl Editor {
     /// The kept change that redo number `n` from now would make again, counted from 0; None exactly where
     /// fewer states may be redone. It leads from the earlier state to the later one.
     pub fn change_ahead(&self, n: usize) -> Option<&Change>
-        ensures { MatchOption result (length self.now.future ≤ n)
+        ensures none { IsNone result ↔ (length self.now.future ≤ n) }
+        ensures leads { IfSome result
             (λ c. Leads c.now (table_at (self.now.now ∷ self.now.future) n) (table_at (self.now.now ∷ self.now.future) (n + 1))) }
     {
         self.future.get(n)
     }
 
-    /// The most cells that a register may have.
+    /// The most cells that a register may have. No list of the present state, of an earlier one or of one that
+    /// was undone has more, and each is normalised.
     pub fn limit(&self) -> usize
-        ensures { result ≡ self.now.limit }
+        ensures value { result ≡ self.now.limit }
+        ensures most { result ≤ 1000000 }
+        ensures few { EachList (λ u. length u ≤ self.now.limit) self.now }
+        ensures local { EachList IsLocal self.now }
     {
         self.limit
     }

@@ -20,3 +20,6 @@ pub use register::Register;
 
 /// How many registers there are, named by the letters from `a` on.
 pub const REGISTERS: usize = 8;
+
+#[cfg(test)]
+mod tests;

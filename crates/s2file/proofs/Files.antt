@@ -1,9 +1,10 @@
 -- Files, and what is wrong with other bytes.
-use Rattle.std.proofs.Common.{◌≡◌, ◌≢◌, ℕ, ◌+◌, ◌*◌, ◌<◌, ◌≤◌, inl, inr, Bool, List, length, refl, sym, ap, ◌∙◌, subst, arith}
+use Rattle.std.proofs.Common.{Result, Ok, Err, ◌≡◌, ◌≢◌, ℕ, ◌+◌, ◌*◌, ◌<◌, ◌≤◌, inl, inr, Bool, List, length, refl, sym, ap, ◌∙◌, subst, arith}
+use Rattle.std.specs.Prelude.{MatchResult}
 use Rattle.std.proofs.lemmas.List.{ext_get_or}
 use Rattle.std.proofs.lemmas.List.Elements.{All-get_or}
 use Rattle.s2cell.specs.Cell.{IsCell}
-use Rattle.s2union.specs.Union.{has_leaf}
+use Rattle.s2union.specs.Union.{Union, has_leaf}
 use Rattle.s2file.specs.declared.fault.FileFault.{FileFault}
 use Rattle.s2file.specs.declared.fault.FileFault.TheVariants.{Version, Count, Short, Trailing, Cell, Memory}
 use Rattle.s2file.specs.File.{stated_count, IsFileOf, File, HasCount, Faults}
@@ -30,9 +31,9 @@ no_fault bytes S Short f h = elim h [
 ]
 no_fault bytes S Trailing f h = absurd (omega (arith, f.is.length_is, f.is.count, h.1))
 no_fault bytes S Cell f h =
-    let stranger = h.1 in
-    let within : stranger.place < length f.ids = omega (arith, f.is.count, stranger.within) in
-    absurd (stranger.strange (subst IsCell (f.is.numbers stranger.place within) (All-get_or IsCell f.ids stranger.place 0 within f.is.cells)))
+    let found = h.1 in
+    let within : found.place < length f.ids = omega (arith, f.is.count, found.within) in
+    absurd (found.wrong (subst IsCell (f.is.numbers found.place within) (All-get_or IsCell f.ids found.place 0 within f.is.cells)))
 no_fault bytes S Memory f h = refl
 
 -- bytes that end too early don't begin with another byte than 1
@@ -98,3 +99,9 @@ one_fault bytes Cell Count h g m n = absurd (omega (arith, g.1, h.0.counted.most
 one_fault bytes Cell Short h g m n = absurd (short_ends bytes g h.0.counted (omega (arith, h.0.length_is)))
 one_fault bytes Cell Trailing h g m n = absurd (omega (arith, g.1, h.0.length_is))
 one_fault bytes Cell Cell h g m n = refl
+
+-- an answer that is right for the bytes is the one for each set whose file they are
+pub exact_answer : (bytes : List ℕ) (r : Result Union FileFault) → MatchResult r (λ u. File bytes (has_leaf u.cells)) (Faults bytes)
+    → (S : ℕ → Bool) → File bytes S → MatchResult r (λ u. (x : ℕ) → has_leaf u.cells x ≡ S x) (λ fault. fault ≡ Memory)
+exact_answer bytes (Ok u) answer S file = λ x. same_leaves bytes (has_leaf u.cells) S answer file x
+exact_answer bytes (Err fault) answer S file = no_fault bytes S fault file answer

@@ -3,3 +3,4 @@ pub mod Reading
 pub mod Files
 pub mod Texts
 pub mod Named
+pub mod Examples

@@ -51,14 +51,14 @@ reads_more bytes ids rest chunk more n r e h is cell =
     }
 
 -- a number of no cell
-pub reads_stranger : (bytes ids rest chunk more : List ℕ) → HasFrame bytes → ReadsSome bytes ids rest → rest ≡ chunk ++ more → length chunk ≡ 8
+pub reads_wrong : (bytes ids rest chunk more : List ℕ) → HasFrame bytes → ReadsSome bytes ids rest → rest ≡ chunk ++ more → length chunk ≡ 8
     → (IsCell (first_number chunk) → ⊥) → Faults bytes Cell
-reads_stranger bytes ids rest chunk more frame r e h strange = (
+reads_wrong bytes ids rest chunk more frame r e h wrong = (
   frame,
   record {
     place = length ids;
     within = omega (arith, frame.length_is, next_within bytes ids rest chunk more r e h);
-    strange = λ cell. strange (subst IsCell (next_number bytes ids rest chunk more r e h) cell);
+    wrong = λ cell. wrong (subst IsCell (next_number bytes ids rest chunk more r e h) cell);
   },
 )
 

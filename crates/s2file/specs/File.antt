@@ -63,10 +63,10 @@ pub record HasFrame (bytes : List ℕ) : Type 0 where
   pub length_is : length bytes ≡ 9 + 8 * stated_count bytes
 
 -- the fifth fails: some number behind the head is no identifier of a cell
-pub record HasStranger (bytes : List ℕ) : Type 0 where
+pub record HasWrongNumber (bytes : List ℕ) : Type 0 where
   pub place : ℕ
   pub within : place < stated_count bytes
-  pub strange : IsCell (number_at bytes place) → ⊥
+  pub wrong : IsCell (number_at bytes place) → ⊥
 
 -- the fault of the first check that fails; memory may want once the first four have passed
 abbrev pub Faults : List ℕ → FileFault → Type 0
@@ -77,7 +77,7 @@ Faults bytes Short =
     ⊎ (HasCount bytes × (length bytes < 9 + 8 * stated_count bytes))
 Faults bytes Count = HasHead bytes × (1000000 < stated_count bytes)
 Faults bytes Trailing = HasCount bytes × (9 + 8 * stated_count bytes < length bytes)
-Faults bytes Cell = HasFrame bytes × HasStranger bytes
+Faults bytes Cell = HasFrame bytes × HasWrongNumber bytes
 Faults bytes Memory = HasFrame bytes
 
 -- the text of a list of identifiers, however many

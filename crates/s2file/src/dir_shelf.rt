@@ -1,7 +1,7 @@
 //! A folder as a shelf.
 ghost use Rattle.std.specs.Prelude.{◌≡◌, IfOk};
 ghost use Rattle.s2file.specs.Shelf.{one_more};
-ghost use Rattle.s2file.specs.DirShelf.{folder_files};
+ghost use Rattle.s2file.specs.DirShelf.{folder_files, folder_path};
 
 use crate::shelf::{Shelf, ShelfFault};
 use std::alloc::AllocError;
@@ -27,7 +27,8 @@ impl<R: Files + AllocGlobal> DirShelf<R> {
     pub fn at(rt: R, path: &str) -> Result<DirShelf<R>, AllocError>
     where
         R: Drop,
-        ensures { IfOk result (λ shelf. (folder_files shelf).failures ≡ 0) }
+        ensures path { IfOk result (λ shelf. folder_path shelf ≡ path.now) }
+        ensures failures { IfOk result (λ shelf. (folder_files shelf).failures ≡ 0) }
     {
         let path = String::from_str(rt.alloc(), path)?;
         Ok(DirShelf {

@@ -27,6 +27,7 @@ pub fn round_trip(alloc: Global, union: &CellUnion) -> Result<CellUnion, FileFau
     ensures { MatchResult result (λ back. back.cells ≡ union.now.cells) (λ fault. fault ≡ FileFault.Memory) }
 {
     let bytes = encode(alloc, union)?;
+    // whose cells are a normal form
     let _ = union.cells();
     decode(alloc, bytes.as_slice())
 }

@@ -1,6 +1,6 @@
 //! A shelf in memory.
-ghost use Rattle.std.specs.Prelude.{◌≡◌, ◌≤◌, ◌-◌, ◌≢◌, ◌↔◌, ℕ, List, None, IsErrOf, MatchResult, is_ok, option_map, if◌then◌else◌};
-ghost use Rattle.s2file.specs.Shelf.{one_more, SameFiles, Holds, PutsFile, FailsToGet, FailsToPut};
+ghost use Rattle.std.specs.Prelude.{◌≡◌, ◌≤◌, ◌-◌, ◌≢◌, ◌↔◌, ℕ, List, None, IsErrOf, OnErr, MatchResult, is_ok, option_map, if◌then◌else◌};
+ghost use Rattle.s2file.specs.Shelf.{one_more, KeepsFiles, SameFiles, Holds, PutsFile, FailsToGet, FailsToPut};
 ghost use Rattle.s2file.specs.MemoryShelf.{files_of, failing_of};
 
 use crate::shelf::{Shelf, ShelfFault};
@@ -76,12 +76,13 @@ impl Shelf for MemoryShelf {
         }
     }
 
-    /// Copies name and bytes first, so that want of memory changes nothing. `Device` comes exactly
-    /// where this is the call that was told to fail; it then changes no file.
+    /// Copies name and bytes first, so that a fault changes no file. `Device` comes exactly where
+    /// this is the call that was told to fail.
     fn put(&mut self, name: &str, bytes: &[u8]) -> Result<(), ShelfFault>
         ensures answer { MatchResult result
             (λ _. PutsFile (files_of self.old) (files_of self.new) name.now bytes.now)
             (λ fault. FailsToPut (files_of self.old) name.now (files_of self.new) fault) }
+        ensures kept { OnErr result (KeepsFiles (files_of self.old) (files_of self.new)) }
         ensures turn { IsErrOf result ShelfFault.Device ↔ (failing_of self.old ≡ 1) }
         ensures failing { failing_of self.new ≡ failing_of self.old - 1 }
     {

@@ -1,5 +1,5 @@
 //! The union file: a union of cells as bytes.
-ghost use Rattle.std.specs.Prelude.{◌≡◌, ◌≤◌, ◌++◌, ℕ, length, MatchResult, IfOk, OnOk};
+ghost use Rattle.std.specs.Prelude.{◌≡◌, ◌≤◌, ◌++◌, ℕ, Bool, length, MatchResult, IfOk, OnOk};
 ghost use Rattle.s2union.specs.Union.{has_leaf, IsLocal};
 ghost use Rattle.s2file.specs.File.{first_number, number_text, HasFrame, IsFileOf, File, Faults, file_text, Bytes};
 
@@ -31,6 +31,7 @@ const MOST_CELLS: u64 = 1_000_000;
 #[tactic(auto, using(crate::proofs::Reading::file_from_cells))]
 pub fn decode(alloc: Global, bytes: &[u8]) -> Result<CellUnion, FileFault>
     ensures answer { MatchResult result (λ union. File bytes.now (has_leaf union.cells)) (λ fault. Faults bytes.now fault) }
+    ensures exact { (S : ℕ → Bool) → File bytes.now S → MatchResult result (λ union. (x : ℕ) → has_leaf union.cells x ≡ S x) (λ fault. fault ≡ FileFault.Memory) }
     ensures local { IfOk result (λ union. IsLocal union.cells) }
 {
     check_frame(bytes)?;

@@ -1,10 +1,11 @@
 -- The items of a denormalised union, one after the other.
-use Rattle.std.proofs.Common.{◌≡◌, ℕ, suc, ◌+◌, ◌-◌, ◌*◌, ◌%◌, ◌^◌, ◌<◌, ◌≤◌, refl, sym, ◌∙◌, ap, arith, subst, List, [], ◌∷◌, ◌++◌, length, get_or, drop, take, All, lit<, append_assoc, add-one, Bool, true, false}
+use Rattle.std.proofs.Common.{zero, ◌≡◌, ℕ, suc, ◌+◌, ◌-◌, ◌*◌, ◌%◌, ◌^◌, ◌<◌, ◌≤◌, refl, sym, ◌∙◌, ap, arith, subst, List, [], ◌∷◌, ◌++◌, length, get_or, drop, take, All, lit<, append_assoc, add-one, Bool, true, false}
 use Rattle.std.specs.Bool.{◌==◌}
 use Rattle.std.proofs.lemmas.Bool.Decides.{nat_tests}
 use Rattle.std.proofs.Math.Seq.{drop-cons, drop-append_seam}
 use Rattle.std.proofs.lemmas.List.{get_or_append_left, length-append, take_more, append-nil, take_all}
 use Rattle.std.proofs.lemmas.List.Elements.{All-tail}
+use Rattle.std.proofs.lemmas.Option.{gets}
 use Rattle.std.proofs.Math.Nat.{pow-le-pow_right}
 use Rattle.std.proofs.lemmas.Nat.{one_shl}
 use Rattle.s2cell.specs.Cell.{IsCell, level_of, first_leaf, size_of}
@@ -178,3 +179,27 @@ totalling_more cells least modulus i total own_level level count c local w h e s
 
 pub totalling_done : (cells : List ℕ) (least modulus i total : ℕ) → Totalling cells least modulus i total → length cells ≤ i → total ≡ length (denormalised least modulus cells)
 totalling_done cells least modulus i total w h = w.is ∙ ap (λ x. length (denormalised least modulus x)) (take_all i cells h)
+
+read_at_place : (u : List ℕ) (i : ℕ) → i < length u → get_or u i 0 ≡ get_or u i (get_or u i 0)
+read_at_place u i h = grind (arith, gets)
+
+totalling_at : (cells : List ℕ) (least modulus i : ℕ) → IsLocal cells → 0 < modulus → i ≤ length cells → (total : ℕ) × Totalling cells least modulus i total
+totalling_at cells least modulus zero local some h = (0, totalling_start cells least modulus)
+totalling_at cells least modulus (suc i) local some h =
+    let w = totalling_at cells least modulus i local some (omega arith) in
+    let c = get_or cells i 0 in
+    let level = cut_level (level_of c) least modulus in
+    let count = 1 * 2 ^ (2 * (level - level_of c)) % 2 ^ 64 in
+    let e : i + 1 ≡ suc i = omega arith in (
+      w.0 + count,
+      subst (λ x. Totalling cells least modulus x (w.0 + count)) e
+          (totalling_more cells least modulus i w.0 (level_of c) level count c local w.1 (omega arith) (read_at_place cells i (omega arith)) some refl refl refl),
+    )
+
+-- there are no more items than leaves
+pub length-denormalised-le : (least modulus : ℕ) (cells : List ℕ) → IsLocal cells → 0 < modulus → length (denormalised least modulus cells) ≤ 6 * 4 ^ 30
+length-denormalised-le least modulus cells local some =
+    let w = totalling_at cells least modulus (length cells) local some (omega arith) in
+    let most = w.1.most in
+    let e = totalling_done cells least modulus (length cells) w.0 w.1 (omega arith) in
+    omega arith

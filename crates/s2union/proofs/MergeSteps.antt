@@ -168,15 +168,6 @@ pub end_misfit : (out put us : List ℕ) → us ≡ [] → length out ≢ 0 → 
 end_misfit [] put us e n f = n refl
 end_misfit (o ∷ os) put us e n f = out_is_missing os put us o (subst (AllAbove o) (sym e) tt) f
 
-pub no_more : (out put us : List ℕ) → us ≡ [] → put ≡ [] → out ≡ [] → CanApply (record { out = out; put = put; cells = us }) × (applied out put us ≡ [])
-no_more out put us e f g = (
-  record {
-    out_is_there = λ x h. absurd (false≢true (ap (λ (xs : List ℕ). has xs x) (sym g) ∙ h));
-    put_is_new = λ x h. absurd (false≢true (ap (λ (xs : List ℕ). has xs x) (sym f) ∙ h));
-  },
-  ap (λ (xs : List ℕ). applied out put xs) e ∙ ap (λ (xs : List ℕ). applied out xs []) f,
-)
-
 -- the list behind its first cell, as a slice of it
 pub behind_first : (xs : List ℕ) → take (length xs - 1) (drop 1 xs) ≡ drop 1 xs
 behind_first [] = refl

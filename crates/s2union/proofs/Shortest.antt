@@ -3,14 +3,14 @@ use Rattle.std.proofs.Common.{◌≡◌, ℕ, suc, zero, ◌+◌, ◌-◌, ◌<�
 use Rattle.std.specs.List.{remove}
 use Rattle.std.proofs.Math.Logic.{⊎_elim}
 use Rattle.std.proofs.lemmas.Bool.{cases_order}
-use Rattle.std.proofs.lemmas.List.Elements.{All-tail, All-contains}
+use Rattle.std.proofs.lemmas.List.Elements.{All-contains}
 use Rattle.std.proofs.lemmas.List.Edits.{length-remove, get_or-remove_below, get_or-remove_above}
-use Rattle.s2cell.specs.Cell.{IsCell, level_of, first_leaf, size_of, covers}
+use Rattle.s2cell.specs.Cell.{IsCell, level_of, first_leaf, covers}
 use Rattle.s2cell.proofs.CellLemmas.{cell_leaves}
 use Rattle.s2cell.proofs.Calls.{shallow}
 use Rattle.s2cell.proofs.Leaves.{Within, covers_there, inside_from_within}
 use Rattle.s2union.specs.Union.{has_leaf, IsLocal, IsShortest}
-use Rattle.s2union.specs.Packed.{IsPacked, EndsBefore}
+use Rattle.s2union.specs.Packed.{EndsBefore}
 use Rattle.s2union.proofs.Normal.{leaf_to, holder, family, all_held, member_greatest, greatest_apart}
 use Rattle.s2union.proofs.Checking.{packed_from_local, member_at}
 use Rattle.s2union.proofs.Walking.{leaf_at}

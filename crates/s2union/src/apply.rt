@@ -1,8 +1,10 @@
 //! Taking cells out of a union's list and putting others in.
-ghost use Rattle.std.specs.Prelude.{◌≡◌, ◌≤◌, [], length, IfOk};
+ghost use Rattle.std.specs.Prelude.{◌≡◌, ◌≤◌, ◌↔◌, [], length, IfOk, IsTrue};
+ghost use Rattle.std.specs.List.Sorted.{IsStrictlyIncreasing};
 ghost use Rattle.s2union.specs.Apply.{applied, Fits};
 
 use crate::merge::{Merge, Turn};
+use crate::tail::Tail;
 use crate::union::CellUnion;
 use s2cell::CellId;
 use std::alloc::{AllocError, Global};
@@ -17,6 +19,18 @@ impl CellUnion {
     {
         let cells = Vec::with_capacity(alloc, n)?;
         Ok(CellUnion { cells })
+    }
+
+    /// Whether the cells of `out` can be taken out of the list and those of `put` be put in: every cell
+    /// of `out` is in the list, none of `put` is, and what comes of it is normalised.
+    ///
+    /// One pass over the three lists, both given ones ascending by identifier. Takes no memory.
+    pub fn can_apply(&self, out: &[CellId], put: &[CellId]) -> bool
+        requires out_ascends { IsStrictlyIncreasing out.now }
+        requires put_ascends { IsStrictlyIncreasing put.now }
+        ensures { IsTrue result ↔ Fits out.now put.now self.now.cells }
+    {
+        fits_cells(self.cells(), out, put)
     }
 
     /// Writes this list without `out` and with `put` into another union, which has room for it and keeps
@@ -51,6 +65,30 @@ fn apply_cells(cells: &[CellId], out: &[CellId], put: &[CellId], into: &mut Vec<
             Turn::Write(cell) => into.push_reserved(cell),
             Turn::Skip => {}
             Turn::Misfit | Turn::End => return,
+        }
+    }
+}
+
+/// Whether the change fits the cells: the walk finds no misfit, and what it gives is packed.
+fn fits_cells<'a>(cells: &'a [CellId], out: &'a [CellId], put: &'a [CellId]) -> bool
+    requires local { IsLocal cells.now }
+    requires out_ascends { IsStrictlyIncreasing out.now }
+    requires put_ascends { IsStrictlyIncreasing put.now }
+    ensures { IsTrue result ↔ Fits out.now put.now cells.now }
+{
+    let mut merge = Merge::new(cells, out, put);
+    let mut tail = Tail::new();
+    loop {
+        match merge.turn() {
+            Turn::Write(cell) => {
+                if !tail.takes(cell) {
+                    return false;
+                }
+                tail.push(cell);
+            }
+            Turn::Skip => {}
+            Turn::Misfit => return false,
+            Turn::End => return true,
         }
     }
 }

@@ -1,6 +1,6 @@
 //! Unions cut to the levels that a caller wants.
 
-ghost use Rattle.std.specs.Prelude.{◌≡◌, ◌≤◌, ◌<◌, length};
+ghost use Rattle.std.specs.Prelude.{◌*◌, ◌^◌, ◌≡◌, ◌≤◌, ◌<◌, length};
 ghost use Rattle.s2union.specs.Union.{IsLocal};
 ghost use Rattle.s2union.specs.Denorm.{denormalised, IsDenormalised, IsCutLevel, cut_level};
 
@@ -108,6 +108,7 @@ impl CellUnion {
         requires modulus { modulus ≤ 3 }
         ensures items { result ≡ denormalised min modulus self.now.cells }
         ensures meaning { IsDenormalised min modulus self.now.cells result }
+        ensures most { length result ≤ 6 * 4 ^ 30 }
     {
         Denorm::over(self.cells(), min, modulus)
     }

@@ -1,13 +1,18 @@
-//! The merging core: a cell behind packed cells.
+//! The merging core: how one more cell goes behind cells that are packed.
+//!
+//! Packed cells follow each other, and no four neighbours are a family, the children of one cell.
+//! A cell that comes behind them in order of identifiers lies in the last of them, or around some
+//! at the end, or behind all; and where it is the last of a family, it gives way to the parent,
+//! which may be the last of a family again. So the end of the list is a stack, and each cell is
+//! put on it once and taken off once at most.
 
-ghost use Rattle.std.specs.Prelude.{◌≡◌, ◌≤◌, ◌<◌, ◌+◌, ◌↔◌, ℕ, IsTrue, MatchOption, length, take, All, ◌||◌, slice_index, ◌-◌, ◌*◌, ◌++◌, ◌∷◌, [], OnOk, OnErr, IfSome};
+ghost use Rattle.std.specs.Prelude.{◌≡◌, ◌≤◌, ◌<◌, ◌+◌, ◌↔◌, ℕ, IsTrue, MatchOption, length, take, All, ◌||◌, slice_index, ◌-◌, ◌*◌, ◌++◌, ◌∷◌, [], IfSome};
 ghost use Rattle.std.specs.Vec.{vec_len, vec_capacity};
 ghost use Rattle.s2cell.specs.Cell.{IsCell, level_of, covers, first_leaf, IsInside};
 ghost use Rattle.s2union.specs.Union.{has_leaf};
 ghost use Rattle.s2union.specs.Packed.{EndsBefore, IsFamily, IsPacked, Merges};
 
 use s2cell::CellId;
-use std::alloc::AllocError;
 
 /// Adds the leaves of a cell to packed cells, where there is room for one more.
 pub(crate) fn add_reserved(list: &mut Vec<CellId>, cell: CellId)
@@ -26,45 +31,8 @@ pub(crate) fn add_reserved(list: &mut Vec<CellId>, cell: CellId)
     }
 }
 
-/// Adds a cell to packed cells that end before it.
-pub(crate) fn add_behind(list: &mut Vec<CellId>, cell: CellId) -> Result<(), AllocError>
-    requires packed { IsPacked list.old.items }
-    requires after { All (λ c. EndsBefore c cell) list.old.items }
-    requires is_cell { IsCell cell }
-    ensures packed { IsPacked list.new.items }
-    ensures leaves { OnOk result ((x : ℕ) → has_leaf list.new.items x ≡ (has_leaf list.old.items x || covers cell x)) }
-{
-    let (kept, last) = merged(list.as_slice(), cell);
-    if kept < list.len() {
-        list[kept] = last;
-        list.truncate(kept + 1);
-    } else {
-        list.push(last)?;
-    }
-    Ok(())
-}
-
-/// Adds the leaves of a cell to packed cells, none of which begins behind its middle.
-pub(crate) fn add(list: &mut Vec<CellId>, cell: CellId) -> Result<(), AllocError>
-    requires packed { IsPacked list.old.items }
-    requires starts { All (λ c. 2 * first_leaf c < cell) list.old.items }
-    ensures packed { IsPacked list.new.items }
-    ensures starts { All (λ c. 2 * first_leaf c < cell) list.new.items }
-    ensures leaves { OnOk result ((x : ℕ) → has_leaf list.new.items x ≡ (has_leaf list.old.items x || covers cell x)) }
-    ensures unchanged { OnErr result (list.new.items ≡ list.old.items) }
-{
-    if let Some((kept, last)) = settled(list.as_slice(), cell) {
-        if kept < list.len() {
-            list[kept] = last;
-            list.truncate(kept + 1);
-        } else {
-            list.push(last)?;
-        }
-    }
-    Ok(())
-}
-
-/// How many cells of the front stay, and the cell after them, where a cell is added; None where the last one holds it.
+/// What the front becomes where a cell is added: how many cells of it stay, and the one that
+/// follows them. None where the last cell of the front holds the new one.
 pub(crate) fn settled(front: &[CellId], cell: CellId) -> Option<(usize, CellId)>
     requires packed { IsPacked front.now }
     requires starts { All (λ c. 2 * first_leaf c < cell) front.now }
@@ -81,7 +49,7 @@ pub(crate) fn settled(front: &[CellId], cell: CellId) -> Option<(usize, CellId)>
     Some((kept, last))
 }
 
-/// How many cells of the front lie outside the cell.
+/// How many cells of the front lie outside the cell, which come first.
 pub(crate) fn outside(front: &[CellId], cell: CellId) -> usize
     requires packed { IsPacked front.now }
     requires starts { All (λ c. 2 * first_leaf c < cell) front.now }
@@ -98,7 +66,7 @@ pub(crate) fn outside(front: &[CellId], cell: CellId) -> usize
     kept
 }
 
-/// How many cells of the front stay, and the cell after them, where `cell` is added and families are merged.
+/// The same for a cell behind the whole front: only families are merged.
 pub(crate) fn merged(front: &[CellId], cell: CellId) -> (usize, CellId)
     requires packed { IsPacked front.now }
     requires after { All (λ c. EndsBefore c cell) front.now }

@@ -11,7 +11,10 @@ use crate::merging::{parent_of_family, settled};
 use crate::union::CellUnion;
 use s2cell::CellId;
 
-/// The union of the leaves of these cells, in the list's own place.
+/// The union that has the leaves of these cells, whatever their order, and however they lie in one
+/// another. It works in the list's own place and keeps its room, takes no memory and can't fail. A
+/// sort and one pass: `n log n` steps, and little more than `n` where the list is in order. S2
+/// calls it `Normalize`.
 pub fn normalise(mut cells: Vec<CellId>) -> CellUnion
     ensures leaves { (x : ℕ) → has_leaf result.cells x ≡ has_leaf cells.items x }
     ensures local { IsLocal result.cells }
@@ -39,7 +42,7 @@ fn compact(cells: &mut Vec<CellId>)
     cells.truncate(n);
 }
 
-/// Puts a cell behind the first `n` cells, which are packed; says how many they are then.
+/// Puts a cell behind the first `n` cells, which are packed, and says how many they are then.
 fn placed(cells: &mut Vec<CellId>, n: usize, cell: CellId) -> usize
     requires room { n < vec_len cells.old }
     requires packed { IsPacked (take n cells.old.items) }
@@ -61,7 +64,9 @@ fn placed(cells: &mut Vec<CellId>, n: usize, cell: CellId) -> usize
     }
 }
 
-/// Whether a list of cells is normalised.
+/// Whether a list of cells is normalised: it ascends, no two cells share a leaf, and no four are
+/// the children of one cell. That is so exactly where it is the normal form of its leaves. Linear.
+/// S2 calls it `IsNormalized`.
 pub fn is_normalized(cells: &[CellId]) -> bool
     ensures local { IsTrue result ↔ IsLocal cells.now }
     ensures normal { IsTrue result ↔ IsNormalForm (has_leaf cells.now) cells.now }
@@ -93,7 +98,8 @@ fn fits_behind(front: &[CellId], cell: CellId) -> bool
     }
 }
 
-/// Two unions with the same leaves have the same cells.
+/// A law, which does nothing when it runs: two unions with the same leaves have the same cells. So
+/// unions can be compared by `cells()`.
 pub fn same_cells(a: &CellUnion, b: &CellUnion)
     requires { (x : ℕ) → has_leaf a.now.cells x ≡ has_leaf b.now.cells x }
     ensures { a.now.cells ≡ b.now.cells }

@@ -1,4 +1,4 @@
-//! Whether a union has leaves.
+//! Whether a union has the leaves of a cell or of another union.
 
 ghost use Rattle.std.specs.Prelude.{◌≡◌, ◌≤◌, ◌<◌, ◌+◌, ◌↔◌, IsTrue, length, slice_index, ◌⊎◌};
 ghost use Rattle.s2cell.specs.Cell.{covers, first_leaf, size_of};
@@ -9,28 +9,28 @@ use crate::union::CellUnion;
 use s2cell::CellId;
 
 impl CellUnion {
-    /// Whether it has all leaves of the cell.
+    /// Whether it has all leaves of the cell. Logarithmic in its cells. S2 calls it `Contains`.
     pub fn contains_cell(&self, cell: CellId) -> bool
         ensures { IsTrue result ↔ IsWithin (covers cell) (has_leaf self.now.cells) }
     {
         holds(self.cells(), cell)
     }
 
-    /// Whether it has a leaf of the cell.
+    /// Whether it has a leaf of the cell. Logarithmic in its cells. S2 calls it `Intersects`.
     pub fn intersects_cell(&self, cell: CellId) -> bool
         ensures { IsTrue result ↔ ShareSome (covers cell) (has_leaf self.now.cells) }
     {
         meets(self.cells(), cell)
     }
 
-    /// Whether it has all leaves of the other.
+    /// Whether it has all leaves of the other. One pass over both, to the first cell that it lacks.
     pub fn contains(&self, other: &CellUnion) -> bool
         ensures { IsTrue result ↔ IsWithin (has_leaf other.now.cells) (has_leaf self.now.cells) }
     {
         holds_all(self.cells(), other.cells())
     }
 
-    /// Whether the two share a leaf.
+    /// Whether the two share a leaf. One pass over both, to the first leaf that they share.
     pub fn intersects(&self, other: &CellUnion) -> bool
         ensures { IsTrue result ↔ ShareSome (has_leaf self.now.cells) (has_leaf other.now.cells) }
     {
@@ -56,7 +56,8 @@ fn meets(cells: &[CellId], cell: CellId) -> bool
     at < cells.len() && cells[at].first_leaf() < cell.end_leaf()
 }
 
-/// How many cells end by the leaf `lo`.
+/// How many cells end by the leaf `lo`, which come first. It looks at three cells at once and sums
+/// what they say, since a branch on each would be guessed wrong half the time.
 pub(crate) fn find(cells: &[CellId], lo: u64) -> usize
     requires { IsPacked cells.now }
     ensures within { result ≤ length cells.now }

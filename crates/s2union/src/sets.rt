@@ -1,20 +1,21 @@
-//! The set operations.
+//! The set operations, each a pass over two sorted lists side by side.
 
-ghost use Rattle.std.specs.Prelude.{◌≡◌, ◌≤◌, ◌<◌, ◌+◌, ℕ, length, ◌||◌, ◌*◌, ◌^◌, [], IfOk, OnOk, ◌&&◌, not};
-ghost use Rattle.std.specs.Vec.{vec_capacity};
+ghost use Rattle.std.specs.Prelude.{All, MatchOption, slice_index, ◌≡◌, ◌≤◌, ◌<◌, ◌+◌, ℕ, length, ◌||◌, ◌*◌, ◌^◌, [], IfOk, OnOk, ◌&&◌, not};
+ghost use Rattle.std.specs.Vec.{vec_len, vec_capacity};
+ghost use Rattle.std.specs.List.Sorted.{IsStrictlyIncreasing};
 ghost use Rattle.s2cell.specs.Cell.{first_leaf, size_of};
-ghost use Rattle.s2union.specs.Union.{IsLocal, IsNormalForm, has_leaf, between, EndsBy};
+ghost use Rattle.s2union.specs.Union.{IsLocal, IsNormalForm, has_leaf, between};
 ghost use Rattle.s2union.specs.Sets.{either, shared, without};
-ghost use Rattle.s2union.specs.Packed.{IsPacked};
+ghost use Rattle.s2union.specs.Packed.{FillsGap, IsPacked};
 
-use crate::merging::{add_behind, add_reserved};
+use crate::merging::add_reserved;
 use crate::union::CellUnion;
 use s2cell::CellId;
 use std::alloc::{AllocError, Global};
 
 impl CellUnion {
-    /// The leaves of either. One pass over both; it takes room for the cells of both beforehand, and refuses only where
-    /// there is no memory. S2 calls it `Union`.
+    /// The leaves of either. One pass over both; it takes room for the cells of both beforehand,
+    /// and refuses only where there is no memory. S2 calls it `Union`.
     pub fn union(&self, other: &CellUnion) -> Result<CellUnion, AllocError>
         ensures local { IfOk result (λ u. IsLocal u.cells) }
         ensures leaves { IfOk result (λ u. (x : ℕ) → has_leaf u.cells x ≡ (has_leaf self.now.cells x || has_leaf other.now.cells x)) }
@@ -26,8 +27,8 @@ impl CellUnion {
         Ok(CellUnion { cells })
     }
 
-    /// The leaves that both have. One pass over both; it takes room for the cells of both beforehand, and refuses only
-    /// where there is no memory. S2 calls it `Intersection`.
+    /// The leaves that both have. One pass over both; it takes room for the cells of both
+    /// beforehand, and refuses only where there is no memory. S2 calls it `Intersection`.
     pub fn intersection(&self, other: &CellUnion) -> Result<CellUnion, AllocError>
         ensures local { IfOk result (λ u. IsLocal u.cells) }
         ensures leaves { IfOk result (λ u. (x : ℕ) → has_leaf u.cells x ≡ (has_leaf self.now.cells x && has_leaf other.now.cells x)) }
@@ -39,8 +40,8 @@ impl CellUnion {
         Ok(CellUnion { cells })
     }
 
-    /// The leaves of this union that the other has not. One pass over both and the cells that come out; refused only
-    /// where there is no memory. S2 calls it `Difference`.
+    /// The leaves of this union that the other has not. One pass over both and the cells that come
+    /// out; refused only where there is no memory. S2 calls it `Difference`.
     pub fn difference(&self, other: &CellUnion) -> Result<CellUnion, AllocError>
         ensures local { IfOk result (λ u. IsLocal u.cells) }
         ensures leaves { IfOk result (λ u. (x : ℕ) → has_leaf u.cells x ≡ (has_leaf self.now.cells x && not (has_leaf other.now.cells x))) }
@@ -51,8 +52,8 @@ impl CellUnion {
         Ok(CellUnion { cells })
     }
 
-    /// All leaves from the first of `x` to the last of `y`, across faces too. A few steps a cell that comes out;
-    /// refused only where there is no memory. S2 calls it `InitFromMinMax`.
+    /// All leaves from the first of `x` to the last of `y`, across faces too. A few steps a cell
+    /// that comes out; refused only where there is no memory. S2 has `InitFromMinMax` for leaves.
     pub fn from_range(alloc: Global, x: CellId, y: CellId) -> Result<CellUnion, AllocError>
         requires { first_leaf x < first_leaf y + size_of y }
         ensures local { IfOk result (λ u. IsLocal u.cells) }
@@ -60,7 +61,7 @@ impl CellUnion {
         ensures normal { IfOk result (λ u. IsNormalForm (between (first_leaf x) (first_leaf y + size_of y)) u.cells) }
     {
         let mut cells = Vec::new(alloc);
-        tile(&mut cells, x.first_leaf(), y.end_leaf())?;
+        fill_gap(&mut cells, x.first_leaf(), y.end_leaf())?;
         Ok(CellUnion { cells })
     }
 }
@@ -76,14 +77,33 @@ fn join(list: &mut Vec<CellId>, xs: &[CellId], ys: &[CellId])
 {
     let mut i = 0;
     let mut j = 0;
-    while i < xs.len() || j < ys.len() {
-        if j >= ys.len() || i < xs.len() && xs[i] < ys[j] {
-            add_reserved(list, xs[i]);
-            i += 1;
-        } else {
-            add_reserved(list, ys[j]);
-            j += 1;
-        }
+    while i < xs.len() && j < ys.len() {
+        // A choice and two sums in place of branches, which would be guessed wrong half the time.
+        let x = xs[i];
+        let y = ys[j];
+        let is_x = x < y;
+        add_reserved(list, if is_x { x } else { y });
+        i += is_x as usize;
+        j += !is_x as usize;
+    }
+    if i < xs.len() {
+        add_all(list, &xs[i..]);
+    } else {
+        add_all(list, &ys[j..]);
+    }
+}
+
+/// Adds the leaves of ascending cells to packed cells, where there is room for all.
+fn add_all(list: &mut Vec<CellId>, cells: &[CellId])
+    requires packed { IsPacked list.old.items }
+    requires ascending { IsStrictlyIncreasing cells.now }
+    requires starts { 0 < length cells.now → All (λ c. 2 * first_leaf c < slice_index cells.now 0) list.old.items }
+    requires room { vec_len list.old + length cells.now ≤ vec_capacity list.old }
+    ensures packed { IsPacked list.new.items }
+    ensures leaves { (x : ℕ) → has_leaf list.new.items x ≡ (has_leaf list.old.items x || has_leaf cells.now x) }
+{
+    for cell in cells {
+        add_reserved(list, *cell);
     }
 }
 
@@ -120,42 +140,57 @@ fn subtract(list: &mut Vec<CellId>, xs: &[CellId], ys: &[CellId]) -> Result<(), 
     requires empty { list.old.items ≡ [] }
     requires x_local { IsLocal xs.now }
     requires y_local { IsLocal ys.now }
-    ensures local { IsLocal list.new.items }
+    ensures local { OnOk result (IsLocal list.new.items) }
     ensures leaves { OnOk result ((x : ℕ) → has_leaf list.new.items x ≡ (has_leaf xs.now x && not (has_leaf ys.now x))) }
 {
     let mut lo = 0;
     let mut i = 0;
     let mut j = 0;
     while i < xs.len() {
-        let cell = xs[i];
-        let start = cell.first_leaf().max(lo);
-        let end = cell.end_leaf();
-        if j < ys.len() && ys[j].first_leaf() < end {
-            let taken = ys[j];
-            tile(list, start, taken.first_leaf())?;
-            lo = taken.end_leaf().max(start);
-            j += 1;
-        } else {
-            tile(list, start, end)?;
-            lo = end.max(start);
-            i += 1;
+        let x = xs[i];
+        let start = x.first_leaf().max(lo);
+        let end = x.end_leaf();
+        match cell_before(ys, j, end) {
+            Some(y) => {
+                fill_gap(list, start, y.first_leaf())?;
+                lo = y.end_leaf().max(start);
+                j += 1;
+            }
+            None => {
+                fill_gap(list, start, end)?;
+                lo = end.max(start);
+                i += 1;
+            }
         }
     }
     Ok(())
 }
 
-/// Adds the leaves from `lo` to before `hi` behind packed cells that end by `lo`.
-fn tile(list: &mut Vec<CellId>, lo: u64, hi: u64) -> Result<(), AllocError>
-    requires packed { IsPacked list.old.items }
-    requires below { EndsBy list.old.items lo }
-    requires within { hi ≤ 6 * 4 ^ 30 }
-    ensures packed { IsPacked list.new.items }
-    ensures leaves { OnOk result ((x : ℕ) → has_leaf list.new.items x ≡ (has_leaf list.old.items x || between lo hi x)) }
+/// The cell at the place `at`, if there is one that begins before the leaf `end`.
+fn cell_before(cells: &[CellId], at: usize, end: u64) -> Option<CellId>
+    ensures { MatchOption result (at < length cells.now → end ≤ first_leaf (slice_index cells.now at)) (λ c. (at < length cells.now) × (slice_index cells.now at ≡ c) × (first_leaf c < end)) }
+{
+    if at >= cells.len() {
+        return None;
+    }
+    let cell = cells[at];
+    if cell.first_leaf() < end {
+        Some(cell)
+    } else {
+        None
+    }
+}
+
+/// Adds the normal form of the leaves from `lo` to before `hi`: the largest cell that begins at the
+/// first and fits, and so on behind it.
+fn fill_gap(list: &mut Vec<CellId>, lo: u64, hi: u64) -> Result<(), AllocError>
+    requires { hi ≤ 6 * 4 ^ 30 }
+    ensures { OnOk result (FillsGap list.old.items list.new.items lo hi) }
 {
     let mut first = lo;
     while first < hi {
         let cell = CellId::tile(first, hi);
-        add_behind(list, cell)?;
+        list.push(cell)?;
         first = cell.end_leaf();
     }
     Ok(())

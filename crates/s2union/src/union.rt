@@ -11,9 +11,9 @@ use std::marker::Model;
 
 /// A set of leaves, as the one normalised list of cells that covers it.
 ///
-/// The cells ascend by identifier and share no leaf, and no four of them are the children of one parent. Cells of
-/// level 0, the faces, have no parent and stay apart. Unions of the same leaves have the same cells, whatever they
-/// were made from. S2 calls it `S2CellUnion`.
+/// The cells ascend by identifier and share no leaf, and no four of them are the children of one
+/// parent. Cells of level 0, the faces, have no parent and stay apart. Unions of the same leaves
+/// have the same cells, whatever they were made from. S2 calls it `S2CellUnion`.
 #[derive(Drop)]
 pub struct CellUnion {
     pub(crate) cells: Vec<CellId>,

@@ -1,4 +1,4 @@
-//! Known places and squares, and the tables beside single steps.
+//! Known places and squares, and the tables beside the curve bit by bit.
 use super::{FACE_LEAVES, Square};
 use crate::{CellId, way};
 
@@ -86,8 +86,46 @@ fn squares_of_cells(rt: HostRuntime) {
     }
 }
 
+/// The leaf at a place, counted from the first of its face, bit by bit: `swap` and `flip` are the
+/// two bits of the orientation.
+fn leaf_by_bits(face: u8, i: u32, j: u32) -> u64 {
+    let mut leaf = 0u64;
+    let mut swap = u32::from(face) & 1;
+    let mut flip = 0;
+    for level in 0..30u32 {
+        let x = ((i >> (29 - level)) & 1) ^ flip;
+        let y = ((j >> (29 - level)) & 1) ^ flip;
+        let differ = x ^ y;
+        let high = x ^ (swap & differ);
+        leaf = leaf << 2 | u64::from(high << 1 | differ);
+        let turns = high ^ differ ^ 1;
+        swap ^= turns;
+        flip ^= high & turns;
+    }
+    leaf
+}
+
+/// The place of such a leaf, bit by bit.
+fn place_by_bits(face: u8, leaf: u64) -> (u32, u32) {
+    let (mut i, mut j) = (0u32, 0u32);
+    let mut swap = u32::from(face) & 1;
+    let mut flip = 0;
+    for level in 0..30u32 {
+        let digit = ((leaf >> (58 - 2 * level)) & 3) as u32;
+        let high = digit >> 1;
+        let differ = digit & 1;
+        let x = high ^ (swap & differ);
+        i = i << 1 | (x ^ flip);
+        j = j << 1 | (x ^ differ ^ flip);
+        let turns = high ^ differ ^ 1;
+        swap ^= turns;
+        flip ^= high & turns;
+    }
+    (i, j)
+}
+
 #[test]
-fn tables_agree_with_single_steps(rt: HostRuntime) {
+fn tables_agree_with_bit_steps(rt: HostRuntime) {
     for face in 0..6u8 {
         for count in 0..10_000u64 {
             // The first leaf, the last, and others spread over the face.
@@ -96,7 +134,7 @@ fn tables_agree_with_single_steps(rt: HostRuntime) {
             } else {
                 count.wrapping_mul(0x9e37_79b9_7f4a_7c15) >> 4
             };
-            let (i, j, _) = way::first_bits(face % 2, number, 30);
+            let (i, j) = place_by_bits(face, number);
             let cell = leaf(face, number);
             let square = Square {
                 face,
@@ -104,14 +142,13 @@ fn tables_agree_with_single_steps(rt: HostRuntime) {
                 j,
                 size: 1,
             };
+            assert_eq!(rt; leaf_by_bits(face, i, j), number, "leaf {number} of {face}");
             assert_eq!(rt;
                 cell.map(|cell| cell.square()),
                 Some(square),
                 "leaf {number} of {face}"
             );
             assert!(rt; i < 1 << 30 && j < 1 << 30);
-            let (steps, _) = way::first_digits(face % 2, i, j, 30);
-            assert_eq!(rt; steps, number, "leaf {number} of {face}");
             assert_eq!(rt;
                 Some(CellId::from_face_ij(face, i, j)),
                 cell,

@@ -58,6 +58,8 @@ fn memory_keeps_files_and_fails_at_the_call_it_was_told(rt: HostRuntime) -> Resu
 #[test]
 fn a_folder_keeps_files_and_its_faults_are_told_apart(rt: HostRuntime) -> Result<(), Fail> {
     let folder = "s2file-test-folder";
+    // what a run that failed may have left
+    let _ = fs::remove_dir_all(&rt, folder);
     let mut shelf = DirShelf::at(&rt, folder)?;
     assert_eq!(rt; shelf.get("f"), Ok(None), "the folder is absent");
     assert_eq!(rt;

@@ -1,4 +1,5 @@
 use Rattle.std.proofs.Common.{arith}
+use Rattle.std.proofs.lemmas.Nat.{and_mask}
 use Rattle.s2cell.proofs.Walk.{to_leaf_start, to_leaf_one, to_leaf_small}
 use Rattle.s2cell.proofs.way.first_digits.Goals as goal
 
@@ -17,5 +18,5 @@ overflow_add-leaf c =
 
 pub loop-level-preserved : goal.loop-level-preserved
 loop-level-preserved c =
-    to_leaf_one c.loop-level.level c.args.start c.loop-level.leaf c.args.i c.args.j c.loop-level.orientation c.quadrant_of_place.result c.digit_for-digit.result c.from.result c.turned-orientation.result
-    (omega arith) c.requires.start c.loop-level.invariant c.quadrant_of_place.ensures.bits c.digit_for-digit.ensures.picks c.digit_for-digit.ensures.digit c.from.ensures c.turned-orientation.ensures.turned
+    to_leaf_one c.loop-level.level c.args.start c.loop-level.leaf c.args.i c.args.j c.loop-level.orientation c.quadrant_of_place.result c.leaf_step-step.result c.from.result _
+    (omega arith) c.requires.start c.loop-level.invariant c.quadrant_of_place.ensures.bits c.leaf_step-step.ensures.picks c.leaf_step-step.ensures.turned c.leaf_step-step.ensures.entry c.from.ensures (and_mask c.leaf_step-step.result 2)

@@ -1,6 +1,6 @@
 use Rattle.std.proofs.Common.{arith, ◌+◌, ◌*◌}
 use Rattle.std.proofs.lemmas.Nat.{and_mask}
-use Rattle.s2cell.proofs.Walk.{Way, to_leaf_four, to_leaf_small, to_leaf_end}
+use Rattle.s2cell.proofs.Walk.{to_leaf_four, to_leaf_small, to_leaf_end}
 use Rattle.s2cell.proofs.way.leaf_at.Goals as goal
 
 pub loop-block-init : goal.loop-block-init

@@ -1,6 +1,6 @@
 use Rattle.std.proofs.Common.{arith, ◌+◌, ◌*◌, ◌/◌, ◌∙◌}
 use Rattle.std.proofs.lemmas.Nat.{and_mask}
-use Rattle.s2cell.proofs.Walk.{Way, to_place_four, to_place_small, to_place_end}
+use Rattle.s2cell.proofs.Walk.{to_place_four, to_place_small, to_place_end}
 use Rattle.s2cell.proofs.way.place_at.Goals as goal
 
 pub loop-block-init : goal.loop-block-init

@@ -2,7 +2,7 @@ use Rattle.std.proofs.Common.{rules, ◌≡◌, ℕ, length, ap, ◌∙◌, arit
 use Rattle.std.proofs.lemmas.List.{length-append, length_push}
 use Rattle.s2cell.specs.Cell.{IsCell}
 use Rattle.s2file.specs.File.{first_number}
-use Rattle.s2file.proofs.Reading.{reads_more, reads_stranger}
+use Rattle.s2file.proofs.Reading.{reads_more, reads_wrong}
 use Rattle.s2file.proofs.union_file.cells_of.Goals as goal
 
 pub loop-chunk-preserved : goal.loop-chunk-preserved
@@ -29,5 +29,5 @@ pub returns-in-None-from_id : goal.returns-in-None-from_id
 returns-in-None-from_id c =
     let step = c.in-Some.ensures.steps in
     let so_far = c.loop-chunk.invariant in
-    reads_stranger c.args.bytes.now _ _ _ _ c.requires so_far.reads step.1.0 (step.1.1 ∙ so_far.size)
+    reads_wrong c.args.bytes.now _ _ _ _ c.requires so_far.reads step.1.0 (step.1.1 ∙ so_far.size)
     (subst (λ (n : ℕ). IsCell n → ⊥) c.number.ensures c.in-None-from_id.ensures)

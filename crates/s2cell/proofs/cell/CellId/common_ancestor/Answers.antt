@@ -1,4 +1,4 @@
-use Rattle.std.proofs.Common.{◌≡◌, ◌-◌, arith, refl, bit_xor, max, sym, ◌∙◌, ap}
+use Rattle.std.proofs.Common.{◌-◌, refl}
 use Rattle.std.proofs.lemmas.Bool.{false≢true}
 use Rattle.std.specs.Int.Count.{count_leading_zeros}
 use Rattle.s2cell.specs.Cell.{IsCell}

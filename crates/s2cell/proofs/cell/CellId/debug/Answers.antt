@@ -1,4 +1,4 @@
-use Rattle.std.proofs.Common.{◌≡◌, ◌+◌, arith, rules, refl, take}
+use Rattle.std.proofs.Common.{arith, refl}
 use Rattle.s2cell.specs.Cell.{IsCell}
 use Rattle.s2cell.proofs.Debugs.{debug_more, debug_done, IsDebug-debug_of}
 use Rattle.s2cell.proofs.cell.CellId.debug.Goals as goal

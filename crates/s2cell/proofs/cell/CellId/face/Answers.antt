@@ -1,5 +1,3 @@
-use Rattle.std.proofs.Common.{◌≡◌, ◌/◌, ◌^◌}
-use Rattle.s2cell.specs.Cell.{face_of}
 use Rattle.s2cell.proofs.Calls.{face_bits}
 use Rattle.s2cell.proofs.CellLemmas.{face_of_cell}
 use Rattle.s2cell.proofs.cell.CellId.face.Goals as goal

@@ -1,7 +1,5 @@
-use Rattle.std.proofs.Common.{◌≡◌, ◌≤◌, ◌<◌, ◌+◌, ◌*◌, ◌-◌, ◌^◌, ◌%◌, ◌∙◌, sym, refl, arith, rules, length, take, drop, get_or}
+use Rattle.std.proofs.Common.{◌<◌, ◌∙◌, sym, refl, arith, rules, length, drop}
 use Rattle.std.proofs.lemmas.List.{take_rest}
-use Rattle.std.specs.Char.{digit_value}
-use Rattle.s2cell.specs.Debug.{IsDebug}
 use Rattle.s2cell.proofs.DigitTexts.{digit_below}
 use Rattle.s2cell.proofs.Debugs.{debug_face, debug_short, debug_read_more, debug_read_whole, place_room, id_room}
 use Rattle.s2cell.proofs.cell.CellId.from_debug.Goals as goal

@@ -1,4 +1,4 @@
-use Rattle.std.proofs.Common.{get_or, drop}
+use Rattle.std.proofs.Common.{get_or}
 use Rattle.std.specs.Char.{digit_value}
 use Rattle.s2cell.proofs.Debugs.{DebugRead}
 use Rattle.s2cell.proofs.cell.CellId.from_debug.Given as goal

@@ -1,4 +1,4 @@
-use Rattle.std.proofs.Common.{◌≡◌, ◌+◌, ◌*◌, ◌^◌, arith, refl, sym, ◌∙◌}
+use Rattle.std.proofs.Common.{◌+◌, ◌*◌, ◌^◌, arith, refl, sym, ◌∙◌}
 use Rattle.s2cell.specs.Curve.{IsPlaceOf}
 use Rattle.s2cell.proofs.Squares.{IsLeafNumbered, leaf_numbered, place_of_leaf, one_leaf}
 use Rattle.s2cell.proofs.cell.CellId.from_face_ij.Goals as goal

@@ -1,4 +1,4 @@
-use Rattle.std.proofs.Common.{◌≡◌, ◌+◌, ◌*◌, ◌<◌, ◌≤◌, ◌∙◌, arith, rules, refl, get_or}
+use Rattle.std.proofs.Common.{◌<◌, ◌∙◌, arith, rules, refl, get_or}
 use Rattle.std.specs.Char.{digit_value}
 use Rattle.s2cell.proofs.DigitTexts.{digit_below}
 use Rattle.s2cell.proofs.Tokens.{read_more, read_room, read_whole, reading_answer}

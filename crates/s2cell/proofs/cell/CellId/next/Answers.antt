@@ -1,4 +1,4 @@
-use Rattle.std.proofs.Common.{◌<◌, ◌+◌, ◌*◌, arith}
+use Rattle.std.proofs.Common.{arith}
 use Rattle.s2cell.specs.Cell.{IsCell}
 use Rattle.s2cell.proofs.CellLemmas.{cell_leaves}
 use Rattle.s2cell.proofs.Following.{next_cell, last_cell}

@@ -1,4 +1,3 @@
-use Rattle.std.proofs.Common.{arith}
 use Rattle.s2cell.specs.Cell.{IsCell}
 use Rattle.s2cell.proofs.Following.{cell_before, first_cell}
 use Rattle.s2cell.proofs.cell.CellId.prev.Goals as goal

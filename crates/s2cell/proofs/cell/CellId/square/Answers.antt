@@ -1,4 +1,4 @@
-use Rattle.std.proofs.Common.{◌%◌, ◌*◌, ◌-◌, ◌^◌, arith, bit_and, sym}
+use Rattle.std.proofs.Common.{◌%◌, ◌*◌, ◌-◌, ◌^◌, bit_and}
 use Rattle.s2cell.specs.Square.{IsSquareOf}
 use Rattle.s2cell.proofs.Squares.{square_computed, square_of_leaf, one_place, next_beside}
 use Rattle.s2cell.proofs.cell.CellId.square.Goals as goal

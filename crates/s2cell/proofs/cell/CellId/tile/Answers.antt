@@ -1,8 +1,7 @@
-use Rattle.std.proofs.Common.{◌≡◌, ◌+◌, ◌*◌, ◌-◌, ◌%◌, ◌^◌, ◌≤◌, ◌<◌, arith, refl}
-use Rattle.std.specs.Int.Count.{count_trailing_zeros, count_leading_zeros}
-use Rattle.s2cell.specs.Cell.{first_leaf, size_of}
+use Rattle.std.proofs.Common.{◌+◌, ◌*◌, ◌%◌, ◌^◌, arith, refl}
 use Rattle.s2cell.proofs.CellLemmas.{cell_leaves}
-use Rattle.s2cell.proofs.Tiles.{Tile, tile_of}
+use Rattle.s2cell.proofs.Tiles.{tile_of}
+use Rattle.s2cell.proofs.LargestTile.{largest_tile}
 use Rattle.s2cell.proofs.cell.CellId.tile.Goals as goal
 
 pub overflow_add-result : goal.overflow_add-result
@@ -26,3 +25,7 @@ returns-clause-end c = (tile_of c.args.first c.args.end c.min-steps.result _ c.r
 
 pub returns-clause-cell : goal.returns-clause-cell
 returns-clause-cell c = (tile_of c.args.first c.args.end c.min-steps.result _ c.requires.some c.requires.within (omega arith) (omega arith) (omega arith) refl).cell
+
+pub returns-clause-largest : goal.returns-clause-largest
+returns-clause-largest c q cq fq eq =
+    largest_tile c.args.first c.args.end c.min-steps.result _ q c.requires.some c.requires.within (omega arith) refl cq fq eq

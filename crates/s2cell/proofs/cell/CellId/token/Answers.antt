@@ -1,4 +1,4 @@
-use Rattle.std.proofs.Common.{arith, rules}
+use Rattle.std.proofs.Common.{arith}
 use Rattle.s2cell.specs.Cell.{IsCell}
 use Rattle.s2cell.proofs.Tokens.{token_more, token_done, IsToken-token_of}
 use Rattle.s2cell.proofs.cell.CellId.token.Goals as goal

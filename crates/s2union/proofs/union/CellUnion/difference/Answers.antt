@@ -6,4 +6,4 @@ use Rattle.s2union.proofs.union.CellUnion.difference.Goals as goal
 
 pub returns-clause-normal : goal.returns-clause-normal
 returns-clause-normal c =
-    normal_from_leaves (without (has_leaf c.args.self.now.cells) (has_leaf c.args.other.now.cells)) _ c.subtract.ensures.local (search rules)
+    normal_from_leaves (without (has_leaf c.args.self.now.cells) (has_leaf c.args.other.now.cells)) _ c.in_ok-subtract.ensures.local (search rules)

@@ -1,0 +1,281 @@
+-- The leaves of one list of cells that another has not.
+use Rattle.std.proofs.Common.{◌≡◌, ℕ, ◌+◌, ◌-◌, ◌<◌, ◌≤◌, refl, sym, ◌∙◌, ap, arith, subst, Bool, true, false, ◌||◌, ◌&&◌, ltb, List, [], length, get_or, not, max, ◌⊎◌, inl, inr}
+use Rattle.std.proofs.Math.Logic.{⊎_elim}
+use Rattle.std.proofs.lemmas.Bool.{cases_lt, false≢true}
+use Rattle.std.proofs.lemmas.Bool.Decides.{nat_tests}
+use Rattle.s2cell.specs.Cell.{IsCell, level_of, size_of, first_leaf, covers}
+use Rattle.s2cell.proofs.CellLemmas.{cell_leaves}
+use Rattle.s2cell.proofs.Calls.{shallow}
+use Rattle.s2cell.proofs.Leaves.{Within, covers_there, covers_from, inside_from_within}
+use Rattle.s2union.specs.Union.{has_leaf, between, LiesIn, IsLocal}
+use Rattle.s2union.specs.Packed.{IsPacked, Behind, FillsGap}
+use Rattle.s2union.proofs.Normal.{holder, family, all_held, member_greatest, greatest_apart}
+use Rattle.s2union.proofs.Checking.{packed_from_local, member_at}
+use Rattle.s2union.proofs.Walking.{Walk, walk_start, walk_more, walk_below, behind_more, behind_later, gap, leaf_there, leaf_at, not_true, and_false}
+use Rattle.s2union.proofs.Picking.{Picked, IsGap, picked_none, picked_fill, fill_leaves, between_ends}
+
+and_left : (a b : Bool) → (a && b) ≡ true → a ≡ true
+and_left true b h = refl
+and_left false b h = h
+
+and_not_right : (a b : Bool) → (a && not b) ≡ true → b ≡ true → ⊥
+and_not_right true true h g = false≢true h
+and_not_right true false h g = false≢true g
+and_not_right false b h g = false≢true h
+
+-- the leaves of xs that ys has not
+abbrev pub minus : List ℕ → List ℕ → ℕ → Bool
+minus xs ys x = has_leaf xs x && not (has_leaf ys x)
+
+-- the rest of a cell of xs is free of ys
+pub subtract_free : (xs ys list new : List ℕ) (i j lo start end next : ℕ) → IsPacked xs → IsPacked ys → Walk (minus xs ys) xs ys list i j lo
+    → i < length xs → (j < length ys → end ≤ first_leaf (get_or ys j 0))
+    → start ≡ max (first_leaf (get_or xs i 0)) lo → end ≡ first_leaf (get_or xs i 0) + size_of (get_or xs i 0) → next ≡ max end start
+    → ((x : ℕ) → has_leaf new x ≡ (has_leaf list x || between start end x))
+    → Walk (minus xs ys) xs ys new (i + 1) j next
+subtract_free xs ys list new i j lo start end next px py w h free es ee en leaves =
+    walk_more (minus xs ys) xs ys list new i j lo (i + 1) j next start end w (omega arith) (omega arith) (omega arith) leaves
+    (behind_more xs i lo next w.behind_x (omega arith) (omega arith))
+    (behind_later ys j lo next w.behind_y (omega arith))
+    (λ x a b.
+    ⊎_elim
+    (λ (g : x < start).
+    let f : between start end x ≡ false = grind (arith, nat_tests) in
+    let t : has_leaf xs x ≡ false = gap xs i lo (first_leaf (get_or xs i 0)) x px w.behind_x (λ _. omega arith) a (omega arith) in
+    f ∙ ap (λ v. v && not (has_leaf ys x)) (sym t))
+    (λ (g : start ≤ x).
+    let f : between start end x ≡ true = grind (arith, nat_tests) in
+    let t : has_leaf xs x ≡ true = leaf_there xs i x h (omega arith) (omega arith) in
+    let n : has_leaf ys x ≡ false = gap ys j lo end x py w.behind_y free a (omega arith) in
+    f ∙ sym (ap (λ v. v && not (has_leaf ys x)) t ∙ ap not n))
+    (cases_lt x start))
+
+-- the next cell of ys begins before the cell of xs ends
+pub subtract_taken : (xs ys list new : List ℕ) (i j lo start end next : ℕ) → IsPacked xs → IsPacked ys → Walk (minus xs ys) xs ys list i j lo
+    → i < length xs → j < length ys → end < first_leaf (get_or xs i 0) + size_of (get_or xs i 0)
+    → start ≡ max (first_leaf (get_or xs i 0)) lo → end ≡ first_leaf (get_or ys j 0) → next ≡ max (first_leaf (get_or ys j 0) + size_of (get_or ys j 0)) start
+    → ((x : ℕ) → has_leaf new x ≡ (has_leaf list x || between start end x))
+    → Walk (minus xs ys) xs ys new i (j + 1) next
+subtract_taken xs ys list new i j lo start end next px py w h g before es ee en leaves =
+    walk_more (minus xs ys) xs ys list new i j lo i (j + 1) next start end w (omega arith) (omega arith) (omega arith) leaves
+    (behind_later xs i lo next w.behind_x (omega arith))
+    (behind_more ys j lo next w.behind_y (omega arith) (omega arith))
+    (λ x a b.
+    ⊎_elim
+    (λ (m : x < start).
+    let f : between start end x ≡ false = grind (arith, nat_tests) in
+    let t : has_leaf xs x ≡ false = gap xs i lo (first_leaf (get_or xs i 0)) x px w.behind_x (λ _. omega arith) a (omega arith) in
+    f ∙ ap (λ v. v && not (has_leaf ys x)) (sym t))
+    (λ (m : start ≤ x).
+    ⊎_elim
+    (λ (q : x < end).
+    let f : between start end x ≡ true = grind (arith, nat_tests) in
+    let t : has_leaf xs x ≡ true = leaf_there xs i x h (omega arith) (omega arith) in
+    let n : has_leaf ys x ≡ false = gap ys j lo end x py w.behind_y (λ _. omega arith) a q in
+    f ∙ sym (ap (λ v. v && not (has_leaf ys x)) t ∙ ap not n))
+    (λ (q : end ≤ x).
+    let f : between start end x ≡ false = grind (arith, nat_tests) in
+    let n : has_leaf ys x ≡ true = leaf_there ys j x g (omega arith) (omega arith) in
+    f ∙ sym (ap (λ v. has_leaf xs x && not v) n ∙ and_false (has_leaf xs x)))
+    (cases_lt x end))
+    (cases_lt x start))
+
+-- past the last cell of xs
+pub subtract_done : (xs ys list : List ℕ) (i j lo : ℕ) → Walk (minus xs ys) xs ys list i j lo → length xs ≤ i → (x : ℕ) → has_leaf list x ≡ minus xs ys x
+subtract_done xs ys list i j lo w h x =
+    ⊎_elim
+    (λ (a : x < lo). let t : ltb x lo ≡ true = grind (arith, nat_tests) in w.leaves x ∙ ap (λ v. v && minus xs ys x) t)
+    (λ (a : lo ≤ x).
+    let t : ltb x lo ≡ false = grind (arith, nat_tests) in
+    let n : has_leaf xs x ≡ false = not_true (has_leaf xs x) (λ l.
+    let p = leaf_at xs x l in
+    let hi = p.high in
+    let e = w.behind_x p.at (let b = p.below in omega arith) in
+    omega arith) in
+    w.leaves x ∙ ap (λ v. v && minus xs ys x) t ∙ ap (λ v. v && not (has_leaf ys x)) (sym n))
+    (cases_lt x lo)
+
+-- ---- what is left of a cell of xs before the next cell of ys is a gap
+
+-- where the walk stands inside a cell of xs, the leaf before is one of ys
+abbrev Edge : List ℕ → List ℕ → ℕ → ℕ → Type 0
+Edge xs ys i lo = i < length xs → (lo ≤ first_leaf (get_or xs i 0)) ⊎ ((0 < lo) × (has_leaf ys (lo - 1) ≡ true))
+
+edge_taken : (xs ys : List ℕ) (i j lo start next : ℕ) → Edge xs ys i lo → j < length ys → 0 < size_of (get_or ys j 0) → start ≡ max (first_leaf (get_or xs i 0)) lo
+    → next ≡ max (first_leaf (get_or ys j 0) + size_of (get_or ys j 0)) start → Edge xs ys i next
+edge_taken xs ys i j lo start next edge g some es en h =
+    let y = get_or ys j 0 in
+    ⊎_elim
+    (λ (a : first_leaf y + size_of y < start).
+    let e : next ≡ start = omega arith in
+    ⊎_elim
+    (λ (b : lo ≤ first_leaf (get_or xs i 0)). inl (omega arith))
+    (λ (b : (0 < lo) × (has_leaf ys (lo - 1) ≡ true)).
+    ⊎_elim
+    (λ (m : lo < first_leaf (get_or xs i 0)). inl (omega arith))
+    (λ (m : first_leaf (get_or xs i 0) ≤ lo). let f : lo ≡ next = omega arith in inr (let b0 = b.0 in omega arith, subst (λ v. has_leaf ys (v - 1) ≡ true) f b.1))
+    (cases_lt lo (first_leaf (get_or xs i 0))))
+    (edge h))
+    (λ (a : start ≤ first_leaf y + size_of y). inr (omega arith, leaf_there ys j (next - 1) g (omega arith) (omega arith)))
+    (cases_lt (first_leaf y + size_of y) start)
+
+edge_free : (xs ys : List ℕ) (i lo start next : ℕ) → IsPacked xs → Edge xs ys i lo → i < length xs → start ≡ max (first_leaf (get_or xs i 0)) lo
+    → next ≡ max (first_leaf (get_or xs i 0) + size_of (get_or xs i 0)) start → Edge xs ys (i + 1) next
+edge_free xs ys i lo start next packed edge h es en h2 =
+    let x = get_or xs i 0 in
+    let c : first_leaf x + size_of x ≤ first_leaf (get_or xs (i + 1) 0) = packed.chain i (i + 1) 0 (omega arith) h2 in
+    let some = (cell_leaves x (packed.cells i 0 h)).some in
+    ⊎_elim
+    (λ (a : first_leaf x + size_of x < start).
+    let f : lo ≡ next = omega arith in
+    ⊎_elim
+    (λ (b : lo ≤ first_leaf x). absurd (omega arith))
+    (λ (b : (0 < lo) × (has_leaf ys (lo - 1) ≡ true)). inr (let b0 = b.0 in omega arith, subst (λ v. has_leaf ys (v - 1) ≡ true) f b.1))
+    (edge h))
+    (λ (a : start ≤ first_leaf x + size_of x). inl (omega arith))
+    (cases_lt (first_leaf x + size_of x) start)
+
+minus_left : (xs ys : List ℕ) (x : ℕ) → minus xs ys x ≡ true → has_leaf xs x ≡ true
+minus_left xs ys x h = and_left (has_leaf xs x) (not (has_leaf ys x)) h
+
+minus_right : (xs ys : List ℕ) (x : ℕ) → minus xs ys x ≡ true → has_leaf ys x ≡ true → ⊥
+minus_right xs ys x h g = and_not_right (has_leaf xs x) (has_leaf ys x) h g
+
+-- how far the gap goes: to the end of the cell of xs, or to the next cell of ys in it
+abbrev GapEnd : List ℕ → List ℕ → ℕ → ℕ → ℕ → Type 0
+GapEnd xs ys i j end =
+    ((end ≡ first_leaf (get_or xs i 0) + size_of (get_or xs i 0)) × (j < length ys → end ≤ first_leaf (get_or ys j 0)))
+    ⊎ ((j < length ys) × (end ≡ first_leaf (get_or ys j 0)) × (end < first_leaf (get_or xs i 0) + size_of (get_or xs i 0)))
+
+gap_free : (xs ys : List ℕ) (i j end : ℕ) → GapEnd xs ys i j end → j < length ys → end ≤ first_leaf (get_or ys j 0)
+gap_free xs ys i j end (inl g) h = g.1 h
+gap_free xs ys i j end (inr g) h = let e = g.1 in omega arith
+
+gap_within : (xs ys : List ℕ) (i j end : ℕ) → GapEnd xs ys i j end → end ≤ first_leaf (get_or xs i 0) + size_of (get_or xs i 0)
+gap_within xs ys i j end (inl g) = let e = g.0 in omega arith
+gap_within xs ys i j end (inr g) = let e = g.2 in omega arith
+
+-- a cell in the difference that has a leaf of a cell of xs lies in it
+difference_within : (xs ys : List ℕ) (i p x : ℕ) → IsLocal xs → i < length xs → IsCell p → LiesIn (minus xs ys) p → covers p x ≡ true
+    → first_leaf (get_or xs i 0) ≤ x → x < first_leaf (get_or xs i 0) + size_of (get_or xs i 0) → Within p (get_or xs i 0)
+difference_within xs ys i p x local h cp lies hx low high =
+    let c = get_or xs i 0 in
+    let m = member_at xs i c h refl in
+    let deep = shallow p cp in
+    elim (all_held (30 - level_of p) xs p local.cells cp (omega arith) (λ y v. minus_left xs ys y (lies y v))) [
+      | holder d md w ↦
+          let is : d ≡ c = greatest_apart (has_leaf xs) d c x (member_greatest xs local d md) (member_greatest xs local c m) (inside_from_within p d w x hx) (covers_there c x low high) in
+          subst (λ v. Within p v) is w
+      | family q cq lq f ↦ absurd (local.unmerged q cq lq f)
+    ]
+
+difference_gap : (xs ys : List ℕ) (i j lo start end : ℕ) → IsLocal xs → IsLocal ys → Behind xs i lo → Behind ys j lo → i < length xs → Edge xs ys i lo
+    → start ≡ max (first_leaf (get_or xs i 0)) lo → GapEnd xs ys i j end → IsGap (minus xs ys) start end
+difference_gap xs ys i j lo start end lx ly bx by h edge es ee =
+    let px = packed_from_local xs lx in
+    let py = packed_from_local ys ly in
+    let most = gap_within xs ys i j end ee in
+    record {
+      inside = λ x b.
+          let r = between_ends start end x b in
+          let r0 = r.0 in
+          let r1 = r.1 in
+          let t : has_leaf xs x ≡ true = leaf_there xs i x h (omega arith) (omega arith) in
+          let n : has_leaf ys x ≡ false = gap ys j lo end x py by (gap_free xs ys i j end ee) (omega arith) r1 in
+          ap (λ v. v && not (has_leaf ys x)) t ∙ ap not n;
+      closed = λ p x cp lies hx b.
+          let r = between_ends start end x b in
+          let r0 = r.0 in
+          let r1 = r.1 in
+          let w = difference_within xs ys i p x lx h cp lies hx (omega arith) (omega arith) in
+          let wl = w.low in
+          let wh = w.high in
+          let ends = covers_from p x hx in
+          let e0 = ends.0 in
+          let e1 = ends.1 in
+          let low : start ≤ first_leaf p =
+          ⊎_elim
+          (λ (a : first_leaf p < start).
+          ⊎_elim
+          (λ (m : lo ≤ first_leaf (get_or xs i 0)). absurd (omega arith))
+          (λ (m : (0 < lo) × (has_leaf ys (lo - 1) ≡ true)).
+          ⊎_elim
+          (λ (k : lo < start). absurd (omega arith))
+          (λ (k : start ≤ lo).
+          let m0 = m.0 in
+          absurd (minus_right xs ys (lo - 1) (lies (lo - 1) (covers_there p (lo - 1) (omega arith) (omega arith))) m.1))
+          (cases_lt lo start))
+          (edge h))
+          (λ (a : start ≤ first_leaf p). a)
+          (cases_lt (first_leaf p) start) in
+          let high : first_leaf p + size_of p ≤ end =
+          ⊎_elim
+          (λ (g : (end ≡ first_leaf (get_or xs i 0) + size_of (get_or xs i 0)) × (j < length ys → end ≤ first_leaf (get_or ys j 0))). let e = g.0 in omega arith)
+          (λ (g : (j < length ys) × (end ≡ first_leaf (get_or ys j 0)) × (end < first_leaf (get_or xs i 0) + size_of (get_or xs i 0))).
+          let e = g.1 in
+          ⊎_elim
+          (λ (a : end < first_leaf p + size_of p).
+          let some = (cell_leaves (get_or ys j 0) (py.cells j 0 g.0)).some in
+          absurd (minus_right xs ys end (lies end (covers_there p end (omega arith) a)) (leaf_there ys j end g.0 (omega arith) (omega arith))))
+          (λ (a : first_leaf p + size_of p ≤ end). a)
+          (cases_lt end (first_leaf p + size_of p)))
+          ee in
+          λ y v. let q = covers_from p y v in let q0 = q.0 in let q1 = q.1 in grind (arith, nat_tests);
+    }
+
+-- ---- the loop
+
+pub record Subtracting (xs ys list : List ℕ) (i j lo : ℕ) : Type 0 where
+  pub in_x : i ≤ length xs
+  pub in_y : j ≤ length ys
+  pub picked : Picked (minus xs ys) list
+  pub walk : Walk (minus xs ys) xs ys list i j lo
+  pub edge : Edge xs ys i lo
+
+pub subtracting_start : (xs ys list : List ℕ) → list ≡ [] → Subtracting xs ys list 0 0 0
+subtracting_start xs ys list e = record {
+  in_x = omega arith;
+  in_y = omega arith;
+  picked = rw e (picked_none (minus xs ys));
+  walk = walk_start (minus xs ys) xs ys list e;
+  edge = λ h. inl (omega arith);
+}
+
+-- the next cell of ys begins before the cell of xs ends
+pub subtracting_taken : (xs ys list new : List ℕ) (i j lo start end next x y : ℕ) → IsLocal xs → IsLocal ys → Subtracting xs ys list i j lo
+    → i < length xs → j < length ys → get_or xs i 0 ≡ x → get_or ys j 0 ≡ y → first_leaf y < first_leaf x + size_of x
+    → start ≡ max (first_leaf x) lo → end ≡ first_leaf y → next ≡ max (first_leaf y + size_of y) start
+    → FillsGap list new start end → Subtracting xs ys new i (j + 1) next
+subtracting_taken xs ys list new i j lo start end next x y lx ly s h g ex ey before es ee en f =
+    let fx = ap first_leaf ex in
+    let sx = ap size_of ex in
+    let fy = ap first_leaf ey in
+    let sy = ap size_of ey in
+    let some = (cell_leaves (get_or ys j 0) (ly.cells j 0 g)).some in
+    record {
+      in_x = s.in_x;
+      in_y = omega arith;
+      picked = picked_fill (minus xs ys) list new start end s.picked (walk_below (minus xs ys) xs ys list i j lo start s.walk (omega arith))
+          (λ _. difference_gap xs ys i j lo start end lx ly s.walk.behind_x s.walk.behind_y h s.edge (omega arith) (inr (g, omega arith, omega arith))) f;
+      walk = subtract_taken xs ys list new i j lo start end next (packed_from_local xs lx) (packed_from_local ys ly) s.walk h g (omega arith) (omega arith) (omega arith) (omega arith)
+          (fill_leaves list new start end f);
+      edge = edge_taken xs ys i j lo start next s.edge g some (omega arith) (omega arith);
+    }
+
+-- the rest of the cell of xs is free of ys
+pub subtracting_free : (xs ys list new : List ℕ) (i j lo start end next x : ℕ) → IsLocal xs → IsLocal ys → Subtracting xs ys list i j lo
+    → i < length xs → get_or xs i 0 ≡ x → (j < length ys → end ≤ first_leaf (get_or ys j 0))
+    → start ≡ max (first_leaf x) lo → end ≡ first_leaf x + size_of x → next ≡ max end start
+    → FillsGap list new start end → Subtracting xs ys new (i + 1) j next
+subtracting_free xs ys list new i j lo start end next x lx ly s h ex free es ee en f =
+    let fx = ap first_leaf ex in
+    let sx = ap size_of ex in
+    record {
+      in_x = omega arith;
+      in_y = s.in_y;
+      picked = picked_fill (minus xs ys) list new start end s.picked (walk_below (minus xs ys) xs ys list i j lo start s.walk (omega arith))
+          (λ _. difference_gap xs ys i j lo start end lx ly s.walk.behind_x s.walk.behind_y h s.edge (omega arith) (inl (omega arith, free))) f;
+      walk = subtract_free xs ys list new i j lo start end next (packed_from_local xs lx) (packed_from_local ys ly) s.walk h free (omega arith) (omega arith) (omega arith)
+          (fill_leaves list new start end f);
+      edge = edge_free xs ys i lo start next (packed_from_local xs lx) s.edge h (omega arith) (omega arith);
+    }
