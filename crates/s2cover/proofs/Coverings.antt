@@ -11,17 +11,17 @@ use Rattle.s2cover.specs.Coverings.{filled, touched, outer_set, inner_set, IsInO
 use Rattle.s2cover.proofs.Runs.{four_pos, filled_each, filled_from, touched_none, block_here}
 
 -- a leaf where a run touches the set
-record Touch (S : ℕ → Bool) (lo n : ℕ) : Type 0 where
-  leaf : ℕ
-  after : lo ≤ leaf
-  before : leaf < lo + n
-  holds : S leaf ≡ true
+pub record Touch (S : ℕ → Bool) (lo n : ℕ) : Type 0 where
+  pub leaf : ℕ
+  pub after : lo ≤ leaf
+  pub before : leaf < lo + n
+  pub holds : S leaf ≡ true
 
 or_left : (a b : Bool) → b ≡ false → (a || b) ≡ true → a ≡ true
 or_left true b e h = refl
 or_left false b e h = absurd (both_ways b e h)
 
-touched_some : (S : ℕ → Bool) (lo n : ℕ) → touched S lo n ≡ true → Touch S lo n
+pub touched_some : (S : ℕ → Bool) (lo n : ℕ) → touched S lo n ≡ true → Touch S lo n
 unfolding touched
 touched_some S lo zero h = absurd (both_ways false refl h)
 touched_some S lo (suc n) h =
@@ -47,7 +47,7 @@ leaf_limit c x i v = let w = (cell_leaves c i).within in let r = covers_from c x
 own_block : (k x : ℕ) → (x / 4 ^ (30 - k) * 4 ^ (30 - k) ≤ x) × (x < x / 4 ^ (30 - k) * 4 ^ (30 - k) + 4 ^ (30 - k))
 own_block k x = let s = div-add-mod' x (4 ^ (30 - k)) in let r = mod_below x (4 ^ (30 - k)) (four_pos (30 - k)) in (omega arith, omega arith)
 
-limit_test : (x : ℕ) → x < 6 * 4 ^ 30 → nat_lt x (6 * 4 ^ 30) ≡ true
+pub limit_test : (x : ℕ) → x < 6 * 4 ^ 30 → nat_lt x (6 * 4 ^ 30) ≡ true
 limit_test x h = grind (arith, nat_tests)
 
 limit_from : (x : ℕ) → nat_lt x (6 * 4 ^ 30) ≡ true → x < 6 * 4 ^ 30

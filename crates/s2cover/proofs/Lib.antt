@@ -5,3 +5,5 @@ mod Formed
 mod Rectangles
 mod Regions
 mod Coverings
+mod Searches
+mod Squares

@@ -41,7 +41,7 @@ le_from_test a b h = grind (arith, nat_tests)
 test_from_le : (a b : ℕ) → a ≤ b → nat_le a b ≡ true
 test_from_le a b h = grind (arith, nat_tests)
 
-in_rect_from : (r : Rect) (n : ℕ) → rect_set r n ≡ true → IsInRect r (n / 4 ^ 30) (i_of n) (j_of n)
+pub in_rect_from : (r : Rect) (n : ℕ) → rect_set r n ≡ true → IsInRect r (n / 4 ^ 30) (i_of n) (j_of n)
 unfolding rect_set
 in_rect_from r n h =
     let a = and_parts ((n / 4 ^ 30 == r.face) && (nat_le r.i0 (i_of n) && nat_le (i_of n) r.i1)) (nat_le r.j0 (j_of n) && nat_le (j_of n) r.j1) h in

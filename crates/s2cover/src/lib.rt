@@ -15,11 +15,16 @@
 
 mod covering;
 mod descent;
+mod grid;
+mod looks;
 mod rect;
 mod region;
+mod rounding;
 mod union;
 
 pub use covering::{covering_sets, inner, outer};
+pub use grid::{rect_inner, rect_outer};
+pub use looks::Looks;
 pub use rect::FaceRect;
 pub use region::{CoverFault, Part, Region};
 pub use union::Clip;

@@ -2,10 +2,11 @@
 ghost use Rattle.std.specs.Prelude.{◌≡◌, ◌+◌, ◌^◌, ◌<◌, ◌≤◌, ◌↔◌, ◌⊎◌, ℕ, true, false, IfSome, SomeIff};
 ghost use Rattle.s2cell.specs.Cell.{covers};
 ghost use Rattle.s2cell.specs.Curve.{IsPlaceOf};
+ghost use Rattle.s2cell.specs.Square.{IsSquareOf};
 ghost use Rattle.s2cover.specs.Rectangles.{IsInRect, IsRect, Rect, rect_set};
 
 use crate::region::{Part, Region};
-use s2cell::CellId;
+use s2cell::{CellId, Square};
 use std::marker::Model;
 
 /// The number of places along a side of a face.
@@ -14,11 +15,11 @@ const SIDE: u32 = 1 << 30;
 /// The leaves of one face whose coordinates lie from `i0` to `i1` and from `j0` to `j1`, the bounds included.
 #[derive(Clone, Copy, PartialEq, Eq, Debug)]
 pub struct FaceRect {
-    face: u8,
-    i0: u32,
-    i1: u32,
-    j0: u32,
-    j1: u32,
+    pub(crate) face: u8,
+    pub(crate) i0: u32,
+    pub(crate) i1: u32,
+    pub(crate) j0: u32,
+    pub(crate) j1: u32,
 }
 
 impl Model for FaceRect {
@@ -58,7 +59,19 @@ impl Region for FaceRect {
     ghost holds = { rect_set };
 
     fn part(&self, cell: CellId) -> Part {
-        let square = cell.square();
+        self.part_of(cell.square())
+    }
+}
+
+impl FaceRect {
+    /// How the cell with this square lies to the rectangle.
+    pub(crate) fn part_of(&self, square: Square) -> Part
+        requires size { 0 < square.size }
+        requires i { square.i + square.size ≤ 2 ^ 30 }
+        requires j { square.j + square.size ≤ 2 ^ 30 }
+        ensures out { (c : ℕ) → IsSquareOf c square.face square.i square.j square.size → (result ≡ Part.Out) ↔ ((x : ℕ) → covers c x ≡ true → rect_set self.now x ≡ false) }
+        ensures inside { (c : ℕ) → IsSquareOf c square.face square.i square.j square.size → (result ≡ Part.In) ↔ ((x : ℕ) → covers c x ≡ true → rect_set self.now x ≡ true) }
+    {
         if square.face != self.face {
             return Part::Out;
         }

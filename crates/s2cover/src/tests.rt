@@ -2,7 +2,9 @@
 ghost use Rattle.std.specs.Prelude.{◌≡◌, ◌≤◌, ◌<◌, ◌↔◌, ◌%◌, ◌==◌, ℕ, true, false};
 ghost use Rattle.s2cell.specs.Cell.{covers};
 
-use crate::{Clip, CoverFault, FaceRect, Part, Region, inner, outer};
+use crate::{
+    Clip, CoverFault, FaceRect, Looks, Part, Region, inner, outer, rect_inner, rect_outer,
+};
 use s2cell::CellId;
 use s2union::{CellUnion, normalise};
 use std::alloc::Global;
@@ -134,5 +136,59 @@ fn covers_the_even_leaves(rt: HostRuntime) -> Result<(), Fail> {
         ([FACE_ZERO, 3 * FACE_ZERO, 5 * FACE_ZERO, 7 * FACE_ZERO], 6)
     );
     assert_eq!(rt; ids(&inner(rt.alloc(), &Even, 3, 9)?), ([0; 4], 0));
+    Ok(())
+}
+
+#[test]
+fn counts_the_looks(rt: HostRuntime) -> Result<(), Fail> {
+    let mut looks = Looks::default();
+    let edge = rect(&rt, 0, 0, LAST, 0, 0);
+    assert_eq!(rt;
+        ids(&rect_inner(rt.alloc(), &edge, 29, 10000, &mut looks)?),
+        ([0; 4], 0)
+    );
+    assert!(rt; looks.count <= 1);
+    let refused = rect_outer(rt.alloc(), &edge, 30, 10000, &mut looks).err();
+    assert_eq!(rt; refused, Some(CoverFault::TooMany));
+    assert!(rt; looks.count <= 1200121);
+    let strip = rect(&rt, 0, 0, 2, 0, 0);
+    assert_eq!(rt;
+        ids(&rect_outer(rt.alloc(), &strip, 29, 10000, &mut looks)?),
+        ([0x04, 0x1c, 0, 0], 2)
+    );
+    assert!(rt; 2 <= looks.count && looks.count <= 233);
+    let whole = rect(&rt, 0, 0, LAST, 0, LAST);
+    assert_eq!(rt;
+        ids(&rect_outer(rt.alloc(), &whole, 30, 10000, &mut looks)?),
+        ([FACE_ZERO, 0, 0, 0], 1)
+    );
+    assert!(rt; 1 <= looks.count && looks.count <= 121);
+    Ok(())
+}
+
+/// The calls for rectangles answer as those for any region do.
+fn agree(rt: &impl Abort, alloc: Global, rect: &FaceRect, level: u8) -> Result<(), Fail>
+    requires { level ≤ 30 }
+{
+    let mut looks = Looks::default();
+    let around = outer(alloc, rect, level, 100)?;
+    let found = rect_outer(alloc, rect, level, 100, &mut looks)?;
+    assert_eq!(rt; found.cells(), around.cells());
+    let within = inner(alloc, rect, level, 100)?;
+    let held = rect_inner(alloc, rect, level, 100, &mut looks)?;
+    assert_eq!(rt; held.cells(), within.cells());
+    Ok(())
+}
+
+#[test]
+fn rectangles_agree_with_regions(rt: HostRuntime) -> Result<(), Fail> {
+    for level in 27..31u8 {
+        for n in 0..8192u32 {
+            let face = (n / 4096) as u8;
+            if let Some(rect) = FaceRect::new(face, n % 8, n / 8 % 8, n / 64 % 8, n / 512 % 8) {
+                agree(&rt, rt.alloc(), &rect, level)?;
+            }
+        }
+    }
     Ok(())
 }

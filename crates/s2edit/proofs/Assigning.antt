@@ -1,6 +1,6 @@
 -- What an assignment leaves.
-use Rattle.std.proofs.Common.{◌≡◌, ◌≢◌, ℕ, zero, suc, ◌+◌, ◌<◌, ◌≤◌, List, [], ◌∷◌, length, map, take, slice_get, slice_set, Some, refl, sym, ap, ◌∙◌, subst, arith}
-use Rattle.std.proofs.lemmas.List.{length-take}
+use Rattle.std.proofs.Common.{◌≡◌, ◌≢◌, ℕ, ◌+◌, ◌<◌, ◌≤◌, List, [], ◌∷◌, length, map, take, slice_get, slice_set, Some, refl, sym, ap, ◌∙◌, subst, arith}
+use Rattle.std.proofs.lemmas.List.{length-take, take-map}
 use Rattle.s2union.specs.Union.{Union, IsLocal}
 use Rattle.s2union.specs.Apply.{without, applied, Fits}
 use Rattle.s2union.proofs.Applied.{applied-between, Fits-between}
@@ -11,11 +11,6 @@ use Rattle.s2edit.specs.Chain.{table_after, tables_after, FitsTable, FitAlong, l
 use Rattle.s2edit.proofs.Tables.{tables_after-take, FitAlong-take, AllWithin-at, within_after, tables_back, along_back}
 use Rattle.s2edit.proofs.Numbers.{out_lost, put_won}
 use Rattle.s2edit.proofs.Moves.{Rewrites, table_is}
-
-map-take_lem : {A : Type 0} {B : Type 0} (f : A → B) (n : ℕ) (xs : List A) → map f (take n xs) ≡ take n (map f xs)
-map-take_lem f zero xs = refl
-map-take_lem f (suc n) [] = refl
-map-take_lem f (suc n) (x ∷ xs) = ap (λ ys. f x ∷ ys) (map-take_lem f n xs)
 
 -- the register's own list changes nothing
 pub assigned_same : (h : History (List ℕ)) (r : ℕ) (x : List ℕ) → slice_get h.now r ≡ Some x → Assigned h r x h
@@ -72,7 +67,7 @@ module _ (limit depth : ℕ) (us us' : List Union) (scratch scratch' : Union) (p
   change_table = table_is limit us us' scratch scratch' (between r (list_at (lists_of us) r) v) m.rewrites
 
   turned : map inverse past' ≡ take depth (inverse (between r (list_at (lists_of us) r) v) ∷ map inverse past)
-  turned = ap (map inverse) m.onto ∙ map-take_lem inverse depth (between r (list_at (lists_of us) r) v ∷ past)
+  turned = ap (map inverse) m.onto ∙ sym (take-map inverse depth (between r (list_at (lists_of us) r) v ∷ past))
 
   fits_it : FitsTable limit (lists_of us) (between r (list_at (lists_of us) r) v)
   fits_it = fits_table limit (lists_of us) r v a l w n

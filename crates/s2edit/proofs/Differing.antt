@@ -1,7 +1,7 @@
 -- One step of the walk along two ascending lists.
-use Rattle.std.proofs.Common.{◌≡◌, ℕ, zero, suc, ◌+◌, ◌<◌, ◌≤◌, true, eqb, List, [], ◌∷◌, ◌++◌, length, drop, get_or, refl, sym, ap, ◌∙◌, subst, arith, eq-eqb, append_assoc, add-one, drop-cons, ◌⊎◌, ⊎_elim, take, ◌-◌, length-drop}
+use Rattle.std.proofs.Common.{◌≡◌, ℕ, zero, suc, ◌+◌, ◌<◌, ◌≤◌, true, eqb, List, [], ◌∷◌, ◌++◌, length, drop, get_or, sym, ap, ◌∙◌, subst, arith, eq-eqb, append_assoc, add-one, drop-cons, ◌⊎◌, ⊎_elim, take, ◌-◌, length-drop}
 use Rattle.std.proofs.lemmas.Bool.{cond-true, cond-false, or_left}
-use Rattle.std.proofs.lemmas.List.{take_all}
+use Rattle.std.proofs.lemmas.List.{take_all, drop_all}
 use Rattle.std.specs.List.Sorted.{IsStrictlyIncreasing}
 use Rattle.s2union.specs.Apply.{has, without}
 use Rattle.s2union.specs.Merge.{AllAbove, IsAscending}
@@ -61,18 +61,12 @@ lacking_turn us os found i j x a l m e h w =
     (lacking_cell us os i j a l m h ∙ ap (λ y. y ∷ without (drop (i + 1) us) (drop j os)) (sym e))
 
 -- where one list is at its end, all that is left of the other is lacking
-past_end : (xs : List ℕ) (k : ℕ) → length xs ≤ k → drop k xs ≡ []
-past_end [] zero h = refl
-past_end [] (suc k) h = refl
-past_end (x ∷ xs) zero h = absurd (omega arith)
-past_end (x ∷ xs) (suc k) h = past_end xs k (omega arith)
-
 pub lacking_rest : (us os found : List ℕ) (i j : ℕ) → (length us ≤ i) ⊎ (length os ≤ j) →
     found ++ without (drop i us) (drop j os) ≡ without us os → found ++ take (length us - i) (drop i us) ≡ without us os
 lacking_rest us os found i j h w =
     ap (λ (l : List ℕ). found ++ l)
     (take_all (length us - i) (drop i us) (omega (arith, length-drop i us)) ∙ ⊎_elim
-    (λ (p : length us ≤ i). past_end us i p ∙ sym (ap (λ (l : List ℕ). without l (drop j os)) (past_end us i p)))
-    (λ (p : length os ≤ j). sym (ap (without (drop i us)) (past_end os j p) ∙ without-nothing (drop i us)))
+    (λ (p : length us ≤ i). drop_all i us p ∙ sym (ap (λ (l : List ℕ). without l (drop j os)) (drop_all i us p)))
+    (λ (p : length os ≤ j). sym (ap (without (drop i us)) (drop_all j os p) ∙ without-nothing (drop i us)))
     h)
     ∙ w

@@ -1,5 +1,7 @@
 -- What the kept changes say of the tables.
-use Rattle.std.proofs.Common.{◌≡◌, ℕ, zero, suc, ◌+◌, ◌≤◌, List, [], ◌∷◌, length, map, slice_get, slice_set, Option, Some, None, MatchOption, option_copied, Bor, refl, sym, ap, ◌∙◌, subst, arith}
+use Rattle.std.proofs.Common.{◌≡◌, ℕ, zero, suc, ◌+◌, ◌≤◌, List, [], ◌∷◌, length, map, slice_get, slice_set, Option, Some, None, IsNone, IfSome, ◌↔◌, option_copied, Bor, refl, sym, ap, ◌∙◌, subst, arith}
+use Rattle.std.proofs.lemmas.Bool.{true≢false}
+use Rattle.std.proofs.lemmas.Option.{slice_get_past}
 use Rattle.s2union.specs.Union.{IsLocal}
 use Rattle.s2union.specs.Apply.{without}
 use Rattle.s2union.proofs.Applied.{only_out, only_put}
@@ -75,10 +77,17 @@ ahead_leads limit t ds n d a f h =
     subst (λ (v : List (List ℕ)). Leads d (table_at ts n) v) (sym s.next ∙ ap (table_at ts) one) (lead_ahead limit (table_at ts n) d s.within s.fits)
 
 -- what a look at a kept change says
-pub match_kept : (o : Option (Bor Diff)) (xs : List Diff) (n : ℕ) (P : Type 0) (Q : Diff → Type 0) → option_copied o ≡ slice_get xs n →
-    (length xs ≤ n → P) → ((d : Diff) → slice_get xs n ≡ Some d → Q d) → MatchOption o P (λ (c : Bor Diff). Q c.now)
-match_kept None xs n P Q e p q = p (none_past xs n (sym e))
-match_kept (Some c) xs n P Q e p q = q c.now (sym e)
+pub kept_none : (o : Option (Bor Diff)) (xs : List Diff) (n m : ℕ) → option_copied o ≡ slice_get xs n → length xs ≡ m → IsNone o ↔ (m ≤ n)
+kept_none None xs n m e k = (λ _. let l : length xs ≤ n = none_past xs n (sym e) in omega arith, λ _. refl)
+kept_none (Some c) xs n m e k = (λ h. absurd (true≢false h), λ l. absurd (some_none c.now (e ∙ slice_get_past xs n (omega arith))))
+  where
+    some_none : (d : Diff) → Some d ≡ None → ⊥
+    some_none d h = absurd (cc)
+
+pub kept_some : (o : Option (Bor Diff)) (xs : List Diff) (n : ℕ) (Q : Diff → Type 0) → option_copied o ≡ slice_get xs n →
+    ((d : Diff) → slice_get xs n ≡ Some d → Q d) → IfSome o (λ (c : Bor Diff). Q c.now)
+kept_some None xs n Q e q = tt
+kept_some (Some c) xs n Q e q = q c.now (sym e)
 
 -- each list that the changes lead to is one that a register may have
 module _ (P : List ℕ → Type 0) (limit : ℕ) (p : (u : List ℕ) → IsWithin limit u → P u) where

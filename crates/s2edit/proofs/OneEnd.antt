@@ -3,11 +3,25 @@ use Rattle.std.proofs.Common.{◌≡◌, ℕ, zero, suc, List, [], ◌∷◌, sl
 use Rattle.std.proofs.lemmas.Bool.{false≢true}
 use Rattle.std.proofs.lemmas.Slice.Eq.{bytes_eq-Decides}
 use Rattle.s2edit.specs.History.{History, Assigned}
-use Rattle.s2edit.specs.Edits.{Edited, EditRun, AllFit}
+use Rattle.s2edit.specs.Edits.{EditRun, Edited, Ran, tally_of}
 use Rattle.s2edit.specs.declared.edits.Edit.{Edit}
 use Rattle.s2edit.specs.declared.edits.Edit.TheVariants.{Assign, Undo, Redo}
+use Rattle.s2edit.specs.declared.edits.EditTally.{EditTally}
 use Rattle.s2edit.specs.declared.edits.Outcome.{Outcome}
 use Rattle.s2edit.specs.declared.edits.Outcome.TheVariants.{Done, Refused, NoMemory}
+
+-- no edit met want of memory
+abbrev pub AllFit : List Outcome → Type 0
+AllFit [] = Unit {0}
+AllFit (Done ∷ os) = AllFit os
+AllFit (Refused ∷ os) = AllFit os
+AllFit (NoMemory ∷ os) = ⊥
+
+pub fit_from_tally : (os : List Outcome) → (tally_of os).memory ≡ 0 → AllFit os
+fit_from_tally [] e = tt
+fit_from_tally (Done ∷ os) e = fit_from_tally os e
+fit_from_tally (Refused ∷ os) e = fit_from_tally os e
+fit_from_tally (NoMemory ∷ os) e = absurd (omega arith)
 
 -- a list is in a register, or it isn't
 pub is_there : (t : List (List ℕ)) (r : ℕ) (x : List ℕ) → (slice_get t r ≡ Some x) ⊎ (slice_get t r ≡ Some x → ⊥)
@@ -60,3 +74,10 @@ EditRun-one h h₁ h₂ (e ∷ es) (o ∷ os) (p ∷ ps) a b m n =
     let s = Edited-one h a.0 b.0 e o p a.1 b.1 (fit_first o os m).0 (fit_first p ps n).0 in
     let t = EditRun-one a.0 h₁ h₂ es os ps a.2 (subst (λ (k : History (List ℕ)). EditRun (λ u. u) k es ps h₂) (sym s.0) b.2) (fit_first o os m).1 (fit_first p ps n).1 in
     (t.0, ap (λ q. q ∷ os) s.1 ∙ ap (λ (qs : List Outcome). p ∷ qs) t.1)
+
+pub Ran-one : (h h₁ h₂ : History (List ℕ)) (es : List Edit) (t₁ t₂ : EditTally) → Ran h es t₁ h₁ → Ran h es t₂ h₂ → t₁.memory ≡ 0 → t₂.memory ≡ 0 → (h₁ ≡ h₂) × (t₁ ≡ t₂)
+Ran-one h h₁ h₂ es t₁ t₂ a b m n =
+    let no_memory : (os : List Outcome) (t : EditTally) → t ≡ tally_of os → t.memory ≡ 0 → AllFit os =
+          λ os t c e. fit_from_tally os (sym (ap (λ (x : EditTally). x.memory) c) ∙ e) in
+    let one = EditRun-one h h₁ h₂ es a.outcomes b.outcomes a.by_lists.run b.by_lists.run (no_memory a.outcomes t₁ a.counted m) (no_memory b.outcomes t₂ b.counted n) in
+    (one.0, a.counted ∙ ap tally_of one.1 ∙ sym b.counted)

@@ -1,6 +1,6 @@
 -- Changes, and then as many undos.
 use Rattle.std.proofs.Common.{◌≡◌, ℕ, zero, suc, ◌+◌, ◌≤◌, List, [], ◌∷◌, ◌++◌, length, take, drop, replicate, refl, sym, ap, ◌∙◌, subst, append_assoc, arith}
-use Rattle.std.proofs.lemmas.List.{replicate_more}
+use Rattle.std.proofs.lemmas.List.{replicate_more, take-take}
 use Rattle.s2edit.specs.History.{History, changed, undone, undone_to}
 use Rattle.s2edit.specs.Edits.{Edited, EditRun, tally_of, AllChange, GivesBack}
 use Rattle.s2edit.specs.declared.edits.Edit.{Edit}
@@ -14,12 +14,6 @@ few_done [] = omega arith
 few_done (Done ∷ os) = omega (arith, few_done os)
 few_done (Refused ∷ os) = omega (arith, few_done os)
 few_done (NoMemory ∷ os) = omega (arith, few_done os)
-
-take-take : {X : Type 0} (k d : ℕ) (xs : List X) → k ≤ d → take k (take d xs) ≡ take k xs
-take-take zero d xs l = refl
-take-take (suc k) zero xs l = absurd (omega arith)
-take-take (suc k) (suc d) [] l = refl
-take-take (suc k) (suc d) (x ∷ xs) l = ap (λ ys. x ∷ ys) (take-take k d xs (omega arith))
 
 from_first : {X : Type 0} (xs ys : List X) (t : X) (d : ℕ) → 1 ≤ d → take 1 xs ≡ take 1 (take d (t ∷ ys)) → xs ≡ t ∷ drop 1 xs
 from_first [] ys t d l e = let f : [] ≡ t ∷ [] = e ∙ take-take 1 d (t ∷ ys) l in absurd (cc)

@@ -1,6 +1,6 @@
 -- What holds of the tables of lists holds of the tables of sets.
 use Rattle.std.proofs.Common.{◌≡◌, ℕ, zero, suc, Bool, List, [], ◌∷◌, map, take, slice_get, slice_set, Some, refl, sym, ap, ◌∙◌}
-use Rattle.std.proofs.lemmas.List.{map-set}
+use Rattle.std.proofs.lemmas.List.{map-set, take-map}
 use Rattle.s2union.specs.Union.{has_leaf, IsLocal}
 use Rattle.s2union.proofs.Normal.{same_from_leaves}
 use Rattle.s2edit.specs.History.{History, changed, undone, redone, Assigned, sets, sets_of}
@@ -11,14 +11,9 @@ module _ {A : Type 0} {B : Type 0} (f : A → B) where
   slice_get_map (y ∷ xs) zero x h = let e : y ≡ x = cc in ap (λ z. Some (f z)) e
   slice_get_map (y ∷ xs) (suc k) x h = slice_get_map xs k x h
 
-  map_take : (n : ℕ) (xs : List A) → map f (take n xs) ≡ take n (map f xs)
-  map_take zero xs = refl
-  map_take (suc n) [] = refl
-  map_take (suc n) (x ∷ xs) = ap (λ ys. f x ∷ ys) (map_take n xs)
-
 pub sets-changed : (h : History (List ℕ)) (r : ℕ) (x : List ℕ) → sets (changed h r x) ≡ changed (sets h) r (has_leaf x)
 sets-changed h r x =
-    ap (λ (ts : List (List (ℕ → Bool))). record { limit = h.limit; depth = h.depth; past = ts; now = sets_of (slice_set h.now r x); future = [] }) (map_take sets_of h.depth (h.now ∷ h.past))
+    ap (λ (ts : List (List (ℕ → Bool))). record { limit = h.limit; depth = h.depth; past = ts; now = sets_of (slice_set h.now r x); future = [] }) (sym (take-map sets_of h.depth (h.now ∷ h.past)))
     ∙ ap (λ (t : List (ℕ → Bool)). record { limit = h.limit; depth = h.depth; past = take h.depth (sets_of h.now ∷ map sets_of h.past); now = t; future = [] }) (map-set has_leaf h.now r x)
 
 -- equal sets are equal lists, so the two cases of an assignment are the same ones

@@ -3,13 +3,13 @@ use Rattle.std.proofs.Common.{◌≡◌, ℕ, zero, suc, Bool, List, [], ◌∷�
 use Rattle.s2union.specs.Union.{has_leaf, IsLocal}
 use Rattle.s2union.proofs.Normal.{same_from_leaves}
 use Rattle.s2edit.specs.History.{History, changed, undone, undone_to, redone, redone_to, sets, sets_of, AllLists, AllTables, EachList}
-use Rattle.s2edit.specs.Edits.{Edited, EditRun, AllFit, AssignLocal}
+use Rattle.s2edit.specs.Edits.{Edited, EditRun, tally_of, AssignLocal}
 use Rattle.s2edit.specs.declared.edits.Edit.{Edit}
 use Rattle.s2edit.specs.declared.edits.Edit.TheVariants.{Assign, Undo, Redo}
 use Rattle.s2edit.specs.declared.edits.Outcome.{Outcome}
 use Rattle.s2edit.specs.declared.edits.Outcome.TheVariants.{Done, Refused, NoMemory}
 use Rattle.s2edit.proofs.SetLemmas.{slice_get_map, sets-changed, sets-undone, sets-redone}
-use Rattle.s2edit.proofs.OneEnd.{is_there, EditRun-one}
+use Rattle.s2edit.proofs.OneEnd.{is_there, EditRun-one, fit_from_tally}
 
 -- a register that has the set has the list
 there_from_sets : (t : List (List ℕ)) (r : ℕ) (x : List ℕ) → AllLists IsLocal t → IsLocal x → slice_get (map has_leaf t) r ≡ Some (has_leaf x) → slice_get t r ≡ Some x
@@ -96,9 +96,9 @@ lift_run h s (e ∷ es) (o ∷ os) a l r =
     record { end = g.end; run = (f.end, f.edited, g.run); is = g.is }
 
 pub EditRun-one_of_sets : (h : History (List ℕ)) (s₁ s₂ : History (ℕ → Bool)) (es : List Edit) (os ps : List Outcome) → EachList IsLocal h → AssignLocal es →
-    EditRun has_leaf (sets h) es os s₁ → EditRun has_leaf (sets h) es ps s₂ → AllFit os → AllFit ps → (s₁ ≡ s₂) × (os ≡ ps)
+    EditRun has_leaf (sets h) es os s₁ → EditRun has_leaf (sets h) es ps s₂ → (tally_of os).memory ≡ 0 → (tally_of ps).memory ≡ 0 → (s₁ ≡ s₂) × (os ≡ ps)
 EditRun-one_of_sets h s₁ s₂ es os ps a l r q m n =
     let f = lift_run h s₁ es os a l r in
     let g = lift_run h s₂ es ps a l q in
-    let one = EditRun-one h f.end g.end es os ps f.run g.run m n in
+    let one = EditRun-one h f.end g.end es os ps f.run g.run (fit_from_tally os m) (fit_from_tally ps n) in
     (f.is ∙ ap sets one.0 ∙ sym g.is, one.1)

@@ -1,5 +1,5 @@
 -- How the tables follow from the changes that are kept.
-use Rattle.std.proofs.Common.{◌≡◌, ℕ, zero, suc, ◌+◌, ◌<◌, ◌≤◌, List, [], ◌∷◌, ◌++◌, replicate, length, map, take, get_or, slice_get, slice_set, Some, refl, sym, ap, ◌∙◌, subst, arith}
+use Rattle.std.proofs.Common.{◌≡◌, ℕ, zero, suc, ◌+◌, ◌<◌, ◌≤◌, List, [], ◌∷◌, ◌++◌, replicate, length, take, get_or, slice_get, slice_set, Some, refl, sym, ap, ◌∙◌, subst, arith}
 use Rattle.std.proofs.lemmas.List.{map-set, length-set, replicate_more, get_or-set_same, set-set, set-get_or, map-append}
 use Rattle.std.proofs.lemmas.Option.{slice_get_read, get_or_from_slice_get}
 use Rattle.s2union.specs.Union.{Union}
@@ -81,10 +81,6 @@ pub AllRoomy-get : (n : ℕ) (us : List Union) (r : ℕ) (u : Union) → AllRoom
 AllRoomy-get n [] r u a h = absurd (cc)
 AllRoomy-get n (v ∷ us) zero u a h = let e : v ≡ u = cc in subst (λ (w : Union). n ≤ w.room) e a.0
 AllRoomy-get n (v ∷ us) (suc r) u a h = AllRoomy-get n us r u a.1 h
-
-pub length-map_lem : {A : Type 0} {B : Type 0} (f : A → B) (xs : List A) → length (map f xs) ≡ length xs
-length-map_lem f [] = refl
-length-map_lem f (x ∷ xs) = ap suc (length-map_lem f xs)
 
 pub slice_get-lists_of : (us : List Union) (r : ℕ) (u : Union) → slice_get us r ≡ Some u → slice_get (lists_of us) r ≡ Some u.cells
 slice_get-lists_of [] r u h = cc

@@ -6,9 +6,12 @@ use Rattle.s2edit.specs.Chain.{history, lists_of, AllWithin, AllRoomy, FitAlong}
 use Rattle.s2edit.specs.declared.editor.Editor.TheInside.{Inside}
 use Rattle.s2edit.specs.declared.TheConstants.{REGISTERS}
 
+-- the history that a contract sees
 abbrev pub history_of : Inside → History (List ℕ)
 history_of e = history e.limit e.depth e.registers.items e.past.items e.future.items
 
+-- Each register and the scratch list have room for a whole list, each ring has room for all states that may be kept,
+-- and the changes of either side can be made one after another, from the present table on.
 pub record IsEditor (e : Inside) : Type 0 where
   pub count : length e.registers.items ≡ REGISTERS
   pub past_room : e.past.capacity ≡ e.depth

@@ -86,13 +86,6 @@ pub record Ran (old : History (List ℕ)) (edits : List Edit) (tally : EditTally
   pub by_lists : RunsTo (λ u. u) old edits outcomes new
   pub by_sets : RunsTo has_leaf (sets old) edits outcomes (sets new)
 
--- no edit met want of memory
-abbrev pub AllFit : List Outcome → Type 0
-AllFit [] = Unit {0}
-AllFit (Done ∷ os) = AllFit os
-AllFit (Refused ∷ os) = AllFit os
-AllFit (NoMemory ∷ os) = ⊥
-
 -- each list that is assigned is local, as that of a union is
 abbrev pub AssignLocal : List Edit → Type 0
 AssignLocal [] = Unit {0}
@@ -100,9 +93,10 @@ AssignLocal (Assign r u ∷ es) = IsLocal u.cells × AssignLocal es
 AssignLocal (Undo ∷ es) = AssignLocal es
 AssignLocal (Redo ∷ es) = AssignLocal es
 
--- Without want of memory, what edits do is one function of them and of the first state, list for list and set for set.
+-- Where no edit met want of memory, what a list of edits does is one function of it and of the first state: the
+-- state after it, list for list and set for set, and how each edit ended.
 pub record LawOfRuns : Type 0 where
-  pub one_end : (h h₁ h₂ : History (List ℕ)) (es : List Edit) (os ps : List Outcome) →
-      EditRun (λ u. u) h es os h₁ → EditRun (λ u. u) h es ps h₂ → AllFit os → AllFit ps → (h₁ ≡ h₂) × (os ≡ ps)
+  pub one_end : (h h₁ h₂ : History (List ℕ)) (es : List Edit) (t₁ t₂ : EditTally) → Ran h es t₁ h₁ → Ran h es t₂ h₂ →
+      t₁.memory ≡ 0 → t₂.memory ≡ 0 → (h₁ ≡ h₂) × (t₁ ≡ t₂)
   pub one_end_of_sets : (h : History (List ℕ)) (s₁ s₂ : History (ℕ → Bool)) (es : List Edit) (os ps : List Outcome) → EachList IsLocal h → AssignLocal es →
-      EditRun has_leaf (sets h) es os s₁ → EditRun has_leaf (sets h) es ps s₂ → AllFit os → AllFit ps → (s₁ ≡ s₂) × (os ≡ ps)
+      EditRun has_leaf (sets h) es os s₁ → EditRun has_leaf (sets h) es ps s₂ → (tally_of os).memory ≡ 0 → (tally_of ps).memory ≡ 0 → (s₁ ≡ s₂) × (os ≡ ps)

@@ -184,7 +184,8 @@ impl Editor {
     /// The kept change that undo number `n` from now would take back, counted from 0; None exactly where
     /// fewer states may be undone. It leads from the earlier state to the later one.
     pub fn change_back(&self, n: usize) -> Option<&Change>
-        ensures { MatchOption result (length self.now.past ≤ n)
+        ensures none { IsNone result ↔ (length self.now.past ≤ n) }
+        ensures leads { IfSome result
             (λ c. Leads c.now (table_at (self.now.now ∷ self.now.past) (n + 1)) (table_at (self.now.now ∷ self.now.past) n)) }
     {
         self.past.get(n)
@@ -193,7 +194,8 @@ impl Editor {
     /// The kept change that redo number `n` from now would make again, counted from 0; None exactly where
     /// fewer states may be redone. It leads from the earlier state to the later one.
     pub fn change_ahead(&self, n: usize) -> Option<&Change>
-        ensures { MatchOption result (length self.now.future ≤ n)
+        ensures none { IsNone result ↔ (length self.now.future ≤ n) }
+        ensures leads { IfSome result
             (λ c. Leads c.now (table_at (self.now.now ∷ self.now.future) n) (table_at (self.now.now ∷ self.now.future) (n + 1))) }
     {
         self.future.get(n)

@@ -1,7 +1,7 @@
 -- What the last three cells tell of a list whose cells go by one after another.
-use Rattle.std.proofs.Common.{◌≡◌, ℕ, zero, suc, ◌+◌, ◌-◌, ◌<◌, ◌↔◌, refl, sym, ap, ◌∙◌, subst, arith, List, [], ◌∷◌, ◌++◌, length, take, reverse, get_or, slice_get, Some, append_assoc, length-append}
+use Rattle.std.proofs.Common.{◌≡◌, ℕ, suc, ◌+◌, ◌-◌, ◌<◌, ◌↔◌, refl, sym, ap, ◌∙◌, subst, arith, List, [], ◌∷◌, ◌++◌, length, take, reverse, get_or, slice_get, Some, append_assoc, length-append}
 use Rattle.std.proofs.lemmas.List.{get_or-reverse, length-reverse, reverse-append, append-nil}
-use Rattle.std.proofs.lemmas.Option.{slice_get-get_or, get_or_from_slice_get}
+use Rattle.std.proofs.lemmas.Option.{slice_get-get_or, get_or_from_slice_get, slice_get_within}
 use Rattle.std.specs.List.Sorted.{IsStrictlyIncreasing}
 use Rattle.s2cell.specs.Cell.{IsCell}
 use Rattle.s2union.specs.Packed.{IsPacked}
@@ -24,11 +24,6 @@ read_end back k j x e h =
     let at : length back - 1 - j ≡ k = omega arith in
     sym (get_or-reverse back j x (omega arith) ∙ ap (λ (i : ℕ). get_or back i x) at ∙ get_or_from_slice_get back k x x h)
 
-some_within : (back : List ℕ) (k x : ℕ) → slice_get back k ≡ Some x → k < length back
-some_within [] k x h = absurd (cc)
-some_within (y ∷ back) zero x h = omega arith
-some_within (y ∷ back) (suc k) x h = let l : k < length back = some_within back k x h in omega arith
-
 pub packed_with : (t : Tail) (back : List ℕ) (cell : ℕ) → IsTail t back → IsPacked (reverse back) → IsCell cell → Follows t cell → IsPacked (reverse back ++ cell ∷ [])
 packed_with t back cell i p c f =
     let n : length (reverse back) ≡ length back = length-reverse back in
@@ -43,13 +38,13 @@ follows_packed t back cell i p =
     record {
       after = λ c e.
           let g : slice_get back 0 ≡ Some c = sym i.last ∙ e in
-          let l : 0 < length back = some_within back 0 c g in
+          let l : 0 < length back = slice_get_within back 0 c g in
           pushed_after (reverse back) cell c p (omega arith) (read_end back 0 (length (reverse back) - 1) c (omega arith) g);
       unmerged = λ a b c q ea eb ec.
           let ga : slice_get back 2 ≡ Some a = sym i.third ∙ ea in
           let gb : slice_get back 1 ≡ Some b = sym i.second ∙ eb in
           let gc : slice_get back 0 ≡ Some c = sym i.last ∙ ec in
-          let l : 2 < length back = some_within back 2 a ga in
+          let l : 2 < length back = slice_get_within back 2 a ga in
           pushed_unmerged (reverse back) cell a b c q p (omega arith)
           (read_end back 2 (length (reverse back) - 3) a (omega arith) ga)
           (read_end back 1 (length (reverse back) - 2) b (omega arith) gb)

@@ -1,4 +1,5 @@
 use Rattle.std.proofs.Common.{◌≡◌, ◌<◌, ℕ, List, [], ◌∷◌, length, take, slice_get, Some, ap, sym, ◌∙◌, arith}
+use Rattle.std.proofs.lemmas.List.{length-map}
 use Rattle.circular_buffer.specs.Buffer.{Buffer}
 use Rattle.s2union.specs.Apply.{without}
 use Rattle.s2union.specs.Union.{Union}
@@ -7,7 +8,7 @@ use Rattle.s2edit.specs.History.{History, changed, Assigned}
 use Rattle.s2edit.specs.Diff.{Diff, between}
 use Rattle.s2edit.specs.Leads.{list_at}
 use Rattle.s2edit.specs.Chain.{lists_of, IsWithin, history}
-use Rattle.s2edit.proofs.Tables.{AllWithin-get, AllWithin-at, slice_get-lists_of, read_register, list_read, length-map_lem}
+use Rattle.s2edit.proofs.Tables.{AllWithin-get, AllWithin-at, slice_get-lists_of, read_register, list_read}
 use Rattle.s2edit.proofs.Assigning.{given_fits, given_few, Changes, change_leaves, change_within, change_past, change_future, change_bound, change_numbers, assigned_same, assigned_other}
 use Rattle.s2edit.proofs.Moves.{rewrites_from, rewritten_count, rewritten_roomy}
 use Rattle.s2edit.proofs.Numbers.{numbers-same}
@@ -63,7 +64,7 @@ old_is-made : (c : goal.After-deref-2) → list_at (lists_of c.self.inside.regis
 old_is-made c = list_read c.self.inside.registers.items _ _ _ c.index-old.ensures c.index.ensures.value (in_range-made c)
 
 in_table-made : (c : goal.After-deref-2) → c.args.register < length (lists_of c.self.inside.registers.items)
-in_table-made c = omega (arith, in_range-made c, c.index.ensures.value, length-map_lem (λ (u : Union). u.cells) c.self.inside.registers.items)
+in_table-made c = omega (arith, in_range-made c, c.index.ensures.value, length-map c.self.inside.registers.items (λ (u : Union). u.cells))
 
 own-made : (c : goal.After-deref-2) → IsWithin c.self.inside.limit c.args.union.cells
 own-made c = record { local = c.cells-2.ensures.local; few = omega (arith, c.len.ensures) }
@@ -92,7 +93,7 @@ old_is : (c : goal.After-clear) → list_at (lists_of c.self.inside.registers.it
 old_is c = list_read c.self.inside.registers.items _ _ _ c.index-old.ensures c.index.ensures.value (in_range c)
 
 in_table : (c : goal.After-clear) → c.args.register < length (lists_of c.self.inside.registers.items)
-in_table c = omega (arith, in_range c, c.index.ensures.value, length-map_lem (λ (u : Union). u.cells) c.self.inside.registers.items)
+in_table c = omega (arith, in_range c, c.index.ensures.value, length-map c.self.inside.registers.items (λ (u : Union). u.cells))
 
 own : (c : goal.After-clear) → IsWithin c.self.inside.limit c.args.union.cells
 own c = record { local = c.cells-2.ensures.local; few = omega (arith, c.len.ensures) }

@@ -1,0 +1,105 @@
+//! The program: it opens what a run needs, and calls it.
+#![tactic(auto)]
+
+ghost use Rattle.std.specs.Prelude.{◌≤◌};
+
+use s2calc::{
+    Answers, Asking, Editor, Gathered, Job, RunFault, Stop, Tally, cell_answer, job, run, status,
+};
+use std::io::{BufWriter, ErrorKind};
+use std::process::ExitCode;
+use std::{env, io};
+
+/// How many bytes of answers are gathered before they go out.
+const OUTPUT_SIZE: usize = 65536;
+
+const HELP: &str =
+    "s2calc run [--limit N] [--depth N]    answers the script on standard input\ns2calc cell CELL    answers one `cell CELL`";
+
+fn main(rt: HostRuntime) -> ExitCode {
+    let words = match env::args(&rt) {
+        Ok(words) => words,
+        Err(error) => {
+            return match error.kind() {
+                ErrorKind::OutOfMemory => stopped(&rt, Stop::Memory),
+                _ => stopped(&rt, Stop::Usage),
+            };
+        }
+    };
+    let words: Vec<String> = match words.collect(rt.alloc()) {
+        Ok(words) => words,
+        Err(_) => return stopped(&rt, Stop::Memory),
+    };
+    match job(rt.alloc(), words) {
+        Ok(Job::Run { limit, depth }) => run_script(&rt, limit, depth),
+        Ok(Job::Cell { word }) => answer_cell(&rt, &word),
+        Err(stop) => stopped(&rt, stop),
+    }
+}
+
+/// Answers the script on standard input.
+fn run_script<R: AllocGlobal + Input + Print + Eprint>(
+    rt: &R,
+    limit: usize,
+    depth: usize,
+) -> ExitCode
+    requires some_cells { 1 ≤ limit }
+    requires most_cells { limit ≤ 1000000 }
+    requires some_states { 1 ≤ depth }
+    requires most_states { depth ≤ 1000 }
+{
+    let Ok(mut editor) = Editor::open(rt.alloc(), limit, depth) else {
+        return ended(rt, &Err(RunFault::Memory));
+    };
+    let Ok(writer) = BufWriter::with_capacity(rt.alloc(), OUTPUT_SIZE, io::writer(rt)) else {
+        return ended(rt, &Err(RunFault::Memory));
+    };
+    let gathered = Gathered::new(writer);
+    let mut reader = Asking::of(rt.reader(), &gathered);
+    let mut answers = Answers::of(&gathered);
+    let result = run(rt.alloc(), &mut editor, &mut reader, &mut answers);
+    // Where the flush before a read failed, it is the output that failed.
+    let result = match result {
+        Err(RunFault::Input) if gathered.failed() => Err(RunFault::Output),
+        result => result,
+    };
+    ended(rt, &result)
+}
+
+/// Answers one `cell CELL`.
+fn answer_cell<R: Print + Eprint>(rt: &R, word: &str) -> ExitCode {
+    match cell_answer(word.as_bytes(), &mut io::writer(rt)) {
+        Ok(true) => ExitCode::SUCCESS,
+        Ok(false) => ExitCode::from(1),
+        Err(fault) => ended(rt, &Err(fault)),
+    }
+}
+
+/// Tells how a run ended.
+fn ended(rt: &impl Eprint, outcome: &Result<Tally, RunFault>) -> ExitCode {
+    let _ = match outcome {
+        Ok(_) => Ok(()),
+        Err(RunFault::Input) => rt.eprintln("s2calc: input"),
+        Err(RunFault::Output) => rt.eprintln("s2calc: output"),
+        Err(RunFault::Memory) => rt.eprintln("s2calc: memory"),
+    };
+    ExitCode::from(status(outcome))
+}
+
+/// Tells why there is nothing to do.
+fn stopped(rt: &(impl Eprint + Print), stop: Stop) -> ExitCode {
+    match stop {
+        Stop::Help => {
+            let _ = rt.println(HELP);
+            ExitCode::SUCCESS
+        }
+        Stop::Usage => {
+            let _ = rt.eprintln("s2calc: usage");
+            ExitCode::from(2)
+        }
+        Stop::Memory => {
+            let _ = rt.eprintln("s2calc: memory");
+            ExitCode::from(3)
+        }
+    }
+}
