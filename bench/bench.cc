@@ -256,16 +256,17 @@ static void coverings(Table& table) {
   Bounds large = {1, 126420997, 159450117, 401604613, 434633733};
   Room room(300000);
   S2CellUnion made;
-  auto row = [&](Row it, bool outer, S2CellUnion (*peer)(const Bounds&, int, bool)) {
+  auto row = [&](Row it, bool outer, S2CellUnion (*peer)(const Bounds&, int, bool), Covering proved) {
     table.row(it,
               {[&](uint32_t) { made = peer(large, 20, outer); }, [&] { return sum_of(made); }},
-              {[&](uint32_t) { must((outer ? s2c_outer : s2c_inner)(&large, 20, room.at(), room.size(), room.len()), it.name); }, [&] { return sum_of(room.made()); }},
+              {[&](uint32_t) { must(proved(&large, 20, room.at(), room.size(), room.len()), it.name); }, [&] { return sum_of(room.made()); }},
               [&] { return made.num_cells(); });
   };
-  row({"outer_large", 0, 0x34e7e225fe88cd2f, 110}, true, covering_by_descent);
-  row({"inner_large", 0, 0xb844960511bf68f7, 25}, false, covering_by_descent);
-  row({"outer_large_by_coverer", 0, 0x34e7e225fe88cd2f, 0}, true, covering_by_coverer);
-  row({"inner_large_by_coverer", 0, 0xb844960511bf68f7, 0}, false, covering_by_coverer);
+  const u64 outer_sum = 0x34e7e225fe88cd2f, inner_sum = 0xb844960511bf68f7;
+  row({"outer_large", 0, outer_sum, 110}, true, covering_by_descent, s2c_outer);
+  row({"inner_large", 0, inner_sum, 25}, false, covering_by_descent, s2c_inner);
+  row({"outer_large_any_region", 0, outer_sum, 0}, true, covering_by_coverer, s2c_region_outer);
+  row({"inner_large_any_region", 0, inner_sum, 0}, false, covering_by_coverer, s2c_region_inner);
 
   Random random(11);
   std::vector<Bounds> small(10000);

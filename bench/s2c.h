@@ -40,4 +40,6 @@ bool s2c_decode(const uint8_t* bytes, size_t n, uint32_t times, uint64_t* out, s
 
 bool s2c_outer(const Bounds* bounds, uint8_t level, uint64_t* out, size_t room, size_t* len);
 bool s2c_inner(const Bounds* bounds, uint8_t level, uint64_t* out, size_t room, size_t* len);
+bool s2c_region_outer(const Bounds* bounds, uint8_t level, uint64_t* out, size_t room, size_t* len);
+bool s2c_region_inner(const Bounds* bounds, uint8_t level, uint64_t* out, size_t room, size_t* len);
 }

@@ -38,6 +38,7 @@ inline List ids_of(const S2CellUnion& cells) { return ids_of(cells.cell_ids()); 
 using Operation = bool (*)(const u64*, size_t, const u64*, size_t, uint32_t, u64*, size_t, size_t*);
 using PeerOperation = S2CellUnion (S2CellUnion::*)(const S2CellUnion&) const;
 using CellQuestions = bool (*)(const u64*, size_t, const u64*, size_t, bool*, size_t);
+using Covering = bool (*)(const Bounds*, uint8_t, u64*, size_t, size_t*);
 using UnionQuestion = bool (*)(const u64*, size_t, const u64*, size_t, uint32_t, bool*);
 
 // A list that the proved library fills.

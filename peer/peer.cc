@@ -181,12 +181,16 @@ static void coverings(Random& random) {
   bounds(&r.j0, &r.j1);
   int level = random.below(std::min(30, 30 - bits + 6) + 1);
   std::string about = std::to_string(r.face) + " " + std::to_string(r.i0) + " " + std::to_string(r.i1) + " " + std::to_string(r.j0) + " " + std::to_string(r.j1) + " at " + std::to_string(level);
-  question = "outer";
-  must(s2c_outer(&r, level, room.at(), room.size(), room.len()), question);
-  same_cells(room, ids_of(covering_by_coverer(r, level, true)), about);
-  question = "inner";
-  must(s2c_inner(&r, level, room.at(), room.size(), room.len()), question);
-  same_cells(room, ids_of(covering_by_descent(r, level, false)), about);
+  auto ask = [&](const char* name, Covering proved, const S2CellUnion& peer) {
+    question = name;
+    must(proved(&r, level, room.at(), room.size(), room.len()), name);
+    same_cells(room, ids_of(peer), about);
+  };
+  S2CellUnion outer = covering_by_coverer(r, level, true), inner = covering_by_descent(r, level, false);
+  ask("outer", s2c_outer, outer);
+  ask("inner", s2c_inner, inner);
+  ask("region_outer", s2c_region_outer, outer);
+  ask("region_inner", s2c_region_inner, inner);
 }
 
 int main(int argc, char** argv) {

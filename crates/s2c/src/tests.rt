@@ -1,5 +1,5 @@
 //! What the calls make where there is memory enough.
-use crate::coverings::{Bounds, s2c_inner, s2c_outer};
+use crate::coverings::{Bounds, s2c_inner, s2c_outer, s2c_region_inner, s2c_region_outer};
 use crate::files::{s2c_decode, s2c_encode};
 use crate::questions::{s2c_contains, s2c_contains_cells, s2c_intersects, s2c_intersects_cells};
 use crate::sets::{s2c_difference, s2c_intersection, s2c_union};
@@ -70,7 +70,11 @@ fn questions_files_and_coverings(rt: HostRuntime) {
     };
     assert!(rt; s2c_outer(alloc, &bounds, 1, &mut out, &mut len));
     assert_eq!(rt; (len, out[0], out[1]), (2, FIRST, LAST));
+    assert!(rt; s2c_region_outer(alloc, &bounds, 1, &mut out, &mut len));
+    assert_eq!(rt; (len, out[0], out[1]), (2, FIRST, LAST));
     assert!(rt; s2c_inner(alloc, &bounds, 1, &mut out, &mut len));
+    assert_eq!(rt; len, 0);
+    assert!(rt; s2c_region_inner(alloc, &bounds, 1, &mut out, &mut len));
     assert_eq!(rt; len, 0);
     assert!(rt;
         !s2c_union(alloc, &[SECOND, FIRST], &[THIRD], 2, &mut out, &mut len),
