@@ -1,5 +1,6 @@
 pub mod CloseLemmas
 pub mod EditLemmas
+pub mod Failures
 pub mod LineLemmas
 pub mod ListingLemmas
 pub mod OneRun

@@ -1,11 +1,12 @@
 -- Laws about the definitions.
-use Rattle.std.specs.Prelude.{◌≡◌, ◌≢◌, ℕ, true, List, [], ◌∷◌, Some}
+use Rattle.std.specs.Prelude.{◌≡◌, ◌≢◌, ℕ, ◌+◌, ◌%◌, ◌^◌, ◌<◌, Bool, true, false, List, [], ◌∷◌, Some, count_by}
 use Rattle.std.specs.Io.KnownBytes.{Appends}
 use Rattle.s2calc.specs.World.{World}
 use Rattle.s2calc.specs.declared.engine.Tally.{Tally}
 use Rattle.s2script.specs.Lines.{lines}
-use Rattle.s2calc.specs.Replies.{Reply, Refuses, texts, tally_of}
-use Rattle.s2script.specs.declared.refusal.Refusal.TheVariants.{Memory, File}
+use Rattle.s2calc.specs.Replies.{Reply, Silent, Says, Refuses, texts, tally_of}
+use Rattle.s2script.specs.declared.refusal.Refusal.{Refusal}
+use Rattle.s2script.specs.declared.refusal.Refusal.TheVariants.{Syntax, Cell, Register, Level, Face, Rectangle, Order, Name, Missing, File, Format, TooMany, Nothing, Memory, Line}
 use Rattle.s2calc.specs.Run.{Ends, Finishes, Steps}
 
 -- a run that finishes answers the lines of all the bytes that its reader tells
@@ -35,3 +36,31 @@ abbrev pub OneRun : Type 0
 OneRun =
     (a b c d : World) (ls : List (List ℕ)) (rs ss : List Reply) → SameWorld a b → a.files.tells ≡ true → Steps a ls rs c → Steps b ls ss d → AllPlain rs → AllPlain ss
     → (rs ≡ ss) × SameWorld c d
+
+abbrev pub is_of_shelf : Refusal → Bool
+is_of_shelf File = true
+is_of_shelf Syntax = false
+is_of_shelf Cell = false
+is_of_shelf Register = false
+is_of_shelf Level = false
+is_of_shelf Face = false
+is_of_shelf Rectangle = false
+is_of_shelf Order = false
+is_of_shelf Name = false
+is_of_shelf Missing = false
+is_of_shelf Format = false
+is_of_shelf TooMany = false
+is_of_shelf Nothing = false
+is_of_shelf Memory = false
+is_of_shelf Line = false
+
+-- whether the answer is `error file`
+abbrev pub is_failure : Reply → Bool
+is_failure Silent = false
+is_failure (Says text) = false
+is_failure (Refuses refusal) = is_of_shelf refusal
+
+-- a run has as many answers `error file` as the shelf's count of failures rose, which begins at 0 again behind its greatest value
+abbrev pub CountsFailures : Type 0
+CountsFailures =
+    (a b : World) (ls : List (List ℕ)) (rs : List Reply) → a.files.failures < 2 ^ 64 → Steps a ls rs b → b.files.failures ≡ (a.files.failures + count_by is_failure rs) % 2 ^ 64

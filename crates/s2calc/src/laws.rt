@@ -1,5 +1,5 @@
 //! Laws about the definitions.
-ghost use Rattle.s2calc.specs.Laws.{TellsWhole, OneRun};
+ghost use Rattle.s2calc.specs.Laws.{TellsWhole, OneRun, CountsFailures};
 
 /// Where the reader tells its bytes, a run that finishes has carried out the lines of just these bytes.
 pub fn whole_script()
@@ -10,4 +10,9 @@ pub fn whole_script()
 /// answers, and the state and the files that it leaves, are a function of them and of its bytes.
 pub fn one_run()
     ensures { OneRun }
+{}
+
+/// A run has as many answers `error file` as the shelf's count of failures rose.
+pub fn counted_failures()
+    ensures { CountsFailures }
 {}

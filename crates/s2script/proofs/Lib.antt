@@ -1,4 +1,5 @@
 pub mod KnownWords
 pub mod NameLemmas
 pub mod NamedLemmas
+pub mod RefusalLemmas
 pub mod WordLemmas

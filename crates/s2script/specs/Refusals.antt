@@ -20,3 +20,21 @@ name_of TooMany = codes "too-many"
 name_of Nothing = codes "nothing"
 name_of Memory = codes "memory"
 name_of Line = codes "line"
+
+-- a refusal that the words of a line alone can give
+abbrev pub IsOfWords : Refusal → Type 0
+IsOfWords Syntax = Unit {0}
+IsOfWords Cell = Unit {0}
+IsOfWords Register = Unit {0}
+IsOfWords Level = Unit {0}
+IsOfWords Face = Unit {0}
+IsOfWords Rectangle = Unit {0}
+IsOfWords Order = Unit {0}
+IsOfWords Name = Unit {0}
+IsOfWords Line = Unit {0}
+IsOfWords Missing = ⊥
+IsOfWords File = ⊥
+IsOfWords Format = ⊥
+IsOfWords TooMany = ⊥
+IsOfWords Nothing = ⊥
+IsOfWords Memory = ⊥
