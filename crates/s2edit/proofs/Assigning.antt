@@ -1,0 +1,110 @@
+-- What an assignment leaves.
+use Rattle.std.proofs.Common.{◌≡◌, ◌≢◌, ℕ, ◌+◌, ◌<◌, ◌≤◌, List, [], ◌∷◌, length, map, take, slice_get, slice_set, Some, refl, sym, ap, ◌∙◌, subst, arith}
+use Rattle.std.proofs.lemmas.List.{length-take, take-map}
+use Rattle.s2union.specs.Union.{Union, IsLocal}
+use Rattle.s2union.specs.Apply.{without, applied, Fits}
+use Rattle.s2union.proofs.Applied.{applied-between, Fits-between}
+use Rattle.s2edit.specs.History.{History, Assigned, changed, cells_lost, numbers}
+use Rattle.s2edit.specs.Diff.{Diff, inverse, between}
+use Rattle.s2edit.specs.Leads.{list_at}
+use Rattle.s2edit.specs.Chain.{table_after, tables_after, FitsTable, FitAlong, lists_of, IsWithin, AllWithin, history}
+use Rattle.s2edit.proofs.Tables.{tables_after-take, FitAlong-take, AllWithin-at, within_after, tables_back, along_back}
+use Rattle.s2edit.proofs.Numbers.{out_lost, put_won}
+use Rattle.s2edit.proofs.Moves.{Rewrites, table_is}
+
+-- the register's own list changes nothing
+pub assigned_same : (h : History (List ℕ)) (r : ℕ) (x : List ℕ) → slice_get h.now r ≡ Some x → Assigned h r x h
+assigned_same h r x e = record { same = λ _. refl; differs = λ n. absurd (n e) }
+
+-- another list changes it
+pub assigned_other : (h h' : History (List ℕ)) (r : ℕ) (x y : List ℕ) → slice_get h.now r ≡ Some y → y ≢ x → h' ≡ changed h r x → Assigned h r x h'
+assigned_other h h' r x y e n c = record { same = λ f. absurd (n (cc)); differs = λ _. c }
+
+-- an assignment's change
+module _ (limit : ℕ) (t : List (List ℕ)) (r : ℕ) (v : List ℕ) (a : AllWithin limit t) (l : r < length t) (w : IsWithin limit v) where
+  old_local : IsLocal (list_at t r)
+  old_local = (AllWithin-at limit t r a l).local
+
+  pub between_fits : Fits (without (list_at t r) v) (without v (list_at t r)) (list_at t r)
+  between_fits = Fits-between (list_at t r) v old_local w.local
+
+  pub between_leads : applied (without (list_at t r) v) (without v (list_at t r)) (list_at t r) ≡ v
+  between_leads = applied-between (list_at t r) v old_local w.local
+
+  pub between_table : table_after t (between r (list_at t r) v) ≡ slice_set t r v
+  between_table = ap (slice_set t r) between_leads
+
+  pub fits_table : v ≢ list_at t r → FitsTable limit t (between r (list_at t r) v)
+  fits_table n = record {
+    in_range = l;
+    fits = between_fits;
+    few = omega (arith, ap length between_leads, w.few);
+    changes = λ e. n (sym between_leads ∙ e);
+  }
+
+  -- the same with the lists that the code has
+  pub given_fits : (o p : List ℕ) → o ≡ without (list_at t r) v → p ≡ without v (list_at t r) → Fits o p (list_at t r)
+  given_fits o p e f = subst (λ (x : List ℕ). Fits x p (list_at t r)) (sym e) (subst (λ (x : List ℕ). Fits (without (list_at t r) v) x (list_at t r)) (sym f) between_fits)
+
+  pub given_few : (o p : List ℕ) → o ≡ without (list_at t r) v → p ≡ without v (list_at t r) → length (applied o p (list_at t r)) ≤ limit
+  given_few o p e f =
+      omega (arith, w.few, ap length between_leads, ap (λ (x : List ℕ). length (applied x p (list_at t r))) e, ap (λ (x : List ℕ). length (applied (without (list_at t r) v) x (list_at t r))) f)
+
+-- what an assignment leaves
+pub record Changes (depth : ℕ) (us us' : List Union) (scratch scratch' : Union) (past past' future' : List Diff) (r : ℕ) (v : List ℕ) : Type 0 where
+  pub rewrites : Rewrites us us' scratch scratch' (between r (list_at (lists_of us) r) v)
+  pub onto : past' ≡ take depth (between r (list_at (lists_of us) r) v ∷ past)
+  pub cleared : future' ≡ []
+
+module _ (limit depth : ℕ) (us us' : List Union) (scratch scratch' : Union) (past past' future' : List Diff) (r : ℕ) (v : List ℕ)
+    (a : AllWithin limit (lists_of us)) (f : FitAlong limit (lists_of us) (map inverse past))
+    (l : r < length (lists_of us)) (w : IsWithin limit v) (n : v ≢ list_at (lists_of us) r)
+    (m : Changes depth us us' scratch scratch' past past' future' r v) where
+  change_is : Diff
+  change_is = between r (list_at (lists_of us) r) v
+
+  change_table : lists_of us' ≡ table_after (lists_of us) (between r (list_at (lists_of us) r) v)
+  change_table = table_is limit us us' scratch scratch' (between r (list_at (lists_of us) r) v) m.rewrites
+
+  turned : map inverse past' ≡ take depth (inverse (between r (list_at (lists_of us) r) v) ∷ map inverse past)
+  turned = ap (map inverse) m.onto ∙ sym (take-map inverse depth (between r (list_at (lists_of us) r) v ∷ past))
+
+  fits_it : FitsTable limit (lists_of us) (between r (list_at (lists_of us) r) v)
+  fits_it = fits_table limit (lists_of us) r v a l w n
+
+  past_tables : tables_after (lists_of us') (map inverse past') ≡ take depth (lists_of us ∷ tables_after (lists_of us) (map inverse past))
+  past_tables =
+      ap (tables_after (lists_of us')) turned
+      ∙ tables_after-take depth (lists_of us') (inverse (between r (list_at (lists_of us) r) v) ∷ map inverse past)
+      ∙ ap (λ (t : List (List ℕ)). take depth (tables_after t (inverse (between r (list_at (lists_of us) r) v) ∷ map inverse past))) change_table
+      ∙ ap (take depth) (tables_back limit (lists_of us) (between r (list_at (lists_of us) r) v) a fits_it (map inverse past))
+
+  pub change_leaves : (future : List Diff) → history limit depth us' past' future' ≡ changed (history limit depth us past future) r v
+  change_leaves future =
+      ap (λ (ks : List Diff). history limit depth us' past' ks) m.cleared
+      ∙ ap (λ (ts : List (List (List ℕ))). record { limit = limit; depth = depth; past = ts; now = lists_of us'; future = [] }) past_tables
+      ∙ ap (λ (t : List (List ℕ)). record { limit = limit; depth = depth; past = take depth (lists_of us ∷ tables_after (lists_of us) (map inverse past)); now = t; future = [] })
+      (change_table ∙ between_table limit (lists_of us) r v a l w)
+
+  pub change_within : AllWithin limit (lists_of us')
+  change_within = subst (AllWithin limit) (sym change_table) (within_after limit (lists_of us) (between r (list_at (lists_of us) r) v) a fits_it)
+
+  pub change_past : FitAlong limit (lists_of us') (map inverse past')
+  change_past =
+      subst (FitAlong limit (lists_of us')) (sym turned)
+      (FitAlong-take limit depth (lists_of us') (inverse (between r (list_at (lists_of us) r) v) ∷ map inverse past)
+      (subst (λ (t : List (List ℕ)). FitAlong limit t (inverse (between r (list_at (lists_of us) r) v) ∷ map inverse past)) (sym change_table)
+      (along_back limit (lists_of us) (between r (list_at (lists_of us) r) v) a fits_it (map inverse past) f)))
+
+  pub change_future : FitAlong limit (lists_of us') future'
+  change_future = subst (FitAlong limit (lists_of us')) (sym m.cleared) tt
+
+  pub change_bound : length past' + length future' ≤ depth
+  change_bound = omega (arith, ap length m.onto, ap length m.cleared, length-take depth (between r (list_at (lists_of us) r) v ∷ past))
+
+  pub change_numbers : (t : List (List ℕ)) (p : ℕ × ℕ) → lists_of us ≡ t → p.0 ≡ length (without (list_at (lists_of us) r) v) → p.1 ≡ length (without v (list_at (lists_of us) r)) → p ≡ numbers t (lists_of us')
+  change_numbers t p h e k =
+      let d : Diff = between r (list_at (lists_of us) r) v in
+      ap (λ (x : ℕ). (x, p.1)) (e ∙ out_lost limit (lists_of us) (between r (list_at (lists_of us) r) v) a fits_it)
+      ∙ ap (λ (x : ℕ). (cells_lost (lists_of us) (table_after (lists_of us) (between r (list_at (lists_of us) r) v)), x)) (k ∙ put_won limit (lists_of us) (between r (list_at (lists_of us) r) v) a fits_it)
+      ∙ ap (λ (v' : List (List ℕ)). numbers (lists_of us) v') (sym change_table) ∙ ap (λ (v' : List (List ℕ)). numbers v' (lists_of us')) h

@@ -1,0 +1,12 @@
+pub mod Tables
+pub mod Numbers
+pub mod Moves
+pub mod Assigning
+pub mod Leading
+pub mod SetLemmas
+pub mod DiffLemmas
+pub mod Differing
+pub mod Runs
+pub mod Replay
+pub mod OneEnd
+pub mod SetRuns

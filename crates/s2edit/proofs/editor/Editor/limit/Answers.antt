@@ -1,0 +1,19 @@
+use Rattle.std.proofs.Common.{◌≤◌, ℕ, List, length, subst}
+use Rattle.s2union.specs.Union.{IsLocal}
+use Rattle.s2edit.specs.History.{History, EachList}
+use Rattle.s2edit.proofs.Leading.{each_within}
+use Rattle.s2edit.proofs.editor.Editor.limit.Goals as goal
+
+pub returns-clause-few : goal.returns-clause-few
+returns-clause-few c =
+    let e = c.self.inside in
+    let i = c.self.invariant in
+    subst (λ (h : History (List ℕ)). EachList (λ u. length u ≤ h.limit) h) c.self.view_is
+    (each_within (λ u. length u ≤ e.limit) e.limit (λ u w. w.few) e.depth e.registers.items e.past.items e.future.items i.registers_within i.past_fits i.future_fits)
+
+pub returns-clause-local : goal.returns-clause-local
+returns-clause-local c =
+    let e = c.self.inside in
+    let i = c.self.invariant in
+    subst (EachList IsLocal) c.self.view_is
+    (each_within IsLocal e.limit (λ u w. w.local) e.depth e.registers.items e.past.items e.future.items i.registers_within i.past_fits i.future_fits)

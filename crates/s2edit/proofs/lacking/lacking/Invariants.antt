@@ -1,0 +1,15 @@
+use Rattle.std.proofs.Common.{◌≡◌, ◌≤◌, ◌++◌, ◌+◌, ◌-◌, length, drop}
+use Rattle.s2union.specs.Apply.{without}
+use Rattle.s2edit.proofs.lacking.lacking.Given as goal
+
+-- what is found, and what is left to find, are the whole lists
+abbrev pub invariant-loop-i : goal.invariant-loop-i
+invariant-loop-i l = record {
+  out : l.out.items ++ without (drop l.i l.old) (drop l.j l.«new») ≡ without l.old l.«new»;
+  put : l.put.items ++ without (drop l.j l.«new») (drop l.i l.old) ≡ without l.«new» l.old;
+  i_within : l.i ≤ length l.old;
+  j_within : l.j ≤ length l.«new»;
+}
+
+abbrev pub decreases-loop-i : goal.decreases-loop-i
+decreases-loop-i l = (length l.old - l.i) + (length l.«new» - l.j)

@@ -1,0 +1,9 @@
+-- What the fields of a change stand for.
+use Rattle.s2edit.specs.Diff.{Diff, IsDiff}
+use Rattle.s2edit.specs.declared.change.Change.TheInside.{Inside}
+
+abbrev pub diff_of : Inside → Diff
+diff_of c = record { register = c.register; out = c.out.items; put = c.put.items }
+
+abbrev pub IsChange : Inside → Type 0
+IsChange c = IsDiff c.out.items c.put.items

@@ -1,0 +1,32 @@
+-- A change of one register, as a contract sees it.
+use Rattle.std.specs.Prelude.{◌≡◌, ℕ, true, false, List}
+use Rattle.std.specs.List.Sorted.{IsStrictlyIncreasing}
+use Rattle.s2union.specs.Apply.{has, without, applied, Fits}
+
+-- the cells that are taken out of the register's list, and those that are put in
+pub record Diff : Type 0 where
+  pub register : ℕ
+  pub out : List ℕ
+  pub put : List ℕ
+
+-- two ascending lists that share no cell
+pub record IsDiff (out put : List ℕ) : Type 0 where
+  pub out_ascends : IsStrictlyIncreasing out
+  pub put_ascends : IsStrictlyIncreasing put
+  pub apart : (x : ℕ) → has out x ≡ true → has put x ≡ false
+
+-- the list that the change makes of `u`
+abbrev pub apply : Diff → List ℕ → List ℕ
+apply d u = applied d.out d.put u
+
+-- the change can be made in `u`
+abbrev pub FitsList : Diff → List ℕ → Type 0
+FitsList d u = Fits d.out d.put u
+
+-- the change that takes this one back
+abbrev pub inverse : Diff → Diff
+inverse d = record { register = d.register; out = d.put; put = d.out }
+
+-- the change of a register from one list to another: the cells that the new one lacks, and those that the old one lacks
+abbrev pub between : ℕ → List ℕ → List ℕ → Diff
+between r u v = record { register = r; out = without u v; put = without v u }

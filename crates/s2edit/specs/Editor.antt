@@ -1,0 +1,25 @@
+-- What the fields of an editor stand for.
+use Rattle.std.specs.Prelude.{◌≡◌, ℕ, ◌+◌, ◌≤◌, List, length, map}
+use Rattle.s2edit.specs.History.{History}
+use Rattle.s2edit.specs.Diff.{inverse}
+use Rattle.s2edit.specs.Chain.{history, lists_of, AllWithin, AllRoomy, FitAlong}
+use Rattle.s2edit.specs.declared.editor.Editor.TheInside.{Inside}
+use Rattle.s2edit.specs.declared.TheConstants.{REGISTERS}
+
+-- the history that a contract sees
+abbrev pub history_of : Inside → History (List ℕ)
+history_of e = history e.limit e.depth e.registers.items e.past.items e.future.items
+
+-- Each register and the scratch list have room for a whole list, each ring has room for all states that may be kept,
+-- and the changes of either side can be made one after another, from the present table on.
+pub record IsEditor (e : Inside) : Type 0 where
+  pub limit_bound : e.limit ≤ 1000000
+  pub count : length e.registers.items ≡ REGISTERS
+  pub past_room : e.past.capacity ≡ e.depth
+  pub future_room : e.future.capacity ≡ e.depth
+  pub depth_bound : length e.past.items + length e.future.items ≤ e.depth
+  pub registers_within : AllWithin e.limit (lists_of e.registers.items)
+  pub past_fits : FitAlong e.limit (lists_of e.registers.items) (map inverse e.past.items)
+  pub future_fits : FitAlong e.limit (lists_of e.registers.items) e.future.items
+  pub registers_roomy : AllRoomy e.limit e.registers.items
+  pub scratch_roomy : e.limit ≤ e.scratch.room

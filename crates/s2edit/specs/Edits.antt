@@ -1,0 +1,102 @@
+-- Lists of edits as runs of the history. A register holds f of the list of its union: the list itself, or its set of leaves.
+use Rattle.std.specs.Prelude.{◌≡◌, ◌≢◌, ℕ, ◌+◌, ◌<◌, ◌≤◌, Bool, List, [], ◌∷◌, ◌++◌, length, replicate, slice_get, Some}
+use Rattle.s2union.specs.Union.{has_leaf, IsLocal}
+use Rattle.s2edit.specs.History.{History, Assigned, changed, undone, redone, timeline, sets, EachList}
+use Rattle.s2edit.specs.declared.edits.Edit.{Edit}
+use Rattle.s2edit.specs.declared.edits.Edit.TheVariants.{Assign, Undo, Redo}
+use Rattle.s2edit.specs.declared.edits.Outcome.{Outcome}
+use Rattle.s2edit.specs.declared.edits.Outcome.TheVariants.{Done, Refused, NoMemory}
+use Rattle.s2edit.specs.declared.edits.EditTally.{EditTally}
+
+module _ {X : Type 0} (f : List ℕ → X) where
+  -- from h, the edit may end so, and leave h'
+  abbrev pub Edited : History X → Edit → Outcome → History X → Type 0
+  -- an assignment is refused exactly above the limit
+  Edited h (Assign r u) Done h' = (length u.cells ≤ h.limit) × Assigned h r (f u.cells) h'
+  Edited h (Assign r u) Refused h' = (h.limit < length u.cells) × (h' ≡ h)
+  Edited h (Assign r u) NoMemory h' = (length u.cells ≤ h.limit) × (h' ≡ h)
+  -- a move is refused exactly where its side is empty, and takes no memory
+  Edited h Undo Done h' = (h.past ≢ []) × (h' ≡ undone h)
+  Edited h Undo Refused h' = (h.past ≡ []) × (h' ≡ h)
+  Edited h Undo NoMemory h' = ⊥
+  Edited h Redo Done h' = (h.future ≢ []) × (h' ≡ redone h)
+  Edited h Redo Refused h' = (h.future ≡ []) × (h' ≡ h)
+  Edited h Redo NoMemory h' = ⊥
+
+  -- one edit after another, each with its outcome
+  abbrev pub EditRun : History X → List Edit → List Outcome → History X → Type 0
+  EditRun h [] [] h' = h' ≡ h
+  EditRun h (e ∷ es) (o ∷ os) h' = (mid : History X) × Edited h e o mid × EditRun mid es os h'
+  EditRun h [] (o ∷ os) h' = ⊥
+  EditRun h (e ∷ es) [] h' = ⊥
+
+  -- each is an assignment that changes its register
+  abbrev pub AllChange : History X → List Edit → Type 0
+  AllChange h [] = Unit {0}
+  AllChange h (Assign r u ∷ es) = (slice_get h.now r ≢ Some (f u.cells)) × AllChange (changed h r (f u.cells)) es
+  AllChange h (Undo ∷ es) = ⊥
+  AllChange h (Redo ∷ es) = ⊥
+
+  -- changes that were all done, at most depth of them, and then as many undos, give back what each register had
+  abbrev pub GivesBack : History X → List Edit → EditTally → History X → Type 0
+  GivesBack old edits tally new =
+      (changes : List Edit) → edits ≡ changes ++ replicate (length changes) Undo → length changes ≤ old.depth → AllChange old changes →
+      tally.done ≡ length edits → new.now ≡ old.now
+
+-- how many undos, and how many redos, were done
+abbrev pub undos_done : List Edit → List Outcome → ℕ
+undos_done (Undo ∷ es) (Done ∷ os) = undos_done es os + 1
+undos_done (e ∷ es) (o ∷ os) = undos_done es os
+undos_done es os = 0
+
+abbrev pub redos_done : List Edit → List Outcome → ℕ
+redos_done (Redo ∷ es) (Done ∷ os) = redos_done es os + 1
+redos_done (e ∷ es) (o ∷ os) = redos_done es os
+redos_done es os = 0
+
+-- no assignment is among them
+abbrev pub AllMoves : List Edit → Type 0
+AllMoves [] = Unit {0}
+AllMoves (Assign r u ∷ es) = ⊥
+AllMoves (Undo ∷ es) = AllMoves es
+AllMoves (Redo ∷ es) = AllMoves es
+
+-- What a list of edits did: undos and redos alone leave the timeline, and now stands as many places further
+-- back as undos were done, less the redos that were.
+pub record RunsTo {X : Type 0} (f : List ℕ → X) (old : History X) (edits : List Edit) (outcomes : List Outcome) (new : History X) : Type 0 where
+  pub run : EditRun f old edits outcomes new
+  pub same_timeline : AllMoves edits → timeline new ≡ timeline old
+  pub place : AllMoves edits → length new.past + undos_done edits outcomes ≡ length old.past + redos_done edits outcomes
+
+abbrev pub tally_with : Outcome → EditTally → EditTally
+tally_with Done t = record t { done = t.done + 1 }
+tally_with Refused t = record t { refused = t.refused + 1 }
+tally_with NoMemory t = record t { memory = t.memory + 1 }
+
+-- the numbers of edits that ended in each way
+abbrev pub tally_of : List Outcome → EditTally
+tally_of [] = record { done = 0; refused = 0; memory = 0 }
+tally_of (o ∷ os) = tally_with o (tally_of os)
+
+-- Each edit had an outcome, which the tally counts; with these outcomes the edits lead from the one history to
+-- the other, list for list and set for set.
+pub record Ran (old : History (List ℕ)) (edits : List Edit) (tally : EditTally) (new : History (List ℕ)) : Type 0 where
+  pub outcomes : List Outcome
+  pub counted : tally ≡ tally_of outcomes
+  pub by_lists : RunsTo (λ u. u) old edits outcomes new
+  pub by_sets : RunsTo has_leaf (sets old) edits outcomes (sets new)
+
+-- each list that is assigned is local, as that of a union is
+abbrev pub AssignLocal : List Edit → Type 0
+AssignLocal [] = Unit {0}
+AssignLocal (Assign r u ∷ es) = IsLocal u.cells × AssignLocal es
+AssignLocal (Undo ∷ es) = AssignLocal es
+AssignLocal (Redo ∷ es) = AssignLocal es
+
+-- Where no edit met want of memory, what a list of edits does is one function of it and of the first state: the
+-- state after it, list for list and set for set, and how each edit ended.
+pub record LawOfRuns : Type 0 where
+  pub one_end : (h h₁ h₂ : History (List ℕ)) (es : List Edit) (t₁ t₂ : EditTally) → Ran h es t₁ h₁ → Ran h es t₂ h₂ →
+      t₁.memory ≡ 0 → t₂.memory ≡ 0 → (h₁ ≡ h₂) × (t₁ ≡ t₂)
+  pub one_end_of_sets : (h : History (List ℕ)) (s₁ s₂ : History (ℕ → Bool)) (es : List Edit) (os ps : List Outcome) → EachList IsLocal h → AssignLocal es →
+      EditRun has_leaf (sets h) es os s₁ → EditRun has_leaf (sets h) es ps s₂ → (tally_of os).memory ≡ 0 → (tally_of ps).memory ≡ 0 → (s₁ ≡ s₂) × (os ≡ ps)

@@ -1,0 +1,101 @@
+//! Changes of a register.
+ghost use Rattle.std.specs.Prelude.{◌≡◌, [], IfOk, IsOk, ◌↔◌, IsTrue};
+ghost use Rattle.s2edit.specs.Diff.{FitsList};
+ghost use Rattle.s2edit.specs.Laws.{LawOfChanges};
+
+use crate::lacking::lacking;
+use crate::register::Register;
+use s2cell::CellId;
+use s2union::CellUnion;
+use std::alloc::{AllocError, Global};
+use std::marker::Model;
+
+/// The cells that are taken out of a register's list and those that are put in: two lists, each
+/// ascending by identifier, that share no cell. Either may be empty.
+#[derive(Drop)]
+pub struct Change {
+    pub register: Register,
+    pub out: Vec<CellId>,
+    pub put: Vec<CellId>,
+}
+
+impl Model for Change {
+    ghost use Rattle.s2edit.specs.Diff.{Diff};
+
+    ghost Value = { Diff };
+
+    ghost use Rattle.s2edit.specs.Change.{diff_of, IsChange};
+
+    ghost view = { diff_of };
+
+    ghost invariant = { IsChange };
+}
+
+impl Change {
+    ghost use Rattle.s2edit.specs.Diff.{between, inverse};
+
+    /// The change of a register from one union to another: `out` has the cells of `old` that `new` lacks,
+    /// `put` those of `new` that `old` lacks.
+    ///
+    /// One pass over both lists. Takes memory for the two lists of the change and for nothing else.
+    pub fn between(
+        alloc: Global,
+        register: Register,
+        old: &CellUnion,
+        new: &CellUnion,
+    ) -> Result<Change, AllocError>
+        ensures { IfOk result (λ c. c ≡ between register old.now.cells new.now.cells) }
+    {
+        let (out, put) = lacking(alloc, old.cells(), new.cells())?;
+        Ok(Change { register, out, put })
+    }
+
+    /// The same of a union that may be used up: where `old` is empty, its list becomes `put` and no memory is
+    /// taken.
+    pub(crate) fn leading_to(
+        alloc: Global,
+        register: Register,
+        old: &CellUnion,
+        new: CellUnion,
+    ) -> Result<Change, AllocError>
+        ensures change { IfOk result (λ c. c ≡ between register old.now.cells new.cells) }
+        ensures from_empty { old.now.cells ≡ [] → IsOk result }
+    {
+        if !old.is_empty() {
+            return Change::between(alloc, register, old, &new);
+        }
+        let _ascending = new.cells();
+        Ok(Change {
+            register,
+            out: Vec::new(alloc),
+            put: new.into_cells(),
+        })
+    }
+
+    /// The change that takes this one back: the two lists, exchanged. Takes no memory.
+    pub fn inverse(self) -> Change
+        ensures { result ≡ inverse self }
+    {
+        let Change { register, out, put } = self;
+        Change {
+            register,
+            out: put,
+            put: out,
+        }
+    }
+
+    /// Whether the change can be made in the union's list: every cell of `out` is in it, no cell of `put`
+    /// is, and the list without `out` and with `put` is normalised.
+    ///
+    /// One pass over the three lists. Takes no memory.
+    pub fn fits(&self, union: &CellUnion) -> bool
+        ensures { IsTrue result ↔ FitsList self.now union.now.cells }
+    {
+        union.can_apply(&self.out, &self.put)
+    }
+}
+
+/// The law of a change: what is changed can be changed back, and between two lists there is one change.
+pub fn law_of_changes()
+    ensures { LawOfChanges }
+{}

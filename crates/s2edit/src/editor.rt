@@ -1,0 +1,271 @@
+//! The editor: registers, and the history of their changes.
+ghost use Rattle.std.specs.Prelude.{◌≡◌, ◌+◌, ◌<◌, ◌≤◌, ◌↔◌, [], ◌∷◌, length, replicate, IfOk, OnOk, OnErr, IsOk, IfSome, IsNone, slice_get, slice_set, Some, vec_len, MatchOption};
+ghost use Rattle.s2union.specs.Union.{has_leaf, IsLocal};
+ghost use Rattle.s2union.specs.Apply.{applied, Fits};
+ghost use Rattle.s2edit.specs.History.{untouched, Assigned, sets, undone, redone, numbers, EachList};
+ghost use Rattle.s2edit.specs.Leads.{list_at, table_at, Leads};
+ghost use Rattle.s2edit.specs.Chain.{lists_of, union_of, AllRoomy};
+
+use crate::REGISTERS;
+use crate::change::Change;
+use crate::register::Register;
+use circular_buffer::HeapCircularBuffer;
+use s2cell::CellId;
+use s2union::CellUnion;
+use std::alloc::{AllocError, Global};
+use std::marker::Model;
+use std::mem;
+
+/// Why an assignment was refused. The editor is then unchanged, and the given union dropped.
+#[derive(Clone, Copy, Debug, PartialEq, Eq, Drop, thiserror::Error)]
+pub enum EditFault {
+    #[error("the union has more cells than a register may")]
+    TooMany,
+    #[error("out of memory")]
+    Memory,
+}
+
+/// Registers that hold unions, and a bounded history of what was assigned to them.
+///
+/// A contract sees it as the list of its earlier tables, its present table, and those that were undone.
+/// It holds one list for each register and one more, each with room for `limit` cells from the start on,
+/// and at most `depth` changes.
+#[derive(Drop)]
+pub struct Editor {
+    alloc: Global,
+    limit: usize,
+    depth: usize,
+    registers: Vec<CellUnion>,
+    scratch: CellUnion,
+    past: HeapCircularBuffer<Change>,
+    future: HeapCircularBuffer<Change>,
+}
+
+impl Model for Editor {
+    ghost use Rattle.std.specs.Prelude.{List, ℕ};
+    ghost use Rattle.s2edit.specs.History.{History};
+
+    ghost Value = { History (List ℕ) };
+
+    ghost use Rattle.s2edit.specs.Editor.{history_of, IsEditor};
+
+    ghost view = { history_of };
+
+    ghost invariant = { IsEditor };
+}
+
+impl Editor {
+    /// An editor with empty registers and no history, which lets a register have at most `limit` cells (1 to
+    /// 1,000,000) and keeps at most `depth` states (1 to 1,000).
+    ///
+    /// Takes at once the memory that registers, undo and redo need from then on: room for `limit` cells for
+    /// each register and once more, and two rings of `depth` changes.
+    pub fn open(alloc: Global, limit: usize, depth: usize) -> Result<Editor, AllocError>
+        requires limit { (1 ≤ limit) × (limit ≤ 1000000) }
+        requires depth { (1 ≤ depth) × (depth ≤ 1000) }
+        ensures { IfOk result (λ e. e ≡ untouched limit depth (replicate REGISTERS [])) }
+    {
+        let past = HeapCircularBuffer::with_capacity(alloc, depth)?;
+        let future = HeapCircularBuffer::with_capacity(alloc, depth)?;
+        let registers = empty_registers(alloc, limit)?;
+        let scratch = CellUnion::with_room(alloc, limit)?;
+        Ok(Editor {
+            alloc,
+            limit,
+            depth,
+            registers,
+            scratch,
+            past,
+            future,
+        })
+    }
+
+    /// The union in a register, which has at most `limit` cells.
+    pub fn register(&self, register: Register) -> &CellUnion
+        ensures list { slice_get self.now.now register ≡ Some result.now.cells }
+        ensures within { length result.now.cells ≤ self.now.limit }
+    {
+        &self.registers[register.index()]
+    }
+
+    /// Gives a register a union, and answers how many cells were taken out of its list and put in.
+    ///
+    /// Where that changes the list, the present state goes to the past, of which the newest `depth` are kept,
+    /// and the future is dropped; where it doesn't, the answer is `(0, 0)` and nothing changes, the future
+    /// included. A few passes over the two lists; no other register is looked at.
+    ///
+    /// Refuses a union of more than `limit` cells by `TooMany`, and answers `Memory` where there is none for the
+    /// two lists of the change: never for an empty register, nor for the register's own list.
+    pub fn assign(
+        &mut self,
+        register: Register,
+        union: CellUnion,
+    ) -> Result<(usize, usize), EditFault>
+        ensures ok { OnOk result (Assigned self.old register union.cells self.new) }
+        ensures ok_sets { OnOk result (Assigned (sets self.old) register (has_leaf union.cells) (sets self.new)) }
+        ensures numbers { IfOk result (λ n. n ≡ numbers self.old.now self.new.now) }
+        ensures too_many { (result ≡ Err EditFault.TooMany) ↔ (self.old.limit < length union.cells) }
+        ensures err { OnErr result (self.new ≡ self.old) }
+
+        // Into an empty register, and of the register's own list, it takes no memory.
+        ensures into_empty { slice_get self.old.now register ≡ Some [] → length union.cells ≤ self.old.limit → IsOk result }
+        ensures same_list { slice_get self.old.now register ≡ Some union.cells → IsOk result }
+    {
+        if union.len() > self.limit {
+            return Err(EditFault::TooMany);
+        }
+        let old = &self.registers[register.index()];
+        if are_same(old.cells(), union.cells()) {
+            return Ok((0, 0));
+        }
+        let Ok(change) = Change::leading_to(self.alloc, register, old, union) else {
+            return Err(EditFault::Memory);
+        };
+        rewrite(
+            &mut self.registers,
+            &mut self.scratch,
+            register,
+            &change.out,
+            &change.put,
+        );
+        let numbers = (change.out.len(), change.put.len());
+        self.past.push_front(change);
+        self.future.clear();
+        Ok(numbers)
+    }
+
+    /// Goes back to the newest state of the past, and answers how many cells were taken out and put in.
+    /// The present state goes to the future.
+    ///
+    /// None, and no change, exactly where the past is empty. Two passes over the register's list; takes no
+    /// memory.
+    pub fn undo(&mut self) -> Option<(usize, usize)>
+        ensures after { self.new ≡ undone self.old }
+        ensures after_sets { sets self.new ≡ undone (sets self.old) }
+        ensures none { IsNone result ↔ (self.old.past ≡ []) }
+        ensures numbers { IfSome result (λ n. n ≡ numbers self.old.now self.new.now) }
+    {
+        let change = self.past.pop_front()?;
+        rewrite(
+            &mut self.registers,
+            &mut self.scratch,
+            change.register,
+            &change.put,
+            &change.out,
+        );
+        let numbers = (change.put.len(), change.out.len());
+        self.future.push_front(change);
+        Some(numbers)
+    }
+
+    /// Goes forward again to the state that was undone last, and answers how many cells were taken out and
+    /// put in. The present state goes to the past.
+    ///
+    /// None, and no change, exactly where the future is empty. Costs what `undo` costs.
+    pub fn redo(&mut self) -> Option<(usize, usize)>
+        ensures after { self.new ≡ redone self.old }
+        ensures after_sets { sets self.new ≡ redone (sets self.old) }
+        ensures none { IsNone result ↔ (self.old.future ≡ []) }
+        ensures numbers { IfSome result (λ n. n ≡ numbers self.old.now self.new.now) }
+    {
+        let change = self.future.pop_front()?;
+        rewrite(
+            &mut self.registers,
+            &mut self.scratch,
+            change.register,
+            &change.out,
+            &change.put,
+        );
+        let numbers = (change.out.len(), change.put.len());
+        self.past.push_front(change);
+        Some(numbers)
+    }
+
+    /// The kept change that undo number `n` from now would take back, counted from 0; None exactly where
+    /// fewer states may be undone. It leads from the earlier state to the later one.
+    pub fn change_back(&self, n: usize) -> Option<&Change>
+        ensures none { IsNone result ↔ (length self.now.past ≤ n) }
+        ensures leads { IfSome result
+            (λ c. Leads c.now (table_at (self.now.now ∷ self.now.past) (n + 1)) (table_at (self.now.now ∷ self.now.past) n)) }
+    {
+        self.past.get(n)
+    }
+
+    /// The kept change that redo number `n` from now would make again, counted from 0; None exactly where
+    /// fewer states may be redone. It leads from the earlier state to the later one.
+    pub fn change_ahead(&self, n: usize) -> Option<&Change>
+        ensures none { IsNone result ↔ (length self.now.future ≤ n) }
+        ensures leads { IfSome result
+            (λ c. Leads c.now (table_at (self.now.now ∷ self.now.future) n) (table_at (self.now.now ∷ self.now.future) (n + 1))) }
+    {
+        self.future.get(n)
+    }
+
+    /// The most cells that a register may have. No list of the present state, of an earlier one or of one that
+    /// was undone has more, and each is normalised.
+    pub fn limit(&self) -> usize
+        ensures value { result ≡ self.now.limit }
+        ensures most { result ≤ 1000000 }
+        ensures few { EachList (λ u. length u ≤ self.now.limit) self.now }
+        ensures local { EachList IsLocal self.now }
+    {
+        self.limit
+    }
+
+    /// How many states may be undone. With those that may be redone they are at most `depth`.
+    pub fn undoable(&self) -> usize
+        ensures count { result ≡ length self.now.past }
+        ensures within { result + length self.now.future ≤ self.now.depth }
+    {
+        self.past.len()
+    }
+
+    /// How many states may be redone. With those that may be undone they are at most `depth`.
+    pub fn redoable(&self) -> usize
+        ensures count { result ≡ length self.now.future }
+        ensures within { length self.now.past + result ≤ self.now.depth }
+    {
+        self.future.len()
+    }
+}
+
+/// Empty registers, each with room for `limit` cells.
+fn empty_registers(alloc: Global, limit: usize) -> Result<Vec<CellUnion>, AllocError>
+    ensures empty { IfOk result (λ v. lists_of v.items ≡ replicate REGISTERS []) }
+    ensures roomy { IfOk result (λ v. AllRoomy limit v.items) }
+{
+    let mut registers = Vec::new(alloc);
+    for _i in 0..REGISTERS {
+        registers.push(CellUnion::with_room(alloc, limit)?)?;
+    }
+    Ok(registers)
+}
+
+ghost use Rattle.std.specs.Prelude.{◌≢◌, MatchBool};
+
+/// Whether the two lists are one.
+fn are_same(cells: &[CellId], others: &[CellId]) -> bool
+    ensures { MatchBool result (cells.now ≡ others.now) (cells.now ≢ others.now) }
+{
+    cells == others
+}
+
+/// Takes cells out of a register's list and puts others in, by way of the scratch list, with which the
+/// register's list is exchanged.
+fn rewrite(
+    registers: &mut Vec<CellUnion>,
+    scratch: &mut CellUnion,
+    register: Register,
+    out: &[CellId],
+    put: &[CellId],
+)
+    requires in_range { register < vec_len registers.old }
+    requires fits { Fits out.now put.now (list_at (lists_of registers.old.items) register) }
+    requires room { length (applied out.now put.now (list_at (lists_of registers.old.items) register)) ≤ scratch.old.room }
+    ensures registers { registers.new.items ≡ slice_set registers.old.items register (union_of (applied out.now put.now (list_at (lists_of registers.old.items) register)) scratch.old.room) }
+    ensures scratch { slice_get registers.old.items register ≡ Some scratch.new }
+{
+    let r = register.index();
+    registers[r].apply_into(out, put, scratch);
+    mem::swap(&mut registers[r], scratch);
+}

@@ -1,0 +1,95 @@
+//! Lists of edits.
+ghost use Rattle.std.specs.Prelude.{◌≡◌};
+ghost use Rattle.s2union.specs.Union.{has_leaf};
+ghost use Rattle.s2edit.specs.History.{sets};
+ghost use Rattle.s2edit.specs.Edits.{Edited, Ran, GivesBack, LawOfRuns};
+
+use crate::editor::{EditFault, Editor};
+use crate::register::Register;
+use s2union::CellUnion;
+
+/// One edit.
+#[derive(Drop)]
+pub enum Edit {
+    Assign(Register, CellUnion),
+    Undo,
+    Redo,
+}
+
+/// How an edit ended: done, refused (a union above the limit, or nothing to undo or to redo), or for want of
+/// memory. In the last two cases the editor is as it was.
+#[derive(Clone, Copy, Debug, PartialEq, Eq)]
+pub enum Outcome {
+    Done,
+    Refused,
+    NoMemory,
+}
+
+/// How many edits ended in each way.
+#[derive(Clone, Copy, Debug, PartialEq, Eq)]
+pub struct EditTally {
+    pub done: usize,
+    pub refused: usize,
+    pub memory: usize,
+}
+
+impl Edit {
+    /// Carries the edit out, and tells how it ended.
+    ///
+    /// An assignment copies its union, unless that is above the limit and refused.
+    pub fn carry_out(&self, editor: &mut Editor) -> Outcome
+        ensures lists { Edited (λ u. u) editor.old self.now result editor.new }
+        ensures leaf_sets { Edited has_leaf (sets editor.old) self.now result (sets editor.new) }
+    {
+        match self {
+            Edit::Assign(register, union) => {
+                if union.len() > editor.limit() {
+                    return Outcome::Refused;
+                }
+                let Ok(union) = union.try_clone() else {
+                    return Outcome::NoMemory;
+                };
+                match editor.assign(*register, union) {
+                    Ok(_) => Outcome::Done,
+                    Err(EditFault::TooMany) => Outcome::Refused,
+                    Err(EditFault::Memory) => Outcome::NoMemory,
+                }
+            }
+            Edit::Undo => match editor.undo() {
+                Some(_) => Outcome::Done,
+                None => Outcome::Refused,
+            },
+            Edit::Redo => match editor.redo() {
+                Some(_) => Outcome::Done,
+                None => Outcome::Refused,
+            },
+        }
+    }
+}
+
+/// Carries out edits in order, and counts how they ended. One that is refused, or meets want of memory, is
+/// skipped: the editor is then as it was.
+pub fn run_edits(editor: &mut Editor, edits: &[Edit]) -> EditTally
+    ensures run { Ran editor.old edits.now result editor.new }
+    ensures gives_back { GivesBack (λ u. u) editor.old edits.now result editor.new }
+    ensures gives_back_sets { GivesBack has_leaf (sets editor.old) edits.now result (sets editor.new) }
+{
+    let mut tally = EditTally {
+        done: 0,
+        refused: 0,
+        memory: 0,
+    };
+    for edit in edits {
+        match edit.carry_out(editor) {
+            Outcome::Done => tally.done += 1,
+            Outcome::Refused => tally.refused += 1,
+            Outcome::NoMemory => tally.memory += 1,
+        }
+    }
+    tally
+}
+
+/// Where memory is never wanted, what a list of edits does is one function of it and of the editor's state.
+pub fn law_of_runs()
+    ensures { LawOfRuns }
+{}

@@ -1,0 +1,25 @@
+//! An editor of registers that hold cell unions, with undo that cannot fail.
+//!
+//! Each register holds one normalised union. An assignment that changes a register is kept as the
+//! [`Change`] between its two lists: the cells that went out and those that were put in. A change has an
+//! inverse, so that two bounded rings of changes are the whole history: undo moves the newest change of
+//! the past across to the future and applies its inverse, redo goes the other way. No earlier list is
+//! kept, and neither of them takes memory.
+#![tactic(auto)]
+
+mod change;
+mod editor;
+mod edits;
+mod lacking;
+mod register;
+
+pub use change::{Change, law_of_changes};
+pub use editor::{EditFault, Editor};
+pub use edits::{Edit, EditTally, Outcome, law_of_runs, run_edits};
+pub use register::Register;
+
+/// How many registers there are, named by the letters from `a` on.
+pub const REGISTERS: usize = 8;
+
+#[cfg(test)]
+mod tests;

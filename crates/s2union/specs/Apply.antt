@@ -1,0 +1,37 @@
+-- Lists of cells as sets of cells, and what taking some out and putting others in makes of a list.
+use Rattle.std.specs.Prelude.{◌≡◌, ℕ, Bool, true, false, ◌||◌, ◌==◌, nat_lt, if◌then◌else◌, List, [], ◌∷◌}
+use Rattle.std.specs.List.Sorted.{IsStrictlyIncreasing}
+use Rattle.s2union.specs.Union.{IsLocal}
+
+-- whether the cell is one of the list
+abbrev pub has : List ℕ → ℕ → Bool
+has [] x = false
+has (y ∷ ys) x = (y == x) || has ys x
+
+-- the cells of `u` that `v` lacks
+abbrev pub without : List ℕ → List ℕ → List ℕ
+without [] v = []
+without (x ∷ xs) v = if has v x then without xs v else x ∷ without xs v
+
+-- an ascending list with one more cell
+abbrev pub insert_cell : ℕ → List ℕ → List ℕ
+insert_cell x [] = x ∷ []
+insert_cell x (y ∷ ys) = if nat_lt x y then x ∷ y ∷ ys else y ∷ insert_cell x ys
+
+-- an ascending list with more cells
+abbrev pub insert_cells : List ℕ → List ℕ → List ℕ
+insert_cells [] u = u
+insert_cells (x ∷ xs) u = insert_cells xs (insert_cell x u)
+
+-- `Apply(u)`: the ascending list of the cells of `u` without those of `out` and with those of `put`
+abbrev pub applied : List ℕ → List ℕ → List ℕ → List ℕ
+applied out put u = insert_cells put (without u out)
+
+-- Two ascending lists fit `u`: every cell of `out` is in it, none of `put` is,
+-- and the list without `out` and with `put` is local.
+pub record Fits (out put u : List ℕ) : Type 0 where
+  pub out_ascends : IsStrictlyIncreasing out
+  pub put_ascends : IsStrictlyIncreasing put
+  pub out_is_there : (x : ℕ) → has out x ≡ true → has u x ≡ true
+  pub put_is_new : (x : ℕ) → has put x ≡ true → has u x ≡ false
+  pub local : IsLocal (applied out put u)

@@ -1,0 +1,56 @@
+-- A walk along a list and the two lists of a change.
+use Rattle.std.specs.Prelude.{◌≡◌, ◌<◌, ◌↔◌, ◌+◌, ℕ, true, false, List, [], ◌∷◌, ◌++◌, length}
+use Rattle.std.specs.declared.cmp.Ordering.{Ordering}
+use Rattle.std.specs.declared.cmp.Ordering.TheVariants.{Less, Equal, Greater}
+use Rattle.s2union.specs.Apply.{has, applied}
+use Rattle.s2union.specs.declared.merge.Turn.{Turn}
+use Rattle.s2union.specs.declared.merge.Turn.TheVariants.{Write, Skip, Misfit, End}
+
+-- what is left of the three lists
+pub record Left : Type 0 where
+  pub out : List ℕ
+  pub put : List ℕ
+  pub cells : List ℕ
+
+-- every cell to be taken out is there, and none to be put in is
+pub record CanApply (l : Left) : Type 0 where
+  pub out_is_there : (x : ℕ) → has l.out x ≡ true → has l.cells x ≡ true
+  pub put_is_new : (x : ℕ) → has l.put x ≡ true → has l.cells x ≡ false
+
+-- the list that the change makes
+abbrev pub made : Left → List ℕ
+made l = applied l.out l.put l.cells
+
+-- one step: it gives the front cells of what the change makes, and leaves less
+pub record Goes (front : List ℕ) (old new : Left) : Type 0 where
+  pub same : CanApply old ↔ CanApply new
+  pub gives : CanApply old → made old ≡ front ++ made new
+  pub less : length new.cells + length new.put < length old.cells + length old.put
+
+abbrev pub IsTurn : Turn → Left → Left → Type 0
+IsTurn (Write c) old new = Goes (c ∷ []) old new
+IsTurn Skip old new = Goes [] old new
+IsTurn Misfit old new = CanApply old → ⊥
+IsTurn End old new = CanApply old × (made old ≡ [])
+
+-- how the first of a list stands to the cell, where none stands as one above it
+abbrev pub IsHead : Ordering → List ℕ → ℕ → Type 0
+IsHead o [] cell = o ≡ Greater
+IsHead Less (x ∷ xs) cell = x < cell
+IsHead Equal (x ∷ xs) cell = x ≡ cell
+IsHead Greater (x ∷ xs) cell = cell < x
+
+-- each cell of the list is above `x`
+abbrev pub AllAbove : ℕ → List ℕ → Type 0
+AllAbove x [] = Unit {0}
+AllAbove x (y ∷ ys) = (x < y) × AllAbove x ys
+
+abbrev pub IsAscending : List ℕ → Type 0
+IsAscending [] = Unit {0}
+IsAscending (x ∷ xs) = AllAbove x xs × IsAscending xs
+
+-- the three lists ascend
+pub record Ascend (l : Left) : Type 0 where
+  pub out : IsAscending l.out
+  pub put : IsAscending l.put
+  pub cells : IsAscending l.cells

@@ -1,0 +1,94 @@
+//! Taking cells out of a union's list and putting others in.
+ghost use Rattle.std.specs.Prelude.{◌≡◌, ◌≤◌, ◌↔◌, [], length, IfOk, IsTrue};
+ghost use Rattle.std.specs.List.Sorted.{IsStrictlyIncreasing};
+ghost use Rattle.s2union.specs.Apply.{applied, Fits};
+
+use crate::merge::{Merge, Turn};
+use crate::tail::Tail;
+use crate::union::CellUnion;
+use s2cell::CellId;
+use std::alloc::{AllocError, Global};
+
+impl CellUnion {
+    /// An empty union with room for `n` cells, which [`apply_into`](CellUnion::apply_into) may fill.
+    ///
+    /// The one call of its kind that takes memory: as much as the room needs, at once.
+    pub fn with_room(alloc: Global, n: usize) -> Result<CellUnion, AllocError>
+        ensures cells { IfOk result (λ u. u.cells ≡ []) }
+        ensures room { IfOk result (λ u. n ≤ u.room) }
+    {
+        let cells = Vec::with_capacity(alloc, n)?;
+        Ok(CellUnion { cells })
+    }
+
+    /// Whether the cells of `out` can be taken out of the list and those of `put` be put in: every cell
+    /// of `out` is in the list, none of `put` is, and what comes of it is normalised.
+    ///
+    /// One pass over the three lists, both given ones ascending by identifier. Takes no memory.
+    pub fn can_apply(&self, out: &[CellId], put: &[CellId]) -> bool
+        requires out_ascends { IsStrictlyIncreasing out.now }
+        requires put_ascends { IsStrictlyIncreasing put.now }
+        ensures { IsTrue result ↔ Fits out.now put.now self.now.cells }
+    {
+        fits_cells(self.cells(), out, put)
+    }
+
+    /// Writes this list without `out` and with `put` into another union, which has room for it and keeps
+    /// that room.
+    ///
+    /// One pass over the three lists. What `into` held before is dropped. Takes no memory.
+    pub fn apply_into(&self, out: &[CellId], put: &[CellId], into: &mut CellUnion)
+        requires fits { Fits out.now put.now self.now.cells }
+        requires room { length (applied out.now put.now self.now.cells) ≤ into.old.room }
+        ensures cells { into.new.cells ≡ applied out.now put.now self.now.cells }
+        ensures room { into.new.room ≡ into.old.room }
+    {
+        apply_cells(self.cells(), out, put, &mut into.cells);
+    }
+}
+
+ghost use Rattle.std.specs.Vec.{vec_capacity};
+ghost use Rattle.s2union.specs.Union.{IsLocal};
+
+/// Writes the cells without `out` and with `put` into a list that has room for them.
+fn apply_cells(cells: &[CellId], out: &[CellId], put: &[CellId], into: &mut Vec<CellId>)
+    requires local { IsLocal cells.now }
+    requires fits { Fits out.now put.now cells.now }
+    requires room { length (applied out.now put.now cells.now) ≤ vec_capacity into.old }
+    ensures items { into.new.items ≡ applied out.now put.now cells.now }
+    ensures capacity { vec_capacity into.new ≡ vec_capacity into.old }
+{
+    into.clear();
+    let mut merge = Merge::new(cells, out, put);
+    loop {
+        match merge.turn() {
+            Turn::Write(cell) => into.push_reserved(cell),
+            Turn::Skip => {}
+            Turn::Misfit | Turn::End => return,
+        }
+    }
+}
+
+/// Whether the change fits the cells: the walk finds no misfit, and what it gives is packed.
+fn fits_cells<'a>(cells: &'a [CellId], out: &'a [CellId], put: &'a [CellId]) -> bool
+    requires local { IsLocal cells.now }
+    requires out_ascends { IsStrictlyIncreasing out.now }
+    requires put_ascends { IsStrictlyIncreasing put.now }
+    ensures { IsTrue result ↔ Fits out.now put.now cells.now }
+{
+    let mut merge = Merge::new(cells, out, put);
+    let mut tail = Tail::new();
+    loop {
+        match merge.turn() {
+            Turn::Write(cell) => {
+                if !tail.takes(cell) {
+                    return false;
+                }
+                tail.push(cell);
+            }
+            Turn::Skip => {}
+            Turn::Misfit => return false,
+            Turn::End => return true,
+        }
+    }
+}

@@ -1,0 +1,62 @@
+//! The end of a list of cells that go by one after another.
+ghost use Rattle.std.specs.Prelude.{◌≡◌, ◌↔◌, IsTrue, Some, None};
+ghost use Rattle.s2cell.specs.Cell.{IsCell};
+ghost use Rattle.s2union.specs.Tail.{Follows};
+
+use crate::merging::parent_of_family;
+use s2cell::CellId;
+
+/// The last three of the cells that went by, as far as there were so many. A cell that comes next can share
+/// leaves or make a family with no others.
+#[derive(Drop)]
+pub(crate) struct Tail {
+    last: Option<CellId>,
+    second: Option<CellId>,
+    third: Option<CellId>,
+}
+
+impl Tail {
+    /// Before any cell went by.
+    pub(crate) fn new() -> Tail
+        ensures { result ≡ record { last = None; second = None; third = None } }
+    {
+        Tail {
+            last: None,
+            second: None,
+            third: None,
+        }
+    }
+
+    /// Whether the cell may come next.
+    pub(crate) fn takes(&self, cell: CellId) -> bool
+        ensures exact { IsTrue result ↔ Follows self.now cell }
+        ensures is_cell { IsCell cell }
+    {
+        let _ = cell.id();
+        let Some(last) = self.last else {
+            return true;
+        };
+        if cell.range_min() <= last.range_max() {
+            return false;
+        }
+        let Some(second) = self.second else {
+            return true;
+        };
+        let Some(third) = self.third else {
+            return true;
+        };
+        match parent_of_family(third, second, last, cell) {
+            Some(_) => false,
+            None => true,
+        }
+    }
+
+    /// The cell went by.
+    pub(crate) fn push(&mut self, cell: CellId)
+        ensures { self.new ≡ record { last = Some cell; second = self.old.last; third = self.old.second } }
+    {
+        self.third = self.second;
+        self.second = self.last;
+        self.last = Some(cell);
+    }
+}
