@@ -31,6 +31,7 @@ impl CellId {
     pub fn from_id(id: u64) -> Option<CellId>
         ensures { SomeIff result (IsCell id) id }
     {
+        // The marker of level k is the bit 2 (30 - k): an even place, at most 60.
         let zeros = id.trailing_zeros();
         if zeros <= 60 && zeros % 2 == 0 && id >> FACE_SHIFT < 6 {
             Some(CellId { id })
@@ -50,7 +51,8 @@ impl CellId {
 
     /// The face that the cell lies on, 0 to 5.
     pub fn face(self) -> u8
-        ensures { result ≡ face_of self }
+        ensures value { result ≡ face_of self }
+        ensures most { result < 6 }
     {
         (self.id >> FACE_SHIFT) as u8
     }

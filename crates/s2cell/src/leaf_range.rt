@@ -42,7 +42,8 @@ impl CellId {
         ensures first { first_leaf result ≡ first }
         ensures end { first_leaf result + size_of result ≤ end }
         ensures cell { IsCell result }
-        ensures largest { (q : ℕ) → IsCell q → first_leaf q ≡ first → first_leaf q + size_of q ≤ end → size_of q ≤ size_of result }
+        ensures largest { (q : ℕ) → IsCell q → first_leaf q ≡ first
+            → first_leaf q + size_of q ≤ end → size_of q ≤ size_of result }
     {
         let aligned = first.trailing_zeros() / 2;
         let fitting = (63 - (end - first).leading_zeros()) / 2;

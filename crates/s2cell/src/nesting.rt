@@ -1,6 +1,6 @@
 //! Parents and children, and which cells lie in which.
 ghost use Rattle.std.specs.Prelude.{◌≡◌, ◌<◌, ◌≤◌, ◌+◌, ◌-◌, ◌*◌, IsTrue, ◌↔◌, ◌⊎◌};
-ghost use Rattle.s2cell.specs.Cell.{IsCell, level_of, parent_of, child_of, first_leaf, size_of, IsInside};
+ghost use Rattle.s2cell.specs.Cell.{IsCell, level_of, parent_of, child_of, first_leaf, size_of, IsInside, ShareLeaf};
 
 use crate::CellId;
 
@@ -57,13 +57,13 @@ impl CellId {
         ensures others { IsCell other }
     {
         let _ = &self.id;
-        let _ = &other.id;
-        self.range_min() <= other && other <= self.range_max()
+        self.range_min().id <= other.id && other.id <= self.range_max().id
     }
 
     /// Whether the two cells share a leaf, which is where one of them contains the other.
     pub fn intersects(self, other: CellId) -> bool
-        ensures { IsTrue result ↔ (IsInside other self ⊎ IsInside self other) }
+        ensures shared { IsTrue result ↔ ShareLeaf self other }
+        ensures nested { IsTrue result ↔ (IsInside other self ⊎ IsInside self other) }
     {
         self.contains(other) || other.contains(self)
     }

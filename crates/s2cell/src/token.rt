@@ -1,54 +1,51 @@
 //! Tokens: the hexadecimal digits of an identifier, without the zeros at their end.
-ghost use Rattle.std.specs.Prelude.{◌≡◌, ◌<◌, ◌≤◌, ◌⊎◌, MatchOption, ℕ};
-ghost use Rattle.std.specs.Char.{digit_value};
+ghost use Rattle.std.specs.Prelude.{◌≡◌, MatchOption, ℕ};
 ghost use Rattle.s2cell.specs.Cell.{IsCell};
-ghost use Rattle.s2cell.specs.Token.{IsReading, IsToken};
+ghost use Rattle.s2cell.specs.Token.{IsReading, IsToken, token_of};
 
 use crate::CellId;
+use crate::digits::{hex_digit, value_of_digit};
 use arrayvec::ArrayVec;
 
-/// The lower-case hexadecimal digit with a value.
-fn hex_digit(value: u8) -> u8
-    requires { value < 16 }
-    ensures digit { digit_value result ≡ value }
-    ensures lower { (result < 58) ⊎ (97 ≤ result) }
-    ensures zero { result ≡ 48 → value ≡ 0 }
-{
-    if value < 10 {
-        b'0' + value
-    } else {
-        b'a' + (value - 10)
-    }
-}
+/// How many hexadecimal digits an identifier has.
+const TOKEN_LEN: usize = 16;
 
 impl CellId {
-    /// The cell that a token stands for, if it is one.
+    /// The cell that a text of 1 to 16 hexadecimal digits stands for, in either case and with or
+    /// without the zeros at their end (`FromToken`). None exactly where the text is no such
+    /// digits, or the identifier that they write is no cell's; `X`, which S2 prints for an invalid
+    /// identifier, is one of these.
     pub fn from_token(text: &[u8]) -> Option<CellId>
-        ensures { MatchOption result ((n : ℕ) → IsReading text.now n → IsCell n → ⊥) (λ c. IsReading text.now c) }
+        ensures { MatchOption result ((n : ℕ) → IsReading text.now n → IsCell n → ⊥)
+            (λ c. IsReading text.now c) }
     {
-        if text.is_empty() || text.len() > 16 {
+        if text.is_empty() || text.len() > TOKEN_LEN {
             return None;
         }
-        let mut value = 0u64;
-        for c in text {
-            match (*c as char).to_digit(16) {
-                Some(digit) => value = 16 * value + digit as u64,
-                None => return None,
+        let mut id = 0u64;
+        for byte in text {
+            let digit = value_of_digit(*byte);
+            if digit > 15 {
+                return None;
             }
+            id = 16 * id + u64::from(digit);
         }
-        CellId::from_id(value << (4 * (16 - text.len())))
+        CellId::from_id(id << (4 * (TOKEN_LEN - text.len())))
     }
 
-    /// The cell's token.
+    /// The cell's token (`ToToken`): the lower-case hexadecimal digits of its identifier without
+    /// the zeros at their end, 1 to 16 of them.
     pub fn token(self) -> ArrayVec<u8, 16>
-        ensures { IsToken result.items self }
+        ensures token { IsToken result.items self }
+        ensures value { result.items ≡ token_of self }
     {
-        let mut text = ArrayVec::new();
-        let mut rest = self.id;
-        while rest != 0 {
-            text.push(hex_digit((rest >> 60) as u8));
-            rest <<= 4;
+        // All sixteen digits, then a cut: faster than a test for the end at each digit.
+        let mut digits = [0u8; TOKEN_LEN];
+        for k in 0..16u32 {
+            digits[k as usize] = hex_digit(((self.id >> (60 - 4 * k)) & 15) as u8);
         }
+        let mut text = ArrayVec::from(digits);
+        text.truncate(TOKEN_LEN - self.id.trailing_zeros() as usize / 4);
         text
     }
 }

@@ -58,7 +58,7 @@ fn meets(cells: &[CellId], cell: CellId) -> bool
 
 /// How many cells end by the leaf `lo`, which come first. It looks at three cells at once and sums
 /// what they say, since a branch on each would be guessed wrong half the time.
-fn find(cells: &[CellId], lo: u64) -> usize
+pub(crate) fn find(cells: &[CellId], lo: u64) -> usize
     requires { IsPacked cells.now }
     ensures within { result ≤ length cells.now }
     ensures behind { Behind cells.now result lo }

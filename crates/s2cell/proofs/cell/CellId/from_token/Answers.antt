@@ -1,27 +1,35 @@
-use Rattle.std.proofs.Common.{arith, rules, refl}
-use Rattle.s2cell.proofs.Tokens.{read_more, read_room, digit_at, read_whole, reading_answer}
+use Rattle.std.proofs.Common.{◌<◌, ◌∙◌, arith, rules, refl, get_or}
+use Rattle.std.specs.Char.{digit_value}
+use Rattle.s2cell.proofs.DigitTexts.{digit_below}
+use Rattle.s2cell.proofs.Tokens.{read_more, read_room, read_whole, reading_answer}
 use Rattle.s2cell.proofs.cell.CellId.from_token.Goals as goal
 
-pub overflow_mul-value : goal.overflow_mul-value
-overflow_mul-value c =
-    let b = read_room c.args.text.now c.loop-c.c-index c.loop-c.value 0 c.loop-c-test.true c.if-text-gt16.false c.loop-c.invariant (omega arith) in
+pub returns-then-digit-gt15 : goal.returns-then-digit-gt15
+returns-then-digit-gt15 c = λ n r i.
+    let low = digit_below 16 c.args.text.now c.loop-byte.byte-index 0 r.digits c.loop-byte-test.true in
+    let is = c.value_of_digit-digit.ensures in
     omega arith
 
-pub overflow_add-value : goal.overflow_add-value
-overflow_add-value c =
-    let s = c.in-Some.ensures.value in
-    let b = read_room c.args.text.now c.loop-c.c-index c.loop-c.value c.in-Some.digit c.loop-c-test.true c.if-text-gt16.false c.loop-c.invariant (omega arith) in
+pub overflow_mul-id : goal.overflow_mul-id
+overflow_mul-id c =
+    let room = read_room c.args.text.now c.loop-byte.byte-index c.loop-byte.id 0 c.loop-byte-test.true c.if-text-gt-TOKEN_LEN.false c.loop-byte.invariant (omega arith) in
     omega arith
 
-pub returns-in-None : goal.returns-in-None
-returns-in-None c = λ n r i. c.in-None.ensures.value (digit_at c.args.text.now c.loop-c.c-index r.digits c.loop-c-test.true)
+pub overflow_add-id : goal.overflow_add-id
+overflow_add-id c =
+    let small : c.value_of_digit-digit.result < 16 = let h = c.if-digit-gt15.false in omega arith in
+    let room = read_room c.args.text.now c.loop-byte.byte-index c.loop-byte.id c.value_of_digit-digit.result c.loop-byte-test.true c.if-text-gt-TOKEN_LEN.false c.loop-byte.invariant small in
+    let same = c.from.ensures in
+    omega (arith, room, same)
 
-pub loop-c-preserved : goal.loop-c-preserved
-loop-c-preserved c =
-    let s = c.in-Some.ensures.value in
-    read_more c.args.text.now c.loop-c.c-index c.loop-c.value c.in-Some.digit _ c.loop-c-test.true c.loop-c.invariant refl s.0 s.1
+pub loop-byte-preserved : goal.loop-byte-preserved
+loop-byte-preserved c =
+    let is = c.value_of_digit-digit.ensures in
+    let small = c.if-digit-gt15.false in
+    let low : digit_value (get_or c.args.text.now c.loop-byte.byte-index 0) < 16 = rw (← is) (omega (arith, small)) in
+    read_more c.args.text.now c.loop-byte.byte-index c.loop-byte.id c.from.result _ c.loop-byte-test.true c.loop-byte.invariant refl low (c.from.ensures ∙ is)
 
 pub returns : goal.returns
 returns c =
     reading_answer c.from_id.result c.args.text.now _
-    (read_whole c.args.text.now c.loop-c.c-index c.loop-c.value _ (search rules) c.if-text-gt16.false (search rules) (search rules) c.loop-c.invariant refl) c.from_id.ensures
+    (read_whole c.args.text.now c.loop-byte.byte-index c.loop-byte.id _ (search rules) c.if-text-gt-TOKEN_LEN.false (search rules) (search rules) c.loop-byte.invariant refl) c.from_id.ensures

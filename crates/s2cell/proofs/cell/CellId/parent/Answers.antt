@@ -1,6 +1,7 @@
 use Rattle.std.proofs.Common.{◌≡◌, ◌*◌, ◌-◌, ◌%◌, ◌^◌, arith, rules, refl, bit_or, bit_and}
 use Rattle.s2cell.specs.Cell.{IsCell, parent_of}
-use Rattle.s2cell.proofs.Calls.{parent_level, shallow, parent_at, IsCell-parent_of}
+use Rattle.s2cell.proofs.Calls.{shallow, parent_at, IsCell-parent_of}
+use Rattle.s2cell.proofs.Family.{parent_level}
 use Rattle.s2cell.proofs.cell.CellId.parent.Goals as goal
 
 pub overflow_sub-lowest : goal.overflow_sub-lowest

@@ -1,8 +1,6 @@
-use Rattle.std.proofs.Common.{◌≡◌, ◌+◌, ◌*◌, ◌-◌, ◌%◌, ◌^◌, ◌≤◌, ◌<◌, arith, refl}
-use Rattle.std.specs.Int.Count.{count_trailing_zeros, count_leading_zeros}
-use Rattle.s2cell.specs.Cell.{first_leaf, size_of}
+use Rattle.std.proofs.Common.{◌+◌, ◌*◌, ◌%◌, ◌^◌, arith, refl}
 use Rattle.s2cell.proofs.CellLemmas.{cell_leaves}
-use Rattle.s2cell.proofs.Tiles.{Tile, tile_of}
+use Rattle.s2cell.proofs.Tiles.{tile_of}
 use Rattle.s2cell.proofs.LargestTile.{largest_tile}
 use Rattle.s2cell.proofs.cell.CellId.tile.Goals as goal
 

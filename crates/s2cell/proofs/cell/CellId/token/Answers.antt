@@ -1,15 +1,18 @@
-use Rattle.std.proofs.Common.{rules}
+use Rattle.std.proofs.Common.{arith}
 use Rattle.s2cell.specs.Cell.{IsCell}
-use Rattle.s2cell.proofs.Tokens.{written_more, written_all}
+use Rattle.s2cell.proofs.Tokens.{token_more, token_done, IsToken-token_of}
 use Rattle.s2cell.proofs.cell.CellId.token.Goals as goal
 
-pub loop-rest-preserved : goal.loop-rest-preserved
-loop-rest-preserved c =
-    let h = c.hex_digit.ensures in
-    rw c.push.ensures.items
-    (written_more c.args.self c.loop-rest.text.items c.loop-rest.rest c.hex_digit.result c.loop-rest.invariant (search rules) h.digit h.lower h.zero)
+pub loop-k-preserved : goal.loop-k-preserved
+loop-k-preserved c = token_more c.args.self c.loop-k.k _ c.loop-k.digits c.loop-k.invariant (omega arith) (rw (← c.self.view_is) c.hex_digit.ensures)
 
-pub returns : goal.returns
-returns c =
+pub returns-clause-value : goal.returns-clause-value
+returns-clause-value c =
     let i : IsCell c.args.self = rw (← c.self.view_is) c.self.invariant in
-    written_all c.args.self c.loop-rest.text.items i (rw c.loop-rest-test.false at c.loop-rest.invariant)
+    token_done c.args.self c.loop-k.k c.loop-k.digits _ i c.loop-k.invariant c.loop-k-test.false
+    (rw (← c.self.view_is) (rw c.from-text.ensures.0 at c.truncate.ensures.items))
+
+pub returns-clause-token : goal.returns-clause-token
+returns-clause-token c =
+    let i : IsCell c.args.self = rw (← c.self.view_is) c.self.invariant in
+    rw (returns-clause-value c) (IsToken-token_of c.args.self i)

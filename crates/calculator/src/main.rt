@@ -1,0 +1,128 @@
+//! The program: it opens what a run needs, and calls it.
+#![tactic(auto)]
+
+ghost use Rattle.std.specs.Prelude.{◌≤◌};
+
+use s2calc::{
+    Answers, Asking, Gathered, Job, RunFault, Stop, Tally, cell_answer, check_answer, job, run,
+    status,
+};
+use s2edit::Editor;
+use s2file::DirShelf;
+use std::io::{BufWriter, ErrorKind};
+use std::process::ExitCode;
+use std::{env, io};
+
+/// How many bytes of answers are gathered before they go out.
+const OUTPUT_SIZE: usize = 65536;
+
+const HELP: &str =
+    "s2calc run [--limit N] [--depth N] [--dir PATH]    answers the script on standard input\ns2calc cell CELL                                   answers one `cell CELL`\ns2calc check [--dir PATH] FILE                     says what a union file stands for";
+
+fn main(rt: HostRuntime) -> ExitCode {
+    let words = match env::args(&rt) {
+        Ok(words) => words,
+        Err(error) => {
+            return match error.kind() {
+                ErrorKind::OutOfMemory => stopped(&rt, Stop::Memory),
+                _ => stopped(&rt, Stop::Usage),
+            };
+        }
+    };
+    let words: Vec<String> = match words.collect(rt.alloc()) {
+        Ok(words) => words,
+        Err(_) => return stopped(&rt, Stop::Memory),
+    };
+    match job(rt.alloc(), words) {
+        Ok(Job::Run { limit, depth, dir }) => run_script(&rt, limit, depth, &dir),
+        Ok(Job::Cell { word }) => answer_cell(&rt, &word),
+        Ok(Job::Check { dir, name }) => answer_check(&rt, &dir, &name),
+        Err(stop) => stopped(&rt, stop),
+    }
+}
+
+/// Answers the script on standard input.
+fn run_script(rt: &HostRuntime, limit: usize, depth: usize, dir: &str) -> ExitCode
+    requires limit { (1 ≤ limit) × (limit ≤ 1000000) }
+    requires depth { (1 ≤ depth) × (depth ≤ 1000) }
+{
+    let Ok(mut editor) = Editor::open(rt.alloc(), limit, depth) else {
+        return ended(rt, &Err(RunFault::Memory));
+    };
+    let Ok(mut shelf) = DirShelf::at(rt, dir) else {
+        return ended(rt, &Err(RunFault::Memory));
+    };
+    let Ok(writer) = BufWriter::with_capacity(rt.alloc(), OUTPUT_SIZE, io::writer(rt)) else {
+        return ended(rt, &Err(RunFault::Memory));
+    };
+    let gathered = Gathered::new(writer);
+    let mut reader = Asking::of(rt.reader(), &gathered);
+    let mut answers = Answers::of(&gathered);
+    let result = run(
+        rt.alloc(),
+        &mut editor,
+        &mut reader,
+        &mut answers,
+        &mut shelf,
+    );
+    // Where the flush before a read failed, it is the output that failed.
+    let result = match result {
+        Err(RunFault::Input) if gathered.failed() => Err(RunFault::Output),
+        result => result,
+    };
+    ended(rt, &result)
+}
+
+/// Answers one `cell CELL`.
+fn answer_cell(rt: &HostRuntime, word: &str) -> ExitCode {
+    answered(rt, cell_answer(word.as_bytes(), &mut io::writer(rt)))
+}
+
+/// Says what a file stands for.
+fn answer_check(rt: &HostRuntime, dir: &str, name: &str) -> ExitCode {
+    let Ok(mut shelf) = DirShelf::at(rt, dir) else {
+        return ended(rt, &Err(RunFault::Memory));
+    };
+    answered(
+        rt,
+        check_answer(rt.alloc(), &mut shelf, name, &mut io::writer(rt)),
+    )
+}
+
+/// Tells how one answer ended.
+fn answered(rt: &impl Eprint, outcome: Result<bool, RunFault>) -> ExitCode {
+    match outcome {
+        Ok(true) => ExitCode::SUCCESS,
+        Ok(false) => ExitCode::from(1),
+        Err(fault) => ended(rt, &Err(fault)),
+    }
+}
+
+/// Tells how a run ended.
+fn ended(rt: &impl Eprint, outcome: &Result<Tally, RunFault>) -> ExitCode {
+    let _ = match outcome {
+        Ok(_) => Ok(()),
+        Err(RunFault::Input) => rt.eprintln("s2calc: input"),
+        Err(RunFault::Output) => rt.eprintln("s2calc: output"),
+        Err(RunFault::Memory) => rt.eprintln("s2calc: memory"),
+    };
+    ExitCode::from(status(outcome))
+}
+
+/// Tells why there is nothing to do.
+fn stopped(rt: &(impl Eprint + Print), stop: Stop) -> ExitCode {
+    match stop {
+        Stop::Help => {
+            let _ = rt.println(HELP);
+            ExitCode::SUCCESS
+        }
+        Stop::Usage => {
+            let _ = rt.eprintln("s2calc: usage");
+            ExitCode::from(2)
+        }
+        Stop::Memory => {
+            let _ = rt.eprintln("s2calc: memory");
+            ExitCode::from(3)
+        }
+    }
+}

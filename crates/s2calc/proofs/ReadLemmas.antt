@@ -1,0 +1,83 @@
+-- Lemmas on a whole run.
+use Rattle.std.proofs.Common.{◌≡◌, ℕ, List, [], ◌++◌, Option, Result, take, refl, sym, ap, subst, append-nil, inl, inr}
+use Rattle.std.proofs.lemmas.List.Concat.{flat_map-append}
+use Rattle.std.proofs.lemmas.Result.{MatchResult-weaker}
+use Rattle.std.specs.Io.KnownBytes.{Appends, Consumes, Keeps, IsAtEnd}
+use Rattle.std.proofs.KnownBytes.{Appends-trans, Consumes-trans, Consumes-kept}
+use Rattle.s2calc.specs.World.{World}
+use Rattle.s2calc.specs.declared.engine.Tally.{Tally}
+use Rattle.s2calc.specs.declared.fault.RunFault.{RunFault}
+use Rattle.s2script.specs.Lines.{lines}
+use Rattle.s2calc.specs.Replies.{Reply, text_of, texts}
+use Rattle.s2calc.specs.Run.{Steps, Ends, Finishes, StopsReading, StopsWriting, Faults, Runs}
+use Rattle.s2calc.specs.Stands.{Stands, StopsInside, Ended, EndsInPart, Closes}
+use Rattle.s2calc.proofs.LineLemmas.{whole_lines_begun}
+use Rattle.s2calc.proofs.CloseLemmas.{IsBeginningOf-after}
+
+pub Consumes-none : (a b c : Option (List ℕ)) (bs buf : List ℕ) (n : ℕ) → n ≡ 0 → Consumes a b bs → Consumes b c (take n buf) → Consumes a c bs
+Consumes-none a b c bs buf n e p q =
+    let none : take n buf ≡ [] = ap (λ k. take k buf) e in
+    subst (Consumes a c) (append-nil bs) (Consumes-trans a b c bs [] p (subst (Consumes b c) none q))
+
+pub Appends-texts : (a b c : Option (List ℕ)) (before more : List Reply) → Appends a b (texts before) → Appends b c (texts more) → Appends a c (texts (before ++ more))
+Appends-texts a b c before more p q = subst (Appends a c) (sym (flat_map-append text_of before more)) (Appends-trans a b c (texts before) (texts more) p q)
+
+module _ (ends : Ends) (old new : World) (script : List ℕ) (replies : List Reply) where
+  pub StopsReading-here : (input : Option (List ℕ)) (kept : List ℕ) (tally : Tally) → Consumes ends.input_old input script → Keeps input ends.input_new → Stands old script replies new kept tally
+      → Appends ends.output_old ends.output_new (texts replies) → StopsReading ends old new
+  StopsReading-here input kept tally r k s w =
+      record {
+        script = script;
+        replies = replies;
+        read = Consumes-kept ends.input_old input ends.input_new script r k;
+        run = subst (λ ls. Steps old ls replies new) (sym (whole_lines_begun script s.done s.rest s.begins s.unbroken)) s.run;
+        written = w;
+      }
+
+  pub StopsWriting-inside : (input output : Option (List ℕ)) (chunk : List ℕ) → Consumes ends.input_old input script → Consumes input ends.input_new chunk → Appends ends.output_old output (texts replies)
+      → StopsInside old script replies chunk new output ends.output_new → StopsWriting ends old new
+  StopsWriting-inside input output chunk r q w s =
+      record {
+        script = script ++ chunk;
+        replies = replies ++ s.more;
+        done = s.done;
+        bytes = texts replies ++ s.bytes;
+        read = Consumes-trans ends.input_old input ends.input_new script chunk r q;
+        read_whole = inl (s.rest, s.begins);
+        run = s.run;
+        written = Appends-trans ends.output_old output ends.output_new (texts replies) s.bytes w s.written;
+        beginning = IsBeginningOf-after replies s.more s.bytes s.beginning;
+      }
+
+  Finishes-here : (output : Option (List ℕ)) (tally : Tally) → Consumes ends.input_old ends.input_new script → IsAtEnd ends.input_new → Appends ends.output_old output (texts replies)
+      → Ended old script replies new output ends.output_new tally → Finishes ends old new tally
+  Finishes-here output tally r e w s =
+      record {
+        script = script;
+        replies = replies ++ s.more;
+        read = r;
+        at_end = e;
+        run = s.run;
+        written = Appends-texts ends.output_old output ends.output_new replies s.more w s.written;
+        tally_is = s.tally_is;
+      }
+
+  StopsWriting-here : (output : Option (List ℕ)) → Consumes ends.input_old ends.input_new script → IsAtEnd ends.input_new → Appends ends.output_old output (texts replies)
+      → EndsInPart old script replies new output ends.output_new → StopsWriting ends old new
+  StopsWriting-here output r e w s =
+      record {
+        script = script;
+        replies = replies ++ s.more;
+        done = lines script;
+        bytes = texts replies ++ s.bytes;
+        read = r;
+        read_whole = inr (refl, e);
+        run = s.run;
+        written = Appends-trans ends.output_old output ends.output_new (texts replies) s.bytes w s.written;
+        beginning = IsBeginningOf-after replies s.more s.bytes s.beginning;
+      }
+
+  pub Runs-close : (output : Option (List ℕ)) (result : Result Tally RunFault) → Consumes ends.input_old ends.input_new script → IsAtEnd ends.input_new → Appends ends.output_old output (texts replies)
+      → Closes old script replies new output ends.output_new result → Runs ends old new result
+  Runs-close output result r e w closes =
+      MatchResult-weaker result closes (λ tally s. Finishes-here output tally r e w s) (λ fault s. subst (λ f. Faults f ends old new) (sym s.0) (StopsWriting-here output r e w s.1))

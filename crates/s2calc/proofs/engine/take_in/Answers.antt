@@ -1,0 +1,48 @@
+use Rattle.std.proofs.Common.{◌≡◌, ℕ, List, [], ◌∷◌, ◌++◌, ◌+◌, ◌-◌, length, take, drop, refl, ap, sym, ◌∙◌, append_assoc, take-append-drop}
+use Rattle.std.proofs.lemmas.List.{take_rest}
+use Rattle.std.proofs.lemmas.Result.{err_from_is_err_and}
+use Rattle.s2script.specs.Lines.{EndsLineAt}
+use Rattle.s2calc.proofs.TakeInLemmas.{StandsAfter-none, StandsAfter-line, StandsAfter-rest, StopsInside-line}
+use Rattle.s2calc.proofs.engine.take_in.Goals as goal
+
+-- the chunk, cut at a newline
+cut_at : (chunk seen rest : List ℕ) (at : ℕ) → chunk ≡ seen ++ rest → EndsLineAt rest at → chunk ≡ (seen ++ take at rest) ++ 10 ∷ drop (at + 1) rest
+cut_at chunk seen rest at e h =
+    e ∙ ap (λ s. seen ++ s) (sym (take-append-drop at rest) ∙ ap (λ s. take at rest ++ s) h.here) ∙ sym (append_assoc seen (take at rest) (10 ∷ drop (at + 1) rest))
+
+cut_behind : (chunk seen rest : List ℕ) (at : ℕ) → chunk ≡ seen ++ rest → EndsLineAt rest at → chunk ≡ ((seen ++ take at rest) ++ 10 ∷ []) ++ take (length rest - (at + 1)) (drop (at + 1) rest)
+cut_behind chunk seen rest at e h =
+    cut_at chunk seen rest at e h ∙ sym (append_assoc (seen ++ take at rest) (10 ∷ []) (drop (at + 1) rest)) ∙ ap (λ s. ((seen ++ take at rest) ++ 10 ∷ []) ++ s) (sym (take_rest rest (at + 1)))
+
+pub loop-at-init : goal.loop-at-init
+loop-at-init g c = ([], refl, λ start script replies s. StandsAfter-none start script replies _ _ _ _ s)
+
+pub returns-in_err-outcome-clause-err : goal.returns-in_err-outcome-clause-err
+returns-in_err-outcome-clause-err g c =
+    let p = err_from_is_err_and c.from_residual.result c.from_residual.ensures.1 in
+    let i = c.loop-at.invariant in
+    let rest = c.loop-at.rest.now in
+    let ends = c.in-Some.ensures.some in
+    let done = c.in_err-outcome.ensures.executes in
+    rw p.1 (λ start script replies s.
+    StopsInside-line start script replies _ i.0 (take c.in-Some.at rest) (drop (c.in-Some.at + 1) rest) _ _ _ _ _ _ _ _ done.reply (i.2 start script replies s) ends.before
+    (c.as_slice.ensures ∙ c.keep.ensures) done.step done.writes.1 (cut_at _ i.0 rest c.in-Some.at i.1 ends))
+
+pub loop-at-preserved : goal.loop-at-preserved
+loop-at-preserved g c =
+    let i = c.loop-at.invariant in
+    let rest = c.loop-at.rest.now in
+    let ends = c.in-Some.ensures.some in
+    let done = c.in_ok-outcome.ensures.executes in (
+      (i.0 ++ take c.in-Some.at rest) ++ 10 ∷ [],
+      cut_behind _ i.0 rest c.in-Some.at i.1 ends,
+      λ start script replies s.
+          StandsAfter-line start script replies i.0 (take c.in-Some.at rest) _ _ _ _ _ _ _ _ _ _ done.reply (i.2 start script replies s) ends.before (c.as_slice.ensures ∙ c.keep.ensures) done.step
+          c.clear.ensures (λ before e. c.count.ensures done.reply before done.writes.0 e) done.writes.1,
+    )
+
+pub returns-clause-ok : goal.returns-clause-ok
+returns-clause-ok g c =
+    let i = c.loop-at.invariant in
+    λ start script replies s.
+    StandsAfter-rest start script replies _ i.0 c.loop-at.rest.now _ _ _ _ _ _ (i.2 start script replies s) c.in_default.ensures.none c.keep-2.ensures i.1

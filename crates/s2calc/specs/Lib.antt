@@ -1,0 +1,14 @@
+pub mod World
+pub mod Texts
+pub mod Replies
+pub mod Questions
+pub mod Edits
+pub mod Step
+pub mod Run
+pub mod Output
+pub mod Answer
+pub mod Execute
+pub mod Stands
+pub mod Laws
+pub mod Program
+pub mod Check

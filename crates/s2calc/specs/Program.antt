@@ -1,0 +1,37 @@
+-- What the program's own calls answer.
+use Rattle.std.specs.Prelude.{◌≤◌, ℕ, zero, suc, List, Option, None, Some, Result, Ok, Err}
+use Rattle.s2script.specs.declared.refusal.Refusal.TheVariants.{Cell as NoCell}
+use Rattle.s2script.specs.Named.{cell_named}
+use Rattle.s2calc.specs.declared.engine.Tally.{Tally}
+use Rattle.s2calc.specs.declared.fault.RunFault.{RunFault}
+use Rattle.s2calc.specs.declared.fault.RunFault.TheVariants.{Input, Output, Memory}
+use Rattle.s2calc.specs.declared.task.Job.{Job}
+use Rattle.s2calc.specs.declared.task.Job.TheVariants.{Run, Cell, Check}
+use Rattle.s2calc.specs.Replies.{Reply, Says, Refuses}
+use Rattle.s2calc.specs.Texts.{cell_line}
+
+abbrev pub reply_for : Option ℕ → Reply
+reply_for None = Refuses NoCell
+reply_for (Some n) = Says (cell_line n)
+
+-- the answer to `cell WORD`, for one word, spaces included
+abbrev pub cell_reply : List ℕ → Reply
+cell_reply word = reply_for (cell_named word)
+
+-- 1 where something was refused
+abbrev pub status_of_refused : ℕ → ℕ
+status_of_refused zero = 0
+status_of_refused (suc n) = 1
+
+-- the exit status of a run
+abbrev pub status_of : Result Tally RunFault → ℕ
+status_of (Ok tally) = status_of_refused tally.refused
+status_of (Err Input) = 2
+status_of (Err Output) = 2
+status_of (Err Memory) = 3
+
+-- a run has its limit and its depth in range
+abbrev pub IsInRange : Job → Type 0
+IsInRange (Run limit depth dir) = (1 ≤ limit) × (limit ≤ 1000000) × (1 ≤ depth) × (depth ≤ 1000)
+IsInRange (Cell word) = Unit {0}
+IsInRange (Check dir name) = Unit {0}

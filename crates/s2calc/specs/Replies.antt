@@ -1,0 +1,44 @@
+-- What a line is answered.
+use Rattle.std.specs.Prelude.{◌≡◌, ℕ, ◌-◌, ◌^◌, Bool, false, true, min, List, [], ◌∷◌, ◌++◌, codes, flat_map, count_by}
+use Rattle.s2script.specs.declared.refusal.Refusal.{Refusal}
+use Rattle.s2script.specs.Refusals.{name_of}
+use Rattle.s2calc.specs.declared.engine.Tally.{Tally}
+use Rattle.s2script.specs.Lines.{but_last}
+
+-- nothing, an answer, or a refusal
+pub data Reply : Type 0 where
+  Silent : Reply
+  Says : (text : List ℕ) → Reply
+  Refuses : (refusal : Refusal) → Reply
+
+-- the bytes that are written for a reply
+abbrev pub text_of : Reply → List ℕ
+text_of Silent = []
+text_of (Says text) = text
+text_of (Refuses refusal) = codes "error " ++ name_of refusal ++ 10 ∷ []
+
+abbrev pub texts : List Reply → List ℕ
+texts replies = flat_map text_of replies
+
+abbrev pub is_answer : Reply → Bool
+is_answer Silent = false
+is_answer (Says text) = true
+is_answer (Refuses refusal) = true
+
+abbrev pub is_refusal : Reply → Bool
+is_refusal Silent = false
+is_refusal (Says text) = false
+is_refusal (Refuses refusal) = true
+
+-- the numbers of lines that were answered and that were refused, each stopping at the greatest u64
+abbrev pub tally_of : List Reply → Tally
+tally_of replies = record {
+  commands = min (count_by is_answer replies) (2 ^ 64 - 1);
+  refused = min (count_by is_refusal replies) (2 ^ 64 - 1);
+}
+
+-- what was written is a beginning of the replies, joined, that holds all but the last
+pub record IsBeginningOf (written : List ℕ) (replies : List Reply) : Type 0 where
+  pub rest : List ℕ
+  pub beginning : texts replies ≡ written ++ rest
+  pub all_but_last : (more : List ℕ) × (written ≡ texts (but_last replies) ++ more)

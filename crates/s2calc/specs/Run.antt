@@ -1,0 +1,72 @@
+-- What a run does, over the bytes that it reads and writes.
+use Rattle.std.specs.Prelude.{◌≡◌, ℕ, ◌⊎◌, List, [], ◌∷◌, Option, Result, MatchResult}
+use Rattle.std.specs.Io.KnownBytes.{Appends, Consumes, IsAtEnd}
+use Rattle.s2calc.specs.World.{World}
+use Rattle.s2calc.specs.declared.engine.Tally.{Tally}
+use Rattle.s2calc.specs.declared.fault.RunFault.{RunFault}
+use Rattle.s2calc.specs.declared.fault.RunFault.TheVariants.{Input, Output, Memory}
+use Rattle.s2script.specs.Lines.{lines, whole_lines, BeginsWith}
+use Rattle.s2calc.specs.Replies.{Reply, texts, tally_of, IsBeginningOf}
+use Rattle.s2calc.specs.Step.{Step}
+
+-- these lines, one after the other, may be given these replies
+abbrev pub Steps : World → List (List ℕ) → List Reply → World → Type 0
+Steps old [] [] new = new ≡ old
+Steps old (line ∷ ls) (reply ∷ replies) new = (mid : World) × Step old line reply mid × Steps mid ls replies new
+Steps old [] (reply ∷ replies) new = ⊥
+Steps old (line ∷ ls) [] new = ⊥
+
+-- the bytes that a reader and a writer are known to have, before and after
+pub record Ends : Type 0 where
+  pub input_old : Option (List ℕ)
+  pub input_new : Option (List ℕ)
+  pub output_old : Option (List ℕ)
+  pub output_new : Option (List ℕ)
+
+-- The whole script was read, each of its lines was carried out, and the answers were written.
+pub record Finishes (ends : Ends) (old new : World) (tally : Tally) : Type 0 where
+  pub script : List ℕ
+  pub replies : List Reply
+  pub read : Consumes ends.input_old ends.input_new script
+  pub at_end : IsAtEnd ends.input_new
+  pub run : Steps old (lines script) replies new
+  pub written : Appends ends.output_old ends.output_new (texts replies)
+  pub tally_is : tally ≡ tally_of replies
+
+-- The reader failed: the lines that were read whole were carried out, and just their answers were written.
+pub record StopsReading (ends : Ends) (old new : World) : Type 0 where
+  pub script : List ℕ
+  pub replies : List Reply
+  pub read : Consumes ends.input_old ends.input_new script
+  pub run : Steps old (whole_lines script) replies new
+  pub written : Appends ends.output_old ends.output_new (texts replies)
+
+-- the lines are the first of those that were read whole: a newline ends each, or the end of the script has come
+abbrev pub WereReadWhole : Option (List ℕ) → List ℕ → List (List ℕ) → Type 0
+WereReadWhole left script ls = ((more : List ℕ) × BeginsWith script ls more) ⊎ ((ls ≡ lines script) × IsAtEnd left)
+
+-- The writer failed: some lines that were read whole were carried out, and a beginning of their answers was written, of which only the last may lack bytes.
+pub record StopsWriting (ends : Ends) (old new : World) : Type 0 where
+  pub script : List ℕ
+  pub replies : List Reply
+  pub done : List (List ℕ)
+  pub bytes : List ℕ
+  pub read : Consumes ends.input_old ends.input_new script
+  pub read_whole : WereReadWhole ends.input_new script done
+  pub run : Steps old done replies new
+  pub written : Appends ends.output_old ends.output_new bytes
+  pub beginning : IsBeginningOf bytes replies
+
+-- There was no memory: nothing was read, written or changed.
+pub record NeverBegins (ends : Ends) (old new : World) : Type 0 where
+  pub input : Consumes ends.input_old ends.input_new []
+  pub output : Appends ends.output_old ends.output_new []
+  pub editor : new ≡ old
+
+abbrev pub Faults : RunFault → Ends → World → World → Type 0
+Faults Input ends old new = StopsReading ends old new
+Faults Output ends old new = StopsWriting ends old new
+Faults Memory ends old new = NeverBegins ends old new
+
+abbrev pub Runs : Ends → World → World → Result Tally RunFault → Type 0
+Runs ends old new result = MatchResult result (λ tally. Finishes ends old new tally) (λ fault. Faults fault ends old new)

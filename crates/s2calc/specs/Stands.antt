@@ -1,0 +1,56 @@
+-- Where a run stands in its script.
+use Rattle.std.specs.Prelude.{◌≡◌, ℕ, List, ◌++◌, Option, Result, MatchResult, take}
+use Rattle.s2calc.specs.declared.fault.RunFault.{RunFault}
+use Rattle.s2calc.specs.declared.fault.RunFault.TheVariants.{Output}
+use Rattle.std.specs.Io.KnownBytes.{Appends}
+use Rattle.s2calc.specs.World.{World}
+use Rattle.s2calc.specs.declared.engine.Tally.{Tally}
+use Rattle.s2script.specs.Lines.{BeginsWith, IsUnbroken, lines}
+use Rattle.s2calc.specs.Replies.{Reply, texts, tally_of, IsBeginningOf}
+use Rattle.s2calc.specs.Run.{Steps}
+
+-- From start, over these bytes: the lines that a newline ends were carried out with these replies, and of the rest the first 4,097 bytes are kept.
+pub record Stands (start : World) (script : List ℕ) (replies : List Reply) (editor : World) (kept : List ℕ) (tally : Tally) : Type 0 where
+  pub done : List (List ℕ)
+  pub rest : List ℕ
+  pub begins : BeginsWith script done rest
+  pub unbroken : IsUnbroken rest
+  pub run : Steps start done replies editor
+  pub kept_is : kept ≡ take 4097 rest
+  pub tally_is : tally ≡ tally_of replies
+
+-- it stands behind these bytes too, and the replies since then were written
+pub record StandsAfter (start : World) (script : List ℕ) (replies : List Reply) (chunk : List ℕ) (editor : World) (kept : List ℕ) (tally : Tally) (output_old output_new : Option (List ℕ)) : Type 0 where
+  pub more : List Reply
+  pub stands : Stands start (script ++ chunk) (replies ++ more) editor kept tally
+  pub written : Appends output_old output_new (texts more)
+
+-- the writer failed at a line that these bytes end
+pub record StopsInside (start : World) (script : List ℕ) (replies : List Reply) (chunk : List ℕ) (editor : World) (output_old output_new : Option (List ℕ)) : Type 0 where
+  pub done : List (List ℕ)
+  pub rest : List ℕ
+  pub more : List Reply
+  pub bytes : List ℕ
+  pub begins : BeginsWith (script ++ chunk) done rest
+  pub run : Steps start done (replies ++ more) editor
+  pub written : Appends output_old output_new bytes
+  pub beginning : IsBeginningOf bytes more
+
+-- the last line was carried out too
+pub record Ended (start : World) (script : List ℕ) (replies : List Reply) (editor : World) (output_old output_new : Option (List ℕ)) (tally : Tally) : Type 0 where
+  pub more : List Reply
+  pub run : Steps start (lines script) (replies ++ more) editor
+  pub written : Appends output_old output_new (texts more)
+  pub tally_is : tally ≡ tally_of (replies ++ more)
+
+-- the last line was carried out, and the writer or its flush failed
+pub record EndsInPart (start : World) (script : List ℕ) (replies : List Reply) (editor : World) (output_old output_new : Option (List ℕ)) : Type 0 where
+  pub more : List Reply
+  pub bytes : List ℕ
+  pub run : Steps start (lines script) (replies ++ more) editor
+  pub written : Appends output_old output_new bytes
+  pub beginning : IsBeginningOf bytes more
+
+abbrev pub Closes : World → List ℕ → List Reply → World → Option (List ℕ) → Option (List ℕ) → Result Tally RunFault → Type 0
+Closes start script replies editor output_old output_new result =
+    MatchResult result (Ended start script replies editor output_old output_new) (λ fault. (fault ≡ Output) × EndsInPart start script replies editor output_old output_new)

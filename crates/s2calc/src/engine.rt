@@ -1,0 +1,182 @@
+//! The run of a script.
+ghost use Rattle.std.specs.Prelude.{◌≡◌, ℕ, List, [], ◌∷◌, ◌++◌, OnOk, OnErr, IfOk, IfErr, IfSome, IfNone, MatchResult, ◌<◌, length};
+ghost use Rattle.std.specs.Io.KnownBytes.{Appends, Keeps};
+ghost use Rattle.s2calc.specs.Output.{AppendsPart};
+ghost use Rattle.s2calc.specs.Step.{Step};
+ghost use Rattle.s2calc.specs.Replies.{Reply, tally_of};
+ghost use Rattle.s2calc.specs.Execute.{IsOutcome};
+ghost use Rattle.s2script.specs.Lines.{IsUnbroken, EndsLineAt};
+ghost use Rattle.s2calc.specs.Run.{Runs};
+ghost use Rattle.s2calc.specs.World.{World, world};
+ghost use Rattle.s2calc.specs.Stands.{Stands, StandsAfter, StopsInside, Closes};
+
+use crate::execute::{Outcome, execute};
+use crate::fault::RunFault;
+use crate::kept::Kept;
+use crate::output::flush;
+use s2edit::Editor;
+use s2file::Shelf;
+use std::alloc::{AllocError, Global};
+use std::io::{Read, Write};
+
+/// How many lines were answered, and how many of them were refused. Each number stops at its greatest value.
+#[derive(Clone, Copy, Debug, PartialEq, Eq)]
+pub struct Tally {
+    pub commands: u64,
+    pub refused: u64,
+}
+
+impl Tally {
+    /// Counts one line.
+    fn count(&mut self, outcome: Outcome)
+        ensures { (reply : Reply) (before : List Reply) → IsOutcome outcome reply → self.old ≡ tally_of before → self.new ≡ tally_of (before ++ reply ∷ []) }
+    {
+        match outcome {
+            Outcome::Silent => {}
+            Outcome::Answered => self.commands = self.commands.saturating_add(1),
+            Outcome::Refused => {
+                self.commands = self.commands.saturating_add(1);
+                self.refused = self.refused.saturating_add(1);
+            }
+        }
+    }
+}
+
+/// Where the newline is.
+fn newline_in(bytes: &[u8]) -> Option<usize>
+    ensures none { IfNone result (IsUnbroken bytes.now) }
+    ensures some { IfSome result (λ at. EndsLineAt bytes.now at) }
+{
+    bytes.iter().position(|b| *b == b'\n')
+}
+
+/// Takes the next bytes of a script, and carries out each line that they end.
+fn take_in<W: Write, S: Shelf>(
+    alloc: Global,
+    editor: &mut Editor,
+    kept: &mut Kept,
+    tally: &mut Tally,
+    chunk: &[u8],
+    writer: &mut W,
+    shelf: &mut S,
+) -> Result<(), RunFault>
+    ensures ok { OnOk result ((start : World) (script : List ℕ) (replies : List Reply) →
+        Stands start script replies (world editor.old (S.files shelf.old)) kept.old tally.old →
+        StandsAfter start script replies chunk.now (world editor.new (S.files shelf.new)) kept.new tally.new (W.contents writer.old) (W.contents writer.new)) }
+    ensures err { OnErr result ((start : World) (script : List ℕ) (replies : List Reply) →
+        Stands start script replies (world editor.old (S.files shelf.old)) kept.old tally.old →
+        StopsInside start script replies chunk.now (world editor.new (S.files shelf.new)) (W.contents writer.old) (W.contents writer.new)) }
+    ensures fault { IfErr result (λ fault. fault ≡ RunFault.Output) }
+{
+    let mut rest = chunk;
+    while let Some(at) = newline_in(rest) {
+        kept.keep(&rest[..at]);
+        let outcome = execute(alloc, editor, kept.as_slice(), writer, shelf)?;
+        kept.clear();
+        tally.count(outcome);
+        rest = &rest[at + 1..];
+    }
+    kept.keep(rest);
+    Ok(())
+}
+
+/// How many bytes a read asks for.
+const READ_SIZE: usize = 65536;
+
+/// Runs a script: its lines come from the reader, and the answers go to the writer.
+pub fn run<R: Read, W: Write, S: Shelf>(
+    alloc: Global,
+    editor: &mut Editor,
+    reader: &mut R,
+    writer: &mut W,
+    shelf: &mut S,
+) -> Result<Tally, RunFault>
+    ensures { Runs (record {
+      input_old = R.remaining reader.old;
+      input_new = R.remaining reader.new;
+      output_old = W.contents writer.old;
+      output_new = W.contents writer.new;
+    }) (world editor.old (S.files shelf.old)) (world editor.new (S.files shelf.new)) result }
+{
+    match input_buffer(alloc) {
+        Ok(mut input) => run_over(alloc, &mut input, editor, reader, writer, shelf),
+        Err(_) => Err(RunFault::Memory),
+    }
+}
+
+fn input_buffer(alloc: Global) -> Result<Vec<u8>, AllocError>
+    ensures { IfOk result (λ input. 0 < length input.items) }
+{
+    vec![in alloc; 0u8; READ_SIZE]
+}
+
+/// The run, over a buffer for the reader.
+fn run_over<R: Read, W: Write, S: Shelf>(
+    alloc: Global,
+    input: &mut [u8],
+    editor: &mut Editor,
+    reader: &mut R,
+    writer: &mut W,
+    shelf: &mut S,
+) -> Result<Tally, RunFault>
+    requires { 0 < length input.old }
+    ensures { Runs (record {
+      input_old = R.remaining reader.old;
+      input_new = R.remaining reader.new;
+      output_old = W.contents writer.old;
+      output_new = W.contents writer.new;
+    }) (world editor.old (S.files shelf.old)) (world editor.new (S.files shelf.new)) result }
+{
+    let mut kept = Kept::new();
+    let mut tally = Tally {
+        commands: 0,
+        refused: 0,
+    };
+    for _ in 0..u64::MAX {
+        match reader.read(input) {
+            Ok(0) => return finish(alloc, editor, &kept, tally, writer, shelf),
+            Ok(count) => take_in(
+                alloc,
+                editor,
+                &mut kept,
+                &mut tally,
+                &input[..count],
+                writer,
+                shelf,
+            )?,
+            Err(_) => return Err(RunFault::Input),
+        }
+    }
+    Err(RunFault::Input)
+}
+
+/// Carries out a last line that no newline ends, and flushes.
+fn finish<W: Write, S: Shelf>(
+    alloc: Global,
+    editor: &mut Editor,
+    kept: &Kept,
+    mut tally: Tally,
+    writer: &mut W,
+    shelf: &mut S,
+) -> Result<Tally, RunFault>
+    ensures { (start : World) (script : List ℕ) (replies : List Reply) →
+        Stands start script replies (world editor.old (S.files shelf.old)) kept.now tally →
+        Closes start script replies (world editor.new (S.files shelf.new)) (W.contents writer.old) (W.contents writer.new) result }
+{
+    let line = kept.as_slice();
+    if line.is_empty() {
+        return flushed(tally, writer);
+    }
+    let outcome = execute(alloc, editor, line, writer, shelf)?;
+    tally.count(outcome);
+    flushed(tally, writer)
+}
+
+/// Flushes the writer, and tells how many lines were answered.
+fn flushed<W: Write>(tally: Tally, writer: &mut W) -> Result<Tally, RunFault>
+    ensures kept { Keeps (W.contents writer.old) (W.contents writer.new) }
+    ensures result { MatchResult result (λ told. told ≡ tally) (λ fault. fault ≡ RunFault.Output) }
+{
+    flush(writer)?;
+    Ok(tally)
+}

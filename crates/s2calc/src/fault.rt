@@ -1,0 +1,16 @@
+//! What ends a run.
+use thiserror::Error;
+
+/// What ends a run before its script does.
+#[derive(Clone, Copy, Debug, PartialEq, Eq, Error)]
+pub enum RunFault {
+    /// A read failed, or the reads ran out.
+    #[error("the input failed")]
+    Input,
+    /// A write failed or took nothing, or the flush failed.
+    #[error("the output failed")]
+    Output,
+    /// There was no memory for the buffers.
+    #[error("out of memory")]
+    Memory,
+}

@@ -1,0 +1,57 @@
+//! What the program answers beside a run.
+ghost use Rattle.std.specs.Prelude.{◌≡◌, OnOk, OnErr, IfOk, IfErr, not};
+ghost use Rattle.std.specs.Io.KnownBytes.{Appends};
+ghost use Rattle.s2calc.specs.Output.{AppendsPart};
+ghost use Rattle.s2calc.specs.Replies.{text_of, is_refusal};
+ghost use Rattle.s2calc.specs.Program.{cell_reply, status_of};
+
+use crate::engine::Tally;
+use crate::fault::RunFault;
+use crate::output::{emit, flush};
+use crate::text::{cell_line, error_line};
+use s2script::{Refusal, cell_in};
+use std::io::Write;
+
+/// Writes what is known of the cell that the word names, and flushes. False where it names none, which is
+/// then written. It takes no memory.
+pub fn cell_answer<W: Write>(word: &[u8], writer: &mut W) -> Result<bool, RunFault>
+    ensures ok { OnOk result (Appends (W.contents writer.old) (W.contents writer.new) (text_of (cell_reply word.now))) }
+    ensures named { IfOk result (λ named. named ≡ not (is_refusal (cell_reply word.now))) }
+    // A beginning of the line was written.
+    ensures err { OnErr result (AppendsPart (W.contents writer.old) (W.contents writer.new) (text_of (cell_reply word.now))) }
+    ensures fault { IfErr result (λ fault. fault ≡ RunFault.Output) }
+{
+    match cell_in(word) {
+        Some(cell) => {
+            write_line(cell_line(cell).as_slice(), writer)?;
+            Ok(true)
+        }
+        None => {
+            write_line(error_line(Refusal::Cell).as_slice(), writer)?;
+            Ok(false)
+        }
+    }
+}
+
+/// Writes a line and flushes.
+pub(crate) fn write_line<W: Write>(line: &[u8], writer: &mut W) -> Result<(), RunFault>
+    ensures ok { OnOk result (Appends (W.contents writer.old) (W.contents writer.new) line.now) }
+    ensures err { OnErr result (AppendsPart (W.contents writer.old) (W.contents writer.new) line.now) }
+    ensures fault { IfErr result (λ fault. fault ≡ RunFault.Output) }
+{
+    emit(writer, line)?;
+    flush(writer)
+}
+
+/// The exit status of a run: 0 where nothing was refused, 1 where something was, 2 where the input or the
+/// output failed, 3 for want of memory at the start.
+pub fn status(outcome: &Result<Tally, RunFault>) -> u8
+    ensures { result ≡ status_of outcome.now }
+{
+    match outcome {
+        Ok(tally) if tally.refused == 0 => 0,
+        Ok(_) => 1,
+        Err(RunFault::Input | RunFault::Output) => 2,
+        Err(RunFault::Memory) => 3,
+    }
+}

@@ -1,0 +1,85 @@
+//! A writer that takes a few bytes a call, and may go wrong.
+ghost use Rattle.std.specs.Prelude.{◌≡◌, Some, [], IfOk};
+
+use std::alloc::{AllocError, Global};
+use std::io;
+use std::io::{ErrorKind, Write};
+
+/// How a call of `Narrow` goes wrong.
+#[derive(Clone, Copy, PartialEq, Eq, Debug)]
+pub enum Mishap {
+    /// It answers an error.
+    Fails,
+    /// It takes no byte.
+    TakesNothing,
+}
+
+/// Takes a few bytes a call, and may go wrong at a call.
+#[derive(Drop)]
+pub struct Narrow {
+    written: Vec<u8>,
+    size: usize,
+    calls: u64,
+    mishap: Option<(u64, Mishap)>,
+}
+
+impl Narrow {
+    /// A writer with room for so many bytes, which takes so many a call; the call with the given number goes wrong.
+    pub fn new(
+        alloc: Global,
+        room: usize,
+        size: usize,
+        mishap: Option<(u64, Mishap)>,
+    ) -> Result<Narrow, AllocError>
+        ensures { IfOk result (λ narrow. narrow.written.items ≡ []) }
+    {
+        let written = Vec::with_capacity(alloc, room)?;
+        Ok(Narrow {
+            written,
+            size,
+            calls: 0,
+            mishap,
+        })
+    }
+
+    /// What it has taken.
+    pub fn written(&self) -> &[u8]
+        ensures { result.now ≡ self.now.written.items }
+    {
+        &self.written
+    }
+
+    /// Counts a call, and says how it goes wrong.
+    fn mishap_now(&mut self) -> Option<Mishap>
+        ensures { self.new.written ≡ self.old.written }
+    {
+        self.calls = self.calls.saturating_add(1);
+        match self.mishap {
+            Some((at, mishap)) if at == self.calls => Some(mishap),
+            _ => None,
+        }
+    }
+}
+
+impl Write for Narrow {
+    ghost contents = { λ n. Some n.written.items };
+
+    fn write(&mut self, buf: &[u8]) -> io::Result<usize> {
+        match self.mishap_now() {
+            Some(Mishap::Fails) => Err(io::Error::from(ErrorKind::Other)),
+            Some(Mishap::TakesNothing) => Ok(0),
+            None => {
+                let count = buf.len().min(self.size);
+                self.written.extend_from_slice(&buf[..count])?;
+                Ok(count)
+            }
+        }
+    }
+
+    fn flush(&mut self) -> io::Result<()> {
+        match self.mishap_now() {
+            Some(_) => Err(io::Error::from(ErrorKind::Other)),
+            None => Ok(()),
+        }
+    }
+}

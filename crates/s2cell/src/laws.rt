@@ -1,0 +1,56 @@
+//! What holds of the definitions themselves: functions that do nothing, whose clauses are proved.
+ghost use Rattle.std.specs.Prelude.{◌≡◌, ◌↔◌, ℕ, List, codes};
+ghost use Rattle.s2cell.specs.Cell.{IsCell};
+ghost use Rattle.s2cell.specs.Token.{IsReading, IsToken, token_of};
+ghost use Rattle.s2cell.specs.Debug.{IsDebug, debug_of};
+ghost use Rattle.s2cell.specs.Example.{IsDescribed};
+
+/// Each cell has one token and one debug text, and each text stands for at most one cell.
+pub fn law_of_texts()
+    ensures token { (n : ℕ) (text : List ℕ) → IsCell n
+        → (IsToken text n ↔ (text ≡ token_of n)) }
+    ensures debug { (n : ℕ) (text : List ℕ) → IsCell n
+        → (IsDebug text n ↔ (text ≡ debug_of n)) }
+    ensures cell_of_token { (m n : ℕ) (text : List ℕ)
+        → IsReading text m → IsReading text n → m ≡ n }
+    ensures cell_of_debug { (m n : ℕ) (text : List ℕ)
+        → IsDebug text m → IsDebug text n → m ≡ n }
+{}
+
+/// Cells as S2 knows them: the six faces, and one cell each of the levels 1, 3, 28 and 30.
+pub fn known_cells()
+    ensures face_0 { IsDescribed 0x1000000000000000 (codes "1") (codes "0/")
+        0 0 0 1152921504606846975 }
+    ensures face_1 { IsDescribed 0x3000000000000000 (codes "3") (codes "1/")
+        0 1 1152921504606846976 2305843009213693951 }
+    ensures face_2 { IsDescribed 0x5000000000000000 (codes "5") (codes "2/")
+        0 2 2305843009213693952 3458764513820540927 }
+    ensures face_3 { IsDescribed 0x7000000000000000 (codes "7") (codes "3/")
+        0 3 3458764513820540928 4611686018427387903 }
+    ensures face_4 { IsDescribed 0x9000000000000000 (codes "9") (codes "4/")
+        0 4 4611686018427387904 5764607523034234879 }
+    ensures face_5 { IsDescribed 0xb000000000000000 (codes "b") (codes "5/")
+        0 5 5764607523034234880 6917529027641081855 }
+    ensures level_1 { IsDescribed 0x0c00000000000000 (codes "0c") (codes "0/1")
+        1 0 288230376151711744 576460752303423487 }
+    ensures level_3 { IsDescribed 0x64c0000000000000 (codes "64c") (codes "3/021")
+        3 3 3620894100405878784 3638908498915360767 }
+    ensures level_28 { IsDescribed 0x0000000000000030 (codes "000000000000003") (codes "0/0000000000000000000000000001")
+        28 0 16 31 }
+    ensures level_30 { IsDescribed 0x0000000000000003 (codes "0000000000000003") (codes "0/000000000000000000000000000001")
+        30 0 1 1 }
+    ensures capitals_and_zeros { IsReading (codes "0C00") 0x0c00000000000000 }
+{}
+
+/// Texts that name no cell.
+pub fn refused_texts()
+    ensures no_digit { (n : ℕ) → IsReading (codes "X") n → ⊥ }
+    ensures no_byte { (n : ℕ) → IsReading (codes "") n → ⊥ }
+    ensures face_6 { (n : ℕ) → IsReading (codes "c") n → IsCell n → ⊥ }
+    ensures odd_place { (n : ℕ) → IsReading (codes "2") n → IsCell n → ⊥ }
+    ensures seventeen_digits { (n : ℕ) → IsReading (codes "10000000000000001") n → ⊥ }
+    ensures zeros_kept { (n : ℕ) → IsToken (codes "0c00") n → ⊥ }
+    ensures capital { (n : ℕ) → IsToken (codes "0C") n → ⊥ }
+    ensures face_6_debug { (n : ℕ) → IsDebug (codes "6/") n → ⊥ }
+    ensures digit_4_debug { (n : ℕ) → IsDebug (codes "0/4") n → ⊥ }
+{}

@@ -1,0 +1,71 @@
+//! Cells with their squares, for walks down through the cells.
+
+ghost use Rattle.std.specs.Prelude.{◌≡◌, ◌+◌, ◌<◌};
+ghost use Rattle.s2cell.specs.Cell.{level_of, child_of, face_of};
+ghost use Rattle.s2cell.specs.Square.{IsPlaced};
+
+use crate::{CellId, Square, tables};
+
+/// A cell with its square, and the orientation at which the curve enters it.
+///
+/// A walk that asks for the square of each cell on its way carries them down: those of a child
+/// follow from the cell's in a few steps, while `CellId::square` goes down from the face each time
+/// (so `S2PaddedCell` carries them).
+#[derive(Clone, Copy, PartialEq, Eq, Debug)]
+pub struct PlacedCell {
+    /// The cell.
+    pub cell: CellId,
+    /// Its square.
+    pub square: Square,
+    /// Its orientation, 0 to 3.
+    pub orientation: u8,
+}
+
+impl PlacedCell {
+    /// A face, 0 to 5, with its square.
+    pub fn face(face: u8) -> PlacedCell
+        requires { face < 6 }
+        ensures placed { IsPlaced result.cell result.square.face result.square.i result.square.j result.square.size result.orientation }
+        ensures level { level_of result.cell ≡ 0 }
+        ensures face { face_of result.cell ≡ face }
+    {
+        PlacedCell {
+            cell: CellId {
+                id: (2 * u64::from(face) + 1) << 60,
+            },
+            square: Square {
+                face,
+                i: 0,
+                j: 0,
+                size: 1 << 30,
+            },
+            orientation: face % 2,
+        }
+    }
+
+    /// The child with the number `p`, 0 to 3 along the curve, with its square. The cell is no leaf.
+    pub fn child(self, p: u8) -> PlacedCell
+        requires placed { IsPlaced self.cell self.square.face self.square.i self.square.j self.square.size self.orientation }
+        requires inner { level_of self.cell < 30 }
+        requires place { p < 4 }
+        ensures cell { result.cell ≡ child_of self.cell p }
+        ensures level { level_of result.cell ≡ level_of self.cell + 1 }
+        ensures placed { IsPlaced result.cell result.square.face result.square.i result.square.j result.square.size result.orientation }
+    {
+        let step = tables::place_step(self.orientation, p);
+        let half = self.square.size / 2;
+        PlacedCell {
+            cell: self.cell.child(p),
+            square: Square {
+                face: self.square.face,
+                i: self.square.i + half * u32::from(step >> 3),
+                j: self.square.j + half * u32::from((step >> 2) & 1),
+                size: half,
+            },
+            orientation: step & 3,
+        }
+    }
+}
+
+#[cfg(test)]
+mod tests;

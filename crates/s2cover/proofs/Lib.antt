@@ -1,0 +1,11 @@
+mod Runs
+mod Forms
+mod Visits
+mod Formed
+mod Rectangles
+mod Regions
+mod Coverings
+mod Searches
+mod Squares
+mod Rounded
+mod Faces

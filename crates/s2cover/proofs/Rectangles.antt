@@ -1,0 +1,156 @@
+-- Squares of cells and rectangles of leaves.
+use Rattle.std.proofs.Common.{◌≡◌, ℕ, suc, zero, ◌+◌, ◌-◌, ◌/◌, ◌%◌, ◌^◌, ◌<◌, ◌≤◌, true, false, ◌&&◌, ◌==◌, nat_le, ◌↔◌, refl, arith, subst, bit_xor, ◌⊎◌, inl, inr, ⊎_elim}
+use Rattle.std.proofs.lemmas.Bool.{and_parts, and_from, cases_lt, both_ways, false_from_ne_true}
+use Rattle.std.proofs.lemmas.Bool.Decides.{nat_tests}
+use Rattle.std.proofs.lemmas.Nat.{div-add-mod', mod_below, pow_pos}
+use Rattle.s2cell.specs.Cell.{level_of, covers}
+use Rattle.s2cell.specs.Curve.{At, IsPlaceOf, quadrant, turn}
+use Rattle.s2cell.specs.Square.{IsSquareOf}
+use Rattle.s2cell.proofs.CellLemmas.{four_pos}
+use Rattle.s2cell.proofs.Quadrants.{quadrant_below, turn_keeps}
+use Rattle.s2cell.proofs.Levels.{at_step, digit_below}
+use Rattle.s2cell.proofs.Squares.{one_place}
+use Rattle.s2cover.specs.Rectangles.{i_within, j_within, i_of, j_of, Rect, IsRect, IsInRect, rect_set}
+
+pub at_within : (k o n : ℕ) → o < 4 → n < 4 ^ k → At k o n (i_within k o n) (j_within k o n)
+unfolding i_within j_within At
+at_within zero o n ho hn = (omega arith, refl, refl)
+at_within (suc k) o n ho hn =
+    let hp = digit_below k n hn in
+    let q = quadrant_below o (n / 4 ^ k) ho hp in
+    let p = n / 4 ^ k in
+    let Q = quadrant o p in
+    let deep = at_within k (bit_xor o (turn p)) (n % 4 ^ k) (turn_keeps o p ho hp) (mod_below n (4 ^ k) (four_pos k)) in
+    let s = at_step k o (n % 4 ^ k) (i_within k (bit_xor o (turn p)) (n % 4 ^ k)) (j_within k (bit_xor o (turn p)) (n % 4 ^ k)) p (Q / 2) (Q % 2) hp (omega arith) (omega arith) (omega arith) deep in
+    subst (λ (z : ℕ). At (suc k) o z (i_within (suc k) o n) (j_within (suc k) o n)) (div-add-mod' n (4 ^ k)) s
+
+-- where a leaf stands
+pub place_is : (n : ℕ) → IsPlaceOf n (n / 4 ^ 30) (i_of n) (j_of n)
+unfolding i_of j_of
+place_is n = record { face_is = refl; at = at_within 30 (n / 4 ^ 30 % 2) (n % 4 ^ 30) (omega arith) (omega arith) }
+
+same_from_test : (a b : ℕ) → (a == b) ≡ true → a ≡ b
+same_from_test a b h = grind (arith, nat_tests)
+
+test_from_same : (a b : ℕ) → a ≡ b → (a == b) ≡ true
+test_from_same a b h = grind (arith, nat_tests)
+
+le_from_test : (a b : ℕ) → nat_le a b ≡ true → a ≤ b
+le_from_test a b h = grind (arith, nat_tests)
+
+test_from_le : (a b : ℕ) → a ≤ b → nat_le a b ≡ true
+test_from_le a b h = grind (arith, nat_tests)
+
+pub in_rect_from : (r : Rect) (n : ℕ) → rect_set r n ≡ true → IsInRect r (n / 4 ^ 30) (i_of n) (j_of n)
+unfolding rect_set
+in_rect_from r n h =
+    let a = and_parts ((n / 4 ^ 30 == r.face) && (nat_le r.i0 (i_of n) && nat_le (i_of n) r.i1)) (nat_le r.j0 (j_of n) && nat_le (j_of n) r.j1) h in
+    let b = and_parts (n / 4 ^ 30 == r.face) (nat_le r.i0 (i_of n) && nat_le (i_of n) r.i1) a.0 in
+    let i = and_parts (nat_le r.i0 (i_of n)) (nat_le (i_of n) r.i1) b.1 in
+    let j = and_parts (nat_le r.j0 (j_of n)) (nat_le (j_of n) r.j1) a.1 in
+    record {
+      on = same_from_test (n / 4 ^ 30) r.face b.0;
+      along = (le_from_test r.i0 (i_of n) i.0, le_from_test (i_of n) r.i1 i.1);
+      across = (le_from_test r.j0 (j_of n) j.0, le_from_test (j_of n) r.j1 j.1);
+    }
+
+in_rect_to : (r : Rect) (n : ℕ) → IsInRect r (n / 4 ^ 30) (i_of n) (j_of n) → rect_set r n ≡ true
+unfolding rect_set
+in_rect_to r n w =
+    and_from ((n / 4 ^ 30 == r.face) && (nat_le r.i0 (i_of n) && nat_le (i_of n) r.i1)) (nat_le r.j0 (j_of n) && nat_le (j_of n) r.j1)
+    (and_from (n / 4 ^ 30 == r.face) (nat_le r.i0 (i_of n) && nat_le (i_of n) r.i1) (test_from_same (n / 4 ^ 30) r.face w.on)
+    (and_from (nat_le r.i0 (i_of n)) (nat_le (i_of n) r.i1) (test_from_le r.i0 (i_of n) w.along.0) (test_from_le (i_of n) r.i1 w.along.1)))
+    (and_from (nat_le r.j0 (j_of n)) (nat_le (j_of n) r.j1) (test_from_le r.j0 (j_of n) w.across.0) (test_from_le (j_of n) r.j1 w.across.1))
+
+-- a leaf is in the rectangle just where its place is
+pub in_rect : (r : Rect) (n f i j : ℕ) → IsPlaceOf n f i j → (rect_set r n ≡ true) ↔ IsInRect r f i j
+in_rect r n f i j p =
+    let same = one_place n f i j (n / 4 ^ 30) (i_of n) (j_of n) p (place_is n) in
+    (λ h. rw (same.0, same.1, same.2) (in_rect_from r n h), λ w. in_rect_to r n (rw (same.0, same.1, same.2) at w))
+
+-- ---- one side
+
+-- no place from `at` on, for `size` places, lies from `lo` to `hi`
+abbrev pub Apart : ℕ → ℕ → ℕ → ℕ → Type 0
+Apart lo hi at size = (hi < at) ⊎ (at + size ≤ lo)
+
+-- all of them do
+abbrev pub Inside : ℕ → ℕ → ℕ → ℕ → Type 0
+Inside lo hi at size = (lo ≤ at) × (at + size ≤ hi + 1)
+
+pub apart_or : (lo hi at size : ℕ) → Apart lo hi at size ⊎ ((hi < at → ⊥) × (at + size ≤ lo → ⊥))
+apart_or lo hi at size =
+    ⊎_elim (λ (h : hi < at). inl (inl h))
+    (λ (h : at ≤ hi). ⊎_elim (λ (l : lo < at + size). inr (λ x. absurd (omega arith), λ x. absurd (omega arith))) (λ (l : at + size ≤ lo). inl (inr l)) (cases_lt lo (at + size)))
+    (cases_lt hi at)
+
+record Shared (lo hi at size : ℕ) : Type 0 where
+  pub at_place : ℕ
+  pub low : lo ≤ at_place
+  pub high : at_place ≤ hi
+  pub after : at ≤ at_place
+  pub before : at_place < at + size
+
+shared : (lo hi at size : ℕ) → lo ≤ hi → 0 < size → (hi < at → ⊥) × (at + size ≤ lo → ⊥) → Shared lo hi at size
+shared lo hi at size h s n =
+    let a : at ≤ hi = ⊎_elim (λ (w : hi < at). absurd (n.0 w)) (λ (w : at ≤ hi). w) (cases_lt hi at) in
+    let b : lo < at + size = ⊎_elim (λ (w : lo < at + size). w) (λ (w : at + size ≤ lo). absurd (n.1 w)) (cases_lt lo (at + size)) in
+    ⊎_elim
+    (λ (w : at < lo). record { at_place = lo; low = omega arith; high = h; after = omega arith; before = b })
+    (λ (w : lo ≤ at). record { at_place = at; low = w; high = a; after = omega arith; before = omega arith })
+    (cases_lt at lo)
+
+-- ---- both sides
+
+pub side_pos : (c f i j s : ℕ) → IsSquareOf c f i j s → 0 < s
+side_pos c f i j s q = let p = pow_pos (30 - level_of c) in let e = q.size_is in omega arith
+
+pub out_from : (r : Rect) (c f i j s : ℕ) → IsSquareOf c f i j s → (f ≡ r.face → ⊥) ⊎ (Apart r.i0 r.i1 i s ⊎ Apart r.j0 r.j1 j s) → (x : ℕ) → covers c x ≡ true → rect_set r x ≡ false
+out_from r c f i j s q a x h =
+    false_from_ne_true (rect_set r x) (λ t.
+    let there = q.leaves x h in
+    let w = (in_rect r x f there.0 there.1 there.2).0 t in
+    let u = there.3.first in
+    let v = there.3.second in
+    let wi = w.along in
+    let wj = w.across in
+    let u0 = u.0 in let u1 = u.1 in let v0 = v.0 in let v1 = v.1 in
+    let i0 = wi.0 in let i1 = wi.1 in let j0 = wj.0 in let j1 = wj.1 in
+    ⊎_elim (λ (n : f ≡ r.face → ⊥). n w.on)
+    (⊎_elim (⊎_elim (λ (l : r.i1 < i). absurd (omega arith)) (λ (l : i + s ≤ r.i0). absurd (omega arith)))
+    (⊎_elim (λ (l : r.j1 < j). absurd (omega arith)) (λ (l : j + s ≤ r.j0). absurd (omega arith)))) a)
+
+pub out_to : (r : Rect) (c f i j s : ℕ) → IsRect r → IsSquareOf c f i j s → f ≡ r.face → (r.i1 < i → ⊥) × (i + s ≤ r.i0 → ⊥) → (r.j1 < j → ⊥) × (j + s ≤ r.j0 → ⊥)
+    → ((x : ℕ) → covers c x ≡ true → rect_set r x ≡ false) → ⊥
+out_to r c f i j s ok q e a b h =
+    let p = side_pos c f i j s q in
+    let u = shared r.i0 r.i1 i s ok.i.0 p a in
+    let v = shared r.j0 r.j1 j s ok.j.0 p b in
+    let leaf = q.places u.at_place v.at_place (record { first = (u.after, u.before); second = (v.after, v.before) }) in
+    both_ways (rect_set r leaf.0) (h leaf.0 leaf.1) ((in_rect r leaf.0 f u.at_place v.at_place leaf.2).1 (record { on = e; along = (u.low, u.high); across = (v.low, v.high) }))
+
+pub in_from : (r : Rect) (c f i j s : ℕ) → IsSquareOf c f i j s → f ≡ r.face → Inside r.i0 r.i1 i s → Inside r.j0 r.j1 j s → (x : ℕ) → covers c x ≡ true → rect_set r x ≡ true
+in_from r c f i j s q e a b x h =
+    let there = q.leaves x h in
+    let u = there.3.first in
+    let v = there.3.second in
+    let u0 = u.0 in let u1 = u.1 in let v0 = v.0 in let v1 = v.1 in
+    let a0 = a.0 in let a1 = a.1 in let b0 = b.0 in let b1 = b.1 in
+    (in_rect r x f there.0 there.1 there.2).1 (record { on = e; along = (omega arith, omega arith); across = (omega arith, omega arith) })
+
+-- what a square inside a rectangle says of its sides
+pub record Within (r : Rect) (f i j s : ℕ) : Type 0 where
+  pub on : f ≡ r.face
+  pub along : Inside r.i0 r.i1 i s
+  pub across : Inside r.j0 r.j1 j s
+
+pub in_to : (r : Rect) (c f i j s : ℕ) → IsSquareOf c f i j s → ((x : ℕ) → covers c x ≡ true → rect_set r x ≡ true) → Within r f i j s
+in_to r c f i j s q h =
+    let p = side_pos c f i j s q in
+    let low = q.places i j (record { first = (omega arith, omega arith); second = (omega arith, omega arith) }) in
+    let high = q.places (i + (s - 1)) (j + (s - 1)) (record { first = (omega arith, omega arith); second = (omega arith, omega arith) }) in
+    let a = (in_rect r low.0 f i j low.2).0 (h low.0 low.1) in
+    let b = (in_rect r high.0 f (i + (s - 1)) (j + (s - 1)) high.2).0 (h high.0 high.1) in
+    let a0 = a.along.0 in let a1 = a.across.0 in
+    let b0 = b.along.1 in let b1 = b.across.1 in
+    record { on = a.on; along = (omega arith, omega arith); across = (omega arith, omega arith) }

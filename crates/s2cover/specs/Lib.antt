@@ -1,0 +1,3 @@
+pub mod Coverings
+pub mod Descent
+pub mod Rectangles

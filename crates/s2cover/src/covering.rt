@@ -1,0 +1,99 @@
+//! The outer and the inner covering of any region.
+ghost use Rattle.std.specs.Prelude.{◌≡◌, ◌+◌, ◌-◌, ◌*◌, ◌^◌, ◌<◌, ◌≤◌, ◌↔◌, ℕ, Bool, true, false, List, length, vec_len, IfOk, IfErr};
+ghost use Rattle.s2cell.specs.Cell.{IsCell, id_at};
+ghost use Rattle.s2union.specs.Union.{has_leaf, IsLocal, IsNormalForm};
+ghost use Rattle.s2cover.specs.Coverings.{IsInInner, IsInOuter, inner_set, outer_set};
+ghost use Rattle.s2cover.specs.Descent.{covering_set};
+
+use crate::descent::visit;
+use crate::region::{CoverFault, Region};
+use s2cell::CellId;
+use s2union::CellUnion;
+use std::alloc::Global;
+
+/// The outer covering of a region: the cells of the level that share a leaf with it, normalised.
+///
+/// `TooMany` comes only where the finished covering has more than `max` cells; a longer list on the way is no reason.
+/// The list never holds more than `max` and some ninety cells. S2: `GetCovering` with one level, without its bound on
+/// cells.
+pub fn outer<R: Region>(
+    alloc: Global,
+    region: &R,
+    level: u8,
+    max: usize,
+) -> Result<CellUnion, CoverFault>
+    requires level { level ≤ 30 }
+    requires max { max ≤ 1000000 }
+    ensures leaves { IfOk result (λ u. (x : ℕ) → has_leaf u.cells x ≡ outer_set (R.holds region.now) level x) }
+    ensures local { IfOk result (λ u. IsLocal u.cells) }
+    ensures normal { IfOk result (λ u. IsNormalForm (outer_set (R.holds region.now) level) u.cells) }
+    ensures within { IfOk result (λ u. length u.cells ≤ max) }
+    ensures many { IfErr result (λ fault. fault ≡ CoverFault.TooMany → (u : List ℕ) → IsNormalForm (outer_set (R.holds region.now) level) u → max < length u) }
+{
+    cover(alloc, region, true, level, max)
+}
+
+/// The inner covering of a region: the cells of the level that lie inside it, normalised.
+///
+/// `TooMany` comes as in `outer`. S2: `GetInteriorCovering` with one level, without its bound on cells.
+pub fn inner<R: Region>(
+    alloc: Global,
+    region: &R,
+    level: u8,
+    max: usize,
+) -> Result<CellUnion, CoverFault>
+    requires level { level ≤ 30 }
+    requires max { max ≤ 1000000 }
+    ensures leaves { IfOk result (λ u. (x : ℕ) → has_leaf u.cells x ≡ inner_set (R.holds region.now) level x) }
+    ensures local { IfOk result (λ u. IsLocal u.cells) }
+    ensures normal { IfOk result (λ u. IsNormalForm (inner_set (R.holds region.now) level) u.cells) }
+    ensures within { IfOk result (λ u. length u.cells ≤ max) }
+    ensures many { IfErr result (λ fault. fault ≡ CoverFault.TooMany → (u : List ℕ) → IsNormalForm (inner_set (R.holds region.now) level) u → max < length u) }
+{
+    cover(alloc, region, false, level, max)
+}
+
+/// A law: the leaves of the outer covering are those of all cells of the level that share a leaf with the region, the
+/// leaves of the inner one those of all cells of the level that lie inside it.
+pub fn covering_sets()
+    ensures outer { (R : ℕ → Bool) (k x : ℕ) → k ≤ 30 → (outer_set R k x ≡ true) ↔ IsInOuter R k x }
+    ensures inner { (R : ℕ → Bool) (k x : ℕ) → k ≤ 30 → (inner_set R k x ≡ true) ↔ IsInInner R k x }
+{}
+
+/// The outer covering where `whole`, else the inner one.
+fn cover<R: Region>(
+    alloc: Global,
+    region: &R,
+    whole: bool,
+    level: u8,
+    max: usize,
+) -> Result<CellUnion, CoverFault>
+    requires level { level ≤ 30 }
+    requires max { max ≤ 1000000 }
+    ensures leaves { IfOk result (λ u. (x : ℕ) → has_leaf u.cells x ≡ covering_set whole (R.holds region.now) level x) }
+    ensures local { IfOk result (λ u. IsLocal u.cells) }
+    ensures normal { IfOk result (λ u. IsNormalForm (covering_set whole (R.holds region.now) level) u.cells) }
+    ensures within { IfOk result (λ u. length u.cells ≤ max) }
+    ensures many { IfErr result (λ fault. fault ≡ CoverFault.TooMany → (u : List ℕ) → IsNormalForm (covering_set whole (R.holds region.now) level) u → max < length u) }
+{
+    let mut list = Vec::new(alloc);
+    for face in 0..6u8 {
+        match visit(region, whole, level, face_cell(face), 0, max, &mut list) {
+            Ok(_) => {}
+            Err(fault) => return Err(fault),
+        }
+        if list.len() > max {
+            return Err(CoverFault::TooMany);
+        }
+    }
+    Ok(CellUnion::from_normalized(list))
+}
+
+/// The cell that is the whole face.
+fn face_cell(face: u8) -> CellId
+    requires { face < 6 }
+    ensures value { result ≡ id_at 0 face }
+    ensures cell { IsCell result }
+{
+    CellId::from_id((2 * face as u64 + 1) << 60).unwrap()
+}

@@ -1,0 +1,33 @@
+//! Coverings of regions by cells.
+//!
+//! A region is a set of leaves that can say of each cell whether it lies outside, inside or across. That one question
+//! is enough to cover it: a descent from the six faces leaves at once what lies outside, takes whole what lies inside,
+//! and looks into what lies across, down to the level that is asked for.
+//!
+//! ```text
+//! outer     every cell of the level that shares a leaf with the region
+//! inner     every cell of the level that lies inside it
+//! ```
+//!
+//! Both are normalised: four siblings give way to their parent, so a covering may have cells above its level and never
+//! below it.
+#![tactic(auto)]
+
+mod covering;
+mod descent;
+mod grid;
+mod looks;
+mod rect;
+mod region;
+mod rounding;
+mod union;
+
+pub use covering::{covering_sets, inner, outer};
+pub use grid::{rect_inner, rect_outer};
+pub use looks::Looks;
+pub use rect::FaceRect;
+pub use region::{CoverFault, Part, Region};
+pub use union::Clip;
+
+#[cfg(test)]
+mod tests;

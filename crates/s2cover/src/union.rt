@@ -1,0 +1,75 @@
+//! A union as a region, and a union clipped by a rectangle.
+ghost use Rattle.std.specs.Prelude.{◌≡◌, ◌↔◌, ◌&&◌, ℕ, All, Bool, true, false, IsTrue};
+ghost use Rattle.s2cell.specs.Cell.{IsCell, covers};
+ghost use Rattle.s2union.specs.Union.{has_leaf, LiesIn};
+ghost use Rattle.s2cover.specs.Rectangles.{rect_set};
+
+use crate::rect::FaceRect;
+use crate::region::{Part, Region};
+use s2cell::CellId;
+use s2union::CellUnion;
+
+impl Region for CellUnion {
+    ghost holds = { λ u. has_leaf u.cells };
+
+    fn part(&self, cell: CellId) -> Part {
+        let _ = cell.id();
+        if !self.intersects_cell(cell) {
+            Part::Out
+        } else if self.contains_cell(cell) {
+            Part::In
+        } else {
+            Part::Cross
+        }
+    }
+}
+
+/// The leaves of a union that stand in a rectangle. It refers to the union and copies none of it.
+#[derive(Clone, Copy)]
+pub struct Clip<'a> {
+    /// The union.
+    pub union: &'a CellUnion,
+    /// The rectangle that clips it.
+    pub rect: FaceRect,
+}
+
+impl<'a> Region for Clip<'a> {
+    ghost holds = { λ c x. has_leaf c.union.now.cells x && rect_set c.rect x };
+
+    fn part(&self, cell: CellId) -> Part {
+        match self.rect.part(cell) {
+            Part::Out => Part::Out,
+            Part::In => self.union.part(cell),
+            Part::Cross => part_across(self.union, &self.rect, cell),
+        }
+    }
+}
+
+/// How a cell that crosses the rectangle lies to the clipped union. It may cross both, and yet share no leaf with what
+/// they share: so the union's cells in it are asked one by one.
+fn part_across(union: &CellUnion, rect: &FaceRect, cell: CellId) -> Part
+    requires some { ((x : ℕ) → covers cell x ≡ true → rect_set rect.now x ≡ false) → ⊥ }
+    requires rest { LiesIn (rect_set rect.now) cell → ⊥ }
+    ensures out { (result ≡ Part.Out) ↔ ((x : ℕ) → covers cell x ≡ true → (has_leaf union.now.cells x && rect_set rect.now x) ≡ false) }
+    ensures inside { (result ≡ Part.In) ↔ ((x : ℕ) → covers cell x ≡ true → (has_leaf union.now.cells x && rect_set rect.now x) ≡ true) }
+{
+    let _ = cell.id();
+    if !union.contains_cell(cell) && lie_outside(union.cells_at(cell), rect) {
+        Part::Out
+    } else {
+        Part::Cross
+    }
+}
+
+/// Whether all of the cells lie outside the rectangle.
+fn lie_outside(cells: &[CellId], rect: &FaceRect) -> bool
+    ensures { IsTrue result ↔ ((x : ℕ) → has_leaf cells.now x ≡ true → rect_set rect.now x ≡ false) }
+{
+    for cell in cells {
+        match rect.part(*cell) {
+            Part::Out => {}
+            _ => return false,
+        }
+    }
+    true
+}

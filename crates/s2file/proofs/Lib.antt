@@ -1,0 +1,6 @@
+pub mod Numbers
+pub mod Reading
+pub mod Files
+pub mod Texts
+pub mod Named
+pub mod Examples

@@ -1,0 +1,91 @@
+-- The union file: the byte 1, a count, and that many identifiers of cells, each number in eight bytes, the lowest first.
+use Rattle.std.specs.Prelude.{◌≡◌, ◌≢◌, ℕ, zero, suc, ◌+◌, ◌*◌, ◌^◌, ◌<◌, ◌≤◌, ◌⊎◌, Bool, List, ◌∷◌, ◌++◌, length, drop, slice_index, All, flat_map}
+use Rattle.byteorder.specs.Endian.{little_bytes}
+use Rattle.s2cell.specs.Cell.{IsCell}
+use Rattle.s2union.specs.Union.{has_leaf, IsNormalForm}
+use Rattle.s2file.specs.declared.fault.FileFault.{FileFault}
+use Rattle.s2file.specs.declared.fault.FileFault.TheVariants.{Version, Count, Short, Trailing, Cell, Memory}
+
+-- the sum of the first `n` bytes, each times 256 to the power of its place
+abbrev pub weighed : ℕ → List ℕ → ℕ
+weighed zero bytes = 0
+weighed (suc n) bytes = weighed n bytes + slice_index bytes n * 256 ^ n
+
+-- the number that the first eight bytes stand for
+unfoldable pub first_number : List ℕ → ℕ
+first_number bytes = weighed 8 bytes
+
+-- the eight bytes of a number
+unfoldable pub number_text : ℕ → List ℕ
+number_text x = little_bytes 8 x
+
+-- the count that a file states, behind its first byte
+abbrev pub stated_count : List ℕ → ℕ
+stated_count bytes = first_number (drop 1 bytes)
+
+-- the number with the place `i`, behind the head of nine bytes
+abbrev pub number_at : List ℕ → ℕ → ℕ
+number_at bytes i = first_number (drop (8 * i) (drop 9 bytes))
+
+-- the bytes are the byte 1, a count of at most 1,000,000, that many identifiers of cells, which are `ids`, and nothing else
+pub record IsFileOf (bytes ids : List ℕ) : Type 0 where
+  pub version : slice_index bytes 0 ≡ 1
+  pub count : stated_count bytes ≡ length ids
+  pub most : length ids ≤ 1000000
+  pub length_is : length bytes ≡ 9 + 8 * length ids
+  pub numbers : (i : ℕ) → i < length ids → slice_index ids i ≡ number_at bytes i
+  pub cells : All IsCell ids
+
+-- the bytes are a file of cells, in any order, whose leaves are the set `S`
+pub record File (bytes : List ℕ) (S : ℕ → Bool) : Type 0 where
+  pub ids : List ℕ
+  pub is : IsFileOf bytes ids
+  pub leaves : (x : ℕ) → S x ≡ has_leaf ids x
+
+-- the first check passes: there is a byte, and it is 1
+pub record HasVersion (bytes : List ℕ) : Type 0 where
+  pub some : 0 < length bytes
+  pub version : slice_index bytes 0 ≡ 1
+
+-- and the second: the head of nine bytes is whole
+pub record HasHead (bytes : List ℕ) : Type 0 where
+  pub version : HasVersion bytes
+  pub whole : 9 ≤ length bytes
+
+-- and the third: the head states at most 1,000,000 identifiers
+pub record HasCount (bytes : List ℕ) : Type 0 where
+  pub head : HasHead bytes
+  pub most : stated_count bytes ≤ 1000000
+
+-- and the fourth: just as many follow
+pub record HasFrame (bytes : List ℕ) : Type 0 where
+  pub counted : HasCount bytes
+  pub length_is : length bytes ≡ 9 + 8 * stated_count bytes
+
+-- the fifth fails: some number behind the head is no identifier of a cell
+pub record HasWrongNumber (bytes : List ℕ) : Type 0 where
+  pub place : ℕ
+  pub within : place < stated_count bytes
+  pub wrong : IsCell (number_at bytes place) → ⊥
+
+-- the fault of the first check that fails; memory may want once the first four have passed
+abbrev pub Faults : List ℕ → FileFault → Type 0
+Faults bytes Version = (0 < length bytes) × (slice_index bytes 0 ≢ 1)
+Faults bytes Short =
+    (length bytes ≡ 0)
+    ⊎ (HasVersion bytes × (length bytes < 9))
+    ⊎ (HasCount bytes × (length bytes < 9 + 8 * stated_count bytes))
+Faults bytes Count = HasHead bytes × (1000000 < stated_count bytes)
+Faults bytes Trailing = HasCount bytes × (9 + 8 * stated_count bytes < length bytes)
+Faults bytes Cell = HasFrame bytes × HasWrongNumber bytes
+Faults bytes Memory = HasFrame bytes
+
+-- the text of a list of identifiers, however many
+abbrev pub file_text : List ℕ → List ℕ
+file_text ids = 1 ∷ (number_text (length ids) ++ flat_map number_text ids)
+
+-- the bytes are the text of the normal form of `S`
+pub record Bytes (S : ℕ → Bool) (bytes : List ℕ) : Type 0 where
+  pub ids : List ℕ
+  pub normal : IsNormalForm S ids
+  pub is : bytes ≡ file_text ids

@@ -1,0 +1,50 @@
+-- What is known of named files, and what a call on them may do.
+use Rattle.std.specs.Prelude.{◌≡◌, ◌≢◌, ℕ, ◌+◌, ◌%◌, ◌^◌, Bool, true, List, Option, Some}
+use Rattle.s2file.specs.declared.shelf.ShelfFault.{ShelfFault}
+use Rattle.s2file.specs.declared.shelf.ShelfFault.TheVariants.{Device, Memory}
+
+-- what is known of a shelf: whether it tells its contents, the file of each name, and how many calls answered `Device`
+pub record Files : Type 0 where
+  pub tells : Bool
+  pub at : List ℕ → Option (List ℕ)
+  pub failures : ℕ
+
+-- one more failure; behind the greatest u64 the count begins at 0 again
+abbrev pub one_more : ℕ → ℕ
+one_more n = (n + 1) % 2 ^ 64
+
+-- every file stays as it was, as far as the shelf tells
+pub record KeepsFiles (old new : Files) : Type 0 where
+  pub tells : new.tells ≡ old.tells
+  pub at : old.tells ≡ true → (name : List ℕ) → new.at name ≡ old.at name
+
+-- nothing changes, the count included
+abbrev pub SameFiles : Files → Files → Type 0
+SameFiles old new = KeepsFiles old new × (new.failures ≡ old.failures)
+
+-- a call failed; every file but that one stays as it was
+pub record LosesFile (old new : Files) (name : List ℕ) : Type 0 where
+  pub tells : new.tells ≡ old.tells
+  pub others : old.tells ≡ true → (other : List ℕ) → other ≢ name → new.at other ≡ old.at other
+  pub failed : new.failures ≡ one_more old.failures
+
+-- that file holds the bytes, and all else stays as it was
+pub record PutsFile (old new : Files) (name bytes : List ℕ) : Type 0 where
+  pub tells : new.tells ≡ old.tells
+  pub there : old.tells ≡ true → new.at name ≡ Some bytes
+  pub others : old.tells ≡ true → (other : List ℕ) → other ≢ name → new.at other ≡ old.at other
+  pub failures : new.failures ≡ old.failures
+
+-- what was handed over is what a shelf that tells holds under that name
+abbrev pub Holds : Files → List ℕ → Option (List ℕ) → Type 0
+Holds files name content = files.tells ≡ true → content ≡ files.at name
+
+-- a file was not read: no content changes, and the count rises for `Device` alone
+abbrev pub FailsToGet : Files → Files → ShelfFault → Type 0
+FailsToGet old new Device = KeepsFiles old new × (new.failures ≡ one_more old.failures)
+FailsToGet old new Memory = SameFiles old new
+
+-- a file was not written: after `Device` that one file is open, and the count rises for `Device` alone
+abbrev pub FailsToPut : Files → List ℕ → Files → ShelfFault → Type 0
+FailsToPut old name new Device = LosesFile old new name
+FailsToPut old name new Memory = SameFiles old new

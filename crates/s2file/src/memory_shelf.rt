@@ -1,0 +1,97 @@
+//! A shelf in memory.
+ghost use Rattle.std.specs.Prelude.{◌≡◌, ◌≤◌, ◌-◌, ◌≢◌, ◌↔◌, ℕ, List, None, IsErrOf, OnErr, MatchResult, is_ok, option_map, if◌then◌else◌};
+ghost use Rattle.s2file.specs.Shelf.{one_more, KeepsFiles, SameFiles, Holds, PutsFile, FailsToGet, FailsToPut};
+ghost use Rattle.s2file.specs.MemoryShelf.{files_of, failing_of};
+
+use crate::shelf::{Shelf, ShelfFault};
+use std::alloc::Global;
+use std::collections::BTreeMap;
+
+/// A shelf in memory, which tells its contents, and which may be told to fail.
+#[derive(Drop)]
+pub struct MemoryShelf {
+    alloc: Global,
+    named: BTreeMap<String, Vec<u8>>,
+    /// Which call from now fails, 1 being the next; 0 where none does.
+    failing: u64,
+    failures: u64,
+}
+
+impl MemoryShelf {
+    /// An empty shelf. Takes no memory; its files will come from `alloc`.
+    pub fn new(alloc: Global) -> MemoryShelf
+        ensures empty { (name : List ℕ) → (files_of result).at name ≡ None }
+        ensures failures { (files_of result).failures ≡ 0 }
+        ensures failing { failing_of result ≡ 0 }
+    {
+        MemoryShelf {
+            alloc,
+            named: BTreeMap::new(alloc),
+            failing: 0,
+            failures: 0,
+        }
+    }
+
+    /// Makes the call number `n` from now on answer `Device`, once, in place of an earlier such
+    /// order. Takes no memory, and is itself no call.
+    pub fn fail_at(&mut self, n: u64)
+        requires { 1 ≤ n }
+        ensures failing { failing_of self.new ≡ n }
+        ensures files { SameFiles (files_of self.old) (files_of self.new) }
+    {
+        self.failing = n;
+    }
+}
+
+/// Counts a call, which fails where its turn has come.
+fn take_turn(failing: &mut u64, failures: &mut u64) -> Result<(), ShelfFault>
+    ensures turn { MatchResult result (λ _. failing.old ≢ 1) (λ fault. (fault ≡ ShelfFault.Device) × (failing.old ≡ 1)) }
+    ensures failing { failing.new ≡ failing.old - 1 }
+    ensures failures { failures.new ≡ (if is_ok result then failures.old else one_more failures.old) }
+{
+    let fails = *failing == 1;
+    *failing = failing.saturating_sub(1);
+    if fails {
+        *failures = failures.wrapping_add(1);
+        return Err(ShelfFault::Device);
+    }
+    Ok(())
+}
+
+impl Shelf for MemoryShelf {
+    ghost files = { files_of };
+
+    /// A copy of the file. `Device` comes exactly where this is the call that was told to fail.
+    fn get(&mut self, name: &str) -> Result<Option<Vec<u8>>, ShelfFault>
+        ensures answer { MatchResult result
+            (λ content. SameFiles (files_of self.old) (files_of self.new) × Holds (files_of self.old) name.now (option_map (λ v. v.items) content))
+            (λ fault. FailsToGet (files_of self.old) (files_of self.new) fault) }
+        ensures turn { IsErrOf result ShelfFault.Device ↔ (failing_of self.old ≡ 1) }
+        ensures failing { failing_of self.new ≡ failing_of self.old - 1 }
+    {
+        take_turn(&mut self.failing, &mut self.failures)?;
+        match self.named.get(name) {
+            None => Ok(None),
+            Some(bytes) => Ok(Some(bytes.clone()?)),
+        }
+    }
+
+    /// Copies name and bytes first, so that a fault changes no file. `Device` comes exactly where
+    /// this is the call that was told to fail.
+    fn put(&mut self, name: &str, bytes: &[u8]) -> Result<(), ShelfFault>
+        ensures answer { MatchResult result
+            (λ _. PutsFile (files_of self.old) (files_of self.new) name.now bytes.now)
+            (λ fault. FailsToPut (files_of self.old) name.now (files_of self.new) fault) }
+        ensures kept { OnErr result (KeepsFiles (files_of self.old) (files_of self.new)) }
+        ensures turn { IsErrOf result ShelfFault.Device ↔ (failing_of self.old ≡ 1) }
+        ensures failing { failing_of self.new ≡ failing_of self.old - 1 }
+    {
+        take_turn(&mut self.failing, &mut self.failures)?;
+        let name = String::from_str(self.alloc, name)?;
+        let bytes = Vec::from_slice(self.alloc, bytes)?;
+        match self.named.insert(name, bytes) {
+            Ok(_) => Ok(()),
+            Err(_) => Err(ShelfFault::Memory),
+        }
+    }
+}

@@ -1,0 +1,124 @@
+//! The union file: a union of cells as bytes.
+ghost use Rattle.std.specs.Prelude.{◌≡◌, ◌≤◌, ◌++◌, ℕ, Bool, length, MatchResult, IfOk, OnOk};
+ghost use Rattle.s2union.specs.Union.{has_leaf, IsLocal};
+ghost use Rattle.s2file.specs.File.{first_number, number_text, HasFrame, IsFileOf, File, Faults, file_text, Bytes};
+
+use crate::fault::FileFault;
+use byteorder::{ByteOrder, LittleEndian};
+use s2cell::CellId;
+use s2union::{CellUnion, normalise};
+use std::alloc::{AllocError, Global};
+
+/// The byte that a file begins with.
+const VERSION: u8 = 1;
+
+/// The version and the count: how many bytes stand before the identifiers.
+const HEAD_SIZE: usize = 9;
+
+/// The size of a number, in bytes.
+const NUMBER_SIZE: usize = 8;
+
+/// The greatest count that `decode` takes.
+const MOST_CELLS: u64 = 1_000_000;
+
+/// The union that a file stands for: the normal form of the leaves of its cells.
+///
+/// The cells may come in any order, doubled, contained in one another or unmerged. Bytes of any
+/// other form are refused with the first check that fails, in the order: a first byte, and it is 1;
+/// nine bytes at least; a count of at most 1,000,000; just as many identifiers; each one of a cell.
+/// One list of cells is taken, once the first four have passed. One pass over the bytes, and a sort,
+/// which costs next to nothing where the cells ascend.
+#[tactic(auto, using(crate::proofs::Reading::file_from_cells))]
+pub fn decode(alloc: Global, bytes: &[u8]) -> Result<CellUnion, FileFault>
+    ensures answer { MatchResult result (λ union. File bytes.now (has_leaf union.cells)) (λ fault. Faults bytes.now fault) }
+    ensures exact { (S : ℕ → Bool) → File bytes.now S → MatchResult result (λ union. (x : ℕ) → has_leaf union.cells x ≡ S x) (λ fault. fault ≡ FileFault.Memory) }
+    ensures local { IfOk result (λ union. IsLocal union.cells) }
+{
+    check_frame(bytes)?;
+    let cells = cells_of(alloc, bytes)?;
+    Ok(normalise(cells))
+}
+
+/// Checks all but the identifiers.
+fn check_frame(bytes: &[u8]) -> Result<(), FileFault>
+    ensures { MatchResult result (λ _. HasFrame bytes.now) (λ fault. Faults bytes.now fault) }
+{
+    match bytes.first() {
+        None => return Err(FileFault::Short),
+        Some(&version) if version != VERSION => return Err(FileFault::Version),
+        Some(_) => {}
+    }
+    if bytes.len() < HEAD_SIZE {
+        return Err(FileFault::Short);
+    }
+    let count = number(&bytes[1..]);
+    if count > MOST_CELLS {
+        return Err(FileFault::Count);
+    }
+    let size = HEAD_SIZE + NUMBER_SIZE * count as usize;
+    if bytes.len() < size {
+        return Err(FileFault::Short);
+    }
+    if bytes.len() > size {
+        return Err(FileFault::Trailing);
+    }
+    Ok(())
+}
+
+/// The cells behind the head of a file, in their order.
+fn cells_of(alloc: Global, bytes: &[u8]) -> Result<Vec<CellId>, FileFault>
+    requires { HasFrame bytes.now }
+    ensures { MatchResult result (λ cells. IsFileOf bytes.now cells.items) (λ fault. Faults bytes.now fault) }
+{
+    let numbers = &bytes[HEAD_SIZE..];
+    let mut cells = Vec::with_capacity(alloc, numbers.len() / NUMBER_SIZE)?;
+    for chunk in numbers.chunks_exact(NUMBER_SIZE) {
+        match CellId::from_id(number(chunk)) {
+            Some(cell) => cells.push_reserved(cell),
+            None => return Err(FileFault::Cell),
+        }
+    }
+    Ok(cells)
+}
+
+/// The number that the first eight bytes stand for.
+#[tactic(auto, unfolding(crate::specs::File::first_number))]
+fn number(bytes: &[u8]) -> u64
+    requires { 8 ≤ length bytes.now }
+    ensures { result ≡ first_number bytes.now }
+{
+    LittleEndian::read_u64(bytes)
+}
+
+/// The file of a union: its cells in ascending order, however many they are.
+///
+/// Two unions with the same leaves have the same file. `decode` reads it back, where the union has
+/// at most 1,000,000 cells. One list of nine bytes and eight for each cell is taken.
+pub fn encode(alloc: Global, union: &CellUnion) -> Result<Vec<u8>, AllocError>
+    ensures text { IfOk result (λ bytes. bytes.items ≡ file_text union.now.cells) }
+    ensures bytes { IfOk result (λ bytes. Bytes (has_leaf union.now.cells) bytes.items) }
+    ensures back { length union.now.cells ≤ 1000000 → IfOk result (λ bytes. File bytes.items (has_leaf union.now.cells)) }
+{
+    let cells = union.cells();
+    let size = cells
+        .len()
+        .saturating_mul(NUMBER_SIZE)
+        .saturating_add(HEAD_SIZE);
+    let mut bytes = Vec::with_capacity(alloc, size)?;
+    bytes.push(VERSION)?;
+    put_number(&mut bytes, cells.len() as u64)?;
+    for cell in cells {
+        put_number(&mut bytes, cell.id())?;
+    }
+    Ok(bytes)
+}
+
+/// Adds the eight bytes of a number.
+#[tactic(auto, unfolding(crate::specs::File::number_text))]
+fn put_number(bytes: &mut Vec<u8>, number: u64) -> Result<(), AllocError>
+    ensures { OnOk result (bytes.new.items ≡ bytes.old.items ++ number_text number) }
+{
+    let mut text = [0u8; NUMBER_SIZE];
+    LittleEndian::write_u64(&mut text, number);
+    bytes.extend_from_slice(&text)
+}

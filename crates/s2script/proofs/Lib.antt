@@ -1,0 +1,4 @@
+pub mod KnownWords
+pub mod NameLemmas
+pub mod NamedLemmas
+pub mod WordLemmas

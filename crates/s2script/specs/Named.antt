@@ -1,0 +1,57 @@
+-- Words that name cells: a debug text where there is a slash, else a token.
+use Rattle.std.specs.Prelude.{◌≡◌, ℕ, ◌+◌, ◌-◌, ◌*◌, ◌^◌, Bool, true, false, ◌&&◌, List, [], ◌∷◌, ◌==◌, nat_lt, nat_le, if◌then◌else◌, length, Option, Some, None}
+use Rattle.std.specs.List.{list_all, list_any}
+use Rattle.std.specs.Char.{is_digit}
+use Rattle.std.specs.Str.Parse.{digits_value}
+use Rattle.s2cell.specs.Cell.{IsCell, level_of, place_of, id_at}
+use Rattle.s2cell.specs.Token.{IsReading}
+use Rattle.s2cell.specs.Debug.{IsDebug}
+
+-- whether `n` is the identifier of a cell: of the one at its own level and place
+unfoldable pub is_cell : ℕ → Bool
+unfolding level_of place_of
+is_cell n = nat_lt (place_of n) (6 * 4 ^ level_of n) && (n == id_at (level_of n) (place_of n))
+
+-- 1 to 16 hexadecimal digits
+abbrev pub is_hexadecimal : List ℕ → Bool
+is_hexadecimal word = nat_le 1 (length word) && (nat_le (length word) 16 && list_all (λ b. is_digit b 16) word)
+
+-- what the digits stand for, with zeros behind them up to the sixteenth
+abbrev pub padded_value : List ℕ → ℕ
+padded_value word = digits_value 16 word * 16 ^ (16 - length word)
+
+-- the cell that a word names as a token
+unfoldable pub token_cell : List ℕ → Option ℕ
+unfolding is_cell
+token_cell word = if is_hexadecimal word && is_cell (padded_value word) then Some (padded_value word) else None
+
+-- a digit 0 to 5, a slash, and 0 to 30 digits 0 to 3
+abbrev pub is_face_and_digits : ℕ → ℕ → List ℕ → Bool
+is_face_and_digits face slash digits = is_digit face 6 && ((slash == 47) && (nat_le (length digits) 30 && list_all (λ b. is_digit b 4) digits))
+
+-- the cell that a face and a digit for each level lead to
+abbrev pub cell_below : ℕ → List ℕ → ℕ
+cell_below face digits = id_at (length digits) ((face - 48) * 4 ^ length digits + digits_value 4 digits)
+
+-- the cell that a word names as a debug text
+unfoldable pub debug_cell : List ℕ → Option ℕ
+debug_cell [] = None
+debug_cell (face ∷ []) = None
+debug_cell (face ∷ slash ∷ digits) = if is_face_and_digits face slash digits then Some (cell_below face digits) else None
+
+abbrev pub has_slash : List ℕ → Bool
+has_slash word = list_any (λ b. b == 47) word
+
+-- the cell that a word names
+unfoldable pub cell_named : List ℕ → Option ℕ
+unfolding token_cell debug_cell
+cell_named word = if has_slash word then debug_cell word else token_cell word
+
+-- as a debug text, or as a token
+abbrev pub NamesBy : Bool → List ℕ → ℕ → Type 0
+NamesBy true word n = IsDebug word n
+NamesBy false word n = IsReading word n × IsCell n
+
+-- the word is the cell's debug text where it holds a slash, else a reading of its token
+abbrev pub Names : List ℕ → ℕ → Type 0
+Names word n = NamesBy (has_slash word) word n
