@@ -1,8 +1,9 @@
 //! Scripts that read and write files.
-use crate::narrow::Narrow;
-use s2calc::{check_answer, run};
+use crate::narrow::{Mishap, Narrow};
+use s2calc::{RunFault, check_answer, run};
 use s2edit::Editor;
-use s2file::{MemoryShelf, Shelf};
+use s2file::{DirShelf, MemoryShelf, Shelf};
+use std::fs;
 use std::process::Abort;
 use std::test::Fail;
 
@@ -26,9 +27,9 @@ const REFUSED: [&[u8]; 7] = [
 ];
 
 /// Runs a script over a shelf, and compares what is answered.
-fn is_answered(
+fn is_answered<S: Shelf>(
     rt: &(impl Abort + AllocGlobal),
-    shelf: &mut MemoryShelf,
+    shelf: &mut S,
     script: &str,
     answers: &str,
 ) -> Result<(), Fail> {
@@ -41,49 +42,80 @@ fn is_answered(
     Ok(())
 }
 
-#[test]
-fn a_file_is_loaded_and_saved(rt: HostRuntime) -> Result<(), Fail> {
-    let mut shelf = MemoryShelf::new(rt.alloc());
+/// What a check answers, and whether it told a size.
+fn is_checked<S: Shelf>(
+    rt: &(impl Abort + AllocGlobal),
+    shelf: &mut S,
+    name: &str,
+    answer: &str,
+) -> Result<(), Fail> {
+    let mut writer = Narrow::new(rt.alloc(), 256, 5, None)?;
+    let told = check_answer(rt.alloc(), shelf, name, &mut writer);
+    assert_eq!(rt; told, Ok(answer.starts_with("cells ")), "{name}");
+    assert_eq!(rt; writer.written(), answer.as_bytes(), "{name}");
+    Ok(())
+}
+
+/// A file is loaded from a shelf, saved under another name, and checked.
+fn a_shelf_serves<S: Shelf>(rt: &(impl Abort + AllocGlobal), shelf: &mut S) -> Result<(), Fail> {
     shelf.put("f", UNSORTED)?;
-    let script = "load a f\nshow a\nsave a g\nload b h\n";
     is_answered(
-        &rt,
-        &mut shelf,
-        script,
+        rt,
+        shelf,
+        "load a f\nshow a\nsave a g\nload b h\n",
         "ok 0 2\n04\n0c\nend\nok\nerror missing\n",
     )?;
     match shelf.get("g")? {
         Some(bytes) => assert_eq!(rt; bytes.as_slice(), SORTED),
         None => return Err(Fail::from("no file g")),
     }
-    let mut writer = Narrow::new(rt.alloc(), 256, 5, None)?;
-    assert_eq!(rt;
-        check_answer(rt.alloc(), &mut shelf, "g", &mut writer),
-        Ok(true)
-    );
-    assert_eq!(rt;
-        check_answer(rt.alloc(), &mut shelf, "h", &mut writer),
-        Ok(false)
-    );
-    assert_eq!(rt;
-        check_answer(rt.alloc(), &mut shelf, "../h", &mut writer),
-        Ok(false)
-    );
-    assert_eq!(rt;
-        writer.written(),
-        b"cells 2 leaves 576460752303423488\nerror missing\nerror name\n".as_slice()
-    );
+    is_checked(rt, shelf, "g", "cells 2 leaves 576460752303423488\n")?;
+    is_checked(rt, shelf, "f", "cells 2 leaves 576460752303423488\n")?;
+    is_checked(rt, shelf, "h", "error missing\n")?;
+    is_checked(rt, shelf, "../g", "error name\n")?;
+    for bytes in REFUSED {
+        shelf.put("f", bytes)?;
+        is_answered(
+            rt,
+            shelf,
+            "add a 3\nload a f\nshow a\n",
+            "ok 0 1\nerror format\n3\nend\n",
+        )?;
+        is_checked(rt, shelf, "f", "error format\n")?;
+    }
     Ok(())
 }
 
 #[test]
-fn a_file_of_another_form_changes_nothing(rt: HostRuntime) -> Result<(), Fail> {
-    for bytes in REFUSED {
-        let mut shelf = MemoryShelf::new(rt.alloc());
-        shelf.put("f", bytes)?;
-        let script = "add a 3\nload a f\nshow a\n";
-        is_answered(&rt, &mut shelf, script, "ok 0 1\nerror format\n3\nend\n")?;
-    }
+fn memory_serves_scripts_and_checks(rt: HostRuntime) -> Result<(), Fail> {
+    a_shelf_serves(&rt, &mut MemoryShelf::new(rt.alloc()))
+}
+
+#[test]
+fn a_folder_serves_scripts_and_checks(rt: HostRuntime) -> Result<(), Fail> {
+    let folder = "s2calc-test-folder";
+    // what a run that failed may have left
+    let _ = fs::remove_dir_all(&rt, folder);
+    let mut shelf = DirShelf::at(&rt, folder)?;
+    is_checked(&rt, &mut shelf, "f", "error missing\n")?;
+    is_answered(
+        &rt,
+        &mut shelf,
+        "add a 3\nsave a f\nload a f\n",
+        "ok 0 1\nerror file\nerror missing\n",
+    )?;
+    fs::create_dir(&rt, folder)?;
+    a_shelf_serves(&rt, &mut shelf)?;
+    // A folder in the file's place.
+    fs::create_dir(&rt, "s2calc-test-folder/d")?;
+    is_checked(&rt, &mut shelf, "d", "error file\n")?;
+    is_answered(
+        &rt,
+        &mut shelf,
+        "add a 3\nload a d\nsave a d\nshow a\n",
+        "ok 0 1\nerror file\nerror file\n3\nend\n",
+    )?;
+    fs::remove_dir_all(&rt, folder)?;
     Ok(())
 }
 
@@ -99,10 +131,29 @@ fn a_shelf_fails_once(rt: HostRuntime) -> Result<(), Fail> {
         "ok 0 1\nerror file\nok 1 2\n04\n0c\nend\n",
     )?;
     shelf.fail_at(1);
+    is_checked(&rt, &mut shelf, "f", "error file\n")?;
+    shelf.fail_at(1);
     is_answered(
         &rt,
         &mut shelf,
         "add a 3\nsave a g\nhistory\nsave a g\nundo\n",
         "ok 0 1\nerror file\nundo 1 redo 0\nok\nok 1 0\n",
-    )
+    )?;
+    // The file of the cell 3.
+    match shelf.get("g")? {
+        Some(bytes) => {
+            assert_eq!(rt;
+                bytes.as_slice(),
+                b"\x01\x01\0\0\0\0\0\0\0\0\0\0\0\0\0\0\x30".as_slice()
+            );
+        }
+        None => return Err(Fail::from("no file g")),
+    }
+    // A writer that fails.
+    let mut writer = Narrow::new(rt.alloc(), 256, 256, Some((2, Mishap::Fails)))?;
+    assert_eq!(rt;
+        check_answer(rt.alloc(), &mut shelf, "f", &mut writer),
+        Err(RunFault::Output)
+    );
+    Ok(())
 }

@@ -43,7 +43,7 @@ fn asked(rt: &(impl Abort + AllocGlobal), words: &[&str]) -> Result<Result<Job, 
 }
 
 #[test]
-fn words_of_the_command_line(rt: HostRuntime) -> Result<(), Fail> {
+fn words_that_ask_for_a_run(rt: HostRuntime) -> Result<(), Fail> {
     for (words, limit, depth, dir) in [
         (["run"].as_slice(), 10_000, 100, "."),
         (
@@ -60,6 +60,13 @@ fn words_of_the_command_line(rt: HostRuntime) -> Result<(), Fail> {
             1000,
             "-x",
         ),
+        (&["run", "--dir", "", "--limit=1", "--depth", "1"], 1, 1, ""),
+        (
+            &["run", "--limit", "+5", "--depth", "007", "--dir", "--limit"],
+            5,
+            7,
+            "--limit",
+        ),
     ] {
         let wanted = Job::Run {
             limit,
@@ -68,34 +75,86 @@ fn words_of_the_command_line(rt: HostRuntime) -> Result<(), Fail> {
         };
         assert_eq!(rt; asked(&rt, words)?, Ok(wanted), "{words:?}");
     }
-    let wanted = Job::Check {
-        dir: String::from_str(rt.alloc(), "d")?,
-        name: String::from_str(rt.alloc(), "f")?,
-    };
-    assert_eq!(rt; asked(&rt, &["check", "f", "--dir", "d"])?, Ok(wanted));
-    for words in [
-        ["run", "--limit", "0"].as_slice(),
-        &["run", "--limit", "1000001"],
-        &["run", "--depth", "0"],
-        &["run", "--depth", "1001"],
-        &["run", "--limit", "x"],
-        &["run", "--colour"],
-        &["run", "x"],
-        &["cell"],
-        &["cell", "1", "2"],
-        &["check"],
-        &["check", "f", "g"],
-        &["RUN"],
-        &[],
-    ] {
-        assert_eq!(rt; asked(&rt, words)?, Err(Stop::Usage), "{words:?}");
-    }
-    assert_eq!(rt; asked(&rt, &["--help"])?, Err(Stop::Help));
-    for word in ["0C00", "-1", "", " 3/021 "] {
+    Ok(())
+}
+
+#[test]
+fn words_that_ask_for_a_cell_or_a_file(rt: HostRuntime) -> Result<(), Fail> {
+    for word in ["0C00", "-1", "", " 3/021 ", "--x", "-hello"] {
         let wanted = Job::Cell {
             word: String::from_str(rt.alloc(), word)?,
         };
         assert_eq!(rt; asked(&rt, &["cell", word])?, Ok(wanted));
+    }
+    let wanted = Job::Cell {
+        word: String::from_str(rt.alloc(), "--help")?,
+    };
+    assert_eq!(rt; asked(&rt, &["cell", "--", "--help"])?, Ok(wanted));
+    for (words, dir, name) in [
+        (["check", "f"].as_slice(), ".", "f"),
+        (&["check", "-x"], ".", "-x"),
+        (&["check", ""], ".", ""),
+        (&["check", "f", "--dir", "d"], "d", "f"),
+        (&["check", "--dir", "d", "--", "-f"], "d", "-f"),
+    ] {
+        let wanted = Job::Check {
+            dir: String::from_str(rt.alloc(), dir)?,
+            name: String::from_str(rt.alloc(), name)?,
+        };
+        assert_eq!(rt; asked(&rt, words)?, Ok(wanted), "{words:?}");
+    }
+    Ok(())
+}
+
+#[test]
+fn words_that_ask_for_nothing(rt: HostRuntime) -> Result<(), Fail> {
+    for words in [
+        ["run", "--limit", "0"].as_slice(),
+        &["run", "--limit", "1000001"],
+        &["run", "--limit", "-5"],
+        &["run", "--limit", ""],
+        &["run", "--limit", " 5"],
+        &["run", "--limit", "12345678901234567890123"],
+        &["run", "--limit", "5", "--limit", "5"],
+        &["run", "--limit", "x"],
+        &["run", "--lim", "5"],
+        &["run", "--limit"],
+        &["--limit", "5", "run"],
+        &["run", "--depth", "0"],
+        &["run", "--depth", "1001"],
+        &["run", "--dir"],
+        &["run", "--colour"],
+        &["run", "run"],
+        &["run", "x"],
+        &["ru"],
+        &["RUN"],
+        &["--"],
+        &["--", "run"],
+        &[""],
+        &[],
+        &["cell"],
+        &["cell", "--"],
+        &["cell", "1", "2"],
+        &["check"],
+        &["check", "--dir"],
+        &["check", "f", "g"],
+        &["check", "--limit", "f"],
+        &["-V"],
+        &["--version"],
+        &["help", "foo"],
+    ] {
+        assert_eq!(rt; asked(&rt, words)?, Err(Stop::Usage), "{words:?}");
+    }
+    for words in [
+        ["--help"].as_slice(),
+        &["-h"],
+        &["help"],
+        &["help", "run"],
+        &["run", "--help"],
+        &["cell", "--help"],
+        &["cell", "-h"],
+    ] {
+        assert_eq!(rt; asked(&rt, words)?, Err(Stop::Help), "{words:?}");
     }
     Ok(())
 }
