@@ -2,15 +2,12 @@
 //!
 //! A region is a set of leaves that can say of each cell whether it lies outside, inside or across. That one question
 //! is enough to cover it: a descent from the six faces leaves at once what lies outside, takes whole what lies inside,
-//! and looks into what lies across, down to the level that is asked for.
+//! and looks into what lies across, down to the level that is asked for. The outer covering has every cell of the level
+//! that shares a leaf with the region, the inner one every cell that lies inside it. Both are normalised: four siblings
+//! give way to their parent, so a covering may have cells above its level and never below it.
 //!
-//! ```text
-//! outer     every cell of the level that shares a leaf with the region
-//! inner     every cell of the level that lies inside it
-//! ```
-//!
-//! Both are normalised: four siblings give way to their parent, so a covering may have cells above its level and never
-//! below it.
+//! A rectangle on a face needs less: once its sides are rounded to the grid of the level, each cell that is found whole
+//! belongs to the answer, and the looks are bounded by the answer's cells.
 #![tactic(auto)]
 
 mod covering;

@@ -25,6 +25,9 @@ impl Region for CellUnion {
 }
 
 /// The leaves of a union that stand in a rectangle. It refers to the union and copies none of it.
+///
+/// `part` takes time that is logarithmic in the union's size, and more for a cell that crosses the rectangle's border:
+/// there the union's cells in it are asked in turn until one meets the rectangle.
 #[derive(Clone, Copy)]
 pub struct Clip<'a> {
     /// The union.

@@ -65,10 +65,12 @@ impl Change {
             return Change::between(alloc, register, old, &new);
         }
         let _ascending = new.cells();
+        let mut put = new.into_cells();
+        put.shrink_to_fit();
         Ok(Change {
             register,
             out: Vec::new(alloc),
-            put: new.into_cells(),
+            put,
         })
     }
 

@@ -7,7 +7,8 @@ use s2cell::CellId;
 use std::alloc::{AllocError, Global};
 use std::cmp::Ordering;
 
-/// The cells of `old` that `new` lacks, and those of `new` that `old` lacks, in one walk along both.
+/// The cells of `old` that `new` lacks, and those of `new` that `old` lacks, in one walk along both. The two
+/// lists have no more room than they need.
 pub(crate) fn lacking(
     alloc: Global,
     old: &[CellId],
@@ -40,5 +41,7 @@ pub(crate) fn lacking(
     }
     out.extend_from_slice(&old[i..])?;
     put.extend_from_slice(&new[j..])?;
+    out.shrink_to_fit();
+    put.shrink_to_fit();
     Ok((out, put))
 }

@@ -1,0 +1,344 @@
+// S2 and the proved library on the same work, in one run: bench/README.md describes the rows.
+#include "rectangle.h"
+#include "sides.h"
+#include "table.h"
+
+static const size_t N = 1000000;
+
+static u64 sum_of(const List& list) { return Sum().add_all(list).value(); }
+static u64 sum_of(const S2CellUnion& cells) { return sum_of(ids_of(cells)); }
+static u64 packed(u64 face, u64 i, u64 j) { return face << 60 | i << 30 | j; }
+
+static S2CellUnion normalised(const List& list) { return S2CellUnion(peer_cells(list)); }
+
+struct Place {
+  uint8_t face;
+  uint32_t i, j;
+};
+
+static void places(Table& table) {
+  Random random(1);
+  std::vector<Place> places(N);
+  for (Place& p : places) {
+    p.face = random.below(6);
+    p.i = random.coordinate();
+    p.j = random.coordinate();
+  }
+  List a(N), b(N);
+  table.row({"from_face_ij", N, 0x7830da93e3796d2c, 10},
+            {[&](uint32_t) { for (size_t k = 0; k < N; k++) a[k] = S2CellId::FromFaceIJ(places[k].face, places[k].i, places[k].j).id(); }, [&] { return sum_of(a); }},
+            {[&](uint32_t) { for (size_t k = 0; k < N; k++) b[k] = s2c_from_face_ij(places[k].face, places[k].i, places[k].j); }, [&] { return sum_of(b); }});
+  u64 last_a = 0, last_b = 0;
+  auto chained = [&](u64* last, auto call) {
+    u64 h = 0;
+    for (const Place& p : places) h = call(p.face, p.i ^ (h >> 40 & 1), p.j);
+    *last = h;
+  };
+  table.row({"from_face_ij_chained", N, 0x19bce297ab5651cd, 0},
+            {[&](uint32_t) { chained(&last_a, [](uint8_t f, uint32_t i, uint32_t j) { return S2CellId::FromFaceIJ(f, i, j).id(); }); }, [&] { return last_a; }},
+            {[&](uint32_t) { chained(&last_b, s2c_from_face_ij); }, [&] { return last_b; }});
+}
+
+static void squares(Table& table) {
+  List a(N), b(N);
+  auto row = [&](Row it, const List& ids) {
+    table.row(it,
+              {[&](uint32_t) {
+                 for (size_t k = 0; k < N; k++) {
+                   S2CellId cell(ids[k]);
+                   int i, j, face = cell.ToFaceIJOrientation(&i, &j, nullptr), size = cell.GetSizeIJ();
+                   a[k] = packed(face, i & -size, j & -size);
+                 }
+               }, [&] { return sum_of(a); }},
+              {[&](uint32_t) {
+                 for (size_t k = 0; k < N; k++) {
+                   FaceSquare square = s2c_square(ids[k]);
+                   b[k] = packed(square.face, square.i, square.j);
+                 }
+               }, [&] { return sum_of(b); }});
+  };
+  Random leaves(2);
+  List ids(N);
+  for (u64& id : ids) id = leaves.leaf();
+  row({"square_of_leaf", N, 0x4d6129f6e9f8d588, 10}, ids);
+  row({"square_of_any_cell", N, 0x23dd0e8822e18c5d, 0}, Random(20).cells(N, 0, 30));
+}
+
+// Texts side by side, each with room for 32 bytes.
+struct Texts {
+  std::vector<uint8_t> bytes = std::vector<uint8_t>(32 * N);
+  std::vector<uint8_t> lens = std::vector<uint8_t>(N);
+
+  std::string at(size_t k) const { return std::string(reinterpret_cast<const char*>(&bytes[32 * k]), lens[k]); }
+  u64 sum() const {
+    Sum sum;
+    for (size_t k = 0; k < N; k++) sum.add_text(at(k));
+    return sum.value();
+  }
+};
+
+static void texts(Table& table) {
+  List ids = Random(3).cells(N, 0, 30), a(N), b(N);
+  std::vector<std::string> peer(N);
+  auto sum_of_texts = [&] {
+    Sum sum;
+    for (const std::string& text : peer) sum.add_text(text);
+    return sum.value();
+  };
+  Texts proved;
+  table.row({"token", N, 0xd45cf93fd9fd52c1, 20},
+            {[&](uint32_t) { for (size_t k = 0; k < N; k++) peer[k] = S2CellId(ids[k]).ToToken(); }, sum_of_texts},
+            {[&](uint32_t) { for (size_t k = 0; k < N; k++) proved.lens[k] = s2c_token(ids[k], &proved.bytes[32 * k], 32); }, [&] { return proved.sum(); }});
+  auto back = [&](Row it, auto from_text, auto proved_from_text) {
+    table.row(it,
+              {[&](uint32_t) { for (size_t k = 0; k < N; k++) a[k] = from_text(peer[k]).id(); }, [&] { return sum_of(a); }},
+              {[&](uint32_t) { for (size_t k = 0; k < N; k++) must(proved_from_text(reinterpret_cast<const uint8_t*>(peer[k].data()), peer[k].size(), &b[k]), "from_text"); }, [&] { return sum_of(b); }});
+  };
+  for (size_t k = 0; k < N; k++) peer[k] = S2CellId(ids[k]).ToToken();
+  back({"from_token", N, 0xe714663334a73aec, 22}, [](const std::string& t) { return S2CellId::FromToken(t); }, s2c_from_token);
+  table.row({"debug_text", N, 0x13a109391df62c77, 40},
+            {[&](uint32_t) { for (size_t k = 0; k < N; k++) peer[k] = S2CellId(ids[k]).ToString(); }, sum_of_texts},
+            {[&](uint32_t) { for (size_t k = 0; k < N; k++) proved.lens[k] = s2c_debug(ids[k], &proved.bytes[32 * k], 32); }, [&] { return proved.sum(); }});
+  for (size_t k = 0; k < N; k++) peer[k] = S2CellId(ids[k]).ToString();
+  back({"from_debug_text", N, 0xe714663334a73aec, 38}, [](const std::string& t) { return S2CellId::FromDebugString(t); }, s2c_from_debug);
+}
+
+static void normalising(Table& table) {
+  Room room(1100000);
+  S2CellUnion made;
+  auto row = [&](Row it, const List& list) {
+    std::vector<S2CellId> cells = peer_cells(list);
+    table.row(it,
+              {[&](uint32_t times) { while (times-- > 0) made = S2CellUnion(cells); }, [&] { return sum_of(made); }},
+              {[&](uint32_t times) { must(s2c_normalise(list.data(), list.size(), times, room.at(), room.size(), room.len()), it.name); }, [&] { return sum_of(room.made()); }, 2});
+  };
+  List shuffled = Random(4).cells(N, 14, 20), sorted = shuffled;
+  std::sort(sorted.begin(), sorted.end());
+  row({"normalise_sorted", N, 0x0a3d9902386a5f06, 5}, sorted);
+  row({"normalise_shuffled", N, 0x0a3d9902386a5f06, 30}, shuffled);
+  List level(1048576);
+  for (size_t m = 0; m < level.size(); m++) level[m] = cell_at(10, m);
+  row({"normalise_one_face_sorted", level.size(), 0x5000000000000000, 6}, level);
+  Random(5).shuffle(level);
+  row({"normalise_one_face_shuffled", level.size(), 0x5000000000000000, 32}, level);
+}
+
+// The unions that the set operations are measured on.
+struct Unions {
+  List x = ids_of(normalised(Random(6).cells_of(0, 130000, 8, 14)));
+  List y = ids_of(normalised(Random(7).cells_of(0, 130000, 8, 14)));
+  List far = ids_of(normalised(Random(8).cells_of(3, 130000, 8, 14)));
+  List even, odd, inside, face = {cell_at(0, 0)};
+
+  Unions() {
+    for (u64 n = 0; n < 100000; n++) {
+      even.push_back(cell_at(12, 4 * n));
+      odd.push_back(cell_at(12, 4 * n + 2));
+    }
+    for (u64 id : x) inside.push_back(child_of(child_of(id, 1), 2));
+  }
+};
+
+static void sets(Table& table, const Unions& u) {
+  Room room(2000000);
+  S2CellUnion made;
+  auto row = [&](Row it, const List& xs, const List& ys, PeerOperation peer, Operation proved) {
+    S2CellUnion x = peer_union(xs), y = peer_union(ys);
+    it.units = xs.size() + ys.size();
+    table.row(it,
+              {[&](uint32_t times) { while (times-- > 0) made = (x.*peer)(y); }, [&] { return sum_of(made); }},
+              {[&](uint32_t times) { must(proved(xs.data(), xs.size(), ys.data(), ys.size(), times, room.at(), room.size(), room.len()), it.name); }, [&] { return sum_of(room.made()); }, 5});
+  };
+  row({"union_random", 0, 0, 12}, u.x, u.y, &S2CellUnion::Union, s2c_union);
+  row({"union_alternating", 0, 0, 6}, u.even, u.odd, &S2CellUnion::Union, s2c_union);
+  row({"union_disjoint", 0, 0, 5}, u.x, u.far, &S2CellUnion::Union, s2c_union);
+  row({"union_inside", 0, 0, 6}, u.x, u.inside, &S2CellUnion::Union, s2c_union);
+  PeerOperation intersection = &S2CellUnion::Intersection;
+  row({"intersection_random", 0, 0, 9}, u.x, u.y, intersection, s2c_intersection);
+  row({"intersection_alternating", 0, 0, 3}, u.even, u.odd, intersection, s2c_intersection);
+  row({"intersection_disjoint", 0, 0, 0}, u.x, u.far, intersection, s2c_intersection);
+  row({"intersection_inside", 0, 0, 3}, u.x, u.inside, intersection, s2c_intersection);
+  row({"difference_random", 0, 0, 22}, u.x, u.y, &S2CellUnion::Difference, s2c_difference);
+  row({"difference_alternating", 0, 0, 3}, u.even, u.odd, &S2CellUnion::Difference, s2c_difference);
+  row({"difference_disjoint", 0, 0, 0}, u.x, u.far, &S2CellUnion::Difference, s2c_difference);
+  row({"difference_inside", 0, 0, 25}, u.x, u.inside, &S2CellUnion::Difference, s2c_difference);
+  row({"difference_from_face", 0, 0, 70}, u.face, u.y, &S2CellUnion::Difference, s2c_difference);
+}
+
+static void cell_questions(Table& table, const Unions& u) {
+  S2CellUnion x = peer_union(u.x);
+  std::vector<uint8_t> a(N);
+  auto b = std::make_unique<bool[]>(N);
+  auto row = [&](Row it, const List& questions, bool (S2CellUnion::*peer)(S2CellId) const, CellQuestions proved) {
+    table.row(it,
+              {[&](uint32_t) { for (size_t k = 0; k < N; k++) a[k] = (x.*peer)(S2CellId(questions[k])); }, [&] { return Sum().add_all(a).value(); }},
+              {[&](uint32_t) { must(proved(u.x.data(), u.x.size(), questions.data(), N, b.get(), N), it.name); },
+               [&] {
+                 Sum sum;
+                 for (size_t k = 0; k < N; k++) sum.add(b[k]);
+                 return sum.value();
+               }});
+  };
+  List questions = Random(9).cells_of(0, N, 8, 30), sorted = questions;
+  std::sort(sorted.begin(), sorted.end());
+  row({"contains_cell", N, 0xc716de7ca9f82722, 80}, questions, &S2CellUnion::Contains, s2c_contains_cells);
+  row({"intersects_cell", N, 0x1c9f361b4a86b9c3, 80}, questions, &S2CellUnion::Intersects, s2c_intersects_cells);
+  row({"contains_cell_sorted", N, 0xb36ffb8917552917, 0}, sorted, &S2CellUnion::Contains, s2c_contains_cells);
+}
+
+static void union_questions(Table& table, const Unions& u) {
+  bool a = false, b = false;
+  auto row = [&](Row it, const List& xs, const List& ys, bool (S2CellUnion::*peer)(const S2CellUnion&) const, UnionQuestion proved) {
+    S2CellUnion x = peer_union(xs), y = peer_union(ys);
+    it.units = xs.size() + ys.size();
+    table.row(it,
+              {[&](uint32_t times) { while (times-- > 0) a = (x.*peer)(y); }, [&] { return Sum().add(a).value(); }},
+              {[&](uint32_t times) { must(proved(xs.data(), xs.size(), ys.data(), ys.size(), times, &b), it.name); }, [&] { return Sum().add(b).value(); }, 20});
+  };
+  row({"contains_union_inside", 0, Sum().add(1).value(), 3}, u.x, u.inside, &S2CellUnion::Contains, s2c_contains);
+  row({"contains_union_itself", 0, Sum().add(1).value(), 3}, u.x, u.x, &S2CellUnion::Contains, s2c_contains);
+  row({"intersects_union_apart", 0, Sum().add(0).value(), 3}, u.even, u.odd, &S2CellUnion::Intersects, s2c_intersects);
+}
+
+static void denormalising(Table& table, const Unions& u) {
+  S2CellUnion x = peer_union(u.x);
+  Room room(1500000);
+  std::vector<S2CellId> made;
+  auto row = [&](Row it, int min, int modulus) {
+    table.row(it,
+              {[&](uint32_t times) {
+                 while (times-- > 0) {
+                   made = std::vector<S2CellId>();
+                   x.Denormalize(min, modulus, &made);
+                 }
+               }, [&] { return sum_of(ids_of(made)); }, 2},
+              {[&](uint32_t times) { must(s2c_denormalised(u.x.data(), u.x.size(), min, modulus, times, room.at(), room.size(), room.len()), it.name); }, [&] { return sum_of(room.made()); }, 2},
+              [&] { return made.size(); });
+  };
+  row({"denormalise_level_11", 0, 0x9420967cca17adb5, 3}, 11, 1);
+  row({"denormalise_every_third", 0, 0xcf20f4307d92eba9, 3}, 4, 3);
+}
+
+static void files(Table& table) {
+  List ids = ids_of(normalised(Random(10).cells(N, 14, 20)));
+  S2CellUnion cells = peer_union(ids), decoded;
+  std::vector<uint8_t> bytes(9 + 8 * ids.size());
+  size_t len = 0;
+  std::string peer_bytes;
+  table.row({"encode", ids.size(), 0x8fa81b1fd1049144, 2},
+            {[&](uint32_t times) {
+               while (times-- > 0) {
+                 Encoder encoder;
+                 cells.Encode(&encoder);
+                 peer_bytes.assign(encoder.base(), encoder.length());
+               }
+             }, [&] {
+               Sum sum;
+               for (unsigned char byte : peer_bytes) sum.add(byte);
+               return sum.value();
+             }, 2},
+            {[&](uint32_t times) { must(s2c_encode(ids.data(), ids.size(), times, bytes.data(), bytes.size(), &len), "encode"); }, [&] { return Sum().add_all(bytes).value(); }, 2});
+  must(s2c_encode(ids.data(), ids.size(), 1, bytes.data(), bytes.size(), &len), "encode");
+  Room room(ids.size());
+  table.row({"decode_and_normalise", ids.size(), 0x2a71494719421e09, 8},
+            {[&](uint32_t times) {
+               while (times-- > 0) {
+                 Decoder decoder(bytes.data(), bytes.size());
+                 must(decoded.Decode(&decoder), "Decode");
+                 for (S2CellId cell : decoded) must(cell.is_valid(), "Decode");
+                 decoded.Normalize();
+               }
+             }, [&] { return sum_of(decoded); }, 2},
+            {[&](uint32_t times) { must(s2c_decode(bytes.data(), bytes.size(), times, room.at(), room.size(), room.len()), "decode"); }, [&] { return sum_of(room.made()); }, 2});
+}
+
+static void coverings(Table& table) {
+  Bounds large = {1, 126420997, 159450117, 401604613, 434633733};
+  Room room(300000);
+  S2CellUnion made;
+  auto row = [&](Row it, bool outer, S2CellUnion (*peer)(const Bounds&, int, bool), Covering proved) {
+    table.row(it,
+              {[&](uint32_t) { made = peer(large, 20, outer); }, [&] { return sum_of(made); }},
+              {[&](uint32_t) { must(proved(&large, 20, room.at(), room.size(), room.len()), it.name); }, [&] { return sum_of(room.made()); }},
+              [&] { return made.num_cells(); });
+  };
+  const u64 outer_sum = 0x34e7e225fe88cd2f, inner_sum = 0xb844960511bf68f7;
+  row({"outer_large", 0, outer_sum, 110}, true, covering_by_descent, s2c_outer);
+  row({"inner_large", 0, inner_sum, 25}, false, covering_by_descent, s2c_inner);
+  row({"outer_large_any_region", 0, outer_sum, 0}, true, covering_by_coverer, s2c_region_outer);
+  row({"inner_large_any_region", 0, inner_sum, 0}, false, covering_by_coverer, s2c_region_inner);
+
+  Random random(11);
+  std::vector<Bounds> small(10000);
+  for (Bounds& r : small) {
+    r.face = random.below(6);
+    r.i0 = random.below(1073700000);
+    r.j0 = random.below(1073700000);
+    r.i1 = r.i0 + random.below(40000);
+    r.j1 = r.j0 + random.below(40000);
+  }
+  Sum a, b;
+  size_t cells = 0;
+  table.row({"outer_small", 0, 0x3911cab6bd233914, 0},
+            {[&](uint32_t) {
+               a = Sum();
+               for (const Bounds& r : small) for (S2CellId cell : covering_by_descent(r, 18, true)) a.add(cell.id());
+             }, [&] { return a.value(); }},
+            {[&](uint32_t) {
+               b = Sum();
+               cells = 0;
+               for (const Bounds& r : small) {
+                 must(s2c_outer(&r, 18, room.at(), room.size(), room.len()), "outer");
+                 b.add_all(room);
+                 cells += *room.len();
+               }
+             }, [&] { return b.value(); }},
+            [&] { return cells; });
+}
+
+static void ranges(Table& table) {
+  Random random(12);
+  std::vector<std::pair<u64, u64>> ends(100000);
+  for (auto& [first, last] : ends) {
+    u64 a = random.leaf(), b = random.leaf();
+    first = std::min(a, b);
+    last = std::max(a, b);
+  }
+  Room room(1000);
+  Sum a, b;
+  size_t cells = 0;
+  table.row({"range", 0, 0xb789253b3d76d2c2, 9},
+            {[&](uint32_t) {
+               a = Sum();
+               for (auto& [first, last] : ends) for (S2CellId cell : S2CellUnion::FromMinMax(S2CellId(first), S2CellId(last))) a.add(cell.id());
+             }, [&] { return a.value(); }},
+            {[&](uint32_t) {
+               b = Sum();
+               cells = 0;
+               for (auto& [first, last] : ends) {
+                 must(s2c_range(first, last, room.at(), room.size(), room.len()), "range");
+                 b.add_all(room);
+                 cells += *room.len();
+               }
+             }, [&] { return b.value(); }},
+            [&] { return cells; });
+}
+
+int main(int argc, char** argv) {
+  Table table(argc > 1 ? argv[1] : "", argc > 2 ? atoi(argv[2]) : 5);
+  Unions unions;
+  places(table);
+  squares(table);
+  texts(table);
+  normalising(table);
+  sets(table, unions);
+  cell_questions(table, unions);
+  union_questions(table, unions);
+  denormalising(table, unions);
+  files(table);
+  coverings(table);
+  ranges(table);
+  if (table.all_equal()) return 0;
+  fprintf(stderr, "some checksums differ\n");
+  return 1;
+}

@@ -1,0 +1,85 @@
+// Times two sides beside each other, compares their checksums, and prints a line of the table for each row.
+#pragma once
+#include <chrono>
+#include <cstdio>
+#include <cstring>
+#include <functional>
+#include <string>
+
+#include "workload.h"
+
+// One side of a row. `work` does its work so many times; `sum` is the checksum of what the last of them made.
+struct Side {
+  std::function<void(uint32_t)> work;
+  std::function<u64()> sum;
+  // How many times beyond one are timed. 0: one time, with what it costs to copy the inputs.
+  uint32_t more = 0;
+};
+
+struct Row {
+  const char* name;
+  size_t units;
+  u64 sum;
+  double goal;
+};
+
+// The least time of the rounds, in nanoseconds.
+class Best {
+ public:
+  void measure(const Side& side) {
+    once_ = std::min(once_, time_of(side, 1));
+    if (side.more > 0) all_ = std::min(all_, time_of(side, side.more + 1));
+  }
+
+  // The time of one time more: what is done once for all times falls out of the difference.
+  double of(const Side& side) const { return side.more == 0 ? once_ : (all_ - once_) / side.more; }
+
+ private:
+  static double now() { return std::chrono::duration<double, std::nano>(std::chrono::steady_clock::now().time_since_epoch()).count(); }
+
+  static double time_of(const Side& side, uint32_t times) {
+    double start = now();
+    side.work(times);
+    return now() - start;
+  }
+
+  double once_ = 1e300, all_ = 1e300;
+};
+
+class Table {
+ public:
+  Table(const char* only, int rounds) : only_(only), rounds_(rounds) {
+    printf("%-30s %10s %10s %8s %8s %6s  %s\n", "", "S2", "proved", "S2/it", "goal", "met", "checksum");
+  }
+
+  bool wants(const char* name) const { return strstr(name, only_) != nullptr; }
+  bool all_equal() const { return all_equal_; }
+
+  // `units` of the row may be 0: then it is what `units` says once the work is done.
+  void row(Row row, const Side& peer, const Side& proved, const std::function<size_t()>& units = nullptr) {
+    if (!wants(row.name)) return;
+    Best peer_best, proved_best;
+    for (int round = 0; round < rounds_; round++) {
+      peer_best.measure(peer);
+      proved_best.measure(proved);
+    }
+    if (units) row.units = units();
+    double peer_ns = peer_best.of(peer) / row.units, proved_ns = proved_best.of(proved) / row.units;
+    u64 peer_sum = peer.sum(), proved_sum = proved.sum();
+    bool is_equal = peer_sum == proved_sum && (row.sum == 0 || row.sum == proved_sum);
+    all_equal_ = all_equal_ && is_equal;
+    printf("%-30s %10.2f %10.2f %8.2f ", row.name, peer_ns, proved_ns, peer_ns / proved_ns);
+    if (row.goal > 0) printf("%8.0f %6s  ", row.goal, proved_ns <= row.goal ? "yes" : "no");
+    else printf("%8s %6s  ", "", "");
+    printf("%016llx", static_cast<unsigned long long>(proved_sum));
+    if (peer_sum != proved_sum) printf("  DIFFERS from S2's %016llx", static_cast<unsigned long long>(peer_sum));
+    if (row.sum != 0 && row.sum != proved_sum) printf("  DIFFERS from the known %016llx", static_cast<unsigned long long>(row.sum));
+    printf("\n");
+    fflush(stdout);
+  }
+
+ private:
+  const char* only_;
+  int rounds_;
+  bool all_equal_ = true;
+};

@@ -1,0 +1,95 @@
+//! The questions that are asked of a union.
+ghost use Rattle.std.specs.Prelude.{◌≡◌, ◌<◌, ◌≤◌, ◌↔◌, IsTrue, ℕ, length, slice_index, slice_index_or, false};
+ghost use Rattle.s2cell.specs.Cell.{covers};
+ghost use Rattle.s2union.specs.Union.{IsLocal, has_leaf, IsWithin, ShareSome};
+
+use crate::lists::{cells_of, union_of};
+use std::alloc::Global;
+
+/// Whether a union has all leaves of each cell in turn. Answers whether the questions were answered.
+#[unsafe(no_mangle)]
+pub extern "C" fn s2c_contains_cells(
+    alloc: Global,
+    ids: &[u64],
+    questions: &[u64],
+    answers: &mut [bool],
+) -> bool
+    ensures { IsTrue result → (k : ℕ) → k < length questions.now
+        → (IsTrue (slice_index_or answers.new k false) ↔ IsWithin (covers (slice_index questions.now k)) (has_leaf ids.now)) }
+{
+    let (Some(union), Some(cells)) = (union_of(alloc, ids), cells_of(alloc, questions)) else {
+        return false;
+    };
+    if cells.len() > answers.len() {
+        return false;
+    }
+    for k in 0..cells.len() {
+        answers[k] = union.contains_cell(cells[k]);
+    }
+    true
+}
+
+/// Whether a union has a leaf of each cell in turn. Answers whether the questions were answered.
+#[unsafe(no_mangle)]
+pub extern "C" fn s2c_intersects_cells(
+    alloc: Global,
+    ids: &[u64],
+    questions: &[u64],
+    answers: &mut [bool],
+) -> bool
+    ensures { IsTrue result → (k : ℕ) → k < length questions.now
+        → (IsTrue (slice_index_or answers.new k false) ↔ ShareSome (covers (slice_index questions.now k)) (has_leaf ids.now)) }
+{
+    let (Some(union), Some(cells)) = (union_of(alloc, ids), cells_of(alloc, questions)) else {
+        return false;
+    };
+    if cells.len() > answers.len() {
+        return false;
+    }
+    for k in 0..cells.len() {
+        answers[k] = union.intersects_cell(cells[k]);
+    }
+    true
+}
+
+/// Whether a union has all leaves of another: answers whether the question was answered.
+#[unsafe(no_mangle)]
+pub extern "C" fn s2c_contains(
+    alloc: Global,
+    xs: &[u64],
+    ys: &[u64],
+    times: u32,
+    answer: &mut bool,
+) -> bool
+    ensures { IsTrue result → (IsTrue answer.new ↔ IsWithin (has_leaf ys.now) (has_leaf xs.now)) }
+{
+    let (Some(whole), Some(part)) = (union_of(alloc, xs), union_of(alloc, ys)) else {
+        return false;
+    };
+    for _ in 1..times {
+        *answer = whole.contains(&part);
+    }
+    *answer = whole.contains(&part);
+    true
+}
+
+/// Whether two unions share a leaf: answers whether the question was answered.
+#[unsafe(no_mangle)]
+pub extern "C" fn s2c_intersects(
+    alloc: Global,
+    xs: &[u64],
+    ys: &[u64],
+    times: u32,
+    answer: &mut bool,
+) -> bool
+    ensures { IsTrue result → (IsTrue answer.new ↔ ShareSome (has_leaf xs.now) (has_leaf ys.now)) }
+{
+    let (Some(x), Some(y)) = (union_of(alloc, xs), union_of(alloc, ys)) else {
+        return false;
+    };
+    for _ in 1..times {
+        *answer = y.intersects(&x);
+    }
+    *answer = x.intersects(&y);
+    true
+}

@@ -1,0 +1,209 @@
+// The proved library and S2 asked the same random questions: peer [CASES [SEED]]. It stops at the first answer that differs.
+#include "rectangle.h"
+#include "sides.h"
+
+static const char* question = "";
+
+static std::string text_of(const List& ids) {
+  std::string text;
+  for (u64 id : ids) text += S2CellId(id).ToString() + " ";
+  return text.empty() ? "nothing" : text;
+}
+
+template <typename Value>
+static void same(const Value& proved, const Value& peer, const std::string& about) {
+  if (proved == peer) return;
+  fprintf(stderr, "%s differs for %s\n", question, about.c_str());
+  exit(1);
+}
+
+static void same_cells(const Room& proved, const List& peer, const std::string& about) {
+  if (proved.made() == peer) return;
+  fprintf(stderr, "%s differs for %s\n  proved  %s\n  S2      %s\n", question, about.c_str(), text_of(proved.made()).c_str(), text_of(peer).c_str());
+  exit(1);
+}
+
+static Room room(4000000);
+
+static void cells(Random& random) {
+  uint8_t face = random.below(6);
+  uint32_t i = random.coordinate(), j = random.coordinate();
+  S2CellId leaf = S2CellId::FromFaceIJ(face, i, j);
+  std::string place = std::to_string(face) + " " + std::to_string(i) + " " + std::to_string(j);
+  question = "from_face_ij";
+  same(s2c_from_face_ij(face, i, j), u64{leaf.id()}, place);
+
+  S2CellId cell(random.cell(0, 30));
+  std::string about = cell.ToString();
+  FaceSquare square = s2c_square(cell.id());
+  int si, sj, sface = cell.ToFaceIJOrientation(&si, &sj, nullptr), size = cell.GetSizeIJ();
+  question = "square";
+  same<u64>(square.face, sface, about);
+  same<u64>(square.i, si & -size, about);
+  same<u64>(square.j, sj & -size, about);
+  same<u64>(square.size, size, about);
+}
+
+using FromText = bool (*)(const uint8_t*, size_t, u64*);
+
+static void read_text(FromText from_text, const std::string& text, S2CellId peer) {
+  u64 id = 0;
+  bool found = from_text(reinterpret_cast<const uint8_t*>(text.data()), text.size(), &id);
+  same(found, peer.is_valid(), "'" + text + "'");
+  if (found) same(id, u64{peer.id()}, "'" + text + "'");
+}
+
+// The text with one of its bytes exchanged for another.
+static std::string spoilt(Random& random, std::string text, const std::string& bytes) {
+  text[random.below(text.size())] = bytes[random.below(bytes.size())];
+  return text;
+}
+
+static void texts(Random& random) {
+  S2CellId cell(random.cell(0, 30));
+  uint8_t text[32];
+  question = "token";
+  size_t len = s2c_token(cell.id(), text, sizeof text);
+  std::string token(text, text + len);
+  same(token, cell.ToToken(), cell.ToString());
+  question = "from_token";
+  read_text(s2c_from_token, token, cell);
+  std::string other = spoilt(random, token, "0123456789abcdefABCDEF");
+  read_text(s2c_from_token, other, S2CellId::FromToken(other));
+
+  question = "debug";
+  len = s2c_debug(cell.id(), text, sizeof text);
+  std::string debug(text, text + len);
+  same(debug, cell.ToString(), token);
+  question = "from_debug";
+  read_text(s2c_from_debug, debug, cell);
+  other = spoilt(random, debug, "01234567/");
+  read_text(s2c_from_debug, other, S2CellId::FromDebugString(other));
+}
+
+// Cells close to one another, so that some contain others and some are all children of one parent.
+static List near_cells(Random& random, u64 around) {
+  int top = S2CellId(around).level(), deep = std::min(30, top + 1 + static_cast<int>(random.below(4)));
+  List list(random.below(60));
+  for (u64& id : list) {
+    int level = top + random.below(deep - top + 1);
+    u64 leaf = S2CellId(around).range_min().id() + 2 * random.below(lowest_bit(around));
+    id = parent_of(leaf, level);
+  }
+  return list;
+}
+
+static List normal(const List& ids) { return ids_of(S2CellUnion(peer_cells(ids))); }
+
+static void operations(const List& xs, const List& ys) {
+  S2CellUnion x = peer_union(xs), y = peer_union(ys);
+  std::string about = text_of(xs) + "and " + text_of(ys);
+  auto ask = [&](const char* name, Operation proved, const S2CellUnion& peer) {
+    question = name;
+    must(proved(xs.data(), xs.size(), ys.data(), ys.size(), 1, room.at(), room.size(), room.len()), name);
+    same_cells(room, ids_of(peer), about);
+  };
+  ask("union", s2c_union, x.Union(y));
+  ask("intersection", s2c_intersection, x.Intersection(y));
+  ask("difference", s2c_difference, x.Difference(y));
+  auto ask_whether = [&](const char* name, UnionQuestion proved, bool peer) {
+    bool answer = false;
+    question = name;
+    must(proved(xs.data(), xs.size(), ys.data(), ys.size(), 1, &answer), name);
+    same(answer, peer, about);
+  };
+  ask_whether("contains", s2c_contains, x.Contains(y));
+  ask_whether("intersects", s2c_intersects, x.Intersects(y));
+}
+
+static void unions(Random& random) {
+  u64 around = random.cell(0, 29);
+  List given = near_cells(random, around), others = near_cells(random, around);
+  List xs = normal(given), ys = normal(others);
+  question = "normalise";
+  must(s2c_normalise(given.data(), given.size(), 1, room.at(), room.size(), room.len()), question);
+  same_cells(room, xs, text_of(given));
+  operations(xs, ys);
+
+  S2CellUnion x = peer_union(xs);
+  auto answers = std::make_unique<bool[]>(others.size());
+  question = "contains_cells";
+  must(s2c_contains_cells(xs.data(), xs.size(), others.data(), others.size(), answers.get(), others.size()), question);
+  for (size_t k = 0; k < others.size(); k++) same(answers[k], x.Contains(S2CellId(others[k])), text_of(xs) + "and " + text_of({others[k]}));
+  question = "intersects_cells";
+  must(s2c_intersects_cells(xs.data(), xs.size(), others.data(), others.size(), answers.get(), others.size()), question);
+  for (size_t k = 0; k < others.size(); k++) same(answers[k], x.Intersects(S2CellId(others[k])), text_of(xs) + "and " + text_of({others[k]}));
+
+  int min = std::min(30, S2CellId(around).level() + static_cast<int>(random.below(5))), modulus = 1 + random.below(3);
+  std::vector<S2CellId> cut;
+  x.Denormalize(min, modulus, &cut);
+  question = "denormalised";
+  must(s2c_denormalised(xs.data(), xs.size(), min, modulus, 1, room.at(), room.size(), room.len()), question);
+  same_cells(room, ids_of(cut), text_of(xs) + "at " + std::to_string(min) + " by " + std::to_string(modulus));
+}
+
+static void files(Random& random) {
+  List given = near_cells(random, random.cell(0, 29)), xs = normal(given);
+  std::vector<uint8_t> bytes(9 + 8 * xs.size());
+  size_t len = 0;
+  question = "encode";
+  must(s2c_encode(xs.data(), xs.size(), 1, bytes.data(), bytes.size(), &len), question);
+  Encoder encoder;
+  peer_union(xs).Encode(&encoder);
+  same(std::string(bytes.begin(), bytes.begin() + len), std::string(encoder.base(), encoder.length()), text_of(xs));
+  question = "decode";
+  Encoder unsorted;
+  peer_union(given).Encode(&unsorted);
+  must(s2c_decode(reinterpret_cast<const uint8_t*>(unsorted.base()), unsorted.length(), 1, room.at(), room.size(), room.len()), question);
+  same_cells(room, xs, text_of(given));
+}
+
+static void ranges(Random& random) {
+  u64 a = random.leaf(), b = random.leaf();
+  if (random.below(2) == 0) b = a + 2 * random.below(5000);
+  if (b >> 61 > 5) b = a;
+  u64 first = std::min(a, b), last = std::max(a, b);
+  question = "range";
+  must(s2c_range(first, last, room.at(), room.size(), room.len()), question);
+  same_cells(room, ids_of(S2CellUnion::FromMinMax(S2CellId(first), S2CellId(last))), text_of({first, last}));
+}
+
+static void coverings(Random& random) {
+  int bits = 1 + random.below(30);
+  uint32_t side = 1u << 30, most = 1u << bits;
+  auto bounds = [&](uint32_t* least, uint32_t* greatest) {
+    *least = random.below(side);
+    *greatest = *least + random.below(std::min(most, side - *least));
+  };
+  Bounds r;
+  r.face = random.below(6);
+  bounds(&r.i0, &r.i1);
+  bounds(&r.j0, &r.j1);
+  int level = random.below(std::min(30, 30 - bits + 6) + 1);
+  std::string about = std::to_string(r.face) + " " + std::to_string(r.i0) + " " + std::to_string(r.i1) + " " + std::to_string(r.j0) + " " + std::to_string(r.j1) + " at " + std::to_string(level);
+  auto ask = [&](const char* name, Covering proved, const S2CellUnion& peer) {
+    question = name;
+    must(proved(&r, level, room.at(), room.size(), room.len()), name);
+    same_cells(room, ids_of(peer), about);
+  };
+  S2CellUnion outer = covering_by_coverer(r, level, true), inner = covering_by_descent(r, level, false);
+  ask("outer", s2c_outer, outer);
+  ask("inner", s2c_inner, inner);
+  ask("region_outer", s2c_region_outer, outer);
+  ask("region_inner", s2c_region_inner, inner);
+}
+
+int main(int argc, char** argv) {
+  long cases = argc > 1 ? atol(argv[1]) : 100000;
+  u64 seed = argc > 2 ? strtoull(argv[2], nullptr, 10) : 1;
+  Random random(seed);
+  for (long k = 0; k < cases; k++) {
+    cells(random);
+    texts(random);
+    unions(random);
+    files(random);
+    ranges(random);
+    if (k % 20 == 0) coverings(random);
+  }
+  printf("%ld random cases with the seed %llu, none different\n", cases, static_cast<unsigned long long>(seed));
+}
