@@ -1,23 +1,61 @@
 -- Undo leads back through the past.
-use Rattle.std.proofs.Common.{◌≡◌, ◌≢◌, ℕ, zero, suc, ◌+◌, ◌<◌, ◌≤◌, inl, inr, false, cond, List, [], ◌∷◌, length, take, count_by, slice_index_or, refl, sym, ap, ◌∙◌, subst, arith}
+use Rattle.std.proofs.Common.{◌≡◌, ◌≢◌, ℕ, suc, ◌+◌, ◌<◌, ◌≤◌, inl, inr, ◌⊎◌, ⊎_elim, Bool, Option, None, Some, false, cond, List, [], ◌∷◌, length, take, count_by, refl, sym, ap, ◌∙◌, subst, arith}
 use Rattle.std.proofs.lemmas.List.{length-take, get_or-take}
 use Rattle.std.proofs.lemmas.List.Sums.{sum_by-cons}
 use Rattle.s2edit.specs.History.{History, changed, undone, undone_to}
 use Rattle.s2edit.specs.Leads.{table_at}
+use Rattle.s2edit.proofs.OneEnd.{is_there}
 use Rattle.s2file.proofs.Texts.{same_bytes}
-use Rattle.s2script.specs.declared.command.Command.TheVariants.{Undo}
+use Rattle.s2script.specs.declared.command.Command.{Command}
+use Rattle.s2script.specs.declared.command.Command.TheVariants.{Edit, Load, Save, Undo, Redo, Ask}
 use Rattle.s2script.specs.declared.command.Parsed.TheVariants.{Does}
 use Rattle.s2script.specs.Line.{line_of}
 use Rattle.s2calc.specs.World.{World}
 use Rattle.s2calc.specs.Replies.{Reply, is_refusal}
-use Rattle.s2calc.specs.Edits.{leaves_of, Moves}
-use Rattle.s2calc.specs.Step.{Step, StepBy}
+use Rattle.s2calc.specs.Edits.{leaves_of, Gets, Moves}
+use Rattle.s2calc.specs.Step.{Step, StepBy, Acts, Loads, ReadsContent}
 use Rattle.s2calc.specs.Run.{Steps}
-use Rattle.s2calc.specs.LawsScripts.{AllUndo, AllChange, GoesBack, LawOfUndo}
+use Rattle.s2calc.specs.LawsScripts.{GivesRegister, AllUndo, Changes, AllChange, GoesBack, LawOfUndo}
 
 -- now and the earlier tables, the newest first
 abbrev tables : History (List ℕ) → List (List (List ℕ))
 tables h = h.now ∷ h.past
+
+-- ---- one edit
+
+-- the state is as it was, or a register was given a list
+abbrev KeepsOrGives : History (List ℕ) → History (List ℕ) → Type 0
+KeepsOrGives old new = (new ≡ old) ⊎ ((r : ℕ) × (u : List ℕ) × (new ≡ changed old r u))
+
+gets_gives : (S : ℕ → Bool) (r : ℕ) (old new : History (List ℕ)) (reply : Reply) → Gets S r old reply new → KeepsOrGives old new
+gets_gives S r old new reply (inl h) = ⊎_elim (λ e. inl (h.state.same e)) (λ n. inr (r, h.list, h.state.differs n)) (is_there old.now r h.list)
+gets_gives S r old new reply (inr (inl h)) = inl h.2
+gets_gives S r old new reply (inr (inr h)) = inl h.1
+
+content_gives : (content : Option (List ℕ)) (r : ℕ) (old new : History (List ℕ)) (reply : Reply) → ReadsContent content r old reply new → KeepsOrGives old new
+content_gives None r old new reply h = inl h.1
+content_gives (Some bytes) r old new reply (inl h) = gets_gives h.0 r old new reply h.2
+content_gives (Some bytes) r old new reply (inr (inl h)) = inl h.4
+content_gives (Some bytes) r old new reply (inr (inr h)) = inl h.1
+
+loads_gives : (r : ℕ) (name : List ℕ) (old new : World) (reply : Reply) → Loads r name old reply new → KeepsOrGives old.state new.state
+loads_gives r name old new reply (inl h) = inl h.1
+loads_gives r name old new reply (inr (inl h)) = inl h.1
+loads_gives r name old new reply (inr (inr (content, held, same, read))) = content_gives content r old.state new.state reply read
+
+acts_gives : (command : Command) (old new : World) (reply : Reply) → GivesRegister command → Acts command old reply new → KeepsOrGives old.state new.state
+acts_gives (Edit r edit) old new reply g h = gets_gives _ r old.state new.state reply h.0
+acts_gives (Load r name) old new reply g h = loads_gives r name old new reply h
+acts_gives (Save r name) old new reply g h = absurd g
+acts_gives Undo old new reply g h = absurd g
+acts_gives Redo old new reply g h = absurd g
+acts_gives (Ask question) old new reply g h = absurd g
+
+edits_change : (old new : World) (line : List ℕ) (reply : Reply) (command : Command) → line_of line ≡ Does command → GivesRegister command → Step old line reply new
+    → (new.state ≡ old.state) ⊎ Changes old line reply new
+edits_change old new line reply command e g s =
+    let acts : Acts command old reply new = subst (λ p. StepBy p old reply new) e s.by in
+    ⊎_elim (λ k. inl k) (λ c. inr (record { step = s; register = c.0; list = c.1; state = c.2 })) (acts_gives command old new reply g acts)
 
 -- ---- one undo
 
@@ -51,13 +89,13 @@ one_refusal_less : (reply : Reply) (replies : List Reply) → is_refusal reply �
 one_refusal_less reply replies e = sum_by-cons (λ x. cond (is_refusal x) 1 0) reply replies ∙ ap (λ b. cond b 1 0 + count_by is_refusal replies) e ∙ omega arith
 
 -- what undos lead to
-record Leads (table : List (List ℕ)) (old : World) (replies : List Reply) (new : World) : Type 0 where
+record LeadsTo (table : List (List ℕ)) (old : World) (replies : List Reply) (new : World) : Type 0 where
   none_refused : count_by is_refusal replies ≡ 0
   now : new.state.now ≡ table
   files : new.files ≡ old.files
 
 undos_lead : (old new : World) (ls : List (List ℕ)) (replies : List Reply) → AllUndo ls → length ls ≤ length old.state.past → Steps old ls replies new
-    → Leads (table_at (tables old.state) (length ls)) old replies new
+    → LeadsTo (table_at (tables old.state) (length ls)) old replies new
 undos_lead old new [] [] u few s = record { none_refused = refl; now = ap (λ (w : World). w.state.now) s; files = ap (λ (w : World). w.files) s }
 undos_lead old new [] (reply ∷ replies) u few s = absurd s
 undos_lead old new (line ∷ ls) [] u few s = absurd s
@@ -74,7 +112,7 @@ undos_lead old new (line ∷ ls) (reply ∷ replies) u few (mid, s, t) =
       files = more.files ∙ one.files;
     }
 
-goes_back : (table : List (List ℕ)) (old new : World) (replies : List Reply) → Leads table old replies new → GoesBack table old replies new
+goes_back : (table : List (List ℕ)) (old new : World) (replies : List Reply) → LeadsTo table old replies new → GoesBack table old replies new
 goes_back table old new replies l = record {
   none_refused = l.none_refused;
   now = l.now;
@@ -97,8 +135,7 @@ one_behind : (old mid : History (List ℕ)) (r : ℕ) (u : List ℕ) (k : ℕ) �
     → (mid.depth ≡ old.depth) × (suc k ≤ length mid.past) × (table_at (tables mid) (suc k) ≡ table_at (tables old) k)
 one_behind old mid r u k e deep few =
     let past : mid.past ≡ take old.depth (tables old) = ap (λ (h : History (List ℕ)). h.past) e in
-    let size = ap length past ∙ length-take old.depth (tables old) in
-    (
+    let size = ap length past ∙ length-take old.depth (tables old) in (
       ap (λ (h : History (List ℕ)). h.depth) e,
       omega arith,
       ap (λ (ts : List (List (List ℕ))). table_at ts k) past ∙ get_or-take old.depth (tables old) k [] (omega arith),
@@ -134,4 +171,4 @@ given_back old mid new edits undos replies answers further c u e deep few s =
     subst (λ (t : List (List ℕ)). GoesBack t mid answers new) place back
 
 pub law_of_undo : LawOfUndo
-law_of_undo = record { back = undos_go_back; gives_back = given_back }
+law_of_undo = record { edits = edits_change; back = undos_go_back; gives_back = given_back }
