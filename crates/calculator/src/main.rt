@@ -4,8 +4,11 @@
 ghost use Rattle.std.specs.Prelude.{◌≤◌};
 
 use s2calc::{
-    Answers, Asking, Editor, Gathered, Job, RunFault, Stop, Tally, cell_answer, job, run, status,
+    Answers, Asking, Gathered, Job, RunFault, Stop, Tally, cell_answer, check_answer, job, run,
+    status,
 };
+use s2edit::Editor;
+use s2file::DirShelf;
 use std::io::{BufWriter, ErrorKind};
 use std::process::ExitCode;
 use std::{env, io};
@@ -14,7 +17,7 @@ use std::{env, io};
 const OUTPUT_SIZE: usize = 65536;
 
 const HELP: &str =
-    "s2calc run [--limit N] [--depth N]    answers the script on standard input\ns2calc cell CELL    answers one `cell CELL`";
+    "s2calc run [--limit N] [--depth N] [--dir PATH]    answers the script on standard input\ns2calc cell CELL                                   answers one `cell CELL`\ns2calc check [--dir PATH] FILE                     says what a union file stands for";
 
 fn main(rt: HostRuntime) -> ExitCode {
     let words = match env::args(&rt) {
@@ -31,24 +34,22 @@ fn main(rt: HostRuntime) -> ExitCode {
         Err(_) => return stopped(&rt, Stop::Memory),
     };
     match job(rt.alloc(), words) {
-        Ok(Job::Run { limit, depth }) => run_script(&rt, limit, depth),
+        Ok(Job::Run { limit, depth, dir }) => run_script(&rt, limit, depth, &dir),
         Ok(Job::Cell { word }) => answer_cell(&rt, &word),
+        Ok(Job::Check { dir, name }) => answer_check(&rt, &dir, &name),
         Err(stop) => stopped(&rt, stop),
     }
 }
 
 /// Answers the script on standard input.
-fn run_script<R: AllocGlobal + Input + Print + Eprint>(
-    rt: &R,
-    limit: usize,
-    depth: usize,
-) -> ExitCode
-    requires some_cells { 1 ≤ limit }
-    requires most_cells { limit ≤ 1000000 }
-    requires some_states { 1 ≤ depth }
-    requires most_states { depth ≤ 1000 }
+fn run_script(rt: &HostRuntime, limit: usize, depth: usize, dir: &str) -> ExitCode
+    requires limit { (1 ≤ limit) × (limit ≤ 1000000) }
+    requires depth { (1 ≤ depth) × (depth ≤ 1000) }
 {
     let Ok(mut editor) = Editor::open(rt.alloc(), limit, depth) else {
+        return ended(rt, &Err(RunFault::Memory));
+    };
+    let Ok(mut shelf) = DirShelf::at(rt, dir) else {
         return ended(rt, &Err(RunFault::Memory));
     };
     let Ok(writer) = BufWriter::with_capacity(rt.alloc(), OUTPUT_SIZE, io::writer(rt)) else {
@@ -57,7 +58,13 @@ fn run_script<R: AllocGlobal + Input + Print + Eprint>(
     let gathered = Gathered::new(writer);
     let mut reader = Asking::of(rt.reader(), &gathered);
     let mut answers = Answers::of(&gathered);
-    let result = run(rt.alloc(), &mut editor, &mut reader, &mut answers);
+    let result = run(
+        rt.alloc(),
+        &mut editor,
+        &mut reader,
+        &mut answers,
+        &mut shelf,
+    );
     // Where the flush before a read failed, it is the output that failed.
     let result = match result {
         Err(RunFault::Input) if gathered.failed() => Err(RunFault::Output),
@@ -67,8 +74,24 @@ fn run_script<R: AllocGlobal + Input + Print + Eprint>(
 }
 
 /// Answers one `cell CELL`.
-fn answer_cell<R: Print + Eprint>(rt: &R, word: &str) -> ExitCode {
-    match cell_answer(word.as_bytes(), &mut io::writer(rt)) {
+fn answer_cell(rt: &HostRuntime, word: &str) -> ExitCode {
+    answered(rt, cell_answer(word.as_bytes(), &mut io::writer(rt)))
+}
+
+/// Says what a file stands for.
+fn answer_check(rt: &HostRuntime, dir: &str, name: &str) -> ExitCode {
+    let Ok(mut shelf) = DirShelf::at(rt, dir) else {
+        return ended(rt, &Err(RunFault::Memory));
+    };
+    answered(
+        rt,
+        check_answer(rt.alloc(), &mut shelf, name, &mut io::writer(rt)),
+    )
+}
+
+/// Tells how one answer ended.
+fn answered(rt: &impl Eprint, outcome: Result<bool, RunFault>) -> ExitCode {
+    match outcome {
         Ok(true) => ExitCode::SUCCESS,
         Ok(false) => ExitCode::from(1),
         Err(fault) => ended(rt, &Err(fault)),

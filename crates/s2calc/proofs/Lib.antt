@@ -1,5 +1,8 @@
 pub mod CloseLemmas
+pub mod EditLemmas
 pub mod LineLemmas
+pub mod ListingLemmas
+pub mod OneRun
 pub mod OutputLemmas
 pub mod ReadLemmas
 pub mod RunLemmas

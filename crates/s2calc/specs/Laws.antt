@@ -1,10 +1,11 @@
 -- Laws about the definitions.
-use Rattle.std.specs.Prelude.{◌≡◌, ℕ, List, Some}
+use Rattle.std.specs.Prelude.{◌≡◌, ◌≢◌, ℕ, true, List, [], ◌∷◌, Some}
 use Rattle.std.specs.Io.KnownBytes.{Appends}
 use Rattle.s2calc.specs.World.{World}
 use Rattle.s2calc.specs.declared.engine.Tally.{Tally}
 use Rattle.s2script.specs.Lines.{lines}
-use Rattle.s2calc.specs.Replies.{Reply, texts, tally_of}
+use Rattle.s2calc.specs.Replies.{Reply, Refuses, texts, tally_of}
+use Rattle.s2script.specs.declared.refusal.Refusal.TheVariants.{Memory, File}
 use Rattle.s2calc.specs.Run.{Ends, Finishes, Steps}
 
 -- a run that finishes answers the lines of all the bytes that its reader tells
@@ -12,3 +13,25 @@ abbrev pub TellsWhole : Type 0
 TellsWhole =
     (ends : Ends) (old new : World) (tally : Tally) (script : List ℕ) → Finishes ends old new tally → ends.input_old ≡ Some script
     → (replies : List Reply) × Steps old (lines script) replies new × Appends ends.output_old ends.output_new (texts replies) × (tally ≡ tally_of replies)
+
+-- the same state, and the same files
+pub record SameWorld (a b : World) : Type 0 where
+  pub state : a.state ≡ b.state
+  pub tells : a.files.tells ≡ b.files.tells
+  pub at : (name : List ℕ) → a.files.at name ≡ b.files.at name
+  pub failures : a.files.failures ≡ b.files.failures
+
+-- neither want of memory nor a failed shelf
+abbrev pub IsPlain : Reply → Type 0
+IsPlain reply = (reply ≢ Refuses Memory) × (reply ≢ Refuses File)
+
+abbrev pub AllPlain : List Reply → Type 0
+AllPlain [] = Unit {0}
+AllPlain (reply ∷ replies) = IsPlain reply × AllPlain replies
+
+-- Over a shelf that tells, where no line is answered `error memory` or `error file`, the replies, the state and
+-- the files are one function of the lines, the first state and the first files.
+abbrev pub OneRun : Type 0
+OneRun =
+    (a b c d : World) (ls : List (List ℕ)) (rs ss : List Reply) → SameWorld a b → a.files.tells ≡ true → Steps a ls rs c → Steps b ls ss d → AllPlain rs → AllPlain ss
+    → (rs ≡ ss) × SameWorld c d

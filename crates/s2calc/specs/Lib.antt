@@ -1,7 +1,8 @@
-pub mod History
 pub mod World
 pub mod Texts
 pub mod Replies
+pub mod Questions
+pub mod Edits
 pub mod Step
 pub mod Run
 pub mod Output
@@ -10,3 +11,4 @@ pub mod Execute
 pub mod Stands
 pub mod Laws
 pub mod Program
+pub mod Check

@@ -6,7 +6,7 @@ use Rattle.s2calc.specs.declared.engine.Tally.{Tally}
 use Rattle.s2calc.specs.declared.fault.RunFault.{RunFault}
 use Rattle.s2calc.specs.declared.fault.RunFault.TheVariants.{Input, Output, Memory}
 use Rattle.s2calc.specs.declared.task.Job.{Job}
-use Rattle.s2calc.specs.declared.task.Job.TheVariants.{Run, Cell}
+use Rattle.s2calc.specs.declared.task.Job.TheVariants.{Run, Cell, Check}
 use Rattle.s2calc.specs.Replies.{Reply, Says, Refuses}
 use Rattle.s2calc.specs.Texts.{cell_line}
 
@@ -32,5 +32,6 @@ status_of (Err Memory) = 3
 
 -- a run has its limit and its depth in range
 abbrev pub IsInRange : Job → Type 0
-IsInRange (Run limit depth) = (1 ≤ limit) × (limit ≤ 1000000) × (1 ≤ depth) × (depth ≤ 1000)
+IsInRange (Run limit depth dir) = (1 ≤ limit) × (limit ≤ 1000000) × (1 ≤ depth) × (depth ≤ 1000)
 IsInRange (Cell word) = Unit {0}
+IsInRange (Check dir name) = Unit {0}

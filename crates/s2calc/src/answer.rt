@@ -1,43 +1,44 @@
-//! Answers, and how they are written.
-ghost use Rattle.std.specs.Prelude.{◌≡◌, OnOk, OnErr, IfErr};
-ghost use Rattle.std.specs.Io.KnownBytes.{Appends};
-ghost use Rattle.s2calc.specs.Output.{AppendsPart};
-ghost use Rattle.s2calc.specs.Replies.{text_of};
-ghost use Rattle.s2calc.specs.Answer.{reply_of};
+//! What a line is answered.
+use s2cell::{CellId, Square};
+use s2edit::Register;
+use s2script::{Level, Modulus, Refusal};
 
-use crate::editor::Editor;
-use crate::fault::RunFault;
-use crate::output::emit;
-use crate::text::{cell_line, error_line};
-use s2cell::CellId;
-use s2script::Refusal;
-use std::io::Write;
-
-/// What a line is answered. Of a long answer it says only what to list.
-#[derive(Clone, Copy, Debug, PartialEq, Eq)]
+/// What a line is answered, until it is written. Of a long answer it says only what to list.
+#[derive(Clone, Copy)]
 pub enum Answer {
     /// Nothing is written.
     Nothing,
     /// What is known of a cell.
     Cell(CellId),
+    /// A square.
+    Square(Square),
+    /// How many cells were taken out of a register and put in.
+    Moved {
+        out: usize,
+        put: usize,
+    },
+    /// How many cells and leaves a register has.
+    Count {
+        cells: usize,
+        leaves: u64,
+    },
+    /// Yes or no.
+    Tells(bool),
+    /// The cells of a register.
+    Listing(Register),
+    /// The cells of a register, cut to levels.
+    Cut {
+        register: Register,
+        least: Level,
+        modulus: Modulus,
+    },
+    /// How many states can be undone and redone.
+    Sides {
+        undos: usize,
+        redos: usize,
+    },
+    /// A file was written.
+    Saved,
     /// The name of a refusal.
     Refused(Refusal),
-}
-
-/// Writes an answer, piece by piece.
-pub(crate) fn write_answer<W: Write>(
-    writer: &mut W,
-    answer: &Answer,
-    editor: &Editor,
-) -> Result<(), RunFault>
-    ensures ok { OnOk result (Appends (W.contents writer.old) (W.contents writer.new) (text_of (reply_of answer.now editor.now))) }
-    ensures err { OnErr result (AppendsPart (W.contents writer.old) (W.contents writer.new) (text_of (reply_of answer.now editor.now))) }
-    ensures fault { IfErr result (λ fault. fault ≡ RunFault.Output) }
-{
-    let _ = editor;
-    match answer {
-        Answer::Nothing => Ok(()),
-        Answer::Cell(cell) => emit(writer, cell_line(*cell).as_slice()),
-        Answer::Refused(refusal) => emit(writer, error_line(*refusal).as_slice()),
-    }
 }

@@ -22,17 +22,24 @@ pub fn job(alloc: Global, words: Vec<String>) -> Result<Job, Stop>
         Err(error) => return Err(stop_of(error.kind())),
     };
     if let Some(run) = matches.subcommand_matches("run") {
-        return run_job(run);
+        return run_job(alloc, run);
     }
     if let Some(cell) = matches.subcommand_matches("cell") {
         return Ok(Job::Cell {
             word: text(alloc, cell, "CELL")?,
         });
     }
+    if let Some(check) = matches.subcommand_matches("check") {
+        return Ok(Job::Check {
+            dir: text(alloc, check, "dir")?,
+            name: text(alloc, check, "FILE")?,
+        });
+    }
     Err(Stop::Usage)
 }
 
-fn run_job(run: &ArgMatches<'_>) -> Result<Job, Stop>
+/// The run that is asked for.
+fn run_job(alloc: Global, run: &ArgMatches<'_>) -> Result<Job, Stop>
     ensures { IfOk result IsInRange }
 {
     let limit = run.get_one::<usize>("limit").unwrap_or(0);
@@ -40,7 +47,11 @@ fn run_job(run: &ArgMatches<'_>) -> Result<Job, Stop>
     if !is_within(limit, MOST_CELLS as usize) || !is_within(depth, MOST_STATES as usize) {
         return Err(Stop::Usage);
     }
-    Ok(Job::Run { limit, depth })
+    Ok(Job::Run {
+        limit,
+        depth,
+        dir: text(alloc, run, "dir")?,
+    })
 }
 
 fn is_within(n: usize, most: usize) -> bool
@@ -63,12 +74,17 @@ fn text(alloc: Global, matches: &ArgMatches<'_>, id: &str) -> Result<String, Sto
 fn matches_of<'a>(alloc: Global, words: &'a [String]) -> Result<ArgMatches<'a>, Error> {
     let run = Command::new(alloc, "run")
         .arg(number(alloc, "limit", MOST_CELLS, "10000"))?
-        .arg(number(alloc, "depth", MOST_STATES, "100"))?;
+        .arg(number(alloc, "depth", MOST_STATES, "100"))?
+        .arg(dir(alloc))?;
     let cell = Command::new(alloc, "cell").arg(word(alloc, "CELL"))?;
+    let check = Command::new(alloc, "check")
+        .arg(dir(alloc))?
+        .arg(word(alloc, "FILE"))?;
     let command = Command::new(alloc, "s2calc")
         .subcommand_required(true)
         .subcommand(run)?
-        .subcommand(cell)?;
+        .subcommand(cell)?
+        .subcommand(check)?;
     command.try_get_matches_from(words)
 }
 
@@ -79,6 +95,15 @@ fn number<'a>(alloc: Global, name: &'a str, most: i64, usual: &'a str) -> Arg<'a
         .action(ArgAction::Set)
         .value_parser(value_parser!(usize).range(1..=most))
         .default_value(usual)
+}
+
+/// The folder of files, by its path.
+fn dir<'a>(alloc: Global) -> Arg<'a> {
+    Arg::new(alloc, "dir")
+        .long("dir")
+        .action(ArgAction::Set)
+        .allow_hyphen_values(true)
+        .default_value(".")
 }
 
 /// A word that has to stand there, whatever it begins with.

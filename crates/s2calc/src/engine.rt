@@ -7,14 +7,15 @@ ghost use Rattle.s2calc.specs.Replies.{Reply, tally_of};
 ghost use Rattle.s2calc.specs.Execute.{IsOutcome};
 ghost use Rattle.s2script.specs.Lines.{IsUnbroken, EndsLineAt};
 ghost use Rattle.s2calc.specs.Run.{Runs};
-ghost use Rattle.s2calc.specs.World.{World, Files, world};
+ghost use Rattle.s2calc.specs.World.{World, world};
 ghost use Rattle.s2calc.specs.Stands.{Stands, StandsAfter, StopsInside, Closes};
 
-use crate::editor::Editor;
 use crate::execute::{Outcome, execute};
 use crate::fault::RunFault;
 use crate::kept::Kept;
 use crate::output::flush;
+use s2edit::Editor;
+use s2file::Shelf;
 use std::alloc::{AllocError, Global};
 use std::io::{Read, Write};
 
@@ -50,25 +51,27 @@ fn newline_in(bytes: &[u8]) -> Option<usize>
 }
 
 /// Takes the next bytes of a script, and carries out each line that they end.
-fn take_in<W: Write>(
+fn take_in<W: Write, S: Shelf>(
+    alloc: Global,
     editor: &mut Editor,
     kept: &mut Kept,
     tally: &mut Tally,
     chunk: &[u8],
     writer: &mut W,
+    shelf: &mut S,
 ) -> Result<(), RunFault>
-    ensures ok { OnOk result ((files : Files) (start : World) (script : List ℕ) (replies : List Reply) →
-        Stands start script replies (world editor.old files) kept.old tally.old →
-        StandsAfter start script replies chunk.now (world editor.new files) kept.new tally.new (W.contents writer.old) (W.contents writer.new)) }
-    ensures err { OnErr result ((files : Files) (start : World) (script : List ℕ) (replies : List Reply) →
-        Stands start script replies (world editor.old files) kept.old tally.old →
-        StopsInside start script replies chunk.now (world editor.new files) (W.contents writer.old) (W.contents writer.new)) }
+    ensures ok { OnOk result ((start : World) (script : List ℕ) (replies : List Reply) →
+        Stands start script replies (world editor.old (S.files shelf.old)) kept.old tally.old →
+        StandsAfter start script replies chunk.now (world editor.new (S.files shelf.new)) kept.new tally.new (W.contents writer.old) (W.contents writer.new)) }
+    ensures err { OnErr result ((start : World) (script : List ℕ) (replies : List Reply) →
+        Stands start script replies (world editor.old (S.files shelf.old)) kept.old tally.old →
+        StopsInside start script replies chunk.now (world editor.new (S.files shelf.new)) (W.contents writer.old) (W.contents writer.new)) }
     ensures fault { IfErr result (λ fault. fault ≡ RunFault.Output) }
 {
     let mut rest = chunk;
     while let Some(at) = newline_in(rest) {
         kept.keep(&rest[..at]);
-        let outcome = execute(editor, kept.as_slice(), writer)?;
+        let outcome = execute(alloc, editor, kept.as_slice(), writer, shelf)?;
         kept.clear();
         tally.count(outcome);
         rest = &rest[at + 1..];
@@ -81,21 +84,22 @@ fn take_in<W: Write>(
 const READ_SIZE: usize = 65536;
 
 /// Runs a script: its lines come from the reader, and the answers go to the writer.
-pub fn run<R: Read, W: Write>(
+pub fn run<R: Read, W: Write, S: Shelf>(
     alloc: Global,
     editor: &mut Editor,
     reader: &mut R,
     writer: &mut W,
+    shelf: &mut S,
 ) -> Result<Tally, RunFault>
-    ensures { (files : Files) → Runs (record {
+    ensures { Runs (record {
       input_old = R.remaining reader.old;
       input_new = R.remaining reader.new;
       output_old = W.contents writer.old;
       output_new = W.contents writer.new;
-    }) (world editor.old files) (world editor.new files) result }
+    }) (world editor.old (S.files shelf.old)) (world editor.new (S.files shelf.new)) result }
 {
     match input_buffer(alloc) {
-        Ok(mut input) => run_over(&mut input, editor, reader, writer),
+        Ok(mut input) => run_over(alloc, &mut input, editor, reader, writer, shelf),
         Err(_) => Err(RunFault::Memory),
     }
 }
@@ -107,19 +111,21 @@ fn input_buffer(alloc: Global) -> Result<Vec<u8>, AllocError>
 }
 
 /// The run, over a buffer for the reader.
-fn run_over<R: Read, W: Write>(
+fn run_over<R: Read, W: Write, S: Shelf>(
+    alloc: Global,
     input: &mut [u8],
     editor: &mut Editor,
     reader: &mut R,
     writer: &mut W,
+    shelf: &mut S,
 ) -> Result<Tally, RunFault>
     requires { 0 < length input.old }
-    ensures { (files : Files) → Runs (record {
+    ensures { Runs (record {
       input_old = R.remaining reader.old;
       input_new = R.remaining reader.new;
       output_old = W.contents writer.old;
       output_new = W.contents writer.new;
-    }) (world editor.old files) (world editor.new files) result }
+    }) (world editor.old (S.files shelf.old)) (world editor.new (S.files shelf.new)) result }
 {
     let mut kept = Kept::new();
     let mut tally = Tally {
@@ -128,13 +134,15 @@ fn run_over<R: Read, W: Write>(
     };
     for _ in 0..u64::MAX {
         match reader.read(input) {
-            Ok(0) => return finish(editor, &kept, tally, writer),
+            Ok(0) => return finish(alloc, editor, &kept, tally, writer, shelf),
             Ok(count) => take_in(
+                alloc,
                 editor,
                 &mut kept,
                 &mut tally,
                 &input[..count],
                 writer,
+                shelf,
             )?,
             Err(_) => return Err(RunFault::Input),
         }
@@ -143,21 +151,23 @@ fn run_over<R: Read, W: Write>(
 }
 
 /// Carries out a last line that no newline ends, and flushes.
-fn finish<W: Write>(
+fn finish<W: Write, S: Shelf>(
+    alloc: Global,
     editor: &mut Editor,
     kept: &Kept,
     mut tally: Tally,
     writer: &mut W,
+    shelf: &mut S,
 ) -> Result<Tally, RunFault>
-    ensures { (files : Files) (start : World) (script : List ℕ) (replies : List Reply) →
-        Stands start script replies (world editor.old files) kept.now tally →
-        Closes start script replies (world editor.new files) (W.contents writer.old) (W.contents writer.new) result }
+    ensures { (start : World) (script : List ℕ) (replies : List Reply) →
+        Stands start script replies (world editor.old (S.files shelf.old)) kept.now tally →
+        Closes start script replies (world editor.new (S.files shelf.new)) (W.contents writer.old) (W.contents writer.new) result }
 {
     let line = kept.as_slice();
     if line.is_empty() {
         return flushed(tally, writer);
     }
-    let outcome = execute(editor, line, writer)?;
+    let outcome = execute(alloc, editor, line, writer, shelf)?;
     tally.count(outcome);
     flushed(tally, writer)
 }

@@ -3,12 +3,18 @@ ghost use Rattle.std.specs.Prelude.{◌≡◌, IfErr};
 ghost use Rattle.s2calc.specs.Execute.{Executes, outcome_of};
 ghost use Rattle.s2calc.specs.Answer.{reply_of};
 ghost use Rattle.s2calc.specs.Step.{Step, Acts};
-ghost use Rattle.s2calc.specs.World.{Files, world};
+ghost use Rattle.s2calc.specs.World.{world};
 
-use crate::answer::{Answer, write_answer};
-use crate::editor::Editor;
+use crate::answer::Answer;
+use crate::edits::{edit_register, redo, undo};
 use crate::fault::RunFault;
+use crate::files::{load, save};
+use crate::questions::answer_to;
+use crate::writing::write_answer;
+use s2edit::Editor;
+use s2file::Shelf;
 use s2script::{Command, Parsed, parse};
+use std::alloc::Global;
 use std::io::Write;
 
 /// How a line was answered.
@@ -23,15 +29,17 @@ pub enum Outcome {
 }
 
 /// Carries out a line and writes its answer. Where the writer fails, the line was carried out all the same.
-pub(crate) fn execute<W: Write>(
+pub(crate) fn execute<W: Write, S: Shelf>(
+    alloc: Global,
     editor: &mut Editor,
     line: &[u8],
     writer: &mut W,
+    shelf: &mut S,
 ) -> Result<Outcome, RunFault>
-    ensures executes { (files : Files) → Executes (world editor.old files) line.now (world editor.new files) (W.contents writer.old) (W.contents writer.new) result }
+    ensures executes { Executes (world editor.old (S.files shelf.old)) line.now (world editor.new (S.files shelf.new)) (W.contents writer.old) (W.contents writer.new) result }
     ensures fault { IfErr result (λ fault. fault ≡ RunFault.Output) }
 {
-    let answer = carry_out(editor, line);
+    let answer = carry_out(alloc, editor, line, shelf);
     write_answer(writer, &answer, editor)?;
     Ok(outcome_of(&answer, editor))
 }
@@ -42,28 +50,32 @@ fn outcome_of(answer: &Answer, editor: &Editor) -> Outcome
     let _ = editor;
     match answer {
         Answer::Nothing => Outcome::Silent,
-        Answer::Cell(_) => Outcome::Answered,
         Answer::Refused(_) => Outcome::Refused,
+        _ => Outcome::Answered,
     }
 }
 
 /// Carries out a line. The answer is to be written before the next.
-fn carry_out(editor: &mut Editor, line: &[u8]) -> Answer
-    ensures { (files : Files) → Step (world editor.old files) line.now (reply_of result editor.new) (world editor.new files) }
+fn carry_out<S: Shelf>(alloc: Global, editor: &mut Editor, line: &[u8], shelf: &mut S) -> Answer
+    ensures { Step (world editor.old (S.files shelf.old)) line.now (reply_of result editor.new) (world editor.new (S.files shelf.new)) }
 {
     match parse(line) {
         Parsed::Nothing => Answer::Nothing,
         Parsed::Fails(refusal) => Answer::Refused(refusal),
-        Parsed::Does(command) => act(editor, command),
+        Parsed::Does(command) => act(alloc, editor, command, shelf),
     }
 }
 
 /// Carries out a command.
-fn act(editor: &mut Editor, command: Command) -> Answer
-    ensures { (files : Files) → Acts command (world editor.old files) (reply_of result editor.new) (world editor.new files) }
+fn act<S: Shelf>(alloc: Global, editor: &mut Editor, command: Command<'_>, shelf: &mut S) -> Answer
+    ensures { Acts command.entry (world editor.old (S.files shelf.old)) (reply_of result editor.new) (world editor.new (S.files shelf.new)) }
 {
-    let _ = editor;
     match command {
-        Command::Cell(cell) => Answer::Cell(cell),
+        Command::Edit { register, edit } => edit_register(alloc, editor, register, edit),
+        Command::Load { register, name } => load(alloc, editor, register, &name, shelf),
+        Command::Save { register, name } => save(alloc, editor, register, &name, shelf),
+        Command::Undo => undo(editor),
+        Command::Redo => redo(editor),
+        Command::Ask(question) => answer_to(editor, &question),
     }
 }

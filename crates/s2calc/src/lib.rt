@@ -1,32 +1,40 @@
-//! The script engine: it reads a script line by line, carries out each line over an editor of registers,
-//! and writes its answer. `run` is the whole of it: its contract says that what was written is the stated
-//! function of the bytes read, however reader and writer cut them, and what holds where one of them fails.
+//! The script engine: it reads a script line by line, carries out each line over an editor of registers and
+//! a shelf of files, and writes its answer. `run` is the whole of it: its contract says that what was
+//! written is the stated function of the bytes read, however reader and writer cut them, and what holds
+//! where one of them fails.
 //!
 //! A line flows one way: bytes (`engine`, `kept`) -> what it says (the crate `s2script`) -> its effect
-//! (`execute`, over `editor`) -> an `answer` -> its `text` -> bytes (`output`). `fault` says what ends a
-//! run, `laws` holds laws about the definitions. For the program: `command_line` and `task` (what it is
-//! asked for), `program` (its other answers), `gathered` (answers that reach a terminal at once).
+//! (`execute`: `edits` with `making`, `files`, `questions`; all over the registers that `held` lends) -> an
+//! `answer` -> its `text` -> bytes (`writing`, `output`). `fault` says what ends a run, `laws` holds laws
+//! about the definitions. For the program: `command_line` and `task` (what it is asked for), `program` and `check` (its
+//! other answers), `gathered` (answers that reach a terminal at once).
 #![tactic(auto)]
 
 mod answer;
+mod check;
 mod command_line;
-mod editor;
+mod edits;
 mod engine;
 mod execute;
 mod fault;
+mod files;
 mod gathered;
+mod held;
 mod kept;
 mod laws;
+mod making;
 mod output;
 mod program;
+mod questions;
 mod task;
 mod text;
+mod writing;
 
+pub use check::check_answer;
 pub use command_line::job;
-pub use editor::Editor;
 pub use engine::{Tally, run};
 pub use fault::RunFault;
 pub use gathered::{Answers, Asking, Gathered};
-pub use laws::whole_script;
+pub use laws::{one_run, whole_script};
 pub use program::{cell_answer, status};
 pub use task::{Job, Stop};

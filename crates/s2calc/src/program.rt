@@ -34,7 +34,7 @@ pub fn cell_answer<W: Write>(word: &[u8], writer: &mut W) -> Result<bool, RunFau
 }
 
 /// Writes a line and flushes.
-fn write_line<W: Write>(line: &[u8], writer: &mut W) -> Result<(), RunFault>
+pub(crate) fn write_line<W: Write>(line: &[u8], writer: &mut W) -> Result<(), RunFault>
     ensures ok { OnOk result (Appends (W.contents writer.old) (W.contents writer.new) line.now) }
     ensures err { OnErr result (AppendsPart (W.contents writer.old) (W.contents writer.new) line.now) }
     ensures fault { IfErr result (λ fault. fault ≡ RunFault.Output) }

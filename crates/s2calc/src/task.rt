@@ -3,10 +3,22 @@
 /// What the program is asked for.
 #[derive(Debug, PartialEq, Eq, Drop)]
 pub enum Job {
-    /// To answer a script, with so many cells in a register and so many kept states at most.
-    Run { limit: usize, depth: usize },
+    /// To answer a script, with so many cells in a register and so many kept states at most, and files in a
+    /// folder.
+    Run {
+        limit: usize,
+        depth: usize,
+        dir: String,
+    },
     /// To answer `cell WORD`.
-    Cell { word: String },
+    Cell {
+        word: String,
+    },
+    /// To say what a file of a folder stands for.
+    Check {
+        dir: String,
+        name: String,
+    },
 }
 
 /// Why there is nothing to do.

@@ -4,11 +4,11 @@ ghost use Rattle.s2cell.specs.Cell.{level_of, face_of, first_leaf, size_of};
 ghost use Rattle.s2script.specs.Refusals.{name_of};
 ghost use Rattle.s2cell.specs.Token.{token_of};
 ghost use Rattle.s2cell.specs.Debug.{debug_of};
-ghost use Rattle.s2calc.specs.Texts.{cell_line};
+ghost use Rattle.s2calc.specs.Texts.{cell_line, square_line, ok_line, count_line, history_line, token_line};
 
 use arrayvec::ArrayVec;
 use itoa::Buffer;
-use s2cell::CellId;
+use s2cell::{CellId, Square};
 use s2script::Refusal;
 
 /// The room for one line.
@@ -62,6 +62,72 @@ pub(crate) fn cell_line(cell: CellId) -> Line
     put_number(&mut line, cell.first_leaf());
     put(&mut line, b" ");
     put_number(&mut line, cell.end_leaf() - 1);
+    put(&mut line, b"\n");
+    line
+}
+
+/// The line of a square.
+#[tactic(auto, unfolding(crate::specs::Texts::square_line))]
+pub(crate) fn square_line(square: Square) -> Line
+    ensures { result.items ≡ square_line square.face square.i square.j square.size }
+{
+    let mut line = ArrayVec::new();
+    put(&mut line, b"face ");
+    put_number(&mut line, u64::from(square.face));
+    put(&mut line, b" i ");
+    put_number(&mut line, u64::from(square.i));
+    put(&mut line, b" j ");
+    put_number(&mut line, u64::from(square.j));
+    put(&mut line, b" size ");
+    put_number(&mut line, u64::from(square.size));
+    put(&mut line, b"\n");
+    line
+}
+
+/// The line of an edit.
+#[tactic(auto, unfolding(crate::specs::Texts::ok_line))]
+pub(crate) fn ok_line(out: u64, put_in: u64) -> Line
+    ensures { result.items ≡ ok_line out put_in }
+{
+    two_numbers(b"ok ", out, b" ", put_in)
+}
+
+/// The line of how many cells and leaves there are.
+#[tactic(auto, unfolding(crate::specs::Texts::count_line))]
+pub(crate) fn count_line(cells: u64, leaves: u64) -> Line
+    ensures { result.items ≡ count_line cells leaves }
+{
+    two_numbers(b"cells ", cells, b" leaves ", leaves)
+}
+
+/// The line of how many states can be undone and redone.
+#[tactic(auto, unfolding(crate::specs::Texts::history_line))]
+pub(crate) fn history_line(undos: u64, redos: u64) -> Line
+    ensures { result.items ≡ history_line undos redos }
+{
+    two_numbers(b"undo ", undos, b" redo ", redos)
+}
+
+/// A line of two numbers, each behind a few bytes.
+fn two_numbers(before: &[u8], first: u64, between: &[u8], second: u64) -> Line
+    requires { length before.now + length between.now ≤ 100 }
+    ensures { result.items ≡ before.now ++ decimal first ++ between.now ++ decimal second ++ 10 ∷ [] }
+{
+    let mut line = ArrayVec::new();
+    put(&mut line, before);
+    put_number(&mut line, first);
+    put(&mut line, between);
+    put_number(&mut line, second);
+    put(&mut line, b"\n");
+    line
+}
+
+/// The line of a cell in a listing.
+pub(crate) fn token_line(cell: CellId) -> Line
+    ensures { result.items ≡ token_line cell }
+{
+    let mut line = ArrayVec::new();
+    put_token(&mut line, cell);
     put(&mut line, b"\n");
     line
 }

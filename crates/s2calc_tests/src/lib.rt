@@ -1,11 +1,14 @@
-//! Worked scripts, run over a reader that cuts its bytes and a writer that takes few at a time.
+//! Worked scripts, run over a reader that cuts its bytes, a writer that takes few at a time, and a shelf.
 //!
-//! Modules: `pieces` (the reader), `narrow` (the writer), and the tests: `scripts` (worked scripts),
-//! `faults` (a reader or a writer that fails), `program` (the program's own calls).
+//! Modules: `pieces` (the reader), `narrow` (the writer), and the tests: `scripts` (worked scripts), `files`
+//! (scripts that read and write files), `faults` (a reader or a writer that fails), `program` (the program's
+//! own calls).
 #![tactic(auto)]
 
 #[cfg(test)]
 mod faults;
+#[cfg(test)]
+mod files;
 mod narrow;
 mod pieces;
 #[cfg(test)]

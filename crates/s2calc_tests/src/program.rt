@@ -44,10 +44,35 @@ fn asked(rt: &(impl Abort + AllocGlobal), words: &[&str]) -> Result<Result<Job, 
 
 #[test]
 fn words_of_the_command_line(rt: HostRuntime) -> Result<(), Fail> {
-    let run = |limit, depth| Ok(Job::Run { limit, depth });
-    assert_eq!(rt; asked(&rt, &["run"])?, run(10_000, 100));
-    assert_eq!(rt; asked(&rt, &["run", "--limit", "5", "--depth=7"])?, run(5, 7));
-    assert_eq!(rt; asked(&rt, &["run", "--limit", "1000000", "--depth", "1000"])?, run(1_000_000, 1000));
+    for (words, limit, depth, dir) in [
+        (["run"].as_slice(), 10_000, 100, "."),
+        (
+            &["run", "--limit", "5", "--depth=7", "--dir", "x"],
+            5,
+            7,
+            "x",
+        ),
+        (
+            &[
+                "run", "--limit", "1000000", "--depth", "1000", "--dir", "-x",
+            ],
+            1_000_000,
+            1000,
+            "-x",
+        ),
+    ] {
+        let wanted = Job::Run {
+            limit,
+            depth,
+            dir: String::from_str(rt.alloc(), dir)?,
+        };
+        assert_eq!(rt; asked(&rt, words)?, Ok(wanted), "{words:?}");
+    }
+    let wanted = Job::Check {
+        dir: String::from_str(rt.alloc(), "d")?,
+        name: String::from_str(rt.alloc(), "f")?,
+    };
+    assert_eq!(rt; asked(&rt, &["check", "f", "--dir", "d"])?, Ok(wanted));
     for words in [
         ["run", "--limit", "0"].as_slice(),
         &["run", "--limit", "1000001"],
@@ -58,6 +83,8 @@ fn words_of_the_command_line(rt: HostRuntime) -> Result<(), Fail> {
         &["run", "x"],
         &["cell"],
         &["cell", "1", "2"],
+        &["check"],
+        &["check", "f", "g"],
         &["RUN"],
         &[],
     ] {

@@ -7,3 +7,5 @@ mod Regions
 mod Coverings
 mod Searches
 mod Squares
+mod Rounded
+mod Faces

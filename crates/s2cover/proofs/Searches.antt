@@ -80,9 +80,6 @@ pub record Counted (before looks n cells t : ℕ) : Type 0 where
   pub upper : looks ≤ before + 1 + n + 4 * t * cells
   pub lower : before + cells ≤ looks
 
-pub counted_none : (before t : ℕ) → Counted before (before + 1) 0 0 t
-counted_none before t = record { upper = omega arith; lower = omega arith }
-
 pub counted_next : (before looks next n cells more t : ℕ) → Counted before looks n cells t → next ≤ looks + 1 + 4 * t * more → looks + more ≤ next → Counted before next (n + 1) (cells + more) t
 counted_next before looks next n cells more t c up low = let a = c.upper in let b = c.lower in record { upper = omega arith; lower = omega arith }
 

@@ -78,6 +78,6 @@ EditRun-one h h₁ h₂ (e ∷ es) (o ∷ os) (p ∷ ps) a b m n =
 pub Ran-one : (h h₁ h₂ : History (List ℕ)) (es : List Edit) (t₁ t₂ : EditTally) → Ran h es t₁ h₁ → Ran h es t₂ h₂ → t₁.memory ≡ 0 → t₂.memory ≡ 0 → (h₁ ≡ h₂) × (t₁ ≡ t₂)
 Ran-one h h₁ h₂ es t₁ t₂ a b m n =
     let no_memory : (os : List Outcome) (t : EditTally) → t ≡ tally_of os → t.memory ≡ 0 → AllFit os =
-          λ os t c e. fit_from_tally os (sym (ap (λ (x : EditTally). x.memory) c) ∙ e) in
+    λ os t c e. fit_from_tally os (sym (ap (λ (x : EditTally). x.memory) c) ∙ e) in
     let one = EditRun-one h h₁ h₂ es a.outcomes b.outcomes a.by_lists.run b.by_lists.run (no_memory a.outcomes t₁ a.counted m) (no_memory b.outcomes t₂ b.counted n) in
     (one.0, a.counted ∙ ap tally_of one.1 ∙ sym b.counted)

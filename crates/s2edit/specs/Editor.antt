@@ -13,6 +13,7 @@ history_of e = history e.limit e.depth e.registers.items e.past.items e.future.i
 -- Each register and the scratch list have room for a whole list, each ring has room for all states that may be kept,
 -- and the changes of either side can be made one after another, from the present table on.
 pub record IsEditor (e : Inside) : Type 0 where
+  pub limit_bound : e.limit ≤ 1000000
   pub count : length e.registers.items ≡ REGISTERS
   pub past_room : e.past.capacity ≡ e.depth
   pub future_room : e.future.capacity ≡ e.depth

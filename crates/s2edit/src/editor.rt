@@ -205,6 +205,7 @@ impl Editor {
     /// was undone has more, and each is normalised.
     pub fn limit(&self) -> usize
         ensures value { result ≡ self.now.limit }
+        ensures most { result ≤ 1000000 }
         ensures few { EachList (λ u. length u ≤ self.now.limit) self.now }
         ensures local { EachList IsLocal self.now }
     {

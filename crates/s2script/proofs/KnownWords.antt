@@ -13,7 +13,7 @@ pub token_0C00 : cell_named (codes "0C00") ≡ Some 0x0c00_0000_0000_0000
 unfolding cell_named
 token_0C00 =
     token_some (codes "0C00") 0x0c00_0000_0000_0000 (record { some = lit< tt; most = lit≤ tt; digits = (lit< tt, (lit< tt, (lit< tt, (lit< tt, tt)))); value = refl })
-        (1, 1, record { level = lit≤ tt; place = lit< tt; id = refl })
+    (1, 1, record { level = lit≤ tt; place = lit< tt; id = refl })
 
 pub token_1 : cell_named (codes "1") ≡ Some 0x1000_0000_0000_0000
 unfolding cell_named
@@ -25,11 +25,11 @@ pub token_c : cell_named (codes "c") ≡ None
 unfolding cell_named
 token_c =
     token_none (codes "c") (λ (n : ℕ) (r : IsReading (codes "c") n) (c : IsCell n).
-        let e : 0xc000_0000_0000_0000 ≡ n = r.value in
-        let l = cell_leaves n c in
-        let m = l.middle in
-        let w = l.within in
-        omega arith)
+    let e : 0xc000_0000_0000_0000 ≡ n = r.value in
+    let l = cell_leaves n c in
+    let m = l.middle in
+    let w = l.within in
+    omega arith)
 
 odd_marker : (n : ℕ) → n ≡ (2 * 0 + 1) * 2 ^ 61 → IsCell n → ⊥
 odd_marker n e c =

@@ -164,7 +164,7 @@ debug_from face slash digits e =
       face = let f : place_of n / 4 ^ level_of n ≡ face - 48 = rw (level, place) over in let g = face_is n in omega arith;
       slash = equal_from slash 47 q.0;
       digits = all;
-      value = rw (level, place, left) refl
+      value = rw (level, place, left) refl;
     }
 
 pub debug_none : (word : List ℕ) → ((n : ℕ) → IsDebug word n → ⊥) → debug_cell word ≡ None

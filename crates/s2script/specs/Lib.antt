@@ -1,6 +1,11 @@
 pub mod Lines
 pub mod Words
+pub mod Values
+pub mod Number
+pub mod FileName
 pub mod Named
+pub mod CellList
 pub mod Refusals
-pub mod Line
+pub mod Verbs
 pub mod Forms
+pub mod Line

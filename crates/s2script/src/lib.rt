@@ -2,19 +2,37 @@
 //! the line says. A line says nothing, or asks for a command, or is refused; `parse` says which, without
 //! memory and with every word checked, from left to right, before anything is done.
 //!
-//! Modules: `words` (the words of a line), `forms` (what a word may have to be), `command` and `refusal`
-//! (what a line may ask for, and why it may be refused), `grammar` (what the words say).
+//! A command refers to the words that it was read from: `Cells` goes over the cells of an `add`, however
+//! many, and `Name` is the name of a file as it stands in the line.
+//!
+//! Modules: `words` (the words of a line), `number`, `named`, `name`, `cells`, `level`, `place` and `span`
+//! (what words may stand for), `forms`
+//! (the words that a command may have), `verb` (the names of the commands), `command` and `refusal` (what a
+//! line may ask for, and why it may be refused), `grammar` (what a line says).
 #![tactic(auto)]
 
+mod cells;
 mod command;
 mod forms;
 mod grammar;
+mod level;
+mod name;
+mod named;
+mod number;
+mod place;
 mod refusal;
+mod span;
+mod verb;
 mod words;
 mod worked;
 
-pub use command::{Command, Parsed};
-pub use forms::cell_in;
+pub use cells::Cells;
+pub use command::{Command, Edit, Parsed, Question};
 pub use grammar::parse;
+pub use level::{Level, Modulus};
+pub use name::{Name, name_in};
+pub use named::cell_in;
+pub use place::Place;
 pub use refusal::Refusal;
+pub use span::Span;
 pub use worked::examples;

@@ -1,5 +1,5 @@
 //! The words of a line.
-ghost use Rattle.std.specs.Prelude.{◌≡◌, [], ◌∷◌, IfSome, IfNone, MatchOption, false};
+ghost use Rattle.std.specs.Prelude.{◌≡◌, ◌↔◌, IsTrue, [], ◌∷◌, IfSome, IfNone, MatchOption, false};
 ghost use Rattle.std.specs.List.{AllByRecursion};
 ghost use Rattle.s2script.specs.Words.{words, is_blank, EndsWordAt};
 
@@ -41,6 +41,23 @@ impl<'a> Words<'a> {
         ensures { result ≡ words line.now }
     {
         Words { rest: line }
+    }
+
+    /// The same words, for another walk along them.
+    pub fn again(&self) -> Words<'a>
+        ensures { result ≡ self.now }
+    {
+        Words { rest: self.rest }
+    }
+
+    /// Whether no word is left.
+    pub fn is_empty(&self) -> bool
+        ensures { IsTrue result ↔ (self.now ≡ []) }
+    {
+        match self.again().next() {
+            Some(_) => false,
+            None => true,
+        }
     }
 
     /// The next word, if one is left. Each byte is looked at once.

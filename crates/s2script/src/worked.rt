@@ -5,11 +5,12 @@ ghost use Rattle.s2script.specs.Words.{words};
 ghost use Rattle.s2script.specs.Line.{line_of};
 ghost use Rattle.s2script.specs.Named.{cell_named};
 ghost use Rattle.s2script.specs.declared.refusal.Refusal.TheVariants.{Syntax, Cell as NoCell};
-ghost use Rattle.s2script.specs.declared.command.Command.TheVariants.{Cell};
+ghost use Rattle.s2script.specs.declared.command.Question.TheVariants.{Cell};
+ghost use Rattle.s2script.specs.declared.command.Command.TheVariants.{Ask};
 ghost use Rattle.s2script.specs.declared.command.Parsed.TheVariants.{Nothing, Does, Fails};
 
 /// Lines, words and cells of small scripts: what the definitions say of them.
-#[tactic(auto, unfolding(crate::specs::Line::line_of, crate::specs::Named::cell_named, crate::specs::Named::token_cell, crate::specs::Named::debug_cell, crate::specs::Named::is_cell))]
+#[tactic(auto, unfolding(crate::specs::Line::line_of, crate::specs::Named::cell_named, crate::specs::Named::token_cell, crate::specs::Named::debug_cell, crate::specs::Named::is_cell, crate::specs::Verbs::asking_named, crate::specs::Verbs::doing_named))]
 pub fn examples()
     // An empty line counts, and what follows the last newline counts unless it is empty.
     ensures empty_script { lines [] ≡ [] }
@@ -24,7 +25,7 @@ pub fn examples()
     ensures odd_place { cell_named (codes "2") ≡ None }
     ensures too_long { cell_named (codes "10000000000000001") ≡ None }
     ensures face_6_text { cell_named (codes "6/") ≡ None }
-    ensures carriage_return { line_of (codes "cell 1" ++ 13 ∷ []) ≡ Does (Cell 0x1000_0000_0000_0000) }
+    ensures carriage_return { line_of (codes "cell 1" ++ 13 ∷ []) ≡ Does (Ask (Cell 0x1000_0000_0000_0000)) }
     ensures comment { line_of (codes "#cell 1") ≡ Nothing }
     ensures no_comment { line_of (codes " # x") ≡ Fails Syntax }
     ensures missing_word { line_of (codes "cell") ≡ Fails Syntax }

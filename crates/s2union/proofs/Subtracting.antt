@@ -1,5 +1,5 @@
 -- The leaves of one list of cells that another has not.
-use Rattle.std.proofs.Common.{◌≡◌, ℕ, ◌+◌, ◌-◌, ◌<◌, ◌≤◌, refl, sym, ◌∙◌, ap, arith, subst, Bool, true, false, ◌||◌, ◌&&◌, ltb, List, [], length, get_or, not, max, ◌⊎◌, inl, inr}
+use Rattle.std.proofs.Common.{◌≡◌, ℕ, ◌+◌, ◌-◌, ◌<◌, ◌≤◌, refl, sym, ◌∙◌, ap, arith, subst, Bool, true, false, ◌||◌, ◌&&◌, ltb, List, length, get_or, not, max, ◌⊎◌, inl, inr}
 use Rattle.std.proofs.Math.Logic.{⊎_elim}
 use Rattle.std.proofs.lemmas.Bool.{cases_lt, false≢true}
 use Rattle.std.proofs.lemmas.Bool.Decides.{nat_tests}
@@ -11,8 +11,8 @@ use Rattle.s2union.specs.Union.{has_leaf, between, LiesIn, IsLocal}
 use Rattle.s2union.specs.Packed.{IsPacked, Behind, FillsGap}
 use Rattle.s2union.proofs.Normal.{holder, family, all_held, member_greatest, greatest_apart}
 use Rattle.s2union.proofs.Checking.{packed_from_local, member_at}
-use Rattle.s2union.proofs.Walking.{Walk, walk_start, walk_more, walk_below, behind_more, behind_later, gap, leaf_there, leaf_at, not_true, and_false}
-use Rattle.s2union.proofs.Picking.{Picked, IsGap, picked_none, picked_fill, fill_leaves, between_ends}
+use Rattle.s2union.proofs.Walking.{Walk, walk_more, walk_below, behind_more, behind_later, gap, leaf_there, leaf_at, not_true, and_false}
+use Rattle.s2union.proofs.Picking.{Picked, IsGap, picked_fill, fill_leaves, between_ends}
 
 and_left : (a b : Bool) → (a && b) ≡ true → a ≡ true
 and_left true b h = refl
@@ -231,15 +231,6 @@ pub record Subtracting (xs ys list : List ℕ) (i j lo : ℕ) : Type 0 where
   pub picked : Picked (minus xs ys) list
   pub walk : Walk (minus xs ys) xs ys list i j lo
   pub edge : Edge xs ys i lo
-
-pub subtracting_start : (xs ys list : List ℕ) → list ≡ [] → Subtracting xs ys list 0 0 0
-subtracting_start xs ys list e = record {
-  in_x = omega arith;
-  in_y = omega arith;
-  picked = rw e (picked_none (minus xs ys));
-  walk = walk_start (minus xs ys) xs ys list e;
-  edge = λ h. inl (omega arith);
-}
 
 -- the next cell of ys begins before the cell of xs ends
 pub subtracting_taken : (xs ys list new : List ℕ) (i j lo start end next x y : ℕ) → IsLocal xs → IsLocal ys → Subtracting xs ys list i j lo

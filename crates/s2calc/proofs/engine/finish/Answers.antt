@@ -8,7 +8,7 @@ use Rattle.s2calc.proofs.engine.finish.Goals as goal
 pub returns-then-is_empty : goal.returns-then-is_empty
 returns-then-is_empty g c =
     let none : c.args.kept.now ≡ [] = grind (arith, common_steps) in
-    λ files start script replies s.
+    λ start script replies s.
     MatchResult-weaker c.flushed.result c.flushed.ensures.result (λ told t. Ended-none start script replies _ _ _ s told _ _ none c.flushed.ensures.kept t)
     (λ fault f. (f, EndsInPart-none start script replies _ _ _ s _ _ none c.flushed.ensures.kept))
 
@@ -16,13 +16,14 @@ pub returns-in_err-outcome : goal.returns-in_err-outcome
 returns-in_err-outcome g c =
     let some : 0 < length c.args.kept.now = grind (arith, common_steps) in
     let p = err_from_is_err_and c.from_residual.result c.from_residual.ensures.1 in
-    rw (p.1, p.2) (λ files start script replies s. let done = c.in_err-outcome.ensures.executes files in (done.writes.0, EndsInPart-part start script replies _ _ _ s _ _ _ done.reply some (Step-same _ _ _ _ done.reply c.as_slice-line.ensures done.step) done.writes.1))
+    let done = c.in_err-outcome.ensures.executes in
+    rw (p.1, p.2) (λ start script replies s. (done.writes.0, EndsInPart-part start script replies _ _ _ s _ _ _ done.reply some (Step-same _ _ _ _ done.reply c.as_slice-line.ensures done.step) done.writes.1))
 
 pub returns : goal.returns
 returns g c =
     let some : 0 < length c.args.kept.now = grind (arith, common_steps) in
-    λ files start script replies s.
-    let done = c.in_ok-outcome.ensures.executes files in
+    let done = c.in_ok-outcome.ensures.executes in
+    λ start script replies s.
     MatchResult-weaker c.flushed-2.result c.flushed-2.ensures.result
     (λ told t. Ended-line start script replies _ _ _ s told _ _ _ _ done.reply some (Step-same _ _ _ _ done.reply c.as_slice-line.ensures done.step) done.writes.1 c.flushed-2.ensures.kept (t ∙ c.count.ensures done.reply replies done.writes.0 s.tally_is))
     (λ fault f. (f, EndsInPart-line start script replies _ _ _ s _ _ _ _ done.reply some (Step-same _ _ _ _ done.reply c.as_slice-line.ensures done.step) done.writes.1 c.flushed-2.ensures.kept))

@@ -6,39 +6,34 @@ use Rattle.s2calc.proofs.TakeInLemmas.{Stands-start}
 use Rattle.s2calc.proofs.engine.run_over.Goals as goal
 
 pub loop-init : goal.loop-init
-loop-init g c = λ files. ([], [], Consumes-nil _, Stands-start _ _ c.new-kept.ensures, Appends-nil _)
+loop-init g c = ([], [], Consumes-nil _, Stands-start _ _ c.new-kept.ensures, Appends-nil _)
 
 pub returns-in-Ok-eq0 : goal.returns-in-Ok-eq0
 returns-in-Ok-eq0 g c =
-    λ files.
-    let i = c.loop.invariant files in
+    let i = c.loop.invariant in
     let read = c.in-Ok-eq0.ensures.bytes in
     Runs-close _ _ _ i.0 i.1 _ c.finish.result (Consumes-none _ _ _ i.0 _ c.in-Ok-eq0.field-0 c.in-Ok-eq0.field-0-test i.2 read.0) (read.1 c.in-Ok-eq0.field-0-test (omega arith)) i.4
-    (c.finish.ensures files _ i.0 i.1 i.3)
+    (c.finish.ensures _ i.0 i.1 i.3)
 
 pub returns-in_err-take_in-in-Ok : goal.returns-in_err-take_in-in-Ok
 returns-in_err-take_in-in-Ok g c =
+    let i = c.loop.invariant in
     let p = err_from_is_err_and c.from_residual.result c.from_residual.ensures.1 in
     let done = c.in_err-take_in-in-Ok.ensures in
-    rw (p.1, p.2, done.fault) (λ files.
-    let i = c.loop.invariant files in
-    StopsWriting-inside _ _ _ i.0 i.1 _ _ _ i.2 c.in-Ok.ensures.bytes.0 i.4 (done.err files _ i.0 i.1 i.3))
+    rw (p.1, p.2, done.fault) (StopsWriting-inside _ _ _ i.0 i.1 _ _ _ i.2 c.in-Ok.ensures.bytes.0 i.4 (done.err _ i.0 i.1 i.3))
 
 pub returns-in-Err : goal.returns-in-Err
 returns-in-Err g c =
-    λ files.
-    let i = c.loop.invariant files in
+    let i = c.loop.invariant in
     StopsReading-here _ _ _ i.0 i.1 _ _ _ i.2 c.in-Err.ensures.bytes i.3 i.4
 
 pub loop-preserved : goal.loop-preserved
 loop-preserved g c =
-    λ files.
-    let i = c.loop.invariant files in
-    let s = c.in_ok-take_in-in-Ok.ensures.ok files _ i.0 i.1 i.3 in
+    let i = c.loop.invariant in
+    let s = c.in_ok-take_in-in-Ok.ensures.ok _ i.0 i.1 i.3 in
     (i.0 ++ take c.in-Ok.count c.read.new.buf, i.1 ++ s.more, Consumes-trans _ _ _ i.0 _ i.2 c.in-Ok.ensures.bytes.0, s.stands, Appends-texts _ _ _ i.1 s.more i.4 s.written)
 
 pub returns : goal.returns
 returns g c =
-    λ files.
-    let i = c.loop.invariant files in
+    let i = c.loop.invariant in
     StopsReading-here _ _ _ i.0 i.1 _ _ _ i.2 (Keeps-refl _) i.3 i.4

@@ -15,7 +15,7 @@ cut_behind chunk seen rest at e h =
     cut_at chunk seen rest at e h ∙ sym (append_assoc (seen ++ take at rest) (10 ∷ []) (drop (at + 1) rest)) ∙ ap (λ s. ((seen ++ take at rest) ++ 10 ∷ []) ++ s) (sym (take_rest rest (at + 1)))
 
 pub loop-at-init : goal.loop-at-init
-loop-at-init g c = ([], refl, λ files start script replies s. StandsAfter-none start script replies _ _ _ _ s)
+loop-at-init g c = ([], refl, λ start script replies s. StandsAfter-none start script replies _ _ _ _ s)
 
 pub returns-in_err-outcome-clause-err : goal.returns-in_err-outcome-clause-err
 returns-in_err-outcome-clause-err g c =
@@ -23,9 +23,9 @@ returns-in_err-outcome-clause-err g c =
     let i = c.loop-at.invariant in
     let rest = c.loop-at.rest.now in
     let ends = c.in-Some.ensures.some in
-    rw p.1 (λ files start script replies s.
-    let done = c.in_err-outcome.ensures.executes files in
-    StopsInside-line start script replies _ i.0 (take c.in-Some.at rest) (drop (c.in-Some.at + 1) rest) _ _ _ _ _ _ _ _ done.reply (i.2 files start script replies s) ends.before
+    let done = c.in_err-outcome.ensures.executes in
+    rw p.1 (λ start script replies s.
+    StopsInside-line start script replies _ i.0 (take c.in-Some.at rest) (drop (c.in-Some.at + 1) rest) _ _ _ _ _ _ _ _ done.reply (i.2 start script replies s) ends.before
     (c.as_slice.ensures ∙ c.keep.ensures) done.step done.writes.1 (cut_at _ i.0 rest c.in-Some.at i.1 ends))
 
 pub loop-at-preserved : goal.loop-at-preserved
@@ -33,17 +33,16 @@ loop-at-preserved g c =
     let i = c.loop-at.invariant in
     let rest = c.loop-at.rest.now in
     let ends = c.in-Some.ensures.some in
-    (
+    let done = c.in_ok-outcome.ensures.executes in (
       (i.0 ++ take c.in-Some.at rest) ++ 10 ∷ [],
       cut_behind _ i.0 rest c.in-Some.at i.1 ends,
-      λ files start script replies s.
-          let done = c.in_ok-outcome.ensures.executes files in
-          StandsAfter-line start script replies i.0 (take c.in-Some.at rest) _ _ _ _ _ _ _ _ _ _ done.reply (i.2 files start script replies s) ends.before (c.as_slice.ensures ∙ c.keep.ensures) done.step
+      λ start script replies s.
+          StandsAfter-line start script replies i.0 (take c.in-Some.at rest) _ _ _ _ _ _ _ _ _ _ done.reply (i.2 start script replies s) ends.before (c.as_slice.ensures ∙ c.keep.ensures) done.step
           c.clear.ensures (λ before e. c.count.ensures done.reply before done.writes.0 e) done.writes.1,
     )
 
 pub returns-clause-ok : goal.returns-clause-ok
 returns-clause-ok g c =
     let i = c.loop-at.invariant in
-    λ files start script replies s.
-    StandsAfter-rest start script replies _ i.0 c.loop-at.rest.now _ _ _ _ _ _ (i.2 files start script replies s) c.in_default.ensures.none c.keep-2.ensures i.1
+    λ start script replies s.
+    StandsAfter-rest start script replies _ i.0 c.loop-at.rest.now _ _ _ _ _ _ (i.2 start script replies s) c.in_default.ensures.none c.keep-2.ensures i.1

@@ -3,7 +3,7 @@ use Rattle.s2union.specs.Union.{has_leaf}
 use Rattle.s2union.proofs.Normal.{local_from_normal}
 use Rattle.s2cover.specs.Descent.{form_in}
 use Rattle.s2cover.specs.Rectangles.{Rect, rect_set}
-use Rattle.s2cover.proofs.Squares.{one_face, on_face, too_long}
+use Rattle.s2cover.proofs.Faces.{one_face, on_face, too_long}
 use Rattle.s2cover.proofs.grid.cover_aligned.Goals as goal
 
 pub from_normalized-requires : goal.from_normalized-requires

@@ -1,7 +1,7 @@
 use Rattle.std.proofs.Common.{◌∙◌, refl}
 use Rattle.s2cover.specs.Coverings.{inner_set}
 use Rattle.s2cover.specs.Rectangles.{rect_set}
-use Rattle.s2cover.proofs.Squares.{many_same, none_normal}
+use Rattle.s2cover.proofs.Faces.{many_same, none_normal}
 use Rattle.s2cover.proofs.grid.rect_inner.Goals as goal
 
 pub returns-in-Some-clause-many : goal.returns-in-Some-clause-many

@@ -1,8 +1,9 @@
-use Rattle.std.proofs.Common.{◌≤◌, length, arith}
+use Rattle.std.proofs.Common.{◌≡◌, ◌<◌, ◌≤◌, ◌∙◌, length, get_or, add-zero, arith, refl}
+use Rattle.s2union.proofs.Packing.{read_at}
 use Rattle.s2union.proofs.PackedLocal.{local_from_packed}
-use Rattle.s2union.proofs.Joining.{joining_rest, joining_rest_swap}
+use Rattle.s2union.proofs.Joining.{lt_from_test, le_from_test, join_x, join_y, joining_rest, joining_rest_swap, rising_rest}
 use Rattle.s2union.proofs.sets.join.Goals as goal
-use Rattle.s2union.proofs.sets.join.Goals.{then-loop-i-test+else-j-ys, else-loop-i-test}
+use Rattle.s2union.proofs.sets.join.Goals.{then-is_x, else-is_x, then-loop-i-test+else-j-ys, else-loop-i-test}
 
 pub returns-then-i-xs-clause-local : goal.returns-then-i-xs-clause-local
 returns-then-i-xs-clause-local c = local_from_packed _ c.add_all.ensures.packed
@@ -20,3 +21,42 @@ pub returns-else-i-xs-clause-leaves : goal.returns-else-i-xs-clause-leaves
 returns-else-i-xs-clause-leaves c =
     joining_rest_swap c.args.xs.now c.args.ys.now c.loop-i.list.items c.add_all-else-i-xs.new.list.items c.loop-i.i c.loop-i.j c.loop-i.invariant.joining c.loop-i.invariant.in_y (omega arith)
     c.add_all-else-i-xs.ensures.leaves
+
+pub loop-i-preserved : goal.loop-i-preserved
+loop-i-preserved c =
+    let v = c.loop-i.invariant in
+    let e = c.add_reserved.ensures in
+    elim c.if-is_x.branch [
+      | then-is_x w ↦
+          let less : c.index-xs-i.result < c.index-ys-j.result = lt_from_test _ _ _ c.lt-is_x.ensures w.if-is_x.true in
+          let ey : get_or c.args.ys.now c.loop-i.j 0 ≡ c.index-ys-j.result = read_at c.args.ys.now c.loop-i.j c.loop-i.j c.index-ys-j.result c.if-j-ys.true refl c.index-ys-j.is in
+          let cell = w.add_reserved-is in
+          rw (w.if-is_x.true, add-zero)
+          (record {
+            in_x = omega arith;
+            in_y = v.in_y;
+            few = omega arith;
+            room = e.room ∙ v.room;
+            joining = join_x c.args.xs.now c.args.ys.now c.loop-i.list.items c.add_reserved.new.list.items c.loop-i.i c.loop-i.j c.index-xs-i.result c.requires.x_local v.joining c.loop-i-test.true c.index-xs-i.is
+                (λ _. omega arith) e.packed (rw (← cell) e.starts) (rw (← cell) e.leaves);
+          })
+      | else-is_x w ↦
+          let most : c.index-ys-j.result ≤ c.index-xs-i.result = le_from_test _ _ _ c.lt-is_x.ensures w.if-is_x.false in
+          let ex : get_or c.args.xs.now c.loop-i.i 0 ≡ c.index-xs-i.result = read_at c.args.xs.now c.loop-i.i c.loop-i.i c.index-xs-i.result c.loop-i-test.true refl c.index-xs-i.is in
+          let cell = w.add_reserved-is in
+          rw (w.if-is_x.false, add-zero)
+          (record {
+            in_x = v.in_x;
+            in_y = omega arith;
+            few = omega arith;
+            room = e.room ∙ v.room;
+            joining = join_y c.args.xs.now c.args.ys.now c.loop-i.list.items c.add_reserved.new.list.items c.loop-i.i c.loop-i.j c.index-ys-j.result c.requires.y_local v.joining c.if-j-ys.true c.index-ys-j.is
+                (λ _. omega arith) e.packed (rw (← cell) e.starts) (rw (← cell) e.leaves);
+          })
+    ]
+
+pub add_all-requires-clause-ascending : goal.add_all-requires-clause-ascending
+add_all-requires-clause-ascending c = rising_rest c.args.xs.now c.loop-i.i _ c.requires.x_local.ascending refl
+
+pub add_all-requires-else-i-xs-clause-ascending : goal.add_all-requires-else-i-xs-clause-ascending
+add_all-requires-else-i-xs-clause-ascending c = rising_rest c.args.ys.now c.loop-i.j _ c.requires.y_local.ascending refl

@@ -1,7 +1,8 @@
 use Rattle.std.proofs.Common.{◌≡◌, ◌+◌, ◌-◌, ◌^◌, ℕ, refl, subst}
 use Rattle.s2cover.specs.Coverings.{outer_set}
 use Rattle.s2cover.specs.Rectangles.{Rect, rect_set}
-use Rattle.s2cover.proofs.Squares.{Rounded, widened_outer, widened_aligned, widened_rect}
+use Rattle.s2cover.proofs.Rounded.{widened_outer, widened_aligned, widened_rect}
+use Rattle.s2cover.proofs.Squares.{Rounded}
 use Rattle.s2cover.proofs.rect.FaceRect.widened.Goals as goal
 
 pub invariant_of-result : goal.invariant_of-result

@@ -1,8 +1,8 @@
-use Rattle.std.proofs.Common.{◌≡◌, ◌+◌, ◌-◌, ◌*◌, ◌%◌, ◌^◌, ◌<◌, ◌≤◌, ◌==◌, ◌↔◌, ℕ, Bool, true, false, refl, sym, ◌∙◌, ap, arith, ⊎_elim}
+use Rattle.std.proofs.Common.{◌≡◌, ◌+◌, ◌-◌, ◌*◌, ◌%◌, ◌^◌, ◌<◌, ◌≤◌, ◌==◌, ℕ, true, false, refl, sym, ◌∙◌, ap, arith, ⊎_elim}
 use Rattle.std.proofs.lemmas.Bool.{cases_lt, false≢true}
 use Rattle.std.proofs.lemmas.Bool.Decides.{nat_tests}
 use Rattle.std.proofs.lemmas.Nat.{pow-add}
-use Rattle.s2cell.specs.Cell.{IsCell, level_of, place_of, first_leaf, size_of, covers}
+use Rattle.s2cell.specs.Cell.{IsCell, level_of, place_of, first_leaf, covers}
 use Rattle.s2cell.proofs.CellLemmas.{four_pos, own_place, first_leaf_of_cell, size_of_cell}
 use Rattle.s2cell.proofs.Leaves.{covers_there, covers_from}
 use Rattle.s2cover.proofs.tests.EvenRegion.part.Goals as goal

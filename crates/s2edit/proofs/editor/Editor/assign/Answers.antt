@@ -149,6 +149,7 @@ invariant_of-self c =
     let d : Diff = between c.args.register (list_at (lists_of c.self.inside.registers.items) c.args.register) c.args.union.cells in
     let w = rewritten_roomy c.self.inside.limit _ _ _ _ d (changes c).rewrites i.registers_roomy i.scratch_roomy in
     record {
+      limit_bound = i.limit_bound;
       count = rewritten_count c.self.inside.limit _ _ _ _ d (changes c).rewrites ∙ i.count;
       past_room = ap (λ (b : Buffer Diff). b.capacity) c.push_front.ensures.items ∙ i.past_room;
       future_room = ap (λ (b : Buffer Diff). b.capacity) c.clear.ensures ∙ i.future_room;

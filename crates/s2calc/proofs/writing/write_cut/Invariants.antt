@@ -1,0 +1,12 @@
+use Rattle.std.proofs.Common.{◌≡◌, ◌++◌}
+use Rattle.std.specs.List.{flat_map}
+use Rattle.std.specs.Io.KnownBytes.{Appends}
+use Rattle.s2union.specs.Denorm.{denormalised}
+use Rattle.s2calc.specs.Texts.{token_line}
+use Rattle.s2calc.proofs.writing.write_cut.Given as goal
+
+-- the lines of the cells so far are written, and they and the cells that are left are all
+abbrev pub invariant-loop-cell : goal.invariant-loop-cell
+invariant-loop-cell g l =
+    (l.yielded ++ l.cell-iterator ≡ denormalised l.fn.least l.fn.modulus l.fn.union.cells)
+    × Appends (g.W.Write.contents l.fn.writer) (g.W.Write.contents l.writer) (flat_map token_line l.yielded)

@@ -1,0 +1,76 @@
+-- What an edit does to a register.
+use Rattle.std.specs.Prelude.{◌≡◌, ◌≢◌, ℕ, ◌+◌, ◌<◌, ◌≤◌, ◌⊎◌, ◌&&◌, Bool, false, List, [], length, Option, Some, None, Result, MatchResult}
+use Rattle.s2cell.specs.Cell.{first_leaf, size_of}
+use Rattle.s2union.specs.Union.{has_leaf, between, IsNormalForm}
+use Rattle.s2union.specs.Union as U
+use Rattle.s2union.specs.Sets.{either, shared, without}
+use Rattle.s2cover.specs.Rectangles.{Rect, rect_set}
+use Rattle.s2cover.specs.Coverings.{outer_set, inner_set}
+use Rattle.s2edit.specs.History.{History, Assigned, sets, numbers, undone, redone}
+use Rattle.s2edit.specs.Leads.{list_at}
+use Rattle.s2script.specs.declared.command.Edit.{Edit}
+use Rattle.s2script.specs.declared.command.Edit.TheVariants.{Add, Remove, Keep, Clear, Copy, Union, Intersect, Subtract, Range, Outer, Inner, OuterOf, InnerOf}
+use Rattle.s2script.specs.declared.refusal.Refusal.{Refusal}
+use Rattle.s2script.specs.declared.refusal.Refusal.TheVariants.{TooMany, Memory, Nothing}
+use Rattle.s2calc.specs.Replies.{Reply, Says, Refuses}
+use Rattle.s2calc.specs.Texts.{ok_line}
+
+-- the leaves of a register
+abbrev pub leaves_of : List (List ℕ) → ℕ → ℕ → Bool
+leaves_of table r = has_leaf (list_at table r)
+
+-- no leaf
+abbrev pub no_leaf : ℕ → Bool
+no_leaf x = false
+
+-- what a register has of a rectangle, if there is one
+abbrev pub within : Option Rect → (ℕ → Bool) → ℕ → Bool
+within None S = S
+within (Some rect) S = λ x. S x && rect_set rect x
+
+-- the new set of leaves of the register r
+abbrev pub new_set : List (List ℕ) → ℕ → Edit → ℕ → Bool
+new_set table r (Add cells) = either (leaves_of table r) (has_leaf cells)
+new_set table r (Remove cells) = without (leaves_of table r) (has_leaf cells)
+new_set table r (Keep cells) = shared (leaves_of table r) (has_leaf cells)
+new_set table r Clear = no_leaf
+new_set table r (Copy s) = leaves_of table s
+new_set table r (Union s) = either (leaves_of table r) (leaves_of table s)
+new_set table r (Intersect s) = shared (leaves_of table r) (leaves_of table s)
+new_set table r (Subtract s) = without (leaves_of table r) (leaves_of table s)
+new_set table r (Range span) = between (first_leaf span.first) (first_leaf span.last + size_of span.last)
+new_set table r (Outer level rect) = outer_set (rect_set rect) level
+new_set table r (Inner level rect) = inner_set (rect_set rect) level
+new_set table r (OuterOf s level rect) = outer_set (within rect (leaves_of table s)) level
+new_set table r (InnerOf s level rect) = inner_set (within rect (leaves_of table s)) level
+
+-- The register r holds the normal form of S, which has at most `limit` cells; the history goes on by its rule,
+-- list for list and set for set; and the numbers of cells taken out and put in are told.
+pub record Holds (S : ℕ → Bool) (r : ℕ) (old : History (List ℕ)) (reply : Reply) (new : History (List ℕ)) : Type 0 where
+  pub list : List ℕ
+  pub normal : IsNormalForm S list
+  pub within : length list ≤ old.limit
+  pub state : Assigned old r list new
+  pub state_sets : Assigned (sets old) r (has_leaf list) (sets new)
+  pub told : reply ≡ Says (ok_line (numbers old.now new.now).0 (numbers old.now new.now).1)
+
+-- why the normal form of S is not made: it has too many cells, or there is no memory
+abbrev pub Fails : (ℕ → Bool) → ℕ → Refusal → Type 0
+Fails S limit refusal = ((refusal ≡ TooMany) × ((u : List ℕ) → IsNormalForm S u → limit < length u)) ⊎ (refusal ≡ Memory)
+
+-- the normal form of S, or why it is not made
+abbrev pub Makes : (ℕ → Bool) → ℕ → Result U.Union Refusal → Type 0
+Makes S limit result = MatchResult result (λ u. IsNormalForm S u.cells) (Fails S limit)
+
+-- the register r gets the leaves of S; or their normal form has too many cells; or there is no memory
+abbrev pub Gets : (ℕ → Bool) → ℕ → History (List ℕ) → Reply → History (List ℕ) → Type 0
+Gets S r old reply new =
+    Holds S r old reply new
+    ⊎ ((reply ≡ Refuses TooMany) × ((u : List ℕ) → IsNormalForm S u → old.limit < length u) × (new ≡ old))
+    ⊎ ((reply ≡ Refuses Memory) × (new ≡ old))
+
+-- a move to another state of the history tells its numbers, or there is none to move to
+abbrev pub Moves : List (List (List ℕ)) → History (List ℕ) → History (List ℕ) → Reply → History (List ℕ) → Type 0
+Moves side old moved reply new =
+    ((side ≢ []) × (new ≡ moved) × (sets new ≡ sets moved) × (reply ≡ Says (ok_line (numbers old.now new.now).0 (numbers old.now new.now).1)))
+    ⊎ ((side ≡ []) × (new ≡ old) × (reply ≡ Refuses Nothing))

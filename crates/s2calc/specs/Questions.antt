@@ -1,0 +1,41 @@
+-- What a question is answered.
+use Rattle.std.specs.Prelude.{◌≡◌, ◌≢◌, ℕ, ◌*◌, ◌^◌, ◌<◌, ◌≤◌, ◌⊎◌, List, length}
+use Rattle.s2cell.specs.Cell.{IsCell, level_of, first_leaf, covers}
+use Rattle.s2cell.specs.Curve.{IsPlaceOf}
+use Rattle.s2cell.specs.Square.{IsSquareOf}
+use Rattle.s2union.specs.Union.{has_leaf, IsWithin, ShareSome}
+use Rattle.s2union.specs.Count.{count_below}
+use Rattle.s2union.specs.Denorm.{denormalised}
+use Rattle.s2edit.specs.History.{History}
+use Rattle.s2edit.specs.Leads.{list_at}
+use Rattle.s2script.specs.declared.command.Question.{Question}
+use Rattle.s2script.specs.declared.command.Question.TheVariants.{Cell, At, Square, Show, Count, Has, Touches, Covers, Meets, Denorm, History as Sides}
+use Rattle.s2script.specs.declared.refusal.Refusal.TheVariants.{TooMany}
+use Rattle.s2calc.specs.Replies.{Reply, Says, Refuses}
+use Rattle.s2calc.specs.Texts.{cell_line, square_line, count_line, history_line, yes_line, no_line, listing}
+
+-- `yes` where P holds, else `no`
+abbrev pub Tells : Type 0 → Reply → Type 0
+Tells P reply = (P × (reply ≡ Says yes_line)) ⊎ ((P → ⊥) × (reply ≡ Says no_line))
+
+-- the number of all leaves
+abbrev pub all_leaves : ℕ
+all_leaves = 6 * 4 ^ 30
+
+-- the cells, one a line, unless there are more than a million
+abbrev pub ListsSome : List ℕ → Reply → Type 0
+ListsSome cells reply = ((length cells ≤ 1000000) × (reply ≡ Says (listing cells))) ⊎ ((1000000 < length cells) × (reply ≡ Refuses TooMany))
+
+-- what a question about a state is answered
+abbrev pub Answers : Question → History (List ℕ) → Reply → Type 0
+Answers (Cell n) state reply = reply ≡ Says (cell_line n)
+Answers (At place) state reply = (n : ℕ) × IsCell n × (level_of n ≡ 30) × IsPlaceOf (first_leaf n) place.face place.i place.j × (reply ≡ Says (cell_line n))
+Answers (Square n) state reply = IsCell n × ((face : ℕ) × (i : ℕ) × (j : ℕ) × (size : ℕ) × IsSquareOf n face i j size × (reply ≡ Says (square_line face i j size)))
+Answers (Show r) state reply = reply ≡ Says (listing (list_at state.now r))
+Answers (Count r) state reply = reply ≡ Says (count_line (length (list_at state.now r)) (count_below (has_leaf (list_at state.now r)) all_leaves))
+Answers (Has r n) state reply = Tells (IsWithin (covers n) (has_leaf (list_at state.now r))) reply
+Answers (Touches r n) state reply = Tells (ShareSome (covers n) (has_leaf (list_at state.now r))) reply
+Answers (Covers r s) state reply = Tells (IsWithin (has_leaf (list_at state.now s)) (has_leaf (list_at state.now r))) reply
+Answers (Meets r s) state reply = Tells (ShareSome (has_leaf (list_at state.now r)) (has_leaf (list_at state.now s))) reply
+Answers (Denorm r least modulus) state reply = ListsSome (denormalised least modulus (list_at state.now r)) reply
+Answers Sides state reply = reply ≡ Says (history_line (length state.past) (length state.future))

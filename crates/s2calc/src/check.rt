@@ -1,0 +1,72 @@
+//! What is answered of a file.
+ghost use Rattle.std.specs.Prelude.{◌≡◌, option_map};
+ghost use Rattle.s2calc.specs.Check.{Checks, ChecksFile, ChecksContent, ChecksBytes, ChecksAndTells, check_reply};
+
+use crate::fault::RunFault;
+use crate::program::write_line;
+use crate::text::{count_line, error_line};
+use s2file::{FileFault, Shelf, ShelfFault, decode};
+use s2script::{Refusal, name_in};
+use std::alloc::Global;
+use std::io::Write;
+
+/// Writes how many cells and leaves the union has that a file stands for, or why there is none, and flushes.
+/// False in the second case. Want of memory is such an answer, the line `error memory`.
+pub fn check_answer<S: Shelf, W: Write>(
+    alloc: Global,
+    shelf: &mut S,
+    name: &str,
+    writer: &mut W,
+) -> Result<bool, RunFault>
+    ensures { ChecksAndTells name.now (S.files shelf.old) (S.files shelf.new) (W.contents writer.old) (W.contents writer.new) result }
+{
+    match check(alloc, shelf, name) {
+        Ok((cells, leaves)) => {
+            write_line(count_line(cells, leaves).as_slice(), writer)?;
+            Ok(true)
+        }
+        Err(refusal) => {
+            write_line(error_line(refusal).as_slice(), writer)?;
+            Ok(false)
+        }
+    }
+}
+
+/// How many cells and leaves the file stands for.
+fn check<S: Shelf>(alloc: Global, shelf: &mut S, name: &str) -> Result<(u64, u64), Refusal>
+    ensures { Checks name.now (S.files shelf.old) (check_reply result) (S.files shelf.new) }
+{
+    match name_in(name.as_bytes()) {
+        Some(_) => check_file(alloc, shelf, name),
+        None => Err(Refusal::Name),
+    }
+}
+
+fn check_file<S: Shelf>(alloc: Global, shelf: &mut S, name: &str) -> Result<(u64, u64), Refusal>
+    ensures { ChecksFile name.now (S.files shelf.old) (check_reply result) (S.files shelf.new) }
+{
+    match shelf.get(name) {
+        Err(ShelfFault::Device) => Err(Refusal::File),
+        Err(ShelfFault::Memory) => Err(Refusal::Memory),
+        Ok(content) => check_content(alloc, content),
+    }
+}
+
+fn check_content(alloc: Global, content: Option<Vec<u8>>) -> Result<(u64, u64), Refusal>
+    ensures { ChecksContent (option_map (λ v. v.items) content) (check_reply result) }
+{
+    match content {
+        None => Err(Refusal::Missing),
+        Some(bytes) => check_bytes(alloc, &bytes),
+    }
+}
+
+fn check_bytes(alloc: Global, bytes: &[u8]) -> Result<(u64, u64), Refusal>
+    ensures { ChecksBytes bytes.now (check_reply result) }
+{
+    match decode(alloc, bytes) {
+        Ok(union) => Ok((union.len() as u64, union.leaf_count())),
+        Err(FileFault::Memory) => Err(Refusal::Memory),
+        Err(_) => Err(Refusal::Format),
+    }
+}
