@@ -1,5 +1,5 @@
 -- Lemmas on edits of a register.
-use Rattle.std.proofs.Common.{◌≡◌, ℕ, ◌<◌, Bool, List, length, subst}
+use Rattle.std.proofs.Common.{ℕ, ◌<◌, Bool, List, length, subst}
 use Rattle.s2union.specs.Union.{IsNormalForm}
 use Rattle.s2union.proofs.Normal.{one_normal_form}
 

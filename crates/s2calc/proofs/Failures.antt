@@ -1,5 +1,5 @@
 -- Answers `error file` are counted by the shelf.
-use Rattle.std.proofs.Common.{◌≡◌, ℕ, ◌+◌, ◌%◌, ◌^◌, ◌<◌, ◌⊎◌, inl, inr, Bool, true, false, cond, List, [], ◌∷◌, refl, sym, ap, ◌∙◌, subst, arith, Option, None, Some, count_by}
+use Rattle.std.proofs.Common.{◌≡◌, ℕ, ◌+◌, ◌%◌, ◌^◌, ◌<◌, inl, inr, Bool, true, false, cond, List, [], ◌∷◌, refl, sym, ap, ◌∙◌, subst, arith, Option, None, Some, count_by}
 use Rattle.std.proofs.Math.Nat.{mod-add-mod, mod-eq_of_lt, mod-lt}
 use Rattle.std.proofs.lemmas.Nat.{pow_pos}
 use Rattle.std.proofs.lemmas.List.Sums.{sum_by-cons}
@@ -17,10 +17,10 @@ use Rattle.s2script.specs.Refusals.{IsOfWords}
 use Rattle.s2script.specs.Line.{line_of}
 use Rattle.s2script.proofs.RefusalLemmas.{refusal_of_line}
 use Rattle.s2calc.specs.World.{World}
-use Rattle.s2calc.specs.Replies.{Reply, Says, Refuses}
+use Rattle.s2calc.specs.Replies.{Reply}
 use Rattle.s2calc.specs.Questions.{Tells, ListsSome, Answers}
 use Rattle.s2calc.specs.Edits.{Gets, Moves}
-use Rattle.s2calc.specs.Step.{Reads, ReadsContent, Loads, Saves, Acts, StepBy, Step}
+use Rattle.s2calc.specs.Step.{Reads, ReadsContent, Loads, Saves, Acts, StepBy}
 use Rattle.s2calc.specs.Run.{Steps}
 use Rattle.s2calc.specs.Laws.{is_of_shelf, is_failure}
 

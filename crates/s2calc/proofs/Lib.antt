@@ -7,5 +7,7 @@ pub mod OneRun
 pub mod OutputLemmas
 pub mod ReadLemmas
 pub mod RunLemmas
+pub mod ScriptLemmas
 pub mod StepLemmas
 pub mod TakeInLemmas
+pub mod UndoLemmas

@@ -1,5 +1,5 @@
 -- Where no line meets want of memory or a failed shelf, a script has one run.
-use Rattle.std.proofs.Common.{◌≡◌, ◌≢◌, ℕ, ◌+◌, ◌-◌, ◌*◌, ◌^◌, ◌<◌, ◌≤◌, ◌⊎◌, inl, inr, Bool, true, false, List, [], ◌∷◌, length, refl, sym, ap, ◌∙◌, subst, arith, slice_get, Option, None, Some}
+use Rattle.std.proofs.Common.{◌≡◌, ◌≢◌, ℕ, ◌-◌, ◌^◌, ◌⊎◌, inl, inr, Bool, true, false, List, [], ◌∷◌, refl, sym, ap, ◌∙◌, subst, arith, Option, None, Some}
 use Rattle.std.proofs.Math.Logic.{⊎_elim}
 use Rattle.std.proofs.lemmas.Bool.{false≢true}
 use Rattle.std.proofs.lemmas.Slice.Eq.{bytes_eq-Decides}
@@ -8,7 +8,6 @@ use Rattle.s2cell.specs.Cell.{IsCell, level_of, first_leaf, size_of}
 use Rattle.s2cell.proofs.CellLemmas.{cell_leaves}
 use Rattle.s2cell.proofs.Calls.{size_at}
 use Rattle.s2cell.proofs.Squares.{one_leaf, one_square}
-use Rattle.s2union.specs.Union.{IsNormalForm}
 use Rattle.s2union.proofs.Normal.{one_normal_form, normal_form_same}
 use Rattle.s2edit.specs.History.{History, Assigned, numbers, undone, redone}
 use Rattle.s2edit.proofs.OneEnd.{is_there}
@@ -27,7 +26,7 @@ use Rattle.s2calc.specs.Replies.{Reply, Says}
 use Rattle.s2calc.specs.Texts.{cell_line, square_line, ok_line}
 use Rattle.s2calc.specs.Questions.{Tells, ListsSome, Answers}
 use Rattle.s2calc.specs.Edits.{new_set, leaves_of, Gets, Moves}
-use Rattle.s2calc.specs.Step.{Reads, ReadsContent, Loads, Saves, Acts, StepBy, Step}
+use Rattle.s2calc.specs.Step.{Reads, ReadsContent, Loads, Saves, Acts, StepBy}
 use Rattle.s2calc.specs.Run.{Steps}
 use Rattle.s2calc.specs.Laws.{SameWorld, IsPlain, AllPlain}
 

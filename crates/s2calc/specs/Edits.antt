@@ -6,7 +6,7 @@ use Rattle.s2union.specs.Union as U
 use Rattle.s2union.specs.Sets.{either, shared, without}
 use Rattle.s2cover.specs.Rectangles.{Rect, rect_set}
 use Rattle.s2cover.specs.Coverings.{outer_set, inner_set}
-use Rattle.s2edit.specs.History.{History, Assigned, sets, numbers, undone, redone}
+use Rattle.s2edit.specs.History.{History, Assigned, sets, numbers}
 use Rattle.s2edit.specs.Leads.{list_at}
 use Rattle.s2script.specs.declared.command.Edit.{Edit}
 use Rattle.s2script.specs.declared.command.Edit.TheVariants.{Add, Remove, Keep, Clear, Copy, Union, Intersect, Subtract, Range, Outer, Inner, OuterOf, InnerOf}

@@ -10,5 +10,6 @@ pub mod Answer
 pub mod Execute
 pub mod Stands
 pub mod Laws
+pub mod LawsScripts
 pub mod Program
 pub mod Check

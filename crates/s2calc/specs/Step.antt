@@ -1,6 +1,6 @@
 -- What a line may do.
 use Rattle.std.specs.Prelude.{◌≡◌, ℕ, ◌⊎◌, Bool, List, Option, None, Some}
-use Rattle.s2file.specs.Shelf.{Files, SameFiles, Holds as HoldsFile, PutsFile, LosesFile, FailsToGet}
+use Rattle.s2file.specs.Shelf.{SameFiles, Holds as HoldsFile, PutsFile, LosesFile, FailsToGet}
 use Rattle.s2file.specs.File.{File, Faults, Bytes}
 use Rattle.s2file.specs.declared.fault.FileFault.{FileFault}
 use Rattle.s2file.specs.declared.fault.FileFault.TheVariants.{Memory as NoMemory}

@@ -1,9 +1,9 @@
 //! Edits of a register.
-ghost use Rattle.std.specs.Prelude.{◌≡◌, ℕ, Bool, MatchResult, IfOk, IfErr};
-ghost use Rattle.s2union.specs.Union.{IsNormalForm, has_leaf};
+ghost use Rattle.std.specs.Prelude.{ℕ, Bool};
+ghost use Rattle.s2union.specs.Union.{IsNormalForm};
 ghost use Rattle.s2edit.specs.History.{undone, redone};
 ghost use Rattle.s2calc.specs.Answer.{reply_of};
-ghost use Rattle.s2calc.specs.Edits.{new_set, Gets, Moves, Fails};
+ghost use Rattle.s2calc.specs.Edits.{new_set, Gets, Moves};
 
 use crate::answer::Answer;
 use crate::making::make;

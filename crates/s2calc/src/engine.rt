@@ -1,8 +1,6 @@
 //! The run of a script.
 ghost use Rattle.std.specs.Prelude.{◌≡◌, ℕ, List, [], ◌∷◌, ◌++◌, OnOk, OnErr, IfOk, IfErr, IfSome, IfNone, MatchResult, ◌<◌, length};
 ghost use Rattle.std.specs.Io.KnownBytes.{Appends, Keeps};
-ghost use Rattle.s2calc.specs.Output.{AppendsPart};
-ghost use Rattle.s2calc.specs.Step.{Step};
 ghost use Rattle.s2calc.specs.Replies.{Reply, tally_of};
 ghost use Rattle.s2calc.specs.Execute.{IsOutcome};
 ghost use Rattle.s2script.specs.Lines.{IsUnbroken, EndsLineAt};
@@ -22,7 +20,9 @@ use std::io::{Read, Write};
 /// How many lines were answered, and how many of them were refused. Each number stops at its greatest value.
 #[derive(Clone, Copy, Debug, PartialEq, Eq)]
 pub struct Tally {
+    /// The lines that were answered, refused ones among them.
     pub commands: u64,
+    /// The lines that were refused.
     pub refused: u64,
 }
 
@@ -83,7 +83,16 @@ fn take_in<W: Write, S: Shelf>(
 /// How many bytes a read asks for.
 const READ_SIZE: usize = 65536;
 
-/// Runs a script: its lines come from the reader, and the answers go to the writer.
+/// Runs a script: its lines come from the reader, its answers go to the writer, and its files are on the shelf.
+///
+/// Each line's answer is written before the next line is carried out, a long one piece by piece, and the writer is
+/// flushed once, at the end. Takes 64 KiB and nothing more, at the start; each byte is looked at a bounded number
+/// of times.
+///
+/// `Memory` comes before anything is read, written or changed. After `Input` (a read failed, or 2^64 - 1 reads have
+/// not come to the end) just the lines that were read whole were carried out, and just their answers written. After
+/// `Output` (a write failed or took nothing, or the flush failed) the editor stands after the line whose answer failed.
+/// No failed call is tried again.
 pub fn run<R: Read, W: Write, S: Shelf>(
     alloc: Global,
     editor: &mut Editor,

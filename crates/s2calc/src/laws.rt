@@ -1,5 +1,6 @@
 //! Laws about the definitions.
 ghost use Rattle.s2calc.specs.Laws.{TellsWhole, OneRun, CountsFailures};
+ghost use Rattle.s2calc.specs.LawsScripts.{OneEnd, LawOfUndo};
 
 /// Where the reader tells its bytes, a run that finishes has carried out the lines of just these bytes.
 pub fn whole_script()
@@ -15,4 +16,15 @@ pub fn one_run()
 /// A run has as many answers `error file` as the shelf's count of failures rose.
 pub fn counted_failures()
     ensures { CountsFailures }
+{}
+
+/// Where neither `error memory` nor `error file` comes, whole runs of the same bytes have one end: what is written,
+/// the tally, the state and the told files are one function of the script, the first state and the first files.
+pub fn one_end()
+    ensures { OneEnd }
+{}
+
+/// Undo, as far as the history reaches, gives each earlier table back, list for list and byte for byte.
+pub fn undo_goes_back()
+    ensures { LawOfUndo }
 {}

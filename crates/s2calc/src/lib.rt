@@ -35,6 +35,6 @@ pub use command_line::job;
 pub use engine::{Tally, run};
 pub use fault::RunFault;
 pub use gathered::{Answers, Asking, Gathered};
-pub use laws::{counted_failures, one_run, whole_script};
+pub use laws::{counted_failures, one_end, one_run, undo_goes_back, whole_script};
 pub use program::{cell_answer, status};
 pub use task::{Job, Stop};

@@ -1,10 +1,10 @@
 //! The union that an edit makes.
 ghost use Rattle.std.specs.Prelude.{◌≡◌, ◌<◌, ℕ, Bool, List, length, IfOk, IfErr};
-ghost use Rattle.s2union.specs.Union.{IsLocal, IsNormalForm, has_leaf};
+ghost use Rattle.s2union.specs.Union.{IsNormalForm, has_leaf};
 ghost use Rattle.s2union.specs.Sets.{either, shared, without};
 ghost use Rattle.s2cover.specs.Rectangles.{rect_set};
 ghost use Rattle.s2cover.specs.Coverings.{outer_set, inner_set};
-ghost use Rattle.s2calc.specs.Edits.{new_set, leaves_of, no_leaf, within, Fails, Makes};
+ghost use Rattle.s2calc.specs.Edits.{new_set, leaves_of, no_leaf, within, Makes};
 
 use crate::held::held;
 use s2cover::{Clip, CoverFault, FaceRect, Looks, inner, outer, rect_inner, rect_outer};

@@ -1,5 +1,5 @@
 -- Words of worked examples, and the cells that they name.
-use Rattle.std.proofs.Common.{◌≡◌, refl, sym, arith, ap, lit<, lit≤, codes, Some, None, ◌∙◌, ℕ, ◌%◌, ◌*◌, ◌+◌, ◌^◌}
+use Rattle.std.proofs.Common.{◌≡◌, refl, sym, arith, lit<, lit≤, codes, Some, None, ℕ, ◌*◌, ◌+◌, ◌^◌}
 use Rattle.std.specs.Int.Count.{count_trailing_zeros}
 use Rattle.s2cell.specs.Cell.{IsCell}
 use Rattle.s2cell.specs.Token.{IsReading}

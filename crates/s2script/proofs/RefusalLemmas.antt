@@ -1,7 +1,6 @@
 -- A line is refused for its words, or its length.
-use Rattle.std.proofs.Common.{◌≡◌, ℕ, List, [], ◌∷◌, length, subst, cond, Bool, true, false, nat_lt, nat_le, Option, None, Some, Result, Ok, Err, MatchResult, ◌+◌}
+use Rattle.std.proofs.Common.{◌≡◌, ℕ, List, [], ◌∷◌, length, subst, cond, Bool, true, false, nat_lt, Option, None, Some, Result, Ok, Err, MatchResult, ◌+◌}
 use Rattle.s2cell.specs.Cell.{first_leaf, size_of}
-use Rattle.s2cover.specs.Rectangles.{Rect}
 use Rattle.s2script.specs.declared.refusal.Refusal.{Refusal}
 use Rattle.s2script.specs.declared.refusal.Refusal.TheVariants.{Syntax, Line, Cell as NoCell, Order as NoOrder}
 use Rattle.s2script.specs.declared.verb.Asking.{Asking}
@@ -9,16 +8,14 @@ use Rattle.s2script.specs.declared.verb.Asking.TheVariants.{Cell as ToCell, Has 
 use Rattle.s2script.specs.declared.verb.Doing.{Doing}
 use Rattle.s2script.specs.declared.verb.Doing.TheVariants.{Add as ToAdd, Remove as ToRemove, Keep as ToKeep, Clear as ToClear, Copy as ToCopy, Union as ToUnion, Intersect as ToIntersect, Subtract as ToSubtract, Range as ToRange, Outer as ToOuter, Inner as ToInner, OuterOf as ToOuterOf, InnerOf as ToInnerOf, Load as ToLoad, Save as ToSave, Undo as ToUndo, Redo as ToRedo}
 use Rattle.s2script.specs.declared.command.Command.{Command}
-use Rattle.s2script.specs.declared.command.Question.{Question}
 use Rattle.s2script.specs.declared.command.Parsed.{Parsed}
 use Rattle.s2script.specs.declared.command.Parsed.TheVariants.{Nothing, Does, Fails}
-use Rattle.s2script.specs.Values.{Spot, Ends}
 use Rattle.s2script.specs.Refusals.{IsOfWords}
 use Rattle.s2script.specs.Words.{words, without_cr, is_comment}
-use Rattle.s2script.specs.CellList.{are_cells, cells_of, next_cells}
+use Rattle.s2script.specs.CellList.{are_cells, next_cells}
 use Rattle.s2script.specs.Verbs.{asking_named, doing_named}
-use Rattle.s2script.specs.Forms.{and_then, value_or, next_as, at_end, register_named, next_register, next_cell, in_order, next_last, next_span, next_level, next_modulus, next_face, next_coordinate, next_place, next_name, next_rect, optional_rect}
-use Rattle.s2script.specs.Line.{cell_alone, register_alone, two_registers, register_and_cell, register_and_cells, register_and_name, range_of, register_level_rect, registers_level_rect, place_of_words, denorm_of, question_of, deed_of, doing_or_unknown, asking_or, parsed_of, words_say, line_within, line_of}
+use Rattle.s2script.specs.Forms.{and_then, value_or, next_as, at_end, next_register, next_cell, next_span, next_level, next_face, next_coordinate, next_place, next_rect, optional_rect}
+use Rattle.s2script.specs.Line.{cell_alone, register_alone, two_registers, register_and_cell, register_and_cells, register_and_name, register_level_rect, registers_level_rect, question_of, deed_of, doing_or_unknown, asking_or, parsed_of, words_say, line_within, line_of}
 
 -- a value, or a refusal of words
 IsRead : {X : Type 0} → Result X Refusal → Type 0

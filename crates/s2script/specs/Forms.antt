@@ -1,5 +1,5 @@
 -- What the words of a command may have to be, from left to right.
-use Rattle.std.specs.Prelude.{ℕ, ◌+◌, ◌-◌, Bool, ◌&&◌, List, [], ◌∷◌, nat_le, nat_lt, if◌then◌else◌, Option, Some, None, Result, Ok, Err}
+use Rattle.std.specs.Prelude.{ℕ, ◌+◌, ◌-◌, ◌&&◌, List, [], ◌∷◌, nat_le, nat_lt, if◌then◌else◌, Option, Some, None, Result, Ok, Err}
 use Rattle.s2cell.specs.Cell.{first_leaf, size_of}
 use Rattle.s2cover.specs.Rectangles.{Rect}
 use Rattle.s2edit.specs.declared.TheConstants.{REGISTERS}
