@@ -80,12 +80,6 @@ place_above a d ca cd w =
     let f : first_leaf d ≡ place_of d * s = first_leaf_of_cell (level_of d) (place_of d) d (own_place d cd) ∙ ap (λ z. place_of d * z) (sym (size_at d cd)) in
     rw (above_size d cd) (div-eq_of_lt-le {k = place_of d} (2 * s) (omega arith) (omega arith))
 
--- so two cells inside one cell differ below its marker alone, where their own markers stand too
-record Below (a b m l : ℕ) : Type 0 where
-  bits : bit_xor a b < 2 ^ above l
-  first : size_of a < 2 ^ above l
-  second : size_of b < 2 ^ above l
-
 size_below : (a d : ℕ) → IsCell a → IsCell d → Within a d → size_of a < 2 ^ above (level_of d)
 size_below a d ca cd w =
     let e = above_size d cd in

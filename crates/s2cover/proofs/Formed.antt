@@ -239,6 +239,23 @@ faces_run S g al hg =
     subst (λ (z : ℕ). Run S (0 + f * 4 ^ 30) z (form S g (30 - g) f)) hi
     (subst (λ (z : ℕ). Run S z ((f + 1) * 4 ^ 30) (form S g (30 - g) f)) lo (face_run S g f al hg h)))
 
+-- ---- any set of leaves
+
+leaf_aligned : (S : ℕ → Bool) → IsAligned S 0
+leaf_aligned S x y e = let same : x ≡ y = omega arith in ap S same
+
+none_with : (a : Bool) → (a && false) ≡ false
+none_with true = refl
+none_with false = refl
+
+leafy_itself : (S : ℕ → Bool) (x : ℕ) (b : Bool) → S x ≡ b → (S x ≡ true → x < 6 * 4 ^ 30) → S x ≡ Leafy S x
+leafy_itself S x true e h = sym (ap (λ b. b && S x) (below_limit x (h e)))
+leafy_itself S x false e h = e ∙ sym (ap (λ b. nat_lt x (6 * 4 ^ 30) && b) e ∙ none_with (nat_lt x (6 * 4 ^ 30)))
+
+-- the greatest cells inside a set of leaves, down to the leaves, are its normal form
+pub set_normal : (S : ℕ → Bool) → ((x : ℕ) → S x ≡ true → x < 6 * 4 ^ 30) → IsNormalForm S (form_faces S 0 6)
+set_normal S h = run_normal S S (form_faces S 0 6) (faces_run S 0 (leaf_aligned S) (omega arith)) (λ x. leafy_itself S x (S x) refl (h x))
+
 -- ---- coverings
 
 pub blocks_aligned : (whole : Bool) (R : ℕ → Bool) (g : ℕ) → IsAligned (blocks whole R g) g

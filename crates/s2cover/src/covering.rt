@@ -53,6 +53,12 @@ pub fn inner<R: Region>(
     cover(alloc, region, false, level, max)
 }
 
+/// A law, which does nothing when it runs: each set of leaves has a normal form. (That it has no other is the law
+/// `same_cells` of unions.)
+pub fn normal_forms()
+    ensures { (S : ℕ → Bool) → ((x : ℕ) → S x ≡ true → x < 6 * 4 ^ 30) → (u : List ℕ) × IsNormalForm S u }
+{}
+
 /// A law: the leaves of the outer covering are those of all cells of the level that share a leaf with the region, the
 /// leaves of the inner one those of all cells of the level that lie inside it.
 pub fn covering_sets()

@@ -19,7 +19,7 @@ mod region;
 mod rounding;
 mod union;
 
-pub use covering::{covering_sets, inner, outer};
+pub use covering::{covering_sets, inner, normal_forms, outer};
 pub use grid::{rect_inner, rect_outer};
 pub use looks::Looks;
 pub use rect::FaceRect;

@@ -1,11 +1,11 @@
 -- A file's identifiers while they are read.
-use Rattle.std.proofs.Common.{◌≡◌, ℕ, ◌+◌, ◌*◌, ◌<◌, ◌≤◌, Bool, List, [], ◌∷◌, ◌++◌, length, drop, slice_index, All, refl, sym, ap, ◌∙◌, subst, arith, rules}
+use Rattle.std.proofs.Common.{◌≡◌, ℕ, ◌+◌, ◌*◌, ◌<◌, ◌≤◌, Bool, List, [], ◌∷◌, ◌++◌, length, drop, slice_index, All, refl, sym, ap, ◌∙◌, subst, arith}
 use Rattle.std.proofs.lemmas.List.{length-append, length-drop, drop-drop, drop_at, get_or_append_left, get_or_push, length_push}
 use Rattle.std.proofs.lemmas.List.Elements.{All-push}
 use borrow.Author.Count.{below_more}
 use Rattle.s2cell.specs.Cell.{IsCell}
 use Rattle.s2union.specs.Union.{has_leaf}
-use Rattle.s2file.specs.File.{first_number, number_at, stated_count, IsFileOf, File, HasFrame, Faults}
+use Rattle.s2file.specs.File.{first_number, number_at, IsFileOf, File, HasFrame, Faults}
 use Rattle.s2file.specs.declared.fault.FileFault.TheVariants.{Cell}
 use Rattle.s2file.proofs.Numbers.{first_number-append}
 
@@ -15,9 +15,6 @@ pub record ReadsSome (bytes ids rest : List ℕ) : Type 0 where
   pub rest_is : rest ≡ drop (8 * length ids) (drop 9 bytes)
   pub numbers : (i : ℕ) → i < length ids → slice_index ids i ≡ number_at bytes i
   pub cells : All IsCell ids
-
-pub reads_none : (bytes rest : List ℕ) → HasFrame bytes → rest ≡ drop 9 bytes → ReadsSome bytes [] rest
-reads_none bytes rest frame e = record { within = omega (arith, frame.length_is); rest_is = e; numbers = λ i h. absurd (omega arith); cells = search rules }
 
 -- the chunk that comes next is the number behind those that were read
 next_number : (bytes ids rest chunk more : List ℕ) → ReadsSome bytes ids rest → rest ≡ chunk ++ more → length chunk ≡ 8
@@ -61,20 +58,6 @@ reads_wrong bytes ids rest chunk more frame r e h wrong = (
     wrong = λ cell. wrong (subst IsCell (next_number bytes ids rest chunk more r e h) cell);
   },
 )
-
--- nothing is left to read
-pub reads_all : (bytes ids rest : List ℕ) → HasFrame bytes → ReadsSome bytes ids rest → length rest < 8 → IsFileOf bytes ids
-reads_all bytes ids rest frame r h =
-    let whole = rest_length bytes ids rest r in
-    let count : stated_count bytes ≡ length ids = omega (arith, frame.length_is) in
-    record {
-      version = frame.counted.head.version.version;
-      count = count;
-      most = omega (arith, frame.counted.most);
-      length_is = omega (arith, frame.length_is);
-      numbers = r.numbers;
-      cells = r.cells;
-    }
 
 pub file_from_cells : (bytes ids : List ℕ) (S : ℕ → Bool) → IsFileOf bytes ids → ((x : ℕ) → S x ≡ has_leaf ids x) → File bytes S
 file_from_cells bytes ids S is leaves = record { ids = ids; is = is; leaves = leaves }

@@ -29,10 +29,6 @@ words_at bytes at h =
 pub words_last : (bytes : List ℕ) → AllByRecursion (λ b. is_blank b ≡ false) bytes → words bytes ≡ with_word bytes []
 words_last bytes u = ap (filter is_nonempty) (split_none is_blank bytes u) ∙ filter_cons bytes []
 
-pub with_word-none : (word : List ℕ) (ws : List (List ℕ)) → length word ≡ 0 → with_word word ws ≡ ws
-with_word-none [] ws e = refl
-with_word-none (b ∷ bs) ws e = absurd (omega arith)
-
 pub with_word-some : (word : List ℕ) (ws : List (List ℕ)) → 0 < length word → with_word word ws ≡ word ∷ ws
 with_word-some [] ws h = absurd (omega arith)
 with_word-some (b ∷ bs) ws h = refl
