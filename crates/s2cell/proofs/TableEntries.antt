@@ -4,7 +4,7 @@ use Rattle.std.proofs.lemmas.Bool.{and_parts}
 use Rattle.std.proofs.lemmas.Nat.{div-add-mod', mod_below}
 use Rattle.s2cell.specs.declared.tables.TheConstants.{PLACES, LEAVES}
 use Rattle.s2cell.specs.Curve.{At, orientation_after, quadrant, quadrants, turn}
-use Rattle.s2cell.specs.Entries.{IsPlaceEntry, IsLeafEntry}
+use Rattle.s2cell.specs.Entries.{IsPlaceEntry, IsLeafEntry, word_i, word_j}
 use Rattle.s2cell.proofs.CellLemmas.{four_pos}
 use Rattle.s2cell.proofs.Quadrants.{quadrant_below, turn_keeps}
 use Rattle.s2cell.proofs.Levels.{at_step, digit_below}
@@ -48,18 +48,18 @@ entry_passes p i (e ∷ es) (suc k) h lt =
 
 -- an entry, taken apart, is a place and an orientation
 unfoldable pub place_test : ℕ → ℕ → ℕ → Bool
-place_test o n e = (first_of 4 o n == e / 64) && (second_of 4 o n == e / 4 % 16) && (orientation_after 4 o n == e % 4)
+place_test o n e = (first_of 4 o n == word_i e) && (second_of 4 o n == word_j e) && (orientation_after 4 o n == e / 2 ^ 62)
 
 pub place_test-true : (o n e : ℕ) → o < 4 → n < 4 ^ 4 → place_test o n e ≡ true → IsPlaceEntry o n e
 unfolding place_test
 place_test-true o n e ho hn h =
-    let outer = and_parts ((first_of 4 o n == e / 64) && (second_of 4 o n == e / 4 % 16)) (orientation_after 4 o n == e % 4) h in
-    let inner = and_parts (first_of 4 o n == e / 64) (second_of 4 o n == e / 4 % 16) outer.0 in
-    let x : first_of 4 o n ≡ e / 64 = eqb-true (first_of 4 o n) (e / 64) inner.0 in
-    let y : second_of 4 o n ≡ e / 4 % 16 = eqb-true (second_of 4 o n) (e / 4 % 16) inner.1 in
-    let t : orientation_after 4 o n ≡ e % 4 = eqb-true (orientation_after 4 o n) (e % 4) outer.1 in
+    let outer = and_parts ((first_of 4 o n == word_i e) && (second_of 4 o n == word_j e)) (orientation_after 4 o n == e / 2 ^ 62) h in
+    let inner = and_parts (first_of 4 o n == word_i e) (second_of 4 o n == word_j e) outer.0 in
+    let x : first_of 4 o n ≡ word_i e = eqb-true (first_of 4 o n) (word_i e) inner.0 in
+    let y : second_of 4 o n ≡ word_j e = eqb-true (second_of 4 o n) (word_j e) inner.1 in
+    let t : orientation_after 4 o n ≡ e / 2 ^ 62 = eqb-true (orientation_after 4 o n) (e / 2 ^ 62) outer.1 in
     let way = at_computed 4 o n ho hn in
-    record { place = subst (λ (z : ℕ). At 4 o n z (e / 4 % 16)) x (subst (λ (z : ℕ). At 4 o n (first_of 4 o n) z) y way); next = sym t }
+    record { place = subst (λ (z : ℕ). At 4 o n z (word_j e)) x (subst (λ (z : ℕ). At 4 o n (first_of 4 o n) z) y way); next = sym t }
 
 unfoldable pub leaf_test : ℕ → ℕ → ℕ → ℕ → Bool
 leaf_test o x y e = nat_lt (e / 4) 256 && (first_of 4 o (e / 4) == x) && (second_of 4 o (e / 4) == y) && (orientation_after 4 o (e / 4) == e % 4)
