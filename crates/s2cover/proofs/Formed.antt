@@ -1,7 +1,7 @@
 -- The cells that a descent finds are the greatest in the set, follow each other, and have its leaves.
 use Rattle.std.proofs.Common.{◌≡◌, ℕ, suc, zero, ◌+◌, ◌-◌, ◌*◌, ◌/◌, ◌%◌, ◌^◌, ◌<◌, ◌≤◌, Bool, true, false, ◌&&◌, ◌||◌, nat_lt, List, [], ◌∷◌, ◌++◌, length, get_or, All, AllPairs, refl, sym, ◌∙◌, ap, arith, subst, ⊎_elim, length-append, Option, None, Some}
 use Rattle.std.specs.Option.{SomeIff, IsSome}
-use Rattle.std.proofs.lemmas.Bool.{cases_Bool, both_ways, cond-false, false_from_ne_true, and_parts}
+use Rattle.std.proofs.lemmas.Bool.{and_right, cases_Bool, both_ways, cond-false, false_from_ne_true, and_parts}
 use Rattle.std.proofs.lemmas.Bool.Decides.{nat_tests}
 use Rattle.std.proofs.lemmas.List.Elements.{All-append}
 use Rattle.std.proofs.lemmas.List.Kept.{AllPairs-cons}
@@ -244,13 +244,9 @@ faces_run S g al hg =
 leaf_aligned : (S : ℕ → Bool) → IsAligned S 0
 leaf_aligned S x y e = let same : x ≡ y = omega arith in ap S same
 
-none_with : (a : Bool) → (a && false) ≡ false
-none_with true = refl
-none_with false = refl
-
 leafy_itself : (S : ℕ → Bool) (x : ℕ) (b : Bool) → S x ≡ b → (S x ≡ true → x < 6 * 4 ^ 30) → S x ≡ Leafy S x
 leafy_itself S x true e h = sym (ap (λ b. b && S x) (below_limit x (h e)))
-leafy_itself S x false e h = e ∙ sym (ap (λ b. nat_lt x (6 * 4 ^ 30) && b) e ∙ none_with (nat_lt x (6 * 4 ^ 30)))
+leafy_itself S x false e h = e ∙ sym (ap (λ b. nat_lt x (6 * 4 ^ 30) && b) e ∙ and_right (nat_lt x (6 * 4 ^ 30)) false refl)
 
 -- the greatest cells inside a set of leaves, down to the leaves, are its normal form
 pub set_normal : (S : ℕ → Bool) → ((x : ℕ) → S x ≡ true → x < 6 * 4 ^ 30) → IsNormalForm S (form_faces S 0 6)

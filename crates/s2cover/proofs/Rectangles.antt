@@ -1,33 +1,14 @@
 -- Squares of cells and rectangles of leaves.
-use Rattle.std.proofs.Common.{◌≡◌, ℕ, suc, zero, ◌+◌, ◌-◌, ◌/◌, ◌%◌, ◌^◌, ◌<◌, ◌≤◌, true, false, ◌&&◌, ◌==◌, nat_le, ◌↔◌, refl, arith, subst, bit_xor, ◌⊎◌, inl, inr, ⊎_elim}
+use Rattle.std.proofs.Common.{◌≡◌, ℕ, ◌+◌, ◌-◌, ◌/◌, ◌^◌, ◌<◌, ◌≤◌, true, false, ◌&&◌, ◌==◌, nat_le, ◌↔◌, arith, ◌⊎◌, inl, inr, ⊎_elim}
 use Rattle.std.proofs.lemmas.Bool.{and_parts, and_from, cases_lt, both_ways, false_from_ne_true}
 use Rattle.std.proofs.lemmas.Bool.Decides.{nat_tests}
-use Rattle.std.proofs.lemmas.Nat.{div-add-mod', mod_below, pow_pos}
+use Rattle.std.proofs.lemmas.Nat.{pow_pos}
 use Rattle.s2cell.specs.Cell.{level_of, covers}
-use Rattle.s2cell.specs.Curve.{At, IsPlaceOf, quadrant, turn}
+use Rattle.s2cell.specs.Curve.{IsPlaceOf, i_of, j_of}
 use Rattle.s2cell.specs.Square.{IsSquareOf}
-use Rattle.s2cell.proofs.CellLemmas.{four_pos}
-use Rattle.s2cell.proofs.Quadrants.{quadrant_below, turn_keeps}
-use Rattle.s2cell.proofs.Levels.{at_step, digit_below}
+use Rattle.s2cell.proofs.Places.{place_is}
 use Rattle.s2cell.proofs.Squares.{one_place}
-use Rattle.s2cover.specs.Rectangles.{i_within, j_within, i_of, j_of, Rect, IsRect, IsInRect, rect_set}
-
-pub at_within : (k o n : ℕ) → o < 4 → n < 4 ^ k → At k o n (i_within k o n) (j_within k o n)
-unfolding i_within j_within At
-at_within zero o n ho hn = (omega arith, refl, refl)
-at_within (suc k) o n ho hn =
-    let hp = digit_below k n hn in
-    let q = quadrant_below o (n / 4 ^ k) ho hp in
-    let p = n / 4 ^ k in
-    let Q = quadrant o p in
-    let deep = at_within k (bit_xor o (turn p)) (n % 4 ^ k) (turn_keeps o p ho hp) (mod_below n (4 ^ k) (four_pos k)) in
-    let s = at_step k o (n % 4 ^ k) (i_within k (bit_xor o (turn p)) (n % 4 ^ k)) (j_within k (bit_xor o (turn p)) (n % 4 ^ k)) p (Q / 2) (Q % 2) hp (omega arith) (omega arith) (omega arith) deep in
-    subst (λ (z : ℕ). At (suc k) o z (i_within (suc k) o n) (j_within (suc k) o n)) (div-add-mod' n (4 ^ k)) s
-
--- where a leaf stands
-pub place_is : (n : ℕ) → IsPlaceOf n (n / 4 ^ 30) (i_of n) (j_of n)
-unfolding i_of j_of
-place_is n = record { face_is = refl; at = at_within 30 (n / 4 ^ 30 % 2) (n % 4 ^ 30) (omega arith) (omega arith) }
+use Rattle.s2cover.specs.Rectangles.{Rect, IsRect, IsInRect, rect_set}
 
 same_from_test : (a b : ℕ) → (a == b) ≡ true → a ≡ b
 same_from_test a b h = grind (arith, nat_tests)
