@@ -188,7 +188,8 @@ place_of_leaf f n i j at =
     let rest : (4 ^ 30 * f + n) % 4 ^ 30 ≡ n = omega arith in
     record { face_is = sym whole; at = rw rest at }
 
-first_leaf_covered : (c : ℕ) → IsCell c → covers c (first_leaf c) ≡ true
+-- a cell has a leaf
+pub first_leaf_covered : (c : ℕ) → IsCell c → covers c (first_leaf c) ≡ true
 first_leaf_covered c ic = let s = (cell_leaves c ic).some in covers_there c (first_leaf c) (omega arith) (omega arith)
 
 -- from the place of the cell's first leaf

@@ -1,6 +1,6 @@
 -- The cells that a descent finds are the greatest in the set, follow each other, and have its leaves.
 use Rattle.std.proofs.Common.{◌≡◌, ℕ, suc, zero, ◌+◌, ◌-◌, ◌*◌, ◌/◌, ◌^◌, ◌<◌, ◌≤◌, Bool, true, false, ◌&&◌, ◌||◌, nat_lt, List, [], ◌∷◌, ◌++◌, length, get_or, All, AllPairs, refl, sym, ◌∙◌, ap, arith, subst, ⊎_elim, length-append}
-use Rattle.std.proofs.lemmas.Bool.{and_right, cases_Bool, both_ways, cond-false, false_from_ne_true, and_parts}
+use Rattle.std.proofs.lemmas.Bool.{and_right, lt-ltb, cases_Bool, both_ways, cond-false, false_from_ne_true, and_parts}
 use Rattle.std.proofs.lemmas.Bool.Decides.{nat_tests}
 use Rattle.std.proofs.lemmas.List.Elements.{All-append}
 use Rattle.std.proofs.lemmas.List.Kept.{AllPairs-cons}
@@ -13,6 +13,7 @@ use Rattle.s2cell.proofs.Leaves.{covers_from}
 use Rattle.s2union.specs.Union.{has_leaf, between, LiesIn, IsGreatestIn, IsNormalForm}
 use Rattle.s2union.specs.Packed.{EndsBefore}
 use Rattle.s2union.proofs.Normal.{parent_of_child, normal_form_same, one_normal_form}
+use Rattle.s2union.proofs.Tiling.{none_between}
 use Rattle.s2union.proofs.Picking.{picked_normal}
 use Rattle.s2cover.specs.Coverings.{filled, touched, outer_set, inner_set}
 use Rattle.s2cover.specs.Descent.{blocks, covering_set, form_faces, form_in, form, joined, cell_at, depth_of, IsAligned}
@@ -36,16 +37,13 @@ pub record Run (S : ℕ → Bool) (lo hi : ℕ) (u : List ℕ) : Type 0 where
   pub high : All (λ c. first_leaf c + size_of c ≤ hi) u
   pub leaves : (x : ℕ) → has_leaf u x ≡ (between lo hi x && S x)
 
-between_none : (lo x : ℕ) → between lo lo x ≡ false
-between_none lo x = grind (arith, nat_tests)
-
 pub run_none : (S : ℕ → Bool) (lo : ℕ) → Run S lo lo []
 run_none S lo = record {
   greatest = λ k d h. absurd (omega arith);
   chain = λ i j d h l. absurd (omega arith);
   low = λ k d h. absurd (omega arith);
   high = λ k d h. absurd (omega arith);
-  leaves = λ x. sym (ap (λ b. b && S x) (between_none lo x));
+  leaves = λ x. sym (ap (λ b. b && S x) (none_between lo x));
 }
 
 between_join : (lo mid hi x : ℕ) → lo ≤ mid → mid ≤ hi → between lo hi x ≡ (between lo mid x || between mid hi x)
@@ -186,16 +184,13 @@ formed S g (suc e) c al i d top =
 abbrev pub Leafy : (ℕ → Bool) → ℕ → Bool
 Leafy S x = nat_lt x (6 * 4 ^ 30) && S x
 
-below_limit : (x : ℕ) → x < 6 * 4 ^ 30 → nat_lt x (6 * 4 ^ 30) ≡ true
-below_limit x h = grind (arith, nat_tests)
-
 greatest_leafy : (S : ℕ → Bool) (c : ℕ) → IsGreatestIn S c → IsGreatestIn (Leafy S) c
 greatest_leafy S c w =
     let l = cell_leaves c w.cell in
     let end = l.within in
     record {
       cell = w.cell;
-      inside = λ x h. let r = covers_from c x h in ap (λ b. b && S x) (below_limit x (let y = r.1 in omega arith)) ∙ w.inside x h;
+      inside = λ x h. let r = covers_from c x h in ap (λ b. b && S x) (lt-ltb x (6 * 4 ^ 30) (let y = r.1 in omega arith)) ∙ w.inside x h;
       greatest = λ d h. w.greatest d (λ x v. (and_parts (nat_lt x (6 * 4 ^ 30)) (S x) (h x v)).1);
     }
 
@@ -245,7 +240,7 @@ leaf_aligned : (S : ℕ → Bool) → IsAligned S 0
 leaf_aligned S x y e = let same : x ≡ y = omega arith in ap S same
 
 leafy_itself : (S : ℕ → Bool) (x : ℕ) (b : Bool) → S x ≡ b → (S x ≡ true → x < 6 * 4 ^ 30) → S x ≡ Leafy S x
-leafy_itself S x true e h = sym (ap (λ b. b && S x) (below_limit x (h e)))
+leafy_itself S x true e h = sym (ap (λ b. b && S x) (lt-ltb x (6 * 4 ^ 30) (h e)))
 leafy_itself S x false e h = e ∙ sym (ap (λ b. nat_lt x (6 * 4 ^ 30) && b) e ∙ and_right (nat_lt x (6 * 4 ^ 30)) false refl)
 
 -- the greatest cells inside a set of leaves, down to the leaves, are its normal form

@@ -1,17 +1,18 @@
 -- Rectangles rounded to the grid of a level.
 use Rattle.std.proofs.Common.{◌≡◌, ℕ, ◌+◌, ◌-◌, ◌*◌, ◌/◌, ◌%◌, ◌^◌, ◌<◌, ◌≤◌, Bool, true, false, ◌&&◌, nat_lt, refl, sym, ◌∙◌, ap, arith, ◌⊎◌, ⊎_elim}
-use Rattle.std.proofs.lemmas.Bool.{and_right, both_ways, true_from_ne_false, false_from_ne_true}
+use Rattle.std.proofs.lemmas.Bool.{and_right, lt-ltb, both_ways, true_from_ne_false, false_from_ne_true}
 use Rattle.std.proofs.lemmas.Nat.{div-add-mod', mod_below, pow_pos, pow-add}
 use Rattle.s2cell.specs.Curve.{i_of, j_of}
 use Rattle.s2cell.proofs.Levels.{at_bounds}
 use Rattle.s2cell.proofs.Places.{place_is}
 use Rattle.s2cell.proofs.Squares.{in_block, block_of}
+use Rattle.s2cell.proofs.CellLemmas.{four_pos}
 use Rattle.s2cover.specs.Coverings.{touched, outer_set, inner_set}
 use Rattle.s2cover.specs.Descent.{blocks, IsAligned}
 use Rattle.s2cover.specs.Rectangles.{Rect, IsRect, rect_set}
-use Rattle.s2cover.proofs.Runs.{four_pos, filled_each, filled_from, touched_none, block_here}
+use Rattle.s2cover.proofs.Runs.{filled_each, filled_from, touched_none, block_here}
 use Rattle.s2cover.proofs.Rectangles.{in_rect, in_rect_from}
-use Rattle.s2cover.proofs.Coverings.{touched_some, limit_test}
+use Rattle.s2cover.proofs.Coverings.{touched_some}
 use Rattle.s2cover.proofs.Formed.{blocks_aligned}
 use Rattle.s2cover.proofs.Squares.{Narrowed, Rounded, block_leaf, in_from, in_to, out_from, out_to, quotient_below, same_bool, same_square, times}
 
@@ -143,7 +144,7 @@ in_limit r x h t =
     let w = (in_rect_from r x t).on in
     let e = div-add-mod' x (4 ^ 30) in
     let m = mod_below x (4 ^ 30) (four_pos 30) in
-    limit_test x (omega arith)
+    lt-ltb x (6 * 4 ^ 30) (omega arith)
 
 same_on_leaves : (t : Rect) (S : ℕ → Bool) (x : ℕ) → t.face ≤ 5 → rect_set t x ≡ S x → rect_set t x ≡ (nat_lt x (6 * 4 ^ 30) && S x)
 same_on_leaves t S x h e = e ∙ bounded (nat_lt x (6 * 4 ^ 30)) (S x) (λ s. in_limit t x h (e ∙ s))

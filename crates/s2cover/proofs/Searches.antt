@@ -4,9 +4,10 @@ use Rattle.std.proofs.lemmas.Result.{IfOk-weaker, IfErr-weaker}
 use Rattle.std.proofs.lemmas.Bool.{cases_lt, cases_Bool, both_ways, cond-true, cond-false, false_from_ne_true}
 use Rattle.std.proofs.lemmas.Nat.{div-add-mod', mod_below}
 use Rattle.std.proofs.Math.Nat.{pow-suc, mul-le-mul_right}
+use Rattle.s2cell.proofs.CellLemmas.{four_pos}
 use Rattle.s2cover.specs.Coverings.{filled}
 use Rattle.s2cover.specs.Descent.{form, joined, cell_at, depth_of, IsAligned}
-use Rattle.s2cover.proofs.Runs.{four_pos, filled_each, filled_from, block_here}
+use Rattle.s2cover.proofs.Runs.{filled_each, filled_from, block_here}
 use Rattle.s2cover.proofs.Visits.{list_next, leaf_at, ChildAt, child_at}
 use Rattle.s2cell.specs.Cell.{IsCell, place_of, covers, child_of}
 use Rattle.s2cover.proofs.Forms.{form_children, joined_more, joined_grows}
