@@ -14,7 +14,7 @@ use crate::kept::Kept;
 use crate::output::flush;
 use s2edit::Editor;
 use s2file::Shelf;
-use std::alloc::{AllocError, Global};
+use std::alloc::Global;
 use std::io::{Read, Write};
 
 /// How many lines were answered, and how many of them were refused. Each number stops at its greatest value.
@@ -107,7 +107,16 @@ pub fn run<R: Read, W: Write, S: Shelf>(
       output_new = W.contents writer.new;
     }) (world editor.old (S.files shelf.old)) (world editor.new (S.files shelf.new)) result }
 {
-    begin(alloc, editor, reader, writer, shelf, Flushing::AtTheEnd)
+    let mut input = input_buffer(alloc)?;
+    run_over(
+        alloc,
+        &mut input,
+        editor,
+        reader,
+        writer,
+        shelf,
+        Flushing::AtTheEnd,
+    )
 }
 
 /// Runs a script as [`run`] does, and flushes the writer before each read too: so what a writer such as a `BufWriter`
@@ -129,8 +138,10 @@ pub fn run_promptly<R: Read, W: Write, S: Shelf>(
       output_new = W.contents writer.new;
     }) (world editor.old (S.files shelf.old)) (world editor.new (S.files shelf.new)) result }
 {
-    begin(
+    let mut input = input_buffer(alloc)?;
+    run_over(
         alloc,
+        &mut input,
         editor,
         reader,
         writer,
@@ -139,39 +150,22 @@ pub fn run_promptly<R: Read, W: Write, S: Shelf>(
     )
 }
 
-/// When the writer is flushed.
-#[derive(Clone, Copy)]
-enum Flushing {
-    AtTheEnd,
-    BeforeEachRead,
-}
-
-/// Takes the memory of a run, and runs.
-fn begin<R: Read, W: Write, S: Shelf>(
-    alloc: Global,
-    editor: &mut Editor,
-    reader: &mut R,
-    writer: &mut W,
-    shelf: &mut S,
-    flushing: Flushing,
-) -> Result<Tally, RunFault>
-    ensures { Runs (record {
-      input_old = R.remaining reader.old;
-      input_new = R.remaining reader.new;
-      output_old = W.contents writer.old;
-      output_new = W.contents writer.new;
-    }) (world editor.old (S.files shelf.old)) (world editor.new (S.files shelf.new)) result }
+/// A buffer for the reader.
+fn input_buffer(alloc: Global) -> Result<Vec<u8>, RunFault>
+    ensures some { IfOk result (λ input. 0 < length input.items) }
+    ensures fault { IfErr result (λ fault. fault ≡ RunFault.Memory) }
 {
-    match input_buffer(alloc) {
-        Ok(mut input) => run_over(alloc, &mut input, editor, reader, writer, shelf, flushing),
+    match vec![in alloc; 0u8; READ_SIZE] {
+        Ok(input) => Ok(input),
         Err(_) => Err(RunFault::Memory),
     }
 }
 
-fn input_buffer(alloc: Global) -> Result<Vec<u8>, AllocError>
-    ensures { IfOk result (λ input. 0 < length input.items) }
-{
-    vec![in alloc; 0u8; READ_SIZE]
+/// When the writer is flushed, beside the end.
+#[derive(Clone, Copy)]
+enum Flushing {
+    AtTheEnd,
+    BeforeEachRead,
 }
 
 /// The run, over a buffer for the reader.
