@@ -84,15 +84,8 @@ fn cover<R: Region>(
 {
     let mut list = Vec::new(alloc);
     for face in 0..6u8 {
-        match visit(
-            region,
-            whole,
-            level,
-            &PlacedCell::face(face),
-            0,
-            max,
-            &mut list,
-        ) {
+        let top = PlacedCell::face(face);
+        match visit(region, whole, level, &top, 0, max, &mut list) {
             Ok(_) => {}
             Err(fault) => return Err(fault),
         }

@@ -9,23 +9,23 @@ loop-face-init g c =
     found_none (blocks c.args.whole (g.R.Region.holds c.args.region.now) (30 - c.args.level)) (30 - c.args.level) c.new-list.result.items (vec_len c.new-list.result) c.args.max c.new-list.ensures.items c.new-list.ensures.len
 
 pub visit-requires-clause-above : goal.visit-requires-clause-above
-visit-requires-clause-above g c = let l = c.face.ensures.level in omega arith
+visit-requires-clause-above g c = let l = c.face-top.ensures.level in omega arith
 
 pub returns-in-Err-clause-many : goal.returns-in-Err-clause-many
 returns-in-Err-clause-many g c e u n =
     found_many c.args.whole (g.R.Region.holds c.args.region.now) c.args.level (c.loop-face.face + 1) u c.args.max (let t = c.loop-face-test.true in omega arith)
-    (found_stops (blocks c.args.whole (g.R.Region.holds c.args.region.now) (30 - c.args.level)) (30 - c.args.level) c.loop-face.face c.face.result.cell c.loop-face.list.items (vec_len c.loop-face.list) c.args.max
-    c.face.ensures.level c.face.ensures.face c.loop-face.list.ok.0 c.loop-face.invariant (c.in-Err.ensures.many e).1) n
+    (found_stops (blocks c.args.whole (g.R.Region.holds c.args.region.now) (30 - c.args.level)) (30 - c.args.level) c.loop-face.face c.face-top.result.cell c.loop-face.list.items (vec_len c.loop-face.list) c.args.max
+    c.face-top.ensures.level c.face-top.ensures.face c.loop-face.list.ok.0 c.loop-face.invariant (c.in-Err.ensures.many e).1) n
 
 pub returns-then-len-max-clause-many : goal.returns-then-len-max-clause-many
 returns-then-len-max-clause-many g c e u n =
-    found_long c.args.whole (g.R.Region.holds c.args.region.now) c.args.level c.loop-face.face c.face.result.cell c.loop-face.list.items c.visit.new.list.items (vec_len c.loop-face.list) (vec_len c.visit.new.list) c.args.max u
-    c.loop-face-test.true c.face.ensures.level c.face.ensures.face c.visit.new.list.ok.0 c.loop-face.invariant c.in-Ok.ensures.list (let m = c.if-len-max.true in let l = c.len.ensures in omega arith) n
+    found_long c.args.whole (g.R.Region.holds c.args.region.now) c.args.level c.loop-face.face c.face-top.result.cell c.loop-face.list.items c.visit.new.list.items (vec_len c.loop-face.list) (vec_len c.visit.new.list) c.args.max u
+    c.loop-face-test.true c.face-top.ensures.level c.face-top.ensures.face c.visit.new.list.ok.0 c.loop-face.invariant c.in-Ok.ensures.list (let m = c.if-len-max.true in let l = c.len.ensures in omega arith) n
 
 pub loop-face-preserved : goal.loop-face-preserved
 loop-face-preserved g c =
-    found_next (blocks c.args.whole (g.R.Region.holds c.args.region.now) (30 - c.args.level)) (30 - c.args.level) c.loop-face.face c.face.result.cell c.loop-face.list.items c.visit.new.list.items (vec_len c.loop-face.list) (vec_len c.visit.new.list) c.args.max
-    c.face.ensures.level c.face.ensures.face c.loop-face.invariant c.in-Ok.ensures.list (let f = c.if-len-max.false in let l = c.len.ensures in omega arith)
+    found_next (blocks c.args.whole (g.R.Region.holds c.args.region.now) (30 - c.args.level)) (30 - c.args.level) c.loop-face.face c.face-top.result.cell c.loop-face.list.items c.visit.new.list.items (vec_len c.loop-face.list) (vec_len c.visit.new.list) c.args.max
+    c.face-top.ensures.level c.face-top.ensures.face c.loop-face.invariant c.in-Ok.ensures.list (let f = c.if-len-max.false in let l = c.len.ensures in omega arith)
 
 pub from_normalized-requires : goal.from_normalized-requires
 from_normalized-requires g c =
