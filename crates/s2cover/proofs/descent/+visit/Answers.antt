@@ -7,10 +7,16 @@ use Rattle.s2cover.proofs.descent.+visit.Goals as goal
 use Rattle.s2cover.proofs.descent.+visit.Goals.{then-full, else-full, then-full-2, else-full-2, else-not-full-via-then-not-full+else-len-max, else-not-full-via-else-not-full}
 
 pub loop-digit-init : goal.loop-digit-init
-loop-digit-init g t c = visited_none (blocks c.args.whole (g.R.Region.holds c.args.region.now) (30 - c.args.level)) (30 - c.args.level) (depth_of c.args.placed.now.cell) (place_of c.args.placed.now.cell) c.args.list.now.items (vec_len c.args.list.now) c.args.loose c.args.max c.len-before.result c.requires.room c.len-before.ensures
+loop-digit-init g t c =
+    let S = blocks c.args.whole (g.R.Region.holds c.args.region.now) (30 - c.args.level) in
+    visited_none S (30 - c.args.level) (depth_of c.args.placed.now.cell) (place_of c.args.placed.now.cell) c.args.list.now.items (vec_len c.args.list.now) c.args.loose c.args.max c.len-before.result c.requires.room c.len-before.ensures
 
 pub visit-requires : goal.visit-requires
 visit-requires g t c κs within =
+    let S = blocks c.args.whole (g.R.Region.holds c.args.region.now) (30 - c.args.level) in
+    let grain = 30 - c.args.level in
+    let d = depth_of c.args.placed.now.cell in
+    let m = place_of c.args.placed.now.cell in
     let lv = c.child.ensures.level in
     let placed = c.child.ensures.placed in
     let n = c.if-level.false in
@@ -18,34 +24,48 @@ visit-requires g t c κs within =
     let above : level_of c.child.result.cell ≤ c.args.level = (let k = c.requires.above in omega arith) in
     let held : Held (level_of c.args.placed.now.cell) (level_of c.child.result.cell) c.args.loose c.loop-digit.digit c.if-full.held c.args.max (vec_len c.loop-digit.list) =
     elim c.if-full.branch [
-      | then-full w ↦ held_full (blocks c.args.whole (g.R.Region.holds c.args.region.now) (30 - c.args.level)) (30 - c.args.level) (level_of c.args.placed.now.cell) (depth_of c.args.placed.now.cell) (place_of c.args.placed.now.cell) c.loop-digit.digit c.args.list.now.items c.loop-digit.list.items (vec_len c.args.list.now) (vec_len c.loop-digit.list) c.loop-digit.full c.args.loose c.args.max c.len-before.result (level_of c.child.result.cell) c.if-full.held lv c.loop-digit-test.true c.requires.loose w.held-is w.if-full.true c.loop-digit.invariant
-      | else-full w ↦ held_none (blocks c.args.whole (g.R.Region.holds c.args.region.now) (30 - c.args.level)) (30 - c.args.level) (level_of c.args.placed.now.cell) (depth_of c.args.placed.now.cell) (place_of c.args.placed.now.cell) c.loop-digit.digit c.args.list.now.items c.loop-digit.list.items (vec_len c.args.list.now) (vec_len c.loop-digit.list) c.loop-digit.full c.args.loose c.args.max c.len-before.result (level_of c.child.result.cell) c.if-full.held w.held-is w.if-full.false c.loop-digit.invariant
+      | then-full w ↦ held_full S grain (level_of c.args.placed.now.cell) d m c.loop-digit.digit c.args.list.now.items c.loop-digit.list.items (vec_len c.args.list.now) (vec_len c.loop-digit.list) c.loop-digit.full c.args.loose c.args.max c.len-before.result (level_of c.child.result.cell) c.if-full.held lv c.loop-digit-test.true c.requires.loose w.held-is w.if-full.true c.loop-digit.invariant
+      | else-full w ↦ held_none S grain (level_of c.args.placed.now.cell) d m c.loop-digit.digit c.args.list.now.items c.loop-digit.list.items (vec_len c.args.list.now) (vec_len c.loop-digit.list) c.loop-digit.full c.args.loose c.args.max c.len-before.result (level_of c.child.result.cell) c.if-full.held w.held-is w.if-full.false c.loop-digit.invariant
     ] in
     let bound = held.bound in
     let room = held.room in
     search rules
 
 pub returns-in-Err-clause-many : goal.returns-in-Err-clause-many
-returns-in-Err-clause-many g t c = λ e.
-    let s = child_stops (blocks c.args.whole (g.R.Region.holds c.args.region.now) (30 - c.args.level)) (30 - c.args.level) (depth_of c.args.placed.now.cell) (place_of c.args.placed.now.cell) c.loop-digit.digit (depth_of c.child.result.cell) (place_of c.child.result.cell) c.args.max (vec_len c.loop-digit.list) c.child.ensures.depth c.child.ensures.place (c.in-Err.ensures.many e) in
-    many_child (blocks c.args.whole (g.R.Region.holds c.args.region.now) (30 - c.args.level)) (30 - c.args.level) (depth_of c.args.placed.now.cell) (place_of c.args.placed.now.cell) c.loop-digit.digit c.args.list.now.items c.loop-digit.list.items (vec_len c.args.list.now) (vec_len c.loop-digit.list) c.args.max c.loop-digit.full (let n = c.if-level.false in let v = c.level.ensures.value in let k = c.requires.above in let l = c.requires.level in omega arith) c.loop-digit-test.true c.args.list.now.ok.0 c.loop-digit.list.ok.0
+returns-in-Err-clause-many g t c =
+    λ e.
+    let S = blocks c.args.whole (g.R.Region.holds c.args.region.now) (30 - c.args.level) in
+    let grain = 30 - c.args.level in
+    let d = depth_of c.args.placed.now.cell in
+    let m = place_of c.args.placed.now.cell in
+    let s = child_stops S grain d m c.loop-digit.digit (depth_of c.child.result.cell) (place_of c.child.result.cell) c.args.max (vec_len c.loop-digit.list) c.child.ensures.depth c.child.ensures.place (c.in-Err.ensures.many e) in
+    many_child S grain d m c.loop-digit.digit c.args.list.now.items c.loop-digit.list.items (vec_len c.args.list.now) (vec_len c.loop-digit.list) c.args.max c.loop-digit.full (let n = c.if-level.false in let v = c.level.ensures.value in let k = c.requires.above in let l = c.requires.level in omega arith) c.loop-digit-test.true c.args.list.now.ok.0 c.loop-digit.list.ok.0
     c.loop-digit.invariant.list c.loop-digit.invariant.whole s.0 s.1
 
 pub returns-then-len-max-clause-many : goal.returns-then-len-max-clause-many
-returns-then-len-max-clause-many g t c = λ e.
-    let kid = child_from (blocks c.args.whole (g.R.Region.holds c.args.region.now) (30 - c.args.level)) (30 - c.args.level) (depth_of c.args.placed.now.cell) (place_of c.args.placed.now.cell) c.loop-digit.digit c.loop-digit.list.items c.visit.new.list.items c.in-Ok.inside (depth_of c.child.result.cell) (place_of c.child.result.cell) c.child.ensures.depth c.child.ensures.place c.in-Ok.ensures.list c.in-Ok.ensures.full in
+returns-then-len-max-clause-many g t c =
+    λ e.
+    let S = blocks c.args.whole (g.R.Region.holds c.args.region.now) (30 - c.args.level) in
+    let grain = 30 - c.args.level in
+    let d = depth_of c.args.placed.now.cell in
+    let m = place_of c.args.placed.now.cell in
+    let kid = child_from S grain d m c.loop-digit.digit c.loop-digit.list.items c.visit.new.list.items c.in-Ok.inside (depth_of c.child.result.cell) (place_of c.child.result.cell) c.child.ensures.depth c.child.ensures.place c.in-Ok.ensures.list c.in-Ok.ensures.full in
     let both : Both c.loop-digit.full c.in-Ok.inside c.if-full-2.full = elim c.if-full-2.branch [ then-full-2 w ↦ inl (w.if-full-2.true, w.full-is) | else-full-2 w ↦ inr (w.if-full-2.false, w.full-is ∙ w.if-full-2.false) ] in
-    let list = list_next (blocks c.args.whole (g.R.Region.holds c.args.region.now) (30 - c.args.level)) (30 - c.args.level) (depth_of c.args.placed.now.cell) (place_of c.args.placed.now.cell) c.loop-digit.digit c.args.list.now.items c.loop-digit.list.items c.visit.new.list.items c.loop-digit.invariant.list kid.list in
-    let below : (30 - c.args.level) < (depth_of c.args.placed.now.cell) = (let n = c.if-level.false in let v = c.level.ensures.value in let k = c.requires.above in let l = c.requires.level in omega arith) in
-    let whole = whole_next (blocks c.args.whole (g.R.Region.holds c.args.region.now) (30 - c.args.level)) (depth_of c.args.placed.now.cell) (place_of c.args.placed.now.cell) c.loop-digit.digit c.loop-digit.full c.in-Ok.inside c.if-full-2.full (omega arith) c.loop-digit-test.true c.loop-digit.invariant.whole kid.full both in
+    let list = list_next S grain d m c.loop-digit.digit c.args.list.now.items c.loop-digit.list.items c.visit.new.list.items c.loop-digit.invariant.list kid.list in
+    let below : grain < d = (let n = c.if-level.false in let v = c.level.ensures.value in let k = c.requires.above in let l = c.requires.level in omega arith) in
+    let whole = whole_next S d m c.loop-digit.digit c.loop-digit.full c.in-Ok.inside c.if-full-2.full (omega arith) c.loop-digit-test.true c.loop-digit.invariant.whole kid.full both in
     let len : vec_len c.visit.new.list ≡ length c.visit.new.list.items = c.visit.new.list.ok.0 in
-    many_next (blocks c.args.whole (g.R.Region.holds c.args.region.now) (30 - c.args.level)) (30 - c.args.level) (depth_of c.args.placed.now.cell) (place_of c.args.placed.now.cell) c.loop-digit.digit c.args.list.now.items c.visit.new.list.items (vec_len c.args.list.now) c.args.max c.if-full-2.full below c.loop-digit-test.true c.args.list.now.ok.0 list whole (search rules) (omega (arith, c.len.ensures, c.if-len-max.true))
+    many_next S grain d m c.loop-digit.digit c.args.list.now.items c.visit.new.list.items (vec_len c.args.list.now) c.args.max c.if-full-2.full below c.loop-digit-test.true c.args.list.now.ok.0 list whole (search rules) (omega (arith, c.len.ensures, c.if-len-max.true))
 
 pub loop-digit-preserved : goal.loop-digit-preserved
 loop-digit-preserved g t c =
-    let kid = child_from (blocks c.args.whole (g.R.Region.holds c.args.region.now) (30 - c.args.level)) (30 - c.args.level) (depth_of c.args.placed.now.cell) (place_of c.args.placed.now.cell) c.loop-digit.digit c.loop-digit.list.items c.visit.new.list.items c.in-Ok.inside (depth_of c.child.result.cell) (place_of c.child.result.cell) c.child.ensures.depth c.child.ensures.place c.in-Ok.ensures.list c.in-Ok.ensures.full in
+    let S = blocks c.args.whole (g.R.Region.holds c.args.region.now) (30 - c.args.level) in
+    let grain = 30 - c.args.level in
+    let d = depth_of c.args.placed.now.cell in
+    let m = place_of c.args.placed.now.cell in
+    let kid = child_from S grain d m c.loop-digit.digit c.loop-digit.list.items c.visit.new.list.items c.in-Ok.inside (depth_of c.child.result.cell) (place_of c.child.result.cell) c.child.ensures.depth c.child.ensures.place c.in-Ok.ensures.list c.in-Ok.ensures.full in
     let both : Both c.loop-digit.full c.in-Ok.inside c.if-full-2.full = elim c.if-full-2.branch [ then-full-2 w ↦ inl (w.if-full-2.true, w.full-is) | else-full-2 w ↦ inr (w.if-full-2.false, w.full-is ∙ w.if-full-2.false) ] in
-    visited_next (blocks c.args.whole (g.R.Region.holds c.args.region.now) (30 - c.args.level)) (30 - c.args.level) (depth_of c.args.placed.now.cell) (place_of c.args.placed.now.cell) c.loop-digit.digit c.args.list.now.items c.loop-digit.list.items c.visit.new.list.items (vec_len c.args.list.now) (vec_len c.loop-digit.list) (vec_len c.visit.new.list) c.loop-digit.full c.in-Ok.inside c.if-full-2.full c.args.loose c.args.max c.len-before.result
+    visited_next S grain d m c.loop-digit.digit c.args.list.now.items c.loop-digit.list.items c.visit.new.list.items (vec_len c.args.list.now) (vec_len c.loop-digit.list) (vec_len c.visit.new.list) c.loop-digit.full c.in-Ok.inside c.if-full-2.full c.args.loose c.args.max c.len-before.result
     (let n = c.if-level.false in let v = c.level.ensures.value in let k = c.requires.above in let l = c.requires.level in omega arith) c.loop-digit-test.true c.loop-digit.list.ok.0 c.visit.new.list.ok.0 c.loop-digit.invariant kid both
     (λ f. elim c.else-not-full.branch [
       | else-not-full-via-then-not-full+else-len-max w ↦ omega (arith, w.len.ensures, w.if-len-max.false)
@@ -104,17 +124,26 @@ returns-else-whole-clause-many g t c =
 
 pub returns-then-full-3-clause-list : goal.returns-then-full-3-clause-list
 returns-then-full-3-clause-list g t c =
-    let n = all_children (blocks c.args.whole (g.R.Region.holds c.args.region.now) (30 - c.args.level)) (30 - c.args.level) (depth_of c.args.placed.now.cell) (place_of c.args.placed.now.cell) c.loop-digit.digit c.args.list.now.items c.loop-digit.list.items (vec_len c.args.list.now) (vec_len c.loop-digit.list) c.loop-digit.full c.args.loose c.args.max c.len-before.result (let n = c.if-level.false in let v = c.level.ensures.value in let k = c.requires.above in let l = c.requires.level in omega arith) (let a = c.loop-digit-test.false in let b = c.loop-digit.auto.digit-end in omega arith) c.if-full-3.true c.args.list.now.ok.0 c.loop-digit.invariant in
-    let k = c.truncate.ensures.items ∙ kept (blocks c.args.whole (g.R.Region.holds c.args.region.now) (30 - c.args.level)) (30 - c.args.level) (depth_of c.args.placed.now.cell) (place_of c.args.placed.now.cell) c.loop-digit.digit c.args.list.now.items c.loop-digit.list.items (vec_len c.args.list.now) (vec_len c.loop-digit.list) c.loop-digit.full c.args.loose c.args.max c.len-before.result c.args.list.now.ok.0 c.loop-digit.invariant in
+    let S = blocks c.args.whole (g.R.Region.holds c.args.region.now) (30 - c.args.level) in
+    let grain = 30 - c.args.level in
+    let d = depth_of c.args.placed.now.cell in
+    let m = place_of c.args.placed.now.cell in
+    let n = all_children S grain d m c.loop-digit.digit c.args.list.now.items c.loop-digit.list.items (vec_len c.args.list.now) (vec_len c.loop-digit.list) c.loop-digit.full c.args.loose c.args.max c.len-before.result (let n = c.if-level.false in let v = c.level.ensures.value in let k = c.requires.above in let l = c.requires.level in omega arith) (let a = c.loop-digit-test.false in let b = c.loop-digit.auto.digit-end in omega arith) c.if-full-3.true c.args.list.now.ok.0 c.loop-digit.invariant in
+    let k = c.truncate.ensures.items ∙ kept S grain d m c.loop-digit.digit c.args.list.now.items c.loop-digit.list.items (vec_len c.args.list.now) (vec_len c.loop-digit.list) c.loop-digit.full c.args.loose c.args.max c.len-before.result c.args.list.now.ok.0 c.loop-digit.invariant in
     rw k at (one_more c.take-then-full-3.result c.truncate.new.self.items c.take-then-full-3.new.list.items _ c.args.placed.now.cell (n.cells ∙ ap (λ z. z ∷ []) (id_of c.args.placed.now.cell c.requires.placed.cell)) c.take-then-full-3.ensures.list)
 
 pub returns-then-full-3-clause-full : goal.returns-then-full-3-clause-full
 returns-then-full-3-clause-full g t c =
-    let n = all_children (blocks c.args.whole (g.R.Region.holds c.args.region.now) (30 - c.args.level)) (30 - c.args.level) (depth_of c.args.placed.now.cell) (place_of c.args.placed.now.cell) c.loop-digit.digit c.args.list.now.items c.loop-digit.list.items (vec_len c.args.list.now) (vec_len c.loop-digit.list) c.loop-digit.full c.args.loose c.args.max c.len-before.result (let n = c.if-level.false in let v = c.level.ensures.value in let k = c.requires.above in let l = c.requires.level in omega arith) (let a = c.loop-digit-test.false in let b = c.loop-digit.auto.digit-end in omega arith) c.if-full-3.true c.args.list.now.ok.0 c.loop-digit.invariant in
+    let S = blocks c.args.whole (g.R.Region.holds c.args.region.now) (30 - c.args.level) in
+    let n = all_children S (30 - c.args.level) (depth_of c.args.placed.now.cell) (place_of c.args.placed.now.cell) c.loop-digit.digit c.args.list.now.items c.loop-digit.list.items (vec_len c.args.list.now) (vec_len c.loop-digit.list) c.loop-digit.full c.args.loose c.args.max c.len-before.result (let n = c.if-level.false in let v = c.level.ensures.value in let k = c.requires.above in let l = c.requires.level in omega arith) (let a = c.loop-digit-test.false in let b = c.loop-digit.auto.digit-end in omega arith) c.if-full-3.true c.args.list.now.ok.0 c.loop-digit.invariant in
     is_full c.take-then-full-3.result _ true _ n.holds c.take-then-full-3.ensures.list
 
 pub returns-else-full-3-clause-list : goal.returns-else-full-3-clause-list
-returns-else-full-3-clause-list g t c = (some_children (blocks c.args.whole (g.R.Region.holds c.args.region.now) (30 - c.args.level)) (30 - c.args.level) (depth_of c.args.placed.now.cell) (place_of c.args.placed.now.cell) c.loop-digit.digit c.args.list.now.items c.loop-digit.list.items (vec_len c.args.list.now) (vec_len c.loop-digit.list) c.loop-digit.full c.args.loose c.args.max c.len-before.result (let n = c.if-level.false in let v = c.level.ensures.value in let k = c.requires.above in let l = c.requires.level in omega arith) (let a = c.loop-digit-test.false in let b = c.loop-digit.auto.digit-end in omega arith) c.if-full-3.false c.loop-digit.invariant).1
+returns-else-full-3-clause-list g t c =
+    let S = blocks c.args.whole (g.R.Region.holds c.args.region.now) (30 - c.args.level) in
+    (some_children S (30 - c.args.level) (depth_of c.args.placed.now.cell) (place_of c.args.placed.now.cell) c.loop-digit.digit c.args.list.now.items c.loop-digit.list.items (vec_len c.args.list.now) (vec_len c.loop-digit.list) c.loop-digit.full c.args.loose c.args.max c.len-before.result (let n = c.if-level.false in let v = c.level.ensures.value in let k = c.requires.above in let l = c.requires.level in omega arith) (let a = c.loop-digit-test.false in let b = c.loop-digit.auto.digit-end in omega arith) c.if-full-3.false c.loop-digit.invariant).1
 
 pub returns-else-full-3-clause-full : goal.returns-else-full-3-clause-full
-returns-else-full-3-clause-full g t c = (some_children (blocks c.args.whole (g.R.Region.holds c.args.region.now) (30 - c.args.level)) (30 - c.args.level) (depth_of c.args.placed.now.cell) (place_of c.args.placed.now.cell) c.loop-digit.digit c.args.list.now.items c.loop-digit.list.items (vec_len c.args.list.now) (vec_len c.loop-digit.list) c.loop-digit.full c.args.loose c.args.max c.len-before.result (let n = c.if-level.false in let v = c.level.ensures.value in let k = c.requires.above in let l = c.requires.level in omega arith) (let a = c.loop-digit-test.false in let b = c.loop-digit.auto.digit-end in omega arith) c.if-full-3.false c.loop-digit.invariant).0
+returns-else-full-3-clause-full g t c =
+    let S = blocks c.args.whole (g.R.Region.holds c.args.region.now) (30 - c.args.level) in
+    (some_children S (30 - c.args.level) (depth_of c.args.placed.now.cell) (place_of c.args.placed.now.cell) c.loop-digit.digit c.args.list.now.items c.loop-digit.list.items (vec_len c.args.list.now) (vec_len c.loop-digit.list) c.loop-digit.full c.args.loose c.args.max c.len-before.result (let n = c.if-level.false in let v = c.level.ensures.value in let k = c.requires.above in let l = c.requires.level in omega arith) (let a = c.loop-digit-test.false in let b = c.loop-digit.auto.digit-end in omega arith) c.if-full-3.false c.loop-digit.invariant).0
