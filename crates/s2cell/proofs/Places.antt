@@ -2,7 +2,7 @@
 use Rattle.std.proofs.Common.{◌≡◌, ℕ, suc, zero, ◌+◌, ◌*◌, ◌/◌, ◌%◌, ◌^◌, ◌<◌, refl, sym, ◌∙◌, ap, arith, subst, bit_xor}
 use Rattle.std.proofs.Math.Nat.{pow-suc}
 use Rattle.std.proofs.lemmas.Nat.{pow_pos, div_below, mod_below, div-add-mod'}
-use Rattle.s2cell.specs.Curve.{At, quadrant, turn}
+use Rattle.s2cell.specs.Curve.{At, IsPlaceOf, quadrant, turn, i_within, j_within, i_of, j_of}
 use Rattle.s2cell.proofs.CellLemmas.{four_pos}
 use Rattle.s2cell.proofs.Quadrants.{quadrant_below, turn_keeps, digit_of, digit_of_below, digit_of_quadrant, quadrant_of_digit}
 use Rattle.s2cell.proofs.Levels.{at_step, digit_below}
@@ -39,16 +39,22 @@ same_leaf (suc k) o n m x y ho (a, b, c, d, e) (a', b', c', d', e') =
     same_parts n m (4 ^ k) top low
 
 -- every leaf has a place
-pub place_exists : (k o n : ℕ) → o < 4 → n < 4 ^ k → (x : ℕ) × (y : ℕ) × At k o n x y
-unfolding At
-place_exists zero o n ho hn = (0, 0, (omega arith, refl, refl))
-place_exists (suc k) o n ho hn =
+pub at_within : (k o n : ℕ) → o < 4 → n < 4 ^ k → At k o n (i_within k o n) (j_within k o n)
+unfolding i_within j_within At
+at_within zero o n ho hn = (omega arith, refl, refl)
+at_within (suc k) o n ho hn =
     let hp = digit_below k n hn in
     let q = quadrant_below o (n / 4 ^ k) ho hp in
-    let deep = place_exists k (bit_xor o (turn (n / 4 ^ k))) (n % 4 ^ k) (turn_keeps o (n / 4 ^ k) ho hp) (mod_below n (4 ^ k) (four_pos k)) in
-    let Q = quadrant o (n / 4 ^ k) in
-    let s = at_step k o (n % 4 ^ k) deep.0 deep.1 (n / 4 ^ k) (Q / 2) (Q % 2) hp (omega arith) (omega arith) (omega arith) deep.2 in
-    (Q / 2 * 2 ^ k + deep.0, Q % 2 * 2 ^ k + deep.1, subst (λ (z : ℕ). At (suc k) o z (Q / 2 * 2 ^ k + deep.0) (Q % 2 * 2 ^ k + deep.1)) (div-add-mod' n (4 ^ k)) s)
+    let p = n / 4 ^ k in
+    let Q = quadrant o p in
+    let deep = at_within k (bit_xor o (turn p)) (n % 4 ^ k) (turn_keeps o p ho hp) (mod_below n (4 ^ k) (four_pos k)) in
+    let s = at_step k o (n % 4 ^ k) (i_within k (bit_xor o (turn p)) (n % 4 ^ k)) (j_within k (bit_xor o (turn p)) (n % 4 ^ k)) p (Q / 2) (Q % 2) hp (omega arith) (omega arith) (omega arith) deep in
+    subst (λ (z : ℕ). At (suc k) o z (i_within (suc k) o n) (j_within (suc k) o n)) (div-add-mod' n (4 ^ k)) s
+
+-- also of those of a face
+pub place_is : (n : ℕ) → IsPlaceOf n (n / 4 ^ 30) (i_of n) (j_of n)
+unfolding i_of j_of
+place_is n = record { face_is = refl; at = at_within 30 (n / 4 ^ 30 % 2) (n % 4 ^ 30) (omega arith) (omega arith) }
 
 -- every place has a leaf
 pub leaf_exists : (k o x y : ℕ) → o < 4 → x < 2 ^ k → y < 2 ^ k → (n : ℕ) × At k o n x y

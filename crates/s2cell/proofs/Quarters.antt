@@ -3,13 +3,13 @@ use Rattle.std.proofs.Common.{◌≡◌, ℕ, ◌+◌, ◌-◌, ◌*◌, ◌/◌
 use Rattle.std.proofs.Math.Nat.{div-one}
 use Rattle.std.proofs.lemmas.Nat.{pow-add, mod_below}
 use Rattle.s2cell.specs.Cell.{IsCell, IsCellAt, level_of, place_of, face_of, child_of}
-use Rattle.s2cell.specs.Curve.{At, orientation_after, quadrant, turn}
+use Rattle.s2cell.specs.Curve.{At, orientation_after, quadrant, turn, i_within, j_within}
 use Rattle.s2cell.specs.Square.{IsSquareOf, IsPlaced, orientation_of}
 use Rattle.s2cell.proofs.CellLemmas.{four_pos, level_of_cell, place_of_cell}
 use Rattle.s2cell.proofs.Calls.{IsCellAt-child_of, IsCell-child_of}
 use Rattle.s2cell.proofs.Quadrants.{quadrant_below}
 use Rattle.s2cell.proofs.Levels.{orientation_below, blocks}
-use Rattle.s2cell.proofs.Places.{place_exists}
+use Rattle.s2cell.proofs.Places.{at_within}
 use Rattle.s2cell.proofs.Walk.{Way, way_one, way_join}
 use Rattle.s2cell.proofs.Squares.{square_from_place, one_square}
 
@@ -73,8 +73,7 @@ child_way c p x y ic h hp at =
 pub orientation_of_child : (c p : ℕ) → IsCell c → level_of c < 30 → p < 4 → orientation_of (child_of c p) ≡ bit_xor (orientation_of c) (turn p)
 unfolding orientation_of
 orientation_of_child c p ic h hp =
-    let there = place_exists (level_of c) (face_of c % 2) (place_of c % 4 ^ level_of c) (omega arith) (within_face c) in
-    sym (child_way c p there.0 there.1 ic h hp there.2).orientation
+    sym (child_way c p _ _ ic h hp (at_within (level_of c) (face_of c % 2) (place_of c % 4 ^ level_of c) (omega arith) (within_face c))).orientation
 
 -- a child's square is the quadrant of the cell's that its digit picks
 pub square_of_child : (c p face i j size : ℕ) → IsCell c → level_of c < 30 → p < 4 → IsSquareOf c face i j size
@@ -82,10 +81,10 @@ pub square_of_child : (c p face i j size : ℕ) → IsCell c → level_of c < 30
 square_of_child c p face i j size ic h hp sq =
     let k = level_of c in
     let q = quadrant (orientation_of c) p in
-    let there = place_exists k (face_of c % 2) (place_of c % 4 ^ k) (omega arith) (within_face c) in
-    let x = there.0 in
-    let y = there.1 in
-    let own = one_square c face i j size (face_of c) (x * 2 ^ (30 - k)) (y * 2 ^ (30 - k)) (2 ^ (30 - k)) ic sq (square_from_place c x y ic there.2) in
+    let x = i_within k (face_of c % 2) (place_of c % 4 ^ k) in
+    let y = j_within k (face_of c % 2) (place_of c % 4 ^ k) in
+    let there = at_within k (face_of c % 2) (place_of c % 4 ^ k) (omega arith) (within_face c) in
+    let own = one_square c face i j size (face_of c) (x * 2 ^ (30 - k)) (y * 2 ^ (30 - k)) (2 ^ (30 - k)) ic sq (square_from_place c x y ic there) in
     let s = child_stands c p ic h hp in
     let lower : 30 - (k + 1) + 1 ≡ 30 - k = omega arith in
     let two : 2 ^ (30 - k) ≡ 2 ^ (30 - (k + 1)) * 2 = ap (λ z. 2 ^ z) (sym lower) ∙ pow-add 2 (30 - (k + 1)) 1 in
@@ -97,7 +96,7 @@ square_of_child c p face i j size ic h hp sq =
     let big_y : y * 2 ^ (30 - k) ≡ y * (half * 2) = ap (λ z. y * z) two in
     let ei : (2 * x + q / 2) * half ≡ i + q / 2 * half = omega arith in
     let ej : (2 * y + q % 2) * half ≡ j + q % 2 * half = omega arith in
-    let made = square_from_place (child_of c p) (2 * x + q / 2) (2 * y + q % 2) (IsCell-child_of c p (child_of c p) ic h hp refl) (child_way c p x y ic h hp there.2).at in
+    let made = square_from_place (child_of c p) (2 * x + q / 2) (2 * y + q % 2) (IsCell-child_of c p (child_of c p) ic h hp refl) (child_way c p x y ic h hp there).at in
     let made2 = rw (s.level, ei, ej, s.face) at made in
     rw (eh, own.face) made2
 

@@ -4,13 +4,13 @@ use Rattle.std.proofs.Math.Nat.{div-eq_of_lt-le, mul-le-mul_right}
 use Rattle.std.proofs.lemmas.Nat.{pow_pos, pow-add, pow_below, one_shl, div-mul-add, mod-mul-add, mod_below, div-add-mod'}
 use Rattle.std.proofs.lemmas.Nat.Bits.{and_high_mask}
 use Rattle.s2cell.specs.Cell.{IsCell, IsCellAt, level_of, place_of, face_of, first_leaf, covers}
-use Rattle.s2cell.specs.Curve.{At, IsPlaceOf, AreNeighbours}
+use Rattle.s2cell.specs.Curve.{At, IsPlaceOf, AreNeighbours, i_within, j_within}
 use Rattle.s2cell.specs.Square.{InSquare, IsSquareOf}
 use Rattle.s2cell.proofs.CellLemmas.{four_pos, own_place, cell_leaves, first_leaf_of_cell, size_of_cell, level_of_cell, all_leaves}
 use Rattle.s2cell.proofs.Calls.{leaf_cell}
 use Rattle.s2cell.proofs.Leaves.{covers_there, covers_from}
 use Rattle.s2cell.proofs.Levels.{at_bounds, at_above, parts}
-use Rattle.s2cell.proofs.Places.{same_place, same_leaf, same_parts, place_exists, leaf_exists}
+use Rattle.s2cell.proofs.Places.{same_place, same_leaf, same_parts, at_within, leaf_exists}
 use Rattle.s2cell.proofs.Steps.{next_to}
 
 -- ---- the leaves of a cell, counted from the first leaf of its face
@@ -90,12 +90,12 @@ square_from_place c x y ic way =
       leaves = λ n h.
           let l = leaf_below k m n hk (covered_block c k m n own h) in
           let low : n % 4 ^ 30 < 4 ^ 30 = omega arith in
-          let there = place_exists 30 o (n % 4 ^ 30) ho low in
-          let u = there.0 in
-          let v = there.1 in
-          let up = at_above k b o (n % 4 ^ 30) u v (subst (λ (z : ℕ). At z o (n % 4 ^ 30) u v) ek there.2) in
+          let there = at_within 30 o (n % 4 ^ 30) ho low in
+          let u = i_within 30 o (n % 4 ^ 30) in
+          let v = j_within 30 o (n % 4 ^ 30) in
+          let up = at_above k b o (n % 4 ^ 30) u v (subst (λ (z : ℕ). At z o (n % 4 ^ 30) u v) ek there) in
           let same = same_place k o (m % 4 ^ k) (u / 2 ^ b) (v / 2 ^ b) x y (subst (λ (z : ℕ). At k o z (u / 2 ^ b) (v / 2 ^ b)) l.within up) way in
-          (u, v, record { face_is = sym l.face; at = there.2 }, record { first = in_block u x (2 ^ b) same.0 hs; second = in_block v y (2 ^ b) same.1 hs });
+          (u, v, record { face_is = sym l.face; at = there }, record { first = in_block u x (2 ^ b) same.0 hs; second = in_block v y (2 ^ b) same.1 hs });
       places = λ u v h.
           let a = h.first.1 in
           let d = h.second.1 in
@@ -188,7 +188,8 @@ place_of_leaf f n i j at =
     let rest : (4 ^ 30 * f + n) % 4 ^ 30 ≡ n = omega arith in
     record { face_is = sym whole; at = rw rest at }
 
-first_leaf_covered : (c : ℕ) → IsCell c → covers c (first_leaf c) ≡ true
+-- a cell has a leaf
+pub first_leaf_covered : (c : ℕ) → IsCell c → covers c (first_leaf c) ≡ true
 first_leaf_covered c ic = let s = (cell_leaves c ic).some in covers_there c (first_leaf c) (omega arith) (omega arith)
 
 -- from the place of the cell's first leaf

@@ -1,35 +1,10 @@
 -- Every entry of the two tables, by a test that computes.
-use Rattle.std.proofs.Common.{◌≡◌, ℕ, suc, zero, ◌+◌, ◌*◌, ◌/◌, ◌%◌, ◌^◌, ◌<◌, Bool, true, ◌&&◌, ◌==◌, nat_lt, List, [], ◌∷◌, length, get_or, refl, sym, arith, subst, bit_xor, eqb-true, ltb-true}
+use Rattle.std.proofs.Common.{◌≡◌, ℕ, suc, zero, ◌+◌, ◌*◌, ◌/◌, ◌%◌, ◌^◌, ◌<◌, Bool, true, ◌&&◌, ◌==◌, nat_lt, List, [], ◌∷◌, length, get_or, refl, sym, arith, subst, eqb-true, ltb-true}
 use Rattle.std.proofs.lemmas.Bool.{and_parts}
-use Rattle.std.proofs.lemmas.Nat.{div-add-mod', mod_below}
 use Rattle.s2cell.specs.declared.tables.TheConstants.{PLACES, LEAVES}
-use Rattle.s2cell.specs.Curve.{At, orientation_after, quadrant, quadrants, turn}
-use Rattle.s2cell.specs.Entries.{IsPlaceEntry, IsLeafEntry}
-use Rattle.s2cell.proofs.CellLemmas.{four_pos}
-use Rattle.s2cell.proofs.Quadrants.{quadrant_below, turn_keeps}
-use Rattle.s2cell.proofs.Levels.{at_step, digit_below}
-
--- the place of a leaf, computed: its first coordinate
-unfoldable pub first_of : ℕ → ℕ → ℕ → ℕ
-first_of zero o n = 0
-first_of (suc k) o n = quadrant o (n / 4 ^ k) / 2 * 2 ^ k + first_of k (bit_xor o (turn (n / 4 ^ k))) (n % 4 ^ k)
-
--- and its second
-unfoldable pub second_of : ℕ → ℕ → ℕ → ℕ
-second_of zero o n = 0
-second_of (suc k) o n = quadrant o (n / 4 ^ k) % 2 * 2 ^ k + second_of k (bit_xor o (turn (n / 4 ^ k))) (n % 4 ^ k)
-
-pub at_computed : (k o n : ℕ) → o < 4 → n < 4 ^ k → At k o n (first_of k o n) (second_of k o n)
-unfolding first_of second_of At
-at_computed zero o n ho hn = (omega arith, refl, refl)
-at_computed (suc k) o n ho hn =
-    let hp = digit_below k n hn in
-    let q = quadrant_below o (n / 4 ^ k) ho hp in
-    let p = n / 4 ^ k in
-    let Q = quadrant o p in
-    let deep = at_computed k (bit_xor o (turn p)) (n % 4 ^ k) (turn_keeps o p ho hp) (mod_below n (4 ^ k) (four_pos k)) in
-    let s = at_step k o (n % 4 ^ k) (first_of k (bit_xor o (turn p)) (n % 4 ^ k)) (second_of k (bit_xor o (turn p)) (n % 4 ^ k)) p (Q / 2) (Q % 2) hp (omega arith) (omega arith) (omega arith) deep in
-    subst (λ (z : ℕ). At (suc k) o z (first_of (suc k) o n) (second_of (suc k) o n)) (div-add-mod' n (4 ^ k)) s
+use Rattle.s2cell.specs.Curve.{At, orientation_after, quadrant, quadrants, turn, i_within, j_within}
+use Rattle.s2cell.specs.Entries.{IsPlaceEntry, IsLeafEntry, word_i, word_j}
+use Rattle.s2cell.proofs.Places.{at_within}
 
 -- each entry of a list passes a test with its index, counted from `i`
 unfoldable pub entries_pass : (ℕ → ℕ → Bool) → ℕ → List ℕ → Bool
@@ -48,35 +23,35 @@ entry_passes p i (e ∷ es) (suc k) h lt =
 
 -- an entry, taken apart, is a place and an orientation
 unfoldable pub place_test : ℕ → ℕ → ℕ → Bool
-place_test o n e = (first_of 4 o n == e / 64) && (second_of 4 o n == e / 4 % 16) && (orientation_after 4 o n == e % 4)
+place_test o n e = (i_within 4 o n == word_i e) && (j_within 4 o n == word_j e) && (orientation_after 4 o n == e / 2 ^ 62)
 
 pub place_test-true : (o n e : ℕ) → o < 4 → n < 4 ^ 4 → place_test o n e ≡ true → IsPlaceEntry o n e
 unfolding place_test
 place_test-true o n e ho hn h =
-    let outer = and_parts ((first_of 4 o n == e / 64) && (second_of 4 o n == e / 4 % 16)) (orientation_after 4 o n == e % 4) h in
-    let inner = and_parts (first_of 4 o n == e / 64) (second_of 4 o n == e / 4 % 16) outer.0 in
-    let x : first_of 4 o n ≡ e / 64 = eqb-true (first_of 4 o n) (e / 64) inner.0 in
-    let y : second_of 4 o n ≡ e / 4 % 16 = eqb-true (second_of 4 o n) (e / 4 % 16) inner.1 in
-    let t : orientation_after 4 o n ≡ e % 4 = eqb-true (orientation_after 4 o n) (e % 4) outer.1 in
-    let way = at_computed 4 o n ho hn in
-    record { place = subst (λ (z : ℕ). At 4 o n z (e / 4 % 16)) x (subst (λ (z : ℕ). At 4 o n (first_of 4 o n) z) y way); next = sym t }
+    let outer = and_parts ((i_within 4 o n == word_i e) && (j_within 4 o n == word_j e)) (orientation_after 4 o n == e / 2 ^ 62) h in
+    let inner = and_parts (i_within 4 o n == word_i e) (j_within 4 o n == word_j e) outer.0 in
+    let x : i_within 4 o n ≡ word_i e = eqb-true (i_within 4 o n) (word_i e) inner.0 in
+    let y : j_within 4 o n ≡ word_j e = eqb-true (j_within 4 o n) (word_j e) inner.1 in
+    let t : orientation_after 4 o n ≡ e / 2 ^ 62 = eqb-true (orientation_after 4 o n) (e / 2 ^ 62) outer.1 in
+    let way = at_within 4 o n ho hn in
+    record { place = subst (λ (z : ℕ). At 4 o n z (word_j e)) x (subst (λ (z : ℕ). At 4 o n (i_within 4 o n) z) y way); next = sym t }
 
 unfoldable pub leaf_test : ℕ → ℕ → ℕ → ℕ → Bool
-leaf_test o x y e = nat_lt (e / 4) 256 && (first_of 4 o (e / 4) == x) && (second_of 4 o (e / 4) == y) && (orientation_after 4 o (e / 4) == e % 4)
+leaf_test o x y e = nat_lt (e / 4) 256 && (i_within 4 o (e / 4) == x) && (j_within 4 o (e / 4) == y) && (orientation_after 4 o (e / 4) == e % 4)
 
 pub leaf_test-true : (o x y e : ℕ) → o < 4 → leaf_test o x y e ≡ true → IsLeafEntry o x y e
 unfolding leaf_test
 leaf_test-true o x y e ho h =
     let n = e / 4 in
-    let one = and_parts ((nat_lt n 256 && (first_of 4 o n == x)) && (second_of 4 o n == y)) (orientation_after 4 o n == e % 4) h in
-    let two = and_parts (nat_lt n 256 && (first_of 4 o n == x)) (second_of 4 o n == y) one.0 in
-    let three = and_parts (nat_lt n 256) (first_of 4 o n == x) two.0 in
+    let one = and_parts ((nat_lt n 256 && (i_within 4 o n == x)) && (j_within 4 o n == y)) (orientation_after 4 o n == e % 4) h in
+    let two = and_parts (nat_lt n 256 && (i_within 4 o n == x)) (j_within 4 o n == y) one.0 in
+    let three = and_parts (nat_lt n 256) (i_within 4 o n == x) two.0 in
     let hn : n < 256 = ltb-true n 256 three.0 in
-    let hx : first_of 4 o n ≡ x = eqb-true (first_of 4 o n) x three.1 in
-    let hy : second_of 4 o n ≡ y = eqb-true (second_of 4 o n) y two.1 in
+    let hx : i_within 4 o n ≡ x = eqb-true (i_within 4 o n) x three.1 in
+    let hy : j_within 4 o n ≡ y = eqb-true (j_within 4 o n) y two.1 in
     let t : orientation_after 4 o n ≡ e % 4 = eqb-true (orientation_after 4 o n) (e % 4) one.1 in
-    let way = at_computed 4 o n ho hn in
-    record { leaf = subst (λ (z : ℕ). At 4 o n z y) hx (subst (λ (z : ℕ). At 4 o n (first_of 4 o n) z) hy way); next = sym t }
+    let way = at_within 4 o n ho hn in
+    record { leaf = subst (λ (z : ℕ). At 4 o n z y) hx (subst (λ (z : ℕ). At 4 o n (i_within 4 o n) z) hy way); next = sym t }
 
 -- each entry of the first table passes, at its index 4 * digits + orientation
 unfoldable pub all_places : List ℕ → Bool
@@ -87,11 +62,11 @@ unfoldable pub all_leaves : List ℕ → Bool
 all_leaves es = entries_pass (λ i e. leaf_test (i % 4) (i / 64) (i / 4 % 16) e) 0 es
 
 places_ok : all_places PLACES ≡ true
-unfolding all_places place_test entries_pass first_of second_of orientation_after turn quadrant quadrants
+unfolding all_places place_test entries_pass i_within j_within orientation_after turn quadrant quadrants
 places_ok = refl
 
 leaves_ok : all_leaves LEAVES ≡ true
-unfolding all_leaves leaf_test entries_pass first_of second_of orientation_after turn quadrant quadrants
+unfolding all_leaves leaf_test entries_pass i_within j_within orientation_after turn quadrant quadrants
 leaves_ok = refl
 
 place_at_index : (es : List ℕ) → all_places es ≡ true → (o n : ℕ) → o < 4 → n < 256 → 4 * n + o < length es → IsPlaceEntry o n (get_or es (4 * n + o) 0)

@@ -3,7 +3,7 @@ use Rattle.std.proofs.Common.{◌≡◌, ℕ, ◌+◌, ◌-◌, ◌*◌, ◌/◌
 use Rattle.std.proofs.Math.Nat.{div-div-eq-div-mul, div-eq_of_lt, div-one, pow-le-pow_right}
 use Rattle.std.proofs.lemmas.Nat.{pow-add, div-add-mod'}
 use Rattle.s2cell.specs.Curve.{At, orientation_after, quadrant, turn}
-use Rattle.s2cell.specs.Entries.{IsPlaceEntry, IsLeafEntry}
+use Rattle.s2cell.specs.Entries.{IsPlaceEntry, IsLeafEntry, word_i, word_j}
 use Rattle.s2cell.proofs.Quadrants.{turn_keeps}
 use Rattle.s2cell.proofs.Levels.{at_bounds, at_step, at_join, orientation_join}
 
@@ -49,8 +49,8 @@ way_one o p a b t ho hp ha hb q et =
     }
 
 -- four levels by an entry of the first table
-pub way_by_place : (o n e : ℕ) → IsPlaceEntry o n e → Way 4 o n (e / 64) (e / 4 % 16) (e % 4)
-way_by_place o n e entry = record { at = entry.place; orientation = entry.next; below = omega arith }
+pub way_by_place : (o n e : ℕ) → e < 2 ^ 64 → IsPlaceEntry o n e → Way 4 o n (word_i e) (word_j e) (e / 2 ^ 62)
+way_by_place o n e he entry = record { at = entry.place; orientation = entry.next; below = omega arith }
 
 -- four levels by an entry of the second table
 pub way_by_leaf : (o x y e : ℕ) → IsLeafEntry o x y e → Way 4 o (e / 4) x y (e % 4)
@@ -139,16 +139,16 @@ to_place_one k o n x y t p e a b u hk ho w ep picked turned he ea eb eu =
     to_place_more k 1 o n x y t a b u (2 * x + a) (2 * y + b) (omega arith) w (rw (s, ← ep) one) (omega arith) (omega arith)
 
 -- four levels more by an entry
-pub to_place_four : (b o n x y t d e u v r : ℕ) → b < 7 → WayToPlace (2 + 4 * b) o n x y t
-    → d ≡ n / 4 ^ (24 - 4 * b) % 256 → IsPlaceEntry t d e → u ≡ e / 64 → v ≡ e / 4 % 16 → r ≡ e % 4
-    → WayToPlace (2 + 4 * (b + 1)) o n (16 * x + u) (16 * y + v) r
-to_place_four b o n x y t d e u v r hb w ed entry eu ev er =
+to_place_four : (b o n x y t d e : ℕ) → b < 7 → WayToPlace (2 + 4 * b) o n x y t
+    → d ≡ n / 4 ^ (24 - 4 * b) % 256 → e < 2 ^ 64 → IsPlaceEntry t d e
+    → WayToPlace (2 + 4 * (b + 1)) o n (16 * x + word_i e) (16 * y + word_j e) (e / 2 ^ 62)
+to_place_four b o n x y t d e hb w ed he entry =
     let k = 2 + 4 * b in
     let es : 30 - (k + 4) ≡ 24 - 4 * b = omega arith in
     let ek : k + 4 ≡ 2 + 4 * (b + 1) = omega arith in
-    let four = way_by_place t d e entry in
-    subst (λ z. WayToPlace z o n (16 * x + u) (16 * y + v) r) ek
-    (to_place_more k 4 o n x y t u v r (16 * x + u) (16 * y + v) (omega arith) w (rw (es, ← ed, eu, ev, er) four) (omega arith) (omega arith))
+    let four = way_by_place t d e he entry in
+    subst (λ z. WayToPlace z o n (16 * x + word_i e) (16 * y + word_j e) (e / 2 ^ 62)) ek
+    (to_place_more k 4 o n x y t (word_i e) (word_j e) (e / 2 ^ 62) (16 * x + word_i e) (16 * y + word_j e) (omega arith) w (rw (es, ← ed) four) (omega arith) (omega arith))
 
 -- the coordinates stay small
 pub to_place_small : (k a o n x y t : ℕ) → k ≤ a → WayToPlace k o n x y t → (x < 2 ^ a) × (y < 2 ^ a)
@@ -161,3 +161,41 @@ to_place_small k a o n x y t h w =
 
 pub to_place_end : (k o n x y t : ℕ) → k ≡ 30 → WayToPlace k o n x y t → At 30 o n x y
 to_place_end k o n x y t e w = rw (div-one n) at (let v : WayToPlace 30 o n x y t = subst (λ z. WayToPlace z o n x y t) e w in v.at)
+
+-- ---- the place in a word
+
+-- the way has come `k` levels down to the place of the leaf n, in the word `w`
+abbrev pub WordToPlace : ℕ → ℕ → ℕ → ℕ → ℕ → Type 0
+WordToPlace k o n w t = WayToPlace k o n (word_i w) (word_j w) t
+
+-- two coordinates, put into a word
+pub word_start : (k o n i j t : ℕ) → k ≤ 30 → WayToPlace k o n i j t → WordToPlace k o n (i * 2 ^ 32 % 2 ^ 64 + j) t
+word_start k o n i j t hk w =
+    let s = to_place_small k 30 o n i j t hk w in
+    let a = s.0 in
+    let b = s.1 in
+    let ei : word_i (i * 2 ^ 32 % 2 ^ 64 + j) ≡ i = omega arith in
+    let ej : word_j (i * 2 ^ 32 % 2 ^ 64 + j) ≡ j = omega arith in
+    rw (ei, ej) w
+
+-- a word that has moved up by four bits and taken an entry
+pub record Moved (w e : ℕ) : Type 0 where
+  pub first : word_i (w * 16 % 2 ^ 64 + e) ≡ 16 * word_i w + word_i e
+  pub second : word_j (w * 16 % 2 ^ 64 + e) ≡ 16 * word_j w + word_j e
+  pub fits : w * 16 % 2 ^ 64 + e < 2 ^ 64
+
+moved : (w e : ℕ) → w < 2 ^ 64 → word_i w < 2 ^ 26 → word_j w < 2 ^ 26 → e < 2 ^ 64 → word_i e < 16 → word_j e < 16 → Moved w e
+moved w e a b c d x y = record { first = omega arith; second = omega arith; fits = omega arith }
+
+pub word_moved : (b o n w t d e : ℕ) → b < 7 → w < 2 ^ 64 → WordToPlace (2 + 4 * b) o n w t → e < 2 ^ 64 → IsPlaceEntry t d e → Moved w e
+word_moved b o n w t d e hb hw way he entry =
+    let s = to_place_small (2 + 4 * b) 26 o n (word_i w) (word_j w) t (omega arith) way in
+    let u = at_bounds 4 t d (word_i e) (word_j e) entry.place in
+    moved w e hw s.0 s.1 he u.first u.second
+
+-- four levels more by an entry
+pub word_four : (b o n w t d e : ℕ) → b < 7 → w < 2 ^ 64 → WordToPlace (2 + 4 * b) o n w t → d ≡ n / 4 ^ (24 - 4 * b) % 256 → e < 2 ^ 64 → IsPlaceEntry t d e
+    → WordToPlace (2 + 4 * (b + 1)) o n (w * 16 % 2 ^ 64 + e) (e / 2 ^ 62)
+word_four b o n w t d e hb hw way ed he entry =
+    let m = word_moved b o n w t d e hb hw way he entry in
+    rw (m.first, m.second) (to_place_four b o n (word_i w) (word_j w) t d e hb way ed he entry)

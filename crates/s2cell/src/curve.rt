@@ -45,6 +45,9 @@ impl CellId {
     /// The cell's leaves stand at all places of the square, and at no other. Of a leaf the square is
     /// its one place with the size 1, and the next leaf of the face lies beside it. A walk down
     /// through many cells carries the squares with it instead (`PlacedCell`).
+    ///
+    /// Written into its callers, so that the square stays in registers.
+    #[inline(always)]
     pub fn square(self) -> Square
         ensures square { IsSquareOf self result.face result.i result.j result.size }
         ensures leaf { level_of self ≡ 30

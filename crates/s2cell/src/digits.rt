@@ -1,5 +1,5 @@
 //! Digits as bytes, in both directions.
-ghost use Rattle.std.specs.Prelude.{◌≡◌, ◌<◌, slice_index};
+ghost use Rattle.std.specs.Prelude.{◌≡◌, ◌<◌};
 ghost use Rattle.std.specs.Char.{digit_char, digit_value};
 
 /// What each byte counts as a digit: 0 to 9, then the letters of either case from 10 on, and 36 for
@@ -29,14 +29,7 @@ static DIGIT_VALUES: [u8; 256] = [
 pub(crate) fn value_of_digit(byte: u8) -> u8
     ensures { result ≡ digit_value byte }
 {
-    entry(&DIGIT_VALUES, byte)
-}
-
-/// The entry of a table for a byte.
-fn entry(table: &[u8; 256], byte: u8) -> u8
-    ensures { result ≡ slice_index table.now byte }
-{
-    table[byte as usize]
+    DIGIT_VALUES[byte as usize]
 }
 
 /// The digit that counts `value`, a letter in lower case from 10 on.

@@ -114,6 +114,9 @@ pub fn leaf_at(start: u8, i: u32, j: u32) -> u64
 
 /// The place of a leaf, counted from the first leaf of its face, whose curve starts at the
 /// orientation `start`.
+///
+/// Both coordinates are gathered in one word, as the entries have them: i from bit 32 on, j from
+/// bit 0 on. As the word moves up by four bits, the orientation of the entry before falls out.
 pub fn place_at(start: u8, leaf: u64) -> (u32, u32)
     requires start { start < 4 }
     requires leaf { leaf < 4 ^ 30 }
@@ -121,12 +124,15 @@ pub fn place_at(start: u8, leaf: u64) -> (u32, u32)
     ensures i { result.0 < 2 ^ 30 }
     ensures j { result.1 < 2 ^ 30 }
 {
-    let (mut i, mut j, mut orientation) = first_bits(start, leaf);
+    let (i, j, mut orientation) = first_bits(start, leaf);
+    let mut place = (u64::from(i) << 32) + u64::from(j);
     for block in 0..7u32 {
         let entry = tables::place_entry(orientation, four_digits(leaf, 24 - 4 * block));
-        i = 16 * i + u32::from(entry >> 6);
-        j = 16 * j + u32::from((entry >> 2) & 15);
-        orientation = (entry & 3) as u8;
+        place = (place << 4) + entry;
+        orientation = (entry >> 62) as u8;
     }
-    (i, j)
+    (
+        ((place >> 32) % (1 << 30)) as u32,
+        (place % (1 << 32)) as u32,
+    )
 }

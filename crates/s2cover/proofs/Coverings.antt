@@ -1,14 +1,13 @@
 -- The covering sets, by cells.
 use Rattle.std.proofs.Common.{◌≡◌, ℕ, suc, zero, ◌+◌, ◌-◌, ◌*◌, ◌/◌, ◌^◌, ◌<◌, ◌≤◌, Bool, true, false, ◌||◌, nat_lt, refl, sym, ◌∙◌, ap, arith, ⊎_elim}
-use Rattle.std.proofs.lemmas.Bool.{and_parts, and_from, cases_Bool, both_ways, true_from_ne_false}
-use Rattle.std.proofs.lemmas.Bool.Decides.{nat_tests}
+use Rattle.std.proofs.lemmas.Bool.{ltb-true, lt-ltb, and_parts, and_from, cases_Bool, both_ways, true_from_ne_false}
 use Rattle.std.proofs.lemmas.Nat.{div_below, div-add-mod', mod_below}
 use Rattle.s2cell.specs.Cell.{IsCell, IsCellAt, level_of, place_of, covers, id_at}
-use Rattle.s2cell.proofs.CellLemmas.{cell_leaves, level_of_cell, own_place, all_leaves}
+use Rattle.s2cell.proofs.CellLemmas.{four_pos, cell_leaves, level_of_cell, own_place, all_leaves}
 use Rattle.s2cell.proofs.Leaves.{covers_from}
 use Rattle.s2cell.proofs.Squares.{covered_block, covers_block}
 use Rattle.s2cover.specs.Coverings.{filled, touched, outer_set, inner_set, IsInOuter, IsInInner}
-use Rattle.s2cover.proofs.Runs.{four_pos, filled_each, filled_from, touched_none, block_here}
+use Rattle.s2cover.proofs.Runs.{filled_each, filled_from, touched_none, block_here}
 
 -- a leaf where a run touches the set
 pub record Touch (S : ℕ → Bool) (lo n : ℕ) : Type 0 where
@@ -47,18 +46,12 @@ leaf_limit c x i v = let w = (cell_leaves c i).within in let r = covers_from c x
 own_block : (k x : ℕ) → (x / 4 ^ (30 - k) * 4 ^ (30 - k) ≤ x) × (x < x / 4 ^ (30 - k) * 4 ^ (30 - k) + 4 ^ (30 - k))
 own_block k x = let s = div-add-mod' x (4 ^ (30 - k)) in let r = mod_below x (4 ^ (30 - k)) (four_pos (30 - k)) in (omega arith, omega arith)
 
-pub limit_test : (x : ℕ) → x < 6 * 4 ^ 30 → nat_lt x (6 * 4 ^ 30) ≡ true
-limit_test x h = grind (arith, nat_tests)
-
-limit_from : (x : ℕ) → nat_lt x (6 * 4 ^ 30) ≡ true → x < 6 * 4 ^ 30
-limit_from x h = grind (arith, nat_tests)
-
 pub outer_in : (R : ℕ → Bool) (k x : ℕ) → k ≤ 30 → outer_set R k x ≡ true → IsInOuter R k x
 unfolding outer_set
 outer_in R k x h t =
     let both = and_parts (nat_lt x (6 * 4 ^ 30)) (touched R (x / 4 ^ (30 - k) * 4 ^ (30 - k)) (4 ^ (30 - k))) t in
     let m = x / 4 ^ (30 - k) in
-    let at = around_leaf k x h (limit_from x both.0) in
+    let at = around_leaf k x h (ltb-true x (6 * 4 ^ 30) both.0) in
     let c = id_at k m in
     let w = touched_some R (m * 4 ^ (30 - k)) (4 ^ (30 - k)) both.1 in
     (c, (k, m, at), level_of_cell k m c at, covers_block c k m x at refl, (w.leaf, covers_block c k m w.leaf at (block_here w.leaf m (30 - k) w.after w.before), w.holds))
@@ -66,7 +59,7 @@ outer_in R k x h t =
 pub outer_from : (R : ℕ → Bool) (k x : ℕ) → IsInOuter R k x → outer_set R k x ≡ true
 unfolding outer_set
 outer_from R k x (c, i, lv, v, (y, w, r)) =
-    let l = limit_test x (leaf_limit c x i v) in
+    let l = lt-ltb x (6 * 4 ^ 30) (leaf_limit c x i v) in
     let o = own_place c i in
     let bx = covered_block c (level_of c) (place_of c) x o v in
     let by = covered_block c (level_of c) (place_of c) y o w in
@@ -84,7 +77,7 @@ unfolding inner_set
 inner_in R k x h t =
     let both = and_parts (nat_lt x (6 * 4 ^ 30)) (filled R (x / 4 ^ (30 - k) * 4 ^ (30 - k)) (4 ^ (30 - k))) t in
     let m = x / 4 ^ (30 - k) in
-    let at = around_leaf k x h (limit_from x both.0) in
+    let at = around_leaf k x h (ltb-true x (6 * 4 ^ 30) both.0) in
     let c = id_at k m in (
       c,
       (k, m, at),
@@ -101,7 +94,7 @@ inner_in R k x h t =
 pub inner_from : (R : ℕ → Bool) (k x : ℕ) → IsInInner R k x → inner_set R k x ≡ true
 unfolding inner_set
 inner_from R k x (c, i, lv, v, inside) =
-    let l = limit_test x (leaf_limit c x i v) in
+    let l = lt-ltb x (6 * 4 ^ 30) (leaf_limit c x i v) in
     let o = own_place c i in
     let bx = ap (λ z. x / 4 ^ (30 - z)) (sym lv) ∙ covered_block c (level_of c) (place_of c) x o v in
     and_from (nat_lt x (6 * 4 ^ 30)) (filled R (x / 4 ^ (30 - k) * 4 ^ (30 - k)) (4 ^ (30 - k))) l

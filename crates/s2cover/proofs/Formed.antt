@@ -1,18 +1,19 @@
 -- The cells that a descent finds are the greatest in the set, follow each other, and have its leaves.
-use Rattle.std.proofs.Common.{◌≡◌, ℕ, suc, zero, ◌+◌, ◌-◌, ◌*◌, ◌/◌, ◌%◌, ◌^◌, ◌<◌, ◌≤◌, Bool, true, false, ◌&&◌, ◌||◌, nat_lt, List, [], ◌∷◌, ◌++◌, length, get_or, All, AllPairs, refl, sym, ◌∙◌, ap, arith, subst, ⊎_elim, length-append, Option, None, Some}
-use Rattle.std.specs.Option.{SomeIff, IsSome}
-use Rattle.std.proofs.lemmas.Bool.{cases_Bool, both_ways, cond-false, false_from_ne_true, and_parts}
+use Rattle.std.proofs.Common.{◌≡◌, ℕ, suc, zero, ◌+◌, ◌-◌, ◌*◌, ◌/◌, ◌^◌, ◌<◌, ◌≤◌, Bool, true, false, ◌&&◌, ◌||◌, nat_lt, List, [], ◌∷◌, ◌++◌, length, get_or, All, AllPairs, refl, sym, ◌∙◌, ap, arith, subst, ⊎_elim, length-append}
+use Rattle.std.proofs.lemmas.Bool.{and_right, lt-ltb, cases_Bool, both_ways, cond-false, false_from_ne_true, and_parts}
 use Rattle.std.proofs.lemmas.Bool.Decides.{nat_tests}
 use Rattle.std.proofs.lemmas.List.Elements.{All-append}
 use Rattle.std.proofs.lemmas.List.Kept.{AllPairs-cons}
 use Rattle.std.proofs.lemmas.List.Folds.{list_any-append}
-use Rattle.s2cell.specs.Cell.{IsCellAt, IsCell, level_of, place_of, size_of, first_leaf, covers, child_of, parent_of}
+use Rattle.std.proofs.Math.Nat.{div-one}
+use Rattle.s2cell.specs.Cell.{IsCellAt, IsCell, level_of, place_of, size_of, first_leaf, covers, face_of, child_of, parent_of}
 use Rattle.s2cell.proofs.CellLemmas.{cell_leaves, level_of_cell, place_of_cell, first_leaf_of_cell, size_of_cell}
 use Rattle.s2cell.proofs.Calls.{child_leaves, shallow}
 use Rattle.s2cell.proofs.Leaves.{covers_from}
 use Rattle.s2union.specs.Union.{has_leaf, between, LiesIn, IsGreatestIn, IsNormalForm}
 use Rattle.s2union.specs.Packed.{EndsBefore}
 use Rattle.s2union.proofs.Normal.{parent_of_child, normal_form_same, one_normal_form}
+use Rattle.s2union.proofs.Tiling.{none_between}
 use Rattle.s2union.proofs.Picking.{picked_normal}
 use Rattle.s2cover.specs.Coverings.{filled, touched, outer_set, inner_set}
 use Rattle.s2cover.specs.Descent.{blocks, covering_set, form_faces, form_in, form, joined, cell_at, depth_of, IsAligned}
@@ -36,16 +37,13 @@ pub record Run (S : ℕ → Bool) (lo hi : ℕ) (u : List ℕ) : Type 0 where
   pub high : All (λ c. first_leaf c + size_of c ≤ hi) u
   pub leaves : (x : ℕ) → has_leaf u x ≡ (between lo hi x && S x)
 
-between_none : (lo x : ℕ) → between lo lo x ≡ false
-between_none lo x = grind (arith, nat_tests)
-
 pub run_none : (S : ℕ → Bool) (lo : ℕ) → Run S lo lo []
 run_none S lo = record {
   greatest = λ k d h. absurd (omega arith);
   chain = λ i j d h l. absurd (omega arith);
   low = λ k d h. absurd (omega arith);
   high = λ k d h. absurd (omega arith);
-  leaves = λ x. sym (ap (λ b. b && S x) (between_none lo x));
+  leaves = λ x. sym (ap (λ b. b && S x) (none_between lo x));
 }
 
 between_join : (lo mid hi x : ℕ) → lo ≤ mid → mid ≤ hi → between lo hi x ≡ (between lo mid x || between mid hi x)
@@ -186,16 +184,13 @@ formed S g (suc e) c al i d top =
 abbrev pub Leafy : (ℕ → Bool) → ℕ → Bool
 Leafy S x = nat_lt x (6 * 4 ^ 30) && S x
 
-below_limit : (x : ℕ) → x < 6 * 4 ^ 30 → nat_lt x (6 * 4 ^ 30) ≡ true
-below_limit x h = grind (arith, nat_tests)
-
 greatest_leafy : (S : ℕ → Bool) (c : ℕ) → IsGreatestIn S c → IsGreatestIn (Leafy S) c
 greatest_leafy S c w =
     let l = cell_leaves c w.cell in
     let end = l.within in
     record {
       cell = w.cell;
-      inside = λ x h. let r = covers_from c x h in ap (λ b. b && S x) (below_limit x (let y = r.1 in omega arith)) ∙ w.inside x h;
+      inside = λ x h. let r = covers_from c x h in ap (λ b. b && S x) (lt-ltb x (6 * 4 ^ 30) (let y = r.1 in omega arith)) ∙ w.inside x h;
       greatest = λ d h. w.greatest d (λ x v. (and_parts (nat_lt x (6 * 4 ^ 30)) (S x) (h x v)).1);
     }
 
@@ -244,13 +239,9 @@ faces_run S g al hg =
 leaf_aligned : (S : ℕ → Bool) → IsAligned S 0
 leaf_aligned S x y e = let same : x ≡ y = omega arith in ap S same
 
-none_with : (a : Bool) → (a && false) ≡ false
-none_with true = refl
-none_with false = refl
-
 leafy_itself : (S : ℕ → Bool) (x : ℕ) (b : Bool) → S x ≡ b → (S x ≡ true → x < 6 * 4 ^ 30) → S x ≡ Leafy S x
-leafy_itself S x true e h = sym (ap (λ b. b && S x) (below_limit x (h e)))
-leafy_itself S x false e h = e ∙ sym (ap (λ b. nat_lt x (6 * 4 ^ 30) && b) e ∙ none_with (nat_lt x (6 * 4 ^ 30)))
+leafy_itself S x true e h = sym (ap (λ b. b && S x) (lt-ltb x (6 * 4 ^ 30) (h e)))
+leafy_itself S x false e h = e ∙ sym (ap (λ b. nat_lt x (6 * 4 ^ 30) && b) e ∙ and_right (nat_lt x (6 * 4 ^ 30)) false refl)
 
 -- the greatest cells inside a set of leaves, down to the leaves, are its normal form
 pub set_normal : (S : ℕ → Bool) → ((x : ℕ) → S x ≡ true → x < 6 * 4 ^ 30) → IsNormalForm S (form_faces S 0 6)
@@ -288,16 +279,16 @@ unfolding joined
 found_none S g list len max e l = record { cells = e; few = omega arith }
 
 -- the cells in a face, as the descent into it states them
-pub form_of_face : (S : ℕ → Bool) (g f : ℕ) → f < 6 → form_in S g (cell_at 30 f) ≡ form S g (30 - g) f
-form_of_face S g f h =
-    let at = face_cell f h in
-    let lv : 30 - level_of (cell_at 30 f) ≡ 30 = ap (λ z. 30 - z) (level_of_cell 0 f (cell_at 30 f) at) in
-    ap (λ z. form S g (z - g) (place_of (cell_at 30 f))) lv ∙ ap (form S g (30 - g)) (place_of_cell 0 f (cell_at 30 f) at)
+pub form_of_face : (S : ℕ → Bool) (g c f : ℕ) → level_of c ≡ 0 → face_of c ≡ f → form_in S g c ≡ form S g (30 - g) f
+unfolding face_of
+form_of_face S g c f lv ef =
+    let place : place_of c ≡ f = sym (div-one (place_of c)) ∙ ap (λ z. place_of c / 4 ^ z) (sym lv) ∙ ef in
+    ap (λ z. form S g (30 - z - g) (place_of c)) lv ∙ ap (form S g (30 - g)) place
 
-pub found_next : (S : ℕ → Bool) (g n c : ℕ) (list new : List ℕ) (len next max : ℕ) → n < 6 → c ≡ cell_at 30 n → Found S g n list len max
+pub found_next : (S : ℕ → Bool) (g n c : ℕ) (list new : List ℕ) (len next max : ℕ) → level_of c ≡ 0 → face_of c ≡ n → Found S g n list len max
     → new ≡ list ++ form_in S g c → next ≤ max → Found S g (n + 1) new next max
-found_next S g n c list new len next max h e f is few = record {
-  cells = is ∙ ap (λ z. z ++ form_in S g c) f.cells ∙ ap (λ z. form_faces S g n ++ z) (ap (form_in S g) e ∙ form_of_face S g n h) ∙ sym (joined_more (λ face. form S g (30 - g) face) n);
+found_next S g n c list new len next max lv ef f is few = record {
+  cells = is ∙ ap (λ z. z ++ form_in S g c) f.cells ∙ ap (λ z. form_faces S g n ++ z) (form_of_face S g c n lv ef) ∙ sym (joined_more (λ face. form S g (30 - g) face) n);
   few = few;
 }
 
@@ -310,31 +301,19 @@ found_many whole R k n u max h m v =
     let len = ap length e in
     omega arith
 
-pub found_stops : (S : ℕ → Bool) (g n c : ℕ) (list : List ℕ) (len max : ℕ) → n < 6 → c ≡ cell_at 30 n → len ≡ length list → Found S g n list len max
+pub found_stops : (S : ℕ → Bool) (g n c : ℕ) (list : List ℕ) (len max : ℕ) → level_of c ≡ 0 → face_of c ≡ n → len ≡ length list → Found S g n list len max
     → max < len + length (form_in S g c) → max < length (form_faces S g (n + 1))
-found_stops S g n c list len max h e el f m =
+found_stops S g n c list len max lv ef el f m =
     let more = ap length (joined_more (λ face. form S g (30 - g) face) n) ∙ length-append (form_faces S g n) (form S g (30 - g) n) in
-    let same = ap length (ap (form_in S g) e ∙ form_of_face S g n h) in
+    let same = ap length (form_of_face S g c n lv ef) in
     let cells = ap length f.cells in
     omega arith
 
-pub some_from : (r : Option ℕ) (P : Type 0) (v : ℕ) → SomeIff r P v → P → IsSome r
-some_from None P v n p = absurd (n p)
-some_from (Some x) P v n p = refl
-
-pub face_id : (f : ℕ) → f < 6 → IsCell ((2 * f + 1) * 1152921504606846976 % 18446744073709551616)
-face_id f h =
-    let e : (2 * f + 1) * 1152921504606846976 % 18446744073709551616 ≡ cell_at 30 f = omega arith in
-    (0, f, subst (λ (z : ℕ). IsCellAt 0 f z) (sym e) (face_cell f h))
-
-pub face_level : (f c : ℕ) → f < 6 → c ≡ cell_at 30 f → level_of c ≡ 0
-face_level f c h e = ap level_of e ∙ level_of_cell 0 f (cell_at 30 f) (face_cell f h)
-
 -- a list that is too long behind a face
-pub found_long : (whole : Bool) (R : ℕ → Bool) (k n c : ℕ) (list new : List ℕ) (len next max : ℕ) (u : List ℕ) → n < 6 → c ≡ cell_at 30 n → next ≡ length new → Found (blocks whole R (30 - k)) (30 - k) n list len max
+pub found_long : (whole : Bool) (R : ℕ → Bool) (k n c : ℕ) (list new : List ℕ) (len next max : ℕ) (u : List ℕ) → n < 6 → level_of c ≡ 0 → face_of c ≡ n → next ≡ length new → Found (blocks whole R (30 - k)) (30 - k) n list len max
     → new ≡ list ++ form_in (blocks whole R (30 - k)) (30 - k) c → max < next → IsNormalForm (covering_set whole R k) u → max < length u
-found_long whole R k n c list new len next max u h e en f is many v =
+found_long whole R k n c list new len next max u h lv ef en f is many v =
     let S = blocks whole R (30 - k) in
-    let cells : new ≡ form_faces S (30 - k) (n + 1) = (found_next S (30 - k) n c list new len 0 max h e f is (omega arith)).cells in
+    let cells : new ≡ form_faces S (30 - k) (n + 1) = (found_next S (30 - k) n c list new len 0 max lv ef f is (omega arith)).cells in
     let same = ap length cells in
     found_many whole R k (n + 1) u max (omega arith) (omega arith) v

@@ -2,9 +2,10 @@
 use Rattle.std.proofs.Common.{◌≡◌, ℕ, suc, zero, ◌+◌, ◌-◌, ◌*◌, ◌^◌, ◌<◌, ◌≤◌, Bool, true, false, ◌&&◌, List, [], ◌∷◌, ◌++◌, length, refl, sym, ◌∙◌, ap, arith, subst, ⊎_elim, length-append}
 use Rattle.std.proofs.lemmas.Bool.{cases_lt, cond-true, cond-false}
 use Rattle.std.proofs.Math.Nat.{pow-suc, mul-le-mul_right}
+use Rattle.s2cell.proofs.CellLemmas.{four_pos}
 use Rattle.s2cover.specs.Coverings.{filled}
 use Rattle.s2cover.specs.Descent.{form, joined, cell_at}
-use Rattle.s2cover.proofs.Runs.{four_pos, filled_add, not_filled}
+use Rattle.s2cover.proofs.Runs.{filled_add, not_filled}
 
 -- a cell inside the set
 pub form_whole : (S : ℕ → Bool) (g e m : ℕ) → filled S (m * 4 ^ (g + e)) (4 ^ (g + e)) ≡ true → form S g e m ≡ cell_at (g + e) m ∷ []

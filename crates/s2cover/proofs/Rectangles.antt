@@ -1,45 +1,13 @@
 -- Squares of cells and rectangles of leaves.
-use Rattle.std.proofs.Common.{◌≡◌, ℕ, suc, zero, ◌+◌, ◌-◌, ◌/◌, ◌%◌, ◌^◌, ◌<◌, ◌≤◌, true, false, ◌&&◌, ◌==◌, nat_le, ◌↔◌, refl, arith, subst, bit_xor, ◌⊎◌, inl, inr, ⊎_elim}
-use Rattle.std.proofs.lemmas.Bool.{and_parts, and_from, cases_lt, both_ways, false_from_ne_true}
-use Rattle.std.proofs.lemmas.Bool.Decides.{nat_tests}
-use Rattle.std.proofs.lemmas.Nat.{div-add-mod', mod_below, pow_pos}
+use Rattle.std.proofs.Common.{◌≡◌, ℕ, ◌+◌, ◌-◌, ◌/◌, ◌^◌, ◌<◌, ◌≤◌, true, false, ◌&&◌, ◌==◌, nat_le, ◌↔◌, arith, ◌⊎◌, inl, inr, ⊎_elim}
+use Rattle.std.proofs.lemmas.Bool.{eqb-true, eq-eqb, leb-true, le-leb, and_parts, and_from, cases_lt, both_ways, false_from_ne_true}
+use Rattle.std.proofs.lemmas.Nat.{pow_pos}
 use Rattle.s2cell.specs.Cell.{level_of, covers}
-use Rattle.s2cell.specs.Curve.{At, IsPlaceOf, quadrant, turn}
+use Rattle.s2cell.specs.Curve.{IsPlaceOf, i_of, j_of}
 use Rattle.s2cell.specs.Square.{IsSquareOf}
-use Rattle.s2cell.proofs.CellLemmas.{four_pos}
-use Rattle.s2cell.proofs.Quadrants.{quadrant_below, turn_keeps}
-use Rattle.s2cell.proofs.Levels.{at_step, digit_below}
+use Rattle.s2cell.proofs.Places.{place_is}
 use Rattle.s2cell.proofs.Squares.{one_place}
-use Rattle.s2cover.specs.Rectangles.{i_within, j_within, i_of, j_of, Rect, IsRect, IsInRect, rect_set}
-
-pub at_within : (k o n : ℕ) → o < 4 → n < 4 ^ k → At k o n (i_within k o n) (j_within k o n)
-unfolding i_within j_within At
-at_within zero o n ho hn = (omega arith, refl, refl)
-at_within (suc k) o n ho hn =
-    let hp = digit_below k n hn in
-    let q = quadrant_below o (n / 4 ^ k) ho hp in
-    let p = n / 4 ^ k in
-    let Q = quadrant o p in
-    let deep = at_within k (bit_xor o (turn p)) (n % 4 ^ k) (turn_keeps o p ho hp) (mod_below n (4 ^ k) (four_pos k)) in
-    let s = at_step k o (n % 4 ^ k) (i_within k (bit_xor o (turn p)) (n % 4 ^ k)) (j_within k (bit_xor o (turn p)) (n % 4 ^ k)) p (Q / 2) (Q % 2) hp (omega arith) (omega arith) (omega arith) deep in
-    subst (λ (z : ℕ). At (suc k) o z (i_within (suc k) o n) (j_within (suc k) o n)) (div-add-mod' n (4 ^ k)) s
-
--- where a leaf stands
-pub place_is : (n : ℕ) → IsPlaceOf n (n / 4 ^ 30) (i_of n) (j_of n)
-unfolding i_of j_of
-place_is n = record { face_is = refl; at = at_within 30 (n / 4 ^ 30 % 2) (n % 4 ^ 30) (omega arith) (omega arith) }
-
-same_from_test : (a b : ℕ) → (a == b) ≡ true → a ≡ b
-same_from_test a b h = grind (arith, nat_tests)
-
-test_from_same : (a b : ℕ) → a ≡ b → (a == b) ≡ true
-test_from_same a b h = grind (arith, nat_tests)
-
-le_from_test : (a b : ℕ) → nat_le a b ≡ true → a ≤ b
-le_from_test a b h = grind (arith, nat_tests)
-
-test_from_le : (a b : ℕ) → a ≤ b → nat_le a b ≡ true
-test_from_le a b h = grind (arith, nat_tests)
+use Rattle.s2cover.specs.Rectangles.{Rect, IsRect, IsInRect, rect_set}
 
 pub in_rect_from : (r : Rect) (n : ℕ) → rect_set r n ≡ true → IsInRect r (n / 4 ^ 30) (i_of n) (j_of n)
 unfolding rect_set
@@ -49,18 +17,18 @@ in_rect_from r n h =
     let i = and_parts (nat_le r.i0 (i_of n)) (nat_le (i_of n) r.i1) b.1 in
     let j = and_parts (nat_le r.j0 (j_of n)) (nat_le (j_of n) r.j1) a.1 in
     record {
-      on = same_from_test (n / 4 ^ 30) r.face b.0;
-      along = (le_from_test r.i0 (i_of n) i.0, le_from_test (i_of n) r.i1 i.1);
-      across = (le_from_test r.j0 (j_of n) j.0, le_from_test (j_of n) r.j1 j.1);
+      on = eqb-true (n / 4 ^ 30) r.face b.0;
+      along = (leb-true r.i0 (i_of n) i.0, leb-true (i_of n) r.i1 i.1);
+      across = (leb-true r.j0 (j_of n) j.0, leb-true (j_of n) r.j1 j.1);
     }
 
 in_rect_to : (r : Rect) (n : ℕ) → IsInRect r (n / 4 ^ 30) (i_of n) (j_of n) → rect_set r n ≡ true
 unfolding rect_set
 in_rect_to r n w =
     and_from ((n / 4 ^ 30 == r.face) && (nat_le r.i0 (i_of n) && nat_le (i_of n) r.i1)) (nat_le r.j0 (j_of n) && nat_le (j_of n) r.j1)
-    (and_from (n / 4 ^ 30 == r.face) (nat_le r.i0 (i_of n) && nat_le (i_of n) r.i1) (test_from_same (n / 4 ^ 30) r.face w.on)
-    (and_from (nat_le r.i0 (i_of n)) (nat_le (i_of n) r.i1) (test_from_le r.i0 (i_of n) w.along.0) (test_from_le (i_of n) r.i1 w.along.1)))
-    (and_from (nat_le r.j0 (j_of n)) (nat_le (j_of n) r.j1) (test_from_le r.j0 (j_of n) w.across.0) (test_from_le (j_of n) r.j1 w.across.1))
+    (and_from (n / 4 ^ 30 == r.face) (nat_le r.i0 (i_of n) && nat_le (i_of n) r.i1) (eq-eqb (n / 4 ^ 30) r.face w.on)
+    (and_from (nat_le r.i0 (i_of n)) (nat_le (i_of n) r.i1) (le-leb r.i0 (i_of n) w.along.0) (le-leb (i_of n) r.i1 w.along.1)))
+    (and_from (nat_le r.j0 (j_of n)) (nat_le (j_of n) r.j1) (le-leb r.j0 (j_of n) w.across.0) (le-leb (j_of n) r.j1 w.across.1))
 
 -- a leaf is in the rectangle just where its place is
 pub in_rect : (r : Rect) (n f i j : ℕ) → IsPlaceOf n f i j → (rect_set r n ≡ true) ↔ IsInRect r f i j

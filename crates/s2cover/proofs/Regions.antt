@@ -1,15 +1,10 @@
 -- Unions as regions.
 use Rattle.std.proofs.Common.{◌≡◌, ℕ, Bool, true, false, ◌&&◌, List, All, arith, sym, ◌∙◌, ap}
-use Rattle.s2cell.specs.Cell.{IsCell, first_leaf, covers}
-use Rattle.s2cell.proofs.CellLemmas.{cell_leaves}
+use Rattle.s2cell.specs.Cell.{IsCell, covers}
 use Rattle.s2cell.proofs.Leaves.{covers_there, covers_from, inside_from_within, meeting, before, after, within, around}
 use Rattle.std.proofs.lemmas.List.Elements.{All-contains}
 use Rattle.s2union.specs.Union.{has_leaf, IsWithin, ShareSome}
 use Rattle.s2union.proofs.Normal.{leaf_from, leaf_to}
-
--- a cell has a leaf
-pub first_covered : (c : ℕ) → IsCell c → covers c (first_leaf c) ≡ true
-first_covered c i = let s = (cell_leaves c i).some in covers_there c (first_leaf c) (omega arith) (omega arith)
 
 -- where the set doesn't hold the whole cell, the cells that share a leaf with it lie inside it
 pub run_inside : (u run : List ℕ) (c x : ℕ) → IsCell c → ((y : ℕ) → covers c y ≡ true → has_leaf run y ≡ has_leaf u y) → All (λ d. ShareSome (covers d) (covers c)) run → All IsCell run

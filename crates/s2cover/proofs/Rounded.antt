@@ -1,15 +1,18 @@
 -- Rectangles rounded to the grid of a level.
 use Rattle.std.proofs.Common.{◌≡◌, ℕ, ◌+◌, ◌-◌, ◌*◌, ◌/◌, ◌%◌, ◌^◌, ◌<◌, ◌≤◌, Bool, true, false, ◌&&◌, nat_lt, refl, sym, ◌∙◌, ap, arith, ◌⊎◌, ⊎_elim}
-use Rattle.std.proofs.lemmas.Bool.{both_ways, true_from_ne_false, false_from_ne_true}
+use Rattle.std.proofs.lemmas.Bool.{and_right, lt-ltb, both_ways, true_from_ne_false, false_from_ne_true}
 use Rattle.std.proofs.lemmas.Nat.{div-add-mod', mod_below, pow_pos, pow-add}
+use Rattle.s2cell.specs.Curve.{i_of, j_of}
 use Rattle.s2cell.proofs.Levels.{at_bounds}
+use Rattle.s2cell.proofs.Places.{place_is}
 use Rattle.s2cell.proofs.Squares.{in_block, block_of}
+use Rattle.s2cell.proofs.CellLemmas.{four_pos}
 use Rattle.s2cover.specs.Coverings.{touched, outer_set, inner_set}
 use Rattle.s2cover.specs.Descent.{blocks, IsAligned}
-use Rattle.s2cover.specs.Rectangles.{i_of, j_of, Rect, IsRect, rect_set}
-use Rattle.s2cover.proofs.Runs.{four_pos, filled_each, filled_from, touched_none, block_here}
-use Rattle.s2cover.proofs.Rectangles.{place_is, in_rect, in_rect_from}
-use Rattle.s2cover.proofs.Coverings.{touched_some, limit_test}
+use Rattle.s2cover.specs.Rectangles.{Rect, IsRect, rect_set}
+use Rattle.s2cover.proofs.Runs.{filled_each, filled_from, touched_none, block_here}
+use Rattle.s2cover.proofs.Rectangles.{in_rect, in_rect_from}
+use Rattle.s2cover.proofs.Coverings.{touched_some}
 use Rattle.s2cover.proofs.Formed.{blocks_aligned}
 use Rattle.s2cover.proofs.Squares.{Narrowed, Rounded, block_leaf, in_from, in_to, out_from, out_to, quotient_below, same_bool, same_square, times}
 
@@ -141,7 +144,7 @@ in_limit r x h t =
     let w = (in_rect_from r x t).on in
     let e = div-add-mod' x (4 ^ 30) in
     let m = mod_below x (4 ^ 30) (four_pos 30) in
-    limit_test x (omega arith)
+    lt-ltb x (6 * 4 ^ 30) (omega arith)
 
 same_on_leaves : (t : Rect) (S : ℕ → Bool) (x : ℕ) → t.face ≤ 5 → rect_set t x ≡ S x → rect_set t x ≡ (nat_lt x (6 * 4 ^ 30) && S x)
 same_on_leaves t S x h e = e ∙ bounded (nat_lt x (6 * 4 ^ 30)) (S x) (λ s. in_limit t x h (e ∙ s))
@@ -157,13 +160,9 @@ unfolding inner_set
 narrowed_inner r t k f ef ri rj x =
     same_on_leaves t (blocks false (rect_set r) (30 - k)) x (omega arith) (narrowed_set r t (30 - k) (omega arith) ef ri rj x)
 
-and_false : (a b : Bool) → b ≡ false → (a && b) ≡ false
-and_false true b h = h
-and_false false b h = refl
-
 pub narrowed_empty : (r : Rect) (i0 i1 j0 j1 k : ℕ) → Narrowed r.i0 r.i1 i0 i1 (2 ^ (30 - k)) → Narrowed r.j0 r.j1 j0 j1 (2 ^ (30 - k)) → (i1 ≤ i0) ⊎ (j1 ≤ j0) → (x : ℕ) → inner_set (rect_set r) k x ≡ false
 unfolding inner_set
-narrowed_empty r i0 i1 j0 j1 k ri rj e x = and_false (nat_lt x (6 * 4 ^ 30)) (blocks false (rect_set r) (30 - k) x) (narrowed_none r i0 i1 j0 j1 (30 - k) (omega arith) ri rj e x)
+narrowed_empty r i0 i1 j0 j1 k ri rj e x = and_right (nat_lt x (6 * 4 ^ 30)) (blocks false (rect_set r) (30 - k) x) (narrowed_none r i0 i1 j0 j1 (30 - k) (omega arith) ri rj e x)
 
 aligned_by : (S T : ℕ → Bool) (g : ℕ) → ((x : ℕ) → S x ≡ T x) → IsAligned T g → IsAligned S g
 aligned_by S T g e al x y h = e x ∙ al x y h ∙ sym (e y)

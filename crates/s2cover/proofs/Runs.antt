@@ -2,13 +2,10 @@
 use Rattle.std.proofs.Common.{◌≡◌, ℕ, suc, zero, ◌+◌, ◌-◌, ◌*◌, ◌/◌, ◌^◌, ◌<◌, ◌≤◌, Bool, true, false, ◌&&◌, refl, sym, ◌∙◌, ap, arith, subst, ⊎_elim}
 use Rattle.std.proofs.lemmas.Bool.{and_parts, cases_lt, and_from, or_parts, or_from, both_ways, false_from_ne_true, true_from_ne_false}
 use Rattle.std.proofs.lemmas.Nat.{div-add-mod', mod_below, pow-add}
-use Rattle.std.proofs.Math.Nat.{pow-suc, mul-le-mul_right, div-eq_of_lt-le, add-suc}
+use Rattle.std.proofs.Math.Nat.{mul-le-mul_right, div-eq_of_lt-le, add-suc}
+use Rattle.s2cell.proofs.CellLemmas.{four_pos}
 use Rattle.s2cover.specs.Coverings.{filled, touched}
 use Rattle.s2cover.specs.Descent.{blocks}
-
-pub four_pos : (k : ℕ) → 0 < 4 ^ k
-four_pos zero = omega arith
-four_pos (suc k) = let h = four_pos k in let e = pow-suc 4 k in omega arith
 
 pub filled_each : (S : ℕ → Bool) (lo n : ℕ) → filled S lo n ≡ true → (x : ℕ) → lo ≤ x → x < lo + n → S x ≡ true
 unfolding filled

@@ -4,10 +4,11 @@ use Rattle.std.proofs.lemmas.Result.{IfOk-weaker, IfErr-weaker}
 use Rattle.std.proofs.lemmas.Bool.{cases_lt, cases_Bool, both_ways, cond-true, cond-false, false_from_ne_true}
 use Rattle.std.proofs.lemmas.Nat.{div-add-mod', mod_below}
 use Rattle.std.proofs.Math.Nat.{pow-suc, mul-le-mul_right}
+use Rattle.s2cell.proofs.CellLemmas.{four_pos}
 use Rattle.s2cover.specs.Coverings.{filled}
 use Rattle.s2cover.specs.Descent.{form, joined, cell_at, depth_of, IsAligned}
-use Rattle.s2cover.proofs.Runs.{four_pos, filled_each, filled_from, block_here}
-use Rattle.s2cover.proofs.Visits.{list_next, leaf_at, ChildAt, child_at}
+use Rattle.s2cover.proofs.Runs.{filled_each, filled_from, block_here}
+use Rattle.s2cover.proofs.Visits.{list_next, leaf_at, child_at}
 use Rattle.s2cell.specs.Cell.{IsCell, place_of, covers, child_of}
 use Rattle.s2cover.proofs.Forms.{form_children, joined_more, joined_grows}
 
@@ -102,7 +103,7 @@ pub record Sought (S : ℕ → Bool) (g d m n : ℕ) (old now : List ℕ) (now_l
   pub count : Counted before looks n (length (joined (λ p. form S g (d - 1 - g) (4 * m + p)) n)) (d - 1 - g)
 
 -- a cell that crosses an aligned set lies above the grain
-pub cross_above : (S : ℕ → Bool) (g c : ℕ) → IsAligned S g → g ≤ depth_of c → (((x : ℕ) → covers c x ≡ true → S x ≡ false) → ⊥) → (((x : ℕ) → covers c x ≡ true → S x ≡ true) → ⊥) → g < depth_of c
+cross_above : (S : ℕ → Bool) (g c : ℕ) → IsAligned S g → g ≤ depth_of c → (((x : ℕ) → covers c x ≡ true → S x ≡ false) → ⊥) → (((x : ℕ) → covers c x ≡ true → S x ≡ true) → ⊥) → g < depth_of c
 cross_above S g c al hg none all =
     let d = depth_of c in
     let m = place_of c in
@@ -116,11 +117,20 @@ cross_above S g c al hg none all =
     ⊎_elim (λ (t : S lo ≡ true). absurd (all (λ x k. same x k ∙ t))) (λ (f : S lo ≡ false). absurd (none (λ x k. same x k ∙ f))) (cases_Bool (S lo)))
     (cases_lt g d)
 
-pub not_whole : (S : ℕ → Bool) (c : ℕ) → (((x : ℕ) → covers c x ≡ true → S x ≡ true) → ⊥) → filled S (place_of c * 4 ^ depth_of c) (4 ^ depth_of c) ≡ false
+not_whole : (S : ℕ → Bool) (c : ℕ) → (((x : ℕ) → covers c x ≡ true → S x ≡ true) → ⊥) → filled S (place_of c * 4 ^ depth_of c) (4 ^ depth_of c) ≡ false
 not_whole S c h = false_from_ne_true (filled S (place_of c * 4 ^ depth_of c) (4 ^ depth_of c)) (λ f. h (λ x k. let l = leaf_at c x k in filled_each S (place_of c * 4 ^ depth_of c) (4 ^ depth_of c) f x l.0 l.1))
 
-pub some_cells : (S : ℕ → Bool) (g c : ℕ) → IsAligned S g → g ≤ depth_of c → (((x : ℕ) → covers c x ≡ true → S x ≡ false) → ⊥) → 0 < length (form S g (depth_of c - g) (place_of c))
+some_cells : (S : ℕ → Bool) (g c : ℕ) → IsAligned S g → g ≤ depth_of c → (((x : ℕ) → covers c x ≡ true → S x ≡ false) → ⊥) → 0 < length (form S g (depth_of c - g) (place_of c))
 some_cells S g c al hg h = form_some S g (depth_of c) (place_of c) hg al (λ f. h (λ x k. let l = leaf_at c x k in f x l.0 l.1))
+
+-- a cell that crosses the set lies above the grain, isn't held whole, and has cells of the set in it
+pub record Crossed (S : ℕ → Bool) (g c : ℕ) : Type 0 where
+  pub above : g < depth_of c
+  pub part : filled S (place_of c * 4 ^ depth_of c) (4 ^ depth_of c) ≡ false
+  pub some : 0 < length (form S g (depth_of c - g) (place_of c))
+
+pub crossed : (S : ℕ → Bool) (g c : ℕ) → IsAligned S g → g ≤ depth_of c → (((x : ℕ) → covers c x ≡ true → S x ≡ false) → ⊥) → (((x : ℕ) → covers c x ≡ true → S x ≡ true) → ⊥) → Crossed S g c
+crossed S g c al hg none all = record { above = cross_above S g c al hg none all; part = not_whole S c all; some = some_cells S g c al hg none }
 
 pub sought_none : (S : ℕ → Bool) (g d m : ℕ) (old : List ℕ) (len before looks max : ℕ) → len ≤ max → looks ≡ before + 1 → Sought S g d m 0 old old len before looks max
 unfolding joined
@@ -196,15 +206,13 @@ pub err_more : {T E : Type 0} (r : Result T E) (many : E) (max n : ℕ) (f : Lis
 err_more r many max n f c e h = IfErr-weaker r (λ fault. fault ≡ many → max < n + 1) (λ fault. fault ≡ many → max < n + length f) (λ y p same. let l = p same in let k = ap length e in omega arith) h
 
 -- a child of a cell that crosses an aligned set
-pub crossed_child : (S : ℕ → Bool) (g c k p : ℕ) → IsCell c → IsAligned S g → g ≤ depth_of c → (((x : ℕ) → covers c x ≡ true → S x ≡ false) → ⊥) → (((x : ℕ) → covers c x ≡ true → S x ≡ true) → ⊥) → p < 4 → k ≡ child_of c p → ChildAt c p
-crossed_child S g c k p i al hg none all hp e =
-    let below = cross_above S g c al hg none all in
-    child_at c p i (omega arith) hp
-
 -- the child by its own name
 pub record Kid (c k p : ℕ) : Type 0 where
   pub depth : depth_of k + 1 ≡ depth_of c
   pub place : place_of k ≡ 4 * place_of c + p
 
-pub kid : (c k p : ℕ) → k ≡ child_of c p → ChildAt c p → Kid c k p
-kid c k p e w = record { depth = rw e w.depth; place = rw e w.place }
+pub kid : (S : ℕ → Bool) (g c k p : ℕ) → IsCell c → Crossed S g c → p < 4 → k ≡ child_of c p → Kid c k p
+kid S g c k p i w hp e =
+    let above = w.above in
+    let at = child_at c p i (omega arith) hp in
+    record { depth = rw e at.depth; place = rw e at.place }

@@ -3,13 +3,11 @@ use Rattle.std.proofs.Common.{◌≡◌, ℕ, ◌+◌, ◌-◌, ◌*◌, ◌/◌
 use Rattle.std.proofs.lemmas.Bool.{cases_lt}
 use Rattle.std.proofs.lemmas.Nat.{div-add-mod', mod_below, pow-add}
 use Rattle.std.proofs.Math.Nat.{mul-le-mul_right, lt_of_mul-lt-mul_right}
-use Rattle.s2cell.specs.Curve.{At, IsPlaceOf}
+use Rattle.s2cell.specs.Curve.{At, IsPlaceOf, i_of, j_of}
+use Rattle.s2cell.proofs.CellLemmas.{four_pos}
 use Rattle.s2cell.proofs.Levels.{at_above, parts}
-use Rattle.s2cell.proofs.Places.{same_place, same_leaf, leaf_exists, same_parts}
+use Rattle.s2cell.proofs.Places.{place_is, same_place, same_leaf, leaf_exists, same_parts}
 use Rattle.s2cell.proofs.Squares.{place_of_leaf, block_of}
-use Rattle.s2cover.specs.Rectangles.{i_of, j_of}
-use Rattle.s2cover.proofs.Runs.{four_pos}
-use Rattle.s2cover.proofs.Rectangles.{place_is}
 
 pub same_bool : (a b : Bool) → (a ≡ true → b ≡ true) → (b ≡ true → a ≡ true) → a ≡ b
 same_bool true b f g = sym (f refl)

@@ -7,10 +7,10 @@ use Rattle.std.proofs.Math.Nat.{pow-suc, mul-le-mul_right}
 use Rattle.s2cover.specs.Coverings.{filled, touched}
 use Rattle.s2cover.specs.Descent.{blocks, form, joined, cell_at, depth_of}
 use Rattle.s2cell.specs.Cell.{IsCell, level_of, place_of, size_of, first_leaf, covers, child_of}
-use Rattle.s2cell.proofs.CellLemmas.{own_place, level_of_cell, place_of_cell}
+use Rattle.s2cell.proofs.CellLemmas.{four_pos, own_place, level_of_cell, place_of_cell}
 use Rattle.s2cell.proofs.Calls.{IsCellAt-child_of, IsCell-child_of}
 use Rattle.s2cell.proofs.Leaves.{covers_there, covers_from}
-use Rattle.s2cover.proofs.Runs.{four_pos, filled_add, filled_each, filled_from, not_filled, cover_all, cover_none, outer_here, inner_here, touched_none}
+use Rattle.s2cover.proofs.Runs.{filled_add, filled_each, filled_from, not_filled, cover_all, cover_none, outer_here, inner_here, touched_none}
 use Rattle.s2cover.proofs.Forms.{form_whole_at, form_none_at, form_children, filled_more, joined_more, joined_grows, Visited}
 
 -- the set holds the whole cell

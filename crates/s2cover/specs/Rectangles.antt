@@ -1,25 +1,6 @@
 -- Rectangles of leaves on a face.
-use Rattle.std.specs.Prelude.{◌≡◌, ℕ, zero, suc, ◌+◌, ◌*◌, ◌/◌, ◌%◌, ◌^◌, ◌<◌, ◌≤◌, Bool, ◌&&◌, ◌==◌, nat_le, bit_xor}
-use Rattle.s2cell.specs.Curve.{quadrant, turn}
-
--- the coordinate i of the leaf `n` of a square with sides of `2 ^ k`, which the curve enters at the orientation `o`
-unfoldable pub i_within : ℕ → ℕ → ℕ → ℕ
-i_within zero o n = 0
-i_within (suc k) o n = quadrant o (n / 4 ^ k) / 2 * 2 ^ k + i_within k (bit_xor o (turn (n / 4 ^ k))) (n % 4 ^ k)
-
--- its coordinate j
-unfoldable pub j_within : ℕ → ℕ → ℕ → ℕ
-j_within zero o n = 0
-j_within (suc k) o n = quadrant o (n / 4 ^ k) % 2 * 2 ^ k + j_within k (bit_xor o (turn (n / 4 ^ k))) (n % 4 ^ k)
-
--- the coordinates of the leaf `n` on its face
-unfoldable pub i_of : ℕ → ℕ
-unfolding i_within
-i_of n = i_within 30 (n / 4 ^ 30 % 2) (n % 4 ^ 30)
-
-unfoldable pub j_of : ℕ → ℕ
-unfolding j_within
-j_of n = j_within 30 (n / 4 ^ 30 % 2) (n % 4 ^ 30)
+use Rattle.std.specs.Prelude.{◌≡◌, ℕ, ◌/◌, ◌^◌, ◌<◌, ◌≤◌, Bool, ◌&&◌, ◌==◌, nat_le}
+use Rattle.s2cell.specs.Curve.{i_of, j_of}
 
 -- a face, and the least and the greatest of both coordinates
 pub record Rect : Type 0 where

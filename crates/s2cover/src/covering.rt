@@ -1,13 +1,13 @@
 //! The outer and the inner covering of any region.
 ghost use Rattle.std.specs.Prelude.{◌≡◌, ◌+◌, ◌-◌, ◌*◌, ◌^◌, ◌<◌, ◌≤◌, ◌↔◌, ℕ, Bool, true, false, List, length, vec_len, IfOk, IfErr};
-ghost use Rattle.s2cell.specs.Cell.{IsCell, id_at};
+ghost use Rattle.s2cell.specs.Cell.{IsCell};
 ghost use Rattle.s2union.specs.Union.{has_leaf, IsLocal, IsNormalForm};
 ghost use Rattle.s2cover.specs.Coverings.{IsInInner, IsInOuter, inner_set, outer_set};
 ghost use Rattle.s2cover.specs.Descent.{covering_set};
 
 use crate::descent::visit;
 use crate::region::{CoverFault, Region};
-use s2cell::CellId;
+use s2cell::PlacedCell;
 use s2union::CellUnion;
 use std::alloc::Global;
 
@@ -84,7 +84,8 @@ fn cover<R: Region>(
 {
     let mut list = Vec::new(alloc);
     for face in 0..6u8 {
-        match visit(region, whole, level, face_cell(face), 0, max, &mut list) {
+        let top = PlacedCell::face(face);
+        match visit(region, whole, level, &top, 0, max, &mut list) {
             Ok(_) => {}
             Err(fault) => return Err(fault),
         }
@@ -93,13 +94,4 @@ fn cover<R: Region>(
         }
     }
     Ok(CellUnion::from_normalized(list))
-}
-
-/// The cell that is the whole face.
-fn face_cell(face: u8) -> CellId
-    requires { face < 6 }
-    ensures value { result ≡ id_at 0 face }
-    ensures cell { IsCell result }
-{
-    CellId::from_id((2 * face as u64 + 1) << 60).unwrap()
 }

@@ -1,11 +1,12 @@
 //! The descent through the cells, whatever the region.
 ghost use Rattle.std.specs.Prelude.{◌≡◌, ◌+◌, ◌-◌, ◌*◌, ◌^◌, ◌<◌, ◌≤◌, ℕ, Bool, true, false, ◌↔◌, ◌++◌, ◌∷◌, [], length, vec_len, IfOk, IfErr};
-ghost use Rattle.s2cell.specs.Cell.{IsCell, level_of, place_of, child_of, id_at};
+ghost use Rattle.s2cell.specs.Cell.{level_of, place_of};
+ghost use Rattle.s2cell.specs.Square.{IsPlaced};
 ghost use Rattle.s2cover.specs.Coverings.{filled};
 ghost use Rattle.s2cover.specs.Descent.{blocks, depth_of, filled_in, form_in};
 
 use crate::region::{CoverFault, Part, Region};
-use s2cell::CellId;
+use s2cell::{CellId, PlacedCell};
 
 /// Adds the cells of a covering that lie in one cell; the last `loose` of the list may still merge. Answers whether the
 /// covering holds the whole cell. `whole` says whether a cell of the level that crosses the region belongs to it.
@@ -13,28 +14,28 @@ pub(crate) fn visit<R: Region>(
     region: &R,
     whole: bool,
     level: u8,
-    cell: CellId,
+    placed: &PlacedCell,
     loose: usize,
     max: usize,
     list: &mut Vec<CellId>,
 ) -> Result<bool, CoverFault>
-    requires cell { IsCell cell }
-    requires above { level_of cell ≤ level }
+    requires placed { IsPlaced placed.now.cell placed.now.square.face placed.now.square.i placed.now.square.j placed.now.square.size placed.now.orientation }
+    requires above { level_of placed.now.cell ≤ level }
     requires level { level ≤ 30 }
-    requires loose { loose ≤ 3 * level_of cell }
+    requires loose { loose ≤ 3 * level_of placed.now.cell }
     requires max { max ≤ 1000000 }
     requires room { vec_len list.old ≤ max + loose }
-    ensures list { IfOk result (λ full. list.new.items ≡ list.old.items ++ form_in (blocks whole (R.holds region.now) (30 - level)) (30 - level) cell) }
-    ensures full { IfOk result (λ full. full ≡ filled_in (blocks whole (R.holds region.now) (30 - level)) cell) }
+    ensures list { IfOk result (λ full. list.new.items ≡ list.old.items ++ form_in (blocks whole (R.holds region.now) (30 - level)) (30 - level) placed.now.cell) }
+    ensures full { IfOk result (λ full. full ≡ filled_in (blocks whole (R.holds region.now) (30 - level)) placed.now.cell) }
     ensures room { IfOk result (λ full. full ≡ false → vec_len list.new ≤ max) }
-    ensures many { IfErr result (λ fault. fault ≡ CoverFault.TooMany → (filled_in (blocks whole (R.holds region.now) (30 - level)) cell ≡ false) × (max < vec_len list.old + length (form_in (blocks whole (R.holds region.now) (30 - level)) (30 - level) cell))) }
+    ensures many { IfErr result (λ fault. fault ≡ CoverFault.TooMany → (filled_in (blocks whole (R.holds region.now) (30 - level)) placed.now.cell ≡ false) × (max < vec_len list.old + length (form_in (blocks whole (R.holds region.now) (30 - level)) (30 - level) placed.now.cell))) }
 {
-    match region.part(cell) {
+    match region.part_of_placed(placed) {
         Part::Out => settle(max, list),
-        Part::In => take(cell, list),
-        Part::Cross if cell.level() == level => {
+        Part::In => take(placed.cell, list),
+        Part::Cross if placed.cell.level() == level => {
             if whole {
-                take(cell, list)
+                take(placed.cell, list)
             } else {
                 settle(max, list)
             }
@@ -44,7 +45,7 @@ pub(crate) fn visit<R: Region>(
             let mut full = true;
             for digit in 0..4u8 {
                 let held = if full { loose + digit as usize } else { 0 };
-                match visit(region, whole, level, child(cell, digit), held, max, list) {
+                match visit(region, whole, level, &child(placed, digit), held, max, list) {
                     Ok(inside) => full = full && inside,
                     Err(fault) => return Err(fault),
                 }
@@ -54,7 +55,7 @@ pub(crate) fn visit<R: Region>(
             }
             if full {
                 list.truncate(before);
-                take(cell, list)
+                take(placed.cell, list)
             } else {
                 Ok(false)
             }
@@ -63,16 +64,16 @@ pub(crate) fn visit<R: Region>(
 }
 
 /// A child of a cell, by its depth and place.
-fn child(cell: CellId, digit: u8) -> CellId
-    requires cell { IsCell cell }
-    requires inner { level_of cell < 30 }
+fn child(placed: &PlacedCell, digit: u8) -> PlacedCell
+    requires placed { IsPlaced placed.now.cell placed.now.square.face placed.now.square.i placed.now.square.j placed.now.square.size placed.now.orientation }
+    requires inner { level_of placed.now.cell < 30 }
     requires digit { digit < 4 }
-    ensures cell { IsCell result }
-    ensures level { level_of result ≡ level_of cell + 1 }
-    ensures depth { depth_of result + 1 ≡ depth_of cell }
-    ensures place { place_of result ≡ 4 * place_of cell + digit }
+    ensures placed { IsPlaced result.cell result.square.face result.square.i result.square.j result.square.size result.orientation }
+    ensures level { level_of result.cell ≡ level_of placed.now.cell + 1 }
+    ensures depth { depth_of result.cell + 1 ≡ depth_of placed.now.cell }
+    ensures place { place_of result.cell ≡ 4 * place_of placed.now.cell + digit }
 {
-    cell.child(digit)
+    placed.child(digit)
 }
 
 /// Adds a cell to the list.

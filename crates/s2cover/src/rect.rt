@@ -6,7 +6,7 @@ ghost use Rattle.s2cell.specs.Square.{IsSquareOf};
 ghost use Rattle.s2cover.specs.Rectangles.{IsInRect, IsRect, Rect, rect_set};
 
 use crate::region::{Part, Region};
-use s2cell::{CellId, Square};
+use s2cell::{CellId, PlacedCell, Square};
 use std::marker::Model;
 
 /// The number of places along a side of a face.
@@ -60,6 +60,10 @@ impl Region for FaceRect {
 
     fn part(&self, cell: CellId) -> Part {
         self.part_of(cell.square())
+    }
+
+    fn part_of_placed(&self, placed: &PlacedCell) -> Part {
+        self.part_of(placed.square)
     }
 }
 

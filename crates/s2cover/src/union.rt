@@ -6,7 +6,7 @@ ghost use Rattle.s2cover.specs.Rectangles.{rect_set};
 
 use crate::rect::FaceRect;
 use crate::region::{Part, Region};
-use s2cell::CellId;
+use s2cell::{CellId, PlacedCell};
 use s2union::CellUnion;
 
 impl Region for CellUnion {
@@ -40,11 +40,26 @@ impl<'a> Region for Clip<'a> {
     ghost holds = { λ c x. has_leaf c.union.now.cells x && rect_set c.rect x };
 
     fn part(&self, cell: CellId) -> Part {
-        match self.rect.part(cell) {
-            Part::Out => Part::Out,
-            Part::In => self.union.part(cell),
-            Part::Cross => part_across(self.union, &self.rect, cell),
-        }
+        part_by(self.union, &self.rect, cell, self.rect.part(cell))
+    }
+
+    fn part_of_placed(&self, placed: &PlacedCell) -> Part {
+        let to_rect = self.rect.part_of_placed(placed);
+        part_by(self.union, &self.rect, placed.cell, to_rect)
+    }
+}
+
+/// How a cell lies to the clipped union, from how it lies to the rectangle.
+fn part_by(union: &CellUnion, rect: &FaceRect, cell: CellId, to_rect: Part) -> Part
+    requires out { (to_rect ≡ Part.Out) ↔ ((x : ℕ) → covers cell x ≡ true → rect_set rect.now x ≡ false) }
+    requires inside { (to_rect ≡ Part.In) ↔ ((x : ℕ) → covers cell x ≡ true → rect_set rect.now x ≡ true) }
+    ensures out { (result ≡ Part.Out) ↔ ((x : ℕ) → covers cell x ≡ true → (has_leaf union.now.cells x && rect_set rect.now x) ≡ false) }
+    ensures inside { (result ≡ Part.In) ↔ ((x : ℕ) → covers cell x ≡ true → (has_leaf union.now.cells x && rect_set rect.now x) ≡ true) }
+{
+    match to_rect {
+        Part::Out => Part::Out,
+        Part::In => union.part(cell),
+        Part::Cross => part_across(union, rect, cell),
     }
 }
 

@@ -4,35 +4,64 @@ use Rattle.s2cell.specs.Cell.{level_of, place_of}
 use Rattle.s2cover.specs.Descent.{depth_of}
 use Rattle.s2cover.proofs.Forms.{form_none_at}
 use Rattle.s2cover.proofs.Visits.{whole_from, covers_at, id_of}
-use Rattle.s2cover.proofs.Searches.{crossed_child, kid, cross_above, not_whole, some_cells, sought_none, sought_next, sought_all, sought_stop, sought_many, on_ok_more, on_ok_count, err_more}
+use Rattle.s2cover.proofs.Searches.{crossed, kid, sought_none, sought_next, sought_all, sought_stop, sought_many, on_ok_more, on_ok_count, err_more}
 use Rattle.s2cover.proofs.looks.+seek.Goals as goal
 
 pub loop-digit-init : goal.loop-digit-init
 loop-digit-init t c = sought_none (rect_set c.args.rect.now) (30 - c.args.level) (depth_of c.args.placed.now.cell) (place_of c.args.placed.now.cell) c.args.list.now.items (vec_len c.args.list.now) c.args.looks.now.count _ c.args.max c.requires.room c.look.ensures.count
 
 pub child-requires-clause-inner : goal.child-requires-clause-inner
-child-requires-clause-inner t c = let h = (cross_above (rect_set c.args.rect.now) (30 - c.args.level) c.args.placed.now.cell c.requires.aligned (let k = c.requires.above in omega arith) (λ h. let e = (c.in-Cross.ensures.out c.args.placed.now.cell c.requires.placed.square).1 h in cc) (λ h. let e = (c.in-Cross.ensures.inside c.args.placed.now.cell c.requires.placed.square).1 h in cc)) in omega arith
+child-requires-clause-inner t c =
+    let cross = crossed (rect_set c.args.rect.now) (30 - c.args.level) c.args.placed.now.cell c.requires.aligned (let k = c.requires.above in omega arith)
+    (λ h. let e = (c.in-Cross.ensures.out c.args.placed.now.cell c.requires.placed.square).1 h in cc)
+    (λ h. let e = (c.in-Cross.ensures.inside c.args.placed.now.cell c.requires.placed.square).1 h in cc) in
+    let h = cross.above in omega arith
 
 pub seek-requires : goal.seek-requires
 seek-requires t c =
-    let d1 = (kid c.args.placed.now.cell c.child.result.cell c.loop-digit.digit c.child.ensures.cell (crossed_child (rect_set c.args.rect.now) (30 - c.args.level) c.args.placed.now.cell c.child.result.cell c.loop-digit.digit c.requires.placed.cell c.requires.aligned (let k = c.requires.above in omega arith) (λ h. let e = (c.in-Cross.ensures.out c.args.placed.now.cell c.requires.placed.square).1 h in cc) (λ h. let e = (c.in-Cross.ensures.inside c.args.placed.now.cell c.requires.placed.square).1 h in cc) c.loop-digit-test.true c.child.ensures.cell)).depth in
-    let below = (cross_above (rect_set c.args.rect.now) (30 - c.args.level) c.args.placed.now.cell c.requires.aligned (let k = c.requires.above in omega arith) (λ h. let e = (c.in-Cross.ensures.out c.args.placed.now.cell c.requires.placed.square).1 h in cc) (λ h. let e = (c.in-Cross.ensures.inside c.args.placed.now.cell c.requires.placed.square).1 h in cc)) in
+    let S = rect_set c.args.rect.now in
+    let grain = 30 - c.args.level in
+    let cross = crossed S grain c.args.placed.now.cell c.requires.aligned (let k = c.requires.above in omega arith)
+    (λ h. let e = (c.in-Cross.ensures.out c.args.placed.now.cell c.requires.placed.square).1 h in cc)
+    (λ h. let e = (c.in-Cross.ensures.inside c.args.placed.now.cell c.requires.placed.square).1 h in cc) in
+    let child = kid S grain c.args.placed.now.cell c.child.result.cell c.loop-digit.digit c.requires.placed.cell cross c.loop-digit-test.true c.child.ensures.cell in
     let lv = c.child.ensures.level in
     let placed = c.child.ensures.placed in
     let above : level_of c.child.result.cell ≤ c.args.level = omega arith in
     let room = c.loop-digit.invariant.room in
-    let stop = sought_stop (rect_set c.args.rect.now) (30 - c.args.level) (depth_of c.args.placed.now.cell) (place_of c.args.placed.now.cell) c.loop-digit.digit c.args.list.now.items c.loop-digit.list.items (vec_len c.args.list.now) (vec_len c.loop-digit.list) c.args.looks.now.count c.loop-digit.looks.count (c.loop-digit.looks.count + 1 + 4 * ((depth_of c.child.result.cell) - (30 - c.args.level)) * (c.args.max - vec_len c.loop-digit.list + 1)) c.args.max (depth_of c.child.result.cell) c.loop-digit-test.true below d1 c.args.list.now.ok.0 c.loop-digit.list.ok.0 c.loop-digit.invariant (omega arith) in
-    let fits : c.loop-digit.looks.count + 1 + 4 * ((depth_of c.child.result.cell) - (30 - c.args.level)) * (c.args.max - vec_len c.loop-digit.list + 1) < 2 ^ 64 = omega (arith, c.requires.looks) in
+    let stop = sought_stop S grain (depth_of c.args.placed.now.cell) (place_of c.args.placed.now.cell) c.loop-digit.digit c.args.list.now.items c.loop-digit.list.items (vec_len c.args.list.now) (vec_len c.loop-digit.list) c.args.looks.now.count c.loop-digit.looks.count (c.loop-digit.looks.count + 1 + 4 * ((depth_of c.child.result.cell) - grain) * (c.args.max - vec_len c.loop-digit.list + 1)) c.args.max (depth_of c.child.result.cell) c.loop-digit-test.true cross.above child.depth c.args.list.now.ok.0 c.loop-digit.list.ok.0 c.loop-digit.invariant (omega arith) in
+    let fits : c.loop-digit.looks.count + 1 + 4 * ((depth_of c.child.result.cell) - grain) * (c.args.max - vec_len c.loop-digit.list + 1) < 2 ^ 64 = omega (arith, c.requires.looks) in
     search rules
 
 pub returns-in-Err-clause-many : goal.returns-in-Err-clause-many
-returns-in-Err-clause-many t c e = sought_many (rect_set c.args.rect.now) (30 - c.args.level) (depth_of c.args.placed.now.cell) (place_of c.args.placed.now.cell) c.loop-digit.digit c.args.list.now.items c.loop-digit.list.items (vec_len c.args.list.now) (vec_len c.loop-digit.list) c.args.looks.now.count c.loop-digit.looks.count c.args.max (depth_of c.child.result.cell) (place_of c.child.result.cell) c.loop-digit-test.true (cross_above (rect_set c.args.rect.now) (30 - c.args.level) c.args.placed.now.cell c.requires.aligned (let k = c.requires.above in omega arith) (λ h. let e = (c.in-Cross.ensures.out c.args.placed.now.cell c.requires.placed.square).1 h in cc) (λ h. let e = (c.in-Cross.ensures.inside c.args.placed.now.cell c.requires.placed.square).1 h in cc)) (kid c.args.placed.now.cell c.child.result.cell c.loop-digit.digit c.child.ensures.cell (crossed_child (rect_set c.args.rect.now) (30 - c.args.level) c.args.placed.now.cell c.child.result.cell c.loop-digit.digit c.requires.placed.cell c.requires.aligned (let k = c.requires.above in omega arith) (λ h. let e = (c.in-Cross.ensures.out c.args.placed.now.cell c.requires.placed.square).1 h in cc) (λ h. let e = (c.in-Cross.ensures.inside c.args.placed.now.cell c.requires.placed.square).1 h in cc) c.loop-digit-test.true c.child.ensures.cell)).depth (kid c.args.placed.now.cell c.child.result.cell c.loop-digit.digit c.child.ensures.cell (crossed_child (rect_set c.args.rect.now) (30 - c.args.level) c.args.placed.now.cell c.child.result.cell c.loop-digit.digit c.requires.placed.cell c.requires.aligned (let k = c.requires.above in omega arith) (λ h. let e = (c.in-Cross.ensures.out c.args.placed.now.cell c.requires.placed.square).1 h in cc) (λ h. let e = (c.in-Cross.ensures.inside c.args.placed.now.cell c.requires.placed.square).1 h in cc) c.loop-digit-test.true c.child.ensures.cell)).place c.args.list.now.ok.0 c.loop-digit.list.ok.0 (not_whole (rect_set c.args.rect.now) c.args.placed.now.cell (λ h. let e = (c.in-Cross.ensures.inside c.args.placed.now.cell c.requires.placed.square).1 h in cc)) c.loop-digit.invariant (c.in-Err.ensures.many e)
+returns-in-Err-clause-many t c e =
+    let S = rect_set c.args.rect.now in
+    let grain = 30 - c.args.level in
+    let cross = crossed S grain c.args.placed.now.cell c.requires.aligned (let k = c.requires.above in omega arith)
+    (λ h. let e = (c.in-Cross.ensures.out c.args.placed.now.cell c.requires.placed.square).1 h in cc)
+    (λ h. let e = (c.in-Cross.ensures.inside c.args.placed.now.cell c.requires.placed.square).1 h in cc) in
+    let child = kid S grain c.args.placed.now.cell c.child.result.cell c.loop-digit.digit c.requires.placed.cell cross c.loop-digit-test.true c.child.ensures.cell in
+    sought_many S grain (depth_of c.args.placed.now.cell) (place_of c.args.placed.now.cell) c.loop-digit.digit c.args.list.now.items c.loop-digit.list.items (vec_len c.args.list.now) (vec_len c.loop-digit.list) c.args.looks.now.count c.loop-digit.looks.count c.args.max (depth_of c.child.result.cell) (place_of c.child.result.cell) c.loop-digit-test.true cross.above child.depth child.place c.args.list.now.ok.0 c.loop-digit.list.ok.0 cross.part c.loop-digit.invariant (c.in-Err.ensures.many e)
 
 pub returns-in-Err-clause-stopped : goal.returns-in-Err-clause-stopped
-returns-in-Err-clause-stopped t c = sought_stop (rect_set c.args.rect.now) (30 - c.args.level) (depth_of c.args.placed.now.cell) (place_of c.args.placed.now.cell) c.loop-digit.digit c.args.list.now.items c.loop-digit.list.items (vec_len c.args.list.now) (vec_len c.loop-digit.list) c.args.looks.now.count c.loop-digit.looks.count _ c.args.max (depth_of c.child.result.cell) c.loop-digit-test.true (cross_above (rect_set c.args.rect.now) (30 - c.args.level) c.args.placed.now.cell c.requires.aligned (let k = c.requires.above in omega arith) (λ h. let e = (c.in-Cross.ensures.out c.args.placed.now.cell c.requires.placed.square).1 h in cc) (λ h. let e = (c.in-Cross.ensures.inside c.args.placed.now.cell c.requires.placed.square).1 h in cc)) (kid c.args.placed.now.cell c.child.result.cell c.loop-digit.digit c.child.ensures.cell (crossed_child (rect_set c.args.rect.now) (30 - c.args.level) c.args.placed.now.cell c.child.result.cell c.loop-digit.digit c.requires.placed.cell c.requires.aligned (let k = c.requires.above in omega arith) (λ h. let e = (c.in-Cross.ensures.out c.args.placed.now.cell c.requires.placed.square).1 h in cc) (λ h. let e = (c.in-Cross.ensures.inside c.args.placed.now.cell c.requires.placed.square).1 h in cc) c.loop-digit-test.true c.child.ensures.cell)).depth c.args.list.now.ok.0 c.loop-digit.list.ok.0 c.loop-digit.invariant c.in-Err.ensures.stopped
+returns-in-Err-clause-stopped t c =
+    let S = rect_set c.args.rect.now in
+    let grain = 30 - c.args.level in
+    let cross = crossed S grain c.args.placed.now.cell c.requires.aligned (let k = c.requires.above in omega arith)
+    (λ h. let e = (c.in-Cross.ensures.out c.args.placed.now.cell c.requires.placed.square).1 h in cc)
+    (λ h. let e = (c.in-Cross.ensures.inside c.args.placed.now.cell c.requires.placed.square).1 h in cc) in
+    let child = kid S grain c.args.placed.now.cell c.child.result.cell c.loop-digit.digit c.requires.placed.cell cross c.loop-digit-test.true c.child.ensures.cell in
+    sought_stop S grain (depth_of c.args.placed.now.cell) (place_of c.args.placed.now.cell) c.loop-digit.digit c.args.list.now.items c.loop-digit.list.items (vec_len c.args.list.now) (vec_len c.loop-digit.list) c.args.looks.now.count c.loop-digit.looks.count _ c.args.max (depth_of c.child.result.cell) c.loop-digit-test.true cross.above child.depth c.args.list.now.ok.0 c.loop-digit.list.ok.0 c.loop-digit.invariant c.in-Err.ensures.stopped
 
 pub loop-digit-preserved : goal.loop-digit-preserved
-loop-digit-preserved t c = sought_next (rect_set c.args.rect.now) (30 - c.args.level) (depth_of c.args.placed.now.cell) (place_of c.args.placed.now.cell) c.loop-digit.digit c.args.list.now.items c.loop-digit.list.items c.seek.new.list.items (vec_len c.loop-digit.list) (vec_len c.seek.new.list) c.args.looks.now.count c.loop-digit.looks.count _ c.args.max (depth_of c.child.result.cell) (place_of c.child.result.cell) (kid c.args.placed.now.cell c.child.result.cell c.loop-digit.digit c.child.ensures.cell (crossed_child (rect_set c.args.rect.now) (30 - c.args.level) c.args.placed.now.cell c.child.result.cell c.loop-digit.digit c.requires.placed.cell c.requires.aligned (let k = c.requires.above in omega arith) (λ h. let e = (c.in-Cross.ensures.out c.args.placed.now.cell c.requires.placed.square).1 h in cc) (λ h. let e = (c.in-Cross.ensures.inside c.args.placed.now.cell c.requires.placed.square).1 h in cc) c.loop-digit-test.true c.child.ensures.cell)).depth (kid c.args.placed.now.cell c.child.result.cell c.loop-digit.digit c.child.ensures.cell (crossed_child (rect_set c.args.rect.now) (30 - c.args.level) c.args.placed.now.cell c.child.result.cell c.loop-digit.digit c.requires.placed.cell c.requires.aligned (let k = c.requires.above in omega arith) (λ h. let e = (c.in-Cross.ensures.out c.args.placed.now.cell c.requires.placed.square).1 h in cc) (λ h. let e = (c.in-Cross.ensures.inside c.args.placed.now.cell c.requires.placed.square).1 h in cc) c.loop-digit-test.true c.child.ensures.cell)).place c.loop-digit.invariant c.in-Ok.ensures.list c.in-Ok.ensures.room c.in-Ok.ensures.most c.in-Ok.ensures.least
+loop-digit-preserved t c =
+    let S = rect_set c.args.rect.now in
+    let grain = 30 - c.args.level in
+    let cross = crossed S grain c.args.placed.now.cell c.requires.aligned (let k = c.requires.above in omega arith)
+    (λ h. let e = (c.in-Cross.ensures.out c.args.placed.now.cell c.requires.placed.square).1 h in cc)
+    (λ h. let e = (c.in-Cross.ensures.inside c.args.placed.now.cell c.requires.placed.square).1 h in cc) in
+    let child = kid S grain c.args.placed.now.cell c.child.result.cell c.loop-digit.digit c.requires.placed.cell cross c.loop-digit-test.true c.child.ensures.cell in
+    sought_next S grain (depth_of c.args.placed.now.cell) (place_of c.args.placed.now.cell) c.loop-digit.digit c.args.list.now.items c.loop-digit.list.items c.seek.new.list.items (vec_len c.loop-digit.list) (vec_len c.seek.new.list) c.args.looks.now.count c.loop-digit.looks.count _ c.args.max (depth_of c.child.result.cell) (place_of c.child.result.cell) child.depth child.place c.loop-digit.invariant c.in-Ok.ensures.list c.in-Ok.ensures.room c.in-Ok.ensures.most c.in-Ok.ensures.least
 
 pub returns-in-Out-clause-list : goal.returns-in-Out-clause-list
 returns-in-Out-clause-list t c =
@@ -60,10 +89,28 @@ returns-in-In-clause-least t c =
     on_ok_count c.take.result _ c.args.looks.now.count _ _ c.args.placed.now.cell (w.cells ∙ ap (λ z. z ∷ []) (id_of c.args.placed.now.cell c.requires.placed.cell)) c.look.ensures.count c.take.ensures.list
 
 pub returns-after-loop-digit-clause-list : goal.returns-after-loop-digit-clause-list
-returns-after-loop-digit-clause-list t c = (sought_all (rect_set c.args.rect.now) (30 - c.args.level) (depth_of c.args.placed.now.cell) (place_of c.args.placed.now.cell) c.loop-digit.digit c.args.list.now.items c.loop-digit.list.items (vec_len c.loop-digit.list) c.args.looks.now.count c.loop-digit.looks.count c.args.max (let a = c.loop-digit-test.false in let b = c.loop-digit.auto.digit-end in omega arith) (cross_above (rect_set c.args.rect.now) (30 - c.args.level) c.args.placed.now.cell c.requires.aligned (let k = c.requires.above in omega arith) (λ h. let e = (c.in-Cross.ensures.out c.args.placed.now.cell c.requires.placed.square).1 h in cc) (λ h. let e = (c.in-Cross.ensures.inside c.args.placed.now.cell c.requires.placed.square).1 h in cc)) (not_whole (rect_set c.args.rect.now) c.args.placed.now.cell (λ h. let e = (c.in-Cross.ensures.inside c.args.placed.now.cell c.requires.placed.square).1 h in cc)) (some_cells (rect_set c.args.rect.now) (30 - c.args.level) c.args.placed.now.cell c.requires.aligned (let k = c.requires.above in omega arith) (λ h. let e = (c.in-Cross.ensures.out c.args.placed.now.cell c.requires.placed.square).1 h in cc)) c.loop-digit.invariant).list
+returns-after-loop-digit-clause-list t c =
+    let S = rect_set c.args.rect.now in
+    let grain = 30 - c.args.level in
+    let cross = crossed S grain c.args.placed.now.cell c.requires.aligned (let k = c.requires.above in omega arith)
+    (λ h. let e = (c.in-Cross.ensures.out c.args.placed.now.cell c.requires.placed.square).1 h in cc)
+    (λ h. let e = (c.in-Cross.ensures.inside c.args.placed.now.cell c.requires.placed.square).1 h in cc) in
+    (sought_all S grain (depth_of c.args.placed.now.cell) (place_of c.args.placed.now.cell) c.loop-digit.digit c.args.list.now.items c.loop-digit.list.items (vec_len c.loop-digit.list) c.args.looks.now.count c.loop-digit.looks.count c.args.max (let a = c.loop-digit-test.false in let b = c.loop-digit.auto.digit-end in omega arith) cross.above cross.part cross.some c.loop-digit.invariant).list
 
 pub returns-after-loop-digit-clause-most : goal.returns-after-loop-digit-clause-most
-returns-after-loop-digit-clause-most t c = (sought_all (rect_set c.args.rect.now) (30 - c.args.level) (depth_of c.args.placed.now.cell) (place_of c.args.placed.now.cell) c.loop-digit.digit c.args.list.now.items c.loop-digit.list.items (vec_len c.loop-digit.list) c.args.looks.now.count c.loop-digit.looks.count c.args.max (let a = c.loop-digit-test.false in let b = c.loop-digit.auto.digit-end in omega arith) (cross_above (rect_set c.args.rect.now) (30 - c.args.level) c.args.placed.now.cell c.requires.aligned (let k = c.requires.above in omega arith) (λ h. let e = (c.in-Cross.ensures.out c.args.placed.now.cell c.requires.placed.square).1 h in cc) (λ h. let e = (c.in-Cross.ensures.inside c.args.placed.now.cell c.requires.placed.square).1 h in cc)) (not_whole (rect_set c.args.rect.now) c.args.placed.now.cell (λ h. let e = (c.in-Cross.ensures.inside c.args.placed.now.cell c.requires.placed.square).1 h in cc)) (some_cells (rect_set c.args.rect.now) (30 - c.args.level) c.args.placed.now.cell c.requires.aligned (let k = c.requires.above in omega arith) (λ h. let e = (c.in-Cross.ensures.out c.args.placed.now.cell c.requires.placed.square).1 h in cc)) c.loop-digit.invariant).most
+returns-after-loop-digit-clause-most t c =
+    let S = rect_set c.args.rect.now in
+    let grain = 30 - c.args.level in
+    let cross = crossed S grain c.args.placed.now.cell c.requires.aligned (let k = c.requires.above in omega arith)
+    (λ h. let e = (c.in-Cross.ensures.out c.args.placed.now.cell c.requires.placed.square).1 h in cc)
+    (λ h. let e = (c.in-Cross.ensures.inside c.args.placed.now.cell c.requires.placed.square).1 h in cc) in
+    (sought_all S grain (depth_of c.args.placed.now.cell) (place_of c.args.placed.now.cell) c.loop-digit.digit c.args.list.now.items c.loop-digit.list.items (vec_len c.loop-digit.list) c.args.looks.now.count c.loop-digit.looks.count c.args.max (let a = c.loop-digit-test.false in let b = c.loop-digit.auto.digit-end in omega arith) cross.above cross.part cross.some c.loop-digit.invariant).most
 
 pub returns-after-loop-digit-clause-least : goal.returns-after-loop-digit-clause-least
-returns-after-loop-digit-clause-least t c = (sought_all (rect_set c.args.rect.now) (30 - c.args.level) (depth_of c.args.placed.now.cell) (place_of c.args.placed.now.cell) c.loop-digit.digit c.args.list.now.items c.loop-digit.list.items (vec_len c.loop-digit.list) c.args.looks.now.count c.loop-digit.looks.count c.args.max (let a = c.loop-digit-test.false in let b = c.loop-digit.auto.digit-end in omega arith) (cross_above (rect_set c.args.rect.now) (30 - c.args.level) c.args.placed.now.cell c.requires.aligned (let k = c.requires.above in omega arith) (λ h. let e = (c.in-Cross.ensures.out c.args.placed.now.cell c.requires.placed.square).1 h in cc) (λ h. let e = (c.in-Cross.ensures.inside c.args.placed.now.cell c.requires.placed.square).1 h in cc)) (not_whole (rect_set c.args.rect.now) c.args.placed.now.cell (λ h. let e = (c.in-Cross.ensures.inside c.args.placed.now.cell c.requires.placed.square).1 h in cc)) (some_cells (rect_set c.args.rect.now) (30 - c.args.level) c.args.placed.now.cell c.requires.aligned (let k = c.requires.above in omega arith) (λ h. let e = (c.in-Cross.ensures.out c.args.placed.now.cell c.requires.placed.square).1 h in cc)) c.loop-digit.invariant).least
+returns-after-loop-digit-clause-least t c =
+    let S = rect_set c.args.rect.now in
+    let grain = 30 - c.args.level in
+    let cross = crossed S grain c.args.placed.now.cell c.requires.aligned (let k = c.requires.above in omega arith)
+    (λ h. let e = (c.in-Cross.ensures.out c.args.placed.now.cell c.requires.placed.square).1 h in cc)
+    (λ h. let e = (c.in-Cross.ensures.inside c.args.placed.now.cell c.requires.placed.square).1 h in cc) in
+    (sought_all S grain (depth_of c.args.placed.now.cell) (place_of c.args.placed.now.cell) c.loop-digit.digit c.args.list.now.items c.loop-digit.list.items (vec_len c.loop-digit.list) c.args.looks.now.count c.loop-digit.looks.count c.args.max (let a = c.loop-digit-test.false in let b = c.loop-digit.auto.digit-end in omega arith) cross.above cross.part cross.some c.loop-digit.invariant).least

@@ -1,13 +1,15 @@
-use Rattle.std.proofs.Common.{◌+◌, ◌*◌, ◌/◌, ◌%◌, ◌^◌, arith, refl}
+use Rattle.std.proofs.Common.{◌+◌, ◌*◌, ◌/◌, ◌%◌, ◌^◌, arith}
+use Rattle.s2cell.specs.Curve.{i_of, j_of}
 use Rattle.s2cell.proofs.Levels.{at_bounds}
-use Rattle.s2cell.proofs.Places.{place_exists, leaf_exists}
+use Rattle.s2cell.proofs.Places.{place_is, leaf_exists}
 use Rattle.s2cell.proofs.Squares.{one_place, one_leaf, next_beside, place_of_leaf}
-use Rattle.s2cell.proofs.curve_laws.law_of_places.Goals as goal
+use Rattle.s2cell.proofs.laws.law_of_places.Goals as goal
 
 pub returns-clause-place : goal.returns-clause-place
-returns-clause-place c n h =
-    let there = place_exists 30 (n / 4 ^ 30 % 2) (n % 4 ^ 30) (omega arith) (omega arith) in
-    (n / 4 ^ 30, there.0, there.1, omega arith, record { face_is = refl; at = there.2 })
+returns-clause-place c n h = (n / 4 ^ 30, i_of n, j_of n, omega arith, place_is n)
+
+pub returns-clause-coordinates : goal.returns-clause-coordinates
+returns-clause-coordinates c = place_is
 
 pub returns-clause-leaf : goal.returns-clause-leaf
 returns-clause-leaf c face i j hf hi hj =

@@ -1,6 +1,6 @@
 use Rattle.s2cell.proofs.Squares.{one_square, place_in_square, leaf_in_cell}
 use Rattle.s2cell.proofs.Quarters.{orientation_of_face, square_of_face, square_of_child, orientation_of_child}
-use Rattle.s2cell.proofs.curve_laws.law_of_squares.Goals as goal
+use Rattle.s2cell.proofs.laws.law_of_squares.Goals as goal
 
 pub returns-clause-one_square : goal.returns-clause-one_square
 returns-clause-one_square c n f i j s g x y t ic a b = let e = one_square n f i j s g x y t ic a b in (e.face, e.first, e.second, e.size)
