@@ -2,6 +2,7 @@
 use Rattle.std.specs.Prelude.{◌≡◌, ℕ, ◌+◌, ◌-◌, ◌^◌, ◌%◌, ◌<◌, ◌≤◌, true}
 use Rattle.s2cell.specs.Cell.{IsCell, level_of, place_of, face_of, covers}
 use Rattle.s2cell.specs.Curve.{IsPlaceOf, orientation_after}
+use Rattle.s2cell.specs.declared.placed.PlacedCell.{PlacedCell}
 
 -- the place `x`, `y` lies in the square whose least coordinates are `i` and `j`
 pub record InSquare (i j size x y : ℕ) : Type 0 where
@@ -27,3 +28,7 @@ pub record IsPlaced (c face i j size orientation : ℕ) : Type 0 where
   pub cell : IsCell c
   pub square : IsSquareOf c face i j size
   pub orientation_is : orientation ≡ orientation_of c
+
+-- the parts of a placed cell belong together
+abbrev pub IsPlacedCell : PlacedCell → Type 0
+IsPlacedCell p = IsPlaced p.cell p.square.face p.square.i p.square.j p.square.size p.orientation

@@ -2,7 +2,7 @@
 
 ghost use Rattle.std.specs.Prelude.{◌≡◌, ◌+◌, ◌<◌};
 ghost use Rattle.s2cell.specs.Cell.{level_of, child_of, face_of};
-ghost use Rattle.s2cell.specs.Square.{IsPlaced};
+ghost use Rattle.s2cell.specs.Square.{IsPlacedCell};
 
 use crate::{CellId, Square, tables};
 
@@ -25,7 +25,7 @@ impl PlacedCell {
     /// A face, 0 to 5, with its square.
     pub fn face(face: u8) -> PlacedCell
         requires { face < 6 }
-        ensures placed { IsPlaced result.cell result.square.face result.square.i result.square.j result.square.size result.orientation }
+        ensures placed { IsPlacedCell result }
         ensures level { level_of result.cell ≡ 0 }
         ensures face { face_of result.cell ≡ face }
     {
@@ -45,12 +45,12 @@ impl PlacedCell {
 
     /// The child with the number `p`, 0 to 3 along the curve, with its square. The cell is no leaf.
     pub fn child(self, p: u8) -> PlacedCell
-        requires placed { IsPlaced self.cell self.square.face self.square.i self.square.j self.square.size self.orientation }
+        requires placed { IsPlacedCell self }
         requires inner { level_of self.cell < 30 }
         requires place { p < 4 }
         ensures cell { result.cell ≡ child_of self.cell p }
         ensures level { level_of result.cell ≡ level_of self.cell + 1 }
-        ensures placed { IsPlaced result.cell result.square.face result.square.i result.square.j result.square.size result.orientation }
+        ensures placed { IsPlacedCell result }
     {
         let step = tables::place_step(self.orientation, p);
         let half = self.square.size / 2;

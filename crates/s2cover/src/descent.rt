@@ -1,7 +1,7 @@
 //! The descent through the cells, whatever the region.
 ghost use Rattle.std.specs.Prelude.{◌≡◌, ◌+◌, ◌-◌, ◌*◌, ◌^◌, ◌<◌, ◌≤◌, ℕ, Bool, true, false, ◌↔◌, ◌++◌, ◌∷◌, [], length, vec_len, IfOk, IfErr};
 ghost use Rattle.s2cell.specs.Cell.{level_of, place_of};
-ghost use Rattle.s2cell.specs.Square.{IsPlaced};
+ghost use Rattle.s2cell.specs.Square.{IsPlacedCell};
 ghost use Rattle.s2cover.specs.Coverings.{filled};
 ghost use Rattle.s2cover.specs.Descent.{blocks, depth_of, filled_in, form_in};
 
@@ -19,7 +19,7 @@ pub(crate) fn visit<R: Region>(
     max: usize,
     list: &mut Vec<CellId>,
 ) -> Result<bool, CoverFault>
-    requires placed { IsPlaced placed.now.cell placed.now.square.face placed.now.square.i placed.now.square.j placed.now.square.size placed.now.orientation }
+    requires placed { IsPlacedCell placed.now }
     requires above { level_of placed.now.cell ≤ level }
     requires level { level ≤ 30 }
     requires loose { loose ≤ 3 * level_of placed.now.cell }
@@ -65,10 +65,10 @@ pub(crate) fn visit<R: Region>(
 
 /// A child of a cell, by its depth and place.
 fn child(placed: &PlacedCell, digit: u8) -> PlacedCell
-    requires placed { IsPlaced placed.now.cell placed.now.square.face placed.now.square.i placed.now.square.j placed.now.square.size placed.now.orientation }
+    requires placed { IsPlacedCell placed.now }
     requires inner { level_of placed.now.cell < 30 }
     requires digit { digit < 4 }
-    ensures placed { IsPlaced result.cell result.square.face result.square.i result.square.j result.square.size result.orientation }
+    ensures placed { IsPlacedCell result }
     ensures level { level_of result.cell ≡ level_of placed.now.cell + 1 }
     ensures depth { depth_of result.cell + 1 ≡ depth_of placed.now.cell }
     ensures place { place_of result.cell ≡ 4 * place_of placed.now.cell + digit }

@@ -1,7 +1,7 @@
 //! The search for the greatest cells of a rectangle that lies on the grid of a level.
 ghost use Rattle.std.specs.Prelude.{◌≡◌, ◌+◌, ◌-◌, ◌*◌, ◌^◌, ◌<◌, ◌≤◌, ◌↔◌, ◌++◌, ◌∷◌, [], ℕ, true, false, length, vec_len, OnOk, OnErr, IfErr};
 ghost use Rattle.s2cell.specs.Cell.{covers, level_of};
-ghost use Rattle.s2cell.specs.Square.{IsPlaced, IsSquareOf};
+ghost use Rattle.s2cell.specs.Square.{IsPlacedCell, IsSquareOf};
 ghost use Rattle.s2cover.specs.Descent.{IsAligned, depth_of, form_in};
 ghost use Rattle.s2cover.specs.Rectangles.{rect_set};
 
@@ -40,7 +40,7 @@ pub(crate) fn seek(
     looks: &mut Looks,
     list: &mut Vec<CellId>,
 ) -> Result<(), CoverFault>
-    requires placed { IsPlaced placed.now.cell placed.now.square.face placed.now.square.i placed.now.square.j placed.now.square.size placed.now.orientation }
+    requires placed { IsPlacedCell placed.now }
     requires above { level_of placed.now.cell ≤ level }
     requires level { level ≤ 30 }
     requires max { max ≤ 1000000 }

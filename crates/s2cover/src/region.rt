@@ -1,7 +1,7 @@
 //! What a region is.
 ghost use Rattle.std.specs.Prelude.{◌≡◌, ◌↔◌, ℕ, Bool, true, false};
 ghost use Rattle.s2cell.specs.Cell.{covers};
-ghost use Rattle.s2cell.specs.Square.{IsPlaced};
+ghost use Rattle.s2cell.specs.Square.{IsPlacedCell};
 
 use s2cell::{CellId, PlacedCell};
 use thiserror::Error;
@@ -41,7 +41,7 @@ pub trait Region {
     /// The answer of `part` for a cell that comes with its square, as a descent carries it down. A region that asks for
     /// the squares of cells writes it too, and so spares the way from the face to each cell; any other leaves it out.
     fn part_of_placed(&self, placed: &PlacedCell) -> Part
-        requires placed { IsPlaced placed.now.cell placed.now.square.face placed.now.square.i placed.now.square.j placed.now.square.size placed.now.orientation }
+        requires placed { IsPlacedCell placed.now }
         ensures out { (result ≡ Part.Out) ↔ ((x : ℕ) → covers placed.now.cell x ≡ true → holds self.now x ≡ false) }
         ensures inside { (result ≡ Part.In) ↔ ((x : ℕ) → covers placed.now.cell x ≡ true → holds self.now x ≡ true) }
     {
