@@ -1,6 +1,7 @@
 -- Runs of cells that are added whole.
-use Rattle.std.proofs.Common.{◌≡◌, ℕ, ◌+◌, ◌-◌, ◌*◌, ◌<◌, ◌≤◌, refl, sym, ◌∙◌, ap, arith, Bool, true, false, ◌||◌, List, ◌++◌, length, get_or, take, drop, All, length-append, min, AllPairs, nat_cmp, Ok, Err}
+use Rattle.std.proofs.Common.{◌≡◌, ℕ, ◌+◌, ◌-◌, ◌*◌, ◌<◌, ◌≤◌, refl, sym, ◌∙◌, ap, arith, ◌||◌, List, ◌++◌, length, get_or, take, drop, All, length-append, min, AllPairs, nat_cmp, Ok, Err}
 use Rattle.std.proofs.Math.Logic.{⊎_elim}
+use Rattle.std.proofs.Math.Bool.{or_assoc}
 use Rattle.std.proofs.lemmas.Bool.{cases_lt}
 use Rattle.std.proofs.lemmas.List.Elements.{All-weaker, All-append, All-drop, All-take}
 use Rattle.std.proofs.lemmas.List.{take_all, take-append-drop, length-drop, get_or-drop, get_or-take, get_or_append_left, get_or-append_right, get_or_default, length-take-le, drop_all, append-nil, take-take, drop-take}
@@ -18,10 +19,6 @@ use Rattle.s2union.proofs.PackedLocal.{local_from_packed}
 use Rattle.s2union.proofs.Checking.{packed_from_local}
 use Rattle.s2union.proofs.Joining.{Start, Adding, Joining, or_last}
 
-or_group : (a b c : Bool) → ((a || b) || c) ≡ (a || (b || c))
-or_group true b c = refl
-or_group false b c = refl
-
 -- the next cell is added
 pub adding_step : (old cells list new : List ℕ) (i x : ℕ) → IsPacked cells → Adding old cells list i → i < length cells → x ≡ get_or cells i x
     → IsPacked new → Start new x → ((n : ℕ) → has_leaf new n ≡ (has_leaf list n || covers x n)) → Adding old cells new (i + 1)
@@ -32,7 +29,7 @@ adding_step old cells list new i x run a h rx packed start leaves =
       leaves = λ n.
           let p = λ (c : ℕ). covers c n in
           let more : list_any p (take (i + 1) cells) ≡ (list_any p (take i cells) || p (get_or cells i 0)) = list_any_more p cells i 0 h in
-          leaves n ∙ ap (λ v. v || covers x n) (a.leaves n) ∙ or_group (has_leaf old n) (has_leaf (take i cells) n) (covers x n)
+          leaves n ∙ ap (λ v. v || covers x n) (a.leaves n) ∙ or_assoc (has_leaf old n) (has_leaf (take i cells) n) (covers x n)
           ∙ ap (λ v. has_leaf old n || (has_leaf (take i cells) n || covers v n)) (sym ex) ∙ ap (λ v. has_leaf old n || v) (sym more);
       start = λ g.
           let up : get_or cells i 0 < get_or cells (i + 1) 0 = (local_from_packed cells run).ascending i g in
@@ -92,8 +89,8 @@ part_packed u i n packed h =
 pub rest_packed : (u : List ℕ) (i : ℕ) → IsLocal u → i ≤ length u → IsPacked (take (length u - i) (drop i u))
 rest_packed u i l h = part_packed u i (length u - i) (packed_from_local u l) (omega arith)
 
--- so nothing there overlaps, and no four of a family stand in a row
-pub follow_packed : (list cells : List ℕ) (i : ℕ) → IsPacked list → IsPacked cells → i ≤ length cells → Continues list cells i → IsPacked (list ++ drop i cells)
+-- so cells that follow behind such a list overlap none of it, and make no family with its last ones
+follow_packed : (list cells : List ℕ) (i : ℕ) → IsPacked list → IsPacked cells → i ≤ length cells → Continues list cells i → IsPacked (list ++ drop i cells)
 follow_packed list cells i packed run within e =
     let len : length (list ++ drop i cells) ≡ length list + (length cells - i) = length-append list (drop i cells) ∙ ap (λ n. length list + n) (length-drop i cells) in
     let front : (k : ℕ) → k < length list → get_or (list ++ drop i cells) k 0 ≡ get_or list k 0 = λ k h. get_or_append_left list (drop i cells) 0 k h in
@@ -165,7 +162,7 @@ adding_done old cells list new i run a within e is =
           (λ (l : length cells ≤ i). rw (drop_all i cells l, append-nil) a.packed)
           (cases_lt i (length cells)));
       leaves = λ x. ap (λ l. has_leaf l x) whole ∙ list_any-append (λ (c : ℕ). covers c x) list (drop i cells) ∙ ap (λ v. v || has_leaf (drop i cells) x) (a.leaves x)
-          ∙ or_group (has_leaf old x) (has_leaf (take i cells) x) (has_leaf (drop i cells) x) ∙ ap (λ v. has_leaf old x || v) (sym (parts x));
+          ∙ or_assoc (has_leaf old x) (has_leaf (take i cells) x) (has_leaf (drop i cells) x) ∙ ap (λ v. has_leaf old x || v) (sym (parts x));
       later = λ n s below. rw whole (All-append (λ c. 2 * first_leaf c < n) list (drop i cells) (a.later n s below)
           (λ k d h.
           let len : length (drop i cells) ≡ length cells - i = length-drop i cells in
@@ -210,7 +207,7 @@ take_parts u i n h =
     sym (take-append-drop i (take n u)) ∙ ap (λ l. l ++ drop i (take n u)) front ∙ ap (λ l. take i u ++ l) back
 
 -- a run of xs before the next cell of ys is added
-pub join_run : (xs ys list new : List ℕ) (i j next : ℕ) → IsLocal xs → Joining xs ys list i j → i ≤ next → next ≤ length xs → (j < length ys → (k : ℕ) → i ≤ k → k < next → get_or xs k 0 < get_or ys j 0)
+join_run : (xs ys list new : List ℕ) (i j next : ℕ) → IsLocal xs → Joining xs ys list i j → i ≤ next → next ≤ length xs → (j < length ys → (k : ℕ) → i ≤ k → k < next → get_or xs k 0 < get_or ys j 0)
     → Added list (take (next - i) (drop i xs)) new → Joining xs ys new next j
 join_run xs ys list new i j next lx s h within below added =
     let len : length (take (next - i) (drop i xs)) ≡ next - i = length-take-le (next - i) (drop i xs) (omega (arith, length-drop i xs)) in

@@ -12,7 +12,7 @@ loop-i-preserved c =
       within = omega arith;
       few = omega arith;
       room = e.room ∙ v.room;
-      adding = adding_step c.args.list.now.items c.args.cells.now c.loop-i.list.items c.add_reserved.new.list.items c.loop-i.i c.index-cells-i.result c.requires.run v.adding c.loop-i-test.true c.index-cells-i.is
+      adding = adding_step c.args.list.now.items c.args.cells.now c.loop-i.list.items c.add_reserved.new.list.items c.loop-i.i c.index-cells-i.result c.requires.run v.adding (omega arith) c.index-cells-i.is
           e.packed e.starts e.leaves;
     }
 
