@@ -3,6 +3,7 @@ use Rattle.std.proofs.Common.{◌≡◌, ℕ, ◌+◌, ◌-◌, ◌*◌, ◌<◌
 use Rattle.std.proofs.Math.Logic.{⊎_elim}
 use Rattle.std.proofs.Math.Bool.{or_assoc}
 use Rattle.std.proofs.lemmas.Bool.{cases_lt}
+use Rattle.std.proofs.lemmas.Grind.{same_number_lists}
 use Rattle.std.proofs.lemmas.List.Elements.{All-weaker, All-append, All-drop, All-take}
 use Rattle.std.proofs.lemmas.List.{take_all, take-append-drop, length-drop, get_or-drop, get_or-take, get_or_append_left, get_or-append_right, get_or_default, length-take-le, drop_all, append-nil, take-take, drop-take}
 use Rattle.std.proofs.lemmas.List.Folds.{list_any_more, list_any-append}
@@ -127,21 +128,36 @@ follow_packed list cells i packed run within e =
           (cases_lt (k + 3) (length list));
     }
 
--- the last cells of a list, read as slices
+part_at : (u : List ℕ) (i n j k : ℕ) → j < n → i + j ≡ k → get_or (take n (drop i u)) j 0 ≡ get_or u k 0
+part_at u i n j k h e = get_or-take n (drop i u) j 0 h ∙ get_or-drop i u j 0 ∙ ap (λ x. get_or u x 0) e
+
+-- the last cells of a list, and those before a place, read as slices
 pub continues_from : (list cells : List ℕ) (i n : ℕ) → n ≡ min (length list) 3 → n ≤ i → i ≤ length cells →
     take (length list - (length list - n)) (drop (length list - n) list) ≡ take (i - (i - n)) (drop (i - n) cells) → Continues list cells i
 continues_from list cells i n en h within e = record {
   within = λ k a b. omega arith;
   same = λ k a b.
       let j = k - (length list - n) in
-      let left : get_or (take (length list - (length list - n)) (drop (length list - n) list)) j 0 ≡ get_or list k 0 =
-      get_or-take (length list - (length list - n)) (drop (length list - n) list) j 0 (omega arith) ∙ get_or-drop (length list - n) list j 0
-      ∙ ap (λ x. get_or list x 0) (let q : length list - n + j ≡ k = omega arith in q) in
-      let right : get_or (take (i - (i - n)) (drop (i - n) cells)) j 0 ≡ get_or cells (k + i - length list) 0 =
-      get_or-take (i - (i - n)) (drop (i - n) cells) j 0 (omega arith) ∙ get_or-drop (i - n) cells j 0
-      ∙ ap (λ x. get_or cells x 0) (let q : i - n + j ≡ k + i - length list = omega arith in q) in
-      sym left ∙ ap (λ l. get_or l j 0) e ∙ right;
+      sym (part_at list (length list - n) (length list - (length list - n)) j k (omega arith) (omega arith)) ∙ ap (λ l. get_or l j 0) e
+      ∙ part_at cells (i - n) (i - (i - n)) j (k + i - length list) (omega arith) (omega arith);
 }
+
+pub continues_to : (list cells : List ℕ) (i n : ℕ) → n ≡ min (length list) 3 → n ≤ i → i ≤ length cells → Continues list cells i →
+    take (length list - (length list - n)) (drop (length list - n) list) ≡ take (i - (i - n)) (drop (i - n) cells)
+continues_to list cells i n en h within c =
+    let left : length (take (length list - (length list - n)) (drop (length list - n) list)) ≡ n =
+    length-take-le (length list - (length list - n)) (drop (length list - n) list) (omega (arith, length-drop (length list - n) list)) ∙ omega arith in
+    let right : length (take (i - (i - n)) (drop (i - n) cells)) ≡ n =
+    length-take-le (i - (i - n)) (drop (i - n) cells) (omega (arith, length-drop (i - n) cells)) ∙ omega arith in
+    same_number_lists (take (length list - (length list - n)) (drop (length list - n) list)) (take (i - (i - n)) (drop (i - n) cells)) (left ∙ sym right)
+    (λ j l.
+    let k = length list - n + j in
+    part_at list (length list - n) (length list - (length list - n)) j k (omega arith) refl ∙ c.same k (omega arith) (omega arith)
+    ∙ sym (part_at cells (i - n) (i - (i - n)) j (k + i - length list) (omega arith) (omega arith)))
+
+-- a list does not end as the cells do before a place that is nearer to their front than its last cells are many
+pub continues_not : (list cells : List ℕ) (i n : ℕ) → n ≡ min (length list) 3 → i < n → Continues list cells i → ⊥
+continues_not list cells i n en h c = let e = c.within (length list - n) (omega arith) (omega arith) in omega arith
 
 -- what is left of the cells is copied
 pub record Added (old cells new : List ℕ) : Type 0 where

@@ -1,5 +1,5 @@
 //! Runs of cells that are added whole.
-ghost use Rattle.std.specs.Prelude.{All, IsTrue, slice_index, ◌≡◌, ◌≤◌, ◌<◌, ◌+◌, ◌*◌, ◌++◌, ◌||◌, ℕ, length};
+ghost use Rattle.std.specs.Prelude.{All, IsTrue, slice_index, ◌≡◌, ◌≤◌, ◌<◌, ◌+◌, ◌*◌, ◌++◌, ◌||◌, ◌↔◌, ℕ, length};
 ghost use Rattle.std.specs.Vec.{vec_len, vec_capacity};
 ghost use Rattle.std.specs.List.Sorted.{IsStrictlyIncreasing};
 ghost use Rattle.s2cell.specs.Cell.{first_leaf};
@@ -35,7 +35,7 @@ pub(crate) fn add_run(list: &mut Vec<CellId>, cells: &[CellId])
 /// Whether the last three cells of the list, or all where it has fewer, are those of `cells` before the place `i`.
 fn continues(list: &[CellId], cells: &[CellId], i: usize) -> bool
     requires { i ≤ length cells.now }
-    ensures { IsTrue result → Continues list.now cells.now i }
+    ensures { IsTrue result ↔ Continues list.now cells.now i }
 {
     let n = list.len().min(3);
     n <= i && list[list.len() - n..] == cells[i - n..i]
