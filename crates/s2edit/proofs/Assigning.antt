@@ -2,12 +2,12 @@
 use Rattle.std.proofs.Common.{◌≡◌, ◌≢◌, ℕ, ◌+◌, ◌<◌, ◌≤◌, List, [], ◌∷◌, length, map, take, slice_get, slice_set, Some, refl, sym, ap, ◌∙◌, subst, arith}
 use Rattle.std.proofs.lemmas.List.{length-take, take-map}
 use Rattle.s2union.specs.Union.{Union, IsLocal}
-use Rattle.s2union.specs.Apply.{without, applied, Fits}
+use Rattle.s2union.specs.Apply.{cells_without, applied, Fits}
 use Rattle.s2union.proofs.Applied.{applied-between, Fits-between}
 use Rattle.s2edit.specs.History.{History, Assigned, changed, cells_lost, numbers}
 use Rattle.s2edit.specs.Diff.{Diff, inverse, between}
 use Rattle.s2edit.specs.Leads.{list_at}
-use Rattle.s2edit.specs.Chain.{table_after, tables_after, FitsTable, FitAlong, lists_of, IsWithin, AllWithin, history}
+use Rattle.s2edit.specs.Chain.{table_after, tables_after, FitsTable, FitAlong, lists_of, IsWithin, AllWithin, history, union_of}
 use Rattle.s2edit.proofs.Tables.{tables_after-take, FitAlong-take, AllWithin-at, within_after, tables_back, along_back}
 use Rattle.s2edit.proofs.Numbers.{out_lost, put_won}
 use Rattle.s2edit.proofs.Moves.{Rewrites, table_is}
@@ -25,10 +25,10 @@ module _ (limit : ℕ) (t : List (List ℕ)) (r : ℕ) (v : List ℕ) (a : AllWi
   old_local : IsLocal (list_at t r)
   old_local = (AllWithin-at limit t r a l).local
 
-  pub between_fits : Fits (without (list_at t r) v) (without v (list_at t r)) (list_at t r)
+  pub between_fits : Fits (cells_without (list_at t r) v) (cells_without v (list_at t r)) (list_at t r)
   between_fits = Fits-between (list_at t r) v old_local w.local
 
-  pub between_leads : applied (without (list_at t r) v) (without v (list_at t r)) (list_at t r) ≡ v
+  pub between_leads : applied (cells_without (list_at t r) v) (cells_without v (list_at t r)) (list_at t r) ≡ v
   between_leads = applied-between (list_at t r) v old_local w.local
 
   pub between_table : table_after t (between r (list_at t r) v) ≡ slice_set t r v
@@ -42,13 +42,14 @@ module _ (limit : ℕ) (t : List (List ℕ)) (r : ℕ) (v : List ℕ) (a : AllWi
     changes = λ e. n (sym between_leads ∙ e);
   }
 
-  -- the same with the lists that the code has
-  pub given_fits : (o p : List ℕ) → o ≡ without (list_at t r) v → p ≡ without v (list_at t r) → Fits o p (list_at t r)
-  given_fits o p e f = subst (λ (x : List ℕ). Fits x p (list_at t r)) (sym e) (subst (λ (x : List ℕ). Fits (without (list_at t r) v) x (list_at t r)) (sym f) between_fits)
-
-  pub given_few : (o p : List ℕ) → o ≡ without (list_at t r) v → p ≡ without v (list_at t r) → length (applied o p (list_at t r)) ≤ limit
-  given_few o p e f =
-      omega (arith, w.few, ap length between_leads, ap (λ (x : List ℕ). length (applied x p (list_at t r))) e, ap (λ (x : List ℕ). length (applied (without (list_at t r) v) x (list_at t r))) f)
+  -- where a copy of the new list takes the register's place, the change is made
+  pub taken_over : (us us' : List Union) (copy scratch' : Union) → lists_of us ≡ t → copy.cells ≡ v → us' ≡ slice_set us r copy → slice_get us r ≡ Some scratch' →
+      Rewrites us us' copy scratch' (between r (list_at (lists_of us) r) v)
+  taken_over us us' copy scratch' e f g h = record {
+    registers = g ∙ ap (λ (x : List ℕ). slice_set us r (union_of x copy.room))
+        (f ∙ sym between_leads ∙ ap (λ (k : List (List ℕ)). applied (cells_without (list_at k r) v) (cells_without v (list_at k r)) (list_at k r)) (sym e));
+    was_there = h;
+  }
 
 -- what an assignment leaves
 pub record Changes (depth : ℕ) (us us' : List Union) (scratch scratch' : Union) (past past' future' : List Diff) (r : ℕ) (v : List ℕ) : Type 0 where
@@ -102,7 +103,7 @@ module _ (limit depth : ℕ) (us us' : List Union) (scratch scratch' : Union) (p
   pub change_bound : length past' + length future' ≤ depth
   change_bound = omega (arith, ap length m.onto, ap length m.cleared, length-take depth (between r (list_at (lists_of us) r) v ∷ past))
 
-  pub change_numbers : (t : List (List ℕ)) (p : ℕ × ℕ) → lists_of us ≡ t → p.0 ≡ length (without (list_at (lists_of us) r) v) → p.1 ≡ length (without v (list_at (lists_of us) r)) → p ≡ numbers t (lists_of us')
+  pub change_numbers : (t : List (List ℕ)) (p : ℕ × ℕ) → lists_of us ≡ t → p.0 ≡ length (cells_without (list_at (lists_of us) r) v) → p.1 ≡ length (cells_without v (list_at (lists_of us) r)) → p ≡ numbers t (lists_of us')
   change_numbers t p h e k =
       let d : Diff = between r (list_at (lists_of us) r) v in
       ap (λ (x : ℕ). (x, p.1)) (e ∙ out_lost limit (lists_of us) (between r (list_at (lists_of us) r) v) a fits_it)

@@ -3,11 +3,10 @@ use Rattle.std.proofs.Common.{◌≡◌, ℕ, zero, suc, ◌+◌, ◌<◌, ◌�
 use Rattle.std.proofs.lemmas.Bool.{cond-true, cond-false, or_left}
 use Rattle.std.proofs.lemmas.List.{take_all, drop_all}
 use Rattle.std.specs.List.Sorted.{IsStrictlyIncreasing}
-use Rattle.s2union.specs.Apply.{has, without}
-use Rattle.s2union.specs.Merge.{AllAbove, IsAscending}
-use Rattle.s2union.proofs.CellLists.{has-below, AllAbove-trans, ascends_from}
-use Rattle.s2union.proofs.MergeSteps.{without-above}
-use Rattle.s2edit.proofs.DiffLemmas.{without-nothing}
+use Rattle.s2union.specs.Apply.{has, cells_without}
+use Rattle.s2union.proofs.CellLists.{AllAbove, IsAscending, has-below, AllAbove-trans, ascends_from}
+use Rattle.s2union.proofs.MergeSteps.{cells_without-above}
+use Rattle.s2edit.proofs.DiffLemmas.{cells_without-nothing}
 
 IsAscending-drop : (xs : List ℕ) (k : ℕ) → IsAscending xs → IsAscending (drop k xs)
 IsAscending-drop xs zero a = a
@@ -28,45 +27,45 @@ above_all xs k x a l h =
 
 -- one of the others that is below the next cell says nothing of what is left
 pub below_turn : (us os : List ℕ) (i j : ℕ) → IsStrictlyIncreasing us → i < length us → j < length os → get_or os j 0 < get_or us i 0 →
-    without (drop i us) (drop (j + 1) os) ≡ without (drop i us) (drop j os)
+    cells_without (drop i us) (drop (j + 1) os) ≡ cells_without (drop i us) (drop j os)
 below_turn us os i j a l m h =
-    sym (ap (without (drop i us)) (at_head os j m) ∙ without-above (get_or os j 0) (drop i us) (drop (j + 1) os) (above_all us i (get_or os j 0) a l h))
+    sym (ap (cells_without (drop i us)) (at_head os j m) ∙ cells_without-above (get_or os j 0) (drop i us) (drop (j + 1) os) (above_all us i (get_or os j 0) a l h))
 
 -- a cell that both have
 pub same_turn : (us os : List ℕ) (i j : ℕ) → IsStrictlyIncreasing us → i < length us → j < length os → get_or os j 0 ≡ get_or us i 0 →
-    without (drop (i + 1) us) (drop (j + 1) os) ≡ without (drop i us) (drop j os)
+    cells_without (drop (i + 1) us) (drop (j + 1) os) ≡ cells_without (drop i us) (drop j os)
 same_turn us os i j a l m e =
     let t : has (drop j os) (get_or us i 0) ≡ true = ap (λ (xs : List ℕ). has xs (get_or us i 0)) (at_head os j m) ∙ or_left (eqb (get_or os j 0) (get_or us i 0)) (has (drop (j + 1) os) (get_or us i 0)) (eq-eqb (get_or os j 0) (get_or us i 0) e) in
     let above : AllAbove (get_or os j 0) (drop (i + 1) us) = subst (λ (x : ℕ). AllAbove x (drop (i + 1) us)) (sym e) (above_rest us i a l) in
-    sym (ap (λ (xs : List ℕ). without xs (drop j os)) (at_head us i l)
-    ∙ cond-true (has (drop j os) (get_or us i 0)) (without (drop (i + 1) us) (drop j os)) (get_or us i 0 ∷ without (drop (i + 1) us) (drop j os)) t
-    ∙ ap (without (drop (i + 1) us)) (at_head os j m)
-    ∙ without-above (get_or os j 0) (drop (i + 1) us) (drop (j + 1) os) above)
+    sym (ap (λ (xs : List ℕ). cells_without xs (drop j os)) (at_head us i l)
+    ∙ cond-true (has (drop j os) (get_or us i 0)) (cells_without (drop (i + 1) us) (drop j os)) (get_or us i 0 ∷ cells_without (drop (i + 1) us) (drop j os)) t
+    ∙ ap (cells_without (drop (i + 1) us)) (at_head os j m)
+    ∙ cells_without-above (get_or os j 0) (drop (i + 1) us) (drop (j + 1) os) above)
 
 -- a cell that the others lack
 lacking_cell : (us os : List ℕ) (i j : ℕ) → IsStrictlyIncreasing os → i < length us → j < length os → get_or us i 0 < get_or os j 0 →
-    without (drop i us) (drop j os) ≡ get_or us i 0 ∷ without (drop (i + 1) us) (drop j os)
+    cells_without (drop i us) (drop j os) ≡ get_or us i 0 ∷ cells_without (drop (i + 1) us) (drop j os)
 lacking_cell us os i j a l m h =
-    ap (λ (xs : List ℕ). without xs (drop j os)) (at_head us i l)
-    ∙ cond-false (has (drop j os) (get_or us i 0)) (without (drop (i + 1) us) (drop j os)) (get_or us i 0 ∷ without (drop (i + 1) us) (drop j os))
+    ap (λ (xs : List ℕ). cells_without xs (drop j os)) (at_head us i l)
+    ∙ cond-false (has (drop j os) (get_or us i 0)) (cells_without (drop (i + 1) us) (drop j os)) (get_or us i 0 ∷ cells_without (drop (i + 1) us) (drop j os))
     (has-below (get_or us i 0) (drop j os) (above_all os j (get_or us i 0) a m h))
 
 push_on : (w rest left whole : List ℕ) (x : ℕ) → w ++ left ≡ whole → left ≡ x ∷ rest → (w ++ x ∷ []) ++ rest ≡ whole
 push_on w rest left whole x e f = append_assoc w (x ∷ []) rest ∙ ap (λ (l : List ℕ). w ++ l) (sym f) ∙ e
 
 pub lacking_turn : (us os found : List ℕ) (i j x : ℕ) → IsStrictlyIncreasing os → i < length us → j < length os → x ≡ get_or us i 0 → get_or us i 0 < get_or os j 0 →
-    found ++ without (drop i us) (drop j os) ≡ without us os → (found ++ x ∷ []) ++ without (drop (i + 1) us) (drop j os) ≡ without us os
+    found ++ cells_without (drop i us) (drop j os) ≡ cells_without us os → (found ++ x ∷ []) ++ cells_without (drop (i + 1) us) (drop j os) ≡ cells_without us os
 lacking_turn us os found i j x a l m e h w =
-    push_on found (without (drop (i + 1) us) (drop j os)) (without (drop i us) (drop j os)) (without us os) x w
-    (lacking_cell us os i j a l m h ∙ ap (λ y. y ∷ without (drop (i + 1) us) (drop j os)) (sym e))
+    push_on found (cells_without (drop (i + 1) us) (drop j os)) (cells_without (drop i us) (drop j os)) (cells_without us os) x w
+    (lacking_cell us os i j a l m h ∙ ap (λ y. y ∷ cells_without (drop (i + 1) us) (drop j os)) (sym e))
 
 -- where one list is at its end, all that is left of the other is lacking
 pub lacking_rest : (us os found : List ℕ) (i j : ℕ) → (length us ≤ i) ⊎ (length os ≤ j) →
-    found ++ without (drop i us) (drop j os) ≡ without us os → found ++ take (length us - i) (drop i us) ≡ without us os
+    found ++ cells_without (drop i us) (drop j os) ≡ cells_without us os → found ++ take (length us - i) (drop i us) ≡ cells_without us os
 lacking_rest us os found i j h w =
     ap (λ (l : List ℕ). found ++ l)
     (take_all (length us - i) (drop i us) (omega (arith, length-drop i us)) ∙ ⊎_elim
-    (λ (p : length us ≤ i). drop_all i us p ∙ sym (ap (λ (l : List ℕ). without l (drop j os)) (drop_all i us p)))
-    (λ (p : length os ≤ j). sym (ap (without (drop i us)) (drop_all j os p) ∙ without-nothing (drop i us)))
+    (λ (p : length us ≤ i). drop_all i us p ∙ sym (ap (λ (l : List ℕ). cells_without l (drop j os)) (drop_all i us p)))
+    (λ (p : length os ≤ j). sym (ap (cells_without (drop i us)) (drop_all j os p) ∙ cells_without-nothing (drop i us)))
     h)
     ∙ w

@@ -3,7 +3,7 @@ use Rattle.std.proofs.Common.{◌≡◌, ℕ, zero, suc, ◌+◌, ◌≤◌, Lis
 use Rattle.std.proofs.lemmas.Bool.{true≢false}
 use Rattle.std.proofs.lemmas.Option.{slice_get_past}
 use Rattle.s2union.specs.Union.{IsLocal}
-use Rattle.s2union.specs.Apply.{without}
+use Rattle.s2union.specs.Apply.{cells_without}
 use Rattle.s2union.proofs.Applied.{only_out, only_put}
 use Rattle.s2union.specs.Union.{Union}
 use Rattle.s2edit.specs.History.{AllLists, AllTables, EachList}
@@ -19,15 +19,15 @@ lead_ahead limit t d a f =
     let v : List ℕ = list_after t d in
     let e : list_at (table_after t d) d.register ≡ v = list_at-table_after t d f.in_range in
     let asc : IsLocal u = (AllWithin-at limit t d.register a f.in_range).local in
-    let o : d.out ≡ without u v = only_out d.out d.put u v asc f.fits refl in
-    let p : d.put ≡ without v u = only_put d.out d.put u v asc f.fits.local f.fits refl in
+    let o : d.out ≡ cells_without u v = only_out d.out d.put u v asc f.fits refl in
+    let p : d.put ≡ cells_without v u = only_put d.out d.put u v asc f.fits.local f.fits refl in
     record {
       in_range = f.in_range;
       only = ap (slice_set t d.register) (sym e);
       differs = λ h. f.changes (sym e ∙ h);
       change = ap (λ (x : List ℕ). record { register = d.register; out = x; put = d.put }) o
-          ∙ ap (λ (x : List ℕ). record { register = d.register; out = without u v; put = x }) p
-          ∙ ap (λ (x : List ℕ). record { register = d.register; out = without u x; put = without x u }) (sym e);
+          ∙ ap (λ (x : List ℕ). record { register = d.register; out = cells_without u v; put = x }) p
+          ∙ ap (λ (x : List ℕ). record { register = d.register; out = cells_without u x; put = cells_without x u }) (sym e);
     }
 
 pub lead_back : (limit : ℕ) (t : List (List ℕ)) (c : Diff) → AllWithin limit t → FitsTable limit t (inverse c) → Leads c (table_after t (inverse c)) t

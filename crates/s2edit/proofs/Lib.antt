@@ -6,6 +6,7 @@ pub mod Leading
 pub mod SetLemmas
 pub mod DiffLemmas
 pub mod Differing
+pub mod CommonEnds
 pub mod Runs
 pub mod Replay
 pub mod OneEnd

@@ -3,7 +3,7 @@ use Rattle.std.proofs.Common.{◌≡◌, ℕ, zero, suc, true, List, [], ◌∷�
 use Rattle.std.proofs.lemmas.Grind.{common_steps}
 use Rattle.std.proofs.lemmas.Option.{slice_get-get_or}
 use Rattle.s2union.specs.Union.{IsLocal}
-use Rattle.s2union.specs.Apply.{has, without}
+use Rattle.s2union.specs.Apply.{has, cells_without}
 use Rattle.s2union.proofs.Applied.{only_out, only_put}
 use Rattle.s2edit.specs.History.{cells_lost, numbers}
 use Rattle.s2edit.specs.Diff.{Diff}
@@ -12,7 +12,7 @@ use Rattle.s2edit.specs.Chain.{list_after, table_after, FitsTable, AllWithin}
 use Rattle.s2edit.proofs.Tables.{AllWithin-at}
 
 -- a list loses nothing to itself
-lost_none : (us vs : List ℕ) → ((x : ℕ) → has us x ≡ true → has vs x ≡ true) → length (without us vs) ≡ 0
+lost_none : (us vs : List ℕ) → ((x : ℕ) → has us x ≡ true → has vs x ≡ true) → length (cells_without us vs) ≡ 0
 lost_none [] vs h = refl
 lost_none (u ∷ us) vs h = grind (arith, common_steps, h u, lost_none us vs (λ x e. h x (grind (arith, common_steps))))
 
@@ -21,14 +21,14 @@ cells_lost-self [] = refl
 cells_lost-self (u ∷ t) = omega (arith, lost_none u u (λ x h. h), cells_lost-self t)
 
 -- the cells lost in a move of one register
-pub cells_lost-set : (t : List (List ℕ)) (r : ℕ) (u v : List ℕ) → slice_get t r ≡ Some u → cells_lost t (slice_set t r v) ≡ length (without u v)
+pub cells_lost-set : (t : List (List ℕ)) (r : ℕ) (u v : List ℕ) → slice_get t r ≡ Some u → cells_lost t (slice_set t r v) ≡ length (cells_without u v)
 cells_lost-set [] r u v h = absurd (cc)
-cells_lost-set (w ∷ t) zero u v h = let e : w ≡ u = cc in omega (arith, cells_lost-self t, ap (λ (l : List ℕ). length (without l v)) e)
+cells_lost-set (w ∷ t) zero u v h = let e : w ≡ u = cc in omega (arith, cells_lost-self t, ap (λ (l : List ℕ). length (cells_without l v)) e)
 cells_lost-set (w ∷ t) (suc r) u v h = omega (arith, lost_none w w (λ x h. h), cells_lost-set t r u v h)
 
-pub cells_won-set : (t : List (List ℕ)) (r : ℕ) (u v : List ℕ) → slice_get t r ≡ Some u → cells_lost (slice_set t r v) t ≡ length (without v u)
+pub cells_won-set : (t : List (List ℕ)) (r : ℕ) (u v : List ℕ) → slice_get t r ≡ Some u → cells_lost (slice_set t r v) t ≡ length (cells_without v u)
 cells_won-set [] r u v h = absurd (cc)
-cells_won-set (w ∷ t) zero u v h = let e : w ≡ u = cc in omega (arith, cells_lost-self t, ap (λ (l : List ℕ). length (without v l)) e)
+cells_won-set (w ∷ t) zero u v h = let e : w ≡ u = cc in omega (arith, cells_lost-self t, ap (λ (l : List ℕ). length (cells_without v l)) e)
 cells_won-set (w ∷ t) (suc r) u v h = omega (arith, lost_none w w (λ x h. h), cells_won-set t r u v h)
 
 pub numbers-same : (t : List (List ℕ)) → (0, 0) ≡ numbers t t

@@ -1,7 +1,7 @@
 -- A change of one register, as a contract sees it.
 use Rattle.std.specs.Prelude.{◌≡◌, ℕ, true, false, List}
 use Rattle.std.specs.List.Sorted.{IsStrictlyIncreasing}
-use Rattle.s2union.specs.Apply.{has, without, applied, Fits}
+use Rattle.s2union.specs.Apply.{has, cells_without, applied, Fits}
 
 -- the cells that are taken out of the register's list, and those that are put in
 pub record Diff : Type 0 where
@@ -29,4 +29,4 @@ inverse d = record { register = d.register; out = d.put; put = d.out }
 
 -- the change of a register from one list to another: the cells that the new one lacks, and those that the old one lacks
 abbrev pub between : ℕ → List ℕ → List ℕ → Diff
-between r u v = record { register = r; out = without u v; put = without v u }
+between r u v = record { register = r; out = cells_without u v; put = cells_without v u }

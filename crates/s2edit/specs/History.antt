@@ -2,7 +2,7 @@
 -- a set of leaves, or the one list of cells that stands for it.
 use Rattle.std.specs.Prelude.{◌≡◌, ◌≢◌, ℕ, ◌+◌, Bool, List, [], ◌∷◌, ◌++◌, length, map, take, reverse, slice_get, slice_set, Some}
 use Rattle.s2union.specs.Union.{has_leaf}
-use Rattle.s2union.specs.Apply.{without}
+use Rattle.s2union.specs.Apply.{cells_without}
 
 -- The most cells of a register and the most tables kept; the earlier tables, the present one, and those
 -- that were undone. Both sides have the table nearest to now first.
@@ -59,7 +59,7 @@ sets h = record { limit = h.limit; depth = h.depth; past = map sets_of h.past; n
 abbrev pub cells_lost : List (List ℕ) → List (List ℕ) → ℕ
 cells_lost [] t' = 0
 cells_lost (u ∷ t) [] = length u + cells_lost t []
-cells_lost (u ∷ t) (v ∷ t') = length (without u v) + cells_lost t t'
+cells_lost (u ∷ t) (v ∷ t') = length (cells_without u v) + cells_lost t t'
 
 -- the numbers of a move from one table to another: of cells taken out, and of cells put in
 abbrev pub numbers : List (List ℕ) → List (List ℕ) → ℕ × ℕ

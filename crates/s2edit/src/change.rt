@@ -50,8 +50,8 @@ impl Change {
         Ok(Change { register, out, put })
     }
 
-    /// The same of a union that may be used up: where `old` is empty, its list becomes `put` and no memory is
-    /// taken.
+    /// The same of a union that may be used up: where `old` is empty, its list becomes `put`. Then a smaller block is
+    /// asked for in place of the list's own, and done without where it is refused.
     pub(crate) fn leading_to(
         alloc: Global,
         register: Register,

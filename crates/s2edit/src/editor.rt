@@ -107,7 +107,7 @@ impl Editor {
         ensures too_many { (result ≡ Err EditFault.TooMany) ↔ (self.old.limit < length union.cells) }
         ensures err { OnErr result (self.new ≡ self.old) }
 
-        // Into an empty register, and of the register's own list, it takes no memory.
+        // Into an empty register, and of the register's own list, it is not refused for want of memory.
         ensures into_empty { slice_get self.old.now register ≡ Some [] → length union.cells ≤ self.old.limit → IsOk result }
         ensures same_list { slice_get self.old.now register ≡ Some union.cells → IsOk result }
     {
@@ -118,16 +118,11 @@ impl Editor {
         if are_same(old.cells(), union.cells()) {
             return Ok((0, 0));
         }
+        self.scratch.copy_from(&union);
         let Ok(change) = Change::leading_to(self.alloc, register, old, union) else {
             return Err(EditFault::Memory);
         };
-        rewrite(
-            &mut self.registers,
-            &mut self.scratch,
-            register,
-            &change.out,
-            &change.put,
-        );
+        exchange(&mut self.registers, &mut self.scratch, register);
         let numbers = (change.out.len(), change.put.len());
         self.past.push_front(change);
         self.future.clear();
@@ -265,7 +260,15 @@ fn rewrite(
     ensures registers { registers.new.items ≡ slice_set registers.old.items register (union_of (applied out.now put.now (list_at (lists_of registers.old.items) register)) scratch.old.room) }
     ensures scratch { slice_get registers.old.items register ≡ Some scratch.new }
 {
-    let r = register.index();
-    registers[r].apply_into(out, put, scratch);
-    mem::swap(&mut registers[r], scratch);
+    registers[register.index()].apply_into(out, put, scratch);
+    exchange(registers, scratch, register);
+}
+
+/// Exchanges a register's list with the scratch list.
+fn exchange(registers: &mut Vec<CellUnion>, scratch: &mut CellUnion, register: Register)
+    requires in_range { register < vec_len registers.old }
+    ensures registers { registers.new.items ≡ slice_set registers.old.items register scratch.old }
+    ensures scratch { slice_get registers.old.items register ≡ Some scratch.new }
+{
+    mem::swap(&mut registers[register.index()], scratch);
 }

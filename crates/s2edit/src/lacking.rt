@@ -1,14 +1,16 @@
 //! How two ascending lists of cells differ.
-ghost use Rattle.std.specs.Prelude.{◌≡◌, IfOk};
+ghost use Rattle.std.specs.Prelude.{◌≡◌, ◌≢◌, ◌≤◌, ◌<◌, ◌-◌, IfOk, length, take, drop, slice_index};
 ghost use Rattle.std.specs.List.Sorted.{IsStrictlyIncreasing};
-ghost use Rattle.s2union.specs.Apply.{without};
+ghost use Rattle.s2union.specs.Apply.{cells_without};
 
 use s2cell::CellId;
 use std::alloc::{AllocError, Global};
 use std::cmp::Ordering;
 
-/// The cells of `old` that `new` lacks, and those of `new` that `old` lacks, in one walk along both. The two
-/// lists have no more room than they need.
+/// The cells of `old` that `new` lacks, and those of `new` that `old` lacks. The two lists have no more room than
+/// they need, where a smaller block is given.
+///
+/// What both begin with and what both end with is passed over; the rest takes one walk along both.
 pub(crate) fn lacking(
     alloc: Global,
     old: &[CellId],
@@ -16,8 +18,56 @@ pub(crate) fn lacking(
 ) -> Result<(Vec<CellId>, Vec<CellId>), AllocError>
     requires old_ascends { IsStrictlyIncreasing old.now }
     requires new_ascends { IsStrictlyIncreasing new.now }
-    ensures out { IfOk result (λ lists. lists.0.items ≡ without old.now new.now) }
-    ensures put { IfOk result (λ lists. lists.1.items ≡ without new.now old.now) }
+    ensures out { IfOk result (λ lists. lists.0.items ≡ cells_without old.now new.now) }
+    ensures put { IfOk result (λ lists. lists.1.items ≡ cells_without new.now old.now) }
+{
+    let front = same_front(old, new);
+    let old = &old[front..];
+    let new = &new[front..];
+    let back = same_back(old, new);
+    differing(alloc, &old[..old.len() - back], &new[..new.len() - back])
+}
+
+/// How many cells at the front of both lists are the same.
+fn same_front(us: &[CellId], vs: &[CellId]) -> usize
+    ensures within { (result ≤ length us.now) × (result ≤ length vs.now) }
+    ensures same { take result us.now ≡ take result vs.now }
+    ensures differ { result < length us.now → result < length vs.now → slice_index us.now result ≢ slice_index vs.now result }
+{
+    let most = us.len().min(vs.len());
+    for i in 0..most {
+        if us[i] != vs[i] {
+            return i;
+        }
+    }
+    most
+}
+
+/// How many cells at the end of both lists are the same.
+fn same_back(us: &[CellId], vs: &[CellId]) -> usize
+    ensures within { (result ≤ length us.now) × (result ≤ length vs.now) }
+    ensures same { drop (length us.now - result) us.now ≡ drop (length vs.now - result) vs.now }
+    ensures differ { result < length us.now → result < length vs.now → slice_index us.now (length us.now - result - 1) ≢ slice_index vs.now (length vs.now - result - 1) }
+{
+    let most = us.len().min(vs.len());
+    for i in 0..most {
+        if us[us.len() - i - 1] != vs[vs.len() - i - 1] {
+            return i;
+        }
+    }
+    most
+}
+
+/// The same as `lacking`, by one walk along both lists.
+fn differing(
+    alloc: Global,
+    old: &[CellId],
+    new: &[CellId],
+) -> Result<(Vec<CellId>, Vec<CellId>), AllocError>
+    requires old_ascends { IsStrictlyIncreasing old.now }
+    requires new_ascends { IsStrictlyIncreasing new.now }
+    ensures out { IfOk result (λ lists. lists.0.items ≡ cells_without old.now new.now) }
+    ensures put { IfOk result (λ lists. lists.1.items ≡ cells_without new.now old.now) }
 {
     let mut out = Vec::new(alloc);
     let mut put = Vec::new(alloc);

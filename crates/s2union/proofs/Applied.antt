@@ -2,9 +2,8 @@
 use Rattle.std.proofs.Common.{◌≡◌, ℕ, Bool, true, false, not, ◌||◌, ◌&&◌, List, refl, sym, ap, ◌∙◌, subst, arith}
 use Rattle.std.proofs.lemmas.Grind.{common_steps}
 use Rattle.s2union.specs.Union.{IsLocal}
-use Rattle.s2union.specs.Apply.{has, without, applied, Fits}
-use Rattle.s2union.specs.Merge.{IsAscending}
-use Rattle.s2union.proofs.CellLists.{same_cells, has-without, has-applied, IsAscending-without, IsAscending-applied, ascends_from, increasing_from}
+use Rattle.s2union.specs.Apply.{has, cells_without, applied, Fits}
+use Rattle.s2union.proofs.CellLists.{IsAscending, same_cells, has-cells_without, has-applied, IsAscending-cells_without, IsAscending-applied, ascends_from, increasing_from}
 
 -- the booleans behind the law
 back : (o p u : Bool) → (o ≡ true → u ≡ true) → (p ≡ true → u ≡ false) → (o || ((p || (u && not o)) && not p)) ≡ u
@@ -47,32 +46,32 @@ Fits-inverse out put us a f = record {
 }
 
 -- the change between two lists leads from the one to the other
-pub applied-between : (us vs : List ℕ) → IsLocal us → IsLocal vs → applied (without us vs) (without vs us) us ≡ vs
+pub applied-between : (us vs : List ℕ) → IsLocal us → IsLocal vs → applied (cells_without us vs) (cells_without vs us) us ≡ vs
 applied-between us vs a b =
-    same_cells (applied (without us vs) (without vs us) us) vs
-    (IsAscending-applied (without us vs) (without vs us) us (IsAscending-without vs us (local_ascends vs b)) (local_ascends us a)
-    (λ x h. grind (arith, common_steps, has-without vs us x)))
+    same_cells (applied (cells_without us vs) (cells_without vs us) us) vs
+    (IsAscending-applied (cells_without us vs) (cells_without vs us) us (IsAscending-cells_without vs us (local_ascends vs b)) (local_ascends us a)
+    (λ x h. grind (arith, common_steps, has-cells_without vs us x)))
     (local_ascends vs b)
-    (λ x. has-applied (without us vs) (without vs us) us x ∙ grind (arith, common_steps, has-without us vs x, has-without vs us x))
+    (λ x. has-applied (cells_without us vs) (cells_without vs us) us x ∙ grind (arith, common_steps, has-cells_without us vs x, has-cells_without vs us x))
 
-pub Fits-between : (us vs : List ℕ) → IsLocal us → IsLocal vs → Fits (without us vs) (without vs us) us
+pub Fits-between : (us vs : List ℕ) → IsLocal us → IsLocal vs → Fits (cells_without us vs) (cells_without vs us) us
 Fits-between us vs a b = record {
-  out_ascends = increasing_from (without us vs) (IsAscending-without us vs (local_ascends us a));
-  put_ascends = increasing_from (without vs us) (IsAscending-without vs us (local_ascends vs b));
-  out_is_there = λ x h. grind (arith, common_steps, has-without us vs x);
-  put_is_new = λ x h. grind (arith, common_steps, has-without vs us x);
+  out_ascends = increasing_from (cells_without us vs) (IsAscending-cells_without us vs (local_ascends us a));
+  put_ascends = increasing_from (cells_without vs us) (IsAscending-cells_without vs us (local_ascends vs b));
+  out_is_there = λ x h. grind (arith, common_steps, has-cells_without us vs x);
+  put_is_new = λ x h. grind (arith, common_steps, has-cells_without vs us x);
   local = subst IsLocal (sym (applied-between us vs a b)) b;
 }
 
 -- and it is the only one
-pub only_out : (out put us vs : List ℕ) → IsLocal us → Fits out put us → applied out put us ≡ vs → out ≡ without us vs
+pub only_out : (out put us vs : List ℕ) → IsLocal us → Fits out put us → applied out put us ≡ vs → out ≡ cells_without us vs
 only_out out put us vs a f e =
-    same_cells out (without us vs) (ascends_from out f.out_ascends) (IsAscending-without us vs (local_ascends us a))
+    same_cells out (cells_without us vs) (ascends_from out f.out_ascends) (IsAscending-cells_without us vs (local_ascends us a))
     (λ x. let h : has vs x ≡ (has put x || (has us x && not (has out x))) = ap (λ (l : List ℕ). has l x) (sym e) ∙ has-applied out put us x in
-    grind (arith, common_steps, has-without us vs x, f.out_is_there x, f.put_is_new x))
+    grind (arith, common_steps, has-cells_without us vs x, f.out_is_there x, f.put_is_new x))
 
-pub only_put : (out put us vs : List ℕ) → IsLocal us → IsLocal vs → Fits out put us → applied out put us ≡ vs → put ≡ without vs us
+pub only_put : (out put us vs : List ℕ) → IsLocal us → IsLocal vs → Fits out put us → applied out put us ≡ vs → put ≡ cells_without vs us
 only_put out put us vs a b f e =
-    same_cells put (without vs us) (ascends_from put f.put_ascends) (IsAscending-without vs us (local_ascends vs b))
+    same_cells put (cells_without vs us) (ascends_from put f.put_ascends) (IsAscending-cells_without vs us (local_ascends vs b))
     (λ x. let h : has vs x ≡ (has put x || (has us x && not (has out x))) = ap (λ (l : List ℕ). has l x) (sym e) ∙ has-applied out put us x in
-    grind (arith, common_steps, has-without vs us x, f.out_is_there x, f.put_is_new x))
+    grind (arith, common_steps, has-cells_without vs us x, f.out_is_there x, f.put_is_new x))

@@ -3,8 +3,17 @@ use Rattle.std.proofs.Common.{◌≡◌, ℕ, ◌<◌, ◌+◌, true, false, not
 use Rattle.std.proofs.lemmas.Grind.{common_steps}
 use Rattle.std.proofs.lemmas.Bool.{cond_both, cases_order}
 use Rattle.std.specs.List.Sorted.{IsStrictlyIncreasing}
-use Rattle.s2union.specs.Apply.{has, without, insert_cell, insert_cells, applied}
-use Rattle.s2union.specs.Merge.{AllAbove, IsAscending}
+use Rattle.s2union.specs.Apply.{has, cells_without, insert_cell, insert_cells, applied}
+
+-- each cell of the list is above `x`
+abbrev pub AllAbove : ℕ → List ℕ → Type 0
+AllAbove x [] = Unit {0}
+AllAbove x (y ∷ ys) = (x < y) × AllAbove x ys
+
+-- that a list ascends, by recursion
+abbrev pub IsAscending : List ℕ → Type 0
+IsAscending [] = Unit {0}
+IsAscending (x ∷ xs) = AllAbove x xs × IsAscending xs
 
 -- a cell that is below all is not there
 pub has-below : (x : ℕ) (ys : List ℕ) → AllAbove x ys → has ys x ≡ false
@@ -15,24 +24,24 @@ pub AllAbove-trans : (x y : ℕ) (zs : List ℕ) → x < y → AllAbove y zs →
 AllAbove-trans x y [] l a = tt
 AllAbove-trans x y (z ∷ zs) l a = (omega arith, AllAbove-trans x y zs l a.1)
 
-pub AllAbove-without : (x : ℕ) (us vs : List ℕ) → AllAbove x us → AllAbove x (without us vs)
-AllAbove-without x [] vs a = tt
-AllAbove-without x (u ∷ us) vs a =
-    cond_both (has vs u) (without us vs) (u ∷ without us vs) (AllAbove x) (λ _. AllAbove-without x us vs a.1) (λ _. (a.0, AllAbove-without x us vs a.1))
+pub AllAbove-cells_without : (x : ℕ) (us vs : List ℕ) → AllAbove x us → AllAbove x (cells_without us vs)
+AllAbove-cells_without x [] vs a = tt
+AllAbove-cells_without x (u ∷ us) vs a =
+    cond_both (has vs u) (cells_without us vs) (u ∷ cells_without us vs) (AllAbove x) (λ _. AllAbove-cells_without x us vs a.1) (λ _. (a.0, AllAbove-cells_without x us vs a.1))
 
-pub IsAscending-without : (us vs : List ℕ) → IsAscending us → IsAscending (without us vs)
-IsAscending-without [] vs a = tt
-IsAscending-without (u ∷ us) vs a =
-    cond_both (has vs u) (without us vs) (u ∷ without us vs) IsAscending (λ _. IsAscending-without us vs a.1) (λ _. (AllAbove-without u us vs a.0, IsAscending-without us vs a.1))
+pub IsAscending-cells_without : (us vs : List ℕ) → IsAscending us → IsAscending (cells_without us vs)
+IsAscending-cells_without [] vs a = tt
+IsAscending-cells_without (u ∷ us) vs a =
+    cond_both (has vs u) (cells_without us vs) (u ∷ cells_without us vs) IsAscending (λ _. IsAscending-cells_without us vs a.1) (λ _. (AllAbove-cells_without u us vs a.0, IsAscending-cells_without us vs a.1))
 
 pub AllAbove-insert_cell : (x y : ℕ) (us : List ℕ) → x < y → AllAbove x us → AllAbove x (insert_cell y us)
 AllAbove-insert_cell x y [] l a = (l, tt)
 AllAbove-insert_cell x y (u ∷ us) l a =
     cond_both (ltb y u) (y ∷ u ∷ us) (u ∷ insert_cell y us) (AllAbove x) (λ _. (l, a)) (λ _. (a.0, AllAbove-insert_cell x y us l a.1))
 
-pub has-without : (us vs : List ℕ) (x : ℕ) → has (without us vs) x ≡ (has us x && not (has vs x))
-has-without [] vs x = refl
-has-without (u ∷ us) vs x = grind (arith, common_steps, has-without us vs x)
+pub has-cells_without : (us vs : List ℕ) (x : ℕ) → has (cells_without us vs) x ≡ (has us x && not (has vs x))
+has-cells_without [] vs x = refl
+has-cells_without (u ∷ us) vs x = grind (arith, common_steps, has-cells_without us vs x)
 
 pub has-insert_cell : (y : ℕ) (us : List ℕ) (x : ℕ) → has (insert_cell y us) x ≡ (eqb y x || has us x)
 has-insert_cell y [] x = refl
@@ -43,7 +52,7 @@ has-insert_cells [] us x = refl
 has-insert_cells (y ∷ ys) us x = grind (arith, common_steps, has-insert_cells ys (insert_cell y us) x, has-insert_cell y us x)
 
 pub has-applied : (out put us : List ℕ) (x : ℕ) → has (applied out put us) x ≡ (has put x || (has us x && not (has out x)))
-has-applied out put us x = has-insert_cells put (without us out) x ∙ ap (λ b. has put x || b) (has-without us out x)
+has-applied out put us x = has-insert_cells put (cells_without us out) x ∙ ap (λ b. has put x || b) (has-cells_without us out x)
 
 pub IsAscending-insert_cell : (y : ℕ) (us : List ℕ) → has us y ≡ false → IsAscending us → IsAscending (insert_cell y us)
 IsAscending-insert_cell y [] n a = (tt, tt)
@@ -78,9 +87,9 @@ same_cells (u ∷ us) (v ∷ vs) a b h =
 -- what taking out and putting in leaves ascends
 pub IsAscending-applied : (out put us : List ℕ) → IsAscending put → IsAscending us → ((x : ℕ) → has put x ≡ true → has us x ≡ false) → IsAscending (applied out put us)
 IsAscending-applied out put us p a n =
-    IsAscending-insert_cells put (without us out) p (λ x h. has-without us out x ∙ ap (λ b. b && not (has out x)) (n x h)) (IsAscending-without us out a)
+    IsAscending-insert_cells put (cells_without us out) p (λ x h. has-cells_without us out x ∙ ap (λ b. b && not (has out x)) (n x h)) (IsAscending-cells_without us out a)
 
--- the two words for ascending
+-- and by its places, as contracts say it
 pub ascends_from : (us : List ℕ) → IsStrictlyIncreasing us → IsAscending us
 ascends_from [] h = tt
 ascends_from (u ∷ []) h = (tt, tt)

@@ -3,10 +3,11 @@ use Rattle.std.proofs.Common.{◌≡◌, ℕ, ◌<◌, ◌≢◌, true, false, �
 use Rattle.std.proofs.lemmas.Grind.{common_steps}
 use Rattle.std.proofs.lemmas.List.{take_all}
 use Rattle.std.proofs.lemmas.Bool.{cond-true, cond-false, false≢true, true≢false, or_cases, or_left, or_right, or_parts}
-use Rattle.s2union.specs.Apply.{has, without, insert_cell, insert_cells, applied}
+use Rattle.std.specs.List.Sorted.{IsStrictlyIncreasing}
+use Rattle.s2union.specs.Apply.{has, cells_without, insert_cell, insert_cells, applied}
 use Rattle.std.specs.declared.cmp.Ordering.TheVariants.{Less, Equal, Greater}
-use Rattle.s2union.specs.Merge.{CanApply, Goes, Ascend, AllAbove, IsAscending, IsHead}
-use Rattle.s2union.proofs.CellLists.{has-below, AllAbove-trans, AllAbove-without}
+use Rattle.s2union.specs.Merge.{CanApply, Goes, Ascend, IsHead}
+use Rattle.s2union.proofs.CellLists.{AllAbove, IsAscending, ascends_from, increasing_from, has-below, AllAbove-trans, AllAbove-cells_without}
 
 insert_cell-below : (p : ℕ) (us : List ℕ) → AllAbove p us → insert_cell p us ≡ p ∷ us
 insert_cell-below p [] a = refl
@@ -20,21 +21,21 @@ insert_cells-above p (q ∷ ps) us a =
 
 applied-put : (out ps us : List ℕ) (p : ℕ) → AllAbove p ps → AllAbove p us → applied out (p ∷ ps) us ≡ p ∷ applied out ps us
 applied-put out ps us p a b =
-    ap (insert_cells ps) (insert_cell-below p (without us out) (AllAbove-without p us out b))
-    ∙ insert_cells-above p ps (without us out) a
+    ap (insert_cells ps) (insert_cell-below p (cells_without us out) (AllAbove-cells_without p us out b))
+    ∙ insert_cells-above p ps (cells_without us out) a
 
 applied-keep : (out ps us : List ℕ) (u : ℕ) → AllAbove u ps → has out u ≡ false → applied out ps (u ∷ us) ≡ u ∷ applied out ps us
 applied-keep out ps us u a n =
-    ap (insert_cells ps) (cond-false (has out u) (without us out) (u ∷ without us out) n)
-    ∙ insert_cells-above u ps (without us out) a
+    ap (insert_cells ps) (cond-false (has out u) (cells_without us out) (u ∷ cells_without us out) n)
+    ∙ insert_cells-above u ps (cells_without us out) a
 
-pub without-above : (o : ℕ) (us out : List ℕ) → AllAbove o us → without us (o ∷ out) ≡ without us out
-without-above o [] out a = refl
-without-above o (u ∷ us) out a = grind (arith, common_steps, without-above o us out a.1)
+pub cells_without-above : (o : ℕ) (us out : List ℕ) → AllAbove o us → cells_without us (o ∷ out) ≡ cells_without us out
+cells_without-above o [] out a = refl
+cells_without-above o (u ∷ us) out a = grind (arith, common_steps, cells_without-above o us out a.1)
 
 applied-take : (out ps us : List ℕ) (u : ℕ) → AllAbove u us → applied (u ∷ out) ps (u ∷ us) ≡ applied out ps us
 applied-take out ps us u a =
-    ap (insert_cells ps) (cond-true (eqb u u || has out u) (without us (u ∷ out)) (u ∷ without us (u ∷ out)) (grind (arith, common_steps)) ∙ without-above u us out a)
+    ap (insert_cells ps) (cond-true (eqb u u || has out u) (cells_without us (u ∷ out)) (u ∷ cells_without us (u ∷ out)) (grind (arith, common_steps)) ∙ cells_without-above u us out a)
 
 -- the first cell, where there is one
 abbrev pub IfHead : (ℕ → Type 0) → List ℕ → Type 0
@@ -52,7 +53,7 @@ not_below x ys a h = false≢true (sym (has-below x ys a) ∙ h)
 pub put_step : (out ps us : List ℕ) (p : ℕ) → Ascend (record { out = out; put = p ∷ ps; cells = us }) → IfHead (λ u. p < u) us →
     Goes (p ∷ []) (record { out = out; put = p ∷ ps; cells = us }) (record { out = out; put = ps; cells = us })
 put_step out ps us p a h =
-    let above : AllAbove p us = all_above p us a.cells h in
+    let above : AllAbove p us = all_above p us (ascends_from us a.cells) h in
     record {
       same = (
         λ f. record { out_is_there = f.out_is_there; put_is_new = λ x e. f.put_is_new x (or_right (eqb p x) (has ps x) e) },
@@ -61,7 +62,7 @@ put_step out ps us p a h =
           put_is_new = λ x e. ⊎_elim (λ q. subst (λ (n : ℕ). has us n ≡ false) (eqb-true p x q) (has-below p us above)) (λ q. f.put_is_new x q) (or_cases (eqb p x) (has ps x) e);
         },
       );
-      gives = λ _. applied-put out ps us p a.put.0 above;
+      gives = λ _. applied-put out ps us p (ascends_from (p ∷ ps) a.put).0 above;
       less = omega arith;
     }
 
@@ -69,8 +70,8 @@ put_step out ps us p a h =
 pub keep_step : (out ps us : List ℕ) (u : ℕ) → Ascend (record { out = out; put = ps; cells = u ∷ us }) → IfHead (λ p. u < p) ps → IfHead (λ o. u < o) out →
     Goes (u ∷ []) (record { out = out; put = ps; cells = u ∷ us }) (record { out = out; put = ps; cells = us })
 keep_step out ps us u a hp ho =
-    let not_out : has out u ≡ false = has-below u out (all_above u out a.out ho) in
-    let put_above : AllAbove u ps = all_above u ps a.put hp in
+    let not_out : has out u ≡ false = has-below u out (all_above u out (ascends_from out a.out) ho) in
+    let put_above : AllAbove u ps = all_above u ps (ascends_from ps a.put) hp in
     record {
       same = (
         λ f. record {
@@ -93,11 +94,11 @@ keep_step out ps us u a hp ho =
 pub take_step : (out ps us : List ℕ) (u : ℕ) → Ascend (record { out = u ∷ out; put = ps; cells = u ∷ us }) → IfHead (λ p. u < p) ps →
     Goes [] (record { out = u ∷ out; put = ps; cells = u ∷ us }) (record { out = out; put = ps; cells = us })
 take_step out ps us u a hp =
-    let put_above : AllAbove u ps = all_above u ps a.put hp in
+    let put_above : AllAbove u ps = all_above u ps (ascends_from ps a.put) hp in
     record {
       same = (
         λ f. record {
-          out_is_there = λ x e. ⊎_elim (λ q. absurd (not_below u out a.out.0 (subst (λ (n : ℕ). has out n ≡ true) (sym (eqb-true u x q)) e))) (λ q. q)
+          out_is_there = λ x e. ⊎_elim (λ q. absurd (not_below u out (ascends_from (u ∷ out) a.out).0 (subst (λ (n : ℕ). has out n ≡ true) (sym (eqb-true u x q)) e))) (λ q. q)
               (or_cases (eqb u x) (has us x) (f.out_is_there x (or_right (eqb u x) (has out x) e)));
           put_is_new = λ x e. (or_parts (eqb u x) (has us x) (f.put_is_new x e)).1;
         },
@@ -106,7 +107,7 @@ take_step out ps us u a hp =
           put_is_new = λ x e. new_one u x us (λ q. not_below u ps put_above (subst (λ (n : ℕ). has ps n ≡ true) (sym q) e)) (f.put_is_new x e);
         },
       );
-      gives = λ _. applied-take out ps us u a.cells.0;
+      gives = λ _. applied-take out ps us u (ascends_from (u ∷ us) a.cells).0;
       less = omega arith;
     }
   where
@@ -162,7 +163,7 @@ put_misfit out (p ∷ ps) us vs u e h f =
 
 pub out_misfit : (out put us vs : List ℕ) (u : ℕ) → us ≡ u ∷ vs → Ascend (record { out = out; put = put; cells = us }) → IsHead Less out u → CanApply (record { out = out; put = put; cells = us }) → ⊥
 out_misfit [] put us vs u e a h f = absurd (cc)
-out_misfit (o ∷ os) put us vs u e a h f = out_is_missing os put us o (all_above o us a.cells (first_above us vs u o e h)) f
+out_misfit (o ∷ os) put us vs u e a h f = out_is_missing os put us o (all_above o us (ascends_from us a.cells) (first_above us vs u o e h)) f
 
 pub end_misfit : (out put us : List ℕ) → us ≡ [] → length out ≢ 0 → CanApply (record { out = out; put = put; cells = us }) → ⊥
 end_misfit [] put us e n f = n refl
@@ -172,3 +173,11 @@ end_misfit (o ∷ os) put us e n f = out_is_missing os put us o (subst (AllAbove
 pub behind_first : (xs : List ℕ) → take (length xs - 1) (drop 1 xs) ≡ drop 1 xs
 behind_first [] = refl
 behind_first (x ∷ xs) = take_all (length (x ∷ xs) - 1) xs (omega arith)
+
+-- and it ascends too
+pub rest_ascends : (xs ys : List ℕ) (x : ℕ) → xs ≡ x ∷ ys → IsStrictlyIncreasing xs → IsStrictlyIncreasing ys
+rest_ascends xs ys x e a = let whole : IsAscending (x ∷ ys) = subst IsAscending e (ascends_from xs a) in increasing_from ys whole.1
+
+pub behind_first_ascends : (xs : List ℕ) → IsStrictlyIncreasing xs → IsStrictlyIncreasing (take (length xs - 1) (drop 1 xs))
+behind_first_ascends [] a = a
+behind_first_ascends (x ∷ xs) a = rw behind_first (rest_ascends (x ∷ xs) xs x refl a)

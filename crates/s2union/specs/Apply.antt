@@ -9,9 +9,9 @@ has [] x = false
 has (y ∷ ys) x = (y == x) || has ys x
 
 -- the cells of `u` that `v` lacks
-abbrev pub without : List ℕ → List ℕ → List ℕ
-without [] v = []
-without (x ∷ xs) v = if has v x then without xs v else x ∷ without xs v
+abbrev pub cells_without : List ℕ → List ℕ → List ℕ
+cells_without [] v = []
+cells_without (x ∷ xs) v = if has v x then cells_without xs v else x ∷ cells_without xs v
 
 -- an ascending list with one more cell
 abbrev pub insert_cell : ℕ → List ℕ → List ℕ
@@ -25,7 +25,7 @@ insert_cells (x ∷ xs) u = insert_cells xs (insert_cell x u)
 
 -- `Apply(u)`: the ascending list of the cells of `u` without those of `out` and with those of `put`
 abbrev pub applied : List ℕ → List ℕ → List ℕ → List ℕ
-applied out put u = insert_cells put (without u out)
+applied out put u = insert_cells put (cells_without u out)
 
 -- Two ascending lists fit `u`: every cell of `out` is in it, none of `put` is,
 -- and the list without `out` and with `put` is local.

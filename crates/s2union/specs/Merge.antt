@@ -1,5 +1,6 @@
 -- A walk along a list and the two lists of a change.
 use Rattle.std.specs.Prelude.{◌≡◌, ◌<◌, ◌↔◌, ◌+◌, ℕ, true, false, List, [], ◌∷◌, ◌++◌, length}
+use Rattle.std.specs.List.Sorted.{IsStrictlyIncreasing}
 use Rattle.std.specs.declared.cmp.Ordering.{Ordering}
 use Rattle.std.specs.declared.cmp.Ordering.TheVariants.{Less, Equal, Greater}
 use Rattle.s2union.specs.Apply.{has, applied}
@@ -40,17 +41,8 @@ IsHead Less (x ∷ xs) cell = x < cell
 IsHead Equal (x ∷ xs) cell = x ≡ cell
 IsHead Greater (x ∷ xs) cell = cell < x
 
--- each cell of the list is above `x`
-abbrev pub AllAbove : ℕ → List ℕ → Type 0
-AllAbove x [] = Unit {0}
-AllAbove x (y ∷ ys) = (x < y) × AllAbove x ys
-
-abbrev pub IsAscending : List ℕ → Type 0
-IsAscending [] = Unit {0}
-IsAscending (x ∷ xs) = AllAbove x xs × IsAscending xs
-
 -- the three lists ascend
 pub record Ascend (l : Left) : Type 0 where
-  pub out : IsAscending l.out
-  pub put : IsAscending l.put
-  pub cells : IsAscending l.cells
+  pub out : IsStrictlyIncreasing l.out
+  pub put : IsStrictlyIncreasing l.put
+  pub cells : IsStrictlyIncreasing l.cells

@@ -4,13 +4,15 @@ ghost use Rattle.std.specs.List.Sorted.{IsStrictlyIncreasing};
 ghost use Rattle.s2union.specs.Apply.{applied, Fits};
 
 use crate::merge::{Merge, Turn};
+use crate::runs::extend_reserved;
 use crate::tail::Tail;
 use crate::union::CellUnion;
 use s2cell::CellId;
 use std::alloc::{AllocError, Global};
 
 impl CellUnion {
-    /// An empty union with room for `n` cells, which [`apply_into`](CellUnion::apply_into) may fill.
+    /// An empty union with room for `n` cells, which [`apply_into`](CellUnion::apply_into) and
+    /// [`copy_from`](CellUnion::copy_from) may fill.
     ///
     /// The one call of its kind that takes memory: as much as the room needs, at once.
     pub fn with_room(alloc: Global, n: usize) -> Result<CellUnion, AllocError>
@@ -19,6 +21,19 @@ impl CellUnion {
     {
         let cells = Vec::with_capacity(alloc, n)?;
         Ok(CellUnion { cells })
+    }
+
+    /// Makes this union a copy of another, for whose list it has room. It keeps its room.
+    ///
+    /// The list is copied whole; what was there before is dropped. Takes no memory.
+    pub fn copy_from(&mut self, other: &CellUnion)
+        requires { length other.now.cells ≤ self.old.room }
+        ensures cells { self.new.cells ≡ other.now.cells }
+        ensures room { self.old.room ≤ self.new.room }
+    {
+        let _local = other.cells();
+        self.cells.clear();
+        extend_reserved(&mut self.cells, other.cells());
     }
 
     /// Whether the cells of `out` can be taken out of the list and those of `put` be put in: every cell

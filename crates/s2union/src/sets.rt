@@ -9,13 +9,15 @@ ghost use Rattle.s2union.specs.Sets.{either, shared, without};
 ghost use Rattle.s2union.specs.Packed.{FillsGap, IsPacked};
 
 use crate::merging::add_reserved;
+use crate::runs::{add_run, cells_below};
 use crate::union::CellUnion;
 use s2cell::CellId;
 use std::alloc::{AllocError, Global};
 
 impl CellUnion {
-    /// The leaves of either. One pass over both; it takes room for the cells of both beforehand,
-    /// and refuses only where there is no memory. S2 calls it `Union`.
+    /// The leaves of either. One pass over both; where one is much the shorter, a search for each of its
+    /// cells and whole copies of what lies between. It takes room for the cells of both beforehand, and
+    /// refuses only where there is no memory. S2 calls it `Union`.
     pub fn union(&self, other: &CellUnion) -> Result<CellUnion, AllocError>
         ensures local { IfOk result (λ u. IsLocal u.cells) }
         ensures leaves { IfOk result (λ u. (x : ℕ) → has_leaf u.cells x ≡ (has_leaf self.now.cells x || has_leaf other.now.cells x)) }
@@ -66,8 +68,30 @@ impl CellUnion {
     }
 }
 
+/// A list counts as short where the other is so many times as long. A search in the other takes no more steps
+/// than that, so the searches for all cells of the short one take no more than a pass.
+const MUCH_LONGER: usize = 64;
+
 /// Puts the leaves of `xs` and of `ys` into an empty list.
 fn join(list: &mut Vec<CellId>, xs: &[CellId], ys: &[CellId])
+    requires empty { list.old.items ≡ [] }
+    requires room { length xs.now + length ys.now ≤ vec_capacity list.old }
+    requires x_local { IsLocal xs.now }
+    requires y_local { IsLocal ys.now }
+    ensures local { IsLocal list.new.items }
+    ensures leaves { (x : ℕ) → has_leaf list.new.items x ≡ (has_leaf xs.now x || has_leaf ys.now x) }
+{
+    if ys.len() <= xs.len() / MUCH_LONGER {
+        join_few(list, xs, ys);
+    } else if xs.len() <= ys.len() / MUCH_LONGER {
+        join_few(list, ys, xs);
+    } else {
+        join_evenly(list, xs, ys);
+    }
+}
+
+/// The same, cell by cell of both.
+fn join_evenly(list: &mut Vec<CellId>, xs: &[CellId], ys: &[CellId])
     requires empty { list.old.items ≡ [] }
     requires room { length xs.now + length ys.now ≤ vec_capacity list.old }
     requires x_local { IsLocal xs.now }
@@ -87,24 +111,30 @@ fn join(list: &mut Vec<CellId>, xs: &[CellId], ys: &[CellId])
         j += !is_x as usize;
     }
     if i < xs.len() {
-        add_all(list, &xs[i..]);
+        add_run(list, &xs[i..]);
     } else {
-        add_all(list, &ys[j..]);
+        add_run(list, &ys[j..]);
     }
 }
 
-/// Adds the leaves of ascending cells to packed cells, where there is room for all.
-fn add_all(list: &mut Vec<CellId>, cells: &[CellId])
-    requires packed { IsPacked list.old.items }
-    requires ascending { IsStrictlyIncreasing cells.now }
-    requires starts { 0 < length cells.now → All (λ c. 2 * first_leaf c < slice_index cells.now 0) list.old.items }
-    requires room { vec_len list.old + length cells.now ≤ vec_capacity list.old }
-    ensures packed { IsPacked list.new.items }
-    ensures leaves { (x : ℕ) → has_leaf list.new.items x ≡ (has_leaf list.old.items x || has_leaf cells.now x) }
+/// The same, with one search in `xs` for each cell of `ys`: the run of `xs` before it is added as a whole.
+fn join_few(list: &mut Vec<CellId>, xs: &[CellId], ys: &[CellId])
+    requires empty { list.old.items ≡ [] }
+    requires room { length xs.now + length ys.now ≤ vec_capacity list.old }
+    requires x_local { IsLocal xs.now }
+    requires y_local { IsLocal ys.now }
+    ensures local { IsLocal list.new.items }
+    ensures leaves { (x : ℕ) → has_leaf list.new.items x ≡ (has_leaf xs.now x || has_leaf ys.now x) }
 {
-    for cell in cells {
-        add_reserved(list, *cell);
+    let mut done = 0;
+    for j in 0..ys.len() {
+        let y = ys[j];
+        let next = done + cells_below(&xs[done..], y);
+        add_run(list, &xs[done..next]);
+        add_reserved(list, y);
+        done = next;
     }
+    add_run(list, &xs[done..]);
 }
 
 /// Puts the leaves that `xs` and `ys` share into an empty list.

@@ -65,6 +65,12 @@ fn sets_of_leaves(rt: HostRuntime) -> Result<(), AllocError> {
     let rest = of(rt.alloc(), "1")?.difference(&of(rt.alloc(), "0000000000000001")?)?;
     assert_eq!(rt; rest.len(), 90);
     assert_eq!(rt; rest.leaf_count(), 1152921504606846975);
+    let leaf = of(rt.alloc(), "0000000000000001")?;
+    assert!(rt; is(rest.union(&leaf)?.cells(), "1"));
+    assert!(rt; is(leaf.union(&rest)?.cells(), "1"));
+    let mut copy = CellUnion::with_room(rt.alloc(), rest.len())?;
+    copy.copy_from(&rest);
+    assert!(rt; copy.cells() == rest.cells());
     let none = CellUnion::empty(rt.alloc());
     assert!(rt; none.is_empty() && !rest.is_empty());
     Ok(())

@@ -1,7 +1,6 @@
-use Rattle.std.proofs.Common.{◌≡◌, ◌<◌, ℕ, List, [], ◌∷◌, length, take, slice_get, Some, ap, sym, ◌∙◌, arith}
+use Rattle.std.proofs.Common.{◌≡◌, ◌<◌, ℕ, List, [], ◌∷◌, length, take, slice_get, Some, ap, refl, sym, ◌∙◌, arith}
 use Rattle.std.proofs.lemmas.List.{length-map}
 use Rattle.circular_buffer.specs.Buffer.{Buffer}
-use Rattle.s2union.specs.Apply.{without}
 use Rattle.s2union.specs.Union.{Union}
 use Rattle.std.proofs.lemmas.Option.{get_or_from_slice_get, slice_get-get_or}
 use Rattle.s2edit.specs.History.{History, changed, Assigned}
@@ -9,8 +8,8 @@ use Rattle.s2edit.specs.Diff.{Diff, between}
 use Rattle.s2edit.specs.Leads.{list_at}
 use Rattle.s2edit.specs.Chain.{lists_of, IsWithin, history}
 use Rattle.s2edit.proofs.Tables.{AllWithin-get, AllWithin-at, slice_get-lists_of, read_register, list_read}
-use Rattle.s2edit.proofs.Assigning.{given_fits, given_few, Changes, change_leaves, change_within, change_past, change_future, change_bound, change_numbers, assigned_same, assigned_other}
-use Rattle.s2edit.proofs.Moves.{rewrites_from, rewritten_count, rewritten_roomy}
+use Rattle.s2edit.proofs.Assigning.{taken_over, Changes, change_leaves, change_within, change_past, change_future, change_bound, change_numbers, assigned_same, assigned_other}
+use Rattle.s2edit.proofs.Moves.{rewritten_count, rewritten_roomy}
 use Rattle.s2edit.proofs.Numbers.{numbers-same}
 use Rattle.s2edit.proofs.SetLemmas.{Assigned-sets}
 use Rattle.s2edit.proofs.editor.Editor.assign.Goals as goal
@@ -57,35 +56,6 @@ returns-in_default-clause-same_list c h =
     let e : list_at (lists_of c.self.inside.registers.items) c.args.register ≡ c.args.union.cells = get_or_from_slice_get (lists_of c.self.inside.registers.items) c.args.register c.args.union.cells [] g in
     absurd (c.if-are_same.ensures (c.cells.ensures.value ∙ sym (old_is-refused c) ∙ e ∙ sym c.cells-2.ensures.value))
 
-in_range-made : (c : goal.After-deref-2) → c.index.result < length c.self.inside.registers.items
-in_range-made c = omega (arith, c.index.ensures.within, c.self.invariant.count)
-
-old_is-made : (c : goal.After-deref-2) → list_at (lists_of c.self.inside.registers.items) c.args.register ≡ c.index-old.result.now.cells
-old_is-made c = list_read c.self.inside.registers.items _ _ _ c.index-old.ensures c.index.ensures.value (in_range-made c)
-
-in_table-made : (c : goal.After-deref-2) → c.args.register < length (lists_of c.self.inside.registers.items)
-in_table-made c = omega (arith, in_range-made c, c.index.ensures.value, length-map c.self.inside.registers.items (λ (u : Union). u.cells))
-
-own-made : (c : goal.After-deref-2) → IsWithin c.self.inside.limit c.args.union.cells
-own-made c = record { local = c.cells-2.ensures.local; few = omega (arith, c.len.ensures) }
-
-change_is-made : (c : goal.After-deref-2) → record { register = c.change.inside.register; out = c.change.inside.out.items; put = c.change.inside.put.items } ≡ between c.args.register (list_at (lists_of c.self.inside.registers.items) c.args.register) c.args.union.cells
-change_is-made c = c.change.view_is ∙ c.in-Ok.ensures.change ∙ ap (λ (x : List ℕ). between c.args.register x c.args.union.cells) (sym (old_is-made c))
-
-out_is-made : (c : goal.After-deref-2) → c.deref.result.now ≡ without (list_at (lists_of c.self.inside.registers.items) c.args.register) c.args.union.cells
-out_is-made c = c.deref.ensures.value ∙ ap (λ (d : Diff). d.out) (change_is-made c)
-
-put_is-made : (c : goal.After-deref-2) → c.deref-2.result.now ≡ without c.args.union.cells (list_at (lists_of c.self.inside.registers.items) c.args.register)
-put_is-made c = c.deref-2.ensures.value ∙ ap (λ (d : Diff). d.put) (change_is-made c)
-
-pub rewrite-requires-clause-fits : goal.rewrite-requires-clause-fits
-rewrite-requires-clause-fits c =
-    given_fits c.self.inside.limit (lists_of c.self.inside.registers.items) c.args.register c.args.union.cells c.self.invariant.registers_within (in_table-made c) (own-made c) _ _ (out_is-made c) (put_is-made c)
-
-pub rewrite-requires-clause-room : goal.rewrite-requires-clause-room
-rewrite-requires-clause-room c =
-    omega (arith, c.self.invariant.scratch_roomy, given_few c.self.inside.limit (lists_of c.self.inside.registers.items) c.args.register c.args.union.cells c.self.invariant.registers_within (in_table-made c) (own-made c) _ _ (out_is-made c) (put_is-made c))
-
 in_range : (c : goal.After-clear) → c.index.result < length c.self.inside.registers.items
 in_range c = omega (arith, c.index.ensures.within, c.self.invariant.count)
 
@@ -101,19 +71,13 @@ own c = record { local = c.cells-2.ensures.local; few = omega (arith, c.len.ensu
 change_is : (c : goal.After-clear) → record { register = c.change.inside.register; out = c.change.inside.out.items; put = c.change.inside.put.items } ≡ between c.args.register (list_at (lists_of c.self.inside.registers.items) c.args.register) c.args.union.cells
 change_is c = c.change.view_is ∙ c.in-Ok.ensures.change ∙ ap (λ (x : List ℕ). between c.args.register x c.args.union.cells) (sym (old_is c))
 
-out_is : (c : goal.After-clear) → c.deref.result.now ≡ without (list_at (lists_of c.self.inside.registers.items) c.args.register) c.args.union.cells
-out_is c = c.deref.ensures.value ∙ ap (λ (d : Diff). d.out) (change_is c)
-
-put_is : (c : goal.After-clear) → c.deref-2.result.now ≡ without c.args.union.cells (list_at (lists_of c.self.inside.registers.items) c.args.register)
-put_is c = c.deref-2.ensures.value ∙ ap (λ (d : Diff). d.put) (change_is c)
-
 differs : (c : goal.After-clear) → c.args.union.cells ≡ list_at (lists_of c.self.inside.registers.items) c.args.register → ⊥
 differs c e = c.if-are_same.ensures (c.cells.ensures.value ∙ sym (old_is c) ∙ sym e ∙ sym c.cells-2.ensures.value)
 
-changes : (c : goal.After-clear) → Changes c.self.inside.depth c.self.inside.registers.items c.rewrite.new.registers.items c.self.inside.scratch c.rewrite.new.scratch c.self.inside.past.items c.push_front.new.self.items c.clear.new.self.items c.args.register c.args.union.cells
+changes : (c : goal.After-clear) → Changes c.self.inside.depth c.self.inside.registers.items c.exchange.new.registers.items c.copy_from.new.self c.exchange.new.scratch c.self.inside.past.items c.push_front.new.self.items c.clear.new.self.items c.args.register c.args.union.cells
 changes c = record {
-  rewrites = rewrites_from c.self.inside.registers.items c.rewrite.new.registers.items c.self.inside.scratch c.rewrite.new.scratch (between c.args.register (list_at (lists_of c.self.inside.registers.items) c.args.register) c.args.union.cells) _ _
-      (out_is c) (put_is c) c.rewrite.ensures.registers c.rewrite.ensures.scratch;
+  rewrites = taken_over c.self.inside.limit (lists_of c.self.inside.registers.items) c.args.register c.args.union.cells c.self.invariant.registers_within (in_table c) (own c)
+      c.self.inside.registers.items c.exchange.new.registers.items c.copy_from.new.self c.exchange.new.scratch refl c.copy_from.ensures.cells c.exchange.ensures.registers c.exchange.ensures.scratch;
   onto = ap (λ (b : Buffer Diff). b.items) c.push_front.ensures.items
       ∙ ap (λ (n : ℕ). take n (c.in-Ok.change ∷ c.self.inside.past.items)) c.self.invariant.past_room
       ∙ ap (λ (d : Diff). take c.self.inside.depth (d ∷ c.self.inside.past.items)) (sym c.change.view_is ∙ change_is c);
@@ -124,7 +88,7 @@ there : (c : goal.After-clear) → slice_get c.args.self.now.now c.args.register
 there c =
     ap (λ (k : History (List ℕ)). slice_get k.now c.args.register) (sym c.self.view_is) ∙ slice_get-get_or (lists_of c.self.inside.registers.items) c.args.register [] (in_table c)
 
-assigned : (c : goal.After-clear) → Assigned c.args.self.now c.args.register c.args.union.cells (history c.self.inside.limit c.self.inside.depth c.rewrite.new.registers.items c.push_front.new.self.items c.clear.new.self.items)
+assigned : (c : goal.After-clear) → Assigned c.args.self.now c.args.register c.args.union.cells (history c.self.inside.limit c.self.inside.depth c.exchange.new.registers.items c.push_front.new.self.items c.clear.new.self.items)
 assigned c =
     assigned_other c.args.self.now _ c.args.register c.args.union.cells (list_at (lists_of c.self.inside.registers.items) c.args.register) (there c) (λ e. differs c (sym e))
     (change_leaves c.self.inside.limit c.self.inside.depth _ _ _ _ _ _ _ c.args.register c.args.union.cells c.self.invariant.registers_within c.self.invariant.past_fits (in_table c) (own c) (differs c) (changes c) c.self.inside.future.items ∙ ap (λ (k : History (List ℕ)). changed k c.args.register c.args.union.cells) c.self.view_is)
@@ -143,11 +107,11 @@ returns-clause-numbers c =
     change_numbers c.self.inside.limit c.self.inside.depth _ _ _ _ _ _ _ c.args.register c.args.union.cells c.self.invariant.registers_within c.self.invariant.past_fits (in_table c) (own c) (differs c) (changes c) c.args.self.now.now (c.len-2.result, c.len-3.result) (ap (λ (h : History (List ℕ)). h.now) c.self.view_is)
     (omega (arith, c.len-2.ensures, c.change.inside.out.ok, ap (λ (d : Diff). length d.out) (change_is c))) (omega (arith, c.len-3.ensures, c.change.inside.put.ok, ap (λ (d : Diff). length d.put) (change_is c)))
 
-pub invariant_of-self : goal.invariant_of-self
-invariant_of-self c =
+pub invariant_of-self-2 : goal.invariant_of-self-2
+invariant_of-self-2 c =
     let i = c.self.invariant in
     let d : Diff = between c.args.register (list_at (lists_of c.self.inside.registers.items) c.args.register) c.args.union.cells in
-    let w = rewritten_roomy c.self.inside.limit _ _ _ _ d (changes c).rewrites i.registers_roomy i.scratch_roomy in
+    let w = rewritten_roomy c.self.inside.limit _ _ _ _ d (changes c).rewrites i.registers_roomy (omega (arith, c.copy_from.ensures.room, i.scratch_roomy)) in
     record {
       limit_bound = i.limit_bound;
       count = rewritten_count c.self.inside.limit _ _ _ _ d (changes c).rewrites ∙ i.count;

@@ -1,7 +1,7 @@
 use Rattle.std.proofs.Common.{[], ◌∷◌, ap, sym, ◌∙◌, subst, arith}
 use Rattle.std.proofs.lemmas.Grind.{common_steps}
 use Rattle.s2union.specs.Merge.{Left, Goes, CanApply}
-use Rattle.s2union.proofs.MergeSteps.{last_turn, end_misfit}
+use Rattle.s2union.proofs.MergeSteps.{last_turn, end_misfit, rest_ascends}
 use Rattle.s2union.proofs.merge.Merge.turn_behind.Goals as goal
 
 pub returns-in-Some : goal.returns-in-Some
@@ -14,3 +14,9 @@ pub returns-then-not-is_empty : goal.returns-then-not-is_empty
 returns-then-not-is_empty c f =
     let s = c.self.inside in
     end_misfit s.out.now s.put.now s.cells.now (ap (λ (l : Left). l.cells) c.self.view_is ∙ c.requires) (λ e. grind (arith, common_steps, c.is_empty.ensures, c.if-not-is_empty.true)) (subst CanApply (sym c.self.view_is) f)
+
+pub invariant_of-self : goal.invariant_of-self
+invariant_of-self c =
+    let s = c.self.inside in
+    let i = c.self.invariant in
+    record { out = i.out; put = rest_ascends s.put.now c.in-Some.rest.now _ c.in-Some.ensures.cases.0 i.put; cells = i.cells }

@@ -1,12 +1,12 @@
 use Rattle.std.proofs.Common.{◌≡◌, ◌≤◌, ◌++◌, ◌+◌, ◌-◌, length, drop}
-use Rattle.s2union.specs.Apply.{without}
-use Rattle.s2edit.proofs.lacking.lacking.Given as goal
+use Rattle.s2union.specs.Apply.{cells_without}
+use Rattle.s2edit.proofs.lacking.differing.Given as goal
 
 -- what is found, and what is left to find, are the whole lists
 abbrev pub invariant-loop-i : goal.invariant-loop-i
 invariant-loop-i l = record {
-  out : l.out.items ++ without (drop l.i l.old) (drop l.j l.«new») ≡ without l.old l.«new»;
-  put : l.put.items ++ without (drop l.j l.«new») (drop l.i l.old) ≡ without l.«new» l.old;
+  out : l.out.items ++ cells_without (drop l.i l.old) (drop l.j l.«new») ≡ cells_without l.old l.«new»;
+  put : l.put.items ++ cells_without (drop l.j l.«new») (drop l.i l.old) ≡ cells_without l.«new» l.old;
   i_within : l.i ≤ length l.old;
   j_within : l.j ≤ length l.«new»;
 }

@@ -1,26 +1,27 @@
 use Rattle.std.proofs.Common.{◌≡◌, ◌<◌, ◌≤◌, ◌∙◌, length, get_or, add-zero, arith, refl}
 use Rattle.s2union.proofs.Packing.{read_at}
 use Rattle.s2union.proofs.PackedLocal.{local_from_packed}
-use Rattle.s2union.proofs.Joining.{lt_from_test, le_from_test, join_x, join_y, joining_rest, joining_rest_swap, rising_rest}
-use Rattle.s2union.proofs.sets.join.Goals as goal
-use Rattle.s2union.proofs.sets.join.Goals.{then-is_x, else-is_x, then-loop-i-test+else-j-ys, else-loop-i-test}
+use Rattle.s2union.proofs.Joining.{lt_from_test, le_from_test, join_x, join_y, joining_rest, joining_rest_swap}
+use Rattle.s2union.proofs.Following.{rest_packed}
+use Rattle.s2union.proofs.sets.join_evenly.Goals as goal
+use Rattle.s2union.proofs.sets.join_evenly.Goals.{then-is_x, else-is_x, then-loop-i-test+else-j-ys, else-loop-i-test}
 
 pub returns-then-i-xs-clause-local : goal.returns-then-i-xs-clause-local
-returns-then-i-xs-clause-local c = local_from_packed _ c.add_all.ensures.packed
+returns-then-i-xs-clause-local c = local_from_packed _ c.add_run.ensures.packed
 
 pub returns-then-i-xs-clause-leaves : goal.returns-then-i-xs-clause-leaves
 returns-then-i-xs-clause-leaves c =
     let ended : length c.args.ys.now ≤ c.loop-i.j = elim c.loop-i-test.branch [ then-loop-i-test+else-j-ys w ↦ omega arith | else-loop-i-test w ↦ absurd (omega arith) ] in
-    joining_rest c.args.xs.now c.args.ys.now c.loop-i.list.items c.add_all.new.list.items c.loop-i.i c.loop-i.j c.loop-i.invariant.joining c.loop-i.invariant.in_x ended
-    c.add_all.ensures.leaves
+    joining_rest c.args.xs.now c.args.ys.now c.loop-i.list.items c.add_run.new.list.items c.loop-i.i c.loop-i.j c.loop-i.invariant.joining c.loop-i.invariant.in_x ended
+    c.add_run.ensures.leaves
 
 pub returns-else-i-xs-clause-local : goal.returns-else-i-xs-clause-local
-returns-else-i-xs-clause-local c = local_from_packed _ c.add_all-else-i-xs.ensures.packed
+returns-else-i-xs-clause-local c = local_from_packed _ c.add_run-else-i-xs.ensures.packed
 
 pub returns-else-i-xs-clause-leaves : goal.returns-else-i-xs-clause-leaves
 returns-else-i-xs-clause-leaves c =
-    joining_rest_swap c.args.xs.now c.args.ys.now c.loop-i.list.items c.add_all-else-i-xs.new.list.items c.loop-i.i c.loop-i.j c.loop-i.invariant.joining c.loop-i.invariant.in_y (omega arith)
-    c.add_all-else-i-xs.ensures.leaves
+    joining_rest_swap c.args.xs.now c.args.ys.now c.loop-i.list.items c.add_run-else-i-xs.new.list.items c.loop-i.i c.loop-i.j c.loop-i.invariant.joining c.loop-i.invariant.in_y (omega arith)
+    c.add_run-else-i-xs.ensures.leaves
 
 pub loop-i-preserved : goal.loop-i-preserved
 loop-i-preserved c =
@@ -55,8 +56,8 @@ loop-i-preserved c =
           })
     ]
 
-pub add_all-requires-clause-ascending : goal.add_all-requires-clause-ascending
-add_all-requires-clause-ascending c = rising_rest c.args.xs.now c.loop-i.i _ c.requires.x_local.ascending refl
+pub add_run-requires-clause-run : goal.add_run-requires-clause-run
+add_run-requires-clause-run c = rest_packed c.args.xs.now c.loop-i.i c.requires.x_local (omega arith)
 
-pub add_all-requires-else-i-xs-clause-ascending : goal.add_all-requires-else-i-xs-clause-ascending
-add_all-requires-else-i-xs-clause-ascending c = rising_rest c.args.ys.now c.loop-i.j _ c.requires.y_local.ascending refl
+pub add_run-requires-else-i-xs-clause-run : goal.add_run-requires-else-i-xs-clause-run
+add_run-requires-else-i-xs-clause-run c = rest_packed c.args.ys.now c.loop-i.j c.requires.y_local (omega arith)

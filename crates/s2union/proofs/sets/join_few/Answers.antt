@@ -1,0 +1,45 @@
+use Rattle.std.proofs.Common.{◌+◌, arith}
+use Rattle.s2union.proofs.PackedLocal.{local_from_packed}
+use Rattle.s2union.proofs.Checking.{packed_from_local}
+use Rattle.s2union.proofs.Joining.{Joining, join_y, joining_rest}
+use Rattle.s2union.proofs.Following.{part_packed, rest_packed, Run, run_joins, run_ends, run_starts}
+use Rattle.s2union.proofs.sets.join_few.Goals as goal
+
+pub add_run-requires-clause-run : goal.add_run-requires-clause-run
+add_run-requires-clause-run c = part_packed c.args.xs.now c.loop-j.done _ (packed_from_local c.args.xs.now c.requires.x_local) (omega arith)
+
+pub add_reserved-requires-clause-starts : goal.add_reserved-requires-clause-starts
+add_reserved-requires-clause-starts c =
+    let e = c.cells_below.ensures in
+    let a = c.add_run.ensures in
+    let r : Run c.args.xs.now c.loop-j.done c.cells_below.result c.index-ys-j.result = record { within = e.within; below = e.below; rest = e.rest } in
+    run_starts c.args.xs.now c.args.ys.now c.loop-j.list.items c.add_run.new.list.items c.loop-j.done c.loop-j.j c.cells_below.result c.index-ys-j.result
+    (run_joins c.args.xs.now c.args.ys.now c.loop-j.list.items c.add_run.new.list.items c.loop-j.done c.loop-j.j c.cells_below.result c.index-ys-j.result c.requires.x_local c.loop-j.invariant.joining (omega arith) r
+    (λ _. c.index-ys-j.is) (record { packed = a.packed; leaves = a.leaves; later = a.starts })) (omega arith) c.index-ys-j.is
+
+pub loop-j-preserved : goal.loop-j-preserved
+loop-j-preserved c =
+    let e = c.cells_below.ensures in
+    let a = c.add_run.ensures in
+    let r : Run c.args.xs.now c.loop-j.done c.cells_below.result c.index-ys-j.result = record { within = e.within; below = e.below; rest = e.rest } in
+    let joined : Joining c.args.xs.now c.args.ys.now c.add_run.new.list.items (c.loop-j.done + c.cells_below.result) c.loop-j.j =
+    run_joins c.args.xs.now c.args.ys.now c.loop-j.list.items c.add_run.new.list.items c.loop-j.done c.loop-j.j c.cells_below.result c.index-ys-j.result c.requires.x_local c.loop-j.invariant.joining (omega arith) r
+    (λ _. c.index-ys-j.is) (record { packed = a.packed; leaves = a.leaves; later = a.starts }) in
+    record {
+      in_x = omega arith;
+      few = omega arith;
+      room = omega arith;
+      joining = join_y c.args.xs.now c.args.ys.now c.add_run.new.list.items c.add_reserved.new.list.items (c.loop-j.done + c.cells_below.result) c.loop-j.j c.index-ys-j.result c.requires.y_local joined (omega arith) c.index-ys-j.is
+          (run_ends c.args.xs.now c.loop-j.done c.cells_below.result c.index-ys-j.result r) c.add_reserved.ensures.packed c.add_reserved.ensures.starts c.add_reserved.ensures.leaves;
+    }
+
+pub add_run-requires-2-clause-run : goal.add_run-requires-2-clause-run
+add_run-requires-2-clause-run c = rest_packed c.args.xs.now c.loop-j.done c.requires.x_local (omega arith)
+
+pub returns-clause-local : goal.returns-clause-local
+returns-clause-local c = local_from_packed _ c.add_run-2.ensures.packed
+
+pub returns-clause-leaves : goal.returns-clause-leaves
+returns-clause-leaves c =
+    joining_rest c.args.xs.now c.args.ys.now c.loop-j.list.items c.add_run-2.new.list.items c.loop-j.done c.loop-j.j c.loop-j.invariant.joining (omega arith) (omega arith)
+    c.add_run-2.ensures.leaves
