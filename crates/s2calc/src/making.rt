@@ -55,9 +55,12 @@ fn in_memory(made: Result<CellUnion, AllocError>) -> Result<CellUnion, Refusal>
 }
 
 /// A covering, or why there is none as a refusal.
+#[tactic(auto, using(crate::proofs::CoveringLemmas::outer_too_long, crate::proofs::CoveringLemmas::inner_too_long))]
 fn covered(made: Result<CellUnion, CoverFault>) -> Result<CellUnion, Refusal>
-    ensures { (S : ℕ → Bool) (limit : ℕ) → IfOk made (λ u. IsNormalForm S u.cells) →
-        IfErr made (λ fault. fault ≡ CoverFault.TooMany → (u : List ℕ) → IsNormalForm S u → limit < length u) → Makes S limit result }
+    ensures outer { (R : ℕ → Bool) (level limit : ℕ) → IfOk made (λ u. IsNormalForm (outer_set R level) u.cells) →
+        IfErr made (λ fault. fault ≡ CoverFault.TooMany → (u : List ℕ) → IsNormalForm (outer_set R level) u → limit < length u) → Makes (outer_set R level) limit result }
+    ensures inner { (R : ℕ → Bool) (level limit : ℕ) → IfOk made (λ u. IsNormalForm (inner_set R level) u.cells) →
+        IfErr made (λ fault. fault ≡ CoverFault.TooMany → (u : List ℕ) → IsNormalForm (inner_set R level) u → limit < length u) → Makes (inner_set R level) limit result }
 {
     match made {
         Ok(union) => Ok(union),
