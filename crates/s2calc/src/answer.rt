@@ -1,7 +1,6 @@
 //! Answers: what they are, their texts, and how they are written.
-ghost use Rattle.std.specs.Prelude.{◌≡◌, ◌≤◌, ◌+◌, ◌-◌, ◌++◌, ◌∷◌, [], length, codes, decimal, OnOk, OnErr, IfErr, flat_map};
+ghost use Rattle.std.specs.Prelude.{◌≡◌, ◌≤◌, ◌+◌, ◌-◌, ◌++◌, ◌∷◌, [], length, codes, decimal, OnOk, OnErr, IfErr};
 ghost use Rattle.std.specs.Io.KnownBytes.{Appends};
-ghost use Rattle.s2cell.specs.Cell.{level_of, face_of, first_leaf, size_of};
 ghost use Rattle.s2cell.specs.Token.{token_of};
 ghost use Rattle.s2cell.specs.Debug.{debug_of};
 ghost use Rattle.s2union.specs.Denorm.{denormalised};

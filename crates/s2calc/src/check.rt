@@ -1,5 +1,5 @@
 //! What is answered of a file.
-ghost use Rattle.std.specs.Prelude.{◌≡◌, option_map};
+ghost use Rattle.std.specs.Prelude.{option_map};
 ghost use Rattle.s2calc.specs.Check.{Checks, ChecksFile, ChecksContent, ChecksBytes, ChecksAndTells, check_reply};
 
 use crate::answer::{count_line, error_line};

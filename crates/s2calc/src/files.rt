@@ -1,5 +1,5 @@
 //! Registers and files.
-ghost use Rattle.std.specs.Prelude.{◌≡◌, option_map};
+ghost use Rattle.std.specs.Prelude.{option_map};
 ghost use Rattle.s2calc.specs.Answer.{reply_of};
 ghost use Rattle.s2calc.specs.Step.{Loads, Saves, ReadsContent, Reads};
 ghost use Rattle.s2calc.specs.World.{world};

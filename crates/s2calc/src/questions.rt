@@ -1,5 +1,4 @@
 //! Questions about cells and registers.
-ghost use Rattle.std.specs.Prelude.{◌≡◌};
 ghost use Rattle.s2calc.specs.Answer.{reply_of};
 ghost use Rattle.s2calc.specs.Questions.{Answers};
 ghost use Rattle.s2script.specs.declared.command.Question.TheVariants.{At, Square as OfSquare, Count, Has, Touches, Covers, Meets, Denorm, History as Sides};
