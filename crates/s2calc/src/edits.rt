@@ -1,5 +1,5 @@
 //! Edits of a register: the union that an edit makes, what the register then gets, and undo and redo.
-ghost use Rattle.std.specs.Prelude.{◌≡◌, ◌<◌, ℕ, Bool, List, length, IfOk, IfErr};
+ghost use Rattle.std.specs.Prelude.{◌≡◌, ◌<◌, ℕ, Bool, List, length, Ok, IfOk, IfErr};
 ghost use Rattle.s2union.specs.Union.{IsNormalForm, has_leaf};
 ghost use Rattle.s2union.specs.Sets.{either, shared, without};
 ghost use Rattle.s2cover.specs.Rectangles.{rect_set};
@@ -93,7 +93,8 @@ fn make(
 
 /// A union, or want of memory as a refusal.
 fn in_memory(made: Result<CellUnion, AllocError>) -> Result<CellUnion, Refusal>
-    ensures { (S : ℕ → Bool) (limit : ℕ) → IfOk made (λ u. IsNormalForm S u.cells) → Makes S limit result }
+    ensures makes { (S : ℕ → Bool) (limit : ℕ) → IfOk made (λ u. IsNormalForm S u.cells) → Makes S limit result }
+    ensures same { IfOk made (λ u. result ≡ Ok u) }
 {
     match made {
         Ok(union) => Ok(union),
