@@ -1,5 +1,5 @@
 pub mod CloseLemmas
-pub mod EditLemmas
+pub mod CoveringLemmas
 pub mod Failures
 pub mod LineLemmas
 pub mod ListingLemmas

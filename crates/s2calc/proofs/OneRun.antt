@@ -1,5 +1,5 @@
 -- Where no line meets want of memory or a failed shelf, a script has one run.
-use Rattle.std.proofs.Common.{◌≡◌, ◌≢◌, ℕ, ◌-◌, ◌^◌, ◌⊎◌, inl, inr, Bool, true, false, List, [], ◌∷◌, refl, sym, ap, ◌∙◌, subst, arith, Option, None, Some}
+use Rattle.std.proofs.Common.{◌≡◌, ◌≢◌, ℕ, ◌-◌, ◌^◌, ◌≤◌, ◌⊎◌, inl, inr, Bool, true, false, List, [], ◌∷◌, length, refl, sym, ap, ◌∙◌, subst, arith, Option, None, Some}
 use Rattle.std.proofs.Math.Logic.{⊎_elim}
 use Rattle.std.proofs.lemmas.Bool.{false≢true}
 use Rattle.std.proofs.lemmas.Slice.Eq.{bytes_eq-Decides}
@@ -8,6 +8,7 @@ use Rattle.s2cell.specs.Cell.{IsCell, level_of, first_leaf, size_of}
 use Rattle.s2cell.proofs.CellLemmas.{cell_leaves}
 use Rattle.s2cell.proofs.Calls.{size_at}
 use Rattle.s2cell.proofs.Squares.{one_leaf, one_square}
+use Rattle.s2union.specs.Union.{IsNormalForm}
 use Rattle.s2union.proofs.Normal.{one_normal_form, normal_form_same}
 use Rattle.s2edit.specs.History.{History, Assigned, numbers, undone, redone}
 use Rattle.s2edit.proofs.OneEnd.{is_there}
@@ -25,7 +26,7 @@ use Rattle.s2calc.specs.World.{World}
 use Rattle.s2calc.specs.Replies.{Reply, Says}
 use Rattle.s2calc.specs.Texts.{cell_line, square_line, ok_line}
 use Rattle.s2calc.specs.Questions.{Tells, ListsSome, Answers}
-use Rattle.s2calc.specs.Edits.{new_set, leaves_of, Gets, Moves}
+use Rattle.s2calc.specs.Edits.{new_set, leaves_of, IsTooLong, Gets, Moves}
 use Rattle.s2calc.specs.Step.{Reads, ReadsContent, Loads, Saves, Acts, StepBy}
 use Rattle.s2calc.specs.Run.{Steps}
 use Rattle.s2calc.specs.Laws.{SameWorld, IsPlain, AllPlain}
@@ -82,14 +83,18 @@ one_assignment old new other r u a b = ⊎_elim (λ e. a.same e ∙ sym (b.same 
 told_numbers : (old new other : History (List ℕ)) → new ≡ other → ok_line (numbers old.now new.now).0 (numbers old.now new.now).1 ≡ ok_line (numbers old.now other.now).0 (numbers old.now other.now).1
 told_numbers old new other e = ap (λ (h : History (List ℕ)). ok_line (numbers old.now h.now).0 (numbers old.now h.now).1) e
 
+-- a normal form within the limit is the only one
+not_too_long : (S : ℕ → Bool) (limit : ℕ) (u : List ℕ) → IsTooLong S limit → IsNormalForm S u → length u ≤ limit → ⊥
+not_too_long S limit u t n h = let same = ap length (one_normal_form S u t.list n t.normal) in let above = t.above in omega arith
+
 one_get : (S T : ℕ → Bool) (r : ℕ) (old new other : History (List ℕ)) (x y : Reply) → ((n : ℕ) → S n ≡ T n) → Gets S r old x new → Gets T r old y other → IsPlain x → IsPlain y → (x ≡ y) × (new ≡ other)
 one_get S T r old new other x y e (inl a) (inl b) p q =
     let list : b.list ≡ a.list = one_normal_form T b.list a.list b.normal (normal_form_same S T a.list e a.normal) in
     let state : new ≡ other = one_assignment old new other r a.list a.state (subst (λ u. Assigned old r u other) list b.state) in
     (a.told ∙ ap (λ line. Says line) (told_numbers old new other state) ∙ sym b.told, state)
-one_get S T r old new other x y e (inl a) (inr (inl b)) p q = absurd (omega (arith, b.1 a.list (normal_form_same S T a.list e a.normal), a.within))
+one_get S T r old new other x y e (inl a) (inr (inl b)) p q = absurd (not_too_long T old.limit a.list b.1 (normal_form_same S T a.list e a.normal) a.within)
 one_get S T r old new other x y e (inl a) (inr (inr b)) p q = absurd (q.0 b.0)
-one_get S T r old new other x y e (inr (inl a)) (inl b) p q = absurd (omega (arith, a.1 b.list (normal_form_same T S b.list (λ n. sym (e n)) b.normal), b.within))
+one_get S T r old new other x y e (inr (inl a)) (inl b) p q = absurd (not_too_long S old.limit b.list a.1 (normal_form_same T S b.list (λ n. sym (e n)) b.normal) b.within)
 one_get S T r old new other x y e (inr (inl a)) (inr (inl b)) p q = (a.0 ∙ sym b.0, a.2 ∙ sym b.2)
 one_get S T r old new other x y e (inr (inl a)) (inr (inr b)) p q = absurd (q.0 b.0)
 one_get S T r old new other x y e (inr (inr a)) b p q = absurd (p.0 a.0)

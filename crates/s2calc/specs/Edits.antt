@@ -54,9 +54,15 @@ pub record Holds (S : ℕ → Bool) (r : ℕ) (old : History (List ℕ)) (reply 
   pub state_sets : Assigned (sets old) r (has_leaf list) (sets new)
   pub told : reply ≡ Says (ok_line (numbers old.now new.now).0 (numbers old.now new.now).1)
 
+-- S has a normal form, and it has more than `limit` cells
+pub record IsTooLong (S : ℕ → Bool) (limit : ℕ) : Type 0 where
+  pub list : List ℕ
+  pub normal : IsNormalForm S list
+  pub above : limit < length list
+
 -- why the normal form of S is not made: it has too many cells, or there is no memory
 abbrev pub Fails : (ℕ → Bool) → ℕ → Refusal → Type 0
-Fails S limit refusal = ((refusal ≡ TooMany) × ((u : List ℕ) → IsNormalForm S u → limit < length u)) ⊎ (refusal ≡ Memory)
+Fails S limit refusal = ((refusal ≡ TooMany) × IsTooLong S limit) ⊎ (refusal ≡ Memory)
 
 -- the normal form of S, or why it is not made
 abbrev pub Makes : (ℕ → Bool) → ℕ → Result U.Union Refusal → Type 0
@@ -66,7 +72,7 @@ Makes S limit result = MatchResult result (λ u. IsNormalForm S u.cells) (Fails 
 abbrev pub Gets : (ℕ → Bool) → ℕ → History (List ℕ) → Reply → History (List ℕ) → Type 0
 Gets S r old reply new =
     Holds S r old reply new
-    ⊎ ((reply ≡ Refuses TooMany) × ((u : List ℕ) → IsNormalForm S u → old.limit < length u) × (new ≡ old))
+    ⊎ ((reply ≡ Refuses TooMany) × IsTooLong S old.limit × (new ≡ old))
     ⊎ ((reply ≡ Refuses Memory) × (new ≡ old))
 
 -- a move to another state of the history tells its numbers, or there is none to move to

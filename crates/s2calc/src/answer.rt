@@ -1,7 +1,24 @@
-//! What a line is answered.
+//! Answers: what they are, their texts, and how they are written.
+ghost use Rattle.std.specs.Prelude.{◌≡◌, ◌≤◌, ◌+◌, ◌-◌, ◌++◌, ◌∷◌, [], length, codes, decimal, OnOk, OnErr, IfErr};
+ghost use Rattle.std.specs.Io.KnownBytes.{Appends};
+ghost use Rattle.s2cell.specs.Token.{token_of};
+ghost use Rattle.s2cell.specs.Debug.{debug_of};
+ghost use Rattle.s2union.specs.Denorm.{denormalised};
+ghost use Rattle.s2script.specs.Refusals.{name_of};
+ghost use Rattle.s2calc.specs.Output.{AppendsPart};
+ghost use Rattle.s2calc.specs.Replies.{text_of};
+ghost use Rattle.s2calc.specs.Answer.{reply_of, told};
+ghost use Rattle.s2calc.specs.Texts.{cell_line, square_line, ok_line, count_line, history_line, saved_line, token_line, listing};
+
+use crate::fault::RunFault;
+use crate::output::emit;
+use arrayvec::ArrayVec;
+use itoa::Buffer;
 use s2cell::{CellId, Square};
-use s2edit::Register;
+use s2edit::{Editor, Register};
 use s2script::{Level, Modulus, Refusal};
+use s2union::CellUnion;
+use std::io::Write;
 
 /// What a line is answered, until it is written. Of a long answer it says only what to list.
 #[derive(Clone, Copy)]
@@ -41,4 +58,236 @@ pub enum Answer {
     Saved,
     /// The name of a refusal.
     Refused(Refusal),
+}
+
+/// Writes an answer. It takes no memory: a long answer goes out line by line.
+pub(crate) fn write_answer<W: Write>(
+    writer: &mut W,
+    answer: &Answer,
+    editor: &Editor,
+) -> Result<(), RunFault>
+    ensures ok { OnOk result (Appends (W.contents writer.old) (W.contents writer.new) (text_of (reply_of answer.now editor.now))) }
+    ensures err { OnErr result (AppendsPart (W.contents writer.old) (W.contents writer.new) (text_of (reply_of answer.now editor.now))) }
+    ensures fault { IfErr result (λ fault. fault ≡ RunFault.Output) }
+{
+    match answer {
+        Answer::Nothing => Ok(()),
+        Answer::Cell(cell) => emit(writer, cell_line(*cell).as_slice()),
+        Answer::Square(square) => emit(writer, square_line(*square).as_slice()),
+        Answer::Moved { out, put } => emit(writer, ok_line(*out as u64, *put as u64).as_slice()),
+        Answer::Count { cells, leaves } => {
+            emit(writer, count_line(*cells as u64, *leaves).as_slice())
+        }
+        Answer::Tells(yes) => emit(writer, told(*yes)),
+        Answer::Listing(register) => write_cells(writer, editor.register(*register).cells()),
+        Answer::Cut {
+            register,
+            least,
+            modulus,
+        } => write_cut(writer, editor.register(*register), *least, *modulus),
+        Answer::Sides { undos, redos } => {
+            emit(
+                writer,
+                history_line(*undos as u64, *redos as u64).as_slice(),
+            )
+        }
+        Answer::Saved => emit(writer, saved()),
+        Answer::Refused(refusal) => emit(writer, error_line(*refusal).as_slice()),
+    }
+}
+
+/// The line of a yes or a no.
+#[tactic(auto, unfolding(crate::specs::Texts::yes_line, crate::specs::Texts::no_line))]
+fn told(yes: bool) -> &'static [u8]
+    ensures { result.now ≡ told yes }
+{
+    if yes { b"yes\n" } else { b"no\n" }
+}
+
+/// The line of a file that was written.
+#[tactic(auto, unfolding(crate::specs::Texts::saved_line))]
+fn saved() -> &'static [u8]
+    ensures { result.now ≡ saved_line }
+{
+    b"ok\n"
+}
+
+/// Writes the tokens of cells, one a line, and then `end`.
+fn write_cells<W: Write>(writer: &mut W, cells: &[CellId]) -> Result<(), RunFault>
+    ensures ok { OnOk result (Appends (W.contents writer.old) (W.contents writer.new) (listing cells.now)) }
+    ensures err { OnErr result (AppendsPart (W.contents writer.old) (W.contents writer.new) (listing cells.now)) }
+    ensures fault { IfErr result (λ fault. fault ≡ RunFault.Output) }
+{
+    for cell in cells {
+        emit(writer, token_line(*cell).as_slice())?;
+    }
+    emit(writer, b"end\n")
+}
+
+/// Writes the tokens of the cells that a union is cut to, one a line, and then `end`.
+fn write_cut<W: Write>(
+    writer: &mut W,
+    union: &CellUnion,
+    least: Level,
+    modulus: Modulus,
+) -> Result<(), RunFault>
+    ensures ok { OnOk result (Appends (W.contents writer.old) (W.contents writer.new) (listing (denormalised least modulus union.now.cells))) }
+    ensures err { OnErr result (AppendsPart (W.contents writer.old) (W.contents writer.new) (listing (denormalised least modulus union.now.cells))) }
+    ensures fault { IfErr result (λ fault. fault ≡ RunFault.Output) }
+{
+    for cell in union.denormalized(least.number(), modulus.number()) {
+        emit(writer, token_line(cell).as_slice())?;
+    }
+    emit(writer, b"end\n")
+}
+
+/// The room for one line.
+const LINE_ROOM: usize = 160;
+
+/// The bytes of one line of an answer.
+pub(crate) type Line = ArrayVec<u8, LINE_ROOM>;
+
+/// The line of a refusal.
+pub(crate) fn error_line(refusal: Refusal) -> Line
+    ensures { result.items ≡ codes "error " ++ name_of refusal ++ 10 ∷ [] }
+{
+    let mut line = ArrayVec::new();
+    put(&mut line, b"error ");
+    put(&mut line, refusal.name().as_bytes());
+    put(&mut line, b"\n");
+    line
+}
+
+/// The line that says what is known of a cell.
+#[tactic(auto, unfolding(crate::specs::Texts::cell_line))]
+pub(crate) fn cell_line(cell: CellId) -> Line
+    ensures { result.items ≡ cell_line cell }
+{
+    let mut line = ArrayVec::new();
+    put_names(&mut line, cell);
+    put(&mut line, b" level ");
+    put_number(&mut line, u64::from(cell.level()));
+    put(&mut line, b" face ");
+    put_number(&mut line, u64::from(cell.face()));
+    put(&mut line, b" leaves ");
+    put_number(&mut line, cell.first_leaf());
+    put(&mut line, b" ");
+    put_number(&mut line, cell.end_leaf() - 1);
+    put(&mut line, b"\n");
+    line
+}
+
+/// The line of a square.
+#[tactic(auto, unfolding(crate::specs::Texts::square_line))]
+fn square_line(square: Square) -> Line
+    ensures { result.items ≡ square_line square.face square.i square.j square.size }
+{
+    let mut line = ArrayVec::new();
+    put(&mut line, b"face ");
+    put_number(&mut line, u64::from(square.face));
+    put(&mut line, b" i ");
+    put_number(&mut line, u64::from(square.i));
+    put(&mut line, b" j ");
+    put_number(&mut line, u64::from(square.j));
+    put(&mut line, b" size ");
+    put_number(&mut line, u64::from(square.size));
+    put(&mut line, b"\n");
+    line
+}
+
+/// The line of an edit.
+#[tactic(auto, unfolding(crate::specs::Texts::ok_line))]
+fn ok_line(out: u64, put_in: u64) -> Line
+    ensures { result.items ≡ ok_line out put_in }
+{
+    two_numbers(b"ok ", out, b" ", put_in)
+}
+
+/// The line of how many cells and leaves there are.
+#[tactic(auto, unfolding(crate::specs::Texts::count_line))]
+pub(crate) fn count_line(cells: u64, leaves: u64) -> Line
+    ensures { result.items ≡ count_line cells leaves }
+{
+    two_numbers(b"cells ", cells, b" leaves ", leaves)
+}
+
+/// The line of how many states can be undone and redone.
+#[tactic(auto, unfolding(crate::specs::Texts::history_line))]
+fn history_line(undos: u64, redos: u64) -> Line
+    ensures { result.items ≡ history_line undos redos }
+{
+    two_numbers(b"undo ", undos, b" redo ", redos)
+}
+
+/// A line of two numbers, each behind a few bytes.
+fn two_numbers(before: &[u8], first: u64, between: &[u8], second: u64) -> Line
+    requires { length before.now + length between.now ≤ 100 }
+    ensures { result.items ≡ before.now ++ decimal first ++ between.now ++ decimal second ++ 10 ∷ [] }
+{
+    let mut line = ArrayVec::new();
+    put(&mut line, before);
+    put_number(&mut line, first);
+    put(&mut line, between);
+    put_number(&mut line, second);
+    put(&mut line, b"\n");
+    line
+}
+
+/// The line of a cell in a listing.
+fn token_line(cell: CellId) -> Line
+    ensures { result.items ≡ token_line cell }
+{
+    let mut line = ArrayVec::new();
+    put_token(&mut line, cell);
+    put(&mut line, b"\n");
+    line
+}
+
+/// Adds a cell's token and its debug text.
+fn put_names(line: &mut Line, cell: CellId)
+    requires { line.old.items ≡ [] }
+    ensures text { line.new.items ≡ codes "cell " ++ token_of cell ++ codes " " ++ debug_of cell }
+    ensures short { length line.new.items ≤ 54 }
+{
+    put(line, b"cell ");
+    put_token(line, cell);
+    put(line, b" ");
+    put_debug(line, cell);
+}
+
+/// Adds a cell's token.
+fn put_token(line: &mut Line, cell: CellId)
+    requires { length line.old.items + 16 ≤ 160 }
+    ensures text { line.new.items ≡ line.old.items ++ token_of cell }
+    ensures short { length line.new.items ≤ length line.old.items + 16 }
+{
+    put(line, cell.token().as_slice());
+}
+
+/// Adds a cell's debug text.
+fn put_debug(line: &mut Line, cell: CellId)
+    requires { length line.old.items + 32 ≤ 160 }
+    ensures text { line.new.items ≡ line.old.items ++ debug_of cell }
+    ensures short { length line.new.items ≤ length line.old.items + 32 }
+{
+    put(line, cell.debug().as_slice());
+}
+
+/// Adds bytes at the end of a line.
+fn put(line: &mut Line, bytes: &[u8])
+    requires { length line.old.items + length bytes.now ≤ 160 }
+    ensures text { line.new.items ≡ line.old.items ++ bytes.now }
+    ensures long { length line.new.items ≡ length line.old.items + length bytes.now }
+{
+    line.try_extend_from_slice(bytes).unwrap();
+}
+
+/// Adds a number in decimal digits.
+fn put_number(line: &mut Line, number: u64)
+    requires { length line.old.items + 20 ≤ 160 }
+    ensures text { line.new.items ≡ line.old.items ++ decimal number }
+    ensures short { length line.new.items ≤ length line.old.items + 20 }
+{
+    let mut buffer = Buffer::new();
+    put(line, buffer.format(number).as_bytes());
 }

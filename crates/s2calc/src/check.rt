@@ -1,10 +1,10 @@
 //! What is answered of a file.
-ghost use Rattle.std.specs.Prelude.{◌≡◌, option_map};
+ghost use Rattle.std.specs.Prelude.{option_map};
 ghost use Rattle.s2calc.specs.Check.{Checks, ChecksFile, ChecksContent, ChecksBytes, ChecksAndTells, check_reply};
 
+use crate::answer::{count_line, error_line};
 use crate::fault::RunFault;
 use crate::program::write_line;
-use crate::text::{count_line, error_line};
 use s2file::{FileFault, Shelf, ShelfFault, decode};
 use s2script::{Refusal, name_in};
 use std::alloc::Global;

@@ -1,16 +1,19 @@
-//! Edits of a register.
-ghost use Rattle.std.specs.Prelude.{ℕ, Bool};
-ghost use Rattle.s2union.specs.Union.{IsNormalForm};
+//! Edits of a register: the union that an edit makes, what the register then gets, and undo and redo.
+ghost use Rattle.std.specs.Prelude.{◌≡◌, ◌<◌, ℕ, Bool, List, length, Ok, IfOk, IfErr};
+ghost use Rattle.s2union.specs.Union.{IsNormalForm, has_leaf};
+ghost use Rattle.s2union.specs.Sets.{either, shared, without};
+ghost use Rattle.s2cover.specs.Rectangles.{rect_set};
+ghost use Rattle.s2cover.specs.Coverings.{outer_set, inner_set};
 ghost use Rattle.s2edit.specs.History.{undone, redone};
 ghost use Rattle.s2calc.specs.Answer.{reply_of};
-ghost use Rattle.s2calc.specs.Edits.{new_set, Gets, Moves};
+ghost use Rattle.s2calc.specs.Edits.{new_set, leaves_of, no_leaf, within, Makes, Gets, Moves};
 
 use crate::answer::Answer;
-use crate::making::make;
+use s2cover::{Clip, CoverFault, FaceRect, Looks, inner, outer, rect_inner, rect_outer};
 use s2edit::{EditFault, Editor, Register};
-use s2script::{Edit, Refusal};
-use s2union::CellUnion;
-use std::alloc::Global;
+use s2script::{Cells, Edit, Level, Refusal};
+use s2union::{CellUnion, normalise};
+use std::alloc::{AllocError, Global};
 
 /// Gives a register what an edit says.
 pub(crate) fn edit_register(
@@ -55,5 +58,172 @@ pub(crate) fn redo(editor: &mut Editor) -> Answer
     match editor.redo() {
         Some((out, put)) => Answer::Moved { out, put },
         None => Answer::Refused(Refusal::Nothing),
+    }
+}
+
+/// The union that an edit gives the register.
+fn make(
+    alloc: Global,
+    editor: &Editor,
+    register: Register,
+    edit: Edit<'_>,
+) -> Result<CellUnion, Refusal>
+    ensures { Makes (new_set editor.now.now register edit.entry) editor.now.limit result }
+{
+    let union = editor.register(register);
+    match edit {
+        Edit::Add(cells) => in_memory(added(alloc, union, cells)),
+        Edit::Remove(cells) => in_memory(removed(alloc, union, cells)),
+        Edit::Keep(cells) => in_memory(kept(alloc, union, cells)),
+        Edit::Clear => Ok(nothing(alloc)),
+        Edit::Copy(other) => in_memory(copied(editor.register(other))),
+        Edit::Union(other) => in_memory(union.union(editor.register(other))),
+        Edit::Intersect(other) => in_memory(union.intersection(editor.register(other))),
+        Edit::Subtract(other) => in_memory(union.difference(editor.register(other))),
+        Edit::Range(span) => {
+            let (first, last) = span.ends();
+            in_memory(CellUnion::from_range(alloc, first, last))
+        }
+        Edit::Outer { level, rect } => outer_rect(alloc, &rect, level, editor),
+        Edit::Inner { level, rect } => inner_rect(alloc, &rect, level, editor),
+        Edit::OuterOf { other, level, rect } => outer_of(alloc, editor, other, level, rect),
+        Edit::InnerOf { other, level, rect } => inner_of(alloc, editor, other, level, rect),
+    }
+}
+
+/// A union, or want of memory as a refusal.
+fn in_memory(made: Result<CellUnion, AllocError>) -> Result<CellUnion, Refusal>
+    ensures makes { (S : ℕ → Bool) (limit : ℕ) → IfOk made (λ u. IsNormalForm S u.cells) → Makes S limit result }
+    ensures same { IfOk made (λ u. result ≡ Ok u) }
+{
+    match made {
+        Ok(union) => Ok(union),
+        Err(_) => Err(Refusal::Memory),
+    }
+}
+
+/// A covering, or why there is none as a refusal.
+#[tactic(auto, using(crate::proofs::CoveringLemmas::outer_too_long, crate::proofs::CoveringLemmas::inner_too_long))]
+fn covered(made: Result<CellUnion, CoverFault>) -> Result<CellUnion, Refusal>
+    ensures outer { (R : ℕ → Bool) (level limit : ℕ) → IfOk made (λ u. IsNormalForm (outer_set R level) u.cells) →
+        IfErr made (λ fault. fault ≡ CoverFault.TooMany → (u : List ℕ) → IsNormalForm (outer_set R level) u → limit < length u) → Makes (outer_set R level) limit result }
+    ensures inner { (R : ℕ → Bool) (level limit : ℕ) → IfOk made (λ u. IsNormalForm (inner_set R level) u.cells) →
+        IfErr made (λ fault. fault ≡ CoverFault.TooMany → (u : List ℕ) → IsNormalForm (inner_set R level) u → limit < length u) → Makes (inner_set R level) limit result }
+{
+    match made {
+        Ok(union) => Ok(union),
+        Err(CoverFault::TooMany) => Err(Refusal::TooMany),
+        Err(CoverFault::Memory) => Err(Refusal::Memory),
+    }
+}
+
+/// The union of cells.
+fn gathered(alloc: Global, mut cells: Cells<'_>) -> Result<CellUnion, AllocError>
+    ensures { IfOk result (λ u. (x : ℕ) → has_leaf u.cells x ≡ has_leaf cells.entry x) }
+{
+    let mut list = Vec::new(alloc);
+    while let Some(cell) = cells.next() {
+        list.push(cell)?;
+    }
+    Ok(normalise(list))
+}
+
+/// What the union has, and the cells.
+fn added(alloc: Global, union: &CellUnion, cells: Cells<'_>) -> Result<CellUnion, AllocError>
+    ensures { IfOk result (λ u. IsNormalForm (either (has_leaf union.now.cells) (has_leaf cells.entry)) u.cells) }
+{
+    union.union(&gathered(alloc, cells)?)
+}
+
+/// What the union has, without the cells.
+fn removed(alloc: Global, union: &CellUnion, cells: Cells<'_>) -> Result<CellUnion, AllocError>
+    ensures { IfOk result (λ u. IsNormalForm (without (has_leaf union.now.cells) (has_leaf cells.entry)) u.cells) }
+{
+    union.difference(&gathered(alloc, cells)?)
+}
+
+/// What the union shares with the cells.
+fn kept(alloc: Global, union: &CellUnion, cells: Cells<'_>) -> Result<CellUnion, AllocError>
+    ensures { IfOk result (λ u. IsNormalForm (shared (has_leaf union.now.cells) (has_leaf cells.entry)) u.cells) }
+{
+    union.intersection(&gathered(alloc, cells)?)
+}
+
+/// The union without a leaf.
+fn nothing(alloc: Global) -> CellUnion
+    ensures { IsNormalForm no_leaf result.cells }
+{
+    let union = CellUnion::empty(alloc);
+    let _normal = union.cells();
+    union
+}
+
+/// Another union of the same leaves.
+fn copied(union: &CellUnion) -> Result<CellUnion, AllocError>
+    ensures { IfOk result (λ u. IsNormalForm (has_leaf union.now.cells) u.cells) }
+{
+    let _normal = union.cells();
+    union.try_clone()
+}
+
+/// The outer covering of a rectangle.
+fn outer_rect(
+    alloc: Global,
+    rect: &FaceRect,
+    level: Level,
+    editor: &Editor,
+) -> Result<CellUnion, Refusal>
+    ensures { Makes (outer_set (rect_set rect.now) level) editor.now.limit result }
+{
+    let mut looks = Looks { count: 0 };
+    let limit = editor.limit();
+    covered(rect_outer(alloc, rect, level.number(), limit, &mut looks))
+}
+
+/// The inner covering of a rectangle.
+fn inner_rect(
+    alloc: Global,
+    rect: &FaceRect,
+    level: Level,
+    editor: &Editor,
+) -> Result<CellUnion, Refusal>
+    ensures { Makes (inner_set (rect_set rect.now) level) editor.now.limit result }
+{
+    let mut looks = Looks { count: 0 };
+    let limit = editor.limit();
+    covered(rect_inner(alloc, rect, level.number(), limit, &mut looks))
+}
+
+/// The outer covering of a register, within a rectangle if there is one.
+fn outer_of(
+    alloc: Global,
+    editor: &Editor,
+    register: Register,
+    level: Level,
+    rect: Option<FaceRect>,
+) -> Result<CellUnion, Refusal>
+    ensures { Makes (outer_set (within rect (leaves_of editor.now.now register)) level) editor.now.limit result }
+{
+    let union = editor.register(register);
+    match rect {
+        None => covered(outer(alloc, union, level.number(), editor.limit())),
+        Some(rect) => covered(outer(alloc, &Clip { union, rect }, level.number(), editor.limit())),
+    }
+}
+
+/// The inner covering of a register, within a rectangle if there is one.
+fn inner_of(
+    alloc: Global,
+    editor: &Editor,
+    register: Register,
+    level: Level,
+    rect: Option<FaceRect>,
+) -> Result<CellUnion, Refusal>
+    ensures { Makes (inner_set (within rect (leaves_of editor.now.now register)) level) editor.now.limit result }
+{
+    let union = editor.register(register);
+    match rect {
+        None => covered(inner(alloc, union, level.number(), editor.limit())),
+        Some(rect) => covered(inner(alloc, &Clip { union, rect }, level.number(), editor.limit())),
     }
 }

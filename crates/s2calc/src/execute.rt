@@ -5,12 +5,11 @@ ghost use Rattle.s2calc.specs.Answer.{reply_of};
 ghost use Rattle.s2calc.specs.Step.{Step, Acts};
 ghost use Rattle.s2calc.specs.World.{world};
 
-use crate::answer::Answer;
+use crate::answer::{Answer, write_answer};
 use crate::edits::{edit_register, redo, undo};
 use crate::fault::RunFault;
 use crate::files::{load, save};
 use crate::questions::answer_to;
-use crate::writing::write_answer;
 use s2edit::Editor;
 use s2file::Shelf;
 use s2script::{Command, Parsed, parse};

@@ -1,12 +1,11 @@
 //! Registers and files.
-ghost use Rattle.std.specs.Prelude.{◌≡◌, option_map};
+ghost use Rattle.std.specs.Prelude.{option_map};
 ghost use Rattle.s2calc.specs.Answer.{reply_of};
 ghost use Rattle.s2calc.specs.Step.{Loads, Saves, ReadsContent, Reads};
 ghost use Rattle.s2calc.specs.World.{world};
 
 use crate::answer::Answer;
 use crate::edits::assign;
-use crate::held::held;
 use s2edit::{Editor, Register};
 use s2file::{FileFault, Shelf, ShelfFault, decode, encode};
 use s2script::{Name, Refusal};
@@ -65,7 +64,7 @@ pub(crate) fn save<S: Shelf>(
 ) -> Answer
     ensures { Saves register name.now (world editor.now (S.files shelf.old)) (reply_of result editor.now) (world editor.now (S.files shelf.new)) }
 {
-    let Ok(bytes) = encode(alloc, held(editor, register)) else {
+    let Ok(bytes) = encode(alloc, editor.register(register)) else {
         return Answer::Refused(Refusal::Memory);
     };
     match shelf.put(name.as_str(), bytes.as_slice()) {

@@ -4,10 +4,9 @@
 //! where one of them fails.
 //!
 //! A line flows one way: bytes (`engine`, `kept`) -> what it says (the crate `s2script`) -> its effect
-//! (`execute`: `edits` with `making`, `files`, `questions`; all over the registers that `held` lends) -> an
-//! `answer` -> its `text` -> bytes (`writing`, `output`). `fault` says what ends a run, `laws` holds laws
-//! about the definitions. For the program: `command_line` and `task` (what it is asked for), `program` and `check` (its
-//! other answers).
+//! (`execute`: `edits`, `files`, `questions`) -> an `answer` -> bytes (`output`). `fault` says what ends a run, `laws`
+//! holds laws about the definitions. For the program: `command_line` and `task` (what it is asked for), `program` and
+//! `check` (its other answers).
 #![tactic(auto)]
 
 mod answer;
@@ -18,16 +17,12 @@ mod engine;
 mod execute;
 mod fault;
 mod files;
-mod held;
 mod kept;
 mod laws;
-mod making;
 mod output;
 mod program;
 mod questions;
 mod task;
-mod text;
-mod writing;
 
 pub use check::check_answer;
 pub use command_line::job;

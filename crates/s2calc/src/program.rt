@@ -5,10 +5,10 @@ ghost use Rattle.s2calc.specs.Output.{AppendsPart};
 ghost use Rattle.s2calc.specs.Replies.{text_of, is_refusal};
 ghost use Rattle.s2calc.specs.Program.{cell_reply, status_of};
 
+use crate::answer::{cell_line, error_line};
 use crate::engine::Tally;
 use crate::fault::RunFault;
 use crate::output::{emit, flush};
-use crate::text::{cell_line, error_line};
 use s2script::{Refusal, cell_in};
 use std::io::Write;
 

@@ -1,11 +1,9 @@
 //! Questions about cells and registers.
-ghost use Rattle.std.specs.Prelude.{◌≡◌};
 ghost use Rattle.s2calc.specs.Answer.{reply_of};
 ghost use Rattle.s2calc.specs.Questions.{Answers};
 ghost use Rattle.s2script.specs.declared.command.Question.TheVariants.{At, Square as OfSquare, Count, Has, Touches, Covers, Meets, Denorm, History as Sides};
 
 use crate::answer::Answer;
-use crate::held::held;
 use s2cell::CellId;
 use s2edit::{Editor, Register};
 use s2script::{Level, Modulus, Place, Question, Refusal};
@@ -56,7 +54,7 @@ fn square(cell: CellId, editor: &Editor) -> Answer
 fn count(editor: &Editor, register: Register) -> Answer
     ensures { Answers (Count register) editor.now (reply_of result editor.now) }
 {
-    let union = held(editor, register);
+    let union = editor.register(register);
     Answer::Count {
         cells: union.len(),
         leaves: union.leaf_count(),
@@ -66,31 +64,31 @@ fn count(editor: &Editor, register: Register) -> Answer
 fn has(editor: &Editor, register: Register, cell: CellId) -> Answer
     ensures { Answers (Has register cell) editor.now (reply_of result editor.now) }
 {
-    Answer::Tells(held(editor, register).contains_cell(cell))
+    Answer::Tells(editor.register(register).contains_cell(cell))
 }
 
 fn touches(editor: &Editor, register: Register, cell: CellId) -> Answer
     ensures { Answers (Touches register cell) editor.now (reply_of result editor.now) }
 {
-    Answer::Tells(held(editor, register).intersects_cell(cell))
+    Answer::Tells(editor.register(register).intersects_cell(cell))
 }
 
 fn covers(editor: &Editor, register: Register, other: Register) -> Answer
     ensures { Answers (Covers register other) editor.now (reply_of result editor.now) }
 {
-    Answer::Tells(held(editor, register).contains(held(editor, other)))
+    Answer::Tells(editor.register(register).contains(editor.register(other)))
 }
 
 fn meets(editor: &Editor, register: Register, other: Register) -> Answer
     ensures { Answers (Meets register other) editor.now (reply_of result editor.now) }
 {
-    Answer::Tells(held(editor, register).intersects(held(editor, other)))
+    Answer::Tells(editor.register(register).intersects(editor.register(other)))
 }
 
 fn denorm(editor: &Editor, register: Register, least: Level, modulus: Modulus) -> Answer
     ensures { Answers (Denorm register least modulus) editor.now (reply_of result editor.now) }
 {
-    let union = held(editor, register);
+    let union = editor.register(register);
     if union.denormalized_len(least.number(), modulus.number()) > MOST_LISTED {
         return Answer::Refused(Refusal::TooMany);
     }

@@ -9,3 +9,4 @@ mod Searches
 mod Squares
 mod Rounded
 mod Faces
+pub mod NormalForms

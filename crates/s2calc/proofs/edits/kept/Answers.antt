@@ -3,7 +3,7 @@ use Rattle.std.proofs.lemmas.Result.{IfOk-weaker}
 use Rattle.s2union.specs.Union.{has_leaf}
 use Rattle.s2union.specs.Sets.{shared}
 use Rattle.s2union.proofs.Normal.{normal_form_same}
-use Rattle.s2calc.proofs.making.kept.Goals as goal
+use Rattle.s2calc.proofs.edits.kept.Goals as goal
 
 pub returns : goal.returns
 returns c =

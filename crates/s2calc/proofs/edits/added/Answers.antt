@@ -3,7 +3,7 @@ use Rattle.std.proofs.lemmas.Result.{IfOk-weaker}
 use Rattle.s2union.specs.Union.{has_leaf}
 use Rattle.s2union.specs.Sets.{either}
 use Rattle.s2union.proofs.Normal.{normal_form_same}
-use Rattle.s2calc.proofs.making.added.Goals as goal
+use Rattle.s2calc.proofs.edits.added.Goals as goal
 
 pub returns : goal.returns
 returns c =

@@ -3,9 +3,9 @@ use Rattle.std.proofs.lemmas.Result.{err_from_is_err_and, IfErr-weaker, IfOk-wea
 use Rattle.s2union.specs.Denorm.{denormalised}
 use Rattle.s2calc.proofs.OutputLemmas.{AppendsPart-after, Appends-whole}
 use Rattle.s2calc.proofs.ListingLemmas.{listing_cut, listing_end, listing_last}
-use Rattle.s2calc.proofs.writing.write_cut.Given.{Over}
-use Rattle.s2calc.proofs.writing.write_cut.Goals as goal
-use Rattle.s2calc.proofs.writing.write_cut.Goals.{After-emit-2}
+use Rattle.s2calc.proofs.answer.write_cut.Given.{Over}
+use Rattle.s2calc.proofs.answer.write_cut.Goals as goal
+use Rattle.s2calc.proofs.answer.write_cut.Goals.{After-emit-2}
 
 pub returns-in_err-emit-clause-err : goal.returns-in_err-emit-clause-err
 returns-in_err-emit-clause-err g c =

@@ -3,7 +3,7 @@ use Rattle.std.proofs.lemmas.List.{take_all}
 use Rattle.std.proofs.lemmas.Result.{err_from_is_err_and, IfErr-weaker, IfOk-weaker}
 use Rattle.s2calc.proofs.OutputLemmas.{AppendsPart-after, Appends-whole}
 use Rattle.s2calc.proofs.ListingLemmas.{listing_cut, listing_end, listing_last, cut_round}
-use Rattle.s2calc.proofs.writing.write_cells.Goals as goal
+use Rattle.s2calc.proofs.answer.write_cells.Goals as goal
 
 pub returns-in_err-emit-clause-err : goal.returns-in_err-emit-clause-err
 returns-in_err-emit-clause-err g c =

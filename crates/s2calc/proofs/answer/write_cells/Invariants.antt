@@ -2,7 +2,7 @@ use Rattle.std.proofs.Common.{take}
 use Rattle.std.specs.List.{flat_map}
 use Rattle.std.specs.Io.KnownBytes.{Appends}
 use Rattle.s2calc.specs.Texts.{token_line}
-use Rattle.s2calc.proofs.writing.write_cells.Given as goal
+use Rattle.s2calc.proofs.answer.write_cells.Given as goal
 
 -- the lines of the cells so far are written
 abbrev pub invariant-loop-cell : goal.invariant-loop-cell

@@ -3,7 +3,7 @@ use Rattle.std.specs.List.{flat_map}
 use Rattle.std.specs.Io.KnownBytes.{Appends}
 use Rattle.s2union.specs.Denorm.{denormalised}
 use Rattle.s2calc.specs.Texts.{token_line}
-use Rattle.s2calc.proofs.writing.write_cut.Given as goal
+use Rattle.s2calc.proofs.answer.write_cut.Given as goal
 
 -- the lines of the cells so far are written, and they and the cells that are left are all
 abbrev pub invariant-loop-cell : goal.invariant-loop-cell
