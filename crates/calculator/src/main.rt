@@ -4,8 +4,7 @@
 ghost use Rattle.std.specs.Prelude.{◌≤◌};
 
 use s2calc::{
-    Answers, Asking, Gathered, Job, RunFault, Stop, Tally, cell_answer, check_answer, job, run,
-    status,
+    Job, RunFault, Stop, Tally, cell_answer, check_answer, job, run_promptly, status,
 };
 use s2edit::Editor;
 use s2file::DirShelf;
@@ -52,24 +51,16 @@ fn run_script(rt: &HostRuntime, limit: usize, depth: usize, dir: &str) -> ExitCo
     let Ok(mut shelf) = DirShelf::at(rt, dir) else {
         return ended(rt, &Err(RunFault::Memory));
     };
-    let Ok(writer) = BufWriter::with_capacity(rt.alloc(), OUTPUT_SIZE, io::writer(rt)) else {
+    let Ok(mut writer) = BufWriter::with_capacity(rt.alloc(), OUTPUT_SIZE, io::writer(rt)) else {
         return ended(rt, &Err(RunFault::Memory));
     };
-    let gathered = Gathered::new(writer);
-    let mut reader = Asking::of(rt.reader(), &gathered);
-    let mut answers = Answers::of(&gathered);
-    let result = run(
+    let result = run_promptly(
         rt.alloc(),
         &mut editor,
-        &mut reader,
-        &mut answers,
+        &mut rt.reader(),
+        &mut writer,
         &mut shelf,
     );
-    // Where the flush before a read failed, it is the output that failed.
-    let result = match result {
-        Err(RunFault::Input) if gathered.failed() => Err(RunFault::Output),
-        result => result,
-    };
     ended(rt, &result)
 }
 

@@ -6,12 +6,12 @@ use Rattle.std.specs.Io.KnownBytes.{Appends, Keeps}
 use Rattle.std.proofs.KnownBytes.{Appends-nil, Appends-kept}
 use Rattle.s2calc.specs.World.{World}
 use Rattle.s2calc.specs.declared.engine.Tally.{Tally}
-use Rattle.s2script.specs.Lines.{but_last, last_line, lines}
+use Rattle.s2script.specs.Lines.{BeginsWith, but_last, last_line, lines}
 use Rattle.s2calc.specs.Replies.{Reply, text_of, texts, tally_of, IsBeginningOf}
 use Rattle.s2calc.specs.Step.{Step}
 use Rattle.s2calc.specs.Output.{AppendsPart}
 use Rattle.s2calc.specs.Run.{Steps}
-use Rattle.s2calc.specs.Stands.{Stands, Ended, EndsInPart}
+use Rattle.s2calc.specs.Stands.{Stands, StopsInside, Ended, EndsInPart}
 use Rattle.s2calc.proofs.LineLemmas.{lines_begun}
 use Rattle.s2calc.proofs.RunLemmas.{Steps-push}
 use Rattle.s2calc.proofs.StepLemmas.{Step-kept}
@@ -54,6 +54,21 @@ last_line-none (b ∷ bs) e = let bad : b ∷ take 4096 bs ≡ [] = e in absurd 
 last_line-one : (rest : List ℕ) → 0 < length (take 4097 rest) → last_line rest ≡ rest ∷ []
 last_line-one [] h = absurd (omega arith)
 last_line-one (b ∷ bs) h = refl
+
+-- the writer fails where a run stands, all answers being written
+pub Stands-stops : (start : World) (script : List ℕ) (replies : List Reply) (editor : World) (kept : List ℕ) (tally : Tally) (output_old output_new : Option (List ℕ)) → Stands start script replies editor kept tally
+    → Keeps output_old output_new → StopsInside start script replies [] editor output_old output_new
+Stands-stops start script replies editor kept tally output_old output_new s k =
+    record {
+      done = s.done;
+      rest = s.rest;
+      more = [];
+      bytes = [];
+      begins = subst (λ all. BeginsWith all s.done s.rest) (sym (append-nil script)) s.begins;
+      run = subst (λ rs. Steps start s.done rs editor) (sym (append-nil replies)) s.run;
+      written = Appends-kept output_old output_old output_new [] (Appends-nil output_old) k;
+      beginning = IsBeginningOf-all [];
+    }
 
 module _ (start : World) (script : List ℕ) (replies : List Reply) (editor : World) (kept : List ℕ) (tally : Tally) (s : Stands start script replies editor kept tally) where
   -- no line is left

@@ -14,7 +14,7 @@ use crate::kept::Kept;
 use crate::output::flush;
 use s2edit::Editor;
 use s2file::Shelf;
-use std::alloc::{AllocError, Global};
+use std::alloc::Global;
 use std::io::{Read, Write};
 
 /// How many lines were answered, and how many of them were refused. Each number stops at its greatest value.
@@ -107,16 +107,65 @@ pub fn run<R: Read, W: Write, S: Shelf>(
       output_new = W.contents writer.new;
     }) (world editor.old (S.files shelf.old)) (world editor.new (S.files shelf.new)) result }
 {
-    match input_buffer(alloc) {
-        Ok(mut input) => run_over(alloc, &mut input, editor, reader, writer, shelf),
+    let mut input = input_buffer(alloc)?;
+    run_over(
+        alloc,
+        &mut input,
+        editor,
+        reader,
+        writer,
+        shelf,
+        Flushing::AtTheEnd,
+    )
+}
+
+/// Runs a script as [`run`] does, and flushes the writer before each read too: so what a writer such as a `BufWriter`
+/// gathers goes out before the run waits for more of the script, and whoever typed a line sees its answer.
+///
+/// What it answers, and what it leaves, is what `run` does; `Output` also where a flush before a read failed, after
+/// all answers to the lines that were read whole.
+pub fn run_promptly<R: Read, W: Write, S: Shelf>(
+    alloc: Global,
+    editor: &mut Editor,
+    reader: &mut R,
+    writer: &mut W,
+    shelf: &mut S,
+) -> Result<Tally, RunFault>
+    ensures { Runs (record {
+      input_old = R.remaining reader.old;
+      input_new = R.remaining reader.new;
+      output_old = W.contents writer.old;
+      output_new = W.contents writer.new;
+    }) (world editor.old (S.files shelf.old)) (world editor.new (S.files shelf.new)) result }
+{
+    let mut input = input_buffer(alloc)?;
+    run_over(
+        alloc,
+        &mut input,
+        editor,
+        reader,
+        writer,
+        shelf,
+        Flushing::BeforeEachRead,
+    )
+}
+
+/// A buffer for the reader.
+fn input_buffer(alloc: Global) -> Result<Vec<u8>, RunFault>
+    ensures some { IfOk result (λ input. 0 < length input.items) }
+    ensures fault { IfErr result (λ fault. fault ≡ RunFault.Memory) }
+{
+    match vec![in alloc; 0u8; READ_SIZE] {
+        Ok(input) => Ok(input),
         Err(_) => Err(RunFault::Memory),
     }
 }
 
-fn input_buffer(alloc: Global) -> Result<Vec<u8>, AllocError>
-    ensures { IfOk result (λ input. 0 < length input.items) }
-{
-    vec![in alloc; 0u8; READ_SIZE]
+/// When the writer is flushed, beside the end.
+#[derive(Clone, Copy)]
+enum Flushing {
+    AtTheEnd,
+    BeforeEachRead,
 }
 
 /// The run, over a buffer for the reader.
@@ -127,6 +176,7 @@ fn run_over<R: Read, W: Write, S: Shelf>(
     reader: &mut R,
     writer: &mut W,
     shelf: &mut S,
+    flushing: Flushing,
 ) -> Result<Tally, RunFault>
     requires { 0 < length input.old }
     ensures { Runs (record {
@@ -142,6 +192,7 @@ fn run_over<R: Read, W: Write, S: Shelf>(
         refused: 0,
     };
     for _ in 0..u64::MAX {
+        hand_over(writer, flushing)?;
         match reader.read(input) {
             Ok(0) => return finish(alloc, editor, &kept, tally, writer, shelf),
             Ok(count) => take_in(
@@ -157,6 +208,17 @@ fn run_over<R: Read, W: Write, S: Shelf>(
         }
     }
     Err(RunFault::Input)
+}
+
+/// Flushes the writer before a read, where that is asked for.
+fn hand_over<W: Write>(writer: &mut W, flushing: Flushing) -> Result<(), RunFault>
+    ensures kept { Keeps (W.contents writer.old) (W.contents writer.new) }
+    ensures fault { IfErr result (λ fault. fault ≡ RunFault.Output) }
+{
+    match flushing {
+        Flushing::AtTheEnd => Ok(()),
+        Flushing::BeforeEachRead => flush(writer),
+    }
 }
 
 /// Carries out a last line that no newline ends, and flushes.

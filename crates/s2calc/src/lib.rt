@@ -7,7 +7,7 @@
 //! (`execute`: `edits` with `making`, `files`, `questions`; all over the registers that `held` lends) -> an
 //! `answer` -> its `text` -> bytes (`writing`, `output`). `fault` says what ends a run, `laws` holds laws
 //! about the definitions. For the program: `command_line` and `task` (what it is asked for), `program` and `check` (its
-//! other answers), `gathered` (answers that reach a terminal at once).
+//! other answers).
 #![tactic(auto)]
 
 mod answer;
@@ -18,7 +18,6 @@ mod engine;
 mod execute;
 mod fault;
 mod files;
-mod gathered;
 mod held;
 mod kept;
 mod laws;
@@ -32,9 +31,8 @@ mod writing;
 
 pub use check::check_answer;
 pub use command_line::job;
-pub use engine::{Tally, run};
+pub use engine::{Tally, run, run_promptly};
 pub use fault::RunFault;
-pub use gathered::{Answers, Asking, Gathered};
 pub use laws::{counted_failures, one_end, one_run, undo_goes_back, whole_script};
 pub use program::{cell_answer, status};
 pub use task::{Job, Stop};

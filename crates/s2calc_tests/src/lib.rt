@@ -2,8 +2,8 @@
 //!
 //! Modules: `pieces` (the reader), `narrow` (the writer), `every_command` (a script with every command), `left`
 //! (what a run of it leaves), and the tests: `scripts` (worked scripts), `files` (scripts that read and write
-//! files), `faults` (a reader, a writer or a shelf that fails at each call in turn), `program` (the program's own
-//! calls).
+//! files), `faults` (a reader, a writer or a shelf that fails at each call in turn), `promptly` (answers that are
+//! out before the next read), `program` (the program's own calls).
 #![tactic(auto)]
 
 mod every_command;
@@ -17,6 +17,8 @@ mod narrow;
 mod pieces;
 #[cfg(test)]
 mod program;
+#[cfg(test)]
+mod promptly;
 #[cfg(test)]
 mod scripts;
 

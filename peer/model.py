@@ -1,0 +1,509 @@
+"""A plain model of the calculator: sets of leaves as runs of numbers, whole earlier tables, no speed.
+
+It is written from docs/FORMATS.md and docs/DEFINITIONS.md alone and shares no idea with the proved code beyond
+them: a set is a list of runs [first, end) of leaf numbers, ascending and apart; a normal form is made of the set
+anew wherever it is asked for; the history keeps whole tables.
+"""
+import re
+
+LEAVES = 6 * 4**30
+SIDE = 2**30
+QUADRANT = ((0, 1, 3, 2), (0, 2, 3, 1), (3, 2, 0, 1), (3, 1, 0, 2))
+TURN = (1, 0, 0, 3)
+MOST_IN_A_FILE = 1_000_000
+MOST_LISTED = 1_000_000
+
+
+class Refused(Exception):
+    """A line is refused; its one argument is the refusal's name."""
+
+
+# ---- cells: pairs of a level and a place
+
+
+def size(cell):
+    return 4 ** (30 - cell[0])
+
+
+def run_of(cell):
+    """The cell's leaves."""
+    first = cell[1] * size(cell)
+    return (first, first + size(cell))
+
+
+def identifier(cell):
+    return (2 * cell[1] + 1) * size(cell)
+
+
+def cell_of(number):
+    """The cell with this identifier, or None."""
+    for level in range(31):
+        step = 4 ** (30 - level)
+        if number % step == 0 and number // step % 2 == 1 and number // step // 2 < 6 * 4**level:
+            return (level, number // step // 2)
+    return None
+
+
+def token(cell):
+    return f"{identifier(cell):016x}".rstrip("0")
+
+
+def debug(cell):
+    level, place = cell
+    digits = [str(place // 4**k % 4) for k in reversed(range(level))]
+    return f"{place // 4**level}/" + "".join(digits)
+
+
+def square(cell):
+    """The face, the least coordinates and the side of the cell's square."""
+    level, place = cell
+    face = place // 4**level
+    orientation, i, j = face % 2, 0, 0
+    for k in reversed(range(level)):
+        digit = place // 4**k % 4
+        quadrant = QUADRANT[orientation][digit]
+        i, j = 2 * i + quadrant // 2, 2 * j + quadrant % 2
+        orientation ^= TURN[digit]
+    side = 2 ** (30 - level)
+    return face, i * side, j * side, side
+
+
+def leaf_at(face, i, j):
+    orientation, place = face % 2, face
+    for k in reversed(range(30)):
+        quadrant = 2 * (i >> k & 1) + (j >> k & 1)
+        digit = QUADRANT[orientation].index(quadrant)
+        place = 4 * place + digit
+        orientation ^= TURN[digit]
+    return (30, place)
+
+
+# ---- sets: runs of leaves, ascending and apart
+
+
+def joined(runs):
+    """The set of all leaves of the runs."""
+    made = []
+    for first, end in sorted(run for run in runs if run[0] < run[1]):
+        if made and first <= made[-1][1]:
+            made[-1] = (made[-1][0], max(end, made[-1][1]))
+        else:
+            made.append((first, end))
+    return made
+
+
+def without(runs, others):
+    made = []
+    for first, end in runs:
+        for other_first, other_end in others:
+            if other_end <= first or end <= other_first:
+                continue
+            if first < other_first:
+                made.append((first, other_first))
+            first = other_end
+            if first >= end:
+                break
+        if first < end:
+            made.append((first, end))
+    return made
+
+
+def shared(runs, others):
+    return without(runs, without(runs, others))
+
+
+def normal_form(runs):
+    """The greatest cells inside the set, ascending."""
+    cells = []
+    for first, end in runs:
+        while first < end:
+            level = 0
+            while first % 4 ** (30 - level) or first + 4 ** (30 - level) > end:
+                level += 1
+            cells.append((level, first // 4 ** (30 - level)))
+            first += 4 ** (30 - level)
+    return cells
+
+
+def denormalised_levels(cells, least, modulus):
+    for cell in cells:
+        level = max(cell[0], least)
+        while level < 30 and (level - least) % modulus:
+            level += 1
+        yield cell, level
+
+
+# ---- coverings
+
+
+def part(cell, runs, rectangle):
+    """Whether the cell is outside ('out'), inside ('in') or across what the runs and the rectangle share."""
+    inside = True
+    if rectangle is not None:
+        face, i0, i1, j0, j1 = rectangle
+        cell_face, i, j, side = square(cell)
+        if cell_face != face or i > i1 or i + side <= i0 or j > j1 or j + side <= j0:
+            return "out"
+        inside = i0 <= i and i + side - 1 <= i1 and j0 <= j and j + side - 1 <= j1
+    if runs is not None:
+        met = shared([run_of(cell)], runs)
+        if not met:
+            return "out"
+        inside = inside and met == [run_of(cell)]
+    return "in" if inside else "across"
+
+
+def children(cell):
+    return [(cell[0] + 1, 4 * cell[1] + p) for p in range(4)]
+
+
+def touches_region(cell, runs, rectangle):
+    found = part(cell, runs, rectangle)
+    return found == "in" or found == "across" and any(touches_region(c, runs, rectangle) for c in children(cell))
+
+
+def covering(kind, level, runs, rectangle):
+    """The leaves of all cells of the level that share a leaf with the region, or lie inside it."""
+    made = []
+    waiting = [(0, face) for face in range(6)]
+    while waiting:
+        cell = waiting.pop()
+        found = part(cell, runs, rectangle)
+        if found == "in" and cell[0] <= level:
+            made.append(run_of(cell))
+        elif found != "out" and cell[0] < level:
+            waiting += children(cell)
+        elif found == "across" and kind == "outer" and touches_region(cell, runs, rectangle):
+            made.append(run_of(cell))
+    return joined(made)
+
+
+# ---- files
+
+
+def file_text(runs):
+    cells = normal_form(runs)
+    return b"\x01" + len(cells).to_bytes(8, "little") + b"".join(identifier(c).to_bytes(8, "little") for c in cells)
+
+
+def read_file(text):
+    """The leaves that a file stands for, or None."""
+    if len(text) < 9 or text[0] != 1:
+        return None
+    count = int.from_bytes(text[1:9], "little")
+    if count > MOST_IN_A_FILE or len(text) != 9 + 8 * count:
+        return None
+    cells = [cell_of(int.from_bytes(text[k : k + 8], "little")) for k in range(9, len(text), 8)]
+    return None if None in cells else joined(run_of(cell) for cell in cells)
+
+
+# ---- words
+
+
+def number_in(word, most, refusal, least=0):
+    if not re.fullmatch(rb"[0-9]{1,10}", word) or not least <= int(word) <= most:
+        raise Refused(refusal)
+    return int(word)
+
+
+def cell_in(word):
+    cell = None
+    if b"/" in word:
+        if re.fullmatch(rb"[0-5]/[0-3]{0,30}", word):
+            level = len(word) - 2
+            cell = (level, int(word[:1]) * 4**level + int(word[2:] or b"0", 4))
+    elif re.fullmatch(rb"[0-9a-fA-F]{1,16}", word):
+        cell = cell_of(int(word.ljust(16, b"0"), 16))
+    if cell is None:
+        raise Refused("cell")
+    return cell
+
+
+class Words:
+    """The words of a line behind its first, read from left to right."""
+
+    def __init__(self, words):
+        self.words = list(words)
+
+    def next(self):
+        if not self.words:
+            raise Refused("syntax")
+        return self.words.pop(0)
+
+    def register(self):
+        word = self.next()
+        if not re.fullmatch(rb"[a-h]", word):
+            raise Refused("register")
+        return word.decode()
+
+    def cell(self):
+        return cell_in(self.next())
+
+    def cells(self):
+        found = [self.cell()]
+        while self.words:
+            found.append(self.cell())
+        return found
+
+    def level(self):
+        return number_in(self.next(), 30, "level")
+
+    def modulus(self):
+        return number_in(self.next(), 3, "level", 1)
+
+    def face(self):
+        return number_in(self.next(), 5, "face")
+
+    def coordinate(self, least=0):
+        return number_in(self.next(), SIDE - 1, "rectangle", least)
+
+    def rectangle(self):
+        face = self.face()
+        i0 = self.coordinate()
+        i1 = self.coordinate(i0)
+        j0 = self.coordinate()
+        return face, i0, i1, j0, self.coordinate(j0)
+
+    def name(self):
+        word = self.next()
+        if not re.fullmatch(rb"[A-Za-z0-9_][A-Za-z0-9._-]{0,63}", word):
+            raise Refused("name")
+        return word.decode()
+
+    def end(self):
+        if self.words:
+            raise Refused("syntax")
+
+
+# ---- the calculator
+
+
+def cell_line(cell):
+    first, end = run_of(cell)
+    return f"cell {token(cell)} {debug(cell)} level {cell[0]} face {cell[1] // 4**cell[0]} leaves {first} {end - 1}"
+
+
+class Calculator:
+    """Registers, their history, and files by name; a folder stands in the place of a file whose bytes are None."""
+
+    def __init__(self, limit, depth, files):
+        self.limit, self.depth, self.files = limit, depth, files
+        self.past, self.table, self.future = [], {r: [] for r in "abcdefgh"}, []
+
+    def run(self, script):
+        """The bytes that are written, and whether a line was refused."""
+        lines = script.split(b"\n")
+        if lines[-1] == b"":
+            lines.pop()
+        written, refused = [], False
+        for line in lines:
+            try:
+                written += [answer + "\n" for answer in self.answer(line)]
+            except Refused as refusal:
+                written.append(f"error {refusal}\n")
+                refused = True
+        return "".join(written).encode(), refused
+
+    def answer(self, line):
+        if len(line) > 4096:
+            raise Refused("line")
+        line = line[:-1] if line.endswith(b"\r") else line
+        words = re.findall(rb"[^ \t]+", line)
+        if line.startswith(b"#") or not words:
+            return []
+        command = words[0].decode("latin-1")
+        method = getattr(self, "do_" + command, None) if re.fullmatch("[a-z]+", command) else None
+        if method is None:
+            raise Refused("syntax")
+        return method(Words(words[1:]))
+
+    # Moves of the history.
+
+    def numbers(self, old, new):
+        out = put = 0
+        for register in old:
+            before, after = set(normal_form(old[register])), set(normal_form(new[register]))
+            out, put = out + len(before - after), put + len(after - before)
+        return [f"ok {out} {put}"]
+
+    def assign(self, register, runs):
+        if len(normal_form(runs)) > self.limit:
+            raise Refused("too-many")
+        if self.table[register] == runs:
+            return ["ok 0 0"]
+        old, new = self.table, {**self.table, register: runs}
+        self.past, self.table, self.future = (self.past + [old])[-self.depth :], new, []
+        return self.numbers(old, new)
+
+    def do_undo(self, words):
+        words.end()
+        if not self.past:
+            raise Refused("nothing")
+        old, new = self.table, self.past[-1]
+        self.past, self.table, self.future = self.past[:-1], new, [old] + self.future
+        return self.numbers(old, new)
+
+    def do_redo(self, words):
+        words.end()
+        if not self.future:
+            raise Refused("nothing")
+        old, new = self.table, self.future[0]
+        self.past, self.table, self.future = self.past + [old], new, self.future[1:]
+        return self.numbers(old, new)
+
+    def do_history(self, words):
+        words.end()
+        return [f"undo {len(self.past)} redo {len(self.future)}"]
+
+    # Edits.
+
+    def edit_by_cells(self, words, operation):
+        register, cells = words.register(), words.cells()
+        return self.assign(register, operation(self.table[register], joined(run_of(cell) for cell in cells)))
+
+    def do_add(self, words):
+        return self.edit_by_cells(words, lambda a, b: joined(a + b))
+
+    def do_remove(self, words):
+        return self.edit_by_cells(words, without)
+
+    def do_keep(self, words):
+        return self.edit_by_cells(words, shared)
+
+    def do_clear(self, words):
+        register = words.register()
+        words.end()
+        return self.assign(register, [])
+
+    def edit_by_register(self, words, operation):
+        register, other = words.register(), words.register()
+        words.end()
+        return self.assign(register, operation(self.table[register], self.table[other]))
+
+    def do_copy(self, words):
+        return self.edit_by_register(words, lambda a, b: b)
+
+    def do_union(self, words):
+        return self.edit_by_register(words, lambda a, b: joined(a + b))
+
+    def do_intersect(self, words):
+        return self.edit_by_register(words, shared)
+
+    def do_subtract(self, words):
+        return self.edit_by_register(words, without)
+
+    def do_range(self, words):
+        register, first, last = words.register(), words.cell(), words.cell()
+        if run_of(first)[0] > run_of(last)[1] - 1:
+            raise Refused("order")
+        words.end()
+        return self.assign(register, [(run_of(first)[0], run_of(last)[1])])
+
+    def cover_rectangle(self, words, kind):
+        register, level, rectangle = words.register(), words.level(), words.rectangle()
+        words.end()
+        return self.assign(register, covering(kind, level, None, rectangle))
+
+    def do_outer(self, words):
+        return self.cover_rectangle(words, "outer")
+
+    def do_inner(self, words):
+        return self.cover_rectangle(words, "inner")
+
+    def cover_register(self, words, kind):
+        register, other, level = words.register(), words.register(), words.level()
+        rectangle = words.rectangle() if words.words else None
+        words.end()
+        return self.assign(register, covering(kind, level, self.table[other], rectangle))
+
+    def do_outerof(self, words):
+        return self.cover_register(words, "outer")
+
+    def do_innerof(self, words):
+        return self.cover_register(words, "inner")
+
+    # Files.
+
+    def do_load(self, words):
+        register, name = words.register(), words.name()
+        words.end()
+        if name not in self.files:
+            raise Refused("missing")
+        if self.files[name] is None:
+            raise Refused("file")
+        runs = read_file(self.files[name])
+        if runs is None:
+            raise Refused("format")
+        return self.assign(register, runs)
+
+    def do_save(self, words):
+        register, name = words.register(), words.name()
+        words.end()
+        if name in self.files and self.files[name] is None:
+            raise Refused("file")
+        self.files[name] = file_text(self.table[register])
+        return ["ok"]
+
+    # Questions.
+
+    def do_show(self, words):
+        register = words.register()
+        words.end()
+        return [token(cell) for cell in normal_form(self.table[register])] + ["end"]
+
+    def do_count(self, words):
+        register = words.register()
+        words.end()
+        runs = self.table[register]
+        return [f"cells {len(normal_form(runs))} leaves {sum(end - first for first, end in runs)}"]
+
+    def tell(self, holds):
+        return ["yes" if holds else "no"]
+
+    def do_has(self, words):
+        register, cell = words.register(), words.cell()
+        words.end()
+        return self.tell(not without([run_of(cell)], self.table[register]))
+
+    def do_touches(self, words):
+        register, cell = words.register(), words.cell()
+        words.end()
+        return self.tell(shared([run_of(cell)], self.table[register]))
+
+    def do_covers(self, words):
+        register, other = words.register(), words.register()
+        words.end()
+        return self.tell(not without(self.table[other], self.table[register]))
+
+    def do_meets(self, words):
+        register, other = words.register(), words.register()
+        words.end()
+        return self.tell(shared(self.table[register], self.table[other]))
+
+    def do_denorm(self, words):
+        register, least, modulus = words.register(), words.level(), words.modulus()
+        words.end()
+        cut = list(denormalised_levels(normal_form(self.table[register]), least, modulus))
+        if sum(4 ** (level - cell[0]) for cell, level in cut) > MOST_LISTED:
+            raise Refused("too-many")
+        tokens = []
+        for (own, place), level in cut:
+            count = 4 ** (level - own)
+            tokens += [token((level, place * count + k)) for k in range(count)]
+        return tokens + ["end"]
+
+    def do_cell(self, words):
+        cell = words.cell()
+        words.end()
+        return [cell_line(cell)]
+
+    def do_at(self, words):
+        face, i, j = words.face(), words.coordinate(), words.coordinate()
+        words.end()
+        return [cell_line(leaf_at(face, i, j))]
+
+    def do_square(self, words):
+        cell = words.cell()
+        words.end()
+        face, i, j, side = square(cell)
+        return [f"face {face} i {i} j {j} size {side}"]
