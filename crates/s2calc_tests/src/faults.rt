@@ -2,7 +2,7 @@
 ghost use Rattle.std.specs.Prelude.{◌<◌};
 
 use crate::every_command::LINES;
-use crate::left::{full_shelf, run_over, run_well, script_of};
+use crate::left::{Flushing, full_shelf, run_over, run_well, script_of};
 use crate::narrow::{Mishap, Narrow};
 use crate::pieces::Pieces;
 use s2calc::RunFault;
@@ -16,7 +16,13 @@ fn the_answers_of_whole_lines_are_out_when_a_read_fails(rt: HostRuntime) -> Resu
     for (size, calls) in [(1, 13), (4, 4), (7, 2), (13, 1)] {
         let reader = Pieces::of(b"cell 1\ncell 3", size, Some(calls + 1));
         let writer = Narrow::new(rt.alloc(), 512, 5, None)?;
-        let left = run_over(rt.alloc(), reader, writer, full_shelf(rt.alloc())?)?;
+        let left = run_over(
+            rt.alloc(),
+            Flushing::AtTheEnd,
+            reader,
+            writer,
+            full_shelf(rt.alloc())?,
+        )?;
         assert_eq!(rt; left.ended, Err(RunFault::Input), "pieces of {size}");
         assert_eq!(rt;
             left.writer.written(),
@@ -30,8 +36,9 @@ fn the_answers_of_whole_lines_are_out_when_a_read_fails(rt: HostRuntime) -> Resu
 #[test]
 fn each_read_fails_in_turn(rt: HostRuntime) -> Result<(), Fail> {
     let script = script_of(rt.alloc(), &LINES)?;
-    reads_fail_in_turn(&rt, &script, 1)?;
-    reads_fail_in_turn(&rt, &script, 3)
+    reads_fail_in_turn(&rt, Flushing::AtTheEnd, &script, 1)?;
+    reads_fail_in_turn(&rt, Flushing::AtTheEnd, &script, 3)?;
+    reads_fail_in_turn(&rt, Flushing::BeforeEachRead, &script, 3)
 }
 
 #[test]
@@ -46,13 +53,14 @@ fn each_read_of_long_lines_fails_in_turn(rt: HostRuntime) -> Result<(), Fail> {
     }
     script.extend_from_slice(&script_of(rt.alloc(), &LINES)?)?;
     script.extend_from_slice(b"show a")?;
-    reads_fail_in_turn(&rt, &script, 97)?;
-    reads_fail_in_turn(&rt, &script, 4096)
+    reads_fail_in_turn(&rt, Flushing::AtTheEnd, &script, 97)?;
+    reads_fail_in_turn(&rt, Flushing::AtTheEnd, &script, 4096)
 }
 
 /// Lets each read of a script fail in turn, and compares what is left with a run of the lines that were read whole.
 fn reads_fail_in_turn(
     rt: &(impl Abort + AllocGlobal),
+    flushing: Flushing,
     script: &[u8],
     size: usize,
 ) -> Result<(), Fail>
@@ -62,7 +70,13 @@ fn reads_fail_in_turn(
     for call in 1..100_000 {
         let reader = Pieces::of(script, size, Some(call));
         let writer = Narrow::new(rt.alloc(), 16384, 512, None)?;
-        let mut left = run_over(rt.alloc(), reader, writer, full_shelf(rt.alloc())?)?;
+        let mut left = run_over(
+            rt.alloc(),
+            flushing,
+            reader,
+            writer,
+            full_shelf(rt.alloc())?,
+        )?;
         if left.ended.is_ok() {
             assert!(rt;
                 read > script.len(),
@@ -99,42 +113,65 @@ fn whole_lines(script: &[u8], read: usize) -> &[u8] {
 fn each_write_goes_wrong_in_turn(rt: HostRuntime) -> Result<(), Fail> {
     for mishap in [Mishap::Fails, Mishap::TakesNothing] {
         for size in [1, 2, 5] {
-            writes_go_wrong_in_turn(&rt, size, mishap)?;
+            let flushes = writes_go_wrong_in_turn(&rt, Flushing::AtTheEnd, size, mishap)?;
+            assert_eq!(rt; flushes, 1);
         }
     }
+    let flushes = writes_go_wrong_in_turn(&rt, Flushing::BeforeEachRead, 5, Mishap::Fails)?;
+    // One for each read, the one that finds the end among them, and one behind it.
+    let reads = script_of(rt.alloc(), &LINES)?
+        .len()
+        .div_ceil(PIECE)
+        .saturating_add(1);
+    assert_eq!(rt; flushes, reads.saturating_add(1));
     Ok(())
 }
 
-/// Lets each write and the flush go wrong in turn. What is out is a beginning of all answers, and the editor stands
-/// after the line to whose answer the next byte belongs; where the flush failed, all is out, and all lines carried out.
+/// How many bytes a read gives, where it is writes that go wrong.
+const PIECE: usize = 7;
+
+/// Lets each write and each flush go wrong in turn. What is out is a beginning of all answers. The editor stands after
+/// the line to whose answer the next byte belongs; where a flush failed, whole answers are out, and the editor stands
+/// after their lines. Tells how many flushes there were.
 fn writes_go_wrong_in_turn(
     rt: &(impl Abort + AllocGlobal),
+    flushing: Flushing,
     size: usize,
     mishap: Mishap,
-) -> Result<(), Fail> {
+) -> Result<usize, Fail> {
     let script = script_of(rt.alloc(), &LINES)?;
     let whole = run_well(rt.alloc(), &script)?;
     let answers = whole.writer.written();
     let ends = ends_of_answers(rt.alloc())?;
+    let mut flushes = 0usize;
     let mut is_all_out = false;
     for call in 1..100_000 {
-        let reader = Pieces::of(&script, 7, None);
+        let reader = Pieces::of(&script, PIECE, None);
         let writer = Narrow::new(rt.alloc(), 8192, size, Some((call, mishap)))?;
-        let mut left = run_over(rt.alloc(), reader, writer, full_shelf(rt.alloc())?)?;
+        let mut left = run_over(
+            rt.alloc(),
+            flushing,
+            reader,
+            writer,
+            full_shelf(rt.alloc())?,
+        )?;
         if left.ended.is_ok() {
-            assert!(rt; is_all_out, "the flush went wrong too");
-            return Ok(());
+            assert!(rt; is_all_out, "the last flush went wrong too");
+            return Ok(flushes);
         }
         assert_eq!(rt; left.ended, Err(RunFault::Output), "call {call}");
         let out = left.writer.written();
         assert!(rt; answers.starts_with(out), "call {call}");
-        assert!(rt; !is_all_out, "the flush is the last call");
-        is_all_out = out.len() == answers.len();
-        let done = lines_begun(&ends, out.len());
-        let mut wanted = run_well(
-            rt.alloc(),
-            &script_of(rt.alloc(), &LINES[..done.min(LINES.len())])?,
-        )?;
+        let mut done = lines_answered(&ends, out.len());
+        if left.writer.flush_failed() {
+            flushes = flushes.saturating_add(1);
+            is_all_out = out.len() == answers.len();
+            assert!(rt; out.is_empty() || ends.contains(&out.len()), "call {call}");
+        } else {
+            done = done.saturating_add(1);
+        }
+        let lines = &LINES[..done.min(LINES.len())];
+        let mut wanted = run_well(rt.alloc(), &script_of(rt.alloc(), lines)?)?;
         assert!(rt; left.stands_as(&mut wanted), "call {call}");
     }
     Err(Fail::from("the answers have no end"))
@@ -150,15 +187,15 @@ fn ends_of_answers(alloc: Global) -> Result<Vec<usize>, Fail> {
     Ok(ends)
 }
 
-/// How many lines are carried out when the byte behind so many is written: all, where it is the flush that comes then.
-fn lines_begun(ends: &[usize], out: usize) -> usize {
-    let mut count = 1usize;
+/// How many lines have their whole answer among so many bytes, those without an answer too.
+fn lines_answered(ends: &[usize], out: usize) -> usize {
+    let mut count = 0usize;
     for end in ends {
         if *end <= out {
             count = count.saturating_add(1);
         }
     }
-    count.min(LINES.len())
+    count
 }
 
 /// Whether a line calls the shelf: one whose name is refused doesn't.
@@ -179,7 +216,7 @@ fn each_call_of_the_shelf_fails_in_turn(rt: HostRuntime) -> Result<(), Fail> {
         shelf.fail_at(call);
         let reader = Pieces::of(&script, 4096, None);
         let writer = Narrow::new(rt.alloc(), 8192, 4096, None)?;
-        let mut left = run_over(rt.alloc(), reader, writer, shelf)?;
+        let mut left = run_over(rt.alloc(), Flushing::AtTheEnd, reader, writer, shelf)?;
         assert!(rt; left.ended.is_ok(), "call {call}");
         let mut others = script_of(rt.alloc(), &LINES[..at])?;
         let before = run_well(rt.alloc(), &others)?;

@@ -2,7 +2,7 @@
 use crate::every_command::FILES;
 use crate::narrow::Narrow;
 use crate::pieces::Pieces;
-use s2calc::{RunFault, Tally, run};
+use s2calc::{RunFault, Tally, run, run_promptly};
 use s2edit::{Change, Editor, Register};
 use s2file::{MemoryShelf, Shelf};
 use std::alloc::Global;
@@ -10,6 +10,13 @@ use std::test::Fail;
 
 /// The names of the files that the script reads or writes.
 const NAMES: [&str; 5] = ["f", "g", "h", "w", "missing"];
+
+/// When a run flushes its writer.
+#[derive(Clone, Copy)]
+pub enum Flushing {
+    AtTheEnd,
+    BeforeEachRead,
+}
 
 /// What a run left.
 #[derive(Drop)]
@@ -42,12 +49,18 @@ pub fn full_shelf(alloc: Global) -> Result<MemoryShelf, Fail> {
 /// Runs a script over empty registers of at most 100 cells, with a history of at most 5 states.
 pub fn run_over(
     alloc: Global,
+    flushing: Flushing,
     mut reader: Pieces,
     mut writer: Narrow,
     mut shelf: MemoryShelf,
 ) -> Result<Left, Fail> {
     let mut editor = Editor::open(alloc, 100, 5)?;
-    let ended = run(alloc, &mut editor, &mut reader, &mut writer, &mut shelf);
+    let ended = match flushing {
+        Flushing::AtTheEnd => run(alloc, &mut editor, &mut reader, &mut writer, &mut shelf),
+        Flushing::BeforeEachRead => {
+            run_promptly(alloc, &mut editor, &mut reader, &mut writer, &mut shelf)
+        }
+    };
     Ok(Left {
         ended,
         editor,
@@ -60,7 +73,13 @@ pub fn run_over(
 pub fn run_well(alloc: Global, script: &[u8]) -> Result<Left, Fail> {
     let reader = Pieces::of(script, 4096, None);
     let writer = Narrow::new(alloc, 8192, 4096, None)?;
-    let left = run_over(alloc, reader, writer, full_shelf(alloc)?)?;
+    let left = run_over(
+        alloc,
+        Flushing::AtTheEnd,
+        reader,
+        writer,
+        full_shelf(alloc)?,
+    )?;
     if left.ended.is_err() {
         return Err(Fail::from("a run that nothing hinders"));
     }

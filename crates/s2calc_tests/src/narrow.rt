@@ -21,6 +21,7 @@ pub struct Narrow {
     size: usize,
     calls: u64,
     mishap: Option<(u64, Mishap)>,
+    flush_failed: bool,
 }
 
 impl Narrow {
@@ -39,6 +40,7 @@ impl Narrow {
             size,
             calls: 0,
             mishap,
+            flush_failed: false,
         })
     }
 
@@ -47,6 +49,13 @@ impl Narrow {
         ensures { result.now ≡ self.now.written.items }
     {
         &self.written
+    }
+
+    /// Whether it was a flush that went wrong.
+    pub fn flush_failed(&self) -> bool
+        ensures { result ≡ self.now.flush_failed }
+    {
+        self.flush_failed
     }
 
     /// Counts a call, and says how it goes wrong.
@@ -78,7 +87,10 @@ impl Write for Narrow {
 
     fn flush(&mut self) -> io::Result<()> {
         match self.mishap_now() {
-            Some(_) => Err(io::Error::from(ErrorKind::Other)),
+            Some(_) => {
+                self.flush_failed = true;
+                Err(io::Error::from(ErrorKind::Other))
+            }
             None => Ok(()),
         }
     }
