@@ -1,5 +1,6 @@
 //! A writer that takes a few bytes a call, and may go wrong.
-ghost use Rattle.std.specs.Prelude.{◌≡◌, Some, [], IfOk};
+ghost use Rattle.std.specs.Prelude.{◌≡◌, ◌≤◌, Some, [], IfOk, false};
+ghost use Rattle.std.specs.Vec.{vec_capacity};
 
 use std::alloc::{AllocError, Global};
 use std::io;
@@ -32,7 +33,12 @@ impl Narrow {
         size: usize,
         mishap: Option<(u64, Mishap)>,
     ) -> Result<Narrow, AllocError>
-        ensures { IfOk result (λ narrow. narrow.written.items ≡ []) }
+        ensures written { IfOk result (λ narrow. narrow.written.items ≡ []) }
+        ensures room { IfOk result (λ narrow. room ≤ vec_capacity narrow.written) }
+        ensures size { IfOk result (λ narrow. narrow.size ≡ size) }
+        ensures mishap { IfOk result (λ narrow. narrow.mishap ≡ mishap) }
+        ensures calls { IfOk result (λ narrow. narrow.calls ≡ 0) }
+        ensures flush { IfOk result (λ narrow. narrow.flush_failed ≡ false) }
     {
         let written = Vec::with_capacity(alloc, room)?;
         Ok(Narrow {
