@@ -1,5 +1,5 @@
 //! The file of a union.
-ghost use Rattle.std.specs.Prelude.{◌≡◌, ◌≤◌, IsTrue, length, take};
+ghost use Rattle.std.specs.Prelude.{◌≡◌, ◌≤◌, ◌↔◌, IsTrue, length, take};
 ghost use Rattle.s2union.specs.Union.{IsLocal, has_leaf};
 ghost use Rattle.s2file.specs.File.{File, file_text};
 
@@ -61,6 +61,7 @@ pub extern "C" fn s2c_decode(
 fn put_bytes(bytes: &[u8], out: &mut [u8], len: &mut usize) -> bool
     ensures bytes { IsTrue result → take len.new out.new ≡ bytes.now }
     ensures within { IsTrue result → len.new ≤ length out.new }
+    ensures room { IsTrue result ↔ (length bytes.now ≤ length out.old) }
 {
     *len = bytes.len();
     if bytes.len() > out.len() {

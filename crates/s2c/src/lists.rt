@@ -1,5 +1,5 @@
 //! Lists of numbers to and from lists of cells.
-ghost use Rattle.std.specs.Prelude.{◌≡◌, ◌≤◌, IsTrue, All, length, take, IfSome};
+ghost use Rattle.std.specs.Prelude.{◌≡◌, ◌≤◌, ◌↔◌, IsTrue, All, length, take, IfSome};
 ghost use Rattle.s2cell.specs.Cell.{IsCell};
 ghost use Rattle.s2union.specs.Union.{IsLocal};
 
@@ -35,6 +35,7 @@ pub(crate) fn union_of(alloc: Global, ids: &[u64]) -> Option<CellUnion>
 pub(crate) fn put_cells(cells: &[CellId], out: &mut [u64], len: &mut usize) -> bool
     ensures cells { IsTrue result → take len.new out.new ≡ cells.now }
     ensures within { IsTrue result → len.new ≤ length out.new }
+    ensures room { IsTrue result ↔ (length cells.now ≤ length out.old) }
 {
     *len = cells.len();
     if cells.len() > out.len() {

@@ -4,6 +4,8 @@ ghost use Rattle.s2cell.specs.Cell.{covers};
 ghost use Rattle.s2union.specs.Union.{IsLocal, has_leaf, IsWithin, ShareSome};
 
 use crate::lists::{cells_of, union_of};
+use s2cell::CellId;
+use s2union::CellUnion;
 use std::alloc::Global;
 
 /// Whether a union has all leaves of each cell in turn. Answers whether the questions were answered.
@@ -24,9 +26,17 @@ pub extern "C" fn s2c_contains_cells(
         return false;
     }
     for k in 0..cells.len() {
-        answers[k] = union.contains_cell(cells[k]);
+        answers[k] = contains_at(&union, &cells, k);
     }
     true
+}
+
+/// Whether a union has all leaves of the cell with place `k`.
+fn contains_at(union: &CellUnion, cells: &[CellId], k: usize) -> bool
+    requires { k < length cells.now }
+    ensures { IsTrue result ↔ IsWithin (covers (slice_index cells.now k)) (has_leaf union.now.cells) }
+{
+    union.contains_cell(cells[k])
 }
 
 /// Whether a union has a leaf of each cell in turn. Answers whether the questions were answered.

@@ -1,55 +1,242 @@
-//! Readers and writers that fail.
+//! Readers, writers and shelves that fail.
+ghost use Rattle.std.specs.Prelude.{◌<◌};
+
+use crate::every_command::LINES;
+use crate::left::{Flushing, full_shelf, run_over, run_well, script_of};
 use crate::narrow::{Mishap, Narrow};
 use crate::pieces::Pieces;
-use s2calc::{RunFault, run};
-use s2edit::Editor;
-use s2file::MemoryShelf;
+use s2calc::RunFault;
+use std::alloc::Global;
+use std::process::Abort;
 use std::test::Fail;
-
-const SCRIPT: &[u8] = b"cell 1\n# a comment\n\ncell 2\r\ncell 0/\ncell";
-
-const ANSWERS: &[u8] =
-    b"cell 1 0/ level 0 face 0 leaves 0 1152921504606846975\nerror cell\ncell 1 0/ level 0 face 0 leaves 0 1152921504606846975\nerror syntax\n";
 
 #[test]
 fn the_answers_of_whole_lines_are_out_when_a_read_fails(rt: HostRuntime) -> Result<(), Fail> {
-    let mut editor = Editor::open(rt.alloc(), 10_000, 100)?;
-    let mut reader = Pieces::of(b"cell 1\ncell 3", 4, Some(4));
-    let mut writer = Narrow::new(rt.alloc(), 512, 5, None)?;
-    let mut shelf = MemoryShelf::new(rt.alloc());
-    let ended = run(
-        rt.alloc(),
-        &mut editor,
-        &mut reader,
-        &mut writer,
-        &mut shelf,
-    );
-    assert_eq!(rt; ended, Err(RunFault::Input));
-    assert_eq!(rt;
-        writer.written(),
-        b"cell 1 0/ level 0 face 0 leaves 0 1152921504606846975\n".as_slice()
-    );
+    // All thirteen bytes were read, in so many calls, when the next call fails.
+    for (size, calls) in [(1, 13), (4, 4), (7, 2), (13, 1)] {
+        let reader = Pieces::of(b"cell 1\ncell 3", size, Some(calls + 1));
+        let writer = Narrow::new(rt.alloc(), 512, 5, None)?;
+        let left = run_over(
+            rt.alloc(),
+            Flushing::AtTheEnd,
+            reader,
+            writer,
+            full_shelf(rt.alloc())?,
+        )?;
+        assert_eq!(rt; left.ended, Err(RunFault::Input), "pieces of {size}");
+        assert_eq!(rt;
+            left.writer.written(),
+            b"cell 1 0/ level 0 face 0 leaves 0 1152921504606846975\n".as_slice(),
+            "pieces of {size}"
+        );
+    }
     Ok(())
+}
+
+#[test]
+fn each_read_fails_in_turn(rt: HostRuntime) -> Result<(), Fail> {
+    let script = script_of(rt.alloc(), &LINES)?;
+    reads_fail_in_turn(&rt, Flushing::AtTheEnd, &script, 1)?;
+    reads_fail_in_turn(&rt, Flushing::AtTheEnd, &script, 3)?;
+    reads_fail_in_turn(&rt, Flushing::BeforeEachRead, &script, 3)
+}
+
+#[test]
+fn each_read_of_long_lines_fails_in_turn(rt: HostRuntime) -> Result<(), Fail> {
+    let mut script = script_of(rt.alloc(), &LINES)?;
+    for length in [4096, 4097] {
+        script.push(b'#')?;
+        for _ in 1..length {
+            script.push(b'x')?;
+        }
+        script.push(b'\n')?;
+    }
+    script.extend_from_slice(&script_of(rt.alloc(), &LINES)?)?;
+    script.extend_from_slice(b"show a")?;
+    reads_fail_in_turn(&rt, Flushing::AtTheEnd, &script, 97)?;
+    reads_fail_in_turn(&rt, Flushing::AtTheEnd, &script, 4096)
+}
+
+/// Lets each read of a script fail in turn, and compares what is left with a run of the lines that were read whole.
+fn reads_fail_in_turn(
+    rt: &(impl Abort + AllocGlobal),
+    flushing: Flushing,
+    script: &[u8],
+    size: usize,
+) -> Result<(), Fail>
+    requires { 0 < size }
+{
+    let mut read = 0usize;
+    for call in 1..100_000 {
+        let reader = Pieces::of(script, size, Some(call));
+        let writer = Narrow::new(rt.alloc(), 16384, 512, None)?;
+        let mut left = run_over(
+            rt.alloc(),
+            flushing,
+            reader,
+            writer,
+            full_shelf(rt.alloc())?,
+        )?;
+        if left.ended.is_ok() {
+            assert!(rt;
+                read > script.len(),
+                "the call after the last bytes fails too"
+            );
+            return Ok(());
+        }
+        let whole = whole_lines(script, read);
+        let mut wanted = run_well(rt.alloc(), whole)?;
+        assert_eq!(rt; left.ended, Err(RunFault::Input), "call {call}");
+        assert_eq!(rt;
+            left.writer.written(),
+            wanted.writer.written(),
+            "call {call}"
+        );
+        assert!(rt; left.stands_as(&mut wanted), "call {call}");
+        read = read.saturating_add(size);
+    }
+    Err(Fail::from("the script has no end"))
+}
+
+/// Of so many bytes of a script, those up to the last newline.
+fn whole_lines(script: &[u8], read: usize) -> &[u8] {
+    let mut end = 0;
+    for at in 0..read.min(script.len()) {
+        if script[at] == b'\n' {
+            end = at + 1;
+        }
+    }
+    &script[..end.min(script.len())]
 }
 
 #[test]
 fn each_write_goes_wrong_in_turn(rt: HostRuntime) -> Result<(), Fail> {
     for mishap in [Mishap::Fails, Mishap::TakesNothing] {
-        for at in 1..=14 {
-            let mut editor = Editor::open(rt.alloc(), 10_000, 100)?;
-            let mut reader = Pieces::of(SCRIPT, 3, None);
-            let mut writer = Narrow::new(rt.alloc(), 512, 12, Some((at, mishap)))?;
-            let mut shelf = MemoryShelf::new(rt.alloc());
-            let ended = run(
-                rt.alloc(),
-                &mut editor,
-                &mut reader,
-                &mut writer,
-                &mut shelf,
-            );
-            assert_eq!(rt; ended, Err(RunFault::Output), "call {at}");
-            assert!(rt; ANSWERS.starts_with(writer.written()), "call {at}");
+        for size in [1, 2, 5] {
+            let flushes = writes_go_wrong_in_turn(&rt, Flushing::AtTheEnd, size, mishap)?;
+            assert_eq!(rt; flushes, 1);
         }
     }
+    let flushes = writes_go_wrong_in_turn(&rt, Flushing::BeforeEachRead, 5, Mishap::Fails)?;
+    // One for each read, the one that finds the end among them, and one behind it.
+    let reads = script_of(rt.alloc(), &LINES)?
+        .len()
+        .div_ceil(PIECE)
+        .saturating_add(1);
+    assert_eq!(rt; flushes, reads.saturating_add(1));
+    Ok(())
+}
+
+/// How many bytes a read gives, where it is writes that go wrong.
+const PIECE: usize = 7;
+
+/// Lets each write and each flush go wrong in turn. What is out is a beginning of all answers. The editor stands after
+/// the line to whose answer the next byte belongs; where a flush failed, whole answers are out, and the editor stands
+/// after their lines. Tells how many flushes there were.
+fn writes_go_wrong_in_turn(
+    rt: &(impl Abort + AllocGlobal),
+    flushing: Flushing,
+    size: usize,
+    mishap: Mishap,
+) -> Result<usize, Fail> {
+    let script = script_of(rt.alloc(), &LINES)?;
+    let whole = run_well(rt.alloc(), &script)?;
+    let answers = whole.writer.written();
+    let ends = ends_of_answers(rt.alloc())?;
+    let mut flushes = 0usize;
+    let mut is_all_out = false;
+    for call in 1..100_000 {
+        let reader = Pieces::of(&script, PIECE, None);
+        let writer = Narrow::new(rt.alloc(), 8192, size, Some((call, mishap)))?;
+        let mut left = run_over(
+            rt.alloc(),
+            flushing,
+            reader,
+            writer,
+            full_shelf(rt.alloc())?,
+        )?;
+        if left.ended.is_ok() {
+            assert!(rt; is_all_out, "the last flush went wrong too");
+            return Ok(flushes);
+        }
+        assert_eq!(rt; left.ended, Err(RunFault::Output), "call {call}");
+        let out = left.writer.written();
+        assert!(rt; answers.starts_with(out), "call {call}");
+        let mut done = lines_answered(&ends, out.len());
+        if left.writer.flush_failed() {
+            flushes = flushes.saturating_add(1);
+            is_all_out = out.len() == answers.len();
+            assert!(rt; out.is_empty() || ends.contains(&out.len()), "call {call}");
+        } else {
+            done = done.saturating_add(1);
+        }
+        let lines = &LINES[..done.min(LINES.len())];
+        let mut wanted = run_well(rt.alloc(), &script_of(rt.alloc(), lines)?)?;
+        assert!(rt; left.stands_as(&mut wanted), "call {call}");
+    }
+    Err(Fail::from("the answers have no end"))
+}
+
+/// How many bytes are answered to the first line, to the first two, and so on.
+fn ends_of_answers(alloc: Global) -> Result<Vec<usize>, Fail> {
+    let mut ends = Vec::new(alloc);
+    for count in 1..=LINES.len() {
+        let left = run_well(alloc, &script_of(alloc, &LINES[..count])?)?;
+        ends.push(left.writer.written().len())?;
+    }
+    Ok(ends)
+}
+
+/// How many lines have their whole answer among so many bytes, those without an answer too.
+fn lines_answered(ends: &[usize], out: usize) -> usize {
+    let mut count = 0usize;
+    for end in ends {
+        if *end <= out {
+            count = count.saturating_add(1);
+        }
+    }
+    count
+}
+
+/// Whether a line calls the shelf: one whose name is refused doesn't.
+fn calls_the_shelf(line: &str) -> bool {
+    (line.starts_with("load ") || line.starts_with("save ")) && !line.ends_with("../f")
+}
+
+#[test]
+fn each_call_of_the_shelf_fails_in_turn(rt: HostRuntime) -> Result<(), Fail> {
+    let script = script_of(rt.alloc(), &LINES)?;
+    let mut call = 0u64;
+    for at in 0..LINES.len() {
+        if !calls_the_shelf(LINES[at]) {
+            continue;
+        }
+        call = call.saturating_add(1);
+        let mut shelf = full_shelf(rt.alloc())?;
+        shelf.fail_at(call);
+        let reader = Pieces::of(&script, 4096, None);
+        let writer = Narrow::new(rt.alloc(), 8192, 4096, None)?;
+        let mut left = run_over(rt.alloc(), Flushing::AtTheEnd, reader, writer, shelf)?;
+        assert!(rt; left.ended.is_ok(), "call {call}");
+        let mut others = script_of(rt.alloc(), &LINES[..at])?;
+        let before = run_well(rt.alloc(), &others)?;
+        others.extend_from_slice(&script_of(rt.alloc(), &LINES[at + 1..])?)?;
+        let mut without = run_well(rt.alloc(), &others)?;
+        let answers = left.writer.written();
+        let rest = answers
+            .strip_prefix(before.writer.written())
+            .ok_or("other answers before")?;
+        let rest = rest
+            .strip_prefix(b"error file\n")
+            .ok_or("another answer to the line")?;
+        let wanted = without
+            .writer
+            .written()
+            .strip_prefix(before.writer.written())
+            .ok_or("another beginning")?;
+        assert_eq!(rt; rest, wanted, "call {call}");
+        assert!(rt; left.stands_as(&mut without), "call {call}");
+    }
+    assert_eq!(rt; call, 12);
     Ok(())
 }

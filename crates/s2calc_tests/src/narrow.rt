@@ -1,5 +1,6 @@
 //! A writer that takes a few bytes a call, and may go wrong.
-ghost use Rattle.std.specs.Prelude.{◌≡◌, Some, [], IfOk};
+ghost use Rattle.std.specs.Prelude.{◌≡◌, ◌≤◌, Some, [], IfOk, false};
+ghost use Rattle.std.specs.Vec.{vec_capacity};
 
 use std::alloc::{AllocError, Global};
 use std::io;
@@ -21,6 +22,7 @@ pub struct Narrow {
     size: usize,
     calls: u64,
     mishap: Option<(u64, Mishap)>,
+    flush_failed: bool,
 }
 
 impl Narrow {
@@ -31,7 +33,12 @@ impl Narrow {
         size: usize,
         mishap: Option<(u64, Mishap)>,
     ) -> Result<Narrow, AllocError>
-        ensures { IfOk result (λ narrow. narrow.written.items ≡ []) }
+        ensures written { IfOk result (λ narrow. narrow.written.items ≡ []) }
+        ensures room { IfOk result (λ narrow. room ≤ vec_capacity narrow.written) }
+        ensures size { IfOk result (λ narrow. narrow.size ≡ size) }
+        ensures mishap { IfOk result (λ narrow. narrow.mishap ≡ mishap) }
+        ensures calls { IfOk result (λ narrow. narrow.calls ≡ 0) }
+        ensures flush { IfOk result (λ narrow. narrow.flush_failed ≡ false) }
     {
         let written = Vec::with_capacity(alloc, room)?;
         Ok(Narrow {
@@ -39,6 +46,7 @@ impl Narrow {
             size,
             calls: 0,
             mishap,
+            flush_failed: false,
         })
     }
 
@@ -47,6 +55,13 @@ impl Narrow {
         ensures { result.now ≡ self.now.written.items }
     {
         &self.written
+    }
+
+    /// Whether it was a flush that went wrong.
+    pub fn flush_failed(&self) -> bool
+        ensures { result ≡ self.now.flush_failed }
+    {
+        self.flush_failed
     }
 
     /// Counts a call, and says how it goes wrong.
@@ -78,7 +93,10 @@ impl Write for Narrow {
 
     fn flush(&mut self) -> io::Result<()> {
         match self.mishap_now() {
-            Some(_) => Err(io::Error::from(ErrorKind::Other)),
+            Some(_) => {
+                self.flush_failed = true;
+                Err(io::Error::from(ErrorKind::Other))
+            }
             None => Ok(()),
         }
     }

@@ -18,7 +18,10 @@ impl<'a> Pieces<'a> {
     /// A reader of these bytes, so many a call; the call with the given number fails.
     pub fn of(bytes: &'a [u8], size: usize, fails_at: Option<u64>) -> Pieces<'a>
         requires { 0 < size }
-        ensures { result.rest.now ≡ bytes.now }
+        ensures rest { result.rest.now ≡ bytes.now }
+        ensures size { result.size ≡ size }
+        ensures fails_at { result.fails_at ≡ fails_at }
+        ensures calls { result.calls ≡ 0 }
     {
         Pieces {
             rest: bytes,

@@ -1,7 +1,8 @@
 //! A folder as a shelf.
 ghost use Rattle.std.specs.Prelude.{◌≡◌, IfOk};
 ghost use Rattle.s2file.specs.Shelf.{one_more};
-ghost use Rattle.s2file.specs.DirShelf.{folder_files, folder_path};
+ghost use Rattle.std.specs.String.{string_bytes};
+ghost use Rattle.s2file.specs.DirShelf.{folder_files, folder_path, path_to};
 
 use crate::shelf::{Shelf, ShelfFault};
 use std::alloc::AllocError;
@@ -39,7 +40,9 @@ impl<R: Files + AllocGlobal> DirShelf<R> {
     }
 
     /// Where the file of that name stands.
-    fn path_of(&self, name: &str) -> Result<String, AllocError> {
+    fn path_of(&self, name: &str) -> Result<String, AllocError>
+        ensures { IfOk result (λ path. string_bytes path ≡ path_to (folder_path self.now) name.now) }
+    {
         let path = self.path.as_str();
         format!(in self.rt.alloc(); "{path}/{name}")
     }

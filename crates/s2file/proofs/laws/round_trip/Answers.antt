@@ -1,4 +1,4 @@
-use Rattle.std.proofs.Common.{List, ℕ, Result, Ok, Err, subst, sym}
+use Rattle.std.proofs.Common.{List, ℕ, Result, Ok, Err, rules, subst}
 use Rattle.std.specs.Prelude.{MatchResult, IfOk}
 use Rattle.std.proofs.lemmas.Result.{MatchResult-weaker}
 use Rattle.s2union.specs.Union.{has_leaf}
@@ -14,6 +14,6 @@ with_ok (Err e) P Q F f q = f
 pub returns : goal.returns
 returns c =
     let u = c.args.union.now.cells in
-    let file : File c.as_slice.result.now (has_leaf u) = subst (λ (b : List ℕ). File b (has_leaf u)) (sym c.as_slice.ensures.value) (c.in_ok-bytes.ensures.back c.requires) in
-    MatchResult-weaker c.decode.result (with_ok c.decode.result _ _ _ (c.decode.ensures.exact (has_leaf u) file) c.decode.ensures.local)
+    let file : File c.in_ok-bytes.bytes.items (has_leaf u) = c.in_ok-bytes.ensures.back c.requires in
+    MatchResult-weaker c.decode.result (with_ok c.decode.result _ _ _ (c.decode.ensures.exact (has_leaf u) (subst (λ (b : List ℕ). File b (has_leaf u)) (search rules) file)) c.decode.ensures.local)
     (λ v p. same_from_leaves v.cells u p.1 c.cells.ensures.local p.0) (λ fault p. p)
