@@ -1,6 +1,6 @@
 //! The grammar.
 ghost use Rattle.std.specs.Prelude.{◌≡◌, Ok};
-ghost use Rattle.s2script.specs.declared.command.Command.TheVariants.{Ask};
+ghost use Rattle.s2script.specs.declared.command.Command.TheVariants.{Ask, Edit as EditOf};
 ghost use Rattle.s2script.specs.Forms.{and_then};
 ghost use Rattle.s2script.specs.Words.{is_comment, without_cr};
 ghost use Rattle.s2script.specs.Line.{line_of, line_within, words_say, question_of, deed_of, cell_alone, register_alone, two_registers, register_and_cell, register_and_cells, register_and_name, range_of, register_level_rect, registers_level_rect, place_of_words, denorm_of};
@@ -143,88 +143,52 @@ fn deed(verb: Doing, mut words: Words<'_>) -> Result<Command<'_>, Refusal>
     match verb {
         Doing::Add => {
             let (register, cells) = register_and_cells(words)?;
-            Ok(Command::Edit {
-                register,
-                edit: Edit::Add(cells),
-            })
+            Ok(edited(register, Edit::Add(cells)))
         }
         Doing::Remove => {
             let (register, cells) = register_and_cells(words)?;
-            Ok(Command::Edit {
-                register,
-                edit: Edit::Remove(cells),
-            })
+            Ok(edited(register, Edit::Remove(cells)))
         }
         Doing::Keep => {
             let (register, cells) = register_and_cells(words)?;
-            Ok(Command::Edit {
-                register,
-                edit: Edit::Keep(cells),
-            })
+            Ok(edited(register, Edit::Keep(cells)))
         }
         Doing::Clear => {
             let register = register_alone(words)?;
-            Ok(Command::Edit {
-                register,
-                edit: Edit::Clear,
-            })
+            Ok(edited(register, Edit::Clear))
         }
         Doing::Copy => {
             let (register, other) = two_registers(words)?;
-            Ok(Command::Edit {
-                register,
-                edit: Edit::Copy(other),
-            })
+            Ok(edited(register, Edit::Copy(other)))
         }
         Doing::Union => {
             let (register, other) = two_registers(words)?;
-            Ok(Command::Edit {
-                register,
-                edit: Edit::Union(other),
-            })
+            Ok(edited(register, Edit::Union(other)))
         }
         Doing::Intersect => {
             let (register, other) = two_registers(words)?;
-            Ok(Command::Edit {
-                register,
-                edit: Edit::Intersect(other),
-            })
+            Ok(edited(register, Edit::Intersect(other)))
         }
         Doing::Subtract => {
             let (register, other) = two_registers(words)?;
-            Ok(Command::Edit {
-                register,
-                edit: Edit::Subtract(other),
-            })
+            Ok(edited(register, Edit::Subtract(other)))
         }
         Doing::Range => range(words),
         Doing::Outer => {
             let (register, level, rect) = register_level_rect(words)?;
-            Ok(Command::Edit {
-                register,
-                edit: Edit::Outer { level, rect },
-            })
+            Ok(edited(register, Edit::Outer { level, rect }))
         }
         Doing::Inner => {
             let (register, level, rect) = register_level_rect(words)?;
-            Ok(Command::Edit {
-                register,
-                edit: Edit::Inner { level, rect },
-            })
+            Ok(edited(register, Edit::Inner { level, rect }))
         }
         Doing::OuterOf => {
             let (register, other, level, rect) = registers_level_rect(words)?;
-            Ok(Command::Edit {
-                register,
-                edit: Edit::OuterOf { other, level, rect },
-            })
+            Ok(edited(register, Edit::OuterOf { other, level, rect }))
         }
         Doing::InnerOf => {
             let (register, other, level, rect) = registers_level_rect(words)?;
-            Ok(Command::Edit {
-                register,
-                edit: Edit::InnerOf { other, level, rect },
-            })
+            Ok(edited(register, Edit::InnerOf { other, level, rect }))
         }
         Doing::Load => {
             let (register, name) = register_and_name(words)?;
@@ -243,6 +207,13 @@ fn deed(verb: Doing, mut words: Words<'_>) -> Result<Command<'_>, Refusal>
             Ok(Command::Redo)
         }
     }
+}
+
+/// An edit of a register, as a command.
+fn edited<'a>(register: Register, edit: Edit<'a>) -> Command<'a>
+    ensures { result ≡ EditOf register edit.entry }
+{
+    Command::Edit { register, edit }
 }
 
 /// `CELL`
@@ -309,10 +280,7 @@ fn range(mut words: Words<'_>) -> Result<Command<'_>, Refusal>
     let register = words.register()?;
     let span = words.span()?;
     words.end()?;
-    Ok(Command::Edit {
-        register,
-        edit: Edit::Range(span),
-    })
+    Ok(edited(register, Edit::Range(span)))
 }
 
 /// `r LEVEL FACE I0 I1 J0 J1`
