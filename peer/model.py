@@ -5,6 +5,7 @@ them: a set is a list of runs [first, end) of leaf numbers, ascending and apart;
 anew wherever it is asked for; the history keeps whole tables.
 """
 import re
+import string
 
 LEAVES = 6 * 4**30
 SIDE = 2**30
@@ -12,6 +13,7 @@ QUADRANT = ((0, 1, 3, 2), (0, 2, 3, 1), (3, 2, 0, 1), (3, 1, 0, 2))
 TURN = (1, 0, 0, 3)
 MOST_IN_A_FILE = 1_000_000
 MOST_LISTED = 1_000_000
+REGISTERS = string.ascii_lowercase
 
 
 class Refused(Exception):
@@ -288,7 +290,7 @@ class Calculator:
 
     def __init__(self, limit, depth, files):
         self.limit, self.depth, self.files = limit, depth, files
-        self.past, self.table, self.future = [], {r: [] for r in "abcdefgh"}, []
+        self.past, self.table, self.future = [], {r: [] for r in REGISTERS}, []
 
     def run(self, script):
         """The bytes that are written, and whether a line was refused."""

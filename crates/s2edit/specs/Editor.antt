@@ -4,7 +4,7 @@ use Rattle.s2edit.specs.History.{History}
 use Rattle.s2edit.specs.Diff.{inverse}
 use Rattle.s2edit.specs.Chain.{history, lists_of, AllWithin, AllRoomy, FitAlong}
 use Rattle.s2edit.specs.declared.editor.Editor.TheInside.{Inside}
-use Rattle.s2edit.specs.declared.TheConstants.{REGISTERS}
+use Rattle.s2edit.specs.declared.TheConstants.{REGISTERS, MOST_CELLS}
 
 -- the history that a contract sees
 abbrev pub history_of : Inside → History (List ℕ)
@@ -13,7 +13,7 @@ history_of e = history e.limit e.depth e.registers.items e.past.items e.future.i
 -- Each register and the scratch list have room for a whole list, each ring has room for all states that may be kept,
 -- and the changes of either side can be made one after another, from the present table on.
 pub record IsEditor (e : Inside) : Type 0 where
-  pub limit_bound : e.limit ≤ 1000000
+  pub limit_bound : e.limit ≤ MOST_CELLS
   pub count : length e.registers.items ≡ REGISTERS
   pub past_room : e.past.capacity ≡ e.depth
   pub future_room : e.future.capacity ≡ e.depth

@@ -6,9 +6,9 @@ ghost use Rattle.s2edit.specs.History.{untouched, Assigned, sets, undone, redone
 ghost use Rattle.s2edit.specs.Leads.{list_at, table_at, Leads};
 ghost use Rattle.s2edit.specs.Chain.{lists_of, union_of, AllRoomy};
 
-use crate::REGISTERS;
 use crate::change::Change;
 use crate::register::Register;
+use crate::{MOST_CELLS, MOST_STATES, REGISTERS};
 use circular_buffer::HeapCircularBuffer;
 use s2cell::CellId;
 use s2union::CellUnion;
@@ -56,13 +56,14 @@ impl Model for Editor {
 
 impl Editor {
     /// An editor with empty registers and no history, which lets a register have at most `limit` cells (1 to
-    /// 1,000,000) and keeps at most `depth` states (1 to 1,000).
+    /// [`MOST_CELLS`](crate::MOST_CELLS)) and keeps at most `depth` states (1 to [`MOST_STATES`](crate::MOST_STATES)).
     ///
     /// Takes at once the memory that registers, undo and redo need from then on: room for `limit` cells for
-    /// each register and once more, and two rings of `depth` changes.
+    /// each register and once more, 8 bytes a cell, and two rings of `depth` changes. At the greatest limit that
+    /// is 216,000,000 bytes of address space, of which a system such as Linux gives what is used.
     pub fn open(alloc: Global, limit: usize, depth: usize) -> Result<Editor, AllocError>
-        requires limit { (1 ≤ limit) × (limit ≤ 1000000) }
-        requires depth { (1 ≤ depth) × (depth ≤ 1000) }
+        requires limit { (1 ≤ limit) × (limit ≤ MOST_CELLS) }
+        requires depth { (1 ≤ depth) × (depth ≤ MOST_STATES) }
         ensures { IfOk result (λ e. e ≡ untouched limit depth (replicate REGISTERS [])) }
     {
         let past = HeapCircularBuffer::with_capacity(alloc, depth)?;
@@ -200,7 +201,7 @@ impl Editor {
     /// was undone has more, and each is normalised.
     pub fn limit(&self) -> usize
         ensures value { result ≡ self.now.limit }
-        ensures most { result ≤ 1000000 }
+        ensures most { result ≤ MOST_CELLS }
         ensures few { EachList (λ u. length u ≤ self.now.limit) self.now }
         ensures local { EachList IsLocal self.now }
     {

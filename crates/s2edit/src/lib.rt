@@ -19,7 +19,13 @@ pub use edits::{Edit, EditTally, Outcome, law_of_runs, run_edits};
 pub use register::Register;
 
 /// How many registers there are, named by the letters from `a` on.
-pub const REGISTERS: usize = 8;
+pub const REGISTERS: usize = 26;
+
+/// The most cells that a register may ever have: the greatest limit of an editor.
+pub const MOST_CELLS: usize = 1_000_000;
+
+/// The most states that may ever be kept: the greatest depth of an editor.
+pub const MOST_STATES: usize = 10_000;
 
 #[cfg(test)]
 mod tests;

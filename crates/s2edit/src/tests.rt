@@ -1,5 +1,7 @@
 //! Worked examples of edits and of their history.
-use crate::{Change, Edit, EditFault, EditTally, Editor, Register, run_edits};
+use crate::{
+    Change, Edit, EditFault, EditTally, Editor, MOST_STATES, REGISTERS, Register, run_edits,
+};
 use s2cell::CellId;
 use s2union::{CellUnion, normalise};
 use std::alloc::Global;
@@ -55,17 +57,13 @@ fn is_change(
 }
 
 #[test]
-fn eight_letters_name_registers(rt: HostRuntime) {
-    for (letter, number) in [
-        (b'a', Some(0)),
-        (b'h', Some(7)),
-        (b'i', None),
-        (b'A', None),
-        (b'`', None),
-        (0, None),
-        (255, None),
-    ] {
-        assert_eq!(rt; Register::from_letter(letter).map(|r| r.index()), number);
+fn each_small_letter_names_a_register(rt: HostRuntime) {
+    for byte in 0..=255u8 {
+        let number = match byte {
+            b'a'..=b'z' => Some(byte as usize - 97),
+            _ => None,
+        };
+        assert_eq!(rt; Register::from_letter(byte).map(|r| r.index()), number);
     }
 }
 
@@ -191,6 +189,45 @@ fn a_full_history_keeps_the_newest(rt: HostRuntime) -> Result<(), Fail> {
     assert_eq!(rt; editor.undo(), Some((1, 0)));
     assert_eq!(rt; editor.undo(), None);
     assert!(rt; has_list(alloc, &editor, b'a', &["1"])?);
+    Ok(())
+}
+
+/// Gives each register in turn face 0, then each face 1, and so on: `count` assignments, each of which changes a register.
+fn change_in_turn(alloc: Global, editor: &mut Editor, count: usize) -> Result<(), Fail> {
+    let faces = ["1", "3"];
+    for n in 0..count {
+        let register = register(b'a' + (n % REGISTERS) as u8)?;
+        let union = union_of(alloc, &[faces[n / REGISTERS % 2]])?;
+        let _ = editor.assign(register, union).ok().ok_or("refused")?;
+    }
+    Ok(())
+}
+
+#[test]
+fn ten_thousand_changes_are_undone_and_redone(rt: HostRuntime) -> Result<(), Fail> {
+    let alloc = rt.alloc();
+    let mut editor = Editor::open(alloc, 4, MOST_STATES)?;
+    change_in_turn(alloc, &mut editor, MOST_STATES)?;
+    assert_eq!(rt; (editor.undoable(), editor.redoable()), (10_000, 0));
+    assert!(rt; has_list(alloc, &editor, b'p', &["1"])?);
+    assert!(rt; has_list(alloc, &editor, b'q', &["3"])?);
+    for _ in 0..MOST_STATES {
+        assert!(rt; editor.undo().is_some());
+    }
+    assert_eq!(rt; editor.undo(), None);
+    for letter in b'a'..=b'z' {
+        assert!(rt; has_list(alloc, &editor, letter, &[])?);
+    }
+    for _ in 0..MOST_STATES {
+        assert!(rt; editor.redo().is_some());
+    }
+    assert_eq!(rt; editor.redo(), None);
+    assert!(rt; has_list(alloc, &editor, b'p', &["1"])?);
+    assert!(rt; has_list(alloc, &editor, b'q', &["3"])?);
+
+    // One change more drops the oldest.
+    assert_eq!(rt; add(alloc, &mut editor, b'z', &["5"])?, Ok((0, 1)));
+    assert_eq!(rt; (editor.undoable(), editor.redoable()), (10_000, 0));
     Ok(())
 }
 
