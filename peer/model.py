@@ -234,7 +234,7 @@ class Words:
 
     def register(self):
         word = self.next()
-        if not re.fullmatch(rb"[a-h]", word):
+        if not re.fullmatch(rb"[a-z]", word):
             raise Refused("register")
         return word.decode()
 

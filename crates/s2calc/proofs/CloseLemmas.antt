@@ -1,5 +1,5 @@
 -- Lemmas on the end of a script.
-use Rattle.std.proofs.Common.{◌≡◌, ℕ, ◌+◌, ◌-◌, ◌<◌, List, [], ◌∷◌, ◌++◌, Option, length, take, drop, refl, sym, ap, ◌∙◌, subst, append_assoc, append-nil, arith, take-append-drop, length-append}
+use Rattle.std.proofs.Common.{◌≡◌, ℕ, ◌+◌, ◌-◌, ◌<◌, List, [], ◌∷◌, ◌++◌, Option, length, take, refl, sym, ap, ◌∙◌, subst, append_assoc, append-nil, arith, length-append}
 use Rattle.std.proofs.lemmas.List.Concat.{flat_map-append}
 use Rattle.std.proofs.Math.Seq.{take-append-add}
 use Rattle.std.specs.Io.KnownBytes.{Appends, Keeps}
@@ -7,25 +7,15 @@ use Rattle.std.proofs.KnownBytes.{Appends-nil, Appends-kept}
 use Rattle.s2calc.specs.World.{World}
 use Rattle.s2calc.specs.declared.engine.Tally.{Tally}
 use Rattle.s2script.specs.Lines.{BeginsWith, but_last, last_line, lines}
-use Rattle.s2calc.specs.Replies.{Reply, text_of, texts, tally_of, IsBeginningOf}
+use Rattle.s2calc.specs.Replies.{Reply, text_of, texts, tally_of, IsCutOff}
 use Rattle.s2calc.specs.Step.{Step}
 use Rattle.s2calc.specs.Output.{AppendsPart}
 use Rattle.s2calc.specs.Run.{Steps}
-use Rattle.s2calc.specs.Stands.{Stands, StopsInside, Ended, EndsInPart}
+use Rattle.s2calc.specs.Stands.{Stands, Ended, EndsInPart, EndsUnflushed}
 use Rattle.s2calc.proofs.LineLemmas.{lines_begun}
 use Rattle.s2calc.proofs.RunLemmas.{Steps-push}
 use Rattle.s2calc.proofs.StepLemmas.{Step-kept}
-use Rattle.s2calc.proofs.TakeInLemmas.{IsBeginningOf-part}
-
--- all of the answers are a beginning of them
-pub IsBeginningOf-all : (replies : List Reply) → IsBeginningOf (texts replies) replies
-IsBeginningOf-all replies =
-    let n = length replies - 1 in
-    record {
-      rest = [];
-      beginning = sym (append-nil (texts replies));
-      all_but_last = (texts (drop n replies), ap texts (sym (take-append-drop n replies)) ∙ flat_map-append text_of (take n replies) (drop n replies));
-    }
+use Rattle.s2calc.proofs.TakeInLemmas.{IsCutOff-part}
 
 but_last-more : (replies : List Reply) (m : Reply) (ms : List Reply) → but_last (replies ++ m ∷ ms) ≡ replies ++ but_last (m ∷ ms)
 but_last-more replies m ms =
@@ -33,12 +23,12 @@ but_last-more replies m ms =
     ap (λ n. take n (replies ++ m ∷ ms)) count ∙ take-append-add replies (m ∷ ms) (length (m ∷ ms) - 1)
 
 -- the answers to earlier lines came out whole
-pub IsBeginningOf-after : (before more : List Reply) (bytes : List ℕ) → IsBeginningOf bytes more → IsBeginningOf (texts before ++ bytes) (before ++ more)
-IsBeginningOf-after before [] [] b = subst (λ rs. IsBeginningOf (texts before ++ []) rs) (sym (append-nil before)) (subst (λ s. IsBeginningOf s before) (sym (append-nil (texts before))) (IsBeginningOf-all before))
-IsBeginningOf-after before [] (x ∷ xs) b = let bad : [] ≡ x ∷ (xs ++ b.rest) = b.beginning in absurd cc
-IsBeginningOf-after before (m ∷ ms) bytes b =
+pub IsCutOff-after : (before more : List Reply) (bytes : List ℕ) → IsCutOff bytes more → IsCutOff (texts before ++ bytes) (before ++ more)
+IsCutOff-after before [] bytes b = let none = length-append bytes b.rest in let same = ap length b.beginning in absurd (omega (arith, none, same, b.lacking))
+IsCutOff-after before (m ∷ ms) bytes b =
     record {
       rest = b.rest;
+      lacking = b.lacking;
       beginning = flat_map-append text_of before (m ∷ ms) ∙ ap (λ s. texts before ++ s) b.beginning ∙ sym (append_assoc (texts before) bytes b.rest);
       all_but_last = (
         b.all_but_last.0,
@@ -54,21 +44,6 @@ last_line-none (b ∷ bs) e = let bad : b ∷ take 4096 bs ≡ [] = e in absurd 
 last_line-one : (rest : List ℕ) → 0 < length (take 4097 rest) → last_line rest ≡ rest ∷ []
 last_line-one [] h = absurd (omega arith)
 last_line-one (b ∷ bs) h = refl
-
--- the writer fails where a run stands, all answers being written
-pub Stands-stops : (start : World) (script : List ℕ) (replies : List Reply) (editor : World) (kept : List ℕ) (tally : Tally) (output_old output_new : Option (List ℕ)) → Stands start script replies editor kept tally
-    → Keeps output_old output_new → StopsInside start script replies [] editor output_old output_new
-Stands-stops start script replies editor kept tally output_old output_new s k =
-    record {
-      done = s.done;
-      rest = s.rest;
-      more = [];
-      bytes = [];
-      begins = subst (λ all. BeginsWith all s.done s.rest) (sym (append-nil script)) s.begins;
-      run = subst (λ rs. Steps start s.done rs editor) (sym (append-nil replies)) s.run;
-      written = Appends-kept output_old output_old output_new [] (Appends-nil output_old) k;
-      beginning = IsBeginningOf-all [];
-    }
 
 module _ (start : World) (script : List ℕ) (replies : List Reply) (editor : World) (kept : List ℕ) (tally : Tally) (s : Stands start script replies editor kept tally) where
   -- no line is left
@@ -98,14 +73,12 @@ module _ (start : World) (script : List ℕ) (replies : List Reply) (editor : Wo
         tally_is = t ∙ s.tally_is ∙ ap tally_of (sym (append-nil replies));
       }
 
-  pub EndsInPart-none : (output_old output_new : Option (List ℕ)) → kept ≡ [] → Keeps output_old output_new → EndsInPart start script replies editor output_old output_new
-  EndsInPart-none output_old output_new e k =
+  pub EndsUnflushed-none : (output_old output_new : Option (List ℕ)) → kept ≡ [] → Keeps output_old output_new → EndsUnflushed start script replies editor output_old output_new
+  EndsUnflushed-none output_old output_new e k =
       record {
         more = [];
-        bytes = [];
         run = run_none e;
         written = Appends-kept output_old output_old output_new [] (Appends-nil output_old) k;
-        beginning = IsBeginningOf-all [];
       }
 
   texts-one : (reply : Reply) → texts (reply ∷ []) ≡ text_of reply
@@ -121,15 +94,13 @@ module _ (start : World) (script : List ℕ) (replies : List Reply) (editor : Wo
         tally_is = e;
       }
 
-  pub EndsInPart-line : (output_old output_mid output_new : Option (List ℕ)) (new : World) (reply : Reply) → 0 < length kept → Step editor kept reply new → Appends output_old output_mid (text_of reply)
-      → Keeps output_mid output_new → EndsInPart start script replies new output_old output_new
-  EndsInPart-line output_old output_mid output_new new reply h t w k =
+  pub EndsUnflushed-line : (output_old output_mid output_new : Option (List ℕ)) (new : World) (reply : Reply) → 0 < length kept → Step editor kept reply new → Appends output_old output_mid (text_of reply)
+      → Keeps output_mid output_new → EndsUnflushed start script replies new output_old output_new
+  EndsUnflushed-line output_old output_mid output_new new reply h t w k =
       record {
         more = reply ∷ [];
-        bytes = texts (reply ∷ []);
         run = run_one new reply h t;
         written = subst (Appends output_old output_new) (sym (texts-one reply)) (Appends-kept output_old output_mid output_new (text_of reply) w k);
-        beginning = IsBeginningOf-all (reply ∷ []);
       }
 
   pub EndsInPart-part : (output_old output_new : Option (List ℕ)) (new : World) (reply : Reply) → 0 < length kept → Step editor kept reply new → AppendsPart output_old output_new (text_of reply)
@@ -140,5 +111,5 @@ module _ (start : World) (script : List ℕ) (replies : List Reply) (editor : Wo
         bytes = w.part;
         run = run_one new reply h t;
         written = w.written;
-        beginning = IsBeginningOf-part [] reply w.part w.rest w.bytes_are;
+        cut_off = IsCutOff-part [] reply w.part w.rest w.bytes_are w.lacking;
       }

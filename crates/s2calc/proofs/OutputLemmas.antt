@@ -1,5 +1,5 @@
 -- Lemmas on a write that fails half way.
-use Rattle.std.proofs.Common.{◌≡◌, ℕ, List, ◌++◌, Option, sym, ap, ◌∙◌, append_assoc, subst}
+use Rattle.std.proofs.Common.{◌≡◌, ℕ, List, ◌++◌, Option, sym, ap, ◌∙◌, append_assoc, subst, length-append, arith}
 use Rattle.std.specs.Io.KnownBytes.{Appends}
 use Rattle.std.proofs.KnownBytes.{Appends-trans}
 use Rattle.s2calc.specs.Output.{AppendsPart}
@@ -10,6 +10,7 @@ AppendsPart-after a b c whole front bytes back p q e =
     record {
       part = front ++ q.part;
       rest = q.rest ++ back;
+      lacking = omega (arith, length-append q.rest back, q.lacking);
       bytes_are = e ∙ ap (λ s. front ++ (s ++ back)) q.bytes_are ∙ ap (λ s. front ++ s) (append_assoc q.part q.rest back) ∙ sym (append_assoc front q.part (q.rest ++ back));
       written = Appends-trans a b c front q.part p q.written;
     }

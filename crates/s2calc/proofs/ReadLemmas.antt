@@ -1,18 +1,21 @@
 -- Lemmas on a whole run.
-use Rattle.std.proofs.Common.{◌≡◌, ℕ, List, [], ◌++◌, Option, Result, take, refl, sym, ap, subst, append-nil, inl, inr}
+use Rattle.std.proofs.Common.{◌≡◌, ℕ, List, [], ◌++◌, Option, Result, take, refl, sym, ap, subst, append-nil, ◌⊎◌, inl, inr}
 use Rattle.std.proofs.lemmas.List.Concat.{flat_map-append}
 use Rattle.std.proofs.lemmas.Result.{MatchResult-weaker}
 use Rattle.std.specs.Io.KnownBytes.{Appends, Consumes, Keeps, IsAtEnd}
 use Rattle.std.proofs.KnownBytes.{Appends-trans, Consumes-trans, Consumes-kept}
 use Rattle.s2calc.specs.World.{World}
 use Rattle.s2calc.specs.declared.engine.Tally.{Tally}
+use Rattle.s2calc.specs.declared.engine.Flushing.{Flushing}
+use Rattle.s2calc.specs.declared.engine.Flushing.TheVariants.{AtTheEnd, BeforeEachRead}
 use Rattle.s2calc.specs.declared.fault.RunFault.{RunFault}
+use Rattle.s2calc.specs.declared.fault.RunFault.TheVariants.{Input, Output}
 use Rattle.s2script.specs.Lines.{lines}
 use Rattle.s2calc.specs.Replies.{Reply, text_of, texts}
-use Rattle.s2calc.specs.Run.{Steps, Ends, Finishes, StopsReading, StopsWriting, Faults, Runs}
-use Rattle.s2calc.specs.Stands.{Stands, StopsInside, Ended, EndsInPart, Closes}
+use Rattle.s2calc.specs.Run.{Steps, Ends, Finishes, StopsReading, StopsWriting, StopsFlushing}
+use Rattle.s2calc.specs.Stands.{Stands, StopsInside, Ended, EndsInPart, EndsUnflushed, Closes, FaultsBy, RunsBy}
 use Rattle.s2calc.proofs.LineLemmas.{whole_lines_begun}
-use Rattle.s2calc.proofs.CloseLemmas.{IsBeginningOf-after}
+use Rattle.s2calc.proofs.CloseLemmas.{IsCutOff-after}
 
 pub Consumes-none : (a b c : Option (List ℕ)) (bs buf : List ℕ) (n : ℕ) → n ≡ 0 → Consumes a b bs → Consumes b c (take n buf) → Consumes a c bs
 Consumes-none a b c bs buf n e p q =
@@ -21,6 +24,23 @@ Consumes-none a b c bs buf n e p q =
 
 pub Appends-texts : (a b c : Option (List ℕ)) (before more : List Reply) → Appends a b (texts before) → Appends b c (texts more) → Appends a c (texts (before ++ more))
 Appends-texts a b c before more p q = subst (Appends a c) (sym (flat_map-append text_of before more)) (Appends-trans a b c (texts before) (texts more) p q)
+
+-- the faults of a run, whenever it flushes
+pub fails_reading : (flushing : Flushing) (ends : Ends) (old new : World) → StopsReading ends old new → FaultsBy flushing Input ends old new
+fails_reading AtTheEnd ends old new s = s
+fails_reading BeforeEachRead ends old new s = s
+
+pub fails_writing : (flushing : Flushing) (ends : Ends) (old new : World) → StopsWriting ends old new → FaultsBy flushing Output ends old new
+fails_writing AtTheEnd ends old new s = inl s
+fails_writing BeforeEachRead ends old new s = inr (inl s)
+
+fails_flushing : (flushing : Flushing) (ends : Ends) (old new : World) → StopsFlushing ends old new → FaultsBy flushing Output ends old new
+fails_flushing AtTheEnd ends old new s = inr s
+fails_flushing BeforeEachRead ends old new s = inr (inr s)
+
+pub fails_handing_over : (flushing : Flushing) (ends : Ends) (old new : World) → flushing ≡ BeforeEachRead → StopsReading ends old new → FaultsBy flushing Output ends old new
+fails_handing_over AtTheEnd ends old new e s = absurd cc
+fails_handing_over BeforeEachRead ends old new e s = inl s
 
 module _ (ends : Ends) (old new : World) (script : List ℕ) (replies : List Reply) where
   pub StopsReading-here : (input : Option (List ℕ)) (kept : List ℕ) (tally : Tally) → Consumes ends.input_old input script → Keeps input ends.input_new → Stands old script replies new kept tally
@@ -46,7 +66,7 @@ module _ (ends : Ends) (old new : World) (script : List ℕ) (replies : List Rep
         read_whole = inl (s.rest, s.begins);
         run = s.run;
         written = Appends-trans ends.output_old output ends.output_new (texts replies) s.bytes w s.written;
-        beginning = IsBeginningOf-after replies s.more s.bytes s.beginning;
+        cut_off = IsCutOff-after replies s.more s.bytes s.cut_off;
       }
 
   Finishes-here : (output : Option (List ℕ)) (tally : Tally) → Consumes ends.input_old ends.input_new script → IsAtEnd ends.input_new → Appends ends.output_old output (texts replies)
@@ -74,10 +94,27 @@ module _ (ends : Ends) (old new : World) (script : List ℕ) (replies : List Rep
         read_whole = inr (refl, e);
         run = s.run;
         written = Appends-trans ends.output_old output ends.output_new (texts replies) s.bytes w s.written;
-        beginning = IsBeginningOf-after replies s.more s.bytes s.beginning;
+        cut_off = IsCutOff-after replies s.more s.bytes s.cut_off;
       }
 
-  pub Runs-close : (output : Option (List ℕ)) (result : Result Tally RunFault) → Consumes ends.input_old ends.input_new script → IsAtEnd ends.input_new → Appends ends.output_old output (texts replies)
-      → Closes old script replies new output ends.output_new result → Runs ends old new result
-  Runs-close output result r e w closes =
-      MatchResult-weaker result closes (λ tally s. Finishes-here output tally r e w s) (λ fault s. subst (λ f. Faults f ends old new) (sym s.0) (StopsWriting-here output r e w s.1))
+  StopsFlushing-here : (output : Option (List ℕ)) → Consumes ends.input_old ends.input_new script → IsAtEnd ends.input_new → Appends ends.output_old output (texts replies)
+      → EndsUnflushed old script replies new output ends.output_new → StopsFlushing ends old new
+  StopsFlushing-here output r e w s =
+      record {
+        script = script;
+        replies = replies ++ s.more;
+        read = r;
+        at_end = e;
+        run = s.run;
+        written = Appends-texts ends.output_old output ends.output_new replies s.more w s.written;
+      }
+
+  StopsClosing : (flushing : Flushing) (output : Option (List ℕ)) → Consumes ends.input_old ends.input_new script → IsAtEnd ends.input_new → Appends ends.output_old output (texts replies)
+      → EndsInPart old script replies new output ends.output_new ⊎ EndsUnflushed old script replies new output ends.output_new → FaultsBy flushing Output ends old new
+  StopsClosing flushing output r e w (inl s) = fails_writing flushing ends old new (StopsWriting-here output r e w s)
+  StopsClosing flushing output r e w (inr s) = fails_flushing flushing ends old new (StopsFlushing-here output r e w s)
+
+  pub Runs-close : (flushing : Flushing) (output : Option (List ℕ)) (result : Result Tally RunFault) → Consumes ends.input_old ends.input_new script → IsAtEnd ends.input_new → Appends ends.output_old output (texts replies)
+      → Closes old script replies new output ends.output_new result → RunsBy flushing ends old new result
+  Runs-close flushing output result r e w closes =
+      MatchResult-weaker result closes (λ tally s. Finishes-here output tally r e w s) (λ fault s. subst (λ f. FaultsBy flushing f ends old new) (sym s.0) (StopsClosing flushing output r e w s.1))

@@ -1,12 +1,12 @@
 -- Lemmas on taking in the bytes of a script.
-use Rattle.std.proofs.Common.{◌≡◌, ℕ, List, [], ◌∷◌, ◌++◌, Option, take, refl, sym, ap, ◌∙◌, subst, append_assoc, append-nil}
+use Rattle.std.proofs.Common.{◌≡◌, ℕ, ◌<◌, List, [], ◌∷◌, ◌++◌, Option, length, take, refl, sym, ap, ◌∙◌, subst, append_assoc, append-nil}
 use Rattle.std.proofs.lemmas.List.Concat.{flat_map-append}
 use Rattle.std.specs.Io.KnownBytes.{Appends}
 use Rattle.std.proofs.KnownBytes.{Appends-nil, Appends-trans}
 use Rattle.s2calc.specs.World.{World}
 use Rattle.s2calc.specs.declared.engine.Tally.{Tally}
 use Rattle.s2script.specs.Lines.{IsUnbroken, BeginsWith}
-use Rattle.s2calc.specs.Replies.{Reply, text_of, texts, tally_of, IsBeginningOf}
+use Rattle.s2calc.specs.Replies.{Reply, text_of, texts, tally_of, IsCutOff}
 use Rattle.s2calc.specs.Step.{Step}
 use Rattle.s2calc.specs.Output.{AppendsPart}
 use Rattle.s2calc.specs.Run.{Steps}
@@ -86,9 +86,10 @@ StandsAfter-rest start script replies all seen bytes editor kept new_kept tally 
     }
 
 -- a beginning of the last reply came out
-pub IsBeginningOf-part : (replies : List Reply) (reply : Reply) (part rest : List ℕ) → text_of reply ≡ part ++ rest → IsBeginningOf (texts replies ++ part) (replies ++ reply ∷ [])
-IsBeginningOf-part replies reply part rest e =
+pub IsCutOff-part : (replies : List Reply) (reply : Reply) (part rest : List ℕ) → text_of reply ≡ part ++ rest → 0 < length rest → IsCutOff (texts replies ++ part) (replies ++ reply ∷ [])
+IsCutOff-part replies reply part rest e h =
     record {
+      lacking = h;
       rest = rest;
       beginning = texts-push replies reply ∙ ap (λ s. texts replies ++ s) e ∙ sym (append_assoc (texts replies) part rest);
       all_but_last = (part, ap (λ rs. texts rs ++ part) (sym (but_last-append replies reply)));
@@ -112,7 +113,7 @@ StopsInside-line start script replies all seen bytes more_bytes editor new kept 
       begins = subst (λ b. BeginsWith b stepped.done (stepped.rest ++ more_bytes)) moved (BeginsWith-more _ stepped.done stepped.rest more_bytes stepped.begins);
       run = subst (λ rs. Steps start stepped.done rs new) (append_assoc replies s.more (reply ∷ [])) stepped.run;
       written = Appends-trans output_old output_mid output_new (texts s.more) w.part s.written w.written;
-      beginning = IsBeginningOf-part s.more reply w.part w.rest w.bytes_are;
+      cut_off = IsCutOff-part s.more reply w.part w.rest w.bytes_are w.lacking;
     }
 
 -- a run that begins has seen no byte

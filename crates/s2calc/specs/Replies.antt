@@ -1,5 +1,5 @@
 -- What a line is answered.
-use Rattle.std.specs.Prelude.{◌≡◌, ℕ, ◌-◌, ◌^◌, Bool, false, true, min, List, [], ◌∷◌, ◌++◌, codes, flat_map, count_by}
+use Rattle.std.specs.Prelude.{◌≡◌, ℕ, ◌-◌, ◌^◌, ◌<◌, Bool, false, true, min, List, [], ◌∷◌, ◌++◌, length, codes, flat_map, count_by}
 use Rattle.s2script.specs.declared.refusal.Refusal.{Refusal}
 use Rattle.s2script.specs.Refusals.{name_of}
 use Rattle.s2calc.specs.declared.engine.Tally.{Tally}
@@ -37,8 +37,9 @@ tally_of replies = record {
   refused = min (count_by is_refusal replies) (2 ^ 64 - 1);
 }
 
--- what was written is a beginning of the replies, joined, that holds all but the last
-pub record IsBeginningOf (written : List ℕ) (replies : List Reply) : Type 0 where
+-- what was written is a beginning of the replies, joined, that holds all but the last, of which it lacks some bytes
+pub record IsCutOff (written : List ℕ) (replies : List Reply) : Type 0 where
   pub rest : List ℕ
   pub beginning : texts replies ≡ written ++ rest
+  pub lacking : 0 < length rest
   pub all_but_last : (more : List ℕ) × (written ≡ texts (but_last replies) ++ more)

@@ -6,7 +6,7 @@ use Rattle.s2calc.specs.declared.engine.Tally.{Tally}
 use Rattle.s2calc.specs.declared.fault.RunFault.{RunFault}
 use Rattle.s2calc.specs.declared.fault.RunFault.TheVariants.{Input, Output, Memory}
 use Rattle.s2script.specs.Lines.{lines, whole_lines, BeginsWith}
-use Rattle.s2calc.specs.Replies.{Reply, texts, tally_of, IsBeginningOf}
+use Rattle.s2calc.specs.Replies.{Reply, texts, tally_of, IsCutOff}
 use Rattle.s2calc.specs.Step.{Step}
 
 -- these lines, one after the other, may be given these replies
@@ -33,7 +33,7 @@ pub record Finishes (ends : Ends) (old new : World) (tally : Tally) : Type 0 whe
   pub written : Appends ends.output_old ends.output_new (texts replies)
   pub tally_is : tally ≡ tally_of replies
 
--- The reader failed: the lines that were read whole were carried out, and just their answers were written.
+-- Reading stopped: the lines that were read whole were carried out, and just their answers were written.
 pub record StopsReading (ends : Ends) (old new : World) : Type 0 where
   pub script : List ℕ
   pub replies : List Reply
@@ -45,7 +45,8 @@ pub record StopsReading (ends : Ends) (old new : World) : Type 0 where
 abbrev pub WereReadWhole : Option (List ℕ) → List ℕ → List (List ℕ) → Type 0
 WereReadWhole left script ls = ((more : List ℕ) × BeginsWith script ls more) ⊎ ((ls ≡ lines script) × IsAtEnd left)
 
--- The writer failed: some lines that were read whole were carried out, and a beginning of their answers was written, of which only the last may lack bytes.
+-- The writer failed inside an answer: some lines that were read whole were carried out, and their answers were written but for
+-- some bytes of the last.
 pub record StopsWriting (ends : Ends) (old new : World) : Type 0 where
   pub script : List ℕ
   pub replies : List Reply
@@ -55,7 +56,16 @@ pub record StopsWriting (ends : Ends) (old new : World) : Type 0 where
   pub read_whole : WereReadWhole ends.input_new script done
   pub run : Steps old done replies new
   pub written : Appends ends.output_old ends.output_new bytes
-  pub beginning : IsBeginningOf bytes replies
+  pub cut_off : IsCutOff bytes replies
+
+-- The flush at the end failed: the whole script was read, each of its lines was carried out, and all answers were written.
+pub record StopsFlushing (ends : Ends) (old new : World) : Type 0 where
+  pub script : List ℕ
+  pub replies : List Reply
+  pub read : Consumes ends.input_old ends.input_new script
+  pub at_end : IsAtEnd ends.input_new
+  pub run : Steps old (lines script) replies new
+  pub written : Appends ends.output_old ends.output_new (texts replies)
 
 -- There was no memory: nothing was read, written or changed.
 pub record NeverBegins (ends : Ends) (old new : World) : Type 0 where
@@ -63,10 +73,23 @@ pub record NeverBegins (ends : Ends) (old new : World) : Type 0 where
   pub output : Appends ends.output_old ends.output_new []
   pub editor : new ≡ old
 
+-- what a run leaves that ends with this fault
 abbrev pub Faults : RunFault → Ends → World → World → Type 0
 Faults Input ends old new = StopsReading ends old new
-Faults Output ends old new = StopsWriting ends old new
+Faults Output ends old new = StopsWriting ends old new ⊎ StopsFlushing ends old new
 Faults Memory ends old new = NeverBegins ends old new
 
+-- The same of a run that flushes before each read too: if such a flush fails, the lines that were read whole were carried
+-- out, and just their answers were written.
+abbrev pub PromptFaults : RunFault → Ends → World → World → Type 0
+PromptFaults Input ends old new = StopsReading ends old new
+PromptFaults Output ends old new = StopsReading ends old new ⊎ StopsWriting ends old new ⊎ StopsFlushing ends old new
+PromptFaults Memory ends old new = NeverBegins ends old new
+
+-- a run, by its result
 abbrev pub Runs : Ends → World → World → Result Tally RunFault → Type 0
 Runs ends old new result = MatchResult result (λ tally. Finishes ends old new tally) (λ fault. Faults fault ends old new)
+
+-- a run that flushes before each read too, by its result
+abbrev pub RunsPromptly : Ends → World → World → Result Tally RunFault → Type 0
+RunsPromptly ends old new result = MatchResult result (λ tally. Finishes ends old new tally) (λ fault. PromptFaults fault ends old new)

@@ -1,13 +1,15 @@
 -- Where a run stands in its script.
-use Rattle.std.specs.Prelude.{◌≡◌, ℕ, List, ◌++◌, Option, Result, MatchResult, take}
+use Rattle.std.specs.Prelude.{◌≡◌, ℕ, List, ◌++◌, ◌⊎◌, Option, Result, MatchResult, take}
 use Rattle.s2calc.specs.declared.fault.RunFault.{RunFault}
 use Rattle.s2calc.specs.declared.fault.RunFault.TheVariants.{Output}
 use Rattle.std.specs.Io.KnownBytes.{Appends}
 use Rattle.s2calc.specs.World.{World}
 use Rattle.s2calc.specs.declared.engine.Tally.{Tally}
 use Rattle.s2script.specs.Lines.{BeginsWith, IsUnbroken, lines}
-use Rattle.s2calc.specs.Replies.{Reply, texts, tally_of, IsBeginningOf}
-use Rattle.s2calc.specs.Run.{Steps}
+use Rattle.s2calc.specs.Replies.{Reply, texts, tally_of, IsCutOff}
+use Rattle.s2calc.specs.Run.{Steps, Ends, Finishes, Faults, PromptFaults}
+use Rattle.s2calc.specs.declared.engine.Flushing.{Flushing}
+use Rattle.s2calc.specs.declared.engine.Flushing.TheVariants.{AtTheEnd, BeforeEachRead}
 
 -- From start, over these bytes: the lines that a newline ends were carried out with these replies, and of the rest the first 4,097 bytes are kept.
 pub record Stands (start : World) (script : List ℕ) (replies : List Reply) (editor : World) (kept : List ℕ) (tally : Tally) : Type 0 where
@@ -34,7 +36,7 @@ pub record StopsInside (start : World) (script : List ℕ) (replies : List Reply
   pub begins : BeginsWith (script ++ chunk) done rest
   pub run : Steps start done (replies ++ more) editor
   pub written : Appends output_old output_new bytes
-  pub beginning : IsBeginningOf bytes more
+  pub cut_off : IsCutOff bytes more
 
 -- the last line was carried out too
 pub record Ended (start : World) (script : List ℕ) (replies : List Reply) (editor : World) (output_old output_new : Option (List ℕ)) (tally : Tally) : Type 0 where
@@ -43,14 +45,28 @@ pub record Ended (start : World) (script : List ℕ) (replies : List Reply) (edi
   pub written : Appends output_old output_new (texts more)
   pub tally_is : tally ≡ tally_of (replies ++ more)
 
--- the last line was carried out, and the writer or its flush failed
+-- the last line was carried out, and the writer failed inside its answer
 pub record EndsInPart (start : World) (script : List ℕ) (replies : List Reply) (editor : World) (output_old output_new : Option (List ℕ)) : Type 0 where
   pub more : List Reply
   pub bytes : List ℕ
   pub run : Steps start (lines script) (replies ++ more) editor
   pub written : Appends output_old output_new bytes
-  pub beginning : IsBeginningOf bytes more
+  pub cut_off : IsCutOff bytes more
+
+-- the last line was carried out and answered, and the flush failed
+pub record EndsUnflushed (start : World) (script : List ℕ) (replies : List Reply) (editor : World) (output_old output_new : Option (List ℕ)) : Type 0 where
+  pub more : List Reply
+  pub run : Steps start (lines script) (replies ++ more) editor
+  pub written : Appends output_old output_new (texts more)
 
 abbrev pub Closes : World → List ℕ → List Reply → World → Option (List ℕ) → Option (List ℕ) → Result Tally RunFault → Type 0
 Closes start script replies editor output_old output_new result =
-    MatchResult result (Ended start script replies editor output_old output_new) (λ fault. (fault ≡ Output) × EndsInPart start script replies editor output_old output_new)
+    MatchResult result (Ended start script replies editor output_old output_new) (λ fault. (fault ≡ Output) × (EndsInPart start script replies editor output_old output_new ⊎ EndsUnflushed start script replies editor output_old output_new))
+
+-- what a run leaves that ends with this fault, by when it flushes
+abbrev pub FaultsBy : Flushing → RunFault → Ends → World → World → Type 0
+FaultsBy AtTheEnd fault ends old new = Faults fault ends old new
+FaultsBy BeforeEachRead fault ends old new = PromptFaults fault ends old new
+
+abbrev pub RunsBy : Flushing → Ends → World → World → Result Tally RunFault → Type 0
+RunsBy flushing ends old new result = MatchResult result (λ tally. Finishes ends old new tally) (λ fault. FaultsBy flushing fault ends old new)

@@ -4,9 +4,9 @@ ghost use Rattle.std.specs.Io.KnownBytes.{Appends, Keeps};
 ghost use Rattle.s2calc.specs.Replies.{Reply, tally_of};
 ghost use Rattle.s2calc.specs.Execute.{IsOutcome};
 ghost use Rattle.s2script.specs.Lines.{IsUnbroken, EndsLineAt};
-ghost use Rattle.s2calc.specs.Run.{Runs};
+ghost use Rattle.s2calc.specs.Run.{Runs, RunsPromptly};
 ghost use Rattle.s2calc.specs.World.{World, world};
-ghost use Rattle.s2calc.specs.Stands.{Stands, StandsAfter, StopsInside, Closes};
+ghost use Rattle.s2calc.specs.Stands.{Stands, StandsAfter, StopsInside, Closes, RunsBy};
 
 use crate::execute::{Outcome, execute};
 use crate::fault::RunFault;
@@ -91,8 +91,9 @@ const READ_SIZE: usize = 65536;
 ///
 /// `Memory` comes before anything is read, written or changed. After `Input` (a read failed, or 2^64 - 1 reads have
 /// not come to the end) just the lines that were read whole were carried out, and just their answers written. After
-/// `Output` (a write failed or took nothing, or the flush failed) the editor stands after the line whose answer failed.
-/// No failed call is tried again.
+/// `Output` either a write failed or took nothing: then some bytes of an answer are missing, and the editor stands after the
+/// line that it answers. Or the flush failed: then all lines were carried out, and all answers written. No failed call is
+/// tried again.
 pub fn run<R: Read, W: Write, S: Shelf>(
     alloc: Global,
     editor: &mut Editor,
@@ -122,8 +123,8 @@ pub fn run<R: Read, W: Write, S: Shelf>(
 /// Runs a script as [`run`] does, and flushes the writer before each read too: so what a writer such as a `BufWriter`
 /// gathers goes out before the run waits for more of the script, and whoever typed a line sees its answer.
 ///
-/// What it answers, and what it leaves, is what `run` does; `Output` also where a flush before a read failed, after
-/// all answers to the lines that were read whole.
+/// What it answers, and what it leaves, is what `run` does; `Output` also if a flush before a read failed, after
+/// just the answers to the lines that were read whole.
 pub fn run_promptly<R: Read, W: Write, S: Shelf>(
     alloc: Global,
     editor: &mut Editor,
@@ -131,7 +132,7 @@ pub fn run_promptly<R: Read, W: Write, S: Shelf>(
     writer: &mut W,
     shelf: &mut S,
 ) -> Result<Tally, RunFault>
-    ensures { Runs (record {
+    ensures { RunsPromptly (record {
       input_old = R.remaining reader.old;
       input_new = R.remaining reader.new;
       output_old = W.contents writer.old;
@@ -179,7 +180,7 @@ fn run_over<R: Read, W: Write, S: Shelf>(
     flushing: Flushing,
 ) -> Result<Tally, RunFault>
     requires { 0 < length input.old }
-    ensures { Runs (record {
+    ensures { RunsBy flushing (record {
       input_old = R.remaining reader.old;
       input_new = R.remaining reader.new;
       output_old = W.contents writer.old;
@@ -213,7 +214,7 @@ fn run_over<R: Read, W: Write, S: Shelf>(
 /// Flushes the writer before a read, where that is asked for.
 fn hand_over<W: Write>(writer: &mut W, flushing: Flushing) -> Result<(), RunFault>
     ensures kept { Keeps (W.contents writer.old) (W.contents writer.new) }
-    ensures fault { IfErr result (λ fault. fault ≡ RunFault.Output) }
+    ensures fault { IfErr result (λ fault. (fault ≡ RunFault.Output) × (flushing ≡ Flushing.BeforeEachRead)) }
 {
     match flushing {
         Flushing::AtTheEnd => Ok(()),
