@@ -1,6 +1,8 @@
 //! The run of a script.
 ghost use Rattle.std.specs.Prelude.{◌≡◌, ℕ, List, [], ◌∷◌, ◌++◌, OnOk, OnErr, IfOk, IfErr, IfSome, IfNone, MatchResult, ◌<◌, length};
 ghost use Rattle.std.specs.Io.KnownBytes.{Appends, Keeps};
+ghost use Rattle.s2union.specs.Union.{IsNormalForm, has_leaf};
+ghost use Rattle.s2edit.specs.History.{EachList};
 ghost use Rattle.s2calc.specs.Replies.{Reply, tally_of};
 ghost use Rattle.s2calc.specs.Execute.{IsOutcome};
 ghost use Rattle.s2script.specs.Lines.{IsUnbroken, EndsLineAt};
@@ -94,6 +96,8 @@ const READ_SIZE: usize = 65536;
 /// `Output` either a write failed or took nothing: then some bytes of an answer are missing, and the editor stands after the
 /// line that it answers. Or the flush failed: then all lines were carried out, and all answers written. No failed call is
 /// tried again.
+///
+/// Each list of the editor is the normal form of its leaves, before and after: so the lists of which the answers tell are.
 pub fn run<R: Read, W: Write, S: Shelf>(
     alloc: Global,
     editor: &mut Editor,
@@ -101,15 +105,18 @@ pub fn run<R: Read, W: Write, S: Shelf>(
     writer: &mut W,
     shelf: &mut S,
 ) -> Result<Tally, RunFault>
-    ensures { Runs (record {
+    ensures runs { Runs (record {
       input_old = R.remaining reader.old;
       input_new = R.remaining reader.new;
       output_old = W.contents writer.old;
       output_new = W.contents writer.new;
     }) (world editor.old (S.files shelf.old)) (world editor.new (S.files shelf.new)) result }
+    ensures before { EachList (λ u. IsNormalForm (has_leaf u) u) editor.old }
+    ensures after { EachList (λ u. IsNormalForm (has_leaf u) u) editor.new }
 {
+    let _before = editor.limit();
     let mut input = input_buffer(alloc)?;
-    run_over(
+    let result = run_over(
         alloc,
         &mut input,
         editor,
@@ -117,7 +124,9 @@ pub fn run<R: Read, W: Write, S: Shelf>(
         writer,
         shelf,
         Flushing::AtTheEnd,
-    )
+    );
+    let _after = editor.limit();
+    result
 }
 
 /// Runs a script as [`run`] does, and flushes the writer before each read too: so what a writer such as a `BufWriter`
@@ -132,15 +141,18 @@ pub fn run_promptly<R: Read, W: Write, S: Shelf>(
     writer: &mut W,
     shelf: &mut S,
 ) -> Result<Tally, RunFault>
-    ensures { RunsPromptly (record {
+    ensures runs { RunsPromptly (record {
       input_old = R.remaining reader.old;
       input_new = R.remaining reader.new;
       output_old = W.contents writer.old;
       output_new = W.contents writer.new;
     }) (world editor.old (S.files shelf.old)) (world editor.new (S.files shelf.new)) result }
+    ensures before { EachList (λ u. IsNormalForm (has_leaf u) u) editor.old }
+    ensures after { EachList (λ u. IsNormalForm (has_leaf u) u) editor.new }
 {
+    let _before = editor.limit();
     let mut input = input_buffer(alloc)?;
-    run_over(
+    let result = run_over(
         alloc,
         &mut input,
         editor,
@@ -148,7 +160,9 @@ pub fn run_promptly<R: Read, W: Write, S: Shelf>(
         writer,
         shelf,
         Flushing::BeforeEachRead,
-    )
+    );
+    let _after = editor.limit();
+    result
 }
 
 /// A buffer for the reader.

@@ -43,7 +43,7 @@ same_turn us os i j a l m e =
     ∙ cells_without-above (get_or os j 0) (drop (i + 1) us) (drop (j + 1) os) above)
 
 -- a cell that the others lack
-lacking_cell : (us os : List ℕ) (i j : ℕ) → IsStrictlyIncreasing os → i < length us → j < length os → get_or us i 0 < get_or os j 0 →
+pub lacking_cell : (us os : List ℕ) (i j : ℕ) → IsStrictlyIncreasing os → i < length us → j < length os → get_or us i 0 < get_or os j 0 →
     cells_without (drop i us) (drop j os) ≡ get_or us i 0 ∷ cells_without (drop (i + 1) us) (drop j os)
 lacking_cell us os i j a l m h =
     ap (λ (xs : List ℕ). cells_without xs (drop j os)) (at_head us i l)
@@ -60,12 +60,14 @@ lacking_turn us os found i j x a l m e h w =
     (lacking_cell us os i j a l m h ∙ ap (λ y. y ∷ cells_without (drop (i + 1) us) (drop j os)) (sym e))
 
 -- where one list is at its end, all that is left of the other is lacking
+pub rest_lacking : (us os : List ℕ) (i j : ℕ) → (length us ≤ i) ⊎ (length os ≤ j) → cells_without (drop i us) (drop j os) ≡ drop i us
+rest_lacking us os i j h =
+    ⊎_elim
+    (λ (p : length us ≤ i). ap (λ (l : List ℕ). cells_without l (drop j os)) (drop_all i us p) ∙ sym (drop_all i us p))
+    (λ (p : length os ≤ j). ap (cells_without (drop i us)) (drop_all j os p) ∙ cells_without-nothing (drop i us))
+    h
+
 pub lacking_rest : (us os found : List ℕ) (i j : ℕ) → (length us ≤ i) ⊎ (length os ≤ j) →
     found ++ cells_without (drop i us) (drop j os) ≡ cells_without us os → found ++ take (length us - i) (drop i us) ≡ cells_without us os
 lacking_rest us os found i j h w =
-    ap (λ (l : List ℕ). found ++ l)
-    (take_all (length us - i) (drop i us) (omega (arith, length-drop i us)) ∙ ⊎_elim
-    (λ (p : length us ≤ i). drop_all i us p ∙ sym (ap (λ (l : List ℕ). cells_without l (drop j os)) (drop_all i us p)))
-    (λ (p : length os ≤ j). sym (ap (cells_without (drop i us)) (drop_all j os p) ∙ cells_without-nothing (drop i us)))
-    h)
-    ∙ w
+    ap (λ (l : List ℕ). found ++ l) (take_all (length us - i) (drop i us) (omega (arith, length-drop i us)) ∙ sym (rest_lacking us os i j h)) ∙ w

@@ -37,7 +37,7 @@ impl Change {
     /// The change of a register from one union to another: `out` has the cells of `old` that `new` lacks,
     /// `put` those of `new` that `old` lacks.
     ///
-    /// One pass over both lists. Takes memory for the two lists of the change and for nothing else.
+    /// A few passes over both lists. Takes just the memory of the two lists of the change.
     pub fn between(
         alloc: Global,
         register: Register,
@@ -50,8 +50,8 @@ impl Change {
         Ok(Change { register, out, put })
     }
 
-    /// The same of a union that may be used up: where `old` is empty, its list becomes `put`. Then a smaller block is
-    /// asked for in place of the list's own, and done without where it is refused.
+    /// The same of a union that may be used up: if `old` is empty, the union's own list becomes `put`, and no memory is
+    /// taken.
     pub(crate) fn leading_to(
         alloc: Global,
         register: Register,
@@ -65,12 +65,10 @@ impl Change {
             return Change::between(alloc, register, old, &new);
         }
         let _ascending = new.cells();
-        let mut put = new.into_cells();
-        put.shrink_to_fit();
         Ok(Change {
             register,
             out: Vec::new(alloc),
-            put,
+            put: new.into_cells(),
         })
     }
 

@@ -1,6 +1,6 @@
 //! The editor: registers, and the history of their changes.
 ghost use Rattle.std.specs.Prelude.{◌≡◌, ◌+◌, ◌<◌, ◌≤◌, ◌↔◌, [], ◌∷◌, length, replicate, IfOk, OnOk, OnErr, IsOk, IfSome, IsNone, slice_get, slice_set, Some, vec_len, MatchOption};
-ghost use Rattle.s2union.specs.Union.{has_leaf, IsLocal};
+ghost use Rattle.s2union.specs.Union.{has_leaf, IsLocal, IsNormalForm};
 ghost use Rattle.s2union.specs.Apply.{applied, Fits};
 ghost use Rattle.s2edit.specs.History.{untouched, Assigned, sets, undone, redone, numbers, EachList};
 ghost use Rattle.s2edit.specs.Leads.{list_at, table_at, Leads};
@@ -204,6 +204,7 @@ impl Editor {
         ensures most { result ≤ MOST_CELLS }
         ensures few { EachList (λ u. length u ≤ self.now.limit) self.now }
         ensures local { EachList IsLocal self.now }
+        ensures normal { EachList (λ u. IsNormalForm (has_leaf u) u) self.now }
     {
         self.limit
     }

@@ -7,10 +7,10 @@ use s2cell::CellId;
 use std::alloc::{AllocError, Global};
 use std::cmp::Ordering;
 
-/// The cells of `old` that `new` lacks, and those of `new` that `old` lacks. The two lists have no more room than
-/// they need, where a smaller block is given.
+/// The cells of `old` that `new` lacks, and those of `new` that `old` lacks. The two lists have just
+/// the room that they need.
 ///
-/// What both begin with and what both end with is passed over; the rest takes one walk along both.
+/// What both begin with and what both end with is passed over; the rest takes three walks along both, two of which count.
 pub(crate) fn lacking(
     alloc: Global,
     old: &[CellId],
@@ -58,7 +58,32 @@ fn same_back(us: &[CellId], vs: &[CellId]) -> usize
     most
 }
 
-/// The same as `lacking`, by one walk along both lists.
+/// How many cells of a list the others lack.
+fn count_lacking(us: &[CellId], others: &[CellId]) -> usize
+    requires ascends { IsStrictlyIncreasing us.now }
+    requires others_ascend { IsStrictlyIncreasing others.now }
+    ensures { result ≡ length (cells_without us.now others.now) }
+{
+    let mut count = 0;
+    let mut i = 0;
+    let mut j = 0;
+    while i < us.len() && j < others.len() {
+        match us[i].cmp(&others[j]) {
+            Ordering::Less => {
+                count += 1;
+                i += 1;
+            }
+            Ordering::Equal => {
+                i += 1;
+                j += 1;
+            }
+            Ordering::Greater => j += 1,
+        }
+    }
+    count + (us.len() - i)
+}
+
+/// The same as `lacking`, by walks along both lists.
 fn differing(
     alloc: Global,
     old: &[CellId],
@@ -69,8 +94,8 @@ fn differing(
     ensures out { IfOk result (λ lists. lists.0.items ≡ cells_without old.now new.now) }
     ensures put { IfOk result (λ lists. lists.1.items ≡ cells_without new.now old.now) }
 {
-    let mut out = Vec::new(alloc);
-    let mut put = Vec::new(alloc);
+    let mut out = Vec::with_capacity(alloc, count_lacking(old, new))?;
+    let mut put = Vec::with_capacity(alloc, count_lacking(new, old))?;
     let mut i = 0;
     let mut j = 0;
     while i < old.len() && j < new.len() {
@@ -91,7 +116,5 @@ fn differing(
     }
     out.extend_from_slice(&old[i..])?;
     put.extend_from_slice(&new[j..])?;
-    out.shrink_to_fit();
-    put.shrink_to_fit();
     Ok((out, put))
 }

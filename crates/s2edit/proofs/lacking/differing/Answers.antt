@@ -60,7 +60,7 @@ returns-clause-out c =
       | then-loop-i-test+else-j-new w ↦ inr (omega arith)
       | else-loop-i-test w ↦ inl (omega arith)
     ] in
-    c.shrink_to_fit.ensures.items ∙ c.in_ok-extend_from_slice.ensures.items ∙ lacking_rest c.args.old.now c.args.«new».now l.out.items l.i l.j ended l.invariant.out
+    c.in_ok-extend_from_slice.ensures.items ∙ lacking_rest c.args.old.now c.args.«new».now l.out.items l.i l.j ended l.invariant.out
 
 pub returns-clause-put : goal.returns-clause-put
 returns-clause-put c =
@@ -69,4 +69,4 @@ returns-clause-put c =
       | then-loop-i-test+else-j-new w ↦ inl (omega arith)
       | else-loop-i-test w ↦ inr (omega arith)
     ] in
-    c.shrink_to_fit-2.ensures.items ∙ c.in_ok-extend_from_slice-2.ensures.items ∙ lacking_rest c.args.«new».now c.args.old.now l.put.items l.j l.i ended l.invariant.put
+    c.in_ok-extend_from_slice-2.ensures.items ∙ lacking_rest c.args.«new».now c.args.old.now l.put.items l.j l.i ended l.invariant.put

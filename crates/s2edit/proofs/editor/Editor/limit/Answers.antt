@@ -1,5 +1,6 @@
 use Rattle.std.proofs.Common.{◌≤◌, ℕ, List, length, subst}
-use Rattle.s2union.specs.Union.{IsLocal}
+use Rattle.s2union.specs.Union.{IsLocal, IsNormalForm, has_leaf}
+use Rattle.s2union.proofs.Normal.{normal_from_local}
 use Rattle.s2edit.specs.History.{History, EachList}
 use Rattle.s2edit.proofs.Leading.{each_within}
 use Rattle.s2edit.proofs.editor.Editor.limit.Goals as goal
@@ -17,3 +18,10 @@ returns-clause-local c =
     let i = c.self.invariant in
     subst (EachList IsLocal) c.self.view_is
     (each_within IsLocal e.limit (λ u w. w.local) e.depth e.registers.items e.past.items e.future.items i.registers_within i.past_fits i.future_fits)
+
+pub returns-clause-normal : goal.returns-clause-normal
+returns-clause-normal c =
+    let e = c.self.inside in
+    let i = c.self.invariant in
+    subst (EachList (λ u. IsNormalForm (has_leaf u) u)) c.self.view_is
+    (each_within (λ u. IsNormalForm (has_leaf u) u) e.limit (λ u w. normal_from_local u w.local) e.depth e.registers.items e.past.items e.future.items i.registers_within i.past_fits i.future_fits)
