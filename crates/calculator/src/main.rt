@@ -5,7 +5,7 @@ ghost use Rattle.std.specs.Prelude.{◌≤◌};
 
 use s2calc::{Job, RunFault, Stop, Tally, cell_answer, check_answer, job, run_promptly, status};
 use s2edit::Editor;
-use s2file::DirShelf;
+use s2shelf::DirShelf;
 use std::io::{BufWriter, ErrorKind};
 use std::process::ExitCode;
 use std::{env, io};

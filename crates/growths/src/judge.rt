@@ -2,7 +2,7 @@
 use s2calc::{RunFault, run};
 use s2calc_tests::{FILES, LINES};
 use s2edit::Editor;
-use s2file::{MemoryShelf, Shelf};
+use s2shelf::{MemoryShelf, Shelf};
 use std::alloc::Global;
 
 /// The room for a script and for its answers, which so take no memory while it runs.

@@ -1,10 +1,10 @@
 -- Answers `error file` are counted by the shelf.
-use Rattle.std.proofs.Common.{◌≡◌, ℕ, ◌+◌, ◌%◌, ◌^◌, ◌<◌, inl, inr, Bool, true, false, cond, List, [], ◌∷◌, refl, sym, ap, ◌∙◌, subst, arith, Option, None, Some, count_by}
+use Rattle.std.proofs.Common.{◌≡◌, ℕ, ◌+◌, ◌%◌, ◌^◌, ◌<◌, inl, inr, Bool, true, false, cond, List, [], ◌∷◌, refl, sym, ap, ◌∙◌, subst, arith, Err, count_by}
 use Rattle.std.proofs.Math.Nat.{mod-add-mod, mod-eq_of_lt, mod-lt}
 use Rattle.std.proofs.lemmas.Nat.{pow_pos}
 use Rattle.std.proofs.lemmas.List.Sums.{sum_by-cons}
 use Rattle.s2edit.specs.History.{History}
-use Rattle.s2file.specs.Shelf.{Files}
+use Rattle.s2shelf.specs.Shelf.{Files}
 use Rattle.s2script.specs.declared.refusal.Refusal.{Refusal}
 use Rattle.s2script.specs.declared.refusal.Refusal.TheVariants.{Syntax, Cell, Register, Level, Face, Rectangle, Order, Name, Missing, File, Format, TooMany, Nothing, Memory, Line}
 use Rattle.s2script.specs.declared.command.Question.{Question}
@@ -17,12 +17,14 @@ use Rattle.s2script.specs.Refusals.{IsOfWords}
 use Rattle.s2script.specs.Line.{line_of}
 use Rattle.s2script.proofs.RefusalLemmas.{refusal_of_line}
 use Rattle.s2calc.specs.World.{World}
-use Rattle.s2calc.specs.Replies.{Reply}
+use Rattle.s2calc.specs.Replies.{Reply, Refuses}
 use Rattle.s2calc.specs.Questions.{Tells, ListsSome, Answers}
 use Rattle.s2calc.specs.Edits.{Gets, Moves}
-use Rattle.s2calc.specs.Step.{Reads, ReadsContent, Loads, Saves, Acts, StepBy}
+use Rattle.s2calc.specs.Fetch.{FetchesUnion}
+use Rattle.s2calc.specs.Step.{Loads, Saves, Acts, StepBy}
 use Rattle.s2calc.specs.Run.{Steps}
 use Rattle.s2calc.specs.Laws.{is_of_shelf, is_failure}
+use Rattle.s2calc.proofs.FetchLemmas.{union_keeps}
 
 words_no_shelf : (refusal : Refusal) → IsOfWords refusal → is_of_shelf refusal ≡ false
 words_no_shelf Syntax w = refl
@@ -71,15 +73,6 @@ move_no_failure : (side : List (List (List ℕ))) (old moved new : History (List
 move_no_failure side old moved new x (inl a) = ap is_failure a.3
 move_no_failure side old moved new x (inr a) = ap is_failure a.2
 
-read_no_failure : (bytes : List ℕ) (r : ℕ) (old new : History (List ℕ)) (x : Reply) → Reads bytes r old x new → is_failure x ≡ false
-read_no_failure bytes r old new x (inl a) = get_no_failure a.0 r old new x a.2
-read_no_failure bytes r old new x (inr (inl a)) = ap is_failure a.3
-read_no_failure bytes r old new x (inr (inr a)) = ap is_failure a.0
-
-content_no_failure : (content : Option (List ℕ)) (r : ℕ) (old new : History (List ℕ)) (x : Reply) → ReadsContent content r old x new → is_failure x ≡ false
-content_no_failure None r old new x a = ap is_failure a.0
-content_no_failure (Some bytes) r old new x a = read_no_failure bytes r old new x a
-
 -- the count rose by one where the answer is `error file`, and stayed elsewhere
 record IsCounted (a c : World) (x : Reply) : Type 0 where
   rose : c.files.failures ≡ (a.files.failures + cond (is_failure x) 1 0) % 2 ^ 64
@@ -92,10 +85,16 @@ stays a c x h n e =
 rises : (a c : World) (x : Reply) → is_failure x ≡ true → c.files.failures ≡ (a.files.failures + 1) % 2 ^ 64 → IsCounted a c x
 rises a c x n e = record { rose = e ∙ ap (λ b. (a.files.failures + cond b 1 0) % 2 ^ 64) (sym n) }
 
+count_refused : (name : List ℕ) (a c : World) (refusal : Refusal) (x : Reply) → a.files.failures < 2 ^ 64 → FetchesUnion name a.files (Err refusal) c.files → x ≡ Refuses refusal → IsCounted a c x
+count_refused name a c refusal x h (inl (inl l)) e = stays a c x h (ap is_failure e ∙ ap is_of_shelf l.0) l.1.same.1
+count_refused name a c refusal x h (inl (inr (inl l))) e = rises a c x (ap is_failure e ∙ ap is_of_shelf l.0) l.1.1
+count_refused name a c refusal x h (inl (inr (inr l))) e = stays a c x h (ap is_failure e ∙ ap is_of_shelf l.0) l.1.1
+count_refused name a c refusal x h (inr (bytes, fetched, inl l)) e = stays a c x h (ap is_failure e ∙ ap is_of_shelf l.3) fetched.same.1
+count_refused name a c refusal x h (inr (bytes, fetched, inr l)) e = stays a c x h (ap is_failure e ∙ ap is_of_shelf l) fetched.same.1
+
 count_load : (r : ℕ) (name : List ℕ) (a c : World) (x : Reply) → a.files.failures < 2 ^ 64 → Loads r name a x c → IsCounted a c x
-count_load r name a c x h (inl l) = rises a c x (ap is_failure l.0) l.2.1
-count_load r name a c x h (inr (inl l)) = stays a c x h (ap is_failure l.0) l.2.1
-count_load r name a c x h (inr (inr l)) = stays a c x h (content_no_failure l.0 r a.state c.state x l.3) l.2.1
+count_load r name a c x h (inl l) = stays a c x h (get_no_failure l.0 r a.state c.state x l.2) (union_keeps a.files c.files name l.0 l.1).1
+count_load r name a c x h (inr l) = count_refused name a c l.0 x h l.1 l.2
 
 count_save : (r : ℕ) (name : List ℕ) (a c : World) (x : Reply) → a.files.failures < 2 ^ 64 → Saves r name a x c → IsCounted a c x
 count_save r name a c x h (inl l) = stays a c x h (ap is_failure l.0) l.2.2.failures

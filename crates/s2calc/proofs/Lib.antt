@@ -3,6 +3,7 @@ pub mod CoveringLemmas
 pub mod Failures
 pub mod LineLemmas
 pub mod ListingLemmas
+pub mod FetchLemmas
 pub mod OneRun
 pub mod OutputLemmas
 pub mod ReadLemmas

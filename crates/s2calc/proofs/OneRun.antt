@@ -1,5 +1,5 @@
 -- Where no line meets want of memory or a failed shelf, a script has one run.
-use Rattle.std.proofs.Common.{◌≡◌, ◌≢◌, ℕ, ◌-◌, ◌^◌, ◌≤◌, ◌⊎◌, inl, inr, Bool, true, false, List, [], ◌∷◌, length, refl, sym, ap, ◌∙◌, subst, arith, Option, None, Some}
+use Rattle.std.proofs.Common.{◌≡◌, ◌≢◌, ℕ, ◌-◌, ◌^◌, ◌≤◌, ◌⊎◌, inl, inr, Bool, true, false, List, [], ◌∷◌, length, refl, sym, ap, ◌∙◌, subst, arith, Some}
 use Rattle.std.proofs.Math.Logic.{⊎_elim}
 use Rattle.std.proofs.lemmas.Bool.{false≢true}
 use Rattle.std.proofs.lemmas.Slice.Eq.{bytes_eq-Decides}
@@ -12,24 +12,25 @@ use Rattle.s2union.specs.Union.{IsNormalForm}
 use Rattle.s2union.proofs.Normal.{one_normal_form, normal_form_same}
 use Rattle.s2edit.specs.History.{History, Assigned, numbers, undone, redone}
 use Rattle.s2edit.proofs.OneEnd.{is_there}
-use Rattle.s2file.specs.Shelf.{Files, SameFiles, PutsFile}
+use Rattle.s2shelf.specs.Shelf.{Files, SameFiles, PutsFile}
 use Rattle.s2file.specs.File.{Bytes, file_text}
-use Rattle.s2file.proofs.Files.{same_leaves, no_fault}
 use Rattle.s2script.specs.declared.command.Question.{Question}
 use Rattle.s2script.specs.declared.command.Question.TheVariants.{Cell, At, Square, Show, Count, Has, Touches, Covers, Meets, Denorm, History as Sides}
 use Rattle.s2script.specs.declared.command.Command.{Command}
 use Rattle.s2script.specs.declared.command.Command.TheVariants.{Edit, Load, Save, Undo, Redo, Ask}
 use Rattle.s2script.specs.declared.command.Parsed.{Parsed}
 use Rattle.s2script.specs.declared.command.Parsed.TheVariants.{Nothing, Does, Fails}
+use Rattle.s2script.specs.declared.refusal.Refusal.{Refusal}
 use Rattle.s2script.specs.Line.{line_of}
 use Rattle.s2calc.specs.World.{World}
-use Rattle.s2calc.specs.Replies.{Reply, Says}
+use Rattle.s2calc.specs.Replies.{Reply, Says, Refuses}
 use Rattle.s2calc.specs.Texts.{cell_line, square_line, ok_line}
 use Rattle.s2calc.specs.Questions.{Tells, ListsSome, Answers}
 use Rattle.s2calc.specs.Edits.{new_set, leaves_of, IsTooLong, Gets, Moves}
-use Rattle.s2calc.specs.Step.{Reads, ReadsContent, Loads, Saves, Acts, StepBy}
+use Rattle.s2calc.specs.Step.{Loads, Saves, Acts, StepBy}
 use Rattle.s2calc.specs.Run.{Steps}
 use Rattle.s2calc.specs.Laws.{SameWorld, IsPlain, AllPlain}
+use Rattle.s2calc.proofs.FetchLemmas.{TellSame, IsSettled, same_union, union_or_none, none_or_union, same_refusal, union_keeps, refusal_keeps, refusal_tells}
 
 -- ---- questions
 
@@ -109,19 +110,6 @@ one_move side old moved new other x y (inr a) (inr b) = (a.2 ∙ sym b.2, a.1 �
 
 -- ---- files
 
-one_read : (bytes : List ℕ) (r : ℕ) (old new other : History (List ℕ)) (x y : Reply) → Reads bytes r old x new → Reads bytes r old y other → IsPlain x → IsPlain y → (x ≡ y) × (new ≡ other)
-one_read bytes r old new other x y (inl a) (inl b) p q = one_get a.0 b.0 r old new other x y (same_leaves bytes a.0 b.0 a.1 b.1) a.2 b.2 p q
-one_read bytes r old new other x y (inl a) (inr (inl b)) p q = absurd (b.2 (no_fault bytes a.0 b.0 a.1 b.1))
-one_read bytes r old new other x y (inl a) (inr (inr b)) p q = absurd (q.0 b.0)
-one_read bytes r old new other x y (inr (inl a)) (inl b) p q = absurd (a.2 (no_fault bytes b.0 a.0 b.1 a.1))
-one_read bytes r old new other x y (inr (inl a)) (inr (inl b)) p q = (a.3 ∙ sym b.3, a.4 ∙ sym b.4)
-one_read bytes r old new other x y (inr (inl a)) (inr (inr b)) p q = absurd (q.0 b.0)
-one_read bytes r old new other x y (inr (inr a)) b p q = absurd (p.0 a.0)
-
-one_content : (content : Option (List ℕ)) (r : ℕ) (old new other : History (List ℕ)) (x y : Reply) → ReadsContent content r old x new → ReadsContent content r old y other → IsPlain x → IsPlain y → (x ≡ y) × (new ≡ other)
-one_content None r old new other x y a b p q = (a.0 ∙ sym b.0, a.1 ∙ sym b.1)
-one_content (Some bytes) r old new other x y a b p q = one_read bytes r old new other x y a b p q
-
 -- worlds whose files stay
 files_stay : (a b c d : World) → SameWorld a b → c.state ≡ d.state → c.files ≡ a.files → d.files ≡ b.files → SameWorld c d
 files_stay a b c d s e f g = record {
@@ -139,17 +127,27 @@ files_kept a b c d s t e f g = record {
   failures = f.1 ∙ s.failures ∙ sym g.1;
 }
 
+-- a refusal that is told in a plain reply
+settled : (refusal : Refusal) (x : Reply) → x ≡ Refuses refusal → IsPlain x → IsSettled refusal
+settled refusal x told p = (λ e. p.0 (told ∙ ap (λ r. Refuses r) e), λ e. p.1 (told ∙ ap (λ r. Refuses r) e))
+
+one_loaded : (r : ℕ) (name : List ℕ) (a b c d : World) (x y : Reply) → SameWorld a b → TellSame a.files b.files → Loads r name a x c → Loads r name b y d → IsPlain x → IsPlain y → (x ≡ y) × SameWorld c d
+one_loaded r name a b c d x y s t (inl l) (inl m) p q =
+    let gets : Gets m.0 r a.state y d.state = subst (λ st. Gets m.0 r st y d.state) (sym s.state) m.2 in
+    let same = one_get l.0 m.0 r a.state c.state d.state x y (same_union a.files b.files c.files d.files name l.0 m.0 t l.1 m.1) l.2 gets p q in
+    (same.0, files_kept a b c d s t.one same.1 (union_keeps _ _ name l.0 l.1) (union_keeps _ _ name m.0 m.1))
+one_loaded r name a b c d x y s t (inl l) (inr m) p q = absurd (union_or_none a.files b.files c.files d.files name l.0 m.0 t l.1 m.1 (settled m.0 y m.2 q))
+one_loaded r name a b c d x y s t (inr l) (inl m) p q = absurd (none_or_union a.files b.files c.files d.files name l.0 m.0 t l.1 m.1 (settled l.0 x l.2 p))
+one_loaded r name a b c d x y s t (inr l) (inr m) p q =
+    let one = settled l.0 x l.2 p in
+    let other = settled m.0 y m.2 q in
+    let refusal : l.0 ≡ m.0 = same_refusal a.files b.files c.files d.files name l.0 m.0 t l.1 m.1 one other in
+    let state : c.state ≡ d.state = l.3 ∙ s.state ∙ sym m.3 in
+    (l.2 ∙ ap (λ r. Refuses r) refusal ∙ sym m.2, files_kept a b c d s t.one state (refusal_keeps _ _ name l.0 l.1 one.1) (refusal_keeps _ _ name m.0 m.1 other.1))
+
 one_load : (r : ℕ) (name : List ℕ) (a b c d : World) (x y : Reply) → SameWorld a b → a.files.tells ≡ true → Loads r name a x c → Loads r name b y d → IsPlain x → IsPlain y → (x ≡ y) × SameWorld c d
-one_load r name a b c d x y s t (inl l) m p q = absurd (p.1 l.0)
-one_load r name a b c d x y s t (inr (inl l)) m p q = absurd (p.0 l.0)
-one_load r name a b c d x y s t (inr (inr l)) (inl m) p q = absurd (q.1 m.0)
-one_load r name a b c d x y s t (inr (inr l)) (inr (inl m)) p q = absurd (q.0 m.0)
-one_load r name a b c d x y s t (inr (inr l)) (inr (inr m)) p q =
-    let content : m.0 ≡ l.0 = m.1 (sym s.tells ∙ t) ∙ sym (s.at name) ∙ sym (l.1 t) in
-    let there : ReadsContent m.0 r a.state y d.state = subst (λ st. ReadsContent m.0 r st y d.state) (sym s.state) m.3 in
-    let reads : ReadsContent l.0 r a.state y d.state = subst (λ o. ReadsContent o r a.state y d.state) content there in
-    let same = one_content l.0 r a.state c.state d.state x y l.3 reads p q in
-    (same.0, files_kept a b c d s t same.1 l.2 m.2)
+one_load r name a b c d x y s t l m p q =
+    let same : TellSame a.files b.files = record { one = t; other = sym s.tells ∙ t; at = s.at } in one_loaded r name a b c d x y s same l m p q
 
 one_text : (S : ℕ → Bool) (bytes others : List ℕ) → Bytes S bytes → Bytes S others → bytes ≡ others
 one_text S bytes others a b = a.is ∙ ap file_text (one_normal_form S a.ids b.ids a.normal b.normal) ∙ sym b.is
@@ -220,9 +218,8 @@ one_line (Does command) a b c d x y s t l m p q = one_act command a b c d x y s 
 
 -- a shelf that tells goes on telling
 still_loads : (r : ℕ) (name : List ℕ) (a c : World) (x : Reply) → Loads r name a x c → c.files.tells ≡ a.files.tells
-still_loads r name a c x (inl l) = l.2.0.tells
-still_loads r name a c x (inr (inl l)) = l.2.0.tells
-still_loads r name a c x (inr (inr l)) = l.2.0.tells
+still_loads r name a c x (inl l) = (union_keeps a.files c.files name l.0 l.1).0.tells
+still_loads r name a c x (inr l) = refusal_tells a.files c.files name l.0 l.1
 
 still_saves : (r : ℕ) (name : List ℕ) (a c : World) (x : Reply) → Saves r name a x c → c.files.tells ≡ a.files.tells
 still_saves r name a c x (inl l) = l.2.2.tells

@@ -1,5 +1,5 @@
 -- Undo leads back through the past.
-use Rattle.std.proofs.Common.{◌≡◌, ◌≢◌, ℕ, suc, ◌+◌, ◌<◌, ◌≤◌, inl, inr, ◌⊎◌, ⊎_elim, Bool, Option, None, Some, false, cond, List, [], ◌∷◌, length, take, count_by, refl, sym, ap, ◌∙◌, subst, arith}
+use Rattle.std.proofs.Common.{◌≡◌, ◌≢◌, ℕ, suc, ◌+◌, ◌<◌, ◌≤◌, inl, inr, ◌⊎◌, ⊎_elim, Bool, false, cond, List, [], ◌∷◌, length, take, count_by, refl, sym, ap, ◌∙◌, subst, arith}
 use Rattle.std.proofs.lemmas.List.{length-take, get_or-take}
 use Rattle.std.proofs.lemmas.List.Sums.{sum_by-cons}
 use Rattle.s2edit.specs.History.{History, changed, undone, undone_to}
@@ -13,7 +13,7 @@ use Rattle.s2script.specs.Line.{line_of}
 use Rattle.s2calc.specs.World.{World}
 use Rattle.s2calc.specs.Replies.{Reply, is_refusal}
 use Rattle.s2calc.specs.Edits.{leaves_of, Gets, Moves}
-use Rattle.s2calc.specs.Step.{Step, StepBy, Acts, Loads, ReadsContent}
+use Rattle.s2calc.specs.Step.{Step, StepBy, Acts, Loads}
 use Rattle.s2calc.specs.Run.{Steps}
 use Rattle.s2calc.specs.LawsScripts.{GivesRegister, AllUndo, Changes, AllChange, GoesBack, LawOfUndo}
 
@@ -32,16 +32,9 @@ gets_gives S r old new reply (inl h) = ⊎_elim (λ e. inl (h.state.same e)) (λ
 gets_gives S r old new reply (inr (inl h)) = inl h.2
 gets_gives S r old new reply (inr (inr h)) = inl h.1
 
-content_gives : (content : Option (List ℕ)) (r : ℕ) (old new : History (List ℕ)) (reply : Reply) → ReadsContent content r old reply new → KeepsOrGives old new
-content_gives None r old new reply h = inl h.1
-content_gives (Some bytes) r old new reply (inl h) = gets_gives h.0 r old new reply h.2
-content_gives (Some bytes) r old new reply (inr (inl h)) = inl h.4
-content_gives (Some bytes) r old new reply (inr (inr h)) = inl h.1
-
 loads_gives : (r : ℕ) (name : List ℕ) (old new : World) (reply : Reply) → Loads r name old reply new → KeepsOrGives old.state new.state
-loads_gives r name old new reply (inl h) = inl h.1
-loads_gives r name old new reply (inr (inl h)) = inl h.1
-loads_gives r name old new reply (inr (inr (content, held, same, read))) = content_gives content r old.state new.state reply read
+loads_gives r name old new reply (inl h) = gets_gives h.0 r old.state new.state reply h.2
+loads_gives r name old new reply (inr h) = inl h.3
 
 acts_gives : (command : Command) (old new : World) (reply : Reply) → GivesRegister command → Acts command old reply new → KeepsOrGives old.state new.state
 acts_gives (Edit r edit) old new reply g h = gets_gives _ r old.state new.state reply h.0

@@ -1,41 +1,25 @@
 -- What is answered of a file.
-use Rattle.std.specs.Prelude.{◌≡◌, ℕ, ◌⊎◌, Bool, false, true, not, List, length, Option, None, Some, Result, Ok, Err, MatchResult}
+use Rattle.std.specs.Prelude.{◌≡◌, ℕ, ◌⊎◌, Bool, false, true, not, List, length, Option, Result, Ok, Err, MatchResult}
 use Rattle.std.specs.Io.KnownBytes.{Appends}
 use Rattle.s2union.specs.Union.{IsNormalForm}
 use Rattle.s2union.specs.Count.{count_below}
-use Rattle.s2file.specs.Shelf.{Files, SameFiles, Holds, FailsToGet}
-use Rattle.s2file.specs.File.{File, Faults}
-use Rattle.s2file.specs.declared.fault.FileFault.{FileFault}
-use Rattle.s2file.specs.declared.fault.FileFault.TheVariants.{Memory as NoMemory}
-use Rattle.s2file.specs.declared.shelf.ShelfFault.TheVariants.{Device}
+use Rattle.s2shelf.specs.Shelf.{Files}
 use Rattle.s2script.specs.declared.refusal.Refusal.{Refusal}
-use Rattle.s2script.specs.declared.refusal.Refusal.TheVariants.{Name as NoName, Missing, File as NoFile, Format, Memory}
+use Rattle.s2script.specs.declared.refusal.Refusal.TheVariants.{Name as NoName}
 use Rattle.s2script.specs.FileName.{is_name}
 use Rattle.s2calc.specs.declared.fault.RunFault.{RunFault}
 use Rattle.s2calc.specs.declared.fault.RunFault.TheVariants.{Output}
-use Rattle.s2calc.specs.Output.{AppendsPart}
+use Rattle.s2calc.specs.Fetch.{FetchesUnion}
+use Rattle.s2calc.specs.Output.{AppendsUnflushed}
 use Rattle.s2calc.specs.Questions.{all_leaves}
 use Rattle.s2calc.specs.Replies.{Reply, Says, Refuses, text_of, is_refusal}
 use Rattle.s2calc.specs.Texts.{count_line}
 
--- the bytes are a file, whose cells and leaves are told; or they are none; or there is no memory for its cells
-abbrev pub ChecksBytes : List ℕ → Reply → Type 0
-ChecksBytes bytes reply =
-    ((S : ℕ → Bool) × (u : List ℕ) × File bytes S × IsNormalForm S u × (reply ≡ Says (count_line (length u) (count_below S all_leaves))))
-    ⊎ ((fault : FileFault) × Faults bytes fault × ((fault ≡ NoMemory) → ⊥) × (reply ≡ Refuses Format))
-    ⊎ (reply ≡ Refuses Memory)
-
--- what the shelf handed over: nothing, or the bytes of a file
-abbrev pub ChecksContent : Option (List ℕ) → Reply → Type 0
-ChecksContent None reply = reply ≡ Refuses Missing
-ChecksContent (Some bytes) reply = ChecksBytes bytes reply
-
--- the shelf fails, and the count rises; or there is no memory for the bytes; or what the file holds is told
+-- the cells and leaves of the file are told; or there is no union under the name
 abbrev pub ChecksFile : List ℕ → Files → Reply → Files → Type 0
 ChecksFile name old reply new =
-    ((reply ≡ Refuses NoFile) × FailsToGet old new Device)
-    ⊎ ((reply ≡ Refuses Memory) × SameFiles old new)
-    ⊎ ((content : Option (List ℕ)) × Holds old name content × SameFiles old new × ChecksContent content reply)
+    ((S : ℕ → Bool) × (u : List ℕ) × FetchesUnion name old (Ok S) new × IsNormalForm S u × (reply ≡ Says (count_line (length u) (count_below S all_leaves))))
+    ⊎ ((refusal : Refusal) × FetchesUnion name old (Err refusal) new × (reply ≡ Refuses refusal))
 
 -- the name is looked at first
 abbrev pub Checks : List ℕ → Files → Reply → Files → Type 0
@@ -49,4 +33,4 @@ check_reply (Err refusal) = Refuses refusal
 pub record ChecksAndTells (name : List ℕ) (old new : Files) (output_old output_new : Option (List ℕ)) (result : Result Bool RunFault) : Type 0 where
   pub reply : Reply
   pub checks : Checks name old reply new
-  pub tells : MatchResult result (λ passed. (passed ≡ not (is_refusal reply)) × Appends output_old output_new (text_of reply)) (λ fault. (fault ≡ Output) × AppendsPart output_old output_new (text_of reply))
+  pub tells : MatchResult result (λ passed. (passed ≡ not (is_refusal reply)) × Appends output_old output_new (text_of reply)) (λ fault. (fault ≡ Output) × AppendsUnflushed output_old output_new (text_of reply))

@@ -3,6 +3,7 @@ pub mod Texts
 pub mod Replies
 pub mod Questions
 pub mod Edits
+pub mod Fetch
 pub mod Step
 pub mod Run
 pub mod Output

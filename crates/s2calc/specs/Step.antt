@@ -1,41 +1,27 @@
 -- What a line may do.
-use Rattle.std.specs.Prelude.{◌≡◌, ℕ, ◌⊎◌, Bool, List, Option, None, Some}
-use Rattle.s2file.specs.Shelf.{SameFiles, Holds as HoldsFile, PutsFile, LosesFile, FailsToGet}
-use Rattle.s2file.specs.File.{File, Faults, Bytes}
-use Rattle.s2file.specs.declared.fault.FileFault.{FileFault}
-use Rattle.s2file.specs.declared.fault.FileFault.TheVariants.{Memory as NoMemory}
-use Rattle.s2file.specs.declared.shelf.ShelfFault.TheVariants.{Device}
+use Rattle.std.specs.Prelude.{◌≡◌, ℕ, ◌⊎◌, Bool, List, Ok, Err}
+use Rattle.s2shelf.specs.Shelf.{SameFiles, PutsFile, LosesFile}
+use Rattle.s2file.specs.File.{Bytes}
 use Rattle.s2script.specs.declared.command.Command.{Command}
 use Rattle.s2script.specs.declared.command.Command.TheVariants.{Edit, Load, Save, Undo, Redo, Ask}
 use Rattle.s2script.specs.declared.command.Parsed.{Parsed}
 use Rattle.s2script.specs.declared.command.Parsed.TheVariants.{Nothing, Does, Fails}
-use Rattle.s2script.specs.declared.refusal.Refusal.TheVariants.{Missing, File as NoFile, Format, Memory}
+use Rattle.s2script.specs.declared.refusal.Refusal.{Refusal}
+use Rattle.s2script.specs.declared.refusal.Refusal.TheVariants.{File as NoFile, Memory}
 use Rattle.s2script.specs.Line.{line_of}
 use Rattle.s2edit.specs.History.{History, undone, redone}
 use Rattle.s2calc.specs.World.{World}
 use Rattle.s2calc.specs.Replies.{Reply, Silent, Says, Refuses}
 use Rattle.s2calc.specs.Texts.{saved_line}
+use Rattle.s2calc.specs.Fetch.{FetchesUnion}
 use Rattle.s2calc.specs.Questions.{Answers}
 use Rattle.s2calc.specs.Edits.{new_set, leaves_of, Gets, Moves}
 
--- the bytes are a file, and the register gets its leaves; or they are none; or there is no memory for its cells
-abbrev pub Reads : List ℕ → ℕ → History (List ℕ) → Reply → History (List ℕ) → Type 0
-Reads bytes r old reply new =
-    ((S : ℕ → Bool) × File bytes S × Gets S r old reply new)
-    ⊎ ((fault : FileFault) × Faults bytes fault × ((fault ≡ NoMemory) → ⊥) × (reply ≡ Refuses Format) × (new ≡ old))
-    ⊎ ((reply ≡ Refuses Memory) × (new ≡ old))
-
--- what the shelf handed over: nothing, or the bytes of a file
-abbrev pub ReadsContent : Option (List ℕ) → ℕ → History (List ℕ) → Reply → History (List ℕ) → Type 0
-ReadsContent None r old reply new = (reply ≡ Refuses Missing) × (new ≡ old)
-ReadsContent (Some bytes) r old reply new = Reads bytes r old reply new
-
--- the shelf fails, and the count rises; or there is no memory for the bytes; or what the file holds is read
+-- the register gets the leaves of the file; or there is no union under the name, and the state stays
 abbrev pub Loads : ℕ → List ℕ → World → Reply → World → Type 0
 Loads r name old reply new =
-    ((reply ≡ Refuses NoFile) × (new.state ≡ old.state) × FailsToGet old.files new.files Device)
-    ⊎ ((reply ≡ Refuses Memory) × (new.state ≡ old.state) × SameFiles old.files new.files)
-    ⊎ ((content : Option (List ℕ)) × HoldsFile old.files name content × SameFiles old.files new.files × ReadsContent content r old.state reply new.state)
+    ((S : ℕ → Bool) × FetchesUnion name old.files (Ok S) new.files × Gets S r old.state reply new.state)
+    ⊎ ((refusal : Refusal) × FetchesUnion name old.files (Err refusal) new.files × (reply ≡ Refuses refusal) × (new.state ≡ old.state))
 
 -- the file becomes the text of the register's leaves; or the shelf fails, and that one file is open; or there is no memory
 abbrev pub Saves : ℕ → List ℕ → World → Reply → World → Type 0

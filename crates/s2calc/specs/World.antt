@@ -1,7 +1,7 @@
 -- What a script reads and changes: the editor's state, and the files.
 use Rattle.std.specs.Prelude.{ℕ, List}
 use Rattle.s2edit.specs.History.{History}
-use Rattle.s2file.specs.Shelf.{Files}
+use Rattle.s2shelf.specs.Shelf.{Files}
 
 pub record World : Type 0 where
   pub state : History (List ℕ)

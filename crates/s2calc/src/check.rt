@@ -1,12 +1,12 @@
 //! What is answered of a file.
-ghost use Rattle.std.specs.Prelude.{option_map};
-ghost use Rattle.s2calc.specs.Check.{Checks, ChecksFile, ChecksContent, ChecksBytes, ChecksAndTells, check_reply};
+ghost use Rattle.s2calc.specs.Check.{Checks, ChecksFile, ChecksAndTells, check_reply};
 
 use crate::answer::{count_line, error_line};
 use crate::fault::RunFault;
+use crate::fetch::fetch_union;
 use crate::program::write_line;
-use s2file::{FileFault, Shelf, ShelfFault, decode};
 use s2script::{Refusal, name_in};
+use s2shelf::Shelf;
 use std::alloc::Global;
 use std::io::Write;
 
@@ -45,28 +45,8 @@ fn check<S: Shelf>(alloc: Global, shelf: &mut S, name: &str) -> Result<(u64, u64
 fn check_file<S: Shelf>(alloc: Global, shelf: &mut S, name: &str) -> Result<(u64, u64), Refusal>
     ensures { ChecksFile name.now (S.files shelf.old) (check_reply result) (S.files shelf.new) }
 {
-    match shelf.get(name) {
-        Err(ShelfFault::Device) => Err(Refusal::File),
-        Err(ShelfFault::Memory) => Err(Refusal::Memory),
-        Ok(content) => check_content(alloc, content),
-    }
-}
-
-fn check_content(alloc: Global, content: Option<Vec<u8>>) -> Result<(u64, u64), Refusal>
-    ensures { ChecksContent (option_map (λ v. v.items) content) (check_reply result) }
-{
-    match content {
-        None => Err(Refusal::Missing),
-        Some(bytes) => check_bytes(alloc, &bytes),
-    }
-}
-
-fn check_bytes(alloc: Global, bytes: &[u8]) -> Result<(u64, u64), Refusal>
-    ensures { ChecksBytes bytes.now (check_reply result) }
-{
-    match decode(alloc, bytes) {
+    match fetch_union(alloc, shelf, name) {
         Ok(union) => Ok((union.len() as u64, union.leaf_count())),
-        Err(FileFault::Memory) => Err(Refusal::Memory),
-        Err(_) => Err(Refusal::Format),
+        Err(refusal) => Err(refusal),
     }
 }

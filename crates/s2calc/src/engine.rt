@@ -15,7 +15,7 @@ use crate::fault::RunFault;
 use crate::kept::Kept;
 use crate::output::flush;
 use s2edit::Editor;
-use s2file::Shelf;
+use s2shelf::Shelf;
 use std::alloc::Global;
 use std::io::{Read, Write};
 

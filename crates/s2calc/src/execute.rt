@@ -11,8 +11,8 @@ use crate::fault::RunFault;
 use crate::files::{load, save};
 use crate::questions::answer_to;
 use s2edit::Editor;
-use s2file::Shelf;
 use s2script::{Command, Parsed, parse};
+use s2shelf::Shelf;
 use std::alloc::Global;
 use std::io::Write;
 

@@ -4,7 +4,7 @@
 //! where one of them fails.
 //!
 //! A line flows one way: bytes (`engine`, `kept`) -> what it says (the crate `s2script`) -> its effect
-//! (`execute`: `edits`, `files`, `questions`) -> an `answer` -> bytes (`output`). `fault` says what ends a run, `laws`
+//! (`execute`: `edits`, `files`, `questions`; `fetch` asks the shelf) -> an `answer` -> bytes (`output`). `fault` says what ends a run, `laws`
 //! holds laws about the definitions. For the program: `command_line` and `task` (what it is asked for), `program` and
 //! `check` (its other answers).
 #![tactic(auto)]
@@ -16,6 +16,7 @@ mod edits;
 mod engine;
 mod execute;
 mod fault;
+mod fetch;
 mod files;
 mod kept;
 mod laws;

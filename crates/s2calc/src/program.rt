@@ -1,7 +1,7 @@
 //! What the program answers beside a run.
 ghost use Rattle.std.specs.Prelude.{◌≡◌, OnOk, OnErr, IfOk, IfErr, not};
 ghost use Rattle.std.specs.Io.KnownBytes.{Appends};
-ghost use Rattle.s2calc.specs.Output.{AppendsPart};
+ghost use Rattle.s2calc.specs.Output.{AppendsUnflushed};
 ghost use Rattle.s2calc.specs.Replies.{text_of, is_refusal};
 ghost use Rattle.s2calc.specs.Program.{cell_reply, status_of};
 
@@ -12,13 +12,13 @@ use crate::output::{emit, flush};
 use s2script::{Refusal, cell_in};
 use std::io::Write;
 
-/// Writes what is known of the cell that the word names, and flushes. False where it names none, which is
+/// Writes what is known of the cell that the word names, and flushes. False if it names none, which is
 /// then written. It takes no memory.
 pub fn cell_answer<W: Write>(word: &[u8], writer: &mut W) -> Result<bool, RunFault>
     ensures ok { OnOk result (Appends (W.contents writer.old) (W.contents writer.new) (text_of (cell_reply word.now))) }
     ensures named { IfOk result (λ named. named ≡ not (is_refusal (cell_reply word.now))) }
-    // A beginning of the line was written.
-    ensures err { OnErr result (AppendsPart (W.contents writer.old) (W.contents writer.new) (text_of (cell_reply word.now))) }
+    // Bytes of the line are missing, or all of it was written and the flush failed.
+    ensures err { OnErr result (AppendsUnflushed (W.contents writer.old) (W.contents writer.new) (text_of (cell_reply word.now))) }
     ensures fault { IfErr result (λ fault. fault ≡ RunFault.Output) }
 {
     match cell_in(word) {
@@ -36,7 +36,7 @@ pub fn cell_answer<W: Write>(word: &[u8], writer: &mut W) -> Result<bool, RunFau
 /// Writes a line and flushes.
 pub(crate) fn write_line<W: Write>(line: &[u8], writer: &mut W) -> Result<(), RunFault>
     ensures ok { OnOk result (Appends (W.contents writer.old) (W.contents writer.new) line.now) }
-    ensures err { OnErr result (AppendsPart (W.contents writer.old) (W.contents writer.new) line.now) }
+    ensures err { OnErr result (AppendsUnflushed (W.contents writer.old) (W.contents writer.new) line.now) }
     ensures fault { IfErr result (λ fault. fault ≡ RunFault.Output) }
 {
     emit(writer, line)?;

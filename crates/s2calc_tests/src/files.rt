@@ -2,7 +2,7 @@
 use crate::narrow::{Mishap, Narrow};
 use s2calc::{RunFault, check_answer, run};
 use s2edit::Editor;
-use s2file::{DirShelf, MemoryShelf, Shelf};
+use s2shelf::{DirShelf, MemoryShelf, Shelf};
 use std::fs;
 use std::process::Abort;
 use std::test::Fail;
@@ -14,15 +14,57 @@ const UNSORTED: &[u8] =
 /// The identifiers of 04 and 0c.
 const SORTED: &[u8] = b"\x01\x02\0\0\0\0\0\0\0\0\0\0\0\0\0\0\x04\0\0\0\0\0\0\0\x0c";
 
-/// Files that are refused: of another version, cut off, with too great a count, with a byte behind, and with a
-/// number that is no identifier.
-const REFUSED: [&[u8]; 7] = [
+/// A file that is taken: its bytes, what its `load` answers over a register with the cell 3, the cells that the
+/// register then shows, and what its check answers.
+struct Taken {
+    bytes: &'static [u8],
+    loaded: &'static str,
+    shown: &'static str,
+    checked: &'static str,
+}
+
+/// The files of the format's table that are taken: no cell, the face 0, cells out of order of which one is doubled,
+/// and four siblings.
+const TAKEN: [Taken; 4] = [
+    Taken {
+        bytes: b"\x01\0\0\0\0\0\0\0\0",
+        loaded: "ok 1 0\n",
+        shown: "end\n",
+        checked: "cells 0 leaves 0\n",
+    },
+    Taken {
+        bytes: b"\x01\x01\0\0\0\0\0\0\0\0\0\0\0\0\0\0\x10",
+        loaded: "ok 1 1\n",
+        shown: "1\nend\n",
+        checked: "cells 1 leaves 1152921504606846976\n",
+    },
+    Taken {
+        bytes: UNSORTED,
+        loaded: "ok 1 2\n",
+        shown: "04\n0c\nend\n",
+        checked: "cells 2 leaves 576460752303423488\n",
+    },
+    Taken {
+        bytes: b"\x01\x04\0\0\0\0\0\0\0\0\0\0\0\0\0\0\x1c\0\0\0\0\0\0\0\x14\0\0\0\0\0\0\0\x0c\0\0\0\0\0\0\0\x04",
+        loaded: "ok 1 1\n",
+        shown: "1\nend\n",
+        checked: "cells 1 leaves 1152921504606846976\n",
+    },
+];
+
+/// The bytes of the format's table that are refused: cut off, of another version, with too great a count, with a
+/// byte after the last identifier, and with a number that is no identifier.
+const REFUSED: [&[u8]; 11] = [
     b"",
+    b"\x02",
     b"\x02\0\0\0\0\0\0\0\0",
     b"\x01\0\0\0\0\0\0\0",
+    b"\x01\xff\xff\xff\xff\xff\xff\xff\xff",
     b"\x01\x41\x42\x0f\0\0\0\0\0",
     b"\x01\x01\0\0\0\0\0\0\0\0\0\0\0\0\0\0",
     b"\x01\x01\0\0\0\0\0\0\0\0\0\0\0\0\0\0\x10\0",
+    b"\x01\x01\0\0\0\0\0\0\0\0\0\0\0\0\0\0\0",
+    b"\x01\x01\0\0\0\0\0\0\0\0\0\0\0\0\0\0\x20",
     b"\x01\x01\0\0\0\0\0\0\0\0\0\0\0\0\0\0\xd0",
 ];
 
@@ -73,17 +115,40 @@ fn a_shelf_serves<S: Shelf>(rt: &(impl Abort + AllocGlobal), shelf: &mut S) -> R
     is_checked(rt, shelf, "f", "cells 2 leaves 576460752303423488\n")?;
     is_checked(rt, shelf, "h", "error missing\n")?;
     is_checked(rt, shelf, "../g", "error name\n")?;
+    for taken in TAKEN {
+        shelf.put("f", taken.bytes)?;
+        loads_one(rt, shelf, &taken)?;
+        is_checked(rt, shelf, "f", taken.checked)?;
+    }
     for bytes in REFUSED {
         shelf.put("f", bytes)?;
+        // Registers, past and future are as before.
         is_answered(
             rt,
             shelf,
-            "add a 3\nload a f\nshow a\n",
-            "ok 0 1\nerror format\n3\nend\n",
+            "add a 3\nadd b 5\nundo\nload a f\nload b f\nshow a\nshow b\nhistory\nredo\nshow b\n",
+            "ok 0 1\nok 0 1\nok 1 0\nerror format\nerror format\n3\nend\nend\nundo 1 redo 1\nok 0 1\n5\nend\n",
         )?;
         is_checked(rt, shelf, "f", "error format\n")?;
     }
     Ok(())
+}
+
+/// A register that has the cell 3 gets the file, and gives it back by `undo`.
+fn loads_one<S: Shelf>(
+    rt: &(impl Abort + AllocGlobal),
+    shelf: &mut S,
+    taken: &Taken,
+) -> Result<(), Fail> {
+    let loaded = taken.loaded;
+    let shown = taken.shown;
+    let answers = format!(in rt.alloc(); "ok 0 1\n{loaded}{shown}undo 2 redo 0\n")?;
+    is_answered(
+        rt,
+        shelf,
+        "add a 3\nload a f\nshow a\nhistory\n",
+        answers.as_str(),
+    )
 }
 
 #[test]

@@ -4,7 +4,7 @@ use crate::narrow::Narrow;
 use crate::pieces::Pieces;
 use s2calc::{RunFault, Tally, run, run_promptly};
 use s2edit::{Change, Editor, Register};
-use s2file::{MemoryShelf, Shelf};
+use s2shelf::{MemoryShelf, Shelf};
 use std::alloc::Global;
 use std::test::Fail;
 

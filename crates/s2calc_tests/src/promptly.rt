@@ -1,7 +1,7 @@
 //! Answers that are out before the next read.
 use s2calc::{RunFault, Tally, run, run_promptly};
 use s2edit::Editor;
-use s2file::MemoryShelf;
+use s2shelf::MemoryShelf;
 use std::alloc::Global;
 use std::cell::RefCell;
 use std::io;

@@ -5,7 +5,7 @@ use crate::narrow::Narrow;
 use crate::pieces::Pieces;
 use s2calc::{Tally, run};
 use s2edit::Editor;
-use s2file::MemoryShelf;
+use s2shelf::MemoryShelf;
 use std::process::Abort;
 use std::test::Fail;
 

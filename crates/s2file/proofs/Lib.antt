@@ -2,5 +2,4 @@ pub mod Numbers
 pub mod Reading
 pub mod Files
 pub mod Texts
-pub mod Named
-pub mod Examples
+pub mod Known

@@ -6,10 +6,11 @@ use Rattle.s2cell.specs.Cell.{IsCell}
 use Rattle.s2cell.proofs.Calls.{fits_u64}
 use Rattle.s2union.specs.Union.{has_leaf, IsLocal}
 use Rattle.s2union.proofs.Normal.{normal_from_local, normal_form_same, one_normal_form}
+use Rattle.s2file.specs.declared.union_file.TheConstants.{MOST_CELLS}
 use Rattle.s2file.specs.File.{first_number, number_text, IsFileOf, File, file_text, Bytes}
 use Rattle.s2file.proofs.Numbers.{first_number-number_text, length-number_text, drop-number_texts, length-number_texts}
 
-text_is_file : (ids : List ℕ) → All IsCell ids → length ids ≤ 1000000 → IsFileOf (file_text ids) ids
+pub text_is_file : (ids : List ℕ) → All IsCell ids → length ids ≤ MOST_CELLS → IsFileOf (file_text ids) ids
 text_is_file ids cells most =
     let count = number_text (length ids) in
     let texts = flat_map number_text ids in
@@ -26,7 +27,7 @@ text_is_file ids cells most =
     }
 
 -- the text of a union's cells is a file of its leaves
-pub file_of_text : (u bytes : List ℕ) → IsLocal u → bytes ≡ file_text u → length u ≤ 1000000 → File bytes (has_leaf u)
+pub file_of_text : (u bytes : List ℕ) → IsLocal u → bytes ≡ file_text u → length u ≤ MOST_CELLS → File bytes (has_leaf u)
 file_of_text u bytes local e most = rw e (record { ids = u; is = text_is_file u local.cells most; leaves = λ x. refl })
 
 pub bytes_of_text : (u bytes : List ℕ) → IsLocal u → bytes ≡ file_text u → Bytes (has_leaf u) bytes

@@ -3,6 +3,7 @@ use Rattle.std.specs.Prelude.{◌≡◌, ◌≢◌, ℕ, zero, suc, ◌+◌, ◌
 use Rattle.byteorder.specs.Endian.{little_bytes}
 use Rattle.s2cell.specs.Cell.{IsCell}
 use Rattle.s2union.specs.Union.{has_leaf, IsNormalForm}
+use Rattle.s2file.specs.declared.union_file.TheConstants.{MOST_CELLS}
 use Rattle.s2file.specs.declared.fault.FileFault.{FileFault}
 use Rattle.s2file.specs.declared.fault.FileFault.TheVariants.{Version, Count, Short, Trailing, Cell, Memory}
 
@@ -27,11 +28,11 @@ stated_count bytes = first_number (drop 1 bytes)
 abbrev pub number_at : List ℕ → ℕ → ℕ
 number_at bytes i = first_number (drop (8 * i) (drop 9 bytes))
 
--- the bytes are the byte 1, a count of at most 1,000,000, that many identifiers of cells, which are `ids`, and nothing else
+-- the bytes are the byte 1, a count of at most 1,000,000 (`MOST_CELLS`), that many identifiers of cells, which are `ids`, and nothing else
 pub record IsFileOf (bytes ids : List ℕ) : Type 0 where
   pub version : slice_index bytes 0 ≡ 1
   pub count : stated_count bytes ≡ length ids
-  pub most : length ids ≤ 1000000
+  pub most : length ids ≤ MOST_CELLS
   pub length_is : length bytes ≡ 9 + 8 * length ids
   pub numbers : (i : ℕ) → i < length ids → slice_index ids i ≡ number_at bytes i
   pub cells : All IsCell ids
@@ -55,7 +56,7 @@ pub record HasHead (bytes : List ℕ) : Type 0 where
 -- and the third: the head states at most 1,000,000 identifiers
 pub record HasCount (bytes : List ℕ) : Type 0 where
   pub head : HasHead bytes
-  pub most : stated_count bytes ≤ 1000000
+  pub most : stated_count bytes ≤ MOST_CELLS
 
 -- and the fourth: just as many follow
 pub record HasFrame (bytes : List ℕ) : Type 0 where
@@ -75,7 +76,7 @@ Faults bytes Short =
     (length bytes ≡ 0)
     ⊎ (HasVersion bytes × (length bytes < 9))
     ⊎ (HasCount bytes × (length bytes < 9 + 8 * stated_count bytes))
-Faults bytes Count = HasHead bytes × (1000000 < stated_count bytes)
+Faults bytes Count = HasHead bytes × (MOST_CELLS < stated_count bytes)
 Faults bytes Trailing = HasCount bytes × (9 + 8 * stated_count bytes < length bytes)
 Faults bytes Cell = HasFrame bytes × HasWrongNumber bytes
 Faults bytes Memory = HasFrame bytes

@@ -1,4 +1,1 @@
 pub mod File
-pub mod Shelf
-pub mod MemoryShelf
-pub mod DirShelf

@@ -12,7 +12,7 @@ pub enum FileFault {
     /// The first byte is not 1.
     #[error("the version is not 1")]
     Version,
-    /// The head states more than 1,000,000 identifiers.
+    /// The head states more than `MOST_CELLS` identifiers.
     #[error("more than 1000000 identifiers")]
     Count,
     /// There is no byte, or the head or an identifier is cut off.

@@ -1,6 +1,8 @@
 //! What follows for union files from their definitions, and the way back from bytes to a union.
-ghost use Rattle.std.specs.Prelude.{◌≡◌, ◌≢◌, ◌≤◌, ℕ, Bool, List, length, MatchResult};
-ghost use Rattle.s2file.specs.File.{File, Faults, Bytes};
+ghost use Rattle.std.specs.Prelude.{◌≡◌, ◌≢◌, ◌≤◌, ℕ, Bool, List, [], ◌∷◌, ◌++◌, length, replicate, MatchResult};
+ghost use Rattle.s2union.specs.Union.{has_leaf};
+ghost use Rattle.s2file.specs.declared.union_file.TheConstants.{MOST_CELLS};
+ghost use Rattle.s2file.specs.File.{File, Faults, file_text, Bytes};
 ghost use Rattle.s2file.specs.declared.fault.FileFault.{FileFault as Fault};
 
 use crate::fault::FileFault;
@@ -21,9 +23,39 @@ pub fn one_text()
     ensures { (S T : ℕ → Bool) (bytes others : List ℕ) → ((x : ℕ) → S x ≡ T x) → Bytes S bytes → Bytes T others → bytes ≡ others }
 {}
 
+/// Known files and the unions that they stand for, and what is written of these unions: none, the face 0, 04 and 0c
+/// (read out of order, one of them doubled), and the face 0 by its four children, the last one first.
+pub fn known_files()
+    ensures no_cell { File (1 ∷ replicate 8 0) (has_leaf []) }
+    ensures face { File (1 ∷ 1 ∷ replicate 14 0 ++ 0x10 ∷ []) (has_leaf (0x1000000000000000 ∷ [])) }
+    ensures any_order { File (1 ∷ 3 ∷ replicate 14 0 ++ 0x0c ∷ replicate 7 0 ++ 4 ∷ replicate 7 0 ++ 4 ∷ [])
+        (has_leaf (0x0400000000000000 ∷ 0x0c00000000000000 ∷ [])) }
+    ensures siblings { File (1 ∷ 4 ∷ replicate 14 0 ++ 0x1c ∷ replicate 7 0 ++ 0x14 ∷ replicate 7 0 ++ 0x0c ∷ replicate 7 0 ++ 4 ∷ [])
+        (has_leaf (0x1000000000000000 ∷ [])) }
+    ensures no_cell_written { file_text [] ≡ 1 ∷ replicate 8 0 }
+    ensures face_written { file_text (0x1000000000000000 ∷ []) ≡ 1 ∷ 1 ∷ replicate 14 0 ++ 0x10 ∷ [] }
+    ensures two_written { file_text (0x0400000000000000 ∷ 0x0c00000000000000 ∷ [])
+        ≡ 1 ∷ 2 ∷ replicate 14 0 ++ 4 ∷ replicate 7 0 ++ 0x0c ∷ [] }
+{}
+
+/// Bytes that are no file, and the fault of each: the first check that fails.
+pub fn refused_bytes()
+    ensures no_byte { Faults [] FileFault.Short }
+    ensures version_2 { Faults (2 ∷ []) FileFault.Version }
+    ensures version_2_and_count { Faults (2 ∷ replicate 8 0) FileFault.Version }
+    ensures head_cut_off { Faults (1 ∷ replicate 7 0) FileFault.Short }
+    ensures greatest_count { Faults (1 ∷ replicate 8 255) FileFault.Count }
+    ensures count_1000001 { Faults (1 ∷ 0x41 ∷ 0x42 ∷ 0x0f ∷ replicate 5 0) FileFault.Count }
+    ensures identifier_cut_off { Faults (1 ∷ 1 ∷ replicate 14 0) FileFault.Short }
+    ensures byte_after { Faults (1 ∷ 1 ∷ replicate 14 0 ++ 0x10 ∷ 0 ∷ []) FileFault.Trailing }
+    ensures identifier_0 { Faults (1 ∷ 1 ∷ replicate 15 0) FileFault.Cell }
+    ensures odd_place { Faults (1 ∷ 1 ∷ replicate 14 0 ++ 0x20 ∷ []) FileFault.Cell }
+    ensures face_6 { Faults (1 ∷ 1 ∷ replicate 14 0 ++ 0xd0 ∷ []) FileFault.Cell }
+{}
+
 /// The union that `decode` answers for what `encode` answers: that union itself, or want of memory.
 pub fn round_trip(alloc: Global, union: &CellUnion) -> Result<CellUnion, FileFault>
-    requires { length union.now.cells ≤ 1000000 }
+    requires { length union.now.cells ≤ MOST_CELLS }
     ensures { MatchResult result (λ back. back.cells ≡ union.now.cells) (λ fault. fault ≡ FileFault.Memory) }
 {
     let bytes = encode(alloc, union)?;

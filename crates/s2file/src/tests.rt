@@ -1,6 +1,5 @@
-//! Worked examples of the file format, and shelves that hold files and fail.
+//! Worked examples of the file format.
 mod format;
-mod shelves;
 
 use std::alloc::{AllocError, Global};
 

@@ -1,6 +1,7 @@
 //! The union file: a union of cells as bytes.
 ghost use Rattle.std.specs.Prelude.{◌≡◌, ◌≤◌, ◌++◌, ℕ, Bool, length, MatchResult, IfOk, OnOk};
 ghost use Rattle.s2union.specs.Union.{has_leaf, IsLocal};
+ghost use Rattle.s2file.specs.declared.union_file.TheConstants.{MOST_CELLS};
 ghost use Rattle.s2file.specs.File.{first_number, number_text, HasFrame, IsFileOf, File, Faults, file_text, Bytes};
 
 use crate::fault::FileFault;
@@ -18,14 +19,14 @@ const HEAD_SIZE: usize = 9;
 /// The size of a number, in bytes.
 const NUMBER_SIZE: usize = 8;
 
-/// The greatest count that `decode` takes.
-const MOST_CELLS: u64 = 1_000_000;
+/// How many identifiers a file may hold: the greatest count that `decode` takes.
+pub const MOST_CELLS: u64 = 1_000_000;
 
 /// The union that a file stands for: the normal form of the leaves of its cells.
 ///
 /// The cells may come in any order, doubled, contained in one another or unmerged. Bytes of any
 /// other form are refused with the first check that fails, in the order: a first byte, and it is 1;
-/// nine bytes at least; a count of at most 1,000,000; just as many identifiers; each one of a cell.
+/// nine bytes at least; a count of at most `MOST_CELLS`; just as many identifiers; each one of a cell.
 /// One list of cells is taken, once the first four have passed. One pass over the bytes, and a sort,
 /// which costs next to nothing where the cells ascend.
 #[tactic(auto, using(crate::proofs::Reading::file_from_cells))]
@@ -93,11 +94,11 @@ fn number(bytes: &[u8]) -> u64
 /// The file of a union: its cells in ascending order, however many they are.
 ///
 /// Two unions with the same leaves have the same file. `decode` reads it back, where the union has
-/// at most 1,000,000 cells. One list of nine bytes and eight for each cell is taken.
+/// at most `MOST_CELLS` cells. One list of nine bytes and eight for each cell is taken.
 pub fn encode(alloc: Global, union: &CellUnion) -> Result<Vec<u8>, AllocError>
     ensures text { IfOk result (λ bytes. bytes.items ≡ file_text union.now.cells) }
     ensures bytes { IfOk result (λ bytes. Bytes (has_leaf union.now.cells) bytes.items) }
-    ensures back { length union.now.cells ≤ 1000000 → IfOk result (λ bytes. File bytes.items (has_leaf union.now.cells)) }
+    ensures back { length union.now.cells ≤ MOST_CELLS → IfOk result (λ bytes. File bytes.items (has_leaf union.now.cells)) }
 {
     let cells = union.cells();
     let size = cells

@@ -2,8 +2,8 @@ use Rattle.std.proofs.Common.{rules, Some, refl, ◌≡◌}
 use Rattle.std.specs.String.{string_bytes}
 use Rattle.std.specs.BTreeMap.{get_by_text}
 use Rattle.std.proofs.lemmas.Map.Text.{btree_map_updates_text}
-use Rattle.s2file.proofs.Named.{put_there, put_elsewhere}
-use Rattle.s2file.proofs.memory_shelf.MemoryShelfShelf.put.Goals as goal
+use Rattle.s2shelf.proofs.Named.{put_there, put_elsewhere}
+use Rattle.s2shelf.proofs.memory_shelf.MemoryShelfShelf.put.Goals as goal
 
 pub returns-in-Ok-clause-answer : goal.returns-in-Ok-clause-answer
 returns-in-Ok-clause-answer c =

@@ -1,7 +1,7 @@
 //! A shelf in memory.
 ghost use Rattle.std.specs.Prelude.{◌≡◌, ◌≤◌, ◌-◌, ◌≢◌, ◌↔◌, ℕ, List, None, IsErrOf, OnErr, MatchResult, is_ok, option_map, if◌then◌else◌};
-ghost use Rattle.s2file.specs.Shelf.{one_more, KeepsFiles, SameFiles, Holds, PutsFile, FailsToGet, FailsToPut};
-ghost use Rattle.s2file.specs.MemoryShelf.{files_of, failing_of};
+ghost use Rattle.s2shelf.specs.Shelf.{one_more, KeepsFiles, SameFiles, Finds, PutsFile, FailsToGet, FailsToPut};
+ghost use Rattle.s2shelf.specs.MemoryShelf.{files_of, failing_of};
 
 use crate::shelf::{Shelf, ShelfFault};
 use std::alloc::Global;
@@ -64,7 +64,7 @@ impl Shelf for MemoryShelf {
     /// A copy of the file. `Device` comes exactly where this is the call that was told to fail.
     fn get(&mut self, name: &str) -> Result<Option<Vec<u8>>, ShelfFault>
         ensures answer { MatchResult result
-            (λ content. SameFiles (files_of self.old) (files_of self.new) × Holds (files_of self.old) name.now (option_map (λ v. v.items) content))
+            (λ content. Finds (files_of self.old) name.now (option_map (λ v. v.items) content) (files_of self.new))
             (λ fault. FailsToGet (files_of self.old) (files_of self.new) fault) }
         ensures turn { IsErrOf result ShelfFault.Device ↔ (failing_of self.old ≡ 1) }
         ensures failing { failing_of self.new ≡ failing_of self.old - 1 }

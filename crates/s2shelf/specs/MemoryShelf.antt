@@ -1,16 +1,16 @@
 -- What is seen of a shelf in memory: its files, and which call fails.
-use Rattle.std.specs.Prelude.{ℕ, true, List, Option, option_map}
+use Rattle.std.specs.Prelude.{ℕ, true, List, Option, None, option_map}
 use Rattle.std.specs.BTreeMap.{get_by_text}
-use Rattle.s2file.specs.declared.memory_shelf.MemoryShelf.{MemoryShelf}
-use Rattle.s2file.specs.Shelf.{Files}
+use Rattle.s2shelf.specs.declared.memory_shelf.MemoryShelf.{MemoryShelf}
+use Rattle.s2shelf.specs.Shelf.{Files}
 
 -- the file of that name
 abbrev pub content_of : MemoryShelf → List ℕ → Option (List ℕ)
 content_of shelf name = option_map (λ bytes. bytes.items) (get_by_text shelf.named name)
 
--- the shelf tells every file
+-- the shelf tells every file, from which follows what was found
 abbrev pub files_of : MemoryShelf → Files
-files_of shelf = record { tells = true; at = content_of shelf; failures = shelf.failures }
+files_of shelf = record { tells = true; at = content_of shelf; found = None; failures = shelf.failures }
 
 -- which call from now fails, 1 being the next; 0 where none does
 abbrev pub failing_of : MemoryShelf → ℕ

@@ -1,12 +1,19 @@
 -- What is known of named files, and what a call on them may do.
-use Rattle.std.specs.Prelude.{◌≡◌, ◌≢◌, ℕ, ◌+◌, ◌%◌, ◌^◌, Bool, true, List, Option, Some}
-use Rattle.s2file.specs.declared.shelf.ShelfFault.{ShelfFault}
-use Rattle.s2file.specs.declared.shelf.ShelfFault.TheVariants.{Device, Memory}
+use Rattle.std.specs.Prelude.{◌≡◌, ◌≢◌, ℕ, ◌+◌, ◌%◌, ◌^◌, Bool, true, List, ◌∷◌, take, Option, Some, option_map}
+use Rattle.s2shelf.specs.declared.shelf.ShelfFault.{ShelfFault}
+use Rattle.s2shelf.specs.declared.shelf.ShelfFault.TheVariants.{Device, Memory}
 
--- what is known of a shelf: whether it tells its contents, the file of each name, and how many calls answered `Device`
+-- what was found by asking for a file once: its content, or None if there is no file of that name
+pub record Found : Type 0 where
+  pub name : List ℕ
+  pub content : Option (List ℕ)
+
+-- what is known of a shelf: whether it tells its contents, and the file of each name; all that was found by asking,
+-- the newest first, or None if that isn't known; and how many calls answered `Device`
 pub record Files : Type 0 where
   pub tells : Bool
   pub at : List ℕ → Option (List ℕ)
+  pub found : Option (List Found)
   pub failures : ℕ
 
 -- one more failure; behind the greatest u64 the count begins at 0 again
@@ -35,9 +42,21 @@ pub record PutsFile (old new : Files) (name bytes : List ℕ) : Type 0 where
   pub others : old.tells ≡ true → (other : List ℕ) → other ≢ name → new.at other ≡ old.at other
   pub failures : new.failures ≡ old.failures
 
--- what was handed over is what a shelf that tells holds under that name
+-- what was found is what a shelf that tells holds under that name
 abbrev pub Holds : Files → List ℕ → Option (List ℕ) → Type 0
 Holds files name content = files.tells ≡ true → content ≡ files.at name
+
+-- the shelf was asked for that name, once, and this content was found; no file changes
+pub record Finds (old : Files) (name : List ℕ) (content : Option (List ℕ)) (new : Files) : Type 0 where
+  pub same : SameFiles old new
+  pub holds : Holds old name content
+  pub asked : new.found ≡ option_map (λ before. record { name = name; content = content } ∷ before) old.found
+
+-- the same, where the first `most` bytes of what was found were handed over
+pub record FindsBeginning (old : Files) (name : List ℕ) (most : ℕ) (beginning : Option (List ℕ)) (new : Files) : Type 0 where
+  pub content : Option (List ℕ)
+  pub finds : Finds old name content new
+  pub is : beginning ≡ option_map (take most) content
 
 -- a file was not read: no content changes, and the count rises for `Device` alone
 abbrev pub FailsToGet : Files → Files → ShelfFault → Type 0

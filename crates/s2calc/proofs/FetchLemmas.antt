@@ -1,0 +1,95 @@
+-- What is fetched from shelves that tell the same.
+use Rattle.std.proofs.Common.{◌≡◌, ◌≢◌, ℕ, ◌+◌, ◌%◌, ◌^◌, inl, inr, Bool, true, List, Option, None, Some, Ok, Err, sym, ◌∙◌, subst}
+use Rattle.std.proofs.lemmas.Option.{same_Some, none-some}
+use Rattle.s2file.specs.File.{File}
+use Rattle.s2file.proofs.Files.{same_leaves, no_fault}
+use Rattle.s2shelf.specs.Shelf.{Files, SameFiles, Finds}
+use Rattle.s2script.specs.declared.refusal.Refusal.{Refusal}
+use Rattle.s2script.specs.declared.refusal.Refusal.TheVariants.{File as NoFile, Memory}
+use Rattle.s2calc.specs.Fetch.{Fetches, Reads, FetchesUnion}
+
+-- both shelves tell, and the same
+pub record TellSame (a b : Files) : Type 0 where
+  pub one : a.tells ≡ true
+  pub other : b.tells ≡ true
+  pub at : (name : List ℕ) → a.at name ≡ b.at name
+
+turned : (a b : Files) → TellSame a b → TellSame b a
+turned a b s = record { one = s.other; other = s.one; at = λ name. sym (s.at name) }
+
+-- neither want of memory nor a failed shelf
+abbrev pub IsSettled : Refusal → Type 0
+IsSettled refusal = (refusal ≢ Memory) × (refusal ≢ NoFile)
+
+-- ---- the content
+
+one_content : (a b c d : Files) (name : List ℕ) (x y : Option (List ℕ)) → TellSame a b → Finds a name x c → Finds b name y d → x ≡ y
+one_content a b c d name x y s l m = l.holds s.one ∙ s.at name ∙ sym (m.holds s.other)
+
+same_bytes : (a b c d : Files) (name xs ys : List ℕ) → TellSame a b → Fetches name a (Ok xs) c → Fetches name b (Ok ys) d → xs ≡ ys
+same_bytes a b c d name xs ys s l m = same_Some xs ys (one_content a b c d name (Some xs) (Some ys) s l m)
+
+-- a file that one shelf has the other hands over
+bytes_or_none : (a b c d : Files) (name xs : List ℕ) (y : Refusal) → TellSame a b → Fetches name a (Ok xs) c → Fetches name b (Err y) d → IsSettled y → ⊥
+bytes_or_none a b c d name xs y s l (inl m) q = none-some xs (sym (one_content a b c d name (Some xs) None s l m.1))
+bytes_or_none a b c d name xs y s l (inr (inl m)) q = q.1 m.0
+bytes_or_none a b c d name xs y s l (inr (inr m)) q = q.0 m.0
+
+same_fetch_refusal : (a b c d : Files) (name : List ℕ) (x y : Refusal) → Fetches name a (Err x) c → Fetches name b (Err y) d → IsSettled x → IsSettled y → x ≡ y
+same_fetch_refusal a b c d name x y (inl l) (inl m) p q = l.0 ∙ sym m.0
+same_fetch_refusal a b c d name x y (inl l) (inr (inl m)) p q = absurd (q.1 m.0)
+same_fetch_refusal a b c d name x y (inl l) (inr (inr m)) p q = absurd (q.0 m.0)
+same_fetch_refusal a b c d name x y (inr (inl l)) m p q = absurd (p.1 l.0)
+same_fetch_refusal a b c d name x y (inr (inr l)) m p q = absurd (p.0 l.0)
+
+-- ---- the union that it stands for
+
+read_or_none : (bytes : List ℕ) (S : ℕ → Bool) (y : Refusal) → Reads bytes (Ok S) → Reads bytes (Err y) → IsSettled y → ⊥
+read_or_none bytes S y l (inl m) q = m.2 (no_fault bytes S m.0 l m.1)
+read_or_none bytes S y l (inr m) q = q.0 m
+
+same_read_refusal : (bytes : List ℕ) (x y : Refusal) → Reads bytes (Err x) → Reads bytes (Err y) → IsSettled x → IsSettled y → x ≡ y
+same_read_refusal bytes x y (inl l) (inl m) p q = l.3 ∙ sym m.3
+same_read_refusal bytes x y (inl l) (inr m) p q = absurd (q.0 m)
+same_read_refusal bytes x y (inr l) m p q = absurd (p.0 l)
+
+pub same_union : (a b c d : Files) (name : List ℕ) (S T : ℕ → Bool) → TellSame a b → FetchesUnion name a (Ok S) c → FetchesUnion name b (Ok T) d → (n : ℕ) → S n ≡ T n
+same_union a b c d name S T s l m n =
+    let bytes : m.0 ≡ l.0 = sym (same_bytes a b c d name l.0 m.0 s l.1 m.1) in
+    same_leaves l.0 S T l.2 (subst (λ xs. File xs T) bytes m.2) n
+
+pub union_or_none : (a b c d : Files) (name : List ℕ) (S : ℕ → Bool) (y : Refusal) → TellSame a b → FetchesUnion name a (Ok S) c → FetchesUnion name b (Err y) d → IsSettled y → ⊥
+union_or_none a b c d name S y s l (inl m) q = bytes_or_none a b c d name l.0 y s l.1 m q
+union_or_none a b c d name S y s l (inr m) q =
+    let bytes : m.0 ≡ l.0 = sym (same_bytes a b c d name l.0 m.0 s l.1 m.1) in
+    read_or_none l.0 S y l.2 (subst (λ xs. Reads xs (Err y)) bytes m.2) q
+
+pub none_or_union : (a b c d : Files) (name : List ℕ) (x : Refusal) (T : ℕ → Bool) → TellSame a b → FetchesUnion name a (Err x) c → FetchesUnion name b (Ok T) d → IsSettled x → ⊥
+none_or_union a b c d name x T s l m p = union_or_none b a d c name T x (turned a b s) m l p
+
+pub same_refusal : (a b c d : Files) (name : List ℕ) (x y : Refusal) → TellSame a b → FetchesUnion name a (Err x) c → FetchesUnion name b (Err y) d → IsSettled x → IsSettled y → x ≡ y
+same_refusal a b c d name x y s (inl l) (inl m) p q = same_fetch_refusal a b c d name x y l m p q
+same_refusal a b c d name x y s (inl l) (inr m) p q = absurd (bytes_or_none b a d c name m.0 x (turned a b s) m.1 l p)
+same_refusal a b c d name x y s (inr l) (inl m) p q = absurd (bytes_or_none a b c d name l.0 y s l.1 m q)
+same_refusal a b c d name x y s (inr l) (inr m) p q =
+    let bytes : m.0 ≡ l.0 = sym (same_bytes a b c d name l.0 m.0 s l.1 m.1) in
+    same_read_refusal l.0 x y l.2 (subst (λ xs. Reads xs (Err y)) bytes m.2) p q
+
+-- ---- what a fetch leaves
+
+-- the files stay, unless the shelf failed
+pub union_keeps : (a c : Files) (name : List ℕ) (S : ℕ → Bool) → FetchesUnion name a (Ok S) c → SameFiles a c
+union_keeps a c name S l = l.1.same
+
+pub refusal_keeps : (a c : Files) (name : List ℕ) (x : Refusal) → FetchesUnion name a (Err x) c → x ≢ NoFile → SameFiles a c
+refusal_keeps a c name x (inl (inl l)) n = l.1.same
+refusal_keeps a c name x (inl (inr (inl l))) n = absurd (n l.0)
+refusal_keeps a c name x (inl (inr (inr l))) n = l.1
+refusal_keeps a c name x (inr l) n = l.1.same
+
+-- a shelf that tells goes on telling
+pub refusal_tells : (a c : Files) (name : List ℕ) (x : Refusal) → FetchesUnion name a (Err x) c → c.tells ≡ a.tells
+refusal_tells a c name x (inl (inl l)) = l.1.same.0.tells
+refusal_tells a c name x (inl (inr (inl l))) = l.1.0.tells
+refusal_tells a c name x (inl (inr (inr l))) = l.1.0.tells
+refusal_tells a c name x (inr l) = l.1.same.0.tells

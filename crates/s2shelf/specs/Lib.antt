@@ -1,0 +1,3 @@
+pub mod Shelf
+pub mod MemoryShelf
+pub mod DirShelf

@@ -1,0 +1,135 @@
+//! A folder as a shelf.
+ghost use Rattle.std.specs.Prelude.{◌≡◌, ◌⊎◌, IfOk, MatchResult};
+ghost use Rattle.s2shelf.specs.Shelf.{one_more};
+ghost use Rattle.std.specs.String.{string_bytes};
+ghost use Rattle.s2shelf.specs.DirShelf.{folder_files, folder_path, path_to};
+
+use crate::shelf::{Shelf, ShelfFault, beginning_of};
+use std::alloc::AllocError;
+use std::fs::File;
+use std::io::{ErrorKind, Read};
+use std::rt::Files;
+use std::{fs, io};
+
+/// A folder of files. It doesn't tell its contents: they are what the system gives.
+///
+/// The file NAME is `PATH/NAME`, word for word, and nothing else is touched. A file that the system
+/// doesn't find is absent, also when the folder is; every other fault is `Device`, as a file that may not
+/// be read, a full disk, or a `put` into an absent folder. So is a name of anything but a regular file,
+/// as a folder, a FIFO or a device, which is not opened; a symbolic link stands for what it leads to, also
+/// outside the folder.
+#[derive(Drop)]
+pub struct DirShelf<R: Files + AllocGlobal> {
+    rt: R,
+    path: String,
+    failures: u64,
+}
+
+impl<R: Files + AllocGlobal> DirShelf<R> {
+    /// The folder at a path, by a runtime that the shelf keeps (`&rt` where the caller needs it
+    /// too). The folder isn't looked at before the first call.
+    pub fn at(rt: R, path: &str) -> Result<DirShelf<R>, AllocError>
+    where
+        R: Drop,
+        ensures path { IfOk result (λ shelf. folder_path shelf ≡ path.now) }
+        ensures failures { IfOk result (λ shelf. (folder_files shelf).failures ≡ 0) }
+    {
+        let path = String::from_str(rt.alloc(), path)?;
+        Ok(DirShelf {
+            rt,
+            path,
+            failures: 0,
+        })
+    }
+
+    /// Where the file of that name stands.
+    fn path_of(&self, name: &str) -> Result<String, AllocError>
+        ensures { IfOk result (λ path. string_bytes path ≡ path_to (folder_path self.now) name.now) }
+    {
+        let path = self.path.as_str();
+        format!(in self.rt.alloc(); "{path}/{name}")
+    }
+}
+
+/// Counts a failure of the device.
+fn failed(failures: &mut u64) -> ShelfFault
+    ensures count { failures.new ≡ one_more failures.old }
+    ensures fault { result ≡ ShelfFault.Device }
+{
+    *failures = failures.wrapping_add(1);
+    ShelfFault::Device
+}
+
+/// What the system's answer to a read means.
+fn read_answer(
+    answer: io::Result<Vec<u8>>,
+    failures: &mut u64,
+) -> Result<Option<Vec<u8>>, ShelfFault>
+    ensures { MatchResult result (λ _. failures.new ≡ failures.old) (λ fault.
+        ((fault ≡ ShelfFault.Device) × (failures.new ≡ one_more failures.old)) ⊎ ((fault ≡ ShelfFault.Memory) × (failures.new ≡ failures.old))) }
+{
+    match answer {
+        Ok(bytes) => Ok(Some(bytes)),
+        Err(error) => match error.kind() {
+            ErrorKind::NotFound => Ok(None),
+            ErrorKind::OutOfMemory => Err(ShelfFault::Memory),
+            _ => Err(failed(failures)),
+        },
+    }
+}
+
+/// Refuses what is no regular file, before it is opened: a FIFO would be waited for, and a device has no end.
+fn check_regular<R: Files>(rt: &R, path: &str) -> io::Result<()> {
+    if fs::metadata(rt, path)?.is_file() {
+        Ok(())
+    } else {
+        Err(io::Error::from(ErrorKind::InvalidInput))
+    }
+}
+
+/// All bytes of a regular file.
+fn read_whole<R: Files + AllocGlobal>(rt: &R, path: &str) -> io::Result<Vec<u8>> {
+    check_regular(rt, path)?;
+    fs::read(rt, path)
+}
+
+/// The first `most` bytes of a regular file. Nothing is read after them.
+fn read_beginning<R: Files + AllocGlobal>(rt: &R, path: &str, most: usize) -> io::Result<Vec<u8>> {
+    check_regular(rt, path)?;
+    let mut bytes = Vec::new(rt.alloc());
+    let mut file = File::open(rt, path)?.take(most as u64);
+    file.read_to_end(&mut bytes)?;
+    Ok(bytes)
+}
+
+/// Writes a regular file anew, or a new one.
+fn write_whole<R: Files>(rt: &R, path: &str, bytes: &[u8]) -> io::Result<()> {
+    match check_regular(rt, path) {
+        Err(error) if error.kind() != ErrorKind::NotFound => Err(error),
+        _ => fs::write(rt, path, bytes),
+    }
+}
+
+impl<R: Files + AllocGlobal> Shelf for DirShelf<R> {
+    ghost files = { folder_files };
+
+    fn get(&mut self, name: &str) -> Result<Option<Vec<u8>>, ShelfFault> {
+        let path = self.path_of(name)?;
+        read_answer(read_whole(&self.rt, path.as_str()), &mut self.failures)
+    }
+
+    fn get_beginning(&mut self, name: &str, most: usize) -> Result<Option<Vec<u8>>, ShelfFault> {
+        let path = self.path_of(name)?;
+        let answer = read_beginning(&self.rt, path.as_str(), most);
+        let found = read_answer(answer, &mut self.failures)?;
+        Ok(beginning_of(found, most))
+    }
+
+    fn put(&mut self, name: &str, bytes: &[u8]) -> Result<(), ShelfFault> {
+        let path = self.path_of(name)?;
+        match write_whole(&self.rt, path.as_str(), bytes) {
+            Ok(()) => Ok(()),
+            Err(_) => Err(failed(&mut self.failures)),
+        }
+    }
+}

@@ -1,0 +1,16 @@
+//! Named files that may fail, and the places that hold them.
+//!
+//! A `Shelf` is a place for files that may fail at any call, and counts its failures. `MemoryShelf`
+//! is one in memory, `DirShelf` a folder. What a file means is no matter of a shelf: it holds bytes.
+#![tactic(auto)]
+
+pub mod dir_shelf;
+pub mod memory_shelf;
+pub mod shelf;
+
+pub use crate::dir_shelf::DirShelf;
+pub use crate::memory_shelf::MemoryShelf;
+pub use crate::shelf::{Shelf, ShelfFault};
+
+#[cfg(test)]
+mod tests;
