@@ -1,4 +1,4 @@
-//! What a refused growth may change.
+//! What a refused allocation may change.
 use s2calc::{RunFault, run};
 use s2calc_tests::{FILES, LINES};
 use s2edit::Editor;
@@ -7,6 +7,9 @@ use std::alloc::Global;
 
 /// The room for a script and for its answers, which so take no memory while it runs.
 const ROOM: usize = 8192;
+
+/// So few states are kept that the oldest are dropped.
+const DEPTH: usize = 3;
 
 /// The answer to a line that found no memory.
 const MEMORY: &[u8] = b"error memory\n";
@@ -38,17 +41,24 @@ struct Left {
     answers: Vec<u8>,
 }
 
-/// Runs the script, and says what a growth that was refused meanwhile has changed: `wrong` where it changed more than it
-/// may. At most one growth is refused, and where that happens after the run, before so many more, none was in the run.
+/// Runs the script, and says what an allocation that was refused meanwhile has changed: `wrong` if it changed more than it
+/// may. At most one is refused, and if that happens after the run, in one of the next `more`, none was in the run.
 pub fn verdict(alloc: Global, more: u64) -> &'static str {
     let Some(whole) = run_lines(alloc, LINES.len(), None) else {
         return "refused before the run";
     };
-    let answers = whole.answers.as_slice();
-    match whole.fault {
-        Some(RunFault::Memory) if !whole.has_read && answers.is_empty() => "refused at the start",
+    if whole.fault.is_none() && is_refused_later(alloc, more) {
+        return "nothing refused";
+    }
+    judged(alloc, &whole)
+}
+
+/// What is wrong with what a run left in which one allocation was refused, or which of the two permitted ends it is.
+fn judged(alloc: Global, left: &Left) -> &'static str {
+    let answers = left.answers.as_slice();
+    match left.fault {
+        Some(RunFault::Memory) if !left.has_read && answers.is_empty() => "refused at the start",
         Some(_) => "wrong: another end",
-        None if is_refused_later(alloc, more) => "nothing refused",
         None if is_one_refusal(alloc, answers) => "refused in an answer",
         None if is_unchanged(alloc, answers) => "no answer changed",
         None => "wrong: other answers",
@@ -68,7 +78,7 @@ fn run_lines(alloc: Global, end: usize, without: Option<usize>) -> Option<Left> 
     for (name, bytes) in FILES {
         shelf.put(name, bytes).ok()?;
     }
-    let mut editor = Editor::open(alloc, 100, 5).ok()?;
+    let mut editor = Editor::open(alloc, 100, DEPTH).ok()?;
     let mut answers = Vec::with_capacity(alloc, ROOM).ok()?;
     let mut reader = script.as_slice();
     let ended = run(alloc, &mut editor, &mut reader, &mut answers, &mut shelf);
@@ -79,7 +89,7 @@ fn run_lines(alloc: Global, end: usize, without: Option<usize>) -> Option<Left> 
     })
 }
 
-/// Whether a growth is refused now, one of so many.
+/// Whether one of the next allocations is refused.
 fn is_refused_later(alloc: Global, more: u64) -> bool {
     for _ in 0..more {
         if Vec::<u8>::with_capacity(alloc, 1).is_err() {
@@ -127,10 +137,87 @@ fn is_refusal_of(alloc: Global, answers: &[u8], at: usize) -> bool {
     }
 }
 
-/// Whether the answers are those of a run in which no growth is refused.
+/// Whether the answers are those of a run in which no allocation is refused.
 fn is_unchanged(alloc: Global, answers: &[u8]) -> bool {
     match run_lines(alloc, LINES.len(), None) {
         Some(again) => again.fault.is_none() && again.answers.as_slice() == answers,
         None => false,
+    }
+}
+
+#[cfg(test)]
+mod tests {
+    use super::{LINES, Left, MEMORY, judged, run_lines};
+    use s2calc::RunFault;
+    use std::alloc::Global;
+    use std::test::Fail;
+
+    /// What a run leaves in which the line at a place is answered `error memory`, and each other as without that line.
+    fn refused_at(alloc: Global, at: usize) -> Result<Left, Fail> {
+        let before = run_lines(alloc, at, None).ok_or("no memory")?;
+        let without = run_lines(alloc, LINES.len(), Some(at)).ok_or("no memory")?;
+        let mut left = run_lines(alloc, 0, None).ok_or("no memory")?;
+        let after = without
+            .answers
+            .as_slice()
+            .strip_prefix(before.answers.as_slice());
+        left.answers.extend_from_slice(before.answers.as_slice())?;
+        left.answers.extend_from_slice(MEMORY)?;
+        left.answers
+            .extend_from_slice(after.ok_or("another beginning")?)?;
+        Ok(left)
+    }
+
+    /// Where the first line of a command stands.
+    fn first_of(command: &str) -> Result<usize, Fail> {
+        for at in 0..LINES.len() {
+            if LINES[at].starts_with(command) {
+                return Ok(at);
+            }
+        }
+        Err("no such line".into())
+    }
+
+    #[test]
+    fn one_refused_edit_or_save_is_permitted(rt: HostRuntime) -> Result<(), Fail> {
+        for command in ["add ", "load ", "innerof ", "save "] {
+            let left = refused_at(rt.alloc(), first_of(command)?)?;
+            assert_eq!(rt; judged(rt.alloc(), &left), "refused in an answer");
+        }
+        Ok(())
+    }
+
+    #[test]
+    fn another_command_never_runs_out_of_memory(rt: HostRuntime) -> Result<(), Fail> {
+        for command in ["undo", "redo", "show ", "has ", "history", "denorm "] {
+            let left = refused_at(rt.alloc(), first_of(command)?)?;
+            assert_eq!(rt; judged(rt.alloc(), &left), "wrong: other answers");
+        }
+        Ok(())
+    }
+
+    #[test]
+    fn a_refusal_changes_no_other_answer(rt: HostRuntime) -> Result<(), Fail> {
+        let mut left = refused_at(rt.alloc(), first_of("add ")?)?;
+        let _ = left.answers.pop();
+        assert_eq!(rt; judged(rt.alloc(), &left), "wrong: other answers");
+        let whole = run_lines(rt.alloc(), LINES.len(), None).ok_or("no memory")?;
+        assert_eq!(rt; judged(rt.alloc(), &whole), "no answer changed");
+        Ok(())
+    }
+
+    #[test]
+    fn a_run_out_of_memory_has_read_and_written_nothing(rt: HostRuntime) -> Result<(), Fail> {
+        let mut left = run_lines(rt.alloc(), 0, None).ok_or("no memory")?;
+        left.fault = Some(RunFault::Memory);
+        assert_eq!(rt; judged(rt.alloc(), &left), "refused at the start");
+        left.has_read = true;
+        assert_eq!(rt; judged(rt.alloc(), &left), "wrong: another end");
+        left.has_read = false;
+        left.answers.push(b'x')?;
+        assert_eq!(rt; judged(rt.alloc(), &left), "wrong: another end");
+        left.fault = Some(RunFault::Output);
+        assert_eq!(rt; judged(rt.alloc(), &left), "wrong: another end");
+        Ok(())
     }
 }

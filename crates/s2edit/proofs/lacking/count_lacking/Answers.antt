@@ -1,4 +1,4 @@
-use Rattle.std.proofs.Common.{◌≡◌, ◌<◌, ◌≤◌, ◌+◌, ◌∷◌, ℕ, List, ◌⊎◌, inl, inr, length, drop, get_or, sym, ap, ◌∙◌, arith, length-drop}
+use Rattle.std.proofs.Common.{◌≡◌, suc, ◌<◌, ◌≤◌, ◌+◌, ◌∷◌, ℕ, List, ◌⊎◌, inl, inr, length, drop, get_or, sym, ap, ◌∙◌, arith, length-drop}
 use Rattle.std.proofs.lemmas.Grind.{get_or_default_zero}
 use Rattle.std.proofs.lemmas.Bool.Decides.{nat_tests}
 use Rattle.s2union.specs.Apply.{cells_without}
@@ -14,7 +14,7 @@ loop-i-preserved-in-Less c =
     let x : c.index-us-i.result ≡ get_or us l.i 0 = c.index-us-i.is ∙ get_or_default_zero us l.i c.index-us-i.result c.loop-i-test.true in
     let y : c.index-others-j.result ≡ get_or os l.j 0 = c.index-others-j.is ∙ get_or_default_zero os l.j c.index-others-j.result c.if-j-others.true in
     let below : c.index-us-i.result < c.index-others-j.result = grind (arith, nat_tests, c.in-Less.ensures) in
-    let one : length (cells_without (drop l.i us) (drop l.j os)) ≡ 1 + length (cells_without (drop (l.i + 1) us) (drop l.j os)) =
+    let one : length (cells_without (drop l.i us) (drop l.j os)) ≡ suc (length (cells_without (drop (l.i + 1) us) (drop l.j os))) =
     ap length (lacking_cell us os l.i l.j c.requires.others_ascend c.loop-i-test.true c.if-j-others.true (omega arith)) in
     let whole = l.invariant.count in
     record {
