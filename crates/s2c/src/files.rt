@@ -18,6 +18,7 @@ pub extern "C" fn s2c_encode(
 ) -> bool
     ensures within { IsTrue result → len.new ≤ length out.new }
     ensures text { IsTrue result → take len.new out.new ≡ file_text ids.now }
+    ensures local { IsTrue result → IsLocal ids.now }
 {
     let Some(union) = union_of(alloc, ids) else {
         return false;

@@ -16,8 +16,9 @@ pub extern "C" fn s2c_contains_cells(
     questions: &[u64],
     answers: &mut [bool],
 ) -> bool
-    ensures { IsTrue result → (k : ℕ) → k < length questions.now
+    ensures answers { IsTrue result → (k : ℕ) → k < length questions.now
         → (IsTrue (slice_index_or answers.new k false) ↔ IsWithin (covers (slice_index questions.now k)) (has_leaf ids.now)) }
+    ensures local { IsTrue result → IsLocal ids.now }
 {
     let (Some(union), Some(cells)) = (union_of(alloc, ids), cells_of(alloc, questions)) else {
         return false;
@@ -47,8 +48,9 @@ pub extern "C" fn s2c_intersects_cells(
     questions: &[u64],
     answers: &mut [bool],
 ) -> bool
-    ensures { IsTrue result → (k : ℕ) → k < length questions.now
+    ensures answers { IsTrue result → (k : ℕ) → k < length questions.now
         → (IsTrue (slice_index_or answers.new k false) ↔ ShareSome (covers (slice_index questions.now k)) (has_leaf ids.now)) }
+    ensures local { IsTrue result → IsLocal ids.now }
 {
     let (Some(union), Some(cells)) = (union_of(alloc, ids), cells_of(alloc, questions)) else {
         return false;
@@ -71,7 +73,8 @@ pub extern "C" fn s2c_contains(
     times: u32,
     answer: &mut bool,
 ) -> bool
-    ensures { IsTrue result → (IsTrue answer.new ↔ IsWithin (has_leaf ys.now) (has_leaf xs.now)) }
+    ensures answer { IsTrue result → (IsTrue answer.new ↔ IsWithin (has_leaf ys.now) (has_leaf xs.now)) }
+    ensures local { IsTrue result → IsLocal xs.now × IsLocal ys.now }
 {
     let (Some(whole), Some(part)) = (union_of(alloc, xs), union_of(alloc, ys)) else {
         return false;
@@ -92,7 +95,8 @@ pub extern "C" fn s2c_intersects(
     times: u32,
     answer: &mut bool,
 ) -> bool
-    ensures { IsTrue result → (IsTrue answer.new ↔ ShareSome (has_leaf xs.now) (has_leaf ys.now)) }
+    ensures answer { IsTrue result → (IsTrue answer.new ↔ ShareSome (has_leaf xs.now) (has_leaf ys.now)) }
+    ensures local { IsTrue result → IsLocal xs.now × IsLocal ys.now }
 {
     let (Some(x), Some(y)) = (union_of(alloc, xs), union_of(alloc, ys)) else {
         return false;

@@ -18,6 +18,7 @@ pub extern "C" fn s2c_union(
 ) -> bool
     ensures within { IsTrue result → len.new ≤ length out.new }
     ensures normal { IsTrue result → IsNormalForm (either (has_leaf xs.now) (has_leaf ys.now)) (take len.new out.new) }
+    ensures local { IsTrue result → IsLocal xs.now × IsLocal ys.now }
 {
     let (Some(x), Some(y)) = (union_of(alloc, xs), union_of(alloc, ys)) else {
         return false;
@@ -45,6 +46,7 @@ pub extern "C" fn s2c_intersection(
 ) -> bool
     ensures within { IsTrue result → len.new ≤ length out.new }
     ensures normal { IsTrue result → IsNormalForm (shared (has_leaf xs.now) (has_leaf ys.now)) (take len.new out.new) }
+    ensures local { IsTrue result → IsLocal xs.now × IsLocal ys.now }
 {
     let (Some(x), Some(y)) = (union_of(alloc, xs), union_of(alloc, ys)) else {
         return false;
@@ -72,6 +74,7 @@ pub extern "C" fn s2c_difference(
 ) -> bool
     ensures within { IsTrue result → len.new ≤ length out.new }
     ensures normal { IsTrue result → IsNormalForm (without (has_leaf xs.now) (has_leaf ys.now)) (take len.new out.new) }
+    ensures local { IsTrue result → IsLocal xs.now × IsLocal ys.now }
 {
     let (Some(x), Some(y)) = (union_of(alloc, xs), union_of(alloc, ys)) else {
         return false;

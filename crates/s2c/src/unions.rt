@@ -76,6 +76,7 @@ pub extern "C" fn s2c_denormalised(
 ) -> bool
     ensures within { IsTrue result → len.new ≤ length out.new }
     ensures cells { IsTrue result → take len.new out.new ≡ denormalised min modulus ids.now }
+    ensures local { IsTrue result → IsLocal ids.now }
 {
     if min > 30 || modulus == 0 || modulus > 3 {
         return false;
