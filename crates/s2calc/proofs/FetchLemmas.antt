@@ -1,9 +1,12 @@
 -- What is fetched from shelves that tell the same.
-use Rattle.std.proofs.Common.{◌≡◌, ◌≢◌, ℕ, ◌+◌, ◌%◌, ◌^◌, inl, inr, Bool, true, List, Option, None, Some, Ok, Err, sym, ◌∙◌, subst}
+use Rattle.std.proofs.Common.{◌≡◌, ◌≢◌, ℕ, ◌<◌, inl, inr, Bool, true, List, take, Option, None, Some, Ok, Err, refl, sym, ◌∙◌, subst}
+use Rattle.std.specs.Prelude.{option_map}
 use Rattle.std.proofs.lemmas.Option.{same_Some, none-some}
-use Rattle.s2file.specs.File.{File}
+use Rattle.s2file.specs.declared.union_file.TheConstants.{MOST_SIZE}
+use Rattle.s2file.specs.File.{File, Faults}
+use Rattle.s2file.proofs.Beginnings.{file_begins, fault_begins}
 use Rattle.s2file.proofs.Files.{same_leaves, no_fault}
-use Rattle.s2shelf.specs.Shelf.{Files, SameFiles, Finds}
+use Rattle.s2shelf.specs.Shelf.{Files, SameFiles, Finds, FindsBeginning}
 use Rattle.s2script.specs.declared.refusal.Refusal.{Refusal}
 use Rattle.s2script.specs.declared.refusal.Refusal.TheVariants.{File as NoFile, Memory}
 use Rattle.s2calc.specs.Fetch.{Fetches, Reads, FetchesUnion}
@@ -20,6 +23,34 @@ turned a b s = record { one = s.other; other = s.one; at = λ name. sym (s.at na
 -- neither want of memory nor a failed shelf
 abbrev pub IsSettled : Refusal → Type 0
 IsSettled refusal = (refusal ≢ Memory) × (refusal ≢ NoFile)
+
+-- ---- beginnings
+
+some_begun : (content : Option (List ℕ)) (most : ℕ) (bytes : List ℕ) → Some bytes ≡ option_map (take most) content
+    → (whole : List ℕ) × (content ≡ Some whole) × (bytes ≡ take most whole)
+some_begun None most bytes e = absurd (none-some bytes (sym e))
+some_begun (Some whole) most bytes e = (whole, refl, same_Some bytes (take most whole) e)
+
+none_begun : (content : Option (List ℕ)) (most : ℕ) → None ≡ option_map (take most) content → content ≡ None
+none_begun None most e = refl
+none_begun (Some whole) most e = absurd (none-some (take most whole) e)
+
+-- the first bytes of a file that was found
+pub begun : (old new : Files) (name bytes : List ℕ) (most : ℕ) → FindsBeginning old name most (Some bytes) new
+    → (content : List ℕ) × Fetches name old (Ok content) new × (bytes ≡ take most content)
+begun old new name bytes most f =
+    let found = some_begun f.content most bytes f.is in (found.0, subst (λ c. Finds old name c new) found.1 f.finds, found.2)
+
+pub begun_none : (old new : Files) (name : List ℕ) (most : ℕ) → FindsBeginning old name most None new → Finds old name None new
+begun_none old new name most f = subst (λ c. Finds old name c new) (none_begun f.content most f.is) f.finds
+
+-- a content is read as its first bytes are, if these are more than a file can have
+pub reads_whole : (content bytes : List ℕ) (n : ℕ) (S : ℕ → Bool) → MOST_SIZE < n → bytes ≡ take n content → Reads bytes (Ok S) → Reads content (Ok S)
+reads_whole content bytes n S h e r = file_begins content n S h (subst (λ b. File b S) e r)
+
+pub refuses_whole : (content bytes : List ℕ) (n : ℕ) (refusal : Refusal) → MOST_SIZE < n → bytes ≡ take n content → Reads bytes (Err refusal) → Reads content (Err refusal)
+refuses_whole content bytes n refusal h e (inl r) = inl (r.0, fault_begins content n r.0 h r.2 (subst (λ b. Faults b r.0) e r.1), r.2, r.3)
+refuses_whole content bytes n refusal h e (inr r) = inr r
 
 -- ---- the content
 

@@ -9,7 +9,7 @@ use Rattle.s2script.specs.declared.command.Parsed.TheVariants.{Nothing, Does, Fa
 use Rattle.s2script.specs.declared.refusal.Refusal.{Refusal}
 use Rattle.s2script.specs.declared.refusal.Refusal.TheVariants.{File as NoFile, Memory}
 use Rattle.s2script.specs.Line.{line_of}
-use Rattle.s2edit.specs.History.{History, undone, redone}
+use Rattle.s2edit.specs.History.{undone, redone}
 use Rattle.s2calc.specs.World.{World}
 use Rattle.s2calc.specs.Replies.{Reply, Silent, Says, Refuses}
 use Rattle.s2calc.specs.Texts.{saved_line}

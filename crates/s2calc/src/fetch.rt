@@ -1,27 +1,33 @@
 //! What the shelf has under a name: the bytes of a file, and the union that they stand for.
-ghost use Rattle.std.specs.Prelude.{MatchResult, Ok, Err};
+ghost use Rattle.std.specs.Prelude.{◌≡◌, ℕ, List, take, MatchResult, Ok, Err};
 ghost use Rattle.s2union.specs.Union.{has_leaf, IsNormalForm};
 ghost use Rattle.s2calc.specs.Fetch.{Fetches, FetchesUnion, Reads};
 
-use s2file::{FileFault, decode};
+use s2file::{FileFault, MOST_SIZE, decode};
 use s2script::Refusal;
 use s2shelf::{Shelf, ShelfFault};
 use s2union::CellUnion;
 use std::alloc::Global;
 
-/// The content under a name, or why there is none. The shelf is asked once.
-pub(crate) fn fetch<S: Shelf>(shelf: &mut S, name: &str) -> Result<Vec<u8>, Refusal>
+/// The first `most` bytes of the content under a name, all of it if it has no more, or why there is none. The shelf is
+/// asked once.
+#[tactic(auto, using(crate::proofs::FetchLemmas::begun, crate::proofs::FetchLemmas::begun_none))]
+pub(crate) fn fetch<S: Shelf>(shelf: &mut S, name: &str, most: usize) -> Result<Vec<u8>, Refusal>
     ensures { MatchResult result
-        (λ bytes. Fetches name.now (S.files shelf.old) (Ok bytes.items) (S.files shelf.new))
+        (λ bytes. (content : List ℕ) × Fetches name.now (S.files shelf.old) (Ok content) (S.files shelf.new) × (bytes.items ≡ take most content))
         (λ refusal. Fetches name.now (S.files shelf.old) (Err refusal) (S.files shelf.new)) }
 {
-    match shelf.get(name) {
+    match shelf.get_beginning(name, most) {
         Ok(Some(bytes)) => Ok(bytes),
         Ok(None) => Err(Refusal::Missing),
         Err(ShelfFault::Device) => Err(Refusal::File),
         Err(ShelfFault::Memory) => Err(Refusal::Memory),
     }
 }
+
+/// How many bytes of a union file are asked for: one more than the longest has, so that a longer file is refused as
+/// what it is, and no more of it is read.
+const BYTES_OF_A_UNION: usize = MOST_SIZE + 1;
 
 /// The union that the file under a name stands for, or why there is none. The shelf is asked first, then the
 /// bytes are read.
@@ -34,7 +40,7 @@ pub(crate) fn fetch_union<S: Shelf>(
         (λ union. FetchesUnion name.now (S.files shelf.old) (Ok (has_leaf union.cells)) (S.files shelf.new) × IsNormalForm (has_leaf union.cells) union.cells)
         (λ refusal. FetchesUnion name.now (S.files shelf.old) (Err refusal) (S.files shelf.new)) }
 {
-    match fetch(shelf, name) {
+    match fetch(shelf, name, BYTES_OF_A_UNION) {
         Ok(bytes) => read(alloc, bytes.as_slice()),
         Err(refusal) => Err(refusal),
     }

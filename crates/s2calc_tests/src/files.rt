@@ -16,6 +16,7 @@ const SORTED: &[u8] = b"\x01\x02\0\0\0\0\0\0\0\0\0\0\0\0\0\0\x04\0\0\0\0\0\0\0\x
 
 /// A file that is taken: its bytes, what its `load` answers over a register with the cell 3, the cells that the
 /// register then shows, and what its check answers.
+#[derive(Clone, Copy)]
 struct Taken {
     bytes: &'static [u8],
     loaded: &'static str,

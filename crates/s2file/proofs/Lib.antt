@@ -2,4 +2,5 @@ pub mod Numbers
 pub mod Reading
 pub mod Files
 pub mod Texts
+pub mod Beginnings
 pub mod Known

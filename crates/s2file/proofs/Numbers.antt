@@ -10,6 +10,10 @@ weighed-append zero chunk more h = refl
 weighed-append (suc n) chunk more h = rw (weighed-append n chunk more (omega arith), get_or_append_left chunk more 0 n (omega arith)) refl
 
 -- the number of the first eight bytes needs no others
+pub first_number-longer : (xs more : List ℕ) → 8 ≤ length xs → first_number (xs ++ more) ≡ first_number xs
+unfolding first_number
+first_number-longer xs more h = weighed-append 8 xs more h
+
 pub first_number-append : (chunk more : List ℕ) → length chunk ≡ 8 → first_number (chunk ++ more) ≡ first_number chunk
 unfolding first_number
 first_number-append chunk more h = weighed-append 8 chunk more (omega arith)

@@ -1,7 +1,7 @@
 //! What follows for union files from their definitions, and the way back from bytes to a union.
-ghost use Rattle.std.specs.Prelude.{◌≡◌, ◌≢◌, ◌≤◌, ℕ, Bool, List, [], ◌∷◌, ◌++◌, length, replicate, MatchResult};
+ghost use Rattle.std.specs.Prelude.{◌≡◌, ◌≢◌, ◌<◌, ◌≤◌, ℕ, Bool, List, [], ◌∷◌, ◌++◌, length, take, replicate, MatchResult};
 ghost use Rattle.s2union.specs.Union.{has_leaf};
-ghost use Rattle.s2file.specs.declared.union_file.TheConstants.{MOST_CELLS};
+ghost use Rattle.s2file.specs.declared.union_file.TheConstants.{MOST_CELLS, MOST_SIZE};
 ghost use Rattle.s2file.specs.File.{File, Faults, file_text, Bytes};
 ghost use Rattle.s2file.specs.declared.fault.FileFault.{FileFault as Fault};
 
@@ -16,6 +16,14 @@ pub fn one_reading()
     ensures leaves { (bytes : List ℕ) (S T : ℕ → Bool) → File bytes S → File bytes T → (x : ℕ) → S x ≡ T x }
     ensures no_fault { (bytes : List ℕ) (S : ℕ → Bool) (fault : Fault) → File bytes S → Faults bytes fault → fault ≡ FileFault.Memory }
     ensures one_fault { (bytes : List ℕ) (fault other : Fault) → Faults bytes fault → Faults bytes other → fault ≢ FileFault.Memory → other ≢ FileFault.Memory → fault ≡ other }
+{}
+
+/// Whoever has more than `MOST_SIZE` bytes of a text needs no others: where these are all there is or a beginning, the
+/// text is a file of a set if they are, and has each fault that they have.
+pub fn beginning_decides()
+    ensures longest { (bytes : List ℕ) (S : ℕ → Bool) → File bytes S → length bytes ≤ MOST_SIZE }
+    ensures file { (bytes : List ℕ) (n : ℕ) (S : ℕ → Bool) → MOST_SIZE < n → File (take n bytes) S → File bytes S }
+    ensures fault { (bytes : List ℕ) (n : ℕ) (fault : Fault) → MOST_SIZE < n → fault ≢ FileFault.Memory → Faults (take n bytes) fault → Faults bytes fault }
 {}
 
 /// Equal sets of leaves have equal bytes.

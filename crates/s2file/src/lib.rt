@@ -11,7 +11,7 @@ pub mod laws;
 pub mod union_file;
 
 pub use crate::fault::FileFault;
-pub use crate::union_file::{MOST_CELLS, decode, encode};
+pub use crate::union_file::{MOST_CELLS, MOST_SIZE, decode, encode};
 
 #[cfg(test)]
 mod tests;

@@ -22,6 +22,9 @@ const NUMBER_SIZE: usize = 8;
 /// How many identifiers a file may hold: the greatest count that `decode` takes.
 pub const MOST_CELLS: u64 = 1_000_000;
 
+/// The size of the longest file, in bytes: the head and `MOST_CELLS` identifiers.
+pub const MOST_SIZE: usize = 8_000_009;
+
 /// The union that a file stands for: the normal form of the leaves of its cells.
 ///
 /// The cells may come in any order, doubled, contained in one another or unmerged. Bytes of any

@@ -1,14 +1,18 @@
-use Rattle.std.proofs.Common.{◌≡◌, Ok, Err, inr, rules, subst}
+use Rattle.std.proofs.Common.{◌≡◌, ◌<◌, Ok, Err, inr, rules, subst, arith}
 use Rattle.std.proofs.lemmas.Result.{MatchResult-weaker}
 use Rattle.s2union.specs.Union.{has_leaf}
+use Rattle.s2file.specs.declared.union_file.TheConstants.{MOST_SIZE}
+use Rattle.s2calc.specs.declared.fetch.TheConstants.{BYTES_OF_A_UNION}
 use Rattle.s2calc.specs.Fetch.{Reads}
+use Rattle.s2calc.proofs.FetchLemmas.{reads_whole, refuses_whole}
 use Rattle.s2calc.proofs.fetch.fetch_union.Goals as goal
 
 pub returns-in-Ok : goal.returns-in-Ok
 returns-in-Ok g c =
     let bytes = c.in-Ok.bytes.items in
-    let fetched = c.in-Ok.ensures in
-    let whole : c.as_slice.result.now ≡ bytes = search rules in
+    let (content, fetched, begins) = c.in-Ok.ensures in
+    let same : c.as_slice.result.now ≡ bytes = search rules in
+    let longer : MOST_SIZE < BYTES_OF_A_UNION = omega arith in
     MatchResult-weaker c.read.result c.read.ensures
-    (λ union known. ((bytes, fetched, subst (λ b. Reads b (Ok (has_leaf union.cells))) whole known.0), known.1))
-    (λ refusal known. inr (bytes, fetched, subst (λ b. Reads b (Err refusal)) whole known))
+    (λ union known. ((content, fetched, reads_whole content bytes BYTES_OF_A_UNION (has_leaf union.cells) longer begins (subst (λ b. Reads b (Ok (has_leaf union.cells))) same known.0)), known.1))
+    (λ refusal known. inr (content, fetched, refuses_whole content bytes BYTES_OF_A_UNION refusal longer begins (subst (λ b. Reads b (Err refusal)) same known)))
