@@ -16,7 +16,7 @@ use Rattle.s2file.specs.Shelf.{Files, SameFiles, PutsFile}
 use Rattle.s2file.specs.File.{Bytes, file_text}
 use Rattle.s2file.proofs.Files.{same_leaves, no_fault}
 use Rattle.s2script.specs.declared.command.Question.{Question}
-use Rattle.s2script.specs.declared.command.Question.TheVariants.{Cell, At, Square, Show, Count, Has, Touches, Covers, Meets, Denorm, History as Sides}
+use Rattle.s2script.specs.declared.command.Question.TheVariants.{Cell, At, Square, Show, Count, Has, Touches, Compares, Denorm, History as Sides}
 use Rattle.s2script.specs.declared.command.Command.{Command}
 use Rattle.s2script.specs.declared.command.Command.TheVariants.{Edit, Load, Save, Undo, Redo, Ask}
 use Rattle.s2script.specs.declared.command.Parsed.{Parsed}
@@ -70,8 +70,7 @@ one_answer (Show r) state x y a b = a ∙ sym b
 one_answer (Count r) state x y a b = a ∙ sym b
 one_answer (Has r n) state x y a b = one_tells _ x y a b
 one_answer (Touches r n) state x y a b = one_tells _ x y a b
-one_answer (Covers r s) state x y a b = one_tells _ x y a b
-one_answer (Meets r s) state x y a b = one_tells _ x y a b
+one_answer (Compares comparison r s) state x y a b = one_tells _ x y a b
 one_answer (Denorm r least modulus) state x y a b = one_list _ x y a b
 one_answer Sides state x y a b = a ∙ sym b
 

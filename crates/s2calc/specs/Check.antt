@@ -8,8 +8,9 @@ use Rattle.s2file.specs.File.{File, Faults}
 use Rattle.s2file.specs.declared.fault.FileFault.{FileFault}
 use Rattle.s2file.specs.declared.fault.FileFault.TheVariants.{Memory as NoMemory}
 use Rattle.s2file.specs.declared.shelf.ShelfFault.TheVariants.{Device}
-use Rattle.s2script.specs.declared.refusal.Refusal.{Refusal}
-use Rattle.s2script.specs.declared.refusal.Refusal.TheVariants.{Name as NoName, Missing, File as NoFile, Format, Memory}
+use Rattle.s2script.specs.declared.refusal.Refusal.TheVariants.{Name as NoName}
+use Rattle.s2calc.specs.declared.refusal.Refusal.{Refusal}
+use Rattle.s2calc.specs.declared.refusal.Refusal.TheVariants.{Words, Missing, File as NoFile, Format, Memory}
 use Rattle.s2script.specs.FileName.{is_name}
 use Rattle.s2calc.specs.declared.fault.RunFault.{RunFault}
 use Rattle.s2calc.specs.declared.fault.RunFault.TheVariants.{Output}
@@ -39,7 +40,7 @@ ChecksFile name old reply new =
 
 -- the name is looked at first
 abbrev pub Checks : List ℕ → Files → Reply → Files → Type 0
-Checks name old reply new = ((is_name name ≡ false) × (reply ≡ Refuses NoName) × (new ≡ old)) ⊎ ((is_name name ≡ true) × ChecksFile name old reply new)
+Checks name old reply new = ((is_name name ≡ false) × (reply ≡ Refuses (Words NoName)) × (new ≡ old)) ⊎ ((is_name name ≡ true) × ChecksFile name old reply new)
 
 abbrev pub check_reply : Result (ℕ × ℕ) Refusal → Reply
 check_reply (Ok counts) = Says (count_line counts.0 counts.1)

@@ -10,8 +10,8 @@ use Rattle.s2edit.specs.History.{History, Assigned, sets, numbers}
 use Rattle.s2edit.specs.Leads.{list_at}
 use Rattle.s2script.specs.declared.command.Edit.{Edit}
 use Rattle.s2script.specs.declared.command.Edit.TheVariants.{Add, Remove, Keep, Clear, Copy, Union, Intersect, Subtract, Range, Outer, Inner, OuterOf, InnerOf}
-use Rattle.s2script.specs.declared.refusal.Refusal.{Refusal}
-use Rattle.s2script.specs.declared.refusal.Refusal.TheVariants.{TooMany, Memory, Nothing}
+use Rattle.s2calc.specs.declared.refusal.Refusal.{Refusal}
+use Rattle.s2calc.specs.declared.refusal.Refusal.TheVariants.{TooMany, Memory, Nothing}
 use Rattle.s2calc.specs.Replies.{Reply, Says, Refuses}
 use Rattle.s2calc.specs.Texts.{ok_line}
 

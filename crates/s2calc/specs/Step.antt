@@ -9,7 +9,7 @@ use Rattle.s2script.specs.declared.command.Command.{Command}
 use Rattle.s2script.specs.declared.command.Command.TheVariants.{Edit, Load, Save, Undo, Redo, Ask}
 use Rattle.s2script.specs.declared.command.Parsed.{Parsed}
 use Rattle.s2script.specs.declared.command.Parsed.TheVariants.{Nothing, Does, Fails}
-use Rattle.s2script.specs.declared.refusal.Refusal.TheVariants.{Missing, File as NoFile, Format, Memory}
+use Rattle.s2calc.specs.declared.refusal.Refusal.TheVariants.{Words, Missing, File as NoFile, Format, Memory}
 use Rattle.s2script.specs.Line.{line_of}
 use Rattle.s2edit.specs.History.{History, undone, redone}
 use Rattle.s2calc.specs.World.{World}
@@ -55,7 +55,7 @@ Acts (Ask question) old reply new = Answers question old.state reply × (new ≡
 
 abbrev pub StepBy : Parsed → World → Reply → World → Type 0
 StepBy Nothing old reply new = (reply ≡ Silent) × (new ≡ old)
-StepBy (Fails refusal) old reply new = (reply ≡ Refuses refusal) × (new ≡ old)
+StepBy (Fails refusal) old reply new = (reply ≡ Refuses (Words refusal)) × (new ≡ old)
 StepBy (Does command) old reply new = Acts command old reply new
 
 -- from old, the line may be given this reply and leave new

@@ -9,9 +9,10 @@ ghost use Rattle.s2calc.specs.Answer.{reply_of};
 ghost use Rattle.s2calc.specs.Edits.{new_set, leaves_of, no_leaf, within, Makes, Gets, Moves};
 
 use crate::answer::Answer;
+use crate::refusal::Refusal;
 use s2cover::{Clip, CoverFault, FaceRect, Looks, inner, outer, rect_inner, rect_outer};
 use s2edit::{EditFault, Editor, Register};
-use s2script::{Cells, Edit, Level, Refusal};
+use s2script::{Cells, Edit, Level};
 use s2union::{CellUnion, normalise};
 use std::alloc::{AllocError, Global};
 

@@ -6,9 +6,10 @@ ghost use Rattle.s2calc.specs.World.{world};
 
 use crate::answer::Answer;
 use crate::edits::assign;
+use crate::refusal::Refusal;
 use s2edit::{Editor, Register};
 use s2file::{FileFault, Shelf, ShelfFault, decode, encode};
-use s2script::{Name, Refusal};
+use s2script::Name;
 use std::alloc::Global;
 
 /// Gives a register what a file holds. The shelf is asked first, then the bytes are read, and then the limit counts.
