@@ -11,9 +11,10 @@ LEAVES = 6 * 4**30
 SIDE = 2**30
 QUADRANT = ((0, 1, 3, 2), (0, 2, 3, 1), (3, 2, 0, 1), (3, 1, 0, 2))
 TURN = (1, 0, 0, 3)
+REGISTERS = string.ascii_lowercase
+LONGEST_LINE = 4096
 MOST_IN_A_FILE = 1_000_000
 MOST_LISTED = 1_000_000
-REGISTERS = string.ascii_lowercase
 
 
 class Refused(Exception):
@@ -234,9 +235,10 @@ class Words:
 
     def register(self):
         word = self.next()
-        if not re.fullmatch(rb"[a-z]", word):
+        letter = word.decode("latin-1")
+        if len(letter) != 1 or letter not in REGISTERS:
             raise Refused("register")
-        return word.decode()
+        return letter
 
     def cell(self):
         return cell_in(self.next())
@@ -285,6 +287,16 @@ def cell_line(cell):
     return f"cell {token(cell)} {debug(cell)} level {cell[0]} face {cell[1] // 4**cell[0]} leaves {first} {end - 1}"
 
 
+# The commands over two registers: what the first then holds, and what is told of both.
+EDITS_BY_REGISTER = {
+    "copy": lambda a, b: b,
+    "union": lambda a, b: joined(a + b),
+    "intersect": shared,
+    "subtract": without,
+}
+COMPARISONS = {"covers": lambda a, b: not without(b, a), "meets": shared}
+
+
 class Calculator:
     """Registers, their history, and files by name; a folder stands in the place of a file whose bytes are None."""
 
@@ -307,13 +319,17 @@ class Calculator:
         return "".join(written).encode(), refused
 
     def answer(self, line):
-        if len(line) > 4096:
+        if len(line) > LONGEST_LINE:
             raise Refused("line")
         line = line[:-1] if line.endswith(b"\r") else line
         words = re.findall(rb"[^ \t]+", line)
         if line.startswith(b"#") or not words:
             return []
         command = words[0].decode("latin-1")
+        if command in EDITS_BY_REGISTER:
+            return self.edit_by_register(Words(words[1:]), EDITS_BY_REGISTER[command])
+        if command in COMPARISONS:
+            return self.compare(Words(words[1:]), COMPARISONS[command])
         method = getattr(self, "do_" + command, None) if re.fullmatch("[a-z]+", command) else None
         if method is None:
             raise Refused("syntax")
@@ -381,18 +397,6 @@ class Calculator:
         register, other = words.register(), words.register()
         words.end()
         return self.assign(register, operation(self.table[register], self.table[other]))
-
-    def do_copy(self, words):
-        return self.edit_by_register(words, lambda a, b: b)
-
-    def do_union(self, words):
-        return self.edit_by_register(words, lambda a, b: joined(a + b))
-
-    def do_intersect(self, words):
-        return self.edit_by_register(words, shared)
-
-    def do_subtract(self, words):
-        return self.edit_by_register(words, without)
 
     def do_range(self, words):
         register, first, last = words.register(), words.cell(), words.cell()
@@ -472,15 +476,10 @@ class Calculator:
         words.end()
         return self.tell(shared([run_of(cell)], self.table[register]))
 
-    def do_covers(self, words):
+    def compare(self, words, comparison):
         register, other = words.register(), words.register()
         words.end()
-        return self.tell(not without(self.table[other], self.table[register]))
-
-    def do_meets(self, words):
-        register, other = words.register(), words.register()
-        words.end()
-        return self.tell(shared(self.table[register], self.table[other]))
+        return self.tell(comparison(self.table[register], self.table[other]))
 
     def do_denorm(self, words):
         register, least, modulus = words.register(), words.level(), words.modulus()

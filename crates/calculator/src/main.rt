@@ -4,7 +4,7 @@
 ghost use Rattle.std.specs.Prelude.{◌≤◌};
 
 use s2calc::{Job, RunFault, Stop, Tally, cell_answer, check_answer, job, run_promptly, status};
-use s2edit::Editor;
+use s2edit::{Editor, MOST_CELLS, MOST_STATES};
 use s2shelf::DirShelf;
 use std::io::{BufWriter, ErrorKind};
 use std::process::ExitCode;
@@ -40,8 +40,8 @@ fn main(rt: HostRuntime) -> ExitCode {
 
 /// Answers the script on standard input.
 fn run_script(rt: &HostRuntime, limit: usize, depth: usize, dir: &str) -> ExitCode
-    requires limit { (1 ≤ limit) × (limit ≤ 1000000) }
-    requires depth { (1 ≤ depth) × (depth ≤ 1000) }
+    requires limit { (1 ≤ limit) × (limit ≤ MOST_CELLS) }
+    requires depth { (1 ≤ depth) × (depth ≤ MOST_STATES) }
 {
     let Ok(mut editor) = Editor::open(rt.alloc(), limit, depth) else {
         return ended(rt, &Err(RunFault::Memory));

@@ -4,6 +4,8 @@ use Rattle.std.proofs.lemmas.List.Concat.{flat_map-append}
 use Rattle.std.proofs.Math.Seq.{take-append-add}
 use Rattle.std.specs.Io.KnownBytes.{Appends, Keeps}
 use Rattle.std.proofs.KnownBytes.{Appends-nil, Appends-kept}
+use Rattle.s2script.specs.declared.limits.TheConstants.{LONGEST_LINE}
+use Rattle.s2calc.specs.declared.limits.TheConstants.{KEPT}
 use Rattle.s2calc.specs.World.{World}
 use Rattle.s2calc.specs.declared.engine.Tally.{Tally}
 use Rattle.s2script.specs.Lines.{BeginsWith, but_last, last_line, lines}
@@ -37,11 +39,11 @@ IsCutOff-after before (m ∷ ms) bytes b =
       );
     }
 
-last_line-none : (rest : List ℕ) → take 4097 rest ≡ [] → last_line rest ≡ []
+last_line-none : (rest : List ℕ) → take KEPT rest ≡ [] → last_line rest ≡ []
 last_line-none [] e = refl
-last_line-none (b ∷ bs) e = let bad : b ∷ take 4096 bs ≡ [] = e in absurd cc
+last_line-none (b ∷ bs) e = let bad : b ∷ take LONGEST_LINE bs ≡ [] = e in absurd cc
 
-last_line-one : (rest : List ℕ) → 0 < length (take 4097 rest) → last_line rest ≡ rest ∷ []
+last_line-one : (rest : List ℕ) → 0 < length (take KEPT rest) → last_line rest ≡ rest ∷ []
 last_line-one [] h = absurd (omega arith)
 last_line-one (b ∷ bs) h = refl
 
@@ -53,7 +55,7 @@ module _ (start : World) (script : List ℕ) (replies : List Reply) (editor : Wo
   lines_one : 0 < length kept → lines script ≡ s.done ++ s.rest ∷ []
   lines_one h =
       let kept_is = s.kept_is in
-      let more : 0 < length (take 4097 s.rest) = subst (λ k. 0 < length k) s.kept_is h in
+      let more : 0 < length (take KEPT s.rest) = subst (λ k. 0 < length k) s.kept_is h in
       lines_begun script s.done s.rest s.begins s.unbroken ∙ ap (λ ls. s.done ++ ls) (last_line-one s.rest more)
 
   run_none : kept ≡ [] → Steps start (lines script) (replies ++ []) editor

@@ -1,21 +1,18 @@
 -- Answers `error file` are counted by the shelf.
-use Rattle.std.proofs.Common.{◌≡◌, ℕ, ◌+◌, ◌%◌, ◌^◌, ◌<◌, inl, inr, Bool, true, false, cond, List, [], ◌∷◌, refl, sym, ap, ◌∙◌, subst, arith, Err, count_by}
+use Rattle.std.proofs.Common.{◌≡◌, ℕ, ◌+◌, ◌%◌, ◌^◌, ◌<◌, inl, inr, Bool, true, false, cond, List, [], ◌∷◌, sym, ap, ◌∙◌, subst, arith, Err, count_by}
 use Rattle.std.proofs.Math.Nat.{mod-add-mod, mod-eq_of_lt, mod-lt}
 use Rattle.std.proofs.lemmas.Nat.{pow_pos}
 use Rattle.std.proofs.lemmas.List.Sums.{sum_by-cons}
 use Rattle.s2edit.specs.History.{History}
 use Rattle.s2shelf.specs.Shelf.{Files}
-use Rattle.s2script.specs.declared.refusal.Refusal.{Refusal}
-use Rattle.s2script.specs.declared.refusal.Refusal.TheVariants.{Syntax, Cell, Register, Level, Face, Rectangle, Order, Name, Missing, File, Format, TooMany, Nothing, Memory, Line}
+use Rattle.s2calc.specs.declared.refusal.Refusal.{Refusal}
 use Rattle.s2script.specs.declared.command.Question.{Question}
-use Rattle.s2script.specs.declared.command.Question.TheVariants.{Cell as OfCell, At, Square, Show, Count, Has, Touches, Covers, Meets, Denorm, History as Sides}
+use Rattle.s2script.specs.declared.command.Question.TheVariants.{Cell as OfCell, At, Square, Show, Count, Has, Touches, Compares, Denorm, History as Sides}
 use Rattle.s2script.specs.declared.command.Command.{Command}
 use Rattle.s2script.specs.declared.command.Command.TheVariants.{Edit, Load, Save, Undo, Redo, Ask}
 use Rattle.s2script.specs.declared.command.Parsed.{Parsed}
 use Rattle.s2script.specs.declared.command.Parsed.TheVariants.{Nothing as Silence, Does, Fails}
-use Rattle.s2script.specs.Refusals.{IsOfWords}
 use Rattle.s2script.specs.Line.{line_of}
-use Rattle.s2script.proofs.RefusalLemmas.{refusal_of_line}
 use Rattle.s2calc.specs.World.{World}
 use Rattle.s2calc.specs.Replies.{Reply, Refuses}
 use Rattle.s2calc.specs.Questions.{Tells, ListsSome, Answers}
@@ -23,25 +20,8 @@ use Rattle.s2calc.specs.Edits.{Gets, Moves}
 use Rattle.s2calc.specs.Fetch.{FetchesUnion}
 use Rattle.s2calc.specs.Step.{Loads, Saves, Acts, StepBy}
 use Rattle.s2calc.specs.Run.{Steps}
-use Rattle.s2calc.specs.Laws.{is_of_shelf, is_failure}
+use Rattle.s2calc.specs.Laws.{is_failure}
 use Rattle.s2calc.proofs.FetchLemmas.{union_keeps}
-
-words_no_shelf : (refusal : Refusal) → IsOfWords refusal → is_of_shelf refusal ≡ false
-words_no_shelf Syntax w = refl
-words_no_shelf Cell w = refl
-words_no_shelf Register w = refl
-words_no_shelf Level w = refl
-words_no_shelf Face w = refl
-words_no_shelf Rectangle w = refl
-words_no_shelf Order w = refl
-words_no_shelf Name w = refl
-words_no_shelf Line w = refl
-words_no_shelf Missing w = absurd w
-words_no_shelf File w = absurd w
-words_no_shelf Format w = absurd w
-words_no_shelf TooMany w = absurd w
-words_no_shelf Nothing w = absurd w
-words_no_shelf Memory w = absurd w
 
 tells_no_failure : (P : Type 0) (x : Reply) → Tells P x → is_failure x ≡ false
 tells_no_failure P x (inl a) = ap is_failure a.1
@@ -59,8 +39,7 @@ answer_no_failure (Show r) state x a = ap is_failure a
 answer_no_failure (Count r) state x a = ap is_failure a
 answer_no_failure (Has r n) state x a = tells_no_failure _ x a
 answer_no_failure (Touches r n) state x a = tells_no_failure _ x a
-answer_no_failure (Covers r s) state x a = tells_no_failure _ x a
-answer_no_failure (Meets r s) state x a = tells_no_failure _ x a
+answer_no_failure (Compares comparison r s) state x a = tells_no_failure _ x a
 answer_no_failure (Denorm r least modulus) state x a = list_no_failure _ x a
 answer_no_failure Sides state x a = ap is_failure a
 
@@ -69,9 +48,9 @@ get_no_failure S r old new x (inl a) = ap is_failure a.told
 get_no_failure S r old new x (inr (inl a)) = ap is_failure a.0
 get_no_failure S r old new x (inr (inr a)) = ap is_failure a.0
 
-move_no_failure : (side : List (List (List ℕ))) (old moved new : History (List ℕ)) (x : Reply) → Moves side old moved x new → is_failure x ≡ false
-move_no_failure side old moved new x (inl a) = ap is_failure a.3
-move_no_failure side old moved new x (inr a) = ap is_failure a.2
+move_no_failure : (side : List (List (List ℕ))) (old moved new : History (List ℕ)) (ms : History (ℕ → Bool)) (x : Reply) → Moves side old moved ms x new → is_failure x ≡ false
+move_no_failure side old moved new ms x (inl a) = ap is_failure a.3
+move_no_failure side old moved new ms x (inr a) = ap is_failure a.2
 
 -- the count rose by one where the answer is `error file`, and stayed elsewhere
 record IsCounted (a c : World) (x : Reply) : Type 0 where
@@ -105,14 +84,14 @@ count_act : (command : Command) (a c : World) (x : Reply) → a.files.failures <
 count_act (Edit r edit) a c x h l = stays a c x h (get_no_failure _ r a.state c.state x l.0) (ap (λ (f : Files). f.failures) l.1)
 count_act (Load r name) a c x h l = count_load r name a c x h l
 count_act (Save r name) a c x h l = count_save r name a c x h l
-count_act Undo a c x h l = stays a c x h (move_no_failure _ a.state _ c.state x l.0) (ap (λ (f : Files). f.failures) l.1)
-count_act Redo a c x h l = stays a c x h (move_no_failure _ a.state _ c.state x l.0) (ap (λ (f : Files). f.failures) l.1)
+count_act Undo a c x h l = stays a c x h (move_no_failure _ a.state _ c.state _ x l.0) (ap (λ (f : Files). f.failures) l.1)
+count_act Redo a c x h l = stays a c x h (move_no_failure _ a.state _ c.state _ x l.0) (ap (λ (f : Files). f.failures) l.1)
 count_act (Ask question) a c x h l = stays a c x h (answer_no_failure question a.state x l.0) (ap (λ (w : World). w.files.failures) l.1)
 
-count_line_of : (parsed : Parsed) → ((refusal : Refusal) → parsed ≡ Fails refusal → IsOfWords refusal) → (a c : World) (x : Reply) → a.files.failures < 2 ^ 64 → StepBy parsed a x c → IsCounted a c x
-count_line_of Silence w a c x h l = stays a c x h (ap is_failure l.0) (ap (λ (v : World). v.files.failures) l.1)
-count_line_of (Fails refusal) w a c x h l = stays a c x h (ap is_failure l.0 ∙ words_no_shelf refusal (w refusal refl)) (ap (λ (v : World). v.files.failures) l.1)
-count_line_of (Does command) w a c x h l = count_act command a c x h l
+count_line_of : (parsed : Parsed) → (a c : World) (x : Reply) → a.files.failures < 2 ^ 64 → StepBy parsed a x c → IsCounted a c x
+count_line_of Silence a c x h l = stays a c x h (ap is_failure l.0) (ap (λ (v : World). v.files.failures) l.1)
+count_line_of (Fails refusal) a c x h l = stays a c x h (ap is_failure l.0) (ap (λ (v : World). v.files.failures) l.1)
+count_line_of (Does command) a c x h l = count_act command a c x h l
 
 pub failures_of : (a b : World) (ls : List (List ℕ)) (rs : List Reply) → a.files.failures < 2 ^ 64 → Steps a ls rs b → b.files.failures ≡ (a.files.failures + count_by is_failure rs) % 2 ^ 64
 failures_of a b [] [] h s =
@@ -122,7 +101,7 @@ failures_of a b [] (x ∷ rs) h s = absurd s
 failures_of a b (line ∷ ls) [] h s = absurd s
 failures_of a b (line ∷ ls) (x ∷ rs) h s =
     let bit : ℕ = cond (is_failure x) 1 0 in
-    let one : s.0.files.failures ≡ (a.files.failures + bit) % 2 ^ 64 = (count_line_of (line_of line) (refusal_of_line line) a s.0 x h s.1.by).rose in
+    let one : s.0.files.failures ≡ (a.files.failures + bit) % 2 ^ 64 = (count_line_of (line_of line) a s.0 x h s.1.by).rose in
     let low : s.0.files.failures < 2 ^ 64 = subst (λ n. n < 2 ^ 64) (sym one) (mod-lt (a.files.failures + bit) (pow_pos 64)) in
     let rest = failures_of s.0 b ls rs low s.2 in
     let moved : (s.0.files.failures + count_by is_failure rs) % 2 ^ 64 ≡ (a.files.failures + bit + count_by is_failure rs) % 2 ^ 64 =

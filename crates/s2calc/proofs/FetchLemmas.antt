@@ -7,8 +7,8 @@ use Rattle.s2file.specs.File.{File, Faults}
 use Rattle.s2file.proofs.Beginnings.{file_begins, fault_begins}
 use Rattle.s2file.proofs.Files.{same_leaves, no_fault}
 use Rattle.s2shelf.specs.Shelf.{Files, SameFiles, Finds, FindsBeginning}
-use Rattle.s2script.specs.declared.refusal.Refusal.{Refusal}
-use Rattle.s2script.specs.declared.refusal.Refusal.TheVariants.{File as NoFile, Memory}
+use Rattle.s2calc.specs.declared.refusal.Refusal.{Refusal}
+use Rattle.s2calc.specs.declared.refusal.Refusal.TheVariants.{File as NoFile, Memory}
 use Rattle.s2calc.specs.Fetch.{Fetches, Reads, FetchesUnion}
 
 -- both shelves tell, and the same

@@ -10,17 +10,17 @@ use Rattle.s2cell.proofs.Calls.{size_at}
 use Rattle.s2cell.proofs.Squares.{one_leaf, one_square}
 use Rattle.s2union.specs.Union.{IsNormalForm}
 use Rattle.s2union.proofs.Normal.{one_normal_form, normal_form_same}
-use Rattle.s2edit.specs.History.{History, Assigned, numbers, undone, redone}
+use Rattle.s2edit.specs.History.{History, Assigned, numbers, undone, redone, sets}
 use Rattle.s2edit.proofs.OneEnd.{is_there}
 use Rattle.s2shelf.specs.Shelf.{Files, SameFiles, PutsFile}
 use Rattle.s2file.specs.File.{Bytes, file_text}
 use Rattle.s2script.specs.declared.command.Question.{Question}
-use Rattle.s2script.specs.declared.command.Question.TheVariants.{Cell, At, Square, Show, Count, Has, Touches, Covers, Meets, Denorm, History as Sides}
+use Rattle.s2script.specs.declared.command.Question.TheVariants.{Cell, At, Square, Show, Count, Has, Touches, Compares, Denorm, History as Sides}
 use Rattle.s2script.specs.declared.command.Command.{Command}
 use Rattle.s2script.specs.declared.command.Command.TheVariants.{Edit, Load, Save, Undo, Redo, Ask}
 use Rattle.s2script.specs.declared.command.Parsed.{Parsed}
 use Rattle.s2script.specs.declared.command.Parsed.TheVariants.{Nothing, Does, Fails}
-use Rattle.s2script.specs.declared.refusal.Refusal.{Refusal}
+use Rattle.s2calc.specs.declared.refusal.Refusal.{Refusal}
 use Rattle.s2script.specs.Line.{line_of}
 use Rattle.s2calc.specs.World.{World}
 use Rattle.s2calc.specs.Replies.{Reply, Says, Refuses}
@@ -71,8 +71,7 @@ one_answer (Show r) state x y a b = a ∙ sym b
 one_answer (Count r) state x y a b = a ∙ sym b
 one_answer (Has r n) state x y a b = one_tells _ x y a b
 one_answer (Touches r n) state x y a b = one_tells _ x y a b
-one_answer (Covers r s) state x y a b = one_tells _ x y a b
-one_answer (Meets r s) state x y a b = one_tells _ x y a b
+one_answer (Compares comparison r s) state x y a b = one_tells _ x y a b
 one_answer (Denorm r least modulus) state x y a b = one_list _ x y a b
 one_answer Sides state x y a b = a ∙ sym b
 
@@ -100,13 +99,13 @@ one_get S T r old new other x y e (inr (inl a)) (inr (inl b)) p q = (a.0 ∙ sym
 one_get S T r old new other x y e (inr (inl a)) (inr (inr b)) p q = absurd (q.0 b.0)
 one_get S T r old new other x y e (inr (inr a)) b p q = absurd (p.0 a.0)
 
-one_move : (side : List (List (List ℕ))) (old moved new other : History (List ℕ)) (x y : Reply) → Moves side old moved x new → Moves side old moved y other → (x ≡ y) × (new ≡ other)
-one_move side old moved new other x y (inl a) (inl b) =
+one_move : (side : List (List (List ℕ))) (old moved new other : History (List ℕ)) (ms : History (ℕ → Bool)) (x y : Reply) → Moves side old moved ms x new → Moves side old moved ms y other → (x ≡ y) × (new ≡ other)
+one_move side old moved new other ms x y (inl a) (inl b) =
     let state : new ≡ other = a.1 ∙ sym b.1 in
     (a.3 ∙ ap (λ line. Says line) (told_numbers old new other state) ∙ sym b.3, state)
-one_move side old moved new other x y (inl a) (inr b) = absurd (a.0 b.0)
-one_move side old moved new other x y (inr a) (inl b) = absurd (b.0 a.0)
-one_move side old moved new other x y (inr a) (inr b) = (a.2 ∙ sym b.2, a.1 ∙ sym b.1)
+one_move side old moved new other ms x y (inl a) (inr b) = absurd (a.0 b.0)
+one_move side old moved new other ms x y (inr a) (inl b) = absurd (b.0 a.0)
+one_move side old moved new other ms x y (inr a) (inr b) = (a.2 ∙ sym b.2, a.1 ∙ sym b.1)
 
 -- ---- files
 
@@ -197,12 +196,12 @@ one_act (Edit r edit) a b c d x y s t l m p q =
 one_act (Load r name) a b c d x y s t l m p q = one_load r name a b c d x y s t l m p q
 one_act (Save r name) a b c d x y s t l m p q = one_save r name a b c d x y s t l m p q
 one_act Undo a b c d x y s t l m p q =
-    let moves : Moves a.state.past a.state (undone a.state) y d.state = subst (λ (st : History (List ℕ)). Moves st.past st (undone st) y d.state) (sym s.state) m.0 in
-    let same = one_move a.state.past a.state (undone a.state) c.state d.state x y l.0 moves in
+    let moves : Moves a.state.past a.state (undone a.state) (undone (sets a.state)) y d.state = subst (λ (st : History (List ℕ)). Moves st.past st (undone st) (undone (sets st)) y d.state) (sym s.state) m.0 in
+    let same = one_move a.state.past a.state (undone a.state) c.state d.state (undone (sets a.state)) x y l.0 moves in
     (same.0, files_stay a b c d s same.1 l.1 m.1)
 one_act Redo a b c d x y s t l m p q =
-    let moves : Moves a.state.future a.state (redone a.state) y d.state = subst (λ (st : History (List ℕ)). Moves st.future st (redone st) y d.state) (sym s.state) m.0 in
-    let same = one_move a.state.future a.state (redone a.state) c.state d.state x y l.0 moves in
+    let moves : Moves a.state.future a.state (redone a.state) (redone (sets a.state)) y d.state = subst (λ (st : History (List ℕ)). Moves st.future st (redone st) (redone (sets st)) y d.state) (sym s.state) m.0 in
+    let same = one_move a.state.future a.state (redone a.state) c.state d.state (redone (sets a.state)) x y l.0 moves in
     (same.0, files_stay a b c d s same.1 l.1 m.1)
 one_act (Ask question) a b c d x y s t l m p q =
     let answers : Answers question a.state y = subst (λ st. Answers question st y) (sym s.state) m.0 in

@@ -3,39 +3,41 @@ use Rattle.std.proofs.Common.{◌≡◌, ℕ, ◌<◌, ◌≤◌, inl, inr, Bool
 use Rattle.std.proofs.lemmas.List.{length-take, take_all}
 use Rattle.std.proofs.lemmas.Bool.{cases_lt}
 use Rattle.s2calc.specs.World.{World}
+use Rattle.s2script.specs.declared.limits.TheConstants.{LONGEST_LINE}
 use Rattle.s2script.specs.declared.command.Parsed.{Parsed}
 use Rattle.s2script.specs.declared.command.Parsed.TheVariants.{Fails}
 use Rattle.s2script.specs.declared.refusal.Refusal.TheVariants.{Line}
+use Rattle.s2calc.specs.declared.limits.TheConstants.{KEPT}
 use Rattle.s2calc.specs.Replies.{Reply}
 use Rattle.s2script.specs.Line.{line_of, line_within}
 use Rattle.s2calc.specs.Step.{Step, StepBy}
 
-is_above : (n : ℕ) → 4096 < n → ltb 4096 n ≡ true
+is_above : (n : ℕ) → LONGEST_LINE < n → ltb LONGEST_LINE n ≡ true
 is_above n h = search (rules, tests)
 
 first_case : (b : Bool) (x y : Parsed) → b ≡ true → cond b x y ≡ x
 first_case true x y e = refl
 first_case false x y e = cc
 
-line_of_long : (line : List ℕ) → 4096 < length line → line_of line ≡ Fails Line
+line_of_long : (line : List ℕ) → LONGEST_LINE < length line → line_of line ≡ Fails Line
 unfolding line_of
-line_of_long line h = first_case (ltb 4096 (length line)) (Fails Line) (line_within line) (is_above (length line) h)
+line_of_long line h = first_case (ltb LONGEST_LINE (length line)) (Fails Line) (line_within line) (is_above (length line) h)
 
-line_of_short : (line : List ℕ) → length line ≤ 4097 → line_of (take 4097 line) ≡ line_of line
-line_of_short line h = ap line_of (take_all 4097 line h)
+line_of_short : (line : List ℕ) → length line ≤ KEPT → line_of (take KEPT line) ≡ line_of line
+line_of_short line h = ap line_of (take_all KEPT line h)
 
-cut_long : (line : List ℕ) → 4096 < length line → 4096 < length (take 4097 line)
-cut_long line h = let e = length-take 4097 line in omega arith
+cut_long : (line : List ℕ) → LONGEST_LINE < length line → LONGEST_LINE < length (take KEPT line)
+cut_long line h = let e = length-take KEPT line in omega arith
 
--- the first 4,097 bytes of a line say what it says
-pub line_of-kept : (line : List ℕ) → line_of (take 4097 line) ≡ line_of line
+-- the first `KEPT` bytes of a line say what it says
+pub line_of-kept : (line : List ℕ) → line_of (take KEPT line) ≡ line_of line
 line_of-kept line =
-    elim (cases_lt 4096 (length line)) [
-      | inl h ↦ line_of_long (take 4097 line) (cut_long line h) ∙ sym (line_of_long line h)
+    elim (cases_lt LONGEST_LINE (length line)) [
+      | inl h ↦ line_of_long (take KEPT line) (cut_long line h) ∙ sym (line_of_long line h)
       | inr h ↦ line_of_short line (omega arith)
     ]
 
-pub Step-kept : (old new : World) (line : List ℕ) (reply : Reply) → Step old (take 4097 line) reply new → Step old line reply new
+pub Step-kept : (old new : World) (line : List ℕ) (reply : Reply) → Step old (take KEPT line) reply new → Step old line reply new
 Step-kept old new line reply s = record { by = subst (λ p. StepBy p old reply new) (line_of-kept line) s.by }
 
 pub Step-same : (old new : World) (given line : List ℕ) (reply : Reply) → given ≡ line → Step old given reply new → Step old line reply new

@@ -3,6 +3,7 @@ use Rattle.std.proofs.Common.{◌≡◌, ℕ, ◌<◌, List, [], ◌∷◌, ◌+
 use Rattle.std.proofs.lemmas.List.Concat.{flat_map-append}
 use Rattle.std.specs.Io.KnownBytes.{Appends}
 use Rattle.std.proofs.KnownBytes.{Appends-nil, Appends-trans}
+use Rattle.s2calc.specs.declared.limits.TheConstants.{KEPT}
 use Rattle.s2calc.specs.World.{World}
 use Rattle.s2calc.specs.declared.engine.Tally.{Tally}
 use Rattle.s2script.specs.Lines.{IsUnbroken, BeginsWith}
@@ -30,7 +31,7 @@ StandsAfter-none start script replies editor kept tally output s =
 
 -- bytes without a newline are kept
 pub Stands-more : (start : World) (script : List ℕ) (replies : List Reply) (editor : World) (kept new_kept : List ℕ) (tally : Tally) (bytes : List ℕ) → Stands start script replies editor kept tally
-    → IsUnbroken bytes → new_kept ≡ take 4097 (kept ++ bytes) → Stands start (script ++ bytes) replies editor new_kept tally
+    → IsUnbroken bytes → new_kept ≡ take KEPT (kept ++ bytes) → Stands start (script ++ bytes) replies editor new_kept tally
 Stands-more start script replies editor kept new_kept tally bytes s u e =
     record {
       done = s.done;
@@ -38,7 +39,7 @@ Stands-more start script replies editor kept new_kept tally bytes s u e =
       begins = BeginsWith-more script s.done s.rest bytes s.begins;
       unbroken = every-append _ s.rest bytes s.unbroken u;
       run = s.run;
-      kept_is = e ∙ ap (λ k. take 4097 (k ++ bytes)) s.kept_is ∙ kept_more s.rest bytes 4097;
+      kept_is = e ∙ ap (λ k. take KEPT (k ++ bytes)) s.kept_is ∙ kept_more s.rest bytes KEPT;
       tally_is = s.tally_is;
     }
 
@@ -59,7 +60,7 @@ Stands-line start script replies editor new kept new_kept tally new_tally reply 
 
 -- the steps of the loop, joined: bytes without a newline are kept, and then a newline comes
 pub StandsAfter-line : (start : World) (script : List ℕ) (replies : List Reply) (seen bytes : List ℕ) (editor new : World) (kept mid new_kept : List ℕ) (tally new_tally : Tally) (output_old output_mid output_new : Option (List ℕ)) (reply : Reply)
-    → StandsAfter start script replies seen editor kept tally output_old output_mid → IsUnbroken bytes → mid ≡ take 4097 (kept ++ bytes) → Step editor mid reply new → new_kept ≡ []
+    → StandsAfter start script replies seen editor kept tally output_old output_mid → IsUnbroken bytes → mid ≡ take KEPT (kept ++ bytes) → Step editor mid reply new → new_kept ≡ []
     → ((before : List Reply) → tally ≡ tally_of before → new_tally ≡ tally_of (before ++ reply ∷ [])) → Appends output_mid output_new (text_of reply)
     → StandsAfter start script replies ((seen ++ bytes) ++ 10 ∷ []) new new_kept new_tally output_old output_new
 StandsAfter-line start script replies seen bytes editor new kept mid new_kept tally new_tally output_old output_mid output_new reply s u m t none count w =
@@ -75,7 +76,7 @@ StandsAfter-line start script replies seen bytes editor new kept mid new_kept ta
 
 -- what is left of the bytes has no newline
 pub StandsAfter-rest : (start : World) (script : List ℕ) (replies : List Reply) (all seen bytes : List ℕ) (editor : World) (kept new_kept : List ℕ) (tally : Tally) (output_old output_new : Option (List ℕ))
-    → StandsAfter start script replies seen editor kept tally output_old output_new → IsUnbroken bytes → new_kept ≡ take 4097 (kept ++ bytes) → all ≡ seen ++ bytes
+    → StandsAfter start script replies seen editor kept tally output_old output_new → IsUnbroken bytes → new_kept ≡ take KEPT (kept ++ bytes) → all ≡ seen ++ bytes
     → StandsAfter start script replies all editor new_kept tally output_old output_new
 StandsAfter-rest start script replies all seen bytes editor kept new_kept tally output_old output_new s u e whole =
     record {
@@ -97,7 +98,7 @@ IsCutOff-part replies reply part rest e h =
 
 -- the writer failed at the line that these bytes end
 pub StopsInside-line : (start : World) (script : List ℕ) (replies : List Reply) (all seen bytes more_bytes : List ℕ) (editor new : World) (kept mid : List ℕ) (tally : Tally) (output_old output_mid output_new : Option (List ℕ)) (reply : Reply)
-    → StandsAfter start script replies seen editor kept tally output_old output_mid → IsUnbroken bytes → mid ≡ take 4097 (kept ++ bytes) → Step editor mid reply new
+    → StandsAfter start script replies seen editor kept tally output_old output_mid → IsUnbroken bytes → mid ≡ take KEPT (kept ++ bytes) → Step editor mid reply new
     → AppendsPart output_mid output_new (text_of reply) → all ≡ (seen ++ bytes) ++ 10 ∷ more_bytes
     → StopsInside start script replies all new output_old output_new
 StopsInside-line start script replies all seen bytes more_bytes editor new kept mid tally output_old output_mid output_new reply s u m t w whole =

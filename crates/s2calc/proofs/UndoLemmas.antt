@@ -2,7 +2,7 @@
 use Rattle.std.proofs.Common.{◌≡◌, ◌≢◌, ℕ, suc, ◌+◌, ◌<◌, ◌≤◌, inl, inr, ◌⊎◌, ⊎_elim, Bool, false, cond, List, [], ◌∷◌, length, take, count_by, refl, sym, ap, ◌∙◌, subst, arith}
 use Rattle.std.proofs.lemmas.List.{length-take, get_or-take}
 use Rattle.std.proofs.lemmas.List.Sums.{sum_by-cons}
-use Rattle.s2edit.specs.History.{History, changed, undone, undone_to}
+use Rattle.s2edit.specs.History.{History, changed, undone, undone_to, sets}
 use Rattle.s2edit.specs.Leads.{table_at}
 use Rattle.s2edit.proofs.OneEnd.{is_there}
 use Rattle.s2file.proofs.Texts.{same_bytes}
@@ -67,7 +67,7 @@ record Undone (old : World) (reply : Reply) (new : World) : Type 0 where
   some : old.state.past ≢ []
   files : new.files ≡ old.files
 
-moves_back : (old new : World) (reply : Reply) → Moves old.state.past old.state (undone old.state) reply new.state → new.files ≡ old.files → 0 < length old.state.past → Undone old reply new
+moves_back : (old new : World) (reply : Reply) → Moves old.state.past old.state (undone old.state) (undone (sets old.state)) reply new.state → new.files ≡ old.files → 0 < length old.state.past → Undone old reply new
 moves_back old new reply (inl h) f some = record { answered = ap is_refusal h.3; state = h.1; some = h.0; files = f }
 moves_back old new reply (inr h) f some = absurd (omega (arith, ap length h.0))
 

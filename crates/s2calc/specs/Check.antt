@@ -4,8 +4,9 @@ use Rattle.std.specs.Io.KnownBytes.{Appends}
 use Rattle.s2union.specs.Union.{IsNormalForm}
 use Rattle.s2union.specs.Count.{count_below}
 use Rattle.s2shelf.specs.Shelf.{Files}
-use Rattle.s2script.specs.declared.refusal.Refusal.{Refusal}
 use Rattle.s2script.specs.declared.refusal.Refusal.TheVariants.{Name as NoName}
+use Rattle.s2calc.specs.declared.refusal.Refusal.{Refusal}
+use Rattle.s2calc.specs.declared.refusal.Refusal.TheVariants.{Words}
 use Rattle.s2script.specs.FileName.{is_name}
 use Rattle.s2calc.specs.declared.fault.RunFault.{RunFault}
 use Rattle.s2calc.specs.declared.fault.RunFault.TheVariants.{Output}
@@ -23,7 +24,7 @@ ChecksFile name old reply new =
 
 -- the name is looked at first
 abbrev pub Checks : List ℕ → Files → Reply → Files → Type 0
-Checks name old reply new = ((is_name name ≡ false) × (reply ≡ Refuses NoName) × (new ≡ old)) ⊎ ((is_name name ≡ true) × ChecksFile name old reply new)
+Checks name old reply new = ((is_name name ≡ false) × (reply ≡ Refuses (Words NoName)) × (new ≡ old)) ⊎ ((is_name name ≡ true) × ChecksFile name old reply new)
 
 abbrev pub check_reply : Result (ℕ × ℕ) Refusal → Reply
 check_reply (Ok counts) = Says (count_line counts.0 counts.1)

@@ -10,8 +10,8 @@ use Rattle.s2edit.specs.History.{History, Assigned, sets, numbers}
 use Rattle.s2edit.specs.Leads.{list_at}
 use Rattle.s2script.specs.declared.command.Edit.{Edit}
 use Rattle.s2script.specs.declared.command.Edit.TheVariants.{Add, Remove, Keep, Clear, Copy, Union, Intersect, Subtract, Range, Outer, Inner, OuterOf, InnerOf}
-use Rattle.s2script.specs.declared.refusal.Refusal.{Refusal}
-use Rattle.s2script.specs.declared.refusal.Refusal.TheVariants.{TooMany, Memory, Nothing}
+use Rattle.s2calc.specs.declared.refusal.Refusal.{Refusal}
+use Rattle.s2calc.specs.declared.refusal.Refusal.TheVariants.{TooMany, Memory, Nothing}
 use Rattle.s2calc.specs.Replies.{Reply, Says, Refuses}
 use Rattle.s2calc.specs.Texts.{ok_line}
 
@@ -75,8 +75,8 @@ Gets S r old reply new =
     ⊎ ((reply ≡ Refuses TooMany) × IsTooLong S old.limit × (new ≡ old))
     ⊎ ((reply ≡ Refuses Memory) × (new ≡ old))
 
--- a move to another state of the history tells its numbers, or there is none to move to
-abbrev pub Moves : List (List (List ℕ)) → History (List ℕ) → History (List ℕ) → Reply → History (List ℕ) → Type 0
-Moves side old moved reply new =
-    ((side ≢ []) × (new ≡ moved) × (sets new ≡ sets moved) × (reply ≡ Says (ok_line (numbers old.now new.now).0 (numbers old.now new.now).1)))
+-- a move to another state of the history, list for list and set for set, tells its numbers; or there is none to move to
+abbrev pub Moves : List (List (List ℕ)) → History (List ℕ) → History (List ℕ) → History (ℕ → Bool) → Reply → History (List ℕ) → Type 0
+Moves side old moved moved_sets reply new =
+    ((side ≢ []) × (new ≡ moved) × (sets new ≡ moved_sets) × (reply ≡ Says (ok_line (numbers old.now new.now).0 (numbers old.now new.now).1)))
     ⊎ ((side ≡ []) × (new ≡ old) × (reply ≡ Refuses Nothing))

@@ -5,8 +5,8 @@ use Rattle.s2shelf.specs.declared.shelf.ShelfFault.TheVariants.{Device, Memory a
 use Rattle.s2file.specs.File.{File, Faults}
 use Rattle.s2file.specs.declared.fault.FileFault.{FileFault}
 use Rattle.s2file.specs.declared.fault.FileFault.TheVariants.{Memory as NoMemory}
-use Rattle.s2script.specs.declared.refusal.Refusal.{Refusal}
-use Rattle.s2script.specs.declared.refusal.Refusal.TheVariants.{Missing, File as NoFile, Format, Memory}
+use Rattle.s2calc.specs.declared.refusal.Refusal.{Refusal}
+use Rattle.s2calc.specs.declared.refusal.Refusal.TheVariants.{Missing, File as NoFile, Format, Memory}
 
 -- a file with these bytes was found; or no file of that name; or the shelf failed, and its count rose; or there was no memory for the bytes
 abbrev pub Fetches : List ℕ → Files → Result (List ℕ) Refusal → Files → Type 0

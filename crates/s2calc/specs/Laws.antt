@@ -5,8 +5,8 @@ use Rattle.s2calc.specs.World.{World}
 use Rattle.s2calc.specs.declared.engine.Tally.{Tally}
 use Rattle.s2script.specs.Lines.{lines}
 use Rattle.s2calc.specs.Replies.{Reply, Silent, Says, Refuses, texts, tally_of}
-use Rattle.s2script.specs.declared.refusal.Refusal.{Refusal}
-use Rattle.s2script.specs.declared.refusal.Refusal.TheVariants.{Syntax, Cell, Register, Level, Face, Rectangle, Order, Name, Missing, File, Format, TooMany, Nothing, Memory, Line}
+use Rattle.s2calc.specs.declared.refusal.Refusal.{Refusal}
+use Rattle.s2calc.specs.declared.refusal.Refusal.TheVariants.{File, Memory}
 use Rattle.s2calc.specs.Run.{Ends, Finishes, Steps}
 
 -- a run that finishes answers the lines of all the bytes that its reader tells
@@ -37,22 +37,10 @@ OneRun =
     (a b c d : World) (ls : List (List ℕ)) (rs ss : List Reply) → SameWorld a b → a.files.tells ≡ true → Steps a ls rs c → Steps b ls ss d → AllPlain rs → AllPlain ss
     → (rs ≡ ss) × SameWorld c d
 
+-- whether the shelf failed
 abbrev pub is_of_shelf : Refusal → Bool
 is_of_shelf File = true
-is_of_shelf Syntax = false
-is_of_shelf Cell = false
-is_of_shelf Register = false
-is_of_shelf Level = false
-is_of_shelf Face = false
-is_of_shelf Rectangle = false
-is_of_shelf Order = false
-is_of_shelf Name = false
-is_of_shelf Missing = false
-is_of_shelf Format = false
-is_of_shelf TooMany = false
-is_of_shelf Nothing = false
-is_of_shelf Memory = false
-is_of_shelf Line = false
+is_of_shelf refusal = false
 
 -- whether the answer is `error file`
 abbrev pub is_failure : Reply → Bool

@@ -1,5 +1,6 @@
 pub mod World
 pub mod Texts
+pub mod Refusals
 pub mod Replies
 pub mod Questions
 pub mod Edits

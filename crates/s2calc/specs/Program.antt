@@ -1,6 +1,8 @@
 -- What the program's own calls answer.
 use Rattle.std.specs.Prelude.{◌≤◌, ℕ, zero, suc, List, Option, None, Some, Result, Ok, Err}
 use Rattle.s2script.specs.declared.refusal.Refusal.TheVariants.{Cell as NoCell}
+use Rattle.s2calc.specs.declared.refusal.Refusal.TheVariants.{Words}
+use Rattle.s2edit.specs.declared.TheConstants.{MOST_CELLS, MOST_STATES}
 use Rattle.s2script.specs.Named.{cell_named}
 use Rattle.s2calc.specs.declared.engine.Tally.{Tally}
 use Rattle.s2calc.specs.declared.fault.RunFault.{RunFault}
@@ -11,7 +13,7 @@ use Rattle.s2calc.specs.Replies.{Reply, Says, Refuses}
 use Rattle.s2calc.specs.Texts.{cell_line}
 
 abbrev pub reply_for : Option ℕ → Reply
-reply_for None = Refuses NoCell
+reply_for None = Refuses (Words NoCell)
 reply_for (Some n) = Says (cell_line n)
 
 -- the answer to `cell WORD`, for one word, spaces included
@@ -32,6 +34,6 @@ status_of (Err Memory) = 3
 
 -- a run has its limit and its depth in range
 abbrev pub IsInRange : Job → Type 0
-IsInRange (Run limit depth dir) = (1 ≤ limit) × (limit ≤ 1000000) × (1 ≤ depth) × (depth ≤ 1000)
+IsInRange (Run limit depth dir) = (1 ≤ limit) × (limit ≤ MOST_CELLS) × (1 ≤ depth) × (depth ≤ MOST_STATES)
 IsInRange (Cell word) = Unit {0}
 IsInRange (Check dir name) = Unit {0}

@@ -1,5 +1,5 @@
 -- What a question is answered.
-use Rattle.std.specs.Prelude.{◌≡◌, ℕ, ◌*◌, ◌^◌, ◌<◌, ◌≤◌, ◌⊎◌, List, length}
+use Rattle.std.specs.Prelude.{◌≡◌, ℕ, ◌*◌, ◌^◌, ◌<◌, ◌≤◌, ◌⊎◌, Bool, List, length}
 use Rattle.s2cell.specs.Cell.{IsCell, level_of, first_leaf, covers}
 use Rattle.s2cell.specs.Curve.{IsPlaceOf}
 use Rattle.s2cell.specs.Square.{IsSquareOf}
@@ -8,9 +8,12 @@ use Rattle.s2union.specs.Count.{count_below}
 use Rattle.s2union.specs.Denorm.{denormalised}
 use Rattle.s2edit.specs.History.{History}
 use Rattle.s2edit.specs.Leads.{list_at}
+use Rattle.s2script.specs.declared.command.Comparison.{Comparison}
+use Rattle.s2script.specs.declared.command.Comparison.TheVariants.{Covers, Meets}
 use Rattle.s2script.specs.declared.command.Question.{Question}
-use Rattle.s2script.specs.declared.command.Question.TheVariants.{Cell, At, Square, Show, Count, Has, Touches, Covers, Meets, Denorm, History as Sides}
-use Rattle.s2script.specs.declared.refusal.Refusal.TheVariants.{TooMany}
+use Rattle.s2script.specs.declared.command.Question.TheVariants.{Cell, At, Square, Show, Count, Has, Touches, Compares, Denorm, History as Sides}
+use Rattle.s2calc.specs.declared.refusal.Refusal.TheVariants.{TooMany}
+use Rattle.s2calc.specs.declared.limits.TheConstants.{MOST_LISTED}
 use Rattle.s2calc.specs.Replies.{Reply, Says, Refuses}
 use Rattle.s2calc.specs.Texts.{cell_line, square_line, count_line, history_line, yes_line, no_line, listing}
 
@@ -22,9 +25,14 @@ Tells P reply = (P × (reply ≡ Says yes_line)) ⊎ ((P → ⊥) × (reply ≡ 
 abbrev pub all_leaves : ℕ
 all_leaves = 6 * 4 ^ 30
 
--- the cells, one a line, unless there are more than a million
+-- the cells, one a line, unless there are more than `MOST_LISTED`
 abbrev pub ListsSome : List ℕ → Reply → Type 0
-ListsSome cells reply = ((length cells ≤ 1000000) × (reply ≡ Says (listing cells))) ⊎ ((1000000 < length cells) × (reply ≡ Refuses TooMany))
+ListsSome cells reply = ((length cells ≤ MOST_LISTED) × (reply ≡ Says (listing cells))) ⊎ ((MOST_LISTED < length cells) × (reply ≡ Refuses TooMany))
+
+-- what it is for a set of leaves to stand so to another
+abbrev pub Relates : Comparison → (ℕ → Bool) → (ℕ → Bool) → Type 0
+Relates Covers S T = IsWithin T S
+Relates Meets S T = ShareSome S T
 
 -- what a question about a state is answered
 abbrev pub Answers : Question → History (List ℕ) → Reply → Type 0
@@ -35,7 +43,6 @@ Answers (Show r) state reply = reply ≡ Says (listing (list_at state.now r))
 Answers (Count r) state reply = reply ≡ Says (count_line (length (list_at state.now r)) (count_below (has_leaf (list_at state.now r)) all_leaves))
 Answers (Has r n) state reply = Tells (IsWithin (covers n) (has_leaf (list_at state.now r))) reply
 Answers (Touches r n) state reply = Tells (ShareSome (covers n) (has_leaf (list_at state.now r))) reply
-Answers (Covers r s) state reply = Tells (IsWithin (has_leaf (list_at state.now s)) (has_leaf (list_at state.now r))) reply
-Answers (Meets r s) state reply = Tells (ShareSome (has_leaf (list_at state.now r)) (has_leaf (list_at state.now s))) reply
+Answers (Compares comparison r s) state reply = Tells (Relates comparison (has_leaf (list_at state.now r)) (has_leaf (list_at state.now s))) reply
 Answers (Denorm r least modulus) state reply = ListsSome (denormalised least modulus (list_at state.now r)) reply
 Answers Sides state reply = reply ≡ Says (history_line (length state.past) (length state.future))

@@ -1,7 +1,7 @@
 -- What a line is answered.
 use Rattle.std.specs.Prelude.{◌≡◌, ℕ, ◌-◌, ◌^◌, ◌<◌, Bool, false, true, min, List, [], ◌∷◌, ◌++◌, length, codes, flat_map, count_by}
-use Rattle.s2script.specs.declared.refusal.Refusal.{Refusal}
-use Rattle.s2script.specs.Refusals.{name_of}
+use Rattle.s2calc.specs.declared.refusal.Refusal.{Refusal}
+use Rattle.s2calc.specs.Refusals.{name_of}
 use Rattle.s2calc.specs.declared.engine.Tally.{Tally}
 use Rattle.s2script.specs.Lines.{but_last}
 

@@ -3,6 +3,7 @@ use Rattle.std.specs.Prelude.{◌≡◌, ℕ, List, ◌++◌, ◌⊎◌, Option,
 use Rattle.s2calc.specs.declared.fault.RunFault.{RunFault}
 use Rattle.s2calc.specs.declared.fault.RunFault.TheVariants.{Output}
 use Rattle.std.specs.Io.KnownBytes.{Appends}
+use Rattle.s2calc.specs.declared.limits.TheConstants.{KEPT}
 use Rattle.s2calc.specs.World.{World}
 use Rattle.s2calc.specs.declared.engine.Tally.{Tally}
 use Rattle.s2script.specs.Lines.{BeginsWith, IsUnbroken, lines}
@@ -11,14 +12,14 @@ use Rattle.s2calc.specs.Run.{Steps, Ends, Finishes, Faults, PromptFaults}
 use Rattle.s2calc.specs.declared.engine.Flushing.{Flushing}
 use Rattle.s2calc.specs.declared.engine.Flushing.TheVariants.{AtTheEnd, BeforeEachRead}
 
--- From start, over these bytes: the lines that a newline ends were carried out with these replies, and of the rest the first 4,097 bytes are kept.
+-- From start, over these bytes: the lines that a newline ends were carried out with these replies, and of the rest the first `KEPT` bytes are kept.
 pub record Stands (start : World) (script : List ℕ) (replies : List Reply) (editor : World) (kept : List ℕ) (tally : Tally) : Type 0 where
   pub done : List (List ℕ)
   pub rest : List ℕ
   pub begins : BeginsWith script done rest
   pub unbroken : IsUnbroken rest
   pub run : Steps start done replies editor
-  pub kept_is : kept ≡ take 4097 rest
+  pub kept_is : kept ≡ take KEPT rest
   pub tally_is : tally ≡ tally_of replies
 
 -- it stands behind these bytes too, and the replies since then were written

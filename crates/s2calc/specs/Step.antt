@@ -6,10 +6,10 @@ use Rattle.s2script.specs.declared.command.Command.{Command}
 use Rattle.s2script.specs.declared.command.Command.TheVariants.{Edit, Load, Save, Undo, Redo, Ask}
 use Rattle.s2script.specs.declared.command.Parsed.{Parsed}
 use Rattle.s2script.specs.declared.command.Parsed.TheVariants.{Nothing, Does, Fails}
-use Rattle.s2script.specs.declared.refusal.Refusal.{Refusal}
-use Rattle.s2script.specs.declared.refusal.Refusal.TheVariants.{File as NoFile, Memory}
+use Rattle.s2calc.specs.declared.refusal.Refusal.{Refusal}
+use Rattle.s2calc.specs.declared.refusal.Refusal.TheVariants.{Words, File as NoFile, Memory}
 use Rattle.s2script.specs.Line.{line_of}
-use Rattle.s2edit.specs.History.{undone, redone}
+use Rattle.s2edit.specs.History.{undone, redone, sets}
 use Rattle.s2calc.specs.World.{World}
 use Rattle.s2calc.specs.Replies.{Reply, Silent, Says, Refuses}
 use Rattle.s2calc.specs.Texts.{saved_line}
@@ -35,13 +35,13 @@ abbrev pub Acts : Command → World → Reply → World → Type 0
 Acts (Edit r edit) old reply new = Gets (new_set old.state.now r edit) r old.state reply new.state × (new.files ≡ old.files)
 Acts (Load r name) old reply new = Loads r name old reply new
 Acts (Save r name) old reply new = Saves r name old reply new
-Acts Undo old reply new = Moves old.state.past old.state (undone old.state) reply new.state × (new.files ≡ old.files)
-Acts Redo old reply new = Moves old.state.future old.state (redone old.state) reply new.state × (new.files ≡ old.files)
+Acts Undo old reply new = Moves old.state.past old.state (undone old.state) (undone (sets old.state)) reply new.state × (new.files ≡ old.files)
+Acts Redo old reply new = Moves old.state.future old.state (redone old.state) (redone (sets old.state)) reply new.state × (new.files ≡ old.files)
 Acts (Ask question) old reply new = Answers question old.state reply × (new ≡ old)
 
 abbrev pub StepBy : Parsed → World → Reply → World → Type 0
 StepBy Nothing old reply new = (reply ≡ Silent) × (new ≡ old)
-StepBy (Fails refusal) old reply new = (reply ≡ Refuses refusal) × (new ≡ old)
+StepBy (Fails refusal) old reply new = (reply ≡ Refuses (Words refusal)) × (new ≡ old)
 StepBy (Does command) old reply new = Acts command old reply new
 
 -- from old, the line may be given this reply and leave new

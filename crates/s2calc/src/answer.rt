@@ -4,19 +4,20 @@ ghost use Rattle.std.specs.Io.KnownBytes.{Appends};
 ghost use Rattle.s2cell.specs.Token.{token_of};
 ghost use Rattle.s2cell.specs.Debug.{debug_of};
 ghost use Rattle.s2union.specs.Denorm.{denormalised};
-ghost use Rattle.s2script.specs.Refusals.{name_of};
 ghost use Rattle.s2calc.specs.Output.{AppendsPart};
+ghost use Rattle.s2calc.specs.Refusals.{name_of};
 ghost use Rattle.s2calc.specs.Replies.{text_of};
 ghost use Rattle.s2calc.specs.Answer.{reply_of, told};
 ghost use Rattle.s2calc.specs.Texts.{cell_line, square_line, ok_line, count_line, history_line, saved_line, token_line, listing};
 
 use crate::fault::RunFault;
 use crate::output::emit;
+use crate::refusal::Refusal;
 use arrayvec::ArrayVec;
 use itoa::Buffer;
 use s2cell::{CellId, Square};
 use s2edit::{Editor, Register};
-use s2script::{Level, Modulus, Refusal};
+use s2script::{Level, Modulus};
 use s2union::CellUnion;
 use std::io::Write;
 

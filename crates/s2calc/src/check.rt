@@ -5,7 +5,8 @@ use crate::answer::{count_line, error_line};
 use crate::fault::RunFault;
 use crate::fetch::fetch_union;
 use crate::program::write_line;
-use s2script::{Refusal, name_in};
+use crate::refusal::Refusal;
+use s2script::name_in;
 use s2shelf::Shelf;
 use std::alloc::Global;
 use std::io::Write;
@@ -38,7 +39,7 @@ fn check<S: Shelf>(alloc: Global, shelf: &mut S, name: &str) -> Result<(u64, u64
 {
     match name_in(name.as_bytes()) {
         Some(_) => check_file(alloc, shelf, name),
-        None => Err(Refusal::Name),
+        None => Err(Refusal::Words(s2script::Refusal::Name)),
     }
 }
 

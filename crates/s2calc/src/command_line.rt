@@ -5,13 +5,8 @@ ghost use Rattle.s2calc.specs.Program.{IsInRange};
 use crate::task::{Job, Stop};
 use clap::error::ErrorKind;
 use clap::{Arg, ArgAction, ArgMatches, Command, Error, value_parser};
+use s2edit::{MOST_CELLS, MOST_STATES};
 use std::alloc::Global;
-
-/// The greatest number of cells in a register.
-const MOST_CELLS: i64 = 1_000_000;
-
-/// The greatest number of kept states.
-const MOST_STATES: i64 = 1_000;
 
 /// What the words of the command line ask for. The first word is the program's own name.
 pub fn job(alloc: Global, words: Vec<String>) -> Result<Job, Stop>
@@ -44,7 +39,7 @@ fn run_job(alloc: Global, run: &ArgMatches<'_>) -> Result<Job, Stop>
 {
     let limit = run.get_one::<usize>("limit").unwrap_or(0);
     let depth = run.get_one::<usize>("depth").unwrap_or(0);
-    if !is_within(limit, MOST_CELLS as usize) || !is_within(depth, MOST_STATES as usize) {
+    if !is_within(limit, MOST_CELLS) || !is_within(depth, MOST_STATES) {
         return Err(Stop::Usage);
     }
     Ok(Job::Run {
@@ -73,8 +68,8 @@ fn text(alloc: Global, matches: &ArgMatches<'_>, id: &str) -> Result<String, Sto
 
 fn matches_of<'a>(alloc: Global, words: &'a [String]) -> Result<ArgMatches<'a>, Error> {
     let run = Command::new(alloc, "run")
-        .arg(number(alloc, "limit", MOST_CELLS, "10000"))?
-        .arg(number(alloc, "depth", MOST_STATES, "100"))?
+        .arg(number(alloc, "limit", MOST_CELLS as i64, "10000"))?
+        .arg(number(alloc, "depth", MOST_STATES as i64, "100"))?
         .arg(dir(alloc))?;
     let cell = Command::new(alloc, "cell").arg(word(alloc, "CELL"))?;
     let check = Command::new(alloc, "check")

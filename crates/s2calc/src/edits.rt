@@ -4,14 +4,15 @@ ghost use Rattle.s2union.specs.Union.{IsNormalForm, has_leaf};
 ghost use Rattle.s2union.specs.Sets.{either, shared, without};
 ghost use Rattle.s2cover.specs.Rectangles.{rect_set};
 ghost use Rattle.s2cover.specs.Coverings.{outer_set, inner_set};
-ghost use Rattle.s2edit.specs.History.{undone, redone};
+ghost use Rattle.s2edit.specs.History.{undone, redone, sets};
 ghost use Rattle.s2calc.specs.Answer.{reply_of};
 ghost use Rattle.s2calc.specs.Edits.{new_set, leaves_of, no_leaf, within, Makes, Gets, Moves};
 
 use crate::answer::Answer;
+use crate::refusal::Refusal;
 use s2cover::{Clip, CoverFault, FaceRect, Looks, inner, outer, rect_inner, rect_outer};
 use s2edit::{EditFault, Editor, Register};
-use s2script::{Cells, Edit, Level, Refusal};
+use s2script::{Cells, Edit, Level};
 use s2union::{CellUnion, normalise};
 use std::alloc::{AllocError, Global};
 
@@ -43,7 +44,7 @@ pub(crate) fn assign(editor: &mut Editor, register: Register, union: CellUnion) 
 
 /// Goes back to the state before.
 pub(crate) fn undo(editor: &mut Editor) -> Answer
-    ensures { Moves editor.old.past editor.old (undone editor.old) (reply_of result editor.new) editor.new }
+    ensures { Moves editor.old.past editor.old (undone editor.old) (undone (sets editor.old)) (reply_of result editor.new) editor.new }
 {
     match editor.undo() {
         Some((out, put)) => Answer::Moved { out, put },
@@ -53,7 +54,7 @@ pub(crate) fn undo(editor: &mut Editor) -> Answer
 
 /// Goes forward again.
 pub(crate) fn redo(editor: &mut Editor) -> Answer
-    ensures { Moves editor.old.future editor.old (redone editor.old) (reply_of result editor.new) editor.new }
+    ensures { Moves editor.old.future editor.old (redone editor.old) (redone (sets editor.old)) (reply_of result editor.new) editor.new }
 {
     match editor.redo() {
         Some((out, put)) => Answer::Moved { out, put },

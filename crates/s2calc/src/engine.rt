@@ -13,6 +13,7 @@ ghost use Rattle.s2calc.specs.Stands.{Stands, StandsAfter, StopsInside, Closes, 
 use crate::execute::{Outcome, execute};
 use crate::fault::RunFault;
 use crate::kept::Kept;
+use crate::limits::READ_SIZE;
 use crate::output::flush;
 use s2edit::Editor;
 use s2shelf::Shelf;
@@ -81,9 +82,6 @@ fn take_in<W: Write, S: Shelf>(
     kept.keep(rest);
     Ok(())
 }
-
-/// How many bytes a read asks for.
-const READ_SIZE: usize = 65536;
 
 /// Runs a script: its lines come from the reader, its answers go to the writer, and its files are on the shelf.
 ///

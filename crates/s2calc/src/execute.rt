@@ -10,6 +10,7 @@ use crate::edits::{edit_register, redo, undo};
 use crate::fault::RunFault;
 use crate::files::{load, save};
 use crate::questions::answer_to;
+use crate::refusal::Refusal;
 use s2edit::Editor;
 use s2script::{Command, Parsed, parse};
 use s2shelf::Shelf;
@@ -60,7 +61,7 @@ fn carry_out<S: Shelf>(alloc: Global, editor: &mut Editor, line: &[u8], shelf: &
 {
     match parse(line) {
         Parsed::Nothing => Answer::Nothing,
-        Parsed::Fails(refusal) => Answer::Refused(refusal),
+        Parsed::Fails(refusal) => Answer::Refused(Refusal::Words(refusal)),
         Parsed::Does(command) => act(alloc, editor, command, shelf),
     }
 }

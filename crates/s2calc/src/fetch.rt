@@ -3,8 +3,8 @@ ghost use Rattle.std.specs.Prelude.{◌≡◌, ℕ, List, take, MatchResult, Ok,
 ghost use Rattle.s2union.specs.Union.{has_leaf, IsNormalForm};
 ghost use Rattle.s2calc.specs.Fetch.{Fetches, FetchesUnion, Reads};
 
+use crate::refusal::Refusal;
 use s2file::{FileFault, MOST_SIZE, decode};
-use s2script::Refusal;
 use s2shelf::{Shelf, ShelfFault};
 use s2union::CellUnion;
 use std::alloc::Global;

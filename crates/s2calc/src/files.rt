@@ -6,9 +6,10 @@ ghost use Rattle.s2calc.specs.World.{world};
 use crate::answer::Answer;
 use crate::edits::assign;
 use crate::fetch::fetch_union;
+use crate::refusal::Refusal;
 use s2edit::{Editor, Register};
 use s2file::encode;
-use s2script::{Name, Refusal};
+use s2script::Name;
 use s2shelf::{Shelf, ShelfFault};
 use std::alloc::Global;
 

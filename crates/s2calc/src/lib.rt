@@ -4,8 +4,9 @@
 //! where one of them fails.
 //!
 //! A line flows one way: bytes (`engine`, `kept`) -> what it says (the crate `s2script`) -> its effect
-//! (`execute`: `edits`, `files`, `questions`; `fetch` asks the shelf) -> an `answer` -> bytes (`output`). `fault` says what ends a run, `laws`
-//! holds laws about the definitions. For the program: `command_line` and `task` (what it is asked for), `program` and
+//! (`execute`: `edits`, `files`, `questions`; `fetch` asks the shelf) -> an `answer` -> bytes (`output`). `refusal` says
+//! why a line is refused, `fault` what ends a run; `limits` are the limits, `laws` laws about the definitions. For the
+//! program: `command_line` and `task` (what it is asked for), `program` and
 //! `check` (its other answers).
 #![tactic(auto)]
 
@@ -20,9 +21,11 @@ mod fetch;
 mod files;
 mod kept;
 mod laws;
+mod limits;
 mod output;
 mod program;
 mod questions;
+mod refusal;
 mod task;
 
 pub use check::check_answer;
@@ -31,4 +34,5 @@ pub use engine::{Tally, run, run_promptly};
 pub use fault::RunFault;
 pub use laws::{counted_failures, one_end, one_run, undo_goes_back, whole_script};
 pub use program::{cell_answer, status};
+pub use refusal::Refusal;
 pub use task::{Job, Stop};

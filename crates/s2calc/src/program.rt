@@ -9,7 +9,8 @@ use crate::answer::{cell_line, error_line};
 use crate::engine::Tally;
 use crate::fault::RunFault;
 use crate::output::{emit, flush};
-use s2script::{Refusal, cell_in};
+use crate::refusal::Refusal;
+use s2script::cell_in;
 use std::io::Write;
 
 /// Writes what is known of the cell that the word names, and flushes. False if it names none, which is
@@ -27,7 +28,8 @@ pub fn cell_answer<W: Write>(word: &[u8], writer: &mut W) -> Result<bool, RunFau
             Ok(true)
         }
         None => {
-            write_line(error_line(Refusal::Cell).as_slice(), writer)?;
+            let refusal = Refusal::Words(s2script::Refusal::Cell);
+            write_line(error_line(refusal).as_slice(), writer)?;
             Ok(false)
         }
     }

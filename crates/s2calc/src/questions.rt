@@ -1,15 +1,15 @@
 //! Questions about cells and registers.
 ghost use Rattle.s2calc.specs.Answer.{reply_of};
 ghost use Rattle.s2calc.specs.Questions.{Answers};
-ghost use Rattle.s2script.specs.declared.command.Question.TheVariants.{At, Square as OfSquare, Count, Has, Touches, Covers, Meets, Denorm, History as Sides};
+ghost use Rattle.s2script.specs.declared.command.Comparison.TheVariants.{Covers, Meets};
+ghost use Rattle.s2script.specs.declared.command.Question.TheVariants.{At, Square as OfSquare, Count, Has, Touches, Compares, Denorm, History as Sides};
 
 use crate::answer::Answer;
+use crate::limits::MOST_LISTED;
+use crate::refusal::Refusal;
 use s2cell::CellId;
 use s2edit::{Editor, Register};
-use s2script::{Level, Modulus, Place, Question, Refusal};
-
-/// The most cells that are listed of a register that is cut to levels.
-const MOST_LISTED: u64 = 1_000_000;
+use s2script::{Comparison, Level, Modulus, Place, Question};
 
 /// Answers a question.
 pub(crate) fn answer_to(editor: &Editor, question: &Question) -> Answer
@@ -23,8 +23,11 @@ pub(crate) fn answer_to(editor: &Editor, question: &Question) -> Answer
         Question::Count(register) => count(editor, *register),
         Question::Has { register, cell } => has(editor, *register, *cell),
         Question::Touches { register, cell } => touches(editor, *register, *cell),
-        Question::Covers { register, other } => covers(editor, *register, *other),
-        Question::Meets { register, other } => meets(editor, *register, *other),
+        Question::Compares {
+            comparison,
+            register,
+            other,
+        } => compares(editor, *comparison, *register, *other),
         Question::Denorm {
             register,
             least,
@@ -73,14 +76,23 @@ fn touches(editor: &Editor, register: Register, cell: CellId) -> Answer
     Answer::Tells(editor.register(register).intersects_cell(cell))
 }
 
+fn compares(editor: &Editor, comparison: Comparison, register: Register, other: Register) -> Answer
+    ensures { Answers (Compares comparison register other) editor.now (reply_of result editor.now) }
+{
+    match comparison {
+        Comparison::Covers => covers(editor, register, other),
+        Comparison::Meets => meets(editor, register, other),
+    }
+}
+
 fn covers(editor: &Editor, register: Register, other: Register) -> Answer
-    ensures { Answers (Covers register other) editor.now (reply_of result editor.now) }
+    ensures { Answers (Compares Covers register other) editor.now (reply_of result editor.now) }
 {
     Answer::Tells(editor.register(register).contains(editor.register(other)))
 }
 
 fn meets(editor: &Editor, register: Register, other: Register) -> Answer
-    ensures { Answers (Meets register other) editor.now (reply_of result editor.now) }
+    ensures { Answers (Compares Meets register other) editor.now (reply_of result editor.now) }
 {
     Answer::Tells(editor.register(register).intersects(editor.register(other)))
 }

@@ -60,7 +60,7 @@ pub const LINES: [&str; 88] = [
     "at 0 1 0",
     "square 64c",
     "add e 5 7 9 b",
-    "add i 1",
+    "add A 1",
     "add a zz",
     "add a",
     "Add a 1",

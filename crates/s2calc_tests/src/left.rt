@@ -3,7 +3,7 @@ use crate::every_command::FILES;
 use crate::narrow::Narrow;
 use crate::pieces::Pieces;
 use s2calc::{RunFault, Tally, run, run_promptly};
-use s2edit::{Change, Editor, Register};
+use s2edit::{Change, Editor, REGISTERS, Register};
 use s2shelf::{MemoryShelf, Shelf};
 use std::alloc::Global;
 use std::test::Fail;
@@ -100,7 +100,7 @@ impl Left {
 
 /// Whether two editors have the same registers, past and future.
 fn are_same(editor: &Editor, other: &Editor) -> bool {
-    for letter in b'a'..=b'h' {
+    for letter in b'a'..b'a' + REGISTERS as u8 {
         if let Some(register) = Register::from_letter(letter) {
             if editor.register(register).cells() != other.register(register).cells() {
                 return false;

@@ -54,10 +54,10 @@ fn words_that_ask_for_a_run(rt: HostRuntime) -> Result<(), Fail> {
         ),
         (
             &[
-                "run", "--limit", "1000000", "--depth", "1000", "--dir", "-x",
+                "run", "--limit", "1000000", "--depth", "10000", "--dir", "-x",
             ],
             1_000_000,
-            1000,
+            10_000,
             "-x",
         ),
         (&["run", "--dir", "", "--limit=1", "--depth", "1"], 1, 1, ""),
@@ -121,7 +121,7 @@ fn words_that_ask_for_nothing(rt: HostRuntime) -> Result<(), Fail> {
         &["run", "--limit"],
         &["--limit", "5", "run"],
         &["run", "--depth", "0"],
-        &["run", "--depth", "1001"],
+        &["run", "--depth", "10001"],
         &["run", "--dir"],
         &["run", "--colour"],
         &["run", "run"],

@@ -4,7 +4,7 @@ ghost use Rattle.std.specs.Prelude.{◌≤◌};
 use crate::narrow::Narrow;
 use crate::pieces::Pieces;
 use s2calc::{Tally, run};
-use s2edit::Editor;
+use s2edit::{Editor, MOST_CELLS, MOST_STATES};
 use s2shelf::MemoryShelf;
 use std::process::Abort;
 use std::test::Fail;
@@ -13,7 +13,7 @@ use std::test::Fail;
 const ROOM: usize = 8192;
 
 /// Scripts over empty registers, and their answers.
-const ROWS: [(&str, &str); 28] = [
+const ROWS: [(&str, &str); 31] = [
     // Four siblings merge into their parent.
     ("add a 04 0c 14 1c\nshow a\n", "ok 0 1\n1\nend\n"),
     // Merging twice.
@@ -135,7 +135,22 @@ const ROWS: [(&str, &str); 28] = [
     // The first word that doesn't fit gives the refusal.
     (
         "outer a 31 0 0 0 0 0\nouter a 5 6 0 0 0 0\nouter a 5 0 3 2 0 0\ndenorm a 0 4\nadd i zz\nadd a\nAdd a 1\nundo a\nload a ../x\n",
-        "error level\nerror face\nerror rectangle\nerror level\nerror register\nerror syntax\nerror syntax\nerror syntax\nerror name\n",
+        "error level\nerror face\nerror rectangle\nerror level\nerror cell\nerror syntax\nerror syntax\nerror syntax\nerror name\n",
+    ),
+    // The last registers, and an edit without effect.
+    (
+        "add z 1\ncopy y z\nunion y a\nhistory\nundo\nundo\nshow z\n",
+        "ok 0 1\nok 0 1\nok 0 0\nundo 2 redo 0\nok 1 0\nok 1 0\nend\n",
+    ),
+    // What is no register.
+    (
+        "add I zz\nadd ab zz\ncopy a {\n",
+        "error register\nerror register\nerror register\n",
+    ),
+    // Each register has a list of its own.
+    (
+        "add a 1\ncopy b a\ncopy c b\ncopy d c\ncopy e d\ncopy f e\ncopy g f\ncopy h g\ncopy i h\ncopy j i\ncopy k j\ncopy l k\ncopy m l\ncopy n m\ncopy o n\ncopy p o\ncopy q p\ncopy r q\ncopy s r\ncopy t s\ncopy u t\ncopy v u\ncopy w v\ncopy x w\ncopy y x\ncopy z y\nclear a\nmeets z y\nmeets z a\nhistory\n",
+        "ok 0 1\nok 0 1\nok 0 1\nok 0 1\nok 0 1\nok 0 1\nok 0 1\nok 0 1\nok 0 1\nok 0 1\nok 0 1\nok 0 1\nok 0 1\nok 0 1\nok 0 1\nok 0 1\nok 0 1\nok 0 1\nok 0 1\nok 0 1\nok 0 1\nok 0 1\nok 0 1\nok 0 1\nok 0 1\nok 0 1\nok 1 0\nyes\nno\nundo 27 redo 0\n",
     ),
     // What is not known.
     ("count a\r\n", "cells 0 leaves 0\n"),
@@ -199,8 +214,8 @@ fn is_answered(
     script: &[u8],
     answers: &str,
 ) -> Result<(), Fail>
-    requires limit { (1 ≤ limit) × (limit ≤ 1000000) }
-    requires depth { (1 ≤ depth) × (depth ≤ 1000) }
+    requires limit { (1 ≤ limit) × (limit ≤ MOST_CELLS) }
+    requires depth { (1 ≤ depth) × (depth ≤ MOST_STATES) }
 {
     for size in [1, 2, 7, 5000] {
         let mut editor = Editor::open(rt.alloc(), limit, depth)?;
@@ -231,7 +246,7 @@ fn registers_and_their_history(rt: HostRuntime) -> Result<(), Fail> {
 #[test]
 fn limits_and_depths(rt: HostRuntime) -> Result<(), Fail> {
     for (limit, depth, script, answers) in BOUNDED_ROWS {
-        if limit < 1 || limit > 1_000_000 || depth < 1 || depth > 1000 {
+        if limit < 1 || limit > MOST_CELLS || depth < 1 || depth > MOST_STATES {
             return Err(Fail::from("a row out of range"));
         }
         is_answered(&rt, limit, depth, script.as_bytes(), answers)?;

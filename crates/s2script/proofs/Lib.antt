@@ -1,5 +1,4 @@
 pub mod KnownWords
 pub mod NameLemmas
 pub mod NamedLemmas
-pub mod RefusalLemmas
 pub mod WordLemmas

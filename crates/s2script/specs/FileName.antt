@@ -1,6 +1,7 @@
 -- The names of files.
 use Rattle.std.specs.Prelude.{ℕ, Bool, ◌&&◌, ◌||◌, not, List, ◌==◌, nat_le, if◌then◌else◌, length, slice_index, Option, Some, None}
 use Rattle.std.specs.List.{list_all}
+use Rattle.s2script.specs.declared.limits.TheConstants.{LONGEST_NAME}
 
 -- an ASCII letter, a digit, `.`, `_` or `-`
 abbrev pub is_name_byte : ℕ → Bool
@@ -10,9 +11,9 @@ is_name_byte b = (nat_le 48 b && nat_le b 57) || (nat_le 65 b && nat_le b 90) ||
 abbrev pub is_first_byte : ℕ → Bool
 is_first_byte b = not (b == 46) && not (b == 45)
 
--- 1 to 64 such bytes, the first no `.` and no `-`
+-- 1 to `LONGEST_NAME` such bytes, the first no `.` and no `-`
 abbrev pub is_name : List ℕ → Bool
-is_name word = nat_le 1 (length word) && (nat_le (length word) 64 && (is_first_byte (slice_index word 0) && list_all is_name_byte word))
+is_name word = nat_le 1 (length word) && (nat_le (length word) LONGEST_NAME && (is_first_byte (slice_index word 0) && list_all is_name_byte word))
 
 -- the name that a word is
 abbrev pub name_of_word : List ℕ → Option (List ℕ)

@@ -5,19 +5,28 @@ use Rattle.s2cover.specs.Rectangles.{Rect}
 use Rattle.s2edit.specs.declared.TheConstants.{REGISTERS}
 use Rattle.s2script.specs.declared.refusal.Refusal.{Refusal}
 use Rattle.s2script.specs.declared.refusal.Refusal.TheVariants.{Syntax, Cell as NoCell, Register as NoRegister, Level as NoLevel, Face as NoFace, Rectangle as NoRectangle, Order as NoOrder, Name as NoName}
+use Rattle.s2script.specs.declared.limits.TheConstants.{GREATEST_FACE, GREATEST_LEVEL, GREATEST_MODULUS, GREATEST_COORDINATE}
 use Rattle.s2script.specs.Named.{cell_named}
 use Rattle.s2script.specs.Number.{number_within}
 use Rattle.s2script.specs.Values.{Spot, Ends}
 use Rattle.s2script.specs.FileName.{name_of_word}
+use Rattle.s2script.specs.CellList.{next_cells}
 
 -- a value and the words behind it, or a refusal
 abbrev pub Taken : Type 0 → Type 0
 Taken X = Result (X × List (List ℕ)) Refusal
 
+infixl 10 ◌and_then◌
+infixl 10 ◌gives◌
 -- the first refusal, or what comes of the value
-abbrev pub and_then : {X Y : Type 0} → Result X Refusal → (X → Result Y Refusal) → Result Y Refusal
-and_then (Ok x) next = next x
-and_then (Err refusal) next = Err refusal
+abbrev pub ◌and_then◌ : {X Y : Type 0} → Result X Refusal → (X → Result Y Refusal) → Result Y Refusal
+Ok x and_then next = next x
+Err refusal and_then next = Err refusal
+
+-- the refusal, or what is made of the value
+abbrev pub ◌gives◌ : {X Y : Type 0} → Result X Refusal → (X → Y) → Result Y Refusal
+Ok x gives make = Ok (make x)
+Err refusal gives make = Err refusal
 
 -- the value that a word stands for, or a refusal where it stands for none
 abbrev pub value_or : {X : Type 0} → Option X → Refusal → List (List ℕ) → Taken X
@@ -47,44 +56,89 @@ abbrev pub next_cell : List (List ℕ) → Taken ℕ
 next_cell ws = next_as cell_named NoCell ws
 
 abbrev pub next_level : List (List ℕ) → Taken ℕ
-next_level ws = next_as (number_within 0 30) NoLevel ws
+next_level ws = next_as (number_within 0 GREATEST_LEVEL) NoLevel ws
 
 abbrev pub next_modulus : List (List ℕ) → Taken ℕ
-next_modulus ws = next_as (number_within 1 3) NoLevel ws
+next_modulus ws = next_as (number_within 1 GREATEST_MODULUS) NoLevel ws
 
 abbrev pub next_face : List (List ℕ) → Taken ℕ
-next_face ws = next_as (number_within 0 5) NoFace ws
+next_face ws = next_as (number_within 0 GREATEST_FACE) NoFace ws
 
 -- a coordinate that is at least so much
 abbrev pub next_coordinate : ℕ → List (List ℕ) → Taken ℕ
-next_coordinate low ws = next_as (number_within low 1073741823) NoRectangle ws
+next_coordinate low ws = next_as (number_within low GREATEST_COORDINATE) NoRectangle ws
 
 abbrev pub next_name : List (List ℕ) → Taken (List ℕ)
 next_name ws = next_as name_of_word NoName ws
 
 -- the cell, which must not end before the other begins
-abbrev pub in_order : ℕ → ℕ × List (List ℕ) → Taken ℕ
-in_order first last = if nat_lt (first_leaf first) (first_leaf last.0 + size_of last.0) then Ok last else Err NoOrder
+abbrev pub in_order : ℕ → ℕ → List (List ℕ) → Taken ℕ
+in_order first last ws = if nat_lt (first_leaf first) (first_leaf last + size_of last) then Ok (last, ws) else Err NoOrder
 
 -- the second cell of a range
 abbrev pub next_last : ℕ → List (List ℕ) → Taken ℕ
-next_last first ws = and_then (next_cell ws) (in_order first)
+next_last first ws = next_cell ws and_then λ (last, ws). in_order first last ws
 
 -- the two cells of a range
 abbrev pub next_span : List (List ℕ) → Taken Ends
-next_span ws = and_then (next_cell ws) (λ first. and_then (next_last first.0 first.1) (λ last. Ok (record { first = first.0; last = last.0 }, last.1)))
+next_span ws = next_cell ws and_then λ (first, ws). next_last first ws and_then λ (last, ws). Ok (record { first = first; last = last }, ws)
 
 -- `FACE I J`
 abbrev pub next_place : List (List ℕ) → Taken Spot
-next_place ws = and_then (next_face ws) (λ face. and_then (next_coordinate 0 face.1) (λ i. and_then (next_coordinate 0 i.1) (λ j. Ok (record { face = face.0; i = i.0; j = j.0 }, j.1))))
+next_place ws = next_face ws and_then λ (face, ws). next_coordinate 0 ws and_then λ (i, ws). next_coordinate 0 ws and_then λ (j, ws). Ok (record { face = face; i = i; j = j }, ws)
 
 -- `FACE I0 I1 J0 J1`
 abbrev pub next_rect : List (List ℕ) → Taken Rect
 next_rect ws =
-    and_then (next_face ws) (λ face. and_then (next_coordinate 0 face.1) (λ i0. and_then (next_coordinate i0.0 i0.1) (λ i1. and_then (next_coordinate 0 i1.1) (λ j0. and_then (next_coordinate j0.0 j0.1) (λ j1.
-    Ok (record { face = face.0; i0 = i0.0; i1 = i1.0; j0 = j0.0; j1 = j1.0 }, j1.1))))))
+    next_face ws and_then λ (face, ws). next_coordinate 0 ws and_then λ (i0, ws). next_coordinate i0 ws and_then λ (i1, ws). next_coordinate 0 ws and_then λ (j0, ws). next_coordinate j0 ws and_then λ (j1, ws).
+    Ok (record { face = face; i0 = i0; i1 = i1; j0 = j0; j1 = j1 }, ws)
 
 -- nothing, or a rectangle
 abbrev pub optional_rect : List (List ℕ) → Taken (Option Rect)
 optional_rect [] = Ok (None, [])
-optional_rect (w ∷ ws) = and_then (next_rect (w ∷ ws)) (λ rect. Ok (Some rect.0, rect.1))
+optional_rect (w ∷ ws) = next_rect (w ∷ ws) and_then λ (rect, ws). Ok (Some rect, ws)
+
+-- `CELL`
+unfoldable pub one_cell : List (List ℕ) → Result ℕ Refusal
+one_cell ws = next_cell ws and_then λ (cell, ws). at_end ws cell
+
+-- `FACE I J`, and no more
+unfoldable pub one_place : List (List ℕ) → Result Spot Refusal
+one_place ws = next_place ws and_then λ (place, ws). at_end ws place
+
+-- `r`
+unfoldable pub one_register : List (List ℕ) → Result ℕ Refusal
+one_register ws = next_register ws and_then λ (r, ws). at_end ws r
+
+-- `r s`
+unfoldable pub two_registers : List (List ℕ) → Result (ℕ × ℕ) Refusal
+two_registers ws = next_register ws and_then λ (r, ws). next_register ws and_then λ (s, ws). at_end ws (r, s)
+
+-- `r CELL`
+unfoldable pub register_and_cell : List (List ℕ) → Result (ℕ × ℕ) Refusal
+register_and_cell ws = next_register ws and_then λ (r, ws). next_cell ws and_then λ (cell, ws). at_end ws (r, cell)
+
+-- `r CELL..`
+unfoldable pub register_and_cells : List (List ℕ) → Result (ℕ × List ℕ) Refusal
+register_and_cells ws = next_register ws and_then λ (r, ws). next_cells ws gives λ cells. (r, cells)
+
+-- `r CELL CELL`
+unfoldable pub register_and_span : List (List ℕ) → Result (ℕ × Ends) Refusal
+register_and_span ws = next_register ws and_then λ (r, ws). next_span ws and_then λ (span, ws). at_end ws (r, span)
+
+-- `r NAME`
+unfoldable pub register_and_name : List (List ℕ) → Result (ℕ × List ℕ) Refusal
+register_and_name ws = next_register ws and_then λ (r, ws). next_name ws and_then λ (name, ws). at_end ws (r, name)
+
+-- `r MIN MOD`
+unfoldable pub register_level_modulus : List (List ℕ) → Result (ℕ × ℕ × ℕ) Refusal
+register_level_modulus ws = next_register ws and_then λ (r, ws). next_level ws and_then λ (least, ws). next_modulus ws and_then λ (modulus, ws). at_end ws (r, least, modulus)
+
+-- `r LEVEL FACE I0 I1 J0 J1`
+unfoldable pub register_level_rect : List (List ℕ) → Result (ℕ × ℕ × Rect) Refusal
+register_level_rect ws = next_register ws and_then λ (r, ws). next_level ws and_then λ (level, ws). next_rect ws and_then λ (rect, ws). at_end ws (r, level, rect)
+
+-- `r s LEVEL`, and nothing or `FACE I0 I1 J0 J1`
+unfoldable pub registers_level_rect : List (List ℕ) → Result (ℕ × ℕ × ℕ × Option Rect) Refusal
+registers_level_rect ws =
+    next_register ws and_then λ (r, ws). next_register ws and_then λ (s, ws). next_level ws and_then λ (level, ws). optional_rect ws and_then λ (rect, ws). at_end ws (r, s, level, rect)

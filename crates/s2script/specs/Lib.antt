@@ -6,6 +6,6 @@ pub mod FileName
 pub mod Named
 pub mod CellList
 pub mod Refusals
-pub mod Verbs
 pub mod Forms
+pub mod Table
 pub mod Line

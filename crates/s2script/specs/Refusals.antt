@@ -1,7 +1,7 @@
--- What a refusal is called.
+-- What a refusal of words is called.
 use Rattle.std.specs.Prelude.{ℕ, List, codes}
 use Rattle.s2script.specs.declared.refusal.Refusal.{Refusal}
-use Rattle.s2script.specs.declared.refusal.Refusal.TheVariants.{Syntax, Cell, Register, Level, Face, Rectangle, Order, Name, Missing, File, Format, TooMany, Nothing, Memory, Line}
+use Rattle.s2script.specs.declared.refusal.Refusal.TheVariants.{Syntax, Cell, Register, Level, Face, Rectangle, Order, Name, Line}
 
 -- the name that is printed
 abbrev pub name_of : Refusal → List ℕ
@@ -13,28 +13,4 @@ name_of Face = codes "face"
 name_of Rectangle = codes "rectangle"
 name_of Order = codes "order"
 name_of Name = codes "name"
-name_of Missing = codes "missing"
-name_of File = codes "file"
-name_of Format = codes "format"
-name_of TooMany = codes "too-many"
-name_of Nothing = codes "nothing"
-name_of Memory = codes "memory"
 name_of Line = codes "line"
-
--- a refusal that the words of a line alone can give
-abbrev pub IsOfWords : Refusal → Type 0
-IsOfWords Syntax = Unit {0}
-IsOfWords Cell = Unit {0}
-IsOfWords Register = Unit {0}
-IsOfWords Level = Unit {0}
-IsOfWords Face = Unit {0}
-IsOfWords Rectangle = Unit {0}
-IsOfWords Order = Unit {0}
-IsOfWords Name = Unit {0}
-IsOfWords Line = Unit {0}
-IsOfWords Missing = ⊥
-IsOfWords File = ⊥
-IsOfWords Format = ⊥
-IsOfWords TooMany = ⊥
-IsOfWords Nothing = ⊥
-IsOfWords Memory = ⊥

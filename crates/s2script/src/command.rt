@@ -54,6 +54,15 @@ pub enum Edit<'a> {
     },
 }
 
+/// How two registers may stand to each other.
+#[derive(Clone, Copy)]
+pub enum Comparison {
+    /// The first has all leaves of the second.
+    Covers,
+    /// They share a leaf.
+    Meets,
+}
+
 /// What is asked, of cells or of registers.
 #[derive(Drop)]
 pub enum Question {
@@ -77,13 +86,9 @@ pub enum Question {
         register: Register,
         cell: CellId,
     },
-    /// Whether a register has all leaves of another.
-    Covers {
-        register: Register,
-        other: Register,
-    },
-    /// Whether two registers share a leaf.
-    Meets {
+    /// Whether two registers stand so to each other.
+    Compares {
+        comparison: Comparison,
         register: Register,
         other: Register,
     },

@@ -1,9 +1,11 @@
 //! What the words of a command may have to be, from left to right.
 ghost use Rattle.std.specs.Prelude.{◌≡◌, ◌≤◌, ◌<◌, ◌+◌, [], ◌∷◌, MatchOption, MatchResult, IfOk, Ok, Err, length};
 ghost use Rattle.s2cell.specs.Cell.{first_leaf, size_of};
-ghost use Rattle.s2script.specs.Forms.{register_named, next_register, next_cell, next_last, next_span, next_level, next_modulus, next_face, next_coordinate, next_place, next_name, next_rect, optional_rect};
+ghost use Rattle.s2script.specs.Forms.{register_named, next_register, next_cell, next_last, next_span, next_level, next_modulus, next_face, next_coordinate, next_place, next_name, next_rect, optional_rect, one_cell, one_place, one_register, two_registers, register_and_cell, register_and_cells, register_and_span, register_and_name, register_level_modulus, register_level_rect, registers_level_rect};
 
+use crate::cells::Cells;
 use crate::level::{Level, Modulus};
+use crate::limits::{GREATEST_COORDINATE, GREATEST_FACE, GREATEST_LEVEL, GREATEST_MODULUS};
 use crate::name::{Name, name_in};
 use crate::named::cell_in;
 use crate::number::number_within;
@@ -14,9 +16,6 @@ use crate::words::Words;
 use s2cell::CellId;
 use s2cover::FaceRect;
 use s2edit::Register;
-
-/// The greatest coordinate.
-const LAST_PLACE: u64 = 1_073_741_823;
 
 /// The register that a word names, if it names one.
 fn register_in(word: &[u8]) -> Option<Register>
@@ -98,7 +97,7 @@ impl<'a> Words<'a> {
         ensures { MatchResult result (λ level. next_level self.old ≡ Ok (level, self.new)) (λ refusal. next_level self.old ≡ Err refusal) }
     {
         let word = self.word()?;
-        match number_within(word, 0, 30) {
+        match number_within(word, 0, GREATEST_LEVEL) {
             Some(level) => Ok(Level::of(level as u8)),
             None => Err(Refusal::Level),
         }
@@ -109,7 +108,7 @@ impl<'a> Words<'a> {
         ensures { MatchResult result (λ modulus. next_modulus self.old ≡ Ok (modulus, self.new)) (λ refusal. next_modulus self.old ≡ Err refusal) }
     {
         let word = self.word()?;
-        match number_within(word, 1, 3) {
+        match number_within(word, 1, GREATEST_MODULUS) {
             Some(modulus) => Ok(Modulus::of(modulus as u8)),
             None => Err(Refusal::Level),
         }
@@ -121,7 +120,7 @@ impl<'a> Words<'a> {
         ensures most { IfOk result (λ face. face ≤ 5) }
     {
         let word = self.word()?;
-        match number_within(word, 0, 5) {
+        match number_within(word, 0, GREATEST_FACE) {
             Some(face) => Ok(face as u8),
             None => Err(Refusal::Face),
         }
@@ -130,10 +129,10 @@ impl<'a> Words<'a> {
     /// A coordinate that is at least so much.
     fn coordinate(&mut self, low: u32) -> Result<u32, Refusal>
         ensures place { MatchResult result (λ place. next_coordinate low self.old ≡ Ok (place, self.new)) (λ refusal. next_coordinate low self.old ≡ Err refusal) }
-        ensures bounds { IfOk result (λ place. (low ≤ place) × (place ≤ 1073741823)) }
+        ensures bounds { IfOk result (λ place. (low ≤ place) × (place ≤ GREATEST_COORDINATE)) }
     {
         let word = self.word()?;
-        match number_within(word, u64::from(low), LAST_PLACE) {
+        match number_within(word, u64::from(low), GREATEST_COORDINATE) {
             Some(place) => Ok(place as u32),
             None => Err(Refusal::Rectangle),
         }
@@ -185,4 +184,131 @@ impl<'a> Words<'a> {
         let rect = self.rect()?;
         Ok(Some(rect))
     }
+}
+
+/// `CELL`
+#[tactic(auto, unfolding(crate::specs::Forms::one_cell))]
+pub(crate) fn one_cell(mut words: Words<'_>) -> Result<CellId, Refusal>
+    ensures { result ≡ one_cell words.entry }
+{
+    let cell = words.cell()?;
+    words.end()?;
+    Ok(cell)
+}
+
+/// `FACE I J`
+#[tactic(auto, unfolding(crate::specs::Forms::one_place))]
+pub(crate) fn one_place(mut words: Words<'_>) -> Result<Place, Refusal>
+    ensures { result ≡ one_place words.entry }
+{
+    let place = words.place()?;
+    words.end()?;
+    Ok(place)
+}
+
+/// `r`
+#[tactic(auto, unfolding(crate::specs::Forms::one_register))]
+pub(crate) fn one_register(mut words: Words<'_>) -> Result<Register, Refusal>
+    ensures { result ≡ one_register words.entry }
+{
+    let register = words.register()?;
+    words.end()?;
+    Ok(register)
+}
+
+/// `r s`
+#[tactic(auto, unfolding(crate::specs::Forms::two_registers))]
+pub(crate) fn two_registers(mut words: Words<'_>) -> Result<(Register, Register), Refusal>
+    ensures { result ≡ two_registers words.entry }
+{
+    let register = words.register()?;
+    let other = words.register()?;
+    words.end()?;
+    Ok((register, other))
+}
+
+/// `r CELL`
+#[tactic(auto, unfolding(crate::specs::Forms::register_and_cell))]
+pub(crate) fn register_and_cell(mut words: Words<'_>) -> Result<(Register, CellId), Refusal>
+    ensures { result ≡ register_and_cell words.entry }
+{
+    let register = words.register()?;
+    let cell = words.cell()?;
+    words.end()?;
+    Ok((register, cell))
+}
+
+/// `r CELL..`
+#[tactic(auto, unfolding(crate::specs::Forms::register_and_cells))]
+pub(crate) fn register_and_cells(mut words: Words<'_>) -> Result<(Register, Cells<'_>), Refusal>
+    ensures { result ≡ register_and_cells words.entry }
+{
+    let register = words.register()?;
+    let cells = Cells::of(words)?;
+    Ok((register, cells))
+}
+
+/// `r CELL CELL`
+#[tactic(auto, unfolding(crate::specs::Forms::register_and_span))]
+pub(crate) fn register_and_span(mut words: Words<'_>) -> Result<(Register, Span), Refusal>
+    ensures { result ≡ register_and_span words.entry }
+{
+    let register = words.register()?;
+    let span = words.span()?;
+    words.end()?;
+    Ok((register, span))
+}
+
+/// `r NAME`
+#[tactic(auto, unfolding(crate::specs::Forms::register_and_name))]
+pub(crate) fn register_and_name(mut words: Words<'_>) -> Result<(Register, Name<'_>), Refusal>
+    ensures { result ≡ register_and_name words.entry }
+{
+    let register = words.register()?;
+    let name = words.name()?;
+    words.end()?;
+    Ok((register, name))
+}
+
+/// `r MIN MOD`
+#[tactic(auto, unfolding(crate::specs::Forms::register_level_modulus))]
+pub(crate) fn register_level_modulus(
+    mut words: Words<'_>,
+) -> Result<(Register, Level, Modulus), Refusal>
+    ensures { result ≡ register_level_modulus words.entry }
+{
+    let register = words.register()?;
+    let least = words.level()?;
+    let modulus = words.modulus()?;
+    words.end()?;
+    Ok((register, least, modulus))
+}
+
+/// `r LEVEL FACE I0 I1 J0 J1`
+#[tactic(auto, unfolding(crate::specs::Forms::register_level_rect))]
+pub(crate) fn register_level_rect(
+    mut words: Words<'_>,
+) -> Result<(Register, Level, FaceRect), Refusal>
+    ensures { result ≡ register_level_rect words.entry }
+{
+    let register = words.register()?;
+    let level = words.level()?;
+    let rect = words.rect()?;
+    words.end()?;
+    Ok((register, level, rect))
+}
+
+/// `r s LEVEL`, and nothing or `FACE I0 I1 J0 J1`
+#[tactic(auto, unfolding(crate::specs::Forms::registers_level_rect))]
+pub(crate) fn registers_level_rect(
+    mut words: Words<'_>,
+) -> Result<(Register, Register, Level, Option<FaceRect>), Refusal>
+    ensures { result ≡ registers_level_rect words.entry }
+{
+    let register = words.register()?;
+    let other = words.register()?;
+    let level = words.level()?;
+    let rect = words.optional_rect()?;
+    words.end()?;
+    Ok((register, other, level, rect))
 }

@@ -6,32 +6,32 @@
 //! many, and `Name` is the name of a file as it stands in the line.
 //!
 //! Modules: `words` (the words of a line), `number`, `named`, `name`, `cells`, `level`, `place` and `span`
-//! (what words may stand for), `forms`
-//! (the words that a command may have), `verb` (the names of the commands), `command` and `refusal` (what a
-//! line may ask for, and why it may be refused), `grammar` (what a line says).
+//! (what words may stand for), `limits`, `forms` (the words that a command may have), `table` (the commands by
+//! their names), `command` and `refusal` (what a line may ask for, and why its words may be refused), `grammar`
+//! (what a line says).
 #![tactic(auto)]
 
 mod cells;
 mod command;
 mod forms;
 mod grammar;
-mod laws;
 mod level;
+mod limits;
 mod name;
 mod named;
 mod number;
 mod place;
 mod refusal;
 mod span;
-mod verb;
+mod table;
 mod words;
 mod worked;
 
 pub use cells::Cells;
-pub use command::{Command, Edit, Parsed, Question};
+pub use command::{Command, Comparison, Edit, Parsed, Question};
 pub use grammar::parse;
-pub use laws::refusals_of_lines;
 pub use level::{Level, Modulus};
+pub use limits::{LONGEST_LINE, LONGEST_NAME};
 pub use name::{Name, name_in};
 pub use named::cell_in;
 pub use place::Place;

@@ -3,11 +3,9 @@ ghost use Rattle.std.specs.Prelude.{◌≡◌};
 ghost use Rattle.std.specs.List.{list_all};
 ghost use Rattle.s2script.specs.FileName.{is_name_byte, is_first_byte, is_name, name_of_word};
 
+use crate::limits::LONGEST_NAME;
 use std::marker::Model;
 use std::str;
-
-/// The most bytes of a name.
-const LONGEST_NAME: usize = 64;
 
 /// The name of a file, as it stands in a line.
 #[derive(Drop)]

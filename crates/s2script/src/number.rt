@@ -2,11 +2,13 @@
 ghost use Rattle.std.specs.Prelude.{◌≡◌, ◌≤◌, IfSome};
 ghost use Rattle.s2script.specs.Number.{number, number_within};
 
+use crate::limits::MOST_DIGITS;
+
 /// What 1 to 10 decimal digits stand for.
 fn number_in(word: &[u8]) -> Option<u64>
     ensures { result ≡ number word.now }
 {
-    if word.is_empty() || word.len() > 10 {
+    if word.is_empty() || word.len() > MOST_DIGITS {
         return None;
     }
     let mut number = 0u64;

@@ -1,8 +1,8 @@
-//! Why a line is refused.
+//! Why the words of a line are refused.
 ghost use Rattle.std.specs.Prelude.{◌≡◌, ◌≤◌, length};
 ghost use Rattle.s2script.specs.Refusals.{name_of};
 
-/// Why a line is refused. After any of them nothing has changed.
+/// Why a line is refused for its words or its length, before anything is done.
 #[derive(Clone, Copy, Debug, PartialEq, Eq)]
 pub enum Refusal {
     /// An unknown command, a word missing, or a word too many.
@@ -21,18 +21,6 @@ pub enum Refusal {
     Order,
     /// A word that is no name of a file.
     Name,
-    /// No file of that name.
-    Missing,
-    /// The files' device failed.
-    File,
-    /// A file that isn't of the form of a union file.
-    Format,
-    /// More cells than are allowed.
-    TooMany,
-    /// Nothing to undo, or to redo.
-    Nothing,
-    /// A growth was refused.
-    Memory,
     /// A line that is too long.
     Line,
 }
@@ -52,12 +40,6 @@ impl Refusal {
             Refusal::Rectangle => "rectangle",
             Refusal::Order => "order",
             Refusal::Name => "name",
-            Refusal::Missing => "missing",
-            Refusal::File => "file",
-            Refusal::Format => "format",
-            Refusal::TooMany => "too-many",
-            Refusal::Nothing => "nothing",
-            Refusal::Memory => "memory",
             Refusal::Line => "line",
         }
     }

@@ -10,7 +10,7 @@ ghost use Rattle.s2script.specs.declared.command.Command.TheVariants.{Ask};
 ghost use Rattle.s2script.specs.declared.command.Parsed.TheVariants.{Nothing, Does, Fails};
 
 /// Lines, words and cells of small scripts: what the definitions say of them.
-#[tactic(auto, unfolding(crate::specs::Line::line_of, crate::specs::Named::cell_named, crate::specs::Named::token_cell, crate::specs::Named::debug_cell, crate::specs::Named::is_cell, crate::specs::Verbs::asking_named, crate::specs::Verbs::doing_named))]
+#[tactic(auto, unfolding(crate::specs::Line::line_of, crate::specs::Named::cell_named, crate::specs::Named::token_cell, crate::specs::Named::debug_cell, crate::specs::Named::is_cell, crate::specs::Table::command_of, crate::specs::Table::file_or_move_of, crate::specs::Table::question_of, crate::specs::Forms::one_cell))]
 pub fn examples()
     // An empty line counts, and what follows the last newline counts unless it is empty.
     ensures empty_script { lines [] ≡ [] }

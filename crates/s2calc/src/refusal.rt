@@ -1,0 +1,40 @@
+//! Why a line is refused.
+ghost use Rattle.std.specs.Prelude.{◌≡◌, ◌≤◌, length};
+ghost use Rattle.s2calc.specs.Refusals.{name_of};
+
+/// Why a line is refused. After any of them no register has changed, and nothing of the history.
+#[derive(Clone, Copy, Debug, PartialEq, Eq)]
+pub enum Refusal {
+    /// Its words, or its length.
+    Words(s2script::Refusal),
+    /// No file of that name.
+    Missing,
+    /// The files' device failed.
+    File,
+    /// A file that isn't of the form of a union file.
+    Format,
+    /// More cells than are allowed.
+    TooMany,
+    /// Nothing to undo, or to redo.
+    Nothing,
+    /// Out of memory.
+    Memory,
+}
+
+impl Refusal {
+    /// The name that is printed.
+    pub(crate) fn name(self) -> &'static str
+        ensures name { result.now ≡ name_of self }
+        ensures short { length result.now ≤ 9 }
+    {
+        match self {
+            Refusal::Words(refusal) => refusal.name(),
+            Refusal::Missing => "missing",
+            Refusal::File => "file",
+            Refusal::Format => "format",
+            Refusal::TooMany => "too-many",
+            Refusal::Nothing => "nothing",
+            Refusal::Memory => "memory",
+        }
+    }
+}
