@@ -1,6 +1,7 @@
 // S2 and the proved library on the same work, in one run: bench/README.md describes the rows.
 #include "rectangle.h"
 #include "sides.h"
+#include "sizes.h"
 #include "table.h"
 
 static const size_t N = 1000000;
@@ -334,6 +335,7 @@ int main(int argc, char** argv) {
   sets(table, unions);
   cell_questions(table, unions);
   union_questions(table, unions);
+  Sizes(table).rows();
   denormalising(table, unions);
   files(table);
   coverings(table);

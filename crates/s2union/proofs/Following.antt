@@ -8,9 +8,10 @@ use Rattle.std.proofs.lemmas.List.Elements.{All-weaker, All-append, All-drop, Al
 use Rattle.std.proofs.lemmas.List.{take_all, take-append-drop, length-drop, get_or-drop, get_or-take, get_or_append_left, get_or-append_right, get_or_default, length-take-le, drop_all, append-nil, take-take, drop-take}
 use Rattle.std.proofs.lemmas.List.Folds.{list_any_more, list_any-append}
 use Rattle.std.specs.List.{list_any}
-use Rattle.std.proofs.lemmas.List.Sorted.{searched}
 use Rattle.std.proofs.lemmas.List.Kept.{AllPairs-from_increasing}
-use Rattle.std.specs.List.Sorted.{IsStrictlyIncreasing, IsBinarySearchResult}
+use Rattle.std.specs.List.Sorted.{IsStrictlyIncreasing}
+use Rattle.s2union.specs.Search.{Brackets}
+use Rattle.s2union.proofs.Galloping.{rises}
 use Rattle.s2cell.specs.Cell.{IsCell, first_leaf, covers}
 use Rattle.s2cell.proofs.CellLemmas.{cell_leaves}
 use Rattle.s2union.specs.Union.{has_leaf, IsLocal}
@@ -190,31 +191,6 @@ adding_done old cells list new i run a within e is =
           rw same (omega arith)));
     }
 
--- the place of a cell among ascending ones
-pub record Below (cells : List ℕ) (cell at : ℕ) : Type 0 where
-  pub below : (k : ℕ) → k < at → get_or cells k 0 < cell
-  pub rest : (k : ℕ) → at ≤ k → k < length cells → cell ≤ get_or cells k 0
-
-rises : (cells : List ℕ) (i j : ℕ) → IsStrictlyIncreasing cells → i ≤ j → j < length cells → get_or cells i 0 ≤ get_or cells j 0
-rises cells i j up h l =
-    ⊎_elim
-    (λ (a : i < j). let e = AllPairs-from_increasing cells up i j 0 a l in omega arith)
-    (λ (a : j ≤ i). let e : i ≡ j = omega arith in rw e (omega arith))
-    (cases_lt i j)
-
-pub below_found : (cells : List ℕ) (cell at : ℕ) → IsStrictlyIncreasing cells → IsBinarySearchResult (λ y. nat_cmp y cell) cells (Ok at) → Below cells cell at
-below_found cells cell at up found =
-    let s = searched cells cell (Ok at) found (λ i j h l. rises cells i j up h l) in
-    record {
-      below = λ k h. let e = AllPairs-from_increasing cells up k at 0 h s.0 in omega (arith, s.1);
-      rest = λ k h l. omega (arith, s.1, rises cells at k up h l);
-    }
-
-pub below_missing : (cells : List ℕ) (cell at : ℕ) → IsStrictlyIncreasing cells → IsBinarySearchResult (λ y. nat_cmp y cell) cells (Err at) → Below cells cell at
-below_missing cells cell at up missing =
-    let s = searched cells cell (Err at) missing (λ i j h l. rises cells i j up h l) in
-    record { below = s.1; rest = λ k h l. let e = s.2 k h l in omega arith }
-
 take_parts : (u : List ℕ) (i n : ℕ) → i ≤ n → take n u ≡ take i u ++ take (n - i) (drop i u)
 take_parts u i n h =
     let e : i + (n - i) ≡ n = omega arith in
@@ -241,30 +217,13 @@ join_run xs ys list new i j next lx s h within below added =
       start_y = λ g. added.later (get_or ys j 0) (s.start_y g) (λ k d l. let e = below g (i + k) (omega arith) (omega arith) in omega (arith, at k d (omega arith)));
     }
 
--- the same of the run that a search in the rest of xs finds: n cells from place i on are below y, and the next is not
-pub record Run (xs : List ℕ) (i n y : ℕ) : Type 0 where
-  pub within : n ≤ length (take (length xs - i) (drop i xs))
-  pub below : (k : ℕ) → k < n → get_or (take (length xs - i) (drop i xs)) k 0 < y
-  pub rest : (k : ℕ) → n ≤ k → k < length (take (length xs - i) (drop i xs)) → y ≤ get_or (take (length xs - i) (drop i xs)) k 0
-
-rest_is : (xs : List ℕ) (i : ℕ) → take (length xs - i) (drop i xs) ≡ drop i xs
-rest_is xs i = take_all (length xs - i) (drop i xs) (omega (arith, length-drop i xs))
-
-rest_length : (xs : List ℕ) (i : ℕ) → length (take (length xs - i) (drop i xs)) ≡ length xs - i
-rest_length xs i = ap length (rest_is xs i) ∙ length-drop i xs
-
-rest_at : (xs : List ℕ) (i k m : ℕ) → i + k ≡ m → get_or (take (length xs - i) (drop i xs)) k 0 ≡ get_or xs m 0
-rest_at xs i k m e = ap (λ l. get_or l k 0) (rest_is xs i) ∙ get_or-drop i xs k 0 ∙ ap (λ n. get_or xs n 0) e
-
-pub run_joins : (xs ys list new : List ℕ) (i j n y : ℕ) → IsLocal xs → Joining xs ys list i j → i ≤ length xs → Run xs i n y → (j < length ys → y ≡ get_or ys j y)
-    → Added list (take (i + n - i) (drop i xs)) new → Joining xs ys new (i + n) j
-run_joins xs ys list new i j n y lx s h run is added =
-    join_run xs ys list new i j (i + n) lx s (omega arith) (omega (arith, run.within, rest_length xs i))
-    (λ g k a b. let e = run.below (k - i) (omega arith) in omega (arith, read_at ys j j y g refl (is g), rest_at xs i (k - i) k (omega arith)))
+-- the same of the run that a search in xs finds: the cells before `next` are below y, and the others are not
+pub run_joins : (xs ys list new : List ℕ) (i j next y : ℕ) → IsLocal xs → Joining xs ys list i j → i ≤ next → Brackets xs y next next → (j < length ys → y ≡ get_or ys j y)
+    → Added list (take (next - i) (drop i xs)) new → Joining xs ys new next j
+run_joins xs ys list new i j next y lx s h run is added =
+    join_run xs ys list new i j next lx s h run.within
+    (λ g k a b. let e = run.below k b in omega (arith, read_at ys j j y g refl (is g)))
     added
 
-pub run_ends : (xs : List ℕ) (i n y : ℕ) → Run xs i n y → i + n < length xs → y ≤ get_or xs (i + n) 0
-run_ends xs i n y run h = let e = run.rest n (omega arith) (omega (arith, rest_length xs i)) in omega (arith, rest_at xs i n (i + n) refl)
-
-pub run_starts : (xs ys list new : List ℕ) (i j n y : ℕ) → Joining xs ys new (i + n) j → j < length ys → y ≡ get_or ys j y → Start new y
-run_starts xs ys list new i j n y s h is = rw (← read_at ys j j y h refl is) (s.start_y h)
+pub run_starts : (xs ys list new : List ℕ) (next j y : ℕ) → Joining xs ys new next j → j < length ys → y ≡ get_or ys j y → Start new y
+run_starts xs ys list new next j y s h is = rw (← read_at ys j j y h refl is) (s.start_y h)

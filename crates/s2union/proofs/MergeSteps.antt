@@ -1,12 +1,13 @@
 -- One step of the walk along a list and the two lists of a change.
-use Rattle.std.proofs.Common.{◌≡◌, ℕ, ◌<◌, ◌≢◌, true, false, ◌||◌, eqb, ltb, List, [], ◌∷◌, length, refl, sym, ap, ◌∙◌, subst, ⊎_elim, arith, eqb-true, eq-eqb, ne_eqb, lt-ltb, le-ltb, drop, take, get_or, ◌-◌}
+use Rattle.std.proofs.Common.{◌≡◌, ℕ, ◌<◌, ◌≢◌, true, false, ◌||◌, eqb, ltb, List, [], ◌∷◌, length, refl, sym, ap, ◌∙◌, subst, ⊎_elim, arith, eqb-true, eq-eqb, ne_eqb, lt-ltb, le-ltb, drop, take, get_or, ◌-◌, ◌≤◌, ◌+◌, min, zero, suc}
 use Rattle.std.proofs.lemmas.Grind.{common_steps}
-use Rattle.std.proofs.lemmas.List.{take_all}
+use Rattle.std.proofs.lemmas.List.{take_all, length-drop}
 use Rattle.std.proofs.lemmas.Bool.{cond-true, cond-false, false≢true, true≢false, or_cases, or_left, or_right, or_parts}
 use Rattle.std.specs.List.Sorted.{IsStrictlyIncreasing}
 use Rattle.s2union.specs.Apply.{has, cells_without, insert_cell, insert_cells, applied}
 use Rattle.std.specs.declared.cmp.Ordering.TheVariants.{Less, Equal, Greater}
-use Rattle.s2union.specs.Merge.{CanApply, Goes, Ascend, IsHead}
+use Rattle.s2union.specs.Merge.{CanApply, Goes, Keeps, Ascend, IsHead, IsFirst}
+use Rattle.s2union.specs.Search.{Brackets}
 use Rattle.s2union.proofs.CellLists.{AllAbove, IsAscending, ascends_from, increasing_from, has-below, AllAbove-trans, AllAbove-cells_without}
 
 insert_cell-below : (p : ℕ) (us : List ℕ) → AllAbove p us → insert_cell p us ≡ p ∷ us
@@ -181,3 +182,37 @@ rest_ascends xs ys x e a = let whole : IsAscending (x ∷ ys) = subst IsAscendin
 pub behind_first_ascends : (xs : List ℕ) → IsStrictlyIncreasing xs → IsStrictlyIncreasing (take (length xs - 1) (drop 1 xs))
 behind_first_ascends [] a = a
 behind_first_ascends (x ∷ xs) a = rw behind_first (rest_ascends (x ∷ xs) xs x refl a)
+
+-- a run of cells that stay, each below what is put in and taken out
+pub keep_run : (n : ℕ) (out put us : List ℕ) → Ascend (record { out = out; put = put; cells = us }) → n ≤ length us
+    → ((k : ℕ) → k < n → IfHead (λ p. get_or us k 0 < p) put) → ((k : ℕ) → k < n → IfHead (λ o. get_or us k 0 < o) out)
+    → Keeps (take n us) (record { out = out; put = put; cells = us }) (record { out = out; put = put; cells = drop n us })
+keep_run zero out put us a h hp ho = record { same = (λ f. f, λ f. f); gives = λ _. refl; less = omega arith }
+keep_run (suc n) out put [] a h hp ho = absurd (omega arith)
+keep_run (suc n) out put (u ∷ us) a h hp ho =
+    let step = keep_step out put us u a (hp 0 (omega arith)) (ho 0 (omega arith)) in
+    let rest : Ascend (record { out = out; put = put; cells = us }) = record { out = a.out; put = a.put; cells = rest_ascends (u ∷ us) us u refl a.cells } in
+    let more = keep_run n out put us rest (omega arith) (λ k l. hp (suc k) (omega arith)) (λ k l. ho (suc k) (omega arith)) in
+    let less = step.less in
+    let fewer = more.less in
+    record {
+      same = (λ f. more.same.0 (step.same.0 f), λ f. step.same.1 (more.same.1 f));
+      gives = λ f. step.gives f ∙ ap (λ l. u ∷ l) (more.gives (step.same.0 f));
+      less = omega arith;
+    }
+
+below_first : (x n : ℕ) (ys : List ℕ) → IsFirst n ys → x < n → IfHead (λ y. x < y) ys
+below_first x n [] f h = tt
+below_first x n (y ∷ ys) f h = omega arith
+
+-- the same of the cells that a search finds below the first of both
+pub keep_found : (len next a b : ℕ) (out put us : List ℕ) → Ascend (record { out = out; put = put; cells = us }) → IsFirst a out → IsFirst b put → next ≡ min a b → Brackets us next len len
+    → Keeps (take len us) (record { out = out; put = put; cells = us }) (record { out = out; put = put; cells = drop len us })
+keep_found len next a b out put us s fa fb e found =
+    keep_run len out put us s found.within
+    (λ k h. below_first (get_or us k 0) b put fb (let l = found.below k h in omega arith))
+    (λ k h. below_first (get_or us k 0) a out fa (let l = found.below k h in omega arith))
+
+-- what is left of a list behind a place, as a slice of it
+pub rest_after : (xs : List ℕ) (i : ℕ) → take (length xs - i) (drop i xs) ≡ drop i xs
+rest_after xs i = take_all (length xs - i) (drop i xs) (let l = length-drop i xs in omega arith)

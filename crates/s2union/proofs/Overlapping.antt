@@ -10,14 +10,7 @@ use Rattle.s2cell.proofs.Leaves.{covers_there, covers_from}
 use Rattle.s2union.specs.Union.{has_leaf, ShareSome}
 use Rattle.s2union.specs.Packed.{IsPacked, Behind}
 use Rattle.s2union.proofs.Walking.{leaf_at, leaf_there, not_true}
-
--- cells begin later than those before them
-starts_later : (u : List ℕ) (j k : ℕ) → IsPacked u → j ≤ k → k < length u → first_leaf (get_or u j 0) ≤ first_leaf (get_or u k 0)
-starts_later u j k p h l =
-    ⊎_elim
-    (λ (a : j < k). let c : first_leaf (get_or u j 0) + size_of (get_or u j 0) ≤ first_leaf (get_or u k 0) = p.chain j k 0 a l in omega arith)
-    (λ (a : k ≤ j). let e : j ≡ k = omega arith in let f = ap (λ i. first_leaf (get_or u i 0)) e in omega arith)
-    (cases_lt j k)
+use Rattle.s2union.proofs.Finding.{starts_later}
 
 -- a cell that ends by a leaf begins before it
 pub begun_behind : (u : List ℕ) (n lo k : ℕ) → IsPacked u → n ≤ length u → Behind u n lo → k < n → first_leaf (get_or u k 0) < lo

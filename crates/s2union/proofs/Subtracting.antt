@@ -1,5 +1,5 @@
 -- The leaves of one list of cells that another has not.
-use Rattle.std.proofs.Common.{◌≡◌, ℕ, ◌+◌, ◌-◌, ◌<◌, ◌≤◌, refl, sym, ◌∙◌, ap, arith, subst, Bool, true, false, ◌||◌, ◌&&◌, ltb, List, length, get_or, not, max, ◌⊎◌, inl, inr}
+use Rattle.std.proofs.Common.{◌≡◌, ℕ, zero, suc, [], ◌∷◌, ◌++◌, take, drop, ◌+◌, ◌-◌, ◌<◌, ◌≤◌, refl, sym, ◌∙◌, ap, arith, subst, Bool, true, false, ◌||◌, ◌&&◌, ltb, List, length, get_or, not, max, ◌⊎◌, inl, inr}
 use Rattle.std.proofs.Math.Logic.{⊎_elim}
 use Rattle.std.proofs.lemmas.Bool.{cases_lt, false≢true}
 use Rattle.std.proofs.lemmas.Bool.Decides.{nat_tests}
@@ -12,7 +12,11 @@ use Rattle.s2union.specs.Packed.{IsPacked, Behind, FillsGap}
 use Rattle.s2union.proofs.Normal.{holder, family, all_held, member_greatest, greatest_apart}
 use Rattle.s2union.proofs.Checking.{packed_from_local, member_at}
 use Rattle.s2union.proofs.Walking.{Walk, walk_more, walk_below, behind_more, behind_later, gap, leaf_there, leaf_at, not_true, and_false}
-use Rattle.s2union.proofs.Picking.{Picked, IsGap, picked_fill, fill_leaves, between_ends}
+use Rattle.std.proofs.lemmas.List.{append-nil}
+use Rattle.s2union.proofs.Picking.{Picked, IsGap, picked_fill, picked_push, greatest_below, fill_leaves, between_ends}
+use Rattle.s2union.proofs.Tiling.{or_false, none_between}
+use Rattle.s2union.proofs.Finding.{starts_later}
+use Rattle.s2union.proofs.Shared.{has_leaf-push, run_push}
 
 and_left : (a b : Bool) → (a && b) ≡ true → a ≡ true
 and_left true b h = refl
@@ -270,3 +274,99 @@ subtracting_free xs ys list new i j lo start end next x lx ly s h ex free es ee 
           (fill_leaves list new start end f);
       edge = edge_free xs ys i lo start next (packed_from_local xs lx) s.edge h (omega arith) (omega arith);
     }
+
+-- no leaf of xs lies before the next of its cells
+pub subtracting_from : (xs ys list : List ℕ) (i j lo start x : ℕ) → IsLocal xs → Subtracting xs ys list i j lo → i < length xs → get_or xs i 0 ≡ x → start ≡ max (first_leaf x) lo → Subtracting xs ys list i j start
+subtracting_from xs ys list i j lo start x lx s h ex es =
+    let px = packed_from_local xs lx in
+    let fx = ap first_leaf ex in
+    record {
+      in_x = s.in_x;
+      in_y = s.in_y;
+      picked = s.picked;
+      walk = walk_more (minus xs ys) xs ys list list i j lo i j start lo lo s.walk (omega arith) (omega arith) (omega arith)
+          (λ n. or_false (has_leaf list n) ∙ ap (λ v. has_leaf list n || v) (sym (none_between lo n)))
+          (behind_later xs i lo start s.walk.behind_x (omega arith))
+          (behind_later ys j lo start s.walk.behind_y (omega arith))
+          (λ n a b.
+          let t : has_leaf xs n ≡ false = gap xs i lo (first_leaf (get_or xs i 0)) n px s.walk.behind_x (λ _. omega arith) a (omega arith) in
+          none_between lo n ∙ ap (λ v. v && not (has_leaf ys n)) (sym t));
+      edge = λ l. ⊎_elim
+          (λ (a : first_leaf x < lo). let same : lo ≡ start = omega arith in subst (λ k. Edge xs ys i k) same s.edge l)
+          (λ (a : lo ≤ first_leaf x). inl (omega arith))
+          (cases_lt (first_leaf x) lo);
+    }
+
+-- a further place in ys
+pub subtracting_on_y : (xs ys list : List ℕ) (i j lo next : ℕ) → Subtracting xs ys list i j lo → next ≤ length ys → Behind ys next lo → Subtracting xs ys list i next lo
+subtracting_on_y xs ys list i j lo next s in_y b =
+    record { in_x = s.in_x; in_y = in_y; picked = s.picked; walk = record { behind_x = s.walk.behind_x; behind_y = b; leaves = s.walk.leaves }; edge = s.edge }
+
+-- a further place in xs, which no cell that goes on from before `lo` is passed for
+pub subtracting_on_x : (xs ys list : List ℕ) (i j lo next : ℕ) → IsLocal xs → Subtracting xs ys list i j lo → i ≤ next → next ≤ length xs → Behind xs next lo → Subtracting xs ys list next j lo
+subtracting_on_x xs ys list i j lo next lx s le in_x b = record {
+  in_x = in_x;
+  in_y = s.in_y;
+  picked = s.picked;
+  walk = record { behind_x = b; behind_y = s.walk.behind_y; leaves = s.walk.leaves };
+  edge = λ l. ⊎_elim
+      (λ (a : lo ≤ first_leaf (get_or xs i 0)). let f = starts_later xs i next (packed_from_local xs lx) le l in inl (omega arith))
+      (λ (a : (0 < lo) × (has_leaf ys (lo - 1) ≡ true)). inr a)
+      (s.edge (omega arith));
+}
+
+-- a cell of xs that ends before the next of ys
+subtracting_push : (xs ys list : List ℕ) (i j lo : ℕ) → IsLocal xs → IsLocal ys → Subtracting xs ys list i j lo → i < length xs → lo ≤ first_leaf (get_or xs i 0)
+    → (j < length ys → first_leaf (get_or xs i 0) + size_of (get_or xs i 0) ≤ first_leaf (get_or ys j 0))
+    → Subtracting xs ys (list ++ get_or xs i 0 ∷ []) (i + 1) j (first_leaf (get_or xs i 0) + size_of (get_or xs i 0))
+subtracting_push xs ys list i j lo lx ly s h le free =
+    let x = get_or xs i 0 in
+    let px = packed_from_local xs lx in
+    let py = packed_from_local ys ly in
+    let start = first_leaf x in
+    let end = first_leaf x + size_of x in
+    let inside : (n : ℕ) → start ≤ n → n < end → minus xs ys n ≡ true =
+    (λ n a b.
+    let t : has_leaf xs n ≡ true = leaf_there xs i n h a b in
+    let f : has_leaf ys n ≡ false = gap ys j lo end n py s.walk.behind_y free (omega arith) b in
+    ap (λ v. v && not (has_leaf ys n)) t ∙ ap not f) in
+    record {
+      in_x = omega arith;
+      in_y = s.in_y;
+      picked = picked_push (minus xs ys) list x lo s.picked (walk_below (minus xs ys) xs ys list i j lo lo s.walk (omega arith)) le
+          (greatest_below (minus xs ys) xs x lx (member_at xs i x h refl) (λ n t. minus_left xs ys n t)
+          (λ n v. let r = covers_from x n v in inside n r.0 r.1));
+      walk = subtract_free xs ys list (list ++ x ∷ []) i j lo start end end px py s.walk h free (omega arith) refl (omega arith) (λ n. has_leaf-push list x n);
+      edge = edge_free xs ys i lo start end px s.edge h (omega arith) (omega arith);
+    }
+
+-- so do all up to a place
+pub subtracting_run : (xs ys list new : List ℕ) (i j lo next end : ℕ) → IsLocal xs → IsLocal ys → Subtracting xs ys list i j lo → lo ≤ first_leaf (get_or xs i 0)
+    → i < next → next ≤ length xs → (j < length ys → Behind xs next (first_leaf (get_or ys j 0)))
+    → end ≡ first_leaf (get_or xs (next - 1) 0) + size_of (get_or xs (next - 1) 0) → new ≡ list ++ take (next - i) (drop i xs) → Subtracting xs ys new next j end
+subtracting_run xs ys list new i j lo next end lx ly s first le in_x free ee is =
+    let e : i + suc (next - i - 1) ≡ next = omega arith in
+    let f : i + (next - i - 1) ≡ next - 1 = omega arith in
+    let m : suc (next - i - 1) ≡ next - i = omega arith in
+    let all = steps (next - i - 1) (omega arith) in
+    let ends : first_leaf (get_or xs (i + (next - i - 1)) 0) + size_of (get_or xs (i + (next - i - 1)) 0) ≡ end = ap (λ k. first_leaf (get_or xs k 0) + size_of (get_or xs k 0)) f ∙ sym ee in
+    let a = subst (λ k. Subtracting xs ys (list ++ take (suc (next - i - 1)) (drop i xs)) k j (first_leaf (get_or xs (i + (next - i - 1)) 0) + size_of (get_or xs (i + (next - i - 1)) 0))) e all in
+    let b = subst (λ k. Subtracting xs ys (list ++ take k (drop i xs)) next j (first_leaf (get_or xs (i + (next - i - 1)) 0) + size_of (get_or xs (i + (next - i - 1)) 0))) m a in
+    rw is (subst (λ k. Subtracting xs ys (list ++ take (next - i) (drop i xs)) next j k) ends b)
+  where
+    push : (l : List ℕ) (n k : ℕ) → i + n < next → Subtracting xs ys l (i + n) j k → k ≤ first_leaf (get_or xs (i + n) 0)
+        → Subtracting xs ys (l ++ get_or xs (i + n) 0 ∷ []) (i + suc n) j (first_leaf (get_or xs (i + n) 0) + size_of (get_or xs (i + n) 0))
+    push l n k h t b =
+        let e : (i + n) + 1 ≡ i + suc n = omega arith in
+        subst (λ m. Subtracting xs ys (l ++ get_or xs (i + n) 0 ∷ []) m j (first_leaf (get_or xs (i + n) 0) + size_of (get_or xs (i + n) 0))) e
+        (subtracting_push xs ys l (i + n) j k lx ly t (omega arith) b (λ g. free g (i + n) h))
+
+    steps : (n : ℕ) → i + n < next → Subtracting xs ys (list ++ take (suc n) (drop i xs)) (i + suc n) j (first_leaf (get_or xs (i + n) 0) + size_of (get_or xs (i + n) 0))
+    steps zero h =
+        let e : i ≡ i + 0 = omega arith in
+        let same : list ++ take 0 (drop i xs) ≡ list = append-nil list in
+        rw (run_push xs list i 0 (omega arith), same) (push list 0 lo h (subst (λ k. Subtracting xs ys list k j lo) e s) (subst (λ k. lo ≤ first_leaf (get_or xs k 0)) e first))
+    steps (suc n) h =
+        let c : first_leaf (get_or xs (i + n) 0) + size_of (get_or xs (i + n) 0) ≤ first_leaf (get_or xs (i + suc n) 0) = (packed_from_local xs lx).chain (i + n) (i + suc n) 0 (omega arith) (omega arith) in
+        rw (run_push xs list i (suc n) (omega arith))
+        (push (list ++ take (suc n) (drop i xs)) (suc n) (first_leaf (get_or xs (i + n) 0) + size_of (get_or xs (i + n) 0)) h (steps n (omega arith)) c)

@@ -1,5 +1,5 @@
 -- A walk along a list and the two lists of a change.
-use Rattle.std.specs.Prelude.{◌≡◌, ◌<◌, ◌↔◌, ◌+◌, ℕ, true, false, List, [], ◌∷◌, ◌++◌, length}
+use Rattle.std.specs.Prelude.{◌≡◌, ◌<◌, ◌≤◌, ◌↔◌, ◌+◌, ◌-◌, ◌^◌, ℕ, true, false, List, [], ◌∷◌, ◌++◌, length}
 use Rattle.std.specs.List.Sorted.{IsStrictlyIncreasing}
 use Rattle.std.specs.declared.cmp.Ordering.{Ordering}
 use Rattle.std.specs.declared.cmp.Ordering.TheVariants.{Less, Equal, Greater}
@@ -28,6 +28,12 @@ pub record Goes (front : List ℕ) (old new : Left) : Type 0 where
   pub gives : CanApply old → made old ≡ front ++ made new
   pub less : length new.cells + length new.put < length old.cells + length old.put
 
+-- a run of cells that stay: they are the front of what the change makes
+pub record Keeps (front : List ℕ) (old new : Left) : Type 0 where
+  pub same : CanApply old ↔ CanApply new
+  pub gives : CanApply old → made old ≡ front ++ made new
+  pub less : length new.cells + length new.put ≤ length old.cells + length old.put
+
 abbrev pub IsTurn : Turn → Left → Left → Type 0
 IsTurn (Write c) old new = Goes (c ∷ []) old new
 IsTurn Skip old new = Goes [] old new
@@ -40,6 +46,11 @@ IsHead o [] cell = o ≡ Greater
 IsHead Less (x ∷ xs) cell = x < cell
 IsHead Equal (x ∷ xs) cell = x ≡ cell
 IsHead Greater (x ∷ xs) cell = cell < x
+
+-- the first of the list, or a number that no cell reaches where there is none
+abbrev pub IsFirst : ℕ → List ℕ → Type 0
+IsFirst n [] = n ≡ 2 ^ 64 - 1
+IsFirst n (x ∷ xs) = n ≡ x
 
 -- the three lists ascend
 pub record Ascend (l : Left) : Type 0 where

@@ -1,5 +1,5 @@
 //! Taking cells out of a union's list and putting others in.
-ghost use Rattle.std.specs.Prelude.{◌≡◌, ◌≤◌, ◌↔◌, [], length, IfOk, IsTrue};
+ghost use Rattle.std.specs.Prelude.{◌≡◌, ◌≤◌, ◌+◌, ◌++◌, ◌↔◌, [], length, IfOk, IsTrue};
 ghost use Rattle.std.specs.List.Sorted.{IsStrictlyIncreasing};
 ghost use Rattle.s2union.specs.Apply.{applied, Fits};
 
@@ -51,7 +51,8 @@ impl CellUnion {
     /// Writes this list without `out` and with `put` into another union, which has room for it and keeps
     /// that room.
     ///
-    /// One pass over the three lists. What `into` held before is dropped. Takes no memory.
+    /// A search for each cell of `out` and `put`, and whole copies of what lies between. What `into` held before is
+    /// dropped. Takes no memory.
     pub fn apply_into(&self, out: &[CellId], put: &[CellId], into: &mut CellUnion)
         requires fits { Fits out.now put.now self.now.cells }
         requires room { length (applied out.now put.now self.now.cells) ≤ into.old.room }
@@ -62,7 +63,7 @@ impl CellUnion {
     }
 }
 
-ghost use Rattle.std.specs.Vec.{vec_capacity};
+ghost use Rattle.std.specs.Vec.{vec_len, vec_capacity};
 ghost use Rattle.s2union.specs.Union.{IsLocal};
 
 /// Writes the cells without `out` and with `put` into a list that has room for them.
@@ -76,11 +77,23 @@ fn apply_cells(cells: &[CellId], out: &[CellId], put: &[CellId], into: &mut Vec<
     into.clear();
     let mut merge = Merge::new(cells, out, put);
     loop {
+        push_all(into, merge.run());
         match merge.turn() {
             Turn::Write(cell) => into.push_reserved(cell),
             Turn::Skip => {}
             Turn::Misfit | Turn::End => return,
         }
+    }
+}
+
+/// Puts cells behind a list that has room for them, and leaves its room as it is.
+fn push_all(list: &mut Vec<CellId>, cells: &[CellId])
+    requires { vec_len list.old + length cells.now ≤ vec_capacity list.old }
+    ensures items { list.new.items ≡ list.old.items ++ cells.now }
+    ensures capacity { vec_capacity list.new ≡ vec_capacity list.old }
+{
+    for k in 0..cells.len() {
+        list.push_reserved(cells[k]);
     }
 }
 

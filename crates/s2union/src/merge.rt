@@ -1,8 +1,9 @@
 //! A walk along a list and the two lists of a change, which gives the changed list cell by cell.
 ghost use Rattle.std.specs.Prelude.{◌≡◌, []};
 ghost use Rattle.std.specs.List.Sorted.{IsStrictlyIncreasing};
-ghost use Rattle.s2union.specs.Merge.{IsTurn, IsHead};
+ghost use Rattle.s2union.specs.Merge.{IsTurn, IsHead, IsFirst, Keeps};
 
+use crate::gallop::gallop;
 use s2cell::CellId;
 use std::cmp::Ordering;
 use std::marker::Model;
@@ -47,6 +48,17 @@ impl<'a> Merge<'a> {
         ensures { result ≡ record { out = out.now; put = put.now; cells = cells.now } }
     {
         Merge { cells, out, put }
+    }
+
+    /// The cells of the list before the next one that is taken out or put in: they stay. The walk goes on behind them.
+    pub(crate) fn run(&mut self) -> &'a [CellId]
+        ensures { Keeps result.now self.old self.new }
+    {
+        let next = first_id(self.out).min(first_id(self.put));
+        let len = gallop(self.cells, 0, next);
+        let cells = self.cells;
+        self.cells = &cells[len..];
+        &cells[..len]
     }
 
     /// The step where no cell of the list is left.
@@ -101,5 +113,15 @@ fn head_order(list: &[CellId], cell: CellId) -> Ordering
     match list.first() {
         Some(first) => first.cmp(&cell),
         None => Ordering::Greater,
+    }
+}
+
+/// The identifier of the first cell of a list; where there is none, one above all.
+fn first_id(list: &[CellId]) -> u64
+    ensures { IsFirst result list.now }
+{
+    match list.first() {
+        Some(first) => first.id(),
+        None => u64::MAX,
     }
 }

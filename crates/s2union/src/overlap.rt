@@ -1,5 +1,5 @@
 //! The part of a union that lies at a cell.
-ghost use Rattle.std.specs.Prelude.{◌≡◌, ◌<◌, ◌≤◌, ℕ, All, true, length, slice_index};
+ghost use Rattle.std.specs.Prelude.{◌≡◌, ◌<◌, ◌≤◌, ◌*◌, ◌^◌, ℕ, All, true, length, slice_index};
 ghost use Rattle.s2cell.specs.Cell.{IsCell, covers, first_leaf};
 ghost use Rattle.s2union.specs.Union.{has_leaf, ShareSome};
 ghost use Rattle.s2union.specs.Packed.{IsPacked};
@@ -26,7 +26,8 @@ impl CellUnion {
 
 /// How many cells begin before the leaf `end`.
 fn begun(cells: &[CellId], end: u64) -> usize
-    requires { IsPacked cells.now }
+    requires packed { IsPacked cells.now }
+    requires leaf { end ≤ 6 * 4 ^ 30 }
     ensures within { result ≤ length cells.now }
     ensures begun { (k : ℕ) → k < result → first_leaf (slice_index cells.now k) < end }
     ensures rest { (k : ℕ) → result ≤ k → k < length cells.now → end ≤ first_leaf (slice_index cells.now k) }

@@ -1,13 +1,13 @@
 //! Runs of cells that are added whole.
-ghost use Rattle.std.specs.Prelude.{All, IsTrue, slice_index, ◌≡◌, ◌≤◌, ◌<◌, ◌+◌, ◌*◌, ◌++◌, ◌||◌, ◌↔◌, ℕ, length};
+ghost use Rattle.std.specs.Prelude.{All, IsTrue, slice_index, ◌≡◌, ◌≤◌, ◌<◌, ◌+◌, ◌*◌, ◌++◌, ◌||◌, ◌↔◌, ℕ, length, OnOk};
 ghost use Rattle.std.specs.Vec.{vec_len, vec_capacity};
-ghost use Rattle.std.specs.List.Sorted.{IsStrictlyIncreasing};
 ghost use Rattle.s2cell.specs.Cell.{first_leaf};
 ghost use Rattle.s2union.specs.Union.{has_leaf};
 ghost use Rattle.s2union.specs.Packed.{IsPacked, Continues};
 
 use crate::merging::add_reserved;
 use s2cell::CellId;
+use std::alloc::AllocError;
 
 /// Adds the leaves of packed cells to packed cells that begin before them, where there is room for all.
 ///
@@ -52,15 +52,14 @@ pub(crate) fn extend_reserved(list: &mut Vec<CellId>, cells: &[CellId])
     }
 }
 
-/// How many cells of an ascending list are below the cell. Logarithmic.
-pub(crate) fn cells_below(cells: &[CellId], cell: CellId) -> usize
-    requires { IsStrictlyIncreasing cells.now }
-    ensures within { result ≤ length cells.now }
-    ensures below { (k : ℕ) → k < result → slice_index cells.now k < cell }
-    ensures rest { (k : ℕ) → result ≤ k → k < length cells.now → cell ≤ slice_index cells.now k }
+/// Puts cells behind a list, in memory of its own. One cell is put as such, which is faster than a copy.
+pub(crate) fn extend(list: &mut Vec<CellId>, cells: &[CellId]) -> Result<(), AllocError>
+    ensures { OnOk result (list.new.items ≡ list.old.items ++ cells.now) }
 {
-    match cells.binary_search(&cell) {
-        Ok(at) => at,
-        Err(at) => at,
+    if cells.len() == 1 {
+        list.push(cells[0])?;
+        Ok(())
+    } else {
+        list.extend_from_slice(cells)
     }
 }

@@ -1,10 +1,12 @@
 //! Whether a union has the leaves of a cell or of another union.
 
-ghost use Rattle.std.specs.Prelude.{◌≡◌, ◌≤◌, ◌<◌, ◌+◌, ◌↔◌, IsTrue, length, slice_index, ◌⊎◌};
+ghost use Rattle.std.specs.Prelude.{◌≤◌, ◌<◌, ◌+◌, ◌*◌, ◌^◌, ◌↔◌, IsTrue, length, slice_index};
 ghost use Rattle.s2cell.specs.Cell.{covers, first_leaf, size_of};
 ghost use Rattle.s2union.specs.Union.{IsLocal, has_leaf, IsWithin, ShareSome};
 ghost use Rattle.s2union.specs.Packed.{IsPacked, Behind};
+ghost use Rattle.s2union.specs.Search.{Brackets};
 
+use crate::gallop::{gallop, narrow};
 use crate::union::CellUnion;
 use s2cell::CellId;
 
@@ -23,14 +25,17 @@ impl CellUnion {
         meets(self.cells(), cell)
     }
 
-    /// Whether it has all leaves of the other. One pass over both, to the first cell that it lacks.
+    /// Whether it has all leaves of the other, up to the first cell of it that is lacking. A search in the longer list
+    /// for each cell of the shorter one, which goes on from the one before: `m (1 + log (n / m))` steps for `m` and `n`
+    /// cells, `m` the fewer. S2 calls it `Contains`.
     pub fn contains(&self, other: &CellUnion) -> bool
         ensures { IsTrue result ↔ IsWithin (has_leaf other.now.cells) (has_leaf self.now.cells) }
     {
         holds_all(self.cells(), other.cells())
     }
 
-    /// Whether the two share a leaf. One pass over both, to the first leaf that they share.
+    /// Whether the two share a leaf, up to the first cell that has one. As many steps as `contains`. S2 calls it
+    /// `Intersects`.
     pub fn intersects(&self, other: &CellUnion) -> bool
         ensures { IsTrue result ↔ ShareSome (has_leaf self.now.cells) (has_leaf other.now.cells) }
     {
@@ -56,36 +61,49 @@ fn meets(cells: &[CellId], cell: CellId) -> bool
     at < cells.len() && cells[at].first_leaf() < cell.end_leaf()
 }
 
-/// How many cells end by the leaf `lo`, which come first. It looks at three cells at once and sums
-/// what they say, since a branch on each would be guessed wrong half the time.
+/// How many cells end by the leaf `lo`, which come first. Logarithmic.
 pub(crate) fn find(cells: &[CellId], lo: u64) -> usize
-    requires { IsPacked cells.now }
+    requires packed { IsPacked cells.now }
+    requires leaf { lo ≤ 6 * 4 ^ 30 }
     ensures within { result ≤ length cells.now }
     ensures behind { Behind cells.now result lo }
     ensures next { result < length cells.now → lo < first_leaf (slice_index cells.now result) + size_of (slice_index cells.now result) }
 {
-    let mut base = 0;
-    let mut size = cells.len();
-    while size >= 4 {
-        let quarter = size / 4;
-        let first = ends_by(cells[base + (quarter - 1)], lo);
-        let second = ends_by(cells[base + (2 * quarter - 1)], lo);
-        let third = ends_by(cells[base + (3 * quarter - 1)], lo);
-        base += quarter * (first + second + third);
-        size -= 3 * quarter;
-    }
-    while size > 0 && cells[base].end_leaf() <= lo {
-        base += 1;
-        size -= 1;
-    }
-    base
+    let begun = narrow(cells, 0, cells.len(), 2 * lo);
+    without_last(cells, 0, begun, lo)
 }
 
-/// 1 where the cell ends by the leaf `lo`, else 0.
-fn ends_by(cell: CellId, lo: u64) -> usize
-    ensures { ((result ≡ 1) × (first_leaf cell + size_of cell ≤ lo)) ⊎ ((result ≡ 0) × (lo < first_leaf cell + size_of cell)) }
+/// The same where the first `from` are known to end by it. Logarithmic in how many more do.
+pub(crate) fn find_from(cells: &[CellId], from: usize, lo: u64) -> usize
+    requires packed { IsPacked cells.now }
+    requires leaf { lo ≤ 6 * 4 ^ 30 }
+    requires within { from ≤ length cells.now }
+    requires behind { Behind cells.now from lo }
+    ensures from { from ≤ result }
+    ensures within { result ≤ length cells.now }
+    ensures behind { Behind cells.now result lo }
+    ensures next { result < length cells.now → lo < first_leaf (slice_index cells.now result) + size_of (slice_index cells.now result) }
 {
-    (cell.end_leaf() <= lo) as usize
+    let begun = gallop(cells, from, 2 * lo);
+    without_last(cells, from, begun, lo)
+}
+
+/// The same once it is known how many have their middle before `lo`: of these only the last may end behind it.
+fn without_last(cells: &[CellId], from: usize, begun: usize, lo: u64) -> usize
+    requires packed { IsPacked cells.now }
+    requires from { from ≤ begun }
+    requires behind { Behind cells.now from lo }
+    requires place { Brackets cells.now (2 * lo) begun begun }
+    ensures from { from ≤ result }
+    ensures within { result ≤ length cells.now }
+    ensures behind { Behind cells.now result lo }
+    ensures next { result < length cells.now → lo < first_leaf (slice_index cells.now result) + size_of (slice_index cells.now result) }
+{
+    if from < begun && lo < cells[begun - 1].end_leaf() {
+        begun - 1
+    } else {
+        begun
+    }
 }
 
 /// Whether `xs` has all leaves of `ys`.
@@ -97,18 +115,16 @@ fn holds_all(xs: &[CellId], ys: &[CellId]) -> bool
     let mut i = 0;
     let mut j = 0;
     while j < ys.len() {
+        let y = ys[j];
+        i = find_from(xs, i, y.first_leaf());
         if i >= xs.len() {
             return false;
         }
         let x = xs[i];
-        let y = ys[j];
-        if x.contains(y) {
-            j += 1;
-        } else if x.end_leaf() <= y.first_leaf() {
-            i += 1;
-        } else {
+        if !x.contains(y) {
             return false;
         }
+        j = find_from(ys, j + 1, x.end_leaf());
     }
     true
 }
@@ -125,9 +141,9 @@ fn meets_any(xs: &[CellId], ys: &[CellId]) -> bool
         let x = xs[i];
         let y = ys[j];
         if x.end_leaf() <= y.first_leaf() {
-            i += 1;
+            i = find_from(xs, i + 1, y.first_leaf());
         } else if y.end_leaf() <= x.first_leaf() {
-            j += 1;
+            j = find_from(ys, j + 1, x.first_leaf());
         } else {
             return true;
         }

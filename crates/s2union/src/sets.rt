@@ -3,13 +3,15 @@
 ghost use Rattle.std.specs.Prelude.{All, MatchOption, slice_index, ◌≡◌, ◌≤◌, ◌<◌, ◌+◌, ℕ, length, ◌||◌, ◌*◌, ◌^◌, [], IfOk, OnOk, ◌&&◌, not};
 ghost use Rattle.std.specs.Vec.{vec_len, vec_capacity};
 ghost use Rattle.std.specs.List.Sorted.{IsStrictlyIncreasing};
-ghost use Rattle.s2cell.specs.Cell.{first_leaf, size_of};
+ghost use Rattle.s2cell.specs.Cell.{IsCell, first_leaf, size_of};
 ghost use Rattle.s2union.specs.Union.{IsLocal, IsNormalForm, has_leaf, between};
 ghost use Rattle.s2union.specs.Sets.{either, shared, without};
-ghost use Rattle.s2union.specs.Packed.{FillsGap, IsPacked};
+ghost use Rattle.s2union.specs.Packed.{Behind, FillsGap, IsPacked};
 
+use crate::gallop::gallop;
 use crate::merging::add_reserved;
-use crate::runs::{add_run, cells_below};
+use crate::runs::{add_run, extend};
+use crate::search::find_from;
 use crate::union::CellUnion;
 use s2cell::CellId;
 use std::alloc::{AllocError, Global};
@@ -29,21 +31,21 @@ impl CellUnion {
         Ok(CellUnion { cells })
     }
 
-    /// The leaves that both have. One pass over both; it takes room for the cells of both
-    /// beforehand, and refuses only where there is no memory. S2 calls it `Intersection`.
+    /// The leaves that both have. A search in the longer list for each cell of the shorter one, and whole copies of what
+    /// lies in it; memory for the cells that come out. Refused only where there is none. S2 calls it `Intersection`.
     pub fn intersection(&self, other: &CellUnion) -> Result<CellUnion, AllocError>
         ensures local { IfOk result (λ u. IsLocal u.cells) }
         ensures leaves { IfOk result (λ u. (x : ℕ) → has_leaf u.cells x ≡ (has_leaf self.now.cells x && has_leaf other.now.cells x)) }
         ensures normal { IfOk result (λ u. IsNormalForm (shared (has_leaf self.now.cells) (has_leaf other.now.cells)) u.cells) }
     {
-        let room = self.cells.len() + other.cells.len();
-        let mut cells = Vec::with_capacity(*self.cells.allocator(), room)?;
-        share(&mut cells, self.cells(), other.cells());
+        let mut cells = Vec::new(*self.cells.allocator());
+        share(&mut cells, self.cells(), other.cells())?;
         Ok(CellUnion { cells })
     }
 
-    /// The leaves of this union that the other has not. One pass over both and the cells that come
-    /// out; refused only where there is no memory. S2 calls it `Difference`.
+    /// The leaves of this union that the other has not. A search in the longer list for each cell of the shorter one,
+    /// whole copies of what lies between, and the cells that come out; memory for these. Refused only where there is
+    /// none. S2 calls it `Difference`.
     pub fn difference(&self, other: &CellUnion) -> Result<CellUnion, AllocError>
         ensures local { IfOk result (λ u. IsLocal u.cells) }
         ensures leaves { IfOk result (λ u. (x : ℕ) → has_leaf u.cells x ≡ (has_leaf self.now.cells x && not (has_leaf other.now.cells x))) }
@@ -129,7 +131,7 @@ fn join_few(list: &mut Vec<CellId>, xs: &[CellId], ys: &[CellId])
     let mut done = 0;
     for j in 0..ys.len() {
         let y = ys[j];
-        let next = done + cells_below(&xs[done..], y);
+        let next = gallop(xs, done, y.id());
         add_run(list, &xs[done..next]);
         add_reserved(list, y);
         done = next;
@@ -137,14 +139,14 @@ fn join_few(list: &mut Vec<CellId>, xs: &[CellId], ys: &[CellId])
     add_run(list, &xs[done..]);
 }
 
-/// Puts the leaves that `xs` and `ys` share into an empty list.
-fn share(list: &mut Vec<CellId>, xs: &[CellId], ys: &[CellId])
+/// Puts the leaves that `xs` and `ys` share into an empty list. The cells of one that lie in a cell of the other are
+/// copied as one run, and those before the next cell of the other are passed over by a search.
+fn share(list: &mut Vec<CellId>, xs: &[CellId], ys: &[CellId]) -> Result<(), AllocError>
     requires empty { list.old.items ≡ [] }
-    requires room { length xs.now + length ys.now ≤ vec_capacity list.old }
     requires x_local { IsLocal xs.now }
     requires y_local { IsLocal ys.now }
-    ensures local { IsLocal list.new.items }
-    ensures leaves { (x : ℕ) → has_leaf list.new.items x ≡ (has_leaf xs.now x && has_leaf ys.now x) }
+    ensures local { OnOk result (IsLocal list.new.items) }
+    ensures leaves { OnOk result ((x : ℕ) → has_leaf list.new.items x ≡ (has_leaf xs.now x && has_leaf ys.now x)) }
 {
     let mut i = 0;
     let mut j = 0;
@@ -152,20 +154,24 @@ fn share(list: &mut Vec<CellId>, xs: &[CellId], ys: &[CellId])
         let x = xs[i];
         let y = ys[j];
         if y.contains(x) {
-            list.push_reserved(x);
-            i += 1;
+            let next = find_from(xs, i + 1, y.end_leaf());
+            extend(list, &xs[i..next])?;
+            i = next;
         } else if x.contains(y) {
-            list.push_reserved(y);
-            j += 1;
+            let next = find_from(ys, j + 1, x.end_leaf());
+            extend(list, &ys[j..next])?;
+            j = next;
         } else if x < y {
-            i += 1;
+            i = find_from(xs, i + 1, y.first_leaf());
         } else {
-            j += 1;
+            j = find_from(ys, j + 1, x.first_leaf());
         }
     }
+    Ok(())
 }
 
-/// Puts the leaves of `xs` that `ys` has not into an empty list.
+/// Puts the leaves of `xs` that `ys` has not into an empty list. The cells of `xs` before the next of `ys` are copied as
+/// one run, and what one list has before the other goes on, or in a cell of `ys`, is passed over by a search.
 fn subtract(list: &mut Vec<CellId>, xs: &[CellId], ys: &[CellId]) -> Result<(), AllocError>
     requires empty { list.old.items ≡ [] }
     requires x_local { IsLocal xs.now }
@@ -180,20 +186,48 @@ fn subtract(list: &mut Vec<CellId>, xs: &[CellId], ys: &[CellId]) -> Result<(), 
         let x = xs[i];
         let start = x.first_leaf().max(lo);
         let end = x.end_leaf();
+        j = find_from(ys, j, start);
         match cell_before(ys, j, end) {
             Some(y) => {
                 fill_gap(list, start, y.first_leaf())?;
                 lo = y.end_leaf().max(start);
                 j += 1;
+                if end <= lo {
+                    i = find_from(xs, i, lo);
+                }
             }
             None => {
-                fill_gap(list, start, end)?;
-                lo = end.max(start);
-                i += 1;
+                if start == x.first_leaf() {
+                    let next = free_until(xs, i, ys, j);
+                    extend(list, &xs[i..next])?;
+                    lo = xs[next - 1].end_leaf();
+                    i = next;
+                } else {
+                    fill_gap(list, start, end)?;
+                    lo = end.max(start);
+                    i += 1;
+                }
             }
         }
     }
     Ok(())
+}
+
+/// How many cells of `xs` end before the next cell of `ys`, as the one at the place `i` does.
+fn free_until(xs: &[CellId], i: usize, ys: &[CellId], j: usize) -> usize
+    requires x_local { IsLocal xs.now }
+    requires y_cells { All IsCell ys.now }
+    requires there { i < length xs.now }
+    requires free { j < length ys.now → first_leaf (slice_index xs.now i) + size_of (slice_index xs.now i) ≤ first_leaf (slice_index ys.now j) }
+    ensures more { i < result }
+    ensures within { result ≤ length xs.now }
+    ensures free { j < length ys.now → Behind xs.now result (first_leaf (slice_index ys.now j)) }
+{
+    if j < ys.len() {
+        find_from(xs, i + 1, ys[j].first_leaf())
+    } else {
+        xs.len()
+    }
 }
 
 /// The cell at the place `at`, if there is one that begins before the leaf `end`.

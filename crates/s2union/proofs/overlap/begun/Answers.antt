@@ -13,15 +13,15 @@ returns-then-first_leaf-end-clause-begun c k h =
     let f = ap first_leaf e in
     let v = c.first_leaf.ensures.value in
     let t = c.if-first_leaf-end.true in
-    begun_more u n c.args.end k c.requires c.find-ended.ensures.within c.find-ended.ensures.behind (omega arith) h
+    begun_more u n c.args.end k c.requires.packed c.find-ended.ensures.within c.find-ended.ensures.behind (omega arith) h
 
 pub returns-then-first_leaf-end-clause-rest : goal.returns-then-first_leaf-end-clause-rest
 returns-then-first_leaf-end-clause-rest c k h l =
-    rest_behind c.args.cells.now c.find-ended.result c.args.end k c.requires (c.find-ended.ensures.next c.if-ended-cells.true) h l
+    rest_behind c.args.cells.now c.find-ended.result c.args.end k c.requires.packed (c.find-ended.ensures.next c.if-ended-cells.true) h l
 
 pub returns-else-ended-cells-clause-begun : goal.returns-else-ended-cells-clause-begun
 returns-else-ended-cells-clause-begun c k h =
-    begun_behind c.args.cells.now c.find-ended.result c.args.end k c.requires c.find-ended.ensures.within c.find-ended.ensures.behind h
+    begun_behind c.args.cells.now c.find-ended.result c.args.end k c.requires.packed c.find-ended.ensures.within c.find-ended.ensures.behind h
 
 pub returns-else-ended-cells-clause-rest : goal.returns-else-ended-cells-clause-rest
 returns-else-ended-cells-clause-rest c k h l =
@@ -33,6 +33,6 @@ returns-else-ended-cells-clause-rest c k h l =
           let f = ap first_leaf e in
           let v = w.first_leaf.ensures.value in
           let t = w.if-first_leaf-end.false in
-          rest_from u n c.args.end k c.requires (omega arith) h l
+          rest_from u n c.args.end k c.requires.packed (omega arith) h l
       | else-ended-cells-via-else-ended-cells w ↦ let t = w.if-ended-cells.false in absurd (omega arith)
     ]

@@ -1,4 +1,4 @@
-use Rattle.std.proofs.Common.{◌+◌, ◌-◌, length}
+use Rattle.std.proofs.Common.{◌-◌, length}
 use Rattle.s2union.proofs.Comparing.{Covering}
 use Rattle.s2union.proofs.search.holds_all.Given as goal
 
@@ -6,4 +6,4 @@ abbrev pub invariant-loop-j : goal.invariant-loop-j
 invariant-loop-j l = Covering l.xs l.ys l.i l.j
 
 abbrev pub decreases-loop-j : goal.decreases-loop-j
-decreases-loop-j l = (length l.xs - l.i) + (length l.ys - l.j)
+decreases-loop-j l = length l.ys - l.j

@@ -8,8 +8,8 @@ use Rattle.s2union.proofs.Checking.{packed_from_local}
 use Rattle.s2union.proofs.Finding.{shared_at, shared_none}
 use Rattle.s2union.proofs.search.meets.Goals as goal
 
-pub find-at-requires : goal.find-at-requires
-find-at-requires c = packed_from_local c.args.cells.now c.requires
+pub find-at-requires-clause-packed : goal.find-at-requires-clause-packed
+find-at-requires-clause-packed c = packed_from_local c.args.cells.now c.requires
 
 pub returns-then-at-cells : goal.returns-then-at-cells
 returns-then-at-cells c =

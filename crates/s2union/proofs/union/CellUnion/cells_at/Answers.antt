@@ -6,11 +6,11 @@ use Rattle.s2union.proofs.Checking.{packed_from_local}
 use Rattle.s2union.proofs.Overlapping.{Between, in_order, run_cells, run_shares, run_leaves}
 use Rattle.s2union.proofs.union.CellUnion.cells_at.Goals as goal
 
-pub find-start-requires : goal.find-start-requires
-find-start-requires c = rw c.cells-cells.ensures.value (packed_from_local c.args.self.now.cells c.cells-cells.ensures.local)
+pub find-start-requires-clause-packed : goal.find-start-requires-clause-packed
+find-start-requires-clause-packed c = rw c.cells-cells.ensures.value (packed_from_local c.args.self.now.cells c.cells-cells.ensures.local)
 
-pub begun-end-requires : goal.begun-end-requires
-begun-end-requires c = rw c.cells-cells.ensures.value (packed_from_local c.args.self.now.cells c.cells-cells.ensures.local)
+pub begun-end-requires-clause-packed : goal.begun-end-requires-clause-packed
+begun-end-requires-clause-packed c = rw c.cells-cells.ensures.value (packed_from_local c.args.self.now.cells c.cells-cells.ensures.local)
 
 pub prove-unreachable-requires : goal.prove-unreachable-requires
 prove-unreachable-requires c =

@@ -1,0 +1,86 @@
+// A union of 1,000,000 cells and one of fewer, each operation both ways.
+#pragma once
+#include <deque>
+
+#include "sides.h"
+#include "table.h"
+
+// How many times more a side is to work so that these take some 30 milliseconds.
+static uint32_t repeats(const std::function<void(uint32_t)>& work) {
+  auto time_of = [&](uint32_t times) {
+    auto start = std::chrono::steady_clock::now();
+    work(times);
+    return std::chrono::duration<double, std::milli>(std::chrono::steady_clock::now() - start).count();
+  };
+  double once = std::min(time_of(1), time_of(1));
+  uint32_t more = 2;
+  while (more < 1000000 && time_of(1 + more) - once < 30) more *= 4;
+  return more;
+}
+
+class Sizes {
+ public:
+  explicit Sizes(Table& table) : table_(table) {
+    for (u64 n = 0; n < kMost; n++) longer_.push_back(cell_at(14, 4 * n));
+  }
+
+  void rows() {
+    for (size_t size : {1, 10, 100, 1000, 10000, 100000}) {
+      for (bool inside : {true, false}) {
+        List shorter;
+        for (size_t k = 0; k < size; k++) {
+          u64 n = (2 * k + 1) * kMost / (2 * size);
+          shorter.push_back(inside ? child_of(child_of(longer_[n], 1), 2) : cell_at(14, 4 * n + 2));
+        }
+        std::string place = std::to_string(size) + (inside ? "_inside" : "_apart");
+        both_ways(place, shorter);
+      }
+    }
+  }
+
+ private:
+  static constexpr u64 kMost = 1000000;
+  using PeerQuestion = bool (S2CellUnion::*)(const S2CellUnion&) const;
+
+  void both_ways(const std::string& place, const List& shorter) {
+    one_way("1000000_" + place, longer_, shorter);
+    one_way(place + "_1000000", shorter, longer_);
+  }
+
+  void one_way(const std::string& place, const List& xs, const List& ys) {
+    question("contains_" + place, xs, ys, &S2CellUnion::Contains, s2c_contains);
+    question("intersects_" + place, xs, ys, &S2CellUnion::Intersects, s2c_intersects);
+    PeerOperation intersection = &S2CellUnion::Intersection;
+    operation("intersection_" + place, xs, ys, intersection, s2c_intersection);
+    operation("difference_" + place, xs, ys, &S2CellUnion::Difference, s2c_difference);
+    operation("union_" + place, xs, ys, &S2CellUnion::Union, s2c_union);
+  }
+
+  const char* kept(const std::string& name) { return names_.emplace_back(name).c_str(); }
+
+  void question(const std::string& name, const List& xs, const List& ys, PeerQuestion peer, UnionQuestion proved) {
+    if (!table_.wants(name.c_str())) return;
+    S2CellUnion x = peer_union(xs), y = peer_union(ys);
+    bool a = false, b = false;
+    auto theirs = [&](uint32_t times) { while (times-- > 0) a = (x.*peer)(y); };
+    auto ours = [&](uint32_t times) { must(proved(xs.data(), xs.size(), ys.data(), ys.size(), times, &b), name.c_str()); };
+    table_.row({kept(name), 1, 0, 0}, {theirs, [&] { return Sum().add(a).value(); }, repeats(theirs)},
+               {ours, [&] { return Sum().add(b).value(); }, repeats(ours)});
+  }
+
+  void operation(const std::string& name, const List& xs, const List& ys, PeerOperation peer, Operation proved) {
+    if (!table_.wants(name.c_str())) return;
+    S2CellUnion x = peer_union(xs), y = peer_union(ys), made;
+    Room room(4000000);
+    auto theirs = [&](uint32_t times) { while (times-- > 0) made = (x.*peer)(y); };
+    auto ours = [&](uint32_t times) {
+      must(proved(xs.data(), xs.size(), ys.data(), ys.size(), times, room.at(), room.size(), room.len()), name.c_str());
+    };
+    table_.row({kept(name), 1, 0, 0}, {theirs, [&] { return Sum().add_all(ids_of(made)).value(); }, repeats(theirs)},
+               {ours, [&] { return Sum().add_all(room.made()).value(); }, repeats(ours)});
+  }
+
+  Table& table_;
+  List longer_;
+  std::deque<std::string> names_;
+};

@@ -1,0 +1,29 @@
+use Rattle.std.proofs.Common.{◌≡◌, ◌-◌, get_or, arith, refl, ap}
+use Rattle.s2cell.specs.Cell.{first_leaf, size_of}
+use Rattle.s2union.proofs.Packing.{read_at}
+use Rattle.s2union.proofs.Finding.{ended_before, ended_behind, ended_all}
+use Rattle.s2union.proofs.search.without_last.Goals as goal
+use Rattle.s2union.proofs.search.without_last.Goals.{else-from-begun-via-then-from-begun+else-lo-end_leaf, else-from-begun-via-else-from-begun}
+
+pub returns-then-lo-end_leaf-clause-behind : goal.returns-then-lo-end_leaf-clause-behind
+returns-then-lo-end_leaf-clause-behind c k h = ended_before c.args.cells.now c.args.lo c.args.begun k c.requires.packed c.requires.place (omega arith)
+
+pub returns-else-from-begun-clause-behind : goal.returns-else-from-begun-clause-behind
+returns-else-from-begun-clause-behind c =
+    let u = c.args.cells.now in
+    let at = c.args.begun in
+    ended_all u c.args.lo c.args.from at c.requires.packed c.requires.behind c.requires.from c.requires.place
+    (λ l. elim c.else-from-begun.branch [
+      | else-from-begun-via-then-from-begun+else-lo-end_leaf w ↦
+          let p = c.requires.place.within in
+          let e : get_or u (at - 1) 0 ≡ w.index-cells-begun.result = read_at u (at - 1) (at - 1) w.index-cells-begun.result (omega arith) refl w.index-cells-begun.is in
+          let f = ap first_leaf e in
+          let s = ap size_of e in
+          let v = w.end_leaf.ensures.value in
+          let t = w.if-lo-end_leaf.false in
+          omega arith
+      | else-from-begun-via-else-from-begun w ↦ let t = w.if-from-begun.false in absurd (omega arith)
+    ])
+
+pub returns-else-from-begun-clause-next : goal.returns-else-from-begun-clause-next
+returns-else-from-begun-clause-next c = ended_behind c.args.cells.now c.args.lo c.args.begun c.requires.packed c.requires.place
