@@ -4,6 +4,7 @@ use s2calc::{RunFault, check_answer, run};
 use s2edit::Editor;
 use s2shelf::{DirShelf, MemoryShelf, Shelf};
 use std::fs;
+use std::fs::File;
 use std::process::Abort;
 use std::test::Fail;
 
@@ -221,5 +222,26 @@ fn a_shelf_fails_once(rt: HostRuntime) -> Result<(), Fail> {
         check_answer(rt.alloc(), &mut shelf, "f", &mut writer),
         Err(RunFault::Output)
     );
+    Ok(())
+}
+
+#[test]
+fn a_file_longer_than_any_union_is_not_read_whole(rt: HostRuntime) -> Result<(), Fail> {
+    let folder = "s2calc-test-long-file";
+    // what a run that failed may have left
+    let _ = fs::remove_dir_all(&rt, folder);
+    fs::create_dir(&rt, folder)?;
+    // 3 GB without a block on the disk; read whole, they would take more memory than there may be.
+    let file = File::create(&rt, "s2calc-test-long-file/long")?;
+    file.set_len(3_000_000_000)?;
+    let mut shelf = DirShelf::at(&rt, folder)?;
+    is_checked(&rt, &mut shelf, "long", "error format\n")?;
+    is_answered(
+        &rt,
+        &mut shelf,
+        "add a 3\nload a long\nshow a\n",
+        "ok 0 1\nerror format\n3\nend\n",
+    )?;
+    fs::remove_dir_all(&rt, folder)?;
     Ok(())
 }
