@@ -72,7 +72,7 @@ fn number_at(bytes: &[u8], k: usize) -> u64
 
 /// The number that the first eight bytes stand for.
 #[tactic(auto, unfolding(s2file::specs::File::first_number))]
-fn number(bytes: &[u8]) -> u64
+pub fn number(bytes: &[u8]) -> u64
     requires { 8 ≤ length bytes.now }
     ensures { result ≡ first_number bytes.now }
 {

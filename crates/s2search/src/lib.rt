@@ -12,6 +12,6 @@ mod run;
 mod whole;
 
 pub use ask::{contains, contains_cell, intersects, intersects_cell};
-pub use cells::{Cells, FileIds, IdList};
+pub use cells::{Cells, FileIds, IdList, number};
 pub use run::cells_at;
 pub use whole::{first_wrong, is_union, leaf_count};
