@@ -142,6 +142,9 @@ static void unions(Random& random) {
   same_cells(room, ids_of(cut), text_of(xs) + "at " + std::to_string(min) + " by " + std::to_string(modulus));
 }
 
+// How many files were the same bytes, and how many each side read of the other's.
+static long files_same, files_read_by_s2, files_of_s2_read;
+
 static void files(Random& random) {
   List given = near_cells(random, random.cell(0, 29)), xs = normal(given);
   std::vector<uint8_t> bytes(9 + 8 * xs.size());
@@ -151,11 +154,18 @@ static void files(Random& random) {
   Encoder encoder;
   peer_union(xs).Encode(&encoder);
   same(std::string(bytes.begin(), bytes.begin() + len), std::string(encoder.base(), encoder.length()), text_of(xs));
+  files_same++;
+  question = "S2's Decode";
+  Decoder decoder(bytes.data(), len);
+  S2CellUnion read;
+  must(read.Decode(&decoder) && read == peer_union(xs), question);
+  files_read_by_s2++;
   question = "decode";
   Encoder unsorted;
   peer_union(given).Encode(&unsorted);
   must(s2c_decode(reinterpret_cast<const uint8_t*>(unsorted.base()), unsorted.length(), 1, room.at(), room.size(), room.len()), question);
   same_cells(room, xs, text_of(given));
+  files_of_s2_read++;
 }
 
 static void ranges(Random& random) {
@@ -205,5 +215,6 @@ int main(int argc, char** argv) {
     ranges(random);
     if (k % 20 == 0) coverings(random);
   }
+  printf("union files: %ld with the bytes of S2's S2CellUnion::Encode, %ld read by S2, %ld of S2's read\n", files_same, files_read_by_s2, files_of_s2_read);
   printf("%ld random cases with the seed %llu, none different\n", cases, static_cast<unsigned long long>(seed));
 }

@@ -1,0 +1,69 @@
+/* Lists and bytes of garbage, 200,000 of them, that end at a page which may not be touched: no crash, answers that are
+ * answers, and not a byte past the room. Built with the address sanitizer. */
+#include "tests.h"
+
+enum { MOST = 40 };
+
+static uint64_t garbage(void) {
+  switch (draw() % 4) {
+    case 0: return draw();
+    case 1: return draw() % 9;
+    default: return random_cell(0, 30, 6);
+  }
+}
+
+static int is_answer(int32_t status) { return status == 0 || status == 1; }
+
+int main(void) {
+  uint64_t *xs_end = (uint64_t*)at_the_edge(8 * MOST) + MOST, *ys_end = (uint64_t*)at_the_edge(8 * MOST) + MOST;
+  uint64_t* out_end = (uint64_t*)at_the_edge(8 * MOST) + MOST;
+  uint8_t* bytes_end = (uint8_t*)at_the_edge(9 + 8 * MOST) + 9 + 8 * MOST;
+  size_t unions = 0, files = 0;
+  for (int round = 0; round < 200000; round++) {
+    size_t nx = draw() % MOST, ny = draw() % MOST, room = draw() % MOST, len = 77, first, count;
+    uint64_t *xs = xs_end - nx, *ys = ys_end - ny, *out = out_end - room, cell = garbage(), many;
+    for (size_t k = 0; k < nx; k++) xs[k] = garbage();
+    for (size_t k = 0; k < ny; k++) ys[k] = garbage();
+    if (round % 4 == 0 && s2u_normalise(xs, nx, &len) == S2U_OK) xs = memmove(xs_end - len, xs, 8 * len), nx = len;
+    if (round % 8 == 0 && s2u_normalise(ys, ny, &len) == S2U_OK) ys = memmove(ys_end - len, ys, 8 * len), ny = len;
+    int32_t status = s2u_contains_cell(xs, nx, cell);
+    CHECK(is_answer(status) || (status == S2U_NO_CELL && !s2u_is_cell(cell)));
+    CHECK(status == s2u_contains_cell(xs, nx, cell) && (is_answer(s2u_intersects_cell(xs, nx, cell)) || !s2u_is_cell(cell)));
+    CHECK(s2u_cells_at(xs, nx, cell, &first, &count) == S2U_OK || !s2u_is_cell(cell));
+    CHECK(is_answer(s2u_contains(xs, nx, ys, ny)) && is_answer(s2u_intersects(xs, nx, ys, ny)));
+    CHECK(s2u_compare(xs, nx, ys, ny) == -s2u_compare(ys, ny, xs, nx));
+    (void)s2u_leaf_count(xs, nx);
+    unions += (size_t)s2u_is_union(xs, nx);
+    for (size_t k = 0; k < room; k++) out[k] = 7;
+    status = s2u_union(xs, nx, ys, ny, out, room, &len);
+    CHECK(status == (s2u_is_union(xs, nx) && s2u_is_union(ys, ny) ? (len > room ? S2U_ROOM : S2U_OK) : S2U_NO_UNION));
+    for (size_t k = status == S2U_OK ? len : 0; k < room; k++) CHECK(out[k] == 7);
+    status = s2u_difference(xs, nx, ys, ny, out, room, &len);
+    CHECK(status == S2U_OK ? s2u_is_union(out, len) && len <= room : status == S2U_NO_UNION || (status == S2U_ROOM && len > room));
+    (void)s2u_denormalised(xs, nx, (uint32_t)(draw() % 40), (uint32_t)(draw() % 5), out, room, &len);
+    size_t size = draw() % (9 + 8 * MOST);
+    uint8_t* bytes = bytes_end - size;
+    for (size_t k = 0; k < size; k++) bytes[k] = (uint8_t)draw();
+    if (size > 9 && draw() % 2) {
+      memset(bytes, 0, 9);
+      bytes[0] = draw() % 9 != 0;
+      bytes[1] = (uint8_t)((size - 9) / 8);
+      for (size_t k = 0; 9 + 8 * k + 8 <= size; k++) cell = random_cell(0, 30, 6), memcpy(bytes + 9 + 8 * k, &cell, 8);
+    }
+    status = s2u_file_check(bytes, size);
+    files += status >= 0;
+    CHECK(is_answer(status) || (status <= S2U_FILE_SHORT && status >= S2U_FILE_CELL));
+    int32_t asked = s2u_file_contains_cell(bytes, size, random_cell(0, 30, 6));
+    CHECK(is_answer(asked) || asked == status);
+    CHECK((s2u_file_count(bytes, size, &many) == S2U_OK) == is_answer(asked));
+    (void)s2u_file_cell(bytes, size, draw() % MOST, &many);
+    (void)s2u_file_leaf_count(bytes, size, &many);
+    (void)s2u_file_contains(bytes, size, bytes, size);
+    (void)s2u_file_intersects(bytes, size, bytes, size);
+    status = s2u_decode(bytes, size, out, room, &len);
+    CHECK(status == S2U_OK ? s2u_is_union(out, len) : status == S2U_ROOM ? len > room : len == 0);
+  }
+  printf("%zu of the lists were unions, %zu of the bytes files\n", unions, files);
+  CHECK(unions > 10000 && files > 1000);
+  return report();
+}

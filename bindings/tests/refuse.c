@@ -1,0 +1,91 @@
+/* Each allocation refused in turn, in each call that takes memory: the status is S2U_MEMORY, or the right result by
+ * another way; nothing stays allocated, nothing else has changed. Linked with libs2union_noheap.a. */
+#include "tests.h"
+
+static long left = -1, taken, live;
+static uint64_t nothing[2];
+
+static int refused(void) {
+  taken++;
+  return left >= 0 && left-- == 0;
+}
+
+s2u_block s2u_heap_take(size_t size, size_t align) {
+  s2u_block got = {0, nothing};
+  if (refused()) return got;
+  got.ok = 1;
+  got.at = malloc(size ? size : align);
+  live++;
+  return got;
+}
+
+s2u_block s2u_heap_grow(void* at, size_t old_size, size_t size, size_t align) {
+  s2u_block got = {0, nothing};
+  (void)old_size;
+  if (refused()) return got;
+  got.ok = 1;
+  got.at = realloc(at, size ? size : align);
+  return got;
+}
+
+void s2u_heap_give_back(void* at) {
+  live--;
+  free(at);
+}
+
+enum { N = 3000, ROOM = 400000 };
+static uint64_t raw[N], xs[N], ys[N], list[N], out[ROOM], want[ROOM];
+static uint8_t file[9 + 8 * ROOM], bytes[9 + 8 * ROOM];
+static size_t nx, ny, nfile, len;
+static const s2u_rect rect = {1, 126420997, 159450117, 401604613, 434633733};
+
+static int32_t normalise(void) { memcpy(list, raw, sizeof raw); return s2u_normalise(list, N, &len); }
+static int32_t unite(void) { return s2u_union(xs, nx, ys, ny, out, ROOM, &len); }
+static int32_t intersect(void) { return s2u_intersection(xs, nx, ys, ny, out, ROOM, &len); }
+static int32_t subtract(void) { return s2u_difference(xs, nx, ys, ny, out, ROOM, &len); }
+static int32_t range(void) { return s2u_range(1, xs[nx - 1], out, ROOM, &len); }
+static int32_t cut(void) { return s2u_denormalised(xs, 40, 12, 1, out, ROOM, &len); }
+static int32_t cut_len(void) { uint64_t n = 0; int32_t status = s2u_denormalised_len(xs, nx, 12, 1, &n); len = (size_t)n; return status; }
+static int32_t outer(void) { return s2u_outer(&rect, 14, 1000000, out, ROOM, &len); }
+static int32_t inner(void) { return s2u_inner(&rect, 14, 1000000, out, ROOM, &len); }
+static int32_t outer_of(void) { return s2u_outer_of(xs, nx, 7, 1000000, out, ROOM, &len); }
+static int32_t inner_of(void) { return s2u_inner_of(xs, nx, 10, 1000000, out, ROOM, &len); }
+static int32_t encode(void) { return s2u_encode(xs, nx, bytes, sizeof bytes, &len); }
+static int32_t decode(void) { return s2u_decode(file, nfile, out, ROOM, &len); }
+
+int main(void) {
+  static const struct {
+    const char* name;
+    int32_t (*call)(void);
+  } calls[] = {{"normalise", normalise}, {"union", unite}, {"intersection", intersect}, {"difference", subtract},
+               {"range", range}, {"denormalised", cut}, {"denormalised_len", cut_len}, {"outer", outer},
+               {"inner", inner}, {"outer_of", outer_of}, {"inner_of", inner_of}, {"encode", encode}, {"decode", decode}};
+  nx = random_union(xs, N, 6, 12);
+  ny = random_union(ys, N, 6, 12);
+  for (size_t k = 0; k < N; k++) raw[k] = random_cell(6, 12, 6);
+  CHECK(s2u_encode(xs, nx, file, sizeof file, &nfile) == S2U_OK && nfile == S2U_FILE_SIZE(nx));
+  for (size_t k = 0; k < sizeof calls / sizeof *calls; k++) {
+    left = -1;
+    taken = 0;
+    memset(out, 0, sizeof out);
+    CHECK(calls[k].call() == S2U_OK && live == 0);
+    long allocations = taken;
+    size_t right = len;
+    memcpy(want, out, sizeof out);
+    for (long turn = 0; turn < allocations; turn++) {
+      left = turn;
+      memset(out, 0, sizeof out);
+      len = 77;
+      int32_t status = calls[k].call();
+      if (status == S2U_OK) {
+        CHECK(len == right && memcmp(out, want, sizeof out) == 0);
+      } else {
+        CHECK(status == S2U_MEMORY && len == 0 && out[0] == 0);
+        CHECK(calls[k].call != normalise || memcmp(list, raw, sizeof raw) == 0);
+      }
+      CHECK(live == 0);
+    }
+    printf("%s: %ld allocations refused in turn\n", calls[k].name, allocations);
+  }
+  return report();
+}

@@ -1,0 +1,277 @@
+"""Every call of the library, through the Python module, against the plain model; and the module itself."""
+
+import copy
+import doctest
+import mmap
+import pickle
+import random
+import tempfile
+import unittest
+from array import array
+
+import model
+import s2union
+from s2union import Union, UnionFile
+
+try:
+    import numpy
+except ImportError:
+    numpy = None
+
+FACE = 0x1000000000000000
+
+
+class Random(random.Random):
+    def cell(self, low=0, high=30):
+        level = self.randint(low, high)
+        return model.identifier(level, self.randrange(6 * 4**level))
+
+    def near(self, cell):
+        """A cell that is likely to have to do with another: around it, in it, or beside it."""
+        level, place = model.cell(cell)
+        other = self.randint(max(0, level - 2), min(30, level + 2))
+        place = place * 4 ** (other - level) if other > level else place // 4 ** (level - other)
+        return model.identifier(other, min(max(place + self.randint(-2, 5), 0), 6 * 4**other - 1))
+
+    def cells(self, most=12):
+        start = self.cell(0, 29)
+        cells = [start]
+        for _ in range(self.randrange(most)):
+            cells.append(self.near(self.choice(cells)))
+        return cells if self.random() < 0.97 else []
+
+    def number(self):
+        return self.choice([self.cell(), self.getrandbits(64), self.getrandbits(3), self.cell() ^ 1 << self.randrange(64)])
+
+
+class AgainstTheModel(unittest.TestCase):
+    def setUp(self):
+        self.random = Random(20261122)
+
+    def test_cells(self):
+        for _ in range(5000):
+            number = self.random.number()
+            cell = model.cell(number)
+            self.assertEqual(s2union.is_cell(number), cell is not None)
+            if cell is None:
+                for call in (s2union.level, s2union.face, s2union.range_min, s2union.range_max, s2union.size, s2union.token,
+                             s2union.debug, s2union.square, s2union.next_cell, s2union.previous_cell):
+                    self.assertRaises(ValueError, call, number)
+                continue
+            level, place = cell
+            first, end = model.run(number)
+            self.assertEqual((s2union.level(number), s2union.face(number)), (level, place // 4**level))
+            self.assertEqual((s2union.range_min(number), s2union.range_max(number)), (2 * first + 1, 2 * end - 1))
+            self.assertEqual(s2union.size(number), end - first)
+            for above in range(level + 1):
+                self.assertEqual(s2union.parent(number, above), model.identifier(above, place // 4 ** (level - above)))
+            for k in range(4 if level < 30 else 0):
+                self.assertEqual(s2union.child(number, k), model.identifier(level + 1, 4 * place + k))
+            after = model.identifier(level, place + 1) if place + 1 < 6 * 4**level else None
+            before = model.identifier(level, place - 1) if place else None
+            self.assertEqual((s2union.next_cell(number), s2union.previous_cell(number)), (after, before))
+            self.assertEqual((s2union.token(number), s2union.debug(number)), (model.token(number), model.debug(number)))
+            self.assertEqual(s2union.from_token(model.token(number).upper()), number)
+            self.assertEqual(s2union.from_debug(model.debug(number)), number)
+            face, i, j, side = s2union.square(number)
+            leaf = s2union.from_face_ij(face, self.random.randrange(i, i + side), self.random.randrange(j, j + side))
+            self.assertTrue(first <= leaf // 2 < end)
+
+    def test_two_cells(self):
+        for _ in range(5000):
+            a = self.random.cell()
+            b = self.random.near(a)
+            (a0, a1), (b0, b1) = model.run(a), model.run(b)
+            self.assertEqual(s2union.contains(a, b), a0 <= b0 and b1 <= a1)
+            self.assertEqual(s2union.intersects(a, b), max(a0, b0) < min(a1, b1))
+            both = [k for k in range(31) if a0 // 4 ** (30 - k) == (a1 - 1) // 4 ** (30 - k) == b0 // 4 ** (30 - k) == (b1 - 1) // 4 ** (30 - k)]
+            want = model.identifier(both[-1], a0 // 4 ** (30 - both[-1])) if both else None
+            self.assertEqual(s2union.common_ancestor(a, b), want)
+
+    def test_texts_that_name_no_cell(self):
+        for text in ("", "X", "c", "2", "0" * 17, "g", "0/4", "6/", "/", "0/" + "0" * 31, "\ud800", "é"):
+            self.assertRaises(ValueError, s2union.from_token, text)
+        for text in ("", "0", "0/4", "6/", "0-1", "0/" + "0" * 31):
+            self.assertRaises(ValueError, s2union.from_debug, text)
+
+    def test_sets(self):
+        for _ in range(3000):
+            xs, ys = self.random.cells(), self.random.cells()
+            if self.random.random() < 0.7 and xs:
+                ys = [self.random.near(self.random.choice(xs)) for _ in range(self.random.randrange(9))]
+            a, b = Union(xs), Union(ys)
+            x, y = model.runs(xs), model.runs(ys)
+            self.assertEqual(list(a), model.normal(x))
+            self.assertEqual(list(a | b), model.normal(x + y))
+            self.assertEqual(list(a & b), model.normal(model.common(x, y)))
+            self.assertEqual(list(a - b), model.normal(model.common(x, model.rest(y))))
+            self.assertEqual(list(a ^ b), list((a | b) - (a & b)))
+            self.assertEqual(a >= b, not model.common(y, model.rest(x)))
+            self.assertEqual(a.intersects(b), bool(model.common(x, y)))
+            self.assertEqual(a.isdisjoint(b), not model.common(x, y))
+            self.assertEqual((a == b, hash(a) == hash(b) or a != b), (x == y, True))
+            self.assertEqual((a < b, a > b, a <= b), (b >= a and a != b, a >= b and a != b, b >= a))
+            self.assertEqual(a.leaf_count(), model.count(x))
+            for cell in (self.random.cell(), self.random.near(self.random.choice(xs or [FACE]))):
+                one = [model.run(cell)]
+                self.assertEqual(cell in a, not model.common(one, model.rest(x)))
+                self.assertEqual(a.intersects_cell(cell), bool(model.common(one, x)))
+                self.assertEqual(list(a.contains_cells([cell, cell])), 2 * [cell in a])
+                self.assertEqual(list(a.intersects_cells([cell])), [a.intersects_cell(cell)])
+                self.assertEqual(a.cells_at(cell), [c for c in a if model.common(one, [model.run(c)])])
+
+    def test_ranges_and_cuts(self):
+        for _ in range(1500):
+            first, last = self.random.cell(), self.random.cell()
+            if self.random.random() < 0.5:
+                last = self.random.near(first)
+            a, b = model.run(first)[0], model.run(last)[1]
+            if a < b:
+                self.assertEqual(list(Union.from_range(first, last)), model.normal([(a, b)]))
+            else:
+                self.assertRaises(ValueError, Union.from_range, first, last)
+            xs = Union(self.random.cells())
+            least = min([model.cell(c)[0] for c in xs] + [27]) + self.random.randrange(4)
+            modulus = self.random.randint(1, 3)
+            cells = [c for c in xs if model.cell(c)[0] > least - 5]
+            self.assertEqual(Union(cells).denormalised(least, modulus), model.cut(Union(cells), least, modulus))
+        self.assertRaises(ValueError, Union([FACE]).denormalised, 30, 1, most=1000)
+
+    def test_coverings(self):
+        for _ in range(400):
+            xs = Union(self.random.cells(6))
+            level = self.random.randint(0, 30)
+            runs = model.runs(xs)
+            for made, want in ((xs.outer, model.around), (xs.inner, model.within)):
+                self.assertEqual(list(made(level)), model.normal(want(runs, level)))
+            side = 2 ** self.random.randint(0, 5)
+            i, j, face = self.random.randrange(2**30 - side), self.random.randrange(2**30 - side), self.random.randrange(6)
+            leaves = [(s2union.from_face_ij(face, i + k % side, j + k // side) // 2,) for k in range(side * side)]
+            square = model.joined([(leaf, leaf + 1) for leaf, in leaves])
+            level = self.random.randint(20, 30)
+            place = (face, i, i + side - 1, j, j + side - 1, level)
+            self.assertEqual(list(Union.covering(*place)), model.normal(model.around(square, level)))
+            self.assertEqual(list(Union.covering(*place, inner=True)), model.normal(model.within(square, level)))
+        self.assertRaises(ValueError, Union.covering, 0, 0, 2**30 - 1, 3, 3, 30, most=1000)
+        self.assertRaises(ValueError, Union.covering, 0, 5, 4, 0, 0, 30)
+
+    def test_files(self):
+        for _ in range(1500):
+            cells = self.random.cells()
+            a = Union(cells)
+            data = model.file(model.normal(model.runs(cells)))
+            self.assertEqual(a.to_bytes(), data)
+            self.assertEqual(Union.from_bytes(data), a)
+            self.assertEqual(Union.from_bytes(model.file(cells)), a)
+            shift = self.random.randrange(8)
+            file = UnionFile(memoryview(bytes(shift) + data)[shift:])
+            self.assertEqual((len(file), file.leaf_count(), [file[k] for k in range(len(file))]), (len(a), a.leaf_count(), list(a)))
+            self.assertEqual(file.union(), a)
+            other = UnionFile(Union(self.random.cells() + cells[:1]).to_bytes())
+            self.assertEqual(file.contains(other), a >= other.union())
+            self.assertEqual(file.intersects(other), a.intersects(other.union()))
+            for cell in (self.random.cell(), self.random.near(cells[0] if cells else FACE)):
+                self.assertEqual(cell in file, cell in a)
+                self.assertEqual(file.intersects_cell(cell), a.intersects_cell(cell))
+            place = self.random.randrange(len(data))
+            for wrong in (data[:place], data + b"\0", bytes([self.random.randint(2, 255)]) + data[1:], data[:1] + b"\xff" * 8 + data[9:]):
+                self.assertRaises(ValueError, Union.from_bytes, wrong)
+                self.assertRaises(ValueError, UnionFile, wrong)
+        self.assertRaises(ValueError, UnionFile, model.file([FACE + 2 * FACE, FACE]))
+        self.assertRaises(ValueError, Union.from_bytes, model.file([2]))
+
+    def test_more_than_a_million_cells(self):
+        step = 2 ** (2 * (30 - 12) + 1)
+        ids = array("Q", (k * step + step // 2 for k in range(1_400_000) if k % 4 != 3))
+        a = Union(ids)
+        self.assertEqual(len(a), len(ids))
+        self.assertEqual(Union.from_bytes(a.to_bytes()), a)
+
+
+class TheModule(unittest.TestCase):
+    def test_as_a_collection(self):
+        a = Union.from_tokens("04 0c 14")
+        self.assertEqual((len(a), bool(a), bool(Union()), a[0], a[-1]), (3, True, False, s2union.from_token("04"), s2union.from_token("14")))
+        self.assertEqual((a[1:], list(reversed(a))), (list(a)[1:], list(a)[::-1]))
+        self.assertRaises(IndexError, lambda: a[3])
+        self.assertEqual(repr(a), "<Union of 3 cells: 04 0c 14>")
+        self.assertEqual({a: 1}[Union(list(a))], 1)
+        self.assertEqual(a.tokens(), ["04", "0c", "14"])
+        with self.assertRaises(AttributeError):
+            a._cells = array("Q")
+
+    def test_copies_and_pickles(self):
+        a = Union.from_tokens("04 0c 14")
+        for protocol in range(pickle.HIGHEST_PROTOCOL + 1):
+            self.assertEqual(pickle.loads(pickle.dumps(a, protocol)), a)
+        self.assertEqual((copy.copy(a), copy.deepcopy(a), Union(a), bytes(a)), (a, a, a, a.to_bytes()))
+
+    def test_buffers(self):
+        a = Union.from_tokens("04 0c 14")
+        self.assertEqual(Union(a.ids), a)
+        self.assertEqual(Union(array("Q", a)), a)
+        self.assertTrue(a.ids.readonly)
+        for wrong in (b"12345678", array("q", [1]), array("d", [1.0]), array("I", [1]), memoryview(array("Q", [1, 2, 3, 4])).cast("B").cast("Q", (2, 2))):
+            self.assertRaises(TypeError, Union, wrong)
+        self.assertEqual(Union(memoryview(array("Q", [1, 0, 3, 0]))[::2]), Union([1, 3]))
+        with tempfile.TemporaryFile() as stored:
+            stored.write(b"x" + a.to_bytes())
+            stored.flush()
+            with mmap.mmap(stored.fileno(), 0, access=mmap.ACCESS_READ) as mapped:
+                file = UnionFile(memoryview(mapped)[1:])
+                self.assertEqual((file.union(), a[0] in file), (a, True))
+                del file
+
+    @unittest.skipUnless(numpy, "numpy is not installed")
+    def test_numpy(self):
+        ids = numpy.array([s2union.from_token(text) for text in ("14", "04", "0c", "04")], numpy.uint64)
+        a = Union(ids)
+        view = numpy.asarray(a)
+        self.assertEqual((view.dtype, view.tolist()), (numpy.uint64, list(a)))
+        self.assertFalse(view.flags.writeable)
+        self.assertEqual(Union(ids[::2]), Union(list(ids[::2])))
+        self.assertTrue(ids[0] in a)
+        for wrong in (ids.astype(numpy.int64), ids.astype(numpy.float64), ids.reshape(2, 2), ids.astype(">u8"), ids.astype(numpy.uint32)):
+            self.assertRaises(TypeError, Union, wrong)
+
+    def test_wrong_types_and_numbers(self):
+        a = Union([FACE])
+        for wrong in (None, "1", 1.0, b"1", [], object(), True):
+            self.assertRaises(TypeError, s2union.level, wrong)
+            self.assertRaises(TypeError, lambda: wrong in a)
+        for wrong in (-1, 2**64, 2**100, 0):
+            self.assertRaises(ValueError, s2union.level, wrong)
+            self.assertRaises(ValueError, Union, [wrong])
+        for wrong in (None, 3, [None], ["1"], [1.5], "04"):
+            self.assertRaises((TypeError, ValueError), Union, wrong)
+        for wrong in (None, 3, [FACE], {FACE}, "1"):
+            for call in (lambda: a | wrong, lambda: a & wrong, lambda: a - wrong, lambda: a ^ wrong, lambda: a <= wrong, lambda: a < wrong):
+                self.assertRaises(TypeError, call)
+            for call in (a.intersects, a.isdisjoint, a.issubset, a.issuperset):
+                self.assertRaises(TypeError, call, wrong)
+            self.assertNotEqual(a, wrong)
+        for wrong in (None, 3, "text", ["x"]):
+            self.assertRaises(TypeError, Union.from_bytes, wrong)
+            self.assertRaises(TypeError, UnionFile, wrong)
+            self.assertRaises(TypeError, s2union.from_token, None)
+        self.assertRaises(TypeError, UnionFile(a.to_bytes()).contains, a)
+        self.assertRaises(ValueError, a.contains_cells, [FACE, 0])
+        self.assertRaises(TypeError, a.contains_cells, ["x"])
+        self.assertEqual((list(a.contains_cells([])), a.contains_cells([]).format), ([], "?"))
+        self.assertRaises(ValueError, a.denormalised, 31)
+        self.assertRaises(ValueError, a.denormalised, 0, 0)
+        self.assertRaises(ValueError, a.denormalised, 0, 4)
+        self.assertRaises(ValueError, s2union.parent, FACE)
+        self.assertRaises(ValueError, s2union.child, 1, 0)
+
+    def test_version(self):
+        self.assertEqual(s2union.version(), (0, 1, 0))
+
+
+def load_tests(loader, tests, pattern):
+    tests.addTests(doctest.DocTestSuite(s2union))
+    return tests
+
+
+if __name__ == "__main__":
+    unittest.main()

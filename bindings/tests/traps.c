@@ -1,0 +1,142 @@
+/* The calls where they are asked for nothing sensible: no crash, not a byte past the room, the stated refusal. */
+#include "tests.h"
+
+static const uint64_t face = 0x1000000000000000u;
+static const uint64_t wrong[] = {0, 2, 8, 0xc000000000000000u, 0xffffffffffffffffu, 0x8000000000000000u};
+static const uint64_t unordered[] = {0x0c00000000000000u, 0x0400000000000000u};
+static const uint64_t siblings[] = {0x0400000000000000u, 0x0c00000000000000u, 0x1400000000000000u, 0x1c00000000000000u};
+
+static void numbers_that_are_no_cell(void) {
+  for (size_t k = 0; k < sizeof wrong / sizeof *wrong; k++) {
+    uint64_t id = wrong[k];
+    char text[32];
+    size_t len = 77, first = 77, count = 77;
+    s2u_square square = {9, 9, 9, 9};
+    CHECK(s2u_is_cell(id) == 0);
+    CHECK(s2u_level(id) == S2U_NO_CELL && s2u_face(id) == S2U_NO_CELL);
+    CHECK(s2u_parent(id, 0) == 0 && s2u_child(id, 0) == 0 && s2u_next(id) == 0 && s2u_prev(id) == 0);
+    CHECK(s2u_range_min(id) == 0 && s2u_range_max(id) == 0 && s2u_size(id) == 0);
+    CHECK(s2u_common_ancestor(id, face) == 0 && s2u_common_ancestor(face, id) == 0);
+    CHECK(s2u_cell_contains(id, face) == S2U_NO_CELL && s2u_cell_contains(face, id) == S2U_NO_CELL);
+    CHECK(s2u_cell_intersects(id, face) == S2U_NO_CELL && s2u_cell_intersects(face, id) == S2U_NO_CELL);
+    CHECK(s2u_square_of(id, &square) == S2U_NO_CELL && square.face == 9 && square.size == 9);
+    CHECK(s2u_token(id, text, sizeof text, &len) == S2U_NO_CELL && len == 0);
+    len = 77;
+    CHECK(s2u_debug(id, text, sizeof text, &len) == S2U_NO_CELL && len == 0);
+    CHECK(s2u_contains_cell(&face, 1, id) == S2U_NO_CELL && s2u_intersects_cell(&face, 1, id) == S2U_NO_CELL);
+    CHECK(s2u_cells_at(&face, 1, id, &first, &count) == S2U_NO_CELL && first == 0 && count == 0);
+    CHECK(s2u_is_union(&id, 1) == 0);
+    uint64_t list[2] = {face, id}, out[4];
+    len = 77;
+    CHECK(s2u_normalise(list, 2, &len) == S2U_NO_CELL && len == 1 && list[0] == face && list[1] == id);
+    CHECK(s2u_range(id, face, out, 4, &len) == S2U_NO_CELL && len == 0);
+    CHECK(s2u_range(face, id, out, 4, &len) == S2U_NO_CELL && len == 0);
+  }
+}
+
+static void arguments_out_of_range(void) {
+  uint64_t out[4], many = 77;
+  size_t len = 77;
+  CHECK(s2u_from_face_ij(6, 0, 0) == 0 && s2u_from_face_ij(0, 1u << 30, 0) == 0 && s2u_from_face_ij(0, 0, 1u << 30) == 0);
+  CHECK(s2u_from_face_ij(0xffffffffu, 0xffffffffu, 0xffffffffu) == 0);
+  CHECK(s2u_parent(face, 1) == 0 && s2u_parent(face, 0xffffffffu) == 0 && s2u_parent(1, 256) == 0);
+  CHECK(s2u_child(face, 4) == 0 && s2u_child(face, 256) == 0 && s2u_child(1, 0) == 0);
+  CHECK(s2u_range(3, 1, out, 4, &len) == S2U_ARGUMENT && len == 0);
+  CHECK(s2u_denormalised(&face, 1, 31, 1, out, 4, &len) == S2U_ARGUMENT && len == 0);
+  CHECK(s2u_denormalised(&face, 1, 0, 0, out, 4, &len) == S2U_ARGUMENT);
+  CHECK(s2u_denormalised(&face, 1, 0, 4, out, 4, &len) == S2U_ARGUMENT);
+  CHECK(s2u_denormalised(&face, 1, 256, 257, out, 4, &len) == S2U_ARGUMENT);
+  CHECK(s2u_denormalised_len(&face, 1, 31, 1, &many) == S2U_ARGUMENT && many == 0);
+}
+
+static void lists_that_are_no_union(void) {
+  uint64_t out[4] = {7, 7, 7, 7}, many = 77;
+  size_t len = 77;
+  int32_t (*sets[])(const uint64_t*, size_t, const uint64_t*, size_t, uint64_t*, size_t, size_t*) = {s2u_union, s2u_intersection, s2u_difference};
+  for (int k = 0; k < 3; k++) {
+    CHECK(sets[k](unordered, 2, &face, 1, out, 4, &len) == S2U_NO_UNION && len == 0 && out[0] == 7);
+    CHECK(sets[k](&face, 1, unordered, 2, out, 4, &len) == S2U_NO_UNION && len == 0 && out[0] == 7);
+    CHECK(sets[k](siblings, 4, &face, 1, out, 4, &len) == S2U_NO_UNION);
+    CHECK(sets[k](wrong, 2, &face, 1, out, 4, &len) == S2U_NO_UNION);
+  }
+  CHECK(s2u_is_union(unordered, 2) == 0 && s2u_is_union(siblings, 4) == 0 && s2u_is_union(siblings, 3) == 1);
+  CHECK(s2u_denormalised_len(unordered, 2, 1, 1, &many) == S2U_NO_UNION && many == 0);
+  CHECK(s2u_denormalised(unordered, 2, 1, 1, out, 4, &len) == S2U_NO_UNION && len == 0);
+}
+
+/* Questions of many cells at once. */
+static void many_questions(void) {
+  uint64_t asked[] = {siblings[0], face, siblings[1], 0, 2};
+  for (size_t room = 0; room <= 4; room++) {
+    uint8_t* answers = at_the_edge(room);
+    size_t bad = 77;
+    memset(answers, 9, room);
+    int32_t status = s2u_contains_cells(siblings, 1, asked, 3, answers, room, &bad);
+    CHECK(bad == 3 && status == (room < 3 ? S2U_ROOM : S2U_OK));
+    CHECK(status != S2U_OK || (answers[0] == 1 && answers[1] == 0 && answers[2] == 0));
+    for (size_t k = status == S2U_OK ? 3 : 0; k < room; k++) CHECK(answers[k] == 9);
+    status = s2u_intersects_cells(siblings, 1, asked, 3, answers, room, &bad);
+    CHECK(status != S2U_OK || (answers[0] == 1 && answers[1] == 1 && answers[2] == 0));
+    memset(answers, 9, room);
+    CHECK(s2u_contains_cells(siblings, 1, asked, 5, answers, room, &bad) == S2U_NO_CELL && bad == 3);
+    CHECK(s2u_intersects_cells(siblings, 1, asked, 5, answers, room, &bad) == S2U_NO_CELL && bad == 3);
+    for (size_t k = 0; k < room; k++) CHECK(answers[k] == 9);
+  }
+}
+
+/* Every room from none to more than enough: what is short is told exactly, and nothing is written past the room. */
+static void rooms(void) {
+  uint64_t leaf = 0x0123456789abcde1u, want[184];
+  size_t len = 77, need = 0;
+  for (size_t room = 0; room <= 20; room++) {
+    char* text = at_the_edge(room);
+    memset(text, 'x', room);
+    int32_t status = s2u_token(leaf, text, room, &len);
+    CHECK(len == 16 && status == (room < 16 ? S2U_ROOM : S2U_OK));
+    for (size_t k = status == S2U_OK ? 16 : 0; k < room; k++) CHECK(text[k] == 'x');
+    status = s2u_debug(leaf, text, room, &len);
+    CHECK(len == 32 && status == S2U_ROOM);
+  }
+  CHECK(s2u_range(3, 6917529027641081853u * 2 - 1, want, 184, &need) <= 0);
+  CHECK(s2u_difference(&face, 1, siblings, 1, want, 184, &need) == S2U_OK && need == 3);
+  for (size_t room = 0; room <= 5; room++) {
+    uint64_t* out = at_the_edge(8 * room);
+    for (size_t k = 0; k < room; k++) out[k] = 7;
+    len = 77;
+    int32_t status = s2u_difference(&face, 1, siblings, 1, out, room, &len);
+    CHECK(len == 3 && status == (room < 3 ? S2U_ROOM : S2U_OK));
+    CHECK(status != S2U_OK || memcmp(out, want, 24) == 0);
+    for (size_t k = status == S2U_OK ? 3 : 0; k < room; k++) CHECK(out[k] == 7);
+    len = 77;
+    status = s2u_denormalised(&face, 1, 1, 1, out, room, &len);
+    CHECK(len == 4 && status == (room < 4 ? S2U_ROOM : S2U_OK));
+  }
+  CHECK(s2u_denormalised(&face, 1, 30, 1, want, 16, &len) == S2U_ROOM && len == (size_t)1 << 60);
+}
+
+static void nothing_at_all(void) {
+  size_t len = 77, first = 77, count = 77;
+  uint64_t id = 77;
+  CHECK(s2u_normalise(NULL, 0, &len) == S2U_OK && len == 0);
+  CHECK(s2u_union(NULL, 0, NULL, 0, NULL, 0, &len) == S2U_OK && len == 0);
+  CHECK(s2u_union(&face, 1, NULL, 0, NULL, 0, &len) == S2U_ROOM && len == 1);
+  CHECK(s2u_is_union(NULL, 0) == 1 && s2u_leaf_count(NULL, 0) == 0 && s2u_compare(NULL, 0, NULL, 0) == 0);
+  CHECK(s2u_contains_cell(NULL, 0, face) == 0 && s2u_intersects_cell(NULL, 0, face) == 0);
+  CHECK(s2u_cells_at(NULL, 0, face, &first, &count) == S2U_OK && first == 0 && count == 0);
+  CHECK(s2u_contains(NULL, 0, NULL, 0) == 1 && s2u_contains(&face, 1, NULL, 0) == 1 && s2u_contains(NULL, 0, &face, 1) == 0);
+  CHECK(s2u_intersects(NULL, 0, &face, 1) == 0 && s2u_compare(NULL, 0, &face, 1) == -1);
+  CHECK(s2u_from_token(NULL, 0, &id) == S2U_NO_CELL && id == 0);
+  CHECK(s2u_from_debug(NULL, 0, &id) == S2U_NO_CELL && id == 0);
+  CHECK(s2u_token(face, NULL, 0, &len) == S2U_ROOM && len == 1);
+}
+
+int main(void) {
+  CHECK(s2u_version() == S2U_VERSION);
+  numbers_that_are_no_cell();
+  arguments_out_of_range();
+  lists_that_are_no_union();
+  many_questions();
+  rooms();
+  nothing_at_all();
+  return report();
+}

@@ -1,0 +1,5 @@
+mod Asking
+mod Finding
+mod Numbers
+mod Packing
+mod Running

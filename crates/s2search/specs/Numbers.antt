@@ -1,0 +1,12 @@
+-- The numbers in the bytes of a file.
+use Rattle.std.specs.Prelude.{ℕ, ◌*◌, ◌/◌, List, map, length, drop}
+use Rattle.std.specs.List.{range_with_len}
+use Rattle.s2file.specs.File.{first_number}
+
+-- the number with the place `i` among those that stand in the bytes, eight bytes each
+abbrev pub number_in : List ℕ → ℕ → ℕ
+number_in bytes i = first_number (drop (8 * i) bytes)
+
+-- all of them, in order
+unfoldable pub numbers : List ℕ → List ℕ
+numbers bytes = map (number_in bytes) (range_with_len 0 (length bytes / 8))

@@ -1,0 +1,21 @@
+-- Where a leaf stands among cells that follow each other, and which of them lie at a cell.
+use Rattle.std.specs.Prelude.{ℕ, ◌+◌, ◌<◌, ◌≤◌, ◌↔◌, List, length, slice_index}
+use Rattle.s2cell.specs.Cell.{IsCell, first_leaf, size_of, covers}
+use Rattle.s2union.specs.Union.{ShareSome}
+use Rattle.s2union.specs.Packed.{Behind}
+
+-- the first cell that ends after the leaf `lo` has one of the places from `start` to `end`, or there is none and they end there
+pub record IsFrom (u : List ℕ) (lo start end : ℕ) : Type 0 where
+  pub behind : Behind u start lo
+  pub next : end < length u → lo < first_leaf (slice_index u end) + size_of (slice_index u end)
+
+-- the cells of `u` that share a leaf with `cell` are those with the `count` places from `first` on
+pub record IsRunAt (u : List ℕ) (cell first count : ℕ) : Type 0 where
+  pub within : first + count ≤ length u
+  pub members : (k : ℕ) → k < length u → ((first ≤ k) × (k < first + count)) ↔ ShareSome (covers cell) (covers (slice_index u k))
+
+-- the first number of `u` that is no cell's has the place `k`
+pub record IsFirstWrong (u : List ℕ) (k : ℕ) : Type 0 where
+  pub within : k < length u
+  pub wrong : IsCell (slice_index u k) → ⊥
+  pub before : (j : ℕ) → j < k → IsCell (slice_index u j)

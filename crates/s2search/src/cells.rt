@@ -1,0 +1,80 @@
+//! Numbers by their places, in a list or in bytes.
+ghost use Rattle.std.specs.Prelude.{◌≡◌, ◌/◌, ◌<◌, ◌≤◌, ℕ, List, length, slice_index};
+ghost use Rattle.s2file.specs.File.{first_number};
+ghost use Rattle.s2search.specs.Numbers.{number_in};
+
+use byteorder::{ByteOrder, LittleEndian};
+
+/// The size of a number in a file, in bytes.
+const NUMBER_SIZE: usize = 8;
+
+/// Numbers that can be read by their places.
+pub trait Cells {
+    ghost ids: { Self → List ℕ };
+
+    /// How many numbers there are.
+    fn len(&self) -> usize
+        ensures { result ≡ length (ids self.now) };
+
+    /// The number with the place `k`, counted from 0.
+    fn id(&self, k: usize) -> u64
+        requires { k < length (ids self.now) }
+        ensures { result ≡ slice_index (ids self.now) k };
+}
+
+/// The numbers of a list.
+#[derive(Clone, Copy)]
+pub struct IdList<'a> {
+    /// The list.
+    pub ids: &'a [u64],
+}
+
+impl<'a> Cells for IdList<'a> {
+    ghost ids = { λ s. s.ids.now };
+
+    fn len(&self) -> usize {
+        self.ids.len()
+    }
+
+    fn id(&self, k: usize) -> u64 {
+        self.ids[k]
+    }
+}
+
+/// The numbers of a union file after its head: eight bytes each, the lowest first.
+#[derive(Clone, Copy)]
+pub struct FileIds<'a> {
+    /// The bytes after the head. Fewer than eight at the end are no number.
+    pub bytes: &'a [u8],
+}
+
+impl<'a> Cells for FileIds<'a> {
+    ghost use Rattle.s2search.specs.Numbers.{numbers};
+
+    ghost ids = { λ s. numbers s.bytes.now };
+
+    fn len(&self) -> usize {
+        self.bytes.len() / NUMBER_SIZE
+    }
+
+    fn id(&self, k: usize) -> u64 {
+        number_at(self.bytes, k)
+    }
+}
+
+/// The number with the place `k` among those of eight bytes each.
+fn number_at(bytes: &[u8], k: usize) -> u64
+    requires { k < length bytes.now / 8 }
+    ensures { result ≡ number_in bytes.now k }
+{
+    number(&bytes[NUMBER_SIZE * k..])
+}
+
+/// The number that the first eight bytes stand for.
+#[tactic(auto, unfolding(s2file::specs::File::first_number))]
+pub fn number(bytes: &[u8]) -> u64
+    requires { 8 ≤ length bytes.now }
+    ensures { result ≡ first_number bytes.now }
+{
+    LittleEndian::read_u64(bytes)
+}

@@ -1,0 +1,21 @@
+//! The cells of a union at a cell.
+ghost use Rattle.s2union.specs.Union.{IsLocal};
+ghost use Rattle.s2search.specs.Search.{IsRunAt};
+
+use crate::ask::begins_at;
+use crate::cells::Cells;
+use crate::find::find;
+use s2cell::CellId;
+
+/// The cells of a union that share a leaf with the cell: the place of the first, and how many there are. They are one
+/// run of it. Logarithmic.
+pub fn cells_at<C: Cells>(cells: &C, cell: CellId) -> (usize, usize)
+    ensures { IsLocal (C.ids cells.now) → IsRunAt (C.ids cells.now) cell result.0 result.1 }
+{
+    let first = find(cells, cell.first_leaf());
+    let mut end = find(cells, cell.end_leaf());
+    if end < cells.len() && begins_at(cells, end, cell.end_leaf()) {
+        end += 1;
+    }
+    (first, end.saturating_sub(first))
+}

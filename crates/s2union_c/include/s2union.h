@@ -1,0 +1,231 @@
+/* s2union.h: unions of S2 cells for C, C++ and whatever calls C.
+ *
+ * A union is a set of leaf cells of the sphere, kept as the one normalised list of cells that covers it: ascending, no
+ * two cells share a leaf, no four are the children of one cell. Two unions are the same set exactly when they are the
+ * same list, so memcmp is equality and any hash of the bytes is a hash of the region.
+ *
+ * WHAT A CALL PROMISES. Every call is proved, in Rattle, to meet its contract for every input that the types allow: any
+ * number, any list, any bytes. No call aborts, raises, jumps, prints, sets a locale, uses floating point, or reads or
+ * writes a byte outside the lists that it is given. The caller owes three things only:
+ *   1. a pointer and its length are those of memory that the call may use; a pointer may be NULL if its length is 0;
+ *   2. lists that a call writes (out, len, text, ..) overlap no other argument;
+ *   3. lists of uint64_t are aligned to 8 bytes. Bytes and texts need no alignment.
+ *
+ * RESULTS. int32_t results are statuses: 0 or more is an answer, below 0 a refusal. Treat an unknown number below 0 as a
+ * refusal; later versions may add some. Calls that answer a cell answer 0 if there is none (0 is no cell).
+ *
+ * HOW LONG A RESULT IS. A call that makes a list takes `out`, `room` (how many elements it has) and `len`.
+ *   S2U_OK     out[0 .. *len) is the result. What comes after it is not touched.
+ *   S2U_ROOM   room is too small, *len is exactly how many elements the result has, and out is not touched. Call again
+ *              with that much; the second call cannot be refused for room.
+ *   otherwise  *len is 0 and out is not touched.
+ * So `room` 0 (and out NULL) asks for the length, at the price of the work. Nobody has to ask: a bound stands beside
+ * each call, as a macro S2U_MOST_.. when it is worth one. Nothing that a call makes belongs to the library: there is
+ * nothing to free, and no handle.
+ *
+ * THREADS. The library has no state. Every call is reentrant; any number of calls may run at once in any threads, also
+ * on the same lists as long as no call writes them. Calls marked [pure] take no memory, cannot run out of it, and may be
+ * called from a signal handler and after fork. The others take memory for the time of the call (see MEMORY); out of
+ * memory is S2U_MEMORY, and nothing has changed.
+ *
+ * VERSIONS. s2u_version() is that of the library, S2U_VERSION that of this file. Within one major version calls are only
+ * added, no call changes its meaning, and structures keep their size. The shared library is libs2union.so.MAJOR, its
+ * symbols carry the version node S2UNION_MAJOR, and it exports s2u_* alone. The form of files has a version of its own.
+ * Needs x86-64 with SSE4.2 and popcnt (x86-64-v2).
+ */
+#ifndef S2UNION_H
+#define S2UNION_H
+
+#include <stddef.h>
+#include <stdint.h>
+
+#define S2U_VERSION_MAJOR 0
+#define S2U_VERSION_MINOR 1
+#define S2U_VERSION_PATCH 0
+#define S2U_VERSION (S2U_VERSION_MAJOR * 10000 + S2U_VERSION_MINOR * 100 + S2U_VERSION_PATCH)
+
+#ifdef __cplusplus
+extern "C" {
+#endif
+
+/* The statuses. */
+enum {
+  S2U_OK = 0,
+  S2U_ROOM = -1,           /* the result is longer than room; *len says how long */
+  S2U_MEMORY = -2,         /* out of memory */
+  S2U_NO_CELL = -3,        /* a number is no identifier of a cell, or a text names none */
+  S2U_NO_UNION = -4,       /* a list is not normalised: s2u_normalise makes it so */
+  S2U_ARGUMENT = -5,       /* a level, coordinate, modulus or order out of range */
+  S2U_MANY = -6,           /* the result would have more cells than `most` */
+  S2U_FILE_SHORT = -10,    /* bytes of the file are missing */
+  S2U_FILE_VERSION = -11,  /* the first byte is not 1 */
+  S2U_FILE_TRAILING = -12, /* bytes follow the last identifier */
+  S2U_FILE_CELL = -13      /* an identifier in the file is that of no cell */
+};
+
+/* The least coordinates and the side, in leaves, of a cell's square on its face. */
+typedef struct s2u_square {
+  uint32_t face, i, j, size;
+} s2u_square;
+
+/* The leaves of a face (0 to 5) with i0 <= i <= i1 and j0 <= j <= j1, all below 2^30. */
+typedef struct s2u_rect {
+  uint32_t face, i0, i1, j0, j1;
+} s2u_rect;
+
+/* ---- the library -------------------------------------------------------------------------------------------------- */
+
+uint32_t s2u_version(void); /* [pure] S2U_VERSION of the library that runs */
+
+/* ---- cells: all [pure], all for every number ------------------------------------------------------------------------ */
+
+int32_t s2u_is_cell(uint64_t id); /* 1 or 0. S2CellId::is_valid */
+int32_t s2u_level(uint64_t id);   /* 0 (a face) to 30 (a leaf), or S2U_NO_CELL */
+int32_t s2u_face(uint64_t id);    /* 0 to 5, or S2U_NO_CELL */
+
+/* The cell of this level that holds the cell; itself at its own level. 0: no cell, or a level below its own. */
+uint64_t s2u_parent(uint64_t id, uint32_t level);
+/* The child, 0 to 3 along the curve. 0: no cell, a leaf, or another number. */
+uint64_t s2u_child(uint64_t id, uint32_t child);
+/* The first and the last leaf of the cell, 0 if it is none. A cell is in another exactly when its identifier lies
+ * between these, both included: `WHERE cell BETWEEN range_min AND range_max`. Both have the sign bit of the cell, so the
+ * same holds of signed numbers, as databases have them; the order of two cells doesn't survive that (faces 3 and 4). */
+uint64_t s2u_range_min(uint64_t id);
+uint64_t s2u_range_max(uint64_t id);
+uint64_t s2u_size(uint64_t id);                             /* how many leaves it has, 1 to 4^30; 0: no cell */
+uint64_t s2u_next(uint64_t id);                             /* the next cell of its level, across faces; 0 after the last */
+uint64_t s2u_prev(uint64_t id);                             /* the one before; 0 before the first */
+uint64_t s2u_common_ancestor(uint64_t a, uint64_t b);       /* the smallest cell that holds both; 0: on two faces, or no cell */
+int32_t s2u_cell_contains(uint64_t whole, uint64_t part);   /* 1, 0 or S2U_NO_CELL */
+int32_t s2u_cell_intersects(uint64_t a, uint64_t b);        /* 1, 0 or S2U_NO_CELL */
+uint64_t s2u_from_face_ij(uint32_t face, uint32_t i, uint32_t j); /* the leaf at a place; 0: a face above 5, i or j from 2^30 */
+int32_t s2u_square_of(uint64_t id, s2u_square* square);     /* S2U_OK or S2U_NO_CELL (square is then not touched) */
+
+/* ---- texts: all [pure] ---------------------------------------------------------------------------------------------- */
+
+#define S2U_MOST_TOKEN 16 /* bytes of a token, without a NUL, which no call writes or reads */
+#define S2U_MOST_DEBUG 32
+
+/* The token of a cell ("89c25"): its identifier in hexadecimal without the zeros at its end. S2U_ROOM, S2U_NO_CELL. */
+int32_t s2u_token(uint64_t id, char* text, size_t room, size_t* len);
+/* The cell of a token in either case: S2U_OK, or S2U_NO_CELL (and *id is 0). */
+int32_t s2u_from_token(const char* text, size_t n, uint64_t* id);
+/* The same for debug texts ("4/032212"). */
+int32_t s2u_debug(uint64_t id, char* text, size_t room, size_t* len);
+int32_t s2u_from_debug(const char* text, size_t n, uint64_t* id);
+
+/* ---- questions of a union: all [pure], where the list lies, without a copy -------------------------------------------
+ *
+ * These do not look whether the list is a union, which would cost more than the question: s2u_is_union does. Of a list
+ * that is none the answer is 0 or 1 and means nothing; the call is as safe as any other. */
+
+int32_t s2u_is_union(const uint64_t* ids, size_t n);                       /* 1 or 0. n steps */
+uint64_t s2u_leaf_count(const uint64_t* ids, size_t n);                    /* at most 6 * 4^30, which an int64_t holds. n steps */
+int32_t s2u_contains_cell(const uint64_t* ids, size_t n, uint64_t cell);   /* 1, 0 or S2U_NO_CELL. log n steps */
+int32_t s2u_intersects_cell(const uint64_t* ids, size_t n, uint64_t cell); /* the same: whether they share a leaf */
+/* The cells of the union that share a leaf with the cell: ids[*first .. *first + *count). log n steps. */
+int32_t s2u_cells_at(const uint64_t* ids, size_t n, uint64_t cell, size_t* first, size_t* count);
+/* answers[k] is 1 or 0 for cells[k], k below m. S2U_NO_CELL: one is none, and *bad is the first such k. S2U_ROOM: room is
+ * less than m, and *bad is m. After a refusal answers is not touched. */
+int32_t s2u_contains_cells(const uint64_t* ids, size_t n, const uint64_t* cells, size_t m, uint8_t* answers, size_t room, size_t* bad);
+int32_t s2u_intersects_cells(const uint64_t* ids, size_t n, const uint64_t* cells, size_t m, uint8_t* answers, size_t room, size_t* bad);
+int32_t s2u_contains(const uint64_t* xs, size_t nx, const uint64_t* ys, size_t ny);   /* all leaves of ys are in xs: 1 or 0 */
+int32_t s2u_intersects(const uint64_t* xs, size_t nx, const uint64_t* ys, size_t ny); /* they share a leaf: 1 or 0 */
+/* -1, 0 or 1: the order of lists, element by element and then by length. No refusal. A total order, for B-trees. */
+int32_t s2u_compare(const uint64_t* xs, size_t nx, const uint64_t* ys, size_t ny);
+
+/* ---- making unions --------------------------------------------------------------------------------------------------- */
+
+/* Normalises a list of cells in its own place: any order, doubled, one in another. *len is the length then, at most n.
+ * S2U_NO_CELL: a number is no cell; the list is not touched and *len is the place of the first. S2U_MEMORY. n log n
+ * steps, n if it is in order. The union of many lists is their concatenation, normalised. 8 n bytes. */
+int32_t s2u_normalise(uint64_t* ids, size_t n, size_t* len);
+
+/* S2U_ROOM, S2U_MEMORY, S2U_NO_UNION. At most nx + ny cells, but for a difference; 24 (nx + ny) bytes. */
+int32_t s2u_union(const uint64_t* xs, size_t nx, const uint64_t* ys, size_t ny, uint64_t* out, size_t room, size_t* len);
+int32_t s2u_intersection(const uint64_t* xs, size_t nx, const uint64_t* ys, size_t ny, uint64_t* out, size_t room, size_t* len);
+/* At most S2U_MOST_DIFFERENCE cells (a leaf taken out of a face leaves 90); nearly always less than nx + ny. */
+#define S2U_MOST_DIFFERENCE(nx, ny) ((nx) + 90 * (ny))
+int32_t s2u_difference(const uint64_t* xs, size_t nx, const uint64_t* ys, size_t ny, uint64_t* out, size_t room, size_t* len);
+
+/* All leaves from the first of `first` to the last of `last`, across faces too. S2U_ROOM, S2U_MEMORY, S2U_NO_CELL,
+ * S2U_ARGUMENT (the last leaf comes before the first). */
+#define S2U_MOST_RANGE 184
+int32_t s2u_range(uint64_t first, uint64_t last, uint64_t* out, size_t room, size_t* len);
+
+/* The cells of a union, each cut to the least level that is at least its own and `min` and min plus a multiple of
+ * `modulus` (1 to 3); to leaves if there is none. Ask for the length first: a face has 4^30 leaves.
+ * S2U_NO_UNION, S2U_ARGUMENT, S2U_MEMORY, S2U_ROOM (found before any cell is made). */
+int32_t s2u_denormalised_len(const uint64_t* ids, size_t n, uint32_t min, uint32_t modulus, uint64_t* len);
+int32_t s2u_denormalised(const uint64_t* ids, size_t n, uint32_t min, uint32_t modulus, uint64_t* out, size_t room, size_t* len);
+
+/* ---- coverings at one level ------------------------------------------------------------------------------------------
+ *
+ * The outer covering: the cells of the level that share a leaf with the region, normalised; the inner: those that lie in
+ * it. S2U_ROOM, S2U_MEMORY, S2U_ARGUMENT, S2U_NO_UNION, S2U_MANY if it would have more than `most` cells, or more than
+ * S2U_MOST_COVERING (the list on the way is bounded by that too). */
+#define S2U_MOST_COVERING 1000000
+int32_t s2u_outer(const s2u_rect* rect, uint32_t level, size_t most, uint64_t* out, size_t room, size_t* len);
+int32_t s2u_inner(const s2u_rect* rect, uint32_t level, size_t most, uint64_t* out, size_t room, size_t* len);
+int32_t s2u_outer_of(const uint64_t* ids, size_t n, uint32_t level, size_t most, uint64_t* out, size_t room, size_t* len);
+int32_t s2u_inner_of(const uint64_t* ids, size_t n, uint32_t level, size_t most, uint64_t* out, size_t room, size_t* len);
+
+/* ---- files -----------------------------------------------------------------------------------------------------------
+ *
+ * The bytes that S2's own S2CellUnion::Encode writes in C++, Go and Java: the byte 1, the number of cells in eight bytes,
+ * and eight bytes for each, the lowest first. One union has one file: encode is a function of the set, so files may be
+ * compared, hashed and keys. Any number of cells (S2's decoders take 1,000,000 unless told otherwise). */
+
+#define S2U_FILE_SIZE(n) (9 + 8 * (n))        /* exactly */
+#define S2U_MOST_IN_FILE(bytes) ((bytes) < 9 ? 0 : ((bytes) - 9) / 8)
+
+int32_t s2u_encode(const uint64_t* ids, size_t n, uint8_t* out, size_t room, size_t* len); /* S2U_ROOM, S2U_MEMORY, S2U_NO_UNION */
+/* Takes cells in any order and answers the union. S2U_ROOM, S2U_MEMORY, S2U_FILE_* (the first check that fails). */
+int32_t s2u_decode(const uint8_t* bytes, size_t n, uint64_t* out, size_t room, size_t* len);
+/* [pure] 1: the file that encode writes of some union; 0: another file, which decode takes; else S2U_FILE_*. n steps. */
+int32_t s2u_file_check(const uint8_t* bytes, size_t n);
+
+/* Questions of a file that lies in a row of a table, at any address: [pure], no copy. The frame is checked (S2U_FILE_*);
+ * that it is encode's own is not (s2u_file_check does: once, when it comes in), and else 0 or 1 means nothing. */
+int32_t s2u_file_count(const uint8_t* bytes, size_t n, uint64_t* count);
+int32_t s2u_file_leaf_count(const uint8_t* bytes, size_t n, uint64_t* leaves);        /* n steps */
+int32_t s2u_file_cell(const uint8_t* bytes, size_t n, uint64_t k, uint64_t* id);      /* S2U_ARGUMENT: k from the count on */
+int32_t s2u_file_contains_cell(const uint8_t* bytes, size_t n, uint64_t cell);        /* log n steps; S2U_NO_CELL */
+int32_t s2u_file_intersects_cell(const uint8_t* bytes, size_t n, uint64_t cell);      /* log n steps; S2U_NO_CELL */
+int32_t s2u_file_contains(const uint8_t* xs, size_t nx, const uint8_t* ys, size_t ny); /* all leaves of ys are in xs: 1 or 0 */
+int32_t s2u_file_intersects(const uint8_t* xs, size_t nx, const uint8_t* ys, size_t ny);
+
+/* ---- memory for a host that has its own -------------------------------------------------------------------------------
+ *
+ * Link libs2union_noheap.a in place of libs2union.a and define these three. They may not jump out of the call (a host's
+ * error by longjmp included). `size` may be 0: any address will do. A block of a size that 16 (8) divides is aligned to
+ * 16 (8). `ok` is 1, or 0 for out of memory; `at` is never NULL. */
+typedef struct s2u_block {
+  uint64_t ok;
+  void* at;
+} s2u_block;
+s2u_block s2u_heap_take(size_t size, size_t align);
+s2u_block s2u_heap_grow(void* at, size_t old_size, size_t size, size_t align);
+void s2u_heap_give_back(void* at);
+
+/* The words for a status, for messages. */
+static inline const char* s2u_status_text(int32_t status) {
+  switch (status) {
+    case S2U_ROOM: return "too little room";
+    case S2U_MEMORY: return "out of memory";
+    case S2U_NO_CELL: return "no cell";
+    case S2U_NO_UNION: return "no normalised list of cells";
+    case S2U_ARGUMENT: return "argument out of range";
+    case S2U_MANY: return "too many cells";
+    case S2U_FILE_SHORT: return "union file: bytes are missing";
+    case S2U_FILE_VERSION: return "union file: unknown version";
+    case S2U_FILE_TRAILING: return "union file: bytes after the last cell";
+    case S2U_FILE_CELL: return "union file: a number that is no cell";
+    default: return status >= 0 ? "ok" : "unknown refusal";
+  }
+}
+
+#ifdef __cplusplus
+}
+#endif
+#endif

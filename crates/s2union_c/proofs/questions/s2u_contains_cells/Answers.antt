@@ -1,0 +1,17 @@
+use Rattle.std.proofs.Common.{rules, ◌≡◌, ◌<◌, length, arith}
+use Rattle.std.specs.Prelude.{slice_index}
+use Rattle.s2cell.specs.Cell.{IsCell, covers}
+use Rattle.s2union.specs.Union.{IsWithin, has_leaf}
+use Rattle.s2union_c.proofs.Asking.{bits_more}
+use Rattle.s2union_c.proofs.questions.s2u_contains_cells.Goals as goal
+
+pub loop-k-preserved : goal.loop-k-preserved
+loop-k-preserved c =
+    let h : c.loop-k.k < length c.args.cells.now = search rules in
+    let own : IsCell (slice_index c.args.cells.now c.loop-k.k) = c.in_default.ensures c.loop-k.k 0 h in
+    record {
+      so_far = λ local.
+          bits_more (λ i. IsWithin (covers (slice_index c.args.cells.now i)) (has_leaf c.args.ids.now))
+          c.loop-k.answers c.loop-k.k c.contains_one.result (search rules) (c.loop-k.invariant.so_far local) (c.contains_one.ensures local own);
+      room = search rules;
+    }

@@ -1,0 +1,12 @@
+use Rattle.std.proofs.Common.{◌≡◌, ◌<◌, ◌≤◌, ℕ, length}
+use Rattle.std.specs.Prelude.{slice_index}
+use Rattle.s2cell.specs.Cell.{covers}
+use Rattle.s2union.specs.Union.{IsLocal, IsWithin, has_leaf}
+use Rattle.s2union_c.specs.Status.{IsBit}
+use Rattle.s2union_c.proofs.questions.s2u_contains_cells.Given as goal
+
+abbrev pub invariant-loop-k : goal.invariant-loop-k
+invariant-loop-k l = record {
+  so_far : IsLocal l.ids → (i : ℕ) → i < l.k → IsBit (slice_index l.answers i) (IsWithin (covers (slice_index l.cells i)) (has_leaf l.ids));
+  room : length l.cells ≤ length l.answers;
+}

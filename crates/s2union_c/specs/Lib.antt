@@ -1,0 +1,5 @@
+pub mod Status
+pub mod Cutting
+pub mod Files
+pub mod Order
+pub mod Results

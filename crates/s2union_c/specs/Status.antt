@@ -1,0 +1,65 @@
+-- The statuses that calls answer: 0 or more is an answer, below 0 a refusal.
+use Rattle.std.specs.Prelude.{◌≡◌, ◌⊎◌, ℕ, ℤ, pos, negsuc}
+
+-- what was asked for was made
+abbrev pub made : ℤ
+made = pos 0
+
+-- the result is longer than the room
+abbrev pub no_room : ℤ
+no_room = negsuc 0
+
+-- the system refused memory
+abbrev pub no_memory : ℤ
+no_memory = negsuc 1
+
+-- a number or a text stands for no cell
+abbrev pub no_cell : ℤ
+no_cell = negsuc 2
+
+-- a list is not normalised
+abbrev pub no_union : ℤ
+no_union = negsuc 3
+
+-- an argument is out of its range
+abbrev pub bad_argument : ℤ
+bad_argument = negsuc 4
+
+-- the result would have more cells than were allowed
+abbrev pub too_many : ℤ
+too_many = negsuc 5
+
+-- bytes of the file are missing
+abbrev pub short_file : ℤ
+short_file = negsuc 9
+
+-- the file's first byte is not 1
+abbrev pub other_version : ℤ
+other_version = negsuc 10
+
+-- bytes follow the file's last identifier
+abbrev pub long_file : ℤ
+long_file = negsuc 11
+
+-- an identifier in the file is that of no cell
+abbrev pub wrong_cell : ℤ
+wrong_cell = negsuc 12
+
+-- the answer to a question is yes, or no
+abbrev pub yes : ℤ
+yes = pos 1
+
+abbrev pub no : ℤ
+no = pos 0
+
+-- the question whether `P` holds was answered, rightly
+abbrev pub Answers : ℤ → Type 0 → Type 0
+Answers status P = ((status ≡ yes) × P) ⊎ ((status ≡ no) × (P → ⊥))
+
+-- the question was answered, with yes or no
+abbrev pub IsAnswer : ℤ → Type 0
+IsAnswer status = (status ≡ yes) ⊎ (status ≡ no)
+
+-- a byte tells whether `P` holds: 1, or 0
+abbrev pub IsBit : ℕ → Type 0 → Type 0
+IsBit bit P = ((bit ≡ 1) × P) ⊎ ((bit ≡ 0) × (P → ⊥))

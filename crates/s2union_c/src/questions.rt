@@ -1,0 +1,202 @@
+//! Questions of a union where it lies: without a copy and without memory. They do not look whether the list is a union,
+//! which would cost more than the question; of a list that is none the answer means nothing.
+ghost use Rattle.std.specs.Prelude.{◌≡◌, ◌*◌, ◌^◌, ◌<◌, ◌≤◌, ℕ, All, length, slice_index};
+ghost use Rattle.s2cell.specs.Cell.{IsCell, covers};
+ghost use Rattle.s2union.specs.Union.{IsLocal, IsWithin, ShareSome, has_leaf};
+ghost use Rattle.s2union.specs.Count.{count_below};
+ghost use Rattle.s2search.specs.Search.{IsFirstWrong, IsRunAt};
+ghost use Rattle.s2union_c.specs.Status.{Answers, IsAnswer, IsBit, made, no_cell, no_room};
+ghost use Rattle.s2union_c.specs.Order.{order};
+
+use crate::status::{MADE, NO_CELL, NO_ROOM, answer};
+use s2cell::CellId;
+use s2search::{IdList, first_wrong};
+
+/// Whether a list is a union: cells, ascending, no two with a common leaf, no four the children of one. Linear.
+#[unsafe(no_mangle)]
+pub extern "C" fn s2u_is_union(ids: &[u64]) -> i32
+    ensures { Answers result (IsLocal ids.now) }
+{
+    answer(s2search::is_union(&IdList { ids }))
+}
+
+/// How many leaves a union has, of the `6 * 4^30` that there are. Linear.
+#[unsafe(no_mangle)]
+pub extern "C" fn s2u_leaf_count(ids: &[u64]) -> u64
+    ensures { IsLocal ids.now → result ≡ count_below (has_leaf ids.now) (6 * 4 ^ 30) }
+{
+    s2search::leaf_count(&IdList { ids })
+}
+
+/// Whether a union has all leaves of a cell. Logarithmic.
+#[unsafe(no_mangle)]
+pub extern "C" fn s2u_contains_cell(ids: &[u64], cell: u64) -> i32
+    ensures exact { IsLocal ids.now → IsCell cell → Answers result (IsWithin (covers cell) (has_leaf ids.now)) }
+    ensures answer { IsCell cell → IsAnswer result }
+    ensures no_cell { (IsCell cell → ⊥) → result ≡ no_cell }
+{
+    match CellId::from_id(cell) {
+        Some(part) => answer(s2search::contains_cell(&IdList { ids }, part)),
+        None => NO_CELL,
+    }
+}
+
+/// Whether a union has a leaf of a cell. Logarithmic.
+#[unsafe(no_mangle)]
+pub extern "C" fn s2u_intersects_cell(ids: &[u64], cell: u64) -> i32
+    ensures exact { IsLocal ids.now → IsCell cell → Answers result (ShareSome (covers cell) (has_leaf ids.now)) }
+    ensures answer { IsCell cell → IsAnswer result }
+    ensures no_cell { (IsCell cell → ⊥) → result ≡ no_cell }
+{
+    match CellId::from_id(cell) {
+        Some(part) => answer(s2search::intersects_cell(&IdList { ids }, part)),
+        None => NO_CELL,
+    }
+}
+
+/// The cells of a union that share a leaf with a cell: the place of the first, and how many there are. Logarithmic.
+#[unsafe(no_mangle)]
+pub extern "C" fn s2u_cells_at(ids: &[u64], cell: u64, first: &mut usize, count: &mut usize) -> i32
+    ensures made { IsCell cell → result ≡ made }
+    ensures run { IsLocal ids.now → IsCell cell → IsRunAt ids.now cell first.new count.new }
+    ensures no_cell { (IsCell cell → ⊥) → (result ≡ no_cell) × (first.new ≡ 0) × (count.new ≡ 0) }
+{
+    match CellId::from_id(cell) {
+        Some(place) => {
+            let (start, len) = s2search::cells_at(&IdList { ids }, place);
+            *first = start;
+            *count = len;
+            MADE
+        }
+        None => {
+            *first = 0;
+            *count = 0;
+            NO_CELL
+        }
+    }
+}
+
+/// Whether one union has all leaves of another.
+#[unsafe(no_mangle)]
+pub extern "C" fn s2u_contains(xs: &[u64], ys: &[u64]) -> i32
+    ensures exact { IsLocal xs.now → IsLocal ys.now → Answers result (IsWithin (has_leaf ys.now) (has_leaf xs.now)) }
+    ensures answer { IsAnswer result }
+{
+    answer(s2search::contains(&IdList { ids: xs }, &IdList { ids: ys }))
+}
+
+/// Whether two unions share a leaf.
+#[unsafe(no_mangle)]
+pub extern "C" fn s2u_intersects(xs: &[u64], ys: &[u64]) -> i32
+    ensures exact { IsLocal xs.now → IsLocal ys.now → Answers result (ShareSome (has_leaf xs.now) (has_leaf ys.now)) }
+    ensures answer { IsAnswer result }
+{
+    let (first, second) = (IdList { ids: xs }, IdList { ids: ys });
+    if xs.len() < ys.len() {
+        answer(s2search::intersects(&second, &first))
+    } else {
+        answer(s2search::intersects(&first, &second))
+    }
+}
+
+/// The order of two lists, element by element and then by length: -1, 0 or 1.
+#[unsafe(no_mangle)]
+pub extern "C" fn s2u_compare(xs: &[u64], ys: &[u64]) -> i32
+    ensures { result ≡ order xs.now ys.now }
+{
+    let both = xs.len().min(ys.len());
+    for k in 0..both {
+        if xs[k] < ys[k] {
+            return -1;
+        }
+        if ys[k] < xs[k] {
+            return 1;
+        }
+    }
+    if both < ys.len() {
+        -1
+    } else if both < xs.len() {
+        1
+    } else {
+        0
+    }
+}
+
+/// Whether a union has all leaves of each cell in turn: 1 or 0 for each. `bad` is the place of the first number that is
+/// no cell's, or the number of answers if they are more than the room.
+#[unsafe(no_mangle)]
+pub extern "C" fn s2u_contains_cells(
+    ids: &[u64],
+    cells: &[u64],
+    answers: &mut [u8],
+    bad: &mut usize,
+) -> i32
+    ensures made { All IsCell cells.now → length cells.now ≤ length answers.old → result ≡ made }
+    ensures exact { IsLocal ids.now → All IsCell cells.now → length cells.now ≤ length answers.old
+        → (k : ℕ) → k < length cells.now → IsBit (slice_index answers.new k) (IsWithin (covers (slice_index cells.now k)) (has_leaf ids.now)) }
+    ensures no_cell { (All IsCell cells.now → ⊥) → (result ≡ no_cell) × IsFirstWrong cells.now bad.new × (answers.new ≡ answers.old) }
+    ensures room { All IsCell cells.now → length answers.old < length cells.now
+        → (result ≡ no_room) × (bad.new ≡ length cells.now) × (answers.new ≡ answers.old) }
+{
+    if let Some(k) = first_wrong(&IdList { ids: cells }) {
+        *bad = k;
+        return NO_CELL;
+    }
+    *bad = cells.len();
+    if cells.len() > answers.len() {
+        return NO_ROOM;
+    }
+    for k in 0..cells.len() {
+        answers[k] = contains_one(ids, cells[k]);
+    }
+    MADE
+}
+
+/// Whether a union has a leaf of each cell in turn: 1 or 0 for each. `bad` is as in `s2u_contains_cells`.
+#[unsafe(no_mangle)]
+pub extern "C" fn s2u_intersects_cells(
+    ids: &[u64],
+    cells: &[u64],
+    answers: &mut [u8],
+    bad: &mut usize,
+) -> i32
+    ensures made { All IsCell cells.now → length cells.now ≤ length answers.old → result ≡ made }
+    ensures exact { IsLocal ids.now → All IsCell cells.now → length cells.now ≤ length answers.old
+        → (k : ℕ) → k < length cells.now → IsBit (slice_index answers.new k) (ShareSome (covers (slice_index cells.now k)) (has_leaf ids.now)) }
+    ensures no_cell { (All IsCell cells.now → ⊥) → (result ≡ no_cell) × IsFirstWrong cells.now bad.new × (answers.new ≡ answers.old) }
+    ensures room { All IsCell cells.now → length answers.old < length cells.now
+        → (result ≡ no_room) × (bad.new ≡ length cells.now) × (answers.new ≡ answers.old) }
+{
+    if let Some(k) = first_wrong(&IdList { ids: cells }) {
+        *bad = k;
+        return NO_CELL;
+    }
+    *bad = cells.len();
+    if cells.len() > answers.len() {
+        return NO_ROOM;
+    }
+    for k in 0..cells.len() {
+        answers[k] = intersects_one(ids, cells[k]);
+    }
+    MADE
+}
+
+/// 1 if a union has all leaves of a cell, else 0.
+fn contains_one(ids: &[u64], cell: u64) -> u8
+    ensures { IsLocal ids.now → IsCell cell → IsBit result (IsWithin (covers cell) (has_leaf ids.now)) }
+{
+    match CellId::from_id(cell) {
+        Some(part) if s2search::contains_cell(&IdList { ids }, part) => 1,
+        _ => 0,
+    }
+}
+
+/// 1 if a union has a leaf of a cell, else 0.
+fn intersects_one(ids: &[u64], cell: u64) -> u8
+    ensures { IsLocal ids.now → IsCell cell → IsBit result (ShareSome (covers cell) (has_leaf ids.now)) }
+{
+    match CellId::from_id(cell) {
+        Some(part) if s2search::intersects_cell(&IdList { ids }, part) => 1,
+        _ => 0,
+    }
+}

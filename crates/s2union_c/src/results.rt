@@ -1,0 +1,31 @@
+//! Results into the lists that a caller has ready.
+ghost use Rattle.s2union_c.specs.Results.{Made};
+
+use crate::status::{MADE, NO_ROOM};
+use s2cell::CellId;
+
+/// Writes bytes to the front of the room, or tells how many there are.
+pub(crate) fn put(bytes: &[u8], out: &mut [u8], len: &mut usize) -> i32
+    ensures { Made result bytes.now out.old out.new len.new }
+{
+    *len = bytes.len();
+    if bytes.len() > out.len() {
+        return NO_ROOM;
+    }
+    out[..bytes.len()].copy_from_slice(bytes);
+    MADE
+}
+
+/// Writes the identifiers of cells to the front of the room, or tells how many there are.
+pub(crate) fn put_cells(cells: &[CellId], out: &mut [u64], len: &mut usize) -> i32
+    ensures { Made result cells.now out.old out.new len.new }
+{
+    *len = cells.len();
+    if cells.len() > out.len() {
+        return NO_ROOM;
+    }
+    for k in 0..cells.len() {
+        out[k] = cells[k].id();
+    }
+    MADE
+}

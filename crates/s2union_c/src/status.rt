@@ -1,0 +1,44 @@
+//! The statuses that calls answer: 0 or more is an answer, below 0 a refusal.
+ghost use Rattle.std.specs.Prelude.{◌≡◌, ◌↔◌, IsTrue};
+ghost use Rattle.s2union_c.specs.Status.{no, yes};
+
+/// What was asked for was made.
+pub(crate) const MADE: i32 = 0;
+
+/// The result is longer than the room.
+pub(crate) const NO_ROOM: i32 = -1;
+
+/// The system refused memory.
+pub(crate) const NO_MEMORY: i32 = -2;
+
+/// A number or a text stands for no cell.
+pub(crate) const NO_CELL: i32 = -3;
+
+/// A list is not normalised.
+pub(crate) const NO_UNION: i32 = -4;
+
+/// An argument is out of its range.
+pub(crate) const BAD_ARGUMENT: i32 = -5;
+
+/// The result would have more cells than were allowed.
+pub(crate) const TOO_MANY: i32 = -6;
+
+/// Bytes of the file are missing.
+pub(crate) const SHORT_FILE: i32 = -10;
+
+/// The file's first byte is not 1.
+pub(crate) const OTHER_VERSION: i32 = -11;
+
+/// Bytes follow the file's last identifier.
+pub(crate) const LONG_FILE: i32 = -12;
+
+/// An identifier in the file is that of no cell.
+pub(crate) const WRONG_CELL: i32 = -13;
+
+/// The answer to a question.
+pub(crate) fn answer(holds: bool) -> i32
+    ensures yes { IsTrue holds → result ≡ yes }
+    ensures no { (IsTrue holds → ⊥) → result ≡ no }
+{
+    if holds { 1 } else { 0 }
+}

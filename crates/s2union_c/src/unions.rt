@@ -1,0 +1,159 @@
+//! Unions that are made of a list, of a range, or by cutting a union to levels.
+ghost use Rattle.std.specs.Prelude.{◌≡◌, ◌+◌, ◌<◌, ◌≤◌, ◌⊎◌, ◌↔◌, IsTrue, All, length};
+ghost use Rattle.s2cell.specs.Cell.{IsCell, first_leaf, size_of};
+ghost use Rattle.s2union.specs.Union.{IsLocal, IsNormalForm, between, has_leaf};
+ghost use Rattle.s2union.specs.Denorm.{denormalised};
+ghost use Rattle.s2search.specs.Search.{IsFirstWrong};
+ghost use Rattle.s2union_c.specs.Results.{Made, MadeOne, Refused};
+ghost use Rattle.s2union_c.specs.Cutting.{IsCutting};
+ghost use Rattle.s2union_c.specs.Status.{bad_argument, made, no_cell, no_memory, no_room, no_union};
+
+use crate::lists::{cells_of, union_of};
+use crate::results::put_cells;
+use crate::status::{BAD_ARGUMENT, MADE, NO_CELL, NO_MEMORY, NO_ROOM, NO_UNION};
+use s2cell::CellId;
+use s2search::{IdList, first_wrong, is_union};
+use s2union::{CellUnion, normalise};
+use std::alloc::Global;
+
+/// Normalises a list of cells in its own place: any order, doubled, one in another. `len` is its length then, or the
+/// place of the first number that is no cell.
+#[unsafe(no_mangle)]
+pub extern "C" fn s2u_normalise(alloc: Global, ids: &mut [u64], len: &mut usize) -> i32
+    ensures made { All IsCell ids.old → MadeOne result (IsNormalForm (has_leaf ids.old)) ids.old ids.new len.new }
+    ensures fits { result ≡ no_room → ⊥ }
+    ensures no_cell { (All IsCell ids.old → ⊥) → (result ≡ no_cell) × (ids.new ≡ ids.old) × IsFirstWrong ids.old len.new }
+{
+    if let Some(k) = first_wrong(&IdList { ids: &*ids }) {
+        *len = k;
+        return NO_CELL;
+    }
+    match cells_of(alloc, &IdList { ids: &*ids }) {
+        Ok(cells) => put_cells(normalise(cells).cells(), ids, len),
+        Err(_) => {
+            *len = 0;
+            NO_MEMORY
+        }
+    }
+}
+
+/// All leaves from the first of one cell to the last of another, across faces too.
+#[unsafe(no_mangle)]
+pub extern "C" fn s2u_range(
+    alloc: Global,
+    first: u64,
+    last: u64,
+    out: &mut [u64],
+    len: &mut usize,
+) -> i32
+    ensures made { IsCell first → IsCell last → first_leaf first < first_leaf last + size_of last
+        → MadeOne result (IsNormalForm (between (first_leaf first) (first_leaf last + size_of last))) out.old out.new len.new }
+    ensures no_cell { (IsCell first → IsCell last → ⊥) → Refused result no_cell out.old out.new len.new }
+    ensures order { IsCell first → IsCell last → first_leaf last + size_of last ≤ first_leaf first
+        → Refused result bad_argument out.old out.new len.new }
+{
+    *len = 0;
+    let (Some(x), Some(y)) = (CellId::from_id(first), CellId::from_id(last)) else {
+        return NO_CELL;
+    };
+    if x.first_leaf() >= y.end_leaf() {
+        return BAD_ARGUMENT;
+    }
+    match CellUnion::from_range(alloc, x, y) {
+        Ok(union) => put_cells(union.cells(), out, len),
+        Err(_) => NO_MEMORY,
+    }
+}
+
+/// How many cells `s2u_denormalised` gives.
+#[unsafe(no_mangle)]
+pub extern "C" fn s2u_denormalised_len(
+    alloc: Global,
+    ids: &[u64],
+    min: u32,
+    modulus: u32,
+    len: &mut u64,
+) -> i32
+    ensures made { IsLocal ids.now → IsCutting min modulus
+        → ((result ≡ made) × (len.new ≡ length (denormalised min modulus ids.now))) ⊎ ((result ≡ no_memory) × (len.new ≡ 0)) }
+    ensures no_union { (IsLocal ids.now → ⊥) → (result ≡ no_union) × (len.new ≡ 0) }
+    ensures argument { IsLocal ids.now → (IsCutting min modulus → ⊥) → (result ≡ bad_argument) × (len.new ≡ 0) }
+{
+    *len = 0;
+    if !is_union(&IdList { ids }) {
+        return NO_UNION;
+    }
+    if !is_cutting(min, modulus) {
+        return BAD_ARGUMENT;
+    }
+    match union_of(alloc, ids) {
+        Ok(union) => {
+            *len = union.denormalized_len(min as u8, modulus as u8);
+            MADE
+        }
+        Err(_) => NO_MEMORY,
+    }
+}
+
+/// The cells of a union, each cut to the least level that is at least its own and at least `min` and differs from `min`
+/// by a multiple of `modulus`; to leaves if there is no such level. `min` is at most 30 and `modulus` 1 to 3.
+#[unsafe(no_mangle)]
+pub extern "C" fn s2u_denormalised(
+    alloc: Global,
+    ids: &[u64],
+    min: u32,
+    modulus: u32,
+    out: &mut [u64],
+    len: &mut usize,
+) -> i32
+    ensures made { IsLocal ids.now → IsCutting min modulus
+        → Made result (denormalised min modulus ids.now) out.old out.new len.new ⊎ Refused result no_memory out.old out.new len.new }
+    ensures no_union { (IsLocal ids.now → ⊥) → Refused result no_union out.old out.new len.new }
+    ensures argument { IsLocal ids.now → (IsCutting min modulus → ⊥) → Refused result bad_argument out.old out.new len.new }
+{
+    *len = 0;
+    if !is_union(&IdList { ids }) {
+        return NO_UNION;
+    }
+    if !is_cutting(min, modulus) {
+        return BAD_ARGUMENT;
+    }
+    match union_of(alloc, ids) {
+        Ok(union) => put_denormalised(alloc, &union, min as u8, modulus as u8, out, len),
+        Err(_) => NO_MEMORY,
+    }
+}
+
+/// Writes the cells that those of a union are cut to, once they are known to have room.
+fn put_denormalised(
+    alloc: Global,
+    union: &CellUnion,
+    min: u8,
+    modulus: u8,
+    out: &mut [u64],
+    len: &mut usize,
+) -> i32
+    requires cutting { IsCutting min modulus }
+    requires len { len.old ≡ 0 }
+    ensures { Made result (denormalised min modulus union.now.cells) out.old out.new len.new ⊎ Refused result no_memory out.old out.new len.new }
+{
+    let need = union.denormalized_len(min, modulus);
+    if need > out.len() as u64 {
+        *len = need as usize;
+        return NO_ROOM;
+    }
+    match union
+        .denormalized(min, modulus)
+        .collect::<Vec<CellId>>(alloc)
+    {
+        Ok(cells) => put_cells(cells.as_slice(), out, len),
+        Err(_) => NO_MEMORY,
+    }
+}
+
+/// Whether a union can be cut to levels by these numbers.
+fn is_cutting(min: u32, modulus: u32) -> bool
+    ensures { IsTrue result ↔ IsCutting min modulus }
+{
+    min <= 30 && 0 < modulus && modulus <= 3
+}
