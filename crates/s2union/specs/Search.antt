@@ -1,5 +1,6 @@
 -- The place of an identifier in an ascending list of cells.
 use Rattle.std.specs.Prelude.{ℕ, ◌<◌, ◌≤◌, List, length, slice_index}
+use Rattle.s2union.specs.Union.{IsLocal}
 
 -- the first `low` cells of `u` are below `mark`, and those from `high` on are not
 pub record Brackets (u : List ℕ) (mark low high : ℕ) : Type 0 where
@@ -7,3 +8,8 @@ pub record Brackets (u : List ℕ) (mark low high : ℕ) : Type 0 where
   pub within : high ≤ length u
   pub below : (k : ℕ) → k < low → slice_index u k < mark
   pub rest : (k : ℕ) → high ≤ k → k < length u → mark ≤ slice_index u k
+
+-- a local list, and a place in it
+pub record IsCursor (u : List ℕ) (at : ℕ) : Type 0 where
+  pub local : IsLocal u
+  pub within : at ≤ length u

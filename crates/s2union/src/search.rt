@@ -1,7 +1,7 @@
 //! Whether a union has the leaves of a cell or of another union.
 
 ghost use Rattle.std.specs.Prelude.{◌≤◌, ◌<◌, ◌+◌, ◌*◌, ◌^◌, ◌↔◌, IsTrue, length, slice_index};
-ghost use Rattle.s2cell.specs.Cell.{covers, first_leaf, size_of};
+ghost use Rattle.s2cell.specs.Cell.{IsCell, covers, first_leaf, size_of};
 ghost use Rattle.s2union.specs.Union.{IsLocal, has_leaf, IsWithin, ShareSome};
 ghost use Rattle.s2union.specs.Packed.{IsPacked, Behind};
 ghost use Rattle.s2union.specs.Search.{Brackets};
@@ -49,6 +49,17 @@ fn holds(cells: &[CellId], cell: CellId) -> bool
     ensures { IsTrue result ↔ IsWithin (covers cell) (has_leaf cells.now) }
 {
     let at = find(cells, cell.first_leaf());
+    holds_at(cells, at, cell)
+}
+
+/// The same once it is known how many of its cells end by the first leaf of the cell.
+pub(crate) fn holds_at(cells: &[CellId], at: usize, cell: CellId) -> bool
+    requires local { IsLocal cells.now }
+    requires is_cell { IsCell cell }
+    requires behind { Behind cells.now at (first_leaf cell) }
+    requires next { at < length cells.now → first_leaf cell < first_leaf (slice_index cells.now at) + size_of (slice_index cells.now at) }
+    ensures { IsTrue result ↔ IsWithin (covers cell) (has_leaf cells.now) }
+{
     at < cells.len() && cells[at].contains(cell)
 }
 
@@ -58,6 +69,17 @@ fn meets(cells: &[CellId], cell: CellId) -> bool
     ensures { IsTrue result ↔ ShareSome (covers cell) (has_leaf cells.now) }
 {
     let at = find(cells, cell.first_leaf());
+    meets_at(cells, at, cell)
+}
+
+/// The same once it is known how many of its cells end by the first leaf of the cell.
+pub(crate) fn meets_at(cells: &[CellId], at: usize, cell: CellId) -> bool
+    requires local { IsLocal cells.now }
+    requires is_cell { IsCell cell }
+    requires behind { Behind cells.now at (first_leaf cell) }
+    requires next { at < length cells.now → first_leaf cell < first_leaf (slice_index cells.now at) + size_of (slice_index cells.now at) }
+    ensures { IsTrue result ↔ ShareSome (covers cell) (has_leaf cells.now) }
+{
     at < cells.len() && cells[at].first_leaf() < cell.end_leaf()
 }
 

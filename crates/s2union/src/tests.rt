@@ -100,6 +100,31 @@ fn inclusion_and_shared_leaves(rt: HostRuntime) -> Result<(), AllocError> {
 }
 
 #[test]
+fn questions_in_any_order(rt: HostRuntime) -> Result<(), AllocError> {
+    let rest = of(rt.alloc(), "1")?.difference(&of(rt.alloc(), "0000000000000001")?)?;
+    let mut cursor = rest.cursor();
+    for (token, contains, intersects) in [
+        ("0000000000000001", false, false),
+        ("0000000000000003", true, true),
+        ("1c", true, true),
+        ("1", false, true),
+        ("04", false, true),
+        ("24", false, false),
+        ("0c", true, true),
+    ] {
+        if let [cell] = cells(rt.alloc(), token)?.as_slice() {
+            assert_eq!(rt; cursor.contains_cell(*cell), contains, "contains {token}");
+            assert_eq!(rt;
+                cursor.intersects_cell(*cell),
+                intersects,
+                "intersects {token}"
+            );
+        }
+    }
+    Ok(())
+}
+
+#[test]
 fn normalised_lists(rt: HostRuntime) -> Result<(), AllocError> {
     for (tokens, is) in [
         ("", true),

@@ -1,6 +1,6 @@
-use Rattle.std.proofs.Common.{◌≡◌, get_or, arith, refl, sym, ◌∙◌, ap}
+use Rattle.std.proofs.Common.{◌≡◌, get_or, arith, refl, sym, ◌∙◌}
 use Rattle.std.proofs.lemmas.Bool.{false≢true}
-use Rattle.s2cell.specs.Cell.{first_leaf, size_of, IsInside}
+use Rattle.s2cell.specs.Cell.{IsInside}
 use Rattle.s2union.proofs.Packing.{read_at}
 use Rattle.s2union.proofs.Checking.{packed_from_local}
 use Rattle.s2union.proofs.Comparing.{covering_on, covering_run, covering_fails, covering_ends, covering_done}

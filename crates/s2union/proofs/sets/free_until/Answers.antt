@@ -1,5 +1,5 @@
 use Rattle.std.proofs.Common.{◌≡◌, get_or, arith, refl, ap}
-use Rattle.s2cell.specs.Cell.{first_leaf, size_of}
+use Rattle.s2cell.specs.Cell.{first_leaf}
 use Rattle.s2union.proofs.Packing.{read_at}
 use Rattle.s2union.proofs.Checking.{packed_from_local}
 use Rattle.s2union.proofs.Finding.{ended_to}
