@@ -13,14 +13,28 @@ pub mod dir_shelf;
 pub mod fault;
 pub mod laws;
 pub mod memory_shelf;
+mod parts;
+pub mod session;
+pub mod session_file;
 pub mod shelf;
 pub mod union_file;
 
 pub use crate::dir_shelf::DirShelf;
 pub use crate::fault::FileFault;
 pub use crate::memory_shelf::MemoryShelf;
+pub use crate::session::{Move, Session, SessionFault};
+pub use crate::session_file::{decode_session, encode_session};
 pub use crate::shelf::{Shelf, ShelfFault};
 pub use crate::union_file::{decode, encode};
+
+/// How many registers a session file has.
+pub const SESSION_REGISTERS: usize = 26;
+
+/// The most cells that a list of a session file has.
+pub const SESSION_CELLS: usize = 1_000_000;
+
+/// The most changes that a session file has, past and future together.
+pub const SESSION_CHANGES: usize = 10_000;
 
 #[cfg(test)]
 mod tests;

@@ -1,5 +1,6 @@
 //! Worked examples of the file format, and shelves that hold files and fail.
 mod format;
+mod sessions;
 mod shelves;
 
 use std::alloc::{AllocError, Global};
