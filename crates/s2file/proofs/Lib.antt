@@ -4,3 +4,8 @@ pub mod Files
 pub mod Texts
 pub mod Beginnings
 pub mod Known
+pub mod Fronts
+pub mod SessionReading
+pub mod SessionRows
+pub mod Spelled
+pub mod Apart

@@ -1,1 +1,3 @@
 pub mod File
+pub mod Session
+pub mod SessionParts

@@ -1,8 +1,10 @@
 //! What follows for union files from their definitions, and the way back from bytes to a union.
-ghost use Rattle.std.specs.Prelude.{◌≡◌, ◌≢◌, ◌<◌, ◌≤◌, ℕ, Bool, List, [], ◌∷◌, ◌++◌, length, take, replicate, MatchResult};
+ghost use Rattle.std.specs.Prelude.{◌≡◌, ◌≢◌, ◌<◌, ◌≤◌, ℕ, Bool, List, [], ◌∷◌, ◌++◌, length, take, drop, replicate, MatchResult};
 ghost use Rattle.s2union.specs.Union.{has_leaf};
 ghost use Rattle.s2file.specs.declared.union_file.TheConstants.{MOST_CELLS, MOST_SIZE};
 ghost use Rattle.s2file.specs.File.{File, Faults, file_text, Bytes};
+ghost use Rattle.s2file.specs.Session.{Content, Spells, session_text, content_of_list};
+ghost use Rattle.s2file.specs.SessionParts.{one_change};
 ghost use Rattle.s2file.specs.declared.fault.FileFault.{FileFault as Fault};
 
 use crate::fault::FileFault;
@@ -24,6 +26,19 @@ pub fn beginning_decides()
     ensures longest { (bytes : List ℕ) (S : ℕ → Bool) → File bytes S → length bytes ≤ MOST_SIZE }
     ensures file { (bytes : List ℕ) (n : ℕ) (S : ℕ → Bool) → MOST_SIZE < n → File (take n bytes) S → File bytes S }
     ensures fault { (bytes : List ℕ) (n : ℕ) (fault : Fault) → MOST_SIZE < n → fault ≢ FileFault.Memory → Faults (take n bytes) fault → Faults bytes fault }
+{}
+
+/// Bytes spell one session at most.
+pub fn one_session()
+    ensures { (bytes : List ℕ) (s t : Content) → Spells bytes s → Spells bytes t → s ≡ t }
+{}
+
+/// The files of an untouched editor, of 226 bytes, and of one after `1` went into register a, of 259.
+pub fn known_sessions()
+    ensures untouched { length (session_text (content_of_list [])) ≡ 226 }
+    ensures one_change { length (session_text one_change) ≡ 259 }
+    ensures one_change_begins { take 26 (session_text one_change) ≡ 0x73 ∷ 1 ∷ 1 ∷ 0 ∷ 0 ∷ 0 ∷ 0 ∷ 0 ∷ 0 ∷ 0 ∷ 0 ∷ 0 ∷ 0 ∷ 0 ∷ 0 ∷ 0 ∷ 0 ∷ 0x10 ∷ 0 ∷ 0 ∷ 0 ∷ 0 ∷ 0 ∷ 0 ∷ 0 ∷ 0 ∷ [] }
+    ensures one_change_ends { drop 218 (session_text one_change) ≡ 1 ∷ 0 ∷ 0 ∷ 0 ∷ 0 ∷ 0 ∷ 0 ∷ 0 ∷ 0 ∷ 0 ∷ 0 ∷ 0 ∷ 0 ∷ 0 ∷ 0 ∷ 0 ∷ 0 ∷ 1 ∷ 0 ∷ 0 ∷ 0 ∷ 0 ∷ 0 ∷ 0 ∷ 0 ∷ 0 ∷ 0 ∷ 0 ∷ 0 ∷ 0 ∷ 0 ∷ 0 ∷ 0x10 ∷ 0 ∷ 0 ∷ 0 ∷ 0 ∷ 0 ∷ 0 ∷ 0 ∷ 0 ∷ [] }
 {}
 
 /// Equal sets of leaves have equal bytes.

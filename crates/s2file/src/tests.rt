@@ -1,5 +1,6 @@
 //! Worked examples of the file format.
 mod format;
+mod sessions;
 
 use std::alloc::{AllocError, Global};
 

@@ -11,13 +11,13 @@ use s2union::{CellUnion, normalise};
 use std::alloc::{AllocError, Global};
 
 /// The byte that a file begins with.
-const VERSION: u8 = 1;
+pub(crate) const VERSION: u8 = 1;
 
 /// The version and the count: how many bytes stand before the identifiers.
 const HEAD_SIZE: usize = 9;
 
 /// The size of a number, in bytes.
-const NUMBER_SIZE: usize = 8;
+pub(crate) const NUMBER_SIZE: usize = 8;
 
 /// How many identifiers a file may hold: the greatest count that `decode` takes.
 pub const MOST_CELLS: u64 = 1_000_000;
@@ -87,7 +87,7 @@ fn cells_of(alloc: Global, bytes: &[u8]) -> Result<Vec<CellId>, FileFault>
 
 /// The number that the first eight bytes stand for.
 #[tactic(auto, unfolding(crate::specs::File::first_number))]
-fn number(bytes: &[u8]) -> u64
+pub(crate) fn number(bytes: &[u8]) -> u64
     requires { 8 ≤ length bytes.now }
     ensures { result ≡ first_number bytes.now }
 {
@@ -119,7 +119,7 @@ pub fn encode(alloc: Global, union: &CellUnion) -> Result<Vec<u8>, AllocError>
 
 /// Adds the eight bytes of a number.
 #[tactic(auto, unfolding(crate::specs::File::number_text))]
-fn put_number(bytes: &mut Vec<u8>, number: u64) -> Result<(), AllocError>
+pub(crate) fn put_number(bytes: &mut Vec<u8>, number: u64) -> Result<(), AllocError>
     ensures { OnOk result (bytes.new.items ≡ bytes.old.items ++ number_text number) }
 {
     let mut text = [0u8; NUMBER_SIZE];

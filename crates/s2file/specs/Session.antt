@@ -1,0 +1,103 @@
+-- The session file: the lists of the registers, and the changes of both sides of their history. Counts and identifiers take
+-- eight bytes each, the lowest first.
+use Rattle.std.specs.Prelude.{◌≡◌, ℕ, ◌+◌, ◌-◌, ◌<◌, ◌≤◌, ◌⊎◌, Bool, true, false, List, [], ◌∷◌, ◌++◌, length, map, replicate, All, flat_map}
+use Rattle.std.specs.List.{AllByRecursion}
+use Rattle.std.specs.List.Sorted.{IsStrictlyIncreasing}
+use Rattle.s2cell.specs.Cell.{IsCell}
+use Rattle.s2union.specs.Union.{Union, has_leaf, IsLocal}
+use Rattle.s2union.specs.Apply.{has}
+use Rattle.s2file.specs.File.{number_text, File}
+use Rattle.s2file.specs.declared.TheConstants.{SESSION_REGISTERS, SESSION_CELLS, SESSION_CHANGES}
+use Rattle.s2file.specs.declared.session.Move.{Move}
+use Rattle.s2file.specs.declared.session.Session.{Session}
+
+-- a change of one register: the register's number, the cells that are taken out of its list, and those that are put in
+pub record Moved : Type 0 where
+  pub register : ℕ
+  pub out : List ℕ
+  pub put : List ℕ
+
+-- what a session tells: the list of each register, the changes of the past, oldest first, and those of the future, nearest first
+pub record Content : Type 0 where
+  pub registers : List (List ℕ)
+  pub past : List Moved
+  pub future : List Moved
+
+-- a list of cells: how many, and the identifier of each
+abbrev pub list_text : List ℕ → List ℕ
+list_text cells = number_text (length cells) ++ flat_map number_text cells
+
+-- a change: a byte for the register, the cells that are taken out, and those that are put in
+abbrev pub move_text : Moved → List ℕ
+move_text m = m.register ∷ (list_text m.out ++ list_text m.put)
+
+-- changes: how many, and one after another
+abbrev pub moves_text : List Moved → List ℕ
+moves_text ms = number_text (length ms) ++ flat_map move_text ms
+
+-- the registers, the past and the future
+abbrev pub parts_text : Content → List ℕ
+parts_text s = flat_map list_text s.registers ++ (moves_text s.past ++ moves_text s.future)
+
+-- the file: the bytes 73 and 01, and the parts
+abbrev pub session_text : Content → List ℕ
+session_text s = 0x73 ∷ 1 ∷ parts_text s
+
+-- a list that a session may have in a register
+pub record IsRegisterList (cells : List ℕ) : Type 0 where
+  pub local : IsLocal cells
+  pub few : length cells ≤ SESSION_CELLS
+
+-- a list that a change may have
+pub record IsChangeList (cells : List ℕ) : Type 0 where
+  pub valid : All IsCell cells
+  pub ascending : IsStrictlyIncreasing cells
+  pub few : length cells ≤ SESSION_CELLS
+
+-- no cell is in both lists
+abbrev pub AreApart : List ℕ → List ℕ → Type 0
+AreApart out put = (x : ℕ) → has out x ≡ true → has put x ≡ false
+
+-- a change that a session may have: its lists ascend, share no cell, and are not both empty
+pub record IsMoved (m : Moved) : Type 0 where
+  pub register : m.register < SESSION_REGISTERS
+  pub out : IsChangeList m.out
+  pub put : IsChangeList m.put
+  pub apart : AreApart m.out m.put
+  pub some : 0 < length m.out + length m.put
+
+-- what a session may tell, all but that its changes can be made one after another
+pub record IsContent (s : Content) : Type 0 where
+  pub count : length s.registers ≡ SESSION_REGISTERS
+  pub registers : AllByRecursion IsRegisterList s.registers
+  pub past : AllByRecursion IsMoved s.past
+  pub future : AllByRecursion IsMoved s.future
+  pub few : length s.past + length s.future ≤ SESSION_CHANGES
+
+-- register a has the list, all others are empty, and nothing was changed
+abbrev pub content_of_list : List ℕ → Content
+content_of_list cells = record { registers = cells ∷ replicate (SESSION_REGISTERS - 1) []; past = []; future = [] }
+
+-- the bytes are a session file that tells `s`
+pub record IsSessionFile (bytes : List ℕ) (s : Content) : Type 0 where
+  pub content : IsContent s
+  pub text : bytes ≡ session_text s
+
+-- the bytes are a union file, of whose leaves register a has the normalised list
+pub record IsUnionFile (bytes : List ℕ) (s : Content) : Type 0 where
+  pub cells : List ℕ
+  pub local : IsLocal cells
+  pub file : File bytes (has_leaf cells)
+  pub content : s ≡ content_of_list cells
+
+-- the bytes spell the session
+abbrev pub Spells : List ℕ → Content → Type 0
+Spells bytes s = IsSessionFile bytes s ⊎ IsUnionFile bytes s
+
+-- the change that a `Move` stands for
+abbrev pub moved_of : Move → Moved
+moved_of m = record { register = m.register; out = m.out.items; put = m.put.items }
+
+-- what a `Session` tells
+abbrev pub content_of : Session → Content
+content_of s = record { registers = map (λ (u : Union). u.cells) s.registers.items; past = map moved_of s.past.items; future = map moved_of s.future.items }
