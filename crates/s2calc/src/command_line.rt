@@ -26,7 +26,7 @@ pub fn job(alloc: Global, words: Vec<String>) -> Result<Job, Stop>
     }
     if let Some(check) = matches.subcommand_matches("check") {
         return Ok(Job::Check {
-            dir: text(alloc, check, "dir")?,
+            dir: folder(alloc, check)?,
             name: text(alloc, check, "FILE")?,
         });
     }
@@ -45,7 +45,7 @@ fn run_job(alloc: Global, run: &ArgMatches<'_>) -> Result<Job, Stop>
     Ok(Job::Run {
         limit,
         depth,
-        dir: text(alloc, run, "dir")?,
+        dir: folder(alloc, run)?,
     })
 }
 
@@ -53,6 +53,15 @@ fn is_within(n: usize, most: usize) -> bool
     ensures { IsTrue result ↔ ((1 ≤ n) × (n ≤ most)) }
 {
     n >= 1 && n <= most
+}
+
+/// The path of the folder. An empty one, which would name the root folder, is refused.
+fn folder(alloc: Global, matches: &ArgMatches<'_>) -> Result<String, Stop> {
+    let path = text(alloc, matches, "dir")?;
+    if path.is_empty() {
+        return Err(Stop::Usage);
+    }
+    Ok(path)
 }
 
 /// The word of an argument.

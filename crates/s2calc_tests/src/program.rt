@@ -60,7 +60,7 @@ fn words_that_ask_for_a_run(rt: HostRuntime) -> Result<(), Fail> {
             10_000,
             "-x",
         ),
-        (&["run", "--dir", "", "--limit=1", "--depth", "1"], 1, 1, ""),
+        (&["run", "--dir", "/", "--limit=1", "--depth", "1"], 1, 1, "/"),
         (
             &["run", "--limit", "+5", "--depth", "007", "--dir", "--limit"],
             5,
@@ -122,6 +122,7 @@ fn words_that_ask_for_nothing(rt: HostRuntime) -> Result<(), Fail> {
         &["--limit", "5", "run"],
         &["run", "--depth", "0"],
         &["run", "--depth", "10001"],
+        &["run", "--dir", ""],
         &["run", "--dir"],
         &["run", "--colour"],
         &["run", "run"],
