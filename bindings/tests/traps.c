@@ -49,10 +49,12 @@ static void arguments_out_of_range(void) {
   CHECK(s2u_denormalised_len(&face, 1, 31, 1, &many) == S2U_ARGUMENT && many == 0);
 }
 
+typedef int32_t set_call(const uint64_t*, size_t, const uint64_t*, size_t, uint64_t*, size_t, size_t*);
+
 static void lists_that_are_no_union(void) {
   uint64_t out[4] = {7, 7, 7, 7}, many = 77;
   size_t len = 77;
-  int32_t (*sets[])(const uint64_t*, size_t, const uint64_t*, size_t, uint64_t*, size_t, size_t*) = {s2u_union, s2u_intersection, s2u_difference};
+  set_call* sets[] = {s2u_union, s2u_intersection, s2u_difference};
   for (int k = 0; k < 3; k++) {
     CHECK(sets[k](unordered, 2, &face, 1, out, 4, &len) == S2U_NO_UNION && len == 0 && out[0] == 7);
     CHECK(sets[k](&face, 1, unordered, 2, out, 4, &len) == S2U_NO_UNION && len == 0 && out[0] == 7);
