@@ -20,7 +20,7 @@ use Rattle.s2calc.specs.Edits.{Gets, Moves}
 use Rattle.s2calc.specs.Fetch.{FetchesUnion}
 use Rattle.s2calc.specs.Step.{Loads, Saves, Acts, StepBy}
 use Rattle.s2calc.specs.Run.{Steps}
-use Rattle.s2calc.specs.Laws.{is_failure}
+use Rattle.s2calc.specs.Laws.{is_of_shelf, is_failure}
 use Rattle.s2calc.proofs.FetchLemmas.{union_keeps}
 
 tells_no_failure : (P : Type 0) (x : Reply) → Tells P x → is_failure x ≡ false
