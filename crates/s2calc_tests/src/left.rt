@@ -3,7 +3,7 @@ use crate::every_command::FILES;
 use crate::narrow::Narrow;
 use crate::pieces::Pieces;
 use s2calc::{RunFault, Tally, run, run_promptly};
-use s2edit::{Change, Editor, Register};
+use s2edit::{Change, Editor, REGISTERS, Register};
 use s2file::{MemoryShelf, Shelf};
 use std::alloc::Global;
 use std::test::Fail;
@@ -100,8 +100,8 @@ impl Left {
 
 /// Whether two editors have the same registers, past and future.
 fn are_same(editor: &Editor, other: &Editor) -> bool {
-    for letter in b'a'..=b'h' {
-        if let Some(register) = Register::from_letter(letter) {
+    for number in 0..REGISTERS as u8 {
+        if let Some(register) = Register::from_letter(b'a' + number) {
             if editor.register(register).cells() != other.register(register).cells() {
                 return false;
             }
