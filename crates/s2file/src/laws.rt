@@ -20,8 +20,8 @@ pub fn one_reading()
     ensures one_fault { (bytes : List ℕ) (fault other : Fault) → Faults bytes fault → Faults bytes other → fault ≢ FileFault.Memory → other ≢ FileFault.Memory → fault ≡ other }
 {}
 
-/// Whoever has more than `MOST_SIZE` bytes of a text needs no others: where these are all there is or a beginning, the
-/// text is a file of a set if they are, and has each fault that they have.
+/// A text is judged by its first `n` bytes if `n` is more than `MOST_SIZE`: it is a file of each set that they are a file
+/// of, and has each fault that they have, out of memory aside. A file is never longer than `MOST_SIZE`.
 pub fn beginning_decides()
     ensures longest { (bytes : List ℕ) (S : ℕ → Bool) → File bytes S → length bytes ≤ MOST_SIZE }
     ensures file { (bytes : List ℕ) (n : ℕ) (S : ℕ → Bool) → MOST_SIZE < n → File (take n bytes) S → File bytes S }
