@@ -5,7 +5,7 @@
 #include "sides.h"
 #include "table.h"
 
-// How many times more a side is to work so that these take some 30 milliseconds.
+// How many times more a side is to work so that these take well more than what it does once for all of them.
 static uint32_t repeats(const std::function<void(uint32_t)>& work) {
   auto time_of = [&](uint32_t times) {
     auto start = std::chrono::steady_clock::now();
@@ -14,7 +14,7 @@ static uint32_t repeats(const std::function<void(uint32_t)>& work) {
   };
   double once = std::min(time_of(1), time_of(1));
   uint32_t more = 2;
-  while (more < 1000000 && time_of(1 + more) - once < 30) more *= 4;
+  while (more < 1000000 && time_of(1 + more) < 4 * once + 20) more *= 4;
   return more;
 }
 

@@ -7,8 +7,8 @@ use s2cell::CellId;
 
 /// How many cells of an ascending list have an identifier below `mark`, where the first `from` have.
 ///
-/// It leaps on from there, each leap twice as long as the one before, and searches what the last leap passed over. So
-/// it takes a number of steps that is logarithmic in how far it gets, however long the list is.
+/// It leaps on from there, each leap eight times as long as the one before, and searches what the last leap passed
+/// over. So it takes a number of steps that is logarithmic in how far it gets, however long the list is.
 pub(crate) fn gallop(cells: &[CellId], from: usize, mark: u64) -> usize
     requires ascends { IsStrictlyIncreasing cells.now }
     requires within { from ≤ length cells.now }
@@ -20,7 +20,7 @@ pub(crate) fn gallop(cells: &[CellId], from: usize, mark: u64) -> usize
     let mut leap = 1;
     while leap <= cells.len() - low && cells[low + (leap - 1)].id() < mark {
         low += leap;
-        leap *= 2;
+        leap = leap.saturating_mul(8);
     }
     let high = if leap <= cells.len() - low {
         low + (leap - 1)

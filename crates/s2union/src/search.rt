@@ -95,8 +95,27 @@ pub(crate) fn find(cells: &[CellId], lo: u64) -> usize
     without_last(cells, 0, begun, lo)
 }
 
-/// The same where the first `from` are known to end by it. Logarithmic in how many more do.
+/// The same where the first `from` are known to end by it. Logarithmic in how many more do, and one look when none does.
+#[inline(always)]
 pub(crate) fn find_from(cells: &[CellId], from: usize, lo: u64) -> usize
+    requires packed { IsPacked cells.now }
+    requires leaf { lo ≤ 6 * 4 ^ 30 }
+    requires within { from ≤ length cells.now }
+    requires behind { Behind cells.now from lo }
+    ensures from { from ≤ result }
+    ensures within { result ≤ length cells.now }
+    ensures behind { Behind cells.now result lo }
+    ensures next { result < length cells.now → lo < first_leaf (slice_index cells.now result) + size_of (slice_index cells.now result) }
+{
+    if from < cells.len() && cells[from].end_leaf() <= lo {
+        leap_from(cells, from, lo)
+    } else {
+        from
+    }
+}
+
+/// The same where more may end by it.
+fn leap_from(cells: &[CellId], from: usize, lo: u64) -> usize
     requires packed { IsPacked cells.now }
     requires leaf { lo ≤ 6 * 4 ^ 30 }
     requires within { from ≤ length cells.now }

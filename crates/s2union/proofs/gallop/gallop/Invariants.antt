@@ -1,11 +1,11 @@
-use Rattle.std.proofs.Common.{◌≡◌, ◌≤◌, ◌<◌, ◌+◌, ◌-◌, ℕ, length, get_or}
+use Rattle.std.proofs.Common.{◌≤◌, ◌<◌, ◌-◌, ℕ, length, get_or}
 use Rattle.s2union.proofs.gallop.gallop.Given as goal
 
 abbrev pub invariant-loop-leap : goal.invariant-loop-leap
 invariant-loop-leap l = record {
   from : l.from ≤ l.low;
   within : l.low ≤ length l.cells;
-  leap : l.leap ≡ l.low - l.from + 1;
+  leap : 0 < l.leap;
   below : (k : ℕ) → k < l.low → get_or l.cells k 0 < l.mark;
 }
 
