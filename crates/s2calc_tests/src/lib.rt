@@ -1,11 +1,14 @@
 //! Worked scripts, run over a reader that cuts its bytes, a writer that takes few at a time, and a shelf.
 //!
 //! Modules: `pieces` (the reader), `narrow` (the writer), `every_command` (a script with every command), and the tests:
-//! `scripts` (worked scripts), `files` (scripts that read and write files), `program` (the program's own calls). What fails is
+//! `scripts` (worked scripts), `files` (scripts that read and write files), `program` (the program's own calls),
+//! `example` (that of README.md). What fails is
 //! in the crate `s2calc_faults`.
 #![tactic(auto)]
 
 mod every_command;
+#[cfg(test)]
+mod example;
 #[cfg(test)]
 mod files;
 mod narrow;

@@ -60,7 +60,12 @@ fn words_that_ask_for_a_run(rt: HostRuntime) -> Result<(), Fail> {
             10_000,
             "-x",
         ),
-        (&["run", "--dir", "/", "--limit=1", "--depth", "1"], 1, 1, "/"),
+        (
+            &["run", "--dir", "/", "--limit=1", "--depth", "1"],
+            1,
+            1,
+            "/",
+        ),
         (
             &["run", "--limit", "+5", "--depth", "007", "--dir", "--limit"],
             5,
