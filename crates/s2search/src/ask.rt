@@ -1,5 +1,5 @@
 //! Whether cells that lie somewhere have the leaves of a cell, or of other cells.
-ghost use Rattle.std.specs.Prelude.{◌≡◌, ◌<◌, ◌≤◌, ◌↔◌, IsTrue, All, length, slice_index};
+ghost use Rattle.std.specs.Prelude.{◌<◌, ◌↔◌, IsTrue, All, length, slice_index};
 ghost use Rattle.s2cell.specs.Cell.{IsCell, IsInside, covers, first_leaf};
 ghost use Rattle.s2union.specs.Union.{IsLocal, IsWithin, ShareSome, has_leaf};
 

@@ -1,5 +1,5 @@
 //! The place of a leaf among cells that follow each other.
-ghost use Rattle.std.specs.Prelude.{◌≡◌, ◌+◌, ◌<◌, ◌≤◌, ◌↔◌, IsTrue, length, slice_index};
+ghost use Rattle.std.specs.Prelude.{◌+◌, ◌<◌, ◌≤◌, ◌↔◌, IsTrue, length, slice_index};
 ghost use Rattle.s2cell.specs.Cell.{IsCell, first_leaf, size_of};
 ghost use Rattle.s2union.specs.Packed.{IsPacked, Behind};
 ghost use Rattle.s2search.specs.Search.{IsFrom};

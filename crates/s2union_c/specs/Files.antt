@@ -1,5 +1,5 @@
 -- Union files of any number of cells: their frame, the numbers in them, and what is wrong with other bytes.
-use Rattle.std.specs.Prelude.{◌≡◌, ◌≢◌, ℕ, ◌+◌, ◌*◌, ◌<◌, ◌≤◌, ◌⊎◌, ℤ, List, All, length, drop, slice_index}
+use Rattle.std.specs.Prelude.{◌≡◌, ◌≢◌, ℕ, ◌+◌, ◌*◌, ◌<◌, ◌⊎◌, ℤ, List, All, length, drop, slice_index}
 use Rattle.s2cell.specs.Cell.{IsCell}
 use Rattle.s2file.specs.File.{HasHead, HasVersion, stated_count}
 use Rattle.s2search.specs.Numbers.{numbers}

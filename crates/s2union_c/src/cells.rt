@@ -1,5 +1,5 @@
 //! Cells: any number is taken, and 0, which is no cell, is answered if there is none.
-ghost use Rattle.std.specs.Prelude.{◌≡◌, ◌+◌, ◌-◌, ◌*◌, ◌^◌, ◌<◌, ◌≤◌, ◌↔◌, ◌⊎◌, ℕ, pos, MatchOption};
+ghost use Rattle.std.specs.Prelude.{◌≡◌, ◌+◌, ◌-◌, ◌*◌, ◌^◌, ◌<◌, ◌≤◌, ◌⊎◌, pos, MatchOption};
 ghost use Rattle.s2cell.specs.Cell.{IsCell, IsInside, ShareLeaf, child_of, face_of, first_leaf, level_of, parent_of, size_of};
 ghost use Rattle.s2cell.specs.Curve.{IsPlaceOf};
 ghost use Rattle.s2cell.specs.Neighbours.{IsCommonAncestor, IsFirst, IsLast, IsNext};

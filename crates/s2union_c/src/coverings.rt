@@ -1,5 +1,5 @@
 //! The coverings of rectangles and of unions at one level.
-ghost use Rattle.std.specs.Prelude.{◌≡◌, ◌<◌, ◌≤◌, ◌⊎◌, ℕ, List, IfSome, SomeIff, length, min};
+ghost use Rattle.std.specs.Prelude.{◌<◌, ◌≤◌, ◌⊎◌, ℕ, List, SomeIff, length, min};
 ghost use Rattle.s2union.specs.Union.{IsLocal, IsNormalForm, has_leaf};
 ghost use Rattle.s2cover.specs.Coverings.{inner_set, outer_set};
 ghost use Rattle.s2cover.specs.Rectangles.{IsRect, Rect, rect_set};

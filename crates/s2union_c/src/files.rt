@@ -4,7 +4,7 @@ ghost use Rattle.std.specs.Prelude.{◌≡◌, ◌*◌, ◌^◌, ◌<◌, ◌≤
 ghost use Rattle.s2cell.specs.Cell.{IsCell, covers};
 ghost use Rattle.s2union.specs.Union.{IsLocal, IsNormalForm, IsWithin, ShareSome, has_leaf};
 ghost use Rattle.s2union.specs.Count.{count_below};
-ghost use Rattle.s2file.specs.File.{file_text, stated_count};
+ghost use Rattle.s2file.specs.File.{file_text};
 ghost use Rattle.s2union_c.specs.Files.{IsCellFile, IsFrameFault, IsFramed, file_ids};
 ghost use Rattle.s2union_c.specs.Results.{Made, MadeOne, Refused};
 ghost use Rattle.s2union_c.specs.Status.{Answers, IsAnswer, bad_argument, made, no_cell, no_memory, no_union, wrong_cell};

@@ -1,5 +1,5 @@
 //! The operations on two unions.
-ghost use Rattle.std.specs.Prelude.{◌≡◌, ◌↔◌, IsTrue};
+ghost use Rattle.std.specs.Prelude.{◌↔◌, IsTrue};
 ghost use Rattle.s2union.specs.Sets.{either, shared, without};
 ghost use Rattle.s2union.specs.Union.{IsLocal, IsNormalForm, has_leaf};
 ghost use Rattle.s2union_c.specs.Results.{MadeOne, Refused};

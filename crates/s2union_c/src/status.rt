@@ -1,5 +1,5 @@
 //! The statuses that calls answer: 0 or more is an answer, below 0 a refusal.
-ghost use Rattle.std.specs.Prelude.{◌≡◌, ◌↔◌, IsTrue};
+ghost use Rattle.std.specs.Prelude.{◌≡◌, IsTrue};
 ghost use Rattle.s2union_c.specs.Status.{no, yes};
 
 /// What was asked for was made.

@@ -1,5 +1,4 @@
-use Rattle.std.proofs.Common.{◌≡◌, ◌+◌, ◌-◌, ◌/◌, ◌<◌, ◌≤◌, length, get_or, arith}
-use Rattle.s2cell.specs.Cell.{first_leaf, size_of}
+use Rattle.std.proofs.Common.{◌+◌, ◌-◌, ◌/◌, ◌<◌, length, arith}
 use Rattle.s2search.proofs.Finding.{later, from_up, from_down, from_met}
 use Rattle.s2search.proofs.find.find_between.Goals as goal
 

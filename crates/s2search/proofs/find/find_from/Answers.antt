@@ -1,6 +1,5 @@
-use Rattle.std.proofs.Common.{◌≡◌, ◌+◌, ◌<◌, ◌≤◌, length, get_or, arith}
-use Rattle.s2cell.specs.Cell.{first_leaf, size_of}
-use Rattle.s2union.specs.Packed.{Behind, IsPacked}
+use Rattle.std.proofs.Common.{◌≡◌, ◌+◌, ◌<◌, length, arith}
+use Rattle.s2union.specs.Packed.{Behind}
 use Rattle.s2search.specs.Search.{IsFrom}
 use Rattle.s2search.proofs.Finding.{later, behind_up}
 use Rattle.s2search.proofs.find.find_from.Goals as goal

@@ -1,5 +1,4 @@
 use Rattle.std.proofs.Common.{◌≡◌, ◌+◌, ◌*◌, ◌^◌, ◌<◌, ◌≤◌, take, length, get_or, refl, sym, arith}
-use Rattle.std.proofs.lemmas.List.{take_all}
 use Rattle.s2cell.specs.Cell.{IsCell, size_of}
 use Rattle.s2cell.proofs.CellLemmas.{cell_leaves}
 use Rattle.s2union.specs.Union.{has_leaf}

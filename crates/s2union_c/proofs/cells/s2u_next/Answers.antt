@@ -1,5 +1,4 @@
-use Rattle.std.proofs.Common.{ℕ, ◌≡◌, ◌+◌, ◌*◌, ◌^◌, ◌<◌, ap, arith}
-use Rattle.s2cell.specs.Cell.{IsCell, level_of, place_of}
+use Rattle.std.proofs.Common.{ℕ, ◌*◌, ◌^◌, ap, arith}
 use Rattle.s2cell.specs.Neighbours.{IsNext, IsLast}
 use Rattle.s2cell.proofs.CellLemmas.{own_place}
 use Rattle.s2union_c.proofs.cells.s2u_next.Goals as goal

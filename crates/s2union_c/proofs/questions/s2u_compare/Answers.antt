@@ -1,4 +1,4 @@
-use Rattle.std.proofs.Common.{◌≡◌, ◌<◌, ◌≤◌, length, sym, ◌∙◌, arith}
+use Rattle.std.proofs.Common.{sym, ◌∙◌, arith}
 use Rattle.s2union_c.proofs.Ordering.{shorter_at, longer_at}
 use Rattle.s2union_c.proofs.questions.s2u_compare.Goals as goal
 

@@ -1,4 +1,4 @@
-use Rattle.std.proofs.Common.{rules, ◌≡◌, ◌<◌, length, arith}
+use Rattle.std.proofs.Common.{rules, ◌<◌, length}
 use Rattle.std.specs.Prelude.{slice_index}
 use Rattle.s2cell.specs.Cell.{IsCell, covers}
 use Rattle.s2union.specs.Union.{IsWithin, has_leaf}
