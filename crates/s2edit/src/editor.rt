@@ -32,13 +32,13 @@ pub enum EditFault {
 /// and at most `depth` changes.
 #[derive(Drop)]
 pub struct Editor {
-    alloc: Global,
-    limit: usize,
-    depth: usize,
-    registers: Vec<CellUnion>,
-    scratch: CellUnion,
-    past: HeapCircularBuffer<Change>,
-    future: HeapCircularBuffer<Change>,
+    pub(crate) alloc: Global,
+    pub(crate) limit: usize,
+    pub(crate) depth: usize,
+    pub(crate) registers: Vec<CellUnion>,
+    pub(crate) scratch: CellUnion,
+    pub(crate) past: HeapCircularBuffer<Change>,
+    pub(crate) future: HeapCircularBuffer<Change>,
 }
 
 impl Model for Editor {
@@ -56,13 +56,13 @@ impl Model for Editor {
 
 impl Editor {
     /// An editor with empty registers and no history, which lets a register have at most `limit` cells (1 to
-    /// 1,000,000) and keeps at most `depth` states (1 to 1,000).
+    /// 1,000,000) and keeps at most `depth` states (1 to 10,000).
     ///
     /// Takes at once the memory that registers, undo and redo need from then on: room for `limit` cells for
     /// each register and once more, and two rings of `depth` changes.
     pub fn open(alloc: Global, limit: usize, depth: usize) -> Result<Editor, AllocError>
         requires limit { (1 ≤ limit) × (limit ≤ 1000000) }
-        requires depth { (1 ≤ depth) × (depth ≤ 1000) }
+        requires depth { (1 ≤ depth) × (depth ≤ 10000) }
         ensures { IfOk result (λ e. e ≡ untouched limit depth (replicate REGISTERS [])) }
     {
         let past = HeapCircularBuffer::with_capacity(alloc, depth)?;
@@ -247,7 +247,7 @@ fn are_same(cells: &[CellId], others: &[CellId]) -> bool
 
 /// Takes cells out of a register's list and puts others in, by way of the scratch list, with which the
 /// register's list is exchanged.
-fn rewrite(
+pub(crate) fn rewrite(
     registers: &mut Vec<CellUnion>,
     scratch: &mut CellUnion,
     register: Register,

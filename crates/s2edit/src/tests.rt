@@ -1,4 +1,6 @@
 //! Worked examples of edits and of their history.
+mod sessions;
+
 use crate::{Change, Edit, EditFault, EditTally, Editor, Register, run_edits};
 use s2cell::CellId;
 use s2union::{CellUnion, normalise};
@@ -55,11 +57,12 @@ fn is_change(
 }
 
 #[test]
-fn eight_letters_name_registers(rt: HostRuntime) {
+fn lower_case_letters_name_registers(rt: HostRuntime) {
     for (letter, number) in [
         (b'a', Some(0)),
         (b'h', Some(7)),
-        (b'i', None),
+        (b'z', Some(25)),
+        (b'{', None),
         (b'A', None),
         (b'`', None),
         (0, None),
