@@ -11,3 +11,9 @@ pub mod Runs
 pub mod Replay
 pub mod OneEnd
 pub mod SetRuns
+pub mod Telling
+pub mod Contents
+pub mod Following
+pub mod Restoring
+pub mod Saving
+pub mod Spelling

@@ -5,6 +5,7 @@ use Rattle.s2edit.specs.Diff.{inverse}
 use Rattle.s2edit.specs.Chain.{history, lists_of, AllWithin, AllRoomy, FitAlong}
 use Rattle.s2edit.specs.declared.editor.Editor.TheInside.{Inside}
 use Rattle.s2edit.specs.declared.TheConstants.{REGISTERS, MOST_CELLS}
+use Rattle.s2file.specs.declared.TheConstants.{SESSION_CHANGES}
 
 -- the history that a contract sees
 abbrev pub history_of : Inside → History (List ℕ)
@@ -14,6 +15,7 @@ history_of e = history e.limit e.depth e.registers.items e.past.items e.future.i
 -- and the changes of either side can be made one after another, from the present table on.
 pub record IsEditor (e : Inside) : Type 0 where
   pub limit_bound : e.limit ≤ MOST_CELLS
+  pub depth_most : e.depth ≤ SESSION_CHANGES
   pub count : length e.registers.items ≡ REGISTERS
   pub past_room : e.past.capacity ≡ e.depth
   pub future_room : e.future.capacity ≡ e.depth

@@ -6,3 +6,6 @@ pub mod Change
 pub mod Editor
 pub mod Laws
 pub mod Edits
+pub mod Session
+pub mod Following
+pub mod SessionLaws

@@ -1,11 +1,14 @@
 //! Changes of a register.
 ghost use Rattle.std.specs.Prelude.{◌≡◌, [], IfOk, IsOk, ◌↔◌, IsTrue};
+ghost use Rattle.s2file.specs.Session.{moved_of, IsMoved};
 ghost use Rattle.s2edit.specs.Diff.{FitsList};
+ghost use Rattle.s2edit.specs.Session.{diff};
 ghost use Rattle.s2edit.specs.Laws.{LawOfChanges};
 
 use crate::lacking::lacking;
 use crate::register::Register;
 use s2cell::CellId;
+use s2file::Move;
 use s2union::CellUnion;
 use std::alloc::{AllocError, Global};
 use std::marker::Model;
@@ -70,6 +73,19 @@ impl Change {
             out: Vec::new(alloc),
             put: new.into_cells(),
         })
+    }
+
+    /// The change that a session tells, with its lists.
+    pub(crate) fn of_move(change: Move) -> Change
+        requires { IsMoved (moved_of change) }
+        ensures { result ≡ diff (moved_of change) }
+    {
+        let Move { register, out, put } = change;
+        Change {
+            register: Register::at(register),
+            out,
+            put,
+        }
     }
 
     /// The change that takes this one back: the two lists, exchanged. Takes no memory.

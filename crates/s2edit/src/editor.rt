@@ -32,13 +32,13 @@ pub enum EditFault {
 /// and at most `depth` changes.
 #[derive(Drop)]
 pub struct Editor {
-    alloc: Global,
-    limit: usize,
-    depth: usize,
-    registers: Vec<CellUnion>,
-    scratch: CellUnion,
-    past: HeapCircularBuffer<Change>,
-    future: HeapCircularBuffer<Change>,
+    pub(crate) alloc: Global,
+    pub(crate) limit: usize,
+    pub(crate) depth: usize,
+    pub(crate) registers: Vec<CellUnion>,
+    pub(crate) scratch: CellUnion,
+    pub(crate) past: HeapCircularBuffer<Change>,
+    pub(crate) future: HeapCircularBuffer<Change>,
 }
 
 impl Model for Editor {
@@ -249,7 +249,7 @@ fn are_same(cells: &[CellId], others: &[CellId]) -> bool
 
 /// Takes cells out of a register's list and puts others in, by way of the scratch list, with which the
 /// register's list is exchanged.
-fn rewrite(
+pub(crate) fn rewrite(
     registers: &mut Vec<CellUnion>,
     scratch: &mut CellUnion,
     register: Register,

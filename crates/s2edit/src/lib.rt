@@ -12,11 +12,13 @@ mod editor;
 mod edits;
 mod lacking;
 mod register;
+mod session;
 
 pub use change::{Change, law_of_changes};
 pub use editor::{EditFault, Editor};
 pub use edits::{Edit, EditTally, Outcome, law_of_runs, run_edits};
 pub use register::Register;
+pub use session::{RestoreFault, law_of_sessions};
 
 /// How many registers there are, named by the letters from `a` on.
 pub const REGISTERS: usize = 26;

@@ -36,6 +36,14 @@ impl Register {
         }
     }
 
+    /// The register of a number.
+    pub(crate) fn at(number: u8) -> Register
+        requires { number < REGISTERS }
+        ensures { result ≡ number }
+    {
+        Register { number }
+    }
+
     /// Its number, which is the place of its union in the table of registers.
     pub fn index(self) -> usize
         ensures value { result ≡ self }

@@ -1,4 +1,6 @@
 //! Worked examples of edits and of their history.
+mod sessions;
+
 use crate::{
     Change, Edit, EditFault, EditTally, Editor, MOST_STATES, REGISTERS, Register, run_edits,
 };

@@ -57,6 +57,13 @@ impl CellUnion {
         self.cells.len()
     }
 
+    /// For how many cells its list has room.
+    pub fn room(&self) -> usize
+        ensures { result ≡ self.now.room }
+    {
+        self.cells.capacity()
+    }
+
     /// Whether it has no cell, and so no leaf.
     pub fn is_empty(&self) -> bool
         ensures { IsTrue result ↔ (self.now.cells ≡ []) }

@@ -39,7 +39,7 @@ fn sessions_have_one_file(rt: HostRuntime) -> Result<(), Fail> {
         (
             file_of(alloc, NOTHING, 25, "0000000000000000 0000000000000000")?,
             226,
-            (0, 0, 0),
+            (0, 0),
         ),
         (
             file_of(
@@ -49,15 +49,14 @@ fn sessions_have_one_file(rt: HostRuntime) -> Result<(), Fail> {
                 "0100000000000000 00 0000000000000000 0100000000000000 0000000000000010 0000000000000000",
             )?,
             259,
-            (1, 1, 0),
+            (1, 0),
         ),
-        (moved_on(alloc)?, 308, (1, 1, 1)),
+        (moved_on(alloc)?, 308, (1, 1)),
     ];
-    for (bytes, size, (cells, past, future)) in &rows {
+    for (bytes, size, (past, future)) in &rows {
         assert_eq!(rt; bytes.len(), *size);
         let session = decode_session(alloc, bytes)?;
         assert_eq!(rt; session.registers.len(), 26);
-        assert_eq!(rt; session.registers[0].len(), *cells);
         assert_eq!(rt; session.past.len(), *past);
         assert_eq!(rt; session.future.len(), *future);
         assert_eq!(rt;
@@ -73,16 +72,11 @@ fn a_union_file_is_a_session_of_register_a(rt: HostRuntime) -> Result<(), Fail> 
     let alloc = rt.alloc();
     let text = "01 0300000000000000 000000000000000c 0000000000000004 0000000000000004";
     let session = decode_session(alloc, &bytes_of(alloc, text)?)?;
-    let cells = session.registers[0].cells();
-    assert!(rt;
-        cells
-            .iter()
-            .map(|cell| cell.id())
-            .eq([0x0400000000000000, 0x0c00000000000000])
-    );
-    assert_eq!(rt; session.registers.len(), 26);
-    assert!(rt;
-        session.registers[1].is_empty() && session.past.is_empty() && session.future.is_empty()
+    let two = "0200000000000000 0000000000000004 000000000000000c";
+    let file = file_of(alloc, two, 25, "0000000000000000 0000000000000000")?;
+    assert_eq!(rt;
+        encode_session(alloc, &session)?.as_slice(),
+        file.as_slice()
     );
     let behind = bytes_of(alloc, "01 0000000000000000 00")?;
     assert_eq!(rt;
@@ -194,25 +188,22 @@ fn every_beginning_and_every_change_of_one_byte_is_read_as_the_format_says(
     for len in 0..file.len() {
         assert!(rt; decode_session(alloc, &file[..len]).is_err(), "{len}");
     }
+    assert_eq!(rt; file.len(), 308);
     let mut taken = 0u32;
-    let mut text = moved_on(alloc)?;
-    for place in 0..file.len() {
-        let old = text[place];
+    for place in 0..308 {
         for change in 1..=255u8 {
-            text[place] = old.wrapping_add(change);
+            let mut text = [0u8; 308];
+            text.copy_from_slice(file.as_slice());
+            text[place] = text[place].wrapping_add(change);
             match decode_session(alloc, &text) {
                 Ok(session) => {
                     assert!(rt; is_session(&text), "{place} {change}");
-                    assert_eq!(rt;
-                        encode_session(alloc, &session)?.as_slice(),
-                        text.as_slice()
-                    );
+                    assert_eq!(rt; encode_session(alloc, &session)?.as_slice(), &text);
                     taken = taken.wrapping_add(1);
                 }
                 Err(_) => assert!(rt; !is_session(&text), "{place} {change}"),
             }
         }
-        text[place] = old;
     }
     assert!(rt; 25 < taken);
     Ok(())
@@ -303,9 +294,12 @@ fn value(bytes: &[u8]) -> u64 {
     sum
 }
 
-/// Whether the number is the identifier of a cell: on a face, and its lowest bit at an even place.
+/// Whether the number is the identifier of a cell: on a face, and its lowest bit at an even place, 60 at most.
 fn is_cell(id: u64) -> bool {
-    id != 0 && id < 6 << 61 && id.trailing_zeros() % 2 == 0
+    id != 0
+        && id < 0xc000_0000_0000_0000
+        && id.trailing_zeros() % 2 == 0
+        && id.trailing_zeros() <= 60
 }
 
 /// Whether each number is above the one before it.
@@ -325,7 +319,7 @@ fn is_normal(numbers: &[u8]) -> bool {
     let mut end = 0u64;
     for chunk in numbers.chunks_exact(8) {
         let id = value(chunk);
-        let half = 1u64 << id.trailing_zeros().min(63);
+        let half = id & id.wrapping_neg();
         if id.wrapping_sub(half) < end {
             return false;
         }

@@ -114,6 +114,7 @@ invariant_of-self-2 c =
     let w = rewritten_roomy c.self.inside.limit _ _ _ _ d (changes c).rewrites i.registers_roomy (omega (arith, c.copy_from.ensures.room, i.scratch_roomy)) in
     record {
       limit_bound = i.limit_bound;
+      depth_most = i.depth_most;
       count = rewritten_count c.self.inside.limit _ _ _ _ d (changes c).rewrites ∙ i.count;
       past_room = ap (λ (b : Buffer Diff). b.capacity) c.push_front.ensures.items ∙ i.past_room;
       future_room = ap (λ (b : Buffer Diff). b.capacity) c.clear.ensures ∙ i.future_room;

@@ -46,6 +46,7 @@ invariant_of-self-2 c =
     let w = rewritten_roomy c.self.inside.limit _ _ _ _ (change c) (rewrites c) i.registers_roomy i.scratch_roomy in
     record {
       limit_bound = i.limit_bound;
+      depth_most = i.depth_most;
       count = rewritten_count c.self.inside.limit _ _ _ _ (change c) (rewrites c) ∙ i.count;
       future_room = ap (λ (b : Buffer Diff). b.capacity) c.pop_front.ensures.items ∙ i.future_room;
       past_room = ap (λ (b : Buffer Diff). b.capacity) c.push_front.ensures.items ∙ i.past_room;

@@ -1,0 +1,281 @@
+-- Registers that are followed along changes.
+use Rattle.std.proofs.Common.{◌≡◌, ◌≢◌, ℕ, zero, suc, ◌+◌, ◌<◌, ◌≤◌, Bool, true, false, ◌&&◌, ltb, List, [], ◌∷◌, ◌++◌, length, map, take, drop, get_or, slice_get, slice_set, Some, add-one, drop-cons, refl, sym, ap, ◌∙◌, subst, arith}
+use Rattle.std.proofs.lemmas.Bool.{cond_both, false≢true, true≢false}
+use Rattle.std.proofs.lemmas.List.{length-set, length-map}
+use Rattle.s2union.specs.Union.{Union, IsLocal}
+use Rattle.s2union.specs.Apply.{has, cells_without, insert_cell, insert_cells, applied, Fits}
+use Rattle.s2union.proofs.Applied.{only_out, only_put}
+use Rattle.std.specs.List.{AllByRecursion}
+use Rattle.s2file.specs.Session.{Moved, IsMoved, moved_of}
+use Rattle.s2file.specs.declared.session.Move.{Move}
+use Rattle.s2edit.specs.declared.TheConstants.{REGISTERS}
+use Rattle.s2file.specs.declared.TheConstants.{SESSION_CELLS}
+use Rattle.s2edit.specs.History.{AllLists}
+use Rattle.s2edit.specs.Diff.{Diff}
+use Rattle.s2edit.specs.Leads.{list_at}
+use Rattle.s2edit.specs.Chain.{list_after, table_after, FitsTable, FitAlong, lists_of, AllWithin, AllRoomy, union_of}
+use Rattle.s2edit.specs.Following.{FailsToFollow, Follows, Steps, HaveRoom, KeepRoom}
+use Rattle.s2edit.specs.declared.session.RestoreFault.{RestoreFault}
+use Rattle.s2edit.specs.declared.session.RestoreFault.TheVariants.{Fit, TooDeep, TooMany, Memory}
+use Rattle.s2edit.proofs.Numbers.{cells_lost-self}
+use Rattle.s2edit.proofs.Tables.{AllWithin-at, within_after, lists_of-set, list_at-table_after, list_read}
+
+length-insert_cell : (x : ℕ) (u : List ℕ) → length (insert_cell x u) ≡ length u + 1
+length-insert_cell x [] = refl
+length-insert_cell x (y ∷ u) =
+    let rest = length-insert_cell x u in
+    cond_both (ltb x y) (x ∷ y ∷ u) (y ∷ insert_cell x u) (λ (l : List ℕ). length l ≡ length (y ∷ u) + 1) (λ _. omega arith) (λ _. omega arith)
+
+length-insert_cells : (xs u : List ℕ) → length (insert_cells xs u) ≡ length xs + length u
+length-insert_cells [] u = omega arith
+length-insert_cells (x ∷ xs) u = omega (arith, length-insert_cells xs (insert_cell x u), length-insert_cell x u)
+
+fewer_without : (us vs : List ℕ) → length (cells_without us vs) ≤ length us
+fewer_without [] vs = omega arith
+fewer_without (u ∷ us) vs =
+    let rest = fewer_without us vs in
+    cond_both (has vs u) (cells_without us vs) (u ∷ cells_without us vs) (λ (l : List ℕ). length l ≤ length (u ∷ us)) (λ _. omega arith) (λ _. omega arith)
+
+-- a change makes a list of no more cells than the list and those put in
+pub applied_most : (out put u : List ℕ) → length (applied out put u) ≤ length u + length put
+applied_most out put u = omega (arith, length-insert_cells put (cells_without u out), fewer_without u out)
+
+-- a change that isn't empty changes the list
+pub applied_differs : (out put u : List ℕ) → IsLocal u → Fits out put u → 0 < length out + length put → applied out put u ≢ u
+applied_differs out put u local f some e =
+    let none : length (cells_without u u) ≡ 0 = omega (arith, cells_lost-self (u ∷ [])) in
+    absurd (omega (arith, some, ap length (only_out out put u u local f e), ap length (only_put out put u u local local f e), none))
+
+-- one step
+module _ (us us' : List Union) (d : Diff) (room : ℕ) (a : AllWithin SESSION_CELLS (lists_of us)) (l : d.register < length (lists_of us))
+    (f : Fits d.out d.put (list_at (lists_of us) d.register)) (some : 0 < length d.out + length d.put)
+    (e : us' ≡ slice_set us d.register (union_of (applied d.out d.put (list_at (lists_of us) d.register)) room)) where
+  pub stepped : lists_of us' ≡ table_after (lists_of us) d
+  stepped = ap lists_of e ∙ lists_of-set us d.register (union_of (list_after (lists_of us) d) room)
+
+  pub stepped_list : list_at (lists_of us') d.register ≡ list_after (lists_of us) d
+  stepped_list = ap (λ (t : List (List ℕ)). list_at t d.register) stepped ∙ list_at-table_after (lists_of us) d l
+
+  fits_table : (n : ℕ) → length (list_after (lists_of us) d) ≤ n → FitsTable n (lists_of us) d
+  fits_table n few = record {
+    in_range = l;
+    fits = f;
+    few = few;
+    changes = applied_differs d.out d.put (list_at (lists_of us) d.register) (AllWithin-at SESSION_CELLS (lists_of us) d.register a l).local f some;
+  }
+
+  pub step_few : (limit : ℕ) → length (list_at (lists_of us') d.register) ≤ SESSION_CELLS → length (list_at (lists_of us') d.register) ≤ limit → Steps limit (lists_of us) d (lists_of us') true
+  step_few limit most few = record {
+    fit = fits_table SESSION_CELLS (omega (arith, most, ap length stepped_list));
+    few = λ _. fits_table limit (omega (arith, few, ap length stepped_list));
+    many = λ _. refl;
+    table = stepped;
+  }
+
+  pub step_many : (limit : ℕ) → length (list_at (lists_of us') d.register) ≤ SESSION_CELLS → limit < length (list_at (lists_of us') d.register) → Steps limit (lists_of us) d (lists_of us') false
+  step_many limit most many = record {
+    fit = fits_table SESSION_CELLS (omega (arith, most, ap length stepped_list));
+    few = λ h. absurd (false≢true h);
+    many = λ g. absurd (omega (arith, many, g.few, ap length stepped_list));
+    table = stepped;
+  }
+
+  pub step_long : SESSION_CELLS < length (list_at (lists_of us') d.register) → FitsTable SESSION_CELLS (lists_of us) d → ⊥
+  step_long long g = absurd (omega (arith, long, g.few, ap length stepped_list))
+
+-- a walk: the changes that are left can be made from here exactly where all can from the start
+pub record Walks (limit : ℕ) (t : List (List ℕ)) (ds : List Diff) (here : List (List ℕ)) (left : List Diff) (within : Bool) : Type 0 where
+  pub fit : FitAlong SESSION_CELLS here left → FitAlong SESSION_CELLS t ds
+  pub back : FitAlong SESSION_CELLS t ds → FitAlong SESSION_CELLS here left
+  pub few : within ≡ true → FitAlong limit here left → FitAlong limit t ds
+  pub many : FitAlong limit t ds → (within ≡ true) × FitAlong limit here left
+  pub lists : AllWithin SESSION_CELLS here
+
+pub walk_starts : (limit : ℕ) (t : List (List ℕ)) (ds : List Diff) → AllWithin SESSION_CELLS t → Walks limit t ds t ds true
+walk_starts limit t ds a = record { fit = λ f. f; back = λ f. f; few = λ _ f. f; many = λ f. (refl, f); lists = a }
+
+both_parts : (a b : Bool) → (a && b) ≡ true → (a ≡ true) × (b ≡ true)
+both_parts true b e = (refl, e)
+both_parts false b e = absurd (false≢true e)
+
+both_true : (a b : Bool) → a ≡ true → b ≡ true → (a && b) ≡ true
+both_true true b e f = f
+both_true false b e f = absurd (false≢true e)
+
+pub walk_steps : (limit : ℕ) (t : List (List ℕ)) (ds : List Diff) (here next : List (List ℕ)) (d : Diff) (left : List Diff) (within few : Bool)
+    → Walks limit t ds here (d ∷ left) within → Steps limit here d next few → Walks limit t ds next left (within && few)
+walk_steps limit t ds here next d left within few w s = record {
+  fit = λ f. w.fit (s.fit, subst (λ (u : List (List ℕ)). FitAlong SESSION_CELLS u left) s.table f);
+  back = λ f. subst (λ (u : List (List ℕ)). FitAlong SESSION_CELLS u left) (sym s.table) (w.back f).1;
+  few = λ e f. let p = both_parts within few e in w.few p.0 (s.few p.1, subst (λ (u : List (List ℕ)). FitAlong limit u left) s.table f);
+  many = λ f. let m = w.many f in (both_true within few m.0 (s.many m.1.0), subst (λ (u : List (List ℕ)). FitAlong limit u left) (sym s.table) m.1.1);
+  lists = subst (AllWithin SESSION_CELLS) (sym s.table) (within_after SESSION_CELLS here d w.lists s.fit);
+}
+
+pub walk_fails : (limit : ℕ) (t : List (List ℕ)) (ds : List Diff) (here : List (List ℕ)) (d : Diff) (left : List Diff) (within : Bool)
+    → Walks limit t ds here (d ∷ left) within → (FitsTable SESSION_CELLS here d → ⊥) → FitAlong SESSION_CELLS t ds → ⊥
+walk_fails limit t ds here d left within w none f = none (w.back f).0
+
+pub walk_ends : (limit : ℕ) (t : List (List ℕ)) (ds : List Diff) (here : List (List ℕ)) (left : List Diff) (within : Bool)
+    → Walks limit t ds here left within → left ≡ [] → Follows limit t ds within
+walk_ends limit t ds here left within w e = record {
+  fit = w.fit (subst (FitAlong SESSION_CELLS here) (sym e) tt);
+  few = λ h. w.few h (subst (FitAlong limit here) (sym e) tt);
+  many = λ f. (w.many f).0;
+}
+
+-- copies keep room
+pub keep_room : (limit : ℕ) (us vs : List Union) → KeepRoom us vs → AllRoomy limit us → AllRoomy limit vs
+keep_room limit [] [] k a = tt
+keep_room limit [] (v ∷ vs) k a = absurd k
+keep_room limit (u ∷ us) [] k a = absurd k
+keep_room limit (u ∷ us) (v ∷ vs) k a = (omega (arith, k.0, a.0), keep_room limit us vs k.1 a.1)
+
+-- the change that takes one back is one that a file may hold
+pub swapped : (m : Moved) → IsMoved m → IsMoved (record { register = m.register; out = m.put; put = m.out })
+swapped m g = record {
+  register = g.register;
+  out = g.put;
+  put = g.out;
+  apart = λ x h. not_true (has m.out x) (λ e. true≢false (sym h ∙ g.apart x e));
+  some = omega (arith, g.some);
+}
+  where
+    not_true : (b : Bool) → (b ≡ true → ⊥) → b ≡ false
+    not_true true n = absurd (n refl)
+    not_true false n = refl
+
+-- the next of the values that are left
+pub drop_next : {A : Type 0} (xs : List A) (i : ℕ) (x : A) → i < length xs → x ≡ get_or xs i x → drop i xs ≡ x ∷ drop (i + 1) xs
+drop_next {A} xs i x l e =
+    let h : drop i xs ≡ get_or xs i x ∷ drop (i + 1) xs = rw (add-one, drop-cons xs i x) refl in
+    h ∙ ap (λ (y : A). y ∷ drop (i + 1) xs) (sym e)
+
+-- a change whose lists were lent
+pub same_diff : (d e : Diff) → d.register ≡ e.register → d.out ≡ e.out → d.put ≡ e.put → d ≡ e
+same_diff d e r o p =
+    ap (λ (x : ℕ). record { register = x; out = d.out; put = d.put }) r
+    ∙ ap (λ (x : List ℕ). record { register = e.register; out = x; put = d.put }) o
+    ∙ ap (λ (x : List ℕ). record { register = e.register; out = e.out; put = x }) p
+
+-- a walk that fails
+pub fails : (fault : RestoreFault) (P Q : Type 0) → (Q → P) → FailsToFollow fault P → FailsToFollow fault Q
+fails Fit P Q f n = λ q. n (f q)
+fails TooDeep P Q f n = n
+fails TooMany P Q f n = n
+fails Memory P Q f n = tt
+
+-- as many registers as before
+pub steps_count : (limit : ℕ) (us us' : List Union) (d : Diff) (few : Bool) (n : ℕ) → Steps limit (lists_of us) d (lists_of us') few → length us ≡ n → length us' ≡ n
+steps_count limit us us' d few n s e =
+    sym (length-map us' (λ (u : Union). u.cells)) ∙ ap length s.table ∙ length-set (lists_of us) d.register (list_after (lists_of us) d)
+    ∙ length-map us (λ (u : Union). u.cells) ∙ e
+
+-- a register that is lent
+pub fits_read : (us : List Union) (i r : ℕ) (u : Union) (out put : List ℕ) → u ≡ get_or us i u → i ≡ r → i < length us → Fits out put u.cells → Fits out put (list_at (lists_of us) r)
+fits_read us i r u out put e f l g = subst (Fits out put) (sym (list_read us i r u e f l)) g
+
+-- room for lists that keep to the limit
+pub have_room : (limit : ℕ) (t : List (List ℕ)) (us : List Union) → length t ≡ length us → AllLists (λ u. length u ≤ limit) t → AllRoomy limit us → HaveRoom t us
+have_room limit [] [] l a r = tt
+have_room limit [] (u ∷ us) l a r = absurd (omega arith)
+have_room limit (t ∷ ts) [] l a r = absurd (omega arith)
+have_room limit (t ∷ ts) (u ∷ us) l a r = (omega (arith, a.0, r.0), have_room limit ts us (omega arith) a.1 r.1)
+
+-- a copy of a list that takes its place
+pub room_at : (t : List (List ℕ)) (us : List Union) (i : ℕ) (u : Union) → HaveRoom t us → i < length us → u ≡ get_or us i u → length (list_at t i) ≤ u.room
+room_at [] [] i u h l e = absurd (omega arith)
+room_at [] (v ∷ us) i u h l e = absurd h
+room_at (w ∷ t) [] i u h l e = absurd h
+room_at (w ∷ t) (v ∷ us) zero u h l e = subst (λ (x : Union). length w ≤ x.room) (sym e) h.0
+room_at (w ∷ t) (v ∷ us) (suc i) u h l e = room_at t us i u h.1 (omega arith) e
+
+pub have_count : (t : List (List ℕ)) (us : List Union) → HaveRoom t us → length t ≡ length us
+have_count [] [] h = refl
+have_count [] (u ∷ us) h = absurd h
+have_count (t ∷ ts) [] h = absurd h
+have_count (t ∷ ts) (u ∷ us) h = ap suc (have_count ts us h.1)
+
+pub keep_count : (us vs : List Union) → KeepRoom us vs → length us ≡ length vs
+keep_count [] [] h = refl
+keep_count [] (v ∷ vs) h = absurd h
+keep_count (u ∷ us) [] h = absurd h
+keep_count (u ∷ us) (v ∷ vs) h = ap suc (keep_count us vs h.1)
+
+pub keep_self : (us : List Union) → KeepRoom us us
+keep_self [] = tt
+keep_self (u ∷ us) = (omega arith, keep_self us)
+
+pub keep_set : (us vs : List Union) (i : ℕ) (u v : Union) → KeepRoom us vs → u ≡ get_or vs i u → u.room ≤ v.room → KeepRoom us (slice_set vs i v)
+keep_set [] [] i u v k e l = tt
+keep_set [] (w ∷ vs) i u v k e l = absurd k
+keep_set (x ∷ us) [] i u v k e l = absurd k
+keep_set (x ∷ us) (w ∷ vs) zero u v k e l = let same : u.room ≡ w.room = ap (λ (y : Union). y.room) e in (omega (arith, k.0, l, same), k.1)
+keep_set (x ∷ us) (w ∷ vs) (suc i) u v k e l = (k.0, keep_set us vs i u v k.1 e l)
+
+pub have_set : (t : List (List ℕ)) (vs : List Union) (i : ℕ) (u v : Union) → HaveRoom t vs → u ≡ get_or vs i u → u.room ≤ v.room → HaveRoom t (slice_set vs i v)
+have_set [] [] i u v k e l = tt
+have_set [] (w ∷ vs) i u v k e l = absurd k
+have_set (x ∷ t) [] i u v k e l = absurd k
+have_set (x ∷ t) (w ∷ vs) zero u v k e l = let same : u.room ≡ w.room = ap (λ (y : Union). y.room) e in (omega (arith, k.0, l, same), k.1)
+have_set (x ∷ t) (w ∷ vs) (suc i) u v k e l = (k.0, have_set t vs i u v k.1 e l)
+
+-- one more list that is copied
+pub copied_more : (t s : List (List ℕ)) (i : ℕ) → length s ≡ length t → i < length t → slice_set (take i t ++ drop i s) i (list_at t i) ≡ take (i + 1) t ++ drop (i + 1) s
+copied_more [] s i n l = absurd (omega arith)
+copied_more (x ∷ t) [] i n l = absurd (omega arith)
+copied_more (x ∷ t) (y ∷ s) zero n l = refl
+copied_more (x ∷ t) (y ∷ s) (suc i) n l =
+    let one : suc i + 1 ≡ suc (i + 1) = omega arith in
+    ap (λ (l' : List (List ℕ)). x ∷ l') (copied_more t s i (omega arith) (omega arith))
+    ∙ sym (ap (λ (k : ℕ). take k (x ∷ t) ++ drop k (y ∷ s)) one)
+
+-- a register's list is not too long
+pub old_most : (us : List Union) (i r : ℕ) (u : Union) → AllWithin SESSION_CELLS (lists_of us) → u ≡ get_or us i u → i ≡ r → i < length us → length u.cells ≤ SESSION_CELLS
+old_most us i r u a e f l =
+    let w = AllWithin-at SESSION_CELLS (lists_of us) r a (omega (arith, l, f, length-map us (λ (u : Union). u.cells))) in
+    omega (arith, ap length (list_read us i r u e f l), w.few)
+
+-- the step, as the code takes it
+module _ (us us' : List Union) (place i j r room : ℕ) (out put : List ℕ) (u v : Union) (count : length us ≡ REGISTERS) (a : AllWithin SESSION_CELLS (lists_of us))
+    (i_is : i ≡ place) (i_in : i < REGISTERS) (u_is : u ≡ get_or us i u) (p : place ≡ r) (f : Fits out put u.cells) (some : 0 < length out + length put)
+    (e : us' ≡ slice_set us place (union_of (applied out put (list_at (lists_of us) place)) room)) (j_is : j ≡ place) (v_is : v ≡ get_or us' j v) where
+  e_is : us' ≡ slice_set us r (union_of (applied out put (list_at (lists_of us) r)) room)
+  e_is = subst (λ (k : ℕ). us' ≡ slice_set us k (union_of (applied out put (list_at (lists_of us) k)) room)) p e
+
+  in_table : r < length (lists_of us)
+  in_table = omega (arith, i_is, p, i_in, count, length-map us (λ (u : Union). u.cells))
+
+  fits_it : Fits out put (list_at (lists_of us) r)
+  fits_it = fits_read us i r u out put u_is (i_is ∙ p) (omega (arith, i_in, count)) f
+
+  new_list : list_at (lists_of us') r ≡ v.cells
+  new_list = list_read us' j r v v_is (j_is ∙ p) (omega (arith, j_is, i_is, i_in, count, ap length e, length-set us place (union_of (applied out put (list_at (lists_of us) place)) room)))
+
+  pub takes_few : (limit : ℕ) → length v.cells ≤ SESSION_CELLS → length v.cells ≤ limit → Steps limit (lists_of us) (record { register = r; out = out; put = put }) (lists_of us') true
+  takes_few limit most few = step_few us us' (record { register = r; out = out; put = put }) room a in_table fits_it some e_is limit (omega (arith, most, ap length new_list)) (omega (arith, few, ap length new_list))
+
+  pub takes_many : (limit : ℕ) → length v.cells ≤ SESSION_CELLS → limit < length v.cells → Steps limit (lists_of us) (record { register = r; out = out; put = put }) (lists_of us') false
+  takes_many limit most many = step_many us us' (record { register = r; out = out; put = put }) room a in_table fits_it some e_is limit (omega (arith, most, ap length new_list)) (omega (arith, many, ap length new_list))
+
+  pub takes_long : SESSION_CELLS < length v.cells → FitsTable SESSION_CELLS (lists_of us) (record { register = r; out = out; put = put }) → ⊥
+  takes_long long = step_long us us' (record { register = r; out = out; put = put }) room a in_table fits_it some e_is (omega (arith, long, ap length new_list))
+
+-- a walk along moves, seen as changes one by one
+module _ (whole : List Move → List Diff) (one : Move → Diff) (cons : (m : Move) (ms : List Move) → whole (m ∷ ms) ≡ one m ∷ whole ms)
+    (limit : ℕ) (t : List (List ℕ)) (moves : List Move) (here : List (List ℕ)) (i : ℕ) (m : Move) (d : Diff) (within : Bool)
+    (l : i < length moves) (is : m ≡ get_or moves i m) (same : d ≡ one m) (w : Walks limit t (whole moves) here (whole (drop i moves)) within) where
+  pub walk_left : Walks limit t (whole moves) here (d ∷ whole (drop (i + 1) moves)) within
+  walk_left =
+      subst (λ (ds : List Diff). Walks limit t (whole moves) here ds within)
+      (ap whole (drop_next moves i m l is) ∙ cons m (drop (i + 1) moves) ∙ ap (λ (x : Diff). x ∷ whole (drop (i + 1) moves)) (sym same)) w
+
+  pub walk_on : (next : List (List ℕ)) (few : Bool) → Steps limit here d next few → Walks limit t (whole moves) next (whole (drop (i + 1) moves)) (within && few)
+  walk_on next few s = walk_steps limit t (whole moves) here next d (whole (drop (i + 1) moves)) within few walk_left s
+
+  pub walk_needs : FitAlong SESSION_CELLS t (whole moves) → FitsTable SESSION_CELLS here d
+  walk_needs g = (walk_left.back g).0
+
+pub each_next : (moves : List Move) (i : ℕ) (m : Move) → i < length moves → m ≡ get_or moves i m → AllByRecursion IsMoved (map moved_of (drop i moves))
+    → IsMoved (moved_of m) × AllByRecursion IsMoved (map moved_of (drop (i + 1) moves))
+each_next moves i m l is a = subst (λ (ms : List Move). AllByRecursion IsMoved (map moved_of ms)) (drop_next moves i m l is) a

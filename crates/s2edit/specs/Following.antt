@@ -1,0 +1,42 @@
+-- Registers that are followed along changes.
+use Rattle.std.specs.Prelude.{◌≡◌, ℕ, ◌≤◌, Bool, true, List, [], ◌∷◌, length, Result, Ok, Err, ◌↔◌}
+use Rattle.s2union.specs.Union.{Union}
+use Rattle.s2file.specs.declared.TheConstants.{SESSION_CELLS}
+use Rattle.s2edit.specs.Diff.{Diff}
+use Rattle.s2edit.specs.Chain.{FitsTable, FitAlong, table_after}
+use Rattle.s2edit.specs.declared.session.RestoreFault.{RestoreFault}
+use Rattle.s2edit.specs.declared.session.RestoreFault.TheVariants.{Fit, TooDeep, TooMany, Memory}
+
+-- a walk fails because of a change that can't be made, or for memory
+abbrev pub FailsToFollow : RestoreFault → Type 0 → Type 0
+FailsToFollow Fit P = P → ⊥
+FailsToFollow TooDeep P = ⊥
+FailsToFollow TooMany P = ⊥
+FailsToFollow Memory P = Unit {0}
+
+-- the changes can be made one after another, and `within` tells whether each list then keeps to the limit
+pub record Follows (limit : ℕ) (t : List (List ℕ)) (ds : List Diff) (within : Bool) : Type 0 where
+  pub fit : FitAlong SESSION_CELLS t ds
+  pub few : within ≡ true → FitAlong limit t ds
+  pub many : FitAlong limit t ds → within ≡ true
+
+-- the change was made, and `within` tells whether the new list keeps to the limit
+pub record Steps (limit : ℕ) (t : List (List ℕ)) (d : Diff) (t' : List (List ℕ)) (within : Bool) : Type 0 where
+  pub fit : FitsTable SESSION_CELLS t d
+  pub few : within ≡ true → FitsTable limit t d
+  pub many : FitsTable limit t d → within ≡ true
+  pub table : t' ≡ table_after t d
+
+-- each union has room for the list of its place
+abbrev pub HaveRoom : List (List ℕ) → List Union → Type 0
+HaveRoom [] [] = Unit {0}
+HaveRoom [] (v ∷ vs) = ⊥
+HaveRoom (u ∷ us) [] = ⊥
+HaveRoom (u ∷ us) (v ∷ vs) = (length u ≤ v.room) × HaveRoom us vs
+
+-- no union lost room
+abbrev pub KeepRoom : List Union → List Union → Type 0
+KeepRoom [] [] = Unit {0}
+KeepRoom [] (v ∷ vs) = ⊥
+KeepRoom (u ∷ us) [] = ⊥
+KeepRoom (u ∷ us) (v ∷ vs) = (u.room ≤ v.room) × KeepRoom us vs

@@ -1,0 +1,89 @@
+-- What a session tells of a history, and the bytes that stand for one.
+use Rattle.std.specs.Prelude.{◌≡◌, ℕ, ◌+◌, ◌<◌, ◌≤◌, Bool, List, [], ◌∷◌, length, map, reverse, Result, Ok, Err}
+use Rattle.s2union.specs.Union.{has_leaf}
+use Rattle.s2file.specs.Session.{Moved, Content, session_text, Spells}
+use Rattle.s2file.specs.declared.TheConstants.{SESSION_CELLS, SESSION_CHANGES}
+use Rattle.s2edit.specs.History.{History, EachList, sets}
+use Rattle.s2edit.specs.Diff.{Diff, inverse}
+use Rattle.s2edit.specs.Leads.{Leads}
+use Rattle.s2edit.specs.Chain.{IsWithin}
+use Rattle.s2edit.specs.declared.TheConstants.{REGISTERS}
+use Rattle.s2edit.specs.declared.session.RestoreFault.{RestoreFault}
+use Rattle.s2edit.specs.declared.session.RestoreFault.TheVariants.{Fit, TooDeep, TooMany, Memory}
+
+-- a change that a session tells, and a change as a session tells it
+abbrev pub diff : Moved → Diff
+diff m = record { register = m.register; out = m.out; put = m.put }
+
+abbrev pub moved : Diff → Moved
+moved d = record { register = d.register; out = d.out; put = d.put }
+
+-- changes lead to the table from the earlier ones, which both stand in order from the table back
+abbrev pub LeadBack : List Moved → List (List ℕ) → List (List (List ℕ)) → Type 0
+LeadBack [] t [] = Unit {0}
+LeadBack [] t (u ∷ us) = ⊥
+LeadBack (m ∷ ms) t [] = ⊥
+LeadBack (m ∷ ms) t (u ∷ us) = Leads (diff m) u t × LeadBack ms u us
+
+-- and from the table to the later ones
+abbrev pub LeadAhead : List Moved → List (List ℕ) → List (List (List ℕ)) → Type 0
+LeadAhead [] t [] = Unit {0}
+LeadAhead [] t (u ∷ us) = ⊥
+LeadAhead (m ∷ ms) t [] = ⊥
+LeadAhead (m ∷ ms) t (u ∷ us) = Leads (diff m) t u × LeadAhead ms u us
+
+-- The session tells the history: its registers are the present table, and its changes are those between neighbouring
+-- tables, the past oldest first, each in the one register that differs. Every list is normalised and not too long for a file.
+pub record Tells (s : Content) (h : History (List ℕ)) : Type 0 where
+  pub now : h.now ≡ s.registers
+  pub count : length h.now ≡ REGISTERS
+  pub past : LeadBack (reverse s.past) h.now h.past
+  pub future : LeadAhead s.future h.now h.future
+  pub lists : EachList (IsWithin SESSION_CELLS) h
+  pub few : length h.past + length h.future ≤ SESSION_CHANGES
+
+-- `Text(h)`: the bytes are the session file of the history
+pub record Text (h : History (List ℕ)) (bytes : List ℕ) : Type 0 where
+  pub content : Content
+  pub tells : Tells content h
+  pub is : bytes ≡ session_text content
+
+-- `Stored(b, h)`: the bytes spell a session, as a session file or a union file, that tells the history
+pub record Stored (bytes : List ℕ) (h : History (List ℕ)) : Type 0 where
+  pub content : Content
+  pub spells : Spells bytes content
+  pub tells : Tells content h
+
+-- the same of a history of tables of leaf sets
+pub record StoredSets (bytes : List ℕ) (h : History (ℕ → Bool)) : Type 0 where
+  pub lists : History (List ℕ)
+  pub stored : Stored bytes lists
+  pub are : h ≡ sets lists
+
+-- the history is the one that the session tells, in an editor of the same limit and depth, which it keeps to
+pub record Restored (s : Content) (old new : History (List ℕ)) : Type 0 where
+  pub tells : Tells s new
+  pub limit : new.limit ≡ old.limit
+  pub depth : new.depth ≡ old.depth
+  pub few : EachList (λ u. length u ≤ new.limit) new
+  pub kept : length new.past + length new.future ≤ new.depth
+
+-- it tells one, of more states than the editor keeps
+pub record IsTooDeep (s : Content) (editor : History (List ℕ)) : Type 0 where
+  pub history : History (List ℕ)
+  pub tells : Tells s history
+  pub deep : editor.depth < length history.past + length history.future
+
+-- it tells one that is not too deep, with a list of more cells than a register may have
+pub record IsTooMany (s : Content) (editor : History (List ℕ)) : Type 0 where
+  pub history : History (List ℕ)
+  pub tells : Tells s history
+  pub kept : length history.past + length history.future ≤ editor.depth
+  pub many : EachList (λ u. length u ≤ editor.limit) history → ⊥
+
+-- why a session is refused: the first of these that holds; memory may want for any of the answers
+abbrev pub RefusesSession : Content → History (List ℕ) → RestoreFault → Type 0
+RefusesSession s editor Fit = (h : History (List ℕ)) → Tells s h → ⊥
+RefusesSession s editor TooDeep = IsTooDeep s editor
+RefusesSession s editor TooMany = IsTooMany s editor
+RefusesSession s editor Memory = Unit {0}
