@@ -198,7 +198,10 @@ fn every_beginning_and_every_change_of_one_byte_is_read_as_the_format_says(
             match decode_session(alloc, &text) {
                 Ok(session) => {
                     assert!(rt; is_session(&text), "{place} {change}");
-                    assert_eq!(rt; encode_session(alloc, &session)?.as_slice(), &text);
+                    assert_eq!(rt;
+                        encode_session(alloc, &session)?.as_slice(),
+                        text.as_slice()
+                    );
                     taken = taken.wrapping_add(1);
                 }
                 Err(_) => assert!(rt; !is_session(&text), "{place} {change}"),
