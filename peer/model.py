@@ -14,6 +14,7 @@ TURN = (1, 0, 0, 3)
 REGISTERS = string.ascii_lowercase
 LONGEST_LINE = 4096
 MOST_IN_A_FILE = 1_000_000
+MOST_CHANGES = 10_000
 MOST_LISTED = 1_000_000
 
 
@@ -198,6 +199,119 @@ def read_file(text):
         return None
     cells = [cell_of(int.from_bytes(text[k : k + 8], "little")) for k in range(9, len(text), 8)]
     return None if None in cells else joined(run_of(cell) for cell in cells)
+
+
+# ---- session files
+
+
+def number_text(number):
+    return number.to_bytes(8, "little")
+
+
+def list_text(cells):
+    return number_text(len(cells)) + b"".join(number_text(identifier(cell)) for cell in cells)
+
+
+def change_text(old, new):
+    """The one register in which two tables differ, the cells that go out of its list, and those that are put in."""
+    (register,) = [r for r in REGISTERS if old[r] != new[r]]
+    before, after = normal_form(old[register]), normal_form(new[register])
+    out = [cell for cell in before if cell not in set(after)]
+    put = [cell for cell in after if cell not in set(before)]
+    return bytes([REGISTERS.index(register)]) + list_text(out) + list_text(put)
+
+
+def session_text(past, table, future):
+    """The file of a state; the past stands with the oldest table first, the future with the nearest first."""
+    earlier, later = past + [table], [table] + future
+    text = b"\x73\x01" + b"".join(list_text(normal_form(table[r])) for r in REGISTERS)
+    text += number_text(len(past)) + b"".join(change_text(*pair) for pair in zip(earlier, earlier[1:]))
+    return text + number_text(len(future)) + b"".join(change_text(*pair) for pair in zip(later, later[1:]))
+
+
+class NoSession(Exception):
+    """The bytes stand for no state."""
+
+
+class Bytes:
+    """The bytes of a session file, read from the front."""
+
+    def __init__(self, text):
+        self.text = text
+
+    def take(self, count):
+        if len(self.text) < count:
+            raise NoSession
+        taken, self.text = self.text[:count], self.text[count:]
+        return taken
+
+    def number(self):
+        return int.from_bytes(self.take(8), "little")
+
+    def cells(self):
+        count = self.number()
+        if count > MOST_IN_A_FILE:
+            raise NoSession
+        numbers = [self.number() for _ in range(count)]
+        cells = [cell_of(number) for number in numbers]
+        if None in cells or any(a >= b for a, b in zip(numbers, numbers[1:])):
+            raise NoSession
+        return cells
+
+    def change(self):
+        register = self.take(1)[0]
+        if register >= len(REGISTERS):
+            raise NoSession
+        out, put = self.cells(), self.cells()
+        if set(out) & set(put) or not out + put:
+            raise NoSession
+        return REGISTERS[register], out, put
+
+    def changes(self):
+        count = self.number()
+        if count > MOST_CHANGES:
+            raise NoSession
+        return [self.change() for _ in range(count)]
+
+
+def changed(table, register, out, put):
+    """The table in which the cells of the register's list are exchanged: a normal form again, and another one."""
+    cells = normal_form(table[register])
+    if not set(out) <= set(cells) or set(put) & set(cells):
+        raise NoSession
+    made = sorted(set(cells) - set(out) | set(put), key=identifier)
+    runs = joined(run_of(cell) for cell in made)
+    if normal_form(runs) != made or len(made) > MOST_IN_A_FILE:
+        raise NoSession
+    return {**table, register: runs}
+
+
+def read_session(text):
+    """Past, table and future of the state that a file stands for, or None."""
+    if text[:1] == b"\x01":
+        runs = read_file(text)
+        return None if runs is None else ([], {**{r: [] for r in REGISTERS}, "a": runs}, [])
+    try:
+        left = Bytes(text)
+        if left.take(2) != b"\x73\x01":
+            return None
+        table = {}
+        for register in REGISTERS:
+            cells = left.cells()
+            table[register] = joined(run_of(cell) for cell in cells)
+            if normal_form(table[register]) != cells:
+                return None
+        past_changes, future_changes = left.changes(), left.changes()
+        if left.text or len(past_changes) + len(future_changes) > MOST_CHANGES:
+            return None
+        past, future = [table], [table]
+        for register, out, put in reversed(past_changes):
+            past.insert(0, changed(past[0], register, put, out))
+        for register, out, put in future_changes:
+            future.append(changed(future[-1], register, out, put))
+        return past[:-1], table, future[1:]
+    except NoSession:
+        return None
 
 
 # ---- words
@@ -448,6 +562,32 @@ class Calculator:
         if name in self.files and self.files[name] is None:
             raise Refused("file")
         self.files[name] = file_text(self.table[register])
+        return ["ok"]
+
+    def do_dump(self, words):
+        name = words.name()
+        words.end()
+        if name in self.files and self.files[name] is None:
+            raise Refused("file")
+        self.files[name] = session_text(self.past, self.table, self.future)
+        return ["ok"]
+
+    def do_restore(self, words):
+        name = words.name()
+        words.end()
+        if name not in self.files:
+            raise Refused("missing")
+        if self.files[name] is None:
+            raise Refused("file")
+        state = read_session(self.files[name])
+        if state is None:
+            raise Refused("session")
+        past, table, future = state
+        if len(past) + len(future) > self.depth:
+            raise Refused("too-deep")
+        if any(len(normal_form(runs)) > self.limit for t in past + [table] + future for runs in t.values()):
+            raise Refused("too-many")
+        self.past, self.table, self.future = past, table, future
         return ["ok"]
 
     # Questions.

@@ -14,8 +14,8 @@ const DEPTH: usize = 3;
 /// The answer to a line that found no memory.
 const MEMORY: &[u8] = b"error memory\n";
 
-/// The commands that take memory: `save`, and the edits but for `undo` and `redo`.
-const TAKING: [&str; 15] = [
+/// The commands that take memory: those with files, and the edits but for `undo` and `redo`.
+const TAKING: [&str; 17] = [
     "add ",
     "remove ",
     "keep ",
@@ -31,6 +31,8 @@ const TAKING: [&str; 15] = [
     "innerof ",
     "load ",
     "save ",
+    "dump ",
+    "restore ",
 ];
 
 /// How a run ended, whether it had read a byte, and what it answered.
@@ -179,8 +181,8 @@ mod tests {
     }
 
     #[test]
-    fn one_refused_edit_or_save_is_permitted(rt: HostRuntime) -> Result<(), Fail> {
-        for command in ["add ", "load ", "innerof ", "save "] {
+    fn one_refused_edit_or_file_is_permitted(rt: HostRuntime) -> Result<(), Fail> {
+        for command in ["add ", "load ", "innerof ", "save ", "dump ", "restore "] {
             let left = refused_at(rt.alloc(), first_of(command)?)?;
             assert_eq!(rt; judged(rt.alloc(), &left), "refused in an answer");
         }

@@ -9,7 +9,7 @@ use Rattle.s2calc.specs.declared.refusal.Refusal.{Refusal}
 use Rattle.s2script.specs.declared.command.Question.{Question}
 use Rattle.s2script.specs.declared.command.Question.TheVariants.{Cell as OfCell, At, Square, Show, Count, Has, Touches, Compares, Denorm, History as Sides}
 use Rattle.s2script.specs.declared.command.Command.{Command}
-use Rattle.s2script.specs.declared.command.Command.TheVariants.{Edit, Load, Save, Undo, Redo, Ask}
+use Rattle.s2script.specs.declared.command.Command.TheVariants.{Edit, Load, Save, Dump, Restore, Undo, Redo, Ask}
 use Rattle.s2script.specs.declared.command.Parsed.{Parsed}
 use Rattle.s2script.specs.declared.command.Parsed.TheVariants.{Nothing as Silence, Does, Fails}
 use Rattle.s2script.specs.Line.{line_of}
@@ -18,7 +18,8 @@ use Rattle.s2calc.specs.Replies.{Reply, Refuses}
 use Rattle.s2calc.specs.Questions.{Tells, ListsSome, Answers}
 use Rattle.s2calc.specs.Edits.{Gets, Moves}
 use Rattle.s2calc.specs.Fetch.{FetchesUnion}
-use Rattle.s2calc.specs.Step.{Loads, Saves, Acts, StepBy}
+use Rattle.s2calc.specs.Sessions.{FetchesNoState}
+use Rattle.s2calc.specs.Step.{Loads, Writes, Restores, Acts, StepBy}
 use Rattle.s2calc.specs.Run.{Steps}
 use Rattle.s2calc.specs.Laws.{is_of_shelf, is_failure}
 use Rattle.s2calc.proofs.FetchLemmas.{union_keeps}
@@ -75,15 +76,31 @@ count_load : (r : ℕ) (name : List ℕ) (a c : World) (x : Reply) → a.files.f
 count_load r name a c x h (inl l) = stays a c x h (get_no_failure l.0 r a.state c.state x l.2) (union_keeps a.files c.files name l.0 l.1).1
 count_load r name a c x h (inr l) = count_refused name a c l.0 x h l.1 l.2
 
-count_save : (r : ℕ) (name : List ℕ) (a c : World) (x : Reply) → a.files.failures < 2 ^ 64 → Saves r name a x c → IsCounted a c x
-count_save r name a c x h (inl l) = stays a c x h (ap is_failure l.0) l.2.2.failures
-count_save r name a c x h (inr (inl l)) = rises a c x (ap is_failure l.0) l.2.failed
-count_save r name a c x h (inr (inr l)) = stays a c x h (ap is_failure l.0) l.2.1
+count_write : (P : List ℕ → Type 0) (name : List ℕ) (a c : World) (x : Reply) → a.files.failures < 2 ^ 64 → Writes P name a x c → IsCounted a c x
+count_write P name a c x h (inl l) = stays a c x h (ap is_failure l.0) l.2.2.failures
+count_write P name a c x h (inr (inl l)) = rises a c x (ap is_failure l.0) l.2.failed
+count_write P name a c x h (inr (inr l)) = stays a c x h (ap is_failure l.0) l.2.1
+
+-- a refusal that is told, of what was fetched
+count_no_state : (name : List ℕ) (a c : World) (refusal : Refusal) (x : Reply) → a.files.failures < 2 ^ 64 → FetchesNoState name a.files a.state refusal c.files → x ≡ Refuses refusal → IsCounted a c x
+count_no_state name a c refusal x h (inl (inl l)) e = stays a c x h (ap is_failure e ∙ ap is_of_shelf l.0) l.1.same.1
+count_no_state name a c refusal x h (inl (inr (inl l))) e = rises a c x (ap is_failure e ∙ ap is_of_shelf l.0) l.1.1
+count_no_state name a c refusal x h (inl (inr (inr l))) e = stays a c x h (ap is_failure e ∙ ap is_of_shelf l.0) l.1.1
+count_no_state name a c refusal x h (inr (bytes, fetched, inl l)) e = stays a c x h (ap is_failure e ∙ ap is_of_shelf l.0) fetched.same.1
+count_no_state name a c refusal x h (inr (bytes, fetched, inr (inl l))) e = stays a c x h (ap is_failure e ∙ ap is_of_shelf l.0) fetched.same.1
+count_no_state name a c refusal x h (inr (bytes, fetched, inr (inr (inl l)))) e = stays a c x h (ap is_failure e ∙ ap is_of_shelf l.0) fetched.same.1
+count_no_state name a c refusal x h (inr (bytes, fetched, inr (inr (inr l)))) e = stays a c x h (ap is_failure e ∙ ap is_of_shelf l) fetched.same.1
+
+count_restore : (name : List ℕ) (a c : World) (x : Reply) → a.files.failures < 2 ^ 64 → Restores name a x c → IsCounted a c x
+count_restore name a c x h (inl l) = stays a c x h (ap is_failure l.3) l.1.same.1
+count_restore name a c x h (inr l) = count_no_state name a c l.0 x h l.1 l.2
 
 count_act : (command : Command) (a c : World) (x : Reply) → a.files.failures < 2 ^ 64 → Acts command a x c → IsCounted a c x
 count_act (Edit r edit) a c x h l = stays a c x h (get_no_failure _ r a.state c.state x l.0) (ap (λ (f : Files). f.failures) l.1)
 count_act (Load r name) a c x h l = count_load r name a c x h l
-count_act (Save r name) a c x h l = count_save r name a c x h l
+count_act (Save r name) a c x h l = count_write _ name a c x h l
+count_act (Dump name) a c x h l = count_write _ name a c x h l
+count_act (Restore name) a c x h l = count_restore name a c x h l
 count_act Undo a c x h l = stays a c x h (move_no_failure _ a.state _ c.state _ x l.0) (ap (λ (f : Files). f.failures) l.1)
 count_act Redo a c x h l = stays a c x h (move_no_failure _ a.state _ c.state _ x l.0) (ap (λ (f : Files). f.failures) l.1)
 count_act (Ask question) a c x h l = stays a c x h (answer_no_failure question a.state x l.0) (ap (λ (w : World). w.files.failures) l.1)

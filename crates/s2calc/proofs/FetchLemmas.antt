@@ -17,7 +17,7 @@ pub record TellSame (a b : Files) : Type 0 where
   pub other : b.tells ≡ true
   pub at : (name : List ℕ) → a.at name ≡ b.at name
 
-turned : (a b : Files) → TellSame a b → TellSame b a
+pub turned : (a b : Files) → TellSame a b → TellSame b a
 turned a b s = record { one = s.other; other = s.one; at = λ name. sym (s.at name) }
 
 -- neither want of memory nor a failed shelf
@@ -57,16 +57,16 @@ refuses_whole content bytes n refusal h e (inr r) = inr r
 one_content : (a b c d : Files) (name : List ℕ) (x y : Option (List ℕ)) → TellSame a b → Finds a name x c → Finds b name y d → x ≡ y
 one_content a b c d name x y s l m = l.holds s.one ∙ s.at name ∙ sym (m.holds s.other)
 
-same_bytes : (a b c d : Files) (name xs ys : List ℕ) → TellSame a b → Fetches name a (Ok xs) c → Fetches name b (Ok ys) d → xs ≡ ys
+pub same_bytes : (a b c d : Files) (name xs ys : List ℕ) → TellSame a b → Fetches name a (Ok xs) c → Fetches name b (Ok ys) d → xs ≡ ys
 same_bytes a b c d name xs ys s l m = same_Some xs ys (one_content a b c d name (Some xs) (Some ys) s l m)
 
 -- a file that one shelf has the other hands over
-bytes_or_none : (a b c d : Files) (name xs : List ℕ) (y : Refusal) → TellSame a b → Fetches name a (Ok xs) c → Fetches name b (Err y) d → IsSettled y → ⊥
+pub bytes_or_none : (a b c d : Files) (name xs : List ℕ) (y : Refusal) → TellSame a b → Fetches name a (Ok xs) c → Fetches name b (Err y) d → IsSettled y → ⊥
 bytes_or_none a b c d name xs y s l (inl m) q = none-some xs (sym (one_content a b c d name (Some xs) None s l m.1))
 bytes_or_none a b c d name xs y s l (inr (inl m)) q = q.1 m.0
 bytes_or_none a b c d name xs y s l (inr (inr m)) q = q.0 m.0
 
-same_fetch_refusal : (a b c d : Files) (name : List ℕ) (x y : Refusal) → Fetches name a (Err x) c → Fetches name b (Err y) d → IsSettled x → IsSettled y → x ≡ y
+pub same_fetch_refusal : (a b c d : Files) (name : List ℕ) (x y : Refusal) → Fetches name a (Err x) c → Fetches name b (Err y) d → IsSettled x → IsSettled y → x ≡ y
 same_fetch_refusal a b c d name x y (inl l) (inl m) p q = l.0 ∙ sym m.0
 same_fetch_refusal a b c d name x y (inl l) (inr (inl m)) p q = absurd (q.1 m.0)
 same_fetch_refusal a b c d name x y (inl l) (inr (inr m)) p q = absurd (q.0 m.0)

@@ -9,6 +9,8 @@ pub mod OutputLemmas
 pub mod ReadLemmas
 pub mod RunLemmas
 pub mod ScriptLemmas
+pub mod SessionLemmas
 pub mod StepLemmas
 pub mod TakeInLemmas
+pub mod TextLemmas
 pub mod UndoLemmas

@@ -2,6 +2,7 @@
 use Rattle.std.proofs.Common.{◌≡◌, ◌≢◌, ℕ, ◌-◌, ◌^◌, ◌≤◌, ◌⊎◌, inl, inr, Bool, true, false, List, [], ◌∷◌, length, refl, sym, ap, ◌∙◌, subst, arith, Some}
 use Rattle.std.proofs.Math.Logic.{⊎_elim}
 use Rattle.std.proofs.lemmas.Bool.{false≢true}
+use Rattle.std.proofs.lemmas.Option.{same_Some, none-some}
 use Rattle.std.proofs.lemmas.Slice.Eq.{bytes_eq-Decides}
 use Rattle.std.specs.Str.{bytes_eq}
 use Rattle.s2cell.specs.Cell.{IsCell, level_of, first_leaf, size_of}
@@ -11,26 +12,32 @@ use Rattle.s2cell.proofs.Squares.{one_leaf, one_square}
 use Rattle.s2union.specs.Union.{IsNormalForm}
 use Rattle.s2union.proofs.Normal.{one_normal_form, normal_form_same}
 use Rattle.s2edit.specs.History.{History, Assigned, numbers, undone, redone, sets}
+use Rattle.s2edit.specs.Session.{Text}
+use Rattle.s2edit.specs.SessionLaws.{IsKept}
 use Rattle.s2edit.proofs.OneEnd.{is_there}
+use Rattle.s2edit.proofs.Spelling.{text_is_stored}
 use Rattle.s2shelf.specs.Shelf.{Files, SameFiles, PutsFile}
 use Rattle.s2file.specs.File.{Bytes, file_text}
 use Rattle.s2script.specs.declared.command.Question.{Question}
 use Rattle.s2script.specs.declared.command.Question.TheVariants.{Cell, At, Square, Show, Count, Has, Touches, Compares, Denorm, History as Sides}
 use Rattle.s2script.specs.declared.command.Command.{Command}
-use Rattle.s2script.specs.declared.command.Command.TheVariants.{Edit, Load, Save, Undo, Redo, Ask}
+use Rattle.s2script.specs.declared.command.Command.TheVariants.{Edit, Load, Save, Dump, Restore, Undo, Redo, Ask}
 use Rattle.s2script.specs.declared.command.Parsed.{Parsed}
 use Rattle.s2script.specs.declared.command.Parsed.TheVariants.{Nothing, Does, Fails}
 use Rattle.s2calc.specs.declared.refusal.Refusal.{Refusal}
 use Rattle.s2script.specs.Line.{line_of}
 use Rattle.s2calc.specs.World.{World}
 use Rattle.s2calc.specs.Replies.{Reply, Says, Refuses}
-use Rattle.s2calc.specs.Texts.{cell_line, square_line, ok_line}
+use Rattle.s2calc.specs.Texts.{cell_line, square_line, ok_line, done_line}
 use Rattle.s2calc.specs.Questions.{Tells, ListsSome, Answers}
 use Rattle.s2calc.specs.Edits.{new_set, leaves_of, IsTooLong, Gets, Moves}
-use Rattle.s2calc.specs.Step.{Loads, Saves, Acts, StepBy}
+use Rattle.s2calc.specs.Sessions.{TakesOver, RefusesBytes, FetchesNoState}
+use Rattle.s2calc.specs.Step.{Loads, Writes, Saves, Dumps, Restores, Acts, Step, StepBy}
 use Rattle.s2calc.specs.Run.{Steps}
 use Rattle.s2calc.specs.Laws.{SameWorld, IsPlain, AllPlain}
-use Rattle.s2calc.proofs.FetchLemmas.{TellSame, IsSettled, same_union, union_or_none, none_or_union, same_refusal, union_keeps, refusal_keeps, refusal_tells}
+use Rattle.s2calc.proofs.TextLemmas.{one_text_of}
+use Rattle.s2calc.proofs.SessionLemmas.{one_taken, taken_or_refused, fetched_or_not, one_failure, failure_keeps, failure_tells}
+use Rattle.s2calc.proofs.FetchLemmas.{TellSame, IsSettled, turned, same_bytes, same_union, union_or_none, none_or_union, same_refusal, union_keeps, refusal_keeps, refusal_tells}
 
 -- ---- questions
 
@@ -167,10 +174,10 @@ both_put a b c d name bytes other s (inl l) (inr m) = absurd (m.0 l.0)
 both_put a b c d name bytes other s (inr l) (inl m) = absurd (l.0 m.0)
 both_put a b c d name bytes other s (inr l) (inr m) = l.1 ∙ s other ∙ sym m.1
 
-one_save : (r : ℕ) (name : List ℕ) (a b c d : World) (x y : Reply) → SameWorld a b → a.files.tells ≡ true → Saves r name a x c → Saves r name b y d → IsPlain x → IsPlain y → (x ≡ y) × SameWorld c d
-one_save r name a b c d x y s t (inl l) (inl m) p q =
-    let text : Bytes (leaves_of a.state.now r) m.2.0 = subst (λ (st : History (List ℕ)). Bytes (leaves_of st.now r) m.2.0) (sym s.state) m.2.1 in
-    let bytes : m.2.0 ≡ l.2.0 = one_text (leaves_of a.state.now r) m.2.0 l.2.0 text l.2.1 in
+one_write : (P Q : List ℕ → Type 0) (name : List ℕ) (a b c d : World) (x y : Reply) → ((bytes others : List ℕ) → P bytes → Q others → bytes ≡ others) → SameWorld a b → a.files.tells ≡ true
+    → Writes P name a x c → Writes Q name b y d → IsPlain x → IsPlain y → (x ≡ y) × SameWorld c d
+one_write P Q name a b c d x y one s t (inl l) (inl m) p q =
+    let bytes : m.2.0 ≡ l.2.0 = sym (one l.2.0 m.2.0 l.2.1 m.2.1) in
     let told : b.files.tells ≡ true = sym s.tells ∙ t in
     let put : PutsFile b.files d.files name l.2.0 = subst (λ h. PutsFile b.files d.files name h) bytes m.2.2 in (
       l.0 ∙ sym m.0,
@@ -181,10 +188,42 @@ one_save r name a b c d x y s t (inl l) (inl m) p q =
         failures = l.2.2.failures ∙ s.failures ∙ sym m.2.2.failures;
       },
     )
-one_save r name a b c d x y s t (inl l) (inr (inl m)) p q = absurd (q.1 m.0)
-one_save r name a b c d x y s t (inl l) (inr (inr m)) p q = absurd (q.0 m.0)
-one_save r name a b c d x y s t (inr (inl l)) m p q = absurd (p.1 l.0)
-one_save r name a b c d x y s t (inr (inr l)) m p q = absurd (p.0 l.0)
+one_write P Q name a b c d x y one s t (inl l) (inr (inl m)) p q = absurd (q.1 m.0)
+one_write P Q name a b c d x y one s t (inl l) (inr (inr m)) p q = absurd (q.0 m.0)
+one_write P Q name a b c d x y one s t (inr (inl l)) m p q = absurd (p.1 l.0)
+one_write P Q name a b c d x y one s t (inr (inr l)) m p q = absurd (p.0 l.0)
+
+one_save : (r : ℕ) (name : List ℕ) (a b c d : World) (x y : Reply) → SameWorld a b → a.files.tells ≡ true → Saves r name a x c → Saves r name b y d → IsPlain x → IsPlain y → (x ≡ y) × SameWorld c d
+one_save r name a b c d x y s t l m p q =
+    one_write (Bytes (leaves_of a.state.now r)) (Bytes (leaves_of b.state.now r)) name a b c d x y
+    (λ bytes others f g. one_text (leaves_of a.state.now r) bytes others f (subst (λ (st : History (List ℕ)). Bytes (leaves_of st.now r) others) (sym s.state) g)) s t l m p q
+
+one_dump : (name : List ℕ) (a b c d : World) (x y : Reply) → SameWorld a b → a.files.tells ≡ true → Dumps name a x c → Dumps name b y d → IsPlain x → IsPlain y → (x ≡ y) × SameWorld c d
+one_dump name a b c d x y s t l m p q =
+    one_write (Text a.state) (Text b.state) name a b c d x y (λ bytes others f g. one_text_of a.state bytes others f (subst (λ (st : History (List ℕ)). Text st others) (sym s.state) g)) s t l m p q
+
+one_restored : (name : List ℕ) (a b c d : World) (x y : Reply) → SameWorld a b → TellSame a.files b.files → Restores name a x c → Restores name b y d → IsPlain x → IsPlain y → (x ≡ y) × SameWorld c d
+one_restored name a b c d x y s t (inl l) (inl m) p q =
+    let bytes : m.0 ≡ l.0 = sym (same_bytes a.files b.files c.files d.files name l.0 m.0 t l.1 m.1) in
+    let other : TakesOver l.0 a.state d.state = subst (λ (st : History (List ℕ)). TakesOver l.0 st d.state) (sym s.state) (subst (λ (xs : List ℕ). TakesOver xs b.state d.state) bytes m.2) in
+    (l.3 ∙ sym m.3, files_kept a b c d s t.one (one_taken l.0 a.state c.state d.state l.2 other) l.1.same m.1.same)
+one_restored name a b c d x y s t (inl l) (inr m) p q =
+    let fails : FetchesNoState name b.files a.state m.0 d.files = subst (λ (st : History (List ℕ)). FetchesNoState name b.files st m.0 d.files) (sym s.state) m.1 in
+    absurd (fetched_or_not a.files b.files c.files d.files name l.0 a.state c.state m.0 t l.1 l.2 fails (settled m.0 y m.2 q))
+one_restored name a b c d x y s t (inr l) (inl m) p q =
+    let fails : FetchesNoState name a.files b.state l.0 c.files = subst (λ (st : History (List ℕ)). FetchesNoState name a.files st l.0 c.files) s.state l.1 in
+    absurd (fetched_or_not b.files a.files d.files c.files name m.0 b.state d.state l.0 (turned a.files b.files t) m.1 m.2 fails (settled l.0 x l.2 p))
+one_restored name a b c d x y s t (inr l) (inr m) p q =
+    let one = settled l.0 x l.2 p in
+    let other = settled m.0 y m.2 q in
+    let fails : FetchesNoState name b.files a.state m.0 d.files = subst (λ (st : History (List ℕ)). FetchesNoState name b.files st m.0 d.files) (sym s.state) m.1 in
+    let refusal : l.0 ≡ m.0 = one_failure a.files b.files c.files d.files name a.state l.0 m.0 t l.1 fails one other in
+    let state : c.state ≡ d.state = l.3 ∙ s.state ∙ sym m.3 in
+    (l.2 ∙ ap (λ r. Refuses r) refusal ∙ sym m.2, files_kept a b c d s t.one state (failure_keeps _ _ name a.state l.0 l.1 one.1) (failure_keeps _ _ name a.state m.0 fails other.1))
+
+one_restore : (name : List ℕ) (a b c d : World) (x y : Reply) → SameWorld a b → a.files.tells ≡ true → Restores name a x c → Restores name b y d → IsPlain x → IsPlain y → (x ≡ y) × SameWorld c d
+one_restore name a b c d x y s t l m p q =
+    let same : TellSame a.files b.files = record { one = t; other = sym s.tells ∙ t; at = s.at } in one_restored name a b c d x y s same l m p q
 
 -- ---- lines
 
@@ -195,6 +234,8 @@ one_act (Edit r edit) a b c d x y s t l m p q =
     (same.0, files_stay a b c d s same.1 l.1 m.1)
 one_act (Load r name) a b c d x y s t l m p q = one_load r name a b c d x y s t l m p q
 one_act (Save r name) a b c d x y s t l m p q = one_save r name a b c d x y s t l m p q
+one_act (Dump name) a b c d x y s t l m p q = one_dump name a b c d x y s t l m p q
+one_act (Restore name) a b c d x y s t l m p q = one_restore name a b c d x y s t l m p q
 one_act Undo a b c d x y s t l m p q =
     let moves : Moves a.state.past a.state (undone a.state) (undone (sets a.state)) y d.state = subst (λ (st : History (List ℕ)). Moves st.past st (undone st) (undone (sets st)) y d.state) (sym s.state) m.0 in
     let same = one_move a.state.past a.state (undone a.state) c.state d.state (undone (sets a.state)) x y l.0 moves in
@@ -220,15 +261,21 @@ still_loads : (r : ℕ) (name : List ℕ) (a c : World) (x : Reply) → Loads r 
 still_loads r name a c x (inl l) = (union_keeps a.files c.files name l.0 l.1).0.tells
 still_loads r name a c x (inr l) = refusal_tells a.files c.files name l.0 l.1
 
-still_saves : (r : ℕ) (name : List ℕ) (a c : World) (x : Reply) → Saves r name a x c → c.files.tells ≡ a.files.tells
-still_saves r name a c x (inl l) = l.2.2.tells
-still_saves r name a c x (inr (inl l)) = l.2.tells
-still_saves r name a c x (inr (inr l)) = l.2.0.tells
+still_writes : (P : List ℕ → Type 0) (name : List ℕ) (a c : World) (x : Reply) → Writes P name a x c → c.files.tells ≡ a.files.tells
+still_writes P name a c x (inl l) = l.2.2.tells
+still_writes P name a c x (inr (inl l)) = l.2.tells
+still_writes P name a c x (inr (inr l)) = l.2.0.tells
+
+still_restores : (name : List ℕ) (a c : World) (x : Reply) → Restores name a x c → c.files.tells ≡ a.files.tells
+still_restores name a c x (inl l) = l.1.same.0.tells
+still_restores name a c x (inr l) = failure_tells a.files c.files name a.state l.0 l.1
 
 still_acts : (command : Command) (a c : World) (x : Reply) → Acts command a x c → c.files.tells ≡ a.files.tells
 still_acts (Edit r edit) a c x l = ap (λ (h : Files). h.tells) l.1
 still_acts (Load r name) a c x l = still_loads r name a c x l
-still_acts (Save r name) a c x l = still_saves r name a c x l
+still_acts (Save r name) a c x l = still_writes (Bytes (leaves_of a.state.now r)) name a c x l
+still_acts (Dump name) a c x l = still_writes (Text a.state) name a c x l
+still_acts (Restore name) a c x l = still_restores name a c x l
 still_acts Undo a c x l = ap (λ (h : Files). h.tells) l.1
 still_acts Redo a c x l = ap (λ (h : Files). h.tells) l.1
 still_acts (Ask question) a c x l = ap (λ (w : World). w.files.tells) l.1
@@ -249,3 +296,39 @@ one_run_of a b c d (line ∷ ls) (x ∷ rs) (y ∷ ss) s t l m p q =
     let told : l.0.files.tells ≡ true = still_tells (line_of line) a l.0 x l.1.by ∙ t in
     let rest = one_run_of l.0 m.0 c d ls rs ss one.1 told l.2 m.2 p.1 q.1 in
     (ap (λ r. r ∷ rs) one.0 ∙ ap (λ r. y ∷ r) rest.0, rest.1)
+
+-- ---- what was dumped comes back
+
+-- the bytes that a dump wrote, which the shelf then holds
+record Dumped (name : List ℕ) (a b : World) : Type 0 where
+  bytes : List ℕ
+  text : Text a.state bytes
+  there : b.files.at name ≡ Some bytes
+
+dumped : (name : List ℕ) (a b : World) (x : Reply) → a.files.tells ≡ true → Dumps name a x b → IsPlain x → Dumped name a b
+dumped name a b x t (inl l) p = record { bytes = l.2.0; text = l.2.1; there = l.2.2.there t }
+dumped name a b x t (inr (inl l)) p = absurd (p.1 l.0)
+dumped name a b x t (inr (inr l)) p = absurd (p.0 l.0)
+
+-- a file that is taken over is restored
+is_restored : (name bytes : List ℕ) (c d : World) (state : History (List ℕ)) (y : Reply) → c.files.tells ≡ true → c.files.at name ≡ Some bytes → TakesOver bytes c.state state
+    → Restores name c y d → IsPlain y → (y ≡ Says done_line) × (d.state ≡ state)
+is_restored name bytes c d state y t there f (inl l) p =
+    let same : l.0 ≡ bytes = same_Some l.0 bytes (l.1.holds t ∙ there) in
+    (l.3, one_taken bytes c.state d.state state (subst (λ (xs : List ℕ). TakesOver xs c.state d.state) same l.2) f)
+is_restored name bytes c d state y t there f (inr (refusal, inl (inl l), told, kept)) p = absurd (none-some bytes (l.1.holds t ∙ there))
+is_restored name bytes c d state y t there f (inr (refusal, inl (inr (inl l)), told, kept)) p = absurd ((settled refusal y told p).1 l.0)
+is_restored name bytes c d state y t there f (inr (refusal, inl (inr (inr l)), told, kept)) p = absurd ((settled refusal y told p).0 l.0)
+is_restored name bytes c d state y t there f (inr (refusal, inr l, told, kept)) p =
+    let same : l.0 ≡ bytes = same_Some l.0 bytes (l.1.holds t ∙ there) in
+    absurd (taken_or_refused bytes c.state state refusal f (subst (λ (xs : List ℕ). RefusesBytes xs c.state refusal) same l.2) (settled refusal y told p))
+
+pub gives_back : (a b c d : World) (line other name : List ℕ) (x y : Reply) → line_of line ≡ Does (Dump name) → line_of other ≡ Does (Restore name) → IsKept a.state
+    → Step a line x b → Step c other y d → a.files.tells ≡ true → c.files.tells ≡ true → c.files.at name ≡ b.files.at name
+    → c.state.limit ≡ a.state.limit → c.state.depth ≡ a.state.depth → IsPlain x → IsPlain y → (y ≡ Says done_line) × (d.state ≡ a.state)
+gives_back a b c d line other name x y e f kept s r t u at limit depth p q =
+    let dumps : StepBy (Does (Dump name)) a x b = subst (λ h. StepBy h a x b) e s.by in
+    let restores : StepBy (Does (Restore name)) c y d = subst (λ h. StepBy h c y d) f r.by in
+    let was = dumped name a b x t dumps p in
+    let back : TakesOver was.bytes c.state a.state = record { stored = text_is_stored was.bytes a.state was.text; limit = sym limit; depth = sym depth; kept = kept } in
+    is_restored name was.bytes c d a.state y u (at ∙ was.there) back restores q

@@ -7,7 +7,7 @@ use Rattle.s2edit.specs.Leads.{table_at}
 use Rattle.s2edit.proofs.OneEnd.{is_there}
 use Rattle.s2file.proofs.Texts.{same_bytes}
 use Rattle.s2script.specs.declared.command.Command.{Command}
-use Rattle.s2script.specs.declared.command.Command.TheVariants.{Edit, Load, Save, Undo, Redo, Ask}
+use Rattle.s2script.specs.declared.command.Command.TheVariants.{Edit, Load, Save, Dump, Restore, Undo, Redo, Ask}
 use Rattle.s2script.specs.declared.command.Parsed.TheVariants.{Does}
 use Rattle.s2script.specs.Line.{line_of}
 use Rattle.s2calc.specs.World.{World}
@@ -40,6 +40,8 @@ acts_gives : (command : Command) (old new : World) (reply : Reply) → GivesRegi
 acts_gives (Edit r edit) old new reply g h = gets_gives _ r old.state new.state reply h.0
 acts_gives (Load r name) old new reply g h = loads_gives r name old new reply h
 acts_gives (Save r name) old new reply g h = absurd g
+acts_gives (Dump name) old new reply g h = absurd g
+acts_gives (Restore name) old new reply g h = absurd g
 acts_gives Undo old new reply g h = absurd g
 acts_gives Redo old new reply g h = absurd g
 acts_gives (Ask question) old new reply g h = absurd g

@@ -1,12 +1,12 @@
 -- What the code keeps of a reply until it is written.
 use Rattle.std.specs.Prelude.{ℕ, List, Bool, true, false}
 use Rattle.s2calc.specs.declared.answer.Answer.{Answer}
-use Rattle.s2calc.specs.declared.answer.Answer.TheVariants.{Nothing, Cell, Square, Moved, Count, Tells, Listing, Cut, Sides, Saved, Refused}
+use Rattle.s2calc.specs.declared.answer.Answer.TheVariants.{Nothing, Cell, Square, Moved, Count, Tells, Listing, Cut, Sides, Done, Refused}
 use Rattle.s2union.specs.Denorm.{denormalised}
 use Rattle.s2edit.specs.History.{History}
 use Rattle.s2edit.specs.Leads.{list_at}
 use Rattle.s2calc.specs.Replies.{Reply, Silent, Says, Refuses}
-use Rattle.s2calc.specs.Texts.{cell_line, square_line, ok_line, count_line, history_line, yes_line, no_line, saved_line, listing}
+use Rattle.s2calc.specs.Texts.{cell_line, square_line, ok_line, count_line, history_line, yes_line, no_line, done_line, listing}
 
 abbrev pub told : Bool → List ℕ
 told true = yes_line
@@ -22,5 +22,5 @@ reply_of (Tells holds) state = Says (told holds)
 reply_of (Listing r) state = Says (listing (list_at state.now r))
 reply_of (Cut r least modulus) state = Says (listing (denormalised least modulus (list_at state.now r)))
 reply_of (Sides undos redos) state = Says (history_line undos redos)
-reply_of Saved state = Says saved_line
+reply_of Done state = Says done_line
 reply_of (Refused refusal) state = Refuses refusal

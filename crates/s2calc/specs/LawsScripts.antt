@@ -2,18 +2,20 @@
 use Rattle.std.specs.Prelude.{◌≡◌, ℕ, ◌+◌, ◌≤◌, ◌⊎◌, true, List, [], ◌∷◌, length, Some, count_by}
 use Rattle.s2edit.specs.History.{changed}
 use Rattle.s2edit.specs.Leads.{table_at}
+use Rattle.s2edit.specs.SessionLaws.{IsKept}
 use Rattle.s2file.specs.File.{Bytes}
 use Rattle.s2script.specs.Line.{line_of}
 use Rattle.s2script.specs.declared.command.Command.{Command}
-use Rattle.s2script.specs.declared.command.Command.TheVariants.{Edit, Load, Save, Undo, Redo, Ask}
+use Rattle.s2script.specs.declared.command.Command.TheVariants.{Edit, Load, Save, Dump, Restore, Undo, Redo, Ask}
 use Rattle.s2script.specs.declared.command.Parsed.TheVariants.{Does}
 use Rattle.s2calc.specs.World.{World}
 use Rattle.s2calc.specs.declared.engine.Tally.{Tally}
-use Rattle.s2calc.specs.Replies.{Reply, is_refusal}
+use Rattle.s2calc.specs.Replies.{Reply, Says, is_refusal}
+use Rattle.s2calc.specs.Texts.{done_line}
 use Rattle.s2calc.specs.Edits.{leaves_of}
 use Rattle.s2calc.specs.Step.{Step}
 use Rattle.s2calc.specs.Run.{Ends, Finishes, Steps}
-use Rattle.s2calc.specs.Laws.{SameWorld, AllPlain}
+use Rattle.s2calc.specs.Laws.{SameWorld, IsPlain, AllPlain}
 
 -- the writer holds the same bytes, the lines had the same replies and tally, and the states and the files are the same
 pub record SameEnd (ends ends' : Ends) (replies replies' : List Reply) (tally tally' : Tally) (new new' : World) : Type 0 where
@@ -41,6 +43,8 @@ abbrev pub GivesRegister : Command → Type 0
 GivesRegister (Edit r edit) = Unit {0}
 GivesRegister (Load r name) = Unit {0}
 GivesRegister (Save r name) = ⊥
+GivesRegister (Dump name) = ⊥
+GivesRegister (Restore name) = ⊥
 GivesRegister Undo = ⊥
 GivesRegister Redo = ⊥
 GivesRegister (Ask question) = ⊥
@@ -79,3 +83,11 @@ pub record LawOfUndo : Type 0 where
   pub gives_back : (old mid new : World) (edits undos : List (List ℕ)) (replies answers : List Reply) (further : ℕ) → AllChange old edits replies mid
       → AllUndo undos → length undos ≡ length edits + further → length undos ≤ old.state.depth → further ≤ length old.state.past
       → Steps mid undos answers new → GoesBack (table_at (old.state.now ∷ old.state.past) further) mid answers new
+
+-- One line dumped a state that keeps to its limit and depth, another restored the file, over shelves that tell, and
+-- neither was answered `error memory` or `error file`: then the file was restored, and the state is the one dumped.
+abbrev pub RestoreGivesBack : Type 0
+RestoreGivesBack =
+    (a b c d : World) (line other name : List ℕ) (x y : Reply) → line_of line ≡ Does (Dump name) → line_of other ≡ Does (Restore name) → IsKept a.state
+    → Step a line x b → Step c other y d → a.files.tells ≡ true → c.files.tells ≡ true → c.files.at name ≡ b.files.at name
+    → c.state.limit ≡ a.state.limit → c.state.depth ≡ a.state.depth → IsPlain x → IsPlain y → (y ≡ Says done_line) × (d.state ≡ a.state)

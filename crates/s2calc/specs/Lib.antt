@@ -5,6 +5,7 @@ pub mod Replies
 pub mod Questions
 pub mod Edits
 pub mod Fetch
+pub mod Sessions
 pub mod Step
 pub mod Run
 pub mod Output

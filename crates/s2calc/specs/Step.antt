@@ -3,17 +3,19 @@ use Rattle.std.specs.Prelude.{◌≡◌, ℕ, ◌⊎◌, Bool, List, Ok, Err}
 use Rattle.s2shelf.specs.Shelf.{SameFiles, PutsFile, LosesFile}
 use Rattle.s2file.specs.File.{Bytes}
 use Rattle.s2script.specs.declared.command.Command.{Command}
-use Rattle.s2script.specs.declared.command.Command.TheVariants.{Edit, Load, Save, Undo, Redo, Ask}
+use Rattle.s2script.specs.declared.command.Command.TheVariants.{Edit, Load, Save, Dump, Restore, Undo, Redo, Ask}
 use Rattle.s2script.specs.declared.command.Parsed.{Parsed}
 use Rattle.s2script.specs.declared.command.Parsed.TheVariants.{Nothing, Does, Fails}
 use Rattle.s2calc.specs.declared.refusal.Refusal.{Refusal}
 use Rattle.s2calc.specs.declared.refusal.Refusal.TheVariants.{Words, File as NoFile, Memory}
 use Rattle.s2script.specs.Line.{line_of}
 use Rattle.s2edit.specs.History.{undone, redone, sets}
+use Rattle.s2edit.specs.Session.{Text}
 use Rattle.s2calc.specs.World.{World}
 use Rattle.s2calc.specs.Replies.{Reply, Silent, Says, Refuses}
-use Rattle.s2calc.specs.Texts.{saved_line}
-use Rattle.s2calc.specs.Fetch.{FetchesUnion}
+use Rattle.s2calc.specs.Texts.{done_line}
+use Rattle.s2calc.specs.Fetch.{Fetches, FetchesUnion}
+use Rattle.s2calc.specs.Sessions.{TakesOver, FetchesNoState}
 use Rattle.s2calc.specs.Questions.{Answers}
 use Rattle.s2calc.specs.Edits.{new_set, leaves_of, Gets, Moves}
 
@@ -23,18 +25,34 @@ Loads r name old reply new =
     ((S : ℕ → Bool) × FetchesUnion name old.files (Ok S) new.files × Gets S r old.state reply new.state)
     ⊎ ((refusal : Refusal) × FetchesUnion name old.files (Err refusal) new.files × (reply ≡ Refuses refusal) × (new.state ≡ old.state))
 
--- the file becomes the text of the register's leaves; or the shelf fails, and that one file is open; or there is no memory
-abbrev pub Saves : ℕ → List ℕ → World → Reply → World → Type 0
-Saves r name old reply new =
-    ((reply ≡ Says saved_line) × (new.state ≡ old.state) × ((bytes : List ℕ) × Bytes (leaves_of old.state.now r) bytes × PutsFile old.files new.files name bytes))
+-- the file becomes such bytes; or the shelf fails, and that one file is open; or there is no memory
+abbrev pub Writes : (List ℕ → Type 0) → List ℕ → World → Reply → World → Type 0
+Writes AreThose name old reply new =
+    ((reply ≡ Says done_line) × (new.state ≡ old.state) × ((bytes : List ℕ) × AreThose bytes × PutsFile old.files new.files name bytes))
     ⊎ ((reply ≡ Refuses NoFile) × (new.state ≡ old.state) × LosesFile old.files new.files name)
     ⊎ ((reply ≡ Refuses Memory) × (new.state ≡ old.state) × SameFiles old.files new.files)
+
+-- the file becomes the text of the register's leaves, if nothing fails
+abbrev pub Saves : ℕ → List ℕ → World → Reply → World → Type 0
+Saves r name old reply new = Writes (Bytes (leaves_of old.state.now r)) name old reply new
+
+-- the file becomes the text of the registers and their history, if nothing fails
+abbrev pub Dumps : List ℕ → World → Reply → World → Type 0
+Dumps name old reply new = Writes (Text old.state) name old reply new
+
+-- the history that the file's bytes stand for becomes the state; or there is none that could, and the state stays
+abbrev pub Restores : List ℕ → World → Reply → World → Type 0
+Restores name old reply new =
+    ((bytes : List ℕ) × Fetches name old.files (Ok bytes) new.files × TakesOver bytes old.state new.state × (reply ≡ Says done_line))
+    ⊎ ((refusal : Refusal) × FetchesNoState name old.files old.state refusal new.files × (reply ≡ Refuses refusal) × (new.state ≡ old.state))
 
 -- from old, the command may be given this reply and leave new
 abbrev pub Acts : Command → World → Reply → World → Type 0
 Acts (Edit r edit) old reply new = Gets (new_set old.state.now r edit) r old.state reply new.state × (new.files ≡ old.files)
 Acts (Load r name) old reply new = Loads r name old reply new
 Acts (Save r name) old reply new = Saves r name old reply new
+Acts (Dump name) old reply new = Dumps name old reply new
+Acts (Restore name) old reply new = Restores name old reply new
 Acts Undo old reply new = Moves old.state.past old.state (undone old.state) (undone (sets old.state)) reply new.state × (new.files ≡ old.files)
 Acts Redo old reply new = Moves old.state.future old.state (redone old.state) (redone (sets old.state)) reply new.state × (new.files ≡ old.files)
 Acts (Ask question) old reply new = Answers question old.state reply × (new ≡ old)

@@ -30,8 +30,9 @@ yes_line = codes "yes" ++ 10 ∷ []
 unfoldable pub no_line : List ℕ
 no_line = codes "no" ++ 10 ∷ []
 
-unfoldable pub saved_line : List ℕ
-saved_line = codes "ok" ++ 10 ∷ []
+-- what was done without numbers to tell
+unfoldable pub done_line : List ℕ
+done_line = codes "ok" ++ 10 ∷ []
 
 unfoldable pub end_line : List ℕ
 end_line = codes "end" ++ 10 ∷ []

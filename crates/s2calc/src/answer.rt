@@ -8,7 +8,7 @@ ghost use Rattle.s2calc.specs.Output.{AppendsPart};
 ghost use Rattle.s2calc.specs.Refusals.{name_of};
 ghost use Rattle.s2calc.specs.Replies.{text_of};
 ghost use Rattle.s2calc.specs.Answer.{reply_of, told};
-ghost use Rattle.s2calc.specs.Texts.{cell_line, square_line, ok_line, count_line, history_line, saved_line, token_line, listing};
+ghost use Rattle.s2calc.specs.Texts.{cell_line, square_line, ok_line, count_line, history_line, done_line, token_line, listing};
 
 use crate::fault::RunFault;
 use crate::output::emit;
@@ -55,8 +55,8 @@ pub enum Answer {
         undos: usize,
         redos: usize,
     },
-    /// A file was written.
-    Saved,
+    /// A file was written, or the state of one taken over.
+    Done,
     /// The name of a refusal.
     Refused(Refusal),
 }
@@ -92,7 +92,7 @@ pub(crate) fn write_answer<W: Write>(
                 history_line(*undos as u64, *redos as u64).as_slice(),
             )
         }
-        Answer::Saved => emit(writer, saved()),
+        Answer::Done => emit(writer, done()),
         Answer::Refused(refusal) => emit(writer, error_line(*refusal).as_slice()),
     }
 }
@@ -105,10 +105,10 @@ fn told(yes: bool) -> &'static [u8]
     if yes { b"yes\n" } else { b"no\n" }
 }
 
-/// The line of a file that was written.
-#[tactic(auto, unfolding(crate::specs::Texts::saved_line))]
-fn saved() -> &'static [u8]
-    ensures { result.now ≡ saved_line }
+/// The line of what was done without numbers to tell.
+#[tactic(auto, unfolding(crate::specs::Texts::done_line))]
+fn done() -> &'static [u8]
+    ensures { result.now ≡ done_line }
 {
     b"ok\n"
 }

@@ -11,6 +11,7 @@ use crate::fault::RunFault;
 use crate::files::{load, save};
 use crate::questions::answer_to;
 use crate::refusal::Refusal;
+use crate::sessions::{dump, restore};
 use s2edit::Editor;
 use s2script::{Command, Parsed, parse};
 use s2shelf::Shelf;
@@ -74,6 +75,8 @@ fn act<S: Shelf>(alloc: Global, editor: &mut Editor, command: Command<'_>, shelf
         Command::Edit { register, edit } => edit_register(alloc, editor, register, edit),
         Command::Load { register, name } => load(alloc, editor, register, &name, shelf),
         Command::Save { register, name } => save(alloc, editor, register, &name, shelf),
+        Command::Dump { name } => dump(alloc, editor, &name, shelf),
+        Command::Restore { name } => restore(alloc, editor, &name, shelf),
         Command::Undo => undo(editor),
         Command::Redo => redo(editor),
         Command::Ask(question) => answer_to(editor, &question),

@@ -43,7 +43,7 @@ pub(crate) fn save<S: Shelf>(
         return Answer::Refused(Refusal::Memory);
     };
     match shelf.put(name.as_str(), bytes.as_slice()) {
-        Ok(()) => Answer::Saved,
+        Ok(()) => Answer::Done,
         Err(ShelfFault::Device) => Answer::Refused(Refusal::File),
         Err(ShelfFault::Memory) => Answer::Refused(Refusal::Memory),
     }

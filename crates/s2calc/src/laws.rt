@@ -1,6 +1,6 @@
 //! Laws about the definitions.
 ghost use Rattle.s2calc.specs.Laws.{TellsWhole, OneRun, CountsFailures};
-ghost use Rattle.s2calc.specs.LawsScripts.{OneEnd, LawOfUndo};
+ghost use Rattle.s2calc.specs.LawsScripts.{OneEnd, LawOfUndo, RestoreGivesBack};
 
 /// Where the reader tells its bytes, a run that finishes has carried out the lines of just these bytes.
 pub fn whole_script()
@@ -27,4 +27,9 @@ pub fn one_end()
 /// Undo, as far as the history reaches, gives each earlier table back, list for list and byte for byte.
 pub fn undo_goes_back()
     ensures { LawOfUndo }
+{}
+
+/// What `dump` wrote comes back by `restore`, in the same editor or another of its limit and depth.
+pub fn restore_gives_back()
+    ensures { RestoreGivesBack }
 {}

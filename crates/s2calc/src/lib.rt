@@ -4,10 +4,10 @@
 //! where one of them fails.
 //!
 //! A line flows one way: bytes (`engine`, `kept`) -> what it says (the crate `s2script`) -> its effect
-//! (`execute`: `edits`, `files`, `questions`; `fetch` asks the shelf) -> an `answer` -> bytes (`output`). `refusal` says
-//! why a line is refused, `fault` what ends a run; `limits` are the limits, `laws` laws about the definitions. For the
-//! program: `command_line` and `task` (what it is asked for), `program` and
-//! `check` (its other answers).
+//! (`execute`: `edits`, `files`, `sessions`, `questions`; `fetch` asks the shelf) -> an `answer` -> bytes (`output`).
+//! `refusal` says why a line is refused, `fault` what ends a run; `limits` are the limits, `laws` laws about the
+//! definitions. For the program: `command_line` and `task` (what it is asked for), `program` and `check` (its other
+//! answers).
 #![tactic(auto)]
 
 mod answer;
@@ -26,13 +26,16 @@ mod output;
 mod program;
 mod questions;
 mod refusal;
+mod sessions;
 mod task;
 
 pub use check::check_answer;
 pub use command_line::job;
 pub use engine::{Tally, run, run_promptly};
 pub use fault::RunFault;
-pub use laws::{counted_failures, one_end, one_run, undo_goes_back, whole_script};
+pub use laws::{
+    counted_failures, one_end, one_run, restore_gives_back, undo_goes_back, whole_script,
+};
 pub use program::{cell_answer, status};
 pub use refusal::Refusal;
 pub use task::{Job, Stop};

@@ -13,6 +13,10 @@ pub enum Refusal {
     File,
     /// A file that isn't of the form of a union file.
     Format,
+    /// A file that stands for no registers and history.
+    Session,
+    /// A file with more states than are kept.
+    TooDeep,
     /// More cells than are allowed.
     TooMany,
     /// Nothing to undo, or to redo.
@@ -32,6 +36,8 @@ impl Refusal {
             Refusal::Missing => "missing",
             Refusal::File => "file",
             Refusal::Format => "format",
+            Refusal::Session => "session",
+            Refusal::TooDeep => "too-deep",
             Refusal::TooMany => "too-many",
             Refusal::Nothing => "nothing",
             Refusal::Memory => "memory",

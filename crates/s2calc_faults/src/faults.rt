@@ -34,9 +34,14 @@ fn the_answers_of_whole_lines_are_out_when_a_read_fails(rt: HostRuntime) -> Resu
 #[test]
 fn each_read_fails_in_turn(rt: HostRuntime) -> Result<(), Fail> {
     let script = script_of(rt.alloc(), &LINES)?;
-    reads_fail_in_turn(&rt, Flushing::AtTheEnd, &script, 1)?;
     reads_fail_in_turn(&rt, Flushing::AtTheEnd, &script, 3)?;
     reads_fail_in_turn(&rt, Flushing::BeforeEachRead, &script, 3)
+}
+
+#[test]
+fn each_read_of_a_byte_fails_in_turn(rt: HostRuntime) -> Result<(), Fail> {
+    let script = script_of(rt.alloc(), &LINES)?;
+    reads_fail_in_turn(&rt, Flushing::AtTheEnd, &script, 1)
 }
 
 #[test]
@@ -108,13 +113,27 @@ fn whole_lines(script: &[u8], read: usize) -> &[u8] {
 }
 
 #[test]
+fn each_write_of_a_byte_goes_wrong_in_turn(rt: HostRuntime) -> Result<(), Fail> {
+    writes_go_wrong_both_ways(&rt, 1)
+}
+
+#[test]
 fn each_write_goes_wrong_in_turn(rt: HostRuntime) -> Result<(), Fail> {
+    writes_go_wrong_both_ways(&rt, 2)?;
+    writes_go_wrong_both_ways(&rt, 5)
+}
+
+/// Lets each write of at most so many bytes fail in turn, and take nothing.
+fn writes_go_wrong_both_ways(rt: &(impl Abort + AllocGlobal), size: usize) -> Result<(), Fail> {
     for mishap in [Mishap::Fails, Mishap::TakesNothing] {
-        for size in [1, 2, 5] {
-            let flushes = writes_go_wrong_in_turn(&rt, Flushing::AtTheEnd, size, mishap)?;
-            assert_eq!(rt; flushes, 1);
-        }
+        let flushes = writes_go_wrong_in_turn(rt, Flushing::AtTheEnd, size, mishap)?;
+        assert_eq!(rt; flushes, 1);
     }
+    Ok(())
+}
+
+#[test]
+fn each_write_and_flush_before_a_read_fails_in_turn(rt: HostRuntime) -> Result<(), Fail> {
     let flushes = writes_go_wrong_in_turn(&rt, Flushing::BeforeEachRead, 5, Mishap::Fails)?;
     // One for each read, the one that finds the end among them, and one behind it.
     let reads = script_of(rt.alloc(), &LINES)?
@@ -198,7 +217,12 @@ fn lines_answered(ends: &[usize], out: usize) -> usize {
 
 /// Whether a line calls the shelf: one whose name is refused doesn't.
 fn calls_the_shelf(line: &str) -> bool {
-    (line.starts_with("load ") || line.starts_with("save ")) && !line.ends_with("../f")
+    for command in ["load ", "save ", "dump ", "restore "] {
+        if line.starts_with(command) {
+            return !line.ends_with("../f");
+        }
+    }
+    false
 }
 
 #[test]
@@ -235,6 +259,6 @@ fn each_call_of_the_shelf_fails_in_turn(rt: HostRuntime) -> Result<(), Fail> {
         assert_eq!(rt; rest, wanted, "call {call}");
         assert!(rt; left.stands_as(&mut without), "call {call}");
     }
-    assert_eq!(rt; call, 12);
+    assert_eq!(rt; call, 16);
     Ok(())
 }

@@ -7,7 +7,7 @@ use std::alloc::Global;
 use std::test::Fail;
 
 /// The names of the files that the script reads or writes.
-const NAMES: [&str; 5] = ["f", "g", "h", "w", "missing"];
+const NAMES: [&str; 6] = ["f", "g", "h", "s", "w", "missing"];
 
 /// When a run flushes its writer.
 #[derive(Clone, Copy)]

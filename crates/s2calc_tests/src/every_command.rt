@@ -2,7 +2,7 @@
 
 /// Every command, with edits that merge, undos and redos between them, and each refusal but those of a long line and of
 /// a failing call.
-pub const LINES: [&str; 88] = [
+pub const LINES: [&str; 97] = [
     "# every command",
     "add a 04 0c 14",
     "add a 1c",
@@ -91,6 +91,15 @@ pub const LINES: [&str; 88] = [
     "undo",
     "show d",
     "history",
+    "dump s",
+    "add a 3/021",
+    "restore w",
+    "restore missing",
+    "restore ../f",
+    "restore s",
+    "history",
+    "undo",
+    "redo",
 ];
 
 /// The files that the script finds: `f` has the identifiers of 0c, 04 and 04, and `w` is of another version.

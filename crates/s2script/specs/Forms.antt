@@ -130,6 +130,10 @@ register_and_span ws = next_register ws and_then λ (r, ws). next_span ws and_th
 unfoldable pub register_and_name : List (List ℕ) → Result (ℕ × List ℕ) Refusal
 register_and_name ws = next_register ws and_then λ (r, ws). next_name ws and_then λ (name, ws). at_end ws (r, name)
 
+-- `NAME`
+unfoldable pub one_name : List (List ℕ) → Result (List ℕ) Refusal
+one_name ws = next_name ws and_then λ (name, ws). at_end ws name
+
 -- `r MIN MOD`
 unfoldable pub register_level_modulus : List (List ℕ) → Result (ℕ × ℕ × ℕ) Refusal
 register_level_modulus ws = next_register ws and_then λ (r, ws). next_level ws and_then λ (least, ws). next_modulus ws and_then λ (modulus, ws). at_end ws (r, least, modulus)

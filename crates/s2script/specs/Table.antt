@@ -8,8 +8,8 @@ use Rattle.s2script.specs.declared.command.Question.{Question}
 use Rattle.s2script.specs.declared.command.Question.TheVariants.{Cell, At, Square, Show, Count, Has, Touches, Compares, Denorm, History}
 use Rattle.s2script.specs.declared.command.Edit.TheVariants.{Add, Remove, Keep, Clear, Copy, Union, Intersect, Subtract, Range, Outer, Inner, OuterOf, InnerOf}
 use Rattle.s2script.specs.declared.command.Command.{Command}
-use Rattle.s2script.specs.declared.command.Command.TheVariants.{Edit, Load, Save, Undo, Redo, Ask}
-use Rattle.s2script.specs.Forms.{◌gives◌, at_end, one_cell, one_place, one_register, two_registers, register_and_cell, register_and_cells, register_and_span, register_and_name, register_level_modulus, register_level_rect, registers_level_rect}
+use Rattle.s2script.specs.declared.command.Command.TheVariants.{Edit, Load, Save, Dump, Restore, Undo, Redo, Ask}
+use Rattle.s2script.specs.Forms.{◌gives◌, at_end, one_cell, one_place, one_register, two_registers, register_and_cell, register_and_cells, register_and_span, register_and_name, one_name, register_level_modulus, register_level_rect, registers_level_rect}
 
 -- the questions, by their names
 unfoldable pub question_of : List ℕ → List (List ℕ) → Result Question Refusal
@@ -32,6 +32,8 @@ unfoldable pub file_or_move_of : List ℕ → List (List ℕ) → Result Command
 file_or_move_of name ws =
     if bytes_eq name (codes "load") then (register_and_name ws gives λ (r, file). Load r file)
     else if bytes_eq name (codes "save") then (register_and_name ws gives λ (r, file). Save r file)
+    else if bytes_eq name (codes "dump") then (one_name ws gives λ file. Dump file)
+    else if bytes_eq name (codes "restore") then (one_name ws gives λ file. Restore file)
     else if bytes_eq name (codes "undo") then at_end ws Undo
     else if bytes_eq name (codes "redo") then at_end ws Redo
     else (question_of name ws gives λ question. Ask question)

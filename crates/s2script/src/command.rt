@@ -111,6 +111,10 @@ pub enum Command<'a> {
     Load { register: Register, name: Name<'a> },
     /// To write a register to a file.
     Save { register: Register, name: Name<'a> },
+    /// To write the registers and their history to a file.
+    Dump { name: Name<'a> },
+    /// To take over the registers and the history that a file holds.
+    Restore { name: Name<'a> },
     /// To go back to the state before.
     Undo,
     /// To go forward again.

@@ -1,7 +1,7 @@
 //! What the words of a command may have to be, from left to right.
 ghost use Rattle.std.specs.Prelude.{◌≡◌, ◌≤◌, ◌<◌, ◌+◌, [], ◌∷◌, MatchOption, MatchResult, IfOk, Ok, Err, length};
 ghost use Rattle.s2cell.specs.Cell.{first_leaf, size_of};
-ghost use Rattle.s2script.specs.Forms.{register_named, next_register, next_cell, next_last, next_span, next_level, next_modulus, next_face, next_coordinate, next_place, next_name, next_rect, optional_rect, one_cell, one_place, one_register, two_registers, register_and_cell, register_and_cells, register_and_span, register_and_name, register_level_modulus, register_level_rect, registers_level_rect};
+ghost use Rattle.s2script.specs.Forms.{register_named, next_register, next_cell, next_last, next_span, next_level, next_modulus, next_face, next_coordinate, next_place, next_name, next_rect, optional_rect, one_cell, one_place, one_register, two_registers, register_and_cell, register_and_cells, register_and_span, register_and_name, one_name, register_level_modulus, register_level_rect, registers_level_rect};
 
 use crate::cells::Cells;
 use crate::level::{Level, Modulus};
@@ -268,6 +268,16 @@ pub(crate) fn register_and_name(mut words: Words<'_>) -> Result<(Register, Name<
     let name = words.name()?;
     words.end()?;
     Ok((register, name))
+}
+
+/// `NAME`
+#[tactic(auto, unfolding(crate::specs::Forms::one_name))]
+pub(crate) fn one_name(mut words: Words<'_>) -> Result<Name<'_>, Refusal>
+    ensures { result ≡ one_name words.entry }
+{
+    let name = words.name()?;
+    words.end()?;
+    Ok(name)
 }
 
 /// `r MIN MOD`

@@ -6,9 +6,9 @@ ghost use Rattle.s2script.specs.Table.{command_of, file_or_move_of, question_of}
 
 use crate::command::{Command, Comparison, Edit, Question};
 use crate::forms::{
-    one_cell, one_place, one_register, register_and_cell, register_and_cells, register_and_name,
-    register_and_span, register_level_modulus, register_level_rect, registers_level_rect,
-    two_registers,
+    one_cell, one_name, one_place, one_register, register_and_cell, register_and_cells,
+    register_and_name, register_and_span, register_level_modulus, register_level_rect,
+    registers_level_rect, two_registers,
 };
 use crate::refusal::Refusal;
 use crate::words::Words;
@@ -74,6 +74,12 @@ fn file_or_move_of<'a>(name: &[u8], mut words: Words<'a>) -> Result<Command<'a>,
     } else if name == b"save".as_slice() {
         let (register, name) = register_and_name(words)?;
         Ok(Command::Save { register, name })
+    } else if name == b"dump".as_slice() {
+        let name = one_name(words)?;
+        Ok(Command::Dump { name })
+    } else if name == b"restore".as_slice() {
+        let name = one_name(words)?;
+        Ok(Command::Restore { name })
     } else if name == b"undo".as_slice() {
         words.end()?;
         Ok(Command::Undo)

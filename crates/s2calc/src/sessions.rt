@@ -1,0 +1,124 @@
+//! The registers and both sides of their history as a file.
+ghost use Rattle.std.specs.Prelude.{◌≡◌, List, ℕ, Ok, IfOk, OnErr, MatchResult};
+ghost use Rattle.s2file.specs.Session.{content_of, IsContent, Spells};
+ghost use Rattle.s2edit.specs.History.{History};
+ghost use Rattle.s2edit.specs.Session.{Text};
+ghost use Rattle.s2calc.specs.Answer.{reply_of};
+ghost use Rattle.s2calc.specs.Fetch.{Fetches};
+ghost use Rattle.s2calc.specs.Sessions.{TakesOver, RefusesBytes, FetchesNoState};
+ghost use Rattle.s2calc.specs.Step.{Dumps, Restores};
+ghost use Rattle.s2calc.specs.World.{world};
+
+use crate::answer::Answer;
+use crate::refusal::Refusal;
+use s2edit::{Editor, RestoreFault};
+use s2file::{Session, SessionFault, decode_session, encode_session};
+use s2script::Name;
+use s2shelf::{Shelf, ShelfFault};
+use std::alloc::{AllocError, Global};
+
+/// Writes the registers and both sides of their history to a file.
+pub(crate) fn dump<S: Shelf>(
+    alloc: Global,
+    editor: &Editor,
+    name: &Name<'_>,
+    shelf: &mut S,
+) -> Answer
+    ensures { Dumps name.now (world editor.now (S.files shelf.old)) (reply_of result editor.now) (world editor.now (S.files shelf.new)) }
+{
+    let Ok(bytes) = text_of(alloc, editor) else {
+        return Answer::Refused(Refusal::Memory);
+    };
+    match shelf.put(name.as_str(), bytes.as_slice()) {
+        Ok(()) => Answer::Done,
+        Err(ShelfFault::Device) => Answer::Refused(Refusal::File),
+        Err(ShelfFault::Memory) => Answer::Refused(Refusal::Memory),
+    }
+}
+
+/// The bytes of the registers and of both sides of their history.
+fn text_of(alloc: Global, editor: &Editor) -> Result<Vec<u8>, AllocError>
+    ensures { IfOk result (λ bytes. Text editor.now bytes.items) }
+{
+    let session = editor.session()?;
+    encode_session(alloc, &session)
+}
+
+/// Takes over the registers and the history of a file. The file is fetched and read first, then depth and limit count.
+pub(crate) fn restore<S: Shelf>(
+    alloc: Global,
+    editor: &mut Editor,
+    name: &Name<'_>,
+    shelf: &mut S,
+) -> Answer
+    ensures { Restores name.now (world editor.old (S.files shelf.old)) (reply_of result editor.new) (world editor.new (S.files shelf.new)) }
+{
+    match take_over_file(alloc, editor, name.as_str(), shelf) {
+        Ok(()) => Answer::Done,
+        Err(refusal) => Answer::Refused(refusal),
+    }
+}
+
+/// Takes over what the file under a name stands for, or says why it can't. The file is read whole, since no length
+/// makes it too long.
+fn take_over_file<S: Shelf>(
+    alloc: Global,
+    editor: &mut Editor,
+    name: &str,
+    shelf: &mut S,
+) -> Result<(), Refusal>
+    ensures answer { MatchResult result
+        (λ _. (bytes : List ℕ) × Fetches name.now (S.files shelf.old) (Ok bytes) (S.files shelf.new) × TakesOver bytes editor.old editor.new)
+        (λ refusal. FetchesNoState name.now (S.files shelf.old) editor.old refusal (S.files shelf.new)) }
+    ensures err { OnErr result (editor.new ≡ editor.old) }
+{
+    let bytes = fetch_whole(shelf, name)?;
+    let session = session_in(alloc, bytes)?;
+    take_over(editor, session)
+}
+
+/// The whole content under a name, or why there is none. The shelf is asked once.
+fn fetch_whole<S: Shelf>(shelf: &mut S, name: &str) -> Result<Vec<u8>, Refusal>
+    ensures { MatchResult result
+        (λ bytes. Fetches name.now (S.files shelf.old) (Ok bytes.items) (S.files shelf.new))
+        (λ refusal. Fetches name.now (S.files shelf.old) (Err refusal) (S.files shelf.new)) }
+{
+    match shelf.get(name) {
+        Ok(Some(bytes)) => Ok(bytes),
+        Ok(None) => Err(Refusal::Missing),
+        Err(ShelfFault::Device) => Err(Refusal::File),
+        Err(ShelfFault::Memory) => Err(Refusal::Memory),
+    }
+}
+
+/// The session that bytes spell, or why there is none. The bytes are dropped.
+#[tactic(auto, using(crate::proofs::SessionLemmas::none_stored))]
+fn session_in(alloc: Global, bytes: Vec<u8>) -> Result<Session, Refusal>
+    ensures { MatchResult result
+        (λ session. Spells bytes.items (content_of session) × IsContent (content_of session))
+        (λ refusal. (state : History (List ℕ)) → RefusesBytes bytes.items state refusal) }
+{
+    match decode_session(alloc, bytes.as_slice()) {
+        Ok(session) => Ok(session),
+        Err(SessionFault::Form) => Err(Refusal::Session),
+        Err(SessionFault::Memory) => Err(Refusal::Memory),
+    }
+}
+
+/// Takes over a session that bytes spell, or says why it can't.
+#[tactic(auto, using(crate::proofs::SessionLemmas::taken, crate::proofs::SessionLemmas::too_deep, crate::proofs::SessionLemmas::too_many))]
+fn take_over(editor: &mut Editor, session: Session) -> Result<(), Refusal>
+    requires { IsContent (content_of session) }
+    ensures answer { (bytes : List ℕ) → Spells bytes (content_of session) → MatchResult result
+        (λ _. TakesOver bytes editor.old editor.new)
+        (λ refusal. RefusesBytes bytes editor.old refusal) }
+    ensures err { OnErr result (editor.new ≡ editor.old) }
+{
+    match editor.restore(session) {
+        Ok(()) => Ok(()),
+        Err(RestoreFault::Fit) => Err(Refusal::Session),
+        Err(RestoreFault::TooDeep) => Err(Refusal::TooDeep),
+        Err(RestoreFault::TooMany) => Err(Refusal::TooMany),
+        Err(RestoreFault::Memory) => Err(Refusal::Memory),
+    }
+}
