@@ -108,7 +108,7 @@ fn drop_front(bytes: &mut Vec<u8>, count: usize)
     bytes.truncate(len - count);
 }
 
-/// Puts bytes behind others, where there is room for them.
+/// Puts bytes after others, if there is room for them.
 fn append(bytes: &mut Vec<u8>, more: &[u8])
     requires { vec_len bytes.old + length more.now ≤ vec_capacity bytes.old }
     ensures items { bytes.new.items ≡ bytes.old.items ++ more.now }

@@ -116,8 +116,7 @@ pub fn run<R: Read, W: Write, S: Shelf>(
 {
     let _before = editor.limit();
     let mut input = input_buffer(alloc)?;
-    let result =
-        run_over::<R, W, S, AtTheEnd>(alloc, &mut input, editor, reader, writer, shelf);
+    let result = run_over::<R, W, S, AtTheEnd>(alloc, &mut input, editor, reader, writer, shelf);
     let _after = editor.limit();
     result
 }
@@ -149,12 +148,7 @@ pub fn run_promptly<R: Read, W: Write, S: Shelf>(
     let _before = (editor.limit(), writer.waiting());
     let mut input = input_buffer(alloc)?;
     let result = run_over::<R, AnswerBuffer<W>, S, BeforeEachRead>(
-        alloc,
-        &mut input,
-        editor,
-        reader,
-        writer,
-        shelf,
+        alloc, &mut input, editor, reader, writer, shelf,
     );
     let _after = (editor.limit(), writer.waiting());
     result
@@ -210,6 +204,7 @@ fn run_over<R: Read, W: Write, S: Shelf, F: Flushing<W>>(
             Err(_) => return Err(RunFault::Input),
         }
     }
+    // 2^64 - 1 reads have not come to the end.
     F::before_read(writer)?;
     Err(RunFault::Input)
 }
