@@ -4,7 +4,7 @@
 ghost use Rattle.std.specs.Prelude.{◌≤◌};
 
 use s2calc::{
-    AnswerBuffer, Job, RunFault, Stop, Tally, cell_answer, check_answer, job, run_promptly, status,
+    AnswerBuffer, Job, RunFault, Tally, cell_answer, check_answer, job, run_promptly, status,
 };
 use s2edit::{Editor, MOST_CELLS, MOST_STATES};
 use s2shelf::DirShelf;
@@ -12,28 +12,25 @@ use std::io::ErrorKind;
 use std::process::ExitCode;
 use std::{env, io};
 
-const HELP: &str =
-    "s2calc run [--limit N] [--depth N] [--dir PATH]    answers the script on standard input\ns2calc cell CELL                                   answers one `cell CELL`\ns2calc check [--dir PATH] FILE                     says what a union file stands for";
-
 fn main(rt: HostRuntime) -> ExitCode {
     let words = match env::args(&rt) {
         Ok(words) => words,
         Err(error) => {
             return match error.kind() {
-                ErrorKind::OutOfMemory => stopped(&rt, Stop::Memory),
-                _ => stopped(&rt, Stop::Usage),
+                ErrorKind::OutOfMemory => ended(&rt, &Err(RunFault::Memory)),
+                _ => misused(&rt),
             };
         }
     };
     let words: Vec<String> = match words.collect(rt.alloc()) {
         Ok(words) => words,
-        Err(_) => return stopped(&rt, Stop::Memory),
+        Err(_) => return ended(&rt, &Err(RunFault::Memory)),
     };
     match job(rt.alloc(), words) {
         Ok(Job::Run { limit, depth, dir }) => run_script(&rt, limit, depth, &dir),
         Ok(Job::Cell { word }) => answer_cell(&rt, &word),
         Ok(Job::Check { dir, name }) => answer_check(&rt, &dir, &name),
-        Err(stop) => stopped(&rt, stop),
+        Err(error) => not_asked(&rt, &error),
     }
 }
 
@@ -97,20 +94,22 @@ fn ended(rt: &impl Eprint, outcome: &Result<Tally, RunFault>) -> ExitCode {
     ExitCode::from(status(outcome))
 }
 
-/// Tells why there is nothing to do.
-fn stopped(rt: &(impl Eprint + Print), stop: Stop) -> ExitCode {
-    match stop {
-        Stop::Help => {
-            let _ = rt.println(HELP);
-            ExitCode::SUCCESS
-        }
-        Stop::Usage => {
-            let _ = rt.eprintln("s2calc: usage");
-            ExitCode::from(2)
-        }
-        Stop::Memory => {
-            let _ = rt.eprintln("s2calc: memory");
-            ExitCode::from(3)
-        }
+/// Shows the help that was asked for, or what is wrong with the words.
+fn not_asked(rt: &(impl Eprint + Print), error: &clap::Error) -> ExitCode {
+    if error.kind() == clap::error::ErrorKind::OutOfMemory {
+        return ended(rt, &Err(RunFault::Memory));
     }
+    let status = if error.use_stderr() {
+        misused(rt)
+    } else {
+        ExitCode::SUCCESS
+    };
+    let _ = error.print(rt);
+    status
+}
+
+/// The first line for words that make no sense.
+fn misused(rt: &impl Eprint) -> ExitCode {
+    let _ = rt.eprintln("s2calc: usage");
+    ExitCode::from(2)
 }

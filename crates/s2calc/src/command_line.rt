@@ -1,52 +1,65 @@
 //! The command line.
-ghost use Rattle.std.specs.Prelude.{◌≤◌, ◌↔◌, IsTrue, IfOk};
+ghost use Rattle.std.specs.Prelude.{◌≤◌, ◌↔◌, IsTrue, IfOk, IfSome};
 ghost use Rattle.s2calc.specs.Program.{IsInRange};
 
-use crate::task::{Job, Stop};
+use crate::help::{ABOUT, AFTER, SCRIPT};
+use crate::task::Job;
+use clap::builder::ValueParser;
 use clap::error::ErrorKind;
 use clap::{Arg, ArgAction, ArgMatches, Command, Error, value_parser};
 use s2edit::{MOST_CELLS, MOST_STATES};
-use std::alloc::Global;
+use std::alloc::{AllocError, Global};
 
 /// What the words of the command line ask for. The first word is the program's own name.
-pub fn job(alloc: Global, words: Vec<String>) -> Result<Job, Stop>
+///
+/// An error is a mistake in the words, or a request for help or the version; its `Display` is the text to show, and its
+/// kind says which it is. `OutOfMemory` among the kinds may stand for any answer.
+pub fn job(alloc: Global, words: Vec<String>) -> Result<Job, Error>
     ensures { IfOk result IsInRange }
 {
-    let matches = match matches_of(alloc, words.as_slice()) {
-        Ok(matches) => matches,
-        Err(error) => return Err(stop_of(error.kind())),
-    };
+    let mut command = command(alloc)?;
+    let matches = command.try_get_matches_from_mut(words.as_slice())?;
+    match job_of(alloc, &matches)? {
+        Some(job) => Ok(job),
+        None => Err(command.error(ErrorKind::MissingSubcommand, "a command is missing")?),
+    }
+}
+
+/// The job of words that were taken.
+fn job_of(alloc: Global, matches: &ArgMatches<'_>) -> Result<Option<Job>, AllocError>
+    ensures { IfOk result (λ job. IfSome job IsInRange) }
+{
     if let Some(run) = matches.subcommand_matches("run") {
         return run_job(alloc, run);
     }
     if let Some(cell) = matches.subcommand_matches("cell") {
-        return Ok(Job::Cell {
+        return Ok(Some(Job::Cell {
             word: text(alloc, cell, "CELL")?,
-        });
+        }));
     }
     if let Some(check) = matches.subcommand_matches("check") {
-        return Ok(Job::Check {
-            dir: folder(alloc, check)?,
+        return Ok(Some(Job::Check {
+            dir: text(alloc, check, "dir")?,
             name: text(alloc, check, "FILE")?,
-        });
+        }));
     }
-    Err(Stop::Usage)
+    Ok(None)
 }
 
 /// The run that is asked for.
-fn run_job(alloc: Global, run: &ArgMatches<'_>) -> Result<Job, Stop>
-    ensures { IfOk result IsInRange }
+fn run_job(alloc: Global, run: &ArgMatches<'_>) -> Result<Option<Job>, AllocError>
+    ensures { IfOk result (λ job. IfSome job IsInRange) }
 {
     let limit = run.get_one::<usize>("limit").unwrap_or(0);
     let depth = run.get_one::<usize>("depth").unwrap_or(0);
     if !is_within(limit, MOST_CELLS) || !is_within(depth, MOST_STATES) {
-        return Err(Stop::Usage);
+        return Ok(None);
     }
-    Ok(Job::Run {
+    Ok(Some(Job::Run {
         limit,
         depth,
-        dir: folder(alloc, run)?,
-    })
+        dir: text(alloc, run, "dir")?,
+    }))
 }
 
 fn is_within(n: usize, most: usize) -> bool
@@ -55,73 +68,84 @@ fn is_within(n: usize, most: usize) -> bool
     n >= 1 && n <= most
 }
 
-/// The path of the folder. An empty one, which would name the root folder, is refused.
-fn folder(alloc: Global, matches: &ArgMatches<'_>) -> Result<String, Stop> {
-    let path = text(alloc, matches, "dir")?;
-    if path.is_empty() {
-        return Err(Stop::Usage);
-    }
-    Ok(path)
+/// The word of an argument that is required, or has a default.
+fn text(alloc: Global, matches: &ArgMatches<'_>, id: &str) -> Result<String, AllocError> {
+    String::from_str(alloc, matches.get_str(id).unwrap_or(""))
 }
 
-/// The word of an argument.
-fn text(alloc: Global, matches: &ArgMatches<'_>, id: &str) -> Result<String, Stop> {
-    match matches.get_str(id) {
-        Some(word) => match String::from_str(alloc, word) {
-            Ok(word) => Ok(word),
-            Err(_) => Err(Stop::Memory),
-        },
-        None => Err(Stop::Usage),
-    }
-}
-
-fn matches_of<'a>(alloc: Global, words: &'a [String]) -> Result<ArgMatches<'a>, Error> {
+/// The program with its commands.
+fn command<'a>(alloc: Global) -> Result<Command<'a>, Error> {
     let run = Command::new(alloc, "run")
-        .arg(number(alloc, "limit", MOST_CELLS as i64, "10000"))?
-        .arg(number(alloc, "depth", MOST_STATES as i64, "100"))?
+        .about("Answers the script on standard input")
+        .after_help(SCRIPT)
+        .arg(number(
+            alloc,
+            "limit",
+            MOST_CELLS as i64,
+            "10000",
+            "The most cells of a register, 1 to 1000000",
+        ))?
+        .arg(number(
+            alloc,
+            "depth",
+            MOST_STATES as i64,
+            "100",
+            "The most states that undo can go back, 1 to 10000",
+        ))?
         .arg(dir(alloc))?;
-    let cell = Command::new(alloc, "cell").arg(word(alloc, "CELL"))?;
+    let cell = Command::new(alloc, "cell")
+        .about("Tells what is known of a cell")
+        .arg(word(alloc, "CELL", "The token (64c) or the debug text (3/021) of a cell"))?;
     let check = Command::new(alloc, "check")
+        .about("Tells how many cells and leaves a union file has")
         .arg(dir(alloc))?
-        .arg(word(alloc, "FILE"))?;
+        .arg(word(alloc, "FILE", "The name of a file in the folder"))?;
     let command = Command::new(alloc, "s2calc")
+        .bin_name("s2calc")?
+        .about(ABOUT)
+        .after_help(AFTER)
+        .version("1.0.0")
         .subcommand_required(true)
         .subcommand(run)?
         .subcommand(cell)?
         .subcommand(check)?;
-    command.try_get_matches_from(words)
+    Ok(command)
 }
 
 /// A number from 1 on.
-fn number<'a>(alloc: Global, name: &'a str, most: i64, usual: &'a str) -> Arg<'a> {
+fn number<'a>(
+    alloc: Global,
+    name: &'a str,
+    most: i64,
+    usual: &'a str,
+    help: &'a str,
+) -> Arg<'a> {
     Arg::new(alloc, name)
         .long(name)
+        .value_name("N")
+        .help(help)
         .action(ArgAction::Set)
         .value_parser(value_parser!(usize).range(1..=most))
         .default_value(usual)
 }
 
-/// The folder of files, by its path.
+/// The folder of files, by its path. An empty path would name the root folder.
 fn dir<'a>(alloc: Global) -> Arg<'a> {
     Arg::new(alloc, "dir")
         .long("dir")
+        .value_name("PATH")
+        .help("The folder of the files")
         .action(ArgAction::Set)
+        .value_parser(ValueParser::NonEmptyString)
         .allow_hyphen_values(true)
         .default_value(".")
 }
 
 /// A word that has to stand there, whatever it begins with.
-fn word<'a>(alloc: Global, name: &'a str) -> Arg<'a> {
+fn word<'a>(alloc: Global, name: &'a str, help: &'a str) -> Arg<'a> {
     Arg::new(alloc, name)
+        .help(help)
         .required(true)
         .action(ArgAction::Set)
         .allow_hyphen_values(true)
-}
-
-fn stop_of(kind: ErrorKind) -> Stop {
-    match kind {
-        ErrorKind::DisplayHelp => Stop::Help,
-        ErrorKind::OutOfMemory => Stop::Memory,
-        _ => Stop::Usage,
-    }
 }

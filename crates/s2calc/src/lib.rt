@@ -6,8 +6,8 @@
 //! A line flows one way: bytes (`engine`, `kept`) -> what it says (the crate `s2script`) -> its effect
 //! (`execute`: `edits`, `files`, `sessions`, `questions`; `fetch` asks the shelf) -> an `answer` -> bytes
 //! (`output`, `answer_buffer`). `refusal` says why a line is refused, `fault` what ends a run, `flushing` when the
-//! writer is flushed; `limits` are the limits, `laws` laws about the definitions. For the program: `command_line` and
-//! `task` (what it is asked for), `program` and `check` (its other answers).
+//! writer is flushed; `limits` are the limits, `laws` laws about the definitions. For the program: `command_line`, `help`
+//! and `task` (what it is asked for), `program` and `check` (its other answers).
 #![tactic(auto)]
 
 mod answer;
@@ -21,6 +21,7 @@ mod fault;
 mod fetch;
 mod files;
 mod flushing;
+mod help;
 mod kept;
 mod laws;
 mod limits;
@@ -41,4 +42,4 @@ pub use laws::{
 };
 pub use program::{cell_answer, status};
 pub use refusal::Refusal;
-pub use task::{Job, Stop};
+pub use task::Job;

@@ -3,8 +3,7 @@
 /// What the program is asked for.
 #[derive(Debug, PartialEq, Eq, Drop)]
 pub enum Job {
-    /// To answer a script, with so many cells in a register and so many kept states at most, and files in a
-    /// folder.
+    /// To answer a script, with at most this many cells in a register and this many kept states, and files in a folder.
     Run {
         limit: usize,
         depth: usize,
@@ -19,15 +18,4 @@ pub enum Job {
         dir: String,
         name: String,
     },
-}
-
-/// Why there is nothing to do.
-#[derive(Clone, Copy, Debug, PartialEq, Eq)]
-pub enum Stop {
-    /// Help was asked for.
-    Help,
-    /// The words make no sense.
-    Usage,
-    /// There was no memory.
-    Memory,
 }
