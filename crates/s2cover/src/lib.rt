@@ -25,6 +25,3 @@ pub use looks::Looks;
 pub use rect::FaceRect;
 pub use region::{CoverFault, Part, Region};
 pub use union::Clip;
-
-#[cfg(test)]
-mod tests;

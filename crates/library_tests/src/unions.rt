@@ -1,5 +1,5 @@
-use crate::{CellUnion, is_normalized, normalise};
 use s2cell::CellId;
+use s2union::{CellUnion, is_normalized, normalise};
 use std::alloc::{AllocError, Global};
 
 /// The cells with these tokens.

@@ -5,7 +5,7 @@ use Rattle.std.proofs.lemmas.Nat.{pow-add}
 use Rattle.s2cell.specs.Cell.{IsCell, level_of, place_of, first_leaf, covers}
 use Rattle.s2cell.proofs.CellLemmas.{four_pos, own_place, first_leaf_of_cell, size_of_cell}
 use Rattle.s2cell.proofs.Leaves.{covers_there, covers_from}
-use Rattle.s2cover.proofs.tests.EvenRegion.part.Goals as goal
+use Rattle.library_tests.proofs.coverings.EvenRegion.part.Goals as goal
 
 even : (n : ℕ) → n % 2 ≡ 0 → (n % 2 == 0) ≡ true
 even n h = grind (arith, nat_tests)

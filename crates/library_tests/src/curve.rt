@@ -1,6 +1,5 @@
 //! Known places and squares, and the tables beside the curve bit by bit.
-use super::{FACE_LEAVES, Square};
-use crate::{CellId, way};
+use s2cell::{CellId, Square};
 
 /// The first sixteen leaves of faces 0 and 1, and their places on each.
 const FIRST_LEAVES: [(u64, [(u8, u32, u32); 2]); 16] = [
@@ -23,7 +22,7 @@ const FIRST_LEAVES: [(u64, [(u8, u32, u32); 2]); 16] = [
 ];
 
 /// The last leaf of a face, counted from its first.
-const LAST: u64 = FACE_LEAVES - 1;
+const LAST: u64 = (1 << 60) - 1;
 
 /// The leaf with a number, counted from the first of its face.
 fn leaf(face: u8, number: u64) -> Option<CellId> {

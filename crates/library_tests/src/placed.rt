@@ -1,5 +1,5 @@
 //! Squares that are carried down beside those that each cell tells.
-use super::PlacedCell;
+use s2cell::PlacedCell;
 
 #[test]
 fn carried_squares_are_the_cells_own(rt: HostRuntime) {

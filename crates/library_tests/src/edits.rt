@@ -1,7 +1,7 @@
 //! Worked examples of edits and of their history.
 mod sessions;
 
-use crate::{
+use s2edit::{
     Change, Edit, EditFault, EditTally, Editor, MOST_STATES, REGISTERS, Register, run_edits,
 };
 use s2cell::CellId;

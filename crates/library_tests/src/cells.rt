@@ -1,5 +1,5 @@
 //! Worked examples, as S2 answers them.
-use crate::CellId;
+use s2cell::CellId;
 use std::test::Fail;
 
 #[test]

@@ -3,7 +3,7 @@ ghost use Rattle.std.specs.Prelude.{◌≤◌, IfOk};
 ghost use Rattle.s2file.specs.Session.{content_of, IsContent};
 
 use super::{add, has_list, register, union_of};
-use crate::{Editor, RestoreFault};
+use s2edit::{Editor, RestoreFault};
 use s2file::{Move, Session, decode_session, encode_session};
 use std::alloc::Global;
 use std::test::Fail;

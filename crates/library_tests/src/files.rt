@@ -1,6 +1,6 @@
-//! Worked examples of the file format.
-mod format;
+//! Worked examples of the two file formats.
 mod sessions;
+mod unions;
 
 use std::alloc::{AllocError, Global};
 

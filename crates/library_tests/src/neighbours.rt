@@ -1,5 +1,5 @@
 //! Known neighbours and ancestors.
-use crate::CellId;
+use s2cell::CellId;
 use std::process::Abort;
 
 /// The cell with a token.

@@ -1,7 +1,6 @@
 //! The session format: worked files, refused files, and every text that differs from a file in one byte.
 use super::bytes_of;
-use crate::session::SessionFault;
-use crate::session_file::{decode_session, encode_session};
+use s2file::{SessionFault, decode_session, encode_session};
 use std::alloc::{AllocError, Global};
 use std::test::Fail;
 

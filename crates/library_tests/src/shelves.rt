@@ -2,9 +2,7 @@
 mod faulty;
 
 use self::faulty::{Fails, Faulty};
-use crate::dir_shelf::DirShelf;
-use crate::memory_shelf::MemoryShelf;
-use crate::shelf::{Shelf, ShelfFault};
+use s2shelf::{DirShelf, MemoryShelf, Shelf, ShelfFault};
 use std::fs;
 use std::io::ErrorKind;
 use std::os::unix::fs::symlink;

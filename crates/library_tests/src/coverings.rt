@@ -2,7 +2,7 @@
 ghost use Rattle.std.specs.Prelude.{◌≡◌, ◌≤◌, ◌<◌, ◌↔◌, ◌%◌, ◌==◌, ℕ, true, false};
 ghost use Rattle.s2cell.specs.Cell.{covers};
 
-use crate::{
+use s2cover::{
     Clip, CoverFault, FaceRect, Looks, Part, Region, inner, outer, rect_inner, rect_outer,
 };
 use s2cell::CellId;

@@ -1,8 +1,7 @@
 //! The file format, by its two tables and by texts that differ from a file in one byte.
 use super::bytes_of;
-use crate::fault::FileFault;
-use crate::laws::round_trip;
-use crate::union_file::{decode, encode};
+use s2file::laws::round_trip;
+use s2file::{FileFault, decode, encode};
 use s2union::CellUnion;
 use std::test::Fail;
 
