@@ -28,6 +28,3 @@ pub const MOST_CELLS: usize = 1_000_000;
 
 /// The most states that may ever be kept: the greatest depth of an editor.
 pub const MOST_STATES: usize = 10_000;
-
-#[cfg(test)]
-mod tests;
