@@ -14,6 +14,8 @@ pub mod SetRuns
 pub mod Telling
 pub mod Contents
 pub mod Following
+pub mod Joining
+pub mod InTurn
 pub mod Restoring
 pub mod Saving
 pub mod Spelling

@@ -10,6 +10,7 @@
 mod change;
 mod editor;
 mod edits;
+mod followed;
 mod lacking;
 mod register;
 mod session;
