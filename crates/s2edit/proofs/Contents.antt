@@ -11,6 +11,7 @@ use Rattle.s2union.proofs.Applied.{applied-between, Fits-between}
 use Rattle.s2file.specs.declared.session.Move.{Move}
 use Rattle.s2file.specs.Session.{Moved, Content, moved_of, IsMoved, IsContent, IsRegisterList, IsChangeList}
 use Rattle.s2file.specs.declared.TheConstants.{SESSION_CELLS, SESSION_CHANGES, SESSION_REGISTERS}
+use Rattle.s2edit.proofs.Sizes.{fewer_without}
 use Rattle.s2edit.specs.History.{History, AllLists, AllTables}
 use Rattle.s2edit.specs.Diff.{Diff, IsDiff, between}
 use Rattle.s2edit.specs.Leads.{list_at, Leads}
@@ -25,12 +26,6 @@ cells_of_without : (us vs : List ℕ) → AllByRecursion IsCell us → AllByRecu
 cells_of_without [] vs a = tt
 cells_of_without (u ∷ us) vs a =
     cond_both (has vs u) (cells_without us vs) (u ∷ cells_without us vs) (AllByRecursion IsCell) (λ _. cells_of_without us vs a.1) (λ _. (a.0, cells_of_without us vs a.1))
-
-fewer_without : (us vs : List ℕ) → length (cells_without us vs) ≤ length us
-fewer_without [] vs = omega arith
-fewer_without (u ∷ us) vs =
-    let rest = fewer_without us vs in
-    cond_both (has vs u) (cells_without us vs) (u ∷ cells_without us vs) (λ (l : List ℕ). length l ≤ length (u ∷ us)) (λ _. omega arith) (λ _. omega arith)
 
 change_list : (us vs : List ℕ) → IsWithin SESSION_CELLS us → IsLocal vs → IsChangeList (cells_without us vs)
 change_list us vs w l = record {

@@ -21,16 +21,6 @@ use Rattle.s2edit.proofs.Numbers.{cells_lost-self}
 use Rattle.std.proofs.lemmas.Option.{slice_get_read, get_or_from_slice_get}
 use Rattle.s2edit.proofs.Tables.{AllWithin-at, within_after}
 
-length-insert_cell : (x : ℕ) (u : List ℕ) → length (insert_cell x u) ≡ length u + 1
-length-insert_cell x [] = refl
-length-insert_cell x (y ∷ u) =
-    let rest = length-insert_cell x u in
-    cond_both (ltb x y) (x ∷ y ∷ u) (y ∷ insert_cell x u) (λ (l : List ℕ). length l ≡ length (y ∷ u) + 1) (λ _. omega arith) (λ _. omega arith)
-
-pub length-insert_cells : (xs u : List ℕ) → length (insert_cells xs u) ≡ length xs + length u
-length-insert_cells [] u = omega arith
-length-insert_cells (x ∷ xs) u = omega (arith, length-insert_cells xs (insert_cell x u), length-insert_cell x u)
-
 -- a change that isn't empty changes the list
 pub applied_differs : (out put u : List ℕ) → IsLocal u → Fits out put u → 0 < length out + length put → applied out put u ≢ u
 applied_differs out put u local f some e =

@@ -10,7 +10,7 @@ use Rattle.s2file.specs.Session.{AreApart}
 use Rattle.s2edit.specs.Diff.{IsDiff}
 use Rattle.s2edit.specs.Followed.{joined, both_out, CanFollowOn}
 use Rattle.s2edit.proofs.DiffLemmas.{cells_without-nothing}
-use Rattle.s2edit.proofs.Following.{length-insert_cells}
+use Rattle.s2edit.proofs.Sizes.{length-insert_cells}
 
 -- a change of nothing
 pub nothing_applied : (out put us : List ℕ) → out ≡ [] → put ≡ [] → applied out put us ≡ us
