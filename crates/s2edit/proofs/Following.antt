@@ -1,9 +1,9 @@
 -- Registers that are followed along changes.
-use Rattle.std.proofs.Common.{◌≡◌, ◌≢◌, ℕ, zero, suc, ◌+◌, ◌<◌, ◌≤◌, Bool, true, false, ◌&&◌, ltb, List, [], ◌∷◌, ◌++◌, length, map, take, drop, get_or, slice_get, slice_set, Some, add-one, drop-cons, refl, sym, ap, ◌∙◌, subst, arith}
-use Rattle.std.proofs.lemmas.Bool.{cond_both, false≢true, true≢false}
-use Rattle.std.proofs.lemmas.List.{length-set, length-map}
+use Rattle.std.proofs.Common.{◌≡◌, ◌≢◌, ℕ, zero, suc, ◌+◌, ◌<◌, ◌≤◌, Bool, true, false, ◌&&◌, List, [], ◌∷◌, ◌++◌, length, map, take, drop, get_or, slice_get, slice_set, add-one, drop-cons, refl, sym, ap, ◌∙◌, subst, arith}
+use Rattle.std.proofs.lemmas.Bool.{false≢true, true≢false}
+use Rattle.std.proofs.lemmas.List.{length-set}
 use Rattle.s2union.specs.Union.{Union, IsLocal}
-use Rattle.s2union.specs.Apply.{has, cells_without, insert_cell, insert_cells, applied, Fits}
+use Rattle.s2union.specs.Apply.{has, cells_without, applied, Fits}
 use Rattle.s2union.proofs.Applied.{only_out, only_put}
 use Rattle.std.specs.List.{AllByRecursion}
 use Rattle.s2file.specs.Session.{Moved, IsMoved, moved_of}
@@ -13,23 +13,13 @@ use Rattle.s2file.specs.declared.TheConstants.{SESSION_CELLS}
 use Rattle.s2edit.specs.History.{AllLists}
 use Rattle.s2edit.specs.Diff.{Diff}
 use Rattle.s2edit.specs.Leads.{list_at}
-use Rattle.s2edit.specs.Chain.{list_after, table_after, FitsTable, FitAlong, lists_of, AllWithin, AllRoomy, union_of}
+use Rattle.s2edit.specs.Chain.{list_after, table_after, FitsTable, FitAlong, AllWithin, AllRoomy}
 use Rattle.s2edit.specs.Following.{FailsToFollow, Follows, Steps, HaveRoom, KeepRoom}
 use Rattle.s2edit.specs.declared.session.RestoreFault.{RestoreFault}
 use Rattle.s2edit.specs.declared.session.RestoreFault.TheVariants.{Fit, TooDeep, TooMany, Memory}
 use Rattle.s2edit.proofs.Numbers.{cells_lost-self}
 use Rattle.std.proofs.lemmas.Option.{slice_get_read, get_or_from_slice_get}
 use Rattle.s2edit.proofs.Tables.{AllWithin-at, within_after}
-
-length-insert_cell : (x : ℕ) (u : List ℕ) → length (insert_cell x u) ≡ length u + 1
-length-insert_cell x [] = refl
-length-insert_cell x (y ∷ u) =
-    let rest = length-insert_cell x u in
-    cond_both (ltb x y) (x ∷ y ∷ u) (y ∷ insert_cell x u) (λ (l : List ℕ). length l ≡ length (y ∷ u) + 1) (λ _. omega arith) (λ _. omega arith)
-
-pub length-insert_cells : (xs u : List ℕ) → length (insert_cells xs u) ≡ length xs + length u
-length-insert_cells [] u = omega arith
-length-insert_cells (x ∷ xs) u = omega (arith, length-insert_cells xs (insert_cell x u), length-insert_cell x u)
 
 -- a change that isn't empty changes the list
 pub applied_differs : (out put u : List ℕ) → IsLocal u → Fits out put u → 0 < length out + length put → applied out put u ≢ u

@@ -1,16 +1,15 @@
 -- Two changes of a list in turn are one change: what it takes out and puts in, and that it fits as they do.
-use Rattle.std.proofs.Common.{◌≡◌, ℕ, ◌+◌, ◌≤◌, Bool, true, false, not, ◌||◌, ◌&&◌, List, [], ◌∷◌, length, refl, sym, ap, ◌∙◌, subst, arith}
+use Rattle.std.proofs.Common.{◌≡◌, ℕ, ◌+◌, Bool, true, false, not, ◌||◌, ◌&&◌, List, [], length, refl, sym, ap, ◌∙◌, subst, arith}
 use Rattle.std.proofs.lemmas.Grind.{common_steps}
 use Rattle.std.specs.List.Sorted.{IsStrictlyIncreasing}
 use Rattle.s2union.specs.Union.{IsLocal}
 use Rattle.s2union.specs.Apply.{has, cells_without, insert_cells, applied, Fits}
 use Rattle.s2union.proofs.CellLists.{IsAscending, same_cells, has-cells_without, has-insert_cells, has-applied, IsAscending-cells_without, IsAscending-insert_cells, IsAscending-applied, ascends_from, increasing_from}
 use Rattle.s2union.proofs.Applied.{local_ascends}
-use Rattle.s2file.specs.Session.{AreApart}
 use Rattle.s2edit.specs.Diff.{IsDiff}
-use Rattle.s2edit.specs.Followed.{joined, both_out, CanFollowOn}
+use Rattle.s2edit.specs.Followed.{both_out, CanFollowOn}
 use Rattle.s2edit.proofs.DiffLemmas.{cells_without-nothing}
-use Rattle.s2edit.proofs.Following.{length-insert_cells}
+use Rattle.s2edit.proofs.Sizes.{length-insert_cells}
 
 -- a change of nothing
 pub nothing_applied : (out put us : List ℕ) → out ≡ [] → put ≡ [] → applied out put us ≡ us

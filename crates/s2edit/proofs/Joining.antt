@@ -1,18 +1,14 @@
 -- Two ascending lists of cells that are joined to one, and two changes in turn as one.
-use Rattle.std.proofs.Common.{◌≡◌, ℕ, zero, suc, ◌+◌, ◌-◌, ◌<◌, ◌≤◌, Bool, true, false, not, ◌||◌, ◌&&◌, eqb, ltb, List, [], ◌∷◌, ◌++◌, length, take, drop, get_or, refl, sym, ap, ◌∙◌, subst, arith, eq-eqb, lt-ltb, le-ltb, append_assoc, length-drop, ◌⊎◌, ⊎_elim}
+use Rattle.std.proofs.Common.{◌≡◌, ℕ, ◌+◌, ◌-◌, ◌<◌, ◌≤◌, true, eqb, ltb, List, [], ◌∷◌, ◌++◌, length, take, drop, get_or, refl, sym, ap, ◌∙◌, subst, arith, eq-eqb, lt-ltb, le-ltb, append_assoc, length-drop, ◌⊎◌, ⊎_elim}
 use Rattle.std.proofs.lemmas.Bool.{cond-true, cond-false, true≢false, false≢true, or_left}
 use Rattle.std.proofs.lemmas.Grind.{common_steps}
 use Rattle.std.proofs.lemmas.List.{take_all, drop_all, append-nil}
 use Rattle.std.specs.List.Sorted.{IsStrictlyIncreasing}
-use Rattle.s2union.specs.Union.{IsLocal}
-use Rattle.s2union.specs.Apply.{has, cells_without, insert_cell, insert_cells, applied, Fits}
-use Rattle.s2union.proofs.CellLists.{AllAbove, IsAscending, same_cells, has-below, has-cells_without, has-insert_cells, has-applied, IsAscending-cells_without, IsAscending-insert_cells, IsAscending-applied, AllAbove-trans, ascends_from, increasing_from}
-use Rattle.s2union.proofs.Applied.{local_ascends}
-use Rattle.s2edit.specs.Diff.{IsDiff}
+use Rattle.s2union.specs.Apply.{has, insert_cell, insert_cells}
+use Rattle.s2union.proofs.CellLists.{AllAbove, IsAscending, has-below, ascends_from}
 use Rattle.s2file.specs.Session.{AreApart}
-use Rattle.s2edit.specs.Followed.{joined, both_out, CanFollowOn}
+use Rattle.s2edit.specs.Followed.{joined}
 use Rattle.s2edit.proofs.Differing.{IsAscending-drop, push_on, at_head, above_rest, above_all}
-use Rattle.s2edit.proofs.DiffLemmas.{cells_without-nothing}
 
 -- a cell below all others stands first
 insert_cells-above : (p : ℕ) (ps us : List ℕ) → AllAbove p ps → insert_cells ps (p ∷ us) ≡ p ∷ insert_cells ps us

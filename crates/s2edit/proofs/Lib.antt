@@ -13,6 +13,7 @@ pub mod OneEnd
 pub mod SetRuns
 pub mod Telling
 pub mod Contents
+pub mod Sizes
 pub mod Following
 pub mod Joining
 pub mod InTurn

@@ -1,15 +1,15 @@
-use Rattle.std.proofs.Common.{◌≡◌, ◌∷◌, ℕ, List, length, map, refl, sym, ap, ◌∙◌, subst, true, arith}
+use Rattle.std.proofs.Common.{◌≡◌, ℕ, List, length, map, refl, sym, ap, ◌∙◌, subst, true, arith}
 use Rattle.std.proofs.lemmas.List.{drop_all, length-map}
 use Rattle.std.proofs.lemmas.Result.{err_from_is_err_and}
 use Rattle.s2union.specs.Union.{Union}
 use Rattle.s2file.specs.Session.{moved_of}
 use Rattle.s2file.specs.declared.session.Move.{Move}
 use Rattle.s2file.specs.declared.TheConstants.{SESSION_CELLS}
-use Rattle.s2edit.specs.Diff.{Diff, inverse}
+use Rattle.s2edit.specs.Diff.{Diff}
 use Rattle.s2edit.specs.Chain.{lists_of, FitsTable, FitAlong}
 use Rattle.s2edit.specs.Session.{diff}
 use Rattle.s2edit.specs.declared.TheConstants.{REGISTERS}
-use Rattle.s2edit.proofs.Following.{Walks, same_diff, walk_starts, walk_on, walk_needs, walk_ends, fails, steps_count, each_next, swapped}
+use Rattle.s2edit.proofs.Following.{Walks, same_diff, walk_starts, walk_on, walk_needs, walk_ends, fails, steps_count, each_next}
 use Rattle.s2edit.proofs.session.follow_ahead.Goals as goal
 
 pub loop-change-init : goal.loop-change-init

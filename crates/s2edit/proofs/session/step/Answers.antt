@@ -1,4 +1,4 @@
-use Rattle.std.proofs.Common.{◌≡◌, ◌∙◌, slice_set, refl, arith}
+use Rattle.std.proofs.Common.{◌∙◌, slice_set, refl, arith}
 use Rattle.s2edit.proofs.Following.{step_few, step_many}
 use Rattle.s2edit.proofs.session.step.Goals as goal
 

@@ -1,4 +1,4 @@
-use Rattle.std.proofs.Common.{◌≡◌, ◌+◌, length, ap, arith}
+use Rattle.std.proofs.Common.{length, ap, arith}
 use Rattle.s2edit.specs.Followed.{start_of}
 use Rattle.s2edit.proofs.InTurn.{length_without, length_applied}
 use Rattle.s2edit.proofs.followed.Followed.len.Goals as goal

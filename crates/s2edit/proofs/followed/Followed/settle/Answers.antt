@@ -1,4 +1,4 @@
-use Rattle.std.proofs.Common.{◌≡◌, ◌∙◌}
+use Rattle.std.proofs.Common.{◌∙◌}
 use Rattle.s2edit.specs.Followed.{start_of}
 use Rattle.s2edit.proofs.InTurn.{nothing_applied, nothing_fits, same_applied}
 use Rattle.s2edit.proofs.followed.Followed.settle.Goals as goal
