@@ -5,6 +5,7 @@ mod Formed
 mod Rectangles
 mod Regions
 mod Coverings
+mod OwnCells
 mod Searches
 mod Squares
 mod Rounded

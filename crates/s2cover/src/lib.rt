@@ -11,6 +11,7 @@
 #![tactic(auto)]
 
 mod covering;
+mod cut;
 mod descent;
 mod grid;
 mod looks;
@@ -20,6 +21,7 @@ mod rounding;
 mod union;
 
 pub use covering::{covering_sets, inner, normal_forms, outer};
+pub use cut::{union_inner, union_outer};
 pub use grid::{rect_inner, rect_outer};
 pub use looks::Looks;
 pub use rect::FaceRect;
