@@ -10,4 +10,5 @@ mod Searches
 mod Squares
 mod Rounded
 mod Faces
+mod Clips
 pub mod NormalForms

@@ -113,13 +113,13 @@ outer_cells k (c ∷ u) h all x =
     ∙ ap (λ b. b || outer_set (has_leaf u) k x) (outer_cell c k x (all 0 c (omega arith)) h)
     ∙ ap (λ b. covers (cut_at k c) x || b) (outer_cells k u h (λ i d l. all (suc i) d (omega arith)) x)
 
-kept_one : (b : Bool) (c x : ℕ) (v : List ℕ) → has_leaf (cond b (c ∷ v) v) x ≡ ((b && covers c x) || has_leaf v x)
+pub kept_one : (b : Bool) (c x : ℕ) (v : List ℕ) → has_leaf (cond b (c ∷ v) v) x ≡ ((b && covers c x) || has_leaf v x)
 kept_one true c x v = refl
 kept_one false c x v = refl
 
-kept_any : (k x : ℕ) (u : List ℕ) → has_leaf (cells_kept k u) x ≡ list_any (λ c. reaches k c && covers c x) u
-kept_any k x [] = refl
-kept_any k x (c ∷ u) = kept_one (reaches k c) c x (filter (reaches k) u) ∙ ap (λ b. (reaches k c && covers c x) || b) (kept_any k x u)
+pub filter_any : (p : ℕ → Bool) (x : ℕ) (u : List ℕ) → has_leaf (filter p u) x ≡ list_any (λ c. p c && covers c x) u
+filter_any p x [] = refl
+filter_any p x (c ∷ u) = kept_one (p c) c x (filter p u) ∙ ap (λ b. (p c && covers c x) || b) (filter_any p x u)
 
 -- a cell around another lies no deeper
 around_level : (b d : ℕ) → IsCell b → IsCell d → Within b d → level_of d ≤ level_of b
@@ -171,7 +171,7 @@ inner_cells k u h l x =
     same_bool (inner_set (has_leaf u) k x) (list_any (λ c. reaches k c && covers c x) u)
     (λ t. kept_to k x u l (inner_in (has_leaf u) k x h t))
     (λ v. inner_from (has_leaf u) k x (kept_from k x u h l.cells v))
-    ∙ sym (kept_any k x u)
+    ∙ sym (filter_any (reaches k) x u)
 
 -- ---- what the calls answer
 

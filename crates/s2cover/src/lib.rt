@@ -10,6 +10,7 @@
 //! belongs to the answer, and the looks are bounded by the answer's cells.
 #![tactic(auto)]
 
+mod clip;
 mod covering;
 mod cut;
 mod descent;
@@ -20,6 +21,7 @@ mod region;
 mod rounding;
 mod union;
 
+pub use clip::{clip_inner, clip_outer};
 pub use covering::{covering_sets, inner, normal_forms, outer};
 pub use cut::{union_inner, union_outer};
 pub use grid::{rect_inner, rect_outer};
