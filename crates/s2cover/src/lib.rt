@@ -10,7 +10,9 @@
 //! belongs to the answer, and the looks are bounded by the answer's cells.
 #![tactic(auto)]
 
+mod clip;
 mod covering;
+mod cut;
 mod descent;
 mod grid;
 mod looks;
@@ -19,7 +21,9 @@ mod region;
 mod rounding;
 mod union;
 
+pub use clip::{clip_inner, clip_outer};
 pub use covering::{covering_sets, inner, normal_forms, outer};
+pub use cut::{union_inner, union_outer};
 pub use grid::{rect_inner, rect_outer};
 pub use looks::Looks;
 pub use rect::FaceRect;
