@@ -3,15 +3,14 @@
 
 ghost use Rattle.std.specs.Prelude.{◌≤◌};
 
-use s2calc::{Job, RunFault, Stop, Tally, cell_answer, check_answer, job, run_promptly, status};
+use s2calc::{
+    AnswerBuffer, Job, RunFault, Stop, Tally, cell_answer, check_answer, job, run_promptly, status,
+};
 use s2edit::{Editor, MOST_CELLS, MOST_STATES};
 use s2shelf::DirShelf;
-use std::io::{BufWriter, ErrorKind};
+use std::io::ErrorKind;
 use std::process::ExitCode;
 use std::{env, io};
-
-/// How many bytes of answers are gathered before they go out.
-const OUTPUT_SIZE: usize = 65536;
 
 const HELP: &str =
     "s2calc run [--limit N] [--depth N] [--dir PATH]    answers the script on standard input\ns2calc cell CELL                                   answers one `cell CELL`\ns2calc check [--dir PATH] FILE                     says what a union file stands for";
@@ -49,7 +48,7 @@ fn run_script(rt: &HostRuntime, limit: usize, depth: usize, dir: &str) -> ExitCo
     let Ok(mut shelf) = DirShelf::at(rt, dir) else {
         return ended(rt, &Err(RunFault::Memory));
     };
-    let Ok(mut writer) = BufWriter::with_capacity(rt.alloc(), OUTPUT_SIZE, io::writer(rt)) else {
+    let Ok(mut writer) = AnswerBuffer::new(rt.alloc(), io::writer(rt)) else {
         return ended(rt, &Err(RunFault::Memory));
     };
     let result = run_promptly(

@@ -9,6 +9,7 @@ pub mod Sessions
 pub mod Step
 pub mod Run
 pub mod Output
+pub mod Buffered
 pub mod Answer
 pub mod Execute
 pub mod Stands

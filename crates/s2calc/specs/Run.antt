@@ -1,6 +1,6 @@
 -- What a run does, over the bytes that it reads and writes.
 use Rattle.std.specs.Prelude.{◌≡◌, ℕ, ◌⊎◌, List, [], ◌∷◌, Option, Result, MatchResult}
-use Rattle.std.specs.Io.KnownBytes.{Appends, Consumes, IsAtEnd}
+use Rattle.std.specs.Io.KnownBytes.{Appends, Consumes, IsAtEnd, append_known}
 use Rattle.s2calc.specs.World.{World}
 use Rattle.s2calc.specs.declared.engine.Tally.{Tally}
 use Rattle.s2calc.specs.declared.fault.RunFault.{RunFault}
@@ -79,17 +79,23 @@ Faults Input ends old new = StopsReading ends old new
 Faults Output ends old new = StopsWriting ends old new ⊎ StopsFlushing ends old new
 Faults Memory ends old new = NeverBegins ends old new
 
--- The same of a run that flushes before each read too: if such a flush fails, the lines that were read whole were carried
--- out, and just their answers were written.
-abbrev pub PromptFaults : RunFault → Ends → World → World → Type 0
-PromptFaults Input ends old new = StopsReading ends old new
-PromptFaults Output ends old new = StopsReading ends old new ⊎ StopsWriting ends old new ⊎ StopsFlushing ends old new
-PromptFaults Memory ends old new = NeverBegins ends old new
-
 -- a run, by its result
 abbrev pub Runs : Ends → World → World → Result Tally RunFault → Type 0
 Runs ends old new result = MatchResult result (λ tally. Finishes ends old new tally) (λ fault. Faults fault ends old new)
 
--- a run that flushes before each read too, by its result
-abbrev pub RunsPromptly : Ends → World → World → Result Tally RunFault → Type 0
-RunsPromptly ends old new result = MatchResult result (λ tally. Finishes ends old new tally) (λ fault. PromptFaults fault ends old new)
+-- the same ends, with what waits in the writer's buffer counted as written
+abbrev pub with_waiting : Ends → List ℕ → Ends
+with_waiting ends waiting = record ends { output_new = append_known ends.output_new waiting }
+
+-- What a run over a buffer leaves, where the ends have what has reached the writer below, and these bytes wait: after `Input`
+-- all answers to the lines that were read whole have reached it. After `Output` what was written, in part to the buffer, is as
+-- after a run without one, or a flush before a read failed: then it is just the answers to the lines that were read whole.
+abbrev pub PromptFaults : RunFault → Ends → List ℕ → World → World → Type 0
+PromptFaults Input ends waiting old new = StopsReading ends old new
+PromptFaults Output ends waiting old new =
+    StopsReading (with_waiting ends waiting) old new ⊎ StopsWriting (with_waiting ends waiting) old new ⊎ StopsFlushing (with_waiting ends waiting) old new
+PromptFaults Memory ends waiting old new = NeverBegins (with_waiting ends waiting) old new
+
+-- A run over a buffer that is flushed before each read, by its result: after a run that ends well all answers have reached the writer.
+abbrev pub RunsPromptly : Ends → List ℕ → World → World → Result Tally RunFault → Type 0
+RunsPromptly ends waiting old new result = MatchResult result (λ tally. Finishes ends old new tally) (λ fault. PromptFaults fault ends waiting old new)

@@ -1,16 +1,14 @@
 -- Where a run stands in its script.
 use Rattle.std.specs.Prelude.{◌≡◌, ℕ, List, ◌++◌, ◌⊎◌, Option, Result, MatchResult, take}
 use Rattle.s2calc.specs.declared.fault.RunFault.{RunFault}
-use Rattle.s2calc.specs.declared.fault.RunFault.TheVariants.{Output}
+use Rattle.s2calc.specs.declared.fault.RunFault.TheVariants.{Input, Output, Memory}
 use Rattle.std.specs.Io.KnownBytes.{Appends}
 use Rattle.s2calc.specs.declared.limits.TheConstants.{KEPT}
 use Rattle.s2calc.specs.World.{World}
 use Rattle.s2calc.specs.declared.engine.Tally.{Tally}
 use Rattle.s2script.specs.Lines.{BeginsWith, IsUnbroken, lines}
 use Rattle.s2calc.specs.Replies.{Reply, texts, tally_of, IsCutOff}
-use Rattle.s2calc.specs.Run.{Steps, Ends, Finishes, Faults, PromptFaults}
-use Rattle.s2calc.specs.declared.engine.Flushing.{Flushing}
-use Rattle.s2calc.specs.declared.engine.Flushing.TheVariants.{AtTheEnd, BeforeEachRead}
+use Rattle.s2calc.specs.Run.{Steps, Ends, Finishes, StopsReading, StopsWriting, StopsFlushing, NeverBegins}
 
 -- From start, over these bytes: the lines that a newline ends were carried out with these replies, and of the rest the first `KEPT` bytes are kept.
 pub record Stands (start : World) (script : List ℕ) (replies : List Reply) (editor : World) (kept : List ℕ) (tally : Tally) : Type 0 where
@@ -64,10 +62,12 @@ abbrev pub Closes : World → List ℕ → List Reply → World → Option (List
 Closes start script replies editor output_old output_new result =
     MatchResult result (Ended start script replies editor output_old output_new) (λ fault. (fault ≡ Output) × (EndsInPart start script replies editor output_old output_new ⊎ EndsUnflushed start script replies editor output_old output_new))
 
--- what a run leaves that ends with this fault, by when it flushes
-abbrev pub FaultsBy : Flushing → RunFault → Ends → World → World → Type 0
-FaultsBy AtTheEnd fault ends old new = Faults fault ends old new
-FaultsBy BeforeEachRead fault ends old new = PromptFaults fault ends old new
+-- what a run leaves that ends with this fault, by whether a flush before a read may fail
+abbrev pub FaultsBy : Type 0 → RunFault → Ends → World → World → Type 0
+FaultsBy may_fail Input ends old new = StopsReading ends old new
+FaultsBy may_fail Output ends old new = (may_fail × StopsReading ends old new) ⊎ StopsWriting ends old new ⊎ StopsFlushing ends old new
+FaultsBy may_fail Memory ends old new = NeverBegins ends old new
 
-abbrev pub RunsBy : Flushing → Ends → World → World → Result Tally RunFault → Type 0
-RunsBy flushing ends old new result = MatchResult result (λ tally. Finishes ends old new tally) (λ fault. FaultsBy flushing fault ends old new)
+-- a run, by its result and by whether a flush before a read may fail
+abbrev pub RunsBy : Type 0 → Ends → World → World → Result Tally RunFault → Type 0
+RunsBy may_fail ends old new result = MatchResult result (λ tally. Finishes ends old new tally) (λ fault. FaultsBy may_fail fault ends old new)

@@ -1,20 +1,22 @@
 //! The run of a script.
-ghost use Rattle.std.specs.Prelude.{◌≡◌, ℕ, List, [], ◌∷◌, ◌++◌, OnOk, OnErr, IfOk, IfErr, IfSome, IfNone, MatchResult, ◌<◌, length};
-ghost use Rattle.std.specs.Io.KnownBytes.{Appends, Keeps};
+ghost use Rattle.std.specs.Prelude.{◌≡◌, ℕ, List, [], ◌∷◌, ◌++◌, OnOk, OnErr, IfOk, IfErr, IfSome, IfNone, MatchResult, ◌<◌, ◌≤◌, length};
+ghost use Rattle.std.specs.Io.KnownBytes.{Keeps};
 ghost use Rattle.s2union.specs.Union.{IsNormalForm, has_leaf};
 ghost use Rattle.s2edit.specs.History.{EachList};
 ghost use Rattle.s2calc.specs.Replies.{Reply, tally_of};
 ghost use Rattle.s2calc.specs.Execute.{IsOutcome};
 ghost use Rattle.s2script.specs.Lines.{IsUnbroken, EndsLineAt};
 ghost use Rattle.s2calc.specs.Run.{Runs, RunsPromptly};
+ghost use Rattle.s2calc.specs.Buffered.{written_to};
 ghost use Rattle.s2calc.specs.World.{World, world};
 ghost use Rattle.s2calc.specs.Stands.{Stands, StandsAfter, StopsInside, Closes, RunsBy};
 
+use crate::answer_buffer::AnswerBuffer;
 use crate::execute::{Outcome, execute};
 use crate::fault::RunFault;
+use crate::flushing::{AtTheEnd, BeforeEachRead, Flushing};
 use crate::kept::Kept;
-use crate::limits::READ_SIZE;
-use crate::output::flush;
+use crate::limits::{MOST_WAITING, READ_SIZE};
 use s2edit::Editor;
 use s2shelf::Shelf;
 use std::alloc::Global;
@@ -114,52 +116,41 @@ pub fn run<R: Read, W: Write, S: Shelf>(
 {
     let _before = editor.limit();
     let mut input = input_buffer(alloc)?;
-    let result = run_over(
-        alloc,
-        &mut input,
-        editor,
-        reader,
-        writer,
-        shelf,
-        Flushing::AtTheEnd,
-    );
+    let result = run_over::<R, W, S, AtTheEnd>(alloc, &mut input, editor, reader, writer, shelf);
     let _after = editor.limit();
     result
 }
 
-/// Runs a script as [`run`] does, and flushes the writer before each read too: so what a writer such as a `BufWriter`
-/// gathers goes out before the run waits for more of the script, and whoever typed a line sees its answer.
+/// Runs a script as [`run`] does, over a writer that gathers answers, and flushes it before each read too: so what it
+/// gathered goes out before the run waits for more of the script, and whoever typed a line sees its answer.
 ///
-/// What it answers, and what it leaves, is what `run` does; `Output` also if a flush before a read failed, after
-/// just the answers to the lines that were read whole.
+/// After `Ok` all answers have reached the writer below, and after `Input` just those to the lines that were read
+/// whole: nothing waits in the buffer then. After `Output`, also if a flush before a read failed, what was written is what
+/// [`run`] says, and of that at most 64 KiB wait in the buffer; they are lost when it is dropped.
 pub fn run_promptly<R: Read, W: Write, S: Shelf>(
     alloc: Global,
     editor: &mut Editor,
     reader: &mut R,
-    writer: &mut W,
+    writer: &mut AnswerBuffer<W>,
     shelf: &mut S,
 ) -> Result<Tally, RunFault>
     ensures runs { RunsPromptly (record {
       input_old = R.remaining reader.old;
       input_new = R.remaining reader.new;
-      output_old = W.contents writer.old;
-      output_new = W.contents writer.new;
-    }) (world editor.old (S.files shelf.old)) (world editor.new (S.files shelf.new)) result }
+      output_old = written_to W.contents writer.old;
+      output_new = W.contents writer.new.writer;
+    }) writer.new.waiting (world editor.old (S.files shelf.old)) (world editor.new (S.files shelf.new)) result }
+    ensures nothing_waits { MatchResult result (λ _. writer.new.waiting ≡ []) (λ fault. fault ≡ RunFault.Input → writer.new.waiting ≡ []) }
+    ensures few_wait { length writer.new.waiting ≤ MOST_WAITING }
     ensures before { EachList (λ u. IsNormalForm (has_leaf u) u) editor.old }
     ensures after { EachList (λ u. IsNormalForm (has_leaf u) u) editor.new }
 {
-    let _before = editor.limit();
+    let _before = (editor.limit(), writer.waiting());
     let mut input = input_buffer(alloc)?;
-    let result = run_over(
-        alloc,
-        &mut input,
-        editor,
-        reader,
-        writer,
-        shelf,
-        Flushing::BeforeEachRead,
+    let result = run_over::<R, AnswerBuffer<W>, S, BeforeEachRead>(
+        alloc, &mut input, editor, reader, writer, shelf,
     );
-    let _after = editor.limit();
+    let _after = (editor.limit(), writer.waiting());
     result
 }
 
@@ -174,30 +165,23 @@ fn input_buffer(alloc: Global) -> Result<Vec<u8>, RunFault>
     }
 }
 
-/// When the writer is flushed, beside the end.
-#[derive(Clone, Copy)]
-enum Flushing {
-    AtTheEnd,
-    BeforeEachRead,
-}
-
 /// The run, over a buffer for the reader.
-fn run_over<R: Read, W: Write, S: Shelf>(
+fn run_over<R: Read, W: Write, S: Shelf, F: Flushing<W>>(
     alloc: Global,
     input: &mut [u8],
     editor: &mut Editor,
     reader: &mut R,
     writer: &mut W,
     shelf: &mut S,
-    flushing: Flushing,
 ) -> Result<Tally, RunFault>
     requires { 0 < length input.old }
-    ensures { RunsBy flushing (record {
+    ensures runs { RunsBy F.may_fail (record {
       input_old = R.remaining reader.old;
       input_new = R.remaining reader.new;
       output_old = W.contents writer.old;
       output_new = W.contents writer.new;
     }) (world editor.old (S.files shelf.old)) (world editor.new (S.files shelf.new)) result }
+    ensures sent { MatchResult result (λ _. F.is_sent writer.new) (λ fault. fault ≡ RunFault.Input → F.is_sent writer.new) }
 {
     let mut kept = Kept::new();
     let mut tally = Tally {
@@ -205,9 +189,9 @@ fn run_over<R: Read, W: Write, S: Shelf>(
         refused: 0,
     };
     for _ in 0..u64::MAX {
-        hand_over(writer, flushing)?;
+        F::before_read(writer)?;
         match reader.read(input) {
-            Ok(0) => return finish(alloc, editor, &kept, tally, writer, shelf),
+            Ok(0) => return finish::<W, S, F>(alloc, editor, &kept, tally, writer, shelf),
             Ok(count) => take_in(
                 alloc,
                 editor,
@@ -220,22 +204,13 @@ fn run_over<R: Read, W: Write, S: Shelf>(
             Err(_) => return Err(RunFault::Input),
         }
     }
+    // 2^64 - 1 reads have not come to the end.
+    F::before_read(writer)?;
     Err(RunFault::Input)
 }
 
-/// Flushes the writer before a read, where that is asked for.
-fn hand_over<W: Write>(writer: &mut W, flushing: Flushing) -> Result<(), RunFault>
-    ensures kept { Keeps (W.contents writer.old) (W.contents writer.new) }
-    ensures fault { IfErr result (λ fault. (fault ≡ RunFault.Output) × (flushing ≡ Flushing.BeforeEachRead)) }
-{
-    match flushing {
-        Flushing::AtTheEnd => Ok(()),
-        Flushing::BeforeEachRead => flush(writer),
-    }
-}
-
 /// Carries out a last line that no newline ends, and flushes.
-fn finish<W: Write, S: Shelf>(
+fn finish<W: Write, S: Shelf, F: Flushing<W>>(
     alloc: Global,
     editor: &mut Editor,
     kept: &Kept,
@@ -243,24 +218,26 @@ fn finish<W: Write, S: Shelf>(
     writer: &mut W,
     shelf: &mut S,
 ) -> Result<Tally, RunFault>
-    ensures { (start : World) (script : List ℕ) (replies : List Reply) →
+    ensures closes { (start : World) (script : List ℕ) (replies : List Reply) →
         Stands start script replies (world editor.old (S.files shelf.old)) kept.now tally →
         Closes start script replies (world editor.new (S.files shelf.new)) (W.contents writer.old) (W.contents writer.new) result }
+    ensures sent { MatchResult result (λ _. F.is_sent writer.new) (λ fault. fault ≡ RunFault.Output) }
 {
     let line = kept.as_slice();
     if line.is_empty() {
-        return flushed(tally, writer);
+        return flushed::<W, F>(tally, writer);
     }
     let outcome = execute(alloc, editor, line, writer, shelf)?;
     tally.count(outcome);
-    flushed(tally, writer)
+    flushed::<W, F>(tally, writer)
 }
 
 /// Flushes the writer, and tells how many lines were answered.
-fn flushed<W: Write>(tally: Tally, writer: &mut W) -> Result<Tally, RunFault>
+fn flushed<W: Write, F: Flushing<W>>(tally: Tally, writer: &mut W) -> Result<Tally, RunFault>
     ensures kept { Keeps (W.contents writer.old) (W.contents writer.new) }
     ensures result { MatchResult result (λ told. told ≡ tally) (λ fault. fault ≡ RunFault.Output) }
+    ensures sent { OnOk result (F.is_sent writer.new) }
 {
-    flush(writer)?;
+    F::at_the_end(writer)?;
     Ok(tally)
 }

@@ -4,13 +4,14 @@
 //! where one of them fails.
 //!
 //! A line flows one way: bytes (`engine`, `kept`) -> what it says (the crate `s2script`) -> its effect
-//! (`execute`: `edits`, `files`, `sessions`, `questions`; `fetch` asks the shelf) -> an `answer` -> bytes (`output`).
-//! `refusal` says why a line is refused, `fault` what ends a run; `limits` are the limits, `laws` laws about the
+//! (`execute`: `edits`, `files`, `sessions`, `questions`; `fetch` asks the shelf) -> an `answer` -> bytes (`output`, `answer_buffer`).
+//! `refusal` says why a line is refused, `fault` what ends a run; `flushing` when the writer is flushed, `limits` are the limits, `laws` laws about the
 //! definitions. For the program: `command_line` and `task` (what it is asked for), `program` and `check` (its other
 //! answers).
 #![tactic(auto)]
 
 mod answer;
+mod answer_buffer;
 mod check;
 mod command_line;
 mod edits;
@@ -19,6 +20,7 @@ mod execute;
 mod fault;
 mod fetch;
 mod files;
+mod flushing;
 mod kept;
 mod laws;
 mod limits;
@@ -29,6 +31,7 @@ mod refusal;
 mod sessions;
 mod task;
 
+pub use answer_buffer::AnswerBuffer;
 pub use check::check_answer;
 pub use command_line::job;
 pub use engine::{Tally, run, run_promptly};

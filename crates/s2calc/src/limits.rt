@@ -10,3 +10,6 @@ pub(crate) const KEPT: usize = LONGEST_LINE + 1;
 
 /// How many bytes a read asks for.
 pub(crate) const READ_SIZE: usize = 65_536;
+
+/// The most bytes of answers that wait in an `AnswerBuffer`.
+pub(crate) const MOST_WAITING: usize = 65_536;

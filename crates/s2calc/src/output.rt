@@ -1,10 +1,11 @@
 //! Writing, by a loop of its own.
-ghost use Rattle.std.specs.Prelude.{◌≡◌, OnOk, OnErr, IfErr};
+ghost use Rattle.std.specs.Prelude.{◌≡◌, ◌<◌, ◌≤◌, OnOk, OnErr, IfErr, length, take};
 ghost use Rattle.std.specs.Io.KnownBytes.{Appends, Keeps};
 ghost use Rattle.s2calc.specs.Output.{AppendsPart};
 
 use crate::fault::RunFault;
-use std::io::Write;
+use std::io;
+use std::io::{ErrorKind, Write};
 
 /// Writes all of the bytes, in as many calls as the writer needs.
 pub fn emit<W: Write>(writer: &mut W, bytes: &[u8]) -> Result<(), RunFault>
@@ -13,14 +14,30 @@ pub fn emit<W: Write>(writer: &mut W, bytes: &[u8]) -> Result<(), RunFault>
     ensures err { OnErr result (AppendsPart (W.contents writer.old) (W.contents writer.new) bytes.now) }
     ensures fault { IfErr result (λ fault. fault ≡ RunFault.Output) }
 {
-    let mut rest = bytes;
-    while !rest.is_empty() {
-        match writer.write(rest) {
-            Ok(0) | Err(_) => return Err(RunFault::Output),
-            Ok(n) => rest = &rest[n..],
+    let (_, ended) = write_out(writer, bytes);
+    match ended {
+        Ok(()) => Ok(()),
+        Err(_) => Err(RunFault::Output),
+    }
+}
+
+/// Writes the bytes until all are written, or a call fails or takes nothing, which is not tried again. Tells how many
+/// were written.
+pub(crate) fn write_out<W: Write>(writer: &mut W, bytes: &[u8]) -> (usize, io::Result<()>)
+    ensures within { result.0 ≤ length bytes.now }
+    ensures written { Appends (W.contents writer.old) (W.contents writer.new) (take result.0 bytes.now) }
+    ensures all { OnOk result.1 (result.0 ≡ length bytes.now) }
+    ensures lacking { OnErr result.1 (result.0 < length bytes.now) }
+{
+    let mut written = 0;
+    while written < bytes.len() {
+        match writer.write(&bytes[written..]) {
+            Ok(0) => return (written, Err(io::Error::from(ErrorKind::WriteZero))),
+            Ok(n) => written += n,
+            Err(error) => return (written, Err(error)),
         }
     }
-    Ok(())
+    (written, Ok(()))
 }
 
 /// Flushes the writer.

@@ -1,5 +1,5 @@
 //! What a run leaves: registers, history, files and answers.
-use s2calc::{RunFault, Tally, run, run_promptly};
+use s2calc::{AnswerBuffer, RunFault, Tally, run, run_promptly};
 use s2calc_tests::{FILES, Narrow, Pieces};
 use s2edit::{Change, Editor, REGISTERS, Register};
 use s2shelf::{MemoryShelf, Shelf};
@@ -44,7 +44,8 @@ pub fn full_shelf(alloc: Global) -> Result<MemoryShelf, Fail> {
     Ok(shelf)
 }
 
-/// Runs a script over empty registers of at most 100 cells, with a history of at most 5 states.
+/// Runs a script over empty registers of at most 100 cells, with a history of at most 5 states, and over a buffer where the
+/// writer is flushed before each read.
 pub fn run_over(
     alloc: Global,
     flushing: Flushing,
@@ -53,10 +54,15 @@ pub fn run_over(
     mut shelf: MemoryShelf,
 ) -> Result<Left, Fail> {
     let mut editor = Editor::open(alloc, 100, 5)?;
-    let ended = match flushing {
-        Flushing::AtTheEnd => run(alloc, &mut editor, &mut reader, &mut writer, &mut shelf),
+    let (ended, writer) = match flushing {
+        Flushing::AtTheEnd => {
+            let ended = run(alloc, &mut editor, &mut reader, &mut writer, &mut shelf);
+            (ended, writer)
+        }
         Flushing::BeforeEachRead => {
-            run_promptly(alloc, &mut editor, &mut reader, &mut writer, &mut shelf)
+            let mut buffer = AnswerBuffer::new(alloc, writer)?;
+            let ended = run_promptly(alloc, &mut editor, &mut reader, &mut buffer, &mut shelf);
+            (ended, buffer.into_writer())
         }
     };
     Ok(Left {

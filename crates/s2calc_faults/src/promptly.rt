@@ -1,11 +1,10 @@
 //! Answers that are out before the next read.
 use crate::typist::{Screen, Typist};
-use s2calc::{RunFault, Tally, run, run_promptly};
+use s2calc::{AnswerBuffer, RunFault, Tally, run, run_promptly};
 use s2edit::Editor;
 use s2shelf::MemoryShelf;
 use std::alloc::Global;
 use std::cell::RefCell;
-use std::io::BufWriter;
 use std::test::Fail;
 
 /// Which of the two runs.
@@ -29,9 +28,8 @@ fn seen_by_the_typist(
         screen: &screen,
         seen: Vec::new(alloc),
     };
-    let mut writer = BufWriter::with_capacity(
+    let mut writer = AnswerBuffer::new(
         alloc,
-        4096,
         Screen {
             shown: &screen,
             broken,

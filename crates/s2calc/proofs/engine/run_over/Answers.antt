@@ -1,38 +1,41 @@
-use Rattle.std.proofs.Common.{[], ◌++◌, take, arith}
+use Rattle.std.proofs.Common.{[], ◌++◌, take, arith, inl, inr}
 use Rattle.std.proofs.KnownBytes.{Keeps-refl, Consumes-nil, Appends-nil, Consumes-trans, Appends-kept}
-use Rattle.std.proofs.lemmas.Result.{err_from_is_err_and}
-use Rattle.s2calc.proofs.ReadLemmas.{Consumes-none, StopsReading-here, StopsWriting-inside, Runs-close, Appends-texts, fails_reading, fails_writing, fails_handing_over}
+use Rattle.std.proofs.lemmas.Result.{err_from_is_err_and, MatchResult-weaker}
+use Rattle.s2calc.proofs.ReadLemmas.{Consumes-none, StopsReading-here, StopsWriting-inside, Runs-close, Appends-texts}
 use Rattle.s2calc.proofs.TakeInLemmas.{Stands-start}
 use Rattle.s2calc.proofs.engine.run_over.Goals as goal
 
 pub loop-init : goal.loop-init
 loop-init g c = ([], [], Consumes-nil _, Stands-start _ _ c.new-kept.ensures, Appends-nil _)
 
-pub returns-in_err-hand_over : goal.returns-in_err-hand_over
-returns-in_err-hand_over g c =
+pub returns-in_err-before_read-clause-runs : goal.returns-in_err-before_read-clause-runs
+returns-in_err-before_read-clause-runs g c =
     let i = c.loop.invariant in
     let p = err_from_is_err_and c.from_residual.result c.from_residual.ensures.1 in
-    let f = c.in_err-hand_over.ensures.fault in
-    rw (p.1, p.2, f.0) (fails_handing_over _ _ _ _ f.1 (StopsReading-here _ _ _ i.0 i.1 _ _ _ i.2 (Keeps-refl _) i.3 (Appends-kept _ _ _ _ i.4 c.hand_over.ensures.kept)))
+    let f = c.in_err-before_read.ensures.fault in
+    rw (p.1, p.2, f.0) (inl (f.1, StopsReading-here _ _ _ i.0 i.1 _ _ _ i.2 (Keeps-refl _) i.3 (Appends-kept _ _ _ _ i.4 c.before_read.ensures.kept)))
 
-pub returns-in-Ok-eq0 : goal.returns-in-Ok-eq0
-returns-in-Ok-eq0 g c =
+pub returns-in-Ok-eq0-clause-runs : goal.returns-in-Ok-eq0-clause-runs
+returns-in-Ok-eq0-clause-runs g c =
     let i = c.loop.invariant in
     let read = c.in-Ok-eq0.ensures.bytes in
     Runs-close _ _ _ i.0 i.1 _ _ c.finish.result (Consumes-none _ _ _ i.0 _ c.in-Ok-eq0.field-0 c.in-Ok-eq0.field-0-test i.2 read.0) (read.1 c.in-Ok-eq0.field-0-test (omega arith))
-    (Appends-kept _ _ _ _ i.4 c.hand_over.ensures.kept) (c.finish.ensures _ i.0 i.1 i.3)
+    (Appends-kept _ _ _ _ i.4 c.before_read.ensures.kept) (c.finish.ensures.closes _ i.0 i.1 i.3)
 
-pub returns-in_err-take_in-in-Ok : goal.returns-in_err-take_in-in-Ok
-returns-in_err-take_in-in-Ok g c =
+pub returns-in-Ok-eq0-clause-sent : goal.returns-in-Ok-eq0-clause-sent
+returns-in-Ok-eq0-clause-sent g c = MatchResult-weaker c.finish.result c.finish.ensures.sent (λ _ s. s) (λ fault is_output is_input. absurd cc)
+
+pub returns-in_err-take_in-in-Ok-clause-runs : goal.returns-in_err-take_in-in-Ok-clause-runs
+returns-in_err-take_in-in-Ok-clause-runs g c =
     let i = c.loop.invariant in
     let p = err_from_is_err_and c.from_residual-in_err-take_in-in-Ok.result c.from_residual-in_err-take_in-in-Ok.ensures.1 in
     let done = c.in_err-take_in-in-Ok.ensures in
-    rw (p.1, p.2, done.fault) (fails_writing _ _ _ _ (StopsWriting-inside _ _ _ i.0 i.1 _ _ _ i.2 c.in-Ok.ensures.bytes.0 (Appends-kept _ _ _ _ i.4 c.hand_over.ensures.kept) (done.err _ i.0 i.1 i.3)))
+    rw (p.1, p.2, done.fault) (inr (inl (StopsWriting-inside _ _ _ i.0 i.1 _ _ _ i.2 c.in-Ok.ensures.bytes.0 (Appends-kept _ _ _ _ i.4 c.before_read.ensures.kept) (done.err _ i.0 i.1 i.3))))
 
-pub returns-in-Err : goal.returns-in-Err
-returns-in-Err g c =
+pub returns-in-Err-clause-runs : goal.returns-in-Err-clause-runs
+returns-in-Err-clause-runs g c =
     let i = c.loop.invariant in
-    fails_reading _ _ _ _ (StopsReading-here _ _ _ i.0 i.1 _ _ _ i.2 c.in-Err.ensures.bytes i.3 (Appends-kept _ _ _ _ i.4 c.hand_over.ensures.kept))
+    StopsReading-here _ _ _ i.0 i.1 _ _ _ i.2 c.in-Err.ensures.bytes i.3 (Appends-kept _ _ _ _ i.4 c.before_read.ensures.kept)
 
 pub loop-preserved : goal.loop-preserved
 loop-preserved g c =
@@ -42,10 +45,17 @@ loop-preserved g c =
       i.1 ++ s.more,
       Consumes-trans _ _ _ i.0 _ i.2 c.in-Ok.ensures.bytes.0,
       s.stands,
-      Appends-texts _ _ _ i.1 s.more (Appends-kept _ _ _ _ i.4 c.hand_over.ensures.kept) s.written,
+      Appends-texts _ _ _ i.1 s.more (Appends-kept _ _ _ _ i.4 c.before_read.ensures.kept) s.written,
     )
 
-pub returns : goal.returns
-returns g c =
+pub returns-in_err-before_read-2-clause-runs : goal.returns-in_err-before_read-2-clause-runs
+returns-in_err-before_read-2-clause-runs g c =
     let i = c.loop.invariant in
-    fails_reading _ _ _ _ (StopsReading-here _ _ _ i.0 i.1 _ _ _ i.2 (Keeps-refl _) i.3 i.4)
+    let p = err_from_is_err_and c.from_residual-in_err-before_read-2.result c.from_residual-in_err-before_read-2.ensures.1 in
+    let f = c.in_err-before_read-2.ensures.fault in
+    rw (p.1, p.2, f.0) (inl (f.1, StopsReading-here _ _ _ i.0 i.1 _ _ _ i.2 (Keeps-refl _) i.3 (Appends-kept _ _ _ _ i.4 c.before_read-2.ensures.kept)))
+
+pub returns-clause-runs : goal.returns-clause-runs
+returns-clause-runs g c =
+    let i = c.loop.invariant in
+    StopsReading-here _ _ _ i.0 i.1 _ _ _ i.2 (Keeps-refl _) i.3 (Appends-kept _ _ _ _ i.4 c.before_read-2.ensures.kept)

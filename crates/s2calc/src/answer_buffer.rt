@@ -1,0 +1,120 @@
+//! A writer that gathers answers.
+ghost use Rattle.std.specs.Prelude.{◌≡◌, ◌+◌, ◌≤◌, [], ◌++◌, length, drop, OnOk, IfOk, vec_len, vec_capacity};
+ghost use Rattle.std.specs.Io.KnownBytes.{Keeps};
+ghost use Rattle.s2calc.specs.Buffered.{written_to};
+
+use crate::limits::MOST_WAITING;
+use crate::output::write_out;
+use std::alloc::{AllocError, Global};
+use std::io;
+use std::io::Write;
+use std::marker::Model;
+
+/// A writer that gathers what is written to it, and hands it to the writer below when it is flushed, and when 64 KiB
+/// wait in it.
+///
+/// A contract sees both: the writer below, which has what has reached it, and the bytes that wait. Unlike a `BufWriter` it
+/// tries no failed call again, and writes nothing when it is dropped. What a failed call didn't take goes on waiting.
+#[derive(Drop)]
+pub struct AnswerBuffer<W> {
+    writer: W,
+    waiting: Vec<u8>,
+}
+
+impl<W> Model for AnswerBuffer<W> {
+    ghost use Rattle.std.specs.Prelude.{◌≤◌, vec_len, vec_capacity};
+    ghost use Rattle.s2calc.specs.Buffered.{Buffered, buffered_code};
+    ghost use Rattle.s2calc.specs.declared.limits.TheConstants.{MOST_WAITING};
+
+    ghost Value = { Buffered W };
+
+    ghost coded = { buffered_code W.code };
+
+    ghost view = { λ b. record { writer = b.writer; waiting = b.waiting.items } };
+
+    ghost invariant = { λ b. (vec_len b.waiting ≤ MOST_WAITING) × (MOST_WAITING ≤ vec_capacity b.waiting) };
+}
+
+impl<W: Write + Drop> AnswerBuffer<W> {
+    /// Nothing waits in it. On failure the writer is dropped.
+    pub fn new(alloc: Global, writer: W) -> Result<AnswerBuffer<W>, AllocError>
+        ensures writer { IfOk result (λ b. b.writer ≡ writer) }
+        ensures nothing_waits { IfOk result (λ b. b.waiting ≡ []) }
+    {
+        let waiting = Vec::with_capacity(alloc, MOST_WAITING)?;
+        Ok(AnswerBuffer { writer, waiting })
+    }
+}
+
+impl<W> AnswerBuffer<W> {
+    /// The writer below. What waits is lost.
+    pub fn into_writer(self) -> W
+        ensures { result ≡ self.writer }
+    {
+        self.writer
+    }
+
+    /// How many bytes wait.
+    pub fn waiting(&self) -> usize
+        ensures count { result ≡ length self.now.waiting }
+        ensures few { length self.now.waiting ≤ MOST_WAITING }
+    {
+        self.waiting.len()
+    }
+}
+
+impl<W: Write> AnswerBuffer<W> {
+    /// Hands over what waits.
+    fn hand_over(&mut self) -> io::Result<()>
+        ensures kept { Keeps (written_to W.contents self.old) (written_to W.contents self.new) }
+        ensures ok { OnOk result (self.new.waiting ≡ []) }
+    {
+        let (written, ended) = write_out(&mut self.writer, self.waiting.as_slice());
+        drop_front(&mut self.waiting, written);
+        ended
+    }
+}
+
+impl<W: Write> Write for AnswerBuffer<W> {
+    ghost contents = { written_to W.contents };
+
+    fn write(&mut self, bytes: &[u8]) -> io::Result<usize> {
+        if self.waiting.len() >= MOST_WAITING {
+            self.hand_over()?;
+        }
+        let taken = bytes.len().min(MOST_WAITING - self.waiting.len());
+        append(&mut self.waiting, &bytes[..taken]);
+        Ok(taken)
+    }
+
+    fn flush(&mut self) -> io::Result<()>
+        ensures bytes { Keeps (written_to W.contents self.old) (written_to W.contents self.new) }
+        ensures ok { OnOk result (self.new.waiting ≡ []) }
+    {
+        self.hand_over()?;
+        self.writer.flush()
+    }
+}
+
+/// Takes the first bytes away.
+fn drop_front(bytes: &mut Vec<u8>, count: usize)
+    requires { count ≤ vec_len bytes.old }
+    ensures items { bytes.new.items ≡ drop count bytes.old.items }
+    ensures few { vec_len bytes.new ≤ vec_len bytes.old }
+    ensures room { vec_capacity bytes.new ≡ vec_capacity bytes.old }
+{
+    let len = bytes.len();
+    bytes.as_mut_slice().copy_within(count..len, 0);
+    bytes.truncate(len - count);
+}
+
+/// Puts bytes after others, if there is room for them.
+fn append(bytes: &mut Vec<u8>, more: &[u8])
+    requires { vec_len bytes.old + length more.now ≤ vec_capacity bytes.old }
+    ensures items { bytes.new.items ≡ bytes.old.items ++ more.now }
+    ensures room { vec_capacity bytes.old ≤ vec_capacity bytes.new }
+{
+    if bytes.extend_from_slice(more).is_err() {
+        unreachable!();
+    }
+}

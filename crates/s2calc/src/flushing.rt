@@ -1,0 +1,76 @@
+//! When a run flushes its writer.
+ghost use Rattle.std.specs.Prelude.{◌≡◌, [], OnOk, IfErr};
+ghost use Rattle.std.specs.Io.KnownBytes.{Keeps};
+ghost use Rattle.s2calc.specs.Buffered.{written_to};
+
+use crate::answer_buffer::AnswerBuffer;
+use crate::fault::RunFault;
+use crate::output::flush;
+use std::io::Write;
+
+/// When a run flushes its writer, beside the end, and what is known of the writer then.
+pub(crate) trait Flushing<W: Write> {
+    // nothing that was written waits in the writer
+    ghost is_sent: { W → Type 0 };
+
+    // a flush before a read may fail
+    ghost may_fail: { Type 0 };
+
+    /// What comes before each read.
+    fn before_read(writer: &mut W) -> Result<(), RunFault>
+        ensures kept { Keeps (W.contents writer.old) (W.contents writer.new) }
+        ensures sent { OnOk result (is_sent writer.new) }
+        ensures fault { IfErr result (λ fault. (fault ≡ RunFault.Output) × may_fail) };
+
+    /// The flush at the end.
+    fn at_the_end(writer: &mut W) -> Result<(), RunFault>
+        ensures kept { Keeps (W.contents writer.old) (W.contents writer.new) }
+        ensures sent { OnOk result (is_sent writer.new) }
+        ensures fault { IfErr result (λ fault. fault ≡ RunFault.Output) };
+}
+
+/// Nothing comes before a read. Of a writer of any kind it isn't known what waits in it.
+pub(crate) struct AtTheEnd;
+
+impl<W: Write> Flushing<W> for AtTheEnd {
+    ghost is_sent = { λ _. Unit {0} };
+
+    ghost may_fail = { ⊥ };
+
+    fn before_read(_writer: &mut W) -> Result<(), RunFault> {
+        Ok(())
+    }
+
+    fn at_the_end(writer: &mut W) -> Result<(), RunFault> {
+        flush(writer)
+    }
+}
+
+/// The buffer is handed over before each read.
+pub(crate) struct BeforeEachRead;
+
+impl<W: Write> Flushing<AnswerBuffer<W>> for BeforeEachRead {
+    ghost is_sent = { λ b. b.waiting ≡ [] };
+
+    ghost may_fail = { Unit {0} };
+
+    fn before_read(writer: &mut AnswerBuffer<W>) -> Result<(), RunFault> {
+        handed_over(writer)
+    }
+
+    fn at_the_end(writer: &mut AnswerBuffer<W>) -> Result<(), RunFault> {
+        handed_over(writer)
+    }
+}
+
+/// Flushes the buffer.
+fn handed_over<W: Write>(writer: &mut AnswerBuffer<W>) -> Result<(), RunFault>
+    ensures kept { Keeps (written_to W.contents writer.old) (written_to W.contents writer.new) }
+    ensures sent { OnOk result (writer.new.waiting ≡ []) }
+    ensures fault { IfErr result (λ fault. fault ≡ RunFault.Output) }
+{
+    match writer.flush() {
+        Ok(()) => Ok(()),
+        Err(_) => Err(RunFault::Output),
+    }
+}
