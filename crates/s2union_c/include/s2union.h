@@ -168,8 +168,9 @@ int32_t s2u_ancestors(const uint64_t* ids, size_t n, uint64_t* out, size_t room,
 /* ---- coverings at one level ------------------------------------------------------------------------------------------
  *
  * The outer covering: the cells of the level that share a leaf with the region, normalised; the inner: those that lie in
- * it. S2U_ROOM, S2U_MEMORY, S2U_ARGUMENT, S2U_NO_UNION, S2U_MANY if it would have more than `most` cells, or more than
- * S2U_MOST_COVERING (the list on the way is bounded by that too). */
+ * it. S2U_ROOM, S2U_MEMORY, S2U_ARGUMENT, S2U_NO_UNION, S2U_MANY if it would have more than `most` cells (the list on the
+ * way is bounded by that too). A `most` greater than S2U_MOST_COVERING counts as that: no covering has more cells, and
+ * one that would is refused with S2U_MANY, whatever `most` and room are. */
 #define S2U_MOST_COVERING 1000000
 int32_t s2u_outer(const s2u_rect* rect, uint32_t level, size_t most, uint64_t* out, size_t room, size_t* len);
 int32_t s2u_inner(const s2u_rect* rect, uint32_t level, size_t most, uint64_t* out, size_t room, size_t* len);
