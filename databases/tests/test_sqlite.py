@@ -395,11 +395,11 @@ class WhatIsRefused(Tests):
         self.assertGreater(errors, 1000)
 
     def test_heap_limits(self):
-        big = model.file([model.identifier(14, 3 * k) for k in range(3000)])
-        shuffled = model.file(self.random.sample([model.identifier(14, 3 * k + 1) for k in range(3000)], 3000))
+        big = model.file([model.identifier(14, 3 * k) for k in range(1000)])
+        shuffled = model.file(self.random.sample([model.identifier(14, 3 * k + 1) for k in range(1000)], 1000))
         self.db.execute("CREATE TABLE parts(id, part)")
         for k in range(20):
-            self.db.execute("INSERT INTO parts VALUES(?, ?)", (k, model.file([model.identifier(12, 7 * n + k) for n in range(500)])))
+            self.db.execute("INSERT INTO parts VALUES(?, ?)", (k, model.file([model.identifier(12, 7 * n + k) for n in range(200)])))
         tokens = self.ask("s2_tokens(?)", big)
         queries = (
             ("SELECT s2_union(?, ?)", (big, shuffled)), ("SELECT s2_difference(?, ?)", (big, shuffled)),
@@ -418,7 +418,7 @@ class WhatIsRefused(Tests):
             except sqlite3.OperationalError as error:
                 wanted = str(error)
             refused = answered = 0
-            for extra in list(range(0, 60000, 1777)) + list(range(60000, 3000000, 37777)):
+            for extra in list(range(0, 180000, 1777)) + list(range(180000, 2000000, 77777)):
                 sqlite.sqlite3_hard_heap_limit64(sqlite.sqlite3_memory_used() + extra)
                 try:
                     said = self.db.execute(query, values).fetchall()
