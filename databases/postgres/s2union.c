@@ -9,6 +9,7 @@
 #include "common/hashfn.h"
 #include "fmgr.h"
 #include "libpq/pqformat.h"
+#include "nodes/primnodes.h"
 #include "utils/array.h"
 #include "utils/builtins.h"
 #include "utils/memutils.h"
@@ -105,6 +106,30 @@ static S2Union* value_of(Datum datum) {
 }
 
 #define ARGUMENT(k) value_of(PG_GETARG_DATUM(k))
+
+static bool is_constant(FmgrInfo* call, int k) {
+  Node* node = call == NULL ? NULL : call->fn_expr;
+  List* arguments = NIL;
+  if (node && IsA(node, OpExpr)) arguments = ((OpExpr*)node)->args;
+  if (node && IsA(node, FuncExpr)) arguments = ((FuncExpr*)node)->args;
+  return k < list_length(arguments) && IsA(list_nth(arguments, k), Const);
+}
+
+/* Argument k of a question. A constant of the query is read and checked once, and kept as long as the call's plan. */
+static const S2Union* asked_argument(FunctionCallInfo fcinfo, int k) {
+  FmgrInfo* call = fcinfo->flinfo;
+  if (!is_constant(call, k)) return ARGUMENT(k);
+  if (call->fn_extra == NULL) call->fn_extra = MemoryContextAllocZero(call->fn_mcxt, 2 * sizeof(S2Union*));
+  S2Union** kept = call->fn_extra;
+  if (kept[k] == NULL) {
+    MemoryContext context = MemoryContextSwitchTo(call->fn_mcxt);
+    kept[k] = value_of(PointerGetDatum(PG_DETOAST_DATUM_COPY(PG_GETARG_DATUM(k))));
+    MemoryContextSwitchTo(context);
+  }
+  return kept[k];
+}
+
+#define ASKED(k) asked_argument(fcinfo, k)
 #define LIST(u) (u)->cells, count_of(u)
 
 /* ---- text: tokens or debug texts with blanks or commas between them; tokens come out ---- */
@@ -280,25 +305,25 @@ static Datum answer(int32_t status) {
 
 PG_FUNCTION_INFO_V1(s2union_contains);
 Datum s2union_contains(PG_FUNCTION_ARGS) {
-  S2Union *x = ARGUMENT(0), *y = ARGUMENT(1);
+  const S2Union *x = ASKED(0), *y = ASKED(1);
   return answer(s2u_contains(LIST(x), LIST(y)));
 }
 
 PG_FUNCTION_INFO_V1(s2union_within);
 Datum s2union_within(PG_FUNCTION_ARGS) {
-  S2Union *x = ARGUMENT(0), *y = ARGUMENT(1);
+  const S2Union *x = ASKED(0), *y = ASKED(1);
   return answer(s2u_contains(LIST(y), LIST(x)));
 }
 
 PG_FUNCTION_INFO_V1(s2union_intersects);
 Datum s2union_intersects(PG_FUNCTION_ARGS) {
-  S2Union *x = ARGUMENT(0), *y = ARGUMENT(1);
+  const S2Union *x = ASKED(0), *y = ASKED(1);
   return answer(s2u_intersects(LIST(x), LIST(y)));
 }
 
 PG_FUNCTION_INFO_V1(s2union_contains_cell);
 Datum s2union_contains_cell(PG_FUNCTION_ARGS) {
-  S2Union* x = ARGUMENT(0);
+  const S2Union* x = ASKED(0);
   return answer(s2u_contains_cell(LIST(x), (uint64_t)PG_GETARG_INT64(1)));
 }
 
