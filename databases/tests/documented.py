@@ -1,6 +1,6 @@
 """Runs the examples of a page: each block ```sql in one session, and compares with the block ```text that follows it.
 
-documented.py [--script] PAGE [COMMAND..]: COMMAND (sqlite3 -batch :memory:) reads the session; --script prints it alone."""
+documented.py [--script] PAGE [COMMAND..]: COMMAND (sqlite3 -batch :memory:) reads the session, --script prints it."""
 
 import os
 import re

@@ -19,7 +19,8 @@ static void* grow(void* at, int size) { return refused() ? NULL : system_heap.xR
 static const char* const queries[] = {
   "SELECT s2_union('1 04', '3'), s2_intersection('1', '04 0c'), s2_difference('1', '0000000000000001')",
   "SELECT s2_normalise(x'010200000000000000000000000000001c0000000000000014'), s2_range('04', '3')",
-  "SELECT s2_tokens(part), s2_count(part), s2_leaves(part), s2_contains('1', part), s2_intersects(part, '04') FROM parts",
+  "SELECT s2_tokens(part), s2_count(part), s2_leaves(part), s2_contains('1', part), s2_intersects(part, '04') "
+  "FROM parts",
   "SELECT s2_contains(x'010200000000000000000000000000001c0000000000000014', part) FROM parts",
   "SELECT hex(s2_union(part, '3')), s2_inner(part, 5), s2_outer(0, 5, 9000, 7, 9000, 24) FROM parts",
   "SELECT s2_debug('04'), s2_token('1/0'), s2_parent('04', 0), s2_cell('04'), s2_leaf(1, 2, 3)",
@@ -61,8 +62,8 @@ int main(int argc, char** argv) {
   if (argc != 2 || sqlite3_open(":memory:", &db) != SQLITE_OK) return 2;
   sqlite3_enable_load_extension(db, 1);
   if (sqlite3_load_extension(db, argv[1], NULL, NULL) != SQLITE_OK) return 2;
-  sqlite3_exec(db, "CREATE TABLE parts(id, part); INSERT INTO parts VALUES (1, s2_normalise('1')), (2, '0c 14'), (3, '3')",
-               NULL, NULL, NULL);
+  sqlite3_exec(db, "CREATE TABLE parts(id, part);"
+               "INSERT INTO parts VALUES (1, s2_normalise('1')), (2, '0c 14'), (3, '3')", NULL, NULL, NULL);
   for (size_t k = 0; k < sizeof queries / sizeof *queries; k++) {
     int status;
     left = -1;

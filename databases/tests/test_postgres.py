@@ -102,7 +102,7 @@ class AgainstTheModel(Tests):
         pairs = []
         for _ in range(ROUNDS):
             xs = self.random.cells()
-            ys = self.random.choice([xs[::-1], self.random.cells(near=xs)]) if self.random.random() < 0.2 else self.random.cells(near=xs)
+            ys = xs[::-1] if self.random.random() < 0.1 else self.random.cells(near=xs)
             a, b = f"'{self.random.text(xs)}'::s2union", u(ys)
             x, y = model.runs(xs), model.runs(ys)
             normal = model.normal(x)
@@ -110,11 +110,14 @@ class AgainstTheModel(Tests):
             contains, within = not model.common(y, model.rest(x)), not model.common(x, model.rest(y))
             order = (normal > model.normal(y)) - (normal < model.normal(y))
             pairs += [
-                (a, tokens(normal)), (f"{a} | {b}", tokens(model.normal(x + y))), (f"{a} & {b}", tokens(model.normal(both))),
-                (f"{a} - {b}", tokens(model.normal(model.common(x, model.rest(y))))), (f"{a} @> {b}", boolean(contains)),
+                (a, tokens(normal)), (f"{a} | {b}", tokens(model.normal(x + y))),
+                (f"{a} & {b}", tokens(model.normal(both))),
+                (f"{a} - {b}", tokens(model.normal(model.common(x, model.rest(y))))),
+                (f"{a} @> {b}", boolean(contains)),
                 (f"{a} <@ {b}", boolean(within)), (f"{a} && {b}", boolean(both)), (f"{a} = {b}", boolean(x == y)),
                 (f"s2union_cmp({a}, {b})", str(order)), (f"s2_count({a})", str(len(normal))),
-                (f"{a} < {b}", boolean(order < 0)), (f"{a} <= {b}", boolean(order <= 0)), (f"{a} <> {b}", boolean(order != 0)),
+                (f"{a} < {b}", boolean(order < 0)), (f"{a} <= {b}", boolean(order <= 0)),
+                (f"{a} <> {b}", boolean(order != 0)),
                 (f"{a} > {b}", boolean(order > 0)), (f"{a} >= {b}", boolean(order >= 0)),
                 (f"s2_leaves({a})", str(model.count(x))), (f"{a}::bytea", "\\x" + model.file(normal).hex()),
                 (f"('\\x{model.file(self.random.sample(xs, len(xs))).hex()}'::bytea)::s2union = {a}", "true"),
@@ -147,9 +150,12 @@ class AgainstTheModel(Tests):
             contains = not model.common([(first, end)], model.rest(model.runs(xs)))
             cell = f"({signed(number)})::bigint"
             pairs += [
-                (f"s2_cell('{model.token(number)}')", str(signed(number))), (f"s2_cell('{model.debug(number)}')", str(signed(number))),
-                (f"s2_token({cell})", model.token(number)), (f"s2_level({cell})", str(level)), (f"s2_face({cell})", str(place // 4**level)),
-                (f"s2_range_min({cell})", str(signed(2 * first + 1))), (f"s2_range_max({cell})", str(signed(2 * end - 1))),
+                (f"s2_cell('{model.token(number)}')", str(signed(number))),
+                (f"s2_cell('{model.debug(number)}')", str(signed(number))),
+                (f"s2_token({cell})", model.token(number)),
+                (f"s2_level({cell})", str(level)), (f"s2_face({cell})", str(place // 4**level)),
+                (f"s2_range_min({cell})", str(signed(2 * first + 1))),
+                (f"s2_range_max({cell})", str(signed(2 * end - 1))),
                 (f"s2_parent({cell}, {above})", parent), (f"{cell}::s2union", model.token(number)),
                 (f"{u(xs)} @> {cell}", boolean(contains)),
             ]
@@ -191,7 +197,8 @@ class AgainstTheModel(Tests):
 
 class WhatIsRefused(Tests):
     def test_texts(self):
-        self.all_refused([(f"'{text}'::s2union", "names no cell") for text in ("X", "2", "g", "1 g", "1,0/4", "0" * 17, "é" * 60)])
+        texts = ("X", "2", "g", "1 g", "1,0/4", "0" * 17, "é" * 60)
+        self.all_refused([(f"'{text}'::s2union", "names no cell") for text in texts])
         self.all_refused([(f"s2_cell('{text}')", "no cell") for text in ("", "X", "1 1", "6/")])
         self.all_are([("''::s2union::text = '' and ' , '::s2union = ''", "true")])
 
@@ -200,16 +207,22 @@ class WhatIsRefused(Tests):
         faults = [(good[:k], "bytes are missing") for k in range(len(good))]
         faults += [(bytes([k]) + good[1:], "unknown version") for k in (0, 2, 255)]
         faults += [(good + bytes(k), "bytes after the last cell") for k in (1, 8, 100)]
-        faults += [(good[:17] + cell.to_bytes(8, "little") + good[25:], "a number that is no cell") for cell in (0, 2, 2**64 - 1)]
+        wrongs = [good[:17] + cell.to_bytes(8, "little") + good[25:] for cell in (0, 2, 2**64 - 1)]
+        faults += [(wrong, "a number that is no cell") for wrong in wrongs]
         faults += [(good[:1] + b"\xff" * 8 + good[9:], "bytes are missing")]
-        self.all_refused([(f"('\\x{file.hex()}'::bytea)::s2union", f"s2union: union file: {reason}") for file, reason in faults])
+        faults = [(f"('\\x{file.hex()}'::bytea)::s2union", reason) for file, reason in faults]
+        self.all_refused([(expression, f"s2union: union file: {reason}") for expression, reason in faults])
 
     def test_numbers(self):
         self.all_refused([
-            ("s2_outer(6, 0, 0, 0, 0, 5)", "argument"), ("s2_outer(0, 1, 0, 0, 0, 5)", "argument"), ("s2_outer(0, 0, 0, 0, 0, 31)", "argument"),
-            ("s2_outer(0, -1, 0, 0, 0, 5)", "argument"), ("s2_inner('1'::s2union, -1)", "argument"), ("s2_leaf(0, 0, -1)", "argument"),
-            ("s2_outer(0, 0, 1073741823, 5, 5, 30)", "too many cells"), ("(2::bigint)::s2union", "no cell"), ("s2_level(0)", "no cell"),
-            ("s2_token(0)", "no cell"), ("s2_parent(0, 0)", "no cell"), ("s2_range_max(0)", "no cell"), ("'1'::s2union @> 0::bigint", "no cell"),
+            ("s2_outer(6, 0, 0, 0, 0, 5)", "argument"), ("s2_outer(0, 1, 0, 0, 0, 5)", "argument"),
+            ("s2_outer(0, 0, 0, 0, 0, 31)", "argument"),
+            ("s2_outer(0, -1, 0, 0, 0, 5)", "argument"), ("s2_inner('1'::s2union, -1)", "argument"),
+            ("s2_leaf(0, 0, -1)", "argument"),
+            ("s2_outer(0, 0, 1073741823, 5, 5, 30)", "too many cells"),
+            ("(2::bigint)::s2union", "no cell"), ("s2_level(0)", "no cell"),
+            ("s2_token(0)", "no cell"), ("s2_parent(0, 0)", "no cell"), ("s2_range_max(0)", "no cell"),
+            ("'1'::s2union @> 0::bigint", "no cell"),
             ("s2_range(-1, 1)", "no cell"), ("s2_range(s2_cell('3'), s2_cell('1'))", "argument"),
         ])
 
@@ -236,14 +249,18 @@ class WhatIsRefused(Tests):
             CREATE TYPE raw8 (INPUT = raw8_in, OUTPUT = raw8_out, INTERNALLENGTH = VARIABLE, ALIGNMENT = double);
             CREATE CAST (raw8 AS s2union) WITHOUT FUNCTION;
             CREATE TABLE flipped(id int, region s2union);
-            CREATE OR REPLACE FUNCTION flip(file bytea, OUT answers int, OUT refusals int, OUT others int) LANGUAGE plpgsql AS $$
+            CREATE OR REPLACE FUNCTION flip(file bytea, OUT answers int, OUT refusals int, OUT others int)
+            LANGUAGE plpgsql AS $$
             DECLARE query text; said text;
             BEGIN
                 answers := 0; refusals := 0; others := 0;
                 FOR bit IN 0 .. 8 * length(file) - 1 LOOP
-                    EXECUTE format('UPDATE flipped SET region = %L::raw8::s2union', set_bit(file, bit, 1 - get_bit(file, bit)));
-                    FOREACH query IN ARRAY ARRAY['region', 'region @> s2_cell($t$04$t$)', 'region && $t$1$t$', '$t$1$t$ - region',
-                        'region | $t$3$t$', 'region::bytea', 's2_cells(region)', 's2_ancestors(region)', 'region < $t$1$t$',
+                    EXECUTE format('UPDATE flipped SET region = %L::raw8::s2union',
+                        set_bit(file, bit, 1 - get_bit(file, bit)));
+                    FOREACH query IN ARRAY ARRAY['region', 'region @> s2_cell($t$04$t$)', 'region && $t$1$t$',
+                        '$t$1$t$ - region',
+                        'region | $t$3$t$', 'region::bytea', 's2_cells(region)', 's2_ancestors(region)',
+                        'region < $t$1$t$',
                         's2union_hash(region)', 's2_outer(region, 3)', 's2_union_agg(region)'] LOOP
                         said := try(format('SELECT (%s)::text FROM flipped', query));
                         IF said NOT LIKE 'error: %' THEN answers := answers + 1;
@@ -272,25 +289,35 @@ class Indexes(Tests):
             near = self.random.choice(regions) if regions and self.random.random() < 0.6 else ()
             regions.append(self.random.cells(near=near, low=4))
         for _ in range(2000):
-            questions.append(self.random.cells(4, near=self.random.choice(regions)) if self.random.random() < 0.9 else self.random.cells())
-        script = "SET client_min_messages = error; DROP TABLE IF EXISTS regions, questions; CREATE TABLE regions(id int, region s2union); CREATE TABLE questions(id int, region s2union);\n"
+            near = self.random.choice(regions) if self.random.random() < 0.9 else ()
+            questions.append(self.random.cells(4, near=near))
+        script = """
+            SET client_min_messages = error;
+            DROP TABLE IF EXISTS regions, questions;
+            CREATE TABLE regions(id int, region s2union);
+            CREATE TABLE questions(id int, region s2union);
+        """
         for name, rows in (("regions", regions), ("questions", questions)):
-            script += f"COPY {name} FROM STDIN;\n" + "".join(f"{k}\t{tokens(xs)}\n" for k, xs in enumerate(rows)) + "\\.\n"
+            lines = "".join(f"{k}\t{tokens(xs)}\n" for k, xs in enumerate(rows))
+            script += f"COPY {name} FROM STDIN;\n{lines}\\.\n"
         script += """
             INSERT INTO regions VALUES (9999, NULL);
             CREATE INDEX regions_gin ON regions USING gin (region);
             CREATE INDEX regions_btree ON regions (region);
             CREATE INDEX regions_hash ON regions USING hash (region);
             ANALYZE regions;
-            CREATE OR REPLACE FUNCTION differ(name text, by text, OUT different int, OUT matches bigint, OUT plans int) LANGUAGE plpgsql AS $$
+            CREATE OR REPLACE FUNCTION differ(name text, by text, OUT different int, OUT matches bigint, OUT plans int)
+            LANGUAGE plpgsql AS $$
             DECLARE q s2union; query text; line text; a int[]; b int[];
             BEGIN
                 different := 0; matches := 0; plans := 0;
                 query := format('SELECT array_agg(id ORDER BY id) FROM regions WHERE region OPERATOR(%s) $1', name);
                 FOR q IN SELECT region FROM questions ORDER BY id LOOP
-                    PERFORM set_config('enable_seqscan', 'on', true), set_config('enable_bitmapscan', 'off', true), set_config('enable_indexscan', 'off', true);
+                    PERFORM set_config('enable_seqscan', 'on', true), set_config('enable_bitmapscan', 'off', true),
+                        set_config('enable_indexscan', 'off', true);
                     EXECUTE query INTO a USING q;
-                    PERFORM set_config('enable_seqscan', 'off', true), set_config('enable_bitmapscan', 'on', true), set_config('enable_indexscan', 'on', true);
+                    PERFORM set_config('enable_seqscan', 'off', true), set_config('enable_bitmapscan', 'on', true),
+                        set_config('enable_indexscan', 'on', true);
                     EXECUTE query INTO b USING q;
                     IF a IS DISTINCT FROM b THEN different := different + 1; END IF;
                     matches := matches + coalesce(array_length(a, 1), 0);
@@ -299,9 +326,11 @@ class Indexes(Tests):
                     IF line LIKE '%' || by || '%' THEN plans := plans + 1; END IF;
                 END LOOP;
             END $$;
-            SELECT name, (differ(name, by)).* FROM (VALUES ('&&', 'regions_gin'), ('@>', 'regions_gin'), ('<@', 'regions_gin')) v(name, by);
+            SELECT name, (differ(name, by)).* FROM (VALUES ('&&', 'regions_gin'), ('@>', 'regions_gin'),
+                ('<@', 'regions_gin')) v(name, by);
             DROP INDEX regions_gin;
-            SELECT name, (differ(name, by)).* FROM (VALUES ('=', 'regions_'), ('<', 'regions_btree'), ('>=', 'regions_btree')) v(name, by);
+            SELECT name, (differ(name, by)).* FROM (VALUES ('=', 'regions_'), ('<', 'regions_btree'),
+                ('>=', 'regions_btree')) v(name, by);
             DROP INDEX regions_btree;
             SELECT name, (differ(name, by)).* FROM (VALUES ('=', 'regions_hash')) v(name, by);
         """
@@ -323,13 +352,18 @@ class Indexes(Tests):
 class Aggregates(Tests):
     def test_the_aggregate(self):
         rows = [(self.random.randrange(20), self.random.cells()) for _ in range(5000)]
-        script = "SET client_min_messages = error; DROP TABLE IF EXISTS parts; CREATE TABLE parts(kind int, region s2union);\nCOPY parts FROM STDIN;\n"
+        script = "SET client_min_messages = error; DROP TABLE IF EXISTS parts;\n"
+        script += "CREATE TABLE parts(kind int, region s2union);\nCOPY parts FROM STDIN;\n"
         script += "".join(f"{kind}\t{tokens(xs)}\n" for kind, xs in rows) + "\\.\nANALYZE parts;\n"
         query = "SELECT kind, s2_union_agg(region) FROM parts GROUP BY kind ORDER BY kind;\n"
         script += query + """
             SET parallel_setup_cost = 0; SET parallel_tuple_cost = 0; SET min_parallel_table_scan_size = 0;
             INSERT INTO parts VALUES (20, NULL); ALTER TABLE parts SET (parallel_workers = 3);
-        """ + query + "SELECT s2_union_agg(region) FROM parts;\nSELECT s2_union_agg(region) IS NULL FROM parts WHERE kind > 99;\nEXPLAIN SELECT s2_union_agg(region) FROM parts;\n"
+        """ + query + """
+            SELECT s2_union_agg(region) FROM parts;
+            SELECT s2_union_agg(region) IS NULL FROM parts WHERE kind > 99;
+            EXPLAIN SELECT s2_union_agg(region) FROM parts;
+        """
         said = psql(script)
         kinds = [model.normal(model.runs([cell for k, xs in rows if k == kind for cell in xs])) for kind in range(20)]
         lines = [f"{kind}|{tokens(cells)}" for kind, cells in enumerate(kinds)]
@@ -340,7 +374,8 @@ class Aggregates(Tests):
 
     def test_many_cells(self):
         said = psql("""
-            SELECT s2_count(s2_union_agg(s2_parent(s2_leaf(0, 2 * (k % 600), 2 * (k / 600)), 30)::s2union)) FROM generate_series(0, 359999) k;
+            SELECT s2_count(s2_union_agg(s2_parent(s2_leaf(0, 2 * (k % 600), 2 * (k / 600)), 30)::s2union))
+                FROM generate_series(0, 359999) k;
             SELECT s2_union_agg(s2_leaf(0, k % 512, k / 512)::s2union) FROM generate_series(0, 262143) k;
         """)
         self.assertEqual(said[0], "360000")
@@ -355,9 +390,11 @@ class DumpAndUpdate(Tests):
         psql("CREATE DATABASE dumped;")
         psql("CREATE DATABASE restored;")
         psql(f"""CREATE EXTENSION s2union; CREATE TABLE regions(id int PRIMARY KEY, region s2union);
-             INSERT INTO regions VALUES {values}; CREATE INDEX ON regions USING gin (region); CREATE INDEX ON regions (region);""", "dumped")
+             INSERT INTO regions VALUES {values}; CREATE INDEX ON regions USING gin (region);
+             CREATE INDEX ON regions (region);""", "dumped")
         subprocess.run("pg_dump -Fc dumped | pg_restore -e -d restored", shell=True, check=True)
-        query = "SELECT id, region FROM regions ORDER BY id; SELECT indexdef FROM pg_indexes WHERE tablename = 'regions' ORDER BY 1;"
+        query = """SELECT id, region FROM regions ORDER BY id;
+                   SELECT indexdef FROM pg_indexes WHERE tablename = 'regions' ORDER BY 1;"""
         self.assertEqual(psql(query, "restored"), psql(query, "dumped"))
         self.assertEqual(len(psql(query, "restored")), 303)
         psql("DROP DATABASE restored; ")
@@ -369,7 +406,8 @@ class DumpAndUpdate(Tests):
             file.write("COMMENT ON TYPE s2union IS 'a later version';\n")
         said = psql("""
             BEGIN; ALTER EXTENSION s2union UPDATE TO '0.1.1';
-            SELECT extversion, obj_description('s2union'::regtype, 'pg_type') FROM pg_extension WHERE extname = 's2union';
+            SELECT extversion, obj_description('s2union'::regtype, 'pg_type')
+                FROM pg_extension WHERE extname = 's2union';
             ROLLBACK; DROP EXTENSION IF EXISTS s2union CASCADE; CREATE EXTENSION s2union;
             SELECT '1'::s2union @> '04'::s2union;
         """.replace("BEGIN;", "SET client_min_messages = error; BEGIN;"))

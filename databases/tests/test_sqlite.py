@@ -315,7 +315,8 @@ class WhatIsRefused(Tests):
     def test_no_cells(self):
         for name, letters, values in calls():
             for k, letter in enumerate(letters):
-                wrongs = {"n": (-1, 2**32, 2**63 - 1), "b": ()}.get(letter, (0, 2, -1, "X", "0/4", "1 g", "1\0", "1\0 1"))
+                wrongs = {"n": (-1, 2**32, 2**63 - 1), "b": ()}.get(letter,
+                    (0, 2, -1, "X", "0/4", "1 g", "1\0", "1\0 1"))
                 reason = "s2: argument out of range" if letter == "n" else "s2: no cell"
                 for wrong in wrongs:
                     marks = ", ".join("?" * len(values))
@@ -342,7 +343,8 @@ class WhatIsRefused(Tests):
         faults = [(good[:k], "bytes are missing") for k in range(len(good))]
         faults += [(bytes([k]) + good[1:], "unknown version") for k in (0, 2, 255)]
         faults += [(good + bytes(k), "bytes after the last cell") for k in (1, 8, 100)]
-        faults += [(good[:17] + cell.to_bytes(8, "little") + good[25:], "a number that is no cell") for cell in (0, 2, 2**64 - 1)]
+        wrongs = [good[:17] + cell.to_bytes(8, "little") + good[25:] for cell in (0, 2, 2**64 - 1)]
+        faults += [(wrong, "a number that is no cell") for wrong in wrongs]
         faults += [(good[:1] + b"\xff" * 8 + good[9:], "bytes are missing")]
         self.db.execute("CREATE TABLE faults(file)")
         for file, reason in faults:
@@ -353,7 +355,8 @@ class WhatIsRefused(Tests):
                     marks = ", ".join("?" * len(values))
                     self.refused(f"s2: union file: {reason}", f"{name}({marks})", *values[:k], file, *values[k + 1 :])
                     others = ", ".join("file" if n == k else "?" for n in range(len(values)))
-                    self.refused(f"s2: union file: {reason}", f"{name}({others}) FROM faults", *values[:k], *values[k + 1 :])
+                    self.refused(f"s2: union file: {reason}", f"{name}({others}) FROM faults",
+                        *values[:k], *values[k + 1 :])
             for table in ("s2_cells", "s2_prepared"):
                 self.refused(f"s2: union file: {reason}", f"* FROM {table}(?)", file)
             self.assertEqual(self.ask("s2_is_union(?)", file), 0)
@@ -366,7 +369,8 @@ class WhatIsRefused(Tests):
         for k in range(10):
             self.db.execute("INSERT INTO rows VALUES(?, ?)", (k, bad if k == 7 else good))
         leaf = signed(model.identifier(30, 4**10))
-        for expression in ("s2_contains(file, ?)", "s2_intersects(file, ?)", "s2_contains('0401', file) + ?", "s2_count(file) + ?"):
+        for expression in ("s2_contains(file, ?)", "s2_intersects(file, ?)",
+            "s2_contains('0401', file) + ?", "s2_count(file) + ?"):
             query = f"SELECT {expression} FROM rows WHERE id <> ? ORDER BY id"
             self.assertEqual(len(self.db.execute(query, (leaf, 7)).fetchall()), 9)
             with self.assertRaisesRegex(sqlite3.OperationalError, "a number that is no cell"):
@@ -381,8 +385,10 @@ class WhatIsRefused(Tests):
             for bit in range(0, 8 * len(file), 13 if UNDER_A_SANITIZER else 1):
                 file[bit // 8] ^= 1 << bit % 8
                 self.db.execute("INSERT OR REPLACE INTO flipped VALUES(1, ?)", (bytes(file),))
-                for expression in ("s2_contains(file, ?)", "s2_intersects('1', file) + ?", "s2_tokens(s2_union(file, ?))",
-                                   "s2_leaves(s2_difference('1', file)) + ?", "count(*) + ? FROM s2_cells((SELECT file FROM flipped))"):
+                for expression in (
+                    "s2_contains(file, ?)", "s2_intersects('1', file) + ?", "s2_tokens(s2_union(file, ?))",
+                    "s2_leaves(s2_difference('1', file)) + ?", "count(*) + ? FROM s2_cells((SELECT file FROM flipped))",
+                ):
                     try:
                         source = "" if "FROM" in expression else " FROM flipped"
                         self.db.execute(f"SELECT {expression}{source}", (cell,)).fetchall()
@@ -399,15 +405,18 @@ class WhatIsRefused(Tests):
         shuffled = model.file(self.random.sample([model.identifier(14, 3 * k + 1) for k in range(1000)], 1000))
         self.db.execute("CREATE TABLE parts(id, part)")
         for k in range(20):
-            self.db.execute("INSERT INTO parts VALUES(?, ?)", (k, model.file([model.identifier(12, 7 * n + k) for n in range(200)])))
+            part = model.file([model.identifier(12, 7 * n + k) for n in range(200)])
+            self.db.execute("INSERT INTO parts VALUES(?, ?)", (k, part))
         tokens = self.ask("s2_tokens(?)", big)
         queries = (
             ("SELECT s2_union(?, ?)", (big, shuffled)), ("SELECT s2_difference(?, ?)", (big, shuffled)),
-            ("SELECT s2_intersection(?, ?)", (tokens, shuffled)), ("SELECT s2_contains(?, part) FROM parts", (shuffled,)),
+            ("SELECT s2_intersection(?, ?)", (tokens, shuffled)),
+            ("SELECT s2_contains(?, part) FROM parts", (shuffled,)),
             ("SELECT s2_intersects(part, ?) FROM parts", (tokens,)), ("SELECT s2_tokens(?)", (big,)),
             ("SELECT s2_outer(?, 12)", (big,)), ("SELECT s2_outer(1, 5, 900000, 7, 1000000, 16)", ()),
             ("SELECT s2_union_agg(part) FROM parts", ()), ("SELECT count(*), sum(cell) FROM s2_cells(?, 16)", (big,)),
-            ("SELECT id % 3, s2_count(s2_union_agg(part)) FROM parts GROUP BY 1", ()), ("SELECT s2_normalise(?)", (tokens,)),
+            ("SELECT id % 3, s2_count(s2_union_agg(part)) FROM parts GROUP BY 1", ()),
+            ("SELECT s2_normalise(?)", (tokens,)),
             ("SELECT count(*) FROM s2_prepared(?), parts WHERE s2_intersects(value, part)", (shuffled,)),
             ("SELECT sum(s2_contains(s2_union(?, part), part)) FROM parts", (shuffled,)),
             ("SELECT s2_range('0000000000000001', 'afffffffffffffff')", ()), ("SELECT s2_count(zeroblob(1000000))", ()),
@@ -464,14 +473,18 @@ class Costs(Tests):
         cells = ids(big)
         shuffled = model.file(self.random.sample(cells, len(cells)))
         parameter = "SELECT count(*) FROM regions WHERE s2_contains(?, region)"
-        prepared = "SELECT count(*) FROM s2_prepared((SELECT region FROM big)) AS b, regions WHERE s2_contains(b.value, regions.region)"
+        prepared = """SELECT count(*) FROM s2_prepared((SELECT region FROM big)) AS b, regions
+                      WHERE s2_contains(b.value, regions.region)"""
         scan = "SELECT count(*) FROM regions WHERE s2_contains(region, ?)"
         limit = 1e9 if UNDER_A_SANITIZER else 2e-6
         counts = set()
-        for query, values, own in ((parameter, (big,), 0), (prepared, (), 0), (parameter, (shuffled,), 0.2)):
+        for name, query, values, own in (
+            ("a parameter", parameter, (big,), 0), ("s2_prepared", prepared, (), 0),
+            ("a parameter in another order", parameter, (shuffled,), 0.2),
+        ):
             took, answer = self.fastest(query, *values)
             counts.add(answer[0])
-            print(f"{query.split('WHERE')[0][16:60]}: {took * 10:.2f} us a row")
+            print(f"{name}: {took * 10:.2f} us a row")
             self.assertLess(took, 100000 * limit + own)
         self.assertEqual(len(counts), 1)
         self.assertGreaterEqual(counts.pop()[0], 50000)
