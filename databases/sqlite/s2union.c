@@ -176,6 +176,7 @@ static int32_t file_argument(sqlite3_context* c, sqlite3_value** v, int k, argum
     if (status == 1) sqlite3_set_auxdata(c, k, &normal, NULL);
     if (status != 0) return status < 0 ? status : S2U_OK;
   }
+  if (kept == &normal) sqlite3_set_auxdata(c, k, NULL, NULL); /* a host's constant that has changed its type */
   int32_t status = hold(c, v, k, file_of, a);
   if (status == S2U_OK) a->bytes = (const uint8_t*)a->held->cells, a->n = a->held->n;
   return status;

@@ -1,6 +1,7 @@
 """Runs the examples of a page: each block ```sql in one session, and compares with the block ```text that follows it.
 
-documented.py [--script] PAGE [COMMAND..]: COMMAND (sqlite3 -batch :memory:) reads the session, --script prints it."""
+documented.py [--script] PAGE [COMMAND..]: COMMAND (sqlite3 -batch :memory:) reads the session, --script prints it.
+S2UNION_FIRST and S2UNION_SHARD are the folders of the sockets /run/first and /run/shard."""
 
 import os
 import re
@@ -26,6 +27,8 @@ def main(arguments):
     blocks = examples(page)
     mark = f"\\echo {MARK}" if command else f".print {MARK}"
     script = session(blocks, mark)
+    for place in ("first", "shard"):
+        script = script.replace(f"/run/{place}", os.environ.get(f"S2UNION_{place.upper()}", ""))
     if alone:
         print(script, end="")
         return 0

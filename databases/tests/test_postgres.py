@@ -415,5 +415,21 @@ class DumpAndUpdate(Tests):
         self.assertEqual(said, ["0.1.1|a later version", "t"])
 
 
+class Servers(unittest.TestCase):
+    """After docs/SCALE.md has run."""
+
+    def test_questions_over_two_servers(self):
+        said = psql("""
+            CREATE TABLE whole AS SELECT * FROM regions;
+            SELECT count(*), count(*) FILTER (WHERE here.ids IS DISTINCT FROM there.ids), count(here.ids) > 50
+            FROM generate_series(1, 200) AS k,
+                LATERAL (SELECT s2_outer(k % 6, k * 9000, k * 9000 + 300000, k * 20000, k * 20000 + 9000, 15) AS q) AS a,
+                LATERAL (SELECT array_agg(id ORDER BY id) AS ids FROM regions WHERE region && q) AS here,
+                LATERAL (SELECT array_agg(id ORDER BY id) AS ids FROM whole WHERE region && q) AS there;
+            SELECT (SELECT s2_union_agg(region) FROM regions) = (SELECT s2_union_agg(region) FROM whole);
+        """, "scale")
+        self.assertEqual(said, ["200|0|t", "t"])
+
+
 if __name__ == "__main__":
     unittest.main()

@@ -376,6 +376,14 @@ class WhatIsRefused(Tests):
             with self.assertRaisesRegex(sqlite3.OperationalError, "a number that is no cell"):
                 self.db.execute(query, (leaf, 8)).fetchall()
 
+    def test_a_constant_of_the_host_that_changes(self):
+        values = [model.file([FACE]), "1", model.file([FACE]), signed(FACE), model.file([FACE, FACE]), "04 1"] * 9
+        self.db.execute("CREATE TABLE rows(x)")
+        self.db.executemany("INSERT INTO rows VALUES(?)", [("04",)] * 50)
+        for expression in ("s2_contains(lie(), x)", "s2_intersects(x, lie())"):
+            self.db.create_function("lie", 0, iter(values).__next__, deterministic=True)
+            self.assertEqual(self.db.execute(f"SELECT sum({expression}) FROM rows").fetchone(), (50,))
+
     def test_each_bit_of_100_stored_values_flipped(self):
         self.db.execute("CREATE TABLE flipped(id INTEGER PRIMARY KEY, file BLOB)")
         answers = errors = 0
