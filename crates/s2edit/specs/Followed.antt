@@ -1,4 +1,4 @@
--- A register's list that is followed along changes: the list that it had at some point, and the change from there to now.
+-- A register's list that is followed along changes: the list that it had at some point, and the change since then.
 use Rattle.std.specs.Prelude.{ℕ, List, Option, Some, None}
 use Rattle.s2union.specs.Union.{Union, IsLocal}
 use Rattle.s2union.specs.Apply.{cells_without, insert_cells, applied, Fits}

@@ -18,7 +18,7 @@ use std::marker::Model;
 /// How many cells are copied in the time in which one cell of a change is checked.
 const COPIES_A_CHECK: usize = 32;
 
-/// A register's list that is followed along changes: the list that it had at some point, which is lent by the session as
+/// A register's list that is followed along changes: the list that it had at some point, which the session lends as
 /// long as none was made, and the change that leads from there to now.
 ///
 /// So the list isn't made anew for each change. It is made once the checks of the gathered changes have cost as much.
