@@ -161,7 +161,7 @@ int32_t s2u_denormalised(const uint64_t* ids, size_t n, uint32_t min, uint32_t m
 
 /* The cells of a union and all their ancestors, ascending, each once. Two unions share a leaf exactly when a cell of one is
  * among the cells and ancestors of the other: the law of every inverted index over cells, proved. S2U_ROOM, S2U_MEMORY,
- * S2U_NO_UNION. At most S2U_MOST_ANCESTORS(n), mostly below 1.4 n; 24 bytes for each. */
+ * S2U_NO_UNION. At most S2U_MOST_ANCESTORS(n); up to 24 bytes for each. */
 #define S2U_MOST_ANCESTORS(n) (31 * (n))
 int32_t s2u_ancestors(const uint64_t* ids, size_t n, uint64_t* out, size_t room, size_t* len);
 
