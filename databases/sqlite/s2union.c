@@ -152,7 +152,9 @@ typedef struct argument {
   uint32_t number;
 } argument;
 
-enum { MOST_ARGUMENTS = 6, PREPARED = 0x53 /* the subtype of s2_prepared.value, which is in normal form */ };
+/* PREPARED is the subtype of s2_prepared.value, which is in normal form by its making. Fewer bytes of a file than
+ * WORTH_KEEPING are checked as fast as SQLite remembers that they were. */
+enum { MOST_ARGUMENTS = 6, PREPARED = 0x53, WORTH_KEEPING = 250 };
 
 /* What is made of a constant is kept for all rows: SQLite drops it after the last of them, or at once. */
 static int32_t hold(sqlite3_context* c, sqlite3_value** v, int k, int32_t (*of)(sqlite3_value*, block**), argument* a) {
@@ -173,7 +175,7 @@ static int32_t file_argument(sqlite3_context* c, sqlite3_value** v, int k, argum
     int32_t status = bytes_of(v[k], &a->bytes, &a->n);
     if (status != S2U_OK || kept || sqlite3_value_subtype(v[k]) == PREPARED) return status;
     status = s2u_file_check(a->bytes, a->n);
-    if (status == 1) sqlite3_set_auxdata(c, k, &normal, NULL);
+    if (status == 1 && a->n > WORTH_KEEPING) sqlite3_set_auxdata(c, k, &normal, NULL);
     if (status != 0) return status < 0 ? status : S2U_OK;
   }
   if (kept == &normal) sqlite3_set_auxdata(c, k, NULL, NULL); /* a host's constant that has changed its type */

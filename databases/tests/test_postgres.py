@@ -329,6 +329,8 @@ class Indexes(Tests):
             SELECT name, (differ(name, by)).* FROM (VALUES ('&&', 'regions_gin'), ('@>', 'regions_gin'),
                 ('<@', 'regions_gin')) v(name, by);
             DROP INDEX regions_gin;
+            CREATE EXTENSION IF NOT EXISTS amcheck;
+            SELECT 'checked', 0, 1, 1 FROM bt_index_check('regions_btree', true);
             SELECT name, (differ(name, by)).* FROM (VALUES ('=', 'regions_'), ('<', 'regions_btree'),
                 ('>=', 'regions_btree')) v(name, by);
             DROP INDEX regions_btree;
@@ -340,7 +342,7 @@ class Indexes(Tests):
         for ys in questions[:100]:
             y = model.runs(ys)
             wanted["&&"] += sum(bool(model.common(x, y)) for x in forms)
-        self.assertEqual(len(said), 7)
+        self.assertEqual(len(said), 8)
         for name, different, found, plans in said:
             self.assertEqual(different, "0", name)
             self.assertNotEqual(plans, "0", name)
@@ -423,7 +425,7 @@ class Servers(unittest.TestCase):
             CREATE TABLE whole AS SELECT * FROM regions;
             SELECT count(*), count(*) FILTER (WHERE here.ids IS DISTINCT FROM there.ids), count(here.ids) > 50
             FROM generate_series(1, 200) AS k,
-                LATERAL (SELECT s2_outer(k % 6, k * 9000, k * 9000 + 300000, k * 20000, k * 20000 + 9000, 15) AS q) AS a,
+                LATERAL (SELECT s2_outer(k % 6, k * 9000, k * 9000 + 300000, k * 20000, k * 20000 + 9000, 15) AS q) a,
                 LATERAL (SELECT array_agg(id ORDER BY id) AS ids FROM regions WHERE region && q) AS here,
                 LATERAL (SELECT array_agg(id ORDER BY id) AS ids FROM whole WHERE region && q) AS there;
             SELECT (SELECT s2_union_agg(region) FROM regions) = (SELECT s2_union_agg(region) FROM whole);
