@@ -1,5 +1,5 @@
 -- One step of the walk along a list and the two lists of a change.
-use Rattle.std.proofs.Common.{◌≡◌, ℕ, ◌<◌, ◌≢◌, true, false, ◌||◌, eqb, ltb, List, [], ◌∷◌, length, refl, sym, ap, ◌∙◌, subst, ⊎_elim, arith, eqb-true, eq-eqb, ne_eqb, lt-ltb, le-ltb, drop, take, get_or, ◌-◌, ◌≤◌, ◌+◌, min, zero, suc}
+use Rattle.std.proofs.Common.{◌≡◌, ℕ, ◌<◌, ◌≢◌, true, false, ◌||◌, eqb, ltb, List, [], ◌∷◌, length, refl, sym, ap, ◌∙◌, subst, ⊎_elim, arith, eqb-true, eq-eqb, ne_eqb, lt-ltb, le-ltb, drop, take, get_or, ◌-◌, ◌≤◌, min, zero, suc}
 use Rattle.std.proofs.lemmas.Grind.{common_steps}
 use Rattle.std.proofs.lemmas.List.{take_all, length-drop}
 use Rattle.std.proofs.lemmas.Bool.{cond-true, cond-false, false≢true, true≢false, or_cases, or_left, or_right, or_parts}
