@@ -13,8 +13,9 @@ use std::marker::Model;
 /// A writer that gathers what is written to it, and hands it to the writer below when it is flushed, and when 64 KiB
 /// wait in it.
 ///
-/// A contract sees both: the writer below, which has what has reached it, and the bytes that wait. Unlike a `BufWriter` it
-/// tries no failed call again, and writes nothing when it is dropped. What a failed call didn't take goes on waiting.
+/// A contract sees both: the writer below, which has what has reached it, and the bytes that wait. Unlike a
+/// `BufWriter` it tries no failed call again, and writes nothing when it is dropped. What a failed call didn't take
+/// goes on waiting.
 #[derive(Drop)]
 pub struct AnswerBuffer<W> {
     writer: W,

@@ -125,8 +125,9 @@ pub fn run<R: Read, W: Write, S: Shelf>(
 /// gathered goes out before the run waits for more of the script, and whoever typed a line sees its answer.
 ///
 /// After `Ok` all answers have reached the writer below, and after `Input` just those to the lines that were read
-/// whole: nothing waits in the buffer then. After `Output`, also if a flush before a read failed, what was written is what
-/// [`run`] says, and of that at most 64 KiB wait in the buffer; they are lost when it is dropped.
+/// whole: nothing waits in the buffer then. After `Output` what was written is what [`run`] says, or a flush before a
+/// read failed, with just the answers to the lines that were read whole written. At most 64 KiB of it wait in the
+/// buffer, and are lost when that is dropped.
 pub fn run_promptly<R: Read, W: Write, S: Shelf>(
     alloc: Global,
     editor: &mut Editor,

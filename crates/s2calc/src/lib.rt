@@ -4,10 +4,10 @@
 //! where one of them fails.
 //!
 //! A line flows one way: bytes (`engine`, `kept`) -> what it says (the crate `s2script`) -> its effect
-//! (`execute`: `edits`, `files`, `sessions`, `questions`; `fetch` asks the shelf) -> an `answer` -> bytes (`output`, `answer_buffer`).
-//! `refusal` says why a line is refused, `fault` what ends a run; `flushing` when the writer is flushed, `limits` are the limits, `laws` laws about the
-//! definitions. For the program: `command_line` and `task` (what it is asked for), `program` and `check` (its other
-//! answers).
+//! (`execute`: `edits`, `files`, `sessions`, `questions`; `fetch` asks the shelf) -> an `answer` -> bytes
+//! (`output`, `answer_buffer`). `refusal` says why a line is refused, `fault` what ends a run, `flushing` when the
+//! writer is flushed; `limits` are the limits, `laws` laws about the definitions. For the program: `command_line` and
+//! `task` (what it is asked for), `program` and `check` (its other answers).
 #![tactic(auto)]
 
 mod answer;
