@@ -435,9 +435,13 @@ Datum s2_range_max(PG_FUNCTION_ARGS) {
 
 /* ---- order and hash: of the lists, of which each region has one ---- */
 
+/* A sort calls this many times in one context, so copies are freed. */
 static int compared(FunctionCallInfo fcinfo) {
   S2Union *x = ARGUMENT(0), *y = ARGUMENT(1);
-  return s2u_compare(LIST(x), LIST(y));
+  int order = s2u_compare(LIST(x), LIST(y));
+  PG_FREE_IF_COPY(x, 0);
+  PG_FREE_IF_COPY(y, 1);
+  return order;
 }
 
 #define COMPARISON(name, holds) \
@@ -456,13 +460,17 @@ Datum s2union_cmp(PG_FUNCTION_ARGS) { PG_RETURN_INT32(compared(fcinfo)); }
 PG_FUNCTION_INFO_V1(s2union_hash);
 Datum s2union_hash(PG_FUNCTION_ARGS) {
   S2Union* u = ARGUMENT(0);
-  return hash_any((const unsigned char*)u->cells, (int)(VARSIZE(u) - HEAD));
+  Datum hash = hash_any((const unsigned char*)u->cells, (int)(VARSIZE(u) - HEAD));
+  PG_FREE_IF_COPY(u, 0);
+  return hash;
 }
 
 PG_FUNCTION_INFO_V1(s2union_hash_extended);
 Datum s2union_hash_extended(PG_FUNCTION_ARGS) {
   S2Union* u = ARGUMENT(0);
-  return hash_any_extended((const unsigned char*)u->cells, (int)(VARSIZE(u) - HEAD), (uint64)PG_GETARG_INT64(1));
+  Datum hash = hash_any_extended((const unsigned char*)u->cells, (int)(VARSIZE(u) - HEAD), (uint64)PG_GETARG_INT64(1));
+  PG_FREE_IF_COPY(u, 0);
+  return hash;
 }
 
 /* ---- the aggregate: gathers cells, and normalises when they have doubled ---- */

@@ -183,14 +183,14 @@ class AgainstTheModel(Tests):
         rows = [self.random.cells() for _ in range(500)]
         values = ", ".join(f"({k}, {u(xs)})" for k, xs in enumerate(rows))
         said = psql(f"""
+            SELECT current_setting('data_directory') || '/regions.copy' AS file \\gset
             CREATE TEMP TABLE a(id int, region s2union);
             CREATE TEMP TABLE b(LIKE a);
             INSERT INTO a VALUES {values}, (999, NULL);
-            COPY a TO '/tmp/s2union.{os.getpid()}.copy' (FORMAT binary);
-            COPY b FROM '/tmp/s2union.{os.getpid()}.copy' (FORMAT binary);
+            COPY a TO :'file' (FORMAT binary);
+            COPY b FROM :'file' (FORMAT binary);
             SELECT count(*) FROM a JOIN b USING (id) WHERE a.region = b.region;
             SELECT count(*) FROM b WHERE region IS NULL;
-            COPY (SELECT 1) TO PROGRAM 'rm /tmp/s2union.{os.getpid()}.copy';
         """)
         self.assertEqual(said, ["500", "1"])
 

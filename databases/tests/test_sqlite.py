@@ -145,6 +145,16 @@ class AgainstTheModel(Tests):
                 self.assertEqual(self.db.execute(query.format(value, source), values).fetchall(), wanted, value)
             self.db.execute("DROP TABLE asked")
 
+    def test_questions_of_cells(self):
+        for _ in range(ROUNDS):
+            xs = self.random.cells()
+            cell = self.random.near(self.random.choice(xs or [FACE]))
+            one, x = [model.run(cell)], model.runs(xs)
+            wanted = (int(not model.common(one, model.rest(x))), int(bool(model.common(one, x))))
+            query = "SELECT s2_contains(?1, ?2), s2_intersects(?1, ?2)"
+            for value in (signed(cell), model.token(cell)):
+                self.assertEqual(self.db.execute(query, (self.random.form(xs), value)).fetchone(), wanted)
+
     def test_a_constant_in_another_order(self):
         cells = [model.identifier(20, 3 * k) for k in range(200)]
         shuffled = model.file(self.random.sample(cells, 200))
