@@ -135,11 +135,7 @@ fn kept_union(
 }
 
 /// The cells that have a leaf in the rectangle.
-fn met_cells(
-    alloc: Global,
-    cells: &[CellId],
-    rect: &FaceRect,
-) -> Result<Vec<CellId>, AllocError>
+fn met_cells(alloc: Global, cells: &[CellId], rect: &FaceRect) -> Result<Vec<CellId>, AllocError>
     ensures { IfOk result (λ list. list.items ≡ cells_met (rect_set rect.now) cells.now) }
 {
     let mut list = Vec::new(alloc);
