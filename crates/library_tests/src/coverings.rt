@@ -3,7 +3,8 @@ ghost use Rattle.std.specs.Prelude.{◌≡◌, ◌≤◌, ◌<◌, ◌↔◌, �
 ghost use Rattle.s2cell.specs.Cell.{covers};
 
 use s2cover::{
-    Clip, CoverFault, FaceRect, Looks, Part, Region, inner, outer, rect_inner, rect_outer,
+    Clip, CoverFault, FaceRect, Looks, Part, Region, clip_inner, clip_outer, inner, outer,
+    rect_inner, rect_outer, union_inner, union_outer,
 };
 use s2cell::CellId;
 use s2union::{CellUnion, normalise};
@@ -190,5 +191,60 @@ fn rectangles_agree_with_regions(rt: HostRuntime) -> Result<(), Fail> {
             }
         }
     }
+    Ok(())
+}
+
+/// The calls for unions and clipped unions answer as those for any region do.
+fn agree_clipped(
+    rt: &impl Abort,
+    alloc: Global,
+    union: &CellUnion,
+    rect: &FaceRect,
+    level: u8,
+) -> Result<(), Fail>
+    requires { level ≤ 30 }
+{
+    let clip = Clip { union, rect: *rect };
+    let around = outer(alloc, &clip, level, 100)?;
+    let found = clip_outer(alloc, union, rect, level, 100)?;
+    assert_eq!(rt; found.cells(), around.cells());
+    let within = inner(alloc, &clip, level, 100)?;
+    let held = clip_inner(alloc, union, rect, level, 100)?;
+    assert_eq!(rt; held.cells(), within.cells());
+    Ok(())
+}
+
+#[test]
+fn clips_agree_with_regions(rt: HostRuntime) -> Result<(), Fail> {
+    let square = outer(rt.alloc(), &rect(&rt, 0, 1, 6, 2, 5), 30, 100)?;
+    for level in 27..31u8 {
+        for n in 0..4096u32 {
+            if let Some(rect) = FaceRect::new(0, n % 8, n / 8 % 8, n / 64 % 8, n / 512 % 8) {
+                agree_clipped(&rt, rt.alloc(), &square, &rect, level)?;
+            }
+        }
+        let around = outer(rt.alloc(), &square, level, 100)?;
+        let found = union_outer(rt.alloc(), &square, level, 100)?;
+        assert_eq!(rt; found.cells(), around.cells());
+        let within = inner(rt.alloc(), &square, level, 100)?;
+        let held = union_inner(rt.alloc(), &square, level, 100)?;
+        assert_eq!(rt; held.cells(), within.cells());
+    }
+    Ok(())
+}
+
+#[test]
+fn covers_a_clip_with_long_sides(rt: HostRuntime) -> Result<(), Fail> {
+    let face = single(&rt, rt.alloc(), FACE_ZERO)?;
+    let row = rect(&rt, 0, 0, LAST, 5, 5);
+    assert_eq!(rt;
+        ids(&clip_inner(rt.alloc(), &face, &row, 29, 9)?),
+        ([0; 4], 0)
+    );
+    let most = rect(&rt, 0, 1, LAST, 0, LAST);
+    assert_eq!(rt;
+        ids(&clip_outer(rt.alloc(), &face, &most, 29, 9)?),
+        ([FACE_ZERO, 0, 0, 0], 1)
+    );
     Ok(())
 }

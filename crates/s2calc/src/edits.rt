@@ -11,7 +11,7 @@ ghost use Rattle.s2calc.specs.Edits.{new_set, leaves_of, no_leaf, within, Makes,
 use crate::answer::Answer;
 use crate::refusal::Refusal;
 use s2cover::{
-    Clip, CoverFault, FaceRect, Looks, inner, outer, rect_inner, rect_outer, union_inner,
+    CoverFault, FaceRect, Looks, clip_inner, clip_outer, rect_inner, rect_outer, union_inner,
     union_outer,
 };
 use s2edit::{EditFault, Editor, Register};
@@ -211,7 +211,7 @@ fn outer_of(
     let union = editor.register(register);
     match rect {
         None => covered(union_outer(alloc, union, level.number(), editor.limit())),
-        Some(rect) => covered(outer(alloc, &Clip { union, rect }, level.number(), editor.limit())),
+        Some(rect) => covered(clip_outer(alloc, union, &rect, level.number(), editor.limit())),
     }
 }
 
@@ -228,6 +228,6 @@ fn inner_of(
     let union = editor.register(register);
     match rect {
         None => covered(union_inner(alloc, union, level.number(), editor.limit())),
-        Some(rect) => covered(inner(alloc, &Clip { union, rect }, level.number(), editor.limit())),
+        Some(rect) => covered(clip_inner(alloc, union, &rect, level.number(), editor.limit())),
     }
 }

@@ -1,16 +1,16 @@
 -- The coverings of a clipped union, by its cells cut to the level and the rectangle rounded to it.
-use Rattle.std.proofs.Common.{◌≡◌, ℕ, suc, zero, ◌+◌, ◌-◌, ◌*◌, ◌/◌, ◌^◌, ◌<◌, ◌≤◌, Bool, true, false, cond, Result, IfOk, max, ◌&&◌, ◌||◌, nat_lt, List, [], ◌∷◌, length, All, Contains, refl, sym, ◌∙◌, ap, arith, subst, ⊎_elim}
-use Rattle.std.specs.List.{filter, list_any}
+use Rattle.std.proofs.Common.{◌≡◌, ℕ, suc, zero, ◌+◌, ◌-◌, ◌*◌, ◌/◌, ◌^◌, ◌<◌, ◌≤◌, Bool, true, false, Result, IfOk, ◌&&◌, ◌||◌, nat_lt, List, [], ◌∷◌, All, Contains, refl, sym, ◌∙◌, ap, arith, ⊎_elim}
+use Rattle.std.specs.List.{filter}
 use Rattle.std.proofs.lemmas.Bool.{cases_lt, cases_Bool, and_right, and_parts, and_from, both_ways, true_from_ne_false}
 use Rattle.std.proofs.lemmas.List.Elements.{All-contains, All-filter}
 use Rattle.std.proofs.lemmas.List.Folds.{Any-from_list_any}
 use Rattle.std.proofs.lemmas.Result.{IfOk-weaker}
 use Rattle.s2cell.specs.Cell.{IsCell, level_of, first_leaf, size_of, covers}
 use Rattle.s2cell.proofs.Family.{deeper_inside}
-use Rattle.s2cell.proofs.Leaves.{Within, covers_from, covers_there, inside_from_within}
+use Rattle.s2cell.proofs.Leaves.{covers_from, covers_there, inside_from_within}
 use Rattle.s2union.specs.Union.{has_leaf, IsLocal, IsNormalForm, Union}
 use Rattle.s2union.proofs.Normal.{leaf_to, normal_form_same}
-use Rattle.s2cover.specs.Coverings.{filled, touched, outer_set, inner_set, IsInOuter, IsInInner}
+use Rattle.s2cover.specs.Coverings.{filled, outer_set, inner_set, IsInOuter, IsInInner}
 use Rattle.s2cover.specs.Cut.{meets, cells_cut, cells_kept, cells_met}
 use Rattle.s2cover.proofs.Runs.{touched_none, touched_from_none}
 use Rattle.s2cover.proofs.Squares.{same_bool}

@@ -1,14 +1,14 @@
 -- The coverings of a union are its cells, cut to the level.
-use Rattle.std.proofs.Common.{◌≡◌, ℕ, suc, zero, ◌+◌, ◌-◌, ◌*◌, ◌/◌, ◌^◌, ◌<◌, ◌≤◌, Bool, true, false, cond, Result, IfOk, IfErr, max, ◌&&◌, ◌||◌, nat_le, nat_lt, List, [], ◌∷◌, length, All, Contains, refl, sym, ◌∙◌, ap, arith, subst, ⊎_elim}
+use Rattle.std.proofs.Common.{◌≡◌, ℕ, suc, zero, ◌+◌, ◌-◌, ◌*◌, ◌/◌, ◌^◌, ◌<◌, ◌≤◌, Bool, true, false, cond, Result, IfOk, IfErr, max, ◌&&◌, ◌||◌, nat_lt, List, [], ◌∷◌, length, All, Contains, refl, sym, ◌∙◌, ap, arith, subst, ⊎_elim}
 use Rattle.std.specs.List.{filter}
-use Rattle.std.proofs.lemmas.Bool.{cases_lt, cond-true, cond-false, le-leb, leb-true, and_right, and_parts, and_from, both_ways, false_from_ne_true}
+use Rattle.std.proofs.lemmas.Bool.{cases_lt, cond-true, cond-false, le-leb, leb-true, and_right, and_parts, and_from, false_from_ne_true}
 use Rattle.std.proofs.lemmas.List.Elements.{All-contains}
 use Rattle.std.proofs.lemmas.List.Folds.{Any-from_list_any, list_any_at}
-use Rattle.s2cell.specs.Cell.{IsCell, level_of, first_leaf, size_of, covers, parent_of, id_at}
+use Rattle.s2cell.specs.Cell.{IsCell, level_of, first_leaf, covers, parent_of, id_at}
 use Rattle.s2cell.proofs.CellLemmas.{level_of_cell}
 use Rattle.s2cell.proofs.Calls.{IsCell-parent_of, shallow}
 use Rattle.s2cell.proofs.Family.{deeper_inside, parent_level, parent_around, same_from_within}
-use Rattle.s2cell.proofs.Leaves.{Within, covers_from, covers_there, inside_from_within}
+use Rattle.s2cell.proofs.Leaves.{Within, covers_from, inside_from_within}
 use Rattle.s2cell.proofs.Squares.{covers_block, first_leaf_covered}
 use Rattle.s2union.specs.Union.{has_leaf, IsLocal, IsNormalForm, Union}
 use Rattle.s2union.proofs.Normal.{all_held, holder, family, leaf_to, normal_form_same, one_normal_form}

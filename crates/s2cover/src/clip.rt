@@ -1,7 +1,7 @@
 //! The coverings of a union clipped by a rectangle, without a walk along the rectangle's sides.
 //!
-//! The union's cells are cut to the level and the rectangle is rounded to its grid first. So each cell that crosses what
-//! they share has a cell of the answer in it, and the descent enters no other.
+//! The union's cells are cut to the level and the rectangle is rounded to its grid first. So each cell that crosses
+//! what they share has a cell of the answer in it, and the descent enters no other.
 ghost use Rattle.std.specs.Prelude.{◌≡◌, ◌<◌, ◌≤◌, ◌&&◌, ℕ, List, length, IfOk, IfErr};
 ghost use Rattle.s2union.specs.Union.{has_leaf, IsLocal, IsNormalForm};
 ghost use Rattle.s2cover.specs.Coverings.{inner_set, outer_set};
@@ -135,11 +135,7 @@ fn kept_union(
 }
 
 /// The cells that have a leaf in the rectangle.
-fn met_cells(
-    alloc: Global,
-    cells: &[CellId],
-    rect: &FaceRect,
-) -> Result<Vec<CellId>, AllocError>
+fn met_cells(alloc: Global, cells: &[CellId], rect: &FaceRect) -> Result<Vec<CellId>, AllocError>
     ensures { IfOk result (λ list. list.items ≡ cells_met (rect_set rect.now) cells.now) }
 {
     let mut list = Vec::new(alloc);

@@ -7,7 +7,8 @@
 //! give way to their parent, so a covering may have cells above its level and never below it.
 //!
 //! A rectangle on a face needs less: once its sides are rounded to the grid of the level, each cell that is found whole
-//! belongs to the answer, and the looks are bounded by the answer's cells.
+//! belongs to the answer, and the looks are bounded by the answer's cells. The coverings of a union are its own cells,
+//! cut to the level, and those of a clipped union come of both.
 #![tactic(auto)]
 
 mod clip;

@@ -1,4 +1,4 @@
-use Rattle.std.proofs.Common.{◌≡◌, ℕ, List, ◌∙◌, ap}
+use Rattle.std.proofs.Common.{◌≡◌, ℕ, ◌∙◌, ap}
 use Rattle.s2union.specs.Union.{has_leaf, IsLocal, IsNormalForm}
 use Rattle.s2cover.specs.Cut.{cells_cut}
 use Rattle.s2cover.specs.Coverings.{outer_set}
