@@ -2,11 +2,11 @@
 ghost use Rattle.std.specs.Prelude.{◌≡◌, ◌≤◌, ◌<◌, ◌↔◌, ◌%◌, ◌==◌, ℕ, true, false};
 ghost use Rattle.s2cell.specs.Cell.{covers};
 
+use s2cell::CellId;
 use s2cover::{
     Clip, CoverFault, FaceRect, Looks, Part, Region, clip_inner, clip_outer, inner, outer,
     rect_inner, rect_outer, union_inner, union_outer,
 };
-use s2cell::CellId;
 use s2union::{CellUnion, normalise};
 use std::alloc::Global;
 use std::process::Abort;

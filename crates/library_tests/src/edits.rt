@@ -1,6 +1,6 @@
 //! Worked examples of edits and of their history. Scripts are answered in `s2calc_tests` and in `tests/program`.
-use s2edit::{Change, Edit, EditTally, Editor, Register, run_edits};
 use s2cell::CellId;
+use s2edit::{Change, Edit, EditTally, Editor, Register, run_edits};
 use s2union::{CellUnion, normalise};
 use std::alloc::Global;
 use std::test::Fail;
