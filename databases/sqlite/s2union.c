@@ -214,9 +214,7 @@ MAKER(make_inner, s2u_inner, RECT(a), a[5].number, S2U_MOST_COVERING)
 MAKER(make_outer_of, s2u_outer_of, LIST(a[0]), a[1].number, S2U_MOST_COVERING)
 MAKER(make_inner_of, s2u_inner_of, LIST(a[0]), a[1].number, S2U_MOST_COVERING)
 MAKER(make_cut, s2u_denormalised, LIST(a[0]), a[1].number, a[2].number)
-#ifdef S2U_MOST_ANCESTORS
 MAKER(make_ancestors, s2u_ancestors, LIST(a[0]))
-#endif
 
 /* The list that a maker makes, which the caller drops, also after a refusal. */
 static int32_t list_made(maker* make, const argument* a, size_t room, block** list) {
@@ -394,9 +392,7 @@ typedef struct cursor { sqlite3_vtab_cursor base; block* block; size_t row, rows
 
 static const kind kinds[] = {
   {"s2_cells", "CREATE TABLE x(cell, range_min, range_max, x HIDDEN, level HIDDEN, modulus HIDDEN)", 3, 3, make_cut},
-#ifdef S2U_MOST_ANCESTORS
   {"s2_ancestors", "CREATE TABLE x(cell, range_min, range_max, x HIDDEN)", 3, 1, make_ancestors},
-#endif
   {"s2_prepared", "CREATE TABLE x(value, x HIDDEN)", 1, 1, NULL},
 };
 

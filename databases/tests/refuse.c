@@ -26,6 +26,7 @@ static const char* const queries[] = {
   "SELECT s2_debug('04'), s2_token('1/0'), s2_parent('04', 0), s2_cell('04'), s2_leaf(1, 2, 3)",
   "SELECT id % 2, s2_tokens(s2_union_agg(part)) FROM parts GROUP BY 1",
   "SELECT cell, range_max FROM s2_cells('04 14', 3)",
+  "SELECT cell, range_min FROM s2_ancestors('041 14')",
   "SELECT hex(value), count(*) FROM s2_prepared('04 14'), parts WHERE s2_intersects(value, part)",
 };
 

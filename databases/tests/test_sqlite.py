@@ -255,7 +255,7 @@ class AgainstTheModel(Tests):
             self.assertEqual([unsigned(cell) for (cell,) in said], model.cut(small, least, 1))
             said = self.db.execute("SELECT value FROM s2_prepared(?)", (value,)).fetchall()
             self.assertEqual(said, [(model.file(normal),)])
-        for query in ("s2_cells", "s2_cells WHERE modulus = 1 AND x = '1'", "s2_prepared"):
+        for query in ("s2_cells", "s2_ancestors", "s2_cells WHERE modulus = 1 AND x = '1'", "s2_prepared"):
             self.assertRaises(sqlite3.OperationalError, self.db.execute, f"SELECT * FROM {query}")
 
     def test_tables_in_joins(self):
@@ -273,8 +273,6 @@ class AgainstTheModel(Tests):
         self.assertEqual(self.db.execute("SELECT count(*) FROM s2_prepared(NULL)").fetchone(), (0,))
 
     def test_ancestors(self):
-        if not self.ask("count(*) FROM pragma_module_list WHERE name = 's2_ancestors'"):
-            self.skipTest("this libs2union has no ancestors")
         for _ in range(ROUNDS // 3):
             xs = self.random.cells()
             wanted = set()
@@ -331,7 +329,7 @@ class WhatIsRefused(Tests):
                     self.refused(f"s2: {what}", f"{name}({marks})", *values[:k], wrong, *values[k + 1 :])
         for wrong in (1, 1.5, "1", b"", b"\1"):
             self.assertEqual(self.ask("s2_is_union(?)", wrong), 0)
-        for table in ("s2_cells", "s2_prepared"):
+        for table in ("s2_cells", "s2_ancestors", "s2_prepared"):
             self.refused("s2: a union is", f"* FROM {table}(1.5)")
         self.refused("s2: a level", "* FROM s2_cells('1', '1')")
         self.refused("s2: a level", "* FROM s2_cells('1', 1, 1.5)")
@@ -382,7 +380,7 @@ class WhatIsRefused(Tests):
                     others = ", ".join("file" if n == k else "?" for n in range(len(values)))
                     self.refused(f"s2: union file: {reason}", f"{name}({others}) FROM faults",
                         *values[:k], *values[k + 1 :])
-            for table in ("s2_cells", "s2_prepared"):
+            for table in ("s2_cells", "s2_ancestors", "s2_prepared"):
                 self.refused(f"s2: union file: {reason}", f"* FROM {table}(?)", file)
             self.assertEqual(self.ask("s2_is_union(?)", file), 0)
 
