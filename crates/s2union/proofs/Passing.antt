@@ -1,6 +1,6 @@
 -- A run of a list that goes by as a whole.
-use Rattle.std.proofs.Common.{◌≡◌, ℕ, ◌+◌, ◌-◌, ◌<◌, ◌≤◌, ◌↔◌, refl, sym, ap, ◌∙◌, subst, arith, List, [], ◌∷◌, ◌++◌, length, take, drop, reverse, get_or, slice_get, Some, append_assoc, length-append}
-use Rattle.std.proofs.lemmas.List.{get_or-append_right, get_or_append_left, length-reverse, length-take-le, reverse-append, reverse-reverse, append-nil, take-append-drop, take_all, take_at, take_more, drop_more, get_or-take}
+use Rattle.std.proofs.Common.{◌≡◌, ℕ, ◌+◌, ◌-◌, ◌<◌, ◌≤◌, refl, sym, ap, ◌∙◌, subst, arith, List, [], ◌∷◌, ◌++◌, length, take, drop, reverse, get_or, slice_get, Some, append_assoc, length-append}
+use Rattle.std.proofs.lemmas.List.{get_or-append_right, length-reverse, length-take-le, reverse-append, reverse-reverse, append-nil, take-append-drop, take_all, take_at, take_more, drop_more, get_or-take}
 use Rattle.s2cell.specs.Cell.{IsCell}
 use Rattle.s2union.specs.Packed.{IsPacked, Continues}
 use Rattle.s2union.specs.Tail.{Follows, IsTail, Passes}
