@@ -169,8 +169,8 @@ fn an_empty_script_is_flushed_once(rt: HostRuntime) -> Result<(), Fail> {
 const PIECE: usize = 7;
 
 /// Lets each write and each flush go wrong in turn. What is out is a beginning of all answers. The editor stands after
-/// the line to whose answer the next byte belongs, unless a buffer gathers answers; where a flush failed, whole answers are
-/// out, and the editor stands after their lines. Tells how many flushes there were.
+/// the line to whose answer the next byte belongs, unless a buffer gathers answers; where a flush failed, whole answers
+/// are out, and the editor stands after their lines. Tells how many flushes there were.
 fn writes_go_wrong_in_turn(
     rt: &(impl Abort + AllocGlobal),
     flushing: Flushing,

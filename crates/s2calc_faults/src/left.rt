@@ -44,8 +44,8 @@ pub fn full_shelf(alloc: Global) -> Result<MemoryShelf, Fail> {
     Ok(shelf)
 }
 
-/// Runs a script over empty registers of at most 100 cells, with a history of at most 5 states, and over a buffer where the
-/// writer is flushed before each read.
+/// Runs a script over empty registers of at most 100 cells, with a history of at most 5 states, and over a buffer if
+/// the writer is flushed before each read.
 pub fn run_over(
     alloc: Global,
     flushing: Flushing,
