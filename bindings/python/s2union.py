@@ -100,6 +100,7 @@ _difference = _call("difference", _i32, *_LIST, *_LIST, *_MADE)
 _range = _call("range", _i32, _u64, _u64, *_MADE)
 _denormalised_len = _call("denormalised_len", _i32, *_LIST, _u32, _u32, _at)
 _denormalised = _call("denormalised", _i32, *_LIST, _u32, _u32, *_MADE)
+_ancestors = _call("ancestors", _i32, *_LIST, *_MADE)
 _outer = _call("outer", _i32, _at, _u32, _size, *_MADE)
 _inner = _call("inner", _i32, _at, _u32, _size, *_MADE)
 _outer_of = _call("outer_of", _i32, *_LIST, _u32, _size, *_MADE)
@@ -114,6 +115,7 @@ _file_contains_cell = _call("file_contains_cell", _i32, *_LIST, _u64)
 _file_intersects_cell = _call("file_intersects_cell", _i32, *_LIST, _u64)
 _file_contains = _call("file_contains", _i32, *_LIST, *_LIST)
 _file_intersects = _call("file_intersects", _i32, *_LIST, *_LIST)
+_file_ancestors = _call("file_ancestors", _i32, *_LIST, *_MADE)
 _version = _call("version", _u32)
 
 
@@ -437,6 +439,10 @@ class UnionFile:
             raise TypeError(f"a UnionFile is wanted, not {type(other).__name__}")
         return bool(_file_intersects(*self._place, *other._place))
 
+    def ancestors(self):
+        """The cells of the union and all their ancestors, as Union.ancestors. ValueError if the cells are no union's."""
+        return list(_listed(_file_ancestors, 2 * self._size, *self._place))
+
     def union(self):
         """The union itself, copied."""
         return Union._made(_listed(_decode, self._size, *self._place))
@@ -675,6 +681,11 @@ class Union:
         if most is not None and need.value > _number(most, 2**64 - 1, "most"):
             raise ValueError(f"too many cells: {need.value}")
         return list(_listed(_denormalised, need.value, *arguments))
+
+    def ancestors(self):
+        """The cells and all their ancestors, ascending: the keys of an index. Two unions share a leaf exactly if a cell
+        of one is among the ancestors of the other."""
+        return list(_listed(_ancestors, 2 * len(self) + 30, *self._place(self._cells)))
 
     def __repr__(self):
         shown = [_text_of(_token, cell, 16) for cell in self._cells[:8]]

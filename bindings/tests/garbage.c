@@ -40,6 +40,9 @@ int main(void) {
     for (size_t k = status == S2U_OK ? len : 0; k < room; k++) CHECK(out[k] == 7);
     status = s2u_difference(xs, nx, ys, ny, out, room, &len);
     CHECK(status == S2U_OK ? s2u_is_union(out, len) && len <= room : status == S2U_NO_UNION || (status == S2U_ROOM && len > room));
+    status = s2u_ancestors(xs, nx, out, room, &len);
+    CHECK(s2u_is_union(xs, nx) ? len >= nx && len <= S2U_MOST_ANCESTORS(nx) && status == (len > room ? S2U_ROOM : S2U_OK)
+                               : status == S2U_NO_UNION && len == 0);
     (void)s2u_denormalised(xs, nx, (uint32_t)(draw() % 40), (uint32_t)(draw() % 5), out, room, &len);
     size_t size = draw() % (9 + 8 * MOST);
     uint8_t* bytes = bytes_end - size;
@@ -60,6 +63,9 @@ int main(void) {
     (void)s2u_file_leaf_count(bytes, size, &many);
     (void)s2u_file_contains(bytes, size, bytes, size);
     (void)s2u_file_intersects(bytes, size, bytes, size);
+    status = s2u_file_ancestors(bytes, size, out, room, &len);
+    CHECK(status == S2U_OK ? len <= room : status == S2U_ROOM ? len > room : len == 0);
+    CHECK((status >= S2U_ROOM) == (s2u_file_check(bytes, size) == 1));
     status = s2u_decode(bytes, size, out, room, &len);
     CHECK(status == S2U_OK ? s2u_is_union(out, len) : status == S2U_ROOM ? len > room : len == 0);
   }

@@ -87,6 +87,11 @@ def within(xs, level):
     return joined([(-(-first // unit) * unit, end // unit * unit) for first, end in joined(xs)])
 
 
+def ancestors(cells):
+    """The cells and all that hold one of them, each once."""
+    return sorted({identifier(k, place // 4 ** (level - k)) for level, place in map(cell, cells) for k in range(level + 1)})
+
+
 def file(cells):
     return b"\x01" + len(cells).to_bytes(8, "little") + b"".join(number.to_bytes(8, "little") for number in cells)
 

@@ -46,6 +46,8 @@ static int32_t subtract(void) { return s2u_difference(xs, nx, ys, ny, out, ROOM,
 static int32_t range(void) { return s2u_range(1, xs[nx - 1], out, ROOM, &len); }
 static int32_t cut(void) { return s2u_denormalised(xs, 40, 12, 1, out, ROOM, &len); }
 static int32_t cut_len(void) { uint64_t n = 0; int32_t status = s2u_denormalised_len(xs, nx, 12, 1, &n); len = (size_t)n; return status; }
+static int32_t ancestors(void) { return s2u_ancestors(xs, nx, out, ROOM, &len); }
+static int32_t of_file(void) { return s2u_file_ancestors(file, nfile, out, ROOM, &len); }
 static int32_t outer(void) { return s2u_outer(&rect, 14, 1000000, out, ROOM, &len); }
 static int32_t inner(void) { return s2u_inner(&rect, 14, 1000000, out, ROOM, &len); }
 static int32_t outer_of(void) { return s2u_outer_of(xs, nx, 7, 1000000, out, ROOM, &len); }
@@ -59,7 +61,8 @@ int main(void) {
     int32_t (*call)(void);
   } calls[] = {{"normalise", normalise}, {"union", unite}, {"intersection", intersect}, {"difference", subtract},
                {"range", range}, {"denormalised", cut}, {"denormalised_len", cut_len}, {"outer", outer},
-               {"inner", inner}, {"outer_of", outer_of}, {"inner_of", inner_of}, {"encode", encode}, {"decode", decode}};
+               {"inner", inner}, {"outer_of", outer_of}, {"inner_of", inner_of}, {"encode", encode}, {"decode", decode},
+               {"ancestors", ancestors}, {"file_ancestors", of_file}};
   nx = random_union(xs, N, 6, 12);
   ny = random_union(ys, N, 6, 12);
   for (size_t k = 0; k < N; k++) raw[k] = random_cell(6, 12, 6);

@@ -155,6 +155,21 @@ class AgainstTheModel(unittest.TestCase):
         self.assertRaises(ValueError, Union.covering, 0, 0, 2**30 - 1, 3, 3, 30, most=1000)
         self.assertRaises(ValueError, Union.covering, 0, 5, 4, 0, 0, 30)
 
+    def test_ancestors(self):
+        for _ in range(1500):
+            xs, ys = self.random.cells(), self.random.cells()
+            if self.random.random() < 0.7 and xs:
+                ys = [self.random.near(self.random.choice(xs)) for _ in range(self.random.randrange(9))]
+            a, b = Union(xs), Union(ys)
+            self.assertEqual(a.ancestors(), model.ancestors(a))
+            self.assertEqual(UnionFile(a.to_bytes()).ancestors(), a.ancestors())
+            found = bool(set(a) & set(b.ancestors()) or set(b) & set(a.ancestors()))
+            self.assertEqual(a.intersects(b), found)
+        many = Union([self.random.cell(20, 30) for _ in range(20000)])
+        self.assertEqual(many.ancestors(), model.ancestors(many))
+        for wrong in ([3 * FACE, FACE], [2]):
+            self.assertRaises(ValueError, UnionFile(model.file(wrong), checked=True).ancestors)
+
     def test_files(self):
         for _ in range(1500):
             cells = self.random.cells()

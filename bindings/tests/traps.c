@@ -61,6 +61,9 @@ static void lists_that_are_no_union(void) {
     CHECK(sets[k](siblings, 4, &face, 1, out, 4, &len) == S2U_NO_UNION);
     CHECK(sets[k](wrong, 2, &face, 1, out, 4, &len) == S2U_NO_UNION);
   }
+  len = 77;
+  CHECK(s2u_ancestors(unordered, 2, out, 4, &len) == S2U_NO_UNION && len == 0 && out[0] == 7);
+  CHECK(s2u_ancestors(wrong, 1, out, 4, &len) == S2U_NO_UNION && s2u_ancestors(siblings, 4, out, 4, &len) == S2U_NO_UNION);
   CHECK(s2u_is_union(unordered, 2) == 0 && s2u_is_union(siblings, 4) == 0 && s2u_is_union(siblings, 3) == 1);
   CHECK(s2u_denormalised_len(unordered, 2, 1, 1, &many) == S2U_NO_UNION && many == 0);
   CHECK(s2u_denormalised(unordered, 2, 1, 1, out, 4, &len) == S2U_NO_UNION && len == 0);
@@ -110,6 +113,12 @@ static void rooms(void) {
     CHECK(status != S2U_OK || memcmp(out, want, 24) == 0);
     for (size_t k = status == S2U_OK ? 3 : 0; k < room; k++) CHECK(out[k] == 7);
     len = 77;
+    for (size_t k = 0; k < room; k++) out[k] = 7;
+    status = s2u_ancestors(siblings, 3, out, room, &len);
+    CHECK(len == 4 && status == (room < 4 ? S2U_ROOM : S2U_OK));
+    CHECK(status != S2U_OK || (out[0] == siblings[0] && out[1] == siblings[1] && out[2] == face && out[3] == siblings[2]));
+    for (size_t k = status == S2U_OK ? 4 : 0; k < room; k++) CHECK(out[k] == 7);
+    len = 77;
     status = s2u_denormalised(&face, 1, 1, 1, out, room, &len);
     CHECK(len == 4 && status == (room < 4 ? S2U_ROOM : S2U_OK));
   }
@@ -127,6 +136,8 @@ static void nothing_at_all(void) {
   CHECK(s2u_cells_at(NULL, 0, face, &first, &count) == S2U_OK && first == 0 && count == 0);
   CHECK(s2u_contains(NULL, 0, NULL, 0) == 1 && s2u_contains(&face, 1, NULL, 0) == 1 && s2u_contains(NULL, 0, &face, 1) == 0);
   CHECK(s2u_intersects(NULL, 0, &face, 1) == 0 && s2u_compare(NULL, 0, &face, 1) == -1);
+  CHECK(s2u_ancestors(NULL, 0, NULL, 0, &len) == S2U_OK && len == 0);
+  CHECK(s2u_file_ancestors(NULL, 0, NULL, 0, &len) == S2U_FILE_SHORT && len == 0);
   CHECK(s2u_from_token(NULL, 0, &id) == S2U_NO_CELL && id == 0);
   CHECK(s2u_from_debug(NULL, 0, &id) == S2U_NO_CELL && id == 0);
   CHECK(s2u_token(face, NULL, 0, &len) == S2U_ROOM && len == 1);

@@ -10,7 +10,10 @@ ghost use Rattle.s2calc.specs.Edits.{new_set, leaves_of, no_leaf, within, Makes,
 
 use crate::answer::Answer;
 use crate::refusal::Refusal;
-use s2cover::{Clip, CoverFault, FaceRect, Looks, inner, outer, rect_inner, rect_outer};
+use s2cover::{
+    CoverFault, FaceRect, Looks, clip_inner, clip_outer, rect_inner, rect_outer, union_inner,
+    union_outer,
+};
 use s2edit::{EditFault, Editor, Register};
 use s2script::{Cells, Edit, Level};
 use s2union::{CellUnion, normalise};
@@ -207,8 +210,8 @@ fn outer_of(
 {
     let union = editor.register(register);
     match rect {
-        None => covered(outer(alloc, union, level.number(), editor.limit())),
-        Some(rect) => covered(outer(alloc, &Clip { union, rect }, level.number(), editor.limit())),
+        None => covered(union_outer(alloc, union, level.number(), editor.limit())),
+        Some(rect) => covered(clip_outer(alloc, union, &rect, level.number(), editor.limit())),
     }
 }
 
@@ -224,7 +227,7 @@ fn inner_of(
 {
     let union = editor.register(register);
     match rect {
-        None => covered(inner(alloc, union, level.number(), editor.limit())),
-        Some(rect) => covered(inner(alloc, &Clip { union, rect }, level.number(), editor.limit())),
+        None => covered(union_inner(alloc, union, level.number(), editor.limit())),
+        Some(rect) => covered(clip_inner(alloc, union, &rect, level.number(), editor.limit())),
     }
 }

@@ -1,6 +1,7 @@
 //! The program's own calls.
 use crate::narrow::{Mishap, Narrow};
-use s2calc::{Job, RunFault, Stop, Tally, cell_answer, job, status};
+use clap::error::ErrorKind;
+use s2calc::{Job, RunFault, Tally, cell_answer, job, status};
 use std::process::Abort;
 use std::test::Fail;
 
@@ -32,14 +33,14 @@ fn statuses(rt: HostRuntime) {
     assert_eq!(rt; status(&Err(RunFault::Memory)), 3);
 }
 
-/// What the words after the program's name ask for.
-fn asked(rt: &(impl Abort + AllocGlobal), words: &[&str]) -> Result<Result<Job, Stop>, Fail> {
+/// What the words after the program's name ask for, or the kind of what is wrong with them.
+fn asked(rt: &(impl Abort + AllocGlobal), words: &[&str]) -> Result<Result<Job, ErrorKind>, Fail> {
     let mut given = Vec::new(rt.alloc());
     given.push(String::from_str(rt.alloc(), "s2calc")?)?;
     for word in words {
         given.push(String::from_str(rt.alloc(), word)?)?;
     }
-    Ok(job(rt.alloc(), given))
+    Ok(job(rt.alloc(), given).map_err(|error| error.kind()))
 }
 
 #[test]
@@ -113,54 +114,50 @@ fn words_that_ask_for_a_cell_or_a_file(rt: HostRuntime) -> Result<(), Fail> {
 
 #[test]
 fn words_that_ask_for_nothing(rt: HostRuntime) -> Result<(), Fail> {
-    for words in [
-        ["run", "--limit", "0"].as_slice(),
-        &["run", "--limit", "1000001"],
-        &["run", "--limit", "-5"],
-        &["run", "--limit", ""],
-        &["run", "--limit", " 5"],
-        &["run", "--limit", "12345678901234567890123"],
-        &["run", "--limit", "5", "--limit", "5"],
-        &["run", "--limit", "x"],
-        &["run", "--lim", "5"],
-        &["run", "--limit"],
-        &["--limit", "5", "run"],
-        &["run", "--depth", "0"],
-        &["run", "--depth", "10001"],
-        &["run", "--dir", ""],
-        &["run", "--dir"],
-        &["run", "--colour"],
-        &["run", "run"],
-        &["run", "x"],
-        &["ru"],
-        &["RUN"],
-        &["--"],
-        &["--", "run"],
-        &[""],
-        &[],
-        &["cell"],
-        &["cell", "--"],
-        &["cell", "1", "2"],
-        &["check"],
-        &["check", "--dir"],
-        &["check", "f", "g"],
-        &["check", "--limit", "f"],
-        &["-V"],
-        &["--version"],
-        &["help", "foo"],
+    for (words, kind) in [
+        (["run", "--limit", "0"].as_slice(), ErrorKind::ValueValidation),
+        (&["run", "--limit", "1000001"], ErrorKind::ValueValidation),
+        (&["run", "--limit", "-5"], ErrorKind::UnknownArgument),
+        (&["run", "--limit", ""], ErrorKind::ValueValidation),
+        (&["run", "--limit", " 5"], ErrorKind::ValueValidation),
+        (&["run", "--limit", "12345678901234567890123"], ErrorKind::ValueValidation),
+        (&["run", "--limit", "5", "--limit", "5"], ErrorKind::ArgumentConflict),
+        (&["run", "--limit", "x"], ErrorKind::ValueValidation),
+        (&["run", "--lim", "5"], ErrorKind::UnknownArgument),
+        (&["run", "--limit"], ErrorKind::InvalidValue),
+        (&["--limit", "5", "run"], ErrorKind::UnknownArgument),
+        (&["run", "--depth", "0"], ErrorKind::ValueValidation),
+        (&["run", "--depth", "10001"], ErrorKind::ValueValidation),
+        (&["run", "--dir", ""], ErrorKind::InvalidValue),
+        (&["run", "--dir"], ErrorKind::InvalidValue),
+        (&["run", "--colour"], ErrorKind::UnknownArgument),
+        (&["run", "run"], ErrorKind::UnknownArgument),
+        (&["run", "x"], ErrorKind::UnknownArgument),
+        (&["ru"], ErrorKind::InvalidSubcommand),
+        (&["RUN"], ErrorKind::InvalidSubcommand),
+        (&["--"], ErrorKind::MissingSubcommand),
+        (&["--", "run"], ErrorKind::InvalidSubcommand),
+        (&[""], ErrorKind::InvalidSubcommand),
+        (&[], ErrorKind::MissingSubcommand),
+        (&["cell"], ErrorKind::MissingRequiredArgument),
+        (&["cell", "--"], ErrorKind::MissingRequiredArgument),
+        (&["cell", "1", "2"], ErrorKind::UnknownArgument),
+        (&["check"], ErrorKind::MissingRequiredArgument),
+        (&["check", "--dir"], ErrorKind::InvalidValue),
+        (&["check", "f", "g"], ErrorKind::UnknownArgument),
+        (&["check", "--limit", "f"], ErrorKind::UnknownArgument),
+        (&["help", "foo"], ErrorKind::InvalidSubcommand),
+        (&["-V"], ErrorKind::DisplayVersion),
+        (&["--version"], ErrorKind::DisplayVersion),
+        (&["--help"], ErrorKind::DisplayHelp),
+        (&["-h"], ErrorKind::DisplayHelp),
+        (&["help"], ErrorKind::DisplayHelp),
+        (&["help", "run"], ErrorKind::DisplayHelp),
+        (&["run", "--help"], ErrorKind::DisplayHelp),
+        (&["cell", "--help"], ErrorKind::DisplayHelp),
+        (&["cell", "-h"], ErrorKind::DisplayHelp),
     ] {
-        assert_eq!(rt; asked(&rt, words)?, Err(Stop::Usage), "{words:?}");
-    }
-    for words in [
-        ["--help"].as_slice(),
-        &["-h"],
-        &["help"],
-        &["help", "run"],
-        &["run", "--help"],
-        &["cell", "--help"],
-        &["cell", "-h"],
-    ] {
-        assert_eq!(rt; asked(&rt, words)?, Err(Stop::Help), "{words:?}");
+        assert_eq!(rt; asked(&rt, words)?, Err(kind), "{words:?}");
     }
     Ok(())
 }

@@ -70,6 +70,3 @@ impl CellId {
         }
     }
 }
-
-#[cfg(test)]
-mod tests;

@@ -53,6 +53,3 @@ impl CellId {
         Some(self.parent(((TOP_BIT - highest) / 2) as u8))
     }
 }
-
-#[cfg(test)]
-mod tests;

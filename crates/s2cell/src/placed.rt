@@ -66,6 +66,3 @@ impl PlacedCell {
         }
     }
 }
-
-#[cfg(test)]
-mod tests;

@@ -35,12 +35,12 @@ touched_some S lo (suc n) h =
     (cases_Bool (S (lo + n)))
 
 -- the cell of level `k` around a leaf
-around_leaf : (k x : ℕ) → k ≤ 30 → x < 6 * 4 ^ 30 → IsCellAt k (x / 4 ^ (30 - k)) (id_at k (x / 4 ^ (30 - k)))
+pub around_leaf : (k x : ℕ) → k ≤ 30 → x < 6 * 4 ^ 30 → IsCellAt k (x / 4 ^ (30 - k)) (id_at k (x / 4 ^ (30 - k)))
 around_leaf k x h l =
     let a = all_leaves k h in
     record { level = h; place = div_below x (4 ^ (30 - k)) (6 * 4 ^ k) (four_pos (30 - k)) (omega arith); id = refl }
 
-leaf_limit : (c x : ℕ) → IsCell c → covers c x ≡ true → x < 6 * 4 ^ 30
+pub leaf_limit : (c x : ℕ) → IsCell c → covers c x ≡ true → x < 6 * 4 ^ 30
 leaf_limit c x i v = let w = (cell_leaves c i).within in let r = covers_from c x v in let b = r.1 in omega arith
 
 own_block : (k x : ℕ) → (x / 4 ^ (30 - k) * 4 ^ (30 - k) ≤ x) × (x < x / 4 ^ (30 - k) * 4 ^ (30 - k) + 4 ^ (30 - k))

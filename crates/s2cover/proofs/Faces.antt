@@ -14,7 +14,7 @@ use Rattle.s2cell.specs.Cell.{IsCell, level_of, place_of, face_of, covers}
 use Rattle.s2cell.proofs.CellLemmas.{own_place}
 use Rattle.std.proofs.lemmas.Result.{IfErr-weaker}
 
-and_of : (a s : Bool) → (s ≡ true → a ≡ true) → (a && s) ≡ s
+pub and_of : (a s : Bool) → (s ≡ true → a ≡ true) → (a && s) ≡ s
 and_of true s h = refl
 and_of false true h = absurd (both_ways false refl (h refl))
 and_of false false h = refl

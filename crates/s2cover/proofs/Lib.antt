@@ -5,8 +5,10 @@ mod Formed
 mod Rectangles
 mod Regions
 mod Coverings
+mod OwnCells
 mod Searches
 mod Squares
 mod Rounded
 mod Faces
+mod Clips
 pub mod NormalForms

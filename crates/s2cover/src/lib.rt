@@ -7,10 +7,13 @@
 //! give way to their parent, so a covering may have cells above its level and never below it.
 //!
 //! A rectangle on a face needs less: once its sides are rounded to the grid of the level, each cell that is found whole
-//! belongs to the answer, and the looks are bounded by the answer's cells.
+//! belongs to the answer, and the looks are bounded by the answer's cells. The coverings of a union are its own cells,
+//! cut to the level, and those of a clipped union come of both.
 #![tactic(auto)]
 
+mod clip;
 mod covering;
+mod cut;
 mod descent;
 mod grid;
 mod looks;
@@ -19,12 +22,11 @@ mod region;
 mod rounding;
 mod union;
 
+pub use clip::{clip_inner, clip_outer};
 pub use covering::{covering_sets, inner, normal_forms, outer};
+pub use cut::{union_inner, union_outer};
 pub use grid::{rect_inner, rect_outer};
 pub use looks::Looks;
 pub use rect::FaceRect;
 pub use region::{CoverFault, Part, Region};
 pub use union::Clip;
-
-#[cfg(test)]
-mod tests;

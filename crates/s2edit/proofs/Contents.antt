@@ -1,5 +1,5 @@
 -- What a history tells is what a session file may hold.
-use Rattle.std.proofs.Common.{◌≡◌, ◌≢◌, ℕ, zero, suc, ◌+◌, ◌<◌, ◌≤◌, List, [], ◌∷◌, ◌++◌, length, map, reverse, All, inl, inr, refl, sym, ap, ◌∙◌, subst, arith}
+use Rattle.std.proofs.Common.{◌≡◌, ◌≢◌, ℕ, ◌+◌, ◌<◌, List, [], ◌∷◌, ◌++◌, length, map, reverse, inl, inr, refl, sym, ap, ◌∙◌, subst, arith}
 use Rattle.std.proofs.lemmas.List.{length-set, reverse-append, map-append}
 use Rattle.std.proofs.lemmas.List.Elements.{recursion_from_All, All-from_recursion}
 use Rattle.std.proofs.lemmas.Bool.{cond_both, cases_lt}
@@ -10,12 +10,13 @@ use Rattle.s2union.specs.Apply.{has, cells_without, applied}
 use Rattle.s2union.proofs.Applied.{applied-between, Fits-between}
 use Rattle.s2file.specs.declared.session.Move.{Move}
 use Rattle.s2file.specs.Session.{Moved, Content, moved_of, IsMoved, IsContent, IsRegisterList, IsChangeList}
-use Rattle.s2file.specs.declared.TheConstants.{SESSION_CELLS, SESSION_CHANGES, SESSION_REGISTERS}
-use Rattle.s2edit.specs.History.{History, AllLists, AllTables}
-use Rattle.s2edit.specs.Diff.{Diff, IsDiff, between}
+use Rattle.s2file.specs.declared.TheConstants.{SESSION_CELLS}
+use Rattle.s2edit.proofs.Sizes.{fewer_without}
+use Rattle.s2edit.specs.History.{History, AllTables}
+use Rattle.s2edit.specs.Diff.{Diff}
 use Rattle.s2edit.specs.Leads.{list_at, Leads}
 use Rattle.s2edit.specs.Chain.{IsWithin, AllWithin}
-use Rattle.s2edit.specs.Session.{diff, moved, LeadBack, LeadAhead, Tells}
+use Rattle.s2edit.specs.Session.{diff, LeadBack, LeadAhead, Tells}
 use Rattle.s2edit.specs.declared.TheConstants.{REGISTERS}
 use Rattle.s2edit.proofs.Tables.{AllWithin-at}
 use Rattle.s2edit.proofs.DiffLemmas.{IsDiff-between}
@@ -25,12 +26,6 @@ cells_of_without : (us vs : List ℕ) → AllByRecursion IsCell us → AllByRecu
 cells_of_without [] vs a = tt
 cells_of_without (u ∷ us) vs a =
     cond_both (has vs u) (cells_without us vs) (u ∷ cells_without us vs) (AllByRecursion IsCell) (λ _. cells_of_without us vs a.1) (λ _. (a.0, cells_of_without us vs a.1))
-
-fewer_without : (us vs : List ℕ) → length (cells_without us vs) ≤ length us
-fewer_without [] vs = omega arith
-fewer_without (u ∷ us) vs =
-    let rest = fewer_without us vs in
-    cond_both (has vs u) (cells_without us vs) (u ∷ cells_without us vs) (λ (l : List ℕ). length l ≤ length (u ∷ us)) (λ _. omega arith) (λ _. omega arith)
 
 change_list : (us vs : List ℕ) → IsWithin SESSION_CELLS us → IsLocal vs → IsChangeList (cells_without us vs)
 change_list us vs w l = record {

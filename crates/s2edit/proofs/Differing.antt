@@ -8,20 +8,20 @@ use Rattle.s2union.proofs.CellLists.{AllAbove, IsAscending, has-below, AllAbove-
 use Rattle.s2union.proofs.MergeSteps.{cells_without-above}
 use Rattle.s2edit.proofs.DiffLemmas.{cells_without-nothing}
 
-IsAscending-drop : (xs : List ℕ) (k : ℕ) → IsAscending xs → IsAscending (drop k xs)
+pub IsAscending-drop : (xs : List ℕ) (k : ℕ) → IsAscending xs → IsAscending (drop k xs)
 IsAscending-drop xs zero a = a
 IsAscending-drop [] (suc k) a = tt
 IsAscending-drop (x ∷ xs) (suc k) a = IsAscending-drop xs k a.1
 
-at_head : (xs : List ℕ) (k : ℕ) → k < length xs → drop k xs ≡ get_or xs k 0 ∷ drop (k + 1) xs
+pub at_head : (xs : List ℕ) (k : ℕ) → k < length xs → drop k xs ≡ get_or xs k 0 ∷ drop (k + 1) xs
 at_head xs k h = rw (add-one, drop-cons xs k 0)
 
 -- the cells behind place k are above the one there
-above_rest : (xs : List ℕ) (k : ℕ) → IsStrictlyIncreasing xs → k < length xs → AllAbove (get_or xs k 0) (drop (k + 1) xs)
+pub above_rest : (xs : List ℕ) (k : ℕ) → IsStrictlyIncreasing xs → k < length xs → AllAbove (get_or xs k 0) (drop (k + 1) xs)
 above_rest xs k a l = let d : IsAscending (get_or xs k 0 ∷ drop (k + 1) xs) = subst IsAscending (at_head xs k l) (IsAscending-drop xs k (ascends_from xs a)) in d.0
 
 -- and so is what is above one of them
-above_all : (xs : List ℕ) (k x : ℕ) → IsStrictlyIncreasing xs → k < length xs → x < get_or xs k 0 → AllAbove x (drop k xs)
+pub above_all : (xs : List ℕ) (k x : ℕ) → IsStrictlyIncreasing xs → k < length xs → x < get_or xs k 0 → AllAbove x (drop k xs)
 above_all xs k x a l h =
     subst (AllAbove x) (sym (at_head xs k l)) (h, AllAbove-trans x (get_or xs k 0) (drop (k + 1) xs) h (above_rest xs k a l))
 
@@ -50,7 +50,7 @@ lacking_cell us os i j a l m h =
     ∙ cond-false (has (drop j os) (get_or us i 0)) (cells_without (drop (i + 1) us) (drop j os)) (get_or us i 0 ∷ cells_without (drop (i + 1) us) (drop j os))
     (has-below (get_or us i 0) (drop j os) (above_all os j (get_or us i 0) a m h))
 
-push_on : (w rest left whole : List ℕ) (x : ℕ) → w ++ left ≡ whole → left ≡ x ∷ rest → (w ++ x ∷ []) ++ rest ≡ whole
+pub push_on : (w rest left whole : List ℕ) (x : ℕ) → w ++ left ≡ whole → left ≡ x ∷ rest → (w ++ x ∷ []) ++ rest ≡ whole
 push_on w rest left whole x e f = append_assoc w (x ∷ []) rest ∙ ap (λ (l : List ℕ). w ++ l) (sym f) ∙ e
 
 pub lacking_turn : (us os found : List ℕ) (i j x : ℕ) → IsStrictlyIncreasing os → i < length us → j < length os → x ≡ get_or us i 0 → get_or us i 0 < get_or os j 0 →

@@ -1,9 +1,9 @@
 -- Registers that are followed along changes.
-use Rattle.std.proofs.Common.{◌≡◌, ◌≢◌, ℕ, zero, suc, ◌+◌, ◌<◌, ◌≤◌, Bool, true, false, ◌&&◌, ltb, List, [], ◌∷◌, ◌++◌, length, map, take, drop, get_or, slice_get, slice_set, Some, add-one, drop-cons, refl, sym, ap, ◌∙◌, subst, arith}
-use Rattle.std.proofs.lemmas.Bool.{cond_both, false≢true, true≢false}
-use Rattle.std.proofs.lemmas.List.{length-set, length-map}
+use Rattle.std.proofs.Common.{◌≡◌, ◌≢◌, ℕ, zero, suc, ◌+◌, ◌<◌, ◌≤◌, Bool, true, false, ◌&&◌, List, [], ◌∷◌, ◌++◌, length, map, take, drop, get_or, slice_get, slice_set, add-one, drop-cons, refl, sym, ap, ◌∙◌, subst, arith}
+use Rattle.std.proofs.lemmas.Bool.{false≢true, true≢false}
+use Rattle.std.proofs.lemmas.List.{length-set}
 use Rattle.s2union.specs.Union.{Union, IsLocal}
-use Rattle.s2union.specs.Apply.{has, cells_without, insert_cell, insert_cells, applied, Fits}
+use Rattle.s2union.specs.Apply.{has, cells_without, applied, Fits}
 use Rattle.s2union.proofs.Applied.{only_out, only_put}
 use Rattle.std.specs.List.{AllByRecursion}
 use Rattle.s2file.specs.Session.{Moved, IsMoved, moved_of}
@@ -13,32 +13,13 @@ use Rattle.s2file.specs.declared.TheConstants.{SESSION_CELLS}
 use Rattle.s2edit.specs.History.{AllLists}
 use Rattle.s2edit.specs.Diff.{Diff}
 use Rattle.s2edit.specs.Leads.{list_at}
-use Rattle.s2edit.specs.Chain.{list_after, table_after, FitsTable, FitAlong, lists_of, AllWithin, AllRoomy, union_of}
+use Rattle.s2edit.specs.Chain.{list_after, table_after, FitsTable, FitAlong, AllWithin, AllRoomy}
 use Rattle.s2edit.specs.Following.{FailsToFollow, Follows, Steps, HaveRoom, KeepRoom}
 use Rattle.s2edit.specs.declared.session.RestoreFault.{RestoreFault}
 use Rattle.s2edit.specs.declared.session.RestoreFault.TheVariants.{Fit, TooDeep, TooMany, Memory}
 use Rattle.s2edit.proofs.Numbers.{cells_lost-self}
-use Rattle.s2edit.proofs.Tables.{AllWithin-at, within_after, lists_of-set, list_at-table_after, list_read}
-
-length-insert_cell : (x : ℕ) (u : List ℕ) → length (insert_cell x u) ≡ length u + 1
-length-insert_cell x [] = refl
-length-insert_cell x (y ∷ u) =
-    let rest = length-insert_cell x u in
-    cond_both (ltb x y) (x ∷ y ∷ u) (y ∷ insert_cell x u) (λ (l : List ℕ). length l ≡ length (y ∷ u) + 1) (λ _. omega arith) (λ _. omega arith)
-
-length-insert_cells : (xs u : List ℕ) → length (insert_cells xs u) ≡ length xs + length u
-length-insert_cells [] u = omega arith
-length-insert_cells (x ∷ xs) u = omega (arith, length-insert_cells xs (insert_cell x u), length-insert_cell x u)
-
-fewer_without : (us vs : List ℕ) → length (cells_without us vs) ≤ length us
-fewer_without [] vs = omega arith
-fewer_without (u ∷ us) vs =
-    let rest = fewer_without us vs in
-    cond_both (has vs u) (cells_without us vs) (u ∷ cells_without us vs) (λ (l : List ℕ). length l ≤ length (u ∷ us)) (λ _. omega arith) (λ _. omega arith)
-
--- a change makes a list of no more cells than the list and those put in
-pub applied_most : (out put u : List ℕ) → length (applied out put u) ≤ length u + length put
-applied_most out put u = omega (arith, length-insert_cells put (cells_without u out), fewer_without u out)
+use Rattle.std.proofs.lemmas.Option.{slice_get_read, get_or_from_slice_get}
+use Rattle.s2edit.proofs.Tables.{AllWithin-at, within_after}
 
 -- a change that isn't empty changes the list
 pub applied_differs : (out put u : List ℕ) → IsLocal u → Fits out put u → 0 < length out + length put → applied out put u ≢ u
@@ -46,42 +27,48 @@ applied_differs out put u local f some e =
     let none : length (cells_without u u) ≡ 0 = omega (arith, cells_lost-self (u ∷ [])) in
     absurd (omega (arith, some, ap length (only_out out put u u local f e), ap length (only_put out put u u local local f e), none))
 
--- one step
-module _ (us us' : List Union) (d : Diff) (room : ℕ) (a : AllWithin SESSION_CELLS (lists_of us)) (l : d.register < length (lists_of us))
-    (f : Fits d.out d.put (list_at (lists_of us) d.register)) (some : 0 < length d.out + length d.put)
-    (e : us' ≡ slice_set us d.register (union_of (applied d.out d.put (list_at (lists_of us) d.register)) room)) where
-  pub stepped : lists_of us' ≡ table_after (lists_of us) d
-  stepped = ap lists_of e ∙ lists_of-set us d.register (union_of (list_after (lists_of us) d) room)
+-- one step, in the table of lists
+module _ (t t' : List (List ℕ)) (i r : ℕ) (out put old new : List ℕ) (count : length t ≡ REGISTERS) (a : AllWithin SESSION_CELLS t)
+    (i_is : i ≡ r) (i_in : i < REGISTERS) (old_is : old ≡ get_or t i old) (some : 0 < length out + length put) where
+  old_there : list_at t r ≡ old
+  old_there = get_or_from_slice_get t r old [] (ap (slice_get t) (sym i_is) ∙ slice_get_read t (length t) i old refl (omega (arith, count, i_in)) old_is)
 
-  pub stepped_list : list_at (lists_of us') d.register ≡ list_after (lists_of us) d
-  stepped_list = ap (λ (t : List (List ℕ)). list_at t d.register) stepped ∙ list_at-table_after (lists_of us) d l
+  pub step_needs : FitsTable SESSION_CELLS t (record { register = r; out = out; put = put }) → Fits out put old
+  step_needs g = subst (Fits out put) old_there g.fits
 
-  fits_table : (n : ℕ) → length (list_after (lists_of us) d) ≤ n → FitsTable n (lists_of us) d
-  fits_table n few = record {
-    in_range = l;
-    fits = f;
-    few = few;
-    changes = applied_differs d.out d.put (list_at (lists_of us) d.register) (AllWithin-at SESSION_CELLS (lists_of us) d.register a l).local f some;
-  }
+  module _ (f : Fits out put old) (new_is : new ≡ applied out put old) (t'_is : t' ≡ slice_set t i new) where
+    stepped : t' ≡ table_after t (record { register = r; out = out; put = put })
+    stepped = t'_is ∙ ap (λ (k : ℕ). slice_set t k new) i_is ∙ ap (slice_set t r) (new_is ∙ ap (applied out put) (sym old_there))
 
-  pub step_few : (limit : ℕ) → length (list_at (lists_of us') d.register) ≤ SESSION_CELLS → length (list_at (lists_of us') d.register) ≤ limit → Steps limit (lists_of us) d (lists_of us') true
-  step_few limit most few = record {
-    fit = fits_table SESSION_CELLS (omega (arith, most, ap length stepped_list));
-    few = λ _. fits_table limit (omega (arith, few, ap length stepped_list));
-    many = λ _. refl;
-    table = stepped;
-  }
+    new_list : length (applied out put (list_at t r)) ≡ length new
+    new_list = ap length (ap (applied out put) old_there ∙ sym new_is)
 
-  pub step_many : (limit : ℕ) → length (list_at (lists_of us') d.register) ≤ SESSION_CELLS → limit < length (list_at (lists_of us') d.register) → Steps limit (lists_of us) d (lists_of us') false
-  step_many limit most many = record {
-    fit = fits_table SESSION_CELLS (omega (arith, most, ap length stepped_list));
-    few = λ h. absurd (false≢true h);
-    many = λ g. absurd (omega (arith, many, g.few, ap length stepped_list));
-    table = stepped;
-  }
+    fits_table : (n : ℕ) → length new ≤ n → FitsTable n t (record { register = r; out = out; put = put })
+    fits_table n few = record {
+      in_range = omega (arith, i_is, i_in, count);
+      fits = subst (Fits out put) (sym old_there) f;
+      few = omega (arith, few, new_list);
+      changes = applied_differs out put (list_at t r) (AllWithin-at SESSION_CELLS t r a (omega (arith, i_is, i_in, count))).local (subst (Fits out put) (sym old_there) f) some;
+    }
 
-  pub step_long : SESSION_CELLS < length (list_at (lists_of us') d.register) → FitsTable SESSION_CELLS (lists_of us) d → ⊥
-  step_long long g = absurd (omega (arith, long, g.few, ap length stepped_list))
+    pub step_few : (limit : ℕ) → length new ≤ SESSION_CELLS → length new ≤ limit → Steps limit t (record { register = r; out = out; put = put }) t' true
+    step_few limit most few = record {
+      fit = fits_table SESSION_CELLS most;
+      few = λ _. fits_table limit few;
+      many = λ _. refl;
+      table = stepped;
+    }
+
+    pub step_many : (limit : ℕ) → length new ≤ SESSION_CELLS → limit < length new → Steps limit t (record { register = r; out = out; put = put }) t' false
+    step_many limit most many = record {
+      fit = fits_table SESSION_CELLS most;
+      few = λ h. absurd (false≢true h);
+      many = λ g. absurd (omega (arith, many, g.few, new_list));
+      table = stepped;
+    }
+
+    pub step_long : SESSION_CELLS < length new → FitsTable SESSION_CELLS t (record { register = r; out = out; put = put }) → ⊥
+    step_long long g = absurd (omega (arith, long, g.few, new_list))
 
 -- a walk: the changes that are left can be made from here exactly where all can from the start
 pub record Walks (limit : ℕ) (t : List (List ℕ)) (ds : List Diff) (here : List (List ℕ)) (left : List Diff) (within : Bool) : Type 0 where
@@ -166,14 +153,8 @@ fails TooMany P Q f n = n
 fails Memory P Q f n = tt
 
 -- as many registers as before
-pub steps_count : (limit : ℕ) (us us' : List Union) (d : Diff) (few : Bool) (n : ℕ) → Steps limit (lists_of us) d (lists_of us') few → length us ≡ n → length us' ≡ n
-steps_count limit us us' d few n s e =
-    sym (length-map us' (λ (u : Union). u.cells)) ∙ ap length s.table ∙ length-set (lists_of us) d.register (list_after (lists_of us) d)
-    ∙ length-map us (λ (u : Union). u.cells) ∙ e
-
--- a register that is lent
-pub fits_read : (us : List Union) (i r : ℕ) (u : Union) (out put : List ℕ) → u ≡ get_or us i u → i ≡ r → i < length us → Fits out put u.cells → Fits out put (list_at (lists_of us) r)
-fits_read us i r u out put e f l g = subst (Fits out put) (sym (list_read us i r u e f l)) g
+pub steps_count : (limit : ℕ) (t t' : List (List ℕ)) (d : Diff) (few : Bool) (n : ℕ) → Steps limit t d t' few → length t ≡ n → length t' ≡ n
+steps_count limit t t' d few n s e = ap length s.table ∙ length-set t d.register (list_after t d) ∙ e
 
 -- room for lists that keep to the limit
 pub have_room : (limit : ℕ) (t : List (List ℕ)) (us : List Union) → length t ≡ length us → AllLists (λ u. length u ≤ limit) t → AllRoomy limit us → HaveRoom t us
@@ -229,37 +210,6 @@ copied_more (x ∷ t) (y ∷ s) (suc i) n l =
     let one : suc i + 1 ≡ suc (i + 1) = omega arith in
     ap (λ (l' : List (List ℕ)). x ∷ l') (copied_more t s i (omega arith) (omega arith))
     ∙ sym (ap (λ (k : ℕ). take k (x ∷ t) ++ drop k (y ∷ s)) one)
-
--- a register's list is not too long
-pub old_most : (us : List Union) (i r : ℕ) (u : Union) → AllWithin SESSION_CELLS (lists_of us) → u ≡ get_or us i u → i ≡ r → i < length us → length u.cells ≤ SESSION_CELLS
-old_most us i r u a e f l =
-    let w = AllWithin-at SESSION_CELLS (lists_of us) r a (omega (arith, l, f, length-map us (λ (u : Union). u.cells))) in
-    omega (arith, ap length (list_read us i r u e f l), w.few)
-
--- the step, as the code takes it
-module _ (us us' : List Union) (place i j r room : ℕ) (out put : List ℕ) (u v : Union) (count : length us ≡ REGISTERS) (a : AllWithin SESSION_CELLS (lists_of us))
-    (i_is : i ≡ place) (i_in : i < REGISTERS) (u_is : u ≡ get_or us i u) (p : place ≡ r) (f : Fits out put u.cells) (some : 0 < length out + length put)
-    (e : us' ≡ slice_set us place (union_of (applied out put (list_at (lists_of us) place)) room)) (j_is : j ≡ place) (v_is : v ≡ get_or us' j v) where
-  e_is : us' ≡ slice_set us r (union_of (applied out put (list_at (lists_of us) r)) room)
-  e_is = subst (λ (k : ℕ). us' ≡ slice_set us k (union_of (applied out put (list_at (lists_of us) k)) room)) p e
-
-  in_table : r < length (lists_of us)
-  in_table = omega (arith, i_is, p, i_in, count, length-map us (λ (u : Union). u.cells))
-
-  fits_it : Fits out put (list_at (lists_of us) r)
-  fits_it = fits_read us i r u out put u_is (i_is ∙ p) (omega (arith, i_in, count)) f
-
-  new_list : list_at (lists_of us') r ≡ v.cells
-  new_list = list_read us' j r v v_is (j_is ∙ p) (omega (arith, j_is, i_is, i_in, count, ap length e, length-set us place (union_of (applied out put (list_at (lists_of us) place)) room)))
-
-  pub takes_few : (limit : ℕ) → length v.cells ≤ SESSION_CELLS → length v.cells ≤ limit → Steps limit (lists_of us) (record { register = r; out = out; put = put }) (lists_of us') true
-  takes_few limit most few = step_few us us' (record { register = r; out = out; put = put }) room a in_table fits_it some e_is limit (omega (arith, most, ap length new_list)) (omega (arith, few, ap length new_list))
-
-  pub takes_many : (limit : ℕ) → length v.cells ≤ SESSION_CELLS → limit < length v.cells → Steps limit (lists_of us) (record { register = r; out = out; put = put }) (lists_of us') false
-  takes_many limit most many = step_many us us' (record { register = r; out = out; put = put }) room a in_table fits_it some e_is limit (omega (arith, most, ap length new_list)) (omega (arith, many, ap length new_list))
-
-  pub takes_long : SESSION_CELLS < length v.cells → FitsTable SESSION_CELLS (lists_of us) (record { register = r; out = out; put = put }) → ⊥
-  takes_long long = step_long us us' (record { register = r; out = out; put = put }) room a in_table fits_it some e_is (omega (arith, long, ap length new_list))
 
 -- a walk along moves, seen as changes one by one
 module _ (whole : List Move → List Diff) (one : Move → Diff) (cons : (m : Move) (ms : List Move) → whole (m ∷ ms) ≡ one m ∷ whole ms)

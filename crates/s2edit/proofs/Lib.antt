@@ -13,7 +13,10 @@ pub mod OneEnd
 pub mod SetRuns
 pub mod Telling
 pub mod Contents
+pub mod Sizes
 pub mod Following
+pub mod Joining
+pub mod InTurn
 pub mod Restoring
 pub mod Saving
 pub mod Spelling

@@ -1,21 +1,20 @@
 -- What an editor holds after a session was restored, and why one is refused.
-use Rattle.std.proofs.Common.{◌≡◌, ℕ, zero, suc, ◌+◌, ◌<◌, ◌≤◌, Bool, true, false, ◌&&◌, List, [], ◌∷◌, ◌++◌, length, map, reverse, slice_set, refl, sym, ap, ◌∙◌, subst, arith}
-use Rattle.std.proofs.lemmas.List.{length-map, length-set, length-reverse, reverse-append, map-append}
+use Rattle.std.proofs.Common.{◌≡◌, ℕ, zero, suc, ◌+◌, ◌<◌, ◌≤◌, Bool, true, false, ◌&&◌, List, [], ◌∷◌, length, map, reverse, refl, sym, ap, ◌∙◌, subst, arith}
+use Rattle.std.proofs.lemmas.List.{length-map, length-set, length-reverse}
 use Rattle.std.specs.List.{AllByRecursion}
 use Rattle.s2union.specs.Union.{Union}
 use Rattle.std.proofs.lemmas.Bool.{false≢true, true≢false}
-use Rattle.s2file.specs.Session.{Moved, Content, moved_of, IsContent, IsRegisterList, IsMoved}
+use Rattle.s2file.specs.Session.{Moved, Content, moved_of, IsContent, IsRegisterList}
 use Rattle.s2file.specs.declared.session.Move.{Move}
-use Rattle.s2file.specs.declared.TheConstants.{SESSION_CELLS, SESSION_CHANGES}
-use Rattle.s2edit.specs.History.{History, AllLists, AllTables, EachList}
+use Rattle.s2file.specs.declared.TheConstants.{SESSION_CELLS}
+use Rattle.s2edit.specs.History.{History, AllLists, AllTables}
 use Rattle.s2edit.specs.Diff.{Diff, inverse}
 use Rattle.s2edit.specs.Leads.{list_at}
-use Rattle.s2edit.specs.Chain.{list_after, table_after, tables_after, FitsTable, FitAlong, lists_of, IsWithin, AllWithin, history}
+use Rattle.s2edit.specs.Chain.{list_after, table_after, tables_after, FitAlong, lists_of, AllWithin, history}
 use Rattle.s2edit.specs.Session.{diff, Tells, Restored, IsTooDeep, IsTooMany, RefusesSession}
 use Rattle.s2edit.specs.Following.{FailsToFollow, Follows}
 use Rattle.s2edit.specs.declared.session.RestoreFault.{RestoreFault}
 use Rattle.s2edit.specs.declared.session.RestoreFault.TheVariants.{Fit, TooDeep, TooMany, Memory}
-use Rattle.s2edit.specs.declared.TheConstants.{REGISTERS}
 use Rattle.s2edit.proofs.Tables.{list_at-table_after, length-tables_after}
 use Rattle.s2edit.proofs.Leading.{AllLists-within, AllTables-within}
 use Rattle.s2edit.proofs.Contents.{turned}

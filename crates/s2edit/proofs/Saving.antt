@@ -7,9 +7,8 @@ use Rattle.s2union.specs.Union.{Union}
 use Rattle.s2file.specs.Session.{Moved, Content, moved_of, IsMoved}
 use Rattle.s2file.specs.declared.session.Move.{Move}
 use Rattle.s2file.specs.declared.TheConstants.{SESSION_CELLS, SESSION_CHANGES}
-use Rattle.s2edit.specs.History.{History}
 use Rattle.s2edit.specs.Diff.{Diff, inverse}
-use Rattle.s2edit.specs.Chain.{table_after, tables_after, FitsTable, FitAlong, lists_of, AllWithin, history}
+use Rattle.s2edit.specs.Chain.{table_after, tables_after, FitAlong, lists_of, AllWithin, history}
 use Rattle.s2edit.specs.Session.{diff, moved, Tells}
 use Rattle.s2edit.specs.declared.TheConstants.{REGISTERS}
 use Rattle.s2edit.proofs.Contents.{reverse_twice}

@@ -1,9 +1,9 @@
 -- Bytes and the histories that they stand for.
-use Rattle.std.proofs.Common.{◌≡◌, ℕ, ◌+◌, ◌≤◌, Bool, List, length, inl, refl, sym, ap, ◌∙◌, subst, arith}
-use Rattle.s2file.specs.Session.{Content, IsContent, IsSessionFile, Spells}
+use Rattle.std.proofs.Common.{◌≡◌, ℕ, ◌≤◌, Bool, List, length, inl, refl, sym, ap, ◌∙◌, subst, arith}
+use Rattle.s2file.specs.Session.{Content, Spells}
 use Rattle.s2file.proofs.Spelled.{one_spelled}
 use Rattle.s2edit.specs.History.{History, EachList, sets}
-use Rattle.s2edit.specs.Session.{Tells, Text, Stored, StoredSets, Restored, IsTooDeep, IsTooMany, RefusesSession}
+use Rattle.s2edit.specs.Session.{Tells, Text, Stored, StoredSets, Restored, RefusesSession}
 use Rattle.s2edit.specs.SessionLaws.{IsKept}
 use Rattle.s2edit.specs.declared.session.RestoreFault.{RestoreFault}
 use Rattle.s2edit.specs.declared.session.RestoreFault.TheVariants.{Fit, TooDeep, TooMany, Memory}

@@ -1,25 +1,17 @@
 -- What a session tells of a history, in terms of changes that can be made one after another.
-use Rattle.std.proofs.Common.{◌≡◌, ◌≢◌, ℕ, zero, suc, ◌+◌, ◌<◌, ◌≤◌, List, [], ◌∷◌, ◌++◌, length, map, reverse, All, slice_set, refl, sym, ap, ◌∙◌, subst, arith}
+use Rattle.std.proofs.Common.{◌≡◌, ℕ, ◌+◌, ◌≤◌, List, [], ◌∷◌, length, map, reverse, refl, sym, ap, ◌∙◌, subst, arith}
 use Rattle.std.proofs.lemmas.List.{length-set, length-map, length-reverse}
-use Rattle.std.proofs.lemmas.List.Elements.{recursion_from_All, All-from_recursion}
-use Rattle.std.proofs.lemmas.Bool.{cond_both}
-use Rattle.std.specs.List.{AllByRecursion}
-use Rattle.s2cell.specs.Cell.{IsCell}
-use Rattle.s2union.specs.Union.{IsLocal}
-use Rattle.s2union.specs.Apply.{has, cells_without, applied}
-use Rattle.s2union.proofs.Applied.{applied-between, Fits-between}
-use Rattle.s2file.specs.Session.{Moved, Content, IsMoved, IsContent, IsRegisterList, IsChangeList}
+use Rattle.s2file.specs.Session.{Moved, Content}
 use Rattle.s2file.specs.declared.TheConstants.{SESSION_CELLS, SESSION_CHANGES}
-use Rattle.s2edit.specs.History.{History, AllLists, AllTables, EachList}
-use Rattle.s2edit.specs.Diff.{Diff, IsDiff, inverse, between}
+use Rattle.s2edit.specs.History.{History, AllTables}
+use Rattle.s2edit.specs.Diff.{Diff, inverse}
 use Rattle.s2edit.specs.Leads.{list_at, Leads}
-use Rattle.s2edit.specs.Chain.{list_after, table_after, tables_after, FitsTable, FitAlong, IsWithin, AllWithin}
-use Rattle.s2edit.specs.Session.{diff, moved, LeadBack, LeadAhead, Tells}
+use Rattle.s2edit.specs.Chain.{table_after, tables_after, FitsTable, FitAlong, IsWithin, AllWithin}
+use Rattle.s2edit.specs.Session.{diff, LeadBack, LeadAhead, Tells}
 use Rattle.s2edit.specs.declared.TheConstants.{REGISTERS}
 use Rattle.s2edit.proofs.Tables.{AllWithin-at, fits_back, table_back, within_after, length-tables_after}
 use Rattle.s2edit.proofs.Assigning.{fits_table, between_table}
 use Rattle.s2edit.proofs.Leading.{lead_ahead, lead_back, AllTables-within}
-use Rattle.s2edit.proofs.DiffLemmas.{IsDiff-between}
 
 -- changes that can be made one after another lead along the tables that they make
 pub all_ahead : (limit : ℕ) (t : List (List ℕ)) (ms : List Moved) → AllWithin limit t → FitAlong limit t (map diff ms) → LeadAhead ms t (tables_after t (map diff ms))

@@ -8,4 +8,5 @@ pub mod Laws
 pub mod Edits
 pub mod Session
 pub mod Following
+pub mod Followed
 pub mod SessionLaws

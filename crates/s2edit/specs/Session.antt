@@ -1,10 +1,9 @@
 -- What a session tells of a history, and the bytes that stand for one.
-use Rattle.std.specs.Prelude.{◌≡◌, ℕ, ◌+◌, ◌<◌, ◌≤◌, Bool, List, [], ◌∷◌, length, map, reverse, Result, Ok, Err}
-use Rattle.s2union.specs.Union.{has_leaf}
+use Rattle.std.specs.Prelude.{◌≡◌, ℕ, ◌+◌, ◌<◌, ◌≤◌, Bool, List, [], ◌∷◌, length, reverse}
 use Rattle.s2file.specs.Session.{Moved, Content, session_text, Spells}
 use Rattle.s2file.specs.declared.TheConstants.{SESSION_CELLS, SESSION_CHANGES}
 use Rattle.s2edit.specs.History.{History, EachList, sets}
-use Rattle.s2edit.specs.Diff.{Diff, inverse}
+use Rattle.s2edit.specs.Diff.{Diff}
 use Rattle.s2edit.specs.Leads.{Leads}
 use Rattle.s2edit.specs.Chain.{IsWithin}
 use Rattle.s2edit.specs.declared.TheConstants.{REGISTERS}

@@ -249,7 +249,7 @@ fn are_same(cells: &[CellId], others: &[CellId]) -> bool
 
 /// Takes cells out of a register's list and puts others in, by way of the scratch list, with which the
 /// register's list is exchanged.
-pub(crate) fn rewrite(
+fn rewrite(
     registers: &mut Vec<CellUnion>,
     scratch: &mut CellUnion,
     register: Register,

@@ -10,7 +10,7 @@ use std::cmp::Ordering;
 /// The cells of `old` that `new` lacks, and those of `new` that `old` lacks. The two lists have just
 /// the room that they need.
 ///
-/// What both begin with and what both end with is passed over; the rest takes three walks along both, two of which count.
+/// What both begin with and what both end with is passed over; the rest takes two walks along both, one of which counts.
 pub(crate) fn lacking(
     alloc: Global,
     old: &[CellId],
@@ -94,8 +94,11 @@ fn differing(
     ensures out { IfOk result (λ lists. lists.0.items ≡ cells_without old.now new.now) }
     ensures put { IfOk result (λ lists. lists.1.items ≡ cells_without new.now old.now) }
 {
-    let mut out = Vec::with_capacity(alloc, count_lacking(old, new))?;
-    let mut put = Vec::with_capacity(alloc, count_lacking(new, old))?;
+    let lost = count_lacking(old, new);
+    let shared = old.len() - lost;
+    let won = new.len() - shared;
+    let mut out = Vec::with_capacity(alloc, lost)?;
+    let mut put = Vec::with_capacity(alloc, won)?;
     let mut i = 0;
     let mut j = 0;
     while i < old.len() && j < new.len() {

@@ -10,6 +10,7 @@
 mod change;
 mod editor;
 mod edits;
+mod followed;
 mod lacking;
 mod register;
 mod session;
@@ -28,6 +29,3 @@ pub const MOST_CELLS: usize = 1_000_000;
 
 /// The most states that may ever be kept: the greatest depth of an editor.
 pub const MOST_STATES: usize = 10_000;
-
-#[cfg(test)]
-mod tests;

@@ -1,5 +1,5 @@
 //! An editor's registers and history as a session, and back.
-ghost use Rattle.std.specs.Prelude.{◌≡◌, ◌≤◌, ◌↔◌, ◌&&◌, ◌*◌, length, map, OnOk, IfOk, OnErr, IsTrue, MatchResult};
+ghost use Rattle.std.specs.Prelude.{◌≡◌, ◌≤◌, ◌↔◌, ◌&&◌, length, map, IfOk, OnErr, IsTrue, MatchResult};
 ghost use Rattle.std.specs.List.{AllByRecursion};
 ghost use Rattle.std.specs.Vec.{vec_len};
 ghost use Rattle.circular_buffer.specs.Buffer.{buffer};
@@ -14,7 +14,8 @@ ghost use Rattle.s2edit.specs.declared.session.RestoreFault.TheVariants.{Memory}
 
 use crate::REGISTERS;
 use crate::change::Change;
-use crate::editor::{Editor, rewrite};
+use crate::editor::Editor;
+use crate::followed::Followed;
 use crate::register::Register;
 use circular_buffer::HeapCircularBuffer;
 use s2cell::CellId;
@@ -71,8 +72,9 @@ impl Editor {
     /// Refuses, in this order: by `Fit` a session with a change that can't be made along its chain (the past
     /// backwards from the registers, the future forwards) or with a list there of more than 1,000,000 cells; by
     /// `TooDeep` more changes than the editor keeps; by `TooMany` a list, also one that only an undo or a redo
-    /// would bring back, of more cells than a register may have. `Memory` may stand for any answer. Each change
-    /// costs two passes over its register's list; one copy of the registers is taken while they are followed.
+    /// would bring back, of more cells than a register may have. `Memory` may stand for any answer. A change
+    /// costs what it takes out and puts in, and what the changes before it that are gathered with it did; a list is
+    /// copied only once its gathered changes have cost as much.
     pub fn restore(&mut self, session: Session) -> Result<(), RestoreFault>
         requires { IsContent (content_of session) }
         ensures answer { MatchResult result (λ _. Restored (content_of session) self.old self.new) (λ fault. RefusesSession (content_of session) self.old fault) }
@@ -153,14 +155,12 @@ fn follow_ahead(
     requires each { AllByRecursion IsMoved (map moved_of moves.now) }
     ensures { MatchResult result (λ within. Follows limit (lists_of registers.now) (map diff (map moved_of moves.now)) within) (λ fault. FailsToFollow fault (FitAlong SESSION_CELLS (lists_of registers.now) (map diff (map moved_of moves.now)))) }
 {
-    let mut table = copies_of(alloc, registers)?;
-    let mut scratch = CellUnion::empty(alloc);
+    let mut table = followed(alloc, registers)?;
     let mut within = true;
     for change in moves {
         let few = step(
             alloc,
             &mut table,
-            &mut scratch,
             change.register,
             &change.out,
             &change.put,
@@ -183,14 +183,12 @@ fn follow_back(
     requires each { AllByRecursion IsMoved (map moved_of moves.now) }
     ensures { MatchResult result (λ within. Follows limit (lists_of registers.now) (map inverse (map diff (map moved_of moves.now))) within) (λ fault. FailsToFollow fault (FitAlong SESSION_CELLS (lists_of registers.now) (map inverse (map diff (map moved_of moves.now))))) }
 {
-    let mut table = copies_of(alloc, registers)?;
-    let mut scratch = CellUnion::empty(alloc);
+    let mut table = followed(alloc, registers)?;
     let mut within = true;
     for change in moves {
         let few = step(
             alloc,
             &mut table,
-            &mut scratch,
             change.register,
             &change.put,
             &change.out,
@@ -201,31 +199,35 @@ fn follow_back(
     Ok(within)
 }
 
-/// Makes a change in a table of registers, by way of the scratch list, which gets room where it has too little.
-/// Says whether the new list keeps to the limit.
+/// The lists of registers, to be followed.
+fn followed<'a>(alloc: Global, registers: &'a [CellUnion]) -> Result<Vec<Followed<'a>>, AllocError>
+    ensures { IfOk result (λ table. table.items ≡ lists_of registers.now) }
+{
+    let mut table = Vec::with_capacity(alloc, registers.len())?;
+    for register in registers {
+        table.push(Followed::from(alloc, register))?;
+    }
+    Ok(table)
+}
+
+/// Makes a change in a table of registers, and says whether the new list keeps to the limit.
 fn step(
     alloc: Global,
-    table: &mut Vec<CellUnion>,
-    scratch: &mut CellUnion,
+    table: &mut Vec<Followed<'_>>,
     register: u8,
     out: &[CellId],
     put: &[CellId],
     limit: usize,
 ) -> Result<bool, RestoreFault>
     requires count { length table.old.items ≡ REGISTERS }
-    requires within { AllWithin SESSION_CELLS (lists_of table.old.items) }
+    requires within { AllWithin SESSION_CELLS table.old.items }
     requires change { IsMoved (record { register = register; out = out.now; put = put.now }) }
-    ensures { MatchResult result (λ few. Steps limit (lists_of table.old.items) (record { register = register; out = out.now; put = put.now }) (lists_of table.new.items) few) (λ fault. FailsToFollow fault (FitsTable SESSION_CELLS (lists_of table.old.items) (record { register = register; out = out.now; put = put.now }))) }
+    ensures { MatchResult result (λ few. Steps limit table.old.items (record { register = register; out = out.now; put = put.now }) table.new.items few) (λ fault. FailsToFollow fault (FitsTable SESSION_CELLS table.old.items (record { register = register; out = out.now; put = put.now }))) }
 {
     let place = Register::at(register);
-    let old = &table[place.index()];
-    if !old.can_apply(out, put) {
-        return Err(RestoreFault::Fit);
-    }
-    let most = old.len() + put.len();
-    make_room(alloc, scratch, most)?;
-    rewrite(table, scratch, place, out, put);
-    let len = table[place.index()].len();
+    let list = &mut table[place.index()];
+    list.follow(alloc, out, put)?;
+    let len = list.len();
     if len > SESSION_CELLS {
         return Err(RestoreFault::Fit);
     }
@@ -233,17 +235,6 @@ fn step(
         return Ok(false);
     }
     Ok(true)
-}
-
-/// Gives a union room, with some to spare, if it has too little; what it held is dropped.
-fn make_room(alloc: Global, union: &mut CellUnion, room: usize) -> Result<(), AllocError>
-    requires { room ≤ 2 * SESSION_CELLS }
-    ensures { OnOk result (room ≤ union.new.room) }
-{
-    if union.room() < room {
-        *union = CellUnion::with_room(alloc, room + room / 8)?;
-    }
-    Ok(())
 }
 
 /// Whether both hold.

@@ -29,6 +29,3 @@ pub const SESSION_CELLS: usize = 1_000_000;
 
 /// The most changes that a session file has, past and future together.
 pub const SESSION_CHANGES: usize = 10_000;
-
-#[cfg(test)]
-mod tests;

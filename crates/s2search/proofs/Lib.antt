@@ -1,5 +1,7 @@
 mod Asking
 mod Finding
+mod Holders
+mod Reaching
 mod Numbers
 mod Packing
 mod Running

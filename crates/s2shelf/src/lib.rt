@@ -11,6 +11,3 @@ pub mod shelf;
 pub use crate::dir_shelf::DirShelf;
 pub use crate::memory_shelf::MemoryShelf;
 pub use crate::shelf::{Shelf, ShelfFault};
-
-#[cfg(test)]
-mod tests;

@@ -14,7 +14,7 @@ use Rattle.s2union.proofs.PackedLocal.{local_from_packed}
 use Rattle.s2union.proofs.Checking.{fits, pushed_after, pushed_unmerged, packed_from_local}
 
 -- a cell of the list by its place from the end
-from_end : (back : List ℕ) (k j : ℕ) → j + k + 1 ≡ length back → slice_get back k ≡ Some (get_or (reverse back) j 0)
+pub from_end : (back : List ℕ) (k j : ℕ) → j + k + 1 ≡ length back → slice_get back k ≡ Some (get_or (reverse back) j 0)
 from_end back k j e =
     let at : length back - 1 - j ≡ k = omega arith in
     slice_get-get_or back k 0 (omega arith) ∙ ap (λ (x : ℕ). Some x) (sym (get_or-reverse back j 0 (omega arith) ∙ ap (λ (i : ℕ). get_or back i 0) at))
@@ -58,7 +58,7 @@ reverse_first x xs ys = ap (λ zs. zs ++ ys) (reverse-append (x ∷ []) xs) ∙ 
 pub tail_with : (t : Tail) (back : List ℕ) (cell : ℕ) → IsTail t back → IsTail (record { last = Some cell; second = t.last; third = t.second }) (cell ∷ back)
 tail_with t back cell i = record { last = refl; second = i.last; third = i.second }
 
-packed_front : (xs ys : List ℕ) (y : ℕ) → IsPacked (xs ++ y ∷ ys) → IsPacked (xs ++ y ∷ [])
+pub packed_front : (xs ys : List ℕ) (y : ℕ) → IsPacked (xs ++ y ∷ ys) → IsPacked (xs ++ y ∷ [])
 packed_front xs ys y p =
     let n : length (xs ++ y ∷ ys) ≡ length xs + (length ys + 1) = length-append xs (y ∷ ys) ∙ omega arith in
     subst IsPacked (front xs) (packed_take (length xs + 1) (xs ++ y ∷ ys) (omega arith) p)
@@ -86,7 +86,7 @@ seen_write start now next tail cell s g c f = record {
 }
 
 -- what the walk's answers say of the whole
-can_from : (out put u : List ℕ) → Fits out put u → CanApply (record { out = out; put = put; cells = u })
+pub can_from : (out put u : List ℕ) → Fits out put u → CanApply (record { out = out; put = put; cells = u })
 can_from out put u f = record { out_is_there = f.out_is_there; put_is_new = f.put_is_new }
 
 pub unfit_cell : (out put u : List ℕ) (now next : Left) (tail : Tail) (cell : ℕ) → Seen (record { out = out; put = put; cells = u }) now tail → Goes (cell ∷ []) now next →

@@ -1,5 +1,5 @@
 -- Runs of cells that are added whole.
-use Rattle.std.proofs.Common.{◌≡◌, ℕ, ◌+◌, ◌-◌, ◌*◌, ◌<◌, ◌≤◌, refl, sym, ◌∙◌, ap, arith, ◌||◌, List, ◌++◌, length, get_or, take, drop, All, length-append, min, AllPairs, nat_cmp, Ok, Err}
+use Rattle.std.proofs.Common.{◌≡◌, ℕ, ◌+◌, ◌-◌, ◌*◌, ◌<◌, ◌≤◌, refl, sym, ◌∙◌, ap, arith, ◌||◌, List, ◌++◌, length, get_or, take, drop, All, length-append, min, AllPairs}
 use Rattle.std.proofs.Math.Logic.{⊎_elim}
 use Rattle.std.proofs.Math.Bool.{or_assoc}
 use Rattle.std.proofs.lemmas.Bool.{cases_lt}
@@ -9,7 +9,6 @@ use Rattle.std.proofs.lemmas.List.{take_all, take-append-drop, length-drop, get_
 use Rattle.std.proofs.lemmas.List.Folds.{list_any_more, list_any-append}
 use Rattle.std.specs.List.{list_any}
 use Rattle.std.proofs.lemmas.List.Kept.{AllPairs-from_increasing}
-use Rattle.std.specs.List.Sorted.{IsStrictlyIncreasing}
 use Rattle.s2union.specs.Search.{Brackets}
 use Rattle.s2union.proofs.Galloping.{rises}
 use Rattle.s2cell.specs.Cell.{IsCell, first_leaf, covers}
@@ -92,7 +91,7 @@ pub rest_packed : (u : List ℕ) (i : ℕ) → IsLocal u → i ≤ length u → 
 rest_packed u i l h = part_packed u i (length u - i) (packed_from_local u l) (omega arith)
 
 -- so cells that follow behind such a list overlap none of it, and make no family with its last ones
-follow_packed : (list cells : List ℕ) (i : ℕ) → IsPacked list → IsPacked cells → i ≤ length cells → Continues list cells i → IsPacked (list ++ drop i cells)
+pub follow_packed : (list cells : List ℕ) (i : ℕ) → IsPacked list → IsPacked cells → i ≤ length cells → Continues list cells i → IsPacked (list ++ drop i cells)
 follow_packed list cells i packed run within e =
     let len : length (list ++ drop i cells) ≡ length list + (length cells - i) = length-append list (drop i cells) ∙ ap (λ n. length list + n) (length-drop i cells) in
     let front : (k : ℕ) → k < length list → get_or (list ++ drop i cells) k 0 ≡ get_or list k 0 = λ k h. get_or_append_left list (drop i cells) 0 k h in

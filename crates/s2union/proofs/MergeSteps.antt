@@ -1,5 +1,5 @@
 -- One step of the walk along a list and the two lists of a change.
-use Rattle.std.proofs.Common.{◌≡◌, ℕ, ◌<◌, ◌≢◌, true, false, ◌||◌, eqb, ltb, List, [], ◌∷◌, length, refl, sym, ap, ◌∙◌, subst, ⊎_elim, arith, eqb-true, eq-eqb, ne_eqb, lt-ltb, le-ltb, drop, take, get_or, ◌-◌, ◌≤◌, ◌+◌, min, zero, suc}
+use Rattle.std.proofs.Common.{◌≡◌, ℕ, ◌<◌, ◌≢◌, true, false, ◌||◌, eqb, ltb, List, [], ◌∷◌, length, refl, sym, ap, ◌∙◌, subst, ⊎_elim, arith, eqb-true, eq-eqb, ne_eqb, lt-ltb, le-ltb, drop, take, get_or, ◌-◌, ◌≤◌, min, zero, suc}
 use Rattle.std.proofs.lemmas.Grind.{common_steps}
 use Rattle.std.proofs.lemmas.List.{take_all, length-drop}
 use Rattle.std.proofs.lemmas.Bool.{cond-true, cond-false, false≢true, true≢false, or_cases, or_left, or_right, or_parts}
@@ -8,6 +8,9 @@ use Rattle.s2union.specs.Apply.{has, cells_without, insert_cell, insert_cells, a
 use Rattle.std.specs.declared.cmp.Ordering.TheVariants.{Less, Equal, Greater}
 use Rattle.s2union.specs.Merge.{CanApply, Goes, Keeps, Ascend, IsHead, IsFirst}
 use Rattle.s2union.specs.Search.{Brackets}
+use Rattle.s2union.specs.Packed.{IsPacked}
+use Rattle.s2union.proofs.Finding.{ascends}
+use Rattle.s2union.proofs.Following.{part_packed}
 use Rattle.s2union.proofs.CellLists.{AllAbove, IsAscending, ascends_from, increasing_from, has-below, AllAbove-trans, AllAbove-cells_without}
 
 insert_cell-below : (p : ℕ) (us : List ℕ) → AllAbove p us → insert_cell p us ≡ p ∷ us
@@ -54,7 +57,7 @@ not_below x ys a h = false≢true (sym (has-below x ys a) ∙ h)
 pub put_step : (out ps us : List ℕ) (p : ℕ) → Ascend (record { out = out; put = p ∷ ps; cells = us }) → IfHead (λ u. p < u) us →
     Goes (p ∷ []) (record { out = out; put = p ∷ ps; cells = us }) (record { out = out; put = ps; cells = us })
 put_step out ps us p a h =
-    let above : AllAbove p us = all_above p us (ascends_from us a.cells) h in
+    let above : AllAbove p us = all_above p us (ascends_from us (ascends us a.cells)) h in
     record {
       same = (
         λ f. record { out_is_there = f.out_is_there; put_is_new = λ x e. f.put_is_new x (or_right (eqb p x) (has ps x) e) },
@@ -108,7 +111,7 @@ take_step out ps us u a hp =
           put_is_new = λ x e. new_one u x us (λ q. not_below u ps put_above (subst (λ (n : ℕ). has ps n ≡ true) (sym q) e)) (f.put_is_new x e);
         },
       );
-      gives = λ _. applied-take out ps us u (ascends_from (u ∷ us) a.cells).0;
+      gives = λ _. applied-take out ps us u (ascends_from (u ∷ us) (ascends (u ∷ us) a.cells)).0;
       less = omega arith;
     }
   where
@@ -164,7 +167,7 @@ put_misfit out (p ∷ ps) us vs u e h f =
 
 pub out_misfit : (out put us vs : List ℕ) (u : ℕ) → us ≡ u ∷ vs → Ascend (record { out = out; put = put; cells = us }) → IsHead Less out u → CanApply (record { out = out; put = put; cells = us }) → ⊥
 out_misfit [] put us vs u e a h f = absurd (cc)
-out_misfit (o ∷ os) put us vs u e a h f = out_is_missing os put us o (all_above o us (ascends_from us a.cells) (first_above us vs u o e h)) f
+out_misfit (o ∷ os) put us vs u e a h f = out_is_missing os put us o (all_above o us (ascends_from us (ascends us a.cells)) (first_above us vs u o e h)) f
 
 pub end_misfit : (out put us : List ℕ) → us ≡ [] → length out ≢ 0 → CanApply (record { out = out; put = put; cells = us }) → ⊥
 end_misfit [] put us e n f = n refl
@@ -183,6 +186,12 @@ pub behind_first_ascends : (xs : List ℕ) → IsStrictlyIncreasing xs → IsStr
 behind_first_ascends [] a = a
 behind_first_ascends (x ∷ xs) a = rw behind_first (rest_ascends (x ∷ xs) xs x refl a)
 
+-- packed cells without the first
+pub rest_packed : (xs ys : List ℕ) (x : ℕ) → xs ≡ x ∷ ys → IsPacked xs → IsPacked ys
+rest_packed xs ys x e p =
+    let whole : IsPacked (x ∷ ys) = subst IsPacked e p in
+    subst IsPacked (take_all (length ys) ys (omega arith)) (part_packed (x ∷ ys) 1 (length ys) whole (omega arith))
+
 -- a run of cells that stay, each below what is put in and taken out
 pub keep_run : (n : ℕ) (out put us : List ℕ) → Ascend (record { out = out; put = put; cells = us }) → n ≤ length us
     → ((k : ℕ) → k < n → IfHead (λ p. get_or us k 0 < p) put) → ((k : ℕ) → k < n → IfHead (λ o. get_or us k 0 < o) out)
@@ -191,7 +200,7 @@ keep_run zero out put us a h hp ho = record { same = (λ f. f, λ f. f); gives =
 keep_run (suc n) out put [] a h hp ho = absurd (omega arith)
 keep_run (suc n) out put (u ∷ us) a h hp ho =
     let step = keep_step out put us u a (hp 0 (omega arith)) (ho 0 (omega arith)) in
-    let rest : Ascend (record { out = out; put = put; cells = us }) = record { out = a.out; put = a.put; cells = rest_ascends (u ∷ us) us u refl a.cells } in
+    let rest : Ascend (record { out = out; put = put; cells = us }) = record { out = a.out; put = a.put; cells = rest_packed (u ∷ us) us u refl a.cells } in
     let more = keep_run n out put us rest (omega arith) (λ k l. hp (suc k) (omega arith)) (λ k l. ho (suc k) (omega arith)) in
     let less = step.less in
     let fewer = more.less in

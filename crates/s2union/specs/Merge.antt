@@ -4,6 +4,7 @@ use Rattle.std.specs.List.Sorted.{IsStrictlyIncreasing}
 use Rattle.std.specs.declared.cmp.Ordering.{Ordering}
 use Rattle.std.specs.declared.cmp.Ordering.TheVariants.{Less, Equal, Greater}
 use Rattle.s2union.specs.Apply.{has, applied}
+use Rattle.s2union.specs.Packed.{IsPacked}
 use Rattle.s2union.specs.declared.merge.Turn.{Turn}
 use Rattle.s2union.specs.declared.merge.Turn.TheVariants.{Write, Skip, Misfit, End}
 
@@ -52,8 +53,8 @@ abbrev pub IsFirst : ℕ → List ℕ → Type 0
 IsFirst n [] = n ≡ 2 ^ 64 - 1
 IsFirst n (x ∷ xs) = n ≡ x
 
--- the three lists ascend
+-- the three lists ascend, and the cells are packed
 pub record Ascend (l : Left) : Type 0 where
   pub out : IsStrictlyIncreasing l.out
   pub put : IsStrictlyIncreasing l.put
-  pub cells : IsStrictlyIncreasing l.cells
+  pub cells : IsPacked l.cells

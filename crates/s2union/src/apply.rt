@@ -39,7 +39,8 @@ impl CellUnion {
     /// Whether the cells of `out` can be taken out of the list and those of `put` be put in: every cell
     /// of `out` is in the list, none of `put` is, and what comes of it is normalised.
     ///
-    /// One pass over the three lists, both given ones ascending by identifier. Takes no memory.
+    /// Both given lists ascend by identifier. A search for each of their cells, which goes on from the one before, so a
+    /// small change of a long list is logarithmic in the list. Takes no memory.
     pub fn can_apply(&self, out: &[CellId], put: &[CellId]) -> bool
         requires out_ascends { IsStrictlyIncreasing out.now }
         requires put_ascends { IsStrictlyIncreasing put.now }
@@ -97,7 +98,8 @@ fn push_all(list: &mut Vec<CellId>, cells: &[CellId])
     }
 }
 
-/// Whether the change fits the cells: the walk finds no misfit, and what it gives is packed.
+/// Whether the change fits the cells: the walk finds no misfit, and what it gives is packed. Runs of cells that stay are
+/// passed over.
 fn fits_cells<'a>(cells: &'a [CellId], out: &'a [CellId], put: &'a [CellId]) -> bool
     requires local { IsLocal cells.now }
     requires out_ascends { IsStrictlyIncreasing out.now }
@@ -107,6 +109,9 @@ fn fits_cells<'a>(cells: &'a [CellId], out: &'a [CellId], put: &'a [CellId]) -> 
     let mut merge = Merge::new(cells, out, put);
     let mut tail = Tail::new();
     loop {
+        if !tail.pass(merge.run()) {
+            return false;
+        }
         match merge.turn() {
             Turn::Write(cell) => {
                 if !tail.takes(cell) {

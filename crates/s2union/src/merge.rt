@@ -2,6 +2,7 @@
 ghost use Rattle.std.specs.Prelude.{◌≡◌, []};
 ghost use Rattle.std.specs.List.Sorted.{IsStrictlyIncreasing};
 ghost use Rattle.s2union.specs.Merge.{IsTurn, IsHead, IsFirst, Keeps};
+ghost use Rattle.s2union.specs.Packed.{IsPacked};
 
 use crate::gallop::gallop;
 use s2cell::CellId;
@@ -42,7 +43,7 @@ pub(crate) enum Turn {
 impl<'a> Merge<'a> {
     /// The walk from the beginning.
     pub(crate) fn new(cells: &'a [CellId], out: &'a [CellId], put: &'a [CellId]) -> Merge<'a>
-        requires cells_ascend { IsStrictlyIncreasing cells.now }
+        requires cells_packed { IsPacked cells.now }
         requires out_ascends { IsStrictlyIncreasing out.now }
         requires put_ascends { IsStrictlyIncreasing put.now }
         ensures { result ≡ record { out = out.now; put = put.now; cells = cells.now } }
@@ -52,7 +53,8 @@ impl<'a> Merge<'a> {
 
     /// The cells of the list before the next one that is taken out or put in: they stay. The walk goes on behind them.
     pub(crate) fn run(&mut self) -> &'a [CellId]
-        ensures { Keeps result.now self.old self.new }
+        ensures keeps { Keeps result.now self.old self.new }
+        ensures packed { IsPacked result.now }
     {
         let next = first_id(self.out).min(first_id(self.put));
         let len = gallop(self.cells, 0, next);

@@ -3,7 +3,7 @@
 ghost use Rattle.std.specs.Prelude.{◌≤◌, ◌<◌, ◌+◌, ◌*◌, ◌^◌, ◌↔◌, IsTrue, length, slice_index};
 ghost use Rattle.s2cell.specs.Cell.{IsCell, covers, first_leaf, size_of};
 ghost use Rattle.s2union.specs.Union.{IsLocal, has_leaf, IsWithin, ShareSome};
-ghost use Rattle.s2union.specs.Packed.{IsPacked, Behind};
+ghost use Rattle.s2union.specs.Packed.{IsPacked, Behind, EndsAt};
 ghost use Rattle.s2union.specs.Search.{Brackets};
 
 use crate::gallop::{gallop, narrow};
@@ -95,7 +95,8 @@ pub(crate) fn find(cells: &[CellId], lo: u64) -> usize
     without_last(cells, 0, begun, lo)
 }
 
-/// The same where the first `from` are known to end by it. Logarithmic in how many more do, and one look when none does.
+/// The same where the first `from` are known to end by it. Logarithmic in how many more do. The next two cells are looked
+/// at one by one, since in lists of like size it is mostly one of them.
 #[inline(always)]
 pub(crate) fn find_from(cells: &[CellId], from: usize, lo: u64) -> usize
     requires packed { IsPacked cells.now }
@@ -107,11 +108,21 @@ pub(crate) fn find_from(cells: &[CellId], from: usize, lo: u64) -> usize
     ensures behind { Behind cells.now result lo }
     ensures next { result < length cells.now → lo < first_leaf (slice_index cells.now result) + size_of (slice_index cells.now result) }
 {
-    if from < cells.len() && cells[from].end_leaf() <= lo {
-        leap_from(cells, from, lo)
-    } else {
-        from
+    if !ends_by(cells, from, lo) {
+        return from;
     }
+    if !ends_by(cells, from + 1, lo) {
+        return from + 1;
+    }
+    leap_from(cells, from + 2, lo)
+}
+
+/// Whether there is a cell at the place `at`, and it ends by the leaf `lo`.
+#[inline(always)]
+fn ends_by(cells: &[CellId], at: usize, lo: u64) -> bool
+    ensures { IsTrue result ↔ EndsAt cells.now at lo }
+{
+    at < cells.len() && cells[at].end_leaf() <= lo
 }
 
 /// The same where more may end by it.
@@ -166,6 +177,7 @@ fn holds_all(xs: &[CellId], ys: &[CellId]) -> bool
             return false;
         }
         j = find_from(ys, j + 1, x.end_leaf());
+        i += 1;
     }
     true
 }
@@ -178,16 +190,17 @@ fn meets_any(xs: &[CellId], ys: &[CellId]) -> bool
 {
     let mut i = 0;
     let mut j = 0;
-    while i < xs.len() && j < ys.len() {
-        let x = xs[i];
+    while j < ys.len() {
         let y = ys[j];
-        if x.end_leaf() <= y.first_leaf() {
-            i = find_from(xs, i + 1, y.first_leaf());
-        } else if y.end_leaf() <= x.first_leaf() {
-            j = find_from(ys, j + 1, x.first_leaf());
-        } else {
+        i = find_from(xs, i, y.first_leaf());
+        if i >= xs.len() {
+            return false;
+        }
+        let x = xs[i];
+        if x.first_leaf() < y.end_leaf() {
             return true;
         }
+        j = find_from(ys, j + 1, x.first_leaf());
     }
     false
 }

@@ -153,18 +153,20 @@ fn share(list: &mut Vec<CellId>, xs: &[CellId], ys: &[CellId]) -> Result<(), All
     while i < xs.len() && j < ys.len() {
         let x = xs[i];
         let y = ys[j];
-        if y.contains(x) {
+        if x.end_leaf() <= y.first_leaf() {
+            i = find_from(xs, i + 1, y.first_leaf());
+        } else if y.end_leaf() <= x.first_leaf() {
+            j = find_from(ys, j + 1, x.first_leaf());
+        } else if y.contains(x) {
             let next = find_from(xs, i + 1, y.end_leaf());
             extend(list, &xs[i..next])?;
             i = next;
-        } else if x.contains(y) {
+            j += 1;
+        } else {
             let next = find_from(ys, j + 1, x.end_leaf());
             extend(list, &ys[j..next])?;
             j = next;
-        } else if x < y {
-            i = find_from(xs, i + 1, y.first_leaf());
-        } else {
-            j = find_from(ys, j + 1, x.first_leaf());
+            i += 1;
         }
     }
     Ok(())

@@ -1,7 +1,8 @@
 //! The end of a list of cells that go by one after another.
 ghost use Rattle.std.specs.Prelude.{◌≡◌, ◌↔◌, IsTrue, Some, None};
 ghost use Rattle.s2cell.specs.Cell.{IsCell};
-ghost use Rattle.s2union.specs.Tail.{Follows};
+ghost use Rattle.s2union.specs.Tail.{Follows, Passes};
+ghost use Rattle.s2union.specs.Packed.{IsPacked};
 
 use crate::merging::parent_of_family;
 use s2cell::CellId;
@@ -49,6 +50,27 @@ impl Tail {
             Some(_) => false,
             None => true,
         }
+    }
+
+    /// Whether the cells of a run of a list may come next, one after the other, which then have gone by. Only the first
+    /// three of them can share leaves or make a family with those before: the others follow each other as in the list.
+    pub(crate) fn pass(&mut self, run: &[CellId]) -> bool
+        requires packed { IsPacked run.now }
+        ensures { Passes (IsTrue result) self.old self.new run.now }
+    {
+        for k in 0..run.len().min(3) {
+            let cell = run[k];
+            if !self.takes(cell) {
+                return false;
+            }
+            self.push(cell);
+        }
+        if run.len() > 3 {
+            self.push(run[run.len() - 3]);
+            self.push(run[run.len() - 2]);
+            self.push(run[run.len() - 1]);
+        }
+        true
     }
 
     /// The cell went by.

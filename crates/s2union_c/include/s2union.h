@@ -159,11 +159,18 @@ int32_t s2u_range(uint64_t first, uint64_t last, uint64_t* out, size_t room, siz
 int32_t s2u_denormalised_len(const uint64_t* ids, size_t n, uint32_t min, uint32_t modulus, uint64_t* len);
 int32_t s2u_denormalised(const uint64_t* ids, size_t n, uint32_t min, uint32_t modulus, uint64_t* out, size_t room, size_t* len);
 
+/* The cells of a union and all their ancestors, ascending, each once. Two unions share a leaf exactly when a cell of one is
+ * among the cells and ancestors of the other: the law of every inverted index over cells, proved. S2U_ROOM, S2U_MEMORY,
+ * S2U_NO_UNION. At most S2U_MOST_ANCESTORS(n); up to 24 bytes for each. */
+#define S2U_MOST_ANCESTORS(n) (31 * (n))
+int32_t s2u_ancestors(const uint64_t* ids, size_t n, uint64_t* out, size_t room, size_t* len);
+
 /* ---- coverings at one level ------------------------------------------------------------------------------------------
  *
  * The outer covering: the cells of the level that share a leaf with the region, normalised; the inner: those that lie in
- * it. S2U_ROOM, S2U_MEMORY, S2U_ARGUMENT, S2U_NO_UNION, S2U_MANY if it would have more than `most` cells, or more than
- * S2U_MOST_COVERING (the list on the way is bounded by that too). */
+ * it. S2U_ROOM, S2U_MEMORY, S2U_ARGUMENT, S2U_NO_UNION, S2U_MANY if it would have more than `most` cells (the list on the
+ * way is bounded by that too). A `most` greater than S2U_MOST_COVERING counts as that: no covering has more cells, and
+ * one that would is refused with S2U_MANY, whatever `most` and room are. */
 #define S2U_MOST_COVERING 1000000
 int32_t s2u_outer(const s2u_rect* rect, uint32_t level, size_t most, uint64_t* out, size_t room, size_t* len);
 int32_t s2u_inner(const s2u_rect* rect, uint32_t level, size_t most, uint64_t* out, size_t room, size_t* len);
@@ -194,6 +201,9 @@ int32_t s2u_file_contains_cell(const uint8_t* bytes, size_t n, uint64_t cell);  
 int32_t s2u_file_intersects_cell(const uint8_t* bytes, size_t n, uint64_t cell);      /* log n steps; S2U_NO_CELL */
 int32_t s2u_file_contains(const uint8_t* xs, size_t nx, const uint8_t* ys, size_t ny); /* all leaves of ys are in xs: 1 or 0 */
 int32_t s2u_file_intersects(const uint8_t* xs, size_t nx, const uint8_t* ys, size_t ny);
+/* s2u_ancestors of the union in a file, with no copy of it. S2U_FILE_* of the frame, S2U_NO_UNION (not encode's own),
+ * S2U_ROOM, S2U_MEMORY. */
+int32_t s2u_file_ancestors(const uint8_t* bytes, size_t n, uint64_t* out, size_t room, size_t* len);
 
 /* ---- memory for a host that has its own -------------------------------------------------------------------------------
  *

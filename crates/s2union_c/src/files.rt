@@ -5,6 +5,7 @@ ghost use Rattle.s2cell.specs.Cell.{IsCell, covers};
 ghost use Rattle.s2union.specs.Union.{IsLocal, IsNormalForm, IsWithin, ShareSome, has_leaf};
 ghost use Rattle.s2union.specs.Count.{count_below};
 ghost use Rattle.s2file.specs.File.{file_text};
+ghost use Rattle.s2search.specs.Ancestors.{AreHolders};
 ghost use Rattle.s2union_c.specs.Files.{IsCellFile, IsFrameFault, IsFramed, file_ids};
 ghost use Rattle.s2union_c.specs.Results.{Made, MadeOne, Refused};
 ghost use Rattle.s2union_c.specs.Status.{Answers, IsAnswer, bad_argument, made, no_cell, no_memory, no_union, wrong_cell};
@@ -16,7 +17,7 @@ use crate::status::{
     WRONG_CELL, answer,
 };
 use s2cell::CellId;
-use s2search::{Cells, FileIds, IdList, first_wrong, is_union, number};
+use s2search::{Cells, FileIds, IdList, ancestors, first_wrong, is_union, number};
 use s2union::normalise;
 use std::alloc::Global;
 
@@ -214,6 +215,33 @@ pub extern "C" fn s2u_file_intersects(xs: &[u8], ys: &[u8]) -> i32
         Err(status) => return status,
     };
     answer(s2search::intersects(&first, &second))
+}
+
+/// The cells of a file's union and all their ancestors, ascending, each once.
+#[unsafe(no_mangle)]
+pub extern "C" fn s2u_file_ancestors(
+    alloc: Global,
+    bytes: &[u8],
+    out: &mut [u64],
+    len: &mut usize,
+) -> i32
+    ensures made { IsFramed bytes.now → IsLocal (file_ids bytes.now)
+        → MadeOne result (AreHolders (file_ids bytes.now)) out.old out.new len.new }
+    ensures no_union { IsFramed bytes.now → (IsLocal (file_ids bytes.now) → ⊥) → Refused result no_union out.old out.new len.new }
+    ensures fault { (IsFramed bytes.now → ⊥) → IsFrameFault bytes.now result × (len.new ≡ 0) × (out.new ≡ out.old) }
+{
+    *len = 0;
+    let ids = match framed(bytes) {
+        Ok(numbers) => FileIds { bytes: numbers },
+        Err(status) => return status,
+    };
+    if !is_union(&ids) {
+        return NO_UNION;
+    }
+    match ancestors(alloc, &ids) {
+        Ok(cells) => put_cells(cells.as_slice(), out, len),
+        Err(_) => NO_MEMORY,
+    }
 }
 
 /// The bytes after the head of a file, if they are as many as the head says.

@@ -3,6 +3,7 @@ ghost use Rattle.std.specs.Prelude.{◌≡◌, ◌+◌, ◌<◌, ◌≤◌, ◌�
 ghost use Rattle.s2cell.specs.Cell.{IsCell, first_leaf, size_of};
 ghost use Rattle.s2union.specs.Union.{IsLocal, IsNormalForm, between, has_leaf};
 ghost use Rattle.s2union.specs.Denorm.{denormalised};
+ghost use Rattle.s2search.specs.Ancestors.{AreHolders};
 ghost use Rattle.s2search.specs.Search.{IsFirstWrong};
 ghost use Rattle.s2union_c.specs.Results.{Made, MadeOne, Refused};
 ghost use Rattle.s2union_c.specs.Cutting.{IsCutting};
@@ -12,7 +13,7 @@ use crate::lists::{cells_of, union_of};
 use crate::results::put_cells;
 use crate::status::{BAD_ARGUMENT, MADE, NO_CELL, NO_MEMORY, NO_ROOM, NO_UNION};
 use s2cell::CellId;
-use s2search::{IdList, first_wrong, is_union};
+use s2search::{IdList, ancestors, first_wrong, is_union};
 use s2union::{CellUnion, normalise};
 use std::alloc::Global;
 
@@ -61,6 +62,23 @@ pub extern "C" fn s2u_range(
     }
     match CellUnion::from_range(alloc, x, y) {
         Ok(union) => put_cells(union.cells(), out, len),
+        Err(_) => NO_MEMORY,
+    }
+}
+
+/// The cells of a union and all their ancestors, ascending, each once: the keys of an index, by
+/// `s2search::law_of_indexes`.
+#[unsafe(no_mangle)]
+pub extern "C" fn s2u_ancestors(alloc: Global, ids: &[u64], out: &mut [u64], len: &mut usize) -> i32
+    ensures made { IsLocal ids.now → MadeOne result (AreHolders ids.now) out.old out.new len.new }
+    ensures no_union { (IsLocal ids.now → ⊥) → Refused result no_union out.old out.new len.new }
+{
+    *len = 0;
+    if !is_union(&IdList { ids }) {
+        return NO_UNION;
+    }
+    match ancestors(alloc, &IdList { ids }) {
+        Ok(cells) => put_cells(cells.as_slice(), out, len),
         Err(_) => NO_MEMORY,
     }
 }

@@ -1,9 +1,19 @@
 use Rattle.std.proofs.Common.{◌≡◌, ◌<◌, ◌≤◌, ℕ, List, ◌++◌, ◌⊎◌, inl, inr, length, get_or, sym, ap, ◌∙◌, arith}
 use Rattle.std.proofs.lemmas.Grind.{get_or_default_zero}
 use Rattle.std.proofs.lemmas.Bool.Decides.{nat_tests}
+use Rattle.s2edit.proofs.Sizes.{fewer_without, lacking_counts}
 use Rattle.s2edit.proofs.Differing.{below_turn, same_turn, lacking_turn, lacking_rest}
 use Rattle.s2edit.proofs.lacking.differing.Goals as goal
 use Rattle.s2edit.proofs.lacking.differing.Goals.{then-loop-i-test+else-j-new, else-loop-i-test}
+
+pub overflow_sub-shared : goal.overflow_sub-shared
+overflow_sub-shared c = omega (arith, c.count_lacking-lost.ensures, fewer_without c.args.old.now c.args.«new».now)
+
+pub overflow_sub-won : goal.overflow_sub-won
+overflow_sub-won c =
+    let us : List ℕ = c.args.old.now in
+    let vs : List ℕ = c.args.«new».now in
+    omega (arith, c.count_lacking-lost.ensures, fewer_without us vs, fewer_without vs us, lacking_counts us vs c.requires.old_ascends c.requires.new_ascends)
 
 pub loop-i-preserved-in-Less : goal.loop-i-preserved-in-Less
 loop-i-preserved-in-Less c =

@@ -1,4 +1,4 @@
-use Rattle.std.proofs.Common.{ℕ, length, ap, refl, arith}
+use Rattle.std.proofs.Common.{length, ap, refl, arith}
 use Rattle.std.proofs.lemmas.Bool.{false≢true}
 use Rattle.std.proofs.lemmas.List.{length-map}
 use Rattle.s2union.specs.Union.{Union}

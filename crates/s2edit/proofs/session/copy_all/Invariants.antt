@@ -1,4 +1,4 @@
-use Rattle.std.proofs.Common.{◌≡◌, ◌≤◌, ◌++◌, length, take, drop}
+use Rattle.std.proofs.Common.{◌≡◌, ◌++◌, length, take, drop}
 use Rattle.s2edit.specs.Chain.{lists_of}
 use Rattle.s2edit.specs.Following.{KeepRoom, HaveRoom}
 use Rattle.s2edit.proofs.session.copy_all.Given as goal

@@ -1,7 +1,6 @@
 use Rattle.std.proofs.Common.{◌≡◌, ◌<◌, ◌≤◌, length, get_or, refl, sym, ◌∙◌, arith}
 use Rattle.std.proofs.Math.Logic.{⊎_elim}
 use Rattle.std.proofs.lemmas.Bool.{cases_lt, false≢true}
-use Rattle.s2cell.specs.Cell.{first_leaf}
 use Rattle.s2union.specs.Union.{has_leaf}
 use Rattle.s2union.proofs.Checking.{packed_from_local}
 use Rattle.s2search.proofs.Asking.{begun_there, behind_on, both, part_shares, none_shares}

@@ -45,9 +45,9 @@ find_from-j-requires-clause-behind c =
 pub loop-j-preserved : goal.loop-j-preserved
 loop-j-preserved c =
     let e = c.find_from-j.ensures in
-    covering_run c.args.xs.now c.args.ys.now c.find_from-i.result c.loop-j.j c.index-xs-i.result c.index-ys-j.result c.find_from-j.result c.requires.y_local (covering_on c.args.xs.now c.args.ys.now c.loop-j.i c.loop-j.j c.find_from-i.result c.index-ys-j.result c.loop-j.invariant c.loop-j-test.true c.index-ys-j.is
+    covering_run c.args.xs.now c.args.ys.now c.find_from-i.result c.loop-j.j c.index-xs-i.result c.index-ys-j.result c.find_from-j.result c.requires.x_local c.requires.y_local (covering_on c.args.xs.now c.args.ys.now c.loop-j.i c.loop-j.j c.find_from-i.result c.index-ys-j.result c.loop-j.invariant c.loop-j-test.true c.index-ys-j.is
     c.find_from-i.ensures.within (rw (← c.first_leaf.ensures.value) c.find_from-i.ensures.behind)) (omega arith) c.loop-j-test.true
-    c.index-xs-i.is c.index-ys-j.is (c.contains.ensures.value.0 c.if-not-contains.false) (let f = e.from in omega arith) e.within (rw (← c.end_leaf.ensures.value) e.behind)
+    c.index-xs-i.is c.index-ys-j.is (c.contains.ensures.value.0 c.if-not-contains.false) (let f = e.from in omega arith) e.within (rw (← c.end_leaf.ensures.value) e.behind) (rw (← c.end_leaf.ensures.value) e.next)
 
 pub returns : goal.returns
 returns c = (λ e. covering_done c.args.xs.now c.args.ys.now c.loop-j.i c.loop-j.j c.loop-j.invariant (omega arith), λ w. refl)

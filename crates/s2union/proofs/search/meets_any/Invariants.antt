@@ -1,9 +1,17 @@
-use Rattle.std.proofs.Common.{◌≤◌, ◌+◌, ◌-◌, length, []}
+use Rattle.std.proofs.Common.{◌<◌, ◌≤◌, ◌-◌, length, get_or, []}
+use Rattle.s2cell.specs.Cell.{first_leaf}
+use Rattle.s2union.specs.Packed.{Behind}
 use Rattle.s2union.proofs.Shared.{Sharing, both}
 use Rattle.s2union.proofs.search.meets_any.Given as goal
 
-abbrev pub invariant-loop-i : goal.invariant-loop-i
-invariant-loop-i l = record { in_x : l.i ≤ length l.xs; in_y : l.j ≤ length l.ys; sharing : Sharing (both l.xs l.ys) l.xs l.ys [] l.i l.j }
+-- what went by shares nothing, and the first i of xs end by the next of ys
+abbrev pub invariant-loop-j : goal.invariant-loop-j
+invariant-loop-j l = record {
+  in_x : l.i ≤ length l.xs;
+  in_y : l.j ≤ length l.ys;
+  behind : l.j < length l.ys → Behind l.xs l.i (first_leaf (get_or l.ys l.j 0));
+  sharing : Sharing (both l.xs l.ys) l.xs l.ys [] l.i l.j;
+}
 
-abbrev pub decreases-loop-i : goal.decreases-loop-i
-decreases-loop-i l = (length l.xs - l.i) + (length l.ys - l.j)
+abbrev pub decreases-loop-j : goal.decreases-loop-j
+decreases-loop-j l = length l.ys - l.j

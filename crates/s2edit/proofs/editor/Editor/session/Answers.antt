@@ -1,7 +1,7 @@
-use Rattle.std.proofs.Common.{ℕ, List, map, reverse, ap, ◌∙◌, subst, arith}
-use Rattle.s2file.specs.Session.{Content, Moved, moved_of}
+use Rattle.std.proofs.Common.{map, reverse, ap, ◌∙◌, subst}
+use Rattle.s2file.specs.Session.{Content, moved_of}
 use Rattle.s2edit.specs.Chain.{lists_of}
-use Rattle.s2edit.specs.Session.{moved, Tells}
+use Rattle.s2edit.specs.Session.{Tells}
 use Rattle.s2edit.proofs.Contents.{told_content, turned}
 use Rattle.s2edit.proofs.Saving.{session_tells}
 use Rattle.s2edit.proofs.editor.Editor.session.Goals as goal

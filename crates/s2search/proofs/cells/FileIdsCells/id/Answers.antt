@@ -1,4 +1,4 @@
-use Rattle.std.proofs.Common.{length, arith, sym, ◌∙◌}
+use Rattle.std.proofs.Common.{arith, sym, ◌∙◌}
 use Rattle.s2search.proofs.Numbers.{length-numbers, get_or-numbers}
 use Rattle.s2search.proofs.cells.FileIdsCells.id.Goals as goal
 

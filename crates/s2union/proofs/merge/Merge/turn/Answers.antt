@@ -1,6 +1,6 @@
 use Rattle.std.proofs.Common.{[], ◌∷◌, sym, subst, drop, get_or}
 use Rattle.s2union.specs.Merge.{Left, Goes, CanApply}
-use Rattle.s2union.proofs.MergeSteps.{put_turn, keep_turn, take_turn, put_misfit, out_misfit, behind_first, behind_first_ascends, rest_ascends}
+use Rattle.s2union.proofs.MergeSteps.{put_turn, keep_turn, take_turn, put_misfit, out_misfit, behind_first, behind_first_ascends, rest_packed}
 use Rattle.s2union.proofs.merge.Merge.turn.Goals as goal
 
 pub returns-in-Less : goal.returns-in-Less
@@ -35,10 +35,10 @@ pub invariant_of-self-in-Equal-head_order : goal.invariant_of-self-in-Equal-head
 invariant_of-self-in-Equal-head_order c =
     let s = c.self.inside in
     let i = c.self.invariant in
-    record { out = behind_first_ascends s.out.now i.out; put = i.put; cells = rest_ascends s.cells.now c.in-Some.cells.now _ c.in-Some.ensures.cases.0 i.cells }
+    record { out = behind_first_ascends s.out.now i.out; put = i.put; cells = rest_packed s.cells.now c.in-Some.cells.now _ c.in-Some.ensures.cases.0 i.cells }
 
 pub invariant_of-self-in-Greater-head_order : goal.invariant_of-self-in-Greater-head_order
 invariant_of-self-in-Greater-head_order c =
     let s = c.self.inside in
     let i = c.self.invariant in
-    record { out = i.out; put = i.put; cells = rest_ascends s.cells.now c.in-Some.cells.now _ c.in-Some.ensures.cases.0 i.cells }
+    record { out = i.out; put = i.put; cells = rest_packed s.cells.now c.in-Some.cells.now _ c.in-Some.ensures.cases.0 i.cells }

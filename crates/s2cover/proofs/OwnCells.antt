@@ -1,0 +1,195 @@
+-- The coverings of a union are its cells, cut to the level.
+use Rattle.std.proofs.Common.{◌≡◌, ℕ, suc, zero, ◌+◌, ◌-◌, ◌*◌, ◌/◌, ◌^◌, ◌<◌, ◌≤◌, Bool, true, false, cond, Result, IfOk, IfErr, max, ◌&&◌, ◌||◌, nat_lt, List, [], ◌∷◌, length, All, Contains, refl, sym, ◌∙◌, ap, arith, subst, ⊎_elim}
+use Rattle.std.specs.List.{filter}
+use Rattle.std.proofs.lemmas.Bool.{cases_lt, cond-true, cond-false, le-leb, leb-true, and_right, and_parts, and_from, false_from_ne_true}
+use Rattle.std.proofs.lemmas.List.Elements.{All-contains}
+use Rattle.std.proofs.lemmas.List.Folds.{Any-from_list_any, list_any_at}
+use Rattle.s2cell.specs.Cell.{IsCell, level_of, first_leaf, covers, parent_of, id_at}
+use Rattle.s2cell.proofs.CellLemmas.{level_of_cell}
+use Rattle.s2cell.proofs.Calls.{IsCell-parent_of, shallow}
+use Rattle.s2cell.proofs.Family.{deeper_inside, parent_level, parent_around, same_from_within}
+use Rattle.s2cell.proofs.Leaves.{Within, covers_from, inside_from_within}
+use Rattle.s2cell.proofs.Squares.{covers_block, first_leaf_covered}
+use Rattle.s2union.specs.Union.{has_leaf, IsLocal, IsNormalForm, Union}
+use Rattle.s2union.proofs.Normal.{all_held, holder, family, leaf_to, normal_form_same, one_normal_form}
+use Rattle.std.proofs.lemmas.Result.{IfOk-weaker, IfErr-weaker}
+use Rattle.std.specs.List.{list_any}
+use Rattle.s2cover.specs.Coverings.{touched, outer_set, inner_set, IsInOuter, IsInInner}
+use Rattle.s2cover.specs.Cut.{reaches, cut_at, cells_cut, cells_kept}
+use Rattle.s2cover.proofs.Runs.{touched_from_none}
+use Rattle.s2cover.proofs.Squares.{same_bool}
+use Rattle.s2cover.proofs.Coverings.{around_leaf, leaf_limit, outer_in, outer_from, inner_in, inner_from}
+
+or_swap : (a b c d : Bool) → ((a || b) || (c || d)) ≡ ((a || c) || (b || d))
+or_swap true b c d = refl
+or_swap false true true d = refl
+or_swap false true false d = refl
+or_swap false false c d = refl
+
+and_or : (l a b : Bool) → (l && (a || b)) ≡ ((l && a) || (l && b))
+and_or true a b = refl
+and_or false a b = refl
+
+touched_either : (S T : ℕ → Bool) (lo n : ℕ) → touched (λ x. S x || T x) lo n ≡ (touched S lo n || touched T lo n)
+unfolding touched
+touched_either S T lo zero = refl
+touched_either S T lo (suc n) = ap (λ b. b || (S (lo + n) || T (lo + n))) (touched_either S T lo n) ∙ or_swap (touched S lo n) (touched T lo n) (S (lo + n)) (T (lo + n))
+
+-- the covering of two sets is that of the one and that of the other
+pub outer_either : (S T : ℕ → Bool) (k x : ℕ) → outer_set (λ y. S y || T y) k x ≡ (outer_set S k x || outer_set T k x)
+unfolding outer_set
+outer_either S T k x =
+    let lo = x / 4 ^ (30 - k) * 4 ^ (30 - k) in
+    let n = 4 ^ (30 - k) in
+    ap (λ b. nat_lt x (6 * 4 ^ 30) && b) (touched_either S T lo n) ∙ and_or (nat_lt x (6 * 4 ^ 30)) (touched S lo n) (touched T lo n)
+
+pub outer_none : (S : ℕ → Bool) (k x : ℕ) → ((y : ℕ) → S y ≡ false) → outer_set S k x ≡ false
+unfolding outer_set
+outer_none S k x h =
+    let lo = x / 4 ^ (30 - k) * 4 ^ (30 - k) in
+    and_right (nat_lt x (6 * 4 ^ 30)) (touched S lo (4 ^ (30 - k))) (touched_from_none S lo (4 ^ (30 - k)) (λ y a b. h y))
+
+-- ---- one cell
+
+pub cut_same : (k c : ℕ) → level_of c ≤ k → cut_at k c ≡ c
+cut_same k c h = cond-true (reaches k c) c (parent_of c k) (le-leb (level_of c) k h)
+
+pub cut_parent : (k c : ℕ) → k < level_of c → cut_at k c ≡ parent_of c k
+cut_parent k c h = cond-false (reaches k c) c (parent_of c k) (false_from_ne_true (reaches k c) (λ t. let l = leb-true (level_of c) k t in absurd (omega arith)))
+
+-- a cell of level `k` that shares a leaf with `c` lies inside the cell that stands for `c` there
+pub cut_around : (k c b y x : ℕ) → IsCell c → IsCell b → level_of b ≡ k → covers b y ≡ true → covers c y ≡ true → covers b x ≡ true → covers (cut_at k c) x ≡ true
+cut_around k c b y x i ib lv vb vc vx =
+    let yb = covers_from b y vb in
+    let yc = covers_from c y vc in
+    ⊎_elim
+    (λ (l : k < level_of c).
+    let p = parent_of c k in
+    let le : k ≤ level_of c = omega arith in
+    let ip : IsCell p = IsCell-parent_of c k p i le refl in
+    let lp = parent_level c k i le in
+    let yp = covers_from p y (inside_from_within c p (parent_around c k i le) y vc) in
+    let w = deeper_inside b p y ib ip (omega arith) yb.0 yb.1 yp.0 yp.1 in
+    subst (λ (z : ℕ). covers z x ≡ true) (sym (cut_parent k c l)) (inside_from_within b p w x vx))
+    (λ (l : level_of c ≤ k).
+    let w = deeper_inside b c y ib i (omega arith) yb.0 yb.1 yc.0 yc.1 in
+    subst (λ (z : ℕ). covers z x ≡ true) (sym (cut_same k c l)) (inside_from_within b c w x vx))
+    (cases_lt k (level_of c))
+
+cut_to : (c k x : ℕ) → IsCell c → IsInOuter (covers c) k x → covers (cut_at k c) x ≡ true
+cut_to c k x i (b, ib, lv, vx, (y, vb, vc)) = cut_around k c b y x i ib lv vb vc vx
+
+cut_from : (c k x : ℕ) → IsCell c → k ≤ 30 → covers (cut_at k c) x ≡ true → IsInOuter (covers c) k x
+cut_from c k x i h v =
+    ⊎_elim
+    (λ (l : k < level_of c).
+    let p = parent_of c k in
+    let le : k ≤ level_of c = omega arith in
+    let ip : IsCell p = IsCell-parent_of c k p i le refl in
+    let own = first_leaf_covered c i in
+    (p, ip, parent_level c k i le, subst (λ (z : ℕ). covers z x ≡ true) (cut_parent k c l) v, (first_leaf c, inside_from_within c p (parent_around c k i le) (first_leaf c) own, own)))
+    (λ (l : level_of c ≤ k).
+    let vc : covers c x ≡ true = subst (λ (z : ℕ). covers z x ≡ true) (cut_same k c l) v in
+    let m = x / 4 ^ (30 - k) in
+    let b = id_at k m in
+    let at = around_leaf k x h (leaf_limit c x i vc) in
+    let vb = covers_block b k m x at refl in
+    (b, (k, m, at), level_of_cell k m b at, vb, (x, vb, vc)))
+    (cases_lt k (level_of c))
+
+-- the outer covering of a cell is the cell, cut
+pub outer_cell : (c k x : ℕ) → IsCell c → k ≤ 30 → outer_set (covers c) k x ≡ covers (cut_at k c) x
+outer_cell c k x i h =
+    same_bool (outer_set (covers c) k x) (covers (cut_at k c) x)
+    (λ t. cut_to c k x i (outer_in (covers c) k x h t))
+    (λ v. outer_from (covers c) k x (cut_from c k x i h v))
+
+-- ---- the cells of a union
+
+pub outer_cells : (k : ℕ) (u : List ℕ) → k ≤ 30 → All IsCell u → (x : ℕ) → outer_set (has_leaf u) k x ≡ has_leaf (cells_cut k u) x
+outer_cells k [] h all x = outer_none (has_leaf []) k x (λ y. refl)
+outer_cells k (c ∷ u) h all x =
+    outer_either (covers c) (has_leaf u) k x
+    ∙ ap (λ b. b || outer_set (has_leaf u) k x) (outer_cell c k x (all 0 c (omega arith)) h)
+    ∙ ap (λ b. covers (cut_at k c) x || b) (outer_cells k u h (λ i d l. all (suc i) d (omega arith)) x)
+
+pub kept_one : (b : Bool) (c x : ℕ) (v : List ℕ) → has_leaf (cond b (c ∷ v) v) x ≡ ((b && covers c x) || has_leaf v x)
+kept_one true c x v = refl
+kept_one false c x v = refl
+
+pub filter_any : (p : ℕ → Bool) (x : ℕ) (u : List ℕ) → has_leaf (filter p u) x ≡ list_any (λ c. p c && covers c x) u
+filter_any p x [] = refl
+filter_any p x (c ∷ u) = kept_one (p c) c x (filter p u) ∙ ap (λ b. (p c && covers c x) || b) (filter_any p x u)
+
+-- a cell around another lies no deeper
+around_level : (b d : ℕ) → IsCell b → IsCell d → Within b d → level_of d ≤ level_of b
+around_level b d ib id w =
+    ⊎_elim
+    (λ (l : level_of b < level_of d).
+    let own = first_leaf_covered b ib in
+    let yb = covers_from b (first_leaf b) own in
+    let yd = covers_from d (first_leaf b) (inside_from_within b d w (first_leaf b) own) in
+    let e = same_from_within b d ib id w (deeper_inside d b (first_leaf b) id ib (omega arith) yd.0 yd.1 yb.0 yb.1) in
+    let same = ap level_of e in
+    absurd (omega arith))
+    (λ (l : level_of d ≤ level_of b). l)
+    (cases_lt (level_of b) (level_of d))
+
+kept_to : (k x : ℕ) (u : List ℕ) → IsLocal u → IsInInner (has_leaf u) k x → list_any (λ c. reaches k c && covers c x) u ≡ true
+kept_to k x u l (b, ib, lv, vx, inside) =
+    let sb = shallow b ib in
+    elim (all_held (30 - level_of b) u b l.cells ib (omega arith) inside) [
+      | holder d md w ↦
+          let id : IsCell d = All-contains IsCell u d l.cells md in
+          let lvl = around_level b d ib id w in
+          let both : (reaches k d && covers d x) ≡ true = and_from (reaches k d) (covers d x) (le-leb (level_of d) k (omega arith)) (inside_from_within b d w x vx) in
+          let i = md.0 in
+          list_any_at (λ c. reaches k c && covers c x) u i d md.1 (ap (λ c. reaches k c && covers c x) md.2 ∙ both)
+      | family q cq lq f ↦ absurd (l.unmerged q cq lq f)
+    ]
+
+kept_from : (k x : ℕ) (u : List ℕ) → k ≤ 30 → All IsCell u → list_any (λ c. reaches k c && covers c x) u ≡ true → IsInInner (has_leaf u) k x
+kept_from k x u h all t =
+    let r = Any-from_list_any (λ c. reaches k c && covers c x) u t in
+    let d = r.1 in
+    let md : Contains u d = (r.0, r.2, r.3) in
+    let id : IsCell d = All-contains IsCell u d all md in
+    let both = and_parts (reaches k d) (covers d x) r.4 in
+    let lvl = leb-true (level_of d) k both.0 in
+    let m = x / 4 ^ (30 - k) in
+    let b = id_at k m in
+    let at = around_leaf k x h (leaf_limit d x id both.1) in
+    let vb = covers_block b k m x at refl in
+    let xb = covers_from b x vb in
+    let xd = covers_from d x both.1 in
+    let lb = level_of_cell k m b at in
+    let w = deeper_inside b d x (k, m, at) id (omega arith) xb.0 xb.1 xd.0 xd.1 in
+    (b, (k, m, at), lb, vb, λ y v. leaf_to u d y md (inside_from_within b d w y v))
+
+pub inner_cells : (k : ℕ) (u : List ℕ) → k ≤ 30 → IsLocal u → (x : ℕ) → inner_set (has_leaf u) k x ≡ has_leaf (cells_kept k u) x
+inner_cells k u h l x =
+    same_bool (inner_set (has_leaf u) k x) (list_any (λ c. reaches k c && covers c x) u)
+    (λ t. kept_to k x u l (inner_in (has_leaf u) k x h t))
+    (λ v. inner_from (has_leaf u) k x (kept_from k x u h l.cells v))
+    ∙ sym (filter_any (reaches k) x u)
+
+-- ---- what the calls answer
+
+pub cut_normal : (k : ℕ) (u list v : List ℕ) → k ≤ 30 → IsLocal u → list ≡ cells_cut k u → IsNormalForm (has_leaf list) v → IsNormalForm (outer_set (has_leaf u) k) v
+cut_normal k u list v h l e n = normal_form_same (has_leaf list) (outer_set (has_leaf u) k) v (λ x. ap (λ z. has_leaf z x) e ∙ sym (outer_cells k u h l.cells x)) n
+
+pub kept_normal : (k : ℕ) (u list v : List ℕ) → k ≤ 30 → IsLocal u → list ≡ cells_kept k u → IsNormalForm (has_leaf list) v → IsNormalForm (inner_set (has_leaf u) k) v
+kept_normal k u list v h l e n = normal_form_same (has_leaf list) (inner_set (has_leaf u) k) v (λ x. ap (λ z. has_leaf z x) e ∙ sym (inner_cells k u h l x)) n
+
+pub same_ok : {E : Type 0} (r : Result Union E) (v : List ℕ) (P : List ℕ → Type 0) → P v → IfOk r (λ u. u.cells ≡ v) → IfOk r (λ u. P u.cells)
+same_ok r v P p h = IfOk-weaker r (λ u. u.cells ≡ v) (λ u. P u.cells) (λ u e. subst P (sym e) p) h
+
+pub many_err : {T E : Type 0} (r : Result T E) (many : E) (v : List ℕ) (max : ℕ) (S : ℕ → Bool) → IsNormalForm S v → IfErr r (λ fault. max < length v) → IfErr r (λ fault. fault ≡ many → (u : List ℕ) → IsNormalForm S u → max < length u)
+many_err r many v max S n h =
+    IfErr-weaker r (λ fault. max < length v) (λ fault. fault ≡ many → (u : List ℕ) → IsNormalForm S u → max < length u) (λ y l same u m. let e = ap length (one_normal_form S v u n m) in omega arith) h
+
+pub cut_leaves : (k : ℕ) (u list v : List ℕ) → k ≤ 30 → IsLocal u → list ≡ cells_cut k u → ((x : ℕ) → has_leaf v x ≡ has_leaf list x) → (x : ℕ) → has_leaf v x ≡ outer_set (has_leaf u) k x
+cut_leaves k u list v h l e same x = same x ∙ ap (λ z. has_leaf z x) e ∙ sym (outer_cells k u h l.cells x)
+
+pub kept_leaves : (k : ℕ) (u list v : List ℕ) → k ≤ 30 → IsLocal u → list ≡ cells_kept k u → ((x : ℕ) → has_leaf v x ≡ has_leaf list x) → (x : ℕ) → has_leaf v x ≡ inner_set (has_leaf u) k x
+kept_leaves k u list v h l e same x = same x ∙ ap (λ z. has_leaf z x) e ∙ sym (inner_cells k u h l x)

@@ -1,0 +1,170 @@
+//! A register's list that is followed along changes.
+ghost use Rattle.std.specs.Prelude.{◌≡◌, ◌≤◌, length, OnOk, IfOk, IfSome, MatchOption, MatchResult};
+ghost use Rattle.std.specs.List.Sorted.{IsStrictlyIncreasing};
+ghost use Rattle.s2union.specs.Apply.{applied, Fits};
+ghost use Rattle.s2file.specs.Session.{AreApart};
+ghost use Rattle.s2edit.specs.Diff.{IsDiff};
+ghost use Rattle.s2edit.specs.Followed.{start_of, joined, both_out, CanFollowOn};
+ghost use Rattle.s2edit.specs.Following.{FailsToFollow};
+
+use crate::lacking::lacking;
+use crate::session::RestoreFault;
+use s2cell::CellId;
+use s2union::CellUnion;
+use std::alloc::{AllocError, Global};
+use std::cmp::Ordering;
+use std::marker::Model;
+
+/// How many cells are copied in the time in which one cell of a change is checked.
+const COPIES_A_CHECK: usize = 32;
+
+/// A register's list that is followed along changes: the list that it had at some point, which the session lends as
+/// long as none was made, and the change that leads from there to now.
+///
+/// So the list isn't made anew for each change. It is made once the checks of the gathered changes have cost as much.
+#[derive(Drop)]
+pub(crate) struct Followed<'a> {
+    lent: &'a CellUnion,
+    own: Option<CellUnion>,
+    out: Vec<CellId>,
+    put: Vec<CellId>,
+    checked: usize,
+}
+
+impl<'a> Model for Followed<'a> {
+    ghost use Rattle.std.specs.Prelude.{List, ℕ};
+    ghost use Rattle.s2edit.specs.Followed.{list_of, IsFollowed};
+
+    ghost Value = { List ℕ };
+
+    ghost view = { list_of };
+
+    ghost invariant = { IsFollowed };
+}
+
+impl<'a> Followed<'a> {
+    /// The list of a union, which no change has led away from yet.
+    pub(crate) fn from(alloc: Global, lent: &'a CellUnion) -> Followed<'a>
+        ensures { result ≡ lent.now.cells }
+    {
+        let _local = lent.cells();
+        Followed {
+            lent,
+            own: None,
+            out: Vec::new(alloc),
+            put: Vec::new(alloc),
+            checked: 0,
+        }
+    }
+
+    /// How many cells the list has.
+    pub(crate) fn len(&self) -> usize
+        ensures { result ≡ length self.now }
+    {
+        start(&self.own, self.lent).cells().len() - self.out.len() + self.put.len()
+    }
+
+    /// Makes a change; refused as `Fit` if it can't be made.
+    pub(crate) fn follow(
+        &mut self,
+        alloc: Global,
+        out: &[CellId],
+        put: &[CellId],
+    ) -> Result<(), RestoreFault>
+        requires { IsDiff out.now put.now }
+        ensures after { OnOk result (self.new ≡ applied out.now put.now self.old) }
+        ensures answer { MatchResult result (λ _. Fits out.now put.now self.old) (λ fault. FailsToFollow fault (Fits out.now put.now self.old)) }
+    {
+        self.settle(alloc)?;
+        let (out, put) = changes_in_turn(alloc, &self.out, &self.put, out, put)?;
+        if !start(&self.own, self.lent).can_apply(&out, &put) {
+            return Err(RestoreFault::Fit);
+        }
+        self.out = out;
+        self.put = put;
+        Ok(())
+    }
+
+    /// Makes the list, so that no change leads to it any more, if the checks of the gathered change were as dear.
+    fn settle(&mut self, alloc: Global) -> Result<(), AllocError>
+        ensures { OnOk result (self.new ≡ self.old) }
+    {
+        let gathered = self.out.len() + self.put.len();
+        self.checked = self
+            .checked
+            .saturating_add(gathered.saturating_mul(COPIES_A_CHECK));
+        let len = self.len();
+        if self.checked <= len {
+            return Ok(());
+        }
+        let mut list = CellUnion::with_room(alloc, len)?;
+        start(&self.own, self.lent).apply_into(&self.out, &self.put, &mut list);
+        let _local = list.cells();
+        self.own = Some(list);
+        self.out.clear();
+        self.put.clear();
+        self.checked = 0;
+        Ok(())
+    }
+}
+
+/// The list that was made last, or the one that was lent where none was made yet.
+fn start<'s>(own: &'s Option<CellUnion>, lent: &'s CellUnion) -> &'s CellUnion
+    ensures { result.now.cells ≡ start_of own.now lent.now }
+{
+    match own {
+        Some(list) => list,
+        None => lent,
+    }
+}
+
+/// What two changes in turn take out and put in; refused as `Fit` where one cell is taken out twice, or put in twice.
+fn changes_in_turn(
+    alloc: Global,
+    out: &[CellId],
+    put: &[CellId],
+    more_out: &[CellId],
+    more_put: &[CellId],
+) -> Result<(Vec<CellId>, Vec<CellId>), RestoreFault>
+    requires out_ascends { IsStrictlyIncreasing out.now }
+    requires put_ascends { IsStrictlyIncreasing put.now }
+    requires more_out_ascends { IsStrictlyIncreasing more_out.now }
+    requires more_put_ascends { IsStrictlyIncreasing more_put.now }
+    ensures out { IfOk result (λ lists. lists.0.items ≡ both_out out.now put.now more_out.now more_put.now) }
+    ensures put { IfOk result (λ lists. lists.1.items ≡ both_out put.now out.now more_put.now more_out.now) }
+    ensures answer { MatchResult result (λ _. CanFollowOn out.now put.now more_out.now more_put.now) (λ fault. FailsToFollow fault (CanFollowOn out.now put.now more_out.now more_put.now)) }
+{
+    let (kept_out, new_put) = lacking(alloc, out, more_put)?;
+    let (kept_put, new_out) = lacking(alloc, put, more_out)?;
+    let outs = joined(alloc, &kept_out, &new_out)?.ok_or(RestoreFault::Fit)?;
+    let puts = joined(alloc, &kept_put, &new_put)?.ok_or(RestoreFault::Fit)?;
+    Ok((outs, puts))
+}
+
+/// One ascending list of the cells of two, if no cell is in both.
+fn joined(alloc: Global, us: &[CellId], vs: &[CellId]) -> Result<Option<Vec<CellId>>, AllocError>
+    requires us_ascends { IsStrictlyIncreasing us.now }
+    requires vs_ascends { IsStrictlyIncreasing vs.now }
+    ensures list { IfOk result (λ found. IfSome found (λ list. list.items ≡ joined us.now vs.now)) }
+    ensures apart { IfOk result (λ found. MatchOption found (AreApart us.now vs.now → ⊥) (λ _. AreApart us.now vs.now)) }
+{
+    let mut list = Vec::with_capacity(alloc, us.len() + vs.len())?;
+    let mut i = 0;
+    let mut j = 0;
+    while i < us.len() && j < vs.len() {
+        match us[i].cmp(&vs[j]) {
+            Ordering::Less => {
+                list.push(us[i])?;
+                i += 1;
+            }
+            Ordering::Equal => return Ok(None),
+            Ordering::Greater => {
+                list.push(vs[j])?;
+                j += 1;
+            }
+        }
+    }
+    list.extend_from_slice(&us[i..])?;
+    list.extend_from_slice(&vs[j..])?;
+    Ok(Some(list))
+}

@@ -1,0 +1,39 @@
+-- The cells of a union and their ancestors, by which an index finds the unions that share a leaf.
+use Rattle.std.specs.Prelude.{ℕ, ◌<◌, ◌≤◌, ◌⊎◌, ◌↔◌, List, Contains}
+use Rattle.std.specs.List.Sorted.{IsStrictlyIncreasing}
+use Rattle.s2cell.specs.Cell.{IsCell, IsInside, first_leaf}
+
+-- `c` is a cell of `u`, or an ancestor of one
+pub record IsHolder (u : List ℕ) (c : ℕ) : Type 0 where
+  pub cell : IsCell c
+  pub held : ℕ
+  pub among : Contains u held
+  pub inside : IsInside held c
+
+-- the cells of `u` and all their ancestors, ascending, each once
+pub record AreHolders (u list : List ℕ) : Type 0 where
+  pub ascending : IsStrictlyIncreasing list
+  pub members : (c : ℕ) → Contains list c ↔ IsHolder u c
+
+-- a cell of one of the lists is one of the other's holders
+abbrev pub ShareHolder : (xs ys x_holders y_holders : List ℕ) → Type 0
+ShareHolder xs ys x_holders y_holders = ((c : ℕ) × Contains xs c × Contains y_holders c) ⊎ ((c : ℕ) × Contains ys c × Contains x_holders c)
+
+-- `new` ascends, and is `old` with the numbers that have the property
+pub record Gains (P : ℕ → Type 0) (old new : List ℕ) : Type 0 where
+  pub ascending : IsStrictlyIncreasing new
+  pub members : (c : ℕ) → Contains new c ↔ (Contains old c ⊎ P c)
+
+-- `c` is an ancestor of `cell` that has the smaller identifier, and no leaf before `from`
+pub record IsBefore (cell from c : ℕ) : Type 0 where
+  pub own : IsCell c
+  pub around : IsInside cell c
+  pub below : c < cell
+  pub start : from ≤ first_leaf c
+
+-- `c` is an ancestor of `cell` that has the greater identifier, below `next`
+pub record IsAfter (cell next c : ℕ) : Type 0 where
+  pub own : IsCell c
+  pub around : IsInside cell c
+  pub above : cell < c
+  pub below : c < next

@@ -1,0 +1,629 @@
+/* Unions of S2 cells in PostgreSQL, over libs2union. docs/POSTGRES.md says what each function does.
+ *
+ * What is known of cells is the library's alone; here are PostgreSQL's values, errors, memory and index classes. */
+#include "postgres.h"
+
+#include "access/gin.h"
+#include "access/stratnum.h"
+#include "catalog/pg_type.h"
+#include "common/hashfn.h"
+#include "fmgr.h"
+#include "libpq/pqformat.h"
+#include "nodes/primnodes.h"
+#include "utils/array.h"
+#include "utils/builtins.h"
+#include "utils/memutils.h"
+
+#include <s2union.h>
+
+PG_MODULE_MAGIC;
+
+/* ---- memory: the library takes it from the current context, and no call jumps out of the library ---- */
+
+enum { ALIGNMENT = 16 };
+
+/* The library wants multiples of 16, palloc gives multiples of 8. The byte before a block says how much was skipped. */
+s2u_block s2u_heap_take(size_t size, size_t align) {
+  static uint64_t nowhere[2];
+  uint8_t* raw = NULL;
+  if (size <= MaxAllocHugeSize - ALIGNMENT)
+    raw = MemoryContextAllocExtended(CurrentMemoryContext, size + ALIGNMENT, MCXT_ALLOC_HUGE | MCXT_ALLOC_NO_OOM);
+  if (raw == NULL) return (s2u_block){0, nowhere};
+  size_t skip = ALIGNMENT - (uintptr_t)raw % ALIGNMENT;
+  raw[skip - 1] = (uint8_t)skip;
+  return (s2u_block){1, raw + skip};
+}
+
+void s2u_heap_give_back(void* at) {
+  pfree((uint8_t*)at - ((uint8_t*)at)[-1]);
+}
+
+s2u_block s2u_heap_grow(void* at, size_t old_size, size_t size, size_t align) {
+  s2u_block grown = s2u_heap_take(size, align);
+  if (!grown.ok) return grown;
+  memcpy(grown.at, at, Min(old_size, size));
+  s2u_heap_give_back(at);
+  return grown;
+}
+
+/* ---- errors ---- */
+
+/* The SQLSTATE of a refusal. */
+static int code_of(int32_t status) {
+  switch (status) {
+    case S2U_MEMORY: return ERRCODE_OUT_OF_MEMORY;
+    case S2U_MANY: return ERRCODE_PROGRAM_LIMIT_EXCEEDED;
+    case S2U_NO_UNION: return ERRCODE_DATA_CORRUPTED;
+    case S2U_FILE_SHORT:
+    case S2U_FILE_VERSION:
+    case S2U_FILE_TRAILING:
+    case S2U_FILE_CELL: return ERRCODE_INVALID_BINARY_REPRESENTATION;
+    default: return ERRCODE_INVALID_PARAMETER_VALUE;
+  }
+}
+
+static void must_be_ok(int32_t status) {
+  if (status < 0) ereport(ERROR, errcode(code_of(status)), errmsg("s2union: %s", s2u_status_text(status)));
+}
+
+/* ---- the value: the cells of a union, at a multiple of 8 so that they can be asked where they lie ---- */
+
+typedef struct S2Union {
+  int32 length; /* a varlena's: SET_VARSIZE, VARSIZE */
+  uint32 form;
+  uint64_t cells[FLEXIBLE_ARRAY_MEMBER];
+} S2Union;
+
+enum { FORM = 1 };
+#define HEAD offsetof(S2Union, cells)
+#define MOST_CELLS ((MaxAllocSize - HEAD) / sizeof(uint64_t))
+
+/* A value for so many cells, of which none is there yet. */
+static S2Union* new_value(size_t room) {
+  if (room > MOST_CELLS)
+    ereport(ERROR, errcode(ERRCODE_PROGRAM_LIMIT_EXCEEDED), errmsg("s2union: more than %zu cells", (size_t)MOST_CELLS));
+  S2Union* u = palloc(HEAD + room * sizeof(uint64_t));
+  u->form = FORM;
+  SET_VARSIZE(u, HEAD);
+  return u;
+}
+
+static Datum finished(S2Union* u, size_t n) {
+  SET_VARSIZE(u, HEAD + n * sizeof(uint64_t));
+  return PointerGetDatum(u);
+}
+
+static size_t count_of(const S2Union* u) {
+  return (VARSIZE(u) - HEAD) / sizeof(uint64_t);
+}
+
+/* A stored value, which is never trusted: what is no union is an error. */
+static S2Union* value_of(Datum datum) {
+  S2Union* u = (S2Union*)PG_DETOAST_DATUM(datum);
+  bool whole = VARSIZE(u) >= HEAD && (VARSIZE(u) - HEAD) % sizeof(uint64_t) == 0;
+  if (!whole || u->form != FORM || !s2u_is_union(u->cells, count_of(u))) must_be_ok(S2U_NO_UNION);
+  return u;
+}
+
+#define ARGUMENT(k) value_of(PG_GETARG_DATUM(k))
+
+static bool is_constant(FmgrInfo* call, int k) {
+  Node* node = call == NULL ? NULL : call->fn_expr;
+  List* arguments = NIL;
+  if (node && IsA(node, OpExpr)) arguments = ((OpExpr*)node)->args;
+  if (node && IsA(node, FuncExpr)) arguments = ((FuncExpr*)node)->args;
+  return k < list_length(arguments) && IsA(list_nth(arguments, k), Const);
+}
+
+/* Argument k of a question. A constant of the query is read and checked once, and kept as long as the call's plan. */
+static const S2Union* asked_argument(FunctionCallInfo fcinfo, int k) {
+  FmgrInfo* call = fcinfo->flinfo;
+  if (!is_constant(call, k)) return ARGUMENT(k);
+  if (call->fn_extra == NULL) call->fn_extra = MemoryContextAllocZero(call->fn_mcxt, 2 * sizeof(S2Union*));
+  S2Union** kept = call->fn_extra;
+  if (kept[k] == NULL) {
+    MemoryContext context = MemoryContextSwitchTo(call->fn_mcxt);
+    kept[k] = value_of(PointerGetDatum(PG_DETOAST_DATUM_COPY(PG_GETARG_DATUM(k))));
+    MemoryContextSwitchTo(context);
+  }
+  return kept[k];
+}
+
+#define ASKED(k) asked_argument(fcinfo, k)
+#define LIST(u) (u)->cells, count_of(u)
+
+/* ---- text: tokens or debug texts with blanks or commas between them; tokens come out ---- */
+
+static int32_t cell_of_text(const char* text, size_t n, uint64_t* cell) {
+  return memchr(text, '/', n) ? s2u_from_debug(text, n, cell) : s2u_from_token(text, n, cell);
+}
+
+PG_FUNCTION_INFO_V1(s2union_in);
+Datum s2union_in(PG_FUNCTION_ARGS) {
+  static const char blanks[] = " ,\t\r\n";
+  const char* text = PG_GETARG_CSTRING(0);
+  S2Union* u = new_value(strlen(text) / 2 + 1);
+  size_t n = 0;
+  for (const char* word = text + strspn(text, blanks); *word; word += strspn(word, blanks)) {
+    size_t length = strcspn(word, blanks);
+    if (cell_of_text(word, length, &u->cells[n++]) != S2U_OK)
+      ereport(ERROR, errcode(ERRCODE_INVALID_TEXT_REPRESENTATION),
+              errmsg("invalid input syntax for type %s: \"%s\" names no cell", "s2union",
+                     pnstrdup(word, pg_mbcliplen(word, length, 40))));
+    word += length;
+  }
+  must_be_ok(s2u_normalise(u->cells, n, &n));
+  return finished(u, n);
+}
+
+PG_FUNCTION_INFO_V1(s2union_out);
+Datum s2union_out(PG_FUNCTION_ARGS) {
+  S2Union* u = ARGUMENT(0);
+  size_t at = 0, length = 0;
+  char* text = palloc(count_of(u) * (S2U_MOST_TOKEN + 1) + 1);
+  for (size_t k = 0; k < count_of(u); k++) {
+    if (k > 0) text[at++] = ' ';
+    s2u_token(u->cells[k], text + at, S2U_MOST_TOKEN, &length);
+    at += length;
+  }
+  text[at] = '\0';
+  PG_RETURN_CSTRING(text);
+}
+
+/* ---- on the wire, and as bytea: the union's file ---- */
+
+static Datum of_file(const void* bytes, size_t n) {
+  S2Union* u = new_value(S2U_MOST_IN_FILE(n));
+  size_t cells = 0;
+  must_be_ok(s2u_decode(bytes, n, u->cells, S2U_MOST_IN_FILE(n), &cells));
+  return finished(u, cells);
+}
+
+static bytea* file_of(const uint64_t* cells, size_t n) {
+  size_t length = 0;
+  if (n > MOST_CELLS - 2) must_be_ok(S2U_MANY);
+  bytea* file = palloc(VARHDRSZ + S2U_FILE_SIZE(n));
+  must_be_ok(s2u_encode(cells, n, (uint8_t*)VARDATA(file), S2U_FILE_SIZE(n), &length));
+  SET_VARSIZE(file, VARHDRSZ + length);
+  return file;
+}
+
+PG_FUNCTION_INFO_V1(s2union_recv);
+Datum s2union_recv(PG_FUNCTION_ARGS) {
+  StringInfo message = (StringInfo)PG_GETARG_POINTER(0);
+  int n = message->len - message->cursor;
+  return of_file(pq_getmsgbytes(message, n), n);
+}
+
+PG_FUNCTION_INFO_V1(s2union_send);
+Datum s2union_send(PG_FUNCTION_ARGS) {
+  S2Union* u = ARGUMENT(0);
+  PG_RETURN_BYTEA_P(file_of(LIST(u)));
+}
+
+PG_FUNCTION_INFO_V1(s2union_from_bytea);
+Datum s2union_from_bytea(PG_FUNCTION_ARGS) {
+  bytea* file = PG_GETARG_BYTEA_PP(0);
+  return of_file(VARDATA_ANY(file), VARSIZE_ANY_EXHDR(file));
+}
+
+/* ---- unions that are made ---- */
+
+typedef struct Job {
+  const S2Union *x, *y;
+  uint64_t first, last;
+  s2u_rect rect;
+  uint32_t level;
+} Job;
+
+typedef int32_t maker(const Job* j, uint64_t* out, size_t room, size_t* n);
+
+#define MAKER(name, f, ...) \
+  static int32_t name(const Job* j, uint64_t* out, size_t room, size_t* n) { return f(__VA_ARGS__, out, room, n); }
+MAKER(make_union, s2u_union, LIST(j->x), LIST(j->y))
+MAKER(make_intersection, s2u_intersection, LIST(j->x), LIST(j->y))
+MAKER(make_difference, s2u_difference, LIST(j->x), LIST(j->y))
+MAKER(make_range, s2u_range, j->first, j->last)
+MAKER(make_outer, s2u_outer, &j->rect, j->level, S2U_MOST_COVERING)
+MAKER(make_inner, s2u_inner, &j->rect, j->level, S2U_MOST_COVERING)
+MAKER(make_outer_of, s2u_outer_of, LIST(j->x), j->level, S2U_MOST_COVERING)
+MAKER(make_inner_of, s2u_inner_of, LIST(j->x), j->level, S2U_MOST_COVERING)
+
+static Datum made(maker* make, const Job* j, size_t room) {
+  size_t n = 0;
+  S2Union* u = new_value(room);
+  int32_t status = make(j, u->cells, room, &n);
+  if (status == S2U_ROOM) {
+    room = n;
+    pfree(u);
+    u = new_value(room);
+    status = make(j, u->cells, room, &n);
+  }
+  must_be_ok(status);
+  return finished(u, n);
+}
+
+static Datum of_two_unions(FunctionCallInfo fcinfo, maker* make) {
+  Job j = {.x = ARGUMENT(0), .y = ARGUMENT(1)};
+  return made(make, &j, Min(count_of(j.x) + count_of(j.y), MOST_CELLS));
+}
+
+PG_FUNCTION_INFO_V1(s2union_union);
+Datum s2union_union(PG_FUNCTION_ARGS) { return of_two_unions(fcinfo, make_union); }
+
+PG_FUNCTION_INFO_V1(s2union_intersection);
+Datum s2union_intersection(PG_FUNCTION_ARGS) { return of_two_unions(fcinfo, make_intersection); }
+
+PG_FUNCTION_INFO_V1(s2union_difference);
+Datum s2union_difference(PG_FUNCTION_ARGS) { return of_two_unions(fcinfo, make_difference); }
+
+/* A number of SQL's integer, of which those below 0 are out of range for the library too. */
+static Datum of_rectangle(FunctionCallInfo fcinfo, maker* make) {
+  uint32_t a[6];
+  for (int k = 0; k < 6; k++) a[k] = (uint32_t)PG_GETARG_INT32(k);
+  Job j = {.rect = {a[0], a[1], a[2], a[3], a[4]}, .level = a[5]};
+  return made(make, &j, S2U_MOST_RANGE);
+}
+
+PG_FUNCTION_INFO_V1(s2union_outer);
+Datum s2union_outer(PG_FUNCTION_ARGS) { return of_rectangle(fcinfo, make_outer); }
+
+PG_FUNCTION_INFO_V1(s2union_inner);
+Datum s2union_inner(PG_FUNCTION_ARGS) { return of_rectangle(fcinfo, make_inner); }
+
+static Datum of_level(FunctionCallInfo fcinfo, maker* make) {
+  Job j = {.x = ARGUMENT(0), .level = (uint32_t)PG_GETARG_INT32(1)};
+  return made(make, &j, count_of(j.x));
+}
+
+PG_FUNCTION_INFO_V1(s2union_outer_of);
+Datum s2union_outer_of(PG_FUNCTION_ARGS) { return of_level(fcinfo, make_outer_of); }
+
+PG_FUNCTION_INFO_V1(s2union_inner_of);
+Datum s2union_inner_of(PG_FUNCTION_ARGS) { return of_level(fcinfo, make_inner_of); }
+
+PG_FUNCTION_INFO_V1(s2union_range);
+Datum s2union_range(PG_FUNCTION_ARGS) {
+  Job j = {.first = (uint64_t)PG_GETARG_INT64(0), .last = (uint64_t)PG_GETARG_INT64(1)};
+  return made(make_range, &j, S2U_MOST_RANGE);
+}
+
+PG_FUNCTION_INFO_V1(s2union_from_cell);
+Datum s2union_from_cell(PG_FUNCTION_ARGS) {
+  S2Union* u = new_value(1);
+  u->cells[0] = (uint64_t)PG_GETARG_INT64(0);
+  if (!s2u_is_cell(u->cells[0])) must_be_ok(S2U_NO_CELL);
+  return finished(u, 1);
+}
+
+/* ---- questions ---- */
+
+static Datum answer(int32_t status) {
+  must_be_ok(status);
+  PG_RETURN_BOOL(status == 1);
+}
+
+PG_FUNCTION_INFO_V1(s2union_contains);
+Datum s2union_contains(PG_FUNCTION_ARGS) {
+  const S2Union *x = ASKED(0), *y = ASKED(1);
+  return answer(s2u_contains(LIST(x), LIST(y)));
+}
+
+PG_FUNCTION_INFO_V1(s2union_within);
+Datum s2union_within(PG_FUNCTION_ARGS) {
+  const S2Union *x = ASKED(0), *y = ASKED(1);
+  return answer(s2u_contains(LIST(y), LIST(x)));
+}
+
+PG_FUNCTION_INFO_V1(s2union_intersects);
+Datum s2union_intersects(PG_FUNCTION_ARGS) {
+  const S2Union *x = ASKED(0), *y = ASKED(1);
+  return answer(s2u_intersects(LIST(x), LIST(y)));
+}
+
+PG_FUNCTION_INFO_V1(s2union_contains_cell);
+Datum s2union_contains_cell(PG_FUNCTION_ARGS) {
+  const S2Union* x = ASKED(0);
+  return answer(s2u_contains_cell(LIST(x), (uint64_t)PG_GETARG_INT64(1)));
+}
+
+PG_FUNCTION_INFO_V1(s2union_count);
+Datum s2union_count(PG_FUNCTION_ARGS) { PG_RETURN_INT64((int64)count_of(ARGUMENT(0))); }
+
+PG_FUNCTION_INFO_V1(s2union_leaves);
+Datum s2union_leaves(PG_FUNCTION_ARGS) {
+  S2Union* u = ARGUMENT(0);
+  PG_RETURN_INT64((int64)s2u_leaf_count(LIST(u)));
+}
+
+/* ---- cells ---- */
+
+static ArrayType* array_of(const uint64_t* cells, size_t n) {
+  Datum* elements = palloc_extended(Max(n, 1) * sizeof(Datum), MCXT_ALLOC_HUGE);
+  if (n > PG_INT32_MAX) must_be_ok(S2U_MANY);
+  for (size_t k = 0; k < n; k++) elements[k] = Int64GetDatum((int64)cells[k]);
+  return construct_array(elements, (int)n, INT8OID, sizeof(int64), FLOAT8PASSBYVAL, TYPALIGN_DOUBLE);
+}
+
+PG_FUNCTION_INFO_V1(s2union_cells);
+Datum s2union_cells(PG_FUNCTION_ARGS) {
+  S2Union* u = ARGUMENT(0);
+  PG_RETURN_ARRAYTYPE_P(array_of(LIST(u)));
+}
+
+/* The cells of a union and all their ancestors; *n is how many. */
+static uint64_t* ancestors_of(const S2Union* u, size_t* n) {
+  size_t room = 2 * count_of(u) + 31;
+  uint64_t* cells = palloc_extended(room * sizeof *cells, MCXT_ALLOC_HUGE);
+  int32_t status = s2u_ancestors(LIST(u), cells, room, n);
+  if (status == S2U_ROOM) {
+    room = *n;
+    pfree(cells);
+    cells = palloc_extended(room * sizeof *cells, MCXT_ALLOC_HUGE);
+    status = s2u_ancestors(LIST(u), cells, room, n);
+  }
+  must_be_ok(status);
+  return cells;
+}
+
+PG_FUNCTION_INFO_V1(s2union_ancestors);
+Datum s2union_ancestors(PG_FUNCTION_ARGS) {
+  size_t n = 0;
+  uint64_t* cells = ancestors_of(ARGUMENT(0), &n);
+  PG_RETURN_ARRAYTYPE_P(array_of(cells, n));
+}
+
+/* A cell, or NULL if there is none. */
+static Datum cell_or_null(FunctionCallInfo fcinfo, uint64_t cell) {
+  if (cell == 0) PG_RETURN_NULL();
+  PG_RETURN_INT64((int64)cell);
+}
+
+PG_FUNCTION_INFO_V1(s2_leaf);
+Datum s2_leaf(PG_FUNCTION_ARGS) {
+  uint32_t face = (uint32_t)PG_GETARG_INT32(0), i = (uint32_t)PG_GETARG_INT32(1), j = (uint32_t)PG_GETARG_INT32(2);
+  uint64_t leaf = s2u_from_face_ij(face, i, j);
+  must_be_ok(leaf ? S2U_OK : S2U_ARGUMENT);
+  PG_RETURN_INT64((int64)leaf);
+}
+
+PG_FUNCTION_INFO_V1(s2_cell);
+Datum s2_cell(PG_FUNCTION_ARGS) {
+  text* word = PG_GETARG_TEXT_PP(0);
+  uint64_t cell = 0;
+  must_be_ok(cell_of_text(VARDATA_ANY(word), VARSIZE_ANY_EXHDR(word), &cell));
+  PG_RETURN_INT64((int64)cell);
+}
+
+PG_FUNCTION_INFO_V1(s2_token);
+Datum s2_token(PG_FUNCTION_ARGS) {
+  char token[S2U_MOST_TOKEN];
+  size_t n = 0;
+  must_be_ok(s2u_token((uint64_t)PG_GETARG_INT64(0), token, sizeof token, &n));
+  PG_RETURN_TEXT_P(cstring_to_text_with_len(token, (int)n));
+}
+
+static Datum number_of_cell(int32_t number) {
+  must_be_ok(number);
+  PG_RETURN_INT32(number);
+}
+
+PG_FUNCTION_INFO_V1(s2_level);
+Datum s2_level(PG_FUNCTION_ARGS) { return number_of_cell(s2u_level((uint64_t)PG_GETARG_INT64(0))); }
+
+PG_FUNCTION_INFO_V1(s2_face);
+Datum s2_face(PG_FUNCTION_ARGS) { return number_of_cell(s2u_face((uint64_t)PG_GETARG_INT64(0))); }
+
+PG_FUNCTION_INFO_V1(s2_parent);
+Datum s2_parent(PG_FUNCTION_ARGS) {
+  uint64_t cell = (uint64_t)PG_GETARG_INT64(0);
+  must_be_ok(s2u_level(cell));
+  return cell_or_null(fcinfo, s2u_parent(cell, (uint32_t)PG_GETARG_INT32(1)));
+}
+
+PG_FUNCTION_INFO_V1(s2_range_min);
+Datum s2_range_min(PG_FUNCTION_ARGS) {
+  must_be_ok(s2u_level((uint64_t)PG_GETARG_INT64(0)));
+  PG_RETURN_INT64((int64)s2u_range_min((uint64_t)PG_GETARG_INT64(0)));
+}
+
+PG_FUNCTION_INFO_V1(s2_range_max);
+Datum s2_range_max(PG_FUNCTION_ARGS) {
+  must_be_ok(s2u_level((uint64_t)PG_GETARG_INT64(0)));
+  PG_RETURN_INT64((int64)s2u_range_max((uint64_t)PG_GETARG_INT64(0)));
+}
+
+/* ---- order and hash: of the lists, of which each region has one ---- */
+
+/* A sort calls this many times in one context, so copies are freed. */
+static int compared(FunctionCallInfo fcinfo) {
+  S2Union *x = ARGUMENT(0), *y = ARGUMENT(1);
+  int order = s2u_compare(LIST(x), LIST(y));
+  PG_FREE_IF_COPY(x, 0);
+  PG_FREE_IF_COPY(y, 1);
+  return order;
+}
+
+#define COMPARISON(name, holds) \
+  PG_FUNCTION_INFO_V1(name); \
+  Datum name(PG_FUNCTION_ARGS) { PG_RETURN_BOOL(compared(fcinfo) holds); }
+COMPARISON(s2union_eq, == 0)
+COMPARISON(s2union_ne, != 0)
+COMPARISON(s2union_lt, < 0)
+COMPARISON(s2union_le, <= 0)
+COMPARISON(s2union_gt, > 0)
+COMPARISON(s2union_ge, >= 0)
+
+PG_FUNCTION_INFO_V1(s2union_cmp);
+Datum s2union_cmp(PG_FUNCTION_ARGS) { PG_RETURN_INT32(compared(fcinfo)); }
+
+PG_FUNCTION_INFO_V1(s2union_hash);
+Datum s2union_hash(PG_FUNCTION_ARGS) {
+  S2Union* u = ARGUMENT(0);
+  Datum hash = hash_any((const unsigned char*)u->cells, (int)(VARSIZE(u) - HEAD));
+  PG_FREE_IF_COPY(u, 0);
+  return hash;
+}
+
+PG_FUNCTION_INFO_V1(s2union_hash_extended);
+Datum s2union_hash_extended(PG_FUNCTION_ARGS) {
+  S2Union* u = ARGUMENT(0);
+  Datum hash = hash_any_extended((const unsigned char*)u->cells, (int)(VARSIZE(u) - HEAD), (uint64)PG_GETARG_INT64(1));
+  PG_FREE_IF_COPY(u, 0);
+  return hash;
+}
+
+/* ---- the aggregate: gathers cells, and normalises when they have doubled ---- */
+
+enum { GATHERED = 100000 };
+
+typedef struct Gathered {
+  uint64_t* cells;
+  size_t n, room, settled;
+} Gathered;
+
+static void settle(Gathered* g) {
+  must_be_ok(s2u_normalise(g->cells, g->n, &g->n));
+  g->settled = g->n;
+}
+
+/* The state of argument 0, made in the aggregate's context if there is none yet. */
+static Gathered* state_of(FunctionCallInfo fcinfo) {
+  MemoryContext context;
+  if (!AggCheckCallContext(fcinfo, &context)) elog(ERROR, "s2union: called outside of an aggregate");
+  if (!PG_ARGISNULL(0)) return (Gathered*)PG_GETARG_POINTER(0);
+  Gathered* g = MemoryContextAllocZero(context, sizeof *g);
+  g->room = 64;
+  g->cells = MemoryContextAllocHuge(context, g->room * sizeof(uint64_t));
+  return g;
+}
+
+static void gather(Gathered* g, const uint64_t* cells, size_t n) {
+  if (g->n + n > g->room) {
+    g->room = 2 * (g->n + n);
+    g->cells = repalloc_huge(g->cells, g->room * sizeof(uint64_t));
+  }
+  memcpy(g->cells + g->n, cells, n * sizeof(uint64_t));
+  g->n += n;
+  if (g->n > GATHERED && g->n > 2 * g->settled) settle(g);
+}
+
+PG_FUNCTION_INFO_V1(s2union_agg_step);
+Datum s2union_agg_step(PG_FUNCTION_ARGS) {
+  if (PG_ARGISNULL(1)) {
+    if (PG_ARGISNULL(0)) PG_RETURN_NULL();
+    PG_RETURN_POINTER(PG_GETARG_POINTER(0));
+  }
+  Gathered* g = state_of(fcinfo);
+  S2Union* u = ARGUMENT(1);
+  gather(g, LIST(u));
+  PG_RETURN_POINTER(g);
+}
+
+PG_FUNCTION_INFO_V1(s2union_agg_combine);
+Datum s2union_agg_combine(PG_FUNCTION_ARGS) {
+  if (PG_ARGISNULL(1)) {
+    if (PG_ARGISNULL(0)) PG_RETURN_NULL();
+    PG_RETURN_POINTER(PG_GETARG_POINTER(0));
+  }
+  Gathered *g = state_of(fcinfo), *more = (Gathered*)PG_GETARG_POINTER(1);
+  gather(g, more->cells, more->n);
+  PG_RETURN_POINTER(g);
+}
+
+PG_FUNCTION_INFO_V1(s2union_agg_serialise);
+Datum s2union_agg_serialise(PG_FUNCTION_ARGS) {
+  Gathered* g = state_of(fcinfo);
+  settle(g);
+  PG_RETURN_BYTEA_P(file_of(g->cells, g->n));
+}
+
+PG_FUNCTION_INFO_V1(s2union_agg_deserialise);
+Datum s2union_agg_deserialise(PG_FUNCTION_ARGS) {
+  bytea* file = PG_GETARG_BYTEA_PP(0);
+  size_t size = VARSIZE_ANY_EXHDR(file);
+  Gathered* g = palloc0(sizeof *g);
+  g->room = Max(S2U_MOST_IN_FILE(size), 1);
+  g->cells = palloc_extended(g->room * sizeof(uint64_t), MCXT_ALLOC_HUGE);
+  must_be_ok(s2u_decode((const uint8_t*)VARDATA_ANY(file), size, g->cells, g->room, &g->n));
+  PG_RETURN_POINTER(g);
+}
+
+PG_FUNCTION_INFO_V1(s2union_agg_final);
+Datum s2union_agg_final(PG_FUNCTION_ARGS) {
+  if (PG_ARGISNULL(0)) PG_RETURN_NULL();
+  Gathered* g = state_of(fcinfo);
+  settle(g);
+  S2Union* u = new_value(g->n);
+  memcpy(u->cells, g->cells, g->n * sizeof(uint64_t));
+  return finished(u, g->n);
+}
+
+/* ---- GIN: the keys of a union are its cells ----
+ *
+ * A cell of the column shares a leaf with a cell of the question if it is that cell or one of its ancestors, which are
+ * looked up, or lies in it, which is a range of keys. */
+
+enum { OVERLAPS = 1, CONTAINS = 2, WITHIN = 3 };
+
+static Datum key_of(uint64_t cell) { return Int64GetDatum((int64)cell); }
+
+PG_FUNCTION_INFO_V1(s2union_gin_value);
+Datum s2union_gin_value(PG_FUNCTION_ARGS) {
+  S2Union* u = ARGUMENT(0);
+  int32* count = (int32*)PG_GETARG_POINTER(1);
+  size_t n = count_of(u);
+  Datum* keys = palloc(Max(n, 1) * sizeof(Datum));
+  for (size_t k = 0; k < n; k++) keys[k] = key_of(u->cells[k]);
+  *count = (int32)n;
+  PG_RETURN_POINTER(keys);
+}
+
+/* The keys of a question: the cells and their ancestors, then the ranges of the cells. */
+PG_FUNCTION_INFO_V1(s2union_gin_query);
+Datum s2union_gin_query(PG_FUNCTION_ARGS) {
+  S2Union* u = ARGUMENT(0);
+  StrategyNumber strategy = PG_GETARG_UINT16(2);
+  int32* mode = (int32*)PG_GETARG_POINTER(6);
+  size_t above = 0, ranges = strategy == CONTAINS ? 0 : count_of(u);
+  uint64_t* cells = strategy == WITHIN ? NULL : ancestors_of(u, &above);
+  size_t n = above + ranges;
+  if (n > PG_INT32_MAX) must_be_ok(S2U_MANY);
+  Datum* keys = palloc(Max(n, 1) * sizeof(Datum));
+  bool* partial = palloc0(Max(n, 1) * sizeof(bool));
+  Pointer* last = palloc0(Max(n, 1) * sizeof(Pointer));
+  for (size_t k = 0; k < above; k++) keys[k] = key_of(cells[k]);
+  for (size_t k = 0; k < ranges; k++) {
+    int64* end = palloc(sizeof *end);
+    *end = (int64)s2u_range_max(u->cells[k]);
+    keys[above + k] = key_of(s2u_range_min(u->cells[k]));
+    partial[above + k] = true;
+    last[above + k] = (Pointer)end;
+  }
+  if (strategy == CONTAINS && n == 0) *mode = GIN_SEARCH_MODE_ALL;
+  if (strategy == WITHIN) *mode = GIN_SEARCH_MODE_INCLUDE_EMPTY;
+  *(int32*)PG_GETARG_POINTER(1) = (int32)n;
+  *(bool**)PG_GETARG_POINTER(3) = partial;
+  *(Pointer**)PG_GETARG_POINTER(4) = last;
+  PG_RETURN_POINTER(keys);
+}
+
+/* Whether a key lies behind the range. */
+PG_FUNCTION_INFO_V1(s2union_gin_partial);
+Datum s2union_gin_partial(PG_FUNCTION_ARGS) {
+  int64 last = *(int64*)PG_GETARG_POINTER(3);
+  PG_RETURN_INT32(PG_GETARG_INT64(1) > last ? 1 : 0);
+}
+
+PG_FUNCTION_INFO_V1(s2union_gin_consistent);
+Datum s2union_gin_consistent(PG_FUNCTION_ARGS) {
+  const bool* found = (const bool*)PG_GETARG_POINTER(0);
+  StrategyNumber strategy = PG_GETARG_UINT16(1);
+  int32 n = PG_GETARG_INT32(3);
+  bool* recheck = (bool*)PG_GETARG_POINTER(5);
+  *recheck = strategy != OVERLAPS; /* a cell that is found shares a leaf; more is seen in the row */
+  if (strategy == WITHIN || n == 0) PG_RETURN_BOOL(true);
+  for (int32 k = 0; k < n; k++)
+    if (found[k]) PG_RETURN_BOOL(true);
+  PG_RETURN_BOOL(false);
+}

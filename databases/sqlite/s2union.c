@@ -1,0 +1,500 @@
+/* Unions of S2 cells in SQLite, over libs2union. docs/SQLITE.md says what each function does.
+ *
+ * A union is a BLOB, the bytes of its file. What is known of cells is the library's alone; here are SQLite's types,
+ * NULL, errors and memory. */
+#include <s2union.h>
+#include <sqlite3ext.h>
+#include <string.h>
+SQLITE_EXTENSION_INIT1
+
+/* ---- memory: the library takes it from SQLite's heap, so SQLite's limits hold for both ---- */
+
+enum { ALIGNMENT = 16 };
+
+/* The library wants multiples of 16, SQLite gives multiples of 8. The byte before a block says how much was skipped. */
+s2u_block s2u_heap_take(size_t size, size_t align) {
+  static uint64_t nowhere[2];
+  uint8_t* raw = size > SIZE_MAX - ALIGNMENT ? NULL : sqlite3_malloc64(size + ALIGNMENT);
+  if (!raw) return (s2u_block){0, nowhere};
+  size_t skip = ALIGNMENT - (uintptr_t)raw % ALIGNMENT;
+  raw[skip - 1] = (uint8_t)skip;
+  return (s2u_block){1, raw + skip};
+}
+
+void s2u_heap_give_back(void* at) { sqlite3_free((uint8_t*)at - ((uint8_t*)at)[-1]); }
+
+s2u_block s2u_heap_grow(void* at, size_t old_size, size_t size, size_t align) {
+  s2u_block grown = s2u_heap_take(size, align);
+  if (!grown.ok) return grown;
+  memcpy(grown.at, at, old_size < size ? old_size : size);
+  s2u_heap_give_back(at);
+  return grown;
+}
+
+/* A list of n cells, or a file of n bytes. The last of its users that drops it frees it. */
+typedef struct block {
+  size_t users, n, room;
+  uint64_t cells[];
+} block;
+
+static block* new_block(size_t room, size_t size) {
+  block* b = room > (SIZE_MAX - sizeof *b) / size ? NULL : sqlite3_malloc64(sizeof *b + room * size);
+  if (b) *b = (block){.users = 1, .room = room};
+  return b;
+}
+
+static block* block_of(void* cells) { return (block*)((char*)cells - offsetof(block, cells)); }
+
+static void drop(block* b) { if (b && --b->users == 0) sqlite3_free(b); }
+
+static void drop_cells(void* cells) { drop(block_of(cells)); }
+
+/* ---- values: each call answers a status, of which an error is made at the end ---- */
+
+enum { NOT_A_UNION = -100, NOT_A_CELL = -101, NOT_A_NUMBER = -102 };
+
+static const char* reason(int32_t status) {
+  switch (status) {
+    case NOT_A_UNION: return "a union is a BLOB, or cells in an INTEGER or a TEXT";
+    case NOT_A_CELL: return "a cell is an INTEGER or a TEXT";
+    case NOT_A_NUMBER: return "a level, face or coordinate is an INTEGER";
+    default: return s2u_status_text(status);
+  }
+}
+
+static void refuse(sqlite3_context* c, int32_t status) {
+  char* text = status == S2U_MEMORY ? NULL : sqlite3_mprintf("s2: %s", reason(status));
+  if (text) sqlite3_result_error(c, text, -1);
+  else sqlite3_result_error_nomem(c);
+  sqlite3_free(text);
+}
+
+static int32_t text_of(sqlite3_value* v, const char** text, size_t* n) {
+  *text = (const char*)sqlite3_value_text(v);
+  *n = (size_t)sqlite3_value_bytes(v);
+  return *text ? S2U_OK : S2U_MEMORY;
+}
+
+static int32_t bytes_of(sqlite3_value* v, const uint8_t** bytes, size_t* n) {
+  *bytes = sqlite3_value_blob(v);
+  *n = (size_t)sqlite3_value_bytes(v);
+  return *bytes || *n == 0 ? S2U_OK : S2U_MEMORY; /* NULL with a length: a zeroblob that is too large to be made */
+}
+
+static int32_t cell_of_text(const char* text, size_t n, uint64_t* cell) {
+  return memchr(text, '/', n) ? s2u_from_debug(text, n, cell) : s2u_from_token(text, n, cell);
+}
+
+static int32_t cell_of(sqlite3_value* v, uint64_t* cell) {
+  const char* text;
+  size_t n;
+  int type = sqlite3_value_type(v);
+  if (type == SQLITE_TEXT) return text_of(v, &text, &n) == S2U_OK ? cell_of_text(text, n, cell) : S2U_MEMORY;
+  *cell = (uint64_t)sqlite3_value_int64(v);
+  return type != SQLITE_INTEGER ? NOT_A_CELL : s2u_is_cell(*cell) ? S2U_OK : S2U_NO_CELL;
+}
+
+static int32_t number_of(sqlite3_value* v, uint32_t* number) {
+  sqlite3_int64 wide = sqlite3_value_int64(v);
+  *number = (uint32_t)wide;
+  if (sqlite3_value_type(v) != SQLITE_INTEGER) return NOT_A_NUMBER;
+  return *number == wide ? S2U_OK : S2U_ARGUMENT;
+}
+
+static int32_t cells_of_text(const char* text, size_t size, block* b) {
+  static const char blanks[] = " ,\t\r\n";
+  const char* word = text + strspn(text, blanks);
+  for (size_t n; *word; word += n, word += strspn(word, blanks)) {
+    n = strcspn(word, blanks);
+    if (cell_of_text(word, n, &b->cells[b->n++]) != S2U_OK) return S2U_NO_CELL;
+  }
+  return word == text + size ? s2u_normalise(b->cells, b->n, &b->n) : S2U_NO_CELL; /* a NUL is in the text */
+}
+
+/* The union of a value as a list, which the caller drops, also after a refusal. */
+static int32_t list_of(sqlite3_value* v, block** list) {
+  const uint8_t* bytes = NULL;
+  const char* text = NULL;
+  size_t n = 0, room = 1;
+  int type = sqlite3_value_type(v);
+  int32_t status = type == SQLITE_INTEGER ? S2U_OK : NOT_A_UNION;
+  if (type == SQLITE_TEXT && (status = text_of(v, &text, &n)) == S2U_OK) room = n / 2 + 1;
+  if (type == SQLITE_BLOB && (status = bytes_of(v, &bytes, &n)) == S2U_OK) room = S2U_MOST_IN_FILE(n);
+  if (status != S2U_OK) return status;
+  if (!(*list = new_block(room, sizeof(uint64_t)))) return S2U_MEMORY;
+  if (type == SQLITE_TEXT) return cells_of_text(text, n, *list);
+  if (type == SQLITE_BLOB) return s2u_decode(bytes, n, (*list)->cells, room, &(*list)->n);
+  (*list)->n = 1;
+  return cell_of(v, (*list)->cells);
+}
+
+static int32_t file_of_list(const block* list, block** file) {
+  if (!(*file = new_block(S2U_FILE_SIZE(list->n), 1))) return S2U_MEMORY;
+  return s2u_encode(list->cells, list->n, (uint8_t*)(*file)->cells, (*file)->room, &(*file)->n);
+}
+
+static int32_t file_of(sqlite3_value* v, block** file) {
+  block* list = NULL;
+  int32_t status = list_of(v, &list);
+  if (status == S2U_OK) status = file_of_list(list, file);
+  drop(list);
+  return status;
+}
+
+/* ---- arguments ---- */
+
+/* What an argument is read as; what is held is dropped after the call. */
+typedef struct argument {
+  block* held;
+  const uint8_t* bytes;
+  size_t n;
+  uint64_t cell;
+  uint32_t number;
+} argument;
+
+/* PREPARED is the subtype of s2_prepared.value, which is in normal form by its making. Fewer bytes of a file than
+ * WORTH_KEEPING are checked as fast as SQLite remembers that they were. */
+enum { MOST_ARGUMENTS = 6, PREPARED = 0x53, WORTH_KEEPING = 250 };
+
+/* What is made of a constant is kept for all rows: SQLite drops it after the last of them, or at once. */
+static int32_t hold(sqlite3_context* c, sqlite3_value** v, int k, int32_t (*of)(sqlite3_value*, block**), argument* a) {
+  void* kept = sqlite3_get_auxdata(c, k);
+  int32_t status = S2U_OK;
+  if (kept) a->held = block_of(kept);
+  else status = of(v[k], &a->held);
+  if (status == S2U_OK) a->held->users++;
+  if (status == S2U_OK && !kept) sqlite3_set_auxdata(c, k, a->held->cells, drop_cells);
+  return status;
+}
+
+/* Reads a union as a file that can be asked: where the argument lies, if it is in normal form. */
+static int32_t file_argument(sqlite3_context* c, sqlite3_value** v, int k, argument* a) {
+  static char normal; /* kept for a constant in normal form */
+  void* kept = sqlite3_get_auxdata(c, k);
+  if (sqlite3_value_type(v[k]) == SQLITE_BLOB && (!kept || kept == &normal)) {
+    int32_t status = bytes_of(v[k], &a->bytes, &a->n);
+    if (status != S2U_OK || kept || sqlite3_value_subtype(v[k]) == PREPARED) return status;
+    status = s2u_file_check(a->bytes, a->n);
+    if (status == 1 && a->n > WORTH_KEEPING) sqlite3_set_auxdata(c, k, &normal, NULL);
+    if (status != 0) return status < 0 ? status : S2U_OK;
+  }
+  if (kept == &normal) sqlite3_set_auxdata(c, k, NULL, NULL); /* a host's constant that has changed its type */
+  int32_t status = hold(c, v, k, file_of, a);
+  if (status == S2U_OK) a->bytes = (const uint8_t*)a->held->cells, a->n = a->held->n;
+  return status;
+}
+
+/* The letters of arguments: a list, a file to be asked, a cell or such a file, a cell, a number, or bytes. */
+static int32_t read_argument(sqlite3_context* c, char letter, sqlite3_value** v, int k, argument* a) {
+  int type = sqlite3_value_type(v[k]);
+  switch (letter) {
+    case 'l': return hold(c, v, k, list_of, a);
+    case 'f': return file_argument(c, v, k, a);
+    case 'q': return type == SQLITE_INTEGER ? cell_of(v[k], &a->cell) : file_argument(c, v, k, a);
+    case 'c': return cell_of(v[k], &a->cell);
+    case 'n': return number_of(v[k], &a->number);
+    default: return type == SQLITE_BLOB ? bytes_of(v[k], &a->bytes, &a->n) : S2U_OK;
+  }
+}
+
+/* ---- functions ---- */
+
+typedef int32_t maker(const argument* a, uint64_t* out, size_t room, size_t* n);
+
+#define LIST(a) (a).held->cells, (a).held->n
+#define RECT(a) &(s2u_rect){(a)[0].number, (a)[1].number, (a)[2].number, (a)[3].number, (a)[4].number}
+#define MAKER(name, f, ...) \
+  static int32_t name(const argument* a, uint64_t* out, size_t room, size_t* n) { return f(__VA_ARGS__, out, room, n); }
+MAKER(make_union, s2u_union, LIST(a[0]), LIST(a[1]))
+MAKER(make_intersection, s2u_intersection, LIST(a[0]), LIST(a[1]))
+MAKER(make_difference, s2u_difference, LIST(a[0]), LIST(a[1]))
+MAKER(make_range, s2u_range, a[0].cell, a[1].cell)
+MAKER(make_outer, s2u_outer, RECT(a), a[5].number, S2U_MOST_COVERING)
+MAKER(make_inner, s2u_inner, RECT(a), a[5].number, S2U_MOST_COVERING)
+MAKER(make_outer_of, s2u_outer_of, LIST(a[0]), a[1].number, S2U_MOST_COVERING)
+MAKER(make_inner_of, s2u_inner_of, LIST(a[0]), a[1].number, S2U_MOST_COVERING)
+MAKER(make_cut, s2u_denormalised, LIST(a[0]), a[1].number, a[2].number)
+MAKER(make_ancestors, s2u_ancestors, LIST(a[0]))
+
+/* The list that a maker makes, which the caller drops, also after a refusal. */
+static int32_t list_made(maker* make, const argument* a, size_t room, block** list) {
+  int32_t status = S2U_ROOM;
+  for (int turn = 0; turn < 2 && status == S2U_ROOM; turn++, room = (*list)->n) {
+    drop(*list);
+    if (!(*list = new_block(room, sizeof(uint64_t)))) return S2U_MEMORY;
+    status = make(a, (*list)->cells, room, &(*list)->n);
+  }
+  return status;
+}
+
+static int32_t answer_list(sqlite3_context* c, const block* list) {
+  block* file = NULL;
+  int32_t status = file_of_list(list, &file);
+  if (status == S2U_OK) sqlite3_result_blob64(c, file->cells, file->n, drop_cells);
+  else drop(file);
+  return status;
+}
+
+static int32_t answer_cell(sqlite3_context* c, uint64_t cell) {
+  if (cell) sqlite3_result_int64(c, (sqlite3_int64)cell); /* 0 is none: NULL */
+  return S2U_OK;
+}
+
+/* A number below 0 is a refusal, which the caller answers. */
+static int32_t answer_number(sqlite3_context* c, int32_t number) { return sqlite3_result_int(c, number), number; }
+
+typedef struct function {
+  const char *name, *letters;
+  int32_t (*call)(sqlite3_context* c, const struct function* f, const argument* a);
+  maker* make;
+  int32_t (*text)(uint64_t cell, char* text, size_t room, size_t* len);
+} function;
+#define CALL(name) static int32_t name(sqlite3_context* c, const function* f, const argument* a)
+
+CALL(makes) {
+  block* list = NULL;
+  size_t nx = a[0].held ? a[0].held->n : 0, ny = a[1].held ? a[1].held->n : 0;
+  int32_t status = list_made(f->make, a, nx + ny + S2U_MOST_RANGE, &list);
+  if (status == S2U_OK) status = answer_list(c, list);
+  drop(list);
+  return status;
+}
+
+#define FILE_OF(a) (a).bytes, (a).n
+#define ASK(of, of_cell) a[1].cell ? of_cell(FILE_OF(a[0]), a[1].cell) : of(FILE_OF(a[0]), FILE_OF(a[1]))
+CALL(contains) { return answer_number(c, ASK(s2u_file_contains, s2u_file_contains_cell)); }
+CALL(intersects) { return answer_number(c, ASK(s2u_file_intersects, s2u_file_intersects_cell)); }
+
+static int32_t answer_count(sqlite3_context* c, const argument* a, int32_t (*of)(const uint8_t*, size_t, uint64_t*)) {
+  uint64_t count = 0;
+  int32_t status = of(FILE_OF(*a), &count);
+  sqlite3_result_int64(c, (sqlite3_int64)count);
+  return status;
+}
+
+CALL(tokens) {
+  block* text = new_block(a->held->n + 1, S2U_MOST_TOKEN + 1);
+  if (!text) return S2U_MEMORY;
+  for (size_t k = 0, len = 0; k < a->held->n; k++, text->n += len) {
+    if (k > 0) ((char*)text->cells)[text->n++] = ' ';
+    s2u_token(a->held->cells[k], (char*)text->cells + text->n, S2U_MOST_TOKEN, &len);
+  }
+  sqlite3_result_text64(c, (char*)text->cells, text->n, drop_cells, SQLITE_UTF8);
+  return S2U_OK;
+}
+
+CALL(text) {
+  char text[S2U_MOST_DEBUG];
+  size_t len = 0;
+  int32_t status = f->text(a->cell, text, sizeof text, &len);
+  sqlite3_result_text64(c, text, len, SQLITE_TRANSIENT, SQLITE_UTF8);
+  return status;
+}
+
+CALL(leaf) {
+  uint64_t cell = s2u_from_face_ij(a[0].number, a[1].number, a[2].number);
+  return cell ? answer_cell(c, cell) : S2U_ARGUMENT;
+}
+
+CALL(count) { return answer_count(c, a, s2u_file_count); }
+CALL(leaves) { return answer_count(c, a, s2u_file_leaf_count); }
+CALL(normalise) { return answer_list(c, a->held); }
+CALL(is_union) { return answer_number(c, s2u_file_check(a->bytes, a->n) == 1); }
+CALL(cell) { return answer_cell(c, a->cell); }
+CALL(parent) { return answer_cell(c, s2u_parent(a->cell, a[1].number)); }
+CALL(child) { return answer_cell(c, s2u_child(a->cell, a[1].number)); }
+CALL(range_min) { return answer_cell(c, s2u_range_min(a->cell)); }
+CALL(range_max) { return answer_cell(c, s2u_range_max(a->cell)); }
+CALL(common_ancestor) { return answer_cell(c, s2u_common_ancestor(a[0].cell, a[1].cell)); }
+CALL(level) { return answer_number(c, s2u_level(a->cell)); }
+CALL(face) { return answer_number(c, s2u_face(a->cell)); }
+
+static const function functions[] = {
+  {"s2_union", "ll", makes, .make = make_union}, {"s2_intersection", "ll", makes, .make = make_intersection},
+  {"s2_difference", "ll", makes, .make = make_difference}, {"s2_range", "cc", makes, .make = make_range},
+  {"s2_outer", "nnnnnn", makes, .make = make_outer}, {"s2_inner", "nnnnnn", makes, .make = make_inner},
+  {"s2_outer", "ln", makes, .make = make_outer_of}, {"s2_inner", "ln", makes, .make = make_inner_of},
+  {"s2_normalise", "l", normalise}, {"s2_is_union", "b", is_union}, {"s2_contains", "fq", contains},
+  {"s2_intersects", "fq", intersects}, {"s2_count", "f", count}, {"s2_leaves", "f", leaves}, {"s2_tokens", "l", tokens},
+  {"s2_cell", "c", cell}, {"s2_token", "c", text, .text = s2u_token}, {"s2_debug", "c", text, .text = s2u_debug},
+  {"s2_level", "c", level}, {"s2_face", "c", face}, {"s2_parent", "cn", parent}, {"s2_child", "cn", child},
+  {"s2_range_min", "c", range_min}, {"s2_range_max", "c", range_max}, {"s2_common_ancestor", "cc", common_ancestor},
+  {"s2_leaf", "nnn", leaf},
+};
+
+/* Every function comes through here: NULL if an argument is NULL, an error if the call refuses. */
+static void dispatch(sqlite3_context* c, int arguments, sqlite3_value** v) {
+  const function* f = sqlite3_user_data(c);
+  argument a[MOST_ARGUMENTS] = {{.held = NULL}};
+  int32_t status = S2U_OK;
+  for (int k = 0; k < arguments; k++)
+    if (sqlite3_value_type(v[k]) == SQLITE_NULL) return;
+  for (int k = 0; k < arguments && status == S2U_OK; k++) status = read_argument(c, f->letters[k], v, k, &a[k]);
+  if (status == S2U_OK) status = f->call(c, f, a);
+  if (status < 0) refuse(c, status);
+  for (int k = 0; k < arguments; k++) drop(a[k].held);
+}
+
+/* ---- the aggregate: gathers cells, and normalises when they have doubled ---- */
+
+typedef struct gathered { block* list; size_t settled; } gathered;
+enum { GATHERED = 100000 };
+
+static int32_t settle(gathered* g) {
+  int32_t status = s2u_normalise(g->list->cells, g->list->n, &g->list->n);
+  g->settled = g->list->n;
+  return status;
+}
+
+static int32_t gather(gathered* g, const block* more) {
+  size_t n = g->list ? g->list->n : 0;
+  if (!g->list || n + more->n > g->list->room) {
+    block* wider = new_block(2 * (n + more->n), sizeof(uint64_t));
+    if (!wider) return S2U_MEMORY;
+    if (n > 0) memcpy(wider->cells, g->list->cells, n * sizeof(uint64_t));
+    drop(g->list);
+    g->list = wider;
+  }
+  memcpy(g->list->cells + n, more->cells, more->n * sizeof(uint64_t));
+  g->list->n = n + more->n;
+  return g->list->n > GATHERED && g->list->n > 2 * g->settled ? settle(g) : S2U_OK;
+}
+
+static void union_step(sqlite3_context* c, int arguments, sqlite3_value** v) {
+  gathered* g = sqlite3_aggregate_context(c, sizeof *g);
+  block* list = NULL;
+  if (sqlite3_value_type(v[0]) == SQLITE_NULL) return;
+  int32_t status = g ? list_of(v[0], &list) : S2U_MEMORY;
+  if (status == S2U_OK) status = gather(g, list);
+  if (status != S2U_OK) refuse(c, status);
+  drop(list);
+}
+
+static void union_final(sqlite3_context* c) {
+  gathered* g = sqlite3_aggregate_context(c, 0);
+  if (!g || !g->list) return; /* no row, or NULL alone: NULL, as of sum() */
+  int32_t status = settle(g);
+  if (status == S2U_OK) status = answer_list(c, g->list);
+  if (status != S2U_OK) refuse(c, status);
+  drop(g->list);
+}
+
+/* ---- tables: s2_cells(x, level, modulus), s2_ancestors(x), s2_prepared(x) ---- */
+
+typedef struct kind {
+  const char *name, *schema;
+  int hidden, arguments; /* the first hidden column, which is the first argument, and how many arguments there may be */
+  maker* make;
+} kind;
+
+typedef struct table { sqlite3_vtab base; const kind* kind; } table;
+typedef struct cursor { sqlite3_vtab_cursor base; block* block; size_t row, rows; } cursor;
+
+static const kind kinds[] = {
+  {"s2_cells", "CREATE TABLE x(cell, range_min, range_max, x HIDDEN, level HIDDEN, modulus HIDDEN)", 3, 3, make_cut},
+  {"s2_ancestors", "CREATE TABLE x(cell, range_min, range_max, x HIDDEN)", 3, 1, make_ancestors},
+  {"s2_prepared", "CREATE TABLE x(value, x HIDDEN)", 1, 1, NULL},
+};
+
+static int connect(sqlite3* db, void* aux, int argc, const char* const* argv, sqlite3_vtab** made, char** error) {
+  const kind* kind = aux;
+  int code = sqlite3_declare_vtab(db, kind->schema);
+  table* t = code == SQLITE_OK ? sqlite3_malloc64(sizeof *t) : NULL;
+  if (!t) return code == SQLITE_OK ? SQLITE_NOMEM : code;
+  *t = (table){.kind = kind};
+  *made = &t->base;
+  return sqlite3_vtab_config(db, SQLITE_VTAB_INNOCUOUS);
+}
+
+static int disconnect(sqlite3_vtab* t) { return sqlite3_free(t), SQLITE_OK; }
+
+/* The plan's number is how many arguments are given, which come in order and are constants of the loop. */
+static int best_index(sqlite3_vtab* t, sqlite3_index_info* plan) {
+  const kind* kind = ((table*)t)->kind;
+  for (int a = 0; a < kind->arguments; a++) {
+    for (int k = 0; k < plan->nConstraint; k++) {
+      const struct sqlite3_index_constraint* given = &plan->aConstraint[k];
+      if (given->iColumn != kind->hidden + a || given->op != SQLITE_INDEX_CONSTRAINT_EQ) continue;
+      if (!given->usable || plan->idxNum != a) return SQLITE_CONSTRAINT;
+      plan->aConstraintUsage[k].argvIndex = ++plan->idxNum;
+      plan->aConstraintUsage[k].omit = 1;
+    }
+  }
+  plan->estimatedCost = plan->estimatedRows = kind->make ? 20 : 1;
+  return plan->idxNum > 0 ? SQLITE_OK : SQLITE_CONSTRAINT;
+}
+
+static int open(sqlite3_vtab* t, sqlite3_vtab_cursor** made) {
+  cursor* u = sqlite3_malloc64(sizeof *u);
+  if (!u) return SQLITE_NOMEM;
+  *u = (cursor){.block = NULL};
+  return *made = &u->base, SQLITE_OK;
+}
+
+static int close(sqlite3_vtab_cursor* u) { return drop(((cursor*)u)->block), sqlite3_free(u), SQLITE_OK; }
+
+/* The rows of a call, with a level of 0 and a modulus of 1 if they aren't given. */
+static int32_t fill(cursor* u, const kind* kind, int arguments, sqlite3_value** v) {
+  argument a[MOST_ARGUMENTS] = {[2].number = 1};
+  int32_t status = kind->make ? list_of(v[0], &a[0].held) : file_of(v[0], &u->block);
+  for (int k = 1; k < arguments && status == S2U_OK; k++) status = number_of(v[k], &a[k].number);
+  if (status == S2U_OK && kind->make) status = list_made(kind->make, a, a[0].held->n, &u->block);
+  if (status == S2U_OK) u->rows = kind->make ? u->block->n : 1;
+  drop(a[0].held);
+  return status;
+}
+
+static int filter(sqlite3_vtab_cursor* base, int arguments, const char* text, int argc, sqlite3_value** v) {
+  cursor* u = (cursor*)base;
+  drop(u->block);
+  *u = (cursor){.base = u->base};
+  for (int k = 0; k < arguments; k++)
+    if (sqlite3_value_type(v[k]) == SQLITE_NULL) return SQLITE_OK; /* no rows */
+  int32_t status = fill(u, ((table*)base->pVtab)->kind, arguments, v);
+  if (status == S2U_OK) return SQLITE_OK;
+  if (status == S2U_MEMORY) return SQLITE_NOMEM;
+  sqlite3_free(base->pVtab->zErrMsg);
+  base->pVtab->zErrMsg = sqlite3_mprintf("s2: %s", reason(status));
+  return SQLITE_ERROR;
+}
+
+static int next(sqlite3_vtab_cursor* u) { return ((cursor*)u)->row++, SQLITE_OK; }
+
+static int eof(sqlite3_vtab_cursor* u) { return ((cursor*)u)->row >= ((cursor*)u)->rows; }
+
+static int column(sqlite3_vtab_cursor* base, sqlite3_context* c, int k) {
+  cursor* u = (cursor*)base;
+  const kind* kind = ((table*)base->pVtab)->kind;
+  if (k >= kind->hidden) return SQLITE_OK; /* NULL */
+  if (kind->make) {
+    uint64_t cell = u->block->cells[u->row];
+    answer_cell(c, k == 0 ? cell : k == 1 ? s2u_range_min(cell) : s2u_range_max(cell));
+  } else {
+    u->block->users++;
+    sqlite3_result_blob64(c, u->block->cells, u->block->n, drop_cells);
+    sqlite3_result_subtype(c, PREPARED);
+  }
+  return SQLITE_OK;
+}
+
+static int rowid(sqlite3_vtab_cursor* u, sqlite3_int64* row) { return *row = ((cursor*)u)->row, SQLITE_OK; }
+
+static const sqlite3_module tables = {
+  .xConnect = connect, .xDisconnect = disconnect, .xBestIndex = best_index, .xOpen = open, .xClose = close,
+  .xFilter = filter, .xNext = next, .xEof = eof, .xColumn = column, .xRowid = rowid,
+};
+
+#define COUNT(list) (sizeof(list) / sizeof *(list))
+
+__attribute__((visibility("default")))
+int sqlite3_sunion_init(sqlite3* db, char** error, const sqlite3_api_routines* api) {
+  const int flags = SQLITE_UTF8 | SQLITE_DETERMINISTIC | SQLITE_INNOCUOUS | SQLITE_SUBTYPE;
+  int code = SQLITE_OK;
+  SQLITE_EXTENSION_INIT2(api);
+  for (const function* f = functions; code == SQLITE_OK && f < functions + COUNT(functions); f++)
+    code = sqlite3_create_function(db, f->name, (int)strlen(f->letters), flags, (void*)f, dispatch, NULL, NULL);
+  for (const kind* k = kinds; code == SQLITE_OK && k < kinds + COUNT(kinds); k++)
+    code = sqlite3_create_module(db, k->name, &tables, (void*)k);
+  if (code != SQLITE_OK) return code;
+  return sqlite3_create_function(db, "s2_union_agg", 1, flags, NULL, NULL, union_step, union_final);
+}

@@ -1,0 +1,92 @@
+/* Each allocation of SQLite's heap refused in turn, in queries of the extension: the query is out of memory or has the
+ * right answer, and nothing stays taken. refuse EXTENSION. */
+#include <sqlite3.h>
+#include <stdio.h>
+#include <stdlib.h>
+#include <string.h>
+
+static sqlite3_mem_methods system_heap;
+static long left = -1, asked;
+
+static int refused(void) {
+  asked++;
+  return left >= 0 && left-- == 0;
+}
+
+static void* take(int size) { return refused() ? NULL : system_heap.xMalloc(size); }
+static void* grow(void* at, int size) { return refused() ? NULL : system_heap.xRealloc(at, size); }
+
+static const char* const queries[] = {
+  "SELECT s2_union('1 04', '3'), s2_intersection('1', '04 0c'), s2_difference('1', '0000000000000001')",
+  "SELECT s2_normalise(x'010200000000000000000000000000001c0000000000000014'), s2_range('04', '3')",
+  "SELECT s2_tokens(part), s2_count(part), s2_leaves(part), s2_contains('1', part), s2_intersects(part, '04') "
+  "FROM parts",
+  "SELECT s2_contains(x'010200000000000000000000000000001c0000000000000014', part) FROM parts",
+  "SELECT hex(s2_union(part, '3')), s2_inner(part, 5), s2_outer(0, 5, 9000, 7, 9000, 24) FROM parts",
+  "SELECT s2_debug('04'), s2_token('1/0'), s2_parent('04', 0), s2_cell('04'), s2_leaf(1, 2, 3)",
+  "SELECT id % 2, s2_tokens(s2_union_agg(part)) FROM parts GROUP BY 1",
+  "SELECT cell, range_max FROM s2_cells('04 14', 3)",
+  "SELECT cell, range_min FROM s2_ancestors('041 14')",
+  "SELECT hex(value), count(*) FROM s2_prepared('04 14'), parts WHERE s2_intersects(value, part)",
+};
+
+/* The values of a query in hexadecimal, or NULL and the status of what failed. */
+static char* said(sqlite3* db, const char* query, int* status) {
+  static char text[100000];
+  size_t n = 0;
+  sqlite3_stmt* statement = NULL;
+  *status = sqlite3_prepare_v2(db, query, -1, &statement, NULL);
+  while (*status == SQLITE_OK || *status == SQLITE_ROW) {
+    *status = sqlite3_step(statement);
+    for (int k = 0; *status == SQLITE_ROW && k < sqlite3_column_count(statement); k++) {
+      const void* at = sqlite3_column_blob(statement, k);
+      int size = sqlite3_column_bytes(statement, k);
+      if (!at && size > 0) *status = SQLITE_NOMEM;
+      for (int b = 0; b < size; b++) n += (size_t)sprintf(text + n, "%02x", ((const unsigned char*)at)[b]);
+      text[n++] = '|';
+    }
+  }
+  text[n] = '\0';
+  sqlite3_finalize(statement);
+  return *status == SQLITE_DONE ? text : NULL;
+}
+
+int main(int argc, char** argv) {
+  size_t passed = 0, failed = 0;
+  sqlite3* db;
+  sqlite3_config(SQLITE_CONFIG_GETMALLOC, &system_heap);
+  sqlite3_mem_methods heap = system_heap;
+  heap.xMalloc = take;
+  heap.xRealloc = grow;
+  sqlite3_config(SQLITE_CONFIG_MALLOC, &heap);
+  sqlite3_config(SQLITE_CONFIG_LOOKASIDE, 0, 0);
+  if (argc != 2 || sqlite3_open(":memory:", &db) != SQLITE_OK) return 2;
+  sqlite3_enable_load_extension(db, 1);
+  if (sqlite3_load_extension(db, argv[1], NULL, NULL) != SQLITE_OK) return 2;
+  sqlite3_exec(db, "CREATE TABLE parts(id, part);"
+               "INSERT INTO parts VALUES (1, s2_normalise('1')), (2, '0c 14'), (3, '3')", NULL, NULL, NULL);
+  for (size_t k = 0; k < sizeof queries / sizeof *queries; k++) {
+    int status;
+    left = -1;
+    said(db, queries[k], &status);
+    asked = 0;
+    char* text = said(db, queries[k], &status);
+    if (!text) return printf("%s: %s\n", queries[k], sqlite3_errmsg(db)), 2;
+    char* right = strdup(text);
+    for (long turn = 0, all = asked; turn < all; turn++) {
+      left = turn;
+      text = said(db, queries[k], &status);
+      left = -1;
+      int holds = text ? strcmp(text, right) == 0 : status == SQLITE_NOMEM;
+      if (!holds) printf("FAILED: allocation %ld of %s: %d %s\n", turn, queries[k], status, sqlite3_errmsg(db));
+      if (holds) passed++;
+      else failed++;
+      said(db, queries[k], &status);
+    }
+    free(right);
+  }
+  sqlite3_close(db);
+  if (sqlite3_memory_used() != 0) printf("FAILED: %lld bytes stay taken\n", (long long)sqlite3_memory_used()), failed++;
+  printf("%zu passed, %zu failed\n", passed, failed);
+  return failed != 0;
+}

@@ -1,0 +1,437 @@
+"""The extension for PostgreSQL against the plain model, its indexes against scans, and what it refuses.
+
+The server is the one that PGHOST names; EXTENSIONS is its folder of extensions; the model stands in bindings/tests."""
+
+import os
+import random
+import subprocess
+import unittest
+
+import model
+
+ROUNDS = 1000
+FACE = model.identifier(0, 0)
+TRY = """
+CREATE OR REPLACE FUNCTION try(query text) RETURNS text LANGUAGE plpgsql AS $$
+DECLARE answer text;
+BEGIN
+    EXECUTE query INTO answer;
+    RETURN answer;
+EXCEPTION WHEN OTHERS THEN
+    RETURN 'error: ' || SQLERRM;
+END $$;
+"""
+
+
+def signed(number):
+    return number - 2**64 if number >= 2**63 else number
+
+
+class Random(random.Random):
+    def cell(self, low=0, high=30):
+        level = self.randint(low, high)
+        return model.identifier(level, self.randrange(6 * 4**level))
+
+    def near(self, cell):
+        level, place = model.cell(cell)
+        other = self.randint(max(0, level - 2), min(30, level + 2))
+        place = place * 4 ** (other - level) if other > level else place // 4 ** (level - other)
+        return model.identifier(other, min(max(place + self.randint(-2, 5), 0), 6 * 4**other - 1))
+
+    def cells(self, most=12, near=(), low=0):
+        cells = [self.near(self.choice(near)) if near else self.cell(low, 29)]
+        for _ in range(self.randrange(most)):
+            cells.append(self.near(self.choice(cells)))
+        return cells if self.random() < 0.95 else []
+
+    def text(self, cells):
+        blank = self.choice([" ", ",", ", ", "  "])
+        return blank.join(self.choice([model.token, model.debug])(cell) for cell in cells)
+
+
+def psql(script, database="postgres"):
+    """The lines that a script writes; an error of the server ends it."""
+    command = ["psql", "-XAqt", "-v", "ON_ERROR_STOP=1", "-d", database]
+    run = subprocess.run(command, input=script, stdout=subprocess.PIPE, stderr=subprocess.PIPE, text=True, check=False)
+    if run.returncode != 0:
+        raise AssertionError(run.stderr)
+    return run.stdout.splitlines()
+
+
+def ask(expressions, before="", database="postgres"):
+    """What each expression is, as text, or its error."""
+    lines = "".join(f"SELECT coalesce(try($q$SELECT ({sql})::text$q$), 'null');\n" for sql in expressions)
+    answers = psql(before + lines, database)
+    assert len(answers) == len(expressions), answers
+    return answers
+
+
+def u(cells):
+    return "'" + " ".join(model.token(cell) for cell in cells) + "'::s2union"
+
+
+def tokens(cells):
+    return " ".join(model.token(cell) for cell in cells)
+
+
+def boolean(value):
+    return "true" if value else "false"
+
+
+class Tests(unittest.TestCase):
+    @classmethod
+    def setUpClass(cls):
+        psql("SET client_min_messages = error; CREATE EXTENSION IF NOT EXISTS s2union;" + TRY)
+
+    def setUp(self):
+        self.random = Random(20261122)
+
+    def all_are(self, pairs, before=""):
+        answers = ask([sql for sql, _ in pairs], before)
+        for (sql, wanted), answer in zip(pairs, answers):
+            self.assertEqual(answer, wanted, sql)
+
+    def all_refused(self, pairs):
+        answers = ask([sql for sql, _ in pairs])
+        for (sql, wanted), answer in zip(pairs, answers):
+            self.assertTrue(answer.startswith("error: ") and wanted in answer, (sql, wanted, answer))
+
+
+class AgainstTheModel(Tests):
+    def test_sets_and_questions(self):
+        pairs = []
+        for _ in range(ROUNDS):
+            xs = self.random.cells()
+            ys = xs[::-1] if self.random.random() < 0.1 else self.random.cells(near=xs)
+            a, b = f"'{self.random.text(xs)}'::s2union", u(ys)
+            x, y = model.runs(xs), model.runs(ys)
+            normal = model.normal(x)
+            both = model.common(x, y)
+            contains, within = not model.common(y, model.rest(x)), not model.common(x, model.rest(y))
+            order = (normal > model.normal(y)) - (normal < model.normal(y))
+            pairs += [
+                (a, tokens(normal)), (f"{a} | {b}", tokens(model.normal(x + y))),
+                (f"{a} & {b}", tokens(model.normal(both))),
+                (f"{a} - {b}", tokens(model.normal(model.common(x, model.rest(y))))),
+                (f"{a} @> {b}", boolean(contains)),
+                (f"{a} <@ {b}", boolean(within)), (f"{a} && {b}", boolean(both)), (f"{a} = {b}", boolean(x == y)),
+                (f"s2union_cmp({a}, {b})", str(order)), (f"s2_count({a})", str(len(normal))),
+                (f"{a} < {b}", boolean(order < 0)), (f"{a} <= {b}", boolean(order <= 0)),
+                (f"{a} <> {b}", boolean(order != 0)),
+                (f"{a} > {b}", boolean(order > 0)), (f"{a} >= {b}", boolean(order >= 0)),
+                (f"s2_leaves({a})", str(model.count(x))), (f"{a}::bytea", "\\x" + model.file(normal).hex()),
+                (f"('\\x{model.file(self.random.sample(xs, len(xs))).hex()}'::bytea)::s2union = {a}", "true"),
+                (f"s2union_hash({a}) = s2union_hash({u(normal)})", "true"),
+                (f"s2union_hash_extended({a}, 7) = s2union_hash_extended({u(normal)}, 7)", "true"),
+                (f"s2_cells({a})", "{" + ",".join(str(signed(cell)) for cell in normal) + "}"),
+            ]
+        self.all_are(pairs)
+
+    def test_ancestors(self):
+        pairs = []
+        for _ in range(ROUNDS // 3):
+            xs = self.random.cells()
+            above = set()
+            for cell in model.normal(model.runs(xs)):
+                level, place = model.cell(cell)
+                above |= {model.identifier(k, place // 4 ** (level - k)) for k in range(level + 1)}
+            pairs.append((f"s2_ancestors({u(xs)})", "{" + ",".join(str(signed(cell)) for cell in sorted(above)) + "}"))
+        self.all_are(pairs)
+
+    def test_cells(self):
+        pairs = []
+        for _ in range(ROUNDS):
+            number = self.random.cell()
+            level, place = model.cell(number)
+            first, end = model.run(number)
+            above = self.random.randint(0, 30)
+            parent = str(signed(model.identifier(above, place // 4 ** (level - above)))) if above <= level else "null"
+            xs = self.random.cells(near=[number])
+            contains = not model.common([(first, end)], model.rest(model.runs(xs)))
+            cell = f"({signed(number)})::bigint"
+            pairs += [
+                (f"s2_cell('{model.token(number)}')", str(signed(number))),
+                (f"s2_cell('{model.debug(number)}')", str(signed(number))),
+                (f"s2_token({cell})", model.token(number)),
+                (f"s2_level({cell})", str(level)), (f"s2_face({cell})", str(place // 4**level)),
+                (f"s2_range_min({cell})", str(signed(2 * first + 1))),
+                (f"s2_range_max({cell})", str(signed(2 * end - 1))),
+                (f"s2_parent({cell}, {above})", parent), (f"{cell}::s2union", model.token(number)),
+                (f"{u(xs)} @> {cell}", boolean(contains)),
+            ]
+        self.all_are(pairs)
+
+    def test_coverings_and_ranges(self):
+        pairs = []
+        for _ in range(ROUNDS // 3):
+            xs, level = self.random.cells(5), self.random.randint(0, 30)
+            x = model.runs(xs)
+            pairs.append((f"s2_outer({u(xs)}, {level})", tokens(model.normal(model.around(x, level)))))
+            pairs.append((f"s2_inner({u(xs)}, {level})", tokens(model.normal(model.within(x, level)))))
+            first, last = sorted((self.random.cell(), self.random.cell()))
+            a, b = model.run(first)[0], model.run(last)[1]
+            pairs.append((f"s2_range({signed(first)}, {signed(last)})", tokens(model.normal([(a, b)]))))
+            place = self.random.randrange(6), self.random.randrange(2**30), self.random.randrange(2**30)
+            leaf = f"s2_leaf({place[0]}, {place[1]}, {place[2]})"
+            box = f"{place[0]}, {place[1]}, {place[1]}, {place[2]}, {place[2]}"
+            pairs.append((f"s2_outer({box}, 30) = {leaf}::s2union and s2_inner({box}, 30) = {leaf}::s2union", "true"))
+            pairs.append((f"s2_outer({box}, {level}) = s2_parent({leaf}, {level})::s2union", "true"))
+            pairs.append((f"s2_inner({box}, {min(level, 29)}) = ''::s2union", "true"))
+        self.all_are(pairs)
+
+    def test_binary_copy(self):
+        rows = [self.random.cells() for _ in range(500)]
+        values = ", ".join(f"({k}, {u(xs)})" for k, xs in enumerate(rows))
+        said = psql(f"""
+            SELECT current_setting('data_directory') || '/regions.copy' AS file \\gset
+            CREATE TEMP TABLE a(id int, region s2union);
+            CREATE TEMP TABLE b(LIKE a);
+            INSERT INTO a VALUES {values}, (999, NULL);
+            COPY a TO :'file' (FORMAT binary);
+            COPY b FROM :'file' (FORMAT binary);
+            SELECT count(*) FROM a JOIN b USING (id) WHERE a.region = b.region;
+            SELECT count(*) FROM b WHERE region IS NULL;
+        """)
+        self.assertEqual(said, ["500", "1"])
+
+
+class WhatIsRefused(Tests):
+    def test_texts(self):
+        texts = ("X", "2", "g", "1 g", "1,0/4", "0" * 17, "é" * 60)
+        self.all_refused([(f"'{text}'::s2union", "names no cell") for text in texts])
+        self.all_refused([(f"s2_cell('{text}')", "no cell") for text in ("", "X", "1 1", "6/")])
+        self.all_are([("''::s2union::text = '' and ' , '::s2union = ''", "true")])
+
+    def test_files(self):
+        good = model.file([model.identifier(5, k) for k in (1, 7, 60)])
+        faults = [(good[:k], "bytes are missing") for k in range(len(good))]
+        faults += [(bytes([k]) + good[1:], "unknown version") for k in (0, 2, 255)]
+        faults += [(good + bytes(k), "bytes after the last cell") for k in (1, 8, 100)]
+        wrongs = [good[:17] + cell.to_bytes(8, "little") + good[25:] for cell in (0, 2, 2**64 - 1)]
+        faults += [(wrong, "a number that is no cell") for wrong in wrongs]
+        faults += [(good[:1] + b"\xff" * 8 + good[9:], "bytes are missing")]
+        faults = [(f"('\\x{file.hex()}'::bytea)::s2union", reason) for file, reason in faults]
+        self.all_refused([(expression, f"s2union: union file: {reason}") for expression, reason in faults])
+
+    def test_numbers(self):
+        self.all_refused([
+            ("s2_outer(6, 0, 0, 0, 0, 5)", "argument"), ("s2_outer(0, 1, 0, 0, 0, 5)", "argument"),
+            ("s2_outer(0, 0, 0, 0, 0, 31)", "argument"),
+            ("s2_outer(0, -1, 0, 0, 0, 5)", "argument"), ("s2_inner('1'::s2union, -1)", "argument"),
+            ("s2_leaf(0, 0, -1)", "argument"),
+            ("s2_outer(0, 0, 1073741823, 5, 5, 30)", "too many cells"),
+            ("(2::bigint)::s2union", "no cell"), ("s2_level(0)", "no cell"),
+            ("s2_token(0)", "no cell"), ("s2_parent(0, 0)", "no cell"), ("s2_range_max(0)", "no cell"),
+            ("'1'::s2union @> 0::bigint", "no cell"),
+            ("s2_range(-1, 1)", "no cell"), ("s2_range(s2_cell('3'), s2_cell('1'))", "argument"),
+        ])
+
+    def test_null_gives_null(self):
+        operators = ("|", "&", "-", "@>", "<@", "&&", "=", "<")
+        self.all_are([(f"NULL::s2union {name} '1'::s2union", "null") for name in operators])
+        self.all_are([(f"'1'::s2union {name} NULL", "null") for name in operators])
+        names = ("count", "leaves", "cells", "ancestors")
+        self.all_are([(f"s2_{name}(NULL::s2union)", "null") for name in names] + [("NULL::s2union", "null")])
+
+    def test_each_bit_of_100_stored_values_flipped(self):
+        """What a damaged page may hold: the bytes of a value after its length, one bit of which is wrong."""
+        values = []
+        for _ in range(100):
+            cells = model.normal(model.runs(self.random.cells(6)))
+            values.append(b"\1\0\0\0" + b"".join(cell.to_bytes(8, "little") for cell in cells))
+        flips = "".join(f"SELECT (flip('\\x{value.hex()}')).*;\n" for value in values)
+        said = psql(f"""
+            SET client_min_messages = error;
+            DROP TYPE IF EXISTS raw8 CASCADE;
+            CREATE TYPE raw8;
+            CREATE FUNCTION raw8_in(cstring) RETURNS raw8 LANGUAGE internal IMMUTABLE STRICT AS 'byteain';
+            CREATE FUNCTION raw8_out(raw8) RETURNS cstring LANGUAGE internal IMMUTABLE STRICT AS 'byteaout';
+            CREATE TYPE raw8 (INPUT = raw8_in, OUTPUT = raw8_out, INTERNALLENGTH = VARIABLE, ALIGNMENT = double);
+            CREATE CAST (raw8 AS s2union) WITHOUT FUNCTION;
+            CREATE TABLE flipped(id int, region s2union);
+            CREATE OR REPLACE FUNCTION flip(file bytea, OUT answers int, OUT refusals int, OUT others int)
+            LANGUAGE plpgsql AS $$
+            DECLARE query text; said text;
+            BEGIN
+                answers := 0; refusals := 0; others := 0;
+                FOR bit IN 0 .. 8 * length(file) - 1 LOOP
+                    EXECUTE format('UPDATE flipped SET region = %L::raw8::s2union',
+                        set_bit(file, bit, 1 - get_bit(file, bit)));
+                    FOREACH query IN ARRAY ARRAY['region', 'region @> s2_cell($t$04$t$)', 'region && $t$1$t$',
+                        '$t$1$t$ - region',
+                        'region | $t$3$t$', 'region::bytea', 's2_cells(region)', 's2_ancestors(region)',
+                        'region < $t$1$t$',
+                        's2union_hash(region)', 's2_outer(region, 3)', 's2_union_agg(region)'] LOOP
+                        said := try(format('SELECT (%s)::text FROM flipped', query));
+                        IF said NOT LIKE 'error: %' THEN answers := answers + 1;
+                        ELSIF said LIKE 'error: s2union: %' THEN refusals := refusals + 1;
+                        ELSE others := others + 1;
+                        END IF;
+                    END LOOP;
+                END LOOP;
+            END $$;
+            INSERT INTO flipped VALUES (1, NULL);
+            {flips}
+            DROP TABLE flipped;
+            DROP TYPE raw8 CASCADE;
+        """)
+        counts = [[int(word) for word in line.split("|")] for line in said]
+        answers, refusals, others = (sum(column) for column in zip(*counts))
+        self.assertEqual((len(counts), others), (100, 0))
+        self.assertGreater(answers, 1000)
+        self.assertGreater(refusals, 1000)
+
+
+class Indexes(Tests):
+    def test_questions_by_index_and_by_scan(self):
+        regions, questions = [], []
+        for _ in range(3000):
+            near = self.random.choice(regions) if regions and self.random.random() < 0.6 else ()
+            regions.append(self.random.cells(near=near, low=4))
+        for _ in range(2000):
+            near = self.random.choice(regions) if self.random.random() < 0.9 else ()
+            questions.append(self.random.cells(4, near=near))
+        script = """
+            SET client_min_messages = error;
+            DROP TABLE IF EXISTS regions, questions;
+            CREATE TABLE regions(id int, region s2union);
+            CREATE TABLE questions(id int, region s2union);
+        """
+        for name, rows in (("regions", regions), ("questions", questions)):
+            lines = "".join(f"{k}\t{tokens(xs)}\n" for k, xs in enumerate(rows))
+            script += f"COPY {name} FROM STDIN;\n{lines}\\.\n"
+        script += """
+            INSERT INTO regions VALUES (9999, NULL);
+            CREATE INDEX regions_gin ON regions USING gin (region);
+            CREATE INDEX regions_btree ON regions (region);
+            CREATE INDEX regions_hash ON regions USING hash (region);
+            ANALYZE regions;
+            CREATE OR REPLACE FUNCTION differ(name text, by text, OUT different int, OUT matches bigint, OUT plans int)
+            LANGUAGE plpgsql AS $$
+            DECLARE q s2union; query text; line text; a int[]; b int[];
+            BEGIN
+                different := 0; matches := 0; plans := 0;
+                query := format('SELECT array_agg(id ORDER BY id) FROM regions WHERE region OPERATOR(%s) $1', name);
+                FOR q IN SELECT region FROM questions ORDER BY id LOOP
+                    PERFORM set_config('enable_seqscan', 'on', true), set_config('enable_bitmapscan', 'off', true),
+                        set_config('enable_indexscan', 'off', true);
+                    EXECUTE query INTO a USING q;
+                    PERFORM set_config('enable_seqscan', 'off', true), set_config('enable_bitmapscan', 'on', true),
+                        set_config('enable_indexscan', 'on', true);
+                    EXECUTE query INTO b USING q;
+                    IF a IS DISTINCT FROM b THEN different := different + 1; END IF;
+                    matches := matches + coalesce(array_length(a, 1), 0);
+                END LOOP;
+                FOR line IN EXECUTE format('EXPLAIN SELECT * FROM regions WHERE region OPERATOR(%s) %L', name, q) LOOP
+                    IF line LIKE '%' || by || '%' THEN plans := plans + 1; END IF;
+                END LOOP;
+            END $$;
+            SELECT name, (differ(name, by)).* FROM (VALUES ('&&', 'regions_gin'), ('@>', 'regions_gin'),
+                ('<@', 'regions_gin')) v(name, by);
+            DROP INDEX regions_gin;
+            CREATE EXTENSION IF NOT EXISTS amcheck;
+            SELECT 'checked', 0, 1, 1 FROM bt_index_check('regions_btree', true);
+            SELECT name, (differ(name, by)).* FROM (VALUES ('=', 'regions_'), ('<', 'regions_btree'),
+                ('>=', 'regions_btree')) v(name, by);
+            DROP INDEX regions_btree;
+            SELECT name, (differ(name, by)).* FROM (VALUES ('=', 'regions_hash')) v(name, by);
+        """
+        said = [line.split("|") for line in psql(script)]
+        wanted = {name: 0 for name in ("&&", "@>", "<@")}
+        forms = [model.runs(xs) for xs in regions]
+        for ys in questions[:100]:
+            y = model.runs(ys)
+            wanted["&&"] += sum(bool(model.common(x, y)) for x in forms)
+        self.assertEqual(len(said), 8)
+        for name, different, found, plans in said:
+            self.assertEqual(different, "0", name)
+            self.assertNotEqual(plans, "0", name)
+            self.assertGreater(int(found), 0, name)
+        by_scan = psql("SELECT count(*) FROM questions q JOIN regions r ON r.region && q.region WHERE q.id < 100")
+        self.assertEqual(int(by_scan[0]), wanted["&&"])
+
+
+class Aggregates(Tests):
+    def test_the_aggregate(self):
+        rows = [(self.random.randrange(20), self.random.cells()) for _ in range(5000)]
+        script = "SET client_min_messages = error; DROP TABLE IF EXISTS parts;\n"
+        script += "CREATE TABLE parts(kind int, region s2union);\nCOPY parts FROM STDIN;\n"
+        script += "".join(f"{kind}\t{tokens(xs)}\n" for kind, xs in rows) + "\\.\nANALYZE parts;\n"
+        query = "SELECT kind, s2_union_agg(region) FROM parts GROUP BY kind ORDER BY kind;\n"
+        script += query + """
+            SET parallel_setup_cost = 0; SET parallel_tuple_cost = 0; SET min_parallel_table_scan_size = 0;
+            INSERT INTO parts VALUES (20, NULL); ALTER TABLE parts SET (parallel_workers = 3);
+        """ + query + """
+            SELECT s2_union_agg(region) FROM parts;
+            SELECT s2_union_agg(region) IS NULL FROM parts WHERE kind > 99;
+            EXPLAIN SELECT s2_union_agg(region) FROM parts;
+        """
+        said = psql(script)
+        kinds = [model.normal(model.runs([cell for k, xs in rows if k == kind for cell in xs])) for kind in range(20)]
+        lines = [f"{kind}|{tokens(cells)}" for kind, cells in enumerate(kinds)]
+        self.assertEqual(said[:20], lines)
+        self.assertEqual(said[20:41], lines + ["20|"])
+        self.assertEqual(said[41:43], [tokens(model.normal(model.runs([cell for _, xs in rows for cell in xs]))), "t"])
+        self.assertTrue(any("Partial Aggregate" in line for line in said[43:]), said[43:])
+
+    def test_many_cells(self):
+        said = psql("""
+            SELECT s2_count(s2_union_agg(s2_parent(s2_leaf(0, 2 * (k % 600), 2 * (k / 600)), 30)::s2union))
+                FROM generate_series(0, 359999) k;
+            SELECT s2_union_agg(s2_leaf(0, k % 512, k / 512)::s2union) FROM generate_series(0, 262143) k;
+        """)
+        self.assertEqual(said[0], "360000")
+        self.assertEqual(said[1], model.token(model.identifier(21, 0)))
+
+
+class DumpAndUpdate(Tests):
+    def test_dump_and_restore(self):
+        rows = [self.random.cells() for _ in range(300)]
+        values = ", ".join(f"({k}, {u(xs)})" for k, xs in enumerate(rows))
+        psql("DROP DATABASE IF EXISTS restored; DROP DATABASE IF EXISTS dumped;")
+        psql("CREATE DATABASE dumped;")
+        psql("CREATE DATABASE restored;")
+        psql(f"""CREATE EXTENSION s2union; CREATE TABLE regions(id int PRIMARY KEY, region s2union);
+             INSERT INTO regions VALUES {values}; CREATE INDEX ON regions USING gin (region);
+             CREATE INDEX ON regions (region);""", "dumped")
+        subprocess.run("pg_dump -Fc dumped | pg_restore -e -d restored", shell=True, check=True)
+        query = """SELECT id, region FROM regions ORDER BY id;
+                   SELECT indexdef FROM pg_indexes WHERE tablename = 'regions' ORDER BY 1;"""
+        self.assertEqual(psql(query, "restored"), psql(query, "dumped"))
+        self.assertEqual(len(psql(query, "restored")), 303)
+        psql("DROP DATABASE restored; ")
+        psql("DROP DATABASE dumped; ")
+
+    def test_update(self):
+        script = os.path.join(os.environ["EXTENSIONS"], "s2union--0.1--0.1.1.sql")
+        with open(script, "w", encoding="utf-8") as file:
+            file.write("COMMENT ON TYPE s2union IS 'a later version';\n")
+        said = psql("""
+            BEGIN; ALTER EXTENSION s2union UPDATE TO '0.1.1';
+            SELECT extversion, obj_description('s2union'::regtype, 'pg_type')
+                FROM pg_extension WHERE extname = 's2union';
+            ROLLBACK; DROP EXTENSION IF EXISTS s2union CASCADE; CREATE EXTENSION s2union;
+            SELECT '1'::s2union @> '04'::s2union;
+        """.replace("BEGIN;", "SET client_min_messages = error; BEGIN;"))
+        os.remove(script)
+        self.assertEqual(said, ["0.1.1|a later version", "t"])
+
+
+class Servers(unittest.TestCase):
+    """After docs/SCALE.md has run."""
+
+    def test_questions_over_two_servers(self):
+        said = psql("""
+            CREATE TABLE whole AS SELECT * FROM regions;
+            SELECT count(*), count(*) FILTER (WHERE here.ids IS DISTINCT FROM there.ids), count(here.ids) > 50
+            FROM generate_series(1, 200) AS k,
+                LATERAL (SELECT s2_outer(k % 6, k * 9000, k * 9000 + 300000, k * 20000, k * 20000 + 9000, 15) AS q) a,
+                LATERAL (SELECT array_agg(id ORDER BY id) AS ids FROM regions WHERE region && q) AS here,
+                LATERAL (SELECT array_agg(id ORDER BY id) AS ids FROM whole WHERE region && q) AS there;
+            SELECT (SELECT s2_union_agg(region) FROM regions) = (SELECT s2_union_agg(region) FROM whole);
+        """, "scale")
+        self.assertEqual(said, ["200|0|t", "t"])
+
+
+if __name__ == "__main__":
+    unittest.main()
