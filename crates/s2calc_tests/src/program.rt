@@ -115,13 +115,22 @@ fn words_that_ask_for_a_cell_or_a_file(rt: HostRuntime) -> Result<(), Fail> {
 #[test]
 fn words_that_ask_for_nothing(rt: HostRuntime) -> Result<(), Fail> {
     for (words, kind) in [
-        (["run", "--limit", "0"].as_slice(), ErrorKind::ValueValidation),
+        (
+            ["run", "--limit", "0"].as_slice(),
+            ErrorKind::ValueValidation,
+        ),
         (&["run", "--limit", "1000001"], ErrorKind::ValueValidation),
         (&["run", "--limit", "-5"], ErrorKind::UnknownArgument),
         (&["run", "--limit", ""], ErrorKind::ValueValidation),
         (&["run", "--limit", " 5"], ErrorKind::ValueValidation),
-        (&["run", "--limit", "12345678901234567890123"], ErrorKind::ValueValidation),
-        (&["run", "--limit", "5", "--limit", "5"], ErrorKind::ArgumentConflict),
+        (
+            &["run", "--limit", "12345678901234567890123"],
+            ErrorKind::ValueValidation,
+        ),
+        (
+            &["run", "--limit", "5", "--limit", "5"],
+            ErrorKind::ArgumentConflict,
+        ),
         (&["run", "--limit", "x"], ErrorKind::ValueValidation),
         (&["run", "--lim", "5"], ErrorKind::UnknownArgument),
         (&["run", "--limit"], ErrorKind::InvalidValue),
@@ -136,7 +145,7 @@ fn words_that_ask_for_nothing(rt: HostRuntime) -> Result<(), Fail> {
         (&["ru"], ErrorKind::InvalidSubcommand),
         (&["RUN"], ErrorKind::InvalidSubcommand),
         (&["--"], ErrorKind::MissingSubcommand),
-        (&["--", "run"], ErrorKind::InvalidSubcommand),
+        (&["--", "run"], ErrorKind::UnknownArgument),
         (&[""], ErrorKind::InvalidSubcommand),
         (&[], ErrorKind::MissingSubcommand),
         (&["cell"], ErrorKind::MissingRequiredArgument),
