@@ -95,7 +95,11 @@ fn command<'a>(alloc: Global) -> Result<Command<'a>, Error> {
         .arg(dir(alloc))?;
     let cell = Command::new(alloc, "cell")
         .about("Tells what is known of a cell")
-        .arg(word(alloc, "CELL", "The token (64c) or the debug text (3/021) of a cell"))?;
+        .arg(word(
+            alloc,
+            "CELL",
+            "The token (64c) or the debug text (3/021) of a cell",
+        ))?;
     let check = Command::new(alloc, "check")
         .about("Tells how many cells and leaves a union file has")
         .arg(dir(alloc))?
@@ -113,13 +117,7 @@ fn command<'a>(alloc: Global) -> Result<Command<'a>, Error> {
 }
 
 /// A number from 1 on.
-fn number<'a>(
-    alloc: Global,
-    name: &'a str,
-    most: i64,
-    usual: &'a str,
-    help: &'a str,
-) -> Arg<'a> {
+fn number<'a>(alloc: Global, name: &'a str, most: i64, usual: &'a str, help: &'a str) -> Arg<'a> {
     Arg::new(alloc, name)
         .long(name)
         .value_name("N")

@@ -5,7 +5,8 @@ pub(crate) const ABOUT: &str =
     "A calculator of unions of S2 cells, in which every answer to a script is proved.";
 
 /// After the help of the program.
-pub(crate) const AFTER: &str = "Exit status: 0 if all went well, 1 if a line was refused, 2 if the usage was wrong or a stream failed,
+pub(crate) const AFTER: &str =
+    "Exit status: 0 if all went well, 1 if a line was refused, 2 if the usage was wrong or a stream failed,
 3 if there was no memory.
 
 Example:
@@ -17,7 +18,8 @@ Example:
 More: 's2calc run --help', and docs/SCRIPT.md.";
 
 /// After the help of `run`: the commands of a script.
-pub(crate) const SCRIPT: &str = "The script has one command a line. Registers r and s are letters from a to z; a CELL is a token (64c) or a debug
+pub(crate) const SCRIPT: &str =
+    "The script has one command a line. Registers r and s are letters from a to z; a CELL is a token (64c) or a debug
 text (3/021).
 
   add, remove, keep r CELL..               adds cells, takes them out, keeps what both share
