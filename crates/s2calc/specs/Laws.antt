@@ -22,7 +22,7 @@ pub record SameWorld (a b : World) : Type 0 where
   pub at : (name : List ℕ) → a.files.at name ≡ b.files.at name
   pub failures : a.files.failures ≡ b.files.failures
 
--- neither want of memory nor a failed shelf
+-- neither out of memory nor a failed shelf
 abbrev pub IsPlain : Reply → Type 0
 IsPlain reply = (reply ≢ Refuses Memory) × (reply ≢ Refuses File)
 

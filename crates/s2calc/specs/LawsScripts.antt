@@ -72,7 +72,7 @@ pub record GoesBack (table : List (List ℕ)) (old : World) (replies : List Repl
   pub files : new.files ≡ old.files
 
 -- A line that gives a register something changes it by the rule of the history, or leaves the state as it was.
--- From every state as many undos as there are earlier tables, or fewer, lead to the table that is so many places back.
+-- From every state as many undos as there are earlier tables, or fewer, lead to the table that many places back.
 -- So behind lines that each changed a register, at most as many as are kept, as many undos give back the table that
 -- stood before the first of them, and further undos the tables that were there before it, as far as they are kept.
 pub record LawOfUndo : Type 0 where

@@ -93,7 +93,7 @@ AssignLocal (Assign r u ∷ es) = IsLocal u.cells × AssignLocal es
 AssignLocal (Undo ∷ es) = AssignLocal es
 AssignLocal (Redo ∷ es) = AssignLocal es
 
--- Where no edit met want of memory, what a list of edits does is one function of it and of the first state: the
+-- If no edit ran out of memory, what a list of edits does is one function of it and of the first state: the
 -- state after it, list for list and set for set, and how each edit ended.
 pub record LawOfRuns : Type 0 where
   pub one_end : (h h₁ h₂ : History (List ℕ)) (es : List Edit) (t₁ t₂ : EditTally) → Ran h es t₁ h₁ → Ran h es t₂ h₂ →

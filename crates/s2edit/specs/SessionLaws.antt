@@ -13,7 +13,7 @@ pub record IsKept (h : History (List ℕ)) : Type 0 where
 
 -- For one limit and depth, bytes stand for one history at most, list for list and set for set. The text of a history
 -- stands for it; and in an editor of its limit and depth, where the session that the text spells is restored, the
--- history is that one again, and it is refused for want of memory alone.
+-- history is that one again, and it is refused only if there is no memory.
 pub record LawOfSessions : Type 0 where
   pub one_history : (bytes : List ℕ) (h k : History (List ℕ)) → Stored bytes h → Stored bytes k → h.limit ≡ k.limit → h.depth ≡ k.depth → h ≡ k
   pub one_history_of_sets : (bytes : List ℕ) (h k : History (ℕ → Bool)) → StoredSets bytes h → StoredSets bytes k → h.limit ≡ k.limit → h.depth ≡ k.depth → h ≡ k

@@ -8,7 +8,7 @@ pub record Found : Type 0 where
   pub name : List ℕ
   pub content : Option (List ℕ)
 
--- what is known of a shelf: whether it tells its contents, and the file of each name; all that was found by asking,
+-- what is known of a shelf: whether its contents are known, and the file of each name; all that was found by asking,
 -- the newest first, or None if that isn't known; and how many calls answered `Device`
 pub record Files : Type 0 where
   pub tells : Bool
