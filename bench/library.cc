@@ -1,4 +1,4 @@
-// The calls of the library for C beside S2, each whole: with its checks of what C hands over and all of its copying.
+// Whole calls of the library for C, compared with S2: with their checks of the arguments and all of their copying.
 #include <s2union.h>
 
 #include "sides.h"
@@ -33,6 +33,36 @@ static void sets(Table& table, const List& xs, const List& ys) {
   row("difference", &S2CellUnion::Difference, s2u_difference);
 }
 
+// What a call takes beside the operation alone, in milliseconds. `s2c` reads its lists once and then operates so many
+// times: what one time more takes is the operation's own.
+static void own_times(const List& xs, const List& ys, int rounds) {
+  struct Pair {
+    const char* name;
+    Operation own;
+    SetCall call;
+    Best alone, whole;
+  };
+  Pair pairs[] = {{"union", s2c_union, s2u_union, {}, {}},
+                  {"intersection", s2c_intersection, s2u_intersection, {}, {}},
+                  {"difference", s2c_difference, s2u_difference, {}, {}}};
+  Room room(2 * (xs.size() + ys.size()));
+  for (int round = 0; round < rounds; round++) {
+    for (Pair& pair : pairs) {
+      pair.alone.measure({[&](uint32_t times) {
+                            must(pair.own(xs.data(), xs.size(), ys.data(), ys.size(), times, room.at(), room.size(), room.len()), pair.name);
+                          }, nullptr, 4});
+      pair.whole.measure({[&](uint32_t) {
+                            made(pair.call(xs.data(), xs.size(), ys.data(), ys.size(), room.at(), room.size(), room.len()), pair.name);
+                          }, nullptr, 0});
+    }
+  }
+  printf("%-30s %10s %10s %8s\n", "operation_alone, milliseconds", "alone", "call", "ratio");
+  for (const Pair& pair : pairs) {
+    double alone = pair.alone.of({nullptr, nullptr, 4}) / 1e6, whole = pair.whole.of({nullptr, nullptr, 0}) / 1e6;
+    printf("%-30s %10.1f %10.1f %8.2f\n", pair.name, alone, whole, whole / alone);
+  }
+}
+
 static void normalising(Table& table, const char* name, const List& cells) {
   std::vector<S2CellId> peer = peer_cells(cells), peer_made;
   List list;
@@ -43,11 +73,13 @@ static void normalising(Table& table, const char* name, const List& cells) {
              [&] { return sum_of(List(list.begin(), list.begin() + len)); }});
 }
 
-// One call for each question, of the whole union.
+// One call for each question, of the whole union, and one call for all of them.
 static void questions(Table& table, const List& xs) {
   S2CellUnion x = peer_union(xs);
   List asked = Random(9).cells(N, 8, 30);
   std::vector<S2CellId> cells = peer_cells(asked);
+  std::vector<uint8_t> answers(N);
+  size_t bad = 0;
   u64 peer_yes = 0, yes = 0;
   auto row = [&](const char* name, bool (S2CellUnion::*peer)(S2CellId) const, CellCall call) {
     table.row({name, N, 0, 0},
@@ -56,9 +88,19 @@ static void questions(Table& table, const List& xs) {
   };
   row("contains_cell", &S2CellUnion::Contains, s2u_contains_cell);
   row("intersects_cell", &S2CellUnion::Intersects, s2u_intersects_cell);
+  auto all = [&](const char* name) {
+    table.row({name, N, 0, 0},
+              {[&](uint32_t) { peer_yes = 0; for (S2CellId cell : cells) peer_yes += x.Contains(cell); }, [&] { return peer_yes; }},
+              {[&](uint32_t) { made(s2u_contains_cells(xs.data(), xs.size(), asked.data(), N, answers.data(), N, &bad), name); },
+               [&] { return static_cast<u64>(std::count(answers.begin(), answers.end(), 1)); }});
+  };
+  all("contains_cells");
+  std::sort(asked.begin(), asked.end());
+  cells = peer_cells(asked);
+  all("contains_cells_in_order");
 }
 
-// S2 has no call for these: the same by its calls, a cell at a time.
+// S2 has no call for these, so its side does the same one cell at a time.
 static void ancestors(Table& table, const List& xs) {
   std::vector<S2CellId> cells = peer_cells(xs);
   List keys;
@@ -76,8 +118,35 @@ static void ancestors(Table& table, const List& xs) {
              [&] { return sum_of(room.made()); }});
 }
 
+// S2 has no call for these either.
+static void texts(Table& table, const List& xs) {
+  std::vector<S2CellId> cells = peer_cells(xs), peer_back;
+  std::string peer_text, text(S2U_MOST_TOKENS(xs.size()), ' ');
+  List back(xs.size());
+  size_t len = 0, count = 0;
+  auto write = [&](uint32_t) {
+    peer_text.clear();
+    for (S2CellId cell : cells) peer_text += (peer_text.empty() ? "" : " ") + cell.ToToken();
+  };
+  auto read = [&](uint32_t) {
+    peer_back.clear();
+    for (size_t at = 0, end; at < peer_text.size(); at = end + 1) {
+      end = std::min(peer_text.find(' ', at), peer_text.size());
+      peer_back.push_back(S2CellId::FromToken({peer_text.data() + at, end - at}));
+    }
+  };
+  table.row({"tokens", xs.size(), 0, 0}, {write, [&] { return Sum().add_text(peer_text).value(); }},
+            {[&](uint32_t) { made(s2u_tokens(xs.data(), xs.size(), &text[0], text.size(), &len), "tokens"); },
+             [&] { return Sum().add_text(text.substr(0, len)).value(); }});
+  if (peer_text.empty()) write(1);
+  table.row({"from_tokens", xs.size(), 0, 0}, {read, [&] { return sum_of(ids_of(peer_back)); }},
+            {[&](uint32_t) { made(s2u_from_tokens(peer_text.data(), peer_text.size(), back.data(), back.size(), &count), "from_tokens"); },
+             [&] { return sum_of(back); }});
+}
+
 int main(int argc, char** argv) {
-  Table table(argc > 1 ? argv[1] : "", argc > 2 ? atoi(argv[2]) : 5);
+  int rounds = argc > 2 ? atoi(argv[2]) : 5;
+  Table table(argc > 1 ? argv[1] : "", rounds);
   List drawn = Random(4).cells(N, 14, 20), sorted = drawn;
   std::sort(sorted.begin(), sorted.end());
   List x = ids_of(S2CellUnion(peer_cells(drawn))), y = ids_of(S2CellUnion(peer_cells(Random(5).cells(N, 14, 20))));
@@ -86,5 +155,7 @@ int main(int argc, char** argv) {
   normalising(table, "normalise_sorted", sorted);
   questions(table, x);
   ancestors(table, x);
+  texts(table, x);
+  if (table.wants("operation_alone")) own_times(x, y, rounds);
   return table.all_equal() ? 0 : 1;
 }

@@ -1,6 +1,6 @@
-// The proved library for callers in C and C++: what crates/s2c exports, whose contracts say what each call answers.
-// A slice of Rust is a pointer and a length here. `false` says that nothing was made: a list that is no union, too
-// little room, or no memory. `times` is how often a call does its work, which changes no answer.
+// The proved library for callers in C and C++: what crates/s2c exports, whose contracts say what each call answers. A
+// slice of Rust is a pointer and a length here. `false` says that nothing was made: a list is not a union, there is too
+// little room, or there is no memory. `times` is how often a call does its work, which changes no answer.
 #pragma once
 #include <cstddef>
 #include <cstdint>

@@ -1,6 +1,6 @@
 // Writes a session file: session CELLS CHANGES. Each of 26 registers has CELLS cells of level 20, two of the four
-// children of every other cell of level 19. Each change is of the next register, and moves the second child of five
-// such cells: five cells go out, and five are put in.
+// children of every other cell of level 19. Each change is of the next register, and moves the second child of five of
+// those cells: five cells are taken out, and five are put in.
 #include <cstdio>
 #include <cstdlib>
 #include <set>

@@ -1,4 +1,4 @@
-// The two libraries behind the same calls, on lists of identifiers: `ours` is the proved one, `peer` is S2.
+// The same calls for both libraries, on lists of identifiers: `ours` is the proved one, `peer` is S2.
 #pragma once
 #include <s2/encoded_s2cell_id_vector.h>
 #include <s2/s2cell_id.h>

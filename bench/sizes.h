@@ -1,11 +1,11 @@
-// A union of 1,000,000 cells and one of fewer, each operation both ways.
+// A union of 1,000,000 cells and a smaller one, with each operation in both directions.
 #pragma once
 #include <deque>
 
 #include "sides.h"
 #include "table.h"
 
-// How many times more a side is to work so that these take well more than what it does once for all of them.
+// How many more times a side must work so that these times far exceed what it does only once.
 static uint32_t repeats(const std::function<void(uint32_t)>& work) {
   auto time_of = [&](uint32_t times) {
     auto start = std::chrono::steady_clock::now();

@@ -1,4 +1,4 @@
-// Times two sides beside each other, compares their checksums, and prints a line of the table for each row.
+// Times two sides in turn, compares their checksums, and prints a line of the table for each row.
 #pragma once
 #include <chrono>
 #include <cstdio>
@@ -8,7 +8,7 @@
 
 #include "workload.h"
 
-// One side of a row. `work` does its work so many times; `sum` is the checksum of what the last of them made.
+// One side of a row. `work` does its work a given number of times; `sum` is the checksum of what the last time made.
 struct Side {
   std::function<void(uint32_t)> work;
   std::function<u64()> sum;
@@ -31,7 +31,7 @@ class Best {
     if (side.more > 0) all_ = std::min(all_, time_of(side, side.more + 1));
   }
 
-  // The time of one time more: what is done once for all times falls out of the difference.
+  // The time of one more repetition: what is done only once cancels out in the difference.
   double of(const Side& side) const { return side.more == 0 ? once_ : (all_ - once_) / side.more; }
 
  private:
@@ -55,7 +55,7 @@ class Table {
   bool wants(const char* name) const { return strstr(name, only_) != nullptr; }
   bool all_equal() const { return all_equal_; }
 
-  // `units` of the row may be 0: then it is what `units` says once the work is done.
+  // `units` of the row may be 0; then it is what `units` says after the work is done.
   void row(Row row, const Side& peer, const Side& proved, const std::function<size_t()>& units = nullptr) {
     if (!wants(row.name)) return;
     Best peer_best, proved_best;

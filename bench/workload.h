@@ -21,7 +21,7 @@ inline u64 parent_of(u64 id, int level) {
 
 inline u64 lowest_bit(u64 id) { return id & -id; }
 
-// The child with the number `p` of a cell that is no leaf.
+// The child with the number `p` of a cell that is not a leaf.
 inline u64 child_of(u64 id, u64 p) { return id - lowest_bit(id) + (2 * p + 1) * (lowest_bit(id) / 4); }
 
 class Random {

@@ -1,8 +1,8 @@
 """A plain model of the calculator: sets of leaves as runs of numbers, whole earlier tables, no speed.
 
-It is written from docs/FORMATS.md and docs/DEFINITIONS.md alone and shares no idea with the proved code beyond
-them: a set is a list of runs [first, end) of leaf numbers, ascending and apart; a normal form is made of the set
-anew wherever it is asked for; the history keeps whole tables.
+It is written only from docs/FORMATS.md and docs/DEFINITIONS.md and shares no other ideas with the proved code: a set is
+a list of runs [first, end) of leaf numbers, ascending and apart; a normal form is computed from the set each time it is
+needed; the history keeps whole tables.
 """
 import re
 import string
@@ -213,7 +213,7 @@ def list_text(cells):
 
 
 def change_text(old, new):
-    """The one register in which two tables differ, the cells that go out of its list, and those that are put in."""
+    """The one register in which two tables differ, the cells taken out of its list, and those put in."""
     (register,) = [r for r in REGISTERS if old[r] != new[r]]
     before, after = normal_form(old[register]), normal_form(new[register])
     out = [cell for cell in before if cell not in set(after)]
@@ -222,7 +222,7 @@ def change_text(old, new):
 
 
 def session_text(past, table, future):
-    """The file of a state; the past stands with the oldest table first, the future with the nearest first."""
+    """The file of a state; the past has the oldest table first, the future has the nearest first."""
     earlier, later = past + [table], [table] + future
     text = b"\x73\x01" + b"".join(list_text(normal_form(table[r])) for r in REGISTERS)
     text += number_text(len(past)) + b"".join(change_text(*pair) for pair in zip(earlier, earlier[1:]))
@@ -230,7 +230,7 @@ def session_text(past, table, future):
 
 
 class NoSession(Exception):
-    """The bytes stand for no state."""
+    """Raised if the bytes stand for no state."""
 
 
 class Bytes:
@@ -275,7 +275,7 @@ class Bytes:
 
 
 def changed(table, register, out, put):
-    """The table in which the cells of the register's list are exchanged: a normal form again, and another one."""
+    """The table with the change made in the register's list, which must become a different normal form."""
     cells = normal_form(table[register])
     if not set(out) <= set(cells) or set(put) & set(cells):
         raise NoSession
@@ -337,7 +337,7 @@ def cell_in(word):
 
 
 class Words:
-    """The words of a line behind its first, read from left to right."""
+    """The words of a line after its first, read from left to right."""
 
     def __init__(self, words):
         self.words = list(words)
@@ -401,7 +401,7 @@ def cell_line(cell):
     return f"cell {token(cell)} {debug(cell)} level {cell[0]} face {cell[1] // 4**cell[0]} leaves {first} {end - 1}"
 
 
-# The commands over two registers: what the first then holds, and what is told of both.
+# The commands with two registers: what the first then holds, and what is answered about both.
 EDITS_BY_REGISTER = {
     "copy": lambda a, b: b,
     "union": lambda a, b: joined(a + b),
@@ -412,7 +412,7 @@ COMPARISONS = {"covers": lambda a, b: not without(b, a), "meets": shared}
 
 
 class Calculator:
-    """Registers, their history, and files by name; a folder stands in the place of a file whose bytes are None."""
+    """Registers, their history, and files by name; None in place of the bytes stands for a folder."""
 
     def __init__(self, limit, depth, files):
         self.limit, self.depth, self.files = limit, depth, files

@@ -53,7 +53,7 @@ static void read_text(FromText from_text, const std::string& text, S2CellId peer
   if (found) same(id, u64{peer.id()}, "'" + text + "'");
 }
 
-// The text with one of its bytes exchanged for another.
+// The text with one of its bytes replaced by another.
 static std::string spoilt(Random& random, std::string text, const std::string& bytes) {
   text[random.below(text.size())] = bytes[random.below(bytes.size())];
   return text;
@@ -142,7 +142,7 @@ static void unions(Random& random) {
   same_cells(room, ids_of(cut), text_of(xs) + "at " + std::to_string(min) + " by " + std::to_string(modulus));
 }
 
-// How many files were the same bytes, and how many each side read of the other's.
+// How many files had the same bytes, and how many of the other's files each side could read.
 static long files_same, files_read_by_s2, files_of_s2_read;
 
 static void files(Random& random) {

@@ -1,7 +1,7 @@
 """Unions of S2 cells, proved.
 
 A `Union` is a set of leaf cells of the sphere, kept as the one normalised list of cells that covers it. It is immutable,
-and works as a set does:
+and works like a set:
 
 >>> from s2union import Union, from_token
 >>> a = Union.from_tokens(["04", "0c", "14", "1c"])   # four siblings are their parent
@@ -15,7 +15,7 @@ and works as a set does:
 
 Cells are their identifiers, as `int`. All work is done by the library libs2union, whose every call is proved; this module
 turns its statuses into exceptions and does no arithmetic on cells. The library is looked for at $S2UNION_LIBRARY, beside
-this module, in the folder above it, and where the system looks.
+this module, in the folder above it, and in the system's own places.
 """
 
 import ctypes as _c
@@ -84,6 +84,8 @@ _token = _call("token", _i32, _u64, *_MADE)
 _from_token = _call("from_token", _i32, _c.c_char_p, _size, _at)
 _debug = _call("debug", _i32, _u64, *_MADE)
 _from_debug = _call("from_debug", _i32, _c.c_char_p, _size, _at)
+_tokens = _call("tokens", _i32, *_LIST, *_MADE)
+_from_tokens = _call("from_tokens", _i32, _c.c_char_p, _size, *_MADE)
 _is_union = _call("is_union", _i32, *_LIST)
 _leaf_count = _call("leaf_count", _u64, *_LIST)
 _contains_cell = _call("contains_cell", _i32, *_LIST, _u64)
@@ -127,7 +129,7 @@ def _refuse(status, what=""):
 
 
 def _number(value, most, what):
-    """An int from 0 to `most`, of whatever has an `__index__`, as numpy's integers have."""
+    """An int from 0 to `most`, from anything that has an `__index__`, such as numpy's integers."""
     if isinstance(value, bool):
         raise TypeError(f"{what} is an int, not a bool")
     try:
@@ -193,7 +195,7 @@ def face(cell):
 
 
 def parent(cell, level=None):
-    """The cell of this level that contains the cell; without a level, of the one above its own."""
+    """The cell of this level that contains the cell; without a level, of the level above its own."""
     cell = _cell(cell)
     if level is None:
         level = _level(cell) - 1
@@ -214,7 +216,7 @@ def child(cell, number):
 
 
 def range_min(cell):
-    """The first leaf of a cell: a cell is in it exactly if `range_min(cell) <= other <= range_max(cell)`."""
+    """The first leaf of a cell: `other` is in `cell` exactly if `range_min(cell) <= other <= range_max(cell)`."""
     return _range_min(_cell(cell))
 
 
@@ -318,7 +320,7 @@ def _room(length):
 
 
 def _listed(call, room, *arguments):
-    """What a call makes, by the rule of the library: with room as it may suffice, and once more with what it needs."""
+    """The result of a call: tries room that may suffice, and calls again with what is needed if it doesn't."""
     out, length = _room(room), _size()
     status = call(*arguments, out.buffer_info()[0], len(out), _c.byref(length))
     if status == _ROOM:
@@ -338,7 +340,7 @@ class _Buffer(_c.Structure):
 
 
 class _Held:
-    """The bytes of a buffer, held where they lie until it is let go."""
+    """The bytes of a buffer, held in place until they are released."""
 
     def __init__(self, data):
         if isinstance(data, str):
@@ -372,10 +374,10 @@ _c.pythonapi.PyBuffer_Release.restype = None
 
 
 class UnionFile:
-    """A union file that is asked where it lies, as in a mapped file or a row of a table: nothing is copied.
+    """A union file that answers questions in place, as in a mapped file or a row of a table: nothing is copied.
 
-    The bytes are checked once to be the file that `Union.to_bytes` writes of some union, unless `checked` is true; of
-    bytes that are none the answers mean nothing.
+    The bytes are checked once to be the file that `Union.to_bytes` writes for some union, unless `checked` is true; if
+    they are not, the answers mean nothing.
 
     >>> file = UnionFile(Union.from_tokens(["04", "0c"]).to_bytes())
     >>> len(file), from_token("04") in file, from_token("14") in file
@@ -428,7 +430,7 @@ class UnionFile:
         return leaves.value
 
     def contains(self, other):
-        """Whether the union has all leaves of another file's."""
+        """Whether the union has all leaves of the union in another file."""
         if not isinstance(other, UnionFile):
             raise TypeError(f"a UnionFile is wanted, not {type(other).__name__}")
         return bool(_file_contains(*self._place, *other._place))
@@ -440,7 +442,7 @@ class UnionFile:
         return bool(_file_intersects(*self._place, *other._place))
 
     def ancestors(self):
-        """The cells of the union and all their ancestors, as Union.ancestors. ValueError if the cells are no union's."""
+        """The cells of the union and all their ancestors, as Union.ancestors. ValueError if they are no union."""
         return list(_listed(_file_ancestors, 2 * self._size, *self._place))
 
     def union(self):
@@ -457,7 +459,10 @@ class Union:
     __slots__ = ("_cells", "_hash")
 
     def __init__(self, cells=()):
-        ids, length = _ids_of(cells), _size()
+        self._normalise(_ids_of(cells))
+
+    def _normalise(self, ids):
+        length = _size()
         status = _normalise(*self._place(ids), _c.byref(length))
         if status == _NO_CELL:
             raise ValueError(f"no cell at place {length.value}: {ids[length.value]:#x}")
@@ -488,19 +493,29 @@ class Union:
 
     @classmethod
     def from_tokens(cls, tokens):
-        """The union of the cells with these tokens: a str with blanks between them, or an iterable."""
-        if isinstance(tokens, (str, bytes)):
-            tokens = tokens.split()
-        return cls([from_token(text) for text in tokens])
+        """The union of the cells with these tokens: a str with blanks, tabs, line ends or commas between them, which
+        may have debug texts too, or an iterable of tokens."""
+        if not isinstance(tokens, (str, bytes)):
+            return cls([from_token(text) for text in tokens])
+        text, length = _bytes(tokens), _size()
+        ids = _room(len(text) // 2 + 1)
+        status = _from_tokens(text, len(text), *ids.buffer_info(), _c.byref(length))
+        if status != _OK:
+            word = text[length.value:length.value + 32].replace(b",", b" ").split()[0]
+            _refuse(status, f"{word!r} at place {length.value}")
+        del ids[length.value:]
+        self = object.__new__(cls)
+        self._normalise(ids)
+        return self
 
     @classmethod
     def from_range(cls, first, last):
-        """All leaves from the first of one cell to the last of another, across faces too."""
+        """All leaves from the first of one cell to the last of another, also across faces."""
         return cls._made(_listed(_range, _MOST_RANGE, _cell(first), _cell(last)))
 
     @classmethod
     def from_bytes(cls, data):
-        """The union of a union file, of which the cells may stand in any order."""
+        """The union in a union file, whose cells may be in any order."""
         with _Held(data) as held:
             return cls._made(_listed(_decode, max(held.size - 9, 0) // 8, held.at, held.size))
 
@@ -543,7 +558,11 @@ class Union:
 
     def tokens(self):
         """The tokens of the cells."""
-        return [_text_of(_token, cell, 16) for cell in self._cells]
+        text, length = _c.create_string_buffer(17 * len(self)), _size()
+        status = _tokens(*self._place(self._cells), text, len(text), _c.byref(length))
+        if status != _OK:
+            _refuse(status)
+        return text.raw[:length.value].decode("ascii").split()
 
     # ---- as a collection of cells
 
@@ -616,7 +635,7 @@ class Union:
         return self._ask_all(_intersects_cells, cells)
 
     def leaf_count(self):
-        """How many leaves the union has, of the 6 * 4**30 that there are."""
+        """How many leaves the union has, out of 6 * 4**30."""
         return _leaf_count(*self._place(self._cells))
 
     def _with(self, call, other, most):

@@ -1,4 +1,4 @@
-/* Lists and bytes of garbage, 200,000 of them, that end at a page which may not be touched: no crash, answers that are
+/* 200,000 lists and byte strings of garbage that end at a page which may not be touched: no crash, answers that are
  * answers, and not a byte past the room. Built with the address sanitizer. */
 #include "tests.h"
 
@@ -18,7 +18,8 @@ int main(void) {
   uint64_t *xs_end = (uint64_t*)at_the_edge(8 * MOST) + MOST, *ys_end = (uint64_t*)at_the_edge(8 * MOST) + MOST;
   uint64_t* out_end = (uint64_t*)at_the_edge(8 * MOST) + MOST;
   uint8_t* bytes_end = (uint8_t*)at_the_edge(9 + 8 * MOST) + 9 + 8 * MOST;
-  size_t unions = 0, files = 0;
+  char* text_end = (char*)at_the_edge(17 * MOST) + 17 * MOST;
+  size_t unions = 0, files = 0, texts = 0;
   for (int round = 0; round < 200000; round++) {
     size_t nx = draw() % MOST, ny = draw() % MOST, room = draw() % MOST, len = 77, first, count;
     uint64_t *xs = xs_end - nx, *ys = ys_end - ny, *out = out_end - room, cell = garbage(), many;
@@ -44,6 +45,17 @@ int main(void) {
     CHECK(s2u_is_union(xs, nx) ? len >= nx && len <= S2U_MOST_ANCESTORS(nx) && status == (len > room ? S2U_ROOM : S2U_OK)
                                : status == S2U_NO_UNION && len == 0);
     (void)s2u_denormalised(xs, nx, (uint32_t)(draw() % 40), (uint32_t)(draw() % 5), out, room, &len);
+    char* text = text_end - draw() % (17 * MOST);
+    size_t at_most = (size_t)(text_end - text);
+    status = s2u_tokens(xs, nx, text, at_most, &len);
+    CHECK(status == S2U_OK ? len <= at_most : status == S2U_ROOM ? len > at_most && len <= S2U_MOST_TOKENS(nx) : len == 0);
+    if (status == S2U_OK) {
+      if (len && draw() % 2) text[draw() % len] = (char)draw();
+      size_t place = len, got = 77;
+      status = s2u_from_tokens(text, place, out, room, &got);
+      CHECK(status == S2U_NO_CELL ? got < place : got <= S2U_MOST_NAMED(place) && status == (got > room ? S2U_ROOM : S2U_OK));
+      texts += status == S2U_OK;
+    }
     size_t size = draw() % (9 + 8 * MOST);
     uint8_t* bytes = bytes_end - size;
     for (size_t k = 0; k < size; k++) bytes[k] = (uint8_t)draw();
@@ -69,7 +81,7 @@ int main(void) {
     status = s2u_decode(bytes, size, out, room, &len);
     CHECK(status == S2U_OK ? s2u_is_union(out, len) : status == S2U_ROOM ? len > room : len == 0);
   }
-  printf("%zu of the lists were unions, %zu of the bytes files\n", unions, files);
-  CHECK(unions > 10000 && files > 1000);
+  printf("%zu of the lists were unions, %zu of the bytes files, %zu of the texts lists\n", unions, files, texts);
+  CHECK(unions > 10000 && files > 1000 && texts > 1000);
   return report();
 }

@@ -25,7 +25,7 @@ def run(number):
 
 
 def joined(runs):
-    """Runs in order, none empty, of which no two touch."""
+    """Runs in order, none empty, no two of them touching."""
     made = []
     for first, end in sorted(run for run in runs if run[0] < run[1]):
         if made and first <= made[-1][1]:
@@ -88,7 +88,7 @@ def within(xs, level):
 
 
 def ancestors(cells):
-    """The cells and all that hold one of them, each once."""
+    """The cells and all their ancestors, each once."""
     return sorted({identifier(k, place // 4 ** (level - k)) for level, place in map(cell, cells) for k in range(level + 1)})
 
 

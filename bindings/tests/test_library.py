@@ -5,44 +5,19 @@ import doctest
 import mmap
 import operator as operators
 import pickle
-import random
 import tempfile
 import unittest
 from array import array
 
 import model
 import s2union
+from random_cells import FACE, Random
 from s2union import Union, UnionFile
 
 try:
     import numpy
 except ImportError:
     numpy = None
-
-FACE = 0x1000000000000000
-
-
-class Random(random.Random):
-    def cell(self, low=0, high=30):
-        level = self.randint(low, high)
-        return model.identifier(level, self.randrange(6 * 4**level))
-
-    def near(self, cell):
-        """A cell that is likely to have to do with another: around it, in it, or beside it."""
-        level, place = model.cell(cell)
-        other = self.randint(max(0, level - 2), min(30, level + 2))
-        place = place * 4 ** (other - level) if other > level else place // 4 ** (level - other)
-        return model.identifier(other, min(max(place + self.randint(-2, 5), 0), 6 * 4**other - 1))
-
-    def cells(self, most=12):
-        start = self.cell(0, 29)
-        cells = [start]
-        for _ in range(self.randrange(most)):
-            cells.append(self.near(self.choice(cells)))
-        return cells if self.random() < 0.97 else []
-
-    def number(self):
-        return self.choice([self.cell(), self.getrandbits(64), self.getrandbits(3), self.cell() ^ 1 << self.randrange(64)])
 
 
 class AgainstTheModel(unittest.TestCase):
@@ -93,6 +68,22 @@ class AgainstTheModel(unittest.TestCase):
             self.assertRaises(ValueError, s2union.from_token, text)
         for text in ("", "0", "0/4", "6/", "0-1", "0/" + "0" * 31):
             self.assertRaises(ValueError, s2union.from_debug, text)
+
+    def test_lists_as_texts(self):
+        for _ in range(1500):
+            cells = self.random.cells()
+            a = Union(cells)
+            self.assertEqual(a.tokens(), [model.token(cell) for cell in model.normal(model.runs(cells))])
+            text = "".join(self.random.choice((model.token, model.debug, lambda cell: model.token(cell).upper()))(cell)
+                           + self.random.choice((" ", ",", "\t", "\n", "\r\n", ", ")) for cell in cells)
+            self.assertEqual(Union.from_tokens(text), a)
+            self.assertEqual(Union.from_tokens((" " + text.replace(" ", ",")).encode()), a)
+            wrong = self.random.choice(("x", "0c;", "2", "0/4", "6/", "\0", "0" * 17, "é"))
+            with self.assertRaisesRegex(ValueError, f"no cell: .* at place {len(text)}$"):
+                Union.from_tokens(text + wrong + self.random.choice(("", " 04", ",y")))
+        self.assertEqual((Union.from_tokens(""), Union().tokens()), (Union(), []))
+        many = Union([self.random.cell(20, 30) for _ in range(20000)])
+        self.assertEqual(Union.from_tokens(" ".join(many.tokens())), many)
 
     def test_sets(self):
         for _ in range(3000):

@@ -10,7 +10,7 @@
 
 static size_t passed, failed;
 
-/* Counts a check, and tells of one that fails. */
+/* Counts a check, and reports one that fails. */
 static void check(int holds, const char* what) {
   if (holds) {
     passed++;
@@ -26,7 +26,7 @@ static int report(void) {
   return failed != 0;
 }
 
-/* So many bytes of which the one after the last may not be read or written. */
+/* Memory of n bytes; the byte after the last may not be read or written. */
 static inline void* at_the_edge(size_t size) {
   size_t page = (size_t)sysconf(_SC_PAGESIZE), whole = (size + page - 1) / page * page;
   char* at = mmap(NULL, whole + page, PROT_READ | PROT_WRITE, MAP_PRIVATE | MAP_ANONYMOUS, -1, 0);

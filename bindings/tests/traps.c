@@ -1,4 +1,4 @@
-/* The calls where they are asked for nothing sensible: no crash, not a byte past the room, the stated refusal. */
+/* Calls with senseless arguments: no crash, not a byte written past the room, the stated refusal. */
 #include "tests.h"
 
 static const uint64_t face = 0x1000000000000000u;
@@ -89,7 +89,8 @@ static void many_questions(void) {
   }
 }
 
-/* Every room from none to more than enough: what is short is told exactly, and nothing is written past the room. */
+/* Every room from none to more than enough: the length that is needed is reported exactly, and nothing is written past
+ * the room. */
 static void rooms(void) {
   uint64_t leaf = 0x0123456789abcde1u, want[184];
   size_t len = 77, need = 0;
@@ -125,6 +126,42 @@ static void rooms(void) {
   CHECK(s2u_denormalised(&face, 1, 30, 1, want, 16, &len) == S2U_ROOM && len == (size_t)1 << 60);
 }
 
+/* Texts of lists: every room, the place of the first word that names no cell, and what separates words. */
+static void lists_as_texts(void) {
+  uint64_t cells[] = {siblings[1], face, 0x0123456789abcde1u}, bad[] = {face, 2};
+  static const char want[] = "0c 1 0123456789abcde1", named[] = "\n 0C,,1\t0/1 \r0123456789abcde1";
+  size_t len = 77, n = sizeof want - 1;
+  for (size_t room = 0; room <= n + 2; room++) {
+    char* text = at_the_edge(room);
+    memset(text, 'x', room);
+    int32_t status = s2u_tokens(cells, 3, text, room, &len);
+    CHECK(len == n && status == (room < n ? S2U_ROOM : S2U_OK));
+    CHECK(status != S2U_OK || memcmp(text, want, n) == 0);
+    for (size_t k = status == S2U_OK ? n : 0; k < room; k++) CHECK(text[k] == 'x');
+    CHECK(s2u_tokens(bad, 2, text, room, &len) == S2U_NO_CELL && len == 0);
+  }
+  for (size_t room = 0; room <= 5; room++) {
+    uint64_t* out = at_the_edge(8 * room);
+    for (size_t k = 0; k < room; k++) out[k] = 7;
+    int32_t status = s2u_from_tokens(named, sizeof named - 1, out, room, &len);
+    CHECK(len == 4 && status == (room < 4 ? S2U_ROOM : S2U_OK));
+    CHECK(status != S2U_OK || (out[0] == cells[0] && out[1] == face && out[2] == cells[0] && out[3] == cells[2]));
+    for (size_t k = status == S2U_OK ? 4 : 0; k < room; k++) CHECK(out[k] == 7);
+  }
+  static const struct {
+    const char* text;
+    size_t n, place;
+  } refused[] = {{"x", 1, 0}, {"1 x", 3, 2}, {"1, 2", 4, 3}, {"0c 0c0 c 1", 10, 7}, {"1;3", 3, 0}, {"1\0", 2, 0},
+                 {"1 0/4", 5, 2}, {"\t\n00000000000000001", 19, 2}};
+  for (size_t k = 0; k < sizeof refused / sizeof *refused; k++) {
+    uint64_t out[4] = {7, 7, 7, 7};
+    CHECK(s2u_from_tokens(refused[k].text, refused[k].n, out, 4, &len) == S2U_NO_CELL && len == refused[k].place);
+    CHECK(out[0] == 7 && s2u_from_tokens(refused[k].text, refused[k].n, NULL, 0, &len) == S2U_NO_CELL);
+  }
+  CHECK(s2u_from_tokens(" ,\t\r\n", 5, NULL, 0, &len) == S2U_OK && len == 0);
+  CHECK(s2u_from_tokens(NULL, 0, NULL, 0, &len) == S2U_OK && len == 0 && s2u_tokens(NULL, 0, NULL, 0, &len) == S2U_OK);
+}
+
 static void nothing_at_all(void) {
   size_t len = 77, first = 77, count = 77;
   uint64_t id = 77;
@@ -150,6 +187,7 @@ int main(void) {
   lists_that_are_no_union();
   many_questions();
   rooms();
+  lists_as_texts();
   nothing_at_all();
   return report();
 }

@@ -1,6 +1,6 @@
 /* Unions of S2 cells in PostgreSQL, over libs2union. docs/POSTGRES.md says what each function does.
  *
- * What is known of cells is the library's alone; here are PostgreSQL's values, errors, memory and index classes. */
+ * Only the library knows about cells. This file has PostgreSQL's values, errors, memory and index classes. */
 #include "postgres.h"
 
 #include "access/gin.h"
@@ -18,11 +18,11 @@
 
 PG_MODULE_MAGIC;
 
-/* ---- memory: the library takes it from the current context, and no call jumps out of the library ---- */
+/* ---- memory: the library takes it from the current context, and no longjmp leaves a call of the library ---- */
 
 enum { ALIGNMENT = 16 };
 
-/* The library wants multiples of 16, palloc gives multiples of 8. The byte before a block says how much was skipped. */
+/* The library needs multiples of 16; palloc gives multiples of 8. The byte before a block says how much was skipped. */
 s2u_block s2u_heap_take(size_t size, size_t align) {
   static uint64_t nowhere[2];
   uint8_t* raw = NULL;
@@ -66,7 +66,7 @@ static void must_be_ok(int32_t status) {
   if (status < 0) ereport(ERROR, errcode(code_of(status)), errmsg("s2union: %s", s2u_status_text(status)));
 }
 
-/* ---- the value: the cells of a union, at a multiple of 8 so that they can be asked where they lie ---- */
+/* ---- the value: the cells of a union, at a multiple of 8 so that questions can be answered in place ---- */
 
 typedef struct S2Union {
   int32 length; /* a varlena's: SET_VARSIZE, VARSIZE */
@@ -78,7 +78,7 @@ enum { FORM = 1 };
 #define HEAD offsetof(S2Union, cells)
 #define MOST_CELLS ((MaxAllocSize - HEAD) / sizeof(uint64_t))
 
-/* A value for so many cells, of which none is there yet. */
+/* A value with room for this many cells, and none in it yet. */
 static S2Union* new_value(size_t room) {
   if (room > MOST_CELLS)
     ereport(ERROR, errcode(ERRCODE_PROGRAM_LIMIT_EXCEEDED), errmsg("s2union: more than %zu cells", (size_t)MOST_CELLS));
@@ -97,7 +97,7 @@ static size_t count_of(const S2Union* u) {
   return (VARSIZE(u) - HEAD) / sizeof(uint64_t);
 }
 
-/* A stored value, which is never trusted: what is no union is an error. */
+/* A stored value. It is never trusted: one that is not a union is an error. */
 static S2Union* value_of(Datum datum) {
   S2Union* u = (S2Union*)PG_DETOAST_DATUM(datum);
   bool whole = VARSIZE(u) >= HEAD && (VARSIZE(u) - HEAD) % sizeof(uint64_t) == 0;
@@ -140,17 +140,14 @@ static int32_t cell_of_text(const char* text, size_t n, uint64_t* cell) {
 
 PG_FUNCTION_INFO_V1(s2union_in);
 Datum s2union_in(PG_FUNCTION_ARGS) {
-  static const char blanks[] = " ,\t\r\n";
   const char* text = PG_GETARG_CSTRING(0);
-  S2Union* u = new_value(strlen(text) / 2 + 1);
-  size_t n = 0;
-  for (const char* word = text + strspn(text, blanks); *word; word += strspn(word, blanks)) {
-    size_t length = strcspn(word, blanks);
-    if (cell_of_text(word, length, &u->cells[n++]) != S2U_OK)
-      ereport(ERROR, errcode(ERRCODE_INVALID_TEXT_REPRESENTATION),
-              errmsg("invalid input syntax for type %s: \"%s\" names no cell", "s2union",
-                     pnstrdup(word, pg_mbcliplen(word, length, 40))));
-    word += length;
+  size_t length = strlen(text), room = S2U_MOST_NAMED(length), n = 0;
+  S2Union* u = new_value(room);
+  if (s2u_from_tokens(text, length, u->cells, room, &n) != S2U_OK) {
+    const char* word = text + n;
+    ereport(ERROR, errcode(ERRCODE_INVALID_TEXT_REPRESENTATION),
+            errmsg("invalid input syntax for type %s: \"%s\" names no cell", "s2union",
+                   pnstrdup(word, pg_mbcliplen(word, strcspn(word, " ,\t\r\n"), 40))));
   }
   must_be_ok(s2u_normalise(u->cells, n, &n));
   return finished(u, n);
@@ -159,14 +156,10 @@ Datum s2union_in(PG_FUNCTION_ARGS) {
 PG_FUNCTION_INFO_V1(s2union_out);
 Datum s2union_out(PG_FUNCTION_ARGS) {
   S2Union* u = ARGUMENT(0);
-  size_t at = 0, length = 0;
-  char* text = palloc(count_of(u) * (S2U_MOST_TOKEN + 1) + 1);
-  for (size_t k = 0; k < count_of(u); k++) {
-    if (k > 0) text[at++] = ' ';
-    s2u_token(u->cells[k], text + at, S2U_MOST_TOKEN, &length);
-    at += length;
-  }
-  text[at] = '\0';
+  size_t room = S2U_MOST_TOKENS(count_of(u)), length = 0;
+  char* text = palloc(room + 1);
+  must_be_ok(s2u_tokens(LIST(u), text, room, &length));
+  text[length] = '\0';
   PG_RETURN_CSTRING(text);
 }
 
@@ -248,16 +241,7 @@ static Datum of_two_unions(FunctionCallInfo fcinfo, maker* make) {
   return made(make, &j, Min(count_of(j.x) + count_of(j.y), MOST_CELLS));
 }
 
-PG_FUNCTION_INFO_V1(s2union_union);
-Datum s2union_union(PG_FUNCTION_ARGS) { return of_two_unions(fcinfo, make_union); }
-
-PG_FUNCTION_INFO_V1(s2union_intersection);
-Datum s2union_intersection(PG_FUNCTION_ARGS) { return of_two_unions(fcinfo, make_intersection); }
-
-PG_FUNCTION_INFO_V1(s2union_difference);
-Datum s2union_difference(PG_FUNCTION_ARGS) { return of_two_unions(fcinfo, make_difference); }
-
-/* A number of SQL's integer, of which those below 0 are out of range for the library too. */
+/* A number in SQL's integer. Numbers below 0 are out of range for the library too. */
 static Datum of_rectangle(FunctionCallInfo fcinfo, maker* make) {
   uint32_t a[6];
   for (int k = 0; k < 6; k++) a[k] = (uint32_t)PG_GETARG_INT32(k);
@@ -265,22 +249,22 @@ static Datum of_rectangle(FunctionCallInfo fcinfo, maker* make) {
   return made(make, &j, S2U_MOST_RANGE);
 }
 
-PG_FUNCTION_INFO_V1(s2union_outer);
-Datum s2union_outer(PG_FUNCTION_ARGS) { return of_rectangle(fcinfo, make_outer); }
-
-PG_FUNCTION_INFO_V1(s2union_inner);
-Datum s2union_inner(PG_FUNCTION_ARGS) { return of_rectangle(fcinfo, make_inner); }
-
 static Datum of_level(FunctionCallInfo fcinfo, maker* make) {
   Job j = {.x = ARGUMENT(0), .level = (uint32_t)PG_GETARG_INT32(1)};
   return made(make, &j, count_of(j.x));
 }
 
-PG_FUNCTION_INFO_V1(s2union_outer_of);
-Datum s2union_outer_of(PG_FUNCTION_ARGS) { return of_level(fcinfo, make_outer_of); }
-
-PG_FUNCTION_INFO_V1(s2union_inner_of);
-Datum s2union_inner_of(PG_FUNCTION_ARGS) { return of_level(fcinfo, make_inner_of); }
+/* An SQL function, by its name and the value that it answers. */
+#define FUNCTION(name, value) \
+  PG_FUNCTION_INFO_V1(name); \
+  Datum name(PG_FUNCTION_ARGS) { return value; }
+FUNCTION(s2union_union, of_two_unions(fcinfo, make_union))
+FUNCTION(s2union_intersection, of_two_unions(fcinfo, make_intersection))
+FUNCTION(s2union_difference, of_two_unions(fcinfo, make_difference))
+FUNCTION(s2union_outer, of_rectangle(fcinfo, make_outer))
+FUNCTION(s2union_inner, of_rectangle(fcinfo, make_inner))
+FUNCTION(s2union_outer_of, of_level(fcinfo, make_outer_of))
+FUNCTION(s2union_inner_of, of_level(fcinfo, make_inner_of))
 
 PG_FUNCTION_INFO_V1(s2union_range);
 Datum s2union_range(PG_FUNCTION_ARGS) {
@@ -303,23 +287,13 @@ static Datum answer(int32_t status) {
   PG_RETURN_BOOL(status == 1);
 }
 
-PG_FUNCTION_INFO_V1(s2union_contains);
-Datum s2union_contains(PG_FUNCTION_ARGS) {
-  const S2Union *x = ASKED(0), *y = ASKED(1);
-  return answer(s2u_contains(LIST(x), LIST(y)));
-}
+typedef int32_t question(const uint64_t* xs, size_t nx, const uint64_t* ys, size_t ny);
 
-PG_FUNCTION_INFO_V1(s2union_within);
-Datum s2union_within(PG_FUNCTION_ARGS) {
-  const S2Union *x = ASKED(0), *y = ASKED(1);
-  return answer(s2u_contains(LIST(y), LIST(x)));
-}
+static Datum of_two_asked(question* ask, const S2Union* x, const S2Union* y) { return answer(ask(LIST(x), LIST(y))); }
 
-PG_FUNCTION_INFO_V1(s2union_intersects);
-Datum s2union_intersects(PG_FUNCTION_ARGS) {
-  const S2Union *x = ASKED(0), *y = ASKED(1);
-  return answer(s2u_intersects(LIST(x), LIST(y)));
-}
+FUNCTION(s2union_contains, of_two_asked(s2u_contains, ASKED(0), ASKED(1)))
+FUNCTION(s2union_within, of_two_asked(s2u_contains, ASKED(1), ASKED(0)))
+FUNCTION(s2union_intersects, of_two_asked(s2u_intersects, ASKED(0), ASKED(1)))
 
 PG_FUNCTION_INFO_V1(s2union_contains_cell);
 Datum s2union_contains_cell(PG_FUNCTION_ARGS) {
@@ -327,8 +301,7 @@ Datum s2union_contains_cell(PG_FUNCTION_ARGS) {
   return answer(s2u_contains_cell(LIST(x), (uint64_t)PG_GETARG_INT64(1)));
 }
 
-PG_FUNCTION_INFO_V1(s2union_count);
-Datum s2union_count(PG_FUNCTION_ARGS) { PG_RETURN_INT64((int64)count_of(ARGUMENT(0))); }
+FUNCTION(s2union_count, Int64GetDatum((int64)count_of(ARGUMENT(0))))
 
 PG_FUNCTION_INFO_V1(s2union_leaves);
 Datum s2union_leaves(PG_FUNCTION_ARGS) {
@@ -373,12 +346,6 @@ Datum s2union_ancestors(PG_FUNCTION_ARGS) {
   PG_RETURN_ARRAYTYPE_P(array_of(cells, n));
 }
 
-/* A cell, or NULL if there is none. */
-static Datum cell_or_null(FunctionCallInfo fcinfo, uint64_t cell) {
-  if (cell == 0) PG_RETURN_NULL();
-  PG_RETURN_INT64((int64)cell);
-}
-
 PG_FUNCTION_INFO_V1(s2_leaf);
 Datum s2_leaf(PG_FUNCTION_ARGS) {
   uint32_t face = (uint32_t)PG_GETARG_INT32(0), i = (uint32_t)PG_GETARG_INT32(1), j = (uint32_t)PG_GETARG_INT32(2);
@@ -403,39 +370,28 @@ Datum s2_token(PG_FUNCTION_ARGS) {
   PG_RETURN_TEXT_P(cstring_to_text_with_len(token, (int)n));
 }
 
-static Datum number_of_cell(int32_t number) {
-  must_be_ok(number);
-  PG_RETURN_INT32(number);
+/* A cell in SQL's bigint. */
+static uint64_t cell_of(FunctionCallInfo fcinfo) {
+  uint64_t cell = (uint64_t)PG_GETARG_INT64(0);
+  if (!s2u_is_cell(cell)) must_be_ok(S2U_NO_CELL);
+  return cell;
 }
 
-PG_FUNCTION_INFO_V1(s2_level);
-Datum s2_level(PG_FUNCTION_ARGS) { return number_of_cell(s2u_level((uint64_t)PG_GETARG_INT64(0))); }
-
-PG_FUNCTION_INFO_V1(s2_face);
-Datum s2_face(PG_FUNCTION_ARGS) { return number_of_cell(s2u_face((uint64_t)PG_GETARG_INT64(0))); }
+FUNCTION(s2_level, Int32GetDatum(s2u_level(cell_of(fcinfo))))
+FUNCTION(s2_face, Int32GetDatum(s2u_face(cell_of(fcinfo))))
+FUNCTION(s2_range_min, Int64GetDatum((int64)s2u_range_min(cell_of(fcinfo))))
+FUNCTION(s2_range_max, Int64GetDatum((int64)s2u_range_max(cell_of(fcinfo))))
 
 PG_FUNCTION_INFO_V1(s2_parent);
 Datum s2_parent(PG_FUNCTION_ARGS) {
-  uint64_t cell = (uint64_t)PG_GETARG_INT64(0);
-  must_be_ok(s2u_level(cell));
-  return cell_or_null(fcinfo, s2u_parent(cell, (uint32_t)PG_GETARG_INT32(1)));
+  uint64_t parent = s2u_parent(cell_of(fcinfo), (uint32_t)PG_GETARG_INT32(1));
+  if (parent == 0) PG_RETURN_NULL(); /* there is none at this level */
+  PG_RETURN_INT64((int64)parent);
 }
 
-PG_FUNCTION_INFO_V1(s2_range_min);
-Datum s2_range_min(PG_FUNCTION_ARGS) {
-  must_be_ok(s2u_level((uint64_t)PG_GETARG_INT64(0)));
-  PG_RETURN_INT64((int64)s2u_range_min((uint64_t)PG_GETARG_INT64(0)));
-}
+/* ---- order and hash: those of the lists, since each region has exactly one ---- */
 
-PG_FUNCTION_INFO_V1(s2_range_max);
-Datum s2_range_max(PG_FUNCTION_ARGS) {
-  must_be_ok(s2u_level((uint64_t)PG_GETARG_INT64(0)));
-  PG_RETURN_INT64((int64)s2u_range_max((uint64_t)PG_GETARG_INT64(0)));
-}
-
-/* ---- order and hash: of the lists, of which each region has one ---- */
-
-/* A sort calls this many times in one context, so copies are freed. */
+/* Frees copies, since a sort calls this many times in one context. */
 static int compared(FunctionCallInfo fcinfo) {
   S2Union *x = ARGUMENT(0), *y = ARGUMENT(1);
   int order = s2u_compare(LIST(x), LIST(y));
@@ -444,36 +400,26 @@ static int compared(FunctionCallInfo fcinfo) {
   return order;
 }
 
-#define COMPARISON(name, holds) \
-  PG_FUNCTION_INFO_V1(name); \
-  Datum name(PG_FUNCTION_ARGS) { PG_RETURN_BOOL(compared(fcinfo) holds); }
-COMPARISON(s2union_eq, == 0)
-COMPARISON(s2union_ne, != 0)
-COMPARISON(s2union_lt, < 0)
-COMPARISON(s2union_le, <= 0)
-COMPARISON(s2union_gt, > 0)
-COMPARISON(s2union_ge, >= 0)
+FUNCTION(s2union_eq, BoolGetDatum(compared(fcinfo) == 0))
+FUNCTION(s2union_ne, BoolGetDatum(compared(fcinfo) != 0))
+FUNCTION(s2union_lt, BoolGetDatum(compared(fcinfo) < 0))
+FUNCTION(s2union_le, BoolGetDatum(compared(fcinfo) <= 0))
+FUNCTION(s2union_gt, BoolGetDatum(compared(fcinfo) > 0))
+FUNCTION(s2union_ge, BoolGetDatum(compared(fcinfo) >= 0))
+FUNCTION(s2union_cmp, Int32GetDatum(compared(fcinfo)))
 
-PG_FUNCTION_INFO_V1(s2union_cmp);
-Datum s2union_cmp(PG_FUNCTION_ARGS) { PG_RETURN_INT32(compared(fcinfo)); }
-
-PG_FUNCTION_INFO_V1(s2union_hash);
-Datum s2union_hash(PG_FUNCTION_ARGS) {
+/* hash_any answers the low half of hash_any_extended if the seed is 0. */
+static Datum hashed(FunctionCallInfo fcinfo, uint64 seed) {
   S2Union* u = ARGUMENT(0);
-  Datum hash = hash_any((const unsigned char*)u->cells, (int)(VARSIZE(u) - HEAD));
+  Datum hash = hash_any_extended((const unsigned char*)u->cells, (int)(VARSIZE(u) - HEAD), seed);
   PG_FREE_IF_COPY(u, 0);
   return hash;
 }
 
-PG_FUNCTION_INFO_V1(s2union_hash_extended);
-Datum s2union_hash_extended(PG_FUNCTION_ARGS) {
-  S2Union* u = ARGUMENT(0);
-  Datum hash = hash_any_extended((const unsigned char*)u->cells, (int)(VARSIZE(u) - HEAD), (uint64)PG_GETARG_INT64(1));
-  PG_FREE_IF_COPY(u, 0);
-  return hash;
-}
+FUNCTION(s2union_hash, Int32GetDatum((int32)(uint32)DatumGetUInt64(hashed(fcinfo, 0))))
+FUNCTION(s2union_hash_extended, hashed(fcinfo, (uint64)PG_GETARG_INT64(1)))
 
-/* ---- the aggregate: gathers cells, and normalises when they have doubled ---- */
+/* ---- the aggregate: gathers cells, and normalizes them when they have doubled ---- */
 
 enum { GATHERED = 100000 };
 
@@ -508,12 +454,15 @@ static void gather(Gathered* g, const uint64_t* cells, size_t n) {
   if (g->n > GATHERED && g->n > 2 * g->settled) settle(g);
 }
 
+/* The state unchanged, for a row or a state that is NULL. */
+static Datum unchanged(FunctionCallInfo fcinfo) {
+  if (PG_ARGISNULL(0)) PG_RETURN_NULL();
+  return PG_GETARG_DATUM(0);
+}
+
 PG_FUNCTION_INFO_V1(s2union_agg_step);
 Datum s2union_agg_step(PG_FUNCTION_ARGS) {
-  if (PG_ARGISNULL(1)) {
-    if (PG_ARGISNULL(0)) PG_RETURN_NULL();
-    PG_RETURN_POINTER(PG_GETARG_POINTER(0));
-  }
+  if (PG_ARGISNULL(1)) return unchanged(fcinfo);
   Gathered* g = state_of(fcinfo);
   S2Union* u = ARGUMENT(1);
   gather(g, LIST(u));
@@ -522,10 +471,7 @@ Datum s2union_agg_step(PG_FUNCTION_ARGS) {
 
 PG_FUNCTION_INFO_V1(s2union_agg_combine);
 Datum s2union_agg_combine(PG_FUNCTION_ARGS) {
-  if (PG_ARGISNULL(1)) {
-    if (PG_ARGISNULL(0)) PG_RETURN_NULL();
-    PG_RETURN_POINTER(PG_GETARG_POINTER(0));
-  }
+  if (PG_ARGISNULL(1)) return unchanged(fcinfo);
   Gathered *g = state_of(fcinfo), *more = (Gathered*)PG_GETARG_POINTER(1);
   gather(g, more->cells, more->n);
   PG_RETURN_POINTER(g);
@@ -561,8 +507,8 @@ Datum s2union_agg_final(PG_FUNCTION_ARGS) {
 
 /* ---- GIN: the keys of a union are its cells ----
  *
- * A cell of the column shares a leaf with a cell of the question if it is that cell or one of its ancestors, which are
- * looked up, or lies in it, which is a range of keys. */
+ * A cell of the column shares a leaf with a cell of the question if it is that cell or one of its ancestors (these are
+ * looked up), or if it lies in that cell (that is a range of keys). */
 
 enum { OVERLAPS = 1, CONTAINS = 2, WITHIN = 3 };
 
@@ -608,7 +554,7 @@ Datum s2union_gin_query(PG_FUNCTION_ARGS) {
   PG_RETURN_POINTER(keys);
 }
 
-/* Whether a key lies behind the range. */
+/* Whether a key is past the end of the range. */
 PG_FUNCTION_INFO_V1(s2union_gin_partial);
 Datum s2union_gin_partial(PG_FUNCTION_ARGS) {
   int64 last = *(int64*)PG_GETARG_POINTER(3);
@@ -621,7 +567,7 @@ Datum s2union_gin_consistent(PG_FUNCTION_ARGS) {
   StrategyNumber strategy = PG_GETARG_UINT16(1);
   int32 n = PG_GETARG_INT32(3);
   bool* recheck = (bool*)PG_GETARG_POINTER(5);
-  *recheck = strategy != OVERLAPS; /* a cell that is found shares a leaf; more is seen in the row */
+  *recheck = strategy != OVERLAPS; /* a found cell shares a leaf; anything more is checked in the row */
   if (strategy == WITHIN || n == 0) PG_RETURN_BOOL(true);
   for (int32 k = 0; k < n; k++)
     if (found[k]) PG_RETURN_BOOL(true);

@@ -1,7 +1,7 @@
 /* Unions of S2 cells in SQLite, over libs2union. docs/SQLITE.md says what each function does.
  *
- * A union is a BLOB, the bytes of its file. What is known of cells is the library's alone; here are SQLite's types,
- * NULL, errors and memory. */
+ * A union is a BLOB, the bytes of its file. Only the library knows about cells. This file has SQLite's types, NULL,
+ * errors and memory. */
 #include <s2union.h>
 #include <sqlite3ext.h>
 #include <string.h>
@@ -11,7 +11,7 @@ SQLITE_EXTENSION_INIT1
 
 enum { ALIGNMENT = 16 };
 
-/* The library wants multiples of 16, SQLite gives multiples of 8. The byte before a block says how much was skipped. */
+/* The library needs multiples of 16; SQLite gives multiples of 8. The byte before a block says how much was skipped. */
 s2u_block s2u_heap_take(size_t size, size_t align) {
   static uint64_t nowhere[2];
   uint8_t* raw = size > SIZE_MAX - ALIGNMENT ? NULL : sqlite3_malloc64(size + ALIGNMENT);
@@ -31,7 +31,7 @@ s2u_block s2u_heap_grow(void* at, size_t old_size, size_t size, size_t align) {
   return grown;
 }
 
-/* A list of n cells, or a file of n bytes. The last of its users that drops it frees it. */
+/* A list of n cells, or a file of n bytes. The last user that drops it frees it. */
 typedef struct block {
   size_t users, n, room;
   uint64_t cells[];
@@ -49,7 +49,7 @@ static void drop(block* b) { if (b && --b->users == 0) sqlite3_free(b); }
 
 static void drop_cells(void* cells) { drop(block_of(cells)); }
 
-/* ---- values: each call answers a status, of which an error is made at the end ---- */
+/* ---- values: each call answers a status, which is made an error at the end ---- */
 
 enum { NOT_A_UNION = -100, NOT_A_CELL = -101, NOT_A_NUMBER = -102 };
 
@@ -78,18 +78,15 @@ static int32_t text_of(sqlite3_value* v, const char** text, size_t* n) {
 static int32_t bytes_of(sqlite3_value* v, const uint8_t** bytes, size_t* n) {
   *bytes = sqlite3_value_blob(v);
   *n = (size_t)sqlite3_value_bytes(v);
-  return *bytes || *n == 0 ? S2U_OK : S2U_MEMORY; /* NULL with a length: a zeroblob that is too large to be made */
-}
-
-static int32_t cell_of_text(const char* text, size_t n, uint64_t* cell) {
-  return memchr(text, '/', n) ? s2u_from_debug(text, n, cell) : s2u_from_token(text, n, cell);
+  return *bytes || *n == 0 ? S2U_OK : S2U_MEMORY; /* NULL with a length: a zeroblob that is too large to make */
 }
 
 static int32_t cell_of(sqlite3_value* v, uint64_t* cell) {
   const char* text;
   size_t n;
   int type = sqlite3_value_type(v);
-  if (type == SQLITE_TEXT) return text_of(v, &text, &n) == S2U_OK ? cell_of_text(text, n, cell) : S2U_MEMORY;
+  if (type == SQLITE_TEXT && text_of(v, &text, &n) != S2U_OK) return S2U_MEMORY;
+  if (type == SQLITE_TEXT) return memchr(text, '/', n) ? s2u_from_debug(text, n, cell) : s2u_from_token(text, n, cell);
   *cell = (uint64_t)sqlite3_value_int64(v);
   return type != SQLITE_INTEGER ? NOT_A_CELL : s2u_is_cell(*cell) ? S2U_OK : S2U_NO_CELL;
 }
@@ -101,31 +98,23 @@ static int32_t number_of(sqlite3_value* v, uint32_t* number) {
   return *number == wide ? S2U_OK : S2U_ARGUMENT;
 }
 
-static int32_t cells_of_text(const char* text, size_t size, block* b) {
-  static const char blanks[] = " ,\t\r\n";
-  const char* word = text + strspn(text, blanks);
-  for (size_t n; *word; word += n, word += strspn(word, blanks)) {
-    n = strcspn(word, blanks);
-    if (cell_of_text(word, n, &b->cells[b->n++]) != S2U_OK) return S2U_NO_CELL;
-  }
-  return word == text + size ? s2u_normalise(b->cells, b->n, &b->n) : S2U_NO_CELL; /* a NUL is in the text */
-}
-
-/* The union of a value as a list, which the caller drops, also after a refusal. */
+/* The union of a value as a list. The caller drops it, even after a refusal. */
 static int32_t list_of(sqlite3_value* v, block** list) {
   const uint8_t* bytes = NULL;
   const char* text = NULL;
   size_t n = 0, room = 1;
   int type = sqlite3_value_type(v);
   int32_t status = type == SQLITE_INTEGER ? S2U_OK : NOT_A_UNION;
-  if (type == SQLITE_TEXT && (status = text_of(v, &text, &n)) == S2U_OK) room = n / 2 + 1;
+  if (type == SQLITE_TEXT && (status = text_of(v, &text, &n)) == S2U_OK) room = S2U_MOST_NAMED(n);
   if (type == SQLITE_BLOB && (status = bytes_of(v, &bytes, &n)) == S2U_OK) room = S2U_MOST_IN_FILE(n);
   if (status != S2U_OK) return status;
-  if (!(*list = new_block(room, sizeof(uint64_t)))) return S2U_MEMORY;
-  if (type == SQLITE_TEXT) return cells_of_text(text, n, *list);
-  if (type == SQLITE_BLOB) return s2u_decode(bytes, n, (*list)->cells, room, &(*list)->n);
-  (*list)->n = 1;
-  return cell_of(v, (*list)->cells);
+  block* b = *list = new_block(room, sizeof(uint64_t));
+  if (!b) return S2U_MEMORY;
+  if (type == SQLITE_BLOB) return s2u_decode(bytes, n, b->cells, room, &b->n);
+  b->n = 1;
+  if (type == SQLITE_INTEGER) return cell_of(v, b->cells);
+  status = s2u_from_tokens(text, n, b->cells, room, &b->n);
+  return status == S2U_OK ? s2u_normalise(b->cells, b->n, &b->n) : status;
 }
 
 static int32_t file_of_list(const block* list, block** file) {
@@ -143,7 +132,7 @@ static int32_t file_of(sqlite3_value* v, block** file) {
 
 /* ---- arguments ---- */
 
-/* What an argument is read as; what is held is dropped after the call. */
+/* What an argument is read as. The held block is dropped after the call. */
 typedef struct argument {
   block* held;
   const uint8_t* bytes;
@@ -152,39 +141,61 @@ typedef struct argument {
   uint32_t number;
 } argument;
 
-/* PREPARED is the subtype of s2_prepared.value, which is in normal form by its making. Fewer bytes of a file than
- * WORTH_KEEPING are checked as fast as SQLite remembers that they were. */
+typedef int32_t maker(const argument* a, uint64_t* out, size_t room, size_t* n);
+
+typedef struct function {
+  const char *name, *letters;
+  int32_t (*call)(sqlite3_context* c, const struct function* f, const argument* a);
+  maker* make;
+  int32_t (*text)(uint64_t cell, char* text, size_t room, size_t* len);
+  struct last { size_t n; block* file; } last[2]; /* in a connection's own copy of the function */
+} function;
+
+/* PREPARED is the subtype of s2_prepared.value, which is always made in normal form. A file of no more bytes than
+ * WORTH_KEEPING is checked as fast as SQLite looks up that it was checked. */
 enum { MOST_ARGUMENTS = 6, PREPARED = 0x53, WORTH_KEEPING = 250 };
 
-/* What is made of a constant is kept for all rows: SQLite drops it after the last of them, or at once. */
+/* What is made of a constant is kept for all rows: SQLite drops it after the last row, or at once. */
 static int32_t hold(sqlite3_context* c, sqlite3_value** v, int k, int32_t (*of)(sqlite3_value*, block**), argument* a) {
   void* kept = sqlite3_get_auxdata(c, k);
-  int32_t status = S2U_OK;
   if (kept) a->held = block_of(kept);
-  else status = of(v[k], &a->held);
+  int32_t status = kept ? S2U_OK : of(v[k], &a->held);
   if (status == S2U_OK) a->held->users++;
   if (status == S2U_OK && !kept) sqlite3_set_auxdata(c, k, a->held->cells, drop_cells);
   return status;
 }
 
-/* Reads a union as a file that can be asked: where the argument lies, if it is in normal form. */
+/* s2u_file_check of an argument's file. A file that comes again in each row, as from a subquery or a join, is kept the
+ * second time if it is in normal form. From then on it is compared, which takes the place of the check. */
+static int32_t check(struct last* last, const uint8_t* bytes, size_t n) {
+  int again = last->n == n;
+  if (again && last->file && memcmp(last->file->cells, bytes, n) == 0) return 1;
+  int32_t status = s2u_file_check(bytes, n);
+  if (n <= WORTH_KEEPING) return status;
+  drop(last->file);
+  *last = (struct last){n, again && status == 1 ? new_block(n, 1) : NULL};
+  if (last->file) memcpy(last->file->cells, bytes, n);
+  return status;
+}
+
+/* Reads a union as a file that can be asked: in place, if the argument is in normal form. */
 static int32_t file_argument(sqlite3_context* c, sqlite3_value** v, int k, argument* a) {
   static char normal; /* kept for a constant in normal form */
   void* kept = sqlite3_get_auxdata(c, k);
   if (sqlite3_value_type(v[k]) == SQLITE_BLOB && (!kept || kept == &normal)) {
     int32_t status = bytes_of(v[k], &a->bytes, &a->n);
     if (status != S2U_OK || kept || sqlite3_value_subtype(v[k]) == PREPARED) return status;
-    status = s2u_file_check(a->bytes, a->n);
+    status = check(&((function*)sqlite3_user_data(c))->last[k], a->bytes, a->n);
     if (status == 1 && a->n > WORTH_KEEPING) sqlite3_set_auxdata(c, k, &normal, NULL);
     if (status != 0) return status < 0 ? status : S2U_OK;
   }
-  if (kept == &normal) sqlite3_set_auxdata(c, k, NULL, NULL); /* a host's constant that has changed its type */
+  if (kept == &normal) sqlite3_set_auxdata(c, k, NULL, NULL); /* a host's constant whose type has changed */
   int32_t status = hold(c, v, k, file_of, a);
   if (status == S2U_OK) a->bytes = (const uint8_t*)a->held->cells, a->n = a->held->n;
   return status;
 }
 
-/* The letters of arguments: a list, a file to be asked, a cell or such a file, a cell, a number, or bytes. */
+/* The letters of arguments: a list, a file to be asked, a cell or a file to be asked, a cell, a number, or bytes. */
 static int32_t read_argument(sqlite3_context* c, char letter, sqlite3_value** v, int k, argument* a) {
   int type = sqlite3_value_type(v[k]);
   switch (letter) {
@@ -198,8 +209,6 @@ static int32_t read_argument(sqlite3_context* c, char letter, sqlite3_value** v,
 }
 
 /* ---- functions ---- */
-
-typedef int32_t maker(const argument* a, uint64_t* out, size_t room, size_t* n);
 
 #define LIST(a) (a).held->cells, (a).held->n
 #define RECT(a) &(s2u_rect){(a)[0].number, (a)[1].number, (a)[2].number, (a)[3].number, (a)[4].number}
@@ -216,7 +225,7 @@ MAKER(make_inner_of, s2u_inner_of, LIST(a[0]), a[1].number, S2U_MOST_COVERING)
 MAKER(make_cut, s2u_denormalised, LIST(a[0]), a[1].number, a[2].number)
 MAKER(make_ancestors, s2u_ancestors, LIST(a[0]))
 
-/* The list that a maker makes, which the caller drops, also after a refusal. */
+/* The list that a maker makes. The caller drops it, even after a refusal. */
 static int32_t list_made(maker* make, const argument* a, size_t room, block** list) {
   int32_t status = S2U_ROOM;
   for (int turn = 0; turn < 2 && status == S2U_ROOM; turn++, room = (*list)->n) {
@@ -243,12 +252,6 @@ static int32_t answer_cell(sqlite3_context* c, uint64_t cell) {
 /* A number below 0 is a refusal, which the caller answers. */
 static int32_t answer_number(sqlite3_context* c, int32_t number) { return sqlite3_result_int(c, number), number; }
 
-typedef struct function {
-  const char *name, *letters;
-  int32_t (*call)(sqlite3_context* c, const struct function* f, const argument* a);
-  maker* make;
-  int32_t (*text)(uint64_t cell, char* text, size_t room, size_t* len);
-} function;
 #define CALL(name) static int32_t name(sqlite3_context* c, const function* f, const argument* a)
 
 CALL(makes) {
@@ -273,14 +276,11 @@ static int32_t answer_count(sqlite3_context* c, const argument* a, int32_t (*of)
 }
 
 CALL(tokens) {
-  block* text = new_block(a->held->n + 1, S2U_MOST_TOKEN + 1);
+  block* text = new_block(S2U_MOST_TOKENS(a->held->n), 1);
   if (!text) return S2U_MEMORY;
-  for (size_t k = 0, len = 0; k < a->held->n; k++, text->n += len) {
-    if (k > 0) ((char*)text->cells)[text->n++] = ' ';
-    s2u_token(a->held->cells[k], (char*)text->cells + text->n, S2U_MOST_TOKEN, &len);
-  }
+  int32_t status = s2u_tokens(LIST(*a), (char*)text->cells, text->room, &text->n);
   sqlite3_result_text64(c, (char*)text->cells, text->n, drop_cells, SQLITE_UTF8);
-  return S2U_OK;
+  return status;
 }
 
 CALL(text) {
@@ -335,7 +335,7 @@ static void dispatch(sqlite3_context* c, int arguments, sqlite3_value** v) {
   for (int k = 0; k < arguments; k++) drop(a[k].held);
 }
 
-/* ---- the aggregate: gathers cells, and normalises when they have doubled ---- */
+/* ---- the aggregate: gathers cells, and normalizes them when they have doubled ---- */
 
 typedef struct gathered { block* list; size_t settled; } gathered;
 enum { GATHERED = 100000 };
@@ -372,7 +372,7 @@ static void union_step(sqlite3_context* c, int arguments, sqlite3_value** v) {
 
 static void union_final(sqlite3_context* c) {
   gathered* g = sqlite3_aggregate_context(c, 0);
-  if (!g || !g->list) return; /* no row, or NULL alone: NULL, as of sum() */
+  if (!g || !g->list) return; /* no row, or only NULL: NULL, as sum() answers */
   int32_t status = settle(g);
   if (status == S2U_OK) status = answer_list(c, g->list);
   if (status != S2U_OK) refuse(c, status);
@@ -408,7 +408,7 @@ static int connect(sqlite3* db, void* aux, int argc, const char* const* argv, sq
 
 static int disconnect(sqlite3_vtab* t) { return sqlite3_free(t), SQLITE_OK; }
 
-/* The plan's number is how many arguments are given, which come in order and are constants of the loop. */
+/* The plan's number is how many arguments are given. They come in order, and are constants in the loop. */
 static int best_index(sqlite3_vtab* t, sqlite3_index_info* plan) {
   const kind* kind = ((table*)t)->kind;
   for (int a = 0; a < kind->arguments; a++) {
@@ -484,17 +484,28 @@ static const sqlite3_module tables = {
   .xFilter = filter, .xNext = next, .xEof = eof, .xColumn = column, .xRowid = rowid,
 };
 
+enum { FLAGS = SQLITE_UTF8 | SQLITE_DETERMINISTIC | SQLITE_INNOCUOUS | SQLITE_SUBTYPE };
+
+static void forget(void* own) {
+  function* f = own;
+  drop(f->last[0].file), drop(f->last[1].file), sqlite3_free(f);
+}
+
+static int create(sqlite3* db, const function* f) {
+  function* own = sqlite3_malloc64(sizeof *own);
+  if (!own) return SQLITE_NOMEM;
+  *own = *f;
+  return sqlite3_create_function_v2(db, f->name, (int)strlen(f->letters), FLAGS, own, dispatch, NULL, NULL, forget);
+}
+
 #define COUNT(list) (sizeof(list) / sizeof *(list))
 
 __attribute__((visibility("default")))
 int sqlite3_sunion_init(sqlite3* db, char** error, const sqlite3_api_routines* api) {
-  const int flags = SQLITE_UTF8 | SQLITE_DETERMINISTIC | SQLITE_INNOCUOUS | SQLITE_SUBTYPE;
   int code = SQLITE_OK;
   SQLITE_EXTENSION_INIT2(api);
-  for (const function* f = functions; code == SQLITE_OK && f < functions + COUNT(functions); f++)
-    code = sqlite3_create_function(db, f->name, (int)strlen(f->letters), flags, (void*)f, dispatch, NULL, NULL);
+  for (const function* f = functions; code == SQLITE_OK && f < functions + COUNT(functions); f++) code = create(db, f);
   for (const kind* k = kinds; code == SQLITE_OK && k < kinds + COUNT(kinds); k++)
     code = sqlite3_create_module(db, k->name, &tables, (void*)k);
-  if (code != SQLITE_OK) return code;
-  return sqlite3_create_function(db, "s2_union_agg", 1, flags, NULL, NULL, union_step, union_final);
+  return code ? code : sqlite3_create_function(db, "s2_union_agg", 1, FLAGS, NULL, NULL, union_step, union_final);
 }

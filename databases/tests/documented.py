@@ -1,4 +1,4 @@
-"""Runs the examples of a page: each block ```sql in one session, and compares with the block ```text that follows it.
+"""Runs the examples of a page: all ```sql blocks in one session, each compared with the ```text block that follows it.
 
 documented.py [--script] PAGE [COMMAND..]: COMMAND (sqlite3 -batch :memory:) reads the session, --script prints it.
 S2UNION_FIRST and S2UNION_SHARD are the folders of the sockets /run/first and /run/shard."""

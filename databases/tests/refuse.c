@@ -1,5 +1,5 @@
-/* Each allocation of SQLite's heap refused in turn, in queries of the extension: the query is out of memory or has the
- * right answer, and nothing stays taken. refuse EXTENSION. */
+/* Refuses each allocation of SQLite's heap in turn, in queries of the extension: the query is out of memory or has the
+ * right answer, and all memory is freed. Usage: refuse EXTENSION. */
 #include <sqlite3.h>
 #include <stdio.h>
 #include <stdlib.h>
@@ -30,7 +30,7 @@ static const char* const queries[] = {
   "SELECT hex(value), count(*) FROM s2_prepared('04 14'), parts WHERE s2_intersects(value, part)",
 };
 
-/* The values of a query in hexadecimal, or NULL and the status of what failed. */
+/* The values of a query in hexadecimal, or NULL and the status of the call that failed. */
 static char* said(sqlite3* db, const char* query, int* status) {
   static char text[100000];
   size_t n = 0;
@@ -64,7 +64,9 @@ int main(int argc, char** argv) {
   sqlite3_enable_load_extension(db, 1);
   if (sqlite3_load_extension(db, argv[1], NULL, NULL) != SQLITE_OK) return 2;
   sqlite3_exec(db, "CREATE TABLE parts(id, part);"
-               "INSERT INTO parts VALUES (1, s2_normalise('1')), (2, '0c 14'), (3, '3')", NULL, NULL, NULL);
+               "INSERT INTO parts VALUES (1, s2_normalise('1')), (2, '0c 14'), (3, '3'),"
+               "(4, s2_difference('1', '0000000000000001')), (5, s2_difference('3', '2000000000000001'))",
+               NULL, NULL, NULL);
   for (size_t k = 0; k < sizeof queries / sizeof *queries; k++) {
     int status;
     left = -1;

@@ -1,16 +1,21 @@
 """The extension for PostgreSQL against the plain model, its indexes against scans, and what it refuses.
 
-The server is the one that PGHOST names; EXTENSIONS is its folder of extensions; the model stands in bindings/tests."""
+The server is the one that PGHOST names, EXTENSIONS is its folder of extensions, and the model is in bindings/tests.
+S2UNION_ROUNDS is the number of random rows: 1,000 if it isn't set."""
 
 import os
-import random
 import subprocess
 import unittest
 
 import model
+import random_cells
+from random_cells import signed
 
-ROUNDS = 1000
-FACE = model.identifier(0, 0)
+ROUNDS = int(os.environ.get("S2UNION_ROUNDS", "1000"))
+FLIPPED = min(100, ROUNDS // 10)
+QUESTIONS = min(2000, 2 * ROUNDS)
+AS_POSTGRES = ["runuser", "-u", "postgres", "--"] if os.geteuid() == 0 else []
+DATABASE = os.environ.get("PGDATABASE", "postgres")
 TRY = """
 CREATE OR REPLACE FUNCTION try(query text) RETURNS text LANGUAGE plpgsql AS $$
 DECLARE answer text;
@@ -23,34 +28,14 @@ END $$;
 """
 
 
-def signed(number):
-    return number - 2**64 if number >= 2**63 else number
-
-
-class Random(random.Random):
-    def cell(self, low=0, high=30):
-        level = self.randint(low, high)
-        return model.identifier(level, self.randrange(6 * 4**level))
-
-    def near(self, cell):
-        level, place = model.cell(cell)
-        other = self.randint(max(0, level - 2), min(30, level + 2))
-        place = place * 4 ** (other - level) if other > level else place // 4 ** (level - other)
-        return model.identifier(other, min(max(place + self.randint(-2, 5), 0), 6 * 4**other - 1))
-
-    def cells(self, most=12, near=(), low=0):
-        cells = [self.near(self.choice(near)) if near else self.cell(low, 29)]
-        for _ in range(self.randrange(most)):
-            cells.append(self.near(self.choice(cells)))
-        return cells if self.random() < 0.95 else []
-
+class Random(random_cells.Random):
     def text(self, cells):
         blank = self.choice([" ", ",", ", ", "  "])
         return blank.join(self.choice([model.token, model.debug])(cell) for cell in cells)
 
 
-def psql(script, database="postgres"):
-    """The lines that a script writes; an error of the server ends it."""
+def psql(script, database=DATABASE):
+    """The lines that a script writes. An error of the server ends the script."""
     command = ["psql", "-XAqt", "-v", "ON_ERROR_STOP=1", "-d", database]
     run = subprocess.run(command, input=script, stdout=subprocess.PIPE, stderr=subprocess.PIPE, text=True, check=False)
     if run.returncode != 0:
@@ -58,7 +43,7 @@ def psql(script, database="postgres"):
     return run.stdout.splitlines()
 
 
-def ask(expressions, before="", database="postgres"):
+def ask(expressions, before="", database=DATABASE):
     """What each expression is, as text, or its error."""
     lines = "".join(f"SELECT coalesce(try($q$SELECT ({sql})::text$q$), 'null');\n" for sql in expressions)
     answers = psql(before + lines, database)
@@ -123,6 +108,8 @@ class AgainstTheModel(Tests):
                 (f"('\\x{model.file(self.random.sample(xs, len(xs))).hex()}'::bytea)::s2union = {a}", "true"),
                 (f"s2union_hash({a}) = s2union_hash({u(normal)})", "true"),
                 (f"s2union_hash_extended({a}, 7) = s2union_hash_extended({u(normal)}, 7)", "true"),
+                (f"s2union_hash_extended({a}, 0)::bit(32) = s2union_hash({a})::bit(32)", "true"),
+                (f"s2union_hash_extended({a}, 7) = s2union_hash_extended({a}, 8)", "false"),
                 (f"s2_cells({a})", "{" + ",".join(str(signed(cell)) for cell in normal) + "}"),
             ]
         self.all_are(pairs)
@@ -195,10 +182,49 @@ class AgainstTheModel(Tests):
         self.assertEqual(said, ["500", "1"])
 
 
+def stored(cells):
+    """The bytes of a stored value after its length."""
+    return b"\1\0\0\0" + b"".join(cell.to_bytes(8, "little") for cell in cells)
+
+
+def flips_of(value):
+    """How many flips of one bit leave a stored value valid, and how many don't."""
+    good, bits = 0, 8 * len(value)
+    for bit in range(32, bits):
+        flipped = int.from_bytes(value, "little") ^ 1 << bit
+        words = flipped.to_bytes(len(value), "little")[4:]
+        cells = [int.from_bytes(words[k : k + 8], "little") for k in range(0, len(words), 8)]
+        good += all(map(model.cell, cells)) and model.normal(model.runs(cells)) == cells
+    return good, bits - good
+
+
 class WhatIsRefused(Tests):
+    @classmethod
+    def setUpClass(cls):
+        super().setUpClass()
+        psql("""
+            SET client_min_messages = error;
+            DROP TYPE IF EXISTS raw8 CASCADE;
+            CREATE TYPE raw8;
+            CREATE FUNCTION raw8_in(cstring) RETURNS raw8 LANGUAGE internal IMMUTABLE STRICT AS 'byteain';
+            CREATE FUNCTION raw8_out(raw8) RETURNS cstring LANGUAGE internal IMMUTABLE STRICT AS 'byteaout';
+            CREATE TYPE raw8 (INPUT = raw8_in, OUTPUT = raw8_out, INTERNALLENGTH = VARIABLE, ALIGNMENT = double);
+            CREATE CAST (raw8 AS s2union) WITHOUT FUNCTION;
+        """)
+
+    def test_stored_values_that_are_cut(self):
+        cells = [model.identifier(5, k) for k in (1, 7, 60)]
+        value = stored(cells)
+        cut = [f"'\\x{value[:k].hex()}'::raw8::s2union" for k in range(len(value) + 1)]
+        whole = {4 + 8 * k: tokens(cells[:k]) for k in range(4)}
+        self.all_are([(cut[k], text) for k, text in whole.items()])
+        self.all_refused([(sql, "no normalised list") for k, sql in enumerate(cut) if k not in whole])
+
     def test_texts(self):
         texts = ("X", "2", "g", "1 g", "1,0/4", "0" * 17, "é" * 60)
         self.all_refused([(f"'{text}'::s2union", "names no cell") for text in texts])
+        wrong = [("'1 04,park 3 X'::s2union", '"park" names no cell'), ("' 0/5\t1'::s2union", '"0/5" names no cell')]
+        self.all_refused(wrong)
         self.all_refused([(f"s2_cell('{text}')", "no cell") for text in ("", "X", "1 1", "6/")])
         self.all_are([("''::s2union::text = '' and ' , '::s2union = ''", "true")])
 
@@ -234,20 +260,15 @@ class WhatIsRefused(Tests):
         self.all_are([(f"s2_{name}(NULL::s2union)", "null") for name in names] + [("NULL::s2union", "null")])
 
     def test_each_bit_of_100_stored_values_flipped(self):
-        """What a damaged page may hold: the bytes of a value after its length, one bit of which is wrong."""
+        """What a damaged page may hold: the bytes of a value after its length, with one wrong bit."""
         values = []
-        for _ in range(100):
+        for _ in range(FLIPPED):
             cells = model.normal(model.runs(self.random.cells(6)))
-            values.append(b"\1\0\0\0" + b"".join(cell.to_bytes(8, "little") for cell in cells))
+            values.append(stored(cells))
         flips = "".join(f"SELECT (flip('\\x{value.hex()}')).*;\n" for value in values)
         said = psql(f"""
             SET client_min_messages = error;
-            DROP TYPE IF EXISTS raw8 CASCADE;
-            CREATE TYPE raw8;
-            CREATE FUNCTION raw8_in(cstring) RETURNS raw8 LANGUAGE internal IMMUTABLE STRICT AS 'byteain';
-            CREATE FUNCTION raw8_out(raw8) RETURNS cstring LANGUAGE internal IMMUTABLE STRICT AS 'byteaout';
-            CREATE TYPE raw8 (INPUT = raw8_in, OUTPUT = raw8_out, INTERNALLENGTH = VARIABLE, ALIGNMENT = double);
-            CREATE CAST (raw8 AS s2union) WITHOUT FUNCTION;
+            DROP TABLE IF EXISTS flipped;
             CREATE TABLE flipped(id int, region s2union);
             CREATE OR REPLACE FUNCTION flip(file bytea, OUT answers int, OUT refusals int, OUT others int)
             LANGUAGE plpgsql AS $$
@@ -264,7 +285,7 @@ class WhatIsRefused(Tests):
                         's2union_hash(region)', 's2_outer(region, 3)', 's2_union_agg(region)'] LOOP
                         said := try(format('SELECT (%s)::text FROM flipped', query));
                         IF said NOT LIKE 'error: %' THEN answers := answers + 1;
-                        ELSIF said LIKE 'error: s2union: %' THEN refusals := refusals + 1;
+                        ELSIF said LIKE 'error: s2union: no normalised list of cells' THEN refusals := refusals + 1;
                         ELSE others := others + 1;
                         END IF;
                     END LOOP;
@@ -273,22 +294,20 @@ class WhatIsRefused(Tests):
             INSERT INTO flipped VALUES (1, NULL);
             {flips}
             DROP TABLE flipped;
-            DROP TYPE raw8 CASCADE;
         """)
         counts = [[int(word) for word in line.split("|")] for line in said]
-        answers, refusals, others = (sum(column) for column in zip(*counts))
-        self.assertEqual((len(counts), others), (100, 0))
-        self.assertGreater(answers, 1000)
-        self.assertGreater(refusals, 1000)
+        wanted = [[12 * good, 12 * bad, 0] for good, bad in map(flips_of, values)]
+        self.assertEqual(counts, wanted)
+        self.assertGreater(sum(answers for answers, _, _ in wanted), 10 * FLIPPED)
 
 
 class Indexes(Tests):
     def test_questions_by_index_and_by_scan(self):
         regions, questions = [], []
-        for _ in range(3000):
+        for _ in range(3 * QUESTIONS // 2):
             near = self.random.choice(regions) if regions and self.random.random() < 0.6 else ()
             regions.append(self.random.cells(near=near, low=4))
-        for _ in range(2000):
+        for _ in range(QUESTIONS):
             near = self.random.choice(regions) if self.random.random() < 0.9 else ()
             questions.append(self.random.cells(4, near=near))
         script = """
@@ -415,6 +434,141 @@ class DumpAndUpdate(Tests):
         """.replace("BEGIN;", "SET client_min_messages = error; BEGIN;"))
         os.remove(script)
         self.assertEqual(said, ["0.1.1|a later version", "t"])
+
+
+class Guarded(Tests):
+    """On the build of guarded.c. That file says what the build refuses and counts."""
+
+    @classmethod
+    def setUpClass(cls):
+        super().setUpClass()
+        psql("""
+            SET client_min_messages = error;
+            CREATE OR REPLACE FUNCTION s2_refuse(bigint) RETURNS bigint LANGUAGE C AS '$libdir/s2union';
+            CREATE OR REPLACE FUNCTION s2_left() RETURNS integer LANGUAGE C AS '$libdir/s2union';
+            DROP TABLE IF EXISTS parts;
+            CREATE TABLE parts(id int, part s2union);
+            INSERT INTO parts VALUES (1, '04 0c'), (2, '1c'), (3, NULL), (4, ''),
+                (5, '1'::s2union - '0000000000000001'), (6, s2_outer(0, 5, 400000, 7, 400000, 20)),
+                (7, s2_inner(0, 5, 400000, 7, 400000, 20));
+            CREATE OR REPLACE FUNCTION indexed(method text) RETURNS bigint LANGUAGE plpgsql AS $$
+            DECLARE found bigint;
+            BEGIN
+                EXECUTE format('CREATE INDEX parts_index ON parts USING %I (part)', method);
+                EXECUTE 'SELECT count(*) FROM parts WHERE part '
+                    || CASE method WHEN 'gin' THEN '&& $t$041 1c4$t$' ELSE '= $t$04 0c$t$' END INTO found;
+                DROP INDEX parts_index;
+                RETURN found;
+            END $$;
+            CREATE OR REPLACE FUNCTION refused_in_turn(query text,
+                OUT allocations bigint, OUT errors int, OUT wrong text)
+            LANGUAGE plpgsql AS $$
+            DECLARE answer text; said text;
+            BEGIN
+                errors := 0;
+                answer := try(query);
+                PERFORM s2_refuse(0);
+                said := try(query);
+                allocations := s2_refuse(0);
+                FOR n IN 1 .. allocations LOOP
+                    PERFORM s2_refuse(n);
+                    said := try(query);
+                    PERFORM s2_refuse(0);
+                    IF said LIKE 'error: %out of memory' THEN errors := errors + 1;
+                    ELSIF said IS DISTINCT FROM answer THEN wrong := format('%s: %s', n, said);
+                    END IF;
+                    IF try(query) IS DISTINCT FROM answer THEN wrong := format('after %s', n); END IF;
+                END LOOP;
+            END $$;
+        """)
+
+    def test_each_allocation_refused_in_turn(self):
+        over_parts = (
+            "part | '3'", "part & '0c 14'", "'1'::s2union - part", "part::bytea", "part::bytea::s2union",
+            "s2_cells(part)", "s2_ancestors(part)", "s2_outer(part, 3)", "s2_inner(part, 3)", "part @> '04'",
+            "'1'::s2union <@ part",
+            "part && '1c'", "part @> s2_cell('0401')", "part < '1'", "s2union_cmp(part, '04 0c')", "s2union_hash(part)",
+            "s2union_hash_extended(part, 3)", "s2_count(part) + s2_leaves(part)", "part",
+        )
+        queries = [f"SELECT string_agg(({sql})::text, ';' ORDER BY id) FROM parts" for sql in over_parts] + [
+            "SELECT s2_union_agg(part) FROM parts",
+            "SELECT array_agg(u) FROM (SELECT s2_union_agg(part) AS u FROM parts GROUP BY id % 2 ORDER BY 1) g",
+            "SELECT s2_outer(0, 5, 9000, 7, 9000, 24)", "SELECT '1 04 3'::s2union",
+            "SELECT s2_inner(0, 5, 9000, 7, 9000, 24)", "SELECT s2_range(s2_cell('0000000000000001'), s2_cell('3'))",
+            "SELECT s2_token(s2_parent(s2_cell('1c'), 0)), s2_cell('04')::s2union", "SELECT indexed('gin')",
+            "SELECT indexed('btree')", "SELECT indexed('hash')", "SELECT s2_union_agg(part) FROM parts p, parts q",
+        ]
+        script = """SET parallel_setup_cost = 0; SET parallel_tuple_cost = 0; SET min_parallel_table_scan_size = 0;
+            SET max_parallel_workers = 0; SET enable_seqscan = off; SET client_min_messages = error;
+            ANALYZE parts; ALTER TABLE parts SET (parallel_workers = 1);\n"""
+        script += "".join(f"SELECT (refused_in_turn($q${query}$q$)).*;\n" for query in queries)
+        said = [line.split("|", 2) for line in psql(script)]
+        self.assertEqual(len(said), len(queries))
+        for query, (allocations, errors, wrong) in zip(queries, said):
+            self.assertEqual(wrong, "", query)
+            self.assertEqual(int(errors) > 0, int(allocations) > 0, query)
+        self.assertGreater(sum(int(errors) for _, errors, _ in said), 150)
+
+    def test_what_a_call_leaves(self):
+        """Blocks that are still there when a call ends: the result, and what the end of the statement frees. A sort or
+        an index calls the order and the hash many times before that, so these must leave nothing."""
+        large = "SELECT {} FROM parts x, parts y WHERE x.id = 6 AND y.id = 7"
+        calls = [(large.format(f"x.part {name} y.part"), 0) for name in ("=", "<>", "<", "<=", ">", ">=")]
+        calls += [
+            (large.format("s2union_cmp(x.part, y.part)"), 0), (large.format("s2union_hash(x.part)"), 0),
+            (large.format("s2union_hash_extended(x.part, 1)"), 0), (large.format("s2_count(x.part)"), 1),
+            ("SELECT pg_column_size('1'::s2union - '0000000000000001')", 1),
+            ("SELECT pg_column_size('04'::s2union | '14')", 1), ("SELECT pg_column_size(s2_range(1, 3000000001))", 1),
+            ("SELECT pg_column_size(s2_outer(0, 5, 90000, 7, 90000, 20))", 1),
+            ("SELECT cardinality(s2_ancestors(part)) FROM parts WHERE id = 6", 3),
+        ]
+        said = psql("".join(f"{query};\nSELECT s2_left();\n" for query, _ in calls))
+        self.assertEqual([(query, int(left)) for (query, _), left in zip(calls, said[1::2])], calls)
+
+
+class MemoryLimits(Tests):
+    """A session that gets less and less memory from the system: it answers or reports an error, and goes on."""
+
+    def said(self, query, extra):
+        command = ["psql", "-XAqt", "-d", DATABASE]
+        with subprocess.Popen(command, stdin=subprocess.PIPE, stdout=subprocess.PIPE, stderr=subprocess.STDOUT,
+                              text=True) as session:
+            print("SET max_parallel_workers_per_gather = 0;",
+                  "SELECT pg_backend_pid() FROM large WHERE region @> '04' OR true;", file=session.stdin, flush=True)
+            pid = int(session.stdout.readline())
+            with open(f"/proc/{pid}/status", encoding="utf-8") as status:
+                size = next(int(line.split()[1]) * 1024 for line in status if line.startswith("VmSize"))
+            subprocess.run([*AS_POSTGRES, "prlimit", f"--pid={pid}", f"--as={size + extra}"], check=True)
+            output, _ = session.communicate(f"{query};\nSELECT 'goes on';\n")
+        return output.splitlines()
+
+    def test_limits_in_steps(self):
+        psql("""
+            SET client_min_messages = error;
+            DROP TABLE IF EXISTS large;
+            CREATE TABLE large AS SELECT s2_union_agg(s2_leaf(0, 2 * (k % 600), 2 * (k / 600))::s2union) AS region
+            FROM generate_series(0, 199999) AS k;
+        """)
+        many = "generate_series(0, 99999) AS k"
+        queries = (
+            f"SELECT s2_count(s2_union_agg(s2_leaf(1, 2 * (k % 600), k / 600)::s2union)) FROM {many}",
+            "SELECT s2_count(region | '1') FROM large",
+            "SELECT md5((s2_range(5, 4294967297) - region)::text) FROM large",
+            "SELECT cardinality(s2_ancestors(region)) FROM large", "SELECT s2_count(region::bytea::s2union) FROM large",
+            "SELECT s2_count(s2_outer(region, 29)), s2union_hash(region) FROM large",
+        )
+        for query in queries:
+            wanted = psql(query)
+            refused = answered = 0
+            for extra in [2**20 * n for n in (1, 2, 3, 4, 6, 8, 12, 16, 24, 32, 64)]:
+                said = self.said(query, extra)
+                self.assertEqual(said[-1], "goes on", (query, extra, said))
+                if said[:-1] == wanted:
+                    answered += 1
+                else:
+                    self.assertIn("out of memory", said[0], (query, extra))
+                    refused += 1
+            self.assertTrue(refused and answered, (query, refused, answered))
 
 
 class Servers(unittest.TestCase):

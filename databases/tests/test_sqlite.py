@@ -1,21 +1,20 @@
 """The extension for SQLite against the plain model; NULL, wrong types, faults of files, flipped bits, and heap limits.
 
-S2UNION_SQLITE is the path of the extension; the model stands in bindings/tests."""
+S2UNION_SQLITE is the path of the extension; the model is in bindings/tests."""
 
 import ctypes
 import gc
 import os
-import random
 import sqlite3
-import time
 import unittest
 
 import model
+import random_cells
+from random_cells import FACE, signed, unsigned
 
 EXTENSION = os.environ["S2UNION_SQLITE"]
 ROUNDS = int(os.environ.get("S2UNION_ROUNDS", "1500"))
 UNDER_A_SANITIZER = "libasan" in os.environ.get("LD_PRELOAD", "")
-FACE = model.identifier(0, 0)
 EMPTY = model.file([])
 FUNCTIONS = {
     "s2_union": "ll", "s2_intersection": "ll", "s2_difference": "ll", "s2_range": "cc", "s2_normalise": "l",
@@ -32,14 +31,6 @@ sqlite.sqlite3_hard_heap_limit64.restype = ctypes.c_int64
 sqlite.sqlite3_hard_heap_limit64.argtypes = [ctypes.c_int64]
 
 
-def signed(number):
-    return number - 2**64 if number >= 2**63 else number
-
-
-def unsigned(number):
-    return number % 2**64
-
-
 def calls():
     """Each function with arguments that it takes."""
     for name, letters in FUNCTIONS.items():
@@ -49,24 +40,7 @@ def calls():
         yield name, "nnnnnn", [0, 5, 900, 7, 1000, 25]
 
 
-class Random(random.Random):
-    def cell(self, low=0, high=30):
-        level = self.randint(low, high)
-        return model.identifier(level, self.randrange(6 * 4**level))
-
-    def near(self, cell):
-        """A cell that is likely to have to do with another: around it, in it, or beside it."""
-        level, place = model.cell(cell)
-        other = self.randint(max(0, level - 2), min(30, level + 2))
-        place = place * 4 ** (other - level) if other > level else place // 4 ** (level - other)
-        return model.identifier(other, min(max(place + self.randint(-2, 5), 0), 6 * 4**other - 1))
-
-    def cells(self, most=12, near=()):
-        cells = [self.near(self.choice(near)) if near else self.cell(0, 29)]
-        for _ in range(self.randrange(most)):
-            cells.append(self.near(self.choice(cells)))
-        return cells if self.random() < 0.95 else []
-
+class Random(random_cells.Random):
     def text(self, cell):
         return self.choice([model.token(cell), model.token(cell).upper(), model.debug(cell)])
 
@@ -385,7 +359,7 @@ class WhatIsRefused(Tests):
             self.assertEqual(self.ask("s2_is_union(?)", file), 0)
 
     def test_a_fault_is_found_in_every_row(self):
-        """Also in a row that has the length and the place of one that was right."""
+        """Even in a row with the length and the place of one that was right, or in one that comes again and again."""
         good = model.file([model.identifier(20, 3 * k) for k in range(2000)])
         bad = good[:9009] + bytes(8) + good[9017:]
         self.db.execute("CREATE TABLE rows(id INTEGER PRIMARY KEY, file)")
@@ -396,6 +370,8 @@ class WhatIsRefused(Tests):
             "s2_contains('0401', file) + ?", "s2_count(file) + ?"):
             query = f"SELECT {expression} FROM rows WHERE id <> ? ORDER BY id"
             self.assertEqual(len(self.db.execute(query, (leaf, 7)).fetchall()), 9)
+            for _ in range(4):
+                self.refused("a number that is no cell", f"{expression} FROM rows WHERE id = ?", leaf, 7)
             with self.assertRaisesRegex(sqlite3.OperationalError, "a number that is no cell"):
                 self.db.execute(query, (leaf, 8)).fetchall()
 
@@ -475,57 +451,40 @@ class WhatIsRefused(Tests):
             self.assertTrue(refused and answered, (query, refused, answered))
 
 
-class Costs(Tests):
-    def regions(self):
-        self.db.execute("CREATE TABLE regions(id INTEGER PRIMARY KEY, region BLOB NOT NULL)")
-        self.db.execute(
-            """WITH RECURSIVE k(n) AS (SELECT 0 UNION ALL SELECT n + 1 FROM k WHERE n < 99999),
-               h(n, a, b) AS (SELECT n, (n * 2654435761) % 1072000000, (n * 40503 * 65537 + 12345) % 1072000000 FROM k)
-               INSERT INTO regions SELECT n, s2_outer(n % 6, a, a + 131072 + n * 7919 % 900000,
-                                                      b, b + 131072 + n * 104729 % 900000, 13) FROM h"""
-        )
+# A union in the table big that is asked about for each row of the table regions. If SQLite brings it to each row again,
+# it is compared with what it was in the row before.
+PREPARED_ONCE = {
+    "a parameter": "SELECT sum(s2_contains(?, region)) FROM regions",
+    "a parameter of another form": "SELECT sum(s2_contains(s2_normalise(?), region)) FROM regions",
+    "s2_prepared in FROM":
+        "SELECT sum(s2_contains(value, r.region)) FROM s2_prepared((SELECT region FROM big)), regions AS r",
+    "s2_prepared in a subquery":
+        "SELECT sum(s2_contains((SELECT value FROM s2_prepared((SELECT region FROM big))), region)) FROM regions",
+}
+COMPARED_FOR_EACH_ROW = {
+    "a subquery": "SELECT sum(s2_contains((SELECT region FROM big), region)) FROM regions",
+    "a CTE":
+        "WITH b AS MATERIALIZED (SELECT region AS u FROM big) SELECT sum(s2_contains(u, region)) FROM b, regions",
+    "a join": "SELECT sum(s2_contains(big.region, regions.region)) FROM big CROSS JOIN regions",
+}
 
-    def fastest(self, query, *values):
-        """The processor time of the fastest of five runs, and the answer."""
-        times, answer = [], None
-        for _ in range(5):
-            start = time.process_time()
-            answer = self.db.execute(query, values).fetchall()
-            times.append(time.process_time() - start)
-        return min(times), answer
 
-    def test_questions_of_a_large_union(self):
-        """100,000 rows against a union of some 600,000 cells, which is prepared once: to read it anew takes milliseconds a
-        row. What a row takes is printed; the goal is 2 microseconds."""
-        self.regions()
-        big = self.ask("s2_union_agg(region) FROM regions WHERE id < 50000")
-        self.assertGreater(self.ask("s2_count(?)", big), 600000)
+class Steps(Tests):
+    """On the build of counted.c: how many cells are looked at one by one, as a check and a decoding do."""
+
+    def test_a_union_that_is_asked_for_each_row(self):
+        steps = ctypes.c_uint64.in_dll(ctypes.CDLL(EXTENSION), "s2_steps")
+        cells = [model.identifier(20, 3 * k) for k in range(20000)]
         self.db.execute("CREATE TABLE big(region)")
-        self.db.execute("INSERT INTO big VALUES(?)", (big,))
-        cells = ids(big)
-        shuffled = model.file(self.random.sample(cells, len(cells)))
-        parameter = "SELECT count(*) FROM regions WHERE s2_contains(?, region)"
-        prepared = """SELECT count(*) FROM s2_prepared((SELECT region FROM big)) AS b, regions
-                      WHERE s2_contains(b.value, regions.region)"""
-        scan = "SELECT count(*) FROM regions WHERE s2_contains(region, ?)"
-        limit = 1e9 if UNDER_A_SANITIZER else 2e-4
-        counts = set()
-        for name, query, values, own in (
-            ("a parameter", parameter, (big,), 0), ("s2_prepared", prepared, (), 0),
-            ("a parameter in another order", parameter, (shuffled,), 0.2),
-        ):
-            took, answer = self.fastest(query, *values)
-            counts.add(answer[0])
-            print(f"{name}: {took * 10:.2f} us a row")
-            self.assertLess(took, 100000 * limit + own)
-        self.assertEqual(len(counts), 1)
-        self.assertGreaterEqual(counts.pop()[0], 50000)
-        took, _ = self.fastest(scan, self.ask("range_min FROM regions, s2_cells(region) WHERE id = 3 LIMIT 1"))
-        print(f"which regions contain a leaf: {took * 10:.2f} us a row")
-
-
-def ids(file):
-    return [int.from_bytes(file[k : k + 8], "little") for k in range(9, len(file), 8)]
+        self.db.execute("INSERT INTO big VALUES(?)", (model.file(cells),))
+        self.db.execute("CREATE TABLE regions(region)")
+        for k in range(500):
+            self.db.execute("INSERT INTO regions VALUES(?)", (model.file(cells[k : k + 9]),))
+        for name, query in [*PREPARED_ONCE.items(), *COMPARED_FOR_EACH_ROW.items()]:
+            values = (model.file(cells[::-1]),) if "?" in query else ()
+            before = steps.value
+            self.assertEqual(self.db.execute(query, values).fetchone(), (500,), name)
+            self.assertLessEqual((steps.value - before - 500 * 9) / len(cells), 5, name)
 
 
 if __name__ == "__main__":

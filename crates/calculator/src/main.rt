@@ -1,4 +1,4 @@
-//! The program: it opens what a run needs, and calls it.
+//! The program: it opens what a run needs, and calls the run.
 #![tactic(auto)]
 
 ghost use Rattle.std.specs.Prelude.{◌≤◌};
@@ -63,7 +63,7 @@ fn answer_cell(rt: &HostRuntime, word: &str) -> ExitCode {
     answered(rt, cell_answer(word.as_bytes(), &mut io::writer(rt)))
 }
 
-/// Says what a file stands for.
+/// Answers one `check FILE`.
 fn answer_check(rt: &HostRuntime, dir: &str, name: &str) -> ExitCode {
     let Ok(mut shelf) = DirShelf::at(rt, dir) else {
         return ended(rt, &Err(RunFault::Memory));
@@ -74,7 +74,7 @@ fn answer_check(rt: &HostRuntime, dir: &str, name: &str) -> ExitCode {
     )
 }
 
-/// Tells how one answer ended.
+/// The exit status after one answer; a failure is shown on standard error.
 fn answered(rt: &impl Eprint, outcome: Result<bool, RunFault>) -> ExitCode {
     match outcome {
         Ok(true) => ExitCode::SUCCESS,
@@ -83,7 +83,7 @@ fn answered(rt: &impl Eprint, outcome: Result<bool, RunFault>) -> ExitCode {
     }
 }
 
-/// Tells how a run ended.
+/// The exit status after a run; a failure is shown on standard error.
 fn ended(rt: &impl Eprint, outcome: &Result<Tally, RunFault>) -> ExitCode {
     let _ = match outcome {
         Ok(_) => Ok(()),

@@ -4,7 +4,7 @@ mod unions;
 
 use std::alloc::{AllocError, Global};
 
-/// The bytes that pairs of hexadecimal digits stand for; blanks are for the eye.
+/// The bytes that pairs of hexadecimal digits stand for. Blanks are ignored.
 fn bytes_of(alloc: Global, digits: &str) -> Result<Vec<u8>, AllocError> {
     let mut bytes = Vec::new(alloc);
     let mut high = None;

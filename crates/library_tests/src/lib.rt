@@ -1,8 +1,13 @@
-//! Tests of the libraries by worked examples. They stand in a crate of their own, so that the libraries are proved once.
+//! Tests of the libraries with worked examples, and a region of its own, `Even`, that they cover.
 //!
-//! Modules: `cells`, `neighbours`, `curve` and `placed` (of `s2cell`), `unions` (of `s2union`), `coverings` (of `s2cover`),
-//! `files` (of `s2file`), `shelves` (of `s2shelf`), `edits` (of `s2edit`).
+//! Modules: `cells`, `neighbours`, `curve` and `placed` (of `s2cell`), `unions` (of `s2union`), `coverings` (of
+//! `s2cover`), `files` (of `s2file`), `shelves` (of `s2shelf`), `edits` (of `s2edit`), `misfits` (of `s2script`). Sets
+//! of cells are named by their tokens (`tokens`).
 #![tactic(auto)]
+
+mod even;
+
+pub use even::Even;
 
 #[cfg(test)]
 mod cells;
@@ -15,10 +20,14 @@ mod edits;
 #[cfg(test)]
 mod files;
 #[cfg(test)]
+mod misfits;
+#[cfg(test)]
 mod neighbours;
 #[cfg(test)]
 mod placed;
 #[cfg(test)]
 mod shelves;
+#[cfg(test)]
+mod tokens;
 #[cfg(test)]
 mod unions;

@@ -1,42 +1,65 @@
-//! Known neighbours and ancestors.
+//! Known neighbors and ancestors.
 use s2cell::CellId;
-use std::process::Abort;
 
-/// The cell with a token.
-fn cell(rt: &impl Abort, token: &[u8]) -> CellId {
-    CellId::from_token(token).expect(rt, "a cell's token")
+fn cell(token: &str) -> Option<CellId> {
+    CellId::from_token(token.as_bytes())
+}
+
+/// Whether a cell follows another, and the other comes before it. An empty token stands for no cell.
+fn follows(token: &str, next: &str) -> bool {
+    let is_next = match cell(token) {
+        Some(this) => this.next() == cell(next),
+        None => true,
+    };
+    let is_previous = match cell(next) {
+        Some(this) => this.prev() == cell(token),
+        None => true,
+    };
+    is_next && is_previous
+}
+
+/// The first cell of the table that a different cell follows.
+fn first_other_next() -> Option<&'static str> {
+    for (token, next) in [("1c", "24"), ("04", "0c"), ("1", "3"), ("b", ""), ("", "1")] {
+        if !follows(token, next) {
+            return Some(token);
+        }
+    }
+    None
 }
 
 #[test]
 fn next_and_previous_cells(rt: HostRuntime) {
-    let rows: [(&[u8], &[u8]); 3] = [(b"1c", b"24"), (b"04", b"0c"), (b"1", b"3")];
-    for (token, next) in rows {
-        assert_eq!(rt; cell(&rt, token).next(), Some(cell(&rt, next)), "{token:?}");
-        assert_eq!(rt; cell(&rt, next).prev(), Some(cell(&rt, token)), "{token:?}");
+    assert_eq!(rt; first_other_next(), None);
+}
+
+/// Whether two cells, in either order, have this common ancestor. An empty token stands for none.
+fn have_ancestor(one: &str, other: &str, ancestor: &str) -> bool {
+    match (cell(one), cell(other)) {
+        (Some(one), Some(other)) => {
+            one.common_ancestor(other) == cell(ancestor)
+                && other.common_ancestor(one) == cell(ancestor)
+        }
+        _ => false,
     }
-    assert_eq!(rt; cell(&rt, b"b").next(), None);
-    assert_eq!(rt; cell(&rt, b"1").prev(), None);
+}
+
+/// The first pair of the table with a different common ancestor.
+fn first_other_ancestor() -> Option<(&'static str, &'static str)> {
+    for (one, other, ancestor) in [
+        ("05", "07", "04"),
+        ("04", "05", "04"),
+        ("04", "0c", "1"),
+        ("1", "3", ""),
+    ] {
+        if !have_ancestor(one, other, ancestor) {
+            return Some((one, other));
+        }
+    }
+    None
 }
 
 #[test]
 fn common_ancestors(rt: HostRuntime) {
-    let rows: [(&[u8], &[u8], &[u8]); 3] = [
-        (b"05", b"07", b"04"),
-        (b"04", b"05", b"04"),
-        (b"04", b"0c", b"1"),
-    ];
-    for (one, other, ancestor) in rows {
-        let want = Some(cell(&rt, ancestor));
-        assert_eq!(rt;
-            cell(&rt, one).common_ancestor(cell(&rt, other)),
-            want,
-            "{one:?} and {other:?}"
-        );
-        assert_eq!(rt;
-            cell(&rt, other).common_ancestor(cell(&rt, one)),
-            want,
-            "{other:?} and {one:?}"
-        );
-    }
-    assert_eq!(rt; cell(&rt, b"1").common_ancestor(cell(&rt, b"3")), None);
+    assert_eq!(rt; first_other_ancestor(), None);
 }

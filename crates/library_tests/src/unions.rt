@@ -1,37 +1,27 @@
+//! Worked examples of unions.
+use crate::tokens::{cells, is, of};
 use s2cell::CellId;
-use s2union::{CellUnion, is_normalized, normalise};
+use s2union::{CellUnion, UnionFault, is_normalized, normalise};
 use std::alloc::{AllocError, Global};
 
-/// The cells with these tokens.
-fn cells(alloc: Global, tokens: &str) -> Result<Vec<CellId>, AllocError> {
-    let mut list = Vec::new(alloc);
-    for token in tokens.split_whitespace() {
-        if let Some(cell) = CellId::from_token(token.as_bytes()) {
-            list.push(cell)?;
-        }
-    }
-    Ok(list)
+/// The first leaf of face 0.
+const LEAF: &str = "0000000000000001";
+
+/// One hundredth of all leaves.
+const SPREAD: u64 = 69175290276410818;
+
+/// Face 0 without its first leaf.
+fn without_a_leaf(alloc: Global) -> Result<CellUnion, AllocError> {
+    of(alloc, "1")?.difference(&of(alloc, LEAF)?)
 }
 
-fn of(alloc: Global, tokens: &str) -> Result<CellUnion, AllocError> {
-    Ok(normalise(cells(alloc, tokens)?))
+/// Whether a union was made, and has these tokens.
+fn has(made: Result<CellUnion, AllocError>, tokens: &str) -> Result<bool, AllocError> {
+    Ok(is(made?.cells(), tokens))
 }
 
-/// Whether these are the tokens of the cells.
-fn is(made: &[CellId], tokens: &str) -> bool {
-    let mut words = tokens.split_whitespace();
-    for cell in made {
-        let token = cell.token();
-        match words.next() {
-            Some(word) if word.as_bytes() == token.as_slice() => {}
-            _ => return false,
-        }
-    }
-    words.next().is_none()
-}
-
-#[test]
-fn siblings_merge_again_and_faces_never(rt: HostRuntime) -> Result<(), AllocError> {
+/// The first list of the table with a different normal form.
+fn first_other_normal_form(alloc: Global) -> Result<Option<&'static str>, AllocError> {
     for (given, normal) in [
         ("", ""),
         ("04 0c 14 1c", "1"),
@@ -41,13 +31,36 @@ fn siblings_merge_again_and_faces_never(rt: HostRuntime) -> Result<(), AllocErro
         ("0c 14 1c 24", "0c 14 1c 24"),
         ("b 9 7 5 3 1", "1 3 5 7 9 b"),
     ] {
-        assert!(rt; is(of(rt.alloc(), given)?.cells(), normal), "{normal}");
+        if !has(of(alloc, given), normal)? {
+            return Ok(Some(given));
+        }
     }
-    Ok(())
+    Ok(None)
 }
 
 #[test]
-fn sets_of_leaves(rt: HostRuntime) -> Result<(), AllocError> {
+fn siblings_merge_again_and_faces_never(rt: HostRuntime) -> Result<(), AllocError> {
+    assert_eq!(rt; first_other_normal_form(rt.alloc())?, None);
+    Ok(())
+}
+
+/// Whether two sets of leaves have this union, intersection and difference.
+fn make(
+    a: &CellUnion,
+    b: &CellUnion,
+    union: &str,
+    intersection: &str,
+    difference: &str,
+) -> Result<bool, AllocError> {
+    Ok(
+        has(a.union(b), union)?
+            && has(a.intersection(b), intersection)?
+            && has(a.difference(b), difference)?,
+    )
+}
+
+/// The first sets of the table with a different union, intersection or difference.
+fn first_other_sets(alloc: Global) -> Result<Option<(&'static str, &'static str)>, AllocError> {
     for (a, b, either, both, less) in [
         ("04 0c", "0c 14", "04 0c 14", "0c", "04"),
         ("0c 14", "0c", "0c 14", "0c", "14"),
@@ -55,29 +68,131 @@ fn sets_of_leaves(rt: HostRuntime) -> Result<(), AllocError> {
         ("1", "04 05", "1", "04", "0c 14 1c"),
         ("", "1", "1", "", ""),
     ] {
-        let a = of(rt.alloc(), a)?;
-        let b = of(rt.alloc(), b)?;
-        assert!(rt; is(a.union(&b)?.cells(), either), "{either}");
-        assert!(rt; is(a.intersection(&b)?.cells(), both), "{both}");
-        assert!(rt; is(a.difference(&b)?.cells(), less), "{less}");
-        assert!(rt; a.try_clone()?.cells() == a.cells());
+        if !make(&of(alloc, a)?, &of(alloc, b)?, either, both, less)? {
+            return Ok(Some((a, b)));
+        }
     }
-    let rest = of(rt.alloc(), "1")?.difference(&of(rt.alloc(), "0000000000000001")?)?;
-    assert_eq!(rt; rest.len(), 90);
-    assert_eq!(rt; rest.leaf_count(), 1152921504606846975);
-    let leaf = of(rt.alloc(), "0000000000000001")?;
-    assert!(rt; is(rest.union(&leaf)?.cells(), "1"));
-    assert!(rt; is(leaf.union(&rest)?.cells(), "1"));
-    let mut copy = CellUnion::with_room(rt.alloc(), rest.len())?;
-    copy.copy_from(&rest);
-    assert!(rt; copy.cells() == rest.cells());
-    let none = CellUnion::empty(rt.alloc());
-    assert!(rt; none.is_empty() && !rest.is_empty());
+    Ok(None)
+}
+
+#[test]
+fn sets_of_leaves(rt: HostRuntime) -> Result<(), AllocError> {
+    assert_eq!(rt; first_other_sets(rt.alloc())?, None);
+    Ok(())
+}
+
+/// The first set and limit of the table whose difference, or its refusal, is different.
+fn first_other_difference(alloc: Global) -> Result<Option<(&'static str, usize)>, AllocError> {
+    for (a, b, limit, less) in [
+        ("", "1", 0, Some("")),
+        ("1", "1", 0, Some("")),
+        ("1", "", 0, None),
+        ("1", "", 1, Some("1")),
+        ("1", "04", 2, None),
+        ("1", "04", 3, Some("0c 14 1c")),
+        ("1 3 5", "7", 2, None),
+        ("1 3 5", "7", 3, Some("1 3 5")),
+        ("04 0c 14 3 5", "0c", 3, None),
+        ("04 0c 14 3 5", "0c", 4, Some("04 14 3 5")),
+    ] {
+        let made = of(alloc, a)?.difference_up_to(&of(alloc, b)?, limit);
+        let is_as_said = match (made, less) {
+            (Ok(rest), Some(tokens)) => is(rest.cells(), tokens),
+            (Err(fault), None) => fault == UnionFault::TooMany,
+            _ => false,
+        };
+        if !is_as_said {
+            return Ok(Some((a, limit)));
+        }
+    }
+    Ok(None)
+}
+
+#[test]
+fn a_difference_of_more_cells_than_the_limit(rt: HostRuntime) -> Result<(), AllocError> {
+    assert_eq!(rt; first_other_difference(rt.alloc())?, None);
+    Ok(())
+}
+
+/// A hundred leaves, spread over all faces.
+fn spread_leaves(alloc: Global) -> Result<CellUnion, AllocError> {
+    let mut leaves = Vec::new(alloc);
+    for k in 0..100 {
+        leaves.push(CellId::tile(k * SPREAD, k * SPREAD + 1))?;
+    }
+    Ok(normalise(leaves))
+}
+
+/// Whether the difference is whole if it keeps to the limit, and is refused if not.
+fn is_within(a: &CellUnion, b: &CellUnion, limit: usize, whole: &CellUnion) -> bool {
+    match a.difference_up_to(b, limit) {
+        Ok(rest) => whole.len() <= limit && rest.cells() == whole.cells(),
+        Err(fault) => whole.len() > limit && fault == UnionFault::TooMany,
+    }
+}
+
+#[test]
+fn six_faces_without_spread_leaves(rt: HostRuntime) -> Result<(), AllocError> {
+    let faces = of(rt.alloc(), "1 3 5 7 9 b")?;
+    let leaves = spread_leaves(rt.alloc())?;
+    let whole = faces.difference(&leaves)?;
+    let len = whole.len();
+    assert!(rt; len > 1000 && whole.leaf_count() == 6917529027641081756);
+    for limit in [0, 1000, len - 1, len, usize::MAX] {
+        assert!(rt; is_within(&faces, &leaves, limit, &whole), "{limit}");
+    }
     Ok(())
 }
 
 #[test]
-fn inclusion_and_shared_leaves(rt: HostRuntime) -> Result<(), AllocError> {
+fn a_leaf_leaves_a_face_and_returns(rt: HostRuntime) -> Result<(), AllocError> {
+    let rest = without_a_leaf(rt.alloc())?;
+    let leaf = of(rt.alloc(), LEAF)?;
+    assert_eq!(rt; (rest.len(), rest.leaf_count()), (90, 1152921504606846975));
+    assert!(rt; has(rest.union(&leaf), "1")? && has(leaf.union(&rest), "1")?);
+    Ok(())
+}
+
+/// Whether both kinds of copies of a union have its cells.
+fn is_copied(alloc: Global, union: &CellUnion) -> Result<bool, AllocError> {
+    let clone = union.try_clone()?;
+    let mut copy = CellUnion::with_room(alloc, union.len())?;
+    copy.copy_from(union);
+    Ok(clone.cells() == union.cells() && copy.cells() == union.cells())
+}
+
+#[test]
+fn copies(rt: HostRuntime) -> Result<(), AllocError> {
+    for tokens in ["04 0c", "0c 14", "04 0c 14", "1", ""] {
+        assert!(rt;
+            is_copied(rt.alloc(), &of(rt.alloc(), tokens)?)?,
+            "{tokens}"
+        );
+    }
+    assert!(rt; is_copied(rt.alloc(), &without_a_leaf(rt.alloc())?)?);
+    Ok(())
+}
+
+#[test]
+fn unions_without_a_cell(rt: HostRuntime) -> Result<(), AllocError> {
+    let none = CellUnion::empty(rt.alloc());
+    let rest = without_a_leaf(rt.alloc())?;
+    assert_eq!(rt; (none.is_empty(), rest.is_empty()), (true, false));
+    Ok(())
+}
+
+/// Whether these are the answers to whether a union contains another and shares leaves with it. If the other is a
+/// single cell, the calls for a cell must agree.
+fn are_answered(u: &CellUnion, v: &CellUnion, contains: bool, intersects: bool) -> bool {
+    let of_one_cell = match v.cells() {
+        [cell] => u.contains_cell(*cell) == contains && u.intersects_cell(*cell) == intersects,
+        _ => true,
+    };
+    of_one_cell && u.contains(v) == contains && u.intersects(v) == intersects
+}
+
+/// The first unions of the table with different answers.
+fn first_other_answers(alloc: Global) -> Result<Option<(&'static str, &'static str)>, AllocError> {
     for (a, b, contains, intersects) in [
         ("1", "04 0c", true, true),
         ("04 0c", "1", false, true),
@@ -87,24 +202,35 @@ fn inclusion_and_shared_leaves(rt: HostRuntime) -> Result<(), AllocError> {
         ("04 0c 14 24", "04", true, true),
         ("04 0c 14 24", "24", true, true),
     ] {
-        let u = of(rt.alloc(), a)?;
-        let v = of(rt.alloc(), b)?;
-        assert_eq!(rt; u.contains(&v), contains, "{a} contains {b}");
-        assert_eq!(rt; u.intersects(&v), intersects, "{a} intersects {b}");
-        if let [cell] = v.cells() {
-            assert_eq!(rt; u.contains_cell(*cell), contains, "{a} contains {b}");
-            assert_eq!(rt; u.intersects_cell(*cell), intersects, "{a} intersects {b}");
+        if !are_answered(&of(alloc, a)?, &of(alloc, b)?, contains, intersects) {
+            return Ok(Some((a, b)));
         }
     }
-    Ok(())
+    Ok(None)
 }
 
 #[test]
-fn questions_in_any_order(rt: HostRuntime) -> Result<(), AllocError> {
-    let rest = of(rt.alloc(), "1")?.difference(&of(rt.alloc(), "0000000000000001")?)?;
-    let mut cursor = rest.cursor();
+fn inclusion_and_shared_leaves(rt: HostRuntime) -> Result<(), AllocError> {
+    assert_eq!(rt; first_other_answers(rt.alloc())?, None);
+    assert_eq!(rt; looks_of_a_union_in_itself(rt.alloc())?, LOOKS);
+    Ok(())
+}
+
+/// Four looks for each of 90 cells: at the cell, twice at the one that contains it, and at the next one, which the last
+/// cell doesn't have.
+const LOOKS: u64 = 4 * 90 - 1;
+
+/// How many looks it takes to see that a union of 90 cells contains itself.
+fn looks_of_a_union_in_itself(alloc: Global) -> Result<u64, AllocError> {
+    let rest = without_a_leaf(alloc)?;
+    Ok(rest.contains_counted(&rest).looks)
+}
+
+/// The first cell of the table for which a cursor gives a different answer.
+fn first_other_question(union: &CellUnion) -> Option<&'static str> {
+    let mut cursor = union.cursor();
     for (token, contains, intersects) in [
-        ("0000000000000001", false, false),
+        (LEAF, false, false),
         ("0000000000000003", true, true),
         ("1c", true, true),
         ("1", false, true),
@@ -112,15 +238,19 @@ fn questions_in_any_order(rt: HostRuntime) -> Result<(), AllocError> {
         ("24", false, false),
         ("0c", true, true),
     ] {
-        if let [cell] = cells(rt.alloc(), token)?.as_slice() {
-            assert_eq!(rt; cursor.contains_cell(*cell), contains, "contains {token}");
-            assert_eq!(rt;
-                cursor.intersects_cell(*cell),
-                intersects,
-                "intersects {token}"
-            );
+        match CellId::from_token(token.as_bytes()) {
+            Some(cell)
+                if cursor.contains_cell(cell) == contains
+                    && cursor.intersects_cell(cell) == intersects => {}
+            _ => return Some(token),
         }
     }
+    None
+}
+
+#[test]
+fn questions_in_any_order(rt: HostRuntime) -> Result<(), AllocError> {
+    assert_eq!(rt; first_other_question(&without_a_leaf(rt.alloc())?), None);
     Ok(())
 }
 
@@ -135,13 +265,23 @@ fn normalised_lists(rt: HostRuntime) -> Result<(), AllocError> {
         ("04 04", false),
         ("04 1", false),
     ] {
-        assert_eq!(rt;
-            is_normalized(cells(rt.alloc(), tokens)?.as_slice()),
-            is,
+        assert!(rt;
+            is_normalized(&cells(rt.alloc(), tokens)?) == is,
             "{tokens}"
         );
     }
     Ok(())
+}
+
+/// Whether the range between two cells has these tokens and this many leaves.
+fn is_range(alloc: Global, ends: &str, range: &str, leaves: u64) -> Result<bool, AllocError> {
+    match cells(alloc, ends)?.as_slice() {
+        [x, y] if x.first_leaf() < y.end_leaf() => {
+            let made = CellUnion::from_range(alloc, *x, *y)?;
+            Ok(is(made.cells(), range) && made.leaf_count() == leaves)
+        }
+        _ => Ok(false),
+    }
 }
 
 #[test]
@@ -155,39 +295,49 @@ fn ranges_across_faces(rt: HostRuntime) -> Result<(), AllocError> {
         ),
         ("1c 24", "1c 24", 576460752303423488),
     ] {
-        let ends = cells(rt.alloc(), ends)?;
-        assert_eq!(rt; ends.len(), 2);
-        if let [x, y] = ends.as_slice() {
-            assert!(rt; x.first_leaf() < y.end_leaf());
-            let made = CellUnion::from_range(rt.alloc(), *x, *y)?;
-            assert!(rt; is(made.cells(), range), "{range}");
-            assert_eq!(rt; made.leaf_count(), leaves);
-        }
+        assert!(rt; is_range(rt.alloc(), ends, range, leaves)?, "{ends}");
     }
     Ok(())
+}
+
+/// Whether a union is cut into these cells.
+fn is_cut(
+    alloc: Global,
+    tokens: &str,
+    min: u8,
+    modulus: u8,
+    want: &str,
+) -> Result<bool, AllocError> {
+    if min > 30 || modulus == 0 || modulus > 3 {
+        return Ok(false);
+    }
+    let union = of(alloc, tokens)?;
+    let list: Vec<CellId> = union.denormalized(min, modulus).collect(alloc)?;
+    Ok(is(&list, want))
 }
 
 #[test]
 fn levels_that_are_wanted(rt: HostRuntime) -> Result<(), AllocError> {
     for (tokens, min, modulus, want) in [
         ("04", 0, 2, "01 03 05 07"),
-        ("0000000000000001", 29, 3, "0000000000000001"),
+        (LEAF, 29, 3, LEAF),
         ("1 0000000000000001", 1, 3, "04 0c 14 1c"),
         ("", 5, 1, ""),
     ] {
-        assert!(rt; min <= 30 && 0 < modulus && modulus <= 3);
-        let u = of(rt.alloc(), tokens)?;
-        let list: Vec<CellId> = u.denormalized(min, modulus).collect(rt.alloc())?;
-        assert!(rt;
-            list.as_slice() == cells(rt.alloc(), want)?.as_slice(),
-            "{tokens} {min} {modulus}"
-        );
+        assert!(rt; is_cut(rt.alloc(), tokens, min, modulus, want)?, "{tokens}");
     }
+    Ok(())
+}
+
+#[test]
+fn how_many_cells_of_a_level(rt: HostRuntime) -> Result<(), AllocError> {
     let face = of(rt.alloc(), "1")?;
     assert_eq!(rt; face.denormalized(9, 1).count(), 262144);
-    for (min, len) in [(9, 262144u64), (10, 1048576), (30, 1152921504606846976)] {
-        assert!(rt; min <= 30);
-        assert_eq!(rt; face.denormalized_len(min, 1), len);
-    }
+    let lengths = [
+        face.denormalized_len(9, 1),
+        face.denormalized_len(10, 1),
+        face.denormalized_len(30, 1),
+    ];
+    assert_eq!(rt; lengths, [262144, 1048576, 1152921504606846976]);
     Ok(())
 }

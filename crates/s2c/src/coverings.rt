@@ -5,13 +5,10 @@ ghost use Rattle.s2cover.specs.Coverings.{inner_set, outer_set};
 ghost use Rattle.s2cover.specs.Rectangles.{rect_set};
 
 use crate::lists::put_cells;
-use s2cover::{FaceRect, Looks, inner, outer, rect_inner, rect_outer};
+use s2cover::{FaceRect, Looks, MOST_CELLS, inner, outer, rect_inner, rect_outer};
 use std::alloc::Global;
 
-/// The most cells that a covering is allowed.
-const MOST_CELLS: usize = 1_000_000;
-
-/// The leaves of a face, 0 to 5, with coordinates from `i0` to `i1` and from `j0` to `j1`, the bounds included.
+/// The leaves of a face, 0 to 5, with coordinates from `i0` to `i1` and from `j0` to `j1`, inclusive.
 #[repr(C)]
 #[derive(Clone, Copy)]
 pub struct Bounds {
@@ -27,7 +24,7 @@ pub struct Bounds {
     pub j1: u32,
 }
 
-/// The cells of a level that share a leaf with a rectangle, normalised. At most a million of them.
+/// The cells of a level that share a leaf with a rectangle, normalized. At most a million of them.
 #[unsafe(no_mangle)]
 pub extern "C" fn s2c_outer(
     alloc: Global,
@@ -38,7 +35,14 @@ pub extern "C" fn s2c_outer(
 ) -> bool
     ensures within { IsTrue result → len.new ≤ length out.new }
     ensures normal { IsTrue result
-        → IsNormalForm (outer_set (rect_set (record { face = bounds.now.face; i0 = bounds.now.i0; i1 = bounds.now.i1; j0 = bounds.now.j0; j1 = bounds.now.j1 })) level) (take len.new out.new) }
+        → IsNormalForm
+        (outer_set (rect_set (record {
+          face = bounds.now.face;
+          i0 = bounds.now.i0;
+          i1 = bounds.now.i1;
+          j0 = bounds.now.j0;
+          j1 = bounds.now.j1;
+        })) level) (take len.new out.new) }
 {
     let Some(rect) = rect_of(bounds) else {
         return false;
@@ -53,7 +57,7 @@ pub extern "C" fn s2c_outer(
     }
 }
 
-/// The cells of a level that lie inside a rectangle, normalised. At most a million of them.
+/// The cells of a level that lie inside a rectangle, normalized. At most a million of them.
 #[unsafe(no_mangle)]
 pub extern "C" fn s2c_inner(
     alloc: Global,
@@ -64,7 +68,14 @@ pub extern "C" fn s2c_inner(
 ) -> bool
     ensures within { IsTrue result → len.new ≤ length out.new }
     ensures normal { IsTrue result
-        → IsNormalForm (inner_set (rect_set (record { face = bounds.now.face; i0 = bounds.now.i0; i1 = bounds.now.i1; j0 = bounds.now.j0; j1 = bounds.now.j1 })) level) (take len.new out.new) }
+        → IsNormalForm
+        (inner_set (rect_set (record {
+          face = bounds.now.face;
+          i0 = bounds.now.i0;
+          i1 = bounds.now.i1;
+          j0 = bounds.now.j0;
+          j1 = bounds.now.j1;
+        })) level) (take len.new out.new) }
 {
     let Some(rect) = rect_of(bounds) else {
         return false;
@@ -90,7 +101,14 @@ pub extern "C" fn s2c_region_outer(
 ) -> bool
     ensures within { IsTrue result → len.new ≤ length out.new }
     ensures normal { IsTrue result
-        → IsNormalForm (outer_set (rect_set (record { face = bounds.now.face; i0 = bounds.now.i0; i1 = bounds.now.i1; j0 = bounds.now.j0; j1 = bounds.now.j1 })) level) (take len.new out.new) }
+        → IsNormalForm
+        (outer_set (rect_set (record {
+          face = bounds.now.face;
+          i0 = bounds.now.i0;
+          i1 = bounds.now.i1;
+          j0 = bounds.now.j0;
+          j1 = bounds.now.j1;
+        })) level) (take len.new out.new) }
 {
     let Some(rect) = rect_of(bounds) else {
         return false;
@@ -115,7 +133,14 @@ pub extern "C" fn s2c_region_inner(
 ) -> bool
     ensures within { IsTrue result → len.new ≤ length out.new }
     ensures normal { IsTrue result
-        → IsNormalForm (inner_set (rect_set (record { face = bounds.now.face; i0 = bounds.now.i0; i1 = bounds.now.i1; j0 = bounds.now.j0; j1 = bounds.now.j1 })) level) (take len.new out.new) }
+        → IsNormalForm
+        (inner_set (rect_set (record {
+          face = bounds.now.face;
+          i0 = bounds.now.i0;
+          i1 = bounds.now.i1;
+          j0 = bounds.now.j0;
+          j1 = bounds.now.j1;
+        })) level) (take len.new out.new) }
 {
     let Some(rect) = rect_of(bounds) else {
         return false;
@@ -131,7 +156,13 @@ pub extern "C" fn s2c_region_inner(
 
 /// The rectangle with these bounds, if there is one.
 fn rect_of(bounds: &Bounds) -> Option<FaceRect>
-    ensures { IfSome result (λ rect. rect ≡ record { face = bounds.now.face; i0 = bounds.now.i0; i1 = bounds.now.i1; j0 = bounds.now.j0; j1 = bounds.now.j1 }) }
+    ensures { IfSome result (λ rect. rect ≡ record {
+      face = bounds.now.face;
+      i0 = bounds.now.i0;
+      i1 = bounds.now.i1;
+      j0 = bounds.now.j0;
+      j1 = bounds.now.j1;
+    }) }
 {
     FaceRect::new(bounds.face, bounds.i0, bounds.i1, bounds.j0, bounds.j1)
 }

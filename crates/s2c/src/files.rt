@@ -58,7 +58,7 @@ pub extern "C" fn s2c_decode(
     }
 }
 
-/// Writes bytes to the front of `out`, where there is room, and their number to `len`.
+/// Writes bytes to the front of `out`, if there is room, and their number to `len`.
 fn put_bytes(bytes: &[u8], out: &mut [u8], len: &mut usize) -> bool
     ensures bytes { IsTrue result → take len.new out.new ≡ bytes.now }
     ensures within { IsTrue result → len.new ≤ length out.new }

@@ -1,11 +1,12 @@
 //! The library for callers in C: one function for each family of work, on numbers and slices.
 //!
-//! A cell is its identifier, a union the ascending list of its cells, a text or a file its bytes. In C a slice is a
-//! pointer and a length, and a result of many numbers goes into a slice that the caller has ready, with its length
-//! beside it. An answer `false` says that nothing was made: a list that is no union, too little room, or no memory.
+//! A cell is its identifier, a union is the ascending list of its cells, and a text or a file is its bytes. In C a
+//! slice is a pointer and a length. A result of many numbers goes into a slice of the caller, and its length into
+//! another argument. The answer `false` says that nothing was made: a list is not a union, there is too little room, or
+//! there is no memory.
 //!
-//! The calls on unions take how many `times` over their work is to be done, so that a measure can leave out what it
-//! costs to copy the lists in and out. What they answer is that of one time.
+//! The calls on unions do their work `times` times, so that a benchmark can leave out the cost of copying the lists in
+//! and out. The answer is the same as for one time.
 #![tactic(auto)]
 
 mod cells;

@@ -7,7 +7,7 @@ use s2cell::CellId;
 use s2union::{CellUnion, is_normalized};
 use std::alloc::Global;
 
-/// The cells with these identifiers, where each is one of a cell and there is memory.
+/// The cells with these identifiers, if each is the identifier of a cell and there is memory.
 pub(crate) fn cells_of(alloc: Global, ids: &[u64]) -> Option<Vec<CellId>>
     ensures cells { IfSome result (λ cells. cells.items ≡ ids.now) }
 {
@@ -18,7 +18,7 @@ pub(crate) fn cells_of(alloc: Global, ids: &[u64]) -> Option<Vec<CellId>>
     Some(cells)
 }
 
-/// The union with these cells, where they are normalised and there is memory.
+/// The union with these cells, if they are normalized and there is memory.
 pub(crate) fn union_of(alloc: Global, ids: &[u64]) -> Option<CellUnion>
     ensures cells { IfSome result (λ union. union.cells ≡ ids.now) }
     ensures local { IfSome result (λ union. IsLocal ids.now) }
@@ -31,7 +31,7 @@ pub(crate) fn union_of(alloc: Global, ids: &[u64]) -> Option<CellUnion>
     }
 }
 
-/// Writes the identifiers of cells to the front of `out`, where there is room, and their number to `len`.
+/// Writes the identifiers of cells to the front of `out`, if there is room, and their number to `len`.
 pub(crate) fn put_cells(cells: &[CellId], out: &mut [u64], len: &mut usize) -> bool
     ensures cells { IsTrue result → take len.new out.new ≡ cells.now }
     ensures within { IsTrue result → len.new ≤ length out.new }

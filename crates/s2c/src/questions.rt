@@ -1,4 +1,4 @@
-//! The questions that are asked of a union.
+//! Questions about unions.
 ghost use Rattle.std.specs.Prelude.{◌≡◌, ◌<◌, ◌≤◌, ◌↔◌, IsTrue, ℕ, length, slice_index, slice_index_or, false};
 ghost use Rattle.s2cell.specs.Cell.{covers};
 ghost use Rattle.s2union.specs.Union.{IsLocal, has_leaf, IsWithin, ShareSome};
@@ -17,7 +17,8 @@ pub extern "C" fn s2c_contains_cells(
     answers: &mut [bool],
 ) -> bool
     ensures answers { IsTrue result → (k : ℕ) → k < length questions.now
-        → (IsTrue (slice_index_or answers.new k false) ↔ IsWithin (covers (slice_index questions.now k)) (has_leaf ids.now)) }
+        → (IsTrue (slice_index_or answers.new k false) ↔ IsWithin (covers (slice_index questions.now k))
+        (has_leaf ids.now)) }
     ensures local { IsTrue result → IsLocal ids.now }
 {
     let (Some(union), Some(cells)) = (union_of(alloc, ids), cells_of(alloc, questions)) else {
@@ -32,7 +33,7 @@ pub extern "C" fn s2c_contains_cells(
     true
 }
 
-/// Whether a union has all leaves of the cell with place `k`.
+/// Whether a union has all leaves of the cell at the place `k`.
 fn contains_at(union: &CellUnion, cells: &[CellId], k: usize) -> bool
     requires { k < length cells.now }
     ensures { IsTrue result ↔ IsWithin (covers (slice_index cells.now k)) (has_leaf union.now.cells) }
@@ -49,7 +50,8 @@ pub extern "C" fn s2c_intersects_cells(
     answers: &mut [bool],
 ) -> bool
     ensures answers { IsTrue result → (k : ℕ) → k < length questions.now
-        → (IsTrue (slice_index_or answers.new k false) ↔ ShareSome (covers (slice_index questions.now k)) (has_leaf ids.now)) }
+        → (IsTrue (slice_index_or answers.new k false) ↔ ShareSome (covers (slice_index questions.now k))
+        (has_leaf ids.now)) }
     ensures local { IsTrue result → IsLocal ids.now }
 {
     let (Some(union), Some(cells)) = (union_of(alloc, ids), cells_of(alloc, questions)) else {

@@ -62,7 +62,7 @@ pub extern "C" fn s2c_intersection(
     }
 }
 
-/// The leaves of the first union that the second has not.
+/// The leaves of the first union that the second does not have.
 #[unsafe(no_mangle)]
 pub extern "C" fn s2c_difference(
     alloc: Global,

@@ -48,7 +48,8 @@ pub extern "C" fn s2c_range(
     len: &mut usize,
 ) -> bool
     ensures within { IsTrue result → len.new ≤ length out.new }
-    ensures normal { IsTrue result → IsNormalForm (between (first_leaf first) (first_leaf last + size_of last)) (take len.new out.new) }
+    ensures normal { IsTrue result → IsNormalForm (between (first_leaf first) (first_leaf last + size_of last))
+        (take len.new out.new) }
 {
     let (Some(x), Some(y)) = (CellId::from_id(first), CellId::from_id(last)) else {
         return false;
@@ -62,8 +63,8 @@ pub extern "C" fn s2c_range(
     }
 }
 
-/// The cells of a union, each cut into those of the least level that is at least its own and at least `min` and
-/// differs from `min` by a multiple of `modulus`. `min` is at most 30 and `modulus` 1 to 3.
+/// The cells of a union, each cut into cells of the least level that is at least its own, is at least `min`, and
+/// differs from `min` by a multiple of `modulus`. `min` is at most 30, and `modulus` is 1 to 3.
 #[unsafe(no_mangle)]
 pub extern "C" fn s2c_denormalised(
     alloc: Global,

@@ -1,5 +1,6 @@
 -- Lemmas on the listing of cells.
-use Rattle.std.proofs.Common.{◌≡◌, ℕ, ◌+◌, ◌<◌, List, [], ◌∷◌, ◌++◌, codes, length, take, drop, get_or, sym, ap, ◌∙◌, append_assoc, append-nil, take-append-drop}
+use Rattle.std.proofs.Common.{◌≡◌, ℕ, ◌+◌, ◌<◌, List, [], ◌∷◌, ◌++◌, codes, length, take, drop, get_or, sym}
+use Rattle.std.proofs.Common.{ap, ◌∙◌, append_assoc, append-nil, take-append-drop}
 use Rattle.std.specs.List.{flat_map}
 use Rattle.std.proofs.lemmas.List.{drop_more}
 use Rattle.std.proofs.lemmas.List.Concat.{flat_map-append}
@@ -13,7 +14,8 @@ listing_cut all done rest text cell e t =
     let back = codes "end" ++ 10 ∷ [] in
     let front = flat_map token_line done in
     ap (λ s. flat_map token_line s ++ back) (sym e)
-    ∙ ap (λ s. s ++ back) (flat_map-append token_line done (cell ∷ rest) ∙ ap (λ s. front ++ (s ++ flat_map token_line rest)) (sym t))
+    ∙ ap (λ s. s ++ back) (flat_map-append token_line done (cell ∷ rest)
+    ∙ ap (λ s. front ++ (s ++ flat_map token_line rest)) (sym t))
     ∙ append_assoc front (text ++ flat_map token_line rest) back
     ∙ ap (λ s. front ++ s) (append_assoc text (flat_map token_line rest) back)
 
@@ -22,10 +24,14 @@ pub listing_end : (all done : List ℕ) → done ≡ all → listing all ≡ fla
 unfolding listing
 listing_end all done e = ap (λ s. flat_map token_line s ++ (codes "end" ++ 10 ∷ [])) (sym e)
 
--- the same, with nothing behind
-pub listing_last : (all done : List ℕ) → done ≡ all → listing all ≡ flat_map token_line done ++ ((codes "end" ++ 10 ∷ []) ++ [])
-listing_last all done e = listing_end all done e ∙ ap (λ s. flat_map token_line done ++ s) (sym (append-nil (codes "end" ++ 10 ∷ [])))
+-- the same, with nothing after it
+pub listing_last : (all done : List ℕ) → done ≡ all →
+    listing all ≡ flat_map token_line done ++ ((codes "end" ++ 10 ∷ []) ++ [])
+listing_last all done e = listing_end all done e
+    ∙ ap (λ s. flat_map token_line done ++ s) (sym (append-nil (codes "end" ++ 10 ∷ [])))
 
 -- a list, cut round one of its elements
-pub cut_round : (cells : List ℕ) (i cell : ℕ) → i < length cells → cell ≡ get_or cells i cell → take i cells ++ (cell ∷ drop (i + 1) cells) ≡ cells
-cut_round cells i cell h e = ap (λ c. take i cells ++ (c ∷ drop (i + 1) cells)) e ∙ ap (λ s. take i cells ++ s) (sym (drop_more cells i cell h)) ∙ take-append-drop i cells
+pub cut_round : (cells : List ℕ) (i cell : ℕ) → i < length cells → cell ≡ get_or cells i cell →
+    take i cells ++ (cell ∷ drop (i + 1) cells) ≡ cells
+cut_round cells i cell h e = ap (λ c. take i cells ++ (c ∷ drop (i + 1) cells)) e
+    ∙ ap (λ s. take i cells ++ s) (sym (drop_more cells i cell h)) ∙ take-append-drop i cells

@@ -1,5 +1,6 @@
 -- Lemmas on a whole run.
-use Rattle.std.proofs.Common.{◌≡◌, ◌∙◌, ℕ, List, [], ◌++◌, Option, None, Some, Result, Ok, Err, MatchResult, take, refl, sym, ap, subst, append-nil, ◌⊎◌, inl, inr}
+use Rattle.std.proofs.Common.{◌≡◌, ◌∙◌, ℕ, List, [], ◌++◌, Option, None, Some, Result, Ok, Err, MatchResult, take}
+use Rattle.std.proofs.Common.{refl, sym, ap, subst, append-nil, ◌⊎◌, inl, inr}
 use Rattle.std.proofs.lemmas.List.Concat.{flat_map-append}
 use Rattle.std.proofs.lemmas.Result.{MatchResult-weaker}
 use Rattle.std.specs.Io.KnownBytes.{Appends, Consumes, Keeps, IsAtEnd, append_known}
@@ -10,32 +11,40 @@ use Rattle.s2calc.specs.declared.fault.RunFault.{RunFault}
 use Rattle.s2calc.specs.declared.fault.RunFault.TheVariants.{Input, Output, Memory}
 use Rattle.s2script.specs.Lines.{lines}
 use Rattle.s2calc.specs.Replies.{Reply, text_of, texts}
-use Rattle.s2calc.specs.Run.{Steps, Ends, Finishes, StopsReading, StopsWriting, StopsFlushing, Runs, RunsPromptly, Faults, PromptFaults, with_waiting}
+use Rattle.s2calc.specs.Run.{Steps, Ends, Finishes, StopsReading, StopsWriting, StopsFlushing, Runs, RunsPromptly}
+use Rattle.s2calc.specs.Run.{Faults, PromptFaults, with_waiting}
 use Rattle.s2calc.specs.Stands.{Stands, StopsInside, Ended, EndsInPart, EndsUnflushed, Closes, FaultsBy, RunsBy}
 use Rattle.s2calc.proofs.LineLemmas.{whole_lines_begun}
 use Rattle.s2calc.proofs.CloseLemmas.{IsCutOff-after}
 
-pub Consumes-none : (a b c : Option (List ℕ)) (bs buf : List ℕ) (n : ℕ) → n ≡ 0 → Consumes a b bs → Consumes b c (take n buf) → Consumes a c bs
+pub Consumes-none : (a b c : Option (List ℕ)) (bs buf : List ℕ) (n : ℕ) → n ≡ 0 → Consumes a b bs →
+    Consumes b c (take n buf) → Consumes a c bs
 Consumes-none a b c bs buf n e p q =
     let none : take n buf ≡ [] = ap (λ k. take k buf) e in
     subst (Consumes a c) (append-nil bs) (Consumes-trans a b c bs [] p (subst (Consumes b c) none q))
 
-pub Appends-texts : (a b c : Option (List ℕ)) (before more : List Reply) → Appends a b (texts before) → Appends b c (texts more) → Appends a c (texts (before ++ more))
-Appends-texts a b c before more p q = subst (Appends a c) (sym (flat_map-append text_of before more)) (Appends-trans a b c (texts before) (texts more) p q)
+pub Appends-texts : (a b c : Option (List ℕ)) (before more : List Reply) → Appends a b (texts before) →
+    Appends b c (texts more) → Appends a c (texts (before ++ more))
+Appends-texts a b c before more p q = subst (Appends a c) (sym (flat_map-append text_of before more))
+    (Appends-trans a b c (texts before) (texts more) p q)
 
 module _ (ends : Ends) (old new : World) (script : List ℕ) (replies : List Reply) where
-  pub StopsReading-here : (input : Option (List ℕ)) (kept : List ℕ) (tally : Tally) → Consumes ends.input_old input script → Keeps input ends.input_new → Stands old script replies new kept tally
+  pub StopsReading-here : (input : Option (List ℕ)) (kept : List ℕ) (tally : Tally) →
+      Consumes ends.input_old input script → Keeps input ends.input_new → Stands old script replies new kept tally
       → Appends ends.output_old ends.output_new (texts replies) → StopsReading ends old new
   StopsReading-here input kept tally r k s w =
       record {
         script = script;
         replies = replies;
         read = Consumes-kept ends.input_old input ends.input_new script r k;
-        run = subst (λ ls. Steps old ls replies new) (sym (whole_lines_begun script s.done s.rest s.begins s.unbroken)) s.run;
+        run = subst (λ ls. Steps old ls replies new)
+            (sym (whole_lines_begun script s.done s.rest s.begins s.unbroken)) s.run;
         written = w;
       }
 
-  pub StopsWriting-inside : (input output : Option (List ℕ)) (chunk : List ℕ) → Consumes ends.input_old input script → Consumes input ends.input_new chunk → Appends ends.output_old output (texts replies)
+  pub StopsWriting-inside : (input output : Option (List ℕ)) (chunk : List ℕ) →
+      Consumes ends.input_old input script → Consumes input ends.input_new chunk →
+      Appends ends.output_old output (texts replies)
       → StopsInside old script replies chunk new output ends.output_new → StopsWriting ends old new
   StopsWriting-inside input output chunk r q w s =
       record {
@@ -50,7 +59,8 @@ module _ (ends : Ends) (old new : World) (script : List ℕ) (replies : List Rep
         cut_off = IsCutOff-after replies s.more s.bytes s.cut_off;
       }
 
-  Finishes-here : (output : Option (List ℕ)) (tally : Tally) → Consumes ends.input_old ends.input_new script → IsAtEnd ends.input_new → Appends ends.output_old output (texts replies)
+  Finishes-here : (output : Option (List ℕ)) (tally : Tally) → Consumes ends.input_old ends.input_new script →
+      IsAtEnd ends.input_new → Appends ends.output_old output (texts replies)
       → Ended old script replies new output ends.output_new tally → Finishes ends old new tally
   Finishes-here output tally r e w s =
       record {
@@ -63,7 +73,8 @@ module _ (ends : Ends) (old new : World) (script : List ℕ) (replies : List Rep
         tally_is = s.tally_is;
       }
 
-  StopsWriting-here : (output : Option (List ℕ)) → Consumes ends.input_old ends.input_new script → IsAtEnd ends.input_new → Appends ends.output_old output (texts replies)
+  StopsWriting-here : (output : Option (List ℕ)) → Consumes ends.input_old ends.input_new script →
+      IsAtEnd ends.input_new → Appends ends.output_old output (texts replies)
       → EndsInPart old script replies new output ends.output_new → StopsWriting ends old new
   StopsWriting-here output r e w s =
       record {
@@ -78,7 +89,8 @@ module _ (ends : Ends) (old new : World) (script : List ℕ) (replies : List Rep
         cut_off = IsCutOff-after replies s.more s.bytes s.cut_off;
       }
 
-  StopsFlushing-here : (output : Option (List ℕ)) → Consumes ends.input_old ends.input_new script → IsAtEnd ends.input_new → Appends ends.output_old output (texts replies)
+  StopsFlushing-here : (output : Option (List ℕ)) → Consumes ends.input_old ends.input_new script →
+      IsAtEnd ends.input_new → Appends ends.output_old output (texts replies)
       → EndsUnflushed old script replies new output ends.output_new → StopsFlushing ends old new
   StopsFlushing-here output r e w s =
       record {
@@ -90,44 +102,56 @@ module _ (ends : Ends) (old new : World) (script : List ℕ) (replies : List Rep
         written = Appends-texts ends.output_old output ends.output_new replies s.more w s.written;
       }
 
-  StopsClosing : (may_fail : Type 0) (output : Option (List ℕ)) → Consumes ends.input_old ends.input_new script → IsAtEnd ends.input_new → Appends ends.output_old output (texts replies)
-      → EndsInPart old script replies new output ends.output_new ⊎ EndsUnflushed old script replies new output ends.output_new → FaultsBy may_fail Output ends old new
+  StopsClosing : (may_fail : Type 0) (output : Option (List ℕ)) → Consumes ends.input_old ends.input_new script →
+      IsAtEnd ends.input_new → Appends ends.output_old output (texts replies)
+      → EndsInPart old script replies new output ends.output_new
+      ⊎ EndsUnflushed old script replies new output ends.output_new → FaultsBy may_fail Output ends old new
   StopsClosing may_fail output r e w (inl s) = inr (inl (StopsWriting-here output r e w s))
   StopsClosing may_fail output r e w (inr s) = inr (inr (StopsFlushing-here output r e w s))
 
-  pub Runs-close : (may_fail : Type 0) (output : Option (List ℕ)) (result : Result Tally RunFault) → Consumes ends.input_old ends.input_new script → IsAtEnd ends.input_new → Appends ends.output_old output (texts replies)
+  pub Runs-close : (may_fail : Type 0) (output : Option (List ℕ)) (result : Result Tally RunFault) →
+      Consumes ends.input_old ends.input_new script → IsAtEnd ends.input_new →
+      Appends ends.output_old output (texts replies)
       → Closes old script replies new output ends.output_new result → RunsBy may_fail ends old new result
   Runs-close may_fail output result r e w closes =
-      MatchResult-weaker result closes (λ tally s. Finishes-here output tally r e w s) (λ fault s. subst (λ f. FaultsBy may_fail f ends old new) (sym s.0) (StopsClosing may_fail output r e w s.1))
+      MatchResult-weaker result closes (λ tally s. Finishes-here output tally r e w s)
+      (λ fault s. subst (λ f. FaultsBy may_fail f ends old new) (sym s.0)
+      (StopsClosing may_fail output r e w s.1))
 
 -- ---- the two runs
 
-faults_at_the_end : (ends : Ends) (old new : World) (fault : RunFault) → FaultsBy ⊥ fault ends old new → Faults fault ends old new
+faults_at_the_end : (ends : Ends) (old new : World) (fault : RunFault) → FaultsBy ⊥ fault ends old new →
+    Faults fault ends old new
 faults_at_the_end ends old new Input s = s
 faults_at_the_end ends old new Output (inl s) = absurd s.0
 faults_at_the_end ends old new Output (inr s) = s
 faults_at_the_end ends old new Memory s = s
 
 -- no flush before a read fails
-pub Runs-at_the_end : (ends : Ends) (old new : World) (result : Result Tally RunFault) → RunsBy ⊥ ends old new result → Runs ends old new result
-Runs-at_the_end ends old new result runs = MatchResult-weaker result runs (λ tally s. s) (faults_at_the_end ends old new)
+pub Runs-at_the_end : (ends : Ends) (old new : World) (result : Result Tally RunFault) →
+    RunsBy ⊥ ends old new result → Runs ends old new result
+Runs-at_the_end ends old new result runs = MatchResult-weaker result runs (λ tally s. s)
+    (faults_at_the_end ends old new)
 
 append_known-none : (known : Option (List ℕ)) (waiting : List ℕ) → waiting ≡ [] → append_known known waiting ≡ known
 append_known-none None waiting e = refl
 append_known-none (Some xs) waiting e = ap (λ w. Some (xs ++ w)) e ∙ ap Some (append-nil xs)
 
 module _ (ends : Ends) (waiting : List ℕ) (old new : World) where
-  -- where nothing waits, all that was written has reached the writer
+  -- if nothing waits, all that was written has reached the writer
   with_none : waiting ≡ [] → with_waiting ends waiting ≡ ends
   with_none e = ap (λ o. record ends { output_new = o }) (append_known-none ends.output_new waiting e)
 
-  faults_promptly : (fault : RunFault) → FaultsBy (Unit {0}) fault (with_waiting ends waiting) old new → (fault ≡ Input → waiting ≡ []) → PromptFaults fault ends waiting old new
+  faults_promptly : (fault : RunFault) → FaultsBy (Unit {0}) fault (with_waiting ends waiting) old new →
+      (fault ≡ Input → waiting ≡ []) → PromptFaults fault ends waiting old new
   faults_promptly Input s e = subst (λ x. StopsReading x old new) (with_none (e refl)) s
   faults_promptly Output (inl s) e = inl s.1
   faults_promptly Output (inr s) e = inr s
   faults_promptly Memory s e = s
 
-  pub RunsPromptly-sent : (result : Result Tally RunFault) → RunsBy (Unit {0}) (with_waiting ends waiting) old new result
-      → MatchResult result (λ _. waiting ≡ []) (λ fault. fault ≡ Input → waiting ≡ []) → RunsPromptly ends waiting old new result
+  pub RunsPromptly-sent : (result : Result Tally RunFault) →
+      RunsBy (Unit {0}) (with_waiting ends waiting) old new result
+      → MatchResult result (λ _. waiting ≡ []) (λ fault. fault ≡ Input → waiting ≡ []) →
+      RunsPromptly ends waiting old new result
   RunsPromptly-sent (Ok tally) s e = subst (λ x. Finishes x old new tally) (with_none e) s
   RunsPromptly-sent (Err fault) s e = faults_promptly fault s e

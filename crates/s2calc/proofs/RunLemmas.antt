@@ -6,9 +6,11 @@ use Rattle.s2calc.specs.Step.{Step}
 use Rattle.s2calc.specs.Run.{Steps}
 
 -- one more line
-pub Steps-push : (old mid new : World) (ls : List (List ℕ)) (replies : List Reply) (line : List ℕ) (reply : Reply) → Steps old ls replies mid → Step mid line reply new
+pub Steps-push : (old mid new : World) (ls : List (List ℕ)) (replies : List Reply) (line : List ℕ)
+    (reply : Reply) → Steps old ls replies mid → Step mid line reply new
     → Steps old (ls ++ line ∷ []) (replies ++ reply ∷ []) new
-Steps-push old mid new [] [] line reply s t = let goes : Step old line reply new = subst (λ e. Step e line reply new) s t in (new, goes, refl)
+Steps-push old mid new [] [] line reply s t = let goes : Step old line reply new =
+    subst (λ e. Step e line reply new) s t in (new, goes, refl)
 Steps-push old mid new [] (r ∷ rs) line reply s t = absurd s
 Steps-push old mid new (l ∷ ls) [] line reply s t = absurd s
 Steps-push old mid new (l ∷ ls) (r ∷ rs) line reply s t = (s.0, s.1, Steps-push s.0 mid new ls rs line reply s.2 t)

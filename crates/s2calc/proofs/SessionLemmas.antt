@@ -1,5 +1,6 @@
 -- The bytes of a state, and what comes of them.
-use Rattle.std.proofs.Common.{◌≡◌, ◌≢◌, ℕ, ◌+◌, ◌<◌, ◌≤◌, inl, inr, List, length, Ok, Err, MatchResult, refl, sym, ap, ◌∙◌, subst, arith, Result}
+use Rattle.std.proofs.Common.{◌≡◌, ◌≢◌, ℕ, ◌+◌, ◌<◌, ◌≤◌, inl, inr, List, length, Ok, Err, MatchResult, refl}
+use Rattle.std.proofs.Common.{sym, ap, ◌∙◌, subst, arith, Result}
 use Rattle.s2file.specs.Session.{Content, Spells, content_of}
 use Rattle.s2file.specs.declared.session.Session.{Session as Kept}
 use Rattle.s2file.specs.declared.session.SessionFault.{SessionFault}
@@ -22,17 +23,20 @@ form_apart : Form ≡ NoMemory → ⊥
 form_apart e = cc
 
 -- bytes that spell none stand for no history
-pub none_stored : (bytes : List ℕ) → ((s : Content) → Spells bytes s → Form ≡ NoMemory) → (h : History (List ℕ)) → Stored bytes h → ⊥
+pub none_stored : (bytes : List ℕ) → ((s : Content) → Spells bytes s → Form ≡ NoMemory) → (h : History (List ℕ)) →
+    Stored bytes h → ⊥
 none_stored bytes only h st = form_apart (only st.content st.spells)
 
 -- bytes whose session tells none stand for none
-pub unfit : (bytes : List ℕ) (s : Content) → Spells bytes s → ((h : History (List ℕ)) → Tells s h → ⊥) → (h : History (List ℕ)) → Stored bytes h → ⊥
+pub unfit : (bytes : List ℕ) (s : Content) → Spells bytes s → ((h : History (List ℕ)) → Tells s h → ⊥) →
+    (h : History (List ℕ)) → Stored bytes h → ⊥
 unfit bytes s p f h st = f h (subst (λ (x : Content). Tells x h) (one_spelled bytes st.content s st.spells p) st.tells)
 
 pub stored_by : (bytes : List ℕ) (s : Content) (h : History (List ℕ)) → Spells bytes s → Tells s h → Stored bytes h
 stored_by bytes s h p t = record { content = s; spells = p; tells = t }
 
-pub taken : (bytes : List ℕ) (s : Content) (old new : History (List ℕ)) → Spells bytes s → Restored s old new → TakesOver bytes old new
+pub taken : (bytes : List ℕ) (s : Content) (old new : History (List ℕ)) → Spells bytes s → Restored s old new →
+    TakesOver bytes old new
 taken bytes s old new p r = record {
   stored = stored_by bytes s new p r.tells;
   limit = r.limit;
@@ -40,11 +44,18 @@ taken bytes s old new p r = record {
   kept = record { few = r.few; kept = r.kept };
 }
 
-pub too_deep : (bytes : List ℕ) (s : Content) (old : History (List ℕ)) → Spells bytes s → IsTooDeep s old → AreTooDeep bytes old
+pub too_deep : (bytes : List ℕ) (s : Content) (old : History (List ℕ)) → Spells bytes s → IsTooDeep s old →
+    AreTooDeep bytes old
 too_deep bytes s old p d = record { history = d.history; stored = stored_by bytes s d.history p d.tells; deep = d.deep }
 
-pub too_many : (bytes : List ℕ) (s : Content) (old : History (List ℕ)) → Spells bytes s → IsTooMany s old → AreTooMany bytes old
-too_many bytes s old p d = record { history = d.history; stored = stored_by bytes s d.history p d.tells; kept = d.kept; many = d.many }
+pub too_many : (bytes : List ℕ) (s : Content) (old : History (List ℕ)) → Spells bytes s → IsTooMany s old →
+    AreTooMany bytes old
+too_many bytes s old p d = record {
+  history = d.history;
+  stored = stored_by bytes s d.history p d.tells;
+  kept = d.kept;
+  many = d.many;
+}
 
 -- ---- bytes stand for one history
 
@@ -79,22 +90,28 @@ one_length bytes h k f g = ap places (one_moved bytes h k f g)
 pub one_taken : (bytes : List ℕ) (old c d : History (List ℕ)) → TakesOver bytes old c → TakesOver bytes old d → c ≡ d
 one_taken bytes old c d f g = one_history bytes c d f.stored g.stored (f.limit ∙ sym g.limit) (f.depth ∙ sym g.depth)
 
--- bytes that are taken over are refused for want of memory alone
-pub taken_or_refused : (bytes : List ℕ) (old new : History (List ℕ)) (refusal : Refusal) → TakesOver bytes old new → RefusesBytes bytes old refusal → IsSettled refusal → ⊥
+-- bytes that are taken over are refused only if there is no memory
+pub taken_or_refused : (bytes : List ℕ) (old new : History (List ℕ)) (refusal : Refusal) →
+    TakesOver bytes old new → RefusesBytes bytes old refusal → IsSettled refusal → ⊥
 taken_or_refused bytes old new refusal f (inl r) p = r.1 new f.stored
 taken_or_refused bytes old new refusal f (inr (inl r)) p =
     let same = one_length bytes r.1.history new r.1.stored f.stored in
     absurd (omega (arith, same, r.1.deep, f.kept.kept, f.depth))
 taken_or_refused bytes old new refusal f (inr (inr (inl r))) p =
-    let each : EachList (λ u. length u ≤ old.limit) new = subst (λ (n : ℕ). EachList (λ u. length u ≤ n) new) f.limit f.kept.few in
-    let back : EachList (λ u. length u ≤ old.limit) (moved_to r.1.history new) = subst (EachList (λ u. length u ≤ old.limit)) (sym (one_moved bytes r.1.history new r.1.stored f.stored)) each in
+    let each : EachList (λ u. length u ≤ old.limit) new =
+    subst (λ (n : ℕ). EachList (λ u. length u ≤ n) new) f.limit f.kept.few in
+    let back : EachList (λ u. length u ≤ old.limit) (moved_to r.1.history new) =
+    subst (EachList (λ u. length u ≤ old.limit)) (sym (one_moved bytes r.1.history new r.1.stored f.stored))
+    each in
     r.1.many (record { past = back.past; now = back.now; future = back.future })
 taken_or_refused bytes old new refusal f (inr (inr (inr r))) p = p.0 r
 
 deep_and_many : (bytes : List ℕ) (old : History (List ℕ)) → AreTooDeep bytes old → AreTooMany bytes old → ⊥
-deep_and_many bytes old f g = let same = one_length bytes f.history g.history f.stored g.stored in absurd (omega (arith, same, f.deep, g.kept))
+deep_and_many bytes old f g = let same = one_length bytes f.history g.history f.stored g.stored in
+    absurd (omega (arith, same, f.deep, g.kept))
 
-pub one_refusal : (bytes : List ℕ) (old : History (List ℕ)) (x y : Refusal) → RefusesBytes bytes old x → RefusesBytes bytes old y → IsSettled x → IsSettled y → x ≡ y
+pub one_refusal : (bytes : List ℕ) (old : History (List ℕ)) (x y : Refusal) → RefusesBytes bytes old x →
+    RefusesBytes bytes old y → IsSettled x → IsSettled y → x ≡ y
 one_refusal bytes old x y (inl f) (inl g) p q = f.0 ∙ sym g.0
 one_refusal bytes old x y (inl f) (inr (inl g)) p q = absurd (f.1 g.1.history g.1.stored)
 one_refusal bytes old x y (inl f) (inr (inr (inl g))) p q = absurd (f.1 g.1.history g.1.stored)
@@ -112,28 +129,35 @@ one_refusal bytes old x y (inr (inr (inr f))) g p q = absurd (p.0 f)
 -- ---- files
 
 -- a file that one shelf has, and whose bytes are taken over, is so over the other
-pub fetched_or_not : (a b c d : Files) (name bytes : List ℕ) (old new : History (List ℕ)) (y : Refusal) → TellSame a b → Fetches name a (Ok bytes) c → TakesOver bytes old new
+pub fetched_or_not : (a b c d : Files) (name bytes : List ℕ) (old new : History (List ℕ)) (y : Refusal) →
+    TellSame a b → Fetches name a (Ok bytes) c → TakesOver bytes old new
     → FetchesNoState name b old y d → IsSettled y → ⊥
 fetched_or_not a b c d name bytes old new y s f t (inl g) q = bytes_or_none a b c d name bytes y s f g q
 fetched_or_not a b c d name bytes old new y s f t (inr g) q =
-    taken_or_refused bytes old new y t (subst (λ (xs : List ℕ). RefusesBytes xs old y) (sym (same_bytes a b c d name bytes g.0 s f g.1)) g.2) q
+    taken_or_refused bytes old new y t (subst (λ (xs : List ℕ). RefusesBytes xs old y)
+    (sym (same_bytes a b c d name bytes g.0 s f g.1)) g.2) q
 
-pub one_failure : (a b c d : Files) (name : List ℕ) (old : History (List ℕ)) (x y : Refusal) → TellSame a b → FetchesNoState name a old x c → FetchesNoState name b old y d
+pub one_failure : (a b c d : Files) (name : List ℕ) (old : History (List ℕ)) (x y : Refusal) → TellSame a b →
+    FetchesNoState name a old x c → FetchesNoState name b old y d
     → IsSettled x → IsSettled y → x ≡ y
 one_failure a b c d name old x y s (inl f) (inl g) p q = same_fetch_refusal a b c d name x y f g p q
-one_failure a b c d name old x y s (inl f) (inr g) p q = absurd (bytes_or_none b a d c name g.0 x (turned a b s) g.1 f p)
+one_failure a b c d name old x y s (inl f) (inr g) p q =
+    absurd (bytes_or_none b a d c name g.0 x (turned a b s) g.1 f p)
 one_failure a b c d name old x y s (inr f) (inl g) p q = absurd (bytes_or_none a b c d name f.0 y s f.1 g q)
 one_failure a b c d name old x y s (inr f) (inr g) p q =
-    one_refusal f.0 old x y f.2 (subst (λ (xs : List ℕ). RefusesBytes xs old y) (sym (same_bytes a b c d name f.0 g.0 s f.1 g.1)) g.2) p q
+    one_refusal f.0 old x y f.2 (subst (λ (xs : List ℕ). RefusesBytes xs old y)
+    (sym (same_bytes a b c d name f.0 g.0 s f.1 g.1)) g.2) p q
 
 -- the files stay, unless the shelf failed
-pub failure_keeps : (a c : Files) (name : List ℕ) (old : History (List ℕ)) (x : Refusal) → FetchesNoState name a old x c → x ≢ NoFile → SameFiles a c
+pub failure_keeps : (a c : Files) (name : List ℕ) (old : History (List ℕ)) (x : Refusal) →
+    FetchesNoState name a old x c → x ≢ NoFile → SameFiles a c
 failure_keeps a c name old x (inl (inl l)) n = l.1.same
 failure_keeps a c name old x (inl (inr (inl l))) n = absurd (n l.0)
 failure_keeps a c name old x (inl (inr (inr l))) n = l.1
 failure_keeps a c name old x (inr l) n = l.1.same
 
-pub failure_tells : (a c : Files) (name : List ℕ) (old : History (List ℕ)) (x : Refusal) → FetchesNoState name a old x c → c.tells ≡ a.tells
+pub failure_tells : (a c : Files) (name : List ℕ) (old : History (List ℕ)) (x : Refusal) →
+    FetchesNoState name a old x c → c.tells ≡ a.tells
 failure_tells a c name old x (inl (inl l)) = l.1.same.0.tells
 failure_tells a c name old x (inl (inr (inl l))) = l.1.0.tells
 failure_tells a c name old x (inl (inr (inr l))) = l.1.0.tells

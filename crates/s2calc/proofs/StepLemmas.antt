@@ -1,27 +1,29 @@
 -- Lemmas on one line.
-use Rattle.std.proofs.Common.{◌≡◌, ℕ, ◌<◌, ◌≤◌, inl, inr, Bool, true, false, cond, ltb, List, length, take, refl, sym, ap, ◌∙◌, subst, arith, tests, rules}
+use Rattle.std.proofs.Common.{◌≡◌, ℕ, ◌<◌, ◌≤◌, inl, inr, Bool, true, false, cond, ltb, List, length, take, refl, sym}
+use Rattle.std.proofs.Common.{Err, ap, ◌∙◌, subst, arith, tests, rules}
 use Rattle.std.proofs.lemmas.List.{length-take, take_all}
 use Rattle.std.proofs.lemmas.Bool.{cases_lt}
 use Rattle.s2calc.specs.World.{World}
 use Rattle.s2script.specs.declared.limits.TheConstants.{LONGEST_LINE}
-use Rattle.s2script.specs.declared.command.Parsed.{Parsed}
 use Rattle.s2script.specs.declared.command.Parsed.TheVariants.{Fails}
 use Rattle.s2script.specs.declared.refusal.Refusal.TheVariants.{Line}
+use Rattle.s2script.specs.declared.misfit.Misfit.TheVariants.{LongLine}
 use Rattle.s2calc.specs.declared.limits.TheConstants.{KEPT}
 use Rattle.s2calc.specs.Replies.{Reply}
-use Rattle.s2script.specs.Line.{line_of, line_within}
+use Rattle.s2script.specs.Line.{line_of, parsed_of, reading_of, read_within}
 use Rattle.s2calc.specs.Step.{Step, StepBy}
 
 is_above : (n : ℕ) → LONGEST_LINE < n → ltb LONGEST_LINE n ≡ true
 is_above n h = search (rules, tests)
 
-first_case : (b : Bool) (x y : Parsed) → b ≡ true → cond b x y ≡ x
+first_case : {X : Type 0} (b : Bool) (x y : X) → b ≡ true → cond b x y ≡ x
 first_case true x y e = refl
 first_case false x y e = cc
 
 line_of_long : (line : List ℕ) → LONGEST_LINE < length line → line_of line ≡ Fails Line
-unfolding line_of
-line_of_long line h = first_case (ltb LONGEST_LINE (length line)) (Fails Line) (line_within line) (is_above (length line) h)
+unfolding line_of reading_of
+line_of_long line h = ap parsed_of (first_case (ltb LONGEST_LINE (length line)) (Err LongLine) (read_within line)
+    (is_above (length line) h))
 
 line_of_short : (line : List ℕ) → length line ≤ KEPT → line_of (take KEPT line) ≡ line_of line
 line_of_short line h = ap line_of (take_all KEPT line h)
@@ -37,8 +39,10 @@ line_of-kept line =
       | inr h ↦ line_of_short line (omega arith)
     ]
 
-pub Step-kept : (old new : World) (line : List ℕ) (reply : Reply) → Step old (take KEPT line) reply new → Step old line reply new
+pub Step-kept : (old new : World) (line : List ℕ) (reply : Reply) → Step old (take KEPT line) reply new →
+    Step old line reply new
 Step-kept old new line reply s = record { by = subst (λ p. StepBy p old reply new) (line_of-kept line) s.by }
 
-pub Step-same : (old new : World) (given line : List ℕ) (reply : Reply) → given ≡ line → Step old given reply new → Step old line reply new
+pub Step-same : (old new : World) (given line : List ℕ) (reply : Reply) → given ≡ line → Step old given reply new →
+    Step old line reply new
 Step-same old new given line reply e s = subst (λ l. Step old l reply new) e s

@@ -1,5 +1,6 @@
 -- A history has one text.
-use Rattle.std.proofs.Common.{◌≡◌, ◌≢◌, ℕ, List, [], ◌∷◌, length, reverse, inl, inr, refl, sym, ap, ◌∙◌, subst, slice_set}
+use Rattle.std.proofs.Common.{◌≡◌, ◌≢◌, ℕ, List, [], ◌∷◌, length, reverse, inl, inr, refl, sym, ap, ◌∙◌, subst}
+use Rattle.std.proofs.Common.{slice_set}
 use Rattle.std.proofs.lemmas.Bool.{cases_eq}
 use Rattle.std.proofs.lemmas.List.{get_or-set_other, reverse-reverse}
 use Rattle.s2file.specs.Session.{Moved, Content, session_text}
@@ -13,7 +14,8 @@ one_register : (d e : Diff) (t u : List (List ℕ)) → Leads d t u → Leads e 
 one_register d e t u f g =
     elim (cases_eq d.register e.register) [
       | inl same ↦ same
-      | inr other ↦ absurd (f.differs (ap (λ (v : List (List ℕ)). list_at v d.register) g.only ∙ get_or-set_other t e.register d.register (list_at u e.register) [] other))
+      | inr other ↦ absurd (f.differs (ap (λ (v : List (List ℕ)). list_at v d.register) g.only
+          ∙ get_or-set_other t e.register d.register (list_at u e.register) [] other))
     ]
 
 -- and so the change that leads from one to the other
@@ -24,7 +26,8 @@ one_lead d e t u f g =
 one_moved : (m n : Moved) (t u : List (List ℕ)) → Leads (diff m) t u → Leads (diff n) t u → m ≡ n
 one_moved m n t u f g = ap moved (one_lead (diff m) (diff n) t u f g)
 
-one_ahead : (ms ns : List Moved) (t : List (List ℕ)) (ts : List (List (List ℕ))) → LeadAhead ms t ts → LeadAhead ns t ts → ms ≡ ns
+one_ahead : (ms ns : List Moved) (t : List (List ℕ)) (ts : List (List (List ℕ))) → LeadAhead ms t ts →
+    LeadAhead ns t ts → ms ≡ ns
 one_ahead [] [] t [] f g = refl
 one_ahead [] [] t (u ∷ us) f g = absurd f
 one_ahead [] (n ∷ ns) t [] f g = absurd g
@@ -32,9 +35,11 @@ one_ahead [] (n ∷ ns) t (u ∷ us) f g = absurd f
 one_ahead (m ∷ ms) ns t [] f g = absurd f
 one_ahead (m ∷ ms) [] t (u ∷ us) f g = absurd g
 one_ahead (m ∷ ms) (n ∷ ns) t (u ∷ us) f g =
-    ap (λ (x : Moved). x ∷ ms) (one_moved m n t u f.0 g.0) ∙ ap (λ (xs : List Moved). n ∷ xs) (one_ahead ms ns u us f.1 g.1)
+    ap (λ (x : Moved). x ∷ ms) (one_moved m n t u f.0 g.0)
+    ∙ ap (λ (xs : List Moved). n ∷ xs) (one_ahead ms ns u us f.1 g.1)
 
-one_back : (ms ns : List Moved) (t : List (List ℕ)) (ts : List (List (List ℕ))) → LeadBack ms t ts → LeadBack ns t ts → ms ≡ ns
+one_back : (ms ns : List Moved) (t : List (List ℕ)) (ts : List (List (List ℕ))) → LeadBack ms t ts →
+    LeadBack ns t ts → ms ≡ ns
 one_back [] [] t [] f g = refl
 one_back [] [] t (u ∷ us) f g = absurd f
 one_back [] (n ∷ ns) t [] f g = absurd g
@@ -42,11 +47,14 @@ one_back [] (n ∷ ns) t (u ∷ us) f g = absurd f
 one_back (m ∷ ms) ns t [] f g = absurd f
 one_back (m ∷ ms) [] t (u ∷ us) f g = absurd g
 one_back (m ∷ ms) (n ∷ ns) t (u ∷ us) f g =
-    ap (λ (x : Moved). x ∷ ms) (one_moved m n u t f.0 g.0) ∙ ap (λ (xs : List Moved). n ∷ xs) (one_back ms ns u us f.1 g.1)
+    ap (λ (x : Moved). x ∷ ms) (one_moved m n u t f.0 g.0)
+    ∙ ap (λ (xs : List Moved). n ∷ xs) (one_back ms ns u us f.1 g.1)
 
 one_telling : (s t : Content) (h : History (List ℕ)) → Tells s h → Tells t h → s ≡ t
 one_telling s t h f g =
-    let past : s.past ≡ t.past = sym (reverse-reverse s.past) ∙ ap reverse (one_back (reverse s.past) (reverse t.past) h.now h.past f.past g.past) ∙ reverse-reverse t.past in
+    let past : s.past ≡ t.past = sym (reverse-reverse s.past)
+    ∙ ap reverse (one_back (reverse s.past) (reverse t.past) h.now h.past f.past g.past)
+    ∙ reverse-reverse t.past in
     let future : s.future ≡ t.future = one_ahead s.future t.future h.now h.future f.future g.future in
     let registers : s.registers ≡ t.registers = sym f.now ∙ g.now in
     ap (λ (x : List (List ℕ)). record { registers = x; past = s.past; future = s.future }) registers

@@ -1,17 +1,21 @@
 -- What the code keeps of a reply until it is written.
 use Rattle.std.specs.Prelude.{ℕ, List, Bool, true, false}
 use Rattle.s2calc.specs.declared.answer.Answer.{Answer}
-use Rattle.s2calc.specs.declared.answer.Answer.TheVariants.{Nothing, Cell, Square, Moved, Count, Tells, Listing, Cut, Sides, Done, Refused}
+use Rattle.s2calc.specs.declared.answer.Answer.TheVariants.{Nothing, Cell, Square, Moved, Count, Tells, Listing, Cut}
+use Rattle.s2calc.specs.declared.answer.Answer.TheVariants.{Sides, Done, Refused}
 use Rattle.s2union.specs.Denorm.{denormalised}
 use Rattle.s2edit.specs.History.{History}
 use Rattle.s2edit.specs.Leads.{list_at}
 use Rattle.s2calc.specs.Replies.{Reply, Silent, Says, Refuses}
-use Rattle.s2calc.specs.Texts.{cell_line, square_line, ok_line, count_line, history_line, yes_line, no_line, done_line, listing}
+use Rattle.s2calc.specs.Texts.{cell_line, square_line, ok_line, count_line, history_line, yes_line, no_line, done_line}
+use Rattle.s2calc.specs.Texts.{listing}
 
+-- the answer to a question of yes or no
 abbrev pub told : Bool → List ℕ
 told true = yes_line
 told false = no_line
 
+-- the reply that an answer stands for, in this state
 abbrev pub reply_of : Answer → History (List ℕ) → Reply
 reply_of Nothing state = Silent
 reply_of (Cell n) state = Says (cell_line n)

@@ -1,4 +1,4 @@
--- What is answered of a file.
+-- The answer about a file.
 use Rattle.std.specs.Prelude.{◌≡◌, ℕ, ◌⊎◌, Bool, false, true, not, List, length, Option, Result, Ok, Err, MatchResult}
 use Rattle.std.specs.Io.KnownBytes.{Appends}
 use Rattle.s2union.specs.Union.{IsNormalForm}
@@ -12,26 +12,32 @@ use Rattle.s2calc.specs.declared.fault.RunFault.{RunFault}
 use Rattle.s2calc.specs.declared.fault.RunFault.TheVariants.{Output}
 use Rattle.s2calc.specs.Fetch.{FetchesUnion}
 use Rattle.s2calc.specs.Output.{AppendsUnflushed}
-use Rattle.s2calc.specs.Questions.{all_leaves}
+use Rattle.s2cell.specs.declared.TheConstants.{LEAVES}
 use Rattle.s2calc.specs.Replies.{Reply, Says, Refuses, text_of, is_refusal}
 use Rattle.s2calc.specs.Texts.{count_line}
 
--- the cells and leaves of the file are told; or there is no union under the name
+-- the reply is the numbers of cells and leaves of the file; or no union could be read under the name
 abbrev pub ChecksFile : List ℕ → Files → Reply → Files → Type 0
 ChecksFile name old reply new =
-    ((S : ℕ → Bool) × (u : List ℕ) × FetchesUnion name old (Ok S) new × IsNormalForm S u × (reply ≡ Says (count_line (length u) (count_below S all_leaves))))
+    ((S : ℕ → Bool) × (u : List ℕ) × FetchesUnion name old (Ok S) new × IsNormalForm S u
+    × (reply ≡ Says (count_line (length u) (count_below S LEAVES))))
     ⊎ ((refusal : Refusal) × FetchesUnion name old (Err refusal) new × (reply ≡ Refuses refusal))
 
--- the name is looked at first
+-- the answer about the file under this name; the form of the name is checked first
 abbrev pub Checks : List ℕ → Files → Reply → Files → Type 0
-Checks name old reply new = ((is_name name ≡ false) × (reply ≡ Refuses (Words NoName)) × (new ≡ old)) ⊎ ((is_name name ≡ true) × ChecksFile name old reply new)
+Checks name old reply new = ((is_name name ≡ false) × (reply ≡ Refuses (Words NoName)) × (new ≡ old))
+    ⊎ ((is_name name ≡ true) × ChecksFile name old reply new)
 
+-- the reply with these numbers of cells and leaves, or the refusal
 abbrev pub check_reply : Result (ℕ × ℕ) Refusal → Reply
 check_reply (Ok counts) = Says (count_line counts.0 counts.1)
 check_reply (Err refusal) = Refuses refusal
 
--- the file was checked, and the answer written as far as the writer took it
-pub record ChecksAndTells (name : List ℕ) (old new : Files) (output_old output_new : Option (List ℕ)) (result : Result Bool RunFault) : Type 0 where
+-- the file was checked, and the answer was written as far as the writer took it
+pub record ChecksAndTells (name : List ℕ) (old new : Files) (output_old output_new : Option (List ℕ))
+    (result : Result Bool RunFault) : Type 0 where
   pub reply : Reply
   pub checks : Checks name old reply new
-  pub tells : MatchResult result (λ passed. (passed ≡ not (is_refusal reply)) × Appends output_old output_new (text_of reply)) (λ fault. (fault ≡ Output) × AppendsUnflushed output_old output_new (text_of reply))
+  pub tells : MatchResult result (λ passed. (passed ≡ not (is_refusal reply))
+      × Appends output_old output_new (text_of reply)) (λ fault. (fault ≡ Output)
+      × AppendsUnflushed output_old output_new (text_of reply))

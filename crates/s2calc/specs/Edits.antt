@@ -1,5 +1,6 @@
 -- What an edit does to a register.
-use Rattle.std.specs.Prelude.{◌≡◌, ◌≢◌, ℕ, ◌+◌, ◌<◌, ◌≤◌, ◌⊎◌, ◌&&◌, Bool, false, List, [], length, Option, Some, None, Result, MatchResult}
+use Rattle.std.specs.Prelude.{◌≡◌, ◌≢◌, ℕ, ◌+◌, ◌<◌, ◌≤◌, ◌⊎◌, ◌&&◌, Bool, false, List, [], length}
+use Rattle.std.specs.Prelude.{Option, Some, None, Result, MatchResult}
 use Rattle.s2cell.specs.Cell.{first_leaf, size_of}
 use Rattle.s2union.specs.Union.{has_leaf, between, IsNormalForm}
 use Rattle.s2union.specs.Union as U
@@ -9,7 +10,8 @@ use Rattle.s2cover.specs.Coverings.{outer_set, inner_set}
 use Rattle.s2edit.specs.History.{History, Assigned, sets, numbers}
 use Rattle.s2edit.specs.Leads.{list_at}
 use Rattle.s2script.specs.declared.command.Edit.{Edit}
-use Rattle.s2script.specs.declared.command.Edit.TheVariants.{Add, Remove, Keep, Clear, Copy, Union, Intersect, Subtract, Range, Outer, Inner, OuterOf, InnerOf}
+use Rattle.s2script.specs.declared.command.Edit.TheVariants.{Add, Remove, Keep, Clear, Copy, Union, Intersect, Subtract}
+use Rattle.s2script.specs.declared.command.Edit.TheVariants.{Range, Outer, Inner, OuterOf, InnerOf}
 use Rattle.s2calc.specs.declared.refusal.Refusal.{Refusal}
 use Rattle.s2calc.specs.declared.refusal.Refusal.TheVariants.{TooMany, Memory, Nothing}
 use Rattle.s2calc.specs.Replies.{Reply, Says, Refuses}
@@ -19,16 +21,16 @@ use Rattle.s2calc.specs.Texts.{ok_line}
 abbrev pub leaves_of : List (List ℕ) → ℕ → ℕ → Bool
 leaves_of table r = has_leaf (list_at table r)
 
--- no leaf
+-- the empty set of leaves
 abbrev pub no_leaf : ℕ → Bool
 no_leaf x = false
 
--- what a register has of a rectangle, if there is one
+-- the leaves of S in the rectangle, if there is one; else all leaves of S
 abbrev pub within : Option Rect → (ℕ → Bool) → ℕ → Bool
 within None S = S
 within (Some rect) S = λ x. S x && rect_set rect x
 
--- the new set of leaves of the register r
+-- the new set of leaves of the register r after the edit
 abbrev pub new_set : List (List ℕ) → ℕ → Edit → ℕ → Bool
 new_set table r (Add cells) = either (leaves_of table r) (has_leaf cells)
 new_set table r (Remove cells) = without (leaves_of table r) (has_leaf cells)
@@ -44,8 +46,8 @@ new_set table r (Inner level rect) = inner_set (rect_set rect) level
 new_set table r (OuterOf s level rect) = outer_set (within rect (leaves_of table s)) level
 new_set table r (InnerOf s level rect) = inner_set (within rect (leaves_of table s)) level
 
--- The register r holds the normal form of S, which has at most `limit` cells; the history goes on by its rule,
--- list for list and set for set; and the numbers of cells taken out and put in are told.
+-- The register r holds the normal form of S, which has at most `limit` cells; the history records the change, list for
+-- list and set for set; and the reply is the numbers of cells taken out and put in.
 pub record Holds (S : ℕ → Bool) (r : ℕ) (old : History (List ℕ)) (reply : Reply) (new : History (List ℕ)) : Type 0 where
   pub list : List ℕ
   pub normal : IsNormalForm S list
@@ -75,8 +77,11 @@ Gets S r old reply new =
     ⊎ ((reply ≡ Refuses TooMany) × IsTooLong S old.limit × (new ≡ old))
     ⊎ ((reply ≡ Refuses Memory) × (new ≡ old))
 
--- a move to another state of the history, list for list and set for set, tells its numbers; or there is none to move to
-abbrev pub Moves : List (List (List ℕ)) → History (List ℕ) → History (List ℕ) → History (ℕ → Bool) → Reply → History (List ℕ) → Type 0
+-- the history moves to another state, list for list and set for set, and the reply is the numbers of cells; or there is
+-- no state to move to
+abbrev pub Moves : List (List (List ℕ)) → History (List ℕ) → History (List ℕ) → History (ℕ → Bool) → Reply →
+    History (List ℕ) → Type 0
 Moves side old moved moved_sets reply new =
-    ((side ≢ []) × (new ≡ moved) × (sets new ≡ moved_sets) × (reply ≡ Says (ok_line (numbers old.now new.now).0 (numbers old.now new.now).1)))
+    ((side ≢ []) × (new ≡ moved) × (sets new ≡ moved_sets)
+    × (reply ≡ Says (ok_line (numbers old.now new.now).0 (numbers old.now new.now).1)))
     ⊎ ((side ≡ []) × (new ≡ old) × (reply ≡ Refuses Nothing))

@@ -10,22 +10,25 @@ use Rattle.s2calc.specs.Output.{AppendsPart}
 use Rattle.s2calc.specs.Replies.{Reply, Silent, Says, Refuses, text_of}
 use Rattle.s2calc.specs.Step.{Step}
 
--- how a reply counts
+-- how a reply counts in the tally
 abbrev pub outcome_of : Reply → Outcome
 outcome_of Silent = NoAnswer
 outcome_of (Says text) = Answered
 outcome_of (Refuses refusal) = Refused
 
+-- the outcome is that of the reply
 abbrev pub IsOutcome : Outcome → Reply → Type 0
 IsOutcome outcome reply = outcome ≡ outcome_of reply
 
--- the reply was written, or the writer failed and a beginning of it was
+-- the reply was written, or the writer failed after a part of it
 abbrev pub Writes : Option (List ℕ) → Option (List ℕ) → Reply → Result Outcome RunFault → Type 0
 Writes old new reply result =
-    MatchResult result (λ outcome. IsOutcome outcome reply × Appends old new (text_of reply)) (λ fault. (fault ≡ Output) × AppendsPart old new (text_of reply))
+    MatchResult result (λ outcome. IsOutcome outcome reply × Appends old new (text_of reply))
+    (λ fault. (fault ≡ Output) × AppendsPart old new (text_of reply))
 
 -- the line was carried out, and its reply was written as far as the writer took it
-pub record Executes (old : World) (line : List ℕ) (new : World) (output_old output_new : Option (List ℕ)) (result : Result Outcome RunFault) : Type 0 where
+pub record Executes (old : World) (line : List ℕ) (new : World) (output_old output_new : Option (List ℕ))
+    (result : Result Outcome RunFault) : Type 0 where
   pub reply : Reply
   pub step : Step old line reply new
   pub writes : Writes output_old output_new reply result

@@ -1,5 +1,6 @@
 -- Laws about the definitions.
-use Rattle.std.specs.Prelude.{◌≡◌, ◌≢◌, ℕ, ◌+◌, ◌%◌, ◌^◌, ◌<◌, Bool, true, false, List, [], ◌∷◌, Some, count_by}
+use Rattle.std.specs.Prelude.{◌≡◌, ◌≢◌, ℕ, ◌+◌, ◌%◌, ◌^◌, ◌<◌, Bool, true, false, List, [], ◌∷◌}
+use Rattle.std.specs.Prelude.{Some, count_by}
 use Rattle.std.specs.Io.KnownBytes.{Appends}
 use Rattle.s2calc.specs.World.{World}
 use Rattle.s2calc.specs.declared.engine.Tally.{Tally}
@@ -9,11 +10,13 @@ use Rattle.s2calc.specs.declared.refusal.Refusal.{Refusal}
 use Rattle.s2calc.specs.declared.refusal.Refusal.TheVariants.{File, Memory}
 use Rattle.s2calc.specs.Run.{Ends, Finishes, Steps}
 
--- a run that finishes answers the lines of all the bytes that its reader tells
+-- a run that finishes has answered the lines of all bytes that its reader tells
 abbrev pub TellsWhole : Type 0
 TellsWhole =
-    (ends : Ends) (old new : World) (tally : Tally) (script : List ℕ) → Finishes ends old new tally → ends.input_old ≡ Some script
-    → (replies : List Reply) × Steps old (lines script) replies new × Appends ends.output_old ends.output_new (texts replies) × (tally ≡ tally_of replies)
+    (ends : Ends) (old new : World) (tally : Tally) (script : List ℕ) → Finishes ends old new tally →
+    ends.input_old ≡ Some script
+    → (replies : List Reply) × Steps old (lines script) replies new
+    × Appends ends.output_old ends.output_new (texts replies) × (tally ≡ tally_of replies)
 
 -- the same state, and the same files
 pub record SameWorld (a b : World) : Type 0 where
@@ -22,22 +25,24 @@ pub record SameWorld (a b : World) : Type 0 where
   pub at : (name : List ℕ) → a.files.at name ≡ b.files.at name
   pub failures : a.files.failures ≡ b.files.failures
 
--- neither out of memory nor a failed shelf
+-- the reply is neither `error memory` nor `error file`
 abbrev pub IsPlain : Reply → Type 0
 IsPlain reply = (reply ≢ Refuses Memory) × (reply ≢ Refuses File)
 
+-- all replies are of this kind
 abbrev pub AllPlain : List Reply → Type 0
 AllPlain [] = Unit {0}
 AllPlain (reply ∷ replies) = IsPlain reply × AllPlain replies
 
--- Over a shelf that tells, where no line is answered `error memory` or `error file`, the replies, the state and
--- the files are one function of the lines, the first state and the first files.
+-- Over a shelf that exposes its contents, if no line is answered `error memory` or `error file`, the replies, the state
+-- and the files are one function of the lines, the first state and the first files.
 abbrev pub OneRun : Type 0
 OneRun =
-    (a b c d : World) (ls : List (List ℕ)) (rs ss : List Reply) → SameWorld a b → a.files.tells ≡ true → Steps a ls rs c → Steps b ls ss d → AllPlain rs → AllPlain ss
+    (a b c d : World) (ls : List (List ℕ)) (rs ss : List Reply) → SameWorld a b → a.files.tells ≡ true →
+    Steps a ls rs c → Steps b ls ss d → AllPlain rs → AllPlain ss
     → (rs ≡ ss) × SameWorld c d
 
--- whether the shelf failed
+-- whether the refusal is that of a failed shelf
 abbrev pub is_of_shelf : Refusal → Bool
 is_of_shelf File = true
 is_of_shelf refusal = false
@@ -48,7 +53,9 @@ is_failure Silent = false
 is_failure (Says text) = false
 is_failure (Refuses refusal) = is_of_shelf refusal
 
--- a run has as many answers `error file` as the shelf's count of failures rose, which begins at 0 again behind its greatest value
+-- a run has as many answers `error file` as the shelf's count of failures rose; the count starts again at 0 after its
+-- greatest value
 abbrev pub CountsFailures : Type 0
 CountsFailures =
-    (a b : World) (ls : List (List ℕ)) (rs : List Reply) → a.files.failures < 2 ^ 64 → Steps a ls rs b → b.files.failures ≡ (a.files.failures + count_by is_failure rs) % 2 ^ 64
+    (a b : World) (ls : List (List ℕ)) (rs : List Reply) → a.files.failures < 2 ^ 64 → Steps a ls rs b →
+    b.files.failures ≡ (a.files.failures + count_by is_failure rs) % 2 ^ 64

@@ -1,4 +1,4 @@
--- Laws about whole scripts: that they have one run, and that undo leads back through the past.
+-- Laws about whole scripts: they have one run, and undo leads back through the past.
 use Rattle.std.specs.Prelude.{◌≡◌, ℕ, ◌+◌, ◌≤◌, ◌⊎◌, true, List, [], ◌∷◌, length, Some, count_by}
 use Rattle.s2edit.specs.History.{changed}
 use Rattle.s2edit.specs.Leads.{table_at}
@@ -18,19 +18,24 @@ use Rattle.s2calc.specs.Run.{Ends, Finishes, Steps}
 use Rattle.s2calc.specs.Laws.{SameWorld, IsPlain, AllPlain}
 
 -- the writer holds the same bytes, the lines had the same replies and tally, and the states and the files are the same
-pub record SameEnd (ends ends' : Ends) (replies replies' : List Reply) (tally tally' : Tally) (new new' : World) : Type 0 where
+pub record SameEnd (ends ends' : Ends) (replies replies' : List Reply) (tally tally' : Tally) (new new' : World) :
+    Type 0 where
   pub written : ends.output_new ≡ ends'.output_new
   pub replies_are : replies ≡ replies'
   pub tally_is : tally ≡ tally'
   pub world : SameWorld new new'
 
--- Two runs that finished over readers that told the same bytes and writers that held the same, from the same state
--- and the same told files, in neither of which a line was answered `error memory` or `error file`, have the same end.
+-- Two runs have the same end if both finished, their readers told the same bytes, their writers held the same bytes,
+-- they began with the same state and the same known files, and no line of either was answered `error memory` or `error
+-- file`.
 abbrev pub OneEnd : Type 0
 OneEnd =
-    (ends ends' : Ends) (old old' new new' : World) (tally tally' : Tally) (script out : List ℕ) → SameWorld old old' → old.files.tells ≡ true
-    → ends.input_old ≡ Some script → ends'.input_old ≡ Some script → ends.output_old ≡ Some out → ends'.output_old ≡ Some out
-    → (run : Finishes ends old new tally) (other : Finishes ends' old' new' tally') → AllPlain run.replies → AllPlain other.replies
+    (ends ends' : Ends) (old old' new new' : World) (tally tally' : Tally) (script out : List ℕ) →
+    SameWorld old old' → old.files.tells ≡ true
+    → ends.input_old ≡ Some script → ends'.input_old ≡ Some script → ends.output_old ≡ Some out →
+    ends'.output_old ≡ Some out
+    → (run : Finishes ends old new tally) (other : Finishes ends' old' new' tally') → AllPlain run.replies →
+    AllPlain other.replies
     → SameEnd ends ends' run.replies other.replies tally tally' new new'
 
 -- each line says `undo`
@@ -38,7 +43,7 @@ abbrev pub AllUndo : List (List ℕ) → Type 0
 AllUndo [] = Unit {0}
 AllUndo (line ∷ ls) = (line_of line ≡ Does Undo) × AllUndo ls
 
--- the command gives a register something
+-- the command is an edit or a `load`, which give a register a new set of leaves
 abbrev pub GivesRegister : Command → Type 0
 GivesRegister (Edit r edit) = Unit {0}
 GivesRegister (Load r name) = Unit {0}
@@ -49,45 +54,55 @@ GivesRegister Undo = ⊥
 GivesRegister Redo = ⊥
 GivesRegister (Ask question) = ⊥
 
--- the line changed a register: the table that stood before went to the front of the past, of which the newest are kept
+-- the line changed a register: the table before it went to the front of the past, which keeps the newest ones
 pub record Changes (old : World) (line : List ℕ) (reply : Reply) (new : World) : Type 0 where
   pub step : Step old line reply new
   pub register : ℕ
   pub list : List ℕ
   pub state : new.state ≡ changed old.state register list
 
--- each line changed a register, one after the other
+-- the lines were carried out one after another, and each changed a register
 abbrev pub AllChange : World → List (List ℕ) → List Reply → World → Type 0
 AllChange old [] [] new = new ≡ old
-AllChange old (line ∷ ls) (reply ∷ replies) new = (mid : World) × Changes old line reply mid × AllChange mid ls replies new
+AllChange old (line ∷ ls) (reply ∷ replies) new = (mid : World) × Changes old line reply mid
+    × AllChange mid ls replies new
 AllChange old [] (reply ∷ replies) new = ⊥
 AllChange old (line ∷ ls) [] new = ⊥
 
--- None of the lines was refused; now is this table, list for list; each register is saved as the same bytes as the
--- register of this table; and no file has changed.
+-- No line was refused; the present table is `table`, list for list; each register has the same file bytes as the
+-- register of that table; and no file has changed.
 pub record GoesBack (table : List (List ℕ)) (old : World) (replies : List Reply) (new : World) : Type 0 where
   pub none_refused : count_by is_refusal replies ≡ 0
   pub now : new.state.now ≡ table
-  pub bytes : (r : ℕ) (bytes others : List ℕ) → Bytes (leaves_of new.state.now r) bytes → Bytes (leaves_of table r) others → bytes ≡ others
+  pub bytes : (r : ℕ) (bytes others : List ℕ) → Bytes (leaves_of new.state.now r) bytes →
+      Bytes (leaves_of table r) others → bytes ≡ others
   pub files : new.files ≡ old.files
 
--- A line that gives a register something changes it by the rule of the history, or leaves the state as it was.
--- From every state as many undos as there are earlier tables, or fewer, lead to the table that many places back.
--- So behind lines that each changed a register, at most as many as are kept, as many undos give back the table that
--- stood before the first of them, and further undos the tables that were there before it, as far as they are kept.
+-- An edit or a `load` changes its register by the rule of the history, or leaves the state as it was. From every state,
+-- n undos lead to the table n places back, if there are that many earlier tables. So after n lines that each changed a
+-- register, with n at most the depth, n undos give back the table before the first of these lines, and further undos
+-- the tables before that one, as far as they are kept.
 pub record LawOfUndo : Type 0 where
-  pub edits : (old new : World) (line : List ℕ) (reply : Reply) (command : Command) → line_of line ≡ Does command → GivesRegister command
+  pub edits : (old new : World) (line : List ℕ) (reply : Reply) (command : Command) → line_of line ≡ Does command →
+      GivesRegister command
       → Step old line reply new → (new.state ≡ old.state) ⊎ Changes old line reply new
-  pub back : (old new : World) (ls : List (List ℕ)) (replies : List Reply) → AllUndo ls → length ls ≤ length old.state.past → Steps old ls replies new
+  pub back : (old new : World) (ls : List (List ℕ)) (replies : List Reply) → AllUndo ls →
+      length ls ≤ length old.state.past → Steps old ls replies new
       → GoesBack (table_at (old.state.now ∷ old.state.past) (length ls)) old replies new
-  pub gives_back : (old mid new : World) (edits undos : List (List ℕ)) (replies answers : List Reply) (further : ℕ) → AllChange old edits replies mid
-      → AllUndo undos → length undos ≡ length edits + further → length undos ≤ old.state.depth → further ≤ length old.state.past
+  pub gives_back : (old mid new : World) (edits undos : List (List ℕ)) (replies answers : List Reply)
+      (further : ℕ) → AllChange old edits replies mid
+      → AllUndo undos → length undos ≡ length edits + further → length undos ≤ old.state.depth →
+      further ≤ length old.state.past
       → Steps mid undos answers new → GoesBack (table_at (old.state.now ∷ old.state.past) further) mid answers new
 
--- One line dumped a state that keeps to its limit and depth, another restored the file, over shelves that tell, and
--- neither was answered `error memory` or `error file`: then the file was restored, and the state is the one dumped.
+-- If one line dumps a state that keeps to its limit and depth, and another line restores the file, over shelves that
+-- expose their contents, and neither is answered `error memory` or `error file`, then the file is restored, and the
+-- state is the one dumped.
 abbrev pub RestoreGivesBack : Type 0
 RestoreGivesBack =
-    (a b c d : World) (line other name : List ℕ) (x y : Reply) → line_of line ≡ Does (Dump name) → line_of other ≡ Does (Restore name) → IsKept a.state
-    → Step a line x b → Step c other y d → a.files.tells ≡ true → c.files.tells ≡ true → c.files.at name ≡ b.files.at name
-    → c.state.limit ≡ a.state.limit → c.state.depth ≡ a.state.depth → IsPlain x → IsPlain y → (y ≡ Says done_line) × (d.state ≡ a.state)
+    (a b c d : World) (line other name : List ℕ) (x y : Reply) → line_of line ≡ Does (Dump name) →
+    line_of other ≡ Does (Restore name) → IsKept a.state
+    → Step a line x b → Step c other y d → a.files.tells ≡ true → c.files.tells ≡ true →
+    c.files.at name ≡ b.files.at name
+    → c.state.limit ≡ a.state.limit → c.state.depth ≡ a.state.depth → IsPlain x → IsPlain y → (y ≡ Says done_line)
+    × (d.state ≡ a.state)

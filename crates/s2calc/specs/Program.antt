@@ -12,6 +12,7 @@ use Rattle.s2calc.specs.declared.task.Job.TheVariants.{Run, Cell, Check}
 use Rattle.s2calc.specs.Replies.{Reply, Says, Refuses}
 use Rattle.s2calc.specs.Texts.{cell_line}
 
+-- the answer about the cell that a word names, if it names one
 abbrev pub reply_for : Option ℕ → Reply
 reply_for None = Refuses (Words NoCell)
 reply_for (Some n) = Says (cell_line n)
@@ -20,7 +21,7 @@ reply_for (Some n) = Says (cell_line n)
 abbrev pub cell_reply : List ℕ → Reply
 cell_reply word = reply_for (cell_named word)
 
--- 1 where something was refused
+-- 1 if something was refused, else 0
 abbrev pub status_of_refused : ℕ → ℕ
 status_of_refused zero = 0
 status_of_refused (suc n) = 1
@@ -32,7 +33,7 @@ status_of (Err Input) = 2
 status_of (Err Output) = 2
 status_of (Err Memory) = 3
 
--- a run has its limit and its depth in range
+-- the limit and the depth of a run are in range
 abbrev pub IsInRange : Job → Type 0
 IsInRange (Run limit depth dir) = (1 ≤ limit) × (limit ≤ MOST_CELLS) × (1 ≤ depth) × (depth ≤ MOST_STATES)
 IsInRange (Cell word) = Unit {0}

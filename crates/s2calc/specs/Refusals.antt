@@ -2,7 +2,8 @@
 use Rattle.std.specs.Prelude.{ℕ, List, codes}
 use Rattle.s2script.specs.Refusals.{name_of as name_of_words}
 use Rattle.s2calc.specs.declared.refusal.Refusal.{Refusal}
-use Rattle.s2calc.specs.declared.refusal.Refusal.TheVariants.{Words, Missing, File, Format, Session, TooDeep, TooMany, Nothing, Memory}
+use Rattle.s2calc.specs.declared.refusal.Refusal.TheVariants.{Words, Missing, File, Format, Session, TooDeep, TooMany}
+use Rattle.s2calc.specs.declared.refusal.Refusal.TheVariants.{Nothing, Memory}
 
 -- the name that is printed
 abbrev pub name_of : Refusal → List ℕ

@@ -1,11 +1,12 @@
--- What a line is answered.
-use Rattle.std.specs.Prelude.{◌≡◌, ℕ, ◌-◌, ◌^◌, ◌<◌, Bool, false, true, min, List, [], ◌∷◌, ◌++◌, length, codes, flat_map, count_by}
+-- The answer to a line.
+use Rattle.std.specs.Prelude.{◌≡◌, ℕ, ◌-◌, ◌^◌, ◌<◌, Bool, false, true, min, List, [], ◌∷◌, ◌++◌, length}
+use Rattle.std.specs.Prelude.{codes, flat_map, count_by}
 use Rattle.s2calc.specs.declared.refusal.Refusal.{Refusal}
 use Rattle.s2calc.specs.Refusals.{name_of}
 use Rattle.s2calc.specs.declared.engine.Tally.{Tally}
 use Rattle.s2script.specs.Lines.{but_last}
 
--- nothing, an answer, or a refusal
+-- no answer, an answer, or a refusal
 pub data Reply : Type 0 where
   Silent : Reply
   Says : (text : List ℕ) → Reply
@@ -20,6 +21,7 @@ text_of (Refuses refusal) = codes "error " ++ name_of refusal ++ 10 ∷ []
 abbrev pub texts : List Reply → List ℕ
 texts replies = flat_map text_of replies
 
+-- whether anything is answered, and whether it is a refusal
 abbrev pub is_answer : Reply → Bool
 is_answer Silent = false
 is_answer (Says text) = true
@@ -30,14 +32,14 @@ is_refusal Silent = false
 is_refusal (Says text) = false
 is_refusal (Refuses refusal) = true
 
--- the numbers of lines that were answered and that were refused, each stopping at the greatest u64
+-- how many lines were answered and how many were refused; each count stops at the greatest u64
 abbrev pub tally_of : List Reply → Tally
 tally_of replies = record {
   commands = min (count_by is_answer replies) (2 ^ 64 - 1);
   refused = min (count_by is_refusal replies) (2 ^ 64 - 1);
 }
 
--- what was written is a beginning of the replies, joined, that holds all but the last, of which it lacks some bytes
+-- what was written is all replies but the last, and the last without some bytes at its end
 pub record IsCutOff (written : List ℕ) (replies : List Reply) : Type 0 where
   pub rest : List ℕ
   pub beginning : texts replies ≡ written ++ rest

@@ -1,4 +1,4 @@
--- What a run does, over the bytes that it reads and writes.
+-- What a run does, in terms of the bytes that it reads and writes.
 use Rattle.std.specs.Prelude.{◌≡◌, ℕ, ◌⊎◌, List, [], ◌∷◌, Option, Result, MatchResult}
 use Rattle.std.specs.Io.KnownBytes.{Appends, Consumes, IsAtEnd, append_known}
 use Rattle.s2calc.specs.World.{World}
@@ -9,14 +9,14 @@ use Rattle.s2script.specs.Lines.{lines, whole_lines, BeginsWith}
 use Rattle.s2calc.specs.Replies.{Reply, texts, tally_of, IsCutOff}
 use Rattle.s2calc.specs.Step.{Step}
 
--- these lines, one after the other, may be given these replies
+-- these lines, carried out one after another, may have these replies
 abbrev pub Steps : World → List (List ℕ) → List Reply → World → Type 0
 Steps old [] [] new = new ≡ old
 Steps old (line ∷ ls) (reply ∷ replies) new = (mid : World) × Step old line reply mid × Steps mid ls replies new
 Steps old [] (reply ∷ replies) new = ⊥
 Steps old (line ∷ ls) [] new = ⊥
 
--- the bytes that a reader and a writer are known to have, before and after
+-- what is known of the bytes of a reader and a writer, before and after
 pub record Ends : Type 0 where
   pub input_old : Option (List ℕ)
   pub input_new : Option (List ℕ)
@@ -33,7 +33,7 @@ pub record Finishes (ends : Ends) (old new : World) (tally : Tally) : Type 0 whe
   pub written : Appends ends.output_old ends.output_new (texts replies)
   pub tally_is : tally ≡ tally_of replies
 
--- Reading stopped: the lines that were read whole were carried out, and just their answers were written.
+-- Reading stopped: the lines that were read whole were carried out, and exactly their answers were written.
 pub record StopsReading (ends : Ends) (old new : World) : Type 0 where
   pub script : List ℕ
   pub replies : List Reply
@@ -41,12 +41,13 @@ pub record StopsReading (ends : Ends) (old new : World) : Type 0 where
   pub run : Steps old (whole_lines script) replies new
   pub written : Appends ends.output_old ends.output_new (texts replies)
 
--- the lines are the first of those that were read whole: a newline ends each, or the end of the script has come
+-- the lines are the first of those that were read to their end: each ends in a newline, or they are all lines and the
+-- script has ended
 abbrev pub WereReadWhole : Option (List ℕ) → List ℕ → List (List ℕ) → Type 0
 WereReadWhole left script ls = ((more : List ℕ) × BeginsWith script ls more) ⊎ ((ls ≡ lines script) × IsAtEnd left)
 
--- The writer failed inside an answer: some lines that were read whole were carried out, and their answers were written but for
--- some bytes of the last.
+-- The writer failed inside an answer: some lines that were read to their end were carried out, and their answers were
+-- written except for some bytes of the last.
 pub record StopsWriting (ends : Ends) (old new : World) : Type 0 where
   pub script : List ℕ
   pub replies : List Reply
@@ -58,7 +59,8 @@ pub record StopsWriting (ends : Ends) (old new : World) : Type 0 where
   pub written : Appends ends.output_old ends.output_new bytes
   pub cut_off : IsCutOff bytes replies
 
--- The flush at the end failed: the whole script was read, each of its lines was carried out, and all answers were written.
+-- The flush at the end failed: the whole script was read, each of its lines was carried out, and all answers were
+-- written.
 pub record StopsFlushing (ends : Ends) (old new : World) : Type 0 where
   pub script : List ℕ
   pub replies : List Reply
@@ -73,29 +75,34 @@ pub record NeverBegins (ends : Ends) (old new : World) : Type 0 where
   pub output : Appends ends.output_old ends.output_new []
   pub editor : new ≡ old
 
--- what a run leaves that ends with this fault
+-- what a run that ends with this fault leaves
 abbrev pub Faults : RunFault → Ends → World → World → Type 0
 Faults Input ends old new = StopsReading ends old new
 Faults Output ends old new = StopsWriting ends old new ⊎ StopsFlushing ends old new
 Faults Memory ends old new = NeverBegins ends old new
 
--- a run, by its result
+-- what a run does, by its result
 abbrev pub Runs : Ends → World → World → Result Tally RunFault → Type 0
-Runs ends old new result = MatchResult result (λ tally. Finishes ends old new tally) (λ fault. Faults fault ends old new)
+Runs ends old new result = MatchResult result (λ tally. Finishes ends old new tally)
+    (λ fault. Faults fault ends old new)
 
 -- the same ends, with what waits in the writer's buffer counted as written
 abbrev pub with_waiting : Ends → List ℕ → Ends
 with_waiting ends waiting = record ends { output_new = append_known ends.output_new waiting }
 
--- What a run over a buffer leaves, where the ends have what has reached the writer below, and these bytes wait: after `Input`
--- all answers to the lines that were read whole have reached it. After `Output` what was written, in part to the buffer, is as
--- after a run without one, or a flush before a read failed: then it is just the answers to the lines that were read whole.
+-- What a run over a buffer that ends with this fault leaves; `ends` says what has reached the writer below, and
+-- `waiting` what is still in the buffer. After `Input`, all answers to the lines that were read whole have reached the
+-- writer. After `Output`, what was written, counting the buffer, is as after a run without a buffer, or a flush before
+-- a read failed, and then it is exactly the answers to the lines that were read whole.
 abbrev pub PromptFaults : RunFault → Ends → List ℕ → World → World → Type 0
 PromptFaults Input ends waiting old new = StopsReading ends old new
 PromptFaults Output ends waiting old new =
-    StopsReading (with_waiting ends waiting) old new ⊎ StopsWriting (with_waiting ends waiting) old new ⊎ StopsFlushing (with_waiting ends waiting) old new
+    StopsReading (with_waiting ends waiting) old new ⊎ StopsWriting (with_waiting ends waiting) old new
+    ⊎ StopsFlushing (with_waiting ends waiting) old new
 PromptFaults Memory ends waiting old new = NeverBegins (with_waiting ends waiting) old new
 
--- A run over a buffer that is flushed before each read, by its result: after a run that ends well all answers have reached the writer.
+-- A run over a buffer that is flushed before each read, by its result: if it ends well, all answers have reached the
+-- writer.
 abbrev pub RunsPromptly : Ends → List ℕ → World → World → Result Tally RunFault → Type 0
-RunsPromptly ends waiting old new result = MatchResult result (λ tally. Finishes ends old new tally) (λ fault. PromptFaults fault ends waiting old new)
+RunsPromptly ends waiting old new result = MatchResult result (λ tally. Finishes ends old new tally)
+    (λ fault. PromptFaults fault ends waiting old new)

@@ -1,4 +1,4 @@
--- What comes of the bytes of a file that is to be the state.
+-- What can result from the bytes of a file that `restore` is to take as the state.
 use Rattle.std.specs.Prelude.{◌≡◌, ℕ, ◌+◌, ◌<◌, ◌≤◌, ◌⊎◌, List, length, Result, Ok, Err}
 use Rattle.s2edit.specs.History.{History, EachList}
 use Rattle.s2edit.specs.Session.{Stored}
@@ -15,20 +15,21 @@ pub record TakesOver (bytes : List ℕ) (old new : History (List ℕ)) : Type 0 
   pub depth : new.depth ≡ old.depth
   pub kept : IsKept new
 
--- they stand for a history of more states than are kept
+-- the bytes stand for a history of more states than are kept
 pub record AreTooDeep (bytes : List ℕ) (state : History (List ℕ)) : Type 0 where
   pub history : History (List ℕ)
   pub stored : Stored bytes history
   pub deep : state.depth < length history.past + length history.future
 
--- they stand for one that is not too deep, with a list of more cells than a register may have
+-- the bytes stand for a history that is not too deep, but has a list of more cells than a register may have
 pub record AreTooMany (bytes : List ℕ) (state : History (List ℕ)) : Type 0 where
   pub history : History (List ℕ)
   pub stored : Stored bytes history
   pub kept : length history.past + length history.future ≤ state.depth
   pub many : EachList (λ u. length u ≤ state.limit) history → ⊥
 
--- why they are not taken over: they stand for no history, or for one that the editor may not have; or there is no memory
+-- why the bytes are not taken over: they stand for no history, or for one that the editor may not have; or there is no
+-- memory
 abbrev pub RefusesBytes : List ℕ → History (List ℕ) → Refusal → Type 0
 RefusesBytes bytes state refusal =
     ((refusal ≡ Session) × ((h : History (List ℕ)) → Stored bytes h → ⊥))
@@ -38,4 +39,5 @@ RefusesBytes bytes state refusal =
 
 -- why no state is taken over: the file couldn't be fetched, or its bytes are refused
 abbrev pub FetchesNoState : List ℕ → Files → History (List ℕ) → Refusal → Files → Type 0
-FetchesNoState name old state refusal new = Fetches name old (Err refusal) new ⊎ ((bytes : List ℕ) × Fetches name old (Ok bytes) new × RefusesBytes bytes state refusal)
+FetchesNoState name old state refusal new = Fetches name old (Err refusal) new
+    ⊎ ((bytes : List ℕ) × Fetches name old (Ok bytes) new × RefusesBytes bytes state refusal)

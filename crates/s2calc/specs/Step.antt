@@ -19,49 +19,59 @@ use Rattle.s2calc.specs.Sessions.{TakesOver, FetchesNoState}
 use Rattle.s2calc.specs.Questions.{Answers}
 use Rattle.s2calc.specs.Edits.{new_set, leaves_of, Gets, Moves}
 
--- the register gets the leaves of the file; or there is no union under the name, and the state stays
+-- the register gets the leaves of the file; or no union could be read under the name, and the state stays as it was
 abbrev pub Loads : ℕ → List ℕ → World → Reply → World → Type 0
 Loads r name old reply new =
     ((S : ℕ → Bool) × FetchesUnion name old.files (Ok S) new.files × Gets S r old.state reply new.state)
-    ⊎ ((refusal : Refusal) × FetchesUnion name old.files (Err refusal) new.files × (reply ≡ Refuses refusal) × (new.state ≡ old.state))
+    ⊎ ((refusal : Refusal) × FetchesUnion name old.files (Err refusal) new.files × (reply ≡ Refuses refusal)
+    × (new.state ≡ old.state))
 
--- the file becomes such bytes; or the shelf fails, and that one file is open; or there is no memory
+-- the file becomes bytes of this kind; or the shelf fails, and the content of that one file is not known; or there is
+-- no memory
 abbrev pub Writes : (List ℕ → Type 0) → List ℕ → World → Reply → World → Type 0
 Writes AreThose name old reply new =
-    ((reply ≡ Says done_line) × (new.state ≡ old.state) × ((bytes : List ℕ) × AreThose bytes × PutsFile old.files new.files name bytes))
+    ((reply ≡ Says done_line) × (new.state ≡ old.state)
+    × ((bytes : List ℕ) × AreThose bytes × PutsFile old.files new.files name bytes))
     ⊎ ((reply ≡ Refuses NoFile) × (new.state ≡ old.state) × LosesFile old.files new.files name)
     ⊎ ((reply ≡ Refuses Memory) × (new.state ≡ old.state) × SameFiles old.files new.files)
 
--- the file becomes the text of the register's leaves, if nothing fails
+-- if nothing fails, the file becomes the text of the register's leaves
 abbrev pub Saves : ℕ → List ℕ → World → Reply → World → Type 0
 Saves r name old reply new = Writes (Bytes (leaves_of old.state.now r)) name old reply new
 
--- the file becomes the text of the registers and their history, if nothing fails
+-- if nothing fails, the file becomes the text of the registers and their history
 abbrev pub Dumps : List ℕ → World → Reply → World → Type 0
 Dumps name old reply new = Writes (Text old.state) name old reply new
 
--- the history that the file's bytes stand for becomes the state; or there is none that could, and the state stays
+-- the history that the bytes of the file stand for becomes the state; or no history could be taken over, and the state
+-- stays as it was
 abbrev pub Restores : List ℕ → World → Reply → World → Type 0
 Restores name old reply new =
-    ((bytes : List ℕ) × Fetches name old.files (Ok bytes) new.files × TakesOver bytes old.state new.state × (reply ≡ Says done_line))
-    ⊎ ((refusal : Refusal) × FetchesNoState name old.files old.state refusal new.files × (reply ≡ Refuses refusal) × (new.state ≡ old.state))
+    ((bytes : List ℕ) × Fetches name old.files (Ok bytes) new.files × TakesOver bytes old.state new.state
+    × (reply ≡ Says done_line))
+    ⊎ ((refusal : Refusal) × FetchesNoState name old.files old.state refusal new.files × (reply ≡ Refuses refusal)
+    × (new.state ≡ old.state))
 
--- from old, the command may be given this reply and leave new
+-- the command, carried out in the world old, may have this reply and leave the world new
 abbrev pub Acts : Command → World → Reply → World → Type 0
-Acts (Edit r edit) old reply new = Gets (new_set old.state.now r edit) r old.state reply new.state × (new.files ≡ old.files)
+Acts (Edit r edit) old reply new = Gets (new_set old.state.now r edit) r old.state reply new.state
+    × (new.files ≡ old.files)
 Acts (Load r name) old reply new = Loads r name old reply new
 Acts (Save r name) old reply new = Saves r name old reply new
 Acts (Dump name) old reply new = Dumps name old reply new
 Acts (Restore name) old reply new = Restores name old reply new
-Acts Undo old reply new = Moves old.state.past old.state (undone old.state) (undone (sets old.state)) reply new.state × (new.files ≡ old.files)
-Acts Redo old reply new = Moves old.state.future old.state (redone old.state) (redone (sets old.state)) reply new.state × (new.files ≡ old.files)
+Acts Undo old reply new = Moves old.state.past old.state (undone old.state) (undone (sets old.state)) reply
+    new.state × (new.files ≡ old.files)
+Acts Redo old reply new = Moves old.state.future old.state (redone old.state) (redone (sets old.state)) reply
+    new.state × (new.files ≡ old.files)
 Acts (Ask question) old reply new = Answers question old.state reply × (new ≡ old)
 
+-- the same for what a line says: a line without words is silent, a refused one changes nothing
 abbrev pub StepBy : Parsed → World → Reply → World → Type 0
 StepBy Nothing old reply new = (reply ≡ Silent) × (new ≡ old)
 StepBy (Fails refusal) old reply new = (reply ≡ Refuses (Words refusal)) × (new ≡ old)
 StepBy (Does command) old reply new = Acts command old reply new
 
--- from old, the line may be given this reply and leave new
+-- the line, carried out in the world old, may have this reply and leave the world new
 pub record Step (old : World) (line : List ℕ) (reply : Reply) (new : World) : Type 0 where
   pub by : StepBy (line_of line) old reply new

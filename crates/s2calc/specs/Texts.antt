@@ -7,17 +7,20 @@ use Rattle.s2cell.specs.Debug.{debug_of}
 -- what is known of a cell
 unfoldable pub cell_line : ℕ → List ℕ
 cell_line n =
-    codes "cell " ++ token_of n ++ codes " " ++ debug_of n ++ codes " level " ++ decimal (level_of n) ++ codes " face " ++ decimal (face_of n) ++ codes " leaves " ++ decimal (first_leaf n) ++ codes " "
+    codes "cell " ++ token_of n ++ codes " " ++ debug_of n ++ codes " level " ++ decimal (level_of n)
+    ++ codes " face " ++ decimal (face_of n) ++ codes " leaves " ++ decimal (first_leaf n) ++ codes " "
     ++ decimal (first_leaf n + size_of n - 1) ++ 10 ∷ []
 
 -- a square, by its face, its least coordinates and its side
 unfoldable pub square_line : ℕ → ℕ → ℕ → ℕ → List ℕ
-square_line face i j size = codes "face " ++ decimal face ++ codes " i " ++ decimal i ++ codes " j " ++ decimal j ++ codes " size " ++ decimal size ++ 10 ∷ []
+square_line face i j size = codes "face " ++ decimal face ++ codes " i " ++ decimal i ++ codes " j " ++ decimal j
+    ++ codes " size " ++ decimal size ++ 10 ∷ []
 
 -- the numbers of cells taken out and put in
 unfoldable pub ok_line : ℕ → ℕ → List ℕ
 ok_line out put = codes "ok " ++ decimal out ++ codes " " ++ decimal put ++ 10 ∷ []
 
+-- the other lines with numbers, and the answers `yes` and `no`
 unfoldable pub count_line : ℕ → ℕ → List ℕ
 count_line cells leaves = codes "cells " ++ decimal cells ++ codes " leaves " ++ decimal leaves ++ 10 ∷ []
 
@@ -30,10 +33,11 @@ yes_line = codes "yes" ++ 10 ∷ []
 unfoldable pub no_line : List ℕ
 no_line = codes "no" ++ 10 ∷ []
 
--- what was done without numbers to tell
+-- the answer to a command that is done, if there are no numbers to report
 unfoldable pub done_line : List ℕ
 done_line = codes "ok" ++ 10 ∷ []
 
+-- the lines of a listing
 unfoldable pub end_line : List ℕ
 end_line = codes "end" ++ 10 ∷ []
 

@@ -1,4 +1,4 @@
--- What a script reads and changes: the editor's state, and the files.
+-- What a script reads and changes: the state of the editor, and the files.
 use Rattle.std.specs.Prelude.{ℕ, List}
 use Rattle.s2edit.specs.History.{History}
 use Rattle.s2shelf.specs.Shelf.{Files}

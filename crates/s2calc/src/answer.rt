@@ -1,5 +1,6 @@
 //! Answers: what they are, their texts, and how they are written.
-ghost use Rattle.std.specs.Prelude.{◌≡◌, ◌≤◌, ◌+◌, ◌-◌, ◌++◌, ◌∷◌, [], length, codes, decimal, OnOk, OnErr, IfErr};
+ghost use Rattle.std.specs.Prelude.{◌≡◌, ◌≤◌, ◌+◌, ◌-◌, ◌++◌, ◌∷◌, [], length, codes, decimal, OnOk, OnErr};
+ghost use Rattle.std.specs.Prelude.{IfErr};
 ghost use Rattle.std.specs.Io.KnownBytes.{Appends};
 ghost use Rattle.s2cell.specs.Token.{token_of};
 ghost use Rattle.s2cell.specs.Debug.{debug_of};
@@ -8,7 +9,8 @@ ghost use Rattle.s2calc.specs.Output.{AppendsPart};
 ghost use Rattle.s2calc.specs.Refusals.{name_of};
 ghost use Rattle.s2calc.specs.Replies.{text_of};
 ghost use Rattle.s2calc.specs.Answer.{reply_of, told};
-ghost use Rattle.s2calc.specs.Texts.{cell_line, square_line, ok_line, count_line, history_line, done_line, token_line, listing};
+ghost use Rattle.s2calc.specs.Texts.{cell_line, square_line, ok_line, count_line, history_line, done_line, token_line};
+ghost use Rattle.s2calc.specs.Texts.{listing};
 
 use crate::fault::RunFault;
 use crate::output::emit;
@@ -21,7 +23,7 @@ use s2script::{Level, Modulus};
 use s2union::CellUnion;
 use std::io::Write;
 
-/// What a line is answered, until it is written. Of a long answer it says only what to list.
+/// The answer to a line, until it is written. For a long answer it says only what to list.
 #[derive(Clone, Copy)]
 pub enum Answer {
     /// Nothing is written.
@@ -55,7 +57,7 @@ pub enum Answer {
         undos: usize,
         redos: usize,
     },
-    /// A file was written, or the state of one taken over.
+    /// A file was written, or the state in one was taken over.
     Done,
     /// The name of a refusal.
     Refused(Refusal),
@@ -67,8 +69,10 @@ pub(crate) fn write_answer<W: Write>(
     answer: &Answer,
     editor: &Editor,
 ) -> Result<(), RunFault>
-    ensures ok { OnOk result (Appends (W.contents writer.old) (W.contents writer.new) (text_of (reply_of answer.now editor.now))) }
-    ensures err { OnErr result (AppendsPart (W.contents writer.old) (W.contents writer.new) (text_of (reply_of answer.now editor.now))) }
+    ensures ok { OnOk result (Appends (W.contents writer.old) (W.contents writer.new)
+        (text_of (reply_of answer.now editor.now))) }
+    ensures err { OnErr result (AppendsPart (W.contents writer.old) (W.contents writer.new)
+        (text_of (reply_of answer.now editor.now))) }
     ensures fault { IfErr result (λ fault. fault ≡ RunFault.Output) }
 {
     match answer {
@@ -97,7 +101,7 @@ pub(crate) fn write_answer<W: Write>(
     }
 }
 
-/// The line of a yes or a no.
+/// The line `yes` or `no`.
 #[tactic(auto, unfolding(crate::specs::Texts::yes_line, crate::specs::Texts::no_line))]
 fn told(yes: bool) -> &'static [u8]
     ensures { result.now ≡ told yes }
@@ -105,7 +109,7 @@ fn told(yes: bool) -> &'static [u8]
     if yes { b"yes\n" } else { b"no\n" }
 }
 
-/// The line of what was done without numbers to tell.
+/// The line of a command that is done, if there are no numbers to report.
 #[tactic(auto, unfolding(crate::specs::Texts::done_line))]
 fn done() -> &'static [u8]
     ensures { result.now ≡ done_line }
@@ -132,8 +136,10 @@ fn write_cut<W: Write>(
     least: Level,
     modulus: Modulus,
 ) -> Result<(), RunFault>
-    ensures ok { OnOk result (Appends (W.contents writer.old) (W.contents writer.new) (listing (denormalised least modulus union.now.cells))) }
-    ensures err { OnErr result (AppendsPart (W.contents writer.old) (W.contents writer.new) (listing (denormalised least modulus union.now.cells))) }
+    ensures ok { OnOk result (Appends (W.contents writer.old) (W.contents writer.new)
+        (listing (denormalised least modulus union.now.cells))) }
+    ensures err { OnErr result (AppendsPart (W.contents writer.old) (W.contents writer.new)
+        (listing (denormalised least modulus union.now.cells))) }
     ensures fault { IfErr result (λ fault. fault ≡ RunFault.Output) }
 {
     for cell in union.denormalized(least.number(), modulus.number()) {
@@ -204,7 +210,7 @@ fn ok_line(out: u64, put_in: u64) -> Line
     two_numbers(b"ok ", out, b" ", put_in)
 }
 
-/// The line of how many cells and leaves there are.
+/// The line with the numbers of cells and leaves.
 #[tactic(auto, unfolding(crate::specs::Texts::count_line))]
 pub(crate) fn count_line(cells: u64, leaves: u64) -> Line
     ensures { result.items ≡ count_line cells leaves }
@@ -212,7 +218,7 @@ pub(crate) fn count_line(cells: u64, leaves: u64) -> Line
     two_numbers(b"cells ", cells, b" leaves ", leaves)
 }
 
-/// The line of how many states can be undone and redone.
+/// The line with the numbers of states that can be undone and redone.
 #[tactic(auto, unfolding(crate::specs::Texts::history_line))]
 fn history_line(undos: u64, redos: u64) -> Line
     ensures { result.items ≡ history_line undos redos }
@@ -220,7 +226,7 @@ fn history_line(undos: u64, redos: u64) -> Line
     two_numbers(b"undo ", undos, b" redo ", redos)
 }
 
-/// A line of two numbers, each behind a few bytes.
+/// A line with two numbers, each after a few bytes.
 fn two_numbers(before: &[u8], first: u64, between: &[u8], second: u64) -> Line
     requires { length before.now + length between.now ≤ 100 }
     ensures { result.items ≡ before.now ++ decimal first ++ between.now ++ decimal second ++ 10 ∷ [] }

@@ -1,4 +1,4 @@
-//! A writer that gathers answers.
+//! A writer that buffers answers.
 ghost use Rattle.std.specs.Prelude.{◌≡◌, ◌+◌, ◌≤◌, [], ◌++◌, length, drop, OnOk, IfOk, vec_len, vec_capacity};
 ghost use Rattle.std.specs.Io.KnownBytes.{Keeps};
 ghost use Rattle.s2calc.specs.Buffered.{written_to};
@@ -10,12 +10,11 @@ use std::io;
 use std::io::Write;
 use std::marker::Model;
 
-/// A writer that gathers what is written to it, and hands it to the writer below when it is flushed, and when 64 KiB
-/// wait in it.
+/// A writer that buffers what is written to it, and passes it to the writer below when it is flushed or when 64 KiB are
+/// waiting.
 ///
-/// A contract sees both: the writer below, which has what has reached it, and the bytes that wait. Unlike a
-/// `BufWriter` it tries no failed call again, and writes nothing when it is dropped. What a failed call didn't take
-/// goes on waiting.
+/// A contract sees both the writer below, with what has reached it, and the bytes that wait. Unlike a `BufWriter`, it
+/// does not retry a failed call, and writes nothing when it is dropped. What a failed call didn't take keeps waiting.
 #[derive(Drop)]
 pub struct AnswerBuffer<W> {
     writer: W,
@@ -37,7 +36,7 @@ impl<W> Model for AnswerBuffer<W> {
 }
 
 impl<W: Write + Drop> AnswerBuffer<W> {
-    /// Nothing waits in it. On failure the writer is dropped.
+    /// An empty buffer over a writer. If there is no memory, the writer is dropped.
     pub fn new(alloc: Global, writer: W) -> Result<AnswerBuffer<W>, AllocError>
         ensures writer { IfOk result (λ b. b.writer ≡ writer) }
         ensures nothing_waits { IfOk result (λ b. b.waiting ≡ []) }
@@ -48,14 +47,14 @@ impl<W: Write + Drop> AnswerBuffer<W> {
 }
 
 impl<W> AnswerBuffer<W> {
-    /// The writer below. What waits is lost.
+    /// The writer below. What is waiting is lost.
     pub fn into_writer(self) -> W
         ensures { result ≡ self.writer }
     {
         self.writer
     }
 
-    /// How many bytes wait.
+    /// How many bytes are waiting.
     pub fn waiting(&self) -> usize
         ensures count { result ≡ length self.now.waiting }
         ensures few { length self.now.waiting ≤ MOST_WAITING }
@@ -65,7 +64,7 @@ impl<W> AnswerBuffer<W> {
 }
 
 impl<W: Write> AnswerBuffer<W> {
-    /// Hands over what waits.
+    /// Passes on what is waiting.
     fn hand_over(&mut self) -> io::Result<()>
         ensures kept { Keeps (written_to W.contents self.old) (written_to W.contents self.new) }
         ensures ok { OnOk result (self.new.waiting ≡ []) }
@@ -97,7 +96,7 @@ impl<W: Write> Write for AnswerBuffer<W> {
     }
 }
 
-/// Takes the first bytes away.
+/// Removes the first bytes.
 fn drop_front(bytes: &mut Vec<u8>, count: usize)
     requires { count ≤ vec_len bytes.old }
     ensures items { bytes.new.items ≡ drop count bytes.old.items }
@@ -109,7 +108,7 @@ fn drop_front(bytes: &mut Vec<u8>, count: usize)
     bytes.truncate(len - count);
 }
 
-/// Puts bytes after others, if there is room for them.
+/// Appends bytes, if there is room for them.
 fn append(bytes: &mut Vec<u8>, more: &[u8])
     requires { vec_len bytes.old + length more.now ≤ vec_capacity bytes.old }
     ensures items { bytes.new.items ≡ bytes.old.items ++ more.now }

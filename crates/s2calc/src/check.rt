@@ -1,4 +1,4 @@
-//! What is answered of a file.
+//! The answer about a file.
 ghost use Rattle.s2calc.specs.Check.{Checks, ChecksFile, ChecksAndTells, check_reply};
 
 use crate::answer::{count_line, error_line};
@@ -11,15 +11,16 @@ use s2shelf::Shelf;
 use std::alloc::Global;
 use std::io::Write;
 
-/// Writes how many cells and leaves the union has that a file stands for, or why there is none, and flushes.
-/// False in the second case. Want of memory is such an answer, the line `error memory`.
+/// Writes how many cells and leaves the union in a file has, or why there is none, and flushes. Answers false in the
+/// second case. Out of memory is an answer of the second kind, the line `error memory`.
 pub fn check_answer<S: Shelf, W: Write>(
     alloc: Global,
     shelf: &mut S,
     name: &str,
     writer: &mut W,
 ) -> Result<bool, RunFault>
-    ensures { ChecksAndTells name.now (S.files shelf.old) (S.files shelf.new) (W.contents writer.old) (W.contents writer.new) result }
+    ensures { ChecksAndTells name.now (S.files shelf.old) (S.files shelf.new) (W.contents writer.old)
+        (W.contents writer.new) result }
 {
     match check(alloc, shelf, name) {
         Ok((cells, leaves)) => {
@@ -33,7 +34,7 @@ pub fn check_answer<S: Shelf, W: Write>(
     }
 }
 
-/// How many cells and leaves the file stands for.
+/// How many cells and leaves the union in the file has.
 fn check<S: Shelf>(alloc: Global, shelf: &mut S, name: &str) -> Result<(u64, u64), Refusal>
     ensures { Checks name.now (S.files shelf.old) (check_reply result) (S.files shelf.new) }
 {

@@ -2,18 +2,19 @@
 ghost use Rattle.std.specs.Prelude.{◌≤◌, ◌↔◌, IsTrue, IfOk, IfSome};
 ghost use Rattle.s2calc.specs.Program.{IsInRange};
 
-use crate::help::{ABOUT, AFTER, SCRIPT};
+use crate::help::{ABOUT, AFTER};
 use crate::task::Job;
 use clap::builder::ValueParser;
 use clap::error::ErrorKind;
 use clap::{Arg, ArgAction, ArgMatches, Command, Error, value_parser};
 use s2edit::{MOST_CELLS, MOST_STATES};
+use s2script::HELP;
 use std::alloc::{AllocError, Global};
 
-/// What the words of the command line ask for. The first word is the program's own name.
+/// What the words of the command line ask for. The first word is the name of the program.
 ///
-/// An error is a mistake in the words, or a request for help or the version; its `Display` is the text to show, and its
-/// kind says which it is. `OutOfMemory` among the kinds may stand for any answer.
+/// An error is a mistake in the words, or a request for help or the version. Its `Display` is the text to show, and its
+/// kind says which it is. The kind `OutOfMemory` may come in place of any answer.
 pub fn job(alloc: Global, words: Vec<String>) -> Result<Job, Error>
     ensures { IfOk result IsInRange }
 {
@@ -25,7 +26,7 @@ pub fn job(alloc: Global, words: Vec<String>) -> Result<Job, Error>
     }
 }
 
-/// The job of words that were taken.
+/// The job that words of the right form ask for.
 fn job_of(alloc: Global, matches: &ArgMatches<'_>) -> Result<Option<Job>, AllocError>
     ensures { IfOk result (λ job. IfSome job IsInRange) }
 {
@@ -68,16 +69,29 @@ fn is_within(n: usize, most: usize) -> bool
     n >= 1 && n <= most
 }
 
-/// The word of an argument that is required, or has a default.
+/// The word of an argument that is required or has a default.
 fn text(alloc: Global, matches: &ArgMatches<'_>, id: &str) -> Result<String, AllocError> {
     String::from_str(alloc, matches.get_str(id).unwrap_or(""))
 }
 
 /// The program with its commands.
-fn command<'a>(alloc: Global) -> Result<Command<'a>, Error> {
-    let run = Command::new(alloc, "run")
+fn command<'a>(alloc: Global) -> Result<Command<'a>, AllocError> {
+    Command::new(alloc, "s2calc")
+        .bin_name("s2calc")?
+        .about(ABOUT)
+        .after_help(AFTER)
+        .version("1.0.0")
+        .subcommand_required(true)
+        .subcommand(run_command(alloc)?)?
+        .subcommand(cell_command(alloc)?)?
+        .subcommand(check_command(alloc)?)
+}
+
+/// The command `run`.
+fn run_command<'a>(alloc: Global) -> Result<Command<'a>, AllocError> {
+    Command::new(alloc, "run")
         .about("Answers the script on standard input")
-        .after_help(SCRIPT)
+        .after_help(HELP)
         .arg(number(
             alloc,
             "limit",
@@ -92,28 +106,26 @@ fn command<'a>(alloc: Global) -> Result<Command<'a>, Error> {
             "100",
             "The most states that undo can go back, 1 to 10000",
         ))?
-        .arg(dir(alloc))?;
-    let cell = Command::new(alloc, "cell")
+        .arg(dir(alloc))
+}
+
+/// The command `cell`.
+fn cell_command<'a>(alloc: Global) -> Result<Command<'a>, AllocError> {
+    Command::new(alloc, "cell")
         .about("Tells what is known of a cell")
         .arg(word(
             alloc,
             "CELL",
             "The token (64c) or the debug text (3/021) of a cell",
-        ))?;
-    let check = Command::new(alloc, "check")
+        ))
+}
+
+/// The command `check`.
+fn check_command<'a>(alloc: Global) -> Result<Command<'a>, AllocError> {
+    Command::new(alloc, "check")
         .about("Tells how many cells and leaves a union file has")
         .arg(dir(alloc))?
-        .arg(word(alloc, "FILE", "The name of a file in the folder"))?;
-    let command = Command::new(alloc, "s2calc")
-        .bin_name("s2calc")?
-        .about(ABOUT)
-        .after_help(AFTER)
-        .version("1.0.0")
-        .subcommand_required(true)
-        .subcommand(run)?
-        .subcommand(cell)?
-        .subcommand(check)?;
-    Ok(command)
+        .arg(word(alloc, "FILE", "The name of a file in the folder"))
 }
 
 /// A number from 1 on.
@@ -127,7 +139,7 @@ fn number<'a>(alloc: Global, name: &'a str, most: i64, usual: &'a str, help: &'a
         .default_value(usual)
 }
 
-/// The folder of files, by its path. An empty path would name the root folder.
+/// The path of the folder of files. An empty path is refused, since it would name the root folder.
 fn dir<'a>(alloc: Global) -> Arg<'a> {
     Arg::new(alloc, "dir")
         .long("dir")
@@ -139,7 +151,7 @@ fn dir<'a>(alloc: Global) -> Arg<'a> {
         .default_value(".")
 }
 
-/// A word that has to stand there, whatever it begins with.
+/// A required word, whatever it begins with.
 fn word<'a>(alloc: Global, name: &'a str, help: &'a str) -> Arg<'a> {
     Arg::new(alloc, name)
         .help(help)

@@ -1,4 +1,4 @@
-//! Edits of a register: the union that an edit makes, what the register then gets, and undo and redo.
+//! Edits of a register: the union that an edit makes, how the register gets it, and undo and redo.
 ghost use Rattle.std.specs.Prelude.{◌≡◌, ◌<◌, ℕ, Bool, List, length, Ok, IfOk, IfErr};
 ghost use Rattle.s2union.specs.Union.{IsNormalForm, has_leaf};
 ghost use Rattle.s2union.specs.Sets.{either, shared, without};
@@ -16,17 +16,18 @@ use s2cover::{
 };
 use s2edit::{EditFault, Editor, Register};
 use s2script::{Cells, Edit, Level};
-use s2union::{CellUnion, normalise};
+use s2union::{CellUnion, UnionFault, normalise};
 use std::alloc::{AllocError, Global};
 
-/// Gives a register what an edit says.
+/// Gives a register the union that an edit makes.
 pub(crate) fn edit_register(
     alloc: Global,
     editor: &mut Editor,
     register: Register,
     edit: Edit<'_>,
 ) -> Answer
-    ensures { Gets (new_set editor.old.now register edit.entry) register editor.old (reply_of result editor.new) editor.new }
+    ensures { Gets (new_set editor.old.now register edit.entry) register editor.old (reply_of result editor.new)
+        editor.new }
 {
     match make(alloc, editor, register, edit) {
         Ok(union) => assign(editor, register, union),
@@ -36,7 +37,8 @@ pub(crate) fn edit_register(
 
 /// Gives a register a union.
 pub(crate) fn assign(editor: &mut Editor, register: Register, union: CellUnion) -> Answer
-    ensures { (S : ℕ → Bool) → IsNormalForm S union.cells → Gets S register editor.old (reply_of result editor.new) editor.new }
+    ensures { (S : ℕ → Bool) → IsNormalForm S union.cells →
+        Gets S register editor.old (reply_of result editor.new) editor.new }
 {
     match editor.assign(register, union) {
         Ok((out, put)) => Answer::Moved { out, put },
@@ -45,9 +47,10 @@ pub(crate) fn assign(editor: &mut Editor, register: Register, union: CellUnion) 
     }
 }
 
-/// Goes back to the state before.
+/// Goes back one state.
 pub(crate) fn undo(editor: &mut Editor) -> Answer
-    ensures { Moves editor.old.past editor.old (undone editor.old) (undone (sets editor.old)) (reply_of result editor.new) editor.new }
+    ensures { Moves editor.old.past editor.old (undone editor.old) (undone (sets editor.old))
+        (reply_of result editor.new) editor.new }
 {
     match editor.undo() {
         Some((out, put)) => Answer::Moved { out, put },
@@ -55,9 +58,10 @@ pub(crate) fn undo(editor: &mut Editor) -> Answer
     }
 }
 
-/// Goes forward again.
+/// Goes forward one state.
 pub(crate) fn redo(editor: &mut Editor) -> Answer
-    ensures { Moves editor.old.future editor.old (redone editor.old) (redone (sets editor.old)) (reply_of result editor.new) editor.new }
+    ensures { Moves editor.old.future editor.old (redone editor.old) (redone (sets editor.old))
+        (reply_of result editor.new) editor.new }
 {
     match editor.redo() {
         Some((out, put)) => Answer::Moved { out, put },
@@ -77,13 +81,13 @@ fn make(
     let union = editor.register(register);
     match edit {
         Edit::Add(cells) => in_memory(added(alloc, union, cells)),
-        Edit::Remove(cells) => in_memory(removed(alloc, union, cells)),
+        Edit::Remove(cells) => removed(alloc, union, cells, editor.limit()),
         Edit::Keep(cells) => in_memory(kept(alloc, union, cells)),
         Edit::Clear => Ok(nothing(alloc)),
         Edit::Copy(other) => in_memory(copied(editor.register(other))),
         Edit::Union(other) => in_memory(union.union(editor.register(other))),
         Edit::Intersect(other) => in_memory(union.intersection(editor.register(other))),
-        Edit::Subtract(other) => in_memory(union.difference(editor.register(other))),
+        Edit::Subtract(other) => subtracted(union, editor.register(other), editor.limit()),
         Edit::Range(span) => {
             let (first, last) = span.ends();
             in_memory(CellUnion::from_range(alloc, first, last))
@@ -95,7 +99,7 @@ fn make(
     }
 }
 
-/// A union, or want of memory as a refusal.
+/// The union, or out of memory as a refusal.
 fn in_memory(made: Result<CellUnion, AllocError>) -> Result<CellUnion, Refusal>
     ensures makes { (S : ℕ → Bool) (limit : ℕ) → IfOk made (λ u. IsNormalForm S u.cells) → Makes S limit result }
     ensures same { IfOk made (λ u. result ≡ Ok u) }
@@ -106,13 +110,15 @@ fn in_memory(made: Result<CellUnion, AllocError>) -> Result<CellUnion, Refusal>
     }
 }
 
-/// A covering, or why there is none as a refusal.
+/// A covering, or the refusal that says why there is none.
 #[tactic(auto, using(crate::proofs::CoveringLemmas::outer_too_long, crate::proofs::CoveringLemmas::inner_too_long))]
 fn covered(made: Result<CellUnion, CoverFault>) -> Result<CellUnion, Refusal>
     ensures outer { (R : ℕ → Bool) (level limit : ℕ) → IfOk made (λ u. IsNormalForm (outer_set R level) u.cells) →
-        IfErr made (λ fault. fault ≡ CoverFault.TooMany → (u : List ℕ) → IsNormalForm (outer_set R level) u → limit < length u) → Makes (outer_set R level) limit result }
+        IfErr made (λ fault. fault ≡ CoverFault.TooMany → (u : List ℕ) → IsNormalForm (outer_set R level) u →
+        limit < length u) → Makes (outer_set R level) limit result }
     ensures inner { (R : ℕ → Bool) (level limit : ℕ) → IfOk made (λ u. IsNormalForm (inner_set R level) u.cells) →
-        IfErr made (λ fault. fault ≡ CoverFault.TooMany → (u : List ℕ) → IsNormalForm (inner_set R level) u → limit < length u) → Makes (inner_set R level) limit result }
+        IfErr made (λ fault. fault ≡ CoverFault.TooMany → (u : List ℕ) → IsNormalForm (inner_set R level) u →
+        limit < length u) → Makes (inner_set R level) limit result }
 {
     match made {
         Ok(union) => Ok(union),
@@ -121,7 +127,7 @@ fn covered(made: Result<CellUnion, CoverFault>) -> Result<CellUnion, Refusal>
     }
 }
 
-/// The union of cells.
+/// The union of the cells.
 fn gathered(alloc: Global, mut cells: Cells<'_>) -> Result<CellUnion, AllocError>
     ensures { IfOk result (λ u. (x : ℕ) → has_leaf u.cells x ≡ has_leaf cells.entry x) }
 {
@@ -132,28 +138,49 @@ fn gathered(alloc: Global, mut cells: Cells<'_>) -> Result<CellUnion, AllocError
     Ok(normalise(list))
 }
 
-/// What the union has, and the cells.
+/// The union with the cells added.
 fn added(alloc: Global, union: &CellUnion, cells: Cells<'_>) -> Result<CellUnion, AllocError>
     ensures { IfOk result (λ u. IsNormalForm (either (has_leaf union.now.cells) (has_leaf cells.entry)) u.cells) }
 {
     union.union(&gathered(alloc, cells)?)
 }
 
-/// What the union has, without the cells.
-fn removed(alloc: Global, union: &CellUnion, cells: Cells<'_>) -> Result<CellUnion, AllocError>
-    ensures { IfOk result (λ u. IsNormalForm (without (has_leaf union.now.cells) (has_leaf cells.entry)) u.cells) }
+/// The union without the leaves of the cells.
+fn removed(
+    alloc: Global,
+    union: &CellUnion,
+    cells: Cells<'_>,
+    limit: usize,
+) -> Result<CellUnion, Refusal>
+    ensures { Makes (without (has_leaf union.now.cells) (has_leaf cells.entry)) limit result }
 {
-    union.difference(&gathered(alloc, cells)?)
+    match gathered(alloc, cells) {
+        Ok(taken) => subtracted(union, &taken, limit),
+        Err(_) => Err(Refusal::Memory),
+    }
 }
 
-/// What the union shares with the cells.
+/// The union without the leaves of another.
+#[tactic(auto, using(crate::proofs::CoveringLemmas::rest_too_long))]
+fn subtracted(union: &CellUnion, taken: &CellUnion, limit: usize) -> Result<CellUnion, Refusal>
+    ensures { Makes (without (has_leaf union.now.cells) (has_leaf taken.now.cells)) limit result }
+{
+    let _local = union.cells();
+    match union.difference_up_to(taken, limit) {
+        Ok(rest) => Ok(rest),
+        Err(UnionFault::TooMany) => Err(Refusal::TooMany),
+        Err(UnionFault::Memory) => Err(Refusal::Memory),
+    }
+}
+
+/// The leaves that the union shares with the cells.
 fn kept(alloc: Global, union: &CellUnion, cells: Cells<'_>) -> Result<CellUnion, AllocError>
     ensures { IfOk result (λ u. IsNormalForm (shared (has_leaf union.now.cells) (has_leaf cells.entry)) u.cells) }
 {
     union.intersection(&gathered(alloc, cells)?)
 }
 
-/// The union without a leaf.
+/// The union that has no leaf.
 fn nothing(alloc: Global) -> CellUnion
     ensures { IsNormalForm no_leaf result.cells }
 {
@@ -162,7 +189,7 @@ fn nothing(alloc: Global) -> CellUnion
     union
 }
 
-/// Another union of the same leaves.
+/// A copy of the union.
 fn copied(union: &CellUnion) -> Result<CellUnion, AllocError>
     ensures { IfOk result (λ u. IsNormalForm (has_leaf union.now.cells) u.cells) }
 {

@@ -1,5 +1,6 @@
 //! The run of a script.
-ghost use Rattle.std.specs.Prelude.{◌≡◌, ℕ, List, [], ◌∷◌, ◌++◌, OnOk, OnErr, IfOk, IfErr, IfSome, IfNone, MatchResult, ◌<◌, ◌≤◌, length};
+ghost use Rattle.std.specs.Prelude.{◌≡◌, ℕ, List, [], ◌∷◌, ◌++◌, OnOk, OnErr, IfOk, IfErr, IfSome, IfNone, MatchResult};
+ghost use Rattle.std.specs.Prelude.{◌<◌, ◌≤◌, length};
 ghost use Rattle.std.specs.Io.KnownBytes.{Keeps};
 ghost use Rattle.s2union.specs.Union.{IsNormalForm, has_leaf};
 ghost use Rattle.s2edit.specs.History.{EachList};
@@ -34,7 +35,8 @@ pub struct Tally {
 impl Tally {
     /// Counts one line.
     fn count(&mut self, outcome: Outcome)
-        ensures { (reply : Reply) (before : List Reply) → IsOutcome outcome reply → self.old ≡ tally_of before → self.new ≡ tally_of (before ++ reply ∷ []) }
+        ensures { (reply : Reply) (before : List Reply) → IsOutcome outcome reply → self.old ≡ tally_of before →
+            self.new ≡ tally_of (before ++ reply ∷ []) }
     {
         match outcome {
             Outcome::Silent => {}
@@ -47,7 +49,7 @@ impl Tally {
     }
 }
 
-/// Where the newline is.
+/// The place of the newline.
 fn newline_in(bytes: &[u8]) -> Option<usize>
     ensures none { IfNone result (IsUnbroken bytes.now) }
     ensures some { IfSome result (λ at. EndsLineAt bytes.now at) }
@@ -55,7 +57,7 @@ fn newline_in(bytes: &[u8]) -> Option<usize>
     bytes.iter().position(|b| *b == b'\n')
 }
 
-/// Takes the next bytes of a script, and carries out each line that they end.
+/// Takes the next bytes of a script, and carries out each line that ends in them.
 fn take_in<W: Write, S: Shelf>(
     alloc: Global,
     editor: &mut Editor,
@@ -87,17 +89,18 @@ fn take_in<W: Write, S: Shelf>(
 
 /// Runs a script: its lines come from the reader, its answers go to the writer, and its files are on the shelf.
 ///
-/// Each line's answer is written before the next line is carried out, a long one piece by piece, and the writer is
-/// flushed once, at the end. Takes 64 KiB and nothing more, at the start; each byte is looked at a bounded number
-/// of times.
+/// The answer to each line is written before the next line is carried out, a long one piece by piece. The writer is
+/// flushed once, at the end. Takes 64 KiB at the start, and nothing more; each byte is looked at a bounded number of
+/// times.
 ///
-/// `Memory` comes before anything is read, written or changed. After `Input` (a read failed, or 2^64 - 1 reads have
-/// not come to the end) just the lines that were read whole were carried out, and just their answers written. After
-/// `Output` either a write failed or took nothing: then some bytes of an answer are missing, and the editor stands after the
-/// line that it answers. Or the flush failed: then all lines were carried out, and all answers written. No failed call is
-/// tried again.
+/// `Memory` is answered before anything is read, written or changed. After `Input` (a read failed, or 2^64 - 1 reads
+/// have not come to the end) exactly the lines that were read whole were carried out, and exactly their answers were
+/// written. After `Output`, either a write failed or took nothing, and then some bytes of an answer are missing and the
+/// line that it answers was carried out; or the flush failed, and then all lines were carried out and all answers were
+/// written. A failed call is not retried.
 ///
-/// Each list of the editor is the normal form of its leaves, before and after: so the lists of which the answers tell are.
+/// Each list of the editor is the normal form of its leaves, before and after the run, and so are the lists in the
+/// answers.
 pub fn run<R: Read, W: Write, S: Shelf>(
     alloc: Global,
     editor: &mut Editor,
@@ -121,13 +124,13 @@ pub fn run<R: Read, W: Write, S: Shelf>(
     result
 }
 
-/// Runs a script as [`run`] does, over a writer that gathers answers, and flushes it before each read too: so what it
-/// gathered goes out before the run waits for more of the script, and whoever typed a line sees its answer.
+/// Runs a script as [`run`] does, over a writer that buffers answers, and flushes it before each read too. So the
+/// answers go out before the run waits for more of the script, and whoever typed a line sees its answer.
 ///
-/// After `Ok` all answers have reached the writer below, and after `Input` just those to the lines that were read
-/// whole: nothing waits in the buffer then. After `Output` what was written is what [`run`] says, or a flush before a
-/// read failed, with just the answers to the lines that were read whole written. At most 64 KiB of it wait in the
-/// buffer, and are lost when that is dropped.
+/// After `Ok` all answers have reached the writer below; after `Input` exactly the answers to the lines that were read
+/// whole have. In both cases nothing waits in the buffer. After `Output` what was written is as [`run`] says, or a
+/// flush before a read failed, and then it is exactly the answers to the lines that were read whole. At most 64 KiB of
+/// it wait in the buffer, and are lost when the buffer is dropped.
 pub fn run_promptly<R: Read, W: Write, S: Shelf>(
     alloc: Global,
     editor: &mut Editor,
@@ -141,7 +144,8 @@ pub fn run_promptly<R: Read, W: Write, S: Shelf>(
       output_old = written_to W.contents writer.old;
       output_new = W.contents writer.new.writer;
     }) writer.new.waiting (world editor.old (S.files shelf.old)) (world editor.new (S.files shelf.new)) result }
-    ensures nothing_waits { MatchResult result (λ _. writer.new.waiting ≡ []) (λ fault. fault ≡ RunFault.Input → writer.new.waiting ≡ []) }
+    ensures nothing_waits { MatchResult result (λ _. writer.new.waiting ≡ []) (λ fault. fault ≡ RunFault.Input →
+        writer.new.waiting ≡ []) }
     ensures few_wait { length writer.new.waiting ≤ MOST_WAITING }
     ensures before { EachList (λ u. IsNormalForm (has_leaf u) u) editor.old }
     ensures after { EachList (λ u. IsNormalForm (has_leaf u) u) editor.new }
@@ -182,7 +186,8 @@ fn run_over<R: Read, W: Write, S: Shelf, F: Flushing<W>>(
       output_old = W.contents writer.old;
       output_new = W.contents writer.new;
     }) (world editor.old (S.files shelf.old)) (world editor.new (S.files shelf.new)) result }
-    ensures sent { MatchResult result (λ _. F.is_sent writer.new) (λ fault. fault ≡ RunFault.Input → F.is_sent writer.new) }
+    ensures sent { MatchResult result (λ _. F.is_sent writer.new) (λ fault. fault ≡ RunFault.Input →
+        F.is_sent writer.new) }
 {
     let mut kept = Kept::new();
     let mut tally = Tally {
@@ -210,7 +215,7 @@ fn run_over<R: Read, W: Write, S: Shelf, F: Flushing<W>>(
     Err(RunFault::Input)
 }
 
-/// Carries out a last line that no newline ends, and flushes.
+/// Carries out a last line without a newline, and flushes.
 fn finish<W: Write, S: Shelf, F: Flushing<W>>(
     alloc: Global,
     editor: &mut Editor,
@@ -233,7 +238,7 @@ fn finish<W: Write, S: Shelf, F: Flushing<W>>(
     flushed::<W, F>(tally, writer)
 }
 
-/// Flushes the writer, and tells how many lines were answered.
+/// Flushes the writer, and answers how many lines were answered.
 fn flushed<W: Write, F: Flushing<W>>(tally: Tally, writer: &mut W) -> Result<Tally, RunFault>
     ensures kept { Keeps (W.contents writer.old) (W.contents writer.new) }
     ensures result { MatchResult result (λ told. told ≡ tally) (λ fault. fault ≡ RunFault.Output) }

@@ -29,7 +29,7 @@ pub enum Outcome {
     Refused,
 }
 
-/// Carries out a line and writes its answer. Where the writer fails, the line was carried out all the same.
+/// Carries out a line and writes its answer. If the writer fails, the line was still carried out.
 pub(crate) fn execute<W: Write, S: Shelf>(
     alloc: Global,
     editor: &mut Editor,
@@ -37,7 +37,8 @@ pub(crate) fn execute<W: Write, S: Shelf>(
     writer: &mut W,
     shelf: &mut S,
 ) -> Result<Outcome, RunFault>
-    ensures executes { Executes (world editor.old (S.files shelf.old)) line.now (world editor.new (S.files shelf.new)) (W.contents writer.old) (W.contents writer.new) result }
+    ensures executes { Executes (world editor.old (S.files shelf.old)) line.now
+        (world editor.new (S.files shelf.new)) (W.contents writer.old) (W.contents writer.new) result }
     ensures fault { IfErr result (λ fault. fault ≡ RunFault.Output) }
 {
     let answer = carry_out(alloc, editor, line, shelf);
@@ -56,9 +57,10 @@ fn outcome_of(answer: &Answer, editor: &Editor) -> Outcome
     }
 }
 
-/// Carries out a line. The answer is to be written before the next.
+/// Carries out a line. The answer must be written before the next line.
 fn carry_out<S: Shelf>(alloc: Global, editor: &mut Editor, line: &[u8], shelf: &mut S) -> Answer
-    ensures { Step (world editor.old (S.files shelf.old)) line.now (reply_of result editor.new) (world editor.new (S.files shelf.new)) }
+    ensures { Step (world editor.old (S.files shelf.old)) line.now (reply_of result editor.new)
+        (world editor.new (S.files shelf.new)) }
 {
     match parse(line) {
         Parsed::Nothing => Answer::Nothing,
@@ -69,7 +71,8 @@ fn carry_out<S: Shelf>(alloc: Global, editor: &mut Editor, line: &[u8], shelf: &
 
 /// Carries out a command.
 fn act<S: Shelf>(alloc: Global, editor: &mut Editor, command: Command<'_>, shelf: &mut S) -> Answer
-    ensures { Acts command.entry (world editor.old (S.files shelf.old)) (reply_of result editor.new) (world editor.new (S.files shelf.new)) }
+    ensures { Acts command.entry (world editor.old (S.files shelf.old)) (reply_of result editor.new)
+        (world editor.new (S.files shelf.new)) }
 {
     match command {
         Command::Edit { register, edit } => edit_register(alloc, editor, register, edit),

@@ -1,4 +1,4 @@
-//! What the shelf has under a name: the bytes of a file, and the union that they stand for.
+//! What the shelf has under a name: the bytes of a file, and the union in it.
 ghost use Rattle.std.specs.Prelude.{◌≡◌, ℕ, List, take, MatchResult, Ok, Err};
 ghost use Rattle.s2union.specs.Union.{has_leaf, IsNormalForm};
 ghost use Rattle.s2calc.specs.Fetch.{Fetches, FetchesUnion, Reads};
@@ -9,12 +9,13 @@ use s2shelf::{Shelf, ShelfFault};
 use s2union::CellUnion;
 use std::alloc::Global;
 
-/// The first `most` bytes of the content under a name, all of it if it has no more, or why there is none. The shelf is
-/// asked once.
+/// The first `most` bytes of the file under a name, the whole file if it has no more, or why there is none. Asks the
+/// shelf once.
 #[tactic(auto, using(crate::proofs::FetchLemmas::begun, crate::proofs::FetchLemmas::begun_none))]
 pub(crate) fn fetch<S: Shelf>(shelf: &mut S, name: &str, most: usize) -> Result<Vec<u8>, Refusal>
     ensures { MatchResult result
-        (λ bytes. (content : List ℕ) × Fetches name.now (S.files shelf.old) (Ok content) (S.files shelf.new) × (bytes.items ≡ take most content))
+        (λ bytes. (content : List ℕ) × Fetches name.now (S.files shelf.old) (Ok content) (S.files shelf.new)
+        × (bytes.items ≡ take most content))
         (λ refusal. Fetches name.now (S.files shelf.old) (Err refusal) (S.files shelf.new)) }
 {
     match shelf.get_beginning(name, most) {
@@ -25,19 +26,19 @@ pub(crate) fn fetch<S: Shelf>(shelf: &mut S, name: &str, most: usize) -> Result<
     }
 }
 
-/// How many bytes of a union file are asked for: one more than the longest has, so that a longer file is refused as
-/// what it is, and no more of it is read.
+/// How many bytes of a union file are asked for: one more than the longest has. So a longer file is refused for what is
+/// wrong with it, and no more of it is read.
 const BYTES_OF_A_UNION: usize = MOST_SIZE + 1;
 
-/// The union that the file under a name stands for, or why there is none. The shelf is asked first, then the
-/// bytes are read.
+/// The union in the file under a name, or why there is none. Asks the shelf first, then reads the bytes.
 pub(crate) fn fetch_union<S: Shelf>(
     alloc: Global,
     shelf: &mut S,
     name: &str,
 ) -> Result<CellUnion, Refusal>
     ensures { MatchResult result
-        (λ union. FetchesUnion name.now (S.files shelf.old) (Ok (has_leaf union.cells)) (S.files shelf.new) × IsNormalForm (has_leaf union.cells) union.cells)
+        (λ union. FetchesUnion name.now (S.files shelf.old) (Ok (has_leaf union.cells)) (S.files shelf.new)
+        × IsNormalForm (has_leaf union.cells) union.cells)
         (λ refusal. FetchesUnion name.now (S.files shelf.old) (Err refusal) (S.files shelf.new)) }
 {
     match fetch(shelf, name, BYTES_OF_A_UNION) {
@@ -46,7 +47,7 @@ pub(crate) fn fetch_union<S: Shelf>(
     }
 }
 
-/// The union that bytes stand for, or why there is none.
+/// The union that the bytes of a file stand for, or why there is none.
 fn read(alloc: Global, bytes: &[u8]) -> Result<CellUnion, Refusal>
     ensures { MatchResult result
         (λ union. Reads bytes.now (Ok (has_leaf union.cells)) × IsNormalForm (has_leaf union.cells) union.cells)

@@ -13,7 +13,7 @@ use s2script::Name;
 use s2shelf::{Shelf, ShelfFault};
 use std::alloc::Global;
 
-/// Gives a register what a file holds. The file is fetched and read first, and then the limit counts.
+/// Gives a register what a file holds. The file is fetched and read first; the limit is checked after that.
 pub(crate) fn load<S: Shelf>(
     alloc: Global,
     editor: &mut Editor,
@@ -21,7 +21,8 @@ pub(crate) fn load<S: Shelf>(
     name: &Name<'_>,
     shelf: &mut S,
 ) -> Answer
-    ensures { Loads register name.now (world editor.old (S.files shelf.old)) (reply_of result editor.new) (world editor.new (S.files shelf.new)) }
+    ensures { Loads register name.now (world editor.old (S.files shelf.old)) (reply_of result editor.new)
+        (world editor.new (S.files shelf.new)) }
 {
     match fetch_union(alloc, shelf, name.as_str()) {
         Ok(union) => assign(editor, register, union),
@@ -37,7 +38,8 @@ pub(crate) fn save<S: Shelf>(
     name: &Name<'_>,
     shelf: &mut S,
 ) -> Answer
-    ensures { Saves register name.now (world editor.now (S.files shelf.old)) (reply_of result editor.now) (world editor.now (S.files shelf.new)) }
+    ensures { Saves register name.now (world editor.now (S.files shelf.old)) (reply_of result editor.now)
+        (world editor.now (S.files shelf.new)) }
 {
     let Ok(bytes) = encode(alloc, editor.register(register)) else {
         return Answer::Refused(Refusal::Memory);

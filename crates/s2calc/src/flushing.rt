@@ -8,7 +8,7 @@ use crate::fault::RunFault;
 use crate::output::flush;
 use std::io::Write;
 
-/// When a run flushes its writer, beside the end, and what is known of the writer then.
+/// When a run flushes its writer besides at the end, and what is known of the writer then.
 pub(crate) trait Flushing<W: Write> {
     // nothing that was written waits in the writer
     ghost is_sent: { W → Type 0 };
@@ -16,7 +16,7 @@ pub(crate) trait Flushing<W: Write> {
     // a flush before a read may fail
     ghost may_fail: { Type 0 };
 
-    /// What comes before each read.
+    /// What happens before each read.
     fn before_read(writer: &mut W) -> Result<(), RunFault>
         ensures kept { Keeps (W.contents writer.old) (W.contents writer.new) }
         ensures sent { OnOk result (is_sent writer.new) }
@@ -29,7 +29,7 @@ pub(crate) trait Flushing<W: Write> {
         ensures fault { IfErr result (λ fault. fault ≡ RunFault.Output) };
 }
 
-/// Nothing comes before a read. Of a writer of any kind it isn't known what waits in it.
+/// Nothing happens before a read. It isn't known what waits in a writer of any kind.
 pub(crate) struct AtTheEnd;
 
 impl<W: Write> Flushing<W> for AtTheEnd {
@@ -46,7 +46,7 @@ impl<W: Write> Flushing<W> for AtTheEnd {
     }
 }
 
-/// The buffer is handed over before each read.
+/// The buffer is flushed before each read.
 pub(crate) struct BeforeEachRead;
 
 impl<W: Write> Flushing<AnswerBuffer<W>> for BeforeEachRead {

@@ -2,13 +2,13 @@
 ghost use Rattle.s2calc.specs.Laws.{TellsWhole, OneRun, CountsFailures};
 ghost use Rattle.s2calc.specs.LawsScripts.{OneEnd, LawOfUndo, RestoreGivesBack};
 
-/// Where the reader tells its bytes, a run that finishes has carried out the lines of just these bytes.
+/// If the reader exposes its bytes, a run that finishes has carried out the lines of exactly these bytes.
 pub fn whole_script()
     ensures { TellsWhole }
 {}
 
-/// Where no line meets want of memory or a failed shelf, a script has one run from each state and shelf: its
-/// answers, and the state and the files that it leaves, are a function of them and of its bytes.
+/// If no line runs out of memory or meets a failed shelf, a script has one run from each state and shelf: its answers,
+/// and the state and the files that it leaves, are a function of the state, the shelf and the bytes of the script.
 pub fn one_run()
     ensures { OneRun }
 {}
@@ -18,18 +18,18 @@ pub fn counted_failures()
     ensures { CountsFailures }
 {}
 
-/// Where neither `error memory` nor `error file` comes, whole runs of the same bytes have one end: what is written,
-/// the tally, the state and the told files are one function of the script, the first state and the first files.
+/// If no line is answered `error memory` or `error file`, whole runs of the same bytes have one end: what is written,
+/// the tally, the state and the known files are one function of the script, the first state and the first files.
 pub fn one_end()
     ensures { OneEnd }
 {}
 
-/// Undo, as far as the history reaches, gives each earlier table back, list for list and byte for byte.
+/// As far as the history reaches, undo gives each earlier table back, list for list and byte for byte.
 pub fn undo_goes_back()
     ensures { LawOfUndo }
 {}
 
-/// What `dump` wrote comes back by `restore`, in the same editor or another of its limit and depth.
+/// `restore` gives back what `dump` wrote, in the same editor or another one with its limit and depth.
 pub fn restore_gives_back()
     ensures { RestoreGivesBack }
 {}

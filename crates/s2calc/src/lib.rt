@@ -1,13 +1,12 @@
-//! The script engine: it reads a script line by line, carries out each line over an editor of registers and
-//! a shelf of files, and writes its answer. `run` is the whole of it: its contract says that what was
-//! written is the stated function of the bytes read, however reader and writer cut them, and what holds
-//! where one of them fails.
+//! The script engine. It reads a script line by line, carries out each line over an editor of registers and a shelf of
+//! files, and writes its answer. `run` is all of this: its contract says that what was written is the stated function
+//! of the bytes read, however reader and writer cut them, and what holds if one of them fails.
 //!
 //! A line flows one way: bytes (`engine`, `kept`) -> what it says (the crate `s2script`) -> its effect
 //! (`execute`: `edits`, `files`, `sessions`, `questions`; `fetch` asks the shelf) -> an `answer` -> bytes
 //! (`output`, `answer_buffer`). `refusal` says why a line is refused, `fault` what ends a run, `flushing` when the
-//! writer is flushed; `limits` are the limits, `laws` laws about the definitions. For the program: `command_line`, `help`
-//! and `task` (what it is asked for), `program` and `check` (its other answers).
+//! writer is flushed; `limits` are the limits, `laws` laws about the definitions. For the program: `command_line`,
+//! `help` and `task` (what it is asked for), `program` and `check` (its other answers).
 #![tactic(auto)]
 
 mod answer;

@@ -1,11 +1,11 @@
-//! The limits of a run, each in one place: contracts and `specs/` cite them from here. Those of lines and words are
-//! in `s2script`; the number of registers, the greatest limit and the greatest depth are in `s2edit`.
+//! The limits of a run, each in one place, from which contracts and `specs/` cite them. Those of lines and words are in
+//! `s2script`; the number of registers, the greatest limit and the greatest depth are in `s2edit`.
 use s2script::LONGEST_LINE;
 
-/// The most cells that are listed of a register that is cut to levels.
+/// The most cells that are listed when a register is cut to levels.
 pub(crate) const MOST_LISTED: u64 = 1_000_000;
 
-/// How many bytes of a line are kept: one more than the longest line has, to tell a longer one.
+/// How many bytes of a line are kept: one more than the longest line has, to recognize a longer one.
 pub(crate) const KEPT: usize = LONGEST_LINE + 1;
 
 /// How many bytes a read asks for.

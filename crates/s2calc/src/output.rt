@@ -1,4 +1,4 @@
-//! Writing, by a loop of its own.
+//! Writing all bytes, in a loop of its own.
 ghost use Rattle.std.specs.Prelude.{◌≡◌, ◌<◌, ◌≤◌, OnOk, OnErr, IfErr, length, take};
 ghost use Rattle.std.specs.Io.KnownBytes.{Appends, Keeps};
 ghost use Rattle.s2calc.specs.Output.{AppendsPart};
@@ -21,8 +21,8 @@ pub fn emit<W: Write>(writer: &mut W, bytes: &[u8]) -> Result<(), RunFault>
     }
 }
 
-/// Writes the bytes until all are written, or a call fails or takes nothing, which is not tried again. Tells how many
-/// were written.
+/// Writes the bytes until all are written, or until a call fails or takes nothing, which is not retried. Answers how
+/// many were written.
 pub(crate) fn write_out<W: Write>(writer: &mut W, bytes: &[u8]) -> (usize, io::Result<()>)
     ensures within { result.0 ≤ length bytes.now }
     ensures written { Appends (W.contents writer.old) (W.contents writer.new) (take result.0 bytes.now) }

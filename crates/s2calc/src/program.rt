@@ -1,4 +1,4 @@
-//! What the program answers beside a run.
+//! What the program answers besides runs.
 ghost use Rattle.std.specs.Prelude.{◌≡◌, OnOk, OnErr, IfOk, IfErr, not};
 ghost use Rattle.std.specs.Io.KnownBytes.{Appends};
 ghost use Rattle.s2calc.specs.Output.{AppendsUnflushed};
@@ -13,13 +13,14 @@ use crate::refusal::Refusal;
 use s2script::cell_in;
 use std::io::Write;
 
-/// Writes what is known of the cell that the word names, and flushes. False if it names none, which is
-/// then written. It takes no memory.
+/// Writes what is known of the cell that the word names, and flushes. If it names none, writes that and answers false.
+/// Takes no memory.
 pub fn cell_answer<W: Write>(word: &[u8], writer: &mut W) -> Result<bool, RunFault>
     ensures ok { OnOk result (Appends (W.contents writer.old) (W.contents writer.new) (text_of (cell_reply word.now))) }
     ensures named { IfOk result (λ named. named ≡ not (is_refusal (cell_reply word.now))) }
     // Bytes of the line are missing, or all of it was written and the flush failed.
-    ensures err { OnErr result (AppendsUnflushed (W.contents writer.old) (W.contents writer.new) (text_of (cell_reply word.now))) }
+    ensures err { OnErr result (AppendsUnflushed (W.contents writer.old) (W.contents writer.new)
+        (text_of (cell_reply word.now))) }
     ensures fault { IfErr result (λ fault. fault ≡ RunFault.Output) }
 {
     match cell_in(word) {
@@ -45,8 +46,8 @@ pub(crate) fn write_line<W: Write>(line: &[u8], writer: &mut W) -> Result<(), Ru
     flush(writer)
 }
 
-/// The exit status of a run: 0 where nothing was refused, 1 where something was, 2 where the input or the
-/// output failed, 3 for want of memory at the start.
+/// The exit status of a run: 0 if nothing was refused, 1 if something was, 2 if the input or the output failed, 3 if
+/// there was no memory at the start.
 pub fn status(outcome: &Result<Tally, RunFault>) -> u8
     ensures { result ≡ status_of outcome.now }
 {

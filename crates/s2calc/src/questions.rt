@@ -2,7 +2,8 @@
 ghost use Rattle.s2calc.specs.Answer.{reply_of};
 ghost use Rattle.s2calc.specs.Questions.{Answers};
 ghost use Rattle.s2script.specs.declared.command.Comparison.TheVariants.{Covers, Meets};
-ghost use Rattle.s2script.specs.declared.command.Question.TheVariants.{At, Square as OfSquare, Count, Has, Touches, Compares, Denorm, History as Sides};
+ghost use Rattle.s2script.specs.declared.command.Question.TheVariants.{At, Square as OfSquare, Count, Has, Touches};
+ghost use Rattle.s2script.specs.declared.command.Question.TheVariants.{Compares, Denorm, History as Sides};
 
 use crate::answer::Answer;
 use crate::limits::MOST_LISTED;

@@ -2,7 +2,7 @@
 ghost use Rattle.std.specs.Prelude.{◌≡◌, ◌≤◌, length};
 ghost use Rattle.s2calc.specs.Refusals.{name_of};
 
-/// Why a line is refused. After any of them no register has changed, and nothing of the history.
+/// Why a line is refused. A refused line changes no register, and nothing in the history.
 #[derive(Clone, Copy, Debug, PartialEq, Eq)]
 pub enum Refusal {
     /// Its words, or its length.
@@ -11,7 +11,7 @@ pub enum Refusal {
     Missing,
     /// The files' device failed.
     File,
-    /// A file that isn't of the form of a union file.
+    /// A file that doesn't have the form of a union file.
     Format,
     /// A file that stands for no registers and history.
     Session,

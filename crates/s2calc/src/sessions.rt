@@ -1,8 +1,7 @@
 //! The registers and both sides of their history as a file.
-ghost use Rattle.std.specs.Prelude.{◌≡◌, List, ℕ, Ok, IfOk, OnErr, MatchResult};
+ghost use Rattle.std.specs.Prelude.{◌≡◌, List, ℕ, Ok, OnErr, MatchResult};
 ghost use Rattle.s2file.specs.Session.{content_of, IsContent, Spells};
 ghost use Rattle.s2edit.specs.History.{History};
-ghost use Rattle.s2edit.specs.Session.{Text};
 ghost use Rattle.s2calc.specs.Answer.{reply_of};
 ghost use Rattle.s2calc.specs.Fetch.{Fetches};
 ghost use Rattle.s2calc.specs.Sessions.{TakesOver, RefusesBytes, FetchesNoState};
@@ -12,10 +11,10 @@ ghost use Rattle.s2calc.specs.World.{world};
 use crate::answer::Answer;
 use crate::refusal::Refusal;
 use s2edit::{Editor, RestoreFault};
-use s2file::{Session, SessionFault, decode_session, encode_session};
+use s2file::{Session, SessionFault, decode_session};
 use s2script::Name;
 use s2shelf::{Shelf, ShelfFault};
-use std::alloc::{AllocError, Global};
+use std::alloc::Global;
 
 /// Writes the registers and both sides of their history to a file.
 pub(crate) fn dump<S: Shelf>(
@@ -24,9 +23,10 @@ pub(crate) fn dump<S: Shelf>(
     name: &Name<'_>,
     shelf: &mut S,
 ) -> Answer
-    ensures { Dumps name.now (world editor.now (S.files shelf.old)) (reply_of result editor.now) (world editor.now (S.files shelf.new)) }
+    ensures { Dumps name.now (world editor.now (S.files shelf.old)) (reply_of result editor.now)
+        (world editor.now (S.files shelf.new)) }
 {
-    let Ok(bytes) = text_of(alloc, editor) else {
+    let Ok(bytes) = editor.session_file() else {
         return Answer::Refused(Refusal::Memory);
     };
     match shelf.put(name.as_str(), bytes.as_slice()) {
@@ -36,22 +36,15 @@ pub(crate) fn dump<S: Shelf>(
     }
 }
 
-/// The bytes of the registers and of both sides of their history.
-fn text_of(alloc: Global, editor: &Editor) -> Result<Vec<u8>, AllocError>
-    ensures { IfOk result (λ bytes. Text editor.now bytes.items) }
-{
-    let session = editor.session()?;
-    encode_session(alloc, &session)
-}
-
-/// Takes over the registers and the history of a file. The file is fetched and read first, then depth and limit count.
+/// Takes over the registers and the history of a file. Fetches and reads the file first, then checks depth and limit.
 pub(crate) fn restore<S: Shelf>(
     alloc: Global,
     editor: &mut Editor,
     name: &Name<'_>,
     shelf: &mut S,
 ) -> Answer
-    ensures { Restores name.now (world editor.old (S.files shelf.old)) (reply_of result editor.new) (world editor.new (S.files shelf.new)) }
+    ensures { Restores name.now (world editor.old (S.files shelf.old)) (reply_of result editor.new)
+        (world editor.new (S.files shelf.new)) }
 {
     match take_over_file(alloc, editor, name.as_str(), shelf) {
         Ok(()) => Answer::Done,
@@ -59,8 +52,8 @@ pub(crate) fn restore<S: Shelf>(
     }
 }
 
-/// Takes over what the file under a name stands for, or says why it can't. The file is read whole, since no length
-/// makes it too long.
+/// Takes over the session in the file under a name, or says why it can't. Reads the whole file, since no length is too
+/// long.
 fn take_over_file<S: Shelf>(
     alloc: Global,
     editor: &mut Editor,
@@ -68,7 +61,8 @@ fn take_over_file<S: Shelf>(
     shelf: &mut S,
 ) -> Result<(), Refusal>
     ensures answer { MatchResult result
-        (λ _. (bytes : List ℕ) × Fetches name.now (S.files shelf.old) (Ok bytes) (S.files shelf.new) × TakesOver bytes editor.old editor.new)
+        (λ _. (bytes : List ℕ) × Fetches name.now (S.files shelf.old) (Ok bytes) (S.files shelf.new)
+        × TakesOver bytes editor.old editor.new)
         (λ refusal. FetchesNoState name.now (S.files shelf.old) editor.old refusal (S.files shelf.new)) }
     ensures err { OnErr result (editor.new ≡ editor.old) }
 {
@@ -77,7 +71,7 @@ fn take_over_file<S: Shelf>(
     take_over(editor, session)
 }
 
-/// The whole content under a name, or why there is none. The shelf is asked once.
+/// The whole content under a name, or why there is none. Asks the shelf once.
 fn fetch_whole<S: Shelf>(shelf: &mut S, name: &str) -> Result<Vec<u8>, Refusal>
     ensures { MatchResult result
         (λ bytes. Fetches name.now (S.files shelf.old) (Ok bytes.items) (S.files shelf.new))
@@ -91,7 +85,7 @@ fn fetch_whole<S: Shelf>(shelf: &mut S, name: &str) -> Result<Vec<u8>, Refusal>
     }
 }
 
-/// The session that bytes spell, or why there is none. The bytes are dropped.
+/// The session that the bytes encode, or why there is none. Drops the bytes.
 #[tactic(auto, using(crate::proofs::SessionLemmas::none_stored))]
 fn session_in(alloc: Global, bytes: Vec<u8>) -> Result<Session, Refusal>
     ensures { MatchResult result
@@ -105,7 +99,7 @@ fn session_in(alloc: Global, bytes: Vec<u8>) -> Result<Session, Refusal>
     }
 }
 
-/// Takes over a session that bytes spell, or says why it can't.
+/// Takes over the session that the bytes encode, or says why it can't.
 #[tactic(auto, using(crate::proofs::SessionLemmas::taken, crate::proofs::SessionLemmas::too_deep, crate::proofs::SessionLemmas::too_many))]
 fn take_over(editor: &mut Editor, session: Session) -> Result<(), Refusal>
     requires { IsContent (content_of session) }

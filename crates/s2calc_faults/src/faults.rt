@@ -10,7 +10,7 @@ use std::test::Fail;
 
 #[test]
 fn the_answers_of_whole_lines_are_out_when_a_read_fails(rt: HostRuntime) -> Result<(), Fail> {
-    // All thirteen bytes were read, in so many calls, when the next call fails.
+    // All thirteen bytes have been read, in this many calls, when the next call fails.
     for (size, calls) in [(1, 13), (4, 4), (7, 2), (13, 1)] {
         let reader = Pieces::of(b"cell 1\ncell 3", size, Some(calls + 1));
         let writer = Narrow::new(rt.alloc(), 512, 5, None)?;
@@ -60,7 +60,7 @@ fn each_read_of_long_lines_fails_in_turn(rt: HostRuntime) -> Result<(), Fail> {
     reads_fail_in_turn(&rt, Flushing::AtTheEnd, &script, 4096)
 }
 
-/// Lets each read of a script fail in turn, and compares what is left with a run of the lines that were read whole.
+/// Makes each read of a script fail in turn, and compares what is left with a run of the lines that were wholly read.
 fn reads_fail_in_turn(
     rt: &(impl Abort + AllocGlobal),
     flushing: Flushing,
@@ -101,7 +101,7 @@ fn reads_fail_in_turn(
     Err(Fail::from("the script has no end"))
 }
 
-/// Of so many bytes of a script, those up to the last newline.
+/// The first n bytes of a script, up to the last newline among them.
 fn whole_lines(script: &[u8], read: usize) -> &[u8] {
     let mut end = 0;
     for at in 0..read.min(script.len()) {
@@ -123,7 +123,7 @@ fn each_write_goes_wrong_in_turn(rt: HostRuntime) -> Result<(), Fail> {
     writes_go_wrong_both_ways(&rt, 5)
 }
 
-/// Lets each write of at most so many bytes fail in turn, and take nothing.
+/// Makes each write of at most n bytes fail in turn, and then makes each take nothing in turn.
 fn writes_go_wrong_both_ways(rt: &(impl Abort + AllocGlobal), size: usize) -> Result<(), Fail> {
     for mishap in [Mishap::Fails, Mishap::TakesNothing] {
         let flushes = writes_go_wrong_in_turn(rt, Flushing::AtTheEnd, size, mishap)?;
@@ -135,7 +135,7 @@ fn writes_go_wrong_both_ways(rt: &(impl Abort + AllocGlobal), size: usize) -> Re
 #[test]
 fn each_write_and_flush_before_a_read_fails_in_turn(rt: HostRuntime) -> Result<(), Fail> {
     let flushes = writes_go_wrong_in_turn(&rt, Flushing::BeforeEachRead, 5, Mishap::Fails)?;
-    // One for each read, the one that finds the end among them, and one behind it.
+    // One for each read, including the one that finds the end, and one after that.
     let reads = script_of(rt.alloc(), &LINES)?
         .len()
         .div_ceil(PIECE)
@@ -165,12 +165,12 @@ fn an_empty_script_is_flushed_once(rt: HostRuntime) -> Result<(), Fail> {
     Ok(())
 }
 
-/// How many bytes a read gives, where it is writes that go wrong.
+/// How many bytes a read gives in the tests where writes fail.
 const PIECE: usize = 7;
 
-/// Lets each write and each flush go wrong in turn. What is out is a beginning of all answers. The editor stands after
-/// the line to whose answer the next byte belongs, unless a buffer gathers answers; where a flush failed, whole answers
-/// are out, and the editor stands after their lines. Tells how many flushes there were.
+/// Makes each write and each flush fail in turn. What is out is a beginning of all answers. Unless answers are
+/// buffered, the last line carried out is the one to whose answer the next byte belongs. If a flush failed, whole
+/// answers are out, and exactly their lines were carried out. Answers how many flushes there were.
 fn writes_go_wrong_in_turn(
     rt: &(impl Abort + AllocGlobal),
     flushing: Flushing,
@@ -206,7 +206,7 @@ fn writes_go_wrong_in_turn(
             is_all_out = out.len() == answers.len();
             assert!(rt; out.is_empty() || ends.contains(&out.len()), "call {call}");
         } else {
-            // Of a buffer, more answers than that of one line may be missing.
+            // If answers are buffered, the answers to more than one line may be missing.
             if matches!(flushing, Flushing::BeforeEachRead) {
                 continue;
             }
@@ -219,7 +219,7 @@ fn writes_go_wrong_in_turn(
     Err(Fail::from("the answers have no end"))
 }
 
-/// How many bytes are answered to the first line, to the first two, and so on.
+/// How many bytes answer the first line, the first two lines, and so on.
 fn ends_of_answers(alloc: Global) -> Result<Vec<usize>, Fail> {
     let mut ends = Vec::new(alloc);
     for count in 1..=LINES.len() {
@@ -229,7 +229,7 @@ fn ends_of_answers(alloc: Global) -> Result<Vec<usize>, Fail> {
     Ok(ends)
 }
 
-/// How many lines have their whole answer among so many bytes, those without an answer too.
+/// How many lines have their whole answer among the first n bytes, including lines without an answer.
 fn lines_answered(ends: &[usize], out: usize) -> usize {
     let mut count = 0usize;
     for end in ends {
@@ -240,7 +240,7 @@ fn lines_answered(ends: &[usize], out: usize) -> usize {
     count
 }
 
-/// Whether a line calls the shelf: one whose name is refused doesn't.
+/// Whether a line calls the shelf. A line whose file name is refused doesn't.
 fn calls_the_shelf(line: &str) -> bool {
     for command in ["load ", "save ", "dump ", "restore "] {
         if line.starts_with(command) {

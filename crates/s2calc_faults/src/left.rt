@@ -25,7 +25,7 @@ pub struct Left {
     pub shelf: MemoryShelf,
 }
 
-/// The lines, with a newline behind each.
+/// The lines, each followed by a newline.
 pub fn script_of(alloc: Global, lines: &[&str]) -> Result<Vec<u8>, Fail> {
     let mut script = Vec::new(alloc);
     for line in lines {
@@ -44,7 +44,7 @@ pub fn full_shelf(alloc: Global) -> Result<MemoryShelf, Fail> {
     Ok(shelf)
 }
 
-/// Runs a script over empty registers of at most 100 cells, with a history of at most 5 states, and over a buffer if
+/// Runs a script over empty registers of at most 100 cells and a history of at most 5 states. Buffers the answers if
 /// the writer is flushed before each read.
 pub fn run_over(
     alloc: Global,
@@ -73,7 +73,7 @@ pub fn run_over(
     })
 }
 
-/// Runs a script where nothing fails.
+/// Runs a script without failures.
 pub fn run_well(alloc: Global, script: &[u8]) -> Result<Left, Fail> {
     let reader = Pieces::of(script, 4096, None);
     let writer = Narrow::new(alloc, 8192, 4096, None)?;

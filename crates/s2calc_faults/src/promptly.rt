@@ -7,14 +7,15 @@ use std::alloc::Global;
 use std::cell::RefCell;
 use std::test::Fail;
 
-/// Which of the two runs.
+/// Which of the two kinds of runs.
 #[derive(Clone, Copy)]
 enum Kind {
     Promptly,
     FlushedAtTheEnd,
 }
 
-/// Runs the lines over a screen that may be broken, and tells how it ended and what it showed before each read.
+/// Runs the lines over a screen that may be broken. Answers how the run ended, and what the screen showed before each
+/// read.
 fn seen_by_the_typist(
     alloc: Global,
     kind: Kind,

@@ -1,9 +1,9 @@
-//! A person who types lines, and the screen on which the answers come.
+//! A person who types lines, and the screen on which the answers appear.
 use std::cell::RefCell;
 use std::io;
 use std::io::{ErrorKind, Read, Write};
 
-/// Two lines; the second answer is refused.
+/// Two lines, the second of which is refused.
 const LINES: [&[u8]; 2] = [b"history\n", b"undo\n"];
 
 /// What has reached the screen.
@@ -32,7 +32,7 @@ impl Write for Screen<'_> {
     }
 }
 
-/// Types a line at a time, and notes how many bytes the screen shows before each read.
+/// Types one line at a time, and notes how many bytes the screen shows before each read.
 #[derive(Drop)]
 pub struct Typist<'a> {
     pub typed: usize,

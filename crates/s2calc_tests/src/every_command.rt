@@ -1,7 +1,7 @@
 //! A script with every command, and the files that it finds.
 
-/// Every command, with edits that merge, undos and redos between them, and each refusal but those of a long line and of
-/// a failing call.
+/// Every command, with edits that merge, undos and redos between them, and each refusal except those for a long line
+/// and for a failing call.
 pub const LINES: [&str; 97] = [
     "# every command",
     "add a 04 0c 14",
@@ -102,7 +102,7 @@ pub const LINES: [&str; 97] = [
     "redo",
 ];
 
-/// The files that the script finds: `f` has the identifiers of 0c, 04 and 04, and `w` is of another version.
+/// The files that the script finds: `f` has the identifiers of 0c, 04 and 04, and `w` has another version.
 pub const FILES: [(&str, &[u8]); 2] = [
     (
         "f",

@@ -3,7 +3,7 @@ use s2cell::CellId;
 use s2union::{CellUnion, normalise};
 use std::alloc::{AllocError, Global};
 
-/// The leaves of the face that is given, without one cell of it.
+/// The leaves of the given face, without one of its cells.
 fn without_one(alloc: Global, face: CellId, cell: CellId) -> Result<CellUnion, AllocError> {
     let mut cells = Vec::new(alloc);
     cells.push(face)?;

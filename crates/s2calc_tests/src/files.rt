@@ -15,8 +15,8 @@ const UNSORTED: &[u8] =
 /// The identifiers of 04 and 0c.
 const SORTED: &[u8] = b"\x01\x02\0\0\0\0\0\0\0\0\0\0\0\0\0\0\x04\0\0\0\0\0\0\0\x0c";
 
-/// A file that is taken: its bytes, what its `load` answers over a register with the cell 3, the cells that the
-/// register then shows, and what its check answers.
+/// A file that is accepted: its bytes, what its `load` answers for a register with the cell 3, the cells that the
+/// register then has, and what its check answers.
 #[derive(Clone, Copy)]
 struct Taken {
     bytes: &'static [u8],
@@ -25,8 +25,8 @@ struct Taken {
     checked: &'static str,
 }
 
-/// The files of the format's table that are taken: no cell, the face 0, cells out of order of which one is doubled,
-/// and four siblings.
+/// The files of the format's table that are accepted: no cell, the face 0, cells out of order with one repeated, and
+/// four siblings.
 const TAKEN: [Taken; 4] = [
     Taken {
         bytes: b"\x01\0\0\0\0\0\0\0\0",
@@ -54,8 +54,8 @@ const TAKEN: [Taken; 4] = [
     },
 ];
 
-/// The bytes of the format's table that are refused: cut off, of another version, with too great a count, with a
-/// byte after the last identifier, and with a number that is no identifier.
+/// The bytes of the format's table that are refused: cut off, of another version, with too great a count, with a byte
+/// after the last identifier, or with a number that is not an identifier.
 const REFUSED: [&[u8]; 11] = [
     b"",
     b"\x02",
@@ -70,7 +70,7 @@ const REFUSED: [&[u8]; 11] = [
     b"\x01\x01\0\0\0\0\0\0\0\0\0\0\0\0\0\0\xd0",
 ];
 
-/// Runs a script over a shelf, and compares what is answered.
+/// Runs a script over a shelf, and compares its answers.
 fn is_answered<S: Shelf>(
     rt: &(impl Abort + AllocGlobal),
     shelf: &mut S,
@@ -86,7 +86,7 @@ fn is_answered<S: Shelf>(
     Ok(())
 }
 
-/// What a check answers, and whether it told a size.
+/// What a check answers, and whether it tells a size.
 fn is_checked<S: Shelf>(
     rt: &(impl Abort + AllocGlobal),
     shelf: &mut S,
@@ -100,7 +100,7 @@ fn is_checked<S: Shelf>(
     Ok(())
 }
 
-/// A file is loaded from a shelf, saved under another name, and checked.
+/// Loads a file from a shelf, saves it under another name, and checks it.
 fn a_shelf_serves<S: Shelf>(rt: &(impl Abort + AllocGlobal), shelf: &mut S) -> Result<(), Fail> {
     shelf.put("f", UNSORTED)?;
     is_answered(
@@ -136,7 +136,7 @@ fn a_shelf_serves<S: Shelf>(rt: &(impl Abort + AllocGlobal), shelf: &mut S) -> R
     Ok(())
 }
 
-/// A register that has the cell 3 gets the file, and gives it back by `undo`.
+/// A register with the cell 3 gets the file, and `undo` brings the cell 3 back.
 fn loads_one<S: Shelf>(
     rt: &(impl Abort + AllocGlobal),
     shelf: &mut S,
@@ -161,7 +161,7 @@ fn memory_serves_scripts_and_checks(rt: HostRuntime) -> Result<(), Fail> {
 #[test]
 fn a_folder_serves_scripts_and_checks(rt: HostRuntime) -> Result<(), Fail> {
     let folder = "s2calc-test-folder";
-    // what a run that failed may have left
+    // Removes what a failed run may have left.
     let _ = fs::remove_dir_all(&rt, folder);
     let mut shelf = DirShelf::at(&rt, folder)?;
     is_checked(&rt, &mut shelf, "f", "error missing\n")?;
@@ -173,7 +173,7 @@ fn a_folder_serves_scripts_and_checks(rt: HostRuntime) -> Result<(), Fail> {
     )?;
     fs::create_dir(&rt, folder)?;
     a_shelf_serves(&rt, &mut shelf)?;
-    // A folder in the file's place.
+    // A folder in place of the file.
     fs::create_dir(&rt, "s2calc-test-folder/d")?;
     is_checked(&rt, &mut shelf, "d", "error file\n")?;
     is_answered(
@@ -228,10 +228,10 @@ fn a_shelf_fails_once(rt: HostRuntime) -> Result<(), Fail> {
 #[test]
 fn a_file_longer_than_any_union_is_not_read_whole(rt: HostRuntime) -> Result<(), Fail> {
     let folder = "s2calc-test-long-file";
-    // what a run that failed may have left
+    // Removes what a failed run may have left.
     let _ = fs::remove_dir_all(&rt, folder);
     fs::create_dir(&rt, folder)?;
-    // 3 GB without a block on the disk; read whole, they would take more memory than there may be.
+    // 3 GB without a block on the disk. Reading it whole could take more memory than there is.
     let file = File::create(&rt, "s2calc-test-long-file/long")?;
     file.set_len(3_000_000_000)?;
     let mut shelf = DirShelf::at(&rt, folder)?;

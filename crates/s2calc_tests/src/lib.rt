@@ -1,9 +1,10 @@
-//! Worked scripts, run over a reader that cuts its bytes, a writer that takes few at a time, and a shelf.
+//! Worked scripts, run over a reader that cuts its bytes into pieces, a writer that takes a few bytes at a time, and a
+//! shelf.
 //!
 //! Modules: `pieces` (the reader), `narrow` (the writer), `every_command` (a script with every command), and the tests:
-//! `scripts` (worked scripts), `files` (scripts that read and write files), `sessions` (those that write and take over
-//! registers and history), `program` (the program's own calls), `example` (that of README.md). What fails is in the
-//! crate `s2calc_faults`.
+//! `scripts` (worked scripts), `files` (scripts that read and write files), `sessions` (scripts that write and restore
+//! registers and history), `program` (the program's own calls), `example` (the example in README.md). The tests of
+//! failures are in the crate `s2calc_faults`.
 #![tactic(auto)]
 
 mod every_command;

@@ -1,4 +1,4 @@
-//! A writer that takes a few bytes a call, and may go wrong.
+//! A writer that takes a few bytes per call, and may fail.
 ghost use Rattle.std.specs.Prelude.{◌≡◌, ◌≤◌, Some, [], IfOk, false};
 ghost use Rattle.std.specs.Vec.{vec_capacity};
 
@@ -6,7 +6,7 @@ use std::alloc::{AllocError, Global};
 use std::io;
 use std::io::{ErrorKind, Write};
 
-/// How a call of `Narrow` goes wrong.
+/// How a call of `Narrow` fails.
 #[derive(Clone, Copy, PartialEq, Eq, Debug)]
 pub enum Mishap {
     /// It answers an error.
@@ -15,7 +15,7 @@ pub enum Mishap {
     TakesNothing,
 }
 
-/// Takes a few bytes a call, and may go wrong at a call.
+/// Takes a few bytes per call, and may fail at one call.
 #[derive(Drop)]
 pub struct Narrow {
     written: Vec<u8>,
@@ -26,7 +26,8 @@ pub struct Narrow {
 }
 
 impl Narrow {
-    /// A writer with room for so many bytes, which takes so many a call; the call with the given number goes wrong.
+    /// A writer with room for a number of bytes, which takes a number of bytes per call. The call with the given number
+    /// fails.
     pub fn new(
         alloc: Global,
         room: usize,
@@ -57,14 +58,14 @@ impl Narrow {
         &self.written
     }
 
-    /// Whether it was a flush that went wrong.
+    /// Whether the call that failed was a flush.
     pub fn flush_failed(&self) -> bool
         ensures { result ≡ self.now.flush_failed }
     {
         self.flush_failed
     }
 
-    /// Counts a call, and says how it goes wrong.
+    /// Counts a call, and answers how it fails, if it does.
     fn mishap_now(&mut self) -> Option<Mishap>
         ensures { self.new.written ≡ self.old.written }
     {

@@ -33,7 +33,7 @@ fn statuses(rt: HostRuntime) {
     assert_eq!(rt; status(&Err(RunFault::Memory)), 3);
 }
 
-/// What the words after the program's name ask for, or the kind of what is wrong with them.
+/// What the arguments of the program ask for, or the kind of error in them.
 fn asked(rt: &(impl Abort + AllocGlobal), words: &[&str]) -> Result<Result<Job, ErrorKind>, Fail> {
     let mut given = Vec::new(rt.alloc());
     given.push(String::from_str(rt.alloc(), "s2calc")?)?;

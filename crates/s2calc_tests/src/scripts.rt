@@ -1,4 +1,4 @@
-//! Worked scripts: what each is answered, in whatever pieces it is read.
+//! Worked scripts and their answers, in whatever pieces the script is read.
 ghost use Rattle.std.specs.Prelude.{◌≤◌};
 
 use crate::narrow::Narrow;
@@ -16,7 +16,7 @@ const ROOM: usize = 8192;
 const ROWS: [(&str, &str); 31] = [
     // Four siblings merge into their parent.
     ("add a 04 0c 14 1c\nshow a\n", "ok 0 1\n1\nend\n"),
-    // Merging twice.
+    // Cells that merge twice.
     ("add a 0c 14 1c 01 03 05 07\nshow a\n", "ok 0 1\n1\nend\n"),
     // A debug text, and a square.
     (
@@ -53,7 +53,7 @@ const ROWS: [(&str, &str); 31] = [
         "add a 04 0c\nadd b 0c 14\ncopy c a\nunion c b\nintersect a b\nsubtract b a\ncovers c a\nmeets a b\nhas c 1\ntouches c 1\nadd c 1c\nundo\n",
         "ok 0 2\nok 0 2\nok 0 2\nok 0 1\nok 1 0\nok 1 0\nyes\nno\nno\nyes\nok 3 1\nok 1 3\n",
     ),
-    // What a face and cells share.
+    // What a face shares with cells.
     (
         "add a 1\nkeep a 04 05\nshow a\n",
         "ok 0 1\nok 1 1\n04\nend\n",
@@ -70,7 +70,7 @@ const ROWS: [(&str, &str); 31] = [
         "add a 1 0000000000000001\ndenorm a 1 3\n",
         "ok 0 1\n04\n0c\n14\n1c\nend\n",
     ),
-    // Too many cells are not begun.
+    // An answer with too many cells is not begun.
     ("add a 1\ndenorm a 30 1\n", "ok 0 1\nerror too-many\n"),
     // An edit without effect leaves no state.
     (
@@ -142,7 +142,7 @@ const ROWS: [(&str, &str); 31] = [
         "add z 1\ncopy y z\nunion y a\nhistory\nundo\nundo\nshow z\n",
         "ok 0 1\nok 0 1\nok 0 0\nundo 2 redo 0\nok 1 0\nok 1 0\nend\n",
     ),
-    // What is no register.
+    // What is not a register.
     (
         "add I zz\nadd ab zz\ncopy a {\n",
         "error register\nerror register\nerror register\n",
@@ -152,13 +152,13 @@ const ROWS: [(&str, &str); 31] = [
         "add a 1\ncopy b a\ncopy c b\ncopy d c\ncopy e d\ncopy f e\ncopy g f\ncopy h g\ncopy i h\ncopy j i\ncopy k j\ncopy l k\ncopy m l\ncopy n m\ncopy o n\ncopy p o\ncopy q p\ncopy r q\ncopy s r\ncopy t s\ncopy u t\ncopy v u\ncopy w v\ncopy x w\ncopy y x\ncopy z y\nclear a\nmeets z y\nmeets z a\nhistory\n",
         "ok 0 1\nok 0 1\nok 0 1\nok 0 1\nok 0 1\nok 0 1\nok 0 1\nok 0 1\nok 0 1\nok 0 1\nok 0 1\nok 0 1\nok 0 1\nok 0 1\nok 0 1\nok 0 1\nok 0 1\nok 0 1\nok 0 1\nok 0 1\nok 0 1\nok 0 1\nok 0 1\nok 0 1\nok 0 1\nok 0 1\nok 1 0\nyes\nno\nundo 27 redo 0\n",
     ),
-    // What is not known.
+    // Unknown commands.
     ("count a\r\n", "cells 0 leaves 0\n"),
 ];
 
 /// The same with a limit and a depth.
-const BOUNDED_ROWS: [(usize, usize, &str, &str); 4] = [
-    // Too many is decided on the merged list.
+const BOUNDED_ROWS: [(usize, usize, &str, &str); 5] = [
+    // The limit applies to the merged list.
     (
         2,
         100,
@@ -172,14 +172,21 @@ const BOUNDED_ROWS: [(usize, usize, &str, &str); 4] = [
         "add a 1\nadd a 3\nadd a 5\nundo\nundo\nundo\nshow a\n",
         "ok 0 1\nok 0 1\nok 0 1\nok 1 0\nok 1 0\nerror nothing\n1\nend\n",
     ),
-    // A covering is counted when it is merged.
+    // The limit applies to the merged covering.
     (
         1,
         100,
         "outer a 1 0 0 1073741823 0 1073741823\nouter a 1 0 0 1073741823 0 0\n",
         "ok 0 1\nerror too-many\n",
     ),
-    // An edit and a redo reach a list of just the limit.
+    // What is left of a cell may have as many cells as the limit, and no more.
+    (
+        3,
+        100,
+        "add a 1\nadd b 04\nsubtract a b\nremove a 09\ncount a\n",
+        "ok 0 1\nok 0 1\nok 1 3\nerror too-many\ncells 3 leaves 864691128455135232\n",
+    ),
+    // An edit and a redo reach a list of exactly the limit.
     (
         4,
         100,
@@ -188,7 +195,7 @@ const BOUNDED_ROWS: [(usize, usize, &str, &str); 4] = [
     ),
 ];
 
-/// How many lines are answered, and how many of them are refused. A listing is one answer, to its last line.
+/// How many lines are answered, and how many of them are refused. A whole listing counts as one answer.
 fn tally_of(answers: &str) -> Tally {
     let mut tally = Tally {
         commands: 0,
@@ -206,7 +213,7 @@ fn tally_of(answers: &str) -> Tally {
     tally
 }
 
-/// Runs a script in pieces of each size, and compares what is answered.
+/// Runs a script in pieces of each size, and compares the answers.
 fn is_answered(
     rt: &(impl Abort + AllocGlobal),
     limit: usize,
@@ -282,7 +289,7 @@ fn cells(rt: HostRuntime) -> Result<(), Fail> {
     Ok(())
 }
 
-/// Adds a line: a first byte, then `x` up to the length, then an end.
+/// Adds a line: a first byte, then `x` up to the length, then an ending.
 fn add_line(script: &mut Vec<u8>, first: u8, length: usize, end: &str) -> Result<(), Fail> {
     script.push(first)?;
     for _ in 1..length {

@@ -1,4 +1,4 @@
-//! Scripts that write their registers and history to a file, and take them over from one.
+//! Scripts that write their registers and history to a file, and restore them from one.
 ghost use Rattle.std.specs.Prelude.{◌≤◌};
 
 use crate::narrow::Narrow;
@@ -9,13 +9,13 @@ use std::alloc::Global;
 use std::process::Abort;
 use std::test::Fail;
 
-/// The session file of an editor to whose register a the face 0 was added: its head and registers, and its history.
+/// The session file of an editor after the face 0 was added to register a: its head and registers, and its history.
 const ONE_CHANGE: (&[u8], &[u8]) = (
     b"\x73\x01\x01\0\0\0\0\0\0\0\0\0\0\0\0\0\0\x10",
     b"\x01\0\0\0\0\0\0\0\0\0\0\0\0\0\0\0\0\x01\0\0\0\0\0\0\0\0\0\0\0\0\0\0\x10\0\0\0\0\0\0\0\0",
 );
 
-/// Runs a script over an untouched editor, and compares what is answered.
+/// Runs a script over an untouched editor, and compares the answers.
 fn is_answered(
     rt: &(impl Abort + AllocGlobal),
     limit: usize,
@@ -55,7 +55,7 @@ fn one_change(alloc: Global) -> Result<Vec<u8>, Fail> {
     Ok(bytes)
 }
 
-/// A shelf with the file `s` of a session with one change on either side.
+/// A shelf with a file `s`, a session with one change on each side.
 fn shelf_with_two_changes(rt: &(impl Abort + AllocGlobal)) -> Result<MemoryShelf, Fail> {
     let mut shelf = MemoryShelf::new(rt.alloc());
     is_answered(
@@ -111,7 +111,7 @@ fn undo_and_redo_go_on_in_another_run(rt: HostRuntime) -> Result<(), Fail> {
         "restore s\nhistory\nredo\nshow a\nundo\nundo\nundo\n",
         "ok\nundo 1 redo 1\nok 1 3\n0c\n14\n1c\nend\nok 3 1\nok 1 0\nerror nothing\n",
     )?;
-    // What was there is gone, and an edit drops the future.
+    // What was there before is gone, and an edit drops the future.
     is_answered(
         &rt,
         10_000,
@@ -135,11 +135,11 @@ fn what_was_restored_is_dumped_alike(rt: HostRuntime) -> Result<(), Fail> {
 fn a_session_keeps_to_depth_and_limit(rt: HostRuntime) -> Result<(), Fail> {
     does_not_fit(&rt, 10_000, 1, "error too-deep\n")?;
     does_not_fit(&rt, 2, 100, "error too-many\n")?;
-    // The depth counts first.
+    // The depth is checked first.
     does_not_fit(&rt, 2, 1, "error too-deep\n")
 }
 
-/// A session of two changes and three cells is refused by an editor of this limit and depth.
+/// An editor with this limit and depth refuses a session of two changes and three cells.
 fn does_not_fit(
     rt: &(impl Abort + AllocGlobal),
     limit: usize,
@@ -161,7 +161,7 @@ fn does_not_fit(
     )
 }
 
-/// The script of a file that is refused, and its answers: registers and history are as before.
+/// A script that restores a refused file, and its answers: registers and history are as before.
 fn is_refused(rt: &(impl Abort + AllocGlobal), bytes: &[u8]) -> Result<(), Fail> {
     let mut shelf = MemoryShelf::new(rt.alloc());
     shelf.put("s", bytes)?;
@@ -192,7 +192,7 @@ fn bytes_that_stand_for_no_session_are_refused(rt: HostRuntime) -> Result<(), Fa
     is_refused(&rt, &longer)?;
     is_refused(&rt, b"")?;
     is_refused(&rt, b"\x73\x01")?;
-    // A union file of a count without identifiers.
+    // A union file with a count but no identifiers.
     is_refused(&rt, b"\x01\x01\0\0\0\0\0\0\0")?;
     is_answered(
         &rt,

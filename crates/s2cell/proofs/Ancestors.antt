@@ -1,5 +1,6 @@
 -- The cell of the greatest level that contains two cells, by the highest bit in which they differ.
-use Rattle.std.proofs.Common.{◌≡◌, ℕ, suc, ◌+◌, ◌-◌, ◌*◌, ◌/◌, ◌%◌, ◌^◌, ◌<◌, ◌≤◌, refl, sym, ◌∙◌, ap, arith, lit<, bit_xor, max}
+use Rattle.std.proofs.Common.{◌≡◌, ℕ, suc, ◌+◌, ◌-◌, ◌*◌, ◌/◌, ◌%◌, ◌^◌, ◌<◌, ◌≤◌, refl, sym}
+use Rattle.std.proofs.Common.{◌∙◌, ap, arith, lit<, bit_xor, max}
 use Rattle.std.proofs.Math.Logic.{⊎_elim}
 use Rattle.std.proofs.Math.Nat.{pow-suc, pow-le-pow_right, div-eq_of_lt-le, mul-le-mul_right}
 use Rattle.std.specs.Int.Bits.{xor_self}
@@ -27,10 +28,11 @@ same_of_xor a b e =
 xor_parts : (a b e : ℕ) → bit_xor a b ≡ bit_xor (a / 2 ^ e) (b / 2 ^ e) * 2 ^ e + bit_xor (a % 2 ^ e) (b % 2 ^ e)
 xor_parts a b e =
     let p = pow_pos e in
-    ap (λ z. bit_xor z b) (sym (div-add-mod' a (2 ^ e))) ∙ ap (λ z. bit_xor (a / 2 ^ e * 2 ^ e + a % 2 ^ e) z) (sym (div-add-mod' b (2 ^ e)))
+    ap (λ z. bit_xor z b) (sym (div-add-mod' a (2 ^ e)))
+    ∙ ap (λ z. bit_xor (a / 2 ^ e * 2 ^ e + a % 2 ^ e) z) (sym (div-add-mod' b (2 ^ e)))
     ∙ xor_block e (a / 2 ^ e) (b / 2 ^ e) (a % 2 ^ e) (b % 2 ^ e) (mod_below a (2 ^ e) p) (mod_below b (2 ^ e) p)
 
--- two numbers differ in no bit from e on just where they have one quotient
+-- two numbers differ in no bit from e on exactly if they have the same quotient
 same_above : (a b e : ℕ) → bit_xor a b < 2 ^ e → a / 2 ^ e ≡ b / 2 ^ e
 same_above a b e h =
     let parts = xor_parts a b e in
@@ -43,7 +45,8 @@ same_above a b e h =
 differ_below : (a b e : ℕ) → a / 2 ^ e ≡ b / 2 ^ e → bit_xor a b < 2 ^ e
 differ_below a b e h =
     let p = pow_pos e in
-    let zero_above : bit_xor (a / 2 ^ e) (b / 2 ^ e) * 2 ^ e ≡ 0 * 2 ^ e = ap (λ z. z * 2 ^ e) (ap (λ z. bit_xor z (b / 2 ^ e)) h ∙ xor_self (b / 2 ^ e)) in
+    let zero_above : bit_xor (a / 2 ^ e) (b / 2 ^ e) * 2 ^ e ≡ 0 * 2 ^ e =
+    ap (λ z. z * 2 ^ e) (ap (λ z. bit_xor z (b / 2 ^ e)) h ∙ xor_self (b / 2 ^ e)) in
     let parts = xor_parts a b e in
     let low = xor_lt e (a % 2 ^ e) (b % 2 ^ e) (mod_below a (2 ^ e) p) (mod_below b (2 ^ e) p) in
     omega arith
@@ -52,7 +55,8 @@ power_less : (h e : ℕ) → 2 ^ h < 2 ^ e → h < e
 power_less h e l =
     ⊎_elim
     (λ (s : h < e). s)
-    (λ (s : e ≤ h). let m : 2 ^ e ≤ 2 ^ h = pow-le-pow_right {n = 2} (lit< tt) {i = e} {j = h} s in absurd (omega arith))
+    (λ (s : e ≤ h). let m : 2 ^ e ≤ 2 ^ h = pow-le-pow_right {n = 2} (lit< tt) {i = e} {j = h} s in
+    absurd (omega arith))
     (cases_lt h e)
 
 -- ---- what a cell around another has in common with it
@@ -77,7 +81,8 @@ place_above a d ca cd w =
     let lo = w.low in
     let hi = w.high in
     let s = size_of d in
-    let f : first_leaf d ≡ place_of d * s = first_leaf_of_cell (level_of d) (place_of d) d (own_place d cd) ∙ ap (λ z. place_of d * z) (sym (size_at d cd)) in
+    let f : first_leaf d ≡ place_of d * s = first_leaf_of_cell (level_of d) (place_of d) d (own_place d cd)
+    ∙ ap (λ z. place_of d * z) (sym (size_at d cd)) in
     rw (above_size d cd) (div-eq_of_lt-le {k = place_of d} (2 * s) (omega arith) (omega arith))
 
 size_below : (a d : ℕ) → IsCell a → IsCell d → Within a d → size_of a < 2 ^ above (level_of d)
@@ -98,15 +103,18 @@ level_at_most a l c h s =
 same_cell : (c d : ℕ) → IsCell c → IsCell d → level_of c ≡ level_of d → place_of c ≡ place_of d → c ≡ d
 same_cell c d cc cd l p = (own_place c cc).id ∙ rw (l, p) (sym (own_place d cd).id)
 
--- the parents of two cells at a level are one where the cells differ below its marker alone
-same_parent : (a b l : ℕ) → IsCell a → IsCell b → l ≤ level_of a → l ≤ level_of b → bit_xor a b < 2 ^ above l → parent_of a l ≡ parent_of b l
+-- the parents of two cells at a level are the same if the cells differ only below its marker
+same_parent : (a b l : ℕ) → IsCell a → IsCell b → l ≤ level_of a → l ≤ level_of b → bit_xor a b < 2 ^ above l →
+    parent_of a l ≡ parent_of b l
 same_parent a b l ca cb ha hb x =
     let pa = IsCell-parent_of a l (parent_of a l) ca ha refl in
     let pb = IsCell-parent_of b l (parent_of b l) cb hb refl in
     let la = parent_level a l ca ha in
     let lb = parent_level b l cb hb in
-    let qa : a / 2 ^ above l ≡ place_of (parent_of a l) = rw la at (place_above a (parent_of a l) ca pa (parent_around a l ca ha)) in
-    let qb : b / 2 ^ above l ≡ place_of (parent_of b l) = rw lb at (place_above b (parent_of b l) cb pb (parent_around b l cb hb)) in
+    let qa : a / 2 ^ above l ≡ place_of (parent_of a l) =
+    rw la at (place_above a (parent_of a l) ca pa (parent_around a l ca ha)) in
+    let qb : b / 2 ^ above l ≡ place_of (parent_of b l) =
+    rw lb at (place_above b (parent_of b l) cb pb (parent_around b l cb hb)) in
     same_cell (parent_of a l) (parent_of b l) pa pb (la ∙ sym lb) (sym qa ∙ same_above a b (above l) x ∙ qb)
 
 -- ---- what the call computes
@@ -118,7 +126,8 @@ pub record IsHighest (a b h : ℕ) : Type 0 where
   pub second : size_of b < 2 ^ suc h
   pub reached : (e : ℕ) → bit_xor a b < 2 ^ e → size_of a < 2 ^ e → size_of b < 2 ^ e → h < e
 
-pub highest : (a b sa sb x m : ℕ) → IsCell a → sa ≡ size_of a → sb ≡ size_of b → x ≡ max (bit_xor a b) sa → m ≡ max x sb → m < 2 ^ 64 → IsHighest a b (63 - count_leading_zeros 64 m)
+pub highest : (a b sa sb x m : ℕ) → IsCell a → sa ≡ size_of a → sb ≡ size_of b → x ≡ max (bit_xor a b) sa →
+    m ≡ max x sb → m < 2 ^ 64 → IsHighest a b (63 - count_leading_zeros 64 m)
 highest a b sa sb x m ca ea eb ex em hm =
     let some = (cell_leaves a ca).some in
     let t = leading_top 64 m (omega arith) hm in
@@ -137,8 +146,10 @@ other_faces a b h ca cb top l e =
     let sa = size_at a ca in
     let fa = face_bits a ca in
     let fb = face_bits b cb in
-    let qa : 4 ^ (30 - level_of a) ≤ 4 ^ 30 = pow-le-pow_right {n = 4} (lit< tt) {i = 30 - level_of a} {j = 30} (omega arith) in
-    let qb : 4 ^ (30 - level_of b) ≤ 4 ^ 30 = pow-le-pow_right {n = 4} (lit< tt) {i = 30 - level_of b} {j = 30} (omega arith) in
+    let qa : 4 ^ (30 - level_of a) ≤ 4 ^ 30 = pow-le-pow_right {n = 4} (lit< tt) {i = 30 - level_of a} {j = 30}
+    (omega arith) in
+    let qb : 4 ^ (30 - level_of b) ≤ 4 ^ 30 = pow-le-pow_right {n = 4} (lit< tt) {i = 30 - level_of b} {j = 30}
+    (omega arith) in
     let sb = size_at b cb in
     let r = top.reached 61 (differ_below a b 61 (fa ∙ e ∙ sym fb)) (omega arith) (omega arith) in
     omega arith
@@ -162,7 +173,8 @@ ancestor_level a b h ca top l =
     let s = top.first in
     level_at_most a (level_at h) ca (omega arith) (omega arith)
 
-pub common_ancestor_is : (a b h : ℕ) → IsCell a → IsCell b → IsHighest a b h → h ≤ 60 → IsCommonAncestor a b (parent_of a (level_at h))
+pub common_ancestor_is : (a b h : ℕ) → IsCell a → IsCell b → IsHighest a b h → h ≤ 60 →
+    IsCommonAncestor a b (parent_of a (level_at h))
 common_ancestor_is a b h ca cb top l =
     let k = level_at h in
     let p = above_highest h l in

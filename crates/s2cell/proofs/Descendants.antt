@@ -1,5 +1,6 @@
 -- The cells of a level in a cell: their identifiers and their leaves.
-use Rattle.std.proofs.Common.{◌≡◌, ℕ, ◌+◌, ◌-◌, ◌*◌, ◌%◌, ◌^◌, ◌<◌, ◌≤◌, refl, sym, ◌∙◌, ap, arith}
+use Rattle.std.proofs.Common.{◌≡◌, ℕ, ◌+◌, ◌-◌, ◌*◌, ◌%◌, ◌^◌, ◌<◌, ◌≤◌, refl, sym, ◌∙◌, ap}
+use Rattle.std.proofs.Common.{arith}
 use Rattle.std.proofs.Math.Nat.{mul-le-mul_right}
 use Rattle.std.proofs.lemmas.Nat.{pow-add, one_shl}
 use Rattle.s2cell.specs.Cell.{IsCellAt, IsCell, level_of, place_of, size_of, first_leaf}
@@ -16,7 +17,8 @@ pub record Descendant (n k i : ℕ) : Type 0 where
   pub first : first_leaf (descendant_of n k i) ≡ first_leaf n + i * 4 ^ (30 - k)
   pub whole : size_of n ≡ 4 ^ (k - level_of n) * 4 ^ (30 - k)
 
-pub descendant_at : (n k i : ℕ) → IsCell n → level_of n ≤ k → k ≤ 30 → i < 4 ^ (k - level_of n) → IsCellAt k (place_of n * 4 ^ (k - level_of n) + i) (descendant_of n k i)
+pub descendant_at : (n k i : ℕ) → IsCell n → level_of n ≤ k → k ≤ 30 → i < 4 ^ (k - level_of n) →
+    IsCellAt k (place_of n * 4 ^ (k - level_of n) + i) (descendant_of n k i)
 unfolding descendant_of
 descendant_at n k i c h t q =
     let o = own_place n c in
@@ -36,7 +38,8 @@ descendant n k i c h t q =
     let e : 30 - level_of n ≡ (k - level_of n) + (30 - k) = omega arith in
     let pw : 4 ^ (30 - level_of n) ≡ d * s = ap (λ x. 4 ^ x) e ∙ pow-add 4 (k - level_of n) (30 - k) in
     let sn : size_of n ≡ d * s = size_of_cell (level_of n) (place_of n) n o ∙ pw in
-    let fn : first_leaf n ≡ place_of n * (d * s) = first_leaf_of_cell (level_of n) (place_of n) n o ∙ ap (λ x. place_of n * x) pw in
+    let fn : first_leaf n ≡ place_of n * (d * s) = first_leaf_of_cell (level_of n) (place_of n) n o
+    ∙ ap (λ x. place_of n * x) pw in
     let fd : first_leaf (descendant_of n k i) ≡ (place_of n * d + i) * s = first_leaf_of_cell k _ _ a in
     record {
       at = a;
@@ -47,7 +50,8 @@ descendant n k i c h t q =
     }
 
 -- its identifier, as it is computed
-pub descendant_bits : (n k i b s : ℕ) → IsCell n → level_of n ≤ k → k ≤ 30 → i < 4 ^ (k - level_of n) → s ≡ size_of n → b ≡ 1 * 2 ^ (2 * (30 - k)) % 2 ^ 64
+pub descendant_bits : (n k i b s : ℕ) → IsCell n → level_of n ≤ k → k ≤ 30 → i < 4 ^ (k - level_of n) →
+    s ≡ size_of n → b ≡ 1 * 2 ^ (2 * (30 - k)) % 2 ^ 64
     → n - s + (2 * i + 1) * b ≡ descendant_of n k i
 descendant_bits n k i b s c h t q es eb =
     let d = descendant n k i c h t q in
@@ -60,7 +64,8 @@ descendant_bits n k i b s c h t q es eb =
     let z = d.size in
     rw is (omega arith)
 
-pub IsCell-descendant_of : (n k i m : ℕ) → IsCell n → level_of n ≤ k → k ≤ 30 → i < 4 ^ (k - level_of n) → m ≡ descendant_of n k i → IsCell m
+pub IsCell-descendant_of : (n k i m : ℕ) → IsCell n → level_of n ≤ k → k ≤ 30 → i < 4 ^ (k - level_of n) →
+    m ≡ descendant_of n k i → IsCell m
 IsCell-descendant_of n k i m c h t q e = (k, place_of n * 4 ^ (k - level_of n) + i, rw e (descendant_at n k i c h t q))
 
 -- where it is computed nothing exceeds 64 bits
@@ -69,7 +74,8 @@ pub record DescendantFits (n k i b s : ℕ) : Type 0 where
   pub sum : n - s + (2 * i + 1) * b < 2 ^ 64
   pub twice : 2 * i + 1 < 2 ^ 64
 
-pub descendant_fits : (n k i b s : ℕ) → IsCell n → level_of n ≤ k → k ≤ 30 → i < 4 ^ (k - level_of n) → s ≡ size_of n → b ≡ 1 * 2 ^ (2 * (30 - k)) % 2 ^ 64 → DescendantFits n k i b s
+pub descendant_fits : (n k i b s : ℕ) → IsCell n → level_of n ≤ k → k ≤ 30 → i < 4 ^ (k - level_of n) →
+    s ≡ size_of n → b ≡ 1 * 2 ^ (2 * (30 - k)) % 2 ^ 64 → DescendantFits n k i b s
 descendant_fits n k i b s c h t q es eb =
     let e = descendant_bits n k i b s c h t q es eb in
     let f = fits_u64 (descendant_of n k i) (IsCell-descendant_of n k i _ c h t q refl) in

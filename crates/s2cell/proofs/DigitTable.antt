@@ -1,5 +1,6 @@
 -- The table of the digits' values, entry by entry.
-use Rattle.std.proofs.Common.{◌≡◌, ℕ, suc, zero, ◌+◌, ◌<◌, Bool, true, ◌&&◌, ◌==◌, List, [], ◌∷◌, length, get_or, refl, sym, ◌∙◌, ap, arith, eqb-true}
+use Rattle.std.proofs.Common.{◌≡◌, ℕ, suc, zero, ◌+◌, ◌<◌, Bool, true, ◌&&◌, ◌==◌, List, [], ◌∷◌, length}
+use Rattle.std.proofs.Common.{get_or, refl, sym, ◌∙◌, ap, arith, eqb-true}
 use Rattle.std.proofs.lemmas.Bool.{and_parts}
 use Rattle.std.specs.Char.{digit_value}
 use Rattle.s2cell.specs.declared.digits.TheConstants.{DIGIT_VALUES}
@@ -9,10 +10,12 @@ abbrev values_from : ℕ → List ℕ → Bool
 values_from i [] = true
 values_from i (e ∷ es) = (e == digit_value i) && values_from (i + 1) es
 
-value_from : (i : ℕ) (es : List ℕ) (k : ℕ) → values_from i es ≡ true → k < length es → get_or es k 0 ≡ digit_value (i + k)
+value_from : (i : ℕ) (es : List ℕ) (k : ℕ) → values_from i es ≡ true → k < length es →
+    get_or es k 0 ≡ digit_value (i + k)
 value_from i [] k ok h = absurd (omega arith)
 value_from i (e ∷ es) zero ok h =
-    let first : e ≡ digit_value i = eqb-true e (digit_value i) (and_parts (e == digit_value i) (values_from (i + 1) es) ok).0 in
+    let first : e ≡ digit_value i = eqb-true e (digit_value i)
+    (and_parts (e == digit_value i) (values_from (i + 1) es) ok).0 in
     let same : i + 0 ≡ i = omega arith in
     first ∙ ap digit_value (sym same)
 value_from i (e ∷ es) (suc k) ok h =

@@ -1,5 +1,7 @@
 -- Texts of digits: the number that they write, and the one text that writes it.
-use Rattle.std.proofs.Common.{◌≡◌, ◌≢◌, ◌⊎◌, inl, inr, ℕ, suc, zero, ◌+◌, ◌-◌, ◌*◌, ◌/◌, ◌%◌, ◌^◌, ◌<◌, ◌≤◌, refl, sym, ◌∙◌, ap, arith, List, [], ◌∷◌, ◌++◌, length, take, get_or, All, length-append}
+use Rattle.std.proofs.Common.{◌≡◌, ◌≢◌, ◌⊎◌, inl, inr, ℕ, suc, zero, ◌+◌, ◌-◌, ◌*◌, ◌/◌, ◌%◌}
+use Rattle.std.proofs.Common.{◌^◌, ◌<◌, ◌≤◌, refl, sym, ◌∙◌, ap, arith, List, [], ◌∷◌, ◌++◌, length, take}
+use Rattle.std.proofs.Common.{get_or, All, length-append}
 use Rattle.std.proofs.Math.Arith.{mod-mul}
 use Rattle.std.proofs.Math.Logic.{⊎_elim}
 use Rattle.std.proofs.lemmas.Bool.{cases_lt}
@@ -21,21 +23,24 @@ power_pos b (suc k) some = let p = power_pos b k some in rw (pow-suc b k) (mul-p
 
 pub length-in_digits : (b len n : ℕ) → length (in_digits b len n) ≡ len
 length-in_digits b zero n = refl
-length-in_digits b (suc len) n = length-append (in_digits b len (n / b)) (digit_char (n % b) ∷ []) ∙ omega (arith, length-in_digits b len (n / b))
+length-in_digits b (suc len) n = length-append (in_digits b len (n / b)) (digit_char (n % b) ∷ [])
+    ∙ omega (arith, length-in_digits b len (n / b))
 
 pub AllDigits-in_digits : (b len n : ℕ) → 0 < b → b ≤ 36 → AllDigits b (in_digits b len n)
 AllDigits-in_digits b zero n some most = tt
 AllDigits-in_digits b (suc len) n some most =
     let below : n % b < b = mod-lt n some in
     let is : digit_value (digit_char (n % b)) ≡ n % b = digit_value-digit_char (n % b) (omega arith) in
-    digits_push b (in_digits b len (n / b)) (digit_char (n % b)) (AllDigits-in_digits b len (n / b) some most) (rw is below)
+    digits_push b (in_digits b len (n / b)) (digit_char (n % b)) (AllDigits-in_digits b len (n / b) some most)
+    (rw is below)
 
 written_digits : (b len n : ℕ) → 0 < b → b ≤ 36 → All (λ c. digit_char (digit_value c) ≡ c) (in_digits b len n)
 written_digits b zero n some most = λ k d h. absurd (omega arith)
 written_digits b (suc len) n some most =
     let below : n % b < b = mod-lt n some in
     let is : digit_value (digit_char (n % b)) ≡ n % b = digit_value-digit_char (n % b) (omega arith) in
-    All-push (λ c. digit_char (digit_value c) ≡ c) (in_digits b len (n / b)) (digit_char (n % b)) (written_digits b len (n / b) some most) (ap digit_char is)
+    All-push (λ c. digit_char (digit_value c) ≡ c) (in_digits b len (n / b)) (digit_char (n % b))
+    (written_digits b len (n / b) some most) (ap digit_char is)
 
 -- the digits write what is left of the number below the power
 pub digits_value-in_digits : (b len n : ℕ) → 0 < b → b ≤ 36 → digits_value b (in_digits b len n) ≡ n % b ^ len
@@ -49,32 +54,39 @@ digits_value-in_digits b (suc len) n some most =
     rw (digits_value_push b (in_digits b len (n / b)) (digit_char (n % b)), front, is, pow-suc b len, split) refl
 
 -- a text of digits, each the one that `digit_char` gives, is its value in digits
-pub take-in_digits : (b i : ℕ) (text : List ℕ) → 0 < b → i ≤ length text → ((k : ℕ) → k < length text → digit_value (get_or text k 0) < b) → ((k : ℕ) → k < length text → digit_char (digit_value (get_or text k 0)) ≡ get_or text k 0)
+pub take-in_digits : (b i : ℕ) (text : List ℕ) → 0 < b → i ≤ length text →
+    ((k : ℕ) → k < length text → digit_value (get_or text k 0) < b) →
+    ((k : ℕ) → k < length text → digit_char (digit_value (get_or text k 0)) ≡ get_or text k 0)
     → take i text ≡ in_digits b i (digits_value b (take i text))
 take-in_digits b zero text some h low own = refl
 take-in_digits b (suc i) text some h low own =
     let c = get_or text i 0 in
     let v = digits_value b (take i text) in
     let d = digit_value c in
-    let more : digits_value b (take (suc i) text) ≡ v * b + d = (let m = digits_value_more b text i h in let next : i + 1 ≡ suc i = omega arith in rw next at m) in
+    let more : digits_value b (take (suc i) text) ≡ v * b + d =
+    (let m = digits_value_more b text i h in let next : i + 1 ≡ suc i = omega arith in rw next at m) in
     let below : d < b = low i h in
     let front : (v * b + d) / b ≡ v = div-mul-add v b d below in
     let last : (v * b + d) % b ≡ d = mod-mul-add v b d below in
     let char : digit_char d ≡ c = own i h in
     let start : take i text ≡ in_digits b i v = take-in_digits b i text some (omega arith) low own in
-    let whole : in_digits b i v ++ c ∷ [] ≡ in_digits b (suc i) (digits_value b (take (suc i) text)) = rw (more, front, last, char) refl in
+    let whole : in_digits b i v ++ c ∷ [] ≡ in_digits b (suc i) (digits_value b (take (suc i) text)) =
+    rw (more, front, last, char) refl in
     take-suc text i 0 h ∙ ap (λ x. x ++ c ∷ []) start ∙ whole
 
 -- places that hold the digits of `n`, the one of the greatest of `total` first
-pub filled : (b total i : ℕ) (text : List ℕ) (n : ℕ) → i ≤ total → i ≤ length text → ((k : ℕ) → k < i → get_or text k 0 ≡ digit_char (n / b ^ (total - 1 - k) % b))
+pub filled : (b total i : ℕ) (text : List ℕ) (n : ℕ) → i ≤ total → i ≤ length text →
+    ((k : ℕ) → k < i → get_or text k 0 ≡ digit_char (n / b ^ (total - 1 - k) % b))
     → take i text ≡ in_digits b i (n / b ^ (total - i))
 filled b total zero text n h l is = refl
 filled b total (suc i) text n h l is =
     let last : total - 1 - i ≡ total - suc i = omega arith in
     let up : total - i ≡ suc (total - suc i) = omega arith in
     let pw : b ^ (total - i) ≡ b ^ (total - suc i) * b = ap (λ x. b ^ x) up ∙ pow-suc b (total - suc i) in
-    let front : n / b ^ (total - suc i) / b ≡ n / b ^ (total - i) = div-div-eq-div-mul n (b ^ (total - suc i)) b ∙ ap (λ x. n / x) (sym pw) in
-    let start : take i text ≡ in_digits b i (n / b ^ (total - i)) = filled b total i text n (omega arith) (omega arith) (λ k lt. is k (omega arith)) in
+    let front : n / b ^ (total - suc i) / b ≡ n / b ^ (total - i) = div-div-eq-div-mul n (b ^ (total - suc i)) b
+    ∙ ap (λ x. n / x) (sym pw) in
+    let start : take i text ≡ in_digits b i (n / b ^ (total - i)) =
+    filled b total i text n (omega arith) (omega arith) (λ k lt. is k (omega arith)) in
     let char : get_or text i 0 ≡ digit_char (n / b ^ (total - suc i) % b) = rw (← last) (is i (omega arith)) in
     rw (take-suc text i 0 l, front, start, char) refl
 
@@ -85,23 +97,31 @@ pub record IsPlain (b : ℕ) (text : List ℕ) : Type 0 where
   pub digits : AllDigits b text
   pub written : All (λ c. digit_char (digit_value c) ≡ c) text
 
-pub digit_below : (b : ℕ) (text : List ℕ) (k d : ℕ) → AllDigits b text → k < length text → digit_value (get_or text k d) < b
+pub digit_below : (b : ℕ) (text : List ℕ) (k d : ℕ) → AllDigits b text → k < length text →
+    digit_value (get_or text k d) < b
 digit_below b [] k d a h = absurd (omega arith)
 digit_below b (c ∷ cs) zero d a h = a.0
 digit_below b (c ∷ cs) (suc k) d a h = digit_below b cs k d a.1 (omega arith)
 
 -- a text of plain digits is its value in digits
-pub plain_text : (b : ℕ) (text : List ℕ) → 0 < b → IsPlain b text → text ≡ in_digits b (length text) (digits_value b text)
+pub plain_text : (b : ℕ) (text : List ℕ) → 0 < b → IsPlain b text →
+    text ≡ in_digits b (length text) (digits_value b text)
 plain_text b text some p =
     let whole : take (length text) text ≡ text = take_all (length text) text (omega arith) in
-    let front = take-in_digits b (length text) text some (omega arith) (λ k h. digit_below b text k 0 p.digits h) (λ k h. p.written k 0 h) in
+    let front = take-in_digits b (length text) text some (omega arith) (λ k h. digit_below b text k 0 p.digits h)
+    (λ k h. p.written k 0 h) in
     sym whole ∙ front ∙ ap (λ t. in_digits b (length text) (digits_value b t)) whole
 
-pub same_text : (b : ℕ) (s t : List ℕ) → 0 < b → IsPlain b s → IsPlain b t → length s ≡ length t → digits_value b s ≡ digits_value b t → s ≡ t
-same_text b s t some p q l v = plain_text b s some p ∙ ap (λ n. in_digits b n (digits_value b s)) l ∙ ap (λ n. in_digits b (length t) n) v ∙ sym (plain_text b t some q)
+pub same_text : (b : ℕ) (s t : List ℕ) → 0 < b → IsPlain b s → IsPlain b t → length s ≡ length t →
+    digits_value b s ≡ digits_value b t → s ≡ t
+same_text b s t some p q l v = plain_text b s some p ∙ ap (λ n. in_digits b n (digits_value b s)) l
+    ∙ ap (λ n. in_digits b (length t) n) v ∙ sym (plain_text b t some q)
 
 pub IsPlain-in_digits : (b len n : ℕ) → 0 < b → b ≤ 36 → IsPlain b (in_digits b len n)
-IsPlain-in_digits b len n some most = record { digits = AllDigits-in_digits b len n some most; written = written_digits b len n some most }
+IsPlain-in_digits b len n some most = record {
+  digits = AllDigits-in_digits b len n some most;
+  written = written_digits b len n some most;
+}
 
 -- the last of the digits
 pub last_digit : (b len n : ℕ) → 0 < len → get_or (in_digits b len n) (len - 1) 0 ≡ digit_char (n % b)

@@ -8,8 +8,10 @@ use Rattle.s2cell.proofs.CellLemmas.{level_of_cell, size_of_cell, first_leaf_of_
 use Rattle.s2cell.proofs.Tokens.{IsToken-token_of}
 use Rattle.s2cell.proofs.Debugs.{IsDebug-debug_of, face_of_cell_at}
 
-pub described : (n k m : ℕ) (token debug : List ℕ) (face first last : ℕ) → IsCellAt k m n → token_of n ≡ token → debug_of n ≡ debug
-    → m / 4 ^ k ≡ face → m * 4 ^ (30 - k) ≡ first → m * 4 ^ (30 - k) + 4 ^ (30 - k) ≡ last + 1 → IsDescribed n token debug k face first last
+pub described : (n k m : ℕ) (token debug : List ℕ) (face first last : ℕ) → IsCellAt k m n → token_of n ≡ token →
+    debug_of n ≡ debug
+    → m / 4 ^ k ≡ face → m * 4 ^ (30 - k) ≡ first → m * 4 ^ (30 - k) + 4 ^ (30 - k) ≡ last + 1 →
+    IsDescribed n token debug k face first last
 described n k m token debug face first last cell t d f a z = record {
   cell = (k, m, cell);
   has_token = rw (← t) (IsToken-token_of n (k, m, cell));

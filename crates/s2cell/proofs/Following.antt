@@ -22,7 +22,11 @@ next_cell n s c e h =
     let below : (2 * (m + 1) + 1) * t < (12 * 4 ^ k) * t = omega arith in
     let small : 2 * (m + 1) + 1 < 12 * 4 ^ k = lt_of_mul-lt-mul_right t below in
     let i : IsCellAt k (m + 1) (n + 2 * s) = record { level = o.level; place = omega arith; id = id } in
-    record { cell = (k, m + 1, i); level = level_of_cell k (m + 1) (n + 2 * s) i; place = place_of_cell k (m + 1) (n + 2 * s) i }
+    record {
+      cell = (k, m + 1, i);
+      level = level_of_cell k (m + 1) (n + 2 * s) i;
+      place = place_of_cell k (m + 1) (n + 2 * s) i;
+    }
 
 pub last_cell : (n s : ℕ) → IsCell n → s ≡ size_of n → 6 * 2 ^ 61 ≤ n + 2 * s → IsLast n
 last_cell n s c e h =

@@ -1,11 +1,13 @@
 -- The cell that tiles a run of leaves is the largest that begins there and fits.
-use Rattle.std.proofs.Common.{◌≡◌, ℕ, suc, ◌+◌, ◌-◌, ◌*◌, ◌/◌, ◌%◌, ◌^◌, ◌<◌, ◌≤◌, sym, ◌∙◌, ap, arith, lit<, min}
+use Rattle.std.proofs.Common.{◌≡◌, ℕ, suc, ◌+◌, ◌-◌, ◌*◌, ◌/◌, ◌%◌, ◌^◌, ◌<◌, ◌≤◌, sym}
+use Rattle.std.proofs.Common.{◌∙◌, ap, arith, lit<, min}
 use Rattle.std.specs.Int.Count.{count_trailing_zeros, count_leading_zeros, trailing_of_zero}
 use Rattle.std.proofs.Math.Nat.{pow-le-pow_right, lt_of_mul-lt-mul_right}
 use Rattle.std.proofs.Math.Logic.{⊎_elim}
 use Rattle.std.proofs.lemmas.Bool.{cases_lt}
 use Rattle.std.proofs.lemmas.Nat.{pow-add, pow_pos, one_shl, leading_top}
 use Rattle.s2cell.specs.Cell.{IsCell, level_of, place_of, size_of, first_leaf}
+use Rattle.s2cell.specs.declared.TheConstants.{LEAVES}
 use Rattle.s2cell.proofs.Lowest.{four_pow, odd_part}
 use Rattle.s2cell.proofs.CellLemmas.{own_place, cell_leaves, size_of_cell, first_leaf_of_cell}
 use Rattle.s2cell.proofs.Tiles.{tile_of}
@@ -21,11 +23,14 @@ trailing_of_multiple n m a fits small e =
     (λ (h : z < 2 * a).
     let split : 2 * a ≡ (2 * a - z - 1) + (1 + z) = omega arith in
     let c = 2 ^ (2 * a - z - 1) in
-    let pw : 4 ^ a ≡ c * (2 * 2 ^ z) = four_pow a ∙ ap (λ x. 2 ^ x) split ∙ pow-add 2 (2 * a - z - 1) (1 + z) ∙ ap (λ x. c * x) (pow-add 2 1 z) in
+    let pw : 4 ^ a ≡ c * (2 * 2 ^ z) = four_pow a ∙ ap (λ x. 2 ^ x) split ∙ pow-add 2 (2 * a - z - 1) (1 + z)
+    ∙ ap (λ x. c * x) (pow-add 2 1 z) in
     let even : n ≡ (2 * (m * c)) * 2 ^ z = (let f : n ≡ m * (c * (2 * 2 ^ z)) = rw pw at e in omega arith) in
     let odd = o.1 in
-    let up : 2 * o.0 + 1 < 2 * (m * c) + 1 = lt_of_mul-lt-mul_right (2 ^ z) (let pos : 0 < 2 ^ z = pow_pos z in omega arith) in
-    let down : 2 * (m * c) < 2 * o.0 + 1 + 1 = lt_of_mul-lt-mul_right (2 ^ z) (let pos : 0 < 2 ^ z = pow_pos z in omega arith) in
+    let up : 2 * o.0 + 1 < 2 * (m * c) + 1 = lt_of_mul-lt-mul_right (2 ^ z) (let pos : 0 < 2 ^ z = pow_pos z in
+    omega arith) in
+    let down : 2 * (m * c) < 2 * o.0 + 1 + 1 = lt_of_mul-lt-mul_right (2 ^ z) (let pos : 0 < 2 ^ z = pow_pos z in
+    omega arith) in
     absurd (omega arith))
     (λ (h : 2 * a ≤ z). h)
     (cases_lt z (2 * a)))
@@ -50,8 +55,10 @@ leading_of_large n a some fits h =
     (λ (g : 2 * a ≤ j). omega arith)
     (cases_lt j (2 * a))
 
-pub largest_tile : (first end steps n q : ℕ) → first < end → end ≤ 6 * 4 ^ 30 → steps ≡ min (min (count_trailing_zeros 64 first / 2) ((63 - count_leading_zeros 64 (end - first)) / 2)) 30
-    → n ≡ 2 * first + 1 * 2 ^ (2 * steps) % 2 ^ 64 → IsCell q → first_leaf q ≡ first → first_leaf q + size_of q ≤ end → size_of q ≤ size_of n
+pub largest_tile : (first end steps n q : ℕ) → first < end → end ≤ LEAVES →
+    steps ≡ min (min (count_trailing_zeros 64 first / 2) ((63 - count_leading_zeros 64 (end - first)) / 2)) 30
+    → n ≡ 2 * first + 1 * 2 ^ (2 * steps) % 2 ^ 64 → IsCell q → first_leaf q ≡ first →
+    first_leaf q + size_of q ≤ end → size_of q ≤ size_of n
 largest_tile first end steps n q some within es en cq fq eq =
     let t = tile_of first end steps n some within (omega arith) (omega arith) (omega arith) en in
     let m = (cell_leaves n t.cell).middle in
@@ -62,7 +69,9 @@ largest_tile first end steps n q some within es en cq fq eq =
     let a = 30 - level_of q in
     let sq : size_of q ≡ 4 ^ a = size_of_cell (level_of q) (place_of q) q o in
     let lq : first ≡ place_of q * 4 ^ a = sym fq ∙ first_leaf_of_cell (level_of q) (place_of q) q o in
-    let tz : 2 * a ≤ count_trailing_zeros 64 first = trailing_of_multiple first (place_of q) a (omega arith) (omega arith) lq in
-    let lz : 2 * a ≤ 63 - count_leading_zeros 64 (end - first) = leading_of_large (end - first) a (omega arith) (omega arith) (omega arith) in
+    let tz : 2 * a ≤ count_trailing_zeros 64 first =
+    trailing_of_multiple first (place_of q) a (omega arith) (omega arith) lq in
+    let lz : 2 * a ≤ 63 - count_leading_zeros 64 (end - first) =
+    leading_of_large (end - first) a (omega arith) (omega arith) (omega arith) in
     let r : 4 ^ a ≤ 4 ^ steps = pow-le-pow_right {n = 4} (lit< tt) {i = a} {j = steps} (omega arith) in
     omega arith

@@ -1,8 +1,10 @@
 -- The curve over several levels: a way of some levels and a way below it, joined and taken apart.
-use Rattle.std.proofs.Common.{◌≡◌, ℕ, suc, zero, ◌+◌, ◌*◌, ◌/◌, ◌%◌, ◌^◌, ◌<◌, refl, sym, ◌∙◌, ap, arith, bit_xor}
+use Rattle.std.proofs.Common.{◌≡◌, ℕ, suc, zero, ◌+◌, ◌*◌, ◌/◌, ◌%◌, ◌^◌, ◌<◌, refl, sym, ◌∙◌, ap}
+use Rattle.std.proofs.Common.{arith, bit_xor}
 use Rattle.std.proofs.Math.Nat.{pow-suc, suc-add, zero-add, div-div-eq-div-mul, div-eq_of_lt}
 use Rattle.std.proofs.Math.Arith.{mod-mul}
-use Rattle.std.proofs.lemmas.Nat.{pow_pos, pow-add, div-mul-add, mod-mul-add, mul-add-lt, div_below, mod_below, div-add-mod'}
+use Rattle.std.proofs.lemmas.Nat.{pow_pos, pow-add, div-mul-add, mod-mul-add, mul-add-lt, div_below, mod_below}
+use Rattle.std.proofs.lemmas.Nat.{div-add-mod'}
 use Rattle.s2cell.specs.Curve.{At, orientation_after, quadrant, turn}
 use Rattle.s2cell.proofs.CellLemmas.{four_pos}
 use Rattle.s2cell.proofs.Quadrants.{turn_keeps}
@@ -19,7 +21,8 @@ at_bounds zero o n x y (a, b, c) = record { leaf = omega arith; first = omega ar
 at_bounds (suc k) o n x y (a, b, c, d, e) = record { leaf = a; first = b; second = c }
 
 -- one quadrant, and the rest of the way in it
-pub at_step : (k o n x y p a b : ℕ) → p < 4 → a < 2 → b < 2 → 2 * a + b ≡ quadrant o p → At k (bit_xor o (turn p)) n x y → At (suc k) o (p * 4 ^ k + n) (a * 2 ^ k + x) (b * 2 ^ k + y)
+pub at_step : (k o n x y p a b : ℕ) → p < 4 → a < 2 → b < 2 → 2 * a + b ≡ quadrant o p →
+    At k (bit_xor o (turn p)) n x y → At (suc k) o (p * 4 ^ k + n) (a * 2 ^ k + x) (b * 2 ^ k + y)
 unfolding At
 at_step k o n x y p a b hp ha hb q rest =
     let w = at_bounds k (bit_xor o (turn p)) n x y rest in
@@ -55,7 +58,8 @@ pub digit_below : (k n : ℕ) → n < 4 ^ suc k → n / 4 ^ k < 4
 digit_below k n h = let e = pow-suc 4 k in let p = four_pos k in div_below n (4 ^ k) 4 p (omega arith)
 
 -- the orientation after a first part and a second part of the digits
-pub orientation_join : (a b o n r : ℕ) → n < 4 ^ a → r < 4 ^ b → orientation_after (a + b) o (n * 4 ^ b + r) ≡ orientation_after b (orientation_after a o n) r
+pub orientation_join : (a b o n r : ℕ) → n < 4 ^ a → r < 4 ^ b →
+    orientation_after (a + b) o (n * 4 ^ b + r) ≡ orientation_after b (orientation_after a o n) r
 unfolding orientation_after
 orientation_join zero b o n r hn hr =
     let e0 : n ≡ 0 = omega arith in
@@ -64,16 +68,19 @@ orientation_join zero b o n r hn hr =
 orientation_join (suc a) b o n r hn hr =
     let w = blocks n r (4 ^ a) (4 ^ b) (four_pos a) hr in
     let below = mod_below n (4 ^ a) (four_pos a) in
-    rw (suc-add a b, orientation_after, pow-add 4 a b, w.whole, w.rest) (orientation_join a b (bit_xor o (turn (n / 4 ^ a))) (n % 4 ^ a) r below hr)
+    rw (suc-add a b, orientation_after, pow-add 4 a b, w.whole, w.rest)
+    (orientation_join a b (bit_xor o (turn (n / 4 ^ a))) (n % 4 ^ a) r below hr)
 
 pub orientation_below : (k o n : ℕ) → o < 4 → n < 4 ^ k → orientation_after k o n < 4
 unfolding orientation_after
 orientation_below zero o n ho hn = ho
 orientation_below (suc k) o n ho hn =
-    orientation_below k (bit_xor o (turn (n / 4 ^ k))) (n % 4 ^ k) (turn_keeps o (n / 4 ^ k) ho (digit_below k n hn)) (mod_below n (4 ^ k) (four_pos k))
+    orientation_below k (bit_xor o (turn (n / 4 ^ k))) (n % 4 ^ k)
+    (turn_keeps o (n / 4 ^ k) ho (digit_below k n hn)) (mod_below n (4 ^ k) (four_pos k))
 
 -- a way of `a` levels and a way of `b` levels below it make a way
-pub at_join : (a b o n x y m u v : ℕ) → At a o n x y → At b (orientation_after a o n) m u v → At (a + b) o (n * 4 ^ b + m) (x * 2 ^ b + u) (y * 2 ^ b + v)
+pub at_join : (a b o n x y m u v : ℕ) → At a o n x y → At b (orientation_after a o n) m u v →
+    At (a + b) o (n * 4 ^ b + m) (x * 2 ^ b + u) (y * 2 ^ b + v)
 unfolding At orientation_after
 at_join zero b o n x y m u v (e, f, g) rest =
     let en : n * 4 ^ b + m ≡ m = ap (λ z. z * 4 ^ b + m) e ∙ omega arith in
@@ -94,7 +101,13 @@ at_join (suc a) b o n x y m u v (hn, hx, hy, q, up) rest =
     let bn : n * 4 ^ b + m < 4 ^ suc (a + b) = rw en ln in
     let bx : x * 2 ^ b + u < 2 ^ suc (a + b) = rw ex lx in
     let by : y * 2 ^ b + v < 2 ^ suc (a + b) = rw ex ly in
-    rw (suc-add a b) (bn, bx, by, rw (pow-add 4 a b, pow-add 2 a b, wn.whole, wx.whole, wy.whole) q, rw (pow-add 4 a b, pow-add 2 a b, wn.whole, wn.rest, wx.rest, wy.rest) deep)
+    rw (suc-add a b) (
+      bn,
+      bx,
+      by,
+      rw (pow-add 4 a b, pow-add 2 a b, wn.whole, wx.whole, wy.whole) q,
+      rw (pow-add 4 a b, pow-add 2 a b, wn.whole, wn.rest, wx.rest, wy.rest) deep,
+    )
 
 -- a number against A blocks of B
 pub record Parts (n A B : ℕ) : Type 0 where
@@ -113,7 +126,7 @@ parts n A B ha hb =
       rest = ap (λ z. z % B) r ∙ mod-mul-add (n / B % A) B (n % B) (mod_below n B hb);
     }
 
--- the first levels of a way: the cell of a leaf stands at the cell of its place
+-- the first levels of a way: the cell of a leaf is at the cell of its place
 pub at_above : (a b o n x y : ℕ) → At (a + b) o n x y → At a o (n / 4 ^ b) (x / 2 ^ b) (y / 2 ^ b)
 unfolding At
 at_above zero b o n x y way =
@@ -127,7 +140,8 @@ at_above (suc a) b o n x y way =
     let py = parts y (2 ^ a) (2 ^ b) (pow_pos a) (pow_pos b) in
     let en : 4 ^ suc (a + b) ≡ 4 ^ suc a * 4 ^ b = ap (λ z. 4 ^ z) (sym (suc-add a b)) ∙ pow-add 4 (suc a) b in
     let ex : 2 ^ suc (a + b) ≡ 2 ^ suc a * 2 ^ b = ap (λ z. 2 ^ z) (sym (suc-add a b)) ∙ pow-add 2 (suc a) b in
-    let deep = at_above a b (bit_xor o (turn (n / 4 ^ (a + b)))) (n % 4 ^ (a + b)) (x % 2 ^ (a + b)) (y % 2 ^ (a + b)) w.4 in (
+    let deep = at_above a b (bit_xor o (turn (n / 4 ^ (a + b)))) (n % 4 ^ (a + b)) (x % 2 ^ (a + b))
+    (y % 2 ^ (a + b)) w.4 in (
       div_below n (4 ^ b) (4 ^ suc a) (four_pos b) (rw en at w.0),
       div_below x (2 ^ b) (2 ^ suc a) (pow_pos b) (rw ex at w.1),
       div_below y (2 ^ b) (2 ^ suc a) (pow_pos b) (rw ex at w.2),

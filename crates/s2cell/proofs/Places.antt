@@ -1,10 +1,12 @@
 -- Each leaf of a face has one place, and each place one leaf.
-use Rattle.std.proofs.Common.{◌≡◌, ℕ, suc, zero, ◌+◌, ◌*◌, ◌/◌, ◌%◌, ◌^◌, ◌<◌, refl, sym, ◌∙◌, ap, arith, subst, bit_xor}
+use Rattle.std.proofs.Common.{◌≡◌, ℕ, suc, zero, ◌+◌, ◌*◌, ◌/◌, ◌%◌, ◌^◌, ◌<◌, refl, sym, ◌∙◌, ap}
+use Rattle.std.proofs.Common.{arith, subst, bit_xor}
 use Rattle.std.proofs.Math.Nat.{pow-suc}
 use Rattle.std.proofs.lemmas.Nat.{pow_pos, div_below, mod_below, div-add-mod'}
 use Rattle.s2cell.specs.Curve.{At, IsPlaceOf, quadrant, turn, i_within, j_within, i_of, j_of}
 use Rattle.s2cell.proofs.CellLemmas.{four_pos}
-use Rattle.s2cell.proofs.Quadrants.{quadrant_below, turn_keeps, digit_of, digit_of_below, digit_of_quadrant, quadrant_of_digit}
+use Rattle.s2cell.proofs.Quadrants.{quadrant_below, turn_keeps, digit_of, digit_of_below, digit_of_quadrant}
+use Rattle.s2cell.proofs.Quadrants.{quadrant_of_digit}
 use Rattle.s2cell.proofs.Levels.{at_step, digit_below}
 
 pub half_below : (k x : ℕ) → x < 2 ^ suc k → x / 2 ^ k < 2
@@ -22,8 +24,10 @@ pub same_place : (k o n x y u v : ℕ) → At k o n x y → At k o n u v → (x 
 unfolding At
 same_place zero o n x y u v (a, b, c) (d, e, f) = (b ∙ sym e, c ∙ sym f)
 same_place (suc k) o n x y u v (a, b, c, d, e) (a', b', c', d', e') =
-    let halves = same_halves (x / 2 ^ k) (y / 2 ^ k) (u / 2 ^ k) (v / 2 ^ k) (half_below k y c) (half_below k v c') (d ∙ sym d') in
-    let rests = same_place k (bit_xor o (turn (n / 4 ^ k))) (n % 4 ^ k) (x % 2 ^ k) (y % 2 ^ k) (u % 2 ^ k) (v % 2 ^ k) e e' in
+    let halves = same_halves (x / 2 ^ k) (y / 2 ^ k) (u / 2 ^ k) (v / 2 ^ k) (half_below k y c) (half_below k v c')
+    (d ∙ sym d') in
+    let rests = same_place k (bit_xor o (turn (n / 4 ^ k))) (n % 4 ^ k) (x % 2 ^ k) (y % 2 ^ k) (u % 2 ^ k)
+    (v % 2 ^ k) e e' in
     (same_parts x u (2 ^ k) halves.0 rests.0, same_parts y v (2 ^ k) halves.1 rests.1)
 
 -- a place has one leaf
@@ -33,8 +37,10 @@ same_leaf zero o n m x y ho (a, b, c) (d, e, f) = a ∙ sym d
 same_leaf (suc k) o n m x y ho (a, b, c, d, e) (a', b', c', d', e') =
     let hn = digit_below k n a in
     let hm = digit_below k m a' in
-    let top : n / 4 ^ k ≡ m / 4 ^ k = sym (digit_of_quadrant o (n / 4 ^ k) ho hn) ∙ ap (digit_of o) (sym d ∙ d') ∙ digit_of_quadrant o (m / 4 ^ k) ho hm in
-    let low = same_leaf k (bit_xor o (turn (n / 4 ^ k))) (n % 4 ^ k) (m % 4 ^ k) (x % 2 ^ k) (y % 2 ^ k) (turn_keeps o (n / 4 ^ k) ho hn) e
+    let top : n / 4 ^ k ≡ m / 4 ^ k = sym (digit_of_quadrant o (n / 4 ^ k) ho hn) ∙ ap (digit_of o) (sym d ∙ d')
+    ∙ digit_of_quadrant o (m / 4 ^ k) ho hm in
+    let low = same_leaf k (bit_xor o (turn (n / 4 ^ k))) (n % 4 ^ k) (m % 4 ^ k) (x % 2 ^ k) (y % 2 ^ k)
+    (turn_keeps o (n / 4 ^ k) ho hn) e
     (subst (λ (z : ℕ). At k (bit_xor o (turn z)) (m % 4 ^ k) (x % 2 ^ k) (y % 2 ^ k)) (sym top) e') in
     same_parts n m (4 ^ k) top low
 
@@ -48,7 +54,9 @@ at_within (suc k) o n ho hn =
     let p = n / 4 ^ k in
     let Q = quadrant o p in
     let deep = at_within k (bit_xor o (turn p)) (n % 4 ^ k) (turn_keeps o p ho hp) (mod_below n (4 ^ k) (four_pos k)) in
-    let s = at_step k o (n % 4 ^ k) (i_within k (bit_xor o (turn p)) (n % 4 ^ k)) (j_within k (bit_xor o (turn p)) (n % 4 ^ k)) p (Q / 2) (Q % 2) hp (omega arith) (omega arith) (omega arith) deep in
+    let s = at_step k o (n % 4 ^ k) (i_within k (bit_xor o (turn p)) (n % 4 ^ k))
+    (j_within k (bit_xor o (turn p)) (n % 4 ^ k)) p (Q / 2) (Q % 2) hp (omega arith) (omega arith) (omega arith)
+    deep in
     subst (λ (z : ℕ). At (suc k) o z (i_within (suc k) o n) (j_within (suc k) o n)) (div-add-mod' n (4 ^ k)) s
 
 -- also of those of a face
@@ -67,6 +75,8 @@ leaf_exists (suc k) o x y ho hx hy =
     let hq : q < 4 = omega arith in
     let p = digit_of o q in
     let hp = digit_of_below o q ho hq in
-    let deep = leaf_exists k (bit_xor o (turn p)) (x % 2 ^ k) (y % 2 ^ k) (turn_keeps o p ho hp) (mod_below x (2 ^ k) (pow_pos k)) (mod_below y (2 ^ k) (pow_pos k)) in
-    let s = at_step k o deep.0 (x % 2 ^ k) (y % 2 ^ k) p (x / 2 ^ k) (y / 2 ^ k) hp ha hb (sym (quadrant_of_digit o q ho hq)) deep.1 in
+    let deep = leaf_exists k (bit_xor o (turn p)) (x % 2 ^ k) (y % 2 ^ k) (turn_keeps o p ho hp)
+    (mod_below x (2 ^ k) (pow_pos k)) (mod_below y (2 ^ k) (pow_pos k)) in
+    let s = at_step k o deep.0 (x % 2 ^ k) (y % 2 ^ k) p (x / 2 ^ k) (y / 2 ^ k) hp ha hb
+    (sym (quadrant_of_digit o q ho hq)) deep.1 in
     (p * 4 ^ k + deep.0, rw (div-add-mod' x (2 ^ k), div-add-mod' y (2 ^ k)) at s)

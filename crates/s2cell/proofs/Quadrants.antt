@@ -1,5 +1,6 @@
 -- One digit of the curve: the quadrant that it picks, and how it turns the orientation.
-use Rattle.std.proofs.Common.{◌≡◌, ℕ, suc, zero, ◌+◌, ◌*◌, ◌/◌, ◌%◌, ◌<◌, refl, arith, bit_xor, List, [], ◌∷◌, slice_index, get_or, lit<}
+use Rattle.std.proofs.Common.{◌≡◌, ℕ, suc, zero, ◌+◌, ◌*◌, ◌/◌, ◌%◌, ◌<◌, refl, arith, bit_xor, List, []}
+use Rattle.std.proofs.Common.{◌∷◌, slice_index, get_or, lit<}
 use Rattle.std.proofs.lemmas.Nat.{xor_lt}
 use Rattle.s2cell.specs.Curve.{quadrant, quadrants, turn}
 
@@ -12,7 +13,8 @@ four_cases P a b c d (suc (suc (suc zero))) h = d
 four_cases P a b c d (suc (suc (suc (suc n)))) h = absurd (omega arith)
 
 -- a fact of each two numbers below 4
-pub sixteen_cases : (P : ℕ → ℕ → Type 0) → ((p : ℕ) → p < 4 → P 0 p) → ((p : ℕ) → p < 4 → P 1 p) → ((p : ℕ) → p < 4 → P 2 p) → ((p : ℕ) → p < 4 → P 3 p)
+pub sixteen_cases : (P : ℕ → ℕ → Type 0) → ((p : ℕ) → p < 4 → P 0 p) → ((p : ℕ) → p < 4 → P 1 p) →
+    ((p : ℕ) → p < 4 → P 2 p) → ((p : ℕ) → p < 4 → P 3 p)
     → (o p : ℕ) → o < 4 → p < 4 → P o p
 sixteen_cases P a b c d o p ho hp = four_cases (λ z. P z p) (a p hp) (b p hp) (c p hp) (d p hp) o ho
 
@@ -78,10 +80,26 @@ place_steps = 1 ∷ 0 ∷ 15 ∷ 14 ∷ 4 ∷ 9 ∷ 10 ∷ 7 ∷ 12 ∷ 13 ∷ 2
 pub place_step_is : (o p : ℕ) → o < 4 → p < 4 → IsPlaceStep o p (get_or place_steps (4 * p + o) 0)
 unfolding place_steps quadrant quadrants turn
 place_step_is = sixteen_cases (λ o p. IsPlaceStep o p (get_or place_steps (4 * p + o) 0))
-    (four_cases (λ p. IsPlaceStep 0 p (get_or place_steps (4 * p + 0) 0)) (record { picked = refl; turned = refl; entry = lit< tt }) (record { picked = refl; turned = refl; entry = lit< tt }) (record { picked = refl; turned = refl; entry = lit< tt }) (record { picked = refl; turned = refl; entry = lit< tt }))
-    (four_cases (λ p. IsPlaceStep 1 p (get_or place_steps (4 * p + 1) 0)) (record { picked = refl; turned = refl; entry = lit< tt }) (record { picked = refl; turned = refl; entry = lit< tt }) (record { picked = refl; turned = refl; entry = lit< tt }) (record { picked = refl; turned = refl; entry = lit< tt }))
-    (four_cases (λ p. IsPlaceStep 2 p (get_or place_steps (4 * p + 2) 0)) (record { picked = refl; turned = refl; entry = lit< tt }) (record { picked = refl; turned = refl; entry = lit< tt }) (record { picked = refl; turned = refl; entry = lit< tt }) (record { picked = refl; turned = refl; entry = lit< tt }))
-    (four_cases (λ p. IsPlaceStep 3 p (get_or place_steps (4 * p + 3) 0)) (record { picked = refl; turned = refl; entry = lit< tt }) (record { picked = refl; turned = refl; entry = lit< tt }) (record { picked = refl; turned = refl; entry = lit< tt }) (record { picked = refl; turned = refl; entry = lit< tt }))
+    (four_cases (λ p. IsPlaceStep 0 p (get_or place_steps (4 * p + 0) 0))
+    (record { picked = refl; turned = refl; entry = lit< tt })
+    (record { picked = refl; turned = refl; entry = lit< tt })
+    (record { picked = refl; turned = refl; entry = lit< tt })
+    (record { picked = refl; turned = refl; entry = lit< tt }))
+    (four_cases (λ p. IsPlaceStep 1 p (get_or place_steps (4 * p + 1) 0))
+    (record { picked = refl; turned = refl; entry = lit< tt })
+    (record { picked = refl; turned = refl; entry = lit< tt })
+    (record { picked = refl; turned = refl; entry = lit< tt })
+    (record { picked = refl; turned = refl; entry = lit< tt }))
+    (four_cases (λ p. IsPlaceStep 2 p (get_or place_steps (4 * p + 2) 0))
+    (record { picked = refl; turned = refl; entry = lit< tt })
+    (record { picked = refl; turned = refl; entry = lit< tt })
+    (record { picked = refl; turned = refl; entry = lit< tt })
+    (record { picked = refl; turned = refl; entry = lit< tt }))
+    (four_cases (λ p. IsPlaceStep 3 p (get_or place_steps (4 * p + 3) 0))
+    (record { picked = refl; turned = refl; entry = lit< tt })
+    (record { picked = refl; turned = refl; entry = lit< tt })
+    (record { picked = refl; turned = refl; entry = lit< tt })
+    (record { picked = refl; turned = refl; entry = lit< tt }))
 
 -- the entry at the orientation `o` and the quadrant `q`: the digit and the next orientation
 pub record IsLeafStep (o q e : ℕ) : Type 0 where
@@ -95,7 +113,23 @@ leaf_steps = 1 ∷ 0 ∷ 10 ∷ 11 ∷ 4 ∷ 14 ∷ 13 ∷ 7 ∷ 15 ∷ 5 ∷ 6 
 pub leaf_step_is : (o q : ℕ) → o < 4 → q < 4 → IsLeafStep o q (get_or leaf_steps (4 * q + o) 0)
 unfolding leaf_steps quadrant quadrants turn
 leaf_step_is = sixteen_cases (λ o q. IsLeafStep o q (get_or leaf_steps (4 * q + o) 0))
-    (four_cases (λ p. IsLeafStep 0 p (get_or leaf_steps (4 * p + 0) 0)) (record { picks = refl; turned = refl; entry = lit< tt }) (record { picks = refl; turned = refl; entry = lit< tt }) (record { picks = refl; turned = refl; entry = lit< tt }) (record { picks = refl; turned = refl; entry = lit< tt }))
-    (four_cases (λ p. IsLeafStep 1 p (get_or leaf_steps (4 * p + 1) 0)) (record { picks = refl; turned = refl; entry = lit< tt }) (record { picks = refl; turned = refl; entry = lit< tt }) (record { picks = refl; turned = refl; entry = lit< tt }) (record { picks = refl; turned = refl; entry = lit< tt }))
-    (four_cases (λ p. IsLeafStep 2 p (get_or leaf_steps (4 * p + 2) 0)) (record { picks = refl; turned = refl; entry = lit< tt }) (record { picks = refl; turned = refl; entry = lit< tt }) (record { picks = refl; turned = refl; entry = lit< tt }) (record { picks = refl; turned = refl; entry = lit< tt }))
-    (four_cases (λ p. IsLeafStep 3 p (get_or leaf_steps (4 * p + 3) 0)) (record { picks = refl; turned = refl; entry = lit< tt }) (record { picks = refl; turned = refl; entry = lit< tt }) (record { picks = refl; turned = refl; entry = lit< tt }) (record { picks = refl; turned = refl; entry = lit< tt }))
+    (four_cases (λ p. IsLeafStep 0 p (get_or leaf_steps (4 * p + 0) 0))
+    (record { picks = refl; turned = refl; entry = lit< tt })
+    (record { picks = refl; turned = refl; entry = lit< tt })
+    (record { picks = refl; turned = refl; entry = lit< tt })
+    (record { picks = refl; turned = refl; entry = lit< tt }))
+    (four_cases (λ p. IsLeafStep 1 p (get_or leaf_steps (4 * p + 1) 0))
+    (record { picks = refl; turned = refl; entry = lit< tt })
+    (record { picks = refl; turned = refl; entry = lit< tt })
+    (record { picks = refl; turned = refl; entry = lit< tt })
+    (record { picks = refl; turned = refl; entry = lit< tt }))
+    (four_cases (λ p. IsLeafStep 2 p (get_or leaf_steps (4 * p + 2) 0))
+    (record { picks = refl; turned = refl; entry = lit< tt })
+    (record { picks = refl; turned = refl; entry = lit< tt })
+    (record { picks = refl; turned = refl; entry = lit< tt })
+    (record { picks = refl; turned = refl; entry = lit< tt }))
+    (four_cases (λ p. IsLeafStep 3 p (get_or leaf_steps (4 * p + 3) 0))
+    (record { picks = refl; turned = refl; entry = lit< tt })
+    (record { picks = refl; turned = refl; entry = lit< tt })
+    (record { picks = refl; turned = refl; entry = lit< tt })
+    (record { picks = refl; turned = refl; entry = lit< tt }))

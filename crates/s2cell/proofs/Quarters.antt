@@ -1,5 +1,6 @@
 -- The squares of a cell's children: the quarters of its own, in the order that its orientation gives.
-use Rattle.std.proofs.Common.{◌≡◌, ℕ, ◌+◌, ◌-◌, ◌*◌, ◌/◌, ◌%◌, ◌^◌, ◌<◌, refl, sym, ◌∙◌, ap, arith, subst, bit_xor}
+use Rattle.std.proofs.Common.{◌≡◌, ℕ, ◌+◌, ◌-◌, ◌*◌, ◌/◌, ◌%◌, ◌^◌, ◌<◌, refl, sym, ◌∙◌, ap}
+use Rattle.std.proofs.Common.{arith, subst, bit_xor}
 use Rattle.std.proofs.Math.Nat.{div-one}
 use Rattle.std.proofs.lemmas.Nat.{pow-add, mod_below}
 use Rattle.s2cell.specs.Cell.{IsCell, IsCellAt, level_of, place_of, face_of, child_of}
@@ -18,7 +19,8 @@ within_face c = mod_below (place_of c) (4 ^ level_of c) (four_pos (level_of c))
 
 pub orientation_small : (c : ℕ) → orientation_of c < 4
 unfolding orientation_of
-orientation_small c = orientation_below (level_of c) (face_of c % 2) (place_of c % 4 ^ level_of c) (omega arith) (within_face c)
+orientation_small c = orientation_below (level_of c) (face_of c % 2) (place_of c % 4 ^ level_of c) (omega arith)
+    (within_face c)
 
 -- how a child stands in its face
 pub record IsChildOf (c p d : ℕ) : Type 0 where
@@ -47,13 +49,21 @@ child_stands c p ic h hp =
     }
 
 -- the way from the face to a cell
-cell_way : (c x y : ℕ) → At (level_of c) (face_of c % 2) (place_of c % 4 ^ level_of c) x y → Way (level_of c) (face_of c % 2) (place_of c % 4 ^ level_of c) x y (orientation_of c)
+cell_way : (c x y : ℕ) → At (level_of c) (face_of c % 2) (place_of c % 4 ^ level_of c) x y →
+    Way (level_of c) (face_of c % 2) (place_of c % 4 ^ level_of c) x y (orientation_of c)
 unfolding orientation_of
-cell_way c x y at = record { at = at; orientation = refl; below = orientation_below (level_of c) (face_of c % 2) (place_of c % 4 ^ level_of c) (omega arith) (within_face c) }
+cell_way c x y at = record {
+  at = at;
+  orientation = refl;
+  below = orientation_below (level_of c) (face_of c % 2) (place_of c % 4 ^ level_of c) (omega arith)
+      (within_face c);
+}
 
-child_way : (c p x y : ℕ) → IsCell c → level_of c < 30 → p < 4 → At (level_of c) (face_of c % 2) (place_of c % 4 ^ level_of c) x y
+child_way : (c p x y : ℕ) → IsCell c → level_of c < 30 → p < 4 →
+    At (level_of c) (face_of c % 2) (place_of c % 4 ^ level_of c) x y
     → Way (level_of (child_of c p)) (face_of (child_of c p) % 2) (place_of (child_of c p) % 4 ^ level_of (child_of c p))
-    (2 * x + quadrant (orientation_of c) p / 2) (2 * y + quadrant (orientation_of c) p % 2) (bit_xor (orientation_of c) (turn p))
+    (2 * x + quadrant (orientation_of c) p / 2) (2 * y + quadrant (orientation_of c) p % 2)
+    (bit_xor (orientation_of c) (turn p))
 child_way c p x y ic h hp at =
     let o = orientation_of c in
     let q = quadrant o p in
@@ -61,30 +71,38 @@ child_way c p x y ic h hp at =
     let hq = quadrant_below o p ho hp in
     let s = child_stands c p ic h hp in
     let one = way_one o p (q / 2) (q % 2) (bit_xor o (turn p)) ho hp (omega arith) (omega arith) (omega arith) refl in
-    let both = way_join (level_of c) 1 (face_of c % 2) (place_of c % 4 ^ level_of c) x y o p (q / 2) (q % 2) (bit_xor o (turn p)) (cell_way c x y at) one in
+    let both = way_join (level_of c) 1 (face_of c % 2) (place_of c % 4 ^ level_of c) x y o p (q / 2) (q % 2)
+    (bit_xor o (turn p)) (cell_way c x y at) one in
     let ex : x * 2 ^ 1 + q / 2 ≡ 2 * x + q / 2 = omega arith in
     let ey : y * 2 ^ 1 + q % 2 ≡ 2 * y + q % 2 = omega arith in
-    let en : place_of c % 4 ^ level_of c * 4 ^ 1 + p ≡ place_of (child_of c p) % 4 ^ level_of (child_of c p) = sym s.within in
+    let en : place_of c % 4 ^ level_of c * 4 ^ 1 + p ≡ place_of (child_of c p) % 4 ^ level_of (child_of c p) =
+    sym s.within in
     let both2 = rw (ex, ey, en) at both in
-    subst (λ z. Way z (face_of (child_of c p) % 2) (place_of (child_of c p) % 4 ^ level_of (child_of c p)) (2 * x + q / 2) (2 * y + q % 2) (bit_xor o (turn p))) (sym s.level)
-    (subst (λ z. Way (level_of c + 1) (z % 2) (place_of (child_of c p) % 4 ^ level_of (child_of c p)) (2 * x + q / 2) (2 * y + q % 2) (bit_xor o (turn p))) (sym s.face) both2)
+    subst (λ z. Way z (face_of (child_of c p) % 2) (place_of (child_of c p) % 4 ^ level_of (child_of c p))
+    (2 * x + q / 2) (2 * y + q % 2) (bit_xor o (turn p))) (sym s.level)
+    (subst (λ z. Way (level_of c + 1) (z % 2) (place_of (child_of c p) % 4 ^ level_of (child_of c p))
+    (2 * x + q / 2) (2 * y + q % 2) (bit_xor o (turn p))) (sym s.face) both2)
 
 -- the curve enters a child at the cell's orientation, turned by the child's digit
-pub orientation_of_child : (c p : ℕ) → IsCell c → level_of c < 30 → p < 4 → orientation_of (child_of c p) ≡ bit_xor (orientation_of c) (turn p)
+pub orientation_of_child : (c p : ℕ) → IsCell c → level_of c < 30 → p < 4 →
+    orientation_of (child_of c p) ≡ bit_xor (orientation_of c) (turn p)
 unfolding orientation_of
 orientation_of_child c p ic h hp =
-    sym (child_way c p _ _ ic h hp (at_within (level_of c) (face_of c % 2) (place_of c % 4 ^ level_of c) (omega arith) (within_face c))).orientation
+    sym (child_way c p _ _ ic h hp (at_within (level_of c) (face_of c % 2) (place_of c % 4 ^ level_of c)
+    (omega arith) (within_face c))).orientation
 
 -- a child's square is the quadrant of the cell's that its digit picks
 pub square_of_child : (c p face i j size : ℕ) → IsCell c → level_of c < 30 → p < 4 → IsSquareOf c face i j size
-    → IsSquareOf (child_of c p) face (i + quadrant (orientation_of c) p / 2 * (size / 2)) (j + quadrant (orientation_of c) p % 2 * (size / 2)) (size / 2)
+    → IsSquareOf (child_of c p) face (i + quadrant (orientation_of c) p / 2 * (size / 2))
+    (j + quadrant (orientation_of c) p % 2 * (size / 2)) (size / 2)
 square_of_child c p face i j size ic h hp sq =
     let k = level_of c in
     let q = quadrant (orientation_of c) p in
     let x = i_within k (face_of c % 2) (place_of c % 4 ^ k) in
     let y = j_within k (face_of c % 2) (place_of c % 4 ^ k) in
     let there = at_within k (face_of c % 2) (place_of c % 4 ^ k) (omega arith) (within_face c) in
-    let own = one_square c face i j size (face_of c) (x * 2 ^ (30 - k)) (y * 2 ^ (30 - k)) (2 ^ (30 - k)) ic sq (square_from_place c x y ic there) in
+    let own = one_square c face i j size (face_of c) (x * 2 ^ (30 - k)) (y * 2 ^ (30 - k)) (2 ^ (30 - k)) ic sq
+    (square_from_place c x y ic there) in
     let s = child_stands c p ic h hp in
     let lower : 30 - (k + 1) + 1 ≡ 30 - k = omega arith in
     let two : 2 ^ (30 - k) ≡ 2 ^ (30 - (k + 1)) * 2 = ap (λ z. 2 ^ z) (sym lower) ∙ pow-add 2 (30 - (k + 1)) 1 in
@@ -96,7 +114,8 @@ square_of_child c p face i j size ic h hp sq =
     let big_y : y * 2 ^ (30 - k) ≡ y * (half * 2) = ap (λ z. y * z) two in
     let ei : (2 * x + q / 2) * half ≡ i + q / 2 * half = omega arith in
     let ej : (2 * y + q % 2) * half ≡ j + q % 2 * half = omega arith in
-    let made = square_from_place (child_of c p) (2 * x + q / 2) (2 * y + q % 2) (IsCell-child_of c p (child_of c p) ic h hp refl) (child_way c p x y ic h hp there).at in
+    let made = square_from_place (child_of c p) (2 * x + q / 2) (2 * y + q % 2)
+    (IsCell-child_of c p (child_of c p) ic h hp refl) (child_way c p x y ic h hp there).at in
     let made2 = rw (s.level, ei, ej, s.face) at made in
     rw (eh, own.face) made2
 
@@ -141,15 +160,19 @@ placed_orientation c face i j size o p = subst (λ z. z < 4) (sym p.orientation_
 
 -- by an entry of the table of one level
 pub placed_child : (c face i j size o p d e a b u : ℕ) → IsPlaced c face i j size o → level_of c < 30 → p < 4
-    → d ≡ child_of c p → e / 4 ≡ quadrant o p → e % 4 ≡ bit_xor o (turn p) → e < 16 → a ≡ e / 8 → b ≡ e / 4 % 2 → u ≡ e % 4
+    → d ≡ child_of c p → e / 4 ≡ quadrant o p → e % 4 ≡ bit_xor o (turn p) → e < 16 → a ≡ e / 8 → b ≡ e / 4 % 2 →
+    u ≡ e % 4
     → IsPlaced d face (i + size / 2 * a) (j + size / 2 * b) (size / 2) u
 placed_child c face i j size o p d e a b u w h hp ed eq et he ea eb eu =
     let own = orientation_of c in
-    let turned : u ≡ orientation_of d = eu ∙ et ∙ ap (λ z. bit_xor z (turn p)) w.orientation_is ∙ sym (orientation_of_child c p w.cell h hp) ∙ ap orientation_of (sym ed) in
+    let turned : u ≡ orientation_of d = eu ∙ et ∙ ap (λ z. bit_xor z (turn p)) w.orientation_is
+    ∙ sym (orientation_of_child c p w.cell h hp) ∙ ap orientation_of (sym ed) in
     let picked : e / 4 ≡ quadrant own p = eq ∙ ap (λ z. quadrant z p) w.orientation_is in
     let one : a ≡ e / 4 / 2 = omega arith in
-    let first : i + size / 2 * a ≡ i + quadrant own p / 2 * (size / 2) = ap (λ z. i + size / 2 * z) (one ∙ ap (λ z. z / 2) picked) ∙ omega arith in
-    let second : j + size / 2 * b ≡ j + quadrant own p % 2 * (size / 2) = ap (λ z. j + size / 2 * z) (eb ∙ ap (λ z. z % 2) picked) ∙ omega arith in
+    let first : i + size / 2 * a ≡ i + quadrant own p / 2 * (size / 2) =
+    ap (λ z. i + size / 2 * z) (one ∙ ap (λ z. z / 2) picked) ∙ omega arith in
+    let second : j + size / 2 * b ≡ j + quadrant own p % 2 * (size / 2) =
+    ap (λ z. j + size / 2 * z) (eb ∙ ap (λ z. z % 2) picked) ∙ omega arith in
     record {
       cell = IsCell-child_of c p d w.cell h hp ed;
       square = rw (ed, first, second) (square_of_child c p face i j size w.cell h hp w.square);

@@ -1,5 +1,6 @@
 -- Successive leaves of a face share a side.
-use Rattle.std.proofs.Common.{◌≡◌, ℕ, suc, zero, ◌+◌, ◌-◌, ◌*◌, ◌/◌, ◌%◌, ◌^◌, ◌<◌, refl, sym, ◌∙◌, ap, arith, bit_xor, ◌⊎◌, inl, inr, ⊎_elim}
+use Rattle.std.proofs.Common.{◌≡◌, ℕ, suc, zero, ◌+◌, ◌-◌, ◌*◌, ◌/◌, ◌%◌, ◌^◌, ◌<◌, refl, sym}
+use Rattle.std.proofs.Common.{◌∙◌, ap, arith, bit_xor, ◌⊎◌, inl, inr, ⊎_elim}
 use Rattle.std.proofs.Math.Nat.{pow-suc, div-eq_of_lt, mod-eq_of_lt}
 use Rattle.std.proofs.lemmas.Nat.{pow_pos, div-mul-add, mod-mul-add, mod_below, div-add-mod'}
 use Rattle.std.proofs.lemmas.Bool.{cases_lt}
@@ -47,12 +48,15 @@ first_corner (suc k) o x y ho (a, b, c, d, e) =
     let hp = pow_pos k in
     let e2 = pow-suc 2 k in
     record {
-      in_first = rw e2 (corner_sum (o / 2) (2 ^ k) x (x / 2 ^ k) (x % 2 ^ k) (omega arith) hp (div-add-mod' x (2 ^ k)) halves.0 (rw t at deep.in_first));
-      in_second = rw e2 (corner_sum (o / 2) (2 ^ k) y (y / 2 ^ k) (y % 2 ^ k) (omega arith) hp (div-add-mod' y (2 ^ k)) halves.1 (rw t at deep.in_second));
+      in_first = rw e2 (corner_sum (o / 2) (2 ^ k) x (x / 2 ^ k) (x % 2 ^ k) (omega arith) hp
+          (div-add-mod' x (2 ^ k)) halves.0 (rw t at deep.in_first));
+      in_second = rw e2 (corner_sum (o / 2) (2 ^ k) y (y / 2 ^ k) (y % 2 ^ k) (omega arith) hp
+          (div-add-mod' y (2 ^ k)) halves.1 (rw t at deep.in_second));
     }
 
 -- where it leaves
-pub last_corner : (k o n x y : ℕ) → o < 4 → n + 1 ≡ 4 ^ k → At k o n x y → Corner k (quadrant o 3 / 2) (quadrant o 3 % 2) x y
+pub last_corner : (k o n x y : ℕ) → o < 4 → n + 1 ≡ 4 ^ k → At k o n x y →
+    Corner k (quadrant o 3 / 2) (quadrant o 3 % 2) x y
 unfolding At
 last_corner zero o n x y ho hn (a, b, c) = record { in_first = omega arith; in_second = omega arith }
 last_corner (suc k) o n x y ho hn (a, b, c, d, e) =
@@ -66,15 +70,19 @@ last_corner (suc k) o n x y ho hn (a, b, c, d, e) =
     let hq = quadrant_below o 3 ho (omega arith) in
     let Q = quadrant o 3 in
     let two : Q ≡ 2 * (Q / 2) + Q % 2 = omega arith in
-    let halves = same_halves (x / 2 ^ k) (y / 2 ^ k) (Q / 2) (Q % 2) (half_below k y c) (omega arith) (d ∙ ap (quadrant o) z1 ∙ two) in
+    let halves = same_halves (x / 2 ^ k) (y / 2 ^ k) (Q / 2) (Q % 2) (half_below k y c) (omega arith)
+    (d ∙ ap (quadrant o) z1 ∙ two) in
     let way = rw (z1, z2) at e in
-    let deep = last_corner k (bit_xor o (turn 3)) m (x % 2 ^ k) (y % 2 ^ k) (turn_keeps o 3 ho (omega arith)) (omega arith) way in
+    let deep = last_corner k (bit_xor o (turn 3)) m (x % 2 ^ k) (y % 2 ^ k) (turn_keeps o 3 ho (omega arith))
+    (omega arith) way in
     let t = last_turn o ho in
     let hp = pow_pos k in
     let e2 = pow-suc 2 k in
     record {
-      in_first = rw e2 (corner_sum (Q / 2) (2 ^ k) x (x / 2 ^ k) (x % 2 ^ k) (omega arith) hp (div-add-mod' x (2 ^ k)) halves.0 (rw t at deep.in_first));
-      in_second = rw e2 (corner_sum (Q % 2) (2 ^ k) y (y / 2 ^ k) (y % 2 ^ k) (omega arith) hp (div-add-mod' y (2 ^ k)) halves.1 (rw t at deep.in_second));
+      in_first = rw e2 (corner_sum (Q / 2) (2 ^ k) x (x / 2 ^ k) (x % 2 ^ k) (omega arith) hp
+          (div-add-mod' x (2 ^ k)) halves.0 (rw t at deep.in_first));
+      in_second = rw e2 (corner_sum (Q % 2) (2 ^ k) y (y / 2 ^ k) (y % 2 ^ k) (omega arith) hp
+          (div-add-mod' y (2 ^ k)) halves.1 (rw t at deep.in_second));
     }
 
 -- from the half a to the half b, out of the corner c and into the corner e
@@ -83,10 +91,12 @@ Across a c b e = ((a ≡ 0) × (c ≡ 1) × (b ≡ 1) × (e ≡ 0)) ⊎ ((a ≡ 
 
 -- the quadrants q and r are neighbours, the curve leaves q at the corner s, as 2 * c + d, and enters r at e, e
 abbrev pub Crosses : ℕ → ℕ → ℕ → ℕ → Type 0
-Crosses q r s e = ((q / 2 ≡ r / 2) × (s / 2 ≡ e) × Across (q % 2) (s % 2) (r % 2) e) ⊎ ((q % 2 ≡ r % 2) × (s % 2 ≡ e) × Across (q / 2) (s / 2) (r / 2) e)
+Crosses q r s e = ((q / 2 ≡ r / 2) × (s / 2 ≡ e) × Across (q % 2) (s % 2) (r % 2) e)
+    ⊎ ((q % 2 ≡ r % 2) × (s % 2 ≡ e) × Across (q / 2) (s / 2) (r / 2) e)
 
 abbrev pub CrossesAt : ℕ → ℕ → Type 0
-CrossesAt o p = Crosses (quadrant o p) (quadrant o (suc p)) (quadrant (bit_xor o (turn p)) 3) (bit_xor o (turn (suc p)) / 2)
+CrossesAt o p = Crosses (quadrant o p) (quadrant o (suc p)) (quadrant (bit_xor o (turn p)) 3)
+    (bit_xor o (turn (suc p)) / 2)
 
 three_cases : (P : ℕ → Type 0) → P 0 → P 1 → P 2 → (n : ℕ) → n < 3 → P n
 three_cases P a b c zero h = a
@@ -97,10 +107,14 @@ three_cases P a b c (suc (suc (suc n))) h = absurd (omega arith)
 pub crosses : (p : ℕ) → p < 3 → (o : ℕ) → o < 4 → CrossesAt o p
 unfolding turn quadrant quadrants
 crosses p hp = four_cases (λ o. CrossesAt o p)
-    (three_cases (λ p. CrossesAt 0 p) (inl (refl, refl, inl (refl, refl, refl, refl))) (inr (refl, refl, inl (refl, refl, refl, refl))) (inl (refl, refl, inr (refl, refl, refl, refl))) p hp)
-    (three_cases (λ p. CrossesAt 1 p) (inr (refl, refl, inl (refl, refl, refl, refl))) (inl (refl, refl, inl (refl, refl, refl, refl))) (inr (refl, refl, inr (refl, refl, refl, refl))) p hp)
-    (three_cases (λ p. CrossesAt 2 p) (inl (refl, refl, inr (refl, refl, refl, refl))) (inr (refl, refl, inr (refl, refl, refl, refl))) (inl (refl, refl, inl (refl, refl, refl, refl))) p hp)
-    (three_cases (λ p. CrossesAt 3 p) (inr (refl, refl, inr (refl, refl, refl, refl))) (inl (refl, refl, inr (refl, refl, refl, refl))) (inr (refl, refl, inl (refl, refl, refl, refl))) p hp)
+    (three_cases (λ p. CrossesAt 0 p) (inl (refl, refl, inl (refl, refl, refl, refl)))
+    (inr (refl, refl, inl (refl, refl, refl, refl))) (inl (refl, refl, inr (refl, refl, refl, refl))) p hp)
+    (three_cases (λ p. CrossesAt 1 p) (inr (refl, refl, inl (refl, refl, refl, refl)))
+    (inl (refl, refl, inl (refl, refl, refl, refl))) (inr (refl, refl, inr (refl, refl, refl, refl))) p hp)
+    (three_cases (λ p. CrossesAt 2 p) (inl (refl, refl, inr (refl, refl, refl, refl)))
+    (inr (refl, refl, inr (refl, refl, refl, refl))) (inl (refl, refl, inl (refl, refl, refl, refl))) p hp)
+    (three_cases (λ p. CrossesAt 3 p) (inr (refl, refl, inr (refl, refl, refl, refl)))
+    (inl (refl, refl, inr (refl, refl, refl, refl))) (inr (refl, refl, inl (refl, refl, refl, refl))) p hp)
 
 step_parts : (x u d : ℕ) → x / d ≡ u / d → x % d + 1 ≡ u % d → x + 1 ≡ u
 step_parts x u d e f =
@@ -113,11 +127,13 @@ either_step : (x u d : ℕ) → x / d ≡ u / d → (x % d + 1 ≡ u % d) ⊎ (u
 either_step x u d e (inl f) = inl (step_parts x u d e f)
 either_step x u d e (inr f) = inr (step_parts u x d (sym e) f)
 
-lifted : (x y u v d : ℕ) → x / d ≡ u / d → y / d ≡ v / d → AreNeighbours (x % d) (y % d) (u % d) (v % d) → AreNeighbours x y u v
+lifted : (x y u v d : ℕ) → x / d ≡ u / d → y / d ≡ v / d → AreNeighbours (x % d) (y % d) (u % d) (v % d) →
+    AreNeighbours x y u v
 lifted x y u v d e f (inl s) = inl (same_parts x u d e s.0, either_step y v d f s.1)
 lifted x y u v d e f (inr s) = inr (same_parts y v d f s.0, either_step x u d e s.1)
 
-across_step : (a c b e h y v : ℕ) → Across a c b e → 0 < h → y / h ≡ a → y % h ≡ c * (h - 1) → v / h ≡ b → v % h ≡ e * (h - 1) → (y + 1 ≡ v) ⊎ (v + 1 ≡ y)
+across_step : (a c b e h y v : ℕ) → Across a c b e → 0 < h → y / h ≡ a → y % h ≡ c * (h - 1) → v / h ≡ b →
+    v % h ≡ e * (h - 1) → (y + 1 ≡ v) ⊎ (v + 1 ≡ y)
 across_step a c b e h y v (inl w) hp ya yr vb vr =
     let r1 : y % h ≡ 1 * (h - 1) = yr ∙ ap (λ z. z * (h - 1)) w.1 in
     let r2 : v % h ≡ 0 * (h - 1) = vr ∙ ap (λ z. z * (h - 1)) w.3 in
@@ -141,12 +157,19 @@ crossing : (q r s e h x y u v : ℕ) → Crosses q r s e → 0 < h
     → x % h ≡ s / 2 * (h - 1) → y % h ≡ s % 2 * (h - 1) → u % h ≡ e * (h - 1) → v % h ≡ e * (h - 1)
     → AreNeighbours x y u v
 crossing q r s e h x y u v (inl w) hp x1 y1 u1 v1 x2 y2 u2 v2 =
-    inl (same_parts x u h (x1 ∙ w.0 ∙ sym u1) (x2 ∙ ap (λ z. z * (h - 1)) w.1 ∙ sym u2), across_step (q % 2) (s % 2) (r % 2) e h y v w.2 hp y1 y2 v1 v2)
+    inl (
+      same_parts x u h (x1 ∙ w.0 ∙ sym u1) (x2 ∙ ap (λ z. z * (h - 1)) w.1 ∙ sym u2),
+      across_step (q % 2) (s % 2) (r % 2) e h y v w.2 hp y1 y2 v1 v2,
+    )
 crossing q r s e h x y u v (inr w) hp x1 y1 u1 v1 x2 y2 u2 v2 =
-    inr (same_parts y v h (y1 ∙ w.0 ∙ sym v1) (y2 ∙ ap (λ z. z * (h - 1)) w.1 ∙ sym v2), across_step (q / 2) (s / 2) (r / 2) e h x u w.2 hp x1 x2 u1 u2)
+    inr (
+      same_parts y v h (y1 ∙ w.0 ∙ sym v1) (y2 ∙ ap (λ z. z * (h - 1)) w.1 ∙ sym v2),
+      across_step (q / 2) (s / 2) (r / 2) e h x u w.2 hp x1 x2 u1 u2,
+    )
 
 -- the halves of a place, from its quadrant
-pub halves_of : (k q x y : ℕ) → y < 2 ^ suc k → 2 * (x / 2 ^ k) + y / 2 ^ k ≡ q → (x / 2 ^ k ≡ q / 2) × (y / 2 ^ k ≡ q % 2)
+pub halves_of : (k q x y : ℕ) → y < 2 ^ suc k → 2 * (x / 2 ^ k) + y / 2 ^ k ≡ q → (x / 2 ^ k ≡ q / 2)
+    × (y / 2 ^ k ≡ q % 2)
 halves_of k q x y hy e = let h = half_below k y hy in (omega arith, omega arith)
 
 pub record Successor (n d : ℕ) : Type 0 where
@@ -157,7 +180,11 @@ successor_within : (n d : ℕ) → n % d + 1 < d → Successor n d
 successor_within n d h =
     let e = div-add-mod' n d in
     let f : n + 1 ≡ n / d * d + (n % d + 1) = omega arith in
-    record { quotient = ap (λ z. z / d) f ∙ div-mul-add (n / d) d (n % d + 1) h; rest = ap (λ z. z % d) f ∙ mod-mul-add (n / d) d (n % d + 1) h }
+    record {
+      quotient = ap (λ z. z / d) f ∙ div-mul-add (n / d) d (n % d + 1) h;
+      rest = ap (λ z. z % d) f
+          ∙ mod-mul-add (n / d) d (n % d + 1) h;
+    }
 
 pub record NewBlock (n d : ℕ) : Type 0 where
   pub quotient : (n + 1) / d ≡ suc (n / d)
@@ -167,7 +194,11 @@ successor_beyond : (n d : ℕ) → 0 < d → n % d + 1 ≡ d → NewBlock n d
 successor_beyond n d hd h =
     let e = div-add-mod' n d in
     let f : n + 1 ≡ suc (n / d) * d + 0 = omega arith in
-    record { quotient = ap (λ z. z / d) f ∙ div-mul-add (suc (n / d)) d 0 hd; rest = ap (λ z. z % d) f ∙ mod-mul-add (suc (n / d)) d 0 hd }
+    record {
+      quotient = ap (λ z. z / d) f ∙ div-mul-add (suc (n / d)) d 0 hd;
+      rest = ap (λ z. z % d) f
+          ∙ mod-mul-add (suc (n / d)) d 0 hd;
+    }
 
 -- successive leaves share a side
 pub next_to : (k o n x y u v : ℕ) → o < 4 → At k o n x y → At k o (n + 1) u v → AreNeighbours x y u v
@@ -183,7 +214,8 @@ next_to (suc k) o n x y u v ho (a, b, c, d, e) (a', b', c', d', e') =
     let w = successor_within n (4 ^ k) within in
     let one = halves_of k (quadrant o p) x y c d in
     let two = halves_of k (quadrant o p) u v c' (d' ∙ ap (quadrant o) w.quotient) in
-    let deep = next_to k (bit_xor o (turn p)) (n % 4 ^ k) (x % 2 ^ k) (y % 2 ^ k) (u % 2 ^ k) (v % 2 ^ k) (turn_keeps o p ho (digit_below k n a)) e (rw (w.quotient, w.rest) at e') in
+    let deep = next_to k (bit_xor o (turn p)) (n % 4 ^ k) (x % 2 ^ k) (y % 2 ^ k) (u % 2 ^ k) (v % 2 ^ k)
+    (turn_keeps o p ho (digit_below k n a)) e (rw (w.quotient, w.rest) at e') in
     lifted x y u v (2 ^ k) (one.0 ∙ sym two.0) (one.1 ∙ sym two.1) deep)
     (λ beyond.
     let full : n % 4 ^ k + 1 ≡ 4 ^ k = omega arith in
@@ -193,7 +225,11 @@ next_to (suc k) o n x y u v ho (a, b, c, d, e) (a', b', c', d', e') =
     let hp3 : p < 3 = omega arith in
     let one = halves_of k (quadrant o p) x y c d in
     let two = halves_of k (quadrant o (suc p)) u v c' (d' ∙ ap (quadrant o) w.quotient) in
-    let from = last_corner k (bit_xor o (turn p)) (n % 4 ^ k) (x % 2 ^ k) (y % 2 ^ k) (turn_keeps o p ho (digit_below k n a)) full e in
-    let into = first_corner k (bit_xor o (turn (suc p))) (u % 2 ^ k) (v % 2 ^ k) (turn_keeps o (suc p) ho (omega arith)) (rw (w.quotient, w.rest) at e') in
-    crossing (quadrant o p) (quadrant o (suc p)) (quadrant (bit_xor o (turn p)) 3) (bit_xor o (turn (suc p)) / 2) (2 ^ k) x y u v (crosses p hp3 o ho) hp one.0 one.1 two.0 two.1 from.in_first from.in_second into.in_first into.in_second)
+    let from = last_corner k (bit_xor o (turn p)) (n % 4 ^ k) (x % 2 ^ k) (y % 2 ^ k)
+    (turn_keeps o p ho (digit_below k n a)) full e in
+    let into = first_corner k (bit_xor o (turn (suc p))) (u % 2 ^ k) (v % 2 ^ k)
+    (turn_keeps o (suc p) ho (omega arith)) (rw (w.quotient, w.rest) at e') in
+    crossing (quadrant o p) (quadrant o (suc p)) (quadrant (bit_xor o (turn p)) 3) (bit_xor o (turn (suc p)) / 2)
+    (2 ^ k) x y u v (crosses p hp3 o ho) hp one.0 one.1 two.0 two.1 from.in_first from.in_second into.in_first
+    into.in_second)
     (cases_lt (n % 4 ^ k + 1) (4 ^ k))

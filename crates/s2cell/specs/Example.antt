@@ -1,4 +1,4 @@
--- What the definitions say of a cell, for worked examples.
+-- What the definitions say about a cell, for worked examples.
 use Rattle.std.specs.Prelude.{◌≡◌, ℕ, ◌+◌, List}
 use Rattle.s2cell.specs.Cell.{IsCell, level_of, face_of, first_leaf, size_of}
 use Rattle.s2cell.specs.Token.{IsToken}

@@ -1,8 +1,8 @@
--- The cells beside a cell along the curve, and the cells above two cells.
+-- The cells before and after a cell along the curve, and the common ancestors of two cells.
 use Rattle.std.specs.Prelude.{◌≡◌, ℕ, ◌+◌, ◌*◌, ◌^◌, ◌≤◌}
 use Rattle.s2cell.specs.Cell.{IsCell, level_of, place_of, IsInside}
 
--- `b` is the cell of the same level one place further along the curve than `a`, maybe on the next face
+-- `b` is the cell of the same level one place further along the curve than `a`, possibly on the next face
 pub record IsNext (a b : ℕ) : Type 0 where
   pub cell : IsCell b
   pub level : level_of b ≡ level_of a

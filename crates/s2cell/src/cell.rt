@@ -1,15 +1,16 @@
-//! The type of a cell, and what its identifier tells at once.
+//! The type of a cell, and what its identifier says directly.
 ghost use Rattle.std.specs.Prelude.{◌≡◌, ◌<◌, ◌≤◌, ◌*◌, ◌^◌, IsTrue, ◌↔◌, SomeIff, ℕ};
 ghost use Rattle.s2cell.specs.Cell.{IsCell, IsCellAt, level_of, place_of, face_of};
 
+use crate::GREATEST_LEVEL;
 use std::marker::Model;
 
-/// How many bits lie below those of the face.
+/// How many bits are below those of the face.
 const FACE_SHIFT: u32 = 61;
 
-/// A cell, by its identifier (`S2CellId`). Every value is one of the 6 * (4^31 - 1) / 3 cells.
+/// A cell, as its identifier (`S2CellId`). Every value is one of the 6 * (4^31 - 1) / 3 cells.
 ///
-/// Cells compare as their identifiers do, which is the order of their middles along the curve.
+/// Cells compare as their identifiers do: by the order of their middles along the curve.
 #[derive(Clone, Copy, PartialEq, Eq, PartialOrd, Ord, Hash, Debug)]
 pub struct CellId {
     pub(crate) id: u64,
@@ -26,8 +27,8 @@ impl Model for CellId {
 }
 
 impl CellId {
-    /// The cell with this identifier (`S2CellId(id)` and `is_valid`). None exactly where no cell
-    /// has it: its face is above 5, or its lowest set bit is no marker of a level.
+    /// The cell with this identifier (`S2CellId(id)` and `is_valid`). None exactly if no cell has it: its face is above
+    /// 5, or its lowest set bit is not the marker of a level.
     pub fn from_id(id: u64) -> Option<CellId>
         ensures { SomeIff result (IsCell id) id }
     {
@@ -60,14 +61,14 @@ impl CellId {
     /// The level, from 0 for a face to 30 for a leaf.
     pub fn level(self) -> u8
         ensures value { result ≡ level_of self }
-        ensures most { result ≤ 30 }
+        ensures most { result ≤ GREATEST_LEVEL }
     {
-        30 - (self.id.trailing_zeros() / 2) as u8
+        GREATEST_LEVEL - (self.id.trailing_zeros() / 2) as u8
     }
 
     /// Whether the cell is a leaf, which has no children.
     pub fn is_leaf(self) -> bool
-        ensures { IsTrue result ↔ (level_of self ≡ 30) }
+        ensures { IsTrue result ↔ (level_of self ≡ GREATEST_LEVEL) }
     {
         self.id & 1 == 1
     }

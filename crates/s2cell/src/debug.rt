@@ -7,8 +7,8 @@ use crate::digits::value_of_digit;
 use arrayvec::ArrayVec;
 
 impl CellId {
-    /// The cell with this debug text (`FromDebugString`). None exactly where the text is none: a
-    /// digit 0 to 5, a slash, and 0 to 30 digits 0 to 3.
+    /// The cell with this debug text (`FromDebugString`). None exactly if the text is not one. A debug text is a digit
+    /// 0 to 5, a slash, and 0 to 30 digits 0 to 3.
     pub fn from_debug(text: &[u8]) -> Option<CellId>
         ensures { MatchOption result ((n : ℕ) → IsDebug text.now n → ⊥) (λ c. IsDebug text.now c) }
     {
@@ -31,13 +31,13 @@ impl CellId {
         })
     }
 
-    /// The cell's debug text (`ToString`): the digit of its face, a slash, and for each level the
-    /// number of the child on the way down.
+    /// The debug text of the cell (`ToString`): the digit of its face, a slash, and for each level the number of the
+    /// child on the way down to the cell.
     pub fn debug(self) -> ArrayVec<u8, 32>
         ensures debug { IsDebug result.items self }
         ensures value { result.items ≡ debug_of self }
     {
-        // The digits of all levels down to the leaves, then a cut behind the cell's own.
+        // The digits of all levels down to the leaves, then cut after the cell's own.
         let mut digits = [0u8; 32];
         digits[0] = b'0' + self.face();
         digits[1] = b'/';

@@ -2,8 +2,7 @@
 ghost use Rattle.std.specs.Prelude.{◌≡◌, ◌<◌};
 ghost use Rattle.std.specs.Char.{digit_char, digit_value};
 
-/// What each byte counts as a digit: 0 to 9, then the letters of either case from 10 on, and 36 for
-/// any other byte.
+/// The value of each byte as a digit: 0 to 9, the letters of either case from 10 on, and 36 for any other byte.
 #[rattlefmt::skip]
 static DIGIT_VALUES: [u8; 256] = [
     36, 36, 36, 36, 36, 36, 36, 36, 36, 36, 36, 36, 36, 36, 36, 36,
@@ -24,15 +23,15 @@ static DIGIT_VALUES: [u8; 256] = [
     36, 36, 36, 36, 36, 36, 36, 36, 36, 36, 36, 36, 36, 36, 36, 36,
 ];
 
-/// What `byte` counts as a digit, 36 where it is none. A table answers faster than a comparison for
-/// each range of bytes, which a processor guesses wrong.
+/// The value of `byte` as a digit, or 36 if it is not one. A table is faster than a comparison for each range of bytes,
+/// which a processor mispredicts.
 pub(crate) fn value_of_digit(byte: u8) -> u8
     ensures { result ≡ digit_value byte }
 {
     DIGIT_VALUES[byte as usize]
 }
 
-/// The digit that counts `value`, a letter in lower case from 10 on.
+/// The digit with the value `value`; from 10 on, a letter in lower case.
 pub(crate) fn hex_digit(value: u8) -> u8
     requires { value < 16 }
     ensures { result ≡ digit_char value }

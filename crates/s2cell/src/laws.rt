@@ -1,5 +1,6 @@
-//! What holds of the definitions themselves: functions that do nothing, whose clauses are proved.
-ghost use Rattle.std.specs.Prelude.{◌≡◌, ◌+◌, ◌*◌, ◌/◌, ◌%◌, ◌^◌, ◌<◌, ◌↔◌, ℕ, true, List, [], ◌∷◌, bit_xor, codes};
+//! Laws about the definitions themselves: functions that do nothing, whose clauses are proved.
+ghost use Rattle.std.specs.Prelude.{◌≡◌, ◌+◌, ◌*◌, ◌/◌, ◌%◌, ◌<◌, ◌↔◌, ℕ, true, List, [], ◌∷◌};
+ghost use Rattle.std.specs.Prelude.{bit_xor, codes};
 ghost use Rattle.s2cell.specs.Cell.{IsCell, level_of, face_of, child_of, covers};
 ghost use Rattle.s2cell.specs.Token.{IsReading, IsToken, token_of};
 ghost use Rattle.s2cell.specs.Debug.{IsDebug, debug_of};
@@ -7,6 +8,8 @@ ghost use Rattle.s2cell.specs.Example.{IsDescribed};
 ghost use Rattle.s2cell.specs.Curve.{At, IsPlaceOf, AreNeighbours, quadrant, turn, i_of, j_of};
 ghost use Rattle.s2cell.specs.CurveExample.{StandAt};
 ghost use Rattle.s2cell.specs.Square.{InSquare, IsSquareOf, orientation_of};
+
+use crate::{FACE_LEAVES, GREATEST_LEVEL, LEAVES, SIDE};
 
 /// Each cell has one token and one debug text, and each text stands for at most one cell.
 pub fn law_of_texts()
@@ -22,10 +25,10 @@ pub fn law_of_texts()
 
 /// Each leaf has one place, each place one leaf, and successive leaves of a face share a side.
 pub fn law_of_places()
-    ensures place { (n : ℕ) → n < 6 * 4 ^ 30 → (face i j : ℕ) × (face < 6) × IsPlaceOf n face i j }
-    ensures coordinates { (n : ℕ) → IsPlaceOf n (n / 4 ^ 30) (i_of n) (j_of n) }
-    ensures leaf { (face i j : ℕ) → face < 6 → i < 2 ^ 30 → j < 2 ^ 30
-        → (n : ℕ) × (n < 6 * 4 ^ 30) × IsPlaceOf n face i j }
+    ensures place { (n : ℕ) → n < LEAVES → (face i j : ℕ) × (face < 6) × IsPlaceOf n face i j }
+    ensures coordinates { (n : ℕ) → IsPlaceOf n (n / FACE_LEAVES) (i_of n) (j_of n) }
+    ensures leaf { (face i j : ℕ) → face < 6 → i < SIDE → j < SIDE
+        → (n : ℕ) × (n < LEAVES) × IsPlaceOf n face i j }
     ensures one_place { (n face i j other x y : ℕ) → IsPlaceOf n face i j → IsPlaceOf n other x y
         → (face ≡ other) × (i ≡ x) × (j ≡ y) }
     ensures one_leaf { (n m face i j : ℕ) → IsPlaceOf n face i j → IsPlaceOf m face i j → n ≡ m }
@@ -33,9 +36,9 @@ pub fn law_of_places()
         → AreNeighbours i j x y }
 {}
 
-/// A cell has one square, in which just its leaves have their places. The squares of its children
-/// are its quarters, in the order that the orientation gives at which the curve enters it: that of
-/// a face is the face's last bit, and each child turns it.
+/// A cell has one square, and the leaves in that square are exactly its own. The squares of its children are the
+/// quarters of its square, in an order given by the orientation at which the curve enters the cell. The orientation of
+/// a face is the last bit of its number, and each child turns it.
 pub fn law_of_squares()
     ensures one_square { (c face i j size other x y side : ℕ) → IsCell c
         → IsSquareOf c face i j size → IsSquareOf c other x y side
@@ -43,16 +46,16 @@ pub fn law_of_squares()
     ensures within { (c face i j size n x y : ℕ) → IsSquareOf c face i j size → IsPlaceOf n face x y
         → (covers c n ≡ true) ↔ InSquare i j size x y }
     ensures face { (c : ℕ) → IsCell c → level_of c ≡ 0
-        → IsSquareOf c (face_of c) 0 0 (2 ^ 30) × (orientation_of c ≡ face_of c % 2) }
-    ensures quarter { (c p face i j size : ℕ) → IsCell c → level_of c < 30 → p < 4
+        → IsSquareOf c (face_of c) 0 0 SIDE × (orientation_of c ≡ face_of c % 2) }
+    ensures quarter { (c p face i j size : ℕ) → IsCell c → level_of c < GREATEST_LEVEL → p < 4
         → IsSquareOf c face i j size
         → let half = size / 2 in let picked = quadrant (orientation_of c) p
         in IsSquareOf (child_of c p) face (i + picked / 2 * half) (j + picked % 2 * half) half }
-    ensures turn { (c p : ℕ) → IsCell c → level_of c < 30 → p < 4
+    ensures turn { (c p : ℕ) → IsCell c → level_of c < GREATEST_LEVEL → p < 4
         → orientation_of (child_of c p) ≡ bit_xor (orientation_of c) (turn p) }
 {}
 
-/// Cells as S2 knows them: the six faces, and one cell each of the levels 1, 3, 28 and 30.
+/// Cells as S2 has them: the six faces, and one cell each of levels 1, 3, 28 and 30.
 pub fn known_cells()
     ensures face_0 { IsDescribed 0x1000000000000000 (codes "1") (codes "0/")
         0 0 0 1152921504606846975 }
@@ -72,7 +75,8 @@ pub fn known_cells()
         3 3 3620894100405878784 3638908498915360767 }
     ensures level_28 { IsDescribed 0x0000000000000030 (codes "000000000000003") (codes "0/0000000000000000000000000001")
         28 0 16 31 }
-    ensures level_30 { IsDescribed 0x0000000000000003 (codes "0000000000000003") (codes "0/000000000000000000000000000001")
+    ensures level_30 { IsDescribed 0x0000000000000003 (codes "0000000000000003")
+        (codes "0/000000000000000000000000000001")
         30 0 1 1 }
     ensures capitals_and_zeros { IsReading (codes "0C00") 0x0c00000000000000 }
 {}

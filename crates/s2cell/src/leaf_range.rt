@@ -2,7 +2,7 @@
 ghost use Rattle.std.specs.Prelude.{ℕ, ◌≡◌, ◌<◌, ◌≤◌, ◌+◌, ◌*◌, ◌^◌};
 ghost use Rattle.s2cell.specs.Cell.{IsCell, first_leaf, size_of};
 
-use crate::CellId;
+use crate::{CellId, LEAVES};
 
 impl CellId {
     /// The number of leaves in the cell, 1 to 4^30, which is its lowest set bit (`lsb`).
@@ -19,26 +19,25 @@ impl CellId {
     pub fn first_leaf(self) -> u64
         ensures value { result ≡ first_leaf self }
         ensures own { IsCell self }
-        ensures most { result < 6 * 4 ^ 30 }
+        ensures most { result < LEAVES }
     {
         (self.id - self.leaf_count()) / 2
     }
 
-    /// The number behind that of the last leaf in the cell.
+    /// One more than the number of the last leaf in the cell.
     pub fn end_leaf(self) -> u64
         ensures value { result ≡ first_leaf self + size_of self }
         ensures own { IsCell self }
         ensures some { first_leaf self < result }
-        ensures most { result ≤ 6 * 4 ^ 30 }
+        ensures most { result ≤ LEAVES }
     {
         (self.id + self.leaf_count()) / 2
     }
 
-    /// The largest cell that begins at the leaf `first` and ends by the leaf `end`, which is
-    /// behind the last that it may hold.
+    /// The largest cell that begins at the leaf `first` and ends before the leaf `end`.
     pub fn tile(first: u64, end: u64) -> CellId
         requires some { first < end }
-        requires within { end ≤ 6 * 4 ^ 30 }
+        requires within { end ≤ LEAVES }
         ensures first { first_leaf result ≡ first }
         ensures end { first_leaf result + size_of result ≤ end }
         ensures cell { IsCell result }

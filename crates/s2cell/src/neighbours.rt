@@ -1,4 +1,4 @@
-//! The cells beside a cell along the curve, and the cell above two cells.
+//! The cells before and after a cell along the curve, and the common ancestor of two cells.
 
 ghost use Rattle.std.specs.Prelude.{◌≡◌, ◌↔◌, IfSome, IsSome, MatchOption};
 ghost use Rattle.s2cell.specs.Cell.{face_of};
@@ -13,8 +13,8 @@ const END: u64 = 6 << 61;
 const TOP_BIT: u32 = 60;
 
 impl CellId {
-    /// The next cell of the same level along the curve, also on the next face (`next`). None
-    /// exactly at the last cell of the level, where S2's leaves the six faces.
+    /// The next cell of the same level along the curve, possibly on the next face (`next`). None exactly for the last
+    /// cell of the level; S2's leaves the six faces there.
     pub fn next(self) -> Option<CellId>
         ensures { MatchOption result (IsLast self) (λ c. IsNext self c) }
     {
@@ -22,8 +22,8 @@ impl CellId {
         if id < END { Some(CellId { id }) } else { None }
     }
 
-    /// The previous cell of the same level along the curve, also on the face before (`prev`). None
-    /// exactly at the first cell of the level, where S2's leaves the six faces.
+    /// The previous cell of the same level along the curve, possibly on the face before (`prev`). None exactly for the
+    /// first cell of the level; S2's leaves the six faces there.
     pub fn prev(self) -> Option<CellId>
         ensures { MatchOption result (IsFirst self) (λ c. IsNext c self) }
     {
@@ -35,11 +35,11 @@ impl CellId {
         }
     }
 
-    /// The cell of the greatest level that contains both cells (`GetCommonAncestorLevel`, and the
-    /// parent at it). None exactly where their faces differ.
+    /// The cell of the greatest level that contains both cells (`GetCommonAncestorLevel`, and the parent at that
+    /// level). None exactly if their faces differ.
     ///
-    /// The highest bit in which the identifiers differ tells the level; where one cell contains the
-    /// other its marker stands higher.
+    /// The highest bit in which the identifiers differ gives the level, unless the marker of one of the cells is
+    /// higher; then the marker gives it.
     pub fn common_ancestor(self, other: CellId) -> Option<CellId>
         ensures ancestor { IfSome result (λ c. IsCommonAncestor self other c) }
         ensures faces { IsSome result ↔ (face_of self ≡ face_of other) }

@@ -1,12 +1,12 @@
-//! Parents and children, and which cells lie in which.
+//! Parents and children, and which cells contain which.
 ghost use Rattle.std.specs.Prelude.{◌≡◌, ◌<◌, ◌≤◌, ◌+◌, ◌-◌, ◌*◌, IsTrue, ◌↔◌, ◌⊎◌};
 ghost use Rattle.s2cell.specs.Cell.{IsCell, level_of, parent_of, child_of, first_leaf, size_of, IsInside, ShareLeaf};
 
-use crate::CellId;
+use crate::{CellId, GREATEST_LEVEL};
 
 impl CellId {
-    /// The cell of `level` that contains this one. The level is at most the cell's own, at which
-    /// the answer is the cell itself.
+    /// The cell of level `level` that contains this one. The level is at most the cell's own; at that level the answer
+    /// is the cell itself.
     pub fn parent(self, level: u8) -> CellId
         requires { level ≤ level_of self }
         ensures value { result ≡ parent_of self level }
@@ -19,9 +19,9 @@ impl CellId {
         }
     }
 
-    /// The child with the number `p`, 0 to 3 along the curve. The cell is no leaf.
+    /// The child with the number `p`, 0 to 3 along the curve. The cell must not be a leaf.
     pub fn child(self, p: u8) -> CellId
-        requires inner { level_of self < 30 }
+        requires inner { level_of self < GREATEST_LEVEL }
         requires place { p < 4 }
         ensures { result ≡ child_of self p }
     {
@@ -31,8 +31,8 @@ impl CellId {
         }
     }
 
-    /// The first leaf in the cell. The leaves in it are those from here to `range_max`, both
-    /// included; its cells of other levels have their identifiers there too.
+    /// The first leaf in the cell. Its leaves are those from here to `range_max`, inclusive; the identifiers of all
+    /// cells in it are in this range too.
     pub fn range_min(self) -> CellId
         ensures value { result ≡ 2 * first_leaf self + 1 }
     {
@@ -41,7 +41,7 @@ impl CellId {
         }
     }
 
-    /// The last leaf in the cell, which belongs to it.
+    /// The last leaf in the cell, inclusive.
     pub fn range_max(self) -> CellId
         ensures value { result ≡ 2 * (first_leaf self + size_of self) - 1 }
     {
@@ -60,7 +60,7 @@ impl CellId {
         self.range_min().id <= other.id && other.id <= self.range_max().id
     }
 
-    /// Whether the two cells share a leaf, which is where one of them contains the other.
+    /// Whether the two cells share a leaf; they do exactly if one of them contains the other.
     pub fn intersects(self, other: CellId) -> bool
         ensures shared { IsTrue result ↔ ShareLeaf self other }
         ensures nested { IsTrue result ↔ (IsInside other self ⊎ IsInside self other) }

@@ -4,13 +4,12 @@ ghost use Rattle.std.specs.Prelude.{◌≡◌, ◌+◌, ◌<◌};
 ghost use Rattle.s2cell.specs.Cell.{level_of, child_of, face_of};
 ghost use Rattle.s2cell.specs.Square.{IsPlacedCell};
 
-use crate::{CellId, Square, tables};
+use crate::{CellId, GREATEST_LEVEL, SIDE, Square, tables};
 
 /// A cell with its square, and the orientation at which the curve enters it.
 ///
-/// A walk that asks for the square of each cell on its way carries them down: those of a child
-/// follow from the cell's in a few steps, while `CellId::square` goes down from the face each time
-/// (so `S2PaddedCell` carries them).
+/// A walk that needs the square of each cell on its way carries square and orientation down: a child's follow from its
+/// parent's in a few steps, while `CellId::square` goes down from the face each time. `S2PaddedCell` does the same.
 #[derive(Clone, Copy, PartialEq, Eq, Debug)]
 pub struct PlacedCell {
     /// The cell.
@@ -37,16 +36,16 @@ impl PlacedCell {
                 face,
                 i: 0,
                 j: 0,
-                size: 1 << 30,
+                size: SIDE,
             },
             orientation: face % 2,
         }
     }
 
-    /// The child with the number `p`, 0 to 3 along the curve, with its square. The cell is no leaf.
+    /// The child with the number `p`, 0 to 3 along the curve, with its square. The cell must not be a leaf.
     pub fn child(self, p: u8) -> PlacedCell
         requires placed { IsPlacedCell self }
-        requires inner { level_of self.cell < 30 }
+        requires inner { level_of self.cell < GREATEST_LEVEL }
         requires place { p < 4 }
         ensures cell { result.cell ≡ child_of self.cell p }
         ensures level { level_of result.cell ≡ level_of self.cell + 1 }

@@ -1,11 +1,10 @@
-//! The levels of the curve by constant tables, in both directions: one level, or four at once.
+//! The steps of the curve as constant tables, in both directions: one level, or four at once.
 
 ghost use Rattle.std.specs.Prelude.{◌≡◌, ◌/◌, ◌%◌, ◌<◌, bit_xor};
 ghost use Rattle.s2cell.specs.Curve.{quadrant, turn};
 ghost use Rattle.s2cell.specs.Entries.{IsPlaceEntry, IsLeafEntry};
 
-/// The quadrant and the next orientation (`4 * quadrant + orientation`) at an orientation and a
-/// digit.
+/// The quadrant and the next orientation (`4 * quadrant + orientation`) for an orientation and a digit.
 pub fn place_step(orientation: u8, digit: u8) -> u8
     requires orientation { orientation < 4 }
     requires digit { digit < 4 }
@@ -16,7 +15,7 @@ pub fn place_step(orientation: u8, digit: u8) -> u8
     PLACE_STEPS[4 * digit as usize + orientation as usize]
 }
 
-/// The digit and the next orientation (`4 * digit + orientation`) at an orientation and a quadrant.
+/// The digit and the next orientation (`4 * digit + orientation`) for an orientation and a quadrant.
 pub fn leaf_step(orientation: u8, wanted: u8) -> u8
     requires orientation { orientation < 4 }
     requires wanted { wanted < 4 }
@@ -27,8 +26,8 @@ pub fn leaf_step(orientation: u8, wanted: u8) -> u8
     LEAF_STEPS[4 * wanted as usize + orientation as usize]
 }
 
-/// The next orientation, the four bits of i and the four bits of j at an orientation and four
-/// digits, in one word: from bit 62, from bit 32 and from bit 0 on.
+/// The next orientation, the four bits of i and the four bits of j for an orientation and four digits, in one word:
+/// from bit 62, from bit 32 and from bit 0 on.
 pub fn place_entry(orientation: u8, digits: u8) -> u64
     requires { orientation < 4 }
     ensures { IsPlaceEntry orientation digits result }
@@ -36,8 +35,8 @@ pub fn place_entry(orientation: u8, digits: u8) -> u64
     PLACES[4 * digits as usize + orientation as usize]
 }
 
-/// The four digits and the next orientation (`4 * digits + orientation`) at an orientation, four
-/// bits of i and four bits of j.
+/// The four digits and the next orientation (`4 * digits + orientation`) for an orientation, four bits of i and four
+/// bits of j.
 pub fn leaf_entry(orientation: u8, i: u8, j: u8) -> u16
     requires orientation { orientation < 4 }
     requires i { i < 16 }
@@ -47,10 +46,10 @@ pub fn leaf_entry(orientation: u8, i: u8, j: u8) -> u16
     LEAVES[64 * i as usize + 4 * j as usize + orientation as usize]
 }
 
-/// By `4 * digit + orientation`: `4 * quadrant + next orientation`.
+/// Indexed by `4 * digit + orientation`: `4 * quadrant + next orientation`.
 static PLACE_STEPS: [u8; 16] = [1, 0, 15, 14, 4, 9, 10, 7, 12, 13, 2, 3, 11, 6, 5, 8];
 
-/// By `4 * quadrant + orientation`: `4 * digit + next orientation`.
+/// Indexed by `4 * quadrant + orientation`: `4 * digit + next orientation`.
 static LEAF_STEPS: [u8; 16] = [1, 0, 10, 11, 4, 14, 13, 7, 15, 5, 6, 12, 8, 9, 3, 2];
 
 /// Words, each written `0xTIJ` for short: the orientation T from bit 62 on, I from bit 32 on, J from
@@ -61,7 +60,7 @@ macro_rules! words {
     };
 }
 
-/// By `4 * digits + orientation`: the next orientation, the bits of i, the bits of j.
+/// Indexed by `4 * digits + orientation`: the next orientation, the bits of i, the bits of j.
 static PLACES: [u64; 1024] = words![
     0x000, 0x100, 0x2ff, 0x3ff, 0x110, 0x001, 0x3ef, 0x2fe, 0x111, 0x011, 0x3ee, 0x2ee, 0x201,
     0x310, 0x0fe, 0x1ef, 0x102, 0x020, 0x3fd, 0x2df, 0x003, 0x130, 0x2fc, 0x3cf, 0x013, 0x131,
@@ -144,7 +143,7 @@ static PLACES: [u64; 1024] = words![
     0x11e, 0x0e1, 0x3e0, 0x20e, 0x11f, 0x0f1, 0x0f0, 0x10f, 0x20f, 0x3f0
 ];
 
-/// By `64 * i + 4 * j + orientation`: `4 * digits + next orientation`.
+/// Indexed by `64 * i + 4 * j + orientation`: `4 * digits + next orientation`.
 static LEAVES: [u16; 1024] = [
     0, 1, 682, 683, 14, 4, 685, 679, 17, 58, 688, 667, 20, 61, 702, 663, 234, 64, 705, 619, 237,
     78, 708, 615, 240, 81, 762, 603, 254, 84, 765, 599, 257, 938, 768, 427, 260, 941, 782, 423,

@@ -11,10 +11,9 @@ use arrayvec::ArrayVec;
 const TOKEN_LEN: usize = 16;
 
 impl CellId {
-    /// The cell that a text of 1 to 16 hexadecimal digits stands for, in either case and with or
-    /// without the zeros at their end (`FromToken`). None exactly where the text is no such
-    /// digits, or the identifier that they write is no cell's; `X`, which S2 prints for an invalid
-    /// identifier, is one of these.
+    /// The cell that a text of 1 to 16 hexadecimal digits stands for, in either case and with or without the zeros at
+    /// their end (`FromToken`). None exactly if the text has another form, or the identifier that it stands for is not
+    /// a cell's. So the answer is None for `X`, which S2 prints for an invalid identifier.
     pub fn from_token(text: &[u8]) -> Option<CellId>
         ensures { MatchOption result ((n : ℕ) → IsReading text.now n → IsCell n → ⊥)
             (λ c. IsReading text.now c) }
@@ -33,13 +32,13 @@ impl CellId {
         CellId::from_id(id << (4 * (TOKEN_LEN - text.len())))
     }
 
-    /// The cell's token (`ToToken`): the lower-case hexadecimal digits of its identifier without
-    /// the zeros at their end, 1 to 16 of them.
+    /// The token of the cell (`ToToken`): the hexadecimal digits of its identifier in lower case, without the zeros at
+    /// their end, 1 to 16 digits.
     pub fn token(self) -> ArrayVec<u8, 16>
         ensures token { IsToken result.items self }
         ensures value { result.items ≡ token_of self }
     {
-        // All sixteen digits, then a cut: faster than a test for the end at each digit.
+        // All sixteen digits, then cut: this is faster than a test for the end at each digit.
         let mut digits = [0u8; TOKEN_LEN];
         for k in 0..16u32 {
             digits[k as usize] = hex_digit(((self.id >> (60 - 4 * k)) & 15) as u8);

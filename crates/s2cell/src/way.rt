@@ -1,8 +1,8 @@
 //! The way along the curve from a face down to a leaf, in both directions: from a place to the
 //! leaf's digits, and from the digits to the place.
 //!
-//! The curve enters a square at one of four orientations and passes its quadrants in turn; the
-//! digits 0 to 3 count them:
+//! The curve enters a square at one of four orientations and passes its quadrants in turn; the digits 0 to 3 number
+//! them in that order:
 //!
 //! ```text
 //!     orientation      0         1         2         3
@@ -11,13 +11,13 @@
 //!         i           0 1       0 1       0 1       0 1
 //! ```
 //!
-//! Each quadrant is passed the same way at an orientation of its own, 30 levels down to the leaves.
-//! Here the first two levels go one by one, and the other twenty-eight four at a time by a table.
+//! Each quadrant is passed in the same way, at an orientation of its own, 30 levels down to the leaves. The code takes
+//! the first two levels one by one, and the other twenty-eight four at a time, by a table.
 
 ghost use Rattle.std.specs.Prelude.{◌≡◌, ◌+◌, ◌*◌, ◌-◌, ◌/◌, ◌%◌, ◌^◌, ◌<◌, ◌≤◌};
 ghost use Rattle.s2cell.specs.Curve.{At, orientation_after};
 
-use crate::tables;
+use crate::{FACE_LEAVES, SIDE, tables};
 
 /// The quadrant in which a place lies at one level, from one bit of each coordinate.
 fn quadrant_of_place(i: u32, j: u32, shift: u32) -> u8
@@ -28,7 +28,7 @@ fn quadrant_of_place(i: u32, j: u32, shift: u32) -> u8
     (2 * ((i >> shift) & 1) + ((j >> shift) & 1)) as u8
 }
 
-/// The digit of a leaf behind which it has `behind` digits more.
+/// The digit of a leaf that is followed by `behind` more digits.
 fn digit_of_leaf(leaf: u64, behind: u32) -> u8
     requires { behind < 32 }
     ensures value { result ≡ leaf / 4 ^ behind % 4 }
@@ -46,7 +46,7 @@ fn four_bits(coordinate: u32, shift: u32) -> u8
     ((coordinate >> shift) & 15) as u8
 }
 
-/// Four digits of a leaf behind which it has `behind` digits more.
+/// The four digits of a leaf that are followed by `behind` more digits.
 fn four_digits(leaf: u64, behind: u32) -> u8
     requires { behind < 32 }
     ensures { result ≡ leaf / 4 ^ behind % 256 }
@@ -54,11 +54,11 @@ fn four_digits(leaf: u64, behind: u32) -> u8
     ((leaf >> (2 * behind)) & 255) as u8
 }
 
-/// The first two digits of the leaf at a place, and the orientation behind them.
+/// The first two digits of the leaf at a place, and the orientation after them.
 fn first_digits(start: u8, i: u32, j: u32) -> (u64, u8)
     requires start { start < 4 }
-    requires i { i < 2 ^ 30 }
-    requires j { j < 2 ^ 30 }
+    requires i { i < SIDE }
+    requires j { j < SIDE }
     ensures digits { At 2 start result.0 (i / 2 ^ 28) (j / 2 ^ 28) }
     ensures turned { result.1 ≡ orientation_after 2 start result.0 }
     ensures orientation { result.1 < 4 }
@@ -73,10 +73,10 @@ fn first_digits(start: u8, i: u32, j: u32) -> (u64, u8)
     (leaf, orientation)
 }
 
-/// The first two bits of each coordinate of a leaf, and the orientation behind them.
+/// The first two bits of each coordinate of a leaf, and the orientation after them.
 fn first_bits(start: u8, leaf: u64) -> (u32, u32, u8)
     requires start { start < 4 }
-    requires leaf { leaf < 4 ^ 30 }
+    requires leaf { leaf < FACE_LEAVES }
     ensures place { At 2 start (leaf / 4 ^ 28) result.0 result.1 }
     ensures turned { result.2 ≡ orientation_after 2 start (leaf / 4 ^ 28) }
     ensures orientation { result.2 < 4 }
@@ -93,14 +93,14 @@ fn first_bits(start: u8, leaf: u64) -> (u32, u32, u8)
     (i, j, orientation)
 }
 
-/// The leaf at a place of a face whose curve starts at the orientation `start`, counted from the
-/// face's first leaf.
+/// The leaf at a place of a face, counted from the first leaf of the face. The curve enters the face at the orientation
+/// `start`.
 pub fn leaf_at(start: u8, i: u32, j: u32) -> u64
     requires start { start < 4 }
-    requires i { i < 2 ^ 30 }
-    requires j { j < 2 ^ 30 }
+    requires i { i < SIDE }
+    requires j { j < SIDE }
     ensures place { At 30 start result i j }
-    ensures leaf { result < 4 ^ 30 }
+    ensures leaf { result < FACE_LEAVES }
 {
     let (mut leaf, mut orientation) = first_digits(start, i, j);
     for block in 0..7u32 {
@@ -112,17 +112,17 @@ pub fn leaf_at(start: u8, i: u32, j: u32) -> u64
     leaf
 }
 
-/// The place of a leaf, counted from the first leaf of its face, whose curve starts at the
-/// orientation `start`.
+/// The place of a leaf that is counted from the first leaf of its face. The curve enters the face at the orientation
+/// `start`.
 ///
-/// Both coordinates are gathered in one word, as the entries have them: i from bit 32 on, j from
-/// bit 0 on. As the word moves up by four bits, the orientation of the entry before falls out.
+/// Both coordinates are collected in one word, as in the entries: i from bit 32 on, j from bit 0 on. When the word is
+/// shifted up by four bits, the orientation of the entry before is shifted out.
 pub fn place_at(start: u8, leaf: u64) -> (u32, u32)
     requires start { start < 4 }
-    requires leaf { leaf < 4 ^ 30 }
+    requires leaf { leaf < FACE_LEAVES }
     ensures place { At 30 start leaf result.0 result.1 }
-    ensures i { result.0 < 2 ^ 30 }
-    ensures j { result.1 < 2 ^ 30 }
+    ensures i { result.0 < SIDE }
+    ensures j { result.1 < SIDE }
 {
     let (i, j, mut orientation) = first_bits(start, leaf);
     let mut place = (u64::from(i) << 32) + u64::from(j);

@@ -1,5 +1,7 @@
 -- The coverings of a clipped union, by its cells cut to the level and the rectangle rounded to it.
-use Rattle.std.proofs.Common.{◌≡◌, ℕ, suc, zero, ◌+◌, ◌-◌, ◌*◌, ◌/◌, ◌^◌, ◌<◌, ◌≤◌, Bool, true, false, Result, IfOk, ◌&&◌, ◌||◌, nat_lt, List, [], ◌∷◌, All, Contains, refl, sym, ◌∙◌, ap, arith, ⊎_elim}
+use Rattle.std.proofs.Common.{◌≡◌, ℕ, suc, zero, ◌+◌, ◌-◌, ◌*◌, ◌/◌, ◌^◌, ◌<◌, ◌≤◌, Bool, true}
+use Rattle.std.proofs.Common.{false, Result, IfOk, ◌&&◌, ◌||◌, nat_lt, List, [], ◌∷◌, All, Contains, refl, sym, ◌∙◌}
+use Rattle.std.proofs.Common.{ap, arith, ⊎_elim}
 use Rattle.std.specs.List.{filter}
 use Rattle.std.proofs.lemmas.Bool.{cases_lt, cases_Bool, and_right, and_parts, and_from, both_ways, true_from_ne_false}
 use Rattle.std.proofs.lemmas.List.Elements.{All-contains, All-filter}
@@ -12,6 +14,7 @@ use Rattle.s2union.specs.Union.{has_leaf, IsLocal, IsNormalForm, Union}
 use Rattle.s2union.proofs.Normal.{leaf_to, normal_form_same}
 use Rattle.s2cover.specs.Coverings.{filled, outer_set, inner_set, IsInOuter, IsInInner}
 use Rattle.s2cover.specs.Cut.{meets, cells_cut, cells_kept, cells_met}
+use Rattle.s2cell.specs.declared.TheConstants.{LEAVES}
 use Rattle.s2cover.proofs.Runs.{touched_none, touched_from_none}
 use Rattle.s2cover.proofs.Squares.{same_bool}
 use Rattle.s2cover.proofs.Faces.{and_of}
@@ -33,7 +36,8 @@ and_and false a b = refl
 filled_both : (S T : ℕ → Bool) (lo n : ℕ) → filled (λ x. S x && T x) lo n ≡ (filled S lo n && filled T lo n)
 unfolding filled
 filled_both S T lo zero = refl
-filled_both S T lo (suc n) = ap (λ b. b && (S (lo + n) && T (lo + n))) (filled_both S T lo n) ∙ and_swap (filled S lo n) (filled T lo n) (S (lo + n)) (T (lo + n))
+filled_both S T lo (suc n) = ap (λ b. b && (S (lo + n) && T (lo + n))) (filled_both S T lo n)
+    ∙ and_swap (filled S lo n) (filled T lo n) (S (lo + n)) (T (lo + n))
 
 -- what lies inside both lies inside each
 pub inner_both : (S T : ℕ → Bool) (k x : ℕ) → inner_set (λ y. S y && T y) k x ≡ (inner_set S k x && inner_set T k x)
@@ -41,7 +45,7 @@ unfolding inner_set
 inner_both S T k x =
     let lo = x / 4 ^ (30 - k) * 4 ^ (30 - k) in
     let n = 4 ^ (30 - k) in
-    ap (λ b. nat_lt x (6 * 4 ^ 30) && b) (filled_both S T lo n) ∙ and_and (nat_lt x (6 * 4 ^ 30)) (filled S lo n) (filled T lo n)
+    ap (λ b. nat_lt x LEAVES && b) (filled_both S T lo n) ∙ and_and (nat_lt x LEAVES) (filled S lo n) (filled T lo n)
 
 inner_more : (S T : ℕ → Bool) (k x : ℕ) → ((y : ℕ) → S y ≡ true → T y ≡ true) → IsInInner S k x → IsInInner T k x
 inner_more S T k x h (b, ib, lv, vx, inside) = (b, ib, lv, vx, λ y v. h y (inside y v))
@@ -92,39 +96,47 @@ pub met_none : (S : ℕ → Bool) (c : ℕ) → ((x : ℕ) → covers c x ≡ tr
 met_none S c h = sym (touched_from_none S (first_leaf c) (size_of c) (λ x a b. h x (covers_there c x a b)))
 
 pub met_some : (S : ℕ → Bool) (c : ℕ) → (((x : ℕ) → covers c x ≡ true → S x ≡ false) → ⊥) → true ≡ meets S c
-met_some S c h = sym (true_from_ne_false (meets S c) (λ f. h (λ x v. let r = covers_from c x v in touched_none S (first_leaf c) (size_of c) f x r.0 r.1)))
+met_some S c h = sym (true_from_ne_false (meets S c)
+    (λ f. h (λ x v. let r = covers_from c x v in touched_none S (first_leaf c) (size_of c) f x r.0 r.1)))
 
 -- ---- the inner covering of a clipped union
 
-pub kept_clip : (k : ℕ) (u v : List ℕ) (N : ℕ → Bool) → k ≤ 30 → IsLocal u → ((x : ℕ) → has_leaf v x ≡ has_leaf (cells_met N (cells_kept k u)) x)
+pub kept_clip : (k : ℕ) (u v : List ℕ) (N : ℕ → Bool) → k ≤ 30 → IsLocal u →
+    ((x : ℕ) → has_leaf v x ≡ has_leaf (cells_met N (cells_kept k u)) x)
     → (x : ℕ) → inner_set (λ y. has_leaf v y && N y) k x ≡ inner_set (λ y. has_leaf u y && N y) k x
 kept_clip k u v N h l e x =
     let w = cells_kept k u in
-    inner_same (λ y. has_leaf v y && N y) (λ y. has_leaf w y && N y) k x h (λ y. ap (λ b. b && N y) (e y) ∙ met_leaves N w y)
+    inner_same (λ y. has_leaf v y && N y) (λ y. has_leaf w y && N y) k x h (λ y. ap (λ b. b && N y) (e y)
+    ∙ met_leaves N w y)
     ∙ inner_both (has_leaf w) N k x
-    ∙ ap (λ b. b && inner_set N k x) (inner_same (has_leaf w) (inner_set (has_leaf u) k) k x h (λ y. sym (inner_cells k u h l y)) ∙ inner_again (has_leaf u) k x h)
+    ∙ ap (λ b. b && inner_set N k x) (inner_same (has_leaf w) (inner_set (has_leaf u) k) k x h
+    (λ y. sym (inner_cells k u h l y)) ∙ inner_again (has_leaf u) k x h)
     ∙ sym (inner_both (has_leaf u) N k x)
 
 -- a set may be clipped by the inner covering of another in place of that other
-pub narrow_clip : (k : ℕ) (S N R : ℕ → Bool) → k ≤ 30 → ((x : ℕ) → N x ≡ inner_set R k x) → (x : ℕ) → inner_set (λ y. S y && N y) k x ≡ inner_set (λ y. S y && R y) k x
+pub narrow_clip : (k : ℕ) (S N R : ℕ → Bool) → k ≤ 30 → ((x : ℕ) → N x ≡ inner_set R k x) → (x : ℕ) →
+    inner_set (λ y. S y && N y) k x ≡ inner_set (λ y. S y && R y) k x
 narrow_clip k S N R h e x =
     inner_both S N k x
     ∙ ap (λ b. inner_set S k x && b) (inner_same N (inner_set R k) k x h e ∙ inner_again R k x h)
     ∙ sym (inner_both S R k x)
 
-pub no_clip : (k : ℕ) (S R : ℕ → Bool) → ((x : ℕ) → inner_set R k x ≡ false) → (x : ℕ) → inner_set (λ y. S y && R y) k x ≡ false
+pub no_clip : (k : ℕ) (S R : ℕ → Bool) → ((x : ℕ) → inner_set R k x ≡ false) → (x : ℕ) →
+    inner_set (λ y. S y && R y) k x ≡ false
 no_clip k S R h x = inner_both S R k x ∙ and_right (inner_set S k x) (inner_set R k x) (h x)
 
 -- ---- the outer covering of a clipped union
 
 -- of two cells of one level that share a leaf, each has the leaves of the other
-beside : (a b z x : ℕ) → IsCell a → IsCell b → level_of a ≡ level_of b → covers a z ≡ true → covers b z ≡ true → covers a x ≡ true → covers b x ≡ true
+beside : (a b z x : ℕ) → IsCell a → IsCell b → level_of a ≡ level_of b → covers a z ≡ true → covers b z ≡ true →
+    covers a x ≡ true → covers b x ≡ true
 beside a b z x ia ib e va vb v =
     let za = covers_from a z va in
     let zb = covers_from b z vb in
     inside_from_within a b (deeper_inside a b z ia ib (omega arith) za.0 za.1 zb.0 zb.1) x v
 
-cut_clip_to : (k : ℕ) (u : List ℕ) (R : ℕ → Bool) (x b z : ℕ) → All IsCell u → IsCell b → level_of b ≡ k → covers b x ≡ true → covers b z ≡ true
+cut_clip_to : (k : ℕ) (u : List ℕ) (R : ℕ → Bool) (x b z : ℕ) → All IsCell u → IsCell b → level_of b ≡ k →
+    covers b x ≡ true → covers b z ≡ true
     → IsInOuter (has_leaf (cells_met R u)) k z → IsInOuter R k z → IsInOuter (λ y. has_leaf u y && R y) k x
 cut_clip_to k u R x b z all ib lv vx vz (a, ia, la, az, (w, aw, mw)) (d, id, ld, dz, (s, ds, rs)) =
     let r = Any-from_list_any (λ c. meets R c && covers c w) u (sym (filter_any (meets R) w u) ∙ mw) in
@@ -139,7 +151,8 @@ cut_clip_to k u R x b z all ib lv vx vz (a, ia, la, az, (w, aw, mw)) (d, id, ld,
     let t = touched_some R (first_leaf c) (size_of c) both.0 in
     let ct : covers c t.leaf ≡ true = covers_there c t.leaf t.after t.before in
     let inside = deeper_inside c a w ic ia (omega arith) wc.0 wc.1 wa.0 wa.1 in
-    let bt : covers b t.leaf ≡ true = beside a b z t.leaf ia ib (la ∙ sym lv) az vz (inside_from_within c a inside t.leaf ct) in
+    let bt : covers b t.leaf ≡ true = beside a b z t.leaf ia ib (la ∙ sym lv) az vz
+    (inside_from_within c a inside t.leaf ct) in
     (b, ib, lv, vx, (t.leaf, bt, and_from (has_leaf u t.leaf) (R t.leaf) (leaf_to u c t.leaf mc ct) t.holds)))
     (λ (l : level_of c ≤ k).
     let inside = deeper_inside a c w ia ic (omega arith) wa.0 wa.1 wc.0 wc.1 in
@@ -149,32 +162,44 @@ cut_clip_to k u R x b z all ib lv vx vz (a, ia, la, az, (w, aw, mw)) (d, id, ld,
     (b, ib, lv, vx, (s, in_b, and_from (has_leaf u s) (R s) (leaf_to u c s mc in_c) rs)))
     (cases_lt k (level_of c))
 
-cut_clip_in : (k : ℕ) (u : List ℕ) (R V W : ℕ → Bool) (x : ℕ) → k ≤ 30 → All IsCell u → ((y : ℕ) → V y ≡ outer_set (has_leaf (cells_met R u)) k y) → ((y : ℕ) → W y ≡ outer_set R k y)
+cut_clip_in : (k : ℕ) (u : List ℕ) (R V W : ℕ → Bool) (x : ℕ) → k ≤ 30 → All IsCell u →
+    ((y : ℕ) → V y ≡ outer_set (has_leaf (cells_met R u)) k y) → ((y : ℕ) → W y ≡ outer_set R k y)
     → IsInOuter (λ y. V y && W y) k x → IsInOuter (λ y. has_leaf u y && R y) k x
 cut_clip_in k u R V W x h all ev ew (b, ib, lv, vx, (z, vz, t)) =
     let both = and_parts (V z) (W z) t in
-    cut_clip_to k u R x b z all ib lv vx vz (outer_in (has_leaf (cells_met R u)) k z h (sym (ev z) ∙ both.0)) (outer_in R k z h (sym (ew z) ∙ both.1))
+    cut_clip_to k u R x b z all ib lv vx vz (outer_in (has_leaf (cells_met R u)) k z h (sym (ev z) ∙ both.0))
+    (outer_in R k z h (sym (ew z) ∙ both.1))
 
-cut_clip_out : (k : ℕ) (u : List ℕ) (R V W : ℕ → Bool) (x : ℕ) → ((y : ℕ) → V y ≡ outer_set (has_leaf (cells_met R u)) k y) → ((y : ℕ) → W y ≡ outer_set R k y)
+cut_clip_out : (k : ℕ) (u : List ℕ) (R V W : ℕ → Bool) (x : ℕ) →
+    ((y : ℕ) → V y ≡ outer_set (has_leaf (cells_met R u)) k y) → ((y : ℕ) → W y ≡ outer_set R k y)
     → IsInOuter (λ y. has_leaf u y && R y) k x → IsInOuter (λ y. V y && W y) k x
 cut_clip_out k u R V W x ev ew (b, ib, lv, vx, (z, vz, t)) =
     let both = and_parts (has_leaf u z) (R z) t in
-    let p : V x ≡ true = ev x ∙ outer_from (has_leaf (cells_met R u)) k x (b, ib, lv, vx, (z, vz, met_true R z both.1 u ∙ both.0)) in
+    let p : V x ≡ true = ev x ∙ outer_from (has_leaf (cells_met R u)) k x
+    (b, ib, lv, vx, (z, vz, met_true R z both.1 u ∙ both.0)) in
     let q : W x ≡ true = ew x ∙ outer_from R k x (b, ib, lv, vx, (z, vz, both.1)) in
     (b, ib, lv, vx, (x, vx, and_from (V x) (W x) p q))
 
-pub cut_clip : (k : ℕ) (u v : List ℕ) (R W : ℕ → Bool) → k ≤ 30 → IsLocal u → ((x : ℕ) → has_leaf v x ≡ has_leaf (cells_cut k (cells_met R u)) x) → ((x : ℕ) → W x ≡ outer_set R k x)
+pub cut_clip : (k : ℕ) (u v : List ℕ) (R W : ℕ → Bool) → k ≤ 30 → IsLocal u →
+    ((x : ℕ) → has_leaf v x ≡ has_leaf (cells_cut k (cells_met R u)) x) → ((x : ℕ) → W x ≡ outer_set R k x)
     → (x : ℕ) → outer_set (λ y. has_leaf v y && W y) k x ≡ outer_set (λ y. has_leaf u y && R y) k x
 cut_clip k u v R W h l e ew x =
-    let ev : (y : ℕ) → has_leaf v y ≡ outer_set (has_leaf (cells_met R u)) k y = λ y. e y ∙ sym (outer_cells k (cells_met R u) h (All-filter (meets R) IsCell u l.cells) y) in
+    let ev : (y : ℕ) → has_leaf v y ≡ outer_set (has_leaf (cells_met R u)) k y = λ y. e y
+    ∙ sym (outer_cells k (cells_met R u) h (All-filter (meets R) IsCell u l.cells) y) in
     same_bool (outer_set (λ y. has_leaf v y && W y) k x) (outer_set (λ y. has_leaf u y && R y) k x)
-    (λ t. outer_from (λ y. has_leaf u y && R y) k x (cut_clip_in k u R (has_leaf v) W x h l.cells ev ew (outer_in (λ y. has_leaf v y && W y) k x h t)))
-    (λ t. outer_from (λ y. has_leaf v y && W y) k x (cut_clip_out k u R (has_leaf v) W x ev ew (outer_in (λ y. has_leaf u y && R y) k x h t)))
+    (λ t. outer_from (λ y. has_leaf u y && R y) k x
+    (cut_clip_in k u R (has_leaf v) W x h l.cells ev ew (outer_in (λ y. has_leaf v y && W y) k x h t)))
+    (λ t. outer_from (λ y. has_leaf v y && W y) k x
+    (cut_clip_out k u R (has_leaf v) W x ev ew (outer_in (λ y. has_leaf u y && R y) k x h t)))
 
 -- ---- what the calls answer
 
-pub leaves_ok : {E : Type 0} (r : Result Union E) (S T : ℕ → Bool) → ((x : ℕ) → S x ≡ T x) → IfOk r (λ u. (x : ℕ) → has_leaf u.cells x ≡ S x) → IfOk r (λ u. (x : ℕ) → has_leaf u.cells x ≡ T x)
-leaves_ok r S T e h = IfOk-weaker r (λ u. (x : ℕ) → has_leaf u.cells x ≡ S x) (λ u. (x : ℕ) → has_leaf u.cells x ≡ T x) (λ u p x. p x ∙ e x) h
+pub leaves_ok : {E : Type 0} (r : Result Union E) (S T : ℕ → Bool) → ((x : ℕ) → S x ≡ T x) →
+    IfOk r (λ u. (x : ℕ) → has_leaf u.cells x ≡ S x) → IfOk r (λ u. (x : ℕ) → has_leaf u.cells x ≡ T x)
+leaves_ok r S T e h = IfOk-weaker r (λ u. (x : ℕ) → has_leaf u.cells x ≡ S x)
+    (λ u. (x : ℕ) → has_leaf u.cells x ≡ T x) (λ u p x. p x ∙ e x) h
 
-pub normal_ok : {E : Type 0} (r : Result Union E) (S T : ℕ → Bool) → ((x : ℕ) → S x ≡ T x) → IfOk r (λ u. IsNormalForm S u.cells) → IfOk r (λ u. IsNormalForm T u.cells)
-normal_ok r S T e h = IfOk-weaker r (λ u. IsNormalForm S u.cells) (λ u. IsNormalForm T u.cells) (λ u n. normal_form_same S T u.cells e n) h
+pub normal_ok : {E : Type 0} (r : Result Union E) (S T : ℕ → Bool) → ((x : ℕ) → S x ≡ T x) →
+    IfOk r (λ u. IsNormalForm S u.cells) → IfOk r (λ u. IsNormalForm T u.cells)
+normal_ok r S T e h = IfOk-weaker r (λ u. IsNormalForm S u.cells) (λ u. IsNormalForm T u.cells)
+    (λ u n. normal_form_same S T u.cells e n) h

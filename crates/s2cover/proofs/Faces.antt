@@ -1,5 +1,6 @@
 -- The search for the cells of a set in its one face.
-use Rattle.std.proofs.Common.{◌≡◌, ℕ, ◌+◌, ◌-◌, ◌/◌, ◌^◌, ◌<◌, ◌≤◌, Bool, true, false, ◌&&◌, List, [], length, Result, IfErr, refl, sym, ◌∙◌, ap, arith, max}
+use Rattle.std.proofs.Common.{◌≡◌, ℕ, ◌+◌, ◌-◌, ◌/◌, ◌^◌, ◌<◌, ◌≤◌, Bool, true, false, ◌&&◌, List}
+use Rattle.std.proofs.Common.{[], length, Result, IfErr, refl, sym, ◌∙◌, ap, arith, max}
 use Rattle.std.proofs.lemmas.Bool.{both_ways}
 use Rattle.std.proofs.Math.Nat.{div-one}
 use Rattle.s2cell.proofs.Squares.{covers_block}
@@ -24,14 +25,19 @@ pub record OneFace (S : ℕ → Bool) (u : List ℕ) : Type 0 where
   pub normal : IsNormalForm S u
   pub leaves : (x : ℕ) → has_leaf u x ≡ S x
 
-pub one_face : (S : ℕ → Bool) (g c : ℕ) → IsAligned S g → g ≤ 30 → IsCell c → level_of c ≡ 0 → ((x : ℕ) → S x ≡ true → covers c x ≡ true) → OneFace S (form_in S g c)
+pub one_face : (S : ℕ → Bool) (g c : ℕ) → IsAligned S g → g ≤ 30 → IsCell c → level_of c ≡ 0 →
+    ((x : ℕ) → S x ≡ true → covers c x ≡ true) → OneFace S (form_in S g c)
 one_face S g c al hg i lv within =
     let r = formed S g (depth_of c - g) c al i (omega arith) (λ d h. absurd (omega arith)) in
     let same : (x : ℕ) → has_leaf (form_in S g c) x ≡ S x = λ x. r.leaves x ∙ and_of (covers c x) (S x) (within x) in
-    record { normal = picked_normal S (form_in S g c) (record { chain = r.chain; greatest = r.greatest }) same; leaves = same }
+    record {
+      normal = picked_normal S (form_in S g c) (record { chain = r.chain; greatest = r.greatest }) same;
+      leaves = same;
+    }
 
 -- the leaves of a rectangle lie in its face
-pub on_face : (r : Rect) (c f x : ℕ) → IsCell c → level_of c ≡ 0 → face_of c ≡ f → f ≡ r.face → rect_set r x ≡ true → covers c x ≡ true
+pub on_face : (r : Rect) (c f x : ℕ) → IsCell c → level_of c ≡ 0 → face_of c ≡ f → f ≡ r.face →
+    rect_set r x ≡ true → covers c x ≡ true
 unfolding face_of
 on_face r c f x i lv ef er t =
     let w = (in_rect_from r x t).on in
@@ -39,13 +45,16 @@ on_face r c f x i lv ef er t =
     let d : x / 4 ^ (30 - level_of c) ≡ x / 4 ^ 30 = ap (λ z. x / 4 ^ (30 - z)) lv in
     covers_block c (level_of c) (place_of c) x (own_place c i) (d ∙ w ∙ sym er ∙ sym ef ∙ one)
 
-pub too_long : (S : ℕ → Bool) (f : List ℕ) (len max : ℕ) (u : List ℕ) → IsNormalForm S f → len ≡ 0 → max < len + length f → IsNormalForm S u → max < length u
+pub too_long : (S : ℕ → Bool) (f : List ℕ) (len max : ℕ) (u : List ℕ) → IsNormalForm S f → len ≡ 0 →
+    max < len + length f → IsNormalForm S u → max < length u
 too_long S f len max u n z h v = let e = ap length (one_normal_form S f u n v) in omega arith
 
-pub many_same : {T E : Type 0} (r : Result T E) (many : E) (max : ℕ) (S R : ℕ → Bool) → ((x : ℕ) → S x ≡ R x) → IfErr r (λ fault. fault ≡ many → (u : List ℕ) → IsNormalForm S u → max < length u)
+pub many_same : {T E : Type 0} (r : Result T E) (many : E) (max : ℕ) (S R : ℕ → Bool) → ((x : ℕ) → S x ≡ R x) →
+    IfErr r (λ fault. fault ≡ many → (u : List ℕ) → IsNormalForm S u → max < length u)
     → IfErr r (λ fault. fault ≡ many → (u : List ℕ) → IsNormalForm R u → max < length u)
 many_same r many max S R e h =
-    IfErr-weaker r (λ fault. fault ≡ many → (u : List ℕ) → IsNormalForm S u → max < length u) (λ fault. fault ≡ many → (u : List ℕ) → IsNormalForm R u → max < length u)
+    IfErr-weaker r (λ fault. fault ≡ many → (u : List ℕ) → IsNormalForm S u → max < length u)
+    (λ fault. fault ≡ many → (u : List ℕ) → IsNormalForm R u → max < length u)
     (λ y p same u n. p same u (normal_form_same R S u (λ x. sym (e x)) n)) h
 
 pub none_normal : (T : ℕ → Bool) (u : List ℕ) → ((x : ℕ) → T x ≡ false) → u ≡ [] → IsNormalForm T u

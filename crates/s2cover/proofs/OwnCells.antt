@@ -1,7 +1,10 @@
 -- The coverings of a union are its cells, cut to the level.
-use Rattle.std.proofs.Common.{◌≡◌, ℕ, suc, zero, ◌+◌, ◌-◌, ◌*◌, ◌/◌, ◌^◌, ◌<◌, ◌≤◌, Bool, true, false, cond, Result, IfOk, IfErr, max, ◌&&◌, ◌||◌, nat_lt, List, [], ◌∷◌, length, All, Contains, refl, sym, ◌∙◌, ap, arith, subst, ⊎_elim}
+use Rattle.std.proofs.Common.{◌≡◌, ℕ, suc, zero, ◌+◌, ◌-◌, ◌*◌, ◌/◌, ◌^◌, ◌<◌, ◌≤◌, Bool, true}
+use Rattle.std.proofs.Common.{false, cond, Result, IfOk, IfErr, max, ◌&&◌, ◌||◌, nat_lt, List, [], ◌∷◌, length, All}
+use Rattle.std.proofs.Common.{Contains, refl, sym, ◌∙◌, ap, arith, subst, ⊎_elim}
 use Rattle.std.specs.List.{filter}
-use Rattle.std.proofs.lemmas.Bool.{cases_lt, cond-true, cond-false, le-leb, leb-true, and_right, and_parts, and_from, false_from_ne_true}
+use Rattle.std.proofs.lemmas.Bool.{cases_lt, cond-true, cond-false, le-leb, leb-true, and_right, and_parts, and_from}
+use Rattle.std.proofs.lemmas.Bool.{false_from_ne_true}
 use Rattle.std.proofs.lemmas.List.Elements.{All-contains}
 use Rattle.std.proofs.lemmas.List.Folds.{Any-from_list_any, list_any_at}
 use Rattle.s2cell.specs.Cell.{IsCell, level_of, first_leaf, covers, parent_of, id_at}
@@ -16,6 +19,7 @@ use Rattle.std.proofs.lemmas.Result.{IfOk-weaker, IfErr-weaker}
 use Rattle.std.specs.List.{list_any}
 use Rattle.s2cover.specs.Coverings.{touched, outer_set, inner_set, IsInOuter, IsInInner}
 use Rattle.s2cover.specs.Cut.{reaches, cut_at, cells_cut, cells_kept}
+use Rattle.s2cell.specs.declared.TheConstants.{LEAVES}
 use Rattle.s2cover.proofs.Runs.{touched_from_none}
 use Rattle.s2cover.proofs.Squares.{same_bool}
 use Rattle.s2cover.proofs.Coverings.{around_leaf, leaf_limit, outer_in, outer_from, inner_in, inner_from}
@@ -33,7 +37,8 @@ and_or false a b = refl
 touched_either : (S T : ℕ → Bool) (lo n : ℕ) → touched (λ x. S x || T x) lo n ≡ (touched S lo n || touched T lo n)
 unfolding touched
 touched_either S T lo zero = refl
-touched_either S T lo (suc n) = ap (λ b. b || (S (lo + n) || T (lo + n))) (touched_either S T lo n) ∙ or_swap (touched S lo n) (touched T lo n) (S (lo + n)) (T (lo + n))
+touched_either S T lo (suc n) = ap (λ b. b || (S (lo + n) || T (lo + n))) (touched_either S T lo n)
+    ∙ or_swap (touched S lo n) (touched T lo n) (S (lo + n)) (T (lo + n))
 
 -- the covering of two sets is that of the one and that of the other
 pub outer_either : (S T : ℕ → Bool) (k x : ℕ) → outer_set (λ y. S y || T y) k x ≡ (outer_set S k x || outer_set T k x)
@@ -41,13 +46,14 @@ unfolding outer_set
 outer_either S T k x =
     let lo = x / 4 ^ (30 - k) * 4 ^ (30 - k) in
     let n = 4 ^ (30 - k) in
-    ap (λ b. nat_lt x (6 * 4 ^ 30) && b) (touched_either S T lo n) ∙ and_or (nat_lt x (6 * 4 ^ 30)) (touched S lo n) (touched T lo n)
+    ap (λ b. nat_lt x LEAVES && b) (touched_either S T lo n)
+    ∙ and_or (nat_lt x LEAVES) (touched S lo n) (touched T lo n)
 
 pub outer_none : (S : ℕ → Bool) (k x : ℕ) → ((y : ℕ) → S y ≡ false) → outer_set S k x ≡ false
 unfolding outer_set
 outer_none S k x h =
     let lo = x / 4 ^ (30 - k) * 4 ^ (30 - k) in
-    and_right (nat_lt x (6 * 4 ^ 30)) (touched S lo (4 ^ (30 - k))) (touched_from_none S lo (4 ^ (30 - k)) (λ y a b. h y))
+    and_right (nat_lt x LEAVES) (touched S lo (4 ^ (30 - k))) (touched_from_none S lo (4 ^ (30 - k)) (λ y a b. h y))
 
 -- ---- one cell
 
@@ -55,10 +61,12 @@ pub cut_same : (k c : ℕ) → level_of c ≤ k → cut_at k c ≡ c
 cut_same k c h = cond-true (reaches k c) c (parent_of c k) (le-leb (level_of c) k h)
 
 pub cut_parent : (k c : ℕ) → k < level_of c → cut_at k c ≡ parent_of c k
-cut_parent k c h = cond-false (reaches k c) c (parent_of c k) (false_from_ne_true (reaches k c) (λ t. let l = leb-true (level_of c) k t in absurd (omega arith)))
+cut_parent k c h = cond-false (reaches k c) c (parent_of c k)
+    (false_from_ne_true (reaches k c) (λ t. let l = leb-true (level_of c) k t in absurd (omega arith)))
 
 -- a cell of level `k` that shares a leaf with `c` lies inside the cell that stands for `c` there
-pub cut_around : (k c b y x : ℕ) → IsCell c → IsCell b → level_of b ≡ k → covers b y ≡ true → covers c y ≡ true → covers b x ≡ true → covers (cut_at k c) x ≡ true
+pub cut_around : (k c b y x : ℕ) → IsCell c → IsCell b → level_of b ≡ k → covers b y ≡ true → covers c y ≡ true →
+    covers b x ≡ true → covers (cut_at k c) x ≡ true
 cut_around k c b y x i ib lv vb vc vx =
     let yb = covers_from b y vb in
     let yc = covers_from c y vc in
@@ -86,8 +94,13 @@ cut_from c k x i h v =
     let p = parent_of c k in
     let le : k ≤ level_of c = omega arith in
     let ip : IsCell p = IsCell-parent_of c k p i le refl in
-    let own = first_leaf_covered c i in
-    (p, ip, parent_level c k i le, subst (λ (z : ℕ). covers z x ≡ true) (cut_parent k c l) v, (first_leaf c, inside_from_within c p (parent_around c k i le) (first_leaf c) own, own)))
+    let own = first_leaf_covered c i in (
+      p,
+      ip,
+      parent_level c k i le,
+      subst (λ (z : ℕ). covers z x ≡ true) (cut_parent k c l) v,
+      (first_leaf c, inside_from_within c p (parent_around c k i le) (first_leaf c) own, own),
+    ))
     (λ (l : level_of c ≤ k).
     let vc : covers c x ≡ true = subst (λ (z : ℕ). covers z x ≡ true) (cut_same k c l) v in
     let m = x / 4 ^ (30 - k) in
@@ -106,7 +119,8 @@ outer_cell c k x i h =
 
 -- ---- the cells of a union
 
-pub outer_cells : (k : ℕ) (u : List ℕ) → k ≤ 30 → All IsCell u → (x : ℕ) → outer_set (has_leaf u) k x ≡ has_leaf (cells_cut k u) x
+pub outer_cells : (k : ℕ) (u : List ℕ) → k ≤ 30 → All IsCell u → (x : ℕ) →
+    outer_set (has_leaf u) k x ≡ has_leaf (cells_cut k u) x
 outer_cells k [] h all x = outer_none (has_leaf []) k x (λ y. refl)
 outer_cells k (c ∷ u) h all x =
     outer_either (covers c) (has_leaf u) k x
@@ -135,20 +149,24 @@ around_level b d ib id w =
     (λ (l : level_of d ≤ level_of b). l)
     (cases_lt (level_of b) (level_of d))
 
-kept_to : (k x : ℕ) (u : List ℕ) → IsLocal u → IsInInner (has_leaf u) k x → list_any (λ c. reaches k c && covers c x) u ≡ true
+kept_to : (k x : ℕ) (u : List ℕ) → IsLocal u → IsInInner (has_leaf u) k x →
+    list_any (λ c. reaches k c && covers c x) u ≡ true
 kept_to k x u l (b, ib, lv, vx, inside) =
     let sb = shallow b ib in
     elim (all_held (30 - level_of b) u b l.cells ib (omega arith) inside) [
       | holder d md w ↦
           let id : IsCell d = All-contains IsCell u d l.cells md in
           let lvl = around_level b d ib id w in
-          let both : (reaches k d && covers d x) ≡ true = and_from (reaches k d) (covers d x) (le-leb (level_of d) k (omega arith)) (inside_from_within b d w x vx) in
+          let both : (reaches k d && covers d x) ≡ true =
+          and_from (reaches k d) (covers d x) (le-leb (level_of d) k (omega arith))
+          (inside_from_within b d w x vx) in
           let i = md.0 in
           list_any_at (λ c. reaches k c && covers c x) u i d md.1 (ap (λ c. reaches k c && covers c x) md.2 ∙ both)
       | family q cq lq f ↦ absurd (l.unmerged q cq lq f)
     ]
 
-kept_from : (k x : ℕ) (u : List ℕ) → k ≤ 30 → All IsCell u → list_any (λ c. reaches k c && covers c x) u ≡ true → IsInInner (has_leaf u) k x
+kept_from : (k x : ℕ) (u : List ℕ) → k ≤ 30 → All IsCell u → list_any (λ c. reaches k c && covers c x) u ≡ true →
+    IsInInner (has_leaf u) k x
 kept_from k x u h all t =
     let r = Any-from_list_any (λ c. reaches k c && covers c x) u t in
     let d = r.1 in
@@ -166,7 +184,8 @@ kept_from k x u h all t =
     let w = deeper_inside b d x (k, m, at) id (omega arith) xb.0 xb.1 xd.0 xd.1 in
     (b, (k, m, at), lb, vb, λ y v. leaf_to u d y md (inside_from_within b d w y v))
 
-pub inner_cells : (k : ℕ) (u : List ℕ) → k ≤ 30 → IsLocal u → (x : ℕ) → inner_set (has_leaf u) k x ≡ has_leaf (cells_kept k u) x
+pub inner_cells : (k : ℕ) (u : List ℕ) → k ≤ 30 → IsLocal u → (x : ℕ) →
+    inner_set (has_leaf u) k x ≡ has_leaf (cells_kept k u) x
 inner_cells k u h l x =
     same_bool (inner_set (has_leaf u) k x) (list_any (λ c. reaches k c && covers c x) u)
     (λ t. kept_to k x u l (inner_in (has_leaf u) k x h t))
@@ -175,21 +194,31 @@ inner_cells k u h l x =
 
 -- ---- what the calls answer
 
-pub cut_normal : (k : ℕ) (u list v : List ℕ) → k ≤ 30 → IsLocal u → list ≡ cells_cut k u → IsNormalForm (has_leaf list) v → IsNormalForm (outer_set (has_leaf u) k) v
-cut_normal k u list v h l e n = normal_form_same (has_leaf list) (outer_set (has_leaf u) k) v (λ x. ap (λ z. has_leaf z x) e ∙ sym (outer_cells k u h l.cells x)) n
+pub cut_normal : (k : ℕ) (u list v : List ℕ) → k ≤ 30 → IsLocal u → list ≡ cells_cut k u →
+    IsNormalForm (has_leaf list) v → IsNormalForm (outer_set (has_leaf u) k) v
+cut_normal k u list v h l e n = normal_form_same (has_leaf list) (outer_set (has_leaf u) k) v
+    (λ x. ap (λ z. has_leaf z x) e ∙ sym (outer_cells k u h l.cells x)) n
 
-pub kept_normal : (k : ℕ) (u list v : List ℕ) → k ≤ 30 → IsLocal u → list ≡ cells_kept k u → IsNormalForm (has_leaf list) v → IsNormalForm (inner_set (has_leaf u) k) v
-kept_normal k u list v h l e n = normal_form_same (has_leaf list) (inner_set (has_leaf u) k) v (λ x. ap (λ z. has_leaf z x) e ∙ sym (inner_cells k u h l x)) n
+pub kept_normal : (k : ℕ) (u list v : List ℕ) → k ≤ 30 → IsLocal u → list ≡ cells_kept k u →
+    IsNormalForm (has_leaf list) v → IsNormalForm (inner_set (has_leaf u) k) v
+kept_normal k u list v h l e n = normal_form_same (has_leaf list) (inner_set (has_leaf u) k) v
+    (λ x. ap (λ z. has_leaf z x) e ∙ sym (inner_cells k u h l x)) n
 
-pub same_ok : {E : Type 0} (r : Result Union E) (v : List ℕ) (P : List ℕ → Type 0) → P v → IfOk r (λ u. u.cells ≡ v) → IfOk r (λ u. P u.cells)
+pub same_ok : {E : Type 0} (r : Result Union E) (v : List ℕ) (P : List ℕ → Type 0) → P v →
+    IfOk r (λ u. u.cells ≡ v) → IfOk r (λ u. P u.cells)
 same_ok r v P p h = IfOk-weaker r (λ u. u.cells ≡ v) (λ u. P u.cells) (λ u e. subst P (sym e) p) h
 
-pub many_err : {T E : Type 0} (r : Result T E) (many : E) (v : List ℕ) (max : ℕ) (S : ℕ → Bool) → IsNormalForm S v → IfErr r (λ fault. max < length v) → IfErr r (λ fault. fault ≡ many → (u : List ℕ) → IsNormalForm S u → max < length u)
+pub many_err : {T E : Type 0} (r : Result T E) (many : E) (v : List ℕ) (max : ℕ) (S : ℕ → Bool) →
+    IsNormalForm S v → IfErr r (λ fault. max < length v) →
+    IfErr r (λ fault. fault ≡ many → (u : List ℕ) → IsNormalForm S u → max < length u)
 many_err r many v max S n h =
-    IfErr-weaker r (λ fault. max < length v) (λ fault. fault ≡ many → (u : List ℕ) → IsNormalForm S u → max < length u) (λ y l same u m. let e = ap length (one_normal_form S v u n m) in omega arith) h
+    IfErr-weaker r (λ fault. max < length v) (λ fault. fault ≡ many → (u : List ℕ) → IsNormalForm S u →
+    max < length u) (λ y l same u m. let e = ap length (one_normal_form S v u n m) in omega arith) h
 
-pub cut_leaves : (k : ℕ) (u list v : List ℕ) → k ≤ 30 → IsLocal u → list ≡ cells_cut k u → ((x : ℕ) → has_leaf v x ≡ has_leaf list x) → (x : ℕ) → has_leaf v x ≡ outer_set (has_leaf u) k x
+pub cut_leaves : (k : ℕ) (u list v : List ℕ) → k ≤ 30 → IsLocal u → list ≡ cells_cut k u →
+    ((x : ℕ) → has_leaf v x ≡ has_leaf list x) → (x : ℕ) → has_leaf v x ≡ outer_set (has_leaf u) k x
 cut_leaves k u list v h l e same x = same x ∙ ap (λ z. has_leaf z x) e ∙ sym (outer_cells k u h l.cells x)
 
-pub kept_leaves : (k : ℕ) (u list v : List ℕ) → k ≤ 30 → IsLocal u → list ≡ cells_kept k u → ((x : ℕ) → has_leaf v x ≡ has_leaf list x) → (x : ℕ) → has_leaf v x ≡ inner_set (has_leaf u) k x
+pub kept_leaves : (k : ℕ) (u list v : List ℕ) → k ≤ 30 → IsLocal u → list ≡ cells_kept k u →
+    ((x : ℕ) → has_leaf v x ≡ has_leaf list x) → (x : ℕ) → has_leaf v x ≡ inner_set (has_leaf u) k x
 kept_leaves k u list v h l e same x = same x ∙ ap (λ z. has_leaf z x) e ∙ sym (inner_cells k u h l x)

@@ -1,5 +1,6 @@
 -- Rectangles rounded to the grid of a level.
-use Rattle.std.proofs.Common.{◌≡◌, ℕ, ◌+◌, ◌-◌, ◌*◌, ◌/◌, ◌%◌, ◌^◌, ◌<◌, ◌≤◌, Bool, true, false, ◌&&◌, nat_lt, refl, sym, ◌∙◌, ap, arith, ◌⊎◌, ⊎_elim}
+use Rattle.std.proofs.Common.{◌≡◌, ℕ, ◌+◌, ◌-◌, ◌*◌, ◌/◌, ◌%◌, ◌^◌, ◌<◌, ◌≤◌, Bool, true}
+use Rattle.std.proofs.Common.{false, ◌&&◌, nat_lt, refl, sym, ◌∙◌, ap, arith, ◌⊎◌, ⊎_elim}
 use Rattle.std.proofs.lemmas.Bool.{and_right, lt-ltb, both_ways, true_from_ne_false, false_from_ne_true}
 use Rattle.std.proofs.lemmas.Nat.{div-add-mod', mod_below, pow_pos, pow-add}
 use Rattle.s2cell.specs.Curve.{i_of, j_of}
@@ -10,11 +11,13 @@ use Rattle.s2cell.proofs.CellLemmas.{four_pos}
 use Rattle.s2cover.specs.Coverings.{touched, outer_set, inner_set}
 use Rattle.s2cover.specs.Descent.{blocks, IsAligned}
 use Rattle.s2cover.specs.Rectangles.{Rect, IsRect, rect_set}
+use Rattle.s2cell.specs.declared.TheConstants.{LEAVES}
 use Rattle.s2cover.proofs.Runs.{filled_each, filled_from, touched_none, block_here}
 use Rattle.s2cover.proofs.Rectangles.{in_rect, in_rect_from}
 use Rattle.s2cover.proofs.Coverings.{touched_some}
 use Rattle.s2cover.proofs.Formed.{blocks_aligned}
-use Rattle.s2cover.proofs.Squares.{Narrowed, Rounded, block_leaf, in_from, in_to, out_from, out_to, quotient_below, same_bool, same_square, times}
+use Rattle.s2cover.proofs.Squares.{Narrowed, Rounded, block_leaf, in_from, in_to, out_from, out_to, quotient_below}
+use Rattle.s2cover.proofs.Squares.{same_bool, same_square, times}
 
 -- the leaves of a block
 pub block_leaves : (g x y : ℕ) → x / 4 ^ g * 4 ^ g ≤ y → y < x / 4 ^ g * 4 ^ g + 4 ^ g → y / 4 ^ g ≡ x / 4 ^ g
@@ -24,7 +27,9 @@ pub leaf_in_block : (g x y : ℕ) → y / 4 ^ g ≡ x / 4 ^ g → (x / 4 ^ g * 4
 leaf_in_block g x y e = in_block y (x / 4 ^ g) (4 ^ g) e (four_pos g)
 
 -- the rectangle rounded outwards has the leaves of the blocks that share a leaf with it
-pub widened_set : (r t : Rect) (g : ℕ) → g ≤ 30 → IsRect r → t.face ≡ r.face → Rounded r.i0 r.i1 t.i0 t.i1 (2 ^ g) → Rounded r.j0 r.j1 t.j0 t.j1 (2 ^ g) → (x : ℕ) → rect_set t x ≡ blocks true (rect_set r) g x
+pub widened_set : (r t : Rect) (g : ℕ) → g ≤ 30 → IsRect r → t.face ≡ r.face →
+    Rounded r.i0 r.i1 t.i0 t.i1 (2 ^ g) → Rounded r.j0 r.j1 t.j0 t.j1 (2 ^ g) → (x : ℕ) →
+    rect_set t x ≡ blocks true (rect_set r) g x
 widened_set r t g h ok ef ri rj x =
     let s = 2 ^ g in
     let hs = pow_pos g in
@@ -39,9 +44,11 @@ widened_set r t g h ok ef ri rj x =
     let ui = u.high in
     let vj = v.high in
     let leaf = block_leaf g x u.at_place v.at_place h (omega arith) (omega arith) u.block v.block in
-    let in_r = (in_rect r leaf.leaf (x / 4 ^ 30) u.at_place v.at_place leaf.place).1 (record { on = w.on ∙ ef; along = (u.low, u.high); across = (v.low, v.high) }) in
+    let in_r = (in_rect r leaf.leaf (x / 4 ^ 30) u.at_place v.at_place leaf.place).1
+    (record { on = w.on ∙ ef; along = (u.low, u.high); across = (v.low, v.high) }) in
     let b = leaf_in_block g x leaf.leaf leaf.block in
-    true_from_ne_false (touched (rect_set r) lo (4 ^ g)) (λ f. both_ways (rect_set r leaf.leaf) (touched_none (rect_set r) lo (4 ^ g) f leaf.leaf b.0 b.1) in_r))
+    true_from_ne_false (touched (rect_set r) lo (4 ^ g))
+    (λ f. both_ways (rect_set r leaf.leaf) (touched_none (rect_set r) lo (4 ^ g) f leaf.leaf b.0 b.1) in_r))
     (λ a.
     let y = touched_some (rect_set r) lo (4 ^ g) a in
     let q = same_square g x y.leaf h (block_leaves g x y.leaf y.after y.before) in
@@ -67,7 +74,8 @@ pub record Inwards (r : Rect) (i0 i1 j0 j1 g x : ℕ) : Type 0 where
   pub along : (i0 ≤ i_of x) × (i_of x < i1)
   pub across : (j0 ≤ j_of x) × (j_of x < j1)
 
-pub inwards_from : (r : Rect) (i0 i1 j0 j1 g x : ℕ) → g ≤ 30 → Narrowed r.i0 r.i1 i0 i1 (2 ^ g) → Narrowed r.j0 r.j1 j0 j1 (2 ^ g) → blocks false (rect_set r) g x ≡ true → Inwards r i0 i1 j0 j1 g x
+pub inwards_from : (r : Rect) (i0 i1 j0 j1 g x : ℕ) → g ≤ 30 → Narrowed r.i0 r.i1 i0 i1 (2 ^ g) →
+    Narrowed r.j0 r.j1 j0 j1 (2 ^ g) → blocks false (rect_set r) g x ≡ true → Inwards r i0 i1 j0 j1 g x
 inwards_from r i0 i1 j0 j1 g x h ri rj a =
     let s = 2 ^ g in
     let hs = pow_pos g in
@@ -77,19 +85,25 @@ inwards_from r i0 i1 j0 j1 g x h ri rj a =
     let cj = corner_below g (j_of x) h b.second in
     let qi = i_of x / s in
     let qj = j_of x / s in
-    let low = block_leaf g x (qi * s) (qj * s) h (omega arith) (omega arith) (block_of (qi * s) qi s (omega arith) (omega arith)) (block_of (qj * s) qj s (omega arith) (omega arith)) in
-    let high = block_leaf g x (qi * s + (s - 1)) (qj * s + (s - 1)) h (omega arith) (omega arith) (block_of (qi * s + (s - 1)) qi s (omega arith) (omega arith)) (block_of (qj * s + (s - 1)) qj s (omega arith) (omega arith)) in
+    let low = block_leaf g x (qi * s) (qj * s) h (omega arith) (omega arith)
+    (block_of (qi * s) qi s (omega arith) (omega arith)) (block_of (qj * s) qj s (omega arith) (omega arith)) in
+    let high = block_leaf g x (qi * s + (s - 1)) (qj * s + (s - 1)) h (omega arith) (omega arith)
+    (block_of (qi * s + (s - 1)) qi s (omega arith) (omega arith))
+    (block_of (qj * s + (s - 1)) qj s (omega arith) (omega arith)) in
     let bl = leaf_in_block g x low.leaf low.block in
     let bh = leaf_in_block g x high.leaf high.block in
-    let wl = (in_rect r low.leaf (x / 4 ^ 30) (qi * s) (qj * s) low.place).0 (filled_each (rect_set r) lo (4 ^ g) a low.leaf bl.0 bl.1) in
-    let wh = (in_rect r high.leaf (x / 4 ^ 30) (qi * s + (s - 1)) (qj * s + (s - 1)) high.place).0 (filled_each (rect_set r) lo (4 ^ g) a high.leaf bh.0 bh.1) in
+    let wl = (in_rect r low.leaf (x / 4 ^ 30) (qi * s) (qj * s) low.place).0
+    (filled_each (rect_set r) lo (4 ^ g) a low.leaf bl.0 bl.1) in
+    let wh = (in_rect r high.leaf (x / 4 ^ 30) (qi * s + (s - 1)) (qj * s + (s - 1)) high.place).0
+    (filled_each (rect_set r) lo (4 ^ g) a high.leaf bh.0 bh.1) in
     record {
       on = wl.on;
       along = in_to r.i0 r.i1 i0 i1 s (i_of x) hs ri wl.along.0 wh.along.1;
       across = in_to r.j0 r.j1 j0 j1 s (j_of x) hs rj wl.across.0 wh.across.1;
     }
 
-pub inwards_to : (r : Rect) (i0 i1 j0 j1 g x : ℕ) → g ≤ 30 → Narrowed r.i0 r.i1 i0 i1 (2 ^ g) → Narrowed r.j0 r.j1 j0 j1 (2 ^ g) → Inwards r i0 i1 j0 j1 g x → blocks false (rect_set r) g x ≡ true
+pub inwards_to : (r : Rect) (i0 i1 j0 j1 g x : ℕ) → g ≤ 30 → Narrowed r.i0 r.i1 i0 i1 (2 ^ g) →
+    Narrowed r.j0 r.j1 j0 j1 (2 ^ g) → Inwards r i0 i1 j0 j1 g x → blocks false (rect_set r) g x ≡ true
 inwards_to r i0 i1 j0 j1 g x h ri rj w =
     let s = 2 ^ g in
     let hs = pow_pos g in
@@ -103,7 +117,8 @@ inwards_to r i0 i1 j0 j1 g x h ri rj w =
     }))
 
 -- the rectangle rounded inwards has the leaves of the blocks that lie inside it
-pub narrowed_set : (r t : Rect) (g : ℕ) → g ≤ 30 → t.face ≡ r.face → Narrowed r.i0 r.i1 t.i0 (t.i1 + 1) (2 ^ g) → Narrowed r.j0 r.j1 t.j0 (t.j1 + 1) (2 ^ g) → (x : ℕ) → rect_set t x ≡ blocks false (rect_set r) g x
+pub narrowed_set : (r t : Rect) (g : ℕ) → g ≤ 30 → t.face ≡ r.face → Narrowed r.i0 r.i1 t.i0 (t.i1 + 1) (2 ^ g) →
+    Narrowed r.j0 r.j1 t.j0 (t.j1 + 1) (2 ^ g) → (x : ℕ) → rect_set t x ≡ blocks false (rect_set r) g x
 narrowed_set r t g h ef ri rj x =
     same_bool (rect_set t x) (blocks false (rect_set r) g x)
     (λ a.
@@ -112,17 +127,20 @@ narrowed_set r t g h ef ri rj x =
     let j = w.across in
     let ih = i.1 in
     let jh = j.1 in
-    inwards_to r t.i0 (t.i1 + 1) t.j0 (t.j1 + 1) g x h ri rj (record { on = w.on ∙ ef; along = (i.0, omega arith); across = (j.0, omega arith) }))
+    inwards_to r t.i0 (t.i1 + 1) t.j0 (t.j1 + 1) g x h ri rj
+    (record { on = w.on ∙ ef; along = (i.0, omega arith); across = (j.0, omega arith) }))
     (λ a.
     let w = inwards_from r t.i0 (t.i1 + 1) t.j0 (t.j1 + 1) g x h ri rj a in
     let i = w.along in
     let j = w.across in
     let ih = i.1 in
     let jh = j.1 in
-    (in_rect t x (x / 4 ^ 30) (i_of x) (j_of x) (place_is x)).1 (record { on = w.on ∙ sym ef; along = (i.0, omega arith); across = (j.0, omega arith) }))
+    (in_rect t x (x / 4 ^ 30) (i_of x) (j_of x) (place_is x)).1
+    (record { on = w.on ∙ sym ef; along = (i.0, omega arith); across = (j.0, omega arith) }))
 
--- where nothing is left of a side, no block lies inside
-pub narrowed_none : (r : Rect) (i0 i1 j0 j1 g : ℕ) → g ≤ 30 → Narrowed r.i0 r.i1 i0 i1 (2 ^ g) → Narrowed r.j0 r.j1 j0 j1 (2 ^ g) → (i1 ≤ i0) ⊎ (j1 ≤ j0) → (x : ℕ) → blocks false (rect_set r) g x ≡ false
+-- if nothing is left of a side, no block lies inside
+pub narrowed_none : (r : Rect) (i0 i1 j0 j1 g : ℕ) → g ≤ 30 → Narrowed r.i0 r.i1 i0 i1 (2 ^ g) →
+    Narrowed r.j0 r.j1 j0 j1 (2 ^ g) → (i1 ≤ i0) ⊎ (j1 ≤ j0) → (x : ℕ) → blocks false (rect_set r) g x ≡ false
 narrowed_none r i0 i1 j0 j1 g h ri rj e x =
     false_from_ne_true (blocks false (rect_set r) g x) (λ a.
     let w = inwards_from r i0 i1 j0 j1 g x h ri rj a in
@@ -139,41 +157,56 @@ bounded true b h = refl
 bounded false true h = absurd (both_ways false refl (h refl))
 bounded false false h = refl
 
-in_limit : (r : Rect) (x : ℕ) → r.face ≤ 5 → rect_set r x ≡ true → nat_lt x (6 * 4 ^ 30) ≡ true
+in_limit : (r : Rect) (x : ℕ) → r.face ≤ 5 → rect_set r x ≡ true → nat_lt x LEAVES ≡ true
 in_limit r x h t =
     let w = (in_rect_from r x t).on in
     let e = div-add-mod' x (4 ^ 30) in
     let m = mod_below x (4 ^ 30) (four_pos 30) in
-    lt-ltb x (6 * 4 ^ 30) (omega arith)
+    lt-ltb x LEAVES (omega arith)
 
-same_on_leaves : (t : Rect) (S : ℕ → Bool) (x : ℕ) → t.face ≤ 5 → rect_set t x ≡ S x → rect_set t x ≡ (nat_lt x (6 * 4 ^ 30) && S x)
-same_on_leaves t S x h e = e ∙ bounded (nat_lt x (6 * 4 ^ 30)) (S x) (λ s. in_limit t x h (e ∙ s))
+same_on_leaves : (t : Rect) (S : ℕ → Bool) (x : ℕ) → t.face ≤ 5 → rect_set t x ≡ S x →
+    rect_set t x ≡ (nat_lt x LEAVES && S x)
+same_on_leaves t S x h e = e ∙ bounded (nat_lt x LEAVES) (S x) (λ s. in_limit t x h (e ∙ s))
 
-pub widened_outer : (r t : Rect) (k : ℕ) → IsRect r → t.face ≡ r.face → Rounded r.i0 r.i1 t.i0 t.i1 (2 ^ (30 - k)) → Rounded r.j0 r.j1 t.j0 t.j1 (2 ^ (30 - k)) → (x : ℕ) → rect_set t x ≡ outer_set (rect_set r) k x
+pub widened_outer : (r t : Rect) (k : ℕ) → IsRect r → t.face ≡ r.face →
+    Rounded r.i0 r.i1 t.i0 t.i1 (2 ^ (30 - k)) → Rounded r.j0 r.j1 t.j0 t.j1 (2 ^ (30 - k)) → (x : ℕ) →
+    rect_set t x ≡ outer_set (rect_set r) k x
 unfolding outer_set
 widened_outer r t k ok ef ri rj x =
     let f = ok.face in
-    same_on_leaves t (blocks true (rect_set r) (30 - k)) x (omega arith) (widened_set r t (30 - k) (omega arith) ok ef ri rj x)
+    same_on_leaves t (blocks true (rect_set r) (30 - k)) x (omega arith)
+    (widened_set r t (30 - k) (omega arith) ok ef ri rj x)
 
-pub narrowed_inner : (r t : Rect) (k : ℕ) → r.face ≤ 5 → t.face ≡ r.face → Narrowed r.i0 r.i1 t.i0 (t.i1 + 1) (2 ^ (30 - k)) → Narrowed r.j0 r.j1 t.j0 (t.j1 + 1) (2 ^ (30 - k)) → (x : ℕ) → rect_set t x ≡ inner_set (rect_set r) k x
+pub narrowed_inner : (r t : Rect) (k : ℕ) → r.face ≤ 5 → t.face ≡ r.face →
+    Narrowed r.i0 r.i1 t.i0 (t.i1 + 1) (2 ^ (30 - k)) → Narrowed r.j0 r.j1 t.j0 (t.j1 + 1) (2 ^ (30 - k)) → (x : ℕ) →
+    rect_set t x ≡ inner_set (rect_set r) k x
 unfolding inner_set
 narrowed_inner r t k f ef ri rj x =
-    same_on_leaves t (blocks false (rect_set r) (30 - k)) x (omega arith) (narrowed_set r t (30 - k) (omega arith) ef ri rj x)
+    same_on_leaves t (blocks false (rect_set r) (30 - k)) x (omega arith)
+    (narrowed_set r t (30 - k) (omega arith) ef ri rj x)
 
-pub narrowed_empty : (r : Rect) (i0 i1 j0 j1 k : ℕ) → Narrowed r.i0 r.i1 i0 i1 (2 ^ (30 - k)) → Narrowed r.j0 r.j1 j0 j1 (2 ^ (30 - k)) → (i1 ≤ i0) ⊎ (j1 ≤ j0) → (x : ℕ) → inner_set (rect_set r) k x ≡ false
+pub narrowed_empty : (r : Rect) (i0 i1 j0 j1 k : ℕ) → Narrowed r.i0 r.i1 i0 i1 (2 ^ (30 - k)) →
+    Narrowed r.j0 r.j1 j0 j1 (2 ^ (30 - k)) → (i1 ≤ i0) ⊎ (j1 ≤ j0) → (x : ℕ) → inner_set (rect_set r) k x ≡ false
 unfolding inner_set
-narrowed_empty r i0 i1 j0 j1 k ri rj e x = and_right (nat_lt x (6 * 4 ^ 30)) (blocks false (rect_set r) (30 - k) x) (narrowed_none r i0 i1 j0 j1 (30 - k) (omega arith) ri rj e x)
+narrowed_empty r i0 i1 j0 j1 k ri rj e x = and_right (nat_lt x LEAVES) (blocks false (rect_set r) (30 - k) x)
+    (narrowed_none r i0 i1 j0 j1 (30 - k) (omega arith) ri rj e x)
 
 aligned_by : (S T : ℕ → Bool) (g : ℕ) → ((x : ℕ) → S x ≡ T x) → IsAligned T g → IsAligned S g
 aligned_by S T g e al x y h = e x ∙ al x y h ∙ sym (e y)
 
-pub widened_aligned : (r t : Rect) (k : ℕ) → IsRect r → t.face ≡ r.face → Rounded r.i0 r.i1 t.i0 t.i1 (2 ^ (30 - k)) → Rounded r.j0 r.j1 t.j0 t.j1 (2 ^ (30 - k)) → IsAligned (rect_set t) (30 - k)
-widened_aligned r t k ok ef ri rj = aligned_by (rect_set t) (blocks true (rect_set r) (30 - k)) (30 - k) (widened_set r t (30 - k) (omega arith) ok ef ri rj) (blocks_aligned true (rect_set r) (30 - k))
+pub widened_aligned : (r t : Rect) (k : ℕ) → IsRect r → t.face ≡ r.face →
+    Rounded r.i0 r.i1 t.i0 t.i1 (2 ^ (30 - k)) → Rounded r.j0 r.j1 t.j0 t.j1 (2 ^ (30 - k)) →
+    IsAligned (rect_set t) (30 - k)
+widened_aligned r t k ok ef ri rj = aligned_by (rect_set t) (blocks true (rect_set r) (30 - k)) (30 - k)
+    (widened_set r t (30 - k) (omega arith) ok ef ri rj) (blocks_aligned true (rect_set r) (30 - k))
 
-pub narrowed_aligned : (r t : Rect) (k : ℕ) → t.face ≡ r.face → Narrowed r.i0 r.i1 t.i0 (t.i1 + 1) (2 ^ (30 - k)) → Narrowed r.j0 r.j1 t.j0 (t.j1 + 1) (2 ^ (30 - k)) → IsAligned (rect_set t) (30 - k)
-narrowed_aligned r t k ef ri rj = aligned_by (rect_set t) (blocks false (rect_set r) (30 - k)) (30 - k) (narrowed_set r t (30 - k) (omega arith) ef ri rj) (blocks_aligned false (rect_set r) (30 - k))
+pub narrowed_aligned : (r t : Rect) (k : ℕ) → t.face ≡ r.face → Narrowed r.i0 r.i1 t.i0 (t.i1 + 1) (2 ^ (30 - k)) →
+    Narrowed r.j0 r.j1 t.j0 (t.j1 + 1) (2 ^ (30 - k)) → IsAligned (rect_set t) (30 - k)
+narrowed_aligned r t k ef ri rj = aligned_by (rect_set t) (blocks false (rect_set r) (30 - k)) (30 - k)
+    (narrowed_set r t (30 - k) (omega arith) ef ri rj) (blocks_aligned false (rect_set r) (30 - k))
 
-side_rounded : (lo hi lo2 hi2 g : ℕ) → g ≤ 30 → lo ≤ hi → hi < 2 ^ 30 → Rounded lo hi lo2 hi2 (2 ^ g) → (lo2 ≤ hi2) × (hi2 < 2 ^ 30)
+side_rounded : (lo hi lo2 hi2 g : ℕ) → g ≤ 30 → lo ≤ hi → hi < 2 ^ 30 → Rounded lo hi lo2 hi2 (2 ^ g) → (lo2 ≤ hi2)
+    × (hi2 < 2 ^ 30)
 side_rounded lo hi lo2 hi2 g h a b r =
     let s = 2 ^ g in
     let hs = pow_pos g in
@@ -185,7 +218,8 @@ side_rounded lo hi lo2 hi2 g h a b r =
     let u = r.high in
     (omega arith, omega arith)
 
-pub widened_rect : (r t : Rect) (k : ℕ) → IsRect r → t.face ≡ r.face → Rounded r.i0 r.i1 t.i0 t.i1 (2 ^ (30 - k)) → Rounded r.j0 r.j1 t.j0 t.j1 (2 ^ (30 - k)) → IsRect t
+pub widened_rect : (r t : Rect) (k : ℕ) → IsRect r → t.face ≡ r.face → Rounded r.i0 r.i1 t.i0 t.i1 (2 ^ (30 - k)) →
+    Rounded r.j0 r.j1 t.j0 t.j1 (2 ^ (30 - k)) → IsRect t
 widened_rect r t k ok ef ri rj =
     let f = ok.face in
     record {

@@ -1,5 +1,6 @@
 -- Blocks of leaves and squares of the grid, and the sides of a rectangle rounded to it.
-use Rattle.std.proofs.Common.{◌≡◌, ℕ, ◌+◌, ◌-◌, ◌*◌, ◌/◌, ◌%◌, ◌^◌, ◌<◌, ◌≤◌, Bool, true, false, refl, sym, ◌∙◌, ap, arith, subst, ⊎_elim}
+use Rattle.std.proofs.Common.{◌≡◌, ℕ, ◌+◌, ◌-◌, ◌*◌, ◌/◌, ◌%◌, ◌^◌, ◌<◌, ◌≤◌, Bool, true}
+use Rattle.std.proofs.Common.{false, refl, sym, ◌∙◌, ap, arith, subst, ⊎_elim}
 use Rattle.std.proofs.lemmas.Bool.{cases_lt}
 use Rattle.std.proofs.lemmas.Nat.{div-add-mod', mod_below, pow-add}
 use Rattle.std.proofs.Math.Nat.{mul-le-mul_right, lt_of_mul-lt-mul_right}
@@ -41,7 +42,7 @@ times a b s h = mul-le-mul_right {m = a} {n = b} s h
 
 -- ---- blocks of leaves and squares of places
 
--- two leaves of a block stand in one square of the grid
+-- two leaves of a block are in one square of the grid
 pub record SameSquare (g x y : ℕ) : Type 0 where
   pub face : y / 4 ^ 30 ≡ x / 4 ^ 30
   pub first : i_of y / 2 ^ g ≡ i_of x / 2 ^ g
@@ -60,7 +61,8 @@ in_face g x h =
     record { face = ap (λ z. x / z) p ∙ w.whole; block = ap (λ z. x % z / 4 ^ g) p ∙ w.middle }
 
 -- the square of the grid in which a leaf stands
-square_at : (g x f i j : ℕ) → g ≤ 30 → IsPlaceOf x f i j → At (30 - g) (f % 2) (x % 4 ^ 30 / 4 ^ g) (i / 2 ^ g) (j / 2 ^ g)
+square_at : (g x f i j : ℕ) → g ≤ 30 → IsPlaceOf x f i j →
+    At (30 - g) (f % 2) (x % 4 ^ 30 / 4 ^ g) (i / 2 ^ g) (j / 2 ^ g)
 square_at g x f i j h p =
     let e : 30 ≡ (30 - g) + g = omega arith in
     at_above (30 - g) g (f % 2) (x % 4 ^ 30) i j (subst (λ (z : ℕ). At z (f % 2) (x % 4 ^ 30) i j) e p.at)
@@ -73,7 +75,8 @@ same_square g x y h e =
     let block : y % 4 ^ 30 / 4 ^ g ≡ x % 4 ^ 30 / 4 ^ g = fy.block ∙ ap (λ z. z % 4 ^ (30 - g)) e ∙ sym fx.block in
     let ax = square_at g x (x / 4 ^ 30) (i_of x) (j_of x) h (place_is x) in
     let ay = square_at g y (y / 4 ^ 30) (i_of y) (j_of y) h (place_is y) in
-    let s = same_place (30 - g) (x / 4 ^ 30 % 2) (x % 4 ^ 30 / 4 ^ g) (i_of y / 2 ^ g) (j_of y / 2 ^ g) (i_of x / 2 ^ g) (j_of x / 2 ^ g) (rw (face, block) at ay) ax in
+    let s = same_place (30 - g) (x / 4 ^ 30 % 2) (x % 4 ^ 30 / 4 ^ g) (i_of y / 2 ^ g) (j_of y / 2 ^ g)
+    (i_of x / 2 ^ g) (j_of x / 2 ^ g) (rw (face, block) at ay) ax in
     record { face = face; first = s.0; second = s.1 }
 
 -- each place of the square has a leaf in the block
@@ -82,7 +85,8 @@ pub record BlockLeaf (g x i j : ℕ) : Type 0 where
   pub block : leaf / 4 ^ g ≡ x / 4 ^ g
   pub place : IsPlaceOf leaf (x / 4 ^ 30) i j
 
-pub block_leaf : (g x i j : ℕ) → g ≤ 30 → i < 2 ^ 30 → j < 2 ^ 30 → i / 2 ^ g ≡ i_of x / 2 ^ g → j / 2 ^ g ≡ j_of x / 2 ^ g → BlockLeaf g x i j
+pub block_leaf : (g x i j : ℕ) → g ≤ 30 → i < 2 ^ 30 → j < 2 ^ 30 → i / 2 ^ g ≡ i_of x / 2 ^ g →
+    j / 2 ^ g ≡ j_of x / 2 ^ g → BlockLeaf g x i j
 block_leaf g x i j h hi hj ei ej =
     let f = x / 4 ^ 30 in
     let n = leaf_exists 30 (f % 2) i j (omega arith) hi hj in
@@ -90,13 +94,16 @@ block_leaf g x i j h hi hj ei ej =
     let p : IsPlaceOf y f i j = place_of_leaf f n.0 i j n.1 in
     let ax = square_at g x f (i_of x) (j_of x) h (place_is x) in
     let ay = square_at g y f i j h p in
-    let block : y % 4 ^ 30 / 4 ^ g ≡ x % 4 ^ 30 / 4 ^ g = same_leaf (30 - g) (f % 2) (y % 4 ^ 30 / 4 ^ g) (x % 4 ^ 30 / 4 ^ g) (i_of x / 2 ^ g) (j_of x / 2 ^ g) (omega arith) (rw (ei, ej) at ay) ax in
+    let block : y % 4 ^ 30 / 4 ^ g ≡ x % 4 ^ 30 / 4 ^ g =
+    same_leaf (30 - g) (f % 2) (y % 4 ^ 30 / 4 ^ g) (x % 4 ^ 30 / 4 ^ g) (i_of x / 2 ^ g) (j_of x / 2 ^ g)
+    (omega arith) (rw (ei, ej) at ay) ax in
     let fx = in_face g x h in
     let fy = in_face g y h in
     let face : y / 4 ^ 30 ≡ x / 4 ^ 30 = sym p.face_is in
     record {
       leaf = y;
-      block = same_parts (y / 4 ^ g) (x / 4 ^ g) (4 ^ (30 - g)) (sym fy.face ∙ face ∙ fx.face) (sym fy.block ∙ block ∙ fx.block);
+      block = same_parts (y / 4 ^ g) (x / 4 ^ g) (4 ^ (30 - g)) (sym fy.face ∙ face ∙ fx.face)
+          (sym fy.block ∙ block ∙ fx.block);
       place = p;
     }
 
@@ -106,7 +113,8 @@ pub record Rounded (lo hi lo2 hi2 s : ℕ) : Type 0 where
   pub low : lo2 ≡ lo / s * s
   pub high : hi2 ≡ hi / s * s + (s - 1)
 
-pub out_to : (lo hi lo2 hi2 s u v : ℕ) → 0 < s → Rounded lo hi lo2 hi2 s → lo ≤ u → u ≤ hi → u / s ≡ v / s → (lo2 ≤ v) × (v ≤ hi2)
+pub out_to : (lo hi lo2 hi2 s u v : ℕ) → 0 < s → Rounded lo hi lo2 hi2 s → lo ≤ u → u ≤ hi → u / s ≡ v / s →
+    (lo2 ≤ v) × (v ≤ hi2)
 out_to lo hi lo2 hi2 s u v hs r a b e =
     let x = quotient_mono lo u s hs a in
     let y = quotient_mono u hi s hs b in
@@ -137,7 +145,12 @@ out_from lo hi lo2 hi2 s v hs h r a b =
     let rlo = mod_below lo s hs in
     let ehi = div-add-mod' hi s in
     ⊎_elim
-    (λ (w : lo < q * s). record { at_place = q * s; low = omega arith; high = omega arith; block = block_of (q * s) q s (omega arith) (omega arith) })
+    (λ (w : lo < q * s). record {
+      at_place = q * s;
+      low = omega arith;
+      high = omega arith;
+      block = block_of (q * s) q s (omega arith) (omega arith);
+    })
     (λ (w : q * s ≤ lo). record { at_place = lo; low = omega arith; high = h; block = block_of lo q s w (omega arith) })
     (cases_lt lo (q * s))
 
@@ -147,7 +160,8 @@ pub record Narrowed (lo hi lo2 end s : ℕ) : Type 0 where
   pub low : lo2 ≡ (lo + (s - 1)) / s * s
   pub end_is : end ≡ (hi + 1) / s * s
 
-pub in_to : (lo hi lo2 end s v : ℕ) → 0 < s → Narrowed lo hi lo2 end s → lo ≤ v / s * s → v / s * s + (s - 1) ≤ hi → (lo2 ≤ v) × (v < end)
+pub in_to : (lo hi lo2 end s v : ℕ) → 0 < s → Narrowed lo hi lo2 end s → lo ≤ v / s * s →
+    v / s * s + (s - 1) ≤ hi → (lo2 ≤ v) × (v < end)
 in_to lo hi lo2 end s v hs r a b =
     let l = r.low in
     let e = r.end_is in
@@ -160,7 +174,8 @@ in_to lo hi lo2 end s v hs r a b =
     let ys = times (q + 1) ((hi + 1) / s) s y in
     (omega arith, omega arith)
 
-pub in_from : (lo hi lo2 end s u v : ℕ) → 0 < s → Narrowed lo hi lo2 end s → lo2 ≤ v → v < end → u / s ≡ v / s → (lo ≤ u) × (u ≤ hi)
+pub in_from : (lo hi lo2 end s u v : ℕ) → 0 < s → Narrowed lo hi lo2 end s → lo2 ≤ v → v < end → u / s ≡ v / s →
+    (lo ≤ u) × (u ≤ hi)
 in_from lo hi lo2 end s u v hs r a b e =
     let l = r.low in
     let n = r.end_is in

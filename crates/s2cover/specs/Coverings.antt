@@ -1,14 +1,16 @@
 -- Regions of leaves, and their outer and inner coverings.
-use Rattle.std.specs.Prelude.{◌≡◌, ℕ, zero, suc, ◌+◌, ◌-◌, ◌*◌, ◌/◌, ◌^◌, Bool, true, false, ◌&&◌, ◌||◌, nat_lt}
+use Rattle.std.specs.Prelude.{◌≡◌, ℕ, zero, suc, ◌+◌, ◌-◌, ◌*◌, ◌/◌, ◌^◌, Bool, true, false, ◌&&◌}
+use Rattle.std.specs.Prelude.{◌||◌, nat_lt}
 use Rattle.s2cell.specs.Cell.{IsCell, level_of, covers}
 use Rattle.s2union.specs.Union.{LiesIn, ShareSome}
+use Rattle.s2cell.specs.declared.TheConstants.{LEAVES}
 
 -- the `n` leaves from `lo` on are all in `S`
 unfoldable pub filled : (ℕ → Bool) → ℕ → ℕ → Bool
 filled S lo zero = true
 filled S lo (suc n) = filled S lo n && S (lo + n)
 
--- some of the `n` leaves from `lo` on is in `S`
+-- at least one of the `n` leaves from `lo` on is in `S`
 unfoldable pub touched : (ℕ → Bool) → ℕ → ℕ → Bool
 touched S lo zero = false
 touched S lo (suc n) = touched S lo n || S (lo + n)
@@ -24,17 +26,17 @@ block_filled R k x = filled R (x / 4 ^ (30 - k) * 4 ^ (30 - k)) (4 ^ (30 - k))
 -- the leaves of all level `k` cells that share a leaf with `R`
 unfoldable pub outer_set : (ℕ → Bool) → ℕ → ℕ → Bool
 unfolding touched
-outer_set R k x = nat_lt x (6 * 4 ^ 30) && block_touched R k x
+outer_set R k x = nat_lt x LEAVES && block_touched R k x
 
 -- the leaves of all level `k` cells that lie inside `R`
 unfoldable pub inner_set : (ℕ → Bool) → ℕ → ℕ → Bool
 unfolding filled
-inner_set R k x = nat_lt x (6 * 4 ^ 30) && block_filled R k x
+inner_set R k x = nat_lt x LEAVES && block_filled R k x
 
--- the leaf `x` is one of a level `k` cell that shares a leaf with `R`
+-- the leaf `x` is in a level `k` cell that shares a leaf with `R`
 abbrev pub IsInOuter : (ℕ → Bool) → ℕ → ℕ → Type 0
 IsInOuter R k x = (c : ℕ) × IsCell c × (level_of c ≡ k) × (covers c x ≡ true) × ShareSome (covers c) R
 
--- the leaf `x` is one of a level `k` cell that lies inside `R`
+-- the leaf `x` is in a level `k` cell that lies inside `R`
 abbrev pub IsInInner : (ℕ → Bool) → ℕ → ℕ → Type 0
 IsInInner R k x = (c : ℕ) × IsCell c × (level_of c ≡ k) × (covers c x ≡ true) × LiesIn R c

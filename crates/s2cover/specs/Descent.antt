@@ -1,9 +1,11 @@
--- What a descent through the cells finds, by the depth of a cell (how many levels lie below it) and its place in its level.
-use Rattle.std.specs.Prelude.{◌≡◌, ℕ, zero, suc, ◌+◌, ◌-◌, ◌*◌, ◌/◌, ◌^◌, Bool, cond, List, [], ◌∷◌, ◌++◌}
+-- What a descent through the cells finds, by the depth of a cell (how many levels are below it) and its place in its
+-- level.
+use Rattle.std.specs.Prelude.{◌≡◌, ℕ, zero, suc, ◌+◌, ◌-◌, ◌*◌, ◌/◌, ◌^◌, Bool, cond, List, [], ◌∷◌}
+use Rattle.std.specs.Prelude.{◌++◌}
 use Rattle.s2cell.specs.Cell.{level_of, place_of}
 use Rattle.s2cover.specs.Coverings.{filled, touched, outer_set, inner_set}
 
--- how many levels lie below the cell `c`
+-- how many levels are below the cell `c`
 abbrev pub depth_of : ℕ → ℕ
 depth_of c = 30 - level_of c
 
@@ -11,15 +13,16 @@ depth_of c = 30 - level_of c
 abbrev pub cell_at : ℕ → ℕ → ℕ
 cell_at d m = (2 * m + 1) * 4 ^ d
 
--- every leaf of the cell is in `S`
+-- every leaf of the cell `c` is in `S`
 abbrev pub filled_in : (ℕ → Bool) → ℕ → Bool
 filled_in S c = filled S (place_of c * 4 ^ depth_of c) (4 ^ depth_of c)
 
--- the outer covering's leaves where `whole`, else the inner covering's, for all numbers
+-- the leaves of the outer covering if `whole`, else those of the inner one, extended to all numbers; the cells of the
+-- covering have the depth `g`
 abbrev pub blocks : Bool → (ℕ → Bool) → ℕ → ℕ → Bool
 blocks whole R g x = cond whole (touched R (x / 4 ^ g * 4 ^ g) (4 ^ g)) (filled R (x / 4 ^ g * 4 ^ g) (4 ^ g))
 
--- the same for leaves alone
+-- the same for the numbers of leaves only; the cells of the covering have the level `k`
 abbrev pub covering_set : Bool → (ℕ → Bool) → ℕ → ℕ → Bool
 covering_set whole R k x = cond whole (outer_set R k x) (inner_set R k x)
 
@@ -32,16 +35,17 @@ unfoldable pub joined : (ℕ → List ℕ) → ℕ → List ℕ
 joined f zero = []
 joined f (suc n) = joined f n ++ f n
 
--- the greatest cells inside `S`, of the depth `g` or above, in the cell at the place `m` of the depth `g + e`
+-- the greatest cells inside `S`, of depth at least `g`, in the cell of depth `g + e` at the place `m`
 unfoldable pub form : (ℕ → Bool) → ℕ → ℕ → ℕ → List ℕ
 unfolding filled joined
 form S g zero m = cond (filled S (m * 4 ^ g) (4 ^ g)) (cell_at g m ∷ []) []
-form S g (suc e) m = cond (filled S (m * 4 ^ (g + suc e)) (4 ^ (g + suc e))) (cell_at (g + suc e) m ∷ []) (joined (λ p. form S g e (4 * m + p)) 4)
+form S g (suc e) m = cond (filled S (m * 4 ^ (g + suc e)) (4 ^ (g + suc e))) (cell_at (g + suc e) m ∷ [])
+    (joined (λ p. form S g e (4 * m + p)) 4)
 
--- the same in the cell `c`
+-- the same cells in the cell `c`
 abbrev pub form_in : (ℕ → Bool) → ℕ → ℕ → List ℕ
 form_in S g c = form S g (depth_of c - g) (place_of c)
 
--- the same in the first `n` faces
+-- the same cells in the first `n` faces
 abbrev pub form_faces : (ℕ → Bool) → ℕ → ℕ → List ℕ
 form_faces S g n = joined (λ face. form S g (30 - g) face) n

@@ -1,26 +1,27 @@
-//! The coverings of a union clipped by a rectangle, without a walk along the rectangle's sides.
+//! The coverings of a union clipped by a rectangle, without a walk along the sides of the rectangle.
 //!
-//! The union's cells are cut to the level and the rectangle is rounded to its grid first. So each cell that crosses
-//! what they share has a cell of the answer in it, and the descent enters no other.
+//! First the union's cells are cut to the level, and the rectangle is rounded to the grid of the level. Then each cell
+//! that crosses what the two share has a cell of the answer in it, and the descent enters only such cells.
 ghost use Rattle.std.specs.Prelude.{◌≡◌, ◌<◌, ◌≤◌, ◌&&◌, ℕ, List, length, IfOk, IfErr};
 ghost use Rattle.s2union.specs.Union.{has_leaf, IsLocal, IsNormalForm};
 ghost use Rattle.s2cover.specs.Coverings.{inner_set, outer_set};
 ghost use Rattle.s2cover.specs.Cut.{cells_cut, cells_kept, cells_met, meets};
 ghost use Rattle.s2cover.specs.Rectangles.{rect_set};
 
+use crate::MOST_CELLS;
 use crate::covering::{inner, outer};
 use crate::cut::{cut_cells, kept_cells};
 use crate::rect::FaceRect;
 use crate::region::{CoverFault, Part, Region};
 use crate::union::Clip;
-use s2cell::CellId;
+use s2cell::{CellId, GREATEST_LEVEL};
 use s2union::{CellUnion, normalise};
 use std::alloc::{AllocError, Global};
 
-/// The outer covering of what a union has of a rectangle: the answer of `outer` for a `Clip`, in time that follows the
-/// union's cells and the answer's, however long the rectangle's sides are.
+/// The outer covering of what a union and a rectangle share: the answer of `outer` for a `Clip`. The time
+/// depends on the number of cells of the union and of the answer, not on the size of the rectangle.
 ///
-/// Takes memory for as many cells as the union has in the rectangle. `TooMany` comes as in `outer`.
+/// Takes memory for as many cells as the union has in the rectangle. `TooMany` is answered as by `outer`.
 pub fn clip_outer(
     alloc: Global,
     union: &CellUnion,
@@ -28,13 +29,16 @@ pub fn clip_outer(
     level: u8,
     max: usize,
 ) -> Result<CellUnion, CoverFault>
-    requires level { level ≤ 30 }
-    requires max { max ≤ 1000000 }
-    ensures leaves { IfOk result (λ u. (x : ℕ) → has_leaf u.cells x ≡ outer_set (λ y. has_leaf union.now.cells y && rect_set rect.now y) level x) }
+    requires level { level ≤ GREATEST_LEVEL }
+    requires max { max ≤ MOST_CELLS }
+    ensures leaves { IfOk result (λ u. (x : ℕ) →
+        has_leaf u.cells x ≡ outer_set (λ y. has_leaf union.now.cells y && rect_set rect.now y) level x) }
     ensures local { IfOk result (λ u. IsLocal u.cells) }
-    ensures normal { IfOk result (λ u. IsNormalForm (outer_set (λ y. has_leaf union.now.cells y && rect_set rect.now y) level) u.cells) }
+    ensures normal { IfOk result (λ u. IsNormalForm
+        (outer_set (λ y. has_leaf union.now.cells y && rect_set rect.now y) level) u.cells) }
     ensures within { IfOk result (λ u. length u.cells ≤ max) }
-    ensures many { IfErr result (λ fault. fault ≡ CoverFault.TooMany → (u : List ℕ) → IsNormalForm (outer_set (λ y. has_leaf union.now.cells y && rect_set rect.now y) level) u → max < length u) }
+    ensures many { IfErr result (λ fault. fault ≡ CoverFault.TooMany → (u : List ℕ) →
+        IsNormalForm (outer_set (λ y. has_leaf union.now.cells y && rect_set rect.now y) level) u → max < length u) }
 {
     let _local = union.cells();
     match cut_union(alloc, union, rect, level) {
@@ -49,10 +53,11 @@ pub fn clip_outer(
     }
 }
 
-/// The inner covering of what a union has of a rectangle: the answer of `inner` for a `Clip`, in time that follows the
-/// union's cells and the answer's. Where the rectangle has no cell of the level in it, nothing is looked at.
+/// The inner covering of what a union and a rectangle share: the answer of `inner` for a `Clip`. The time
+/// depends on the number of cells of the union and of the answer. If no cell of the level lies in the rectangle,
+/// nothing is looked at.
 ///
-/// Takes memory for as many cells as the union has down to the level. `TooMany` comes as in `outer`.
+/// Takes memory for as many cells as the union has down to the level. `TooMany` is answered as by `outer`.
 pub fn clip_inner(
     alloc: Global,
     union: &CellUnion,
@@ -60,13 +65,16 @@ pub fn clip_inner(
     level: u8,
     max: usize,
 ) -> Result<CellUnion, CoverFault>
-    requires level { level ≤ 30 }
-    requires max { max ≤ 1000000 }
-    ensures leaves { IfOk result (λ u. (x : ℕ) → has_leaf u.cells x ≡ inner_set (λ y. has_leaf union.now.cells y && rect_set rect.now y) level x) }
+    requires level { level ≤ GREATEST_LEVEL }
+    requires max { max ≤ MOST_CELLS }
+    ensures leaves { IfOk result (λ u. (x : ℕ) →
+        has_leaf u.cells x ≡ inner_set (λ y. has_leaf union.now.cells y && rect_set rect.now y) level x) }
     ensures local { IfOk result (λ u. IsLocal u.cells) }
-    ensures normal { IfOk result (λ u. IsNormalForm (inner_set (λ y. has_leaf union.now.cells y && rect_set rect.now y) level) u.cells) }
+    ensures normal { IfOk result (λ u. IsNormalForm
+        (inner_set (λ y. has_leaf union.now.cells y && rect_set rect.now y) level) u.cells) }
     ensures within { IfOk result (λ u. length u.cells ≤ max) }
-    ensures many { IfErr result (λ fault. fault ≡ CoverFault.TooMany → (u : List ℕ) → IsNormalForm (inner_set (λ y. has_leaf union.now.cells y && rect_set rect.now y) level) u → max < length u) }
+    ensures many { IfErr result (λ fault. fault ≡ CoverFault.TooMany → (u : List ℕ) →
+        IsNormalForm (inner_set (λ y. has_leaf union.now.cells y && rect_set rect.now y) level) u → max < length u) }
 {
     match rect.narrowed(level) {
         Some(narrow) => inner_part(alloc, union, narrow, level, max),
@@ -74,8 +82,8 @@ pub fn clip_inner(
     }
 }
 
-/// The inner covering of what a union has of a rectangle, by a descent that is short where the rectangle lies on the
-/// grid of the level.
+/// The inner covering of what a union and a rectangle share, by a descent that is short if the rectangle is on the grid
+/// of the level.
 fn inner_part(
     alloc: Global,
     union: &CellUnion,
@@ -83,13 +91,16 @@ fn inner_part(
     level: u8,
     max: usize,
 ) -> Result<CellUnion, CoverFault>
-    requires level { level ≤ 30 }
-    requires max { max ≤ 1000000 }
-    ensures leaves { IfOk result (λ u. (x : ℕ) → has_leaf u.cells x ≡ inner_set (λ y. has_leaf union.now.cells y && rect_set rect y) level x) }
+    requires level { level ≤ GREATEST_LEVEL }
+    requires max { max ≤ MOST_CELLS }
+    ensures leaves { IfOk result (λ u. (x : ℕ) →
+        has_leaf u.cells x ≡ inner_set (λ y. has_leaf union.now.cells y && rect_set rect y) level x) }
     ensures local { IfOk result (λ u. IsLocal u.cells) }
-    ensures normal { IfOk result (λ u. IsNormalForm (inner_set (λ y. has_leaf union.now.cells y && rect_set rect y) level) u.cells) }
+    ensures normal { IfOk result (λ u. IsNormalForm
+        (inner_set (λ y. has_leaf union.now.cells y && rect_set rect y) level) u.cells) }
     ensures within { IfOk result (λ u. length u.cells ≤ max) }
-    ensures many { IfErr result (λ fault. fault ≡ CoverFault.TooMany → (u : List ℕ) → IsNormalForm (inner_set (λ y. has_leaf union.now.cells y && rect_set rect y) level) u → max < length u) }
+    ensures many { IfErr result (λ fault. fault ≡ CoverFault.TooMany → (u : List ℕ) →
+        IsNormalForm (inner_set (λ y. has_leaf union.now.cells y && rect_set rect y) level) u → max < length u) }
 {
     let _local = union.cells();
     match kept_union(alloc, union, &rect, level) {
@@ -111,8 +122,9 @@ fn cut_union(
     rect: &FaceRect,
     level: u8,
 ) -> Result<CellUnion, AllocError>
-    requires { level ≤ 30 }
-    ensures { IfOk result (λ v. (x : ℕ) → has_leaf v.cells x ≡ has_leaf (cells_cut level (cells_met (rect_set rect.now) union.now.cells)) x) }
+    requires { level ≤ GREATEST_LEVEL }
+    ensures { IfOk result (λ v. (x : ℕ) → has_leaf v.cells x
+        ≡ has_leaf (cells_cut level (cells_met (rect_set rect.now) union.now.cells)) x) }
 {
     let met = met_cells(alloc, union.cells(), rect)?;
     let cut = cut_cells(alloc, met.as_slice(), level)?;
@@ -126,8 +138,9 @@ fn kept_union(
     rect: &FaceRect,
     level: u8,
 ) -> Result<CellUnion, AllocError>
-    requires { level ≤ 30 }
-    ensures { IfOk result (λ v. (x : ℕ) → has_leaf v.cells x ≡ has_leaf (cells_met (rect_set rect.now) (cells_kept level union.now.cells)) x) }
+    requires { level ≤ GREATEST_LEVEL }
+    ensures { IfOk result (λ v. (x : ℕ) → has_leaf v.cells x
+        ≡ has_leaf (cells_met (rect_set rect.now) (cells_kept level union.now.cells)) x) }
 {
     let kept = kept_cells(alloc, union.cells(), level)?;
     let met = met_cells(alloc, kept.as_slice(), rect)?;

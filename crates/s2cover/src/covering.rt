@@ -1,72 +1,77 @@
 //! The outer and the inner covering of any region.
-ghost use Rattle.std.specs.Prelude.{◌≡◌, ◌+◌, ◌-◌, ◌*◌, ◌^◌, ◌<◌, ◌≤◌, ◌↔◌, ℕ, Bool, true, false, List, length, vec_len, IfOk, IfErr};
+ghost use Rattle.std.specs.Prelude.{◌≡◌, ◌+◌, ◌-◌, ◌<◌, ◌≤◌, ◌↔◌, ℕ, Bool, true, false, List, length};
+ghost use Rattle.std.specs.Prelude.{vec_len, IfOk, IfErr};
 ghost use Rattle.s2cell.specs.Cell.{IsCell};
 ghost use Rattle.s2union.specs.Union.{has_leaf, IsLocal, IsNormalForm};
 ghost use Rattle.s2cover.specs.Coverings.{IsInInner, IsInOuter, inner_set, outer_set};
 ghost use Rattle.s2cover.specs.Descent.{covering_set};
 
+use crate::MOST_CELLS;
 use crate::descent::visit;
 use crate::region::{CoverFault, Region};
-use s2cell::PlacedCell;
+use s2cell::{GREATEST_LEVEL, LEAVES, PlacedCell};
 use s2union::CellUnion;
 use std::alloc::Global;
 
-/// The outer covering of a region: the cells of the level that share a leaf with it, normalised.
+/// The outer covering of a region: the cells of the level that share a leaf with it, normalized.
 ///
-/// `TooMany` comes only where the finished covering has more than `max` cells; a longer list on the way is no reason.
-/// The list never holds more than `max` and some ninety cells. S2: `GetCovering` with one level, without its bound on
-/// cells.
+/// `TooMany` is answered only if the finished covering has more than `max` cells, not because a list on the way is
+/// longer. The list never holds more than `max` and some ninety cells. S2: `GetCovering` with one level, without its
+/// bound on the number of cells.
 pub fn outer<R: Region>(
     alloc: Global,
     region: &R,
     level: u8,
     max: usize,
 ) -> Result<CellUnion, CoverFault>
-    requires level { level ≤ 30 }
-    requires max { max ≤ 1000000 }
+    requires level { level ≤ GREATEST_LEVEL }
+    requires max { max ≤ MOST_CELLS }
     ensures leaves { IfOk result (λ u. (x : ℕ) → has_leaf u.cells x ≡ outer_set (R.holds region.now) level x) }
     ensures local { IfOk result (λ u. IsLocal u.cells) }
     ensures normal { IfOk result (λ u. IsNormalForm (outer_set (R.holds region.now) level) u.cells) }
     ensures within { IfOk result (λ u. length u.cells ≤ max) }
-    ensures many { IfErr result (λ fault. fault ≡ CoverFault.TooMany → (u : List ℕ) → IsNormalForm (outer_set (R.holds region.now) level) u → max < length u) }
+    ensures many { IfErr result (λ fault. fault ≡ CoverFault.TooMany → (u : List ℕ) →
+        IsNormalForm (outer_set (R.holds region.now) level) u → max < length u) }
 {
     cover(alloc, region, true, level, max)
 }
 
-/// The inner covering of a region: the cells of the level that lie inside it, normalised.
+/// The inner covering of a region: the cells of the level that lie inside it, normalized.
 ///
-/// `TooMany` comes as in `outer`. S2: `GetInteriorCovering` with one level, without its bound on cells.
+/// `TooMany` is answered as by `outer`. S2: `GetInteriorCovering` with one level, without its bound on the number of
+/// cells.
 pub fn inner<R: Region>(
     alloc: Global,
     region: &R,
     level: u8,
     max: usize,
 ) -> Result<CellUnion, CoverFault>
-    requires level { level ≤ 30 }
-    requires max { max ≤ 1000000 }
+    requires level { level ≤ GREATEST_LEVEL }
+    requires max { max ≤ MOST_CELLS }
     ensures leaves { IfOk result (λ u. (x : ℕ) → has_leaf u.cells x ≡ inner_set (R.holds region.now) level x) }
     ensures local { IfOk result (λ u. IsLocal u.cells) }
     ensures normal { IfOk result (λ u. IsNormalForm (inner_set (R.holds region.now) level) u.cells) }
     ensures within { IfOk result (λ u. length u.cells ≤ max) }
-    ensures many { IfErr result (λ fault. fault ≡ CoverFault.TooMany → (u : List ℕ) → IsNormalForm (inner_set (R.holds region.now) level) u → max < length u) }
+    ensures many { IfErr result (λ fault. fault ≡ CoverFault.TooMany → (u : List ℕ) →
+        IsNormalForm (inner_set (R.holds region.now) level) u → max < length u) }
 {
     cover(alloc, region, false, level, max)
 }
 
-/// A law, which does nothing when it runs: each set of leaves has a normal form. (That it has no other is the law
+/// A law; the function does nothing: each set of leaves has a normal form. (That it has only one is the law
 /// `same_cells` of unions.)
 pub fn normal_forms()
-    ensures { (S : ℕ → Bool) → ((x : ℕ) → S x ≡ true → x < 6 * 4 ^ 30) → (u : List ℕ) × IsNormalForm S u }
+    ensures { (S : ℕ → Bool) → ((x : ℕ) → S x ≡ true → x < LEAVES) → (u : List ℕ) × IsNormalForm S u }
 {}
 
-/// A law: the leaves of the outer covering are those of all cells of the level that share a leaf with the region, the
-/// leaves of the inner one those of all cells of the level that lie inside it.
+/// A law: the leaves of the outer covering are those of all cells of the level that share a leaf with the region, and
+/// the leaves of the inner covering are those of all cells of the level that lie inside it.
 pub fn covering_sets()
-    ensures outer { (R : ℕ → Bool) (k x : ℕ) → k ≤ 30 → (outer_set R k x ≡ true) ↔ IsInOuter R k x }
-    ensures inner { (R : ℕ → Bool) (k x : ℕ) → k ≤ 30 → (inner_set R k x ≡ true) ↔ IsInInner R k x }
+    ensures outer { (R : ℕ → Bool) (k x : ℕ) → k ≤ GREATEST_LEVEL → (outer_set R k x ≡ true) ↔ IsInOuter R k x }
+    ensures inner { (R : ℕ → Bool) (k x : ℕ) → k ≤ GREATEST_LEVEL → (inner_set R k x ≡ true) ↔ IsInInner R k x }
 {}
 
-/// The outer covering where `whole`, else the inner one.
+/// The outer covering if `whole`, else the inner one.
 fn cover<R: Region>(
     alloc: Global,
     region: &R,
@@ -74,13 +79,14 @@ fn cover<R: Region>(
     level: u8,
     max: usize,
 ) -> Result<CellUnion, CoverFault>
-    requires level { level ≤ 30 }
-    requires max { max ≤ 1000000 }
+    requires level { level ≤ GREATEST_LEVEL }
+    requires max { max ≤ MOST_CELLS }
     ensures leaves { IfOk result (λ u. (x : ℕ) → has_leaf u.cells x ≡ covering_set whole (R.holds region.now) level x) }
     ensures local { IfOk result (λ u. IsLocal u.cells) }
     ensures normal { IfOk result (λ u. IsNormalForm (covering_set whole (R.holds region.now) level) u.cells) }
     ensures within { IfOk result (λ u. length u.cells ≤ max) }
-    ensures many { IfErr result (λ fault. fault ≡ CoverFault.TooMany → (u : List ℕ) → IsNormalForm (covering_set whole (R.holds region.now) level) u → max < length u) }
+    ensures many { IfErr result (λ fault. fault ≡ CoverFault.TooMany → (u : List ℕ) →
+        IsNormalForm (covering_set whole (R.holds region.now) level) u → max < length u) }
 {
     let mut list = Vec::new(alloc);
     for face in 0..6u8 {

@@ -1,30 +1,32 @@
-//! The coverings of a union, which are its own cells, cut to a level.
+//! The coverings of a union, which are its own cells cut to a level.
 ghost use Rattle.std.specs.Prelude.{◌≡◌, ◌<◌, ◌≤◌, ℕ, List, length, IfOk, IfErr};
 ghost use Rattle.s2union.specs.Union.{has_leaf, IsLocal, IsNormalForm};
 ghost use Rattle.s2cover.specs.Coverings.{inner_set, outer_set};
 ghost use Rattle.s2cover.specs.Cut.{cells_cut, cells_kept, cut_at};
 
 use crate::region::CoverFault;
-use s2cell::CellId;
+use s2cell::{CellId, GREATEST_LEVEL};
 use s2union::{CellUnion, normalise};
 use std::alloc::{AllocError, Global};
 
 /// The outer covering of a union: the answer of `outer`, in one pass over the union's cells.
 ///
-/// They are its cells, those deeper than the level replaced by their ancestors there, normalised. Takes memory for as
-/// many cells as the union has. `TooMany` comes only where the finished covering has more than `max` cells.
+/// The covering is the union's cells, with those deeper than the level replaced by their ancestors at the level,
+/// normalized. Takes memory for as many cells as the union has. `TooMany` is answered only if the finished covering has
+/// more than `max` cells.
 pub fn union_outer(
     alloc: Global,
     union: &CellUnion,
     level: u8,
     max: usize,
 ) -> Result<CellUnion, CoverFault>
-    requires level { level ≤ 30 }
+    requires level { level ≤ GREATEST_LEVEL }
     ensures leaves { IfOk result (λ u. (x : ℕ) → has_leaf u.cells x ≡ outer_set (has_leaf union.now.cells) level x) }
     ensures local { IfOk result (λ u. IsLocal u.cells) }
     ensures normal { IfOk result (λ u. IsNormalForm (outer_set (has_leaf union.now.cells) level) u.cells) }
     ensures within { IfOk result (λ u. length u.cells ≤ max) }
-    ensures many { IfErr result (λ fault. fault ≡ CoverFault.TooMany → (u : List ℕ) → IsNormalForm (outer_set (has_leaf union.now.cells) level) u → max < length u) }
+    ensures many { IfErr result (λ fault. fault ≡ CoverFault.TooMany → (u : List ℕ) →
+        IsNormalForm (outer_set (has_leaf union.now.cells) level) u → max < length u) }
 {
     match cut_cells(alloc, union.cells(), level) {
         Ok(cells) => bounded(normalise(cells), max),
@@ -34,19 +36,21 @@ pub fn union_outer(
 
 /// The inner covering of a union: the answer of `inner`, in one pass over the union's cells.
 ///
-/// They are its cells down to the level; the deeper ones are left out. `TooMany` comes as in `union_outer`.
+/// The covering is the union's cells down to the level; deeper ones are left out. `TooMany` is answered as by
+/// `union_outer`.
 pub fn union_inner(
     alloc: Global,
     union: &CellUnion,
     level: u8,
     max: usize,
 ) -> Result<CellUnion, CoverFault>
-    requires level { level ≤ 30 }
+    requires level { level ≤ GREATEST_LEVEL }
     ensures leaves { IfOk result (λ u. (x : ℕ) → has_leaf u.cells x ≡ inner_set (has_leaf union.now.cells) level x) }
     ensures local { IfOk result (λ u. IsLocal u.cells) }
     ensures normal { IfOk result (λ u. IsNormalForm (inner_set (has_leaf union.now.cells) level) u.cells) }
     ensures within { IfOk result (λ u. length u.cells ≤ max) }
-    ensures many { IfErr result (λ fault. fault ≡ CoverFault.TooMany → (u : List ℕ) → IsNormalForm (inner_set (has_leaf union.now.cells) level) u → max < length u) }
+    ensures many { IfErr result (λ fault. fault ≡ CoverFault.TooMany → (u : List ℕ) →
+        IsNormalForm (inner_set (has_leaf union.now.cells) level) u → max < length u) }
 {
     match kept_cells(alloc, union.cells(), level) {
         Ok(cells) => bounded(normalise(cells), max),
@@ -67,13 +71,13 @@ fn bounded(union: CellUnion, max: usize) -> Result<CellUnion, CoverFault>
     }
 }
 
-/// The cells, those deeper than the level replaced by their ancestors there.
+/// The cells, with those deeper than the level replaced by their ancestors at the level.
 pub(crate) fn cut_cells(
     alloc: Global,
     cells: &[CellId],
     level: u8,
 ) -> Result<Vec<CellId>, AllocError>
-    requires { level ≤ 30 }
+    requires { level ≤ GREATEST_LEVEL }
     ensures { IfOk result (λ list. list.items ≡ cells_cut level cells.now) }
 {
     let mut list = Vec::with_capacity(alloc, cells.len())?;
@@ -89,7 +93,7 @@ pub(crate) fn kept_cells(
     cells: &[CellId],
     level: u8,
 ) -> Result<Vec<CellId>, AllocError>
-    requires { level ≤ 30 }
+    requires { level ≤ GREATEST_LEVEL }
     ensures { IfOk result (λ list. list.items ≡ cells_kept level cells.now) }
 {
     let mut list = Vec::new(alloc);
@@ -101,9 +105,9 @@ pub(crate) fn kept_cells(
     Ok(list)
 }
 
-/// The cell, or its ancestor at the level where it lies deeper.
+/// The cell, or its ancestor at the level if it is deeper.
 fn cut(cell: CellId, level: u8) -> CellId
-    requires { level ≤ 30 }
+    requires { level ≤ GREATEST_LEVEL }
     ensures { result ≡ cut_at level cell }
 {
     if cell.level() <= level {

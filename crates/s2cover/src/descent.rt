@@ -1,15 +1,18 @@
-//! The descent through the cells, whatever the region.
-ghost use Rattle.std.specs.Prelude.{◌≡◌, ◌+◌, ◌-◌, ◌*◌, ◌^◌, ◌<◌, ◌≤◌, ℕ, Bool, true, false, ◌↔◌, ◌++◌, ◌∷◌, [], length, vec_len, IfOk, IfErr};
+//! The descent through the cells, for any region.
+ghost use Rattle.std.specs.Prelude.{◌≡◌, ◌+◌, ◌-◌, ◌*◌, ◌<◌, ◌≤◌, ℕ, Bool, true, false, ◌↔◌};
+ghost use Rattle.std.specs.Prelude.{◌++◌, ◌∷◌, [], length, vec_len, IfOk, IfErr};
 ghost use Rattle.s2cell.specs.Cell.{level_of, place_of};
 ghost use Rattle.s2cell.specs.Square.{IsPlacedCell};
 ghost use Rattle.s2cover.specs.Coverings.{filled};
 ghost use Rattle.s2cover.specs.Descent.{blocks, depth_of, filled_in, form_in};
 
+use crate::MOST_CELLS;
 use crate::region::{CoverFault, Part, Region};
-use s2cell::{CellId, PlacedCell};
+use s2cell::{CellId, GREATEST_LEVEL, PlacedCell};
 
-/// Adds the cells of a covering that lie in one cell; the last `loose` of the list may still merge. Answers whether the
-/// covering holds the whole cell. `whole` says whether a cell of the level that crosses the region belongs to it.
+/// Adds the cells of a covering that lie in one cell; the last `loose` cells of the list may still merge. Answers
+/// whether the covering has the whole cell. `whole` says whether a cell of the level that crosses the region belongs to
+/// the covering.
 pub(crate) fn visit<R: Region>(
     region: &R,
     whole: bool,
@@ -21,14 +24,19 @@ pub(crate) fn visit<R: Region>(
 ) -> Result<bool, CoverFault>
     requires placed { IsPlacedCell placed.now }
     requires above { level_of placed.now.cell ≤ level }
-    requires level { level ≤ 30 }
+    requires level { level ≤ GREATEST_LEVEL }
     requires loose { loose ≤ 3 * level_of placed.now.cell }
-    requires max { max ≤ 1000000 }
+    requires max { max ≤ MOST_CELLS }
     requires room { vec_len list.old ≤ max + loose }
-    ensures list { IfOk result (λ full. list.new.items ≡ list.old.items ++ form_in (blocks whole (R.holds region.now) (30 - level)) (30 - level) placed.now.cell) }
-    ensures full { IfOk result (λ full. full ≡ filled_in (blocks whole (R.holds region.now) (30 - level)) placed.now.cell) }
+    ensures list { IfOk result (λ full. list.new.items ≡ list.old.items
+        ++ form_in (blocks whole (R.holds region.now) (30 - level)) (30 - level) placed.now.cell) }
+    ensures full { IfOk result (λ full. full ≡ filled_in (blocks whole (R.holds region.now) (30 - level))
+        placed.now.cell) }
     ensures room { IfOk result (λ full. full ≡ false → vec_len list.new ≤ max) }
-    ensures many { IfErr result (λ fault. fault ≡ CoverFault.TooMany → (filled_in (blocks whole (R.holds region.now) (30 - level)) placed.now.cell ≡ false) × (max < vec_len list.old + length (form_in (blocks whole (R.holds region.now) (30 - level)) (30 - level) placed.now.cell))) }
+    ensures many { IfErr result (λ fault. fault ≡ CoverFault.TooMany →
+        (filled_in (blocks whole (R.holds region.now) (30 - level)) placed.now.cell ≡ false)
+        × (max < vec_len list.old + length (form_in (blocks whole (R.holds region.now) (30 - level)) (30 - level)
+        placed.now.cell))) }
 {
     match region.part_of_placed(placed) {
         Part::Out => settle(max, list),
@@ -66,7 +74,7 @@ pub(crate) fn visit<R: Region>(
 /// A child of a cell, by its depth and place.
 fn child(placed: &PlacedCell, digit: u8) -> PlacedCell
     requires placed { IsPlacedCell placed.now }
-    requires inner { level_of placed.now.cell < 30 }
+    requires inner { level_of placed.now.cell < GREATEST_LEVEL }
     requires digit { digit < 4 }
     ensures placed { IsPlacedCell result }
     ensures level { level_of result.cell ≡ level_of placed.now.cell + 1 }
@@ -87,7 +95,7 @@ fn take(cell: CellId, list: &mut Vec<CellId>) -> Result<bool, CoverFault>
     }
 }
 
-/// Nothing is added, and no cell of the list merges any more.
+/// Adds nothing; no cell of the list can merge any more.
 fn settle(max: usize, list: &Vec<CellId>) -> Result<bool, CoverFault>
     ensures ok { IfOk result (λ full. (full ≡ false) × (vec_len list.now ≤ max)) }
     ensures many { IfErr result (λ fault. (fault ≡ CoverFault.TooMany) × (max < vec_len list.now)) }

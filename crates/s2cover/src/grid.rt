@@ -1,21 +1,22 @@
-//! The coverings of a rectangle in time that follows the answer.
-ghost use Rattle.std.specs.Prelude.{◌≡◌, ◌+◌, ◌-◌, ◌*◌, ◌^◌, ◌<◌, ◌≤◌, ℕ, List, length, IfOk, IfErr, OnErr};
+//! The coverings of a rectangle in time proportional to the answer.
+ghost use Rattle.std.specs.Prelude.{◌≡◌, ◌+◌, ◌-◌, ◌*◌, ◌<◌, ◌≤◌, ℕ, List, length, IfOk, IfErr, OnErr};
 ghost use Rattle.s2union.specs.Union.{has_leaf, IsLocal, IsNormalForm};
 ghost use Rattle.s2cover.specs.Coverings.{inner_set, outer_set};
 ghost use Rattle.s2cover.specs.Descent.{IsAligned};
 ghost use Rattle.s2cover.specs.Rectangles.{rect_set};
 
+use crate::MOST_CELLS;
 use crate::looks::{Looks, seek};
 use crate::rect::FaceRect;
 use crate::region::CoverFault;
-use s2cell::PlacedCell;
+use s2cell::{GREATEST_LEVEL, PlacedCell};
 use s2union::CellUnion;
 use std::alloc::Global;
 
-/// The outer covering of a rectangle: the answer of `outer`, in time that follows the number of its cells.
+/// The outer covering of a rectangle: the answer of `outer`, in time proportional to the number of its cells.
 ///
-/// The rectangle is rounded outwards to the grid of the level first, so every cell that is found whole belongs to the
-/// answer. `looks` tells how many quadrants were looked at, after a refusal too: at least one for each cell of the
+/// The rectangle is first rounded outward to the grid of the level, so every cell that lies inside it belongs to the
+/// answer. `looks` says how many quadrants were looked at, also after a refusal: at least one for each cell of the
 /// answer, and at most `1 + 4 * level * n` for an answer of n cells, or `1 + 4 * level * (max + 1)` after a refusal.
 pub fn rect_outer(
     alloc: Global,
@@ -24,13 +25,14 @@ pub fn rect_outer(
     max: usize,
     looks: &mut Looks,
 ) -> Result<CellUnion, CoverFault>
-    requires level { level ≤ 30 }
-    requires max { max ≤ 1000000 }
+    requires level { level ≤ GREATEST_LEVEL }
+    requires max { max ≤ MOST_CELLS }
     ensures leaves { IfOk result (λ u. (x : ℕ) → has_leaf u.cells x ≡ outer_set (rect_set rect.now) level x) }
     ensures local { IfOk result (λ u. IsLocal u.cells) }
     ensures normal { IfOk result (λ u. IsNormalForm (outer_set (rect_set rect.now) level) u.cells) }
     ensures within { IfOk result (λ u. length u.cells ≤ max) }
-    ensures many { IfErr result (λ fault. fault ≡ CoverFault.TooMany → (u : List ℕ) → IsNormalForm (outer_set (rect_set rect.now) level) u → max < length u) }
+    ensures many { IfErr result (λ fault. fault ≡ CoverFault.TooMany → (u : List ℕ) →
+        IsNormalForm (outer_set (rect_set rect.now) level) u → max < length u) }
     ensures least { IfOk result (λ u. length u.cells ≤ looks.new.count) }
     ensures most { IfOk result (λ u. looks.new.count ≤ 1 + 4 * level * length u.cells) }
     ensures stopped { OnErr result (looks.new.count ≤ 1 + 4 * level * (max + 1)) }
@@ -39,10 +41,10 @@ pub fn rect_outer(
     cover_aligned(alloc, &rect.widened(level), level, max, looks)
 }
 
-/// The inner covering of a rectangle: the answer of `inner`, in time that follows the number of its cells.
+/// The inner covering of a rectangle: the answer of `inner`, in time proportional to the number of its cells.
 ///
-/// The rectangle is rounded inwards to the grid of the level first; where nothing is left, nothing is looked at.
-/// `looks` is as `rect_outer` says.
+/// The rectangle is first rounded inward to the grid of the level; if nothing is left, nothing is looked at. `looks` is
+/// bounded as for `rect_outer`.
 pub fn rect_inner(
     alloc: Global,
     rect: &FaceRect,
@@ -50,13 +52,14 @@ pub fn rect_inner(
     max: usize,
     looks: &mut Looks,
 ) -> Result<CellUnion, CoverFault>
-    requires level { level ≤ 30 }
-    requires max { max ≤ 1000000 }
+    requires level { level ≤ GREATEST_LEVEL }
+    requires max { max ≤ MOST_CELLS }
     ensures leaves { IfOk result (λ u. (x : ℕ) → has_leaf u.cells x ≡ inner_set (rect_set rect.now) level x) }
     ensures local { IfOk result (λ u. IsLocal u.cells) }
     ensures normal { IfOk result (λ u. IsNormalForm (inner_set (rect_set rect.now) level) u.cells) }
     ensures within { IfOk result (λ u. length u.cells ≤ max) }
-    ensures many { IfErr result (λ fault. fault ≡ CoverFault.TooMany → (u : List ℕ) → IsNormalForm (inner_set (rect_set rect.now) level) u → max < length u) }
+    ensures many { IfErr result (λ fault. fault ≡ CoverFault.TooMany → (u : List ℕ) →
+        IsNormalForm (inner_set (rect_set rect.now) level) u → max < length u) }
     ensures least { IfOk result (λ u. length u.cells ≤ looks.new.count) }
     ensures most { IfOk result (λ u. looks.new.count ≤ 1 + 4 * level * length u.cells) }
     ensures stopped { OnErr result (looks.new.count ≤ 1 + 4 * level * (max + 1)) }
@@ -76,15 +79,16 @@ fn cover_aligned(
     max: usize,
     looks: &mut Looks,
 ) -> Result<CellUnion, CoverFault>
-    requires level { level ≤ 30 }
-    requires max { max ≤ 1000000 }
+    requires level { level ≤ GREATEST_LEVEL }
+    requires max { max ≤ MOST_CELLS }
     requires aligned { IsAligned (rect_set rect.now) (30 - level) }
     requires looks { looks.old.count ≡ 0 }
     ensures leaves { IfOk result (λ u. (x : ℕ) → has_leaf u.cells x ≡ rect_set rect.now x) }
     ensures local { IfOk result (λ u. IsLocal u.cells) }
     ensures normal { IfOk result (λ u. IsNormalForm (rect_set rect.now) u.cells) }
     ensures within { IfOk result (λ u. length u.cells ≤ max) }
-    ensures many { IfErr result (λ fault. fault ≡ CoverFault.TooMany → (u : List ℕ) → IsNormalForm (rect_set rect.now) u → max < length u) }
+    ensures many { IfErr result (λ fault. fault ≡ CoverFault.TooMany → (u : List ℕ) →
+        IsNormalForm (rect_set rect.now) u → max < length u) }
     ensures least { IfOk result (λ u. length u.cells ≤ looks.new.count) }
     ensures most { IfOk result (λ u. looks.new.count ≤ 1 + 4 * level * length u.cells) }
     ensures stopped { OnErr result (looks.new.count ≤ 1 + 4 * level * (max + 1)) }

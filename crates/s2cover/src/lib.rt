@@ -1,14 +1,15 @@
 //! Coverings of regions by cells.
 //!
-//! A region is a set of leaves that can say of each cell whether it lies outside, inside or across. That one question
-//! is enough to cover it: a descent from the six faces leaves at once what lies outside, takes whole what lies inside,
-//! and looks into what lies across, down to the level that is asked for. The outer covering has every cell of the level
-//! that shares a leaf with the region, the inner one every cell that lies inside it. Both are normalised: four siblings
-//! give way to their parent, so a covering may have cells above its level and never below it.
+//! A region is a set of leaves that can say of each cell whether it lies outside the region, inside it, or across its
+//! border. That one question is enough to cover it: a descent from the six faces drops the cells outside, takes the
+//! cells inside whole, and looks into the cells across, down to the level that is asked for. The outer covering has
+//! every cell of the level that shares a leaf with the region; the inner one has every cell of the level that lies
+//! inside it. Both are normalized: four siblings are replaced by their parent, so a covering may have cells above its
+//! level but never below it.
 //!
-//! A rectangle on a face needs less: once its sides are rounded to the grid of the level, each cell that is found whole
-//! belongs to the answer, and the looks are bounded by the answer's cells. The coverings of a union are its own cells,
-//! cut to the level, and those of a clipped union come of both.
+//! A rectangle on a face needs less: once its sides are rounded to the grid of the level, each cell inside it belongs
+//! to the answer, and the number of looks is bounded by the number of cells of the answer. The coverings of a union are
+//! its own cells, cut to the level; those of a clipped union use both.
 #![tactic(auto)]
 
 mod clip;
@@ -30,3 +31,6 @@ pub use looks::Looks;
 pub use rect::FaceRect;
 pub use region::{CoverFault, Part, Region};
 pub use union::Clip;
+
+/// The most cells that a call may allow a covering: the greatest `max`.
+pub const MOST_CELLS: usize = 1_000_000;

@@ -1,13 +1,15 @@
-//! The search for the greatest cells of a rectangle that lies on the grid of a level.
-ghost use Rattle.std.specs.Prelude.{◌≡◌, ◌+◌, ◌-◌, ◌*◌, ◌^◌, ◌<◌, ◌≤◌, ◌↔◌, ◌++◌, ◌∷◌, [], ℕ, true, false, length, vec_len, OnOk, OnErr, IfErr};
+//! The search for the greatest cells of a rectangle on the grid of a level.
+ghost use Rattle.std.specs.Prelude.{◌≡◌, ◌+◌, ◌-◌, ◌*◌, ◌^◌, ◌<◌, ◌≤◌, ◌↔◌, ◌++◌, ◌∷◌};
+ghost use Rattle.std.specs.Prelude.{[], ℕ, true, false, length, vec_len, OnOk, OnErr, IfErr};
 ghost use Rattle.s2cell.specs.Cell.{covers, level_of};
 ghost use Rattle.s2cell.specs.Square.{IsPlacedCell, IsSquareOf};
 ghost use Rattle.s2cover.specs.Descent.{IsAligned, depth_of, form_in};
 ghost use Rattle.s2cover.specs.Rectangles.{rect_set};
 
+use crate::MOST_CELLS;
 use crate::rect::FaceRect;
 use crate::region::{CoverFault, Part};
-use s2cell::{CellId, PlacedCell, Square};
+use s2cell::{CellId, GREATEST_LEVEL, PlacedCell, SIDE, Square};
 
 /// How many quadrants a call has looked at: how often it asked whether a cell lies outside, inside or across.
 #[derive(Clone, Copy, PartialEq, Eq, Debug, Default)]
@@ -16,15 +18,17 @@ pub struct Looks {
     pub count: u64,
 }
 
-/// The one question: how the cell with this square lies to the rectangle. It is counted.
+/// The one question: whether the cell with this square lies outside the rectangle, inside it or across. It is counted.
 fn look(rect: &FaceRect, square: Square, looks: &mut Looks) -> Part
     requires size { 0 < square.size }
-    requires i { square.i + square.size ≤ 2 ^ 30 }
-    requires j { square.j + square.size ≤ 2 ^ 30 }
+    requires i { square.i + square.size ≤ SIDE }
+    requires j { square.j + square.size ≤ SIDE }
     requires count { looks.old.count + 1 < 2 ^ 64 }
     ensures count { looks.new.count ≡ looks.old.count + 1 }
-    ensures out { (c : ℕ) → IsSquareOf c square.face square.i square.j square.size → (result ≡ Part.Out) ↔ ((x : ℕ) → covers c x ≡ true → rect_set rect.now x ≡ false) }
-    ensures inside { (c : ℕ) → IsSquareOf c square.face square.i square.j square.size → (result ≡ Part.In) ↔ ((x : ℕ) → covers c x ≡ true → rect_set rect.now x ≡ true) }
+    ensures out { (c : ℕ) → IsSquareOf c square.face square.i square.j square.size →
+        (result ≡ Part.Out) ↔ ((x : ℕ) → covers c x ≡ true → rect_set rect.now x ≡ false) }
+    ensures inside { (c : ℕ) → IsSquareOf c square.face square.i square.j square.size →
+        (result ≡ Part.In) ↔ ((x : ℕ) → covers c x ≡ true → rect_set rect.now x ≡ true) }
 {
     looks.count += 1;
     rect.part_of(square)
@@ -42,17 +46,24 @@ pub(crate) fn seek(
 ) -> Result<(), CoverFault>
     requires placed { IsPlacedCell placed.now }
     requires above { level_of placed.now.cell ≤ level }
-    requires level { level ≤ 30 }
-    requires max { max ≤ 1000000 }
+    requires level { level ≤ GREATEST_LEVEL }
+    requires max { max ≤ MOST_CELLS }
     requires room { vec_len list.old ≤ max }
     requires aligned { IsAligned (rect_set rect.now) (30 - level) }
-    requires looks { looks.old.count + 1 + 4 * (depth_of placed.now.cell - (30 - level)) * (max - vec_len list.old + 1) < 2 ^ 64 }
-    ensures list { OnOk result (list.new.items ≡ list.old.items ++ form_in (rect_set rect.now) (30 - level) placed.now.cell) }
+    requires looks { looks.old.count + 1 + 4 * (depth_of placed.now.cell - (30 - level))
+        * (max - vec_len list.old + 1) < 2 ^ 64 }
+    ensures list { OnOk result (list.new.items ≡ list.old.items ++ form_in (rect_set rect.now) (30 - level)
+        placed.now.cell) }
     ensures room { OnOk result (vec_len list.new ≤ max) }
-    ensures many { IfErr result (λ fault. fault ≡ CoverFault.TooMany → max < vec_len list.old + length (form_in (rect_set rect.now) (30 - level) placed.now.cell)) }
-    ensures most { OnOk result (looks.new.count ≤ looks.old.count + 1 + 4 * (depth_of placed.now.cell - (30 - level)) * length (form_in (rect_set rect.now) (30 - level) placed.now.cell)) }
-    ensures least { OnOk result (looks.old.count + length (form_in (rect_set rect.now) (30 - level) placed.now.cell) ≤ looks.new.count) }
-    ensures stopped { OnErr result (looks.new.count ≤ looks.old.count + 1 + 4 * (depth_of placed.now.cell - (30 - level)) * (max - vec_len list.old + 1)) }
+    ensures many { IfErr result (λ fault. fault ≡ CoverFault.TooMany →
+        max < vec_len list.old + length (form_in (rect_set rect.now) (30 - level) placed.now.cell)) }
+    ensures most { OnOk result (looks.new.count ≤ looks.old.count + 1 + 4
+        * (depth_of placed.now.cell - (30 - level)) * length
+        (form_in (rect_set rect.now) (30 - level) placed.now.cell)) }
+    ensures least { OnOk result (looks.old.count + length
+        (form_in (rect_set rect.now) (30 - level) placed.now.cell) ≤ looks.new.count) }
+    ensures stopped { OnErr result (looks.new.count ≤ looks.old.count + 1 + 4
+        * (depth_of placed.now.cell - (30 - level)) * (max - vec_len list.old + 1)) }
 {
     match look(rect, placed.square, looks) {
         Part::Out => Ok(()),
@@ -69,7 +80,7 @@ pub(crate) fn seek(
     }
 }
 
-/// Adds a cell to the list where it may have one more.
+/// Adds a cell to the list, if it may have one more.
 fn take(cell: CellId, max: usize, list: &mut Vec<CellId>) -> Result<(), CoverFault>
     requires { vec_len list.old ≤ max }
     ensures list { OnOk result (list.new.items ≡ list.old.items ++ cell ∷ []) }

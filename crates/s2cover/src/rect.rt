@@ -1,18 +1,15 @@
 //! Rectangles of leaves on one face.
-ghost use Rattle.std.specs.Prelude.{◌≡◌, ◌+◌, ◌^◌, ◌<◌, ◌≤◌, ◌↔◌, ◌⊎◌, ℕ, true, false, IfSome, SomeIff};
+ghost use Rattle.std.specs.Prelude.{◌≡◌, ◌+◌, ◌<◌, ◌≤◌, ◌↔◌, ◌⊎◌, ℕ, true, false, IfSome, SomeIff};
 ghost use Rattle.s2cell.specs.Cell.{covers};
 ghost use Rattle.s2cell.specs.Curve.{IsPlaceOf};
 ghost use Rattle.s2cell.specs.Square.{IsSquareOf};
 ghost use Rattle.s2cover.specs.Rectangles.{IsInRect, IsRect, Rect, rect_set};
 
 use crate::region::{Part, Region};
-use s2cell::{CellId, PlacedCell, Square};
+use s2cell::{CellId, PlacedCell, SIDE, Square};
 use std::marker::Model;
 
-/// The number of places along a side of a face.
-const SIDE: u32 = 1 << 30;
-
-/// The leaves of one face whose coordinates lie from `i0` to `i1` and from `j0` to `j1`, the bounds included.
+/// The leaves of one face whose coordinates are from `i0` to `i1` and from `j0` to `j1`, inclusive.
 #[derive(Clone, Copy, PartialEq, Eq, Debug)]
 pub struct FaceRect {
     pub(crate) face: u8,
@@ -35,11 +32,13 @@ impl Model for FaceRect {
 }
 
 impl FaceRect {
-    /// The rectangle of a face, 0 to 5, with these least and greatest coordinates, each below 2^30. None exactly where
+    /// The rectangle of a face, 0 to 5, with these least and greatest coordinates, each below 2^30. None exactly if
     /// there is no such face, a coordinate is too large, or a least one is above its greatest.
     pub fn new(face: u8, i0: u32, i1: u32, j0: u32, j1: u32) -> Option<FaceRect>
-        ensures made { SomeIff result (IsRect (record { face = face; i0 = i0; i1 = i1; j0 = j0; j1 = j1 })) (record { face = face; i0 = i0; i1 = i1; j0 = j0; j1 = j1 }) }
-        ensures leaves { IfSome result (λ r. (n f i j : ℕ) → IsPlaceOf n f i j → (rect_set r n ≡ true) ↔ IsInRect r f i j) }
+        ensures made { SomeIff result (IsRect (record { face = face; i0 = i0; i1 = i1; j0 = j0; j1 = j1 }))
+            (record { face = face; i0 = i0; i1 = i1; j0 = j0; j1 = j1 }) }
+        ensures leaves { IfSome result (λ r. (n f i j : ℕ) → IsPlaceOf n f i j →
+            (rect_set r n ≡ true) ↔ IsInRect r f i j) }
     {
         if face <= 5 && i0 <= i1 && i1 < SIDE && j0 <= j1 && j1 < SIDE {
             Some(FaceRect {
@@ -68,13 +67,15 @@ impl Region for FaceRect {
 }
 
 impl FaceRect {
-    /// How the cell with this square lies to the rectangle.
+    /// Whether the cell with this square lies outside the rectangle, inside it or across.
     pub(crate) fn part_of(&self, square: Square) -> Part
         requires size { 0 < square.size }
-        requires i { square.i + square.size ≤ 2 ^ 30 }
-        requires j { square.j + square.size ≤ 2 ^ 30 }
-        ensures out { (c : ℕ) → IsSquareOf c square.face square.i square.j square.size → (result ≡ Part.Out) ↔ ((x : ℕ) → covers c x ≡ true → rect_set self.now x ≡ false) }
-        ensures inside { (c : ℕ) → IsSquareOf c square.face square.i square.j square.size → (result ≡ Part.In) ↔ ((x : ℕ) → covers c x ≡ true → rect_set self.now x ≡ true) }
+        requires i { square.i + square.size ≤ SIDE }
+        requires j { square.j + square.size ≤ SIDE }
+        ensures out { (c : ℕ) → IsSquareOf c square.face square.i square.j square.size →
+            (result ≡ Part.Out) ↔ ((x : ℕ) → covers c x ≡ true → rect_set self.now x ≡ false) }
+        ensures inside { (c : ℕ) → IsSquareOf c square.face square.i square.j square.size →
+            (result ≡ Part.In) ↔ ((x : ℕ) → covers c x ≡ true → rect_set self.now x ≡ true) }
     {
         if square.face != self.face {
             return Part::Out;
@@ -85,11 +86,11 @@ impl FaceRect {
     }
 }
 
-/// How the `size` places from `at` on lie to those from `lo` to `hi`.
+/// Whether the `size` places from `at` on lie outside those from `lo` to `hi`, inside them or across.
 fn span_part(lo: u32, hi: u32, at: u32, size: u32) -> Part
     requires span { lo ≤ hi }
     requires size { 0 < size }
-    requires fits { at + size ≤ 2 ^ 30 }
+    requires fits { at + size ≤ SIDE }
     ensures out { (result ≡ Part.Out) ↔ ((hi < at) ⊎ (at + size ≤ lo)) }
     ensures inside { (result ≡ Part.In) ↔ ((lo ≤ at) × (at + size ≤ hi + 1)) }
 {
@@ -103,7 +104,7 @@ fn span_part(lo: u32, hi: u32, at: u32, size: u32) -> Part
     }
 }
 
-/// How a square lies to a rectangle, by how its sides do.
+/// How a square lies relative to a rectangle, from how its two sides do.
 fn both_parts(first: Part, second: Part) -> Part
     ensures out { (result ≡ Part.Out) ↔ ((first ≡ Part.Out) ⊎ (second ≡ Part.Out)) }
     ensures inside { (result ≡ Part.In) ↔ ((first ≡ Part.In) × (second ≡ Part.In)) }

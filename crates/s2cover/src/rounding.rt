@@ -1,15 +1,17 @@
 //! Rectangles rounded to the grid of a level, so that their sides are sides of its cells.
-ghost use Rattle.std.specs.Prelude.{◌≡◌, ◌+◌, ◌-◌, ◌*◌, ◌/◌, ◌^◌, ◌<◌, ◌≤◌, ℕ, true, false, IfSome, None};
+ghost use Rattle.std.specs.Prelude.{◌≡◌, ◌+◌, ◌-◌, ◌*◌, ◌/◌, ◌^◌, ◌<◌, ◌≤◌, ℕ, true, false, IfSome};
+ghost use Rattle.std.specs.Prelude.{None};
 ghost use Rattle.s2cover.specs.Coverings.{inner_set, outer_set};
 ghost use Rattle.s2cover.specs.Descent.{IsAligned};
 ghost use Rattle.s2cover.specs.Rectangles.{rect_set};
 
 use crate::rect::FaceRect;
+use s2cell::{GREATEST_LEVEL, SIDE};
 
 impl FaceRect {
-    /// The rectangle rounded outwards: the leaves of all cells of the level that share a leaf with it.
+    /// The rectangle rounded outward: the leaves of all cells of the level that share a leaf with it.
     pub(crate) fn widened(&self, level: u8) -> FaceRect
-        requires { level ≤ 30 }
+        requires { level ≤ GREATEST_LEVEL }
         ensures leaves { (x : ℕ) → rect_set result x ≡ outer_set (rect_set self.now) level x }
         ensures aligned { IsAligned (rect_set result) (30 - level) }
     {
@@ -23,10 +25,10 @@ impl FaceRect {
         }
     }
 
-    /// The rectangle rounded inwards: the leaves of all cells of the level that lie inside it. None where there is no
-    /// such cell.
+    /// The rectangle rounded inward: the leaves of all cells of the level that lie inside it. None if there is no such
+    /// cell.
     pub(crate) fn narrowed(&self, level: u8) -> Option<FaceRect>
-        requires { level ≤ 30 }
+        requires { level ≤ GREATEST_LEVEL }
         ensures leaves { IfSome result (λ r. (x : ℕ) → rect_set r x ≡ inner_set (rect_set self.now) level x) }
         ensures aligned { IfSome result (λ r. IsAligned (rect_set r) (30 - level)) }
         ensures none { result ≡ None → (x : ℕ) → inner_set (rect_set self.now) level x ≡ false }
@@ -61,10 +63,10 @@ fn round_down(coordinate: u32, side: u32) -> u32
 
 /// The length of the side of a cell of the level.
 fn side_of(level: u8) -> u32
-    requires { level ≤ 30 }
+    requires { level ≤ GREATEST_LEVEL }
     ensures value { result ≡ 2 ^ (30 - level) }
     ensures some { 0 < result }
-    ensures most { result ≤ 2 ^ 30 }
+    ensures most { result ≤ SIDE }
 {
     1 << (30 - level)
 }

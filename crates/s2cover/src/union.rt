@@ -24,10 +24,10 @@ impl Region for CellUnion {
     }
 }
 
-/// The leaves of a union that stand in a rectangle. It refers to the union and copies none of it.
+/// The leaves of a union that are in a rectangle. It borrows the union and copies none of it.
 ///
-/// `part` takes time that is logarithmic in the union's size, and more for a cell that crosses the rectangle's border:
-/// there the union's cells in it are asked in turn until one meets the rectangle.
+/// `part` takes time that is logarithmic in the size of the union, and more for a cell that crosses the border of the
+/// rectangle: then the union's cells in it are tried in turn until one meets the rectangle.
 #[derive(Clone, Copy)]
 pub struct Clip<'a> {
     /// The union.
@@ -49,12 +49,14 @@ impl<'a> Region for Clip<'a> {
     }
 }
 
-/// How a cell lies to the clipped union, from how it lies to the rectangle.
+/// How a cell lies relative to the clipped union, given how it lies relative to the rectangle.
 fn part_by(union: &CellUnion, rect: &FaceRect, cell: CellId, to_rect: Part) -> Part
     requires out { (to_rect ≡ Part.Out) ↔ ((x : ℕ) → covers cell x ≡ true → rect_set rect.now x ≡ false) }
     requires inside { (to_rect ≡ Part.In) ↔ ((x : ℕ) → covers cell x ≡ true → rect_set rect.now x ≡ true) }
-    ensures out { (result ≡ Part.Out) ↔ ((x : ℕ) → covers cell x ≡ true → (has_leaf union.now.cells x && rect_set rect.now x) ≡ false) }
-    ensures inside { (result ≡ Part.In) ↔ ((x : ℕ) → covers cell x ≡ true → (has_leaf union.now.cells x && rect_set rect.now x) ≡ true) }
+    ensures out { (result ≡ Part.Out) ↔ ((x : ℕ) → covers cell x ≡ true →
+        (has_leaf union.now.cells x && rect_set rect.now x) ≡ false) }
+    ensures inside { (result ≡ Part.In) ↔ ((x : ℕ) → covers cell x ≡ true →
+        (has_leaf union.now.cells x && rect_set rect.now x) ≡ true) }
 {
     match to_rect {
         Part::Out => Part::Out,
@@ -63,13 +65,15 @@ fn part_by(union: &CellUnion, rect: &FaceRect, cell: CellId, to_rect: Part) -> P
     }
 }
 
-/// How a cell that crosses the rectangle lies to the clipped union. It may cross both, and yet share no leaf with what
-/// they share: so the union's cells in it are asked one by one.
+/// How a cell that crosses the rectangle lies relative to the clipped union. It may cross both union and rectangle and
+/// yet share no leaf with what they share, so the union's cells in it are tried one by one.
 fn part_across(union: &CellUnion, rect: &FaceRect, cell: CellId) -> Part
     requires some { ((x : ℕ) → covers cell x ≡ true → rect_set rect.now x ≡ false) → ⊥ }
     requires rest { LiesIn (rect_set rect.now) cell → ⊥ }
-    ensures out { (result ≡ Part.Out) ↔ ((x : ℕ) → covers cell x ≡ true → (has_leaf union.now.cells x && rect_set rect.now x) ≡ false) }
-    ensures inside { (result ≡ Part.In) ↔ ((x : ℕ) → covers cell x ≡ true → (has_leaf union.now.cells x && rect_set rect.now x) ≡ true) }
+    ensures out { (result ≡ Part.Out) ↔ ((x : ℕ) → covers cell x ≡ true →
+        (has_leaf union.now.cells x && rect_set rect.now x) ≡ false) }
+    ensures inside { (result ≡ Part.In) ↔ ((x : ℕ) → covers cell x ≡ true →
+        (has_leaf union.now.cells x && rect_set rect.now x) ≡ true) }
 {
     let _ = cell.id();
     if !union.contains_cell(cell) && lie_outside(union.cells_at(cell), rect) {

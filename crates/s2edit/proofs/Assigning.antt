@@ -1,5 +1,6 @@
 -- What an assignment leaves.
-use Rattle.std.proofs.Common.{◌≡◌, ◌≢◌, ℕ, ◌+◌, ◌<◌, ◌≤◌, List, [], ◌∷◌, length, map, take, slice_get, slice_set, Some, refl, sym, ap, ◌∙◌, subst, arith}
+use Rattle.std.proofs.Common.{◌≡◌, ◌≢◌, ℕ, ◌+◌, ◌<◌, ◌≤◌, List, [], ◌∷◌, length, map, take, slice_get}
+use Rattle.std.proofs.Common.{slice_set, Some, refl, sym, ap, ◌∙◌, subst, arith}
 use Rattle.std.proofs.lemmas.List.{length-take, take-map}
 use Rattle.s2union.specs.Union.{Union, IsLocal}
 use Rattle.s2union.specs.Apply.{cells_without, applied, Fits}
@@ -7,7 +8,8 @@ use Rattle.s2union.proofs.Applied.{applied-between, Fits-between}
 use Rattle.s2edit.specs.History.{History, Assigned, changed, cells_lost, numbers}
 use Rattle.s2edit.specs.Diff.{Diff, inverse, between}
 use Rattle.s2edit.specs.Leads.{list_at}
-use Rattle.s2edit.specs.Chain.{table_after, tables_after, FitsTable, FitAlong, lists_of, IsWithin, AllWithin, history, union_of}
+use Rattle.s2edit.specs.Chain.{table_after, tables_after, FitsTable, FitAlong, lists_of, IsWithin, AllWithin, history}
+use Rattle.s2edit.specs.Chain.{union_of}
 use Rattle.s2edit.proofs.Tables.{tables_after-take, FitAlong-take, AllWithin-at, within_after, tables_back, along_back}
 use Rattle.s2edit.proofs.Numbers.{out_lost, put_won}
 use Rattle.s2edit.proofs.Moves.{Rewrites, table_is}
@@ -17,11 +19,13 @@ pub assigned_same : (h : History (List ℕ)) (r : ℕ) (x : List ℕ) → slice_
 assigned_same h r x e = record { same = λ _. refl; differs = λ n. absurd (n e) }
 
 -- another list changes it
-pub assigned_other : (h h' : History (List ℕ)) (r : ℕ) (x y : List ℕ) → slice_get h.now r ≡ Some y → y ≢ x → h' ≡ changed h r x → Assigned h r x h'
+pub assigned_other : (h h' : History (List ℕ)) (r : ℕ) (x y : List ℕ) → slice_get h.now r ≡ Some y → y ≢ x →
+    h' ≡ changed h r x → Assigned h r x h'
 assigned_other h h' r x y e n c = record { same = λ f. absurd (n (cc)); differs = λ _. c }
 
 -- an assignment's change
-module _ (limit : ℕ) (t : List (List ℕ)) (r : ℕ) (v : List ℕ) (a : AllWithin limit t) (l : r < length t) (w : IsWithin limit v) where
+module _ (limit : ℕ) (t : List (List ℕ)) (r : ℕ) (v : List ℕ) (a : AllWithin limit t) (l : r < length t)
+    (w : IsWithin limit v) where
   old_local : IsLocal (list_at t r)
   old_local = (AllWithin-at limit t r a l).local
 
@@ -42,22 +46,26 @@ module _ (limit : ℕ) (t : List (List ℕ)) (r : ℕ) (v : List ℕ) (a : AllWi
     changes = λ e. n (sym between_leads ∙ e);
   }
 
-  -- where a copy of the new list takes the register's place, the change is made
-  pub taken_over : (us us' : List Union) (copy scratch' : Union) → lists_of us ≡ t → copy.cells ≡ v → us' ≡ slice_set us r copy → slice_get us r ≡ Some scratch' →
+  -- if a copy of the new list takes the register's place, the change is made
+  pub taken_over : (us us' : List Union) (copy scratch' : Union) → lists_of us ≡ t → copy.cells ≡ v →
+      us' ≡ slice_set us r copy → slice_get us r ≡ Some scratch' →
       Rewrites us us' copy scratch' (between r (list_at (lists_of us) r) v)
   taken_over us us' copy scratch' e f g h = record {
     registers = g ∙ ap (λ (x : List ℕ). slice_set us r (union_of x copy.room))
-        (f ∙ sym between_leads ∙ ap (λ (k : List (List ℕ)). applied (cells_without (list_at k r) v) (cells_without v (list_at k r)) (list_at k r)) (sym e));
+        (f ∙ sym between_leads ∙ ap (λ (k : List (List ℕ)).
+        applied (cells_without (list_at k r) v) (cells_without v (list_at k r)) (list_at k r)) (sym e));
     was_there = h;
   }
 
 -- what an assignment leaves
-pub record Changes (depth : ℕ) (us us' : List Union) (scratch scratch' : Union) (past past' future' : List Diff) (r : ℕ) (v : List ℕ) : Type 0 where
+pub record Changes (depth : ℕ) (us us' : List Union) (scratch scratch' : Union) (past past' future' : List Diff)
+    (r : ℕ) (v : List ℕ) : Type 0 where
   pub rewrites : Rewrites us us' scratch scratch' (between r (list_at (lists_of us) r) v)
   pub onto : past' ≡ take depth (between r (list_at (lists_of us) r) v ∷ past)
   pub cleared : future' ≡ []
 
-module _ (limit depth : ℕ) (us us' : List Union) (scratch scratch' : Union) (past past' future' : List Diff) (r : ℕ) (v : List ℕ)
+module _ (limit depth : ℕ) (us us' : List Union) (scratch scratch' : Union) (past past' future' : List Diff)
+    (r : ℕ) (v : List ℕ)
     (a : AllWithin limit (lists_of us)) (f : FitAlong limit (lists_of us) (map inverse past))
     (l : r < length (lists_of us)) (w : IsWithin limit v) (n : v ≢ list_at (lists_of us) r)
     (m : Changes depth us us' scratch scratch' past past' future' r v) where
@@ -73,39 +81,70 @@ module _ (limit depth : ℕ) (us us' : List Union) (scratch scratch' : Union) (p
   fits_it : FitsTable limit (lists_of us) (between r (list_at (lists_of us) r) v)
   fits_it = fits_table limit (lists_of us) r v a l w n
 
-  past_tables : tables_after (lists_of us') (map inverse past') ≡ take depth (lists_of us ∷ tables_after (lists_of us) (map inverse past))
+  past_tables : tables_after (lists_of us') (map inverse past')
+      ≡ take depth (lists_of us ∷ tables_after (lists_of us) (map inverse past))
   past_tables =
       ap (tables_after (lists_of us')) turned
       ∙ tables_after-take depth (lists_of us') (inverse (between r (list_at (lists_of us) r) v) ∷ map inverse past)
-      ∙ ap (λ (t : List (List ℕ)). take depth (tables_after t (inverse (between r (list_at (lists_of us) r) v) ∷ map inverse past))) change_table
-      ∙ ap (take depth) (tables_back limit (lists_of us) (between r (list_at (lists_of us) r) v) a fits_it (map inverse past))
+      ∙ ap (λ (t : List (List ℕ)). take depth
+      (tables_after t (inverse (between r (list_at (lists_of us) r) v) ∷ map inverse past))) change_table
+      ∙ ap (take depth) (tables_back limit (lists_of us) (between r (list_at (lists_of us) r) v) a fits_it
+      (map inverse past))
 
-  pub change_leaves : (future : List Diff) → history limit depth us' past' future' ≡ changed (history limit depth us past future) r v
+  pub change_leaves : (future : List Diff) → history limit depth us' past' future'
+      ≡ changed (history limit depth us past future) r v
   change_leaves future =
       ap (λ (ks : List Diff). history limit depth us' past' ks) m.cleared
-      ∙ ap (λ (ts : List (List (List ℕ))). record { limit = limit; depth = depth; past = ts; now = lists_of us'; future = [] }) past_tables
-      ∙ ap (λ (t : List (List ℕ)). record { limit = limit; depth = depth; past = take depth (lists_of us ∷ tables_after (lists_of us) (map inverse past)); now = t; future = [] })
+      ∙ ap (λ (ts : List (List (List ℕ))). record {
+        limit = limit;
+        depth = depth;
+        past = ts;
+        now = lists_of us';
+        future = [];
+      }) past_tables
+      ∙ ap (λ (t : List (List ℕ)). record {
+        limit = limit;
+        depth = depth;
+        past = take depth (lists_of us ∷ tables_after (lists_of us) (map inverse past));
+        now = t;
+        future = [];
+      })
       (change_table ∙ between_table limit (lists_of us) r v a l w)
 
   pub change_within : AllWithin limit (lists_of us')
-  change_within = subst (AllWithin limit) (sym change_table) (within_after limit (lists_of us) (between r (list_at (lists_of us) r) v) a fits_it)
+  change_within = subst (AllWithin limit) (sym change_table)
+      (within_after limit (lists_of us) (between r (list_at (lists_of us) r) v) a fits_it)
 
   pub change_past : FitAlong limit (lists_of us') (map inverse past')
   change_past =
       subst (FitAlong limit (lists_of us')) (sym turned)
       (FitAlong-take limit depth (lists_of us') (inverse (between r (list_at (lists_of us) r) v) ∷ map inverse past)
-      (subst (λ (t : List (List ℕ)). FitAlong limit t (inverse (between r (list_at (lists_of us) r) v) ∷ map inverse past)) (sym change_table)
+      (subst (λ (t : List (List ℕ)). FitAlong limit t
+      (inverse (between r (list_at (lists_of us) r) v) ∷ map inverse past)) (sym change_table)
       (along_back limit (lists_of us) (between r (list_at (lists_of us) r) v) a fits_it (map inverse past) f)))
 
   pub change_future : FitAlong limit (lists_of us') future'
   change_future = subst (FitAlong limit (lists_of us')) (sym m.cleared) tt
 
   pub change_bound : length past' + length future' ≤ depth
-  change_bound = omega (arith, ap length m.onto, ap length m.cleared, length-take depth (between r (list_at (lists_of us) r) v ∷ past))
+  change_bound = omega (
+    arith,
+    ap length m.onto,
+    ap length m.cleared,
+    length-take depth (between r (list_at (lists_of us) r) v ∷ past),
+  )
 
-  pub change_numbers : (t : List (List ℕ)) (p : ℕ × ℕ) → lists_of us ≡ t → p.0 ≡ length (cells_without (list_at (lists_of us) r) v) → p.1 ≡ length (cells_without v (list_at (lists_of us) r)) → p ≡ numbers t (lists_of us')
+  pub change_numbers : (t : List (List ℕ)) (p : ℕ × ℕ) → lists_of us ≡ t →
+      p.0 ≡ length (cells_without (list_at (lists_of us) r) v) →
+      p.1 ≡ length (cells_without v (list_at (lists_of us) r)) → p ≡ numbers t (lists_of us')
   change_numbers t p h e k =
       let d : Diff = between r (list_at (lists_of us) r) v in
       ap (λ (x : ℕ). (x, p.1)) (e ∙ out_lost limit (lists_of us) (between r (list_at (lists_of us) r) v) a fits_it)
-      ∙ ap (λ (x : ℕ). (cells_lost (lists_of us) (table_after (lists_of us) (between r (list_at (lists_of us) r) v)), x)) (k ∙ put_won limit (lists_of us) (between r (list_at (lists_of us) r) v) a fits_it)
-      ∙ ap (λ (v' : List (List ℕ)). numbers (lists_of us) v') (sym change_table) ∙ ap (λ (v' : List (List ℕ)). numbers v' (lists_of us')) h
+      ∙ ap (λ (x : ℕ). (
+        cells_lost (lists_of us)
+            (table_after (lists_of us) (between r (list_at (lists_of us) r) v)),
+        x,
+      ))
+      (k ∙ put_won limit (lists_of us) (between r (list_at (lists_of us) r) v) a fits_it)
+      ∙ ap (λ (v' : List (List ℕ)). numbers (lists_of us) v') (sym change_table)
+      ∙ ap (λ (v' : List (List ℕ)). numbers v' (lists_of us')) h

@@ -1,5 +1,6 @@
 -- What a history tells is what a session file may hold.
-use Rattle.std.proofs.Common.{◌≡◌, ◌≢◌, ℕ, ◌+◌, ◌<◌, List, [], ◌∷◌, ◌++◌, length, map, reverse, inl, inr, refl, sym, ap, ◌∙◌, subst, arith}
+use Rattle.std.proofs.Common.{◌≡◌, ◌≢◌, ℕ, ◌+◌, ◌<◌, List, [], ◌∷◌, ◌++◌, length, map, reverse, inl, inr}
+use Rattle.std.proofs.Common.{refl, sym, ap, ◌∙◌, subst, arith}
 use Rattle.std.proofs.lemmas.List.{length-set, reverse-append, map-append}
 use Rattle.std.proofs.lemmas.List.Elements.{recursion_from_All, All-from_recursion}
 use Rattle.std.proofs.lemmas.Bool.{cond_both, cases_lt}
@@ -25,11 +26,13 @@ use Rattle.s2edit.proofs.Telling.{told_past, told_future}
 cells_of_without : (us vs : List ℕ) → AllByRecursion IsCell us → AllByRecursion IsCell (cells_without us vs)
 cells_of_without [] vs a = tt
 cells_of_without (u ∷ us) vs a =
-    cond_both (has vs u) (cells_without us vs) (u ∷ cells_without us vs) (AllByRecursion IsCell) (λ _. cells_of_without us vs a.1) (λ _. (a.0, cells_of_without us vs a.1))
+    cond_both (has vs u) (cells_without us vs) (u ∷ cells_without us vs) (AllByRecursion IsCell)
+    (λ _. cells_of_without us vs a.1) (λ _. (a.0, cells_of_without us vs a.1))
 
 change_list : (us vs : List ℕ) → IsWithin SESSION_CELLS us → IsLocal vs → IsChangeList (cells_without us vs)
 change_list us vs w l = record {
-  valid = All-from_recursion IsCell (cells_without us vs) (cells_of_without us vs (recursion_from_All IsCell us w.local.cells));
+  valid = All-from_recursion IsCell (cells_without us vs)
+      (cells_of_without us vs (recursion_from_All IsCell us w.local.cells));
   ascending = (Fits-between us vs w.local l).out_ascends;
   few = omega (arith, fewer_without us vs, w.few);
 }
@@ -39,13 +42,15 @@ empty_list [] h = refl
 empty_list (x ∷ xs) h = absurd (omega arith)
 
 -- lists that lack nothing of one another are one
-some_differ : (us vs : List ℕ) → IsLocal us → IsLocal vs → vs ≢ us → 0 < length (cells_without us vs) + length (cells_without vs us)
+some_differ : (us vs : List ℕ) → IsLocal us → IsLocal vs → vs ≢ us →
+    0 < length (cells_without us vs) + length (cells_without vs us)
 some_differ us vs a b n = elim (cases_lt 0 (length (cells_without us vs) + length (cells_without vs us))) [
   | inl h ↦ h
   | inr h ↦
       let out : cells_without us vs ≡ [] = empty_list (cells_without us vs) (omega arith) in
       let put : cells_without vs us ≡ [] = empty_list (cells_without vs us) (omega arith) in
-      absurd (n (sym (applied-between us vs a b) ∙ ap (λ (x : List ℕ). applied x (cells_without vs us) us) out ∙ ap (λ (x : List ℕ). applied [] x us) put ∙ without_none us))
+      absurd (n (sym (applied-between us vs a b) ∙ ap (λ (x : List ℕ). applied x (cells_without vs us) us) out
+      ∙ ap (λ (x : List ℕ). applied [] x us) put ∙ without_none us))
 ]
   where
     without_none : (us : List ℕ) → cells_without us [] ≡ us
@@ -53,7 +58,8 @@ some_differ us vs a b n = elim (cases_lt 0 (length (cells_without us vs) + lengt
     without_none (u ∷ us) = ap (λ vs. u ∷ vs) (without_none us)
 
 -- a change between two tables is one that a file may hold
-good_change : (d : Moved) (t u : List (List ℕ)) → AllWithin SESSION_CELLS t → AllWithin SESSION_CELLS u → length t ≡ REGISTERS → Leads (diff d) t u → IsMoved d
+good_change : (d : Moved) (t u : List (List ℕ)) → AllWithin SESSION_CELLS t → AllWithin SESSION_CELLS u →
+    length t ≡ REGISTERS → Leads (diff d) t u → IsMoved d
 good_change d t u a b count l =
     let old : List ℕ = list_at t d.register in
     let new : List ℕ = list_at u d.register in
@@ -66,11 +72,13 @@ good_change d t u a b count l =
       register = omega (arith, l.in_range, count);
       out = subst IsChangeList (sym out) (change_list old new w v.local);
       put = subst IsChangeList (sym put) (change_list new old v w.local);
-      apart = λ x h. ap (λ (y : List ℕ). has y x) put ∙ (IsDiff-between old new w.local v.local).apart x (sym (ap (λ (y : List ℕ). has y x) out) ∙ h);
+      apart = λ x h. ap (λ (y : List ℕ). has y x) put
+          ∙ (IsDiff-between old new w.local v.local).apart x (sym (ap (λ (y : List ℕ). has y x) out) ∙ h);
       some = omega (arith, ap length out, ap length put, some_differ old new w.local v.local l.differs);
     }
 
-good_ahead : (t : List (List ℕ)) (ms : List Moved) (ts : List (List (List ℕ))) → AllWithin SESSION_CELLS t → AllTables (IsWithin SESSION_CELLS) ts → length t ≡ REGISTERS
+good_ahead : (t : List (List ℕ)) (ms : List Moved) (ts : List (List (List ℕ))) → AllWithin SESSION_CELLS t →
+    AllTables (IsWithin SESSION_CELLS) ts → length t ≡ REGISTERS
     → LeadAhead ms t ts → AllByRecursion IsMoved ms
 good_ahead t [] [] a b n l = tt
 good_ahead t [] (u ∷ us) a b n l = absurd l
@@ -79,7 +87,8 @@ good_ahead t (m ∷ ms) (u ∷ us) a b n l =
     let len : length u ≡ length t = ap length l.0.only ∙ length-set t m.register (list_at u m.register) in
     (good_change m t u a b.0 n l.0, good_ahead u ms us b.0 b.1 (len ∙ n) l.1)
 
-good_back : (t : List (List ℕ)) (ms : List Moved) (ts : List (List (List ℕ))) → AllWithin SESSION_CELLS t → AllTables (IsWithin SESSION_CELLS) ts → length t ≡ REGISTERS
+good_back : (t : List (List ℕ)) (ms : List Moved) (ts : List (List (List ℕ))) → AllWithin SESSION_CELLS t →
+    AllTables (IsWithin SESSION_CELLS) ts → length t ≡ REGISTERS
     → LeadBack ms t ts → AllByRecursion IsMoved ms
 good_back t [] [] a b n l = tt
 good_back t [] (u ∷ us) a b n l = absurd l
@@ -88,28 +97,33 @@ good_back t (m ∷ ms) (u ∷ us) a b n l =
     let len : length t ≡ length u = ap length l.0.only ∙ length-set u m.register (list_at t m.register) in
     (good_change m u t b.0 a (sym len ∙ n) l.0, good_back u ms us b.0 b.1 (sym len ∙ n) l.1)
 
-all_append : {A : Type 0} (P : A → Type 0) (xs ys : List A) → AllByRecursion P xs → AllByRecursion P ys → AllByRecursion P (xs ++ ys)
+all_append : {A : Type 0} (P : A → Type 0) (xs ys : List A) → AllByRecursion P xs → AllByRecursion P ys →
+    AllByRecursion P (xs ++ ys)
 all_append P [] ys a b = b
 all_append P (x ∷ xs) ys a b = (a.0, all_append P xs ys a.1 b)
 
 pub all_reverse : {A : Type 0} (P : A → Type 0) (xs : List A) → AllByRecursion P xs → AllByRecursion P (reverse xs)
 all_reverse P [] a = tt
-all_reverse P (x ∷ xs) a = subst (AllByRecursion P) (sym (reverse-append (x ∷ []) xs)) (all_append P (reverse xs) (x ∷ []) (all_reverse P xs a.1) (a.0, tt))
+all_reverse P (x ∷ xs) a = subst (AllByRecursion P) (sym (reverse-append (x ∷ []) xs))
+    (all_append P (reverse xs) (x ∷ []) (all_reverse P xs a.1) (a.0, tt))
 
 pub reverse_twice : {A : Type 0} (xs : List A) → reverse (reverse xs) ≡ xs
 reverse_twice [] = refl
-reverse_twice (x ∷ xs) = ap reverse (reverse-append (x ∷ []) xs) ∙ reverse-append (reverse xs) (x ∷ []) ∙ ap (λ ys. x ∷ ys) (reverse_twice xs)
+reverse_twice (x ∷ xs) = ap reverse (reverse-append (x ∷ []) xs) ∙ reverse-append (reverse xs) (x ∷ [])
+    ∙ ap (λ ys. x ∷ ys) (reverse_twice xs)
 
 register_lists : (t : List (List ℕ)) → AllWithin SESSION_CELLS t → AllByRecursion IsRegisterList t
 register_lists [] a = tt
 register_lists (u ∷ t) a = (record { local = a.0.local; few = a.0.few }, register_lists t a.1)
 
--- what a session tells of a history may stand in a file
+-- what a session says about a history may be in a file
 pub told_content : (s : Content) (h : History (List ℕ)) → Tells s h → IsContent s
 told_content s h w = record {
   count = ap length (sym w.now) ∙ w.count;
   registers = register_lists s.registers (subst (AllWithin SESSION_CELLS) w.now w.lists.now);
-  past = subst (AllByRecursion IsMoved) (reverse_twice s.past) (all_reverse IsMoved (reverse s.past) (good_back h.now (reverse s.past) h.past w.lists.now w.lists.past w.count w.past));
+  past = subst (AllByRecursion IsMoved) (reverse_twice s.past)
+      (all_reverse IsMoved (reverse s.past) (good_back h.now (reverse s.past) h.past w.lists.now w.lists.past w.count
+      w.past));
   future = good_ahead h.now s.future h.future w.lists.now w.lists.future w.count w.future;
   few = omega (arith, told_past s h w, told_future s h w, w.few);
 }
@@ -117,7 +131,8 @@ told_content s h w = record {
 pub map-reverse : {A B : Type 0} (f : A → B) (xs : List A) → map f (reverse xs) ≡ reverse (map f xs)
 map-reverse f [] = refl
 map-reverse f (x ∷ xs) =
-    ap (map f) (reverse-append (x ∷ []) xs) ∙ map-append f (reverse xs) (x ∷ []) ∙ ap (λ ys. ys ++ f x ∷ []) (map-reverse f xs)
+    ap (map f) (reverse-append (x ∷ []) xs) ∙ map-append f (reverse xs) (x ∷ [])
+    ∙ ap (λ ys. ys ++ f x ∷ []) (map-reverse f xs)
     ∙ sym (reverse-append (f x ∷ []) (map f xs))
 
 -- the past of a session, turned around

@@ -1,5 +1,7 @@
 -- One step of the walk along two ascending lists.
-use Rattle.std.proofs.Common.{◌≡◌, ℕ, zero, suc, ◌+◌, ◌<◌, ◌≤◌, true, eqb, List, [], ◌∷◌, ◌++◌, length, drop, get_or, sym, ap, ◌∙◌, subst, arith, eq-eqb, append_assoc, add-one, drop-cons, ◌⊎◌, ⊎_elim, take, ◌-◌, length-drop}
+use Rattle.std.proofs.Common.{◌≡◌, ℕ, zero, suc, ◌+◌, ◌<◌, ◌≤◌, true, eqb, List, [], ◌∷◌, ◌++◌, length}
+use Rattle.std.proofs.Common.{drop, get_or, sym, ap, ◌∙◌, subst, arith, eq-eqb, append_assoc, add-one, drop-cons, ◌⊎◌}
+use Rattle.std.proofs.Common.{⊎_elim, take, ◌-◌, length-drop}
 use Rattle.std.proofs.lemmas.Bool.{cond-true, cond-false, or_left}
 use Rattle.std.proofs.lemmas.List.{take_all, drop_all}
 use Rattle.std.specs.List.Sorted.{IsStrictlyIncreasing}
@@ -16,51 +18,71 @@ IsAscending-drop (x ∷ xs) (suc k) a = IsAscending-drop xs k a.1
 pub at_head : (xs : List ℕ) (k : ℕ) → k < length xs → drop k xs ≡ get_or xs k 0 ∷ drop (k + 1) xs
 at_head xs k h = rw (add-one, drop-cons xs k 0)
 
--- the cells behind place k are above the one there
-pub above_rest : (xs : List ℕ) (k : ℕ) → IsStrictlyIncreasing xs → k < length xs → AllAbove (get_or xs k 0) (drop (k + 1) xs)
-above_rest xs k a l = let d : IsAscending (get_or xs k 0 ∷ drop (k + 1) xs) = subst IsAscending (at_head xs k l) (IsAscending-drop xs k (ascends_from xs a)) in d.0
+-- the cells after place k are above the one there
+pub above_rest : (xs : List ℕ) (k : ℕ) → IsStrictlyIncreasing xs → k < length xs →
+    AllAbove (get_or xs k 0) (drop (k + 1) xs)
+above_rest xs k a l = let d : IsAscending (get_or xs k 0 ∷ drop (k + 1) xs) =
+    subst IsAscending (at_head xs k l) (IsAscending-drop xs k (ascends_from xs a)) in d.0
 
 -- and so is what is above one of them
-pub above_all : (xs : List ℕ) (k x : ℕ) → IsStrictlyIncreasing xs → k < length xs → x < get_or xs k 0 → AllAbove x (drop k xs)
+pub above_all : (xs : List ℕ) (k x : ℕ) → IsStrictlyIncreasing xs → k < length xs → x < get_or xs k 0 →
+    AllAbove x (drop k xs)
 above_all xs k x a l h =
-    subst (AllAbove x) (sym (at_head xs k l)) (h, AllAbove-trans x (get_or xs k 0) (drop (k + 1) xs) h (above_rest xs k a l))
+    subst (AllAbove x) (sym (at_head xs k l)) (
+      h,
+      AllAbove-trans x (get_or xs k 0) (drop (k + 1) xs) h
+          (above_rest xs k a l),
+    )
 
 -- one of the others that is below the next cell says nothing of what is left
-pub below_turn : (us os : List ℕ) (i j : ℕ) → IsStrictlyIncreasing us → i < length us → j < length os → get_or os j 0 < get_or us i 0 →
+pub below_turn : (us os : List ℕ) (i j : ℕ) → IsStrictlyIncreasing us → i < length us → j < length os →
+    get_or os j 0 < get_or us i 0 →
     cells_without (drop i us) (drop (j + 1) os) ≡ cells_without (drop i us) (drop j os)
 below_turn us os i j a l m h =
-    sym (ap (cells_without (drop i us)) (at_head os j m) ∙ cells_without-above (get_or os j 0) (drop i us) (drop (j + 1) os) (above_all us i (get_or os j 0) a l h))
+    sym (ap (cells_without (drop i us)) (at_head os j m)
+    ∙ cells_without-above (get_or os j 0) (drop i us) (drop (j + 1) os) (above_all us i (get_or os j 0) a l h))
 
 -- a cell that both have
-pub same_turn : (us os : List ℕ) (i j : ℕ) → IsStrictlyIncreasing us → i < length us → j < length os → get_or os j 0 ≡ get_or us i 0 →
+pub same_turn : (us os : List ℕ) (i j : ℕ) → IsStrictlyIncreasing us → i < length us → j < length os →
+    get_or os j 0 ≡ get_or us i 0 →
     cells_without (drop (i + 1) us) (drop (j + 1) os) ≡ cells_without (drop i us) (drop j os)
 same_turn us os i j a l m e =
-    let t : has (drop j os) (get_or us i 0) ≡ true = ap (λ (xs : List ℕ). has xs (get_or us i 0)) (at_head os j m) ∙ or_left (eqb (get_or os j 0) (get_or us i 0)) (has (drop (j + 1) os) (get_or us i 0)) (eq-eqb (get_or os j 0) (get_or us i 0) e) in
-    let above : AllAbove (get_or os j 0) (drop (i + 1) us) = subst (λ (x : ℕ). AllAbove x (drop (i + 1) us)) (sym e) (above_rest us i a l) in
+    let t : has (drop j os) (get_or us i 0) ≡ true = ap (λ (xs : List ℕ). has xs (get_or us i 0)) (at_head os j m)
+    ∙ or_left (eqb (get_or os j 0) (get_or us i 0)) (has (drop (j + 1) os) (get_or us i 0))
+    (eq-eqb (get_or os j 0) (get_or us i 0) e) in
+    let above : AllAbove (get_or os j 0) (drop (i + 1) us) =
+    subst (λ (x : ℕ). AllAbove x (drop (i + 1) us)) (sym e) (above_rest us i a l) in
     sym (ap (λ (xs : List ℕ). cells_without xs (drop j os)) (at_head us i l)
-    ∙ cond-true (has (drop j os) (get_or us i 0)) (cells_without (drop (i + 1) us) (drop j os)) (get_or us i 0 ∷ cells_without (drop (i + 1) us) (drop j os)) t
+    ∙ cond-true (has (drop j os) (get_or us i 0)) (cells_without (drop (i + 1) us) (drop j os))
+    (get_or us i 0 ∷ cells_without (drop (i + 1) us) (drop j os)) t
     ∙ ap (cells_without (drop (i + 1) us)) (at_head os j m)
     ∙ cells_without-above (get_or os j 0) (drop (i + 1) us) (drop (j + 1) os) above)
 
 -- a cell that the others lack
-pub lacking_cell : (us os : List ℕ) (i j : ℕ) → IsStrictlyIncreasing os → i < length us → j < length os → get_or us i 0 < get_or os j 0 →
+pub lacking_cell : (us os : List ℕ) (i j : ℕ) → IsStrictlyIncreasing os → i < length us → j < length os →
+    get_or us i 0 < get_or os j 0 →
     cells_without (drop i us) (drop j os) ≡ get_or us i 0 ∷ cells_without (drop (i + 1) us) (drop j os)
 lacking_cell us os i j a l m h =
     ap (λ (xs : List ℕ). cells_without xs (drop j os)) (at_head us i l)
-    ∙ cond-false (has (drop j os) (get_or us i 0)) (cells_without (drop (i + 1) us) (drop j os)) (get_or us i 0 ∷ cells_without (drop (i + 1) us) (drop j os))
+    ∙ cond-false (has (drop j os) (get_or us i 0)) (cells_without (drop (i + 1) us) (drop j os))
+    (get_or us i 0 ∷ cells_without (drop (i + 1) us) (drop j os))
     (has-below (get_or us i 0) (drop j os) (above_all os j (get_or us i 0) a m h))
 
 pub push_on : (w rest left whole : List ℕ) (x : ℕ) → w ++ left ≡ whole → left ≡ x ∷ rest → (w ++ x ∷ []) ++ rest ≡ whole
 push_on w rest left whole x e f = append_assoc w (x ∷ []) rest ∙ ap (λ (l : List ℕ). w ++ l) (sym f) ∙ e
 
-pub lacking_turn : (us os found : List ℕ) (i j x : ℕ) → IsStrictlyIncreasing os → i < length us → j < length os → x ≡ get_or us i 0 → get_or us i 0 < get_or os j 0 →
-    found ++ cells_without (drop i us) (drop j os) ≡ cells_without us os → (found ++ x ∷ []) ++ cells_without (drop (i + 1) us) (drop j os) ≡ cells_without us os
+pub lacking_turn : (us os found : List ℕ) (i j x : ℕ) → IsStrictlyIncreasing os → i < length us → j < length os →
+    x ≡ get_or us i 0 → get_or us i 0 < get_or os j 0 →
+    found ++ cells_without (drop i us) (drop j os) ≡ cells_without us os →
+    (found ++ x ∷ []) ++ cells_without (drop (i + 1) us) (drop j os) ≡ cells_without us os
 lacking_turn us os found i j x a l m e h w =
-    push_on found (cells_without (drop (i + 1) us) (drop j os)) (cells_without (drop i us) (drop j os)) (cells_without us os) x w
+    push_on found (cells_without (drop (i + 1) us) (drop j os)) (cells_without (drop i us) (drop j os))
+    (cells_without us os) x w
     (lacking_cell us os i j a l m h ∙ ap (λ y. y ∷ cells_without (drop (i + 1) us) (drop j os)) (sym e))
 
 -- where one list is at its end, all that is left of the other is lacking
-pub rest_lacking : (us os : List ℕ) (i j : ℕ) → (length us ≤ i) ⊎ (length os ≤ j) → cells_without (drop i us) (drop j os) ≡ drop i us
+pub rest_lacking : (us os : List ℕ) (i j : ℕ) → (length us ≤ i) ⊎ (length os ≤ j) →
+    cells_without (drop i us) (drop j os) ≡ drop i us
 rest_lacking us os i j h =
     ⊎_elim
     (λ (p : length us ≤ i). ap (λ (l : List ℕ). cells_without l (drop j os)) (drop_all i us p) ∙ sym (drop_all i us p))
@@ -68,6 +90,8 @@ rest_lacking us os i j h =
     h
 
 pub lacking_rest : (us os found : List ℕ) (i j : ℕ) → (length us ≤ i) ⊎ (length os ≤ j) →
-    found ++ cells_without (drop i us) (drop j os) ≡ cells_without us os → found ++ take (length us - i) (drop i us) ≡ cells_without us os
+    found ++ cells_without (drop i us) (drop j os) ≡ cells_without us os →
+    found ++ take (length us - i) (drop i us) ≡ cells_without us os
 lacking_rest us os found i j h w =
-    ap (λ (l : List ℕ). found ++ l) (take_all (length us - i) (drop i us) (omega (arith, length-drop i us)) ∙ sym (rest_lacking us os i j h)) ∙ w
+    ap (λ (l : List ℕ). found ++ l) (take_all (length us - i) (drop i us) (omega (arith, length-drop i us))
+    ∙ sym (rest_lacking us os i j h)) ∙ w

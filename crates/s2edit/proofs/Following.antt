@@ -1,5 +1,7 @@
 -- Registers that are followed along changes.
-use Rattle.std.proofs.Common.{◌≡◌, ◌≢◌, ℕ, zero, suc, ◌+◌, ◌<◌, ◌≤◌, Bool, true, false, ◌&&◌, List, [], ◌∷◌, ◌++◌, length, map, take, drop, get_or, slice_get, slice_set, add-one, drop-cons, refl, sym, ap, ◌∙◌, subst, arith}
+use Rattle.std.proofs.Common.{◌≡◌, ◌≢◌, ℕ, zero, suc, ◌+◌, ◌<◌, ◌≤◌, Bool, true, false, ◌&&◌, List, []}
+use Rattle.std.proofs.Common.{◌∷◌, ◌++◌, length, map, take, drop, get_or, slice_get, slice_set, add-one, drop-cons}
+use Rattle.std.proofs.Common.{refl, sym, ap, ◌∙◌, subst, arith}
 use Rattle.std.proofs.lemmas.Bool.{false≢true, true≢false}
 use Rattle.std.proofs.lemmas.List.{length-set}
 use Rattle.s2union.specs.Union.{Union, IsLocal}
@@ -22,23 +24,33 @@ use Rattle.std.proofs.lemmas.Option.{slice_get_read, get_or_from_slice_get}
 use Rattle.s2edit.proofs.Tables.{AllWithin-at, within_after}
 
 -- a change that isn't empty changes the list
-pub applied_differs : (out put u : List ℕ) → IsLocal u → Fits out put u → 0 < length out + length put → applied out put u ≢ u
+pub applied_differs : (out put u : List ℕ) → IsLocal u → Fits out put u → 0 < length out + length put →
+    applied out put u ≢ u
 applied_differs out put u local f some e =
     let none : length (cells_without u u) ≡ 0 = omega (arith, cells_lost-self (u ∷ [])) in
-    absurd (omega (arith, some, ap length (only_out out put u u local f e), ap length (only_put out put u u local local f e), none))
+    absurd (omega (
+      arith,
+      some,
+      ap length (only_out out put u u local f e),
+      ap length (only_put out put u u local local f e),
+      none,
+    ))
 
 -- one step, in the table of lists
-module _ (t t' : List (List ℕ)) (i r : ℕ) (out put old new : List ℕ) (count : length t ≡ REGISTERS) (a : AllWithin SESSION_CELLS t)
+module _ (t t' : List (List ℕ)) (i r : ℕ) (out put old new : List ℕ) (count : length t ≡ REGISTERS)
+    (a : AllWithin SESSION_CELLS t)
     (i_is : i ≡ r) (i_in : i < REGISTERS) (old_is : old ≡ get_or t i old) (some : 0 < length out + length put) where
   old_there : list_at t r ≡ old
-  old_there = get_or_from_slice_get t r old [] (ap (slice_get t) (sym i_is) ∙ slice_get_read t (length t) i old refl (omega (arith, count, i_in)) old_is)
+  old_there = get_or_from_slice_get t r old [] (ap (slice_get t) (sym i_is)
+      ∙ slice_get_read t (length t) i old refl (omega (arith, count, i_in)) old_is)
 
   pub step_needs : FitsTable SESSION_CELLS t (record { register = r; out = out; put = put }) → Fits out put old
   step_needs g = subst (Fits out put) old_there g.fits
 
   module _ (f : Fits out put old) (new_is : new ≡ applied out put old) (t'_is : t' ≡ slice_set t i new) where
     stepped : t' ≡ table_after t (record { register = r; out = out; put = put })
-    stepped = t'_is ∙ ap (λ (k : ℕ). slice_set t k new) i_is ∙ ap (slice_set t r) (new_is ∙ ap (applied out put) (sym old_there))
+    stepped = t'_is ∙ ap (λ (k : ℕ). slice_set t k new) i_is
+        ∙ ap (slice_set t r) (new_is ∙ ap (applied out put) (sym old_there))
 
     new_list : length (applied out put (list_at t r)) ≡ length new
     new_list = ap length (ap (applied out put) old_there ∙ sym new_is)
@@ -48,10 +60,13 @@ module _ (t t' : List (List ℕ)) (i r : ℕ) (out put old new : List ℕ) (coun
       in_range = omega (arith, i_is, i_in, count);
       fits = subst (Fits out put) (sym old_there) f;
       few = omega (arith, few, new_list);
-      changes = applied_differs out put (list_at t r) (AllWithin-at SESSION_CELLS t r a (omega (arith, i_is, i_in, count))).local (subst (Fits out put) (sym old_there) f) some;
+      changes = applied_differs out put (list_at t r)
+          (AllWithin-at SESSION_CELLS t r a (omega (arith, i_is, i_in, count))).local
+          (subst (Fits out put) (sym old_there) f) some;
     }
 
-    pub step_few : (limit : ℕ) → length new ≤ SESSION_CELLS → length new ≤ limit → Steps limit t (record { register = r; out = out; put = put }) t' true
+    pub step_few : (limit : ℕ) → length new ≤ SESSION_CELLS → length new ≤ limit →
+        Steps limit t (record { register = r; out = out; put = put }) t' true
     step_few limit most few = record {
       fit = fits_table SESSION_CELLS most;
       few = λ _. fits_table limit few;
@@ -59,7 +74,8 @@ module _ (t t' : List (List ℕ)) (i r : ℕ) (out put old new : List ℕ) (coun
       table = stepped;
     }
 
-    pub step_many : (limit : ℕ) → length new ≤ SESSION_CELLS → limit < length new → Steps limit t (record { register = r; out = out; put = put }) t' false
+    pub step_many : (limit : ℕ) → length new ≤ SESSION_CELLS → limit < length new →
+        Steps limit t (record { register = r; out = out; put = put }) t' false
     step_many limit most many = record {
       fit = fits_table SESSION_CELLS most;
       few = λ h. absurd (false≢true h);
@@ -67,18 +83,21 @@ module _ (t t' : List (List ℕ)) (i r : ℕ) (out put old new : List ℕ) (coun
       table = stepped;
     }
 
-    pub step_long : SESSION_CELLS < length new → FitsTable SESSION_CELLS t (record { register = r; out = out; put = put }) → ⊥
+    pub step_long : SESSION_CELLS < length new →
+        FitsTable SESSION_CELLS t (record { register = r; out = out; put = put }) → ⊥
     step_long long g = absurd (omega (arith, long, g.few, new_list))
 
 -- a walk: the changes that are left can be made from here exactly where all can from the start
-pub record Walks (limit : ℕ) (t : List (List ℕ)) (ds : List Diff) (here : List (List ℕ)) (left : List Diff) (within : Bool) : Type 0 where
+pub record Walks (limit : ℕ) (t : List (List ℕ)) (ds : List Diff) (here : List (List ℕ)) (left : List Diff)
+    (within : Bool) : Type 0 where
   pub fit : FitAlong SESSION_CELLS here left → FitAlong SESSION_CELLS t ds
   pub back : FitAlong SESSION_CELLS t ds → FitAlong SESSION_CELLS here left
   pub few : within ≡ true → FitAlong limit here left → FitAlong limit t ds
   pub many : FitAlong limit t ds → (within ≡ true) × FitAlong limit here left
   pub lists : AllWithin SESSION_CELLS here
 
-pub walk_starts : (limit : ℕ) (t : List (List ℕ)) (ds : List Diff) → AllWithin SESSION_CELLS t → Walks limit t ds t ds true
+pub walk_starts : (limit : ℕ) (t : List (List ℕ)) (ds : List Diff) → AllWithin SESSION_CELLS t →
+    Walks limit t ds t ds true
 walk_starts limit t ds a = record { fit = λ f. f; back = λ f. f; few = λ _ f. f; many = λ f. (refl, f); lists = a }
 
 both_parts : (a b : Bool) → (a && b) ≡ true → (a ≡ true) × (b ≡ true)
@@ -89,21 +108,28 @@ both_true : (a b : Bool) → a ≡ true → b ≡ true → (a && b) ≡ true
 both_true true b e f = f
 both_true false b e f = absurd (false≢true e)
 
-pub walk_steps : (limit : ℕ) (t : List (List ℕ)) (ds : List Diff) (here next : List (List ℕ)) (d : Diff) (left : List Diff) (within few : Bool)
+pub walk_steps : (limit : ℕ) (t : List (List ℕ)) (ds : List Diff) (here next : List (List ℕ)) (d : Diff)
+    (left : List Diff) (within few : Bool)
     → Walks limit t ds here (d ∷ left) within → Steps limit here d next few → Walks limit t ds next left (within && few)
 walk_steps limit t ds here next d left within few w s = record {
   fit = λ f. w.fit (s.fit, subst (λ (u : List (List ℕ)). FitAlong SESSION_CELLS u left) s.table f);
   back = λ f. subst (λ (u : List (List ℕ)). FitAlong SESSION_CELLS u left) (sym s.table) (w.back f).1;
-  few = λ e f. let p = both_parts within few e in w.few p.0 (s.few p.1, subst (λ (u : List (List ℕ)). FitAlong limit u left) s.table f);
-  many = λ f. let m = w.many f in (both_true within few m.0 (s.many m.1.0), subst (λ (u : List (List ℕ)). FitAlong limit u left) (sym s.table) m.1.1);
+  few = λ e f. let p = both_parts within few e in
+      w.few p.0 (s.few p.1, subst (λ (u : List (List ℕ)). FitAlong limit u left) s.table f);
+  many = λ f. let m = w.many f in (
+    both_true within few m.0 (s.many m.1.0),
+    subst (λ (u : List (List ℕ)). FitAlong limit u left) (sym s.table) m.1.1,
+  );
   lists = subst (AllWithin SESSION_CELLS) (sym s.table) (within_after SESSION_CELLS here d w.lists s.fit);
 }
 
-pub walk_fails : (limit : ℕ) (t : List (List ℕ)) (ds : List Diff) (here : List (List ℕ)) (d : Diff) (left : List Diff) (within : Bool)
+pub walk_fails : (limit : ℕ) (t : List (List ℕ)) (ds : List Diff) (here : List (List ℕ)) (d : Diff)
+    (left : List Diff) (within : Bool)
     → Walks limit t ds here (d ∷ left) within → (FitsTable SESSION_CELLS here d → ⊥) → FitAlong SESSION_CELLS t ds → ⊥
 walk_fails limit t ds here d left within w none f = none (w.back f).0
 
-pub walk_ends : (limit : ℕ) (t : List (List ℕ)) (ds : List Diff) (here : List (List ℕ)) (left : List Diff) (within : Bool)
+pub walk_ends : (limit : ℕ) (t : List (List ℕ)) (ds : List Diff) (here : List (List ℕ)) (left : List Diff)
+    (within : Bool)
     → Walks limit t ds here left within → left ≡ [] → Follows limit t ds within
 walk_ends limit t ds here left within w e = record {
   fit = w.fit (subst (FitAlong SESSION_CELLS here) (sym e) tt);
@@ -133,7 +159,8 @@ swapped m g = record {
     not_true false n = refl
 
 -- the next of the values that are left
-pub drop_next : {A : Type 0} (xs : List A) (i : ℕ) (x : A) → i < length xs → x ≡ get_or xs i x → drop i xs ≡ x ∷ drop (i + 1) xs
+pub drop_next : {A : Type 0} (xs : List A) (i : ℕ) (x : A) → i < length xs → x ≡ get_or xs i x →
+    drop i xs ≡ x ∷ drop (i + 1) xs
 drop_next {A} xs i x l e =
     let h : drop i xs ≡ get_or xs i x ∷ drop (i + 1) xs = rw (add-one, drop-cons xs i x) refl in
     h ∙ ap (λ (y : A). y ∷ drop (i + 1) xs) (sym e)
@@ -153,18 +180,21 @@ fails TooMany P Q f n = n
 fails Memory P Q f n = tt
 
 -- as many registers as before
-pub steps_count : (limit : ℕ) (t t' : List (List ℕ)) (d : Diff) (few : Bool) (n : ℕ) → Steps limit t d t' few → length t ≡ n → length t' ≡ n
+pub steps_count : (limit : ℕ) (t t' : List (List ℕ)) (d : Diff) (few : Bool) (n : ℕ) → Steps limit t d t' few →
+    length t ≡ n → length t' ≡ n
 steps_count limit t t' d few n s e = ap length s.table ∙ length-set t d.register (list_after t d) ∙ e
 
 -- room for lists that keep to the limit
-pub have_room : (limit : ℕ) (t : List (List ℕ)) (us : List Union) → length t ≡ length us → AllLists (λ u. length u ≤ limit) t → AllRoomy limit us → HaveRoom t us
+pub have_room : (limit : ℕ) (t : List (List ℕ)) (us : List Union) → length t ≡ length us →
+    AllLists (λ u. length u ≤ limit) t → AllRoomy limit us → HaveRoom t us
 have_room limit [] [] l a r = tt
 have_room limit [] (u ∷ us) l a r = absurd (omega arith)
 have_room limit (t ∷ ts) [] l a r = absurd (omega arith)
 have_room limit (t ∷ ts) (u ∷ us) l a r = (omega (arith, a.0, r.0), have_room limit ts us (omega arith) a.1 r.1)
 
 -- a copy of a list that takes its place
-pub room_at : (t : List (List ℕ)) (us : List Union) (i : ℕ) (u : Union) → HaveRoom t us → i < length us → u ≡ get_or us i u → length (list_at t i) ≤ u.room
+pub room_at : (t : List (List ℕ)) (us : List Union) (i : ℕ) (u : Union) → HaveRoom t us → i < length us →
+    u ≡ get_or us i u → length (list_at t i) ≤ u.room
 room_at [] [] i u h l e = absurd (omega arith)
 room_at [] (v ∷ us) i u h l e = absurd h
 room_at (w ∷ t) [] i u h l e = absurd h
@@ -187,22 +217,27 @@ pub keep_self : (us : List Union) → KeepRoom us us
 keep_self [] = tt
 keep_self (u ∷ us) = (omega arith, keep_self us)
 
-pub keep_set : (us vs : List Union) (i : ℕ) (u v : Union) → KeepRoom us vs → u ≡ get_or vs i u → u.room ≤ v.room → KeepRoom us (slice_set vs i v)
+pub keep_set : (us vs : List Union) (i : ℕ) (u v : Union) → KeepRoom us vs → u ≡ get_or vs i u → u.room ≤ v.room →
+    KeepRoom us (slice_set vs i v)
 keep_set [] [] i u v k e l = tt
 keep_set [] (w ∷ vs) i u v k e l = absurd k
 keep_set (x ∷ us) [] i u v k e l = absurd k
-keep_set (x ∷ us) (w ∷ vs) zero u v k e l = let same : u.room ≡ w.room = ap (λ (y : Union). y.room) e in (omega (arith, k.0, l, same), k.1)
+keep_set (x ∷ us) (w ∷ vs) zero u v k e l = let same : u.room ≡ w.room = ap (λ (y : Union). y.room) e in
+    (omega (arith, k.0, l, same), k.1)
 keep_set (x ∷ us) (w ∷ vs) (suc i) u v k e l = (k.0, keep_set us vs i u v k.1 e l)
 
-pub have_set : (t : List (List ℕ)) (vs : List Union) (i : ℕ) (u v : Union) → HaveRoom t vs → u ≡ get_or vs i u → u.room ≤ v.room → HaveRoom t (slice_set vs i v)
+pub have_set : (t : List (List ℕ)) (vs : List Union) (i : ℕ) (u v : Union) → HaveRoom t vs → u ≡ get_or vs i u →
+    u.room ≤ v.room → HaveRoom t (slice_set vs i v)
 have_set [] [] i u v k e l = tt
 have_set [] (w ∷ vs) i u v k e l = absurd k
 have_set (x ∷ t) [] i u v k e l = absurd k
-have_set (x ∷ t) (w ∷ vs) zero u v k e l = let same : u.room ≡ w.room = ap (λ (y : Union). y.room) e in (omega (arith, k.0, l, same), k.1)
+have_set (x ∷ t) (w ∷ vs) zero u v k e l = let same : u.room ≡ w.room = ap (λ (y : Union). y.room) e in
+    (omega (arith, k.0, l, same), k.1)
 have_set (x ∷ t) (w ∷ vs) (suc i) u v k e l = (k.0, have_set t vs i u v k.1 e l)
 
 -- one more list that is copied
-pub copied_more : (t s : List (List ℕ)) (i : ℕ) → length s ≡ length t → i < length t → slice_set (take i t ++ drop i s) i (list_at t i) ≡ take (i + 1) t ++ drop (i + 1) s
+pub copied_more : (t s : List (List ℕ)) (i : ℕ) → length s ≡ length t → i < length t →
+    slice_set (take i t ++ drop i s) i (list_at t i) ≡ take (i + 1) t ++ drop (i + 1) s
 copied_more [] s i n l = absurd (omega arith)
 copied_more (x ∷ t) [] i n l = absurd (omega arith)
 copied_more (x ∷ t) (y ∷ s) zero n l = refl
@@ -212,20 +247,27 @@ copied_more (x ∷ t) (y ∷ s) (suc i) n l =
     ∙ sym (ap (λ (k : ℕ). take k (x ∷ t) ++ drop k (y ∷ s)) one)
 
 -- a walk along moves, seen as changes one by one
-module _ (whole : List Move → List Diff) (one : Move → Diff) (cons : (m : Move) (ms : List Move) → whole (m ∷ ms) ≡ one m ∷ whole ms)
-    (limit : ℕ) (t : List (List ℕ)) (moves : List Move) (here : List (List ℕ)) (i : ℕ) (m : Move) (d : Diff) (within : Bool)
-    (l : i < length moves) (is : m ≡ get_or moves i m) (same : d ≡ one m) (w : Walks limit t (whole moves) here (whole (drop i moves)) within) where
+module _ (whole : List Move → List Diff) (one : Move → Diff) (cons : (m : Move) (ms : List Move) →
+    whole (m ∷ ms) ≡ one m ∷ whole ms)
+    (limit : ℕ) (t : List (List ℕ)) (moves : List Move) (here : List (List ℕ)) (i : ℕ) (m : Move) (d : Diff)
+    (within : Bool)
+    (l : i < length moves) (is : m ≡ get_or moves i m) (same : d ≡ one m)
+    (w : Walks limit t (whole moves) here (whole (drop i moves)) within) where
   pub walk_left : Walks limit t (whole moves) here (d ∷ whole (drop (i + 1) moves)) within
   walk_left =
       subst (λ (ds : List Diff). Walks limit t (whole moves) here ds within)
-      (ap whole (drop_next moves i m l is) ∙ cons m (drop (i + 1) moves) ∙ ap (λ (x : Diff). x ∷ whole (drop (i + 1) moves)) (sym same)) w
+      (ap whole (drop_next moves i m l is) ∙ cons m (drop (i + 1) moves)
+      ∙ ap (λ (x : Diff). x ∷ whole (drop (i + 1) moves)) (sym same)) w
 
-  pub walk_on : (next : List (List ℕ)) (few : Bool) → Steps limit here d next few → Walks limit t (whole moves) next (whole (drop (i + 1) moves)) (within && few)
+  pub walk_on : (next : List (List ℕ)) (few : Bool) → Steps limit here d next few →
+      Walks limit t (whole moves) next (whole (drop (i + 1) moves)) (within && few)
   walk_on next few s = walk_steps limit t (whole moves) here next d (whole (drop (i + 1) moves)) within few walk_left s
 
   pub walk_needs : FitAlong SESSION_CELLS t (whole moves) → FitsTable SESSION_CELLS here d
   walk_needs g = (walk_left.back g).0
 
-pub each_next : (moves : List Move) (i : ℕ) (m : Move) → i < length moves → m ≡ get_or moves i m → AllByRecursion IsMoved (map moved_of (drop i moves))
+pub each_next : (moves : List Move) (i : ℕ) (m : Move) → i < length moves → m ≡ get_or moves i m →
+    AllByRecursion IsMoved (map moved_of (drop i moves))
     → IsMoved (moved_of m) × AllByRecursion IsMoved (map moved_of (drop (i + 1) moves))
-each_next moves i m l is a = subst (λ (ms : List Move). AllByRecursion IsMoved (map moved_of ms)) (drop_next moves i m l is) a
+each_next moves i m l is a = subst (λ (ms : List Move). AllByRecursion IsMoved (map moved_of ms))
+    (drop_next moves i m l is) a

@@ -1,10 +1,13 @@
 -- Two changes of a list in turn are one change: what it takes out and puts in, and that it fits as they do.
-use Rattle.std.proofs.Common.{◌≡◌, ℕ, ◌+◌, Bool, true, false, not, ◌||◌, ◌&&◌, List, [], length, refl, sym, ap, ◌∙◌, subst, arith}
+use Rattle.std.proofs.Common.{◌≡◌, ℕ, ◌+◌, Bool, true, false, not, ◌||◌, ◌&&◌, List, [], length, refl, sym, ap}
+use Rattle.std.proofs.Common.{◌∙◌, subst, arith}
 use Rattle.std.proofs.lemmas.Grind.{common_steps}
 use Rattle.std.specs.List.Sorted.{IsStrictlyIncreasing}
 use Rattle.s2union.specs.Union.{IsLocal}
 use Rattle.s2union.specs.Apply.{has, cells_without, insert_cells, applied, Fits}
-use Rattle.s2union.proofs.CellLists.{IsAscending, same_cells, has-cells_without, has-insert_cells, has-applied, IsAscending-cells_without, IsAscending-insert_cells, IsAscending-applied, ascends_from, increasing_from}
+use Rattle.s2union.proofs.CellLists.{IsAscending, same_cells, has-cells_without, has-insert_cells, has-applied}
+use Rattle.s2union.proofs.CellLists.{IsAscending-cells_without, IsAscending-insert_cells, IsAscending-applied}
+use Rattle.s2union.proofs.CellLists.{ascends_from, increasing_from}
 use Rattle.s2union.proofs.Applied.{local_ascends}
 use Rattle.s2edit.specs.Diff.{IsDiff}
 use Rattle.s2edit.specs.Followed.{both_out, CanFollowOn}
@@ -13,7 +16,8 @@ use Rattle.s2edit.proofs.Sizes.{length-insert_cells}
 
 -- a change of nothing
 pub nothing_applied : (out put us : List ℕ) → out ≡ [] → put ≡ [] → applied out put us ≡ us
-nothing_applied out put us e f = ap (λ (l : List ℕ). applied l put us) e ∙ ap (λ (l : List ℕ). applied [] l us) f ∙ cells_without-nothing us
+nothing_applied out put us e f = ap (λ (l : List ℕ). applied l put us) e ∙ ap (λ (l : List ℕ). applied [] l us) f
+    ∙ cells_without-nothing us
 
 pub nothing_fits : (out put us : List ℕ) → out ≡ [] → put ≡ [] → IsLocal us → Fits out put us
 nothing_fits out put us e f a =
@@ -25,7 +29,8 @@ nothing_fits out put us e f a =
       local = subst IsLocal (sym (cells_without-nothing us)) a;
     }))
 
-pub same_applied : (out put us out' put' us' : List ℕ) → out ≡ out' → put ≡ put' → us ≡ us' → applied out put us ≡ applied out' put' us'
+pub same_applied : (out put us out' put' us' : List ℕ) → out ≡ out' → put ≡ put' → us ≡ us' →
+    applied out put us ≡ applied out' put' us'
 same_applied out put us out' put' us' e f g =
     ap (λ (l : List ℕ). applied l put us) e ∙ ap (λ (l : List ℕ). applied out' l us) f ∙ ap (applied out' put') g
 
@@ -34,10 +39,12 @@ module _ (out put us : List ℕ) (local : IsLocal us) (f : Fits out put us) wher
   put_back : insert_cells out (cells_without us out) ≡ us
   put_back =
       same_cells (insert_cells out (cells_without us out)) us
-      (IsAscending-insert_cells out (cells_without us out) (ascends_from out f.out_ascends) (λ x h. grind (arith, common_steps, has-cells_without us out x))
+      (IsAscending-insert_cells out (cells_without us out) (ascends_from out f.out_ascends)
+      (λ x h. grind (arith, common_steps, has-cells_without us out x))
       (IsAscending-cells_without us out (local_ascends us local)))
       (local_ascends us local)
-      (λ x. has-insert_cells out (cells_without us out) x ∙ grind (arith, common_steps, has-cells_without us out x, f.out_is_there x))
+      (λ x. has-insert_cells out (cells_without us out) x
+      ∙ grind (arith, common_steps, has-cells_without us out x, f.out_is_there x))
 
   pub length_without : length us ≡ length out + length (cells_without us out)
   length_without = sym (ap length put_back) ∙ length-insert_cells out (cells_without us out)
@@ -47,7 +54,8 @@ module _ (out put us : List ℕ) (local : IsLocal us) (f : Fits out put us) wher
 
 -- the booleans behind two changes in turn: the cell is one of out, put, the list, more_out, more_put
 same_after : (o p u n q : Bool) → (o ≡ true → u ≡ true) → (p ≡ true → u ≡ false) → (n ≡ true → q ≡ false)
-    → (((q && not o) || (p && not n)) || (u && not ((n && not p) || (o && not q)))) ≡ (q || ((p || (u && not o)) && not n))
+    → (((q && not o) || (p && not n)) || (u && not ((n && not p) || (o && not q))))
+    ≡ (q || ((p || (u && not o)) && not n))
 same_after o p u n q f g h = grind (arith, common_steps)
 
 module _ (o p u n q : List ℕ) (local : IsLocal u) (f : Fits o p u) (d : IsDiff n q) where
@@ -74,27 +82,68 @@ module _ (o p u n q : List ℕ) (local : IsLocal u) (f : Fits o p u) (d : IsDiff
 
   same_list : IsAscending (applied (both_out o p n q) (both_out p o q n) u) → IsAscending (applied n q (applied o p u))
       → applied (both_out o p n q) (both_out p o q n) u ≡ applied n q (applied o p u)
-  same_list a b = same_cells (applied (both_out o p n q) (both_out p o q n) u) (applied n q (applied o p u)) a b same_has
+  same_list a b = same_cells (applied (both_out o p n q) (both_out p o q n) u) (applied n q (applied o p u)) a b
+      same_has
 
   -- no cell is taken out twice, nor put in twice
   pub follow_on : Fits n q (applied o p u) → CanFollowOn o p n q
   follow_on g = record {
-    outs = λ x h. grind (arith, common_steps, has-cells_without o q x, has-cells_without n p x, has-applied o p u x, g.out_is_there x);
-    puts = λ x h. grind (arith, common_steps, has-cells_without p n x, has-cells_without q o x, has-applied o p u x, g.put_is_new x);
+    outs = λ x h. grind (
+      arith,
+      common_steps,
+      has-cells_without o q x,
+      has-cells_without n p x,
+      has-applied o p u x,
+      g.out_is_there x,
+    );
+    puts = λ x h. grind (
+      arith,
+      common_steps,
+      has-cells_without p n x,
+      has-cells_without q o x,
+      has-applied o p u x,
+      g.put_is_new x,
+    );
   }
 
-  out_there : CanFollowOn o p n q → Fits (both_out o p n q) (both_out p o q n) u → (x : ℕ) → has n x ≡ true → has (applied o p u) x ≡ true
+  out_there : CanFollowOn o p n q → Fits (both_out o p n q) (both_out p o q n) u → (x : ℕ) → has n x ≡ true →
+      has (applied o p u) x ≡ true
   out_there c g x h =
-      grind (arith, common_steps, has-applied o p u x, has-outs x, g.out_is_there x, d.apart x, c.outs x, has-cells_without o q x, has-cells_without n p x)
+      grind (
+        arith,
+        common_steps,
+        has-applied o p u x,
+        has-outs x,
+        g.out_is_there x,
+        d.apart x,
+        c.outs x,
+        has-cells_without o q x,
+        has-cells_without n p x,
+      )
 
-  put_new : CanFollowOn o p n q → Fits (both_out o p n q) (both_out p o q n) u → (x : ℕ) → has q x ≡ true → has (applied o p u) x ≡ false
+  put_new : CanFollowOn o p n q → Fits (both_out o p n q) (both_out p o q n) u → (x : ℕ) → has q x ≡ true →
+      has (applied o p u) x ≡ false
   put_new c g x h =
-      grind (arith, common_steps, has-applied o p u x, has-puts x, g.put_is_new x, d.apart x, f.put_is_new x, f.out_is_there x, c.puts x, has-cells_without p n x, has-cells_without q o x)
+      grind (
+        arith,
+        common_steps,
+        has-applied o p u x,
+        has-puts x,
+        g.put_is_new x,
+        d.apart x,
+        f.put_is_new x,
+        f.out_is_there x,
+        c.puts x,
+        has-cells_without p n x,
+        has-cells_without q o x,
+      )
 
-  pub in_turn : CanFollowOn o p n q → Fits (both_out o p n q) (both_out p o q n) u → applied (both_out o p n q) (both_out p o q n) u ≡ applied n q (applied o p u)
+  pub in_turn : CanFollowOn o p n q → Fits (both_out o p n q) (both_out p o q n) u →
+      applied (both_out o p n q) (both_out p o q n) u ≡ applied n q (applied o p u)
   in_turn c g =
       same_list (local_ascends (applied (both_out o p n q) (both_out p o q n) u) g.local)
-      (IsAscending-applied n q (applied o p u) (ascends_from q d.put_ascends) (local_ascends (applied o p u) f.local) (put_new c g))
+      (IsAscending-applied n q (applied o p u) (ascends_from q d.put_ascends)
+      (local_ascends (applied o p u) f.local) (put_new c g))
 
   -- the second change fits if both as one do
   pub fits_second : CanFollowOn o p n q → Fits (both_out o p n q) (both_out p o q n) u → Fits n q (applied o p u)
@@ -112,23 +161,33 @@ module _ (o p u n q : List ℕ) (local : IsLocal u) (f : Fits o p u) (d : IsDiff
   -- and only if
   pub outs_ascend : CanFollowOn o p n q → IsAscending (both_out o p n q)
   outs_ascend c =
-      IsAscending-insert_cells (cells_without n p) (cells_without o q) (IsAscending-cells_without n p (ascends_from n d.out_ascends))
+      IsAscending-insert_cells (cells_without n p) (cells_without o q)
+      (IsAscending-cells_without n p (ascends_from n d.out_ascends))
       (λ x h. grind (arith, common_steps, c.outs x)) (IsAscending-cells_without o q (ascends_from o f.out_ascends))
 
   pub puts_ascend : CanFollowOn o p n q → IsAscending (both_out p o q n)
   puts_ascend c =
-      IsAscending-insert_cells (cells_without q o) (cells_without p n) (IsAscending-cells_without q o (ascends_from q d.put_ascends))
+      IsAscending-insert_cells (cells_without q o) (cells_without p n)
+      (IsAscending-cells_without q o (ascends_from q d.put_ascends))
       (λ x h. grind (arith, common_steps, c.puts x)) (IsAscending-cells_without p n (ascends_from p f.put_ascends))
 
   pub fits_as_one : Fits n q (applied o p u) → Fits (both_out o p n q) (both_out p o q n) u
   fits_as_one g =
       let c = follow_on g in
-      let same = same_list (IsAscending-applied (both_out o p n q) (both_out p o q n) u (puts_ascend c) (local_ascends u local) (puts_new g))
+      let same = same_list (IsAscending-applied (both_out o p n q) (both_out p o q n) u (puts_ascend c)
+      (local_ascends u local) (puts_new g))
       (local_ascends (applied n q (applied o p u)) g.local) in
       record {
         out_ascends = increasing_from (both_out o p n q) (outs_ascend c);
         put_ascends = increasing_from (both_out p o q n) (puts_ascend c);
-        out_is_there = λ x h. grind (arith, common_steps, has-outs x, has-applied o p u x, g.out_is_there x, f.out_is_there x);
+        out_is_there = λ x h. grind (
+          arith,
+          common_steps,
+          has-outs x,
+          has-applied o p u x,
+          g.out_is_there x,
+          f.out_is_there x,
+        );
         put_is_new = puts_new g;
         local = subst IsLocal (sym same) g.local;
       }
@@ -136,16 +195,20 @@ module _ (o p u n q : List ℕ) (local : IsLocal u) (f : Fits o p u) (d : IsDiff
 -- cells of an ascending list
 pub without_ascends : (us vs ws : List ℕ) → ws ≡ cells_without us vs → IsStrictlyIncreasing us → IsStrictlyIncreasing ws
 without_ascends us vs ws e a =
-    subst IsStrictlyIncreasing (sym e) (increasing_from (cells_without us vs) (IsAscending-cells_without us vs (ascends_from us a)))
+    subst IsStrictlyIncreasing (sym e) (increasing_from (cells_without us vs)
+    (IsAscending-cells_without us vs (ascends_from us a)))
 
 -- the same of lists as the code has them: what leads to l from u, and then the change of n and q
-module _ (o p u n q o' p' l : List ℕ) (local : IsLocal u) (f : Fits o p u) (d : IsDiff n q) (o_is : o' ≡ o) (p_is : p' ≡ p) (l_is : applied o p u ≡ l) where
+module _ (o p u n q o' p' l : List ℕ) (local : IsLocal u) (f : Fits o p u) (d : IsDiff n q) (o_is : o' ≡ o)
+    (p_is : p' ≡ p) (l_is : applied o p u ≡ l) where
   pub second_needs : Fits n q l → CanFollowOn o' p' n q
   second_needs g =
       subst (λ (x : List ℕ). CanFollowOn x p' n q) (sym o_is)
-      (subst (λ (x : List ℕ). CanFollowOn o x n q) (sym p_is) (follow_on o p u n q local f d (subst (Fits n q) (sym l_is) g)))
+      (subst (λ (x : List ℕ). CanFollowOn o x n q) (sym p_is)
+      (follow_on o p u n q local f d (subst (Fits n q) (sym l_is) g)))
 
-  module _ (can' : CanFollowOn o' p' n q) (outs puts : List ℕ) (outs_are : outs ≡ both_out o' p' n q) (puts_are : puts ≡ both_out p' o' q n) where
+  module _ (can' : CanFollowOn o' p' n q) (outs puts : List ℕ) (outs_are : outs ≡ both_out o' p' n q)
+      (puts_are : puts ≡ both_out p' o' q n) where
     can : CanFollowOn o p n q
     can = subst (λ (x : List ℕ). CanFollowOn o x n q) p_is (subst (λ (x : List ℕ). CanFollowOn x p' n q) o_is can')
 
@@ -156,17 +219,20 @@ module _ (o p u n q o' p' l : List ℕ) (local : IsLocal u) (f : Fits o p u) (d 
     puts_same = puts_are ∙ ap (λ (x : List ℕ). both_out x o' q n) p_is ∙ ap (λ (x : List ℕ). both_out p x q n) o_is
 
     pub outs_increase : (xs : List ℕ) → xs ≡ outs → IsStrictlyIncreasing xs
-    outs_increase xs e = subst IsStrictlyIncreasing (sym (e ∙ outs_same)) (increasing_from (both_out o p n q) (outs_ascend o p u n q local f d can))
+    outs_increase xs e = subst IsStrictlyIncreasing (sym (e ∙ outs_same))
+        (increasing_from (both_out o p n q) (outs_ascend o p u n q local f d can))
 
     pub puts_increase : (xs : List ℕ) → xs ≡ puts → IsStrictlyIncreasing xs
-    puts_increase xs e = subst IsStrictlyIncreasing (sym (e ∙ puts_same)) (increasing_from (both_out p o q n) (puts_ascend o p u n q local f d can))
+    puts_increase xs e = subst IsStrictlyIncreasing (sym (e ∙ puts_same))
+        (increasing_from (both_out p o q n) (puts_ascend o p u n q local f d can))
 
     module _ (xs ys us : List ℕ) (xs_are : xs ≡ outs) (ys_are : ys ≡ puts) (us_are : us ≡ u) where
       pub one_needs : Fits n q l → Fits xs ys us
       one_needs g =
           subst (λ (w : List ℕ). Fits w ys us) (sym (xs_are ∙ outs_same))
           (subst (λ (w : List ℕ). Fits (both_out o p n q) w us) (sym (ys_are ∙ puts_same))
-          (subst (Fits (both_out o p n q) (both_out p o q n)) (sym us_are) (fits_as_one o p u n q local f d (subst (Fits n q) (sym l_is) g))))
+          (subst (Fits (both_out o p n q) (both_out p o q n)) (sym us_are)
+          (fits_as_one o p u n q local f d (subst (Fits n q) (sym l_is) g))))
 
       as_one : Fits xs ys us → Fits (both_out o p n q) (both_out p o q n) u
       as_one g =

@@ -1,5 +1,7 @@
 -- Two ascending lists of cells that are joined to one, and two changes in turn as one.
-use Rattle.std.proofs.Common.{◌≡◌, ℕ, ◌+◌, ◌-◌, ◌<◌, ◌≤◌, true, eqb, ltb, List, [], ◌∷◌, ◌++◌, length, take, drop, get_or, refl, sym, ap, ◌∙◌, subst, arith, eq-eqb, lt-ltb, le-ltb, append_assoc, length-drop, ◌⊎◌, ⊎_elim}
+use Rattle.std.proofs.Common.{◌≡◌, ℕ, ◌+◌, ◌-◌, ◌<◌, ◌≤◌, true, eqb, ltb, List, [], ◌∷◌, ◌++◌}
+use Rattle.std.proofs.Common.{length, take, drop, get_or, refl, sym, ap, ◌∙◌, subst, arith, eq-eqb, lt-ltb, le-ltb}
+use Rattle.std.proofs.Common.{append_assoc, length-drop, ◌⊎◌, ⊎_elim}
 use Rattle.std.proofs.lemmas.Bool.{cond-true, cond-false, true≢false, false≢true, or_left}
 use Rattle.std.proofs.lemmas.Grind.{common_steps}
 use Rattle.std.proofs.lemmas.List.{take_all, drop_all, append-nil}
@@ -52,44 +54,55 @@ second_back v us vs g x h = grind (arith, common_steps, g x h)
 module _ (us vs list us' vs' : List ℕ) (w : Joins us vs list us' vs') where
   joins_first : (u : ℕ) (rest : List ℕ) → us' ≡ u ∷ rest → AllAbove u vs' → Joins us vs (list ++ u ∷ []) rest vs'
   joins_first u rest e a = record {
-    whole = push_on list (joined rest vs') (joined us' vs') (joined us vs) u w.whole (ap (λ (l : List ℕ). joined l vs') e ∙ insert_cells-above u vs' rest a);
+    whole = push_on list (joined rest vs') (joined us' vs') (joined us vs) u w.whole
+        (ap (λ (l : List ℕ). joined l vs') e ∙ insert_cells-above u vs' rest a);
     apart = λ g. w.apart (subst (λ (l : List ℕ). AreApart l vs') (sym e) (first_apart u rest vs' a g));
     back = λ g. first_back u rest vs' (subst (λ (l : List ℕ). AreApart l vs') e (w.back g));
   }
 
-  joins_second : (v : ℕ) (rest : List ℕ) → vs' ≡ v ∷ rest → AllAbove v us' → AllAbove v rest → Joins us vs (list ++ v ∷ []) us' rest
+  joins_second : (v : ℕ) (rest : List ℕ) → vs' ≡ v ∷ rest → AllAbove v us' → AllAbove v rest →
+      Joins us vs (list ++ v ∷ []) us' rest
   joins_second v rest e a b = record {
-    whole = push_on list (joined us' rest) (joined us' vs') (joined us vs) v w.whole (ap (joined us') e ∙ joined-second v us' rest a b);
+    whole = push_on list (joined us' rest) (joined us' vs') (joined us vs) v w.whole (ap (joined us') e
+        ∙ joined-second v us' rest a b);
     apart = λ g. w.apart (subst (AreApart us') (sym e) (second_apart v us' rest a g));
     back = λ g. second_back v us' rest (subst (AreApart us') e (w.back g));
   }
 
 -- one turn of the walk along both
-module _ (us vs list : List ℕ) (i j : ℕ) (up : IsStrictlyIncreasing us) (vp : IsStrictlyIncreasing vs) (l : i < length us) (m : j < length vs)
+module _ (us vs list : List ℕ) (i j : ℕ) (up : IsStrictlyIncreasing us) (vp : IsStrictlyIncreasing vs)
+    (l : i < length us) (m : j < length vs)
     (w : Joins us vs list (drop i us) (drop j vs)) where
-  pub first_turn : (x : ℕ) → x ≡ get_or us i 0 → get_or us i 0 < get_or vs j 0 → Joins us vs (list ++ x ∷ []) (drop (i + 1) us) (drop j vs)
+  pub first_turn : (x : ℕ) → x ≡ get_or us i 0 → get_or us i 0 < get_or vs j 0 →
+      Joins us vs (list ++ x ∷ []) (drop (i + 1) us) (drop j vs)
   first_turn x e h =
       subst (λ (y : ℕ). Joins us vs (list ++ y ∷ []) (drop (i + 1) us) (drop j vs)) (sym e)
-      (joins_first us vs list (drop i us) (drop j vs) w (get_or us i 0) (drop (i + 1) us) (at_head us i l) (above_all vs j (get_or us i 0) vp m h))
+      (joins_first us vs list (drop i us) (drop j vs) w (get_or us i 0) (drop (i + 1) us) (at_head us i l)
+      (above_all vs j (get_or us i 0) vp m h))
 
-  pub second_turn : (x : ℕ) → x ≡ get_or vs j 0 → get_or vs j 0 < get_or us i 0 → Joins us vs (list ++ x ∷ []) (drop i us) (drop (j + 1) vs)
+  pub second_turn : (x : ℕ) → x ≡ get_or vs j 0 → get_or vs j 0 < get_or us i 0 →
+      Joins us vs (list ++ x ∷ []) (drop i us) (drop (j + 1) vs)
   second_turn x e h =
       subst (λ (y : ℕ). Joins us vs (list ++ y ∷ []) (drop i us) (drop (j + 1) vs)) (sym e)
-      (joins_second us vs list (drop i us) (drop j vs) w (get_or vs j 0) (drop (j + 1) vs) (at_head vs j m) (above_all us i (get_or vs j 0) up l h) (above_rest vs j vp m))
+      (joins_second us vs list (drop i us) (drop j vs) w (get_or vs j 0) (drop (j + 1) vs) (at_head vs j m)
+      (above_all us i (get_or vs j 0) up l h) (above_rest vs j vp m))
 
   pub one_in_both : get_or us i 0 ≡ get_or vs j 0 → AreApart us vs → ⊥
   one_in_both e g =
       let a : has (drop i us) (get_or us i 0) ≡ true = ap (λ (xs : List ℕ). has xs (get_or us i 0)) (at_head us i l)
-      ∙ or_left (eqb (get_or us i 0) (get_or us i 0)) (has (drop (i + 1) us) (get_or us i 0)) (eq-eqb (get_or us i 0) (get_or us i 0) refl) in
+      ∙ or_left (eqb (get_or us i 0) (get_or us i 0)) (has (drop (i + 1) us) (get_or us i 0))
+      (eq-eqb (get_or us i 0) (get_or us i 0) refl) in
       let b : has (drop j vs) (get_or us i 0) ≡ true = ap (λ (xs : List ℕ). has xs (get_or us i 0)) (at_head vs j m)
-      ∙ or_left (eqb (get_or vs j 0) (get_or us i 0)) (has (drop (j + 1) vs) (get_or us i 0)) (eq-eqb (get_or vs j 0) (get_or us i 0) (sym e)) in
+      ∙ or_left (eqb (get_or vs j 0) (get_or us i 0)) (has (drop (j + 1) vs) (get_or us i 0))
+      (eq-eqb (get_or vs j 0) (get_or us i 0) (sym e)) in
       true≢false (sym b ∙ w.back g (get_or us i 0) a)
 
 -- where one of the lists is at its end
 rest_is : (us : List ℕ) (i : ℕ) → take (length us - i) (drop i us) ≡ drop i us
 rest_is us i = take_all (length us - i) (drop i us) (omega (arith, length-drop i us))
 
-module _ (us vs list : List ℕ) (i j : ℕ) (vp : IsStrictlyIncreasing vs) (w : Joins us vs list (drop i us) (drop j vs)) (ended : (length us ≤ i) ⊎ (length vs ≤ j)) where
+module _ (us vs list : List ℕ) (i j : ℕ) (vp : IsStrictlyIncreasing vs)
+    (w : Joins us vs list (drop i us) (drop j vs)) (ended : (length us ≤ i) ⊎ (length vs ≤ j)) where
   no_first : length us ≤ i → drop i us ++ drop j vs ≡ joined (drop i us) (drop j vs)
   no_first p =
       ap (λ (l : List ℕ). l ++ drop j vs) (drop_all i us p)
@@ -111,6 +124,7 @@ module _ (us vs list : List ℕ) (i j : ℕ) (vp : IsStrictlyIncreasing vs) (w :
 
   pub rest_apart : AreApart us vs
   rest_apart = ⊎_elim
-      (λ (p : length us ≤ i). w.apart (λ x h. absurd (false≢true (sym (ap (λ (l : List ℕ). has l x) (drop_all i us p)) ∙ h))))
+      (λ (p : length us ≤ i). w.apart (λ x h.
+      absurd (false≢true (sym (ap (λ (l : List ℕ). has l x) (drop_all i us p)) ∙ h))))
       (λ (p : length vs ≤ j). w.apart (λ x h. ap (λ (l : List ℕ). has l x) (drop_all j vs p)))
       ended

@@ -20,3 +20,5 @@ pub mod InTurn
 pub mod Restoring
 pub mod Saving
 pub mod Spelling
+pub mod PartLemmas
+pub mod PartTables

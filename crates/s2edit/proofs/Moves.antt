@@ -1,12 +1,14 @@
 -- What undo and redo leave.
-use Rattle.std.proofs.Common.{◌≡◌, ℕ, ◌+◌, ◌≤◌, List, [], ◌∷◌, length, map, take, drop, slice_get, slice_set, Some, sym, ap, ◌∙◌, subst, arith}
+use Rattle.std.proofs.Common.{◌≡◌, ℕ, ◌+◌, ◌≤◌, List, [], ◌∷◌, length, map, take, drop, slice_get, slice_set}
+use Rattle.std.proofs.Common.{Some, sym, ap, ◌∙◌, subst, arith}
 use Rattle.std.proofs.lemmas.List.{take_all, length-set}
 use Rattle.s2union.specs.Union.{Union}
 use Rattle.s2union.specs.Apply.{applied}
 use Rattle.s2edit.specs.History.{undone, undone_to, redone, redone_to, cells_lost, numbers}
 use Rattle.s2edit.specs.Diff.{Diff, inverse}
 use Rattle.s2edit.specs.Leads.{list_at}
-use Rattle.s2edit.specs.Chain.{list_after, table_after, tables_after, FitsTable, FitAlong, lists_of, AllWithin, AllRoomy, history, union_of}
+use Rattle.s2edit.specs.Chain.{list_after, table_after, tables_after, FitsTable, FitAlong, lists_of, AllWithin}
+use Rattle.s2edit.specs.Chain.{AllRoomy, history, union_of}
 use Rattle.s2edit.proofs.Tables.{within_after, tables_back, along_back, lists_of-set, AllRoomy-set, AllRoomy-get}
 use Rattle.s2edit.proofs.Numbers.{out_lost, put_won}
 
@@ -19,21 +21,27 @@ pub record Rewrites (us us' : List Union) (scratch scratch' : Union) (d : Diff) 
   pub registers : us' ≡ slice_set us d.register (record { cells = list_after (lists_of us) d; room = scratch.room })
   pub was_there : slice_get us d.register ≡ Some scratch'
 
-module _ (limit : ℕ) (us us' : List Union) (scratch scratch' : Union) (d : Diff) (m : Rewrites us us' scratch scratch' d) where
+module _ (limit : ℕ) (us us' : List Union) (scratch scratch' : Union) (d : Diff)
+    (m : Rewrites us us' scratch scratch' d) where
   pub table_is : lists_of us' ≡ table_after (lists_of us) d
-  table_is = ap lists_of m.registers ∙ lists_of-set us d.register (record { cells = list_after (lists_of us) d; room = scratch.room })
+  table_is = ap lists_of m.registers ∙ lists_of-set us d.register
+      (record { cells = list_after (lists_of us) d; room = scratch.room })
 
   pub rewritten_count : length us' ≡ length us
-  rewritten_count = ap length m.registers ∙ length-set us d.register (record { cells = list_after (lists_of us) d; room = scratch.room })
+  rewritten_count = ap length m.registers ∙ length-set us d.register
+      (record { cells = list_after (lists_of us) d; room = scratch.room })
 
   pub rewritten_roomy : AllRoomy limit us → limit ≤ scratch.room → AllRoomy limit us' × (limit ≤ scratch'.room)
   rewritten_roomy a s = (
-    subst (AllRoomy limit) (sym m.registers) (AllRoomy-set limit us d.register (record { cells = list_after (lists_of us) d; room = scratch.room }) a s),
+    subst (AllRoomy limit) (sym m.registers)
+        (AllRoomy-set limit us d.register (record { cells = list_after (lists_of us) d; room = scratch.room }) a s),
     AllRoomy-get limit us d.register scratch' a m.was_there,
   )
 
--- what a move across one change leaves. The chain that it comes from begins with d, and the other one then begins with its inverse
-pub record Moves (us us' : List Union) (scratch scratch' : Union) (d : Diff) (from from' to to' : List Diff) : Type 0 where
+-- what a move across one change leaves. The chain that it comes from begins with d, and the other one then begins
+-- with its inverse
+pub record Moves (us us' : List Union) (scratch scratch' : Union) (d : Diff) (from from' to to' : List Diff) :
+    Type 0 where
   pub rewrites : Rewrites us us' scratch scratch' d
   pub first : from ≡ d ∷ from'
   pub onto : to' ≡ inverse d ∷ to
@@ -56,11 +64,13 @@ module _ (limit : ℕ) (us us' : List Union) (scratch scratch' : Union) (d : Dif
   pub moved_to : FitAlong limit (lists_of us') to'
   moved_to =
       subst (FitAlong limit (lists_of us')) (sym m.onto)
-      (subst (λ (t : List (List ℕ)). FitAlong limit t (inverse d ∷ to)) (sym t_is) (along_back limit (lists_of us) d a whole_fits.0 to g))
+      (subst (λ (t : List (List ℕ)). FitAlong limit t (inverse d ∷ to)) (sym t_is)
+      (along_back limit (lists_of us) d a whole_fits.0 to g))
 
   -- the tables on both sides
   pub tables_from : tables_after (lists_of us) from ≡ lists_of us' ∷ tables_after (lists_of us') from'
-  tables_from = ap (tables_after (lists_of us)) m.first ∙ ap (λ (t : List (List ℕ)). t ∷ tables_after t from') (sym t_is)
+  tables_from = ap (tables_after (lists_of us)) m.first
+      ∙ ap (λ (t : List (List ℕ)). t ∷ tables_after t from') (sym t_is)
 
   pub tables_to : tables_after (lists_of us') to' ≡ lists_of us ∷ tables_after (lists_of us) to
   tables_to =
@@ -69,10 +79,13 @@ module _ (limit : ℕ) (us us' : List Union) (scratch scratch' : Union) (d : Dif
       ∙ tables_back limit (lists_of us) d a whole_fits.0 to
 
 pub rewrites_from : (us us' : List Union) (scratch scratch' : Union) (d : Diff) (o p : List ℕ) → o ≡ d.out → p ≡ d.put →
-    us' ≡ slice_set us d.register (union_of (applied o p (list_at (lists_of us) d.register)) scratch.room) → slice_get us d.register ≡ Some scratch' → Rewrites us us' scratch scratch' d
+    us' ≡ slice_set us d.register (union_of (applied o p (list_at (lists_of us) d.register)) scratch.room) →
+    slice_get us d.register ≡ Some scratch' → Rewrites us us' scratch scratch' d
 rewrites_from us us' scratch scratch' d o p e f g h = record {
-  registers = g ∙ ap (λ (x : List ℕ). slice_set us d.register (union_of (applied x p (list_at (lists_of us) d.register)) scratch.room)) e
-      ∙ ap (λ (x : List ℕ). slice_set us d.register (union_of (applied d.out x (list_at (lists_of us) d.register)) scratch.room)) f;
+  registers = g ∙ ap (λ (x : List ℕ). slice_set us d.register
+      (union_of (applied x p (list_at (lists_of us) d.register)) scratch.room)) e
+      ∙ ap (λ (x : List ℕ). slice_set us d.register
+      (union_of (applied d.out x (list_at (lists_of us) d.register)) scratch.room)) f;
   was_there = h;
 }
 
@@ -94,65 +107,108 @@ module _ (depth : ℕ) (from from' to to' : List Diff) (c : Diff) (m : Shifts de
   still_bound = omega (arith, m.bound, ap length from_is, ap length to_is)
 
 -- what undo leaves
-module _ (limit depth : ℕ) (us us' : List Union) (scratch scratch' : Union) (c : Diff) (past past' future future' : List Diff)
-    (a : AllWithin limit (lists_of us)) (f : FitAlong limit (lists_of us) (map inverse past)) (g : FitAlong limit (lists_of us) future)
+module _ (limit depth : ℕ) (us us' : List Union) (scratch scratch' : Union) (c : Diff)
+    (past past' future future' : List Diff)
+    (a : AllWithin limit (lists_of us)) (f : FitAlong limit (lists_of us) (map inverse past))
+    (g : FitAlong limit (lists_of us) future)
     (s : Shifts depth past past' future future' c) (r : Rewrites us us' scratch scratch' (inverse c)) where
   undo_moves : Moves us us' scratch scratch' (inverse c) (map inverse past) (map inverse past') future future'
-  undo_moves = record { rewrites = r; first = ap (map inverse) (from_is depth past past' future future' c s); onto = to_is depth past past' future future' c s }
+  undo_moves = record {
+    rewrites = r;
+    first = ap (map inverse) (from_is depth past past' future future' c s);
+    onto = to_is depth past past' future future' c s;
+  }
 
   pub undo_leaves : history limit depth us' past' future' ≡ undone (history limit depth us past future)
   undo_leaves =
-      ap (λ (ts : List (List (List ℕ))). record { limit = limit; depth = depth; past = tables_after (lists_of us') (map inverse past'); now = lists_of us'; future = ts })
-      (tables_to limit us us' scratch scratch' (inverse c) (map inverse past) (map inverse past') future future' a f g undo_moves)
-      ∙ sym (ap (undone_to (history limit depth us past future)) (tables_from limit us us' scratch scratch' (inverse c) (map inverse past) (map inverse past') future future' a f g undo_moves))
+      ap (λ (ts : List (List (List ℕ))). record {
+        limit = limit;
+        depth = depth;
+        past = tables_after (lists_of us') (map inverse past');
+        now = lists_of us';
+        future = ts;
+      })
+      (tables_to limit us us' scratch scratch' (inverse c) (map inverse past) (map inverse past') future future' a
+      f g undo_moves)
+      ∙ sym (ap (undone_to (history limit depth us past future))
+      (tables_from limit us us' scratch scratch' (inverse c) (map inverse past) (map inverse past') future
+      future' a f g undo_moves))
 
   pub undo_within : AllWithin limit (lists_of us')
-  undo_within = moved_within limit us us' scratch scratch' (inverse c) (map inverse past) (map inverse past') future future' a f g undo_moves
+  undo_within = moved_within limit us us' scratch scratch' (inverse c) (map inverse past) (map inverse past')
+      future future' a f g undo_moves
 
   pub undo_past : FitAlong limit (lists_of us') (map inverse past')
-  undo_past = moved_from limit us us' scratch scratch' (inverse c) (map inverse past) (map inverse past') future future' a f g undo_moves
+  undo_past = moved_from limit us us' scratch scratch' (inverse c) (map inverse past) (map inverse past') future
+      future' a f g undo_moves
 
   pub undo_future : FitAlong limit (lists_of us') future'
-  undo_future = moved_to limit us us' scratch scratch' (inverse c) (map inverse past) (map inverse past') future future' a f g undo_moves
+  undo_future = moved_to limit us us' scratch scratch' (inverse c) (map inverse past) (map inverse past') future
+      future' a f g undo_moves
 
   undo_fits : FitsTable limit (lists_of us) (inverse c)
-  undo_fits = (subst (FitAlong limit (lists_of us)) (ap (map inverse) (from_is depth past past' future future' c s)) f).0
+  undo_fits = (subst (FitAlong limit (lists_of us))
+      (ap (map inverse) (from_is depth past past' future future' c s)) f).0
 
-  pub undo_numbers : (t : List (List ℕ)) (p : ℕ × ℕ) → lists_of us ≡ t → p.0 ≡ length c.put → p.1 ≡ length c.out → p ≡ numbers t (lists_of us')
+  pub undo_numbers : (t : List (List ℕ)) (p : ℕ × ℕ) → lists_of us ≡ t → p.0 ≡ length c.put → p.1 ≡ length c.out →
+      p ≡ numbers t (lists_of us')
   undo_numbers t p h e k =
-      let n : lists_of us' ≡ table_after (lists_of us) (inverse c) = table_is limit us us' scratch scratch' (inverse c) r in
+      let n : lists_of us' ≡ table_after (lists_of us) (inverse c) =
+      table_is limit us us' scratch scratch' (inverse c) r in
       ap (λ (x : ℕ). (x, p.1)) (e ∙ out_lost limit (lists_of us) (inverse c) a undo_fits)
-      ∙ ap (λ (x : ℕ). (cells_lost (lists_of us) (table_after (lists_of us) (inverse c)), x)) (k ∙ put_won limit (lists_of us) (inverse c) a undo_fits)
-      ∙ ap (λ (v : List (List ℕ)). numbers (lists_of us) v) (sym n) ∙ ap (λ (v : List (List ℕ)). numbers v (lists_of us')) h
+      ∙ ap (λ (x : ℕ). (cells_lost (lists_of us) (table_after (lists_of us) (inverse c)), x))
+      (k ∙ put_won limit (lists_of us) (inverse c) a undo_fits)
+      ∙ ap (λ (v : List (List ℕ)). numbers (lists_of us) v) (sym n)
+      ∙ ap (λ (v : List (List ℕ)). numbers v (lists_of us')) h
 
 -- what redo leaves
-module _ (limit depth : ℕ) (us us' : List Union) (scratch scratch' : Union) (c : Diff) (past past' future future' : List Diff)
-    (a : AllWithin limit (lists_of us)) (f : FitAlong limit (lists_of us) (map inverse past)) (g : FitAlong limit (lists_of us) future)
+module _ (limit depth : ℕ) (us us' : List Union) (scratch scratch' : Union) (c : Diff)
+    (past past' future future' : List Diff)
+    (a : AllWithin limit (lists_of us)) (f : FitAlong limit (lists_of us) (map inverse past))
+    (g : FitAlong limit (lists_of us) future)
     (s : Shifts depth future future' past past' c) (r : Rewrites us us' scratch scratch' c) where
   redo_moves : Moves us us' scratch scratch' c future future' (map inverse past) (map inverse past')
-  redo_moves = record { rewrites = r; first = from_is depth future future' past past' c s; onto = ap (map inverse) (to_is depth future future' past past' c s) }
+  redo_moves = record {
+    rewrites = r;
+    first = from_is depth future future' past past' c s;
+    onto = ap (map inverse) (to_is depth future future' past past' c s);
+  }
 
   pub redo_leaves : history limit depth us' past' future' ≡ redone (history limit depth us past future)
   redo_leaves =
-      ap (λ (ts : List (List (List ℕ))). record { limit = limit; depth = depth; past = ts; now = lists_of us'; future = tables_after (lists_of us') future' })
+      ap (λ (ts : List (List (List ℕ))). record {
+        limit = limit;
+        depth = depth;
+        past = ts;
+        now = lists_of us';
+        future = tables_after (lists_of us') future';
+      })
       (tables_to limit us us' scratch scratch' c future future' (map inverse past) (map inverse past') a g f redo_moves)
-      ∙ sym (ap (redone_to (history limit depth us past future)) (tables_from limit us us' scratch scratch' c future future' (map inverse past) (map inverse past') a g f redo_moves))
+      ∙ sym (ap (redone_to (history limit depth us past future))
+      (tables_from limit us us' scratch scratch' c future future' (map inverse past) (map inverse past') a g f
+      redo_moves))
 
   pub redo_within : AllWithin limit (lists_of us')
-  redo_within = moved_within limit us us' scratch scratch' c future future' (map inverse past) (map inverse past') a g f redo_moves
+  redo_within = moved_within limit us us' scratch scratch' c future future' (map inverse past) (map inverse past')
+      a g f redo_moves
 
   pub redo_future : FitAlong limit (lists_of us') future'
-  redo_future = moved_from limit us us' scratch scratch' c future future' (map inverse past) (map inverse past') a g f redo_moves
+  redo_future = moved_from limit us us' scratch scratch' c future future' (map inverse past) (map inverse past') a
+      g f redo_moves
 
   pub redo_past : FitAlong limit (lists_of us') (map inverse past')
-  redo_past = moved_to limit us us' scratch scratch' c future future' (map inverse past) (map inverse past') a g f redo_moves
+  redo_past = moved_to limit us us' scratch scratch' c future future' (map inverse past) (map inverse past') a g f
+      redo_moves
 
   redo_fits : FitsTable limit (lists_of us) c
   redo_fits = (subst (FitAlong limit (lists_of us)) (from_is depth future future' past past' c s) g).0
 
-  pub redo_numbers : (t : List (List ℕ)) (p : ℕ × ℕ) → lists_of us ≡ t → p.0 ≡ length c.out → p.1 ≡ length c.put → p ≡ numbers t (lists_of us')
+  pub redo_numbers : (t : List (List ℕ)) (p : ℕ × ℕ) → lists_of us ≡ t → p.0 ≡ length c.out → p.1 ≡ length c.put →
+      p ≡ numbers t (lists_of us')
   redo_numbers t p h e k =
       let n : lists_of us' ≡ table_after (lists_of us) c = table_is limit us us' scratch scratch' c r in
       ap (λ (x : ℕ). (x, p.1)) (e ∙ out_lost limit (lists_of us) c a redo_fits)
-      ∙ ap (λ (x : ℕ). (cells_lost (lists_of us) (table_after (lists_of us) c), x)) (k ∙ put_won limit (lists_of us) c a redo_fits)
-      ∙ ap (λ (v : List (List ℕ)). numbers (lists_of us) v) (sym n) ∙ ap (λ (v : List (List ℕ)). numbers v (lists_of us')) h
+      ∙ ap (λ (x : ℕ). (cells_lost (lists_of us) (table_after (lists_of us) c), x))
+      (k ∙ put_won limit (lists_of us) c a redo_fits)
+      ∙ ap (λ (v : List (List ℕ)). numbers (lists_of us) v) (sym n)
+      ∙ ap (λ (v : List (List ℕ)). numbers v (lists_of us')) h

@@ -1,5 +1,6 @@
 -- What an editor holds after a session was restored, and why one is refused.
-use Rattle.std.proofs.Common.{◌≡◌, ℕ, zero, suc, ◌+◌, ◌<◌, ◌≤◌, Bool, true, false, ◌&&◌, List, [], ◌∷◌, length, map, reverse, refl, sym, ap, ◌∙◌, subst, arith}
+use Rattle.std.proofs.Common.{◌≡◌, ℕ, zero, suc, ◌+◌, ◌<◌, ◌≤◌, Bool, true, false, ◌&&◌, List, [], ◌∷◌}
+use Rattle.std.proofs.Common.{length, map, reverse, refl, sym, ap, ◌∙◌, subst, arith}
 use Rattle.std.proofs.lemmas.List.{length-map, length-set, length-reverse}
 use Rattle.std.specs.List.{AllByRecursion}
 use Rattle.s2union.specs.Union.{Union}
@@ -25,23 +26,32 @@ registers_within [] a = tt
 registers_within (u ∷ t) a = (record { local = a.0.local; few = a.0.few }, registers_within t a.1)
 
 -- lists that keep to the limit, and are normalised
-pub within_limit : (limit : ℕ) (t : List (List ℕ)) → AllWithin SESSION_CELLS t → AllLists (λ u. length u ≤ limit) t → AllWithin limit t
+pub within_limit : (limit : ℕ) (t : List (List ℕ)) → AllWithin SESSION_CELLS t →
+    AllLists (λ u. length u ≤ limit) t → AllWithin limit t
 within_limit limit [] a f = tt
 within_limit limit (u ∷ t) a f = (record { local = a.0.local; few = f.0 }, within_limit limit t a.1 f.1)
 
-pub few_at : (limit : ℕ) (t : List (List ℕ)) (r : ℕ) → AllLists (λ u. length u ≤ limit) t → r < length t → length (list_at t r) ≤ limit
+pub few_at : (limit : ℕ) (t : List (List ℕ)) (r : ℕ) → AllLists (λ u. length u ≤ limit) t → r < length t →
+    length (list_at t r) ≤ limit
 few_at limit [] r a l = absurd (omega arith)
 few_at limit (u ∷ t) zero a l = a.0
 few_at limit (u ∷ t) (suc r) a l = few_at limit t r a.1 (omega arith)
 
 -- changes that can be made, and lead to tables that keep to the limit
-along_limit : (limit : ℕ) (t : List (List ℕ)) (ds : List Diff) → FitAlong SESSION_CELLS t ds → AllTables (λ u. length u ≤ limit) (tables_after t ds) → FitAlong limit t ds
+along_limit : (limit : ℕ) (t : List (List ℕ)) (ds : List Diff) → FitAlong SESSION_CELLS t ds →
+    AllTables (λ u. length u ≤ limit) (tables_after t ds) → FitAlong limit t ds
 along_limit limit t [] f a = tt
 along_limit limit t (d ∷ ds) f a =
     let len : length (table_after t d) ≡ length t = length-set t d.register (list_after t d) in
     let few : length (list_after t d) ≤ limit =
-    omega (arith, ap length (list_at-table_after t d f.0.in_range), few_at limit (table_after t d) d.register a.0 (omega (arith, len, f.0.in_range))) in
-    (record { in_range = f.0.in_range; fits = f.0.fits; few = few; changes = f.0.changes }, along_limit limit (table_after t d) ds f.1 a.1)
+    omega (
+      arith,
+      ap length (list_at-table_after t d f.0.in_range),
+      few_at limit (table_after t d) d.register a.0 (omega (arith, len, f.0.in_range)),
+    ) in (
+      record { in_range = f.0.in_range; fits = f.0.fits; few = few; changes = f.0.changes },
+      along_limit limit (table_after t d) ds f.1 a.1,
+    )
 
 module _ (s : Content) (content : IsContent s) where
   pasts : List Diff
@@ -53,7 +63,8 @@ module _ (s : Content) (content : IsContent s) where
   lists : AllWithin SESSION_CELLS s.registers
   lists = registers_within s.registers content.registers
 
-  pub follows : (limit : ℕ) (p f : Bool) → Follows limit s.registers (map inverse (map diff (reverse s.past))) p → Follows limit s.registers (map diff s.future) f → CanFollow s
+  pub follows : (limit : ℕ) (p f : Bool) → Follows limit s.registers (map inverse (map diff (reverse s.past))) p →
+      Follows limit s.registers (map diff s.future) f → CanFollow s
   follows limit p f a b = record { count = content.count; within = lists; past = a.fit; future = b.fit }
 
   past_count : (t : List (List ℕ)) → length (tables_after t (map inverse (map diff (reverse s.past)))) ≡ length s.past
@@ -71,7 +82,9 @@ module _ (s : Content) (content : IsContent s) where
   }
 
   pub too_many : (h : History (List ℕ)) → CanFollow s → length s.past + length s.future ≤ h.depth
-      → (AllLists (λ u. length u ≤ h.limit) s.registers → FitAlong h.limit s.registers (map inverse (map diff (reverse s.past))) → FitAlong h.limit s.registers (map diff s.future) → ⊥)
+      → (AllLists (λ u. length u ≤ h.limit) s.registers →
+      FitAlong h.limit s.registers (map inverse (map diff (reverse s.past))) →
+      FitAlong h.limit s.registers (map diff s.future) → ⊥)
       → IsTooMany s h
   too_many h can kept none = record {
     history = history_told h.limit h.depth s;
@@ -82,17 +95,21 @@ module _ (s : Content) (content : IsContent s) where
         (along_limit h.limit s.registers (map diff s.future) can.future e.future);
   }
 
-  pub restored : (old new : History (List ℕ)) → new ≡ history_told old.limit old.depth s → CanFollow s → length s.past + length s.future ≤ old.depth
-      → AllWithin old.limit s.registers → FitAlong old.limit s.registers (map inverse (map diff (reverse s.past))) → FitAlong old.limit s.registers (map diff s.future)
+  pub restored : (old new : History (List ℕ)) → new ≡ history_told old.limit old.depth s → CanFollow s →
+      length s.past + length s.future ≤ old.depth
+      → AllWithin old.limit s.registers → FitAlong old.limit s.registers
+      (map inverse (map diff (reverse s.past))) → FitAlong old.limit s.registers (map diff s.future)
       → Restored s old new
   restored old new is can kept a p f = subst (Restored s old) (sym is) (record {
     tells = tells_it old.limit old.depth s can content.few;
     limit = refl;
     depth = refl;
     few = record {
-      past = AllTables-within (λ u. length u ≤ old.limit) old.limit (λ u w. w.few) s.registers (map inverse (map diff (reverse s.past))) a p;
+      past = AllTables-within (λ u. length u ≤ old.limit) old.limit (λ u w. w.few) s.registers
+          (map inverse (map diff (reverse s.past))) a p;
       now = AllLists-within (λ u. length u ≤ old.limit) old.limit (λ u w. w.few) s.registers a;
-      future = AllTables-within (λ u. length u ≤ old.limit) old.limit (λ u w. w.few) s.registers (map diff s.future) a f;
+      future = AllTables-within (λ u. length u ≤ old.limit) old.limit (λ u w. w.few) s.registers
+          (map diff s.future) a f;
     };
     kept = omega (arith, kept, past_count s.registers, future_count s.registers);
   })
@@ -102,13 +119,16 @@ pub tells_none : (s : Content) → (CanFollow s → ⊥) → (h : History (List 
 tells_none s none h w = none (can_follow s h w)
 
 -- a side that can't be followed
-pub past_fails : (s : Content) (h : History (List ℕ)) (fault : RestoreFault) → FailsToFollow fault (FitAlong SESSION_CELLS s.registers (map inverse (map diff (reverse s.past)))) → RefusesSession s h fault
+pub past_fails : (s : Content) (h : History (List ℕ)) (fault : RestoreFault) →
+    FailsToFollow fault (FitAlong SESSION_CELLS s.registers (map inverse (map diff (reverse s.past)))) →
+    RefusesSession s h fault
 past_fails s h Fit n = tells_none s (λ can. n can.past)
 past_fails s h TooDeep n = absurd n
 past_fails s h TooMany n = absurd n
 past_fails s h Memory n = tt
 
-pub future_fails : (s : Content) (h : History (List ℕ)) (fault : RestoreFault) → FailsToFollow fault (FitAlong SESSION_CELLS s.registers (map diff s.future)) → RefusesSession s h fault
+pub future_fails : (s : Content) (h : History (List ℕ)) (fault : RestoreFault) →
+    FailsToFollow fault (FitAlong SESSION_CELLS s.registers (map diff s.future)) → RefusesSession s h fault
 future_fails s h Fit n = tells_none s (λ can. n can.future)
 future_fails s h TooDeep n = absurd n
 future_fails s h TooMany n = absurd n
@@ -128,22 +148,29 @@ not_three true false r e a b c = false≢true b
 not_three false f r e a b c = false≢true a
 
 -- the sides as they are followed
-pub back_side : (X : List (List ℕ) → List Diff → Type 0) (us us' : List Union) (ms ms' past : List Move) → us' ≡ us → ms' ≡ ms → ms ≡ reverse past
-    → X (lists_of us') (map inverse (map diff (map moved_of ms'))) → X (lists_of us) (map inverse (map diff (reverse (map moved_of past))))
+pub back_side : (X : List (List ℕ) → List Diff → Type 0) (us us' : List Union) (ms ms' past : List Move) →
+    us' ≡ us → ms' ≡ ms → ms ≡ reverse past
+    → X (lists_of us') (map inverse (map diff (map moved_of ms'))) →
+    X (lists_of us) (map inverse (map diff (reverse (map moved_of past))))
 back_side X us us' ms ms' past e f g x =
     subst (λ (ns : List Moved). X (lists_of us) (map inverse (map diff ns))) (ap (map moved_of) f ∙ turned past ms g)
     (subst (λ (vs : List Union). X (lists_of vs) (map inverse (map diff (map moved_of ms')))) e x)
 
-pub ahead_side : (X : List (List ℕ) → List Diff → Type 0) (us us' : List Union) (ms ms' : List Move) → us' ≡ us → ms' ≡ ms
+pub ahead_side : (X : List (List ℕ) → List Diff → Type 0) (us us' : List Union) (ms ms' : List Move) → us' ≡ us →
+    ms' ≡ ms
     → X (lists_of us') (map diff (map moved_of ms')) → X (lists_of us) (map diff (map moved_of ms))
 ahead_side X us us' ms ms' e f x =
-    subst (λ (ns : List Move). X (lists_of us) (map diff (map moved_of ns))) f (subst (λ (vs : List Union). X (lists_of vs) (map diff (map moved_of ms'))) e x)
+    subst (λ (ns : List Move). X (lists_of us) (map diff (map moved_of ns))) f
+    (subst (λ (vs : List Union). X (lists_of vs) (map diff (map moved_of ms'))) e x)
 
 -- what a session that passed every test leaves
 module _ (limit depth : ℕ) (us us' : List Union) (past' future' : List Diff) (s : Content) (content : IsContent s)
-    (lists : lists_of us' ≡ s.registers) (past_is : past' ≡ map diff (reverse s.past)) (future_is : future' ≡ map diff s.future)
-    (p f r : Bool) (passed : ((p && f) && r) ≡ true) (a : Follows limit s.registers (map inverse (map diff (reverse s.past))) p)
-    (b : Follows limit s.registers (map diff s.future) f) (few : r ≡ true → AllLists (λ u. length u ≤ limit) s.registers)
+    (lists : lists_of us' ≡ s.registers) (past_is : past' ≡ map diff (reverse s.past))
+    (future_is : future' ≡ map diff s.future)
+    (p f r : Bool) (passed : ((p && f) && r) ≡ true)
+    (a : Follows limit s.registers (map inverse (map diff (reverse s.past))) p)
+    (b : Follows limit s.registers (map diff s.future) f)
+    (few : r ≡ true → AllLists (λ u. length u ≤ limit) s.registers)
     (kept : length s.past + length s.future ≤ depth) where
   all_few : AllLists (λ u. length u ≤ limit) s.registers
   all_few = few (three p f r passed).2
@@ -157,7 +184,8 @@ module _ (limit depth : ℕ) (us us' : List Union) (past' future' : List Diff) (
   pub left_past : FitAlong limit (lists_of us') (map inverse past')
   left_past =
       subst (λ (t : List (List ℕ)). FitAlong limit t (map inverse past')) (sym lists)
-      (subst (λ (ds : List Diff). FitAlong limit s.registers (map inverse ds)) (sym past_is) (a.few (three p f r passed).0))
+      (subst (λ (ds : List Diff). FitAlong limit s.registers (map inverse ds)) (sym past_is)
+      (a.few (three p f r passed).0))
 
   pub left_future : FitAlong limit (lists_of us') future'
   left_future =
@@ -166,15 +194,45 @@ module _ (limit depth : ℕ) (us us' : List Union) (past' future' : List Diff) (
 
   pub left_bound : length past' + length future' ≤ depth
   left_bound =
-      omega (arith, kept, ap length past_is, ap length future_is, length-map (reverse s.past) diff, length-reverse s.past, length-map s.future diff)
+      omega (
+        arith,
+        kept,
+        ap length past_is,
+        ap length future_is,
+        length-map (reverse s.past) diff,
+        length-reverse s.past,
+        length-map s.future diff,
+      )
 
   left_is : history limit depth us' past' future' ≡ history_told limit depth s
   left_is =
-      ap (λ (t : List (List ℕ)). record { limit = limit; depth = depth; past = tables_after t (map inverse past'); now = t; future = tables_after t future' }) lists
-      ∙ ap (λ (ds : List Diff). record { limit = limit; depth = depth; past = tables_after s.registers (map inverse ds); now = s.registers; future = tables_after s.registers future' }) past_is
-      ∙ ap (λ (ds : List Diff). record { limit = limit; depth = depth; past = tables_after s.registers (map inverse (map diff (reverse s.past))); now = s.registers; future = tables_after s.registers ds }) future_is
+      ap (λ (t : List (List ℕ)). record {
+        limit = limit;
+        depth = depth;
+        past = tables_after t (map inverse past');
+        now = t;
+        future = tables_after t future';
+      }) lists
+      ∙ ap (λ (ds : List Diff). record {
+        limit = limit;
+        depth = depth;
+        past = tables_after s.registers (map inverse ds);
+        now = s.registers;
+        future =
+            tables_after s.registers future';
+      }) past_is
+      ∙ ap (λ (ds : List Diff). record {
+        limit = limit;
+        depth = depth;
+        past = tables_after s.registers (map inverse (map diff (reverse s.past)));
+        now = s.registers;
+        future =
+            tables_after s.registers ds;
+      }) future_is
 
-  pub left_restored : (past future : List Diff) → Restored s (history limit depth us past future) (history limit depth us' past' future')
+  pub left_restored : (past future : List Diff) →
+      Restored s (history limit depth us past future) (history limit depth us' past' future')
   left_restored past future =
-      restored s content (history limit depth us past future) (history limit depth us' past' future') left_is (follows s content limit p f a b) kept now_within
+      restored s content (history limit depth us past future) (history limit depth us' past' future') left_is
+      (follows s content limit p f a b) kept now_within
       (a.few (three p f r passed).0) (b.few (three p f r passed).1)

@@ -1,5 +1,6 @@
 -- Runs of edits.
-use Rattle.std.proofs.Common.{◌≡◌, ◌≢◌, ℕ, ◌+◌, List, [], ◌∷◌, ◌++◌, length, reverse, refl, sym, ap, ◌∙◌, subst, append_assoc, arith}
+use Rattle.std.proofs.Common.{◌≡◌, ◌≢◌, ℕ, ◌+◌, List, [], ◌∷◌, ◌++◌, length, reverse, refl, sym, ap}
+use Rattle.std.proofs.Common.{◌∙◌, subst, append_assoc, arith}
 use Rattle.std.proofs.lemmas.List.{reverse-append}
 use Rattle.s2edit.specs.History.{History, undone_to, redone_to, timeline}
 use Rattle.s2edit.specs.Edits.{Edited, EditRun, tally_of, tally_with, undos_done, redos_done, AllMoves, RunsTo}
@@ -45,7 +46,8 @@ module _ {X : Type 0} (f : List ℕ → X) where
   module _ (h : History X) where
     undo_timeline : (ps : List (List X)) → h.past ≡ ps → timeline (undone_to h ps) ≡ timeline h
     undo_timeline [] e = refl
-    undo_timeline (t ∷ ps) e = sym (ap (λ (qs : List (List X)). reverse qs ++ h.now ∷ h.future) e ∙ reverse_first t ps (h.now ∷ h.future))
+    undo_timeline (t ∷ ps) e = sym (ap (λ (qs : List (List X)). reverse qs ++ h.now ∷ h.future) e
+        ∙ reverse_first t ps (h.now ∷ h.future))
 
     undo_place : (ps : List (List X)) → h.past ≡ ps → ps ≢ [] → length (undone_to h ps).past + 1 ≡ length h.past
     undo_place [] e n = absurd (n refl)
@@ -53,13 +55,15 @@ module _ {X : Type 0} (f : List ℕ → X) where
 
     redo_timeline : (fs : List (List X)) → h.future ≡ fs → timeline (redone_to h fs) ≡ timeline h
     redo_timeline [] e = refl
-    redo_timeline (t ∷ fs) e = reverse_first h.now h.past (t ∷ fs) ∙ ap (λ (gs : List (List X)). reverse h.past ++ h.now ∷ gs) (sym e)
+    redo_timeline (t ∷ fs) e = reverse_first h.now h.past (t ∷ fs)
+        ∙ ap (λ (gs : List (List X)). reverse h.past ++ h.now ∷ gs) (sym e)
 
     redo_place : (fs : List (List X)) → h.future ≡ fs → fs ≢ [] → length (redone_to h fs).past ≡ length h.past + 1
     redo_place [] e n = absurd (n refl)
     redo_place (t ∷ fs) e n = omega arith
 
-  edit_timeline : (h h' : History X) (e : Edit) (o : Outcome) → AllMoves (e ∷ []) → Edited f h e o h' → timeline h' ≡ timeline h
+  edit_timeline : (h h' : History X) (e : Edit) (o : Outcome) → AllMoves (e ∷ []) → Edited f h e o h' →
+      timeline h' ≡ timeline h
   edit_timeline h h' (Assign r u) o m s = absurd m
   edit_timeline h h' Undo Done m s = ap timeline s.1 ∙ undo_timeline h h.past refl
   edit_timeline h h' Undo Refused m s = ap timeline s.1
@@ -68,7 +72,8 @@ module _ {X : Type 0} (f : List ℕ → X) where
   edit_timeline h h' Redo Refused m s = ap timeline s.1
   edit_timeline h h' Redo NoMemory m s = absurd s
 
-  pub run_timeline : (h h' : History X) (es : List Edit) (os : List Outcome) → AllMoves es → EditRun f h es os h' → timeline h' ≡ timeline h
+  pub run_timeline : (h h' : History X) (es : List Edit) (os : List Outcome) → AllMoves es → EditRun f h es os h' →
+      timeline h' ≡ timeline h
   run_timeline h h' [] [] m r = ap timeline r
   run_timeline h h' [] (o ∷ os) m r = absurd r
   run_timeline h h' (e ∷ es) [] m r = absurd r
@@ -82,12 +87,24 @@ module _ {X : Type 0} (f : List ℕ → X) where
   run_place h h' (e ∷ es) [] m r = absurd r
   run_place h h' (Assign x u ∷ es) (o ∷ os) m r = absurd m
   run_place h h' (Undo ∷ es) (Done ∷ os) m r =
-      omega (arith, run_place r.0 h' es os m r.2, ap (λ (k : History X). length k.past) r.1.1, undo_place h h.past refl r.1.0)
-  run_place h h' (Undo ∷ es) (Refused ∷ os) m r = omega (arith, run_place r.0 h' es os m r.2, ap (λ (k : History X). length k.past) r.1.1)
+      omega (
+        arith,
+        run_place r.0 h' es os m r.2,
+        ap (λ (k : History X). length k.past) r.1.1,
+        undo_place h h.past refl r.1.0,
+      )
+  run_place h h' (Undo ∷ es) (Refused ∷ os) m r =
+      omega (arith, run_place r.0 h' es os m r.2, ap (λ (k : History X). length k.past) r.1.1)
   run_place h h' (Undo ∷ es) (NoMemory ∷ os) m r = absurd r.1
   run_place h h' (Redo ∷ es) (Done ∷ os) m r =
-      omega (arith, run_place r.0 h' es os m r.2, ap (λ (k : History X). length k.past) r.1.1, redo_place h h.future refl r.1.0)
-  run_place h h' (Redo ∷ es) (Refused ∷ os) m r = omega (arith, run_place r.0 h' es os m r.2, ap (λ (k : History X). length k.past) r.1.1)
+      omega (
+        arith,
+        run_place r.0 h' es os m r.2,
+        ap (λ (k : History X). length k.past) r.1.1,
+        redo_place h h.future refl r.1.0,
+      )
+  run_place h h' (Redo ∷ es) (Refused ∷ os) m r =
+      omega (arith, run_place r.0 h' es os m r.2, ap (λ (k : History X). length k.past) r.1.1)
   run_place h h' (Redo ∷ es) (NoMemory ∷ os) m r = absurd r.1
 
   pub runs_to : (h h' : History X) (es : List Edit) (os : List Outcome) → EditRun f h es os h' → RunsTo f h es os h'

@@ -1,15 +1,20 @@
 -- What an editor's session tells.
-use Rattle.std.proofs.Common.{◌≡◌, ℕ, zero, suc, ◌+◌, ◌≤◌, List, [], ◌∷◌, ◌++◌, length, map, reverse, take, slice_get, Some, None, append_assoc, refl, sym, ap, ◌∙◌, subst, arith}
+use Rattle.std.proofs.Common.{◌≡◌, ℕ, zero, suc, ◌+◌, ◌≤◌, List, [], ◌∷◌, ◌++◌, length, map, reverse, take}
+use Rattle.std.proofs.Common.{slice_get, Some, None, append_assoc, Result, Ok, Err, Vec, Global, refl, sym, ap, ◌∙◌}
+use Rattle.std.proofs.Common.{subst, arith}
+use Rattle.std.specs.Prelude.{IfOk}
+use Rattle.std.specs.declared.alloc.AllocError.{AllocError}
 use Rattle.std.proofs.lemmas.List.{length-map, length-reverse, length_push, map-append, append-nil, take_all}
 use Rattle.circular_buffer.specs.Buffer.{Buffer, buffer}
 use Rattle.std.specs.List.{AllByRecursion}
 use Rattle.s2union.specs.Union.{Union}
-use Rattle.s2file.specs.Session.{Moved, Content, moved_of, IsMoved}
+use Rattle.s2file.specs.Session.{Moved, Content, moved_of, IsMoved, session_text}
 use Rattle.s2file.specs.declared.session.Move.{Move}
 use Rattle.s2file.specs.declared.TheConstants.{SESSION_CELLS, SESSION_CHANGES}
 use Rattle.s2edit.specs.Diff.{Diff, inverse}
 use Rattle.s2edit.specs.Chain.{table_after, tables_after, FitAlong, lists_of, AllWithin, history}
-use Rattle.s2edit.specs.Session.{diff, moved, Tells}
+use Rattle.s2edit.specs.History.{History}
+use Rattle.s2edit.specs.Session.{diff, moved, Tells, Text}
 use Rattle.s2edit.specs.declared.TheConstants.{REGISTERS}
 use Rattle.s2edit.proofs.Contents.{reverse_twice}
 use Rattle.s2edit.proofs.Leading.{none_past}
@@ -17,12 +22,17 @@ use Rattle.s2edit.proofs.Telling.{CanFollow, history_told, tells_it}
 
 more_within : (limit n : ℕ) (t : List (List ℕ)) → limit ≤ n → AllWithin limit t → AllWithin n t
 more_within limit n [] l a = tt
-more_within limit n (u ∷ t) l a = (record { local = a.0.local; few = omega (arith, a.0.few) }, more_within limit n t l a.1)
+more_within limit n (u ∷ t) l a = (
+  record { local = a.0.local; few = omega (arith, a.0.few) },
+  more_within limit n t l a.1,
+)
 
 more_along : (limit n : ℕ) (t : List (List ℕ)) (ds : List Diff) → limit ≤ n → FitAlong limit t ds → FitAlong n t ds
 more_along limit n t [] l f = tt
-more_along limit n t (d ∷ ds) l f =
-    (record { in_range = f.0.in_range; fits = f.0.fits; few = omega (arith, f.0.few); changes = f.0.changes }, more_along limit n (table_after t d) ds l f.1)
+more_along limit n t (d ∷ ds) l f = (
+  record { in_range = f.0.in_range; fits = f.0.fits; few = omega (arith, f.0.few); changes = f.0.changes },
+  more_along limit n (table_after t d) ds l f.1,
+)
 
 pub diff_moved : (ds : List Diff) → map diff (map moved ds) ≡ ds
 diff_moved [] = refl
@@ -31,7 +41,8 @@ diff_moved (d ∷ ds) = ap (λ es. d ∷ es) (diff_moved ds)
 module _ (limit depth : ℕ) (us : List Union) (past future : List Diff) (s : Content)
     (r : s.registers ≡ lists_of us) (p : s.past ≡ reverse (map moved past)) (f : s.future ≡ map moved future) where
   past_is : map inverse (map diff (reverse s.past)) ≡ map inverse past
-  past_is = ap (λ (ms : List Moved). map inverse (map diff (reverse ms))) p ∙ ap (λ (ms : List Moved). map inverse (map diff ms)) (reverse_twice (map moved past))
+  past_is = ap (λ (ms : List Moved). map inverse (map diff (reverse ms))) p
+      ∙ ap (λ (ms : List Moved). map inverse (map diff ms)) (reverse_twice (map moved past))
       ∙ ap (map inverse) (diff_moved past)
 
   future_is : map diff s.future ≡ future
@@ -39,21 +50,45 @@ module _ (limit depth : ℕ) (us : List Union) (past future : List Diff) (s : Co
 
   same_history : history_told limit depth s ≡ history limit depth us past future
   same_history =
-      ap (λ (t : List (List ℕ)). record { limit = limit; depth = depth; past = tables_after t (map inverse (map diff (reverse s.past))); now = t; future = tables_after t (map diff s.future) }) r
-      ∙ ap (λ (ds : List Diff). record { limit = limit; depth = depth; past = tables_after (lists_of us) ds; now = lists_of us; future = tables_after (lists_of us) (map diff s.future) }) past_is
-      ∙ ap (λ (ds : List Diff). record { limit = limit; depth = depth; past = tables_after (lists_of us) (map inverse past); now = lists_of us; future = tables_after (lists_of us) ds }) future_is
+      ap (λ (t : List (List ℕ)). record {
+        limit = limit;
+        depth = depth;
+        past = tables_after t (map inverse (map diff (reverse s.past)));
+        now = t;
+        future =
+            tables_after t (map diff s.future);
+      }) r
+      ∙ ap (λ (ds : List Diff). record {
+        limit = limit;
+        depth = depth;
+        past = tables_after (lists_of us) ds;
+        now = lists_of us;
+        future = tables_after (lists_of us) (map diff s.future);
+      }) past_is
+      ∙ ap (λ (ds : List Diff). record {
+        limit = limit;
+        depth = depth;
+        past = tables_after (lists_of us) (map inverse past);
+        now = lists_of us;
+        future =
+            tables_after (lists_of us) ds;
+      }) future_is
 
-  pub session_tells : limit ≤ SESSION_CELLS → depth ≤ SESSION_CHANGES → length us ≡ REGISTERS → length past + length future ≤ depth
-      → AllWithin limit (lists_of us) → FitAlong limit (lists_of us) (map inverse past) → FitAlong limit (lists_of us) future
+  pub session_tells : limit ≤ SESSION_CELLS → depth ≤ SESSION_CHANGES → length us ≡ REGISTERS →
+      length past + length future ≤ depth
+      → AllWithin limit (lists_of us) → FitAlong limit (lists_of us) (map inverse past) →
+      FitAlong limit (lists_of us) future
       → Tells s (history limit depth us past future)
   session_tells cells changes count kept a b g =
       let can : CanFollow s = record {
         count = ap length r ∙ length-map us (λ (u : Union). u.cells) ∙ count;
         within = subst (AllWithin SESSION_CELLS) (sym r) (more_within limit SESSION_CELLS (lists_of us) cells a);
         past = subst (λ (ds : List Diff). FitAlong SESSION_CELLS s.registers ds) (sym past_is)
-            (subst (λ (t : List (List ℕ)). FitAlong SESSION_CELLS t (map inverse past)) (sym r) (more_along limit SESSION_CELLS (lists_of us) (map inverse past) cells b));
+            (subst (λ (t : List (List ℕ)). FitAlong SESSION_CELLS t (map inverse past)) (sym r)
+            (more_along limit SESSION_CELLS (lists_of us) (map inverse past) cells b));
         future = subst (λ (ds : List Diff). FitAlong SESSION_CELLS s.registers ds) (sym future_is)
-            (subst (λ (t : List (List ℕ)). FitAlong SESSION_CELLS t future) (sym r) (more_along limit SESSION_CELLS (lists_of us) future cells g));
+            (subst (λ (t : List (List ℕ)). FitAlong SESSION_CELLS t future) (sym r)
+            (more_along limit SESSION_CELLS (lists_of us) future cells g));
       } in
       subst (Tells s) same_history (tells_it limit depth s can (omega (
         arith,
@@ -66,6 +101,13 @@ module _ (limit depth : ℕ) (us : List Union) (past future : List Diff) (s : Co
         length-map future moved,
       )))
 
+-- the text of a session that tells the history
+pub text_told : (r : Result (Vec ℕ Global) AllocError) (s : Content) (h : History (List ℕ)) → Tells s h →
+    IfOk r (λ bytes. bytes.items ≡ session_text s)
+    → IfOk r (λ bytes. Text h bytes.items)
+text_told (Ok bytes) s h t is = record { content = s; tells = t; is = is }
+text_told (Err e) s h t is = tt
+
 -- one more copy of a change
 take_one : (ds : List Diff) (n : ℕ) (d : Diff) → slice_get ds n ≡ Some d → take (n + 1) ds ≡ take n ds ++ d ∷ []
 take_one [] n d h = absurd (cc)
@@ -74,27 +116,36 @@ take_one (e ∷ ds) (suc n) d h =
     let one : suc n + 1 ≡ suc (n + 1) = omega arith in
     ap (λ (k : ℕ). take k (e ∷ ds)) one ∙ ap (λ (l : List Diff). e ∷ l) (take_one ds n d h)
 
-pub copied_one : (ms : List Move) (m : Move) (ds : List Diff) (d : Diff) (n : ℕ) → map moved_of ms ≡ map moved (take (length ms) ds) → n ≡ length ms → Some d ≡ slice_get ds n
+pub copied_one : (ms : List Move) (m : Move) (ds : List Diff) (d : Diff) (n : ℕ) →
+    map moved_of ms ≡ map moved (take (length ms) ds) → n ≡ length ms → Some d ≡ slice_get ds n
     → moved_of m ≡ moved d → map moved_of (ms ++ m ∷ []) ≡ map moved (take (length (ms ++ m ∷ [])) ds)
 copied_one ms m ds d n e l h c =
-    map-append moved_of ms (m ∷ []) ∙ ap (λ (xs : List Moved). xs ++ moved_of m ∷ []) e ∙ ap (λ (x : Moved). map moved (take (length ms) ds) ++ x ∷ []) c
-    ∙ sym (map-append moved (take (length ms) ds) (d ∷ [])) ∙ ap (map moved) (sym (take_one ds (length ms) d (ap (slice_get ds) (sym l) ∙ sym h)))
+    map-append moved_of ms (m ∷ []) ∙ ap (λ (xs : List Moved). xs ++ moved_of m ∷ []) e
+    ∙ ap (λ (x : Moved). map moved (take (length ms) ds) ++ x ∷ []) c
+    ∙ sym (map-append moved (take (length ms) ds) (d ∷ []))
+    ∙ ap (map moved) (sym (take_one ds (length ms) d (ap (slice_get ds) (sym l) ∙ sym h)))
     ∙ ap (λ (k : ℕ). map moved (take k ds)) (sym (length_push ms m))
 
-pub copied_all : (ms : List Move) (ds : List Diff) (n : ℕ) → map moved_of ms ≡ map moved (take (length ms) ds) → n ≡ length ms → None ≡ slice_get ds n → map moved_of ms ≡ map moved ds
+pub copied_all : (ms : List Move) (ds : List Diff) (n : ℕ) → map moved_of ms ≡ map moved (take (length ms) ds) →
+    n ≡ length ms → None ≡ slice_get ds n → map moved_of ms ≡ map moved ds
 copied_all ms ds n e l h = e ∙ ap (map moved) (take_all (length ms) ds (omega (arith, l, none_past ds n (sym h))))
 
 -- one more change that is taken over, from the back
-pub filled_one : (ms ms' : List Move) (m : Move) (ds : List Diff) → ms ≡ ms' ++ m ∷ [] → map diff (map moved_of ms') ++ (diff (moved_of m) ∷ ds) ≡ map diff (map moved_of ms) ++ ds
+pub filled_one : (ms ms' : List Move) (m : Move) (ds : List Diff) → ms ≡ ms' ++ m ∷ [] →
+    map diff (map moved_of ms') ++ (diff (moved_of m) ∷ ds) ≡ map diff (map moved_of ms) ++ ds
 filled_one ms ms' m ds e =
     sym (append_assoc (map diff (map moved_of ms')) (diff (moved_of m) ∷ []) ds)
-    ∙ ap (λ (xs : List Diff). xs ++ ds) (sym (map-append diff (map moved_of ms') (moved_of m ∷ [])) ∙ ap (map diff) (sym (map-append moved_of ms' (m ∷ []))) ∙ ap (λ (xs : List Move). map diff (map moved_of xs)) (sym e))
+    ∙ ap (λ (xs : List Diff). xs ++ ds) (sym (map-append diff (map moved_of ms') (moved_of m ∷ []))
+    ∙ ap (map diff) (sym (map-append moved_of ms' (m ∷ [])))
+    ∙ ap (λ (xs : List Move). map diff (map moved_of xs)) (sym e))
 
-all_front : {A : Type 0} (P : A → Type 0) (xs : List A) (x : A) → AllByRecursion P (xs ++ x ∷ []) → AllByRecursion P xs × P x
+all_front : {A : Type 0} (P : A → Type 0) (xs : List A) (x : A) → AllByRecursion P (xs ++ x ∷ []) →
+    AllByRecursion P xs × P x
 all_front P [] x a = (tt, a.0)
 all_front P (y ∷ xs) x a = let rest = all_front P xs x a.1 in ((a.0, rest.0), rest.1)
 
-pub good_front : (ms ms' : List Move) (m : Move) → ms ≡ ms' ++ m ∷ [] → AllByRecursion IsMoved (map moved_of ms) → AllByRecursion IsMoved (map moved_of ms') × IsMoved (moved_of m)
+pub good_front : (ms ms' : List Move) (m : Move) → ms ≡ ms' ++ m ∷ [] → AllByRecursion IsMoved (map moved_of ms) →
+    AllByRecursion IsMoved (map moved_of ms') × IsMoved (moved_of m)
 good_front ms ms' m e a =
     all_front IsMoved (map moved_of ms') (moved_of m)
     (subst (AllByRecursion IsMoved) (ap (map moved_of) e ∙ map-append moved_of ms' (m ∷ [])) a)
@@ -106,7 +157,8 @@ pub record Filled (left : List Move) (ring : Buffer Diff) (whole : List Diff) (c
   pub each : AllByRecursion IsMoved (map moved_of left)
   pub room : length left + length ring.items ≤ capacity
 
-pub fill_start : (ms : List Move) (ring : Buffer Diff) (capacity : ℕ) → AllByRecursion IsMoved (map moved_of ms) → length ms ≤ capacity → ring ≡ buffer [] capacity
+pub fill_start : (ms : List Move) (ring : Buffer Diff) (capacity : ℕ) → AllByRecursion IsMoved (map moved_of ms) →
+    length ms ≤ capacity → ring ≡ buffer [] capacity
     → Filled ms ring (map diff (map moved_of ms)) capacity
 fill_start ms ring capacity a l e = record {
   items = ap (λ (b : Buffer Diff). map diff (map moved_of ms) ++ b.items) e ∙ append-nil (map diff (map moved_of ms));
@@ -115,19 +167,25 @@ fill_start ms ring capacity a l e = record {
   room = omega (arith, l, ap (λ (b : Buffer Diff). length b.items) e);
 }
 
-pub fill_step : (ms ms' : List Move) (m : Move) (ring ring' : Buffer Diff) (item : Diff) (whole : List Diff) (capacity : ℕ) → Filled ms ring whole capacity → ms ≡ ms' ++ m ∷ []
-    → item ≡ diff (moved_of m) → ring' ≡ buffer (take ring.capacity (item ∷ ring.items)) ring.capacity → Filled ms' ring' whole capacity
+pub fill_step : (ms ms' : List Move) (m : Move) (ring ring' : Buffer Diff) (item : Diff) (whole : List Diff)
+    (capacity : ℕ) → Filled ms ring whole capacity → ms ≡ ms' ++ m ∷ []
+    → item ≡ diff (moved_of m) → ring' ≡ buffer (take ring.capacity (item ∷ ring.items)) ring.capacity →
+    Filled ms' ring' whole capacity
 fill_step ms ms' m ring ring' item whole capacity f e i p =
     let count : length ms ≡ length ms' + 1 = ap length e ∙ length_push ms' m in
     let new : ring'.items ≡ diff (moved_of m) ∷ ring.items =
-    ap (λ (b : Buffer Diff). b.items) p ∙ take_all ring.capacity (item ∷ ring.items) (omega (arith, f.room, f.capacity_is, count)) ∙ ap (λ (d : Diff). d ∷ ring.items) i in
+    ap (λ (b : Buffer Diff). b.items) p ∙ take_all ring.capacity (item ∷ ring.items)
+    (omega (arith, f.room, f.capacity_is, count)) ∙ ap (λ (d : Diff). d ∷ ring.items) i in
     record {
-      items = ap (λ (xs : List Diff). map diff (map moved_of ms') ++ xs) new ∙ filled_one ms ms' m ring.items e ∙ f.items;
+      items = ap (λ (xs : List Diff). map diff (map moved_of ms') ++ xs) new ∙ filled_one ms ms' m ring.items e
+          ∙ f.items;
       capacity_is = ap (λ (b : Buffer Diff). b.capacity) p ∙ f.capacity_is;
       each = (good_front ms ms' m e f.each).0;
       room = omega (arith, f.room, count, ap length new);
     }
 
-pub fill_end : (ms : List Move) (ring : Buffer Diff) (whole : List Diff) (capacity : ℕ) → Filled ms ring whole capacity → length ms ≡ 0 → ring ≡ buffer whole capacity
-fill_end [] ring whole capacity f e = ap (λ (n : ℕ). buffer ring.items n) f.capacity_is ∙ ap (λ (xs : List Diff). buffer xs capacity) f.items
+pub fill_end : (ms : List Move) (ring : Buffer Diff) (whole : List Diff) (capacity : ℕ) →
+    Filled ms ring whole capacity → length ms ≡ 0 → ring ≡ buffer whole capacity
+fill_end [] ring whole capacity f e = ap (λ (n : ℕ). buffer ring.items n) f.capacity_is
+    ∙ ap (λ (xs : List Diff). buffer xs capacity) f.items
 fill_end (m ∷ ms) ring whole capacity f e = absurd (omega arith)

@@ -4,13 +4,15 @@ use Rattle.std.proofs.lemmas.Bool.{cond_both}
 use Rattle.std.proofs.lemmas.Grind.{common_steps}
 use Rattle.std.specs.List.Sorted.{IsStrictlyIncreasing}
 use Rattle.s2union.specs.Apply.{has, cells_without, insert_cell, insert_cells}
-use Rattle.s2union.proofs.CellLists.{same_cells, has-cells_without, has-insert_cells, IsAscending-cells_without, IsAscending-insert_cells, ascends_from}
+use Rattle.s2union.proofs.CellLists.{same_cells, has-cells_without, has-insert_cells, IsAscending-cells_without}
+use Rattle.s2union.proofs.CellLists.{IsAscending-insert_cells, ascends_from}
 
 length-insert_cell : (x : ℕ) (u : List ℕ) → length (insert_cell x u) ≡ length u + 1
 length-insert_cell x [] = refl
 length-insert_cell x (y ∷ u) =
     let rest = length-insert_cell x u in
-    cond_both (ltb x y) (x ∷ y ∷ u) (y ∷ insert_cell x u) (λ (l : List ℕ). length l ≡ length (y ∷ u) + 1) (λ _. omega arith) (λ _. omega arith)
+    cond_both (ltb x y) (x ∷ y ∷ u) (y ∷ insert_cell x u) (λ (l : List ℕ). length l ≡ length (y ∷ u) + 1)
+    (λ _. omega arith) (λ _. omega arith)
 
 pub length-insert_cells : (xs u : List ℕ) → length (insert_cells xs u) ≡ length xs + length u
 length-insert_cells [] u = omega arith
@@ -20,16 +22,25 @@ pub fewer_without : (us vs : List ℕ) → length (cells_without us vs) ≤ leng
 fewer_without [] vs = omega arith
 fewer_without (u ∷ us) vs =
     let rest = fewer_without us vs in
-    cond_both (has vs u) (cells_without us vs) (u ∷ cells_without us vs) (λ (l : List ℕ). length l ≤ length (u ∷ us)) (λ _. omega arith) (λ _. omega arith)
+    cond_both (has vs u) (cells_without us vs) (u ∷ cells_without us vs)
+    (λ (l : List ℕ). length l ≤ length (u ∷ us)) (λ _. omega arith) (λ _. omega arith)
 
 -- each list with what it lacks of the other has the cells of both
-pub lacking_counts : (us vs : List ℕ) → IsStrictlyIncreasing us → IsStrictlyIncreasing vs → length us + length (cells_without vs us) ≡ length vs + length (cells_without us vs)
+pub lacking_counts : (us vs : List ℕ) → IsStrictlyIncreasing us → IsStrictlyIncreasing vs →
+    length us + length (cells_without vs us) ≡ length vs + length (cells_without us vs)
 lacking_counts us vs a b =
     let one : insert_cells (cells_without vs us) us ≡ insert_cells (cells_without us vs) vs =
     same_cells (insert_cells (cells_without vs us) us) (insert_cells (cells_without us vs) vs)
-    (IsAscending-insert_cells (cells_without vs us) us (IsAscending-cells_without vs us (ascends_from vs b)) (λ x h. grind (arith, common_steps, has-cells_without vs us x)) (ascends_from us a))
-    (IsAscending-insert_cells (cells_without us vs) vs (IsAscending-cells_without us vs (ascends_from us a)) (λ x h. grind (arith, common_steps, has-cells_without us vs x)) (ascends_from vs b))
+    (IsAscending-insert_cells (cells_without vs us) us (IsAscending-cells_without vs us (ascends_from vs b))
+    (λ x h. grind (arith, common_steps, has-cells_without vs us x)) (ascends_from us a))
+    (IsAscending-insert_cells (cells_without us vs) vs (IsAscending-cells_without us vs (ascends_from us a))
+    (λ x h. grind (arith, common_steps, has-cells_without us vs x)) (ascends_from vs b))
     (λ x. has-insert_cells (cells_without vs us) us x
     ∙ grind (arith, common_steps, has-cells_without vs us x, has-cells_without us vs x)
     ∙ sym (has-insert_cells (cells_without us vs) vs x)) in
-    omega (arith, ap length one, length-insert_cells (cells_without vs us) us, length-insert_cells (cells_without us vs) vs)
+    omega (
+      arith,
+      ap length one,
+      length-insert_cells (cells_without vs us) us,
+      length-insert_cells (cells_without us vs) vs,
+    )

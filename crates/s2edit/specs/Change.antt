@@ -5,5 +5,6 @@ use Rattle.s2edit.specs.declared.change.Change.TheInside.{Inside}
 abbrev pub diff_of : Inside → Diff
 diff_of c = record { register = c.register; out = c.out.items; put = c.put.items }
 
+-- the lists in the fields of a change are those of a change
 abbrev pub IsChange : Inside → Type 0
 IsChange c = IsDiff c.out.items c.put.items

@@ -3,7 +3,7 @@ use Rattle.std.specs.Prelude.{◌≡◌, ℕ, true, false, List}
 use Rattle.std.specs.List.Sorted.{IsStrictlyIncreasing}
 use Rattle.s2union.specs.Apply.{has, cells_without, applied, Fits}
 
--- the cells that are taken out of the register's list, and those that are put in
+-- a register, the cells that are taken out of its list, and those that are put in
 pub record Diff : Type 0 where
   pub register : ℕ
   pub out : List ℕ
@@ -15,7 +15,7 @@ pub record IsDiff (out put : List ℕ) : Type 0 where
   pub put_ascends : IsStrictlyIncreasing put
   pub apart : (x : ℕ) → has out x ≡ true → has put x ≡ false
 
--- the list that the change makes of `u`
+-- the list that the change makes from `u`
 abbrev pub apply : Diff → List ℕ → List ℕ
 apply d u = applied d.out d.put u
 
@@ -23,7 +23,7 @@ apply d u = applied d.out d.put u
 abbrev pub FitsList : Diff → List ℕ → Type 0
 FitsList d u = Fits d.out d.put u
 
--- the change that takes this one back
+-- the change that reverses this one
 abbrev pub inverse : Diff → Diff
 inverse d = record { register = d.register; out = d.put; put = d.out }
 

@@ -12,7 +12,7 @@ abbrev pub history_of : Inside → History (List ℕ)
 history_of e = history e.limit e.depth e.registers.items e.past.items e.future.items
 
 -- Each register and the scratch list have room for a whole list, each ring has room for all states that may be kept,
--- and the changes of either side can be made one after another, from the present table on.
+-- and the changes of each side can be made one after another, starting from the present table.
 pub record IsEditor (e : Inside) : Type 0 where
   pub limit_bound : e.limit ≤ MOST_CELLS
   pub depth_most : e.depth ≤ SESSION_CHANGES

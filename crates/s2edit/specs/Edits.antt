@@ -1,5 +1,6 @@
--- Lists of edits as runs of the history. A register holds f of the list of its union: the list itself, or its set of leaves.
-use Rattle.std.specs.Prelude.{◌≡◌, ◌≢◌, ℕ, ◌+◌, ◌<◌, ◌≤◌, Bool, List, [], ◌∷◌, ◌++◌, length, replicate, slice_get, Some}
+-- Lists of edits as runs of the history. A register holds f of its union's list: the list itself, or its set of leaves.
+use Rattle.std.specs.Prelude.{◌≡◌, ◌≢◌, ℕ, ◌+◌, ◌<◌, ◌≤◌, Bool, List, [], ◌∷◌, ◌++◌, length}
+use Rattle.std.specs.Prelude.{replicate, slice_get, Some}
 use Rattle.s2union.specs.Union.{has_leaf, IsLocal}
 use Rattle.s2edit.specs.History.{History, Assigned, changed, undone, redone, timeline, sets, EachList}
 use Rattle.s2edit.specs.declared.edits.Edit.{Edit}
@@ -9,13 +10,13 @@ use Rattle.s2edit.specs.declared.edits.Outcome.TheVariants.{Done, Refused, NoMem
 use Rattle.s2edit.specs.declared.edits.EditTally.{EditTally}
 
 module _ {X : Type 0} (f : List ℕ → X) where
-  -- from h, the edit may end so, and leave h'
+  -- the edit, made in the history h, may have this outcome and leave the history h'
   abbrev pub Edited : History X → Edit → Outcome → History X → Type 0
-  -- an assignment is refused exactly above the limit
+  -- an assignment is refused exactly if the list is above the limit
   Edited h (Assign r u) Done h' = (length u.cells ≤ h.limit) × Assigned h r (f u.cells) h'
   Edited h (Assign r u) Refused h' = (h.limit < length u.cells) × (h' ≡ h)
   Edited h (Assign r u) NoMemory h' = (length u.cells ≤ h.limit) × (h' ≡ h)
-  -- a move is refused exactly where its side is empty, and takes no memory
+  -- an undo or redo is refused exactly if its side is empty, and takes no memory
   Edited h Undo Done h' = (h.past ≢ []) × (h' ≡ undone h)
   Edited h Undo Refused h' = (h.past ≡ []) × (h' ≡ h)
   Edited h Undo NoMemory h' = ⊥
@@ -30,50 +31,54 @@ module _ {X : Type 0} (f : List ℕ → X) where
   EditRun h [] (o ∷ os) h' = ⊥
   EditRun h (e ∷ es) [] h' = ⊥
 
-  -- each is an assignment that changes its register
+  -- each edit is an assignment that changes its register
   abbrev pub AllChange : History X → List Edit → Type 0
   AllChange h [] = Unit {0}
   AllChange h (Assign r u ∷ es) = (slice_get h.now r ≢ Some (f u.cells)) × AllChange (changed h r (f u.cells)) es
   AllChange h (Undo ∷ es) = ⊥
   AllChange h (Redo ∷ es) = ⊥
 
-  -- changes that were all done, at most depth of them, and then as many undos, give back what each register had
+  -- after at most depth changes that were all done, and then the same number of undos, each register has what it had
   abbrev pub GivesBack : History X → List Edit → EditTally → History X → Type 0
   GivesBack old edits tally new =
-      (changes : List Edit) → edits ≡ changes ++ replicate (length changes) Undo → length changes ≤ old.depth → AllChange old changes →
+      (changes : List Edit) → edits ≡ changes ++ replicate (length changes) Undo → length changes ≤ old.depth →
+      AllChange old changes →
       tally.done ≡ length edits → new.now ≡ old.now
 
--- how many undos, and how many redos, were done
+-- how many undos were done
 abbrev pub undos_done : List Edit → List Outcome → ℕ
 undos_done (Undo ∷ es) (Done ∷ os) = undos_done es os + 1
 undos_done (e ∷ es) (o ∷ os) = undos_done es os
 undos_done es os = 0
 
+-- how many redos were done
 abbrev pub redos_done : List Edit → List Outcome → ℕ
 redos_done (Redo ∷ es) (Done ∷ os) = redos_done es os + 1
 redos_done (e ∷ es) (o ∷ os) = redos_done es os
 redos_done es os = 0
 
--- no assignment is among them
+-- none of the edits is an assignment
 abbrev pub AllMoves : List Edit → Type 0
 AllMoves [] = Unit {0}
 AllMoves (Assign r u ∷ es) = ⊥
 AllMoves (Undo ∷ es) = AllMoves es
 AllMoves (Redo ∷ es) = AllMoves es
 
--- What a list of edits did: undos and redos alone leave the timeline, and now stands as many places further
--- back as undos were done, less the redos that were.
-pub record RunsTo {X : Type 0} (f : List ℕ → X) (old : History X) (edits : List Edit) (outcomes : List Outcome) (new : History X) : Type 0 where
+-- What a list of edits did. If all are undos and redos, the timeline stays, and now moves back by the number of undos
+-- done, less the number of redos done.
+pub record RunsTo {X : Type 0} (f : List ℕ → X) (old : History X) (edits : List Edit) (outcomes : List Outcome)
+    (new : History X) : Type 0 where
   pub run : EditRun f old edits outcomes new
   pub same_timeline : AllMoves edits → timeline new ≡ timeline old
   pub place : AllMoves edits → length new.past + undos_done edits outcomes ≡ length old.past + redos_done edits outcomes
 
+-- a tally with one more outcome
 abbrev pub tally_with : Outcome → EditTally → EditTally
 tally_with Done t = record t { done = t.done + 1 }
 tally_with Refused t = record t { refused = t.refused + 1 }
 tally_with NoMemory t = record t { memory = t.memory + 1 }
 
--- the numbers of edits that ended in each way
+-- how many edits had each outcome
 abbrev pub tally_of : List Outcome → EditTally
 tally_of [] = record { done = 0; refused = 0; memory = 0 }
 tally_of (o ∷ os) = tally_with o (tally_of os)
@@ -96,7 +101,10 @@ AssignLocal (Redo ∷ es) = AssignLocal es
 -- If no edit ran out of memory, what a list of edits does is one function of it and of the first state: the
 -- state after it, list for list and set for set, and how each edit ended.
 pub record LawOfRuns : Type 0 where
-  pub one_end : (h h₁ h₂ : History (List ℕ)) (es : List Edit) (t₁ t₂ : EditTally) → Ran h es t₁ h₁ → Ran h es t₂ h₂ →
+  pub one_end : (h h₁ h₂ : History (List ℕ)) (es : List Edit) (t₁ t₂ : EditTally) → Ran h es t₁ h₁ →
+      Ran h es t₂ h₂ →
       t₁.memory ≡ 0 → t₂.memory ≡ 0 → (h₁ ≡ h₂) × (t₁ ≡ t₂)
-  pub one_end_of_sets : (h : History (List ℕ)) (s₁ s₂ : History (ℕ → Bool)) (es : List Edit) (os ps : List Outcome) → EachList IsLocal h → AssignLocal es →
-      EditRun has_leaf (sets h) es os s₁ → EditRun has_leaf (sets h) es ps s₂ → (tally_of os).memory ≡ 0 → (tally_of ps).memory ≡ 0 → (s₁ ≡ s₂) × (os ≡ ps)
+  pub one_end_of_sets : (h : History (List ℕ)) (s₁ s₂ : History (ℕ → Bool)) (es : List Edit)
+      (os ps : List Outcome) → EachList IsLocal h → AssignLocal es →
+      EditRun has_leaf (sets h) es os s₁ → EditRun has_leaf (sets h) es ps s₂ → (tally_of os).memory ≡ 0 →
+      (tally_of ps).memory ≡ 0 → (s₁ ≡ s₂) × (os ≡ ps)

@@ -7,14 +7,14 @@ use Rattle.s2edit.specs.Chain.{FitsTable, FitAlong, table_after}
 use Rattle.s2edit.specs.declared.session.RestoreFault.{RestoreFault}
 use Rattle.s2edit.specs.declared.session.RestoreFault.TheVariants.{Fit, TooDeep, TooMany, Memory}
 
--- a walk fails because of a change that can't be made, or for memory
+-- following the changes fails because a change can't be made (`P` says that they can), or because memory ran out
 abbrev pub FailsToFollow : RestoreFault → Type 0 → Type 0
 FailsToFollow Fit P = P → ⊥
 FailsToFollow TooDeep P = ⊥
 FailsToFollow TooMany P = ⊥
 FailsToFollow Memory P = Unit {0}
 
--- the changes can be made one after another, and `within` tells whether each list then keeps to the limit
+-- the changes can be made one after another, and `within` tells whether each list made keeps to the limit
 pub record Follows (limit : ℕ) (t : List (List ℕ)) (ds : List Diff) (within : Bool) : Type 0 where
   pub fit : FitAlong SESSION_CELLS t ds
   pub few : within ≡ true → FitAlong limit t ds
@@ -27,7 +27,7 @@ pub record Steps (limit : ℕ) (t : List (List ℕ)) (d : Diff) (t' : List (List
   pub many : FitsTable limit t d → within ≡ true
   pub table : t' ≡ table_after t d
 
--- each union has room for the list of its place
+-- each union has room for the list at its place
 abbrev pub HaveRoom : List (List ℕ) → List Union → Type 0
 HaveRoom [] [] = Unit {0}
 HaveRoom [] (v ∷ vs) = ⊥

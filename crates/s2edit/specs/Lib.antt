@@ -10,3 +10,4 @@ pub mod Session
 pub mod Following
 pub mod Followed
 pub mod SessionLaws
+pub mod Part

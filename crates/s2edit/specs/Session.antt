@@ -1,4 +1,4 @@
--- What a session tells of a history, and the bytes that stand for one.
+-- What a session says about a history, and the bytes that stand for one.
 use Rattle.std.specs.Prelude.{◌≡◌, ℕ, ◌+◌, ◌<◌, ◌≤◌, Bool, List, [], ◌∷◌, length, reverse}
 use Rattle.s2file.specs.Session.{Moved, Content, session_text, Spells}
 use Rattle.s2file.specs.declared.TheConstants.{SESSION_CELLS, SESSION_CHANGES}
@@ -10,29 +10,30 @@ use Rattle.s2edit.specs.declared.TheConstants.{REGISTERS}
 use Rattle.s2edit.specs.declared.session.RestoreFault.{RestoreFault}
 use Rattle.s2edit.specs.declared.session.RestoreFault.TheVariants.{Fit, TooDeep, TooMany, Memory}
 
--- a change that a session tells, and a change as a session tells it
+-- a change of a session as a change of the editor, and the reverse
 abbrev pub diff : Moved → Diff
 diff m = record { register = m.register; out = m.out; put = m.put }
 
 abbrev pub moved : Diff → Moved
 moved d = record { register = d.register; out = d.out; put = d.put }
 
--- changes lead to the table from the earlier ones, which both stand in order from the table back
+-- the changes lead from the earlier tables to the table; both lists are in order from the table back
 abbrev pub LeadBack : List Moved → List (List ℕ) → List (List (List ℕ)) → Type 0
 LeadBack [] t [] = Unit {0}
 LeadBack [] t (u ∷ us) = ⊥
 LeadBack (m ∷ ms) t [] = ⊥
 LeadBack (m ∷ ms) t (u ∷ us) = Leads (diff m) u t × LeadBack ms u us
 
--- and from the table to the later ones
+-- the changes lead from the table to the later ones
 abbrev pub LeadAhead : List Moved → List (List ℕ) → List (List (List ℕ)) → Type 0
 LeadAhead [] t [] = Unit {0}
 LeadAhead [] t (u ∷ us) = ⊥
 LeadAhead (m ∷ ms) t [] = ⊥
 LeadAhead (m ∷ ms) t (u ∷ us) = Leads (diff m) t u × LeadAhead ms u us
 
--- The session tells the history: its registers are the present table, and its changes are those between neighbouring
--- tables, the past oldest first, each in the one register that differs. Every list is normalised and not too long for a file.
+-- The session tells the history: its registers are the present table, and its changes are those between adjacent
+-- tables, the past oldest first, each in the one register that differs. Every list is normalized and not too long for a
+-- file.
 pub record Tells (s : Content) (h : History (List ℕ)) : Type 0 where
   pub now : h.now ≡ s.registers
   pub count : length h.now ≡ REGISTERS
@@ -53,13 +54,13 @@ pub record Stored (bytes : List ℕ) (h : History (List ℕ)) : Type 0 where
   pub spells : Spells bytes content
   pub tells : Tells content h
 
--- the same of a history of tables of leaf sets
+-- the same for a history of tables of leaf sets
 pub record StoredSets (bytes : List ℕ) (h : History (ℕ → Bool)) : Type 0 where
   pub lists : History (List ℕ)
   pub stored : Stored bytes lists
   pub are : h ≡ sets lists
 
--- the history is the one that the session tells, in an editor of the same limit and depth, which it keeps to
+-- the new history is the one that the session tells, with the limit and depth of the old one, and keeps to them
 pub record Restored (s : Content) (old new : History (List ℕ)) : Type 0 where
   pub tells : Tells s new
   pub limit : new.limit ≡ old.limit
@@ -67,20 +68,21 @@ pub record Restored (s : Content) (old new : History (List ℕ)) : Type 0 where
   pub few : EachList (λ u. length u ≤ new.limit) new
   pub kept : length new.past + length new.future ≤ new.depth
 
--- it tells one, of more states than the editor keeps
+-- the session tells a history with more states than the editor keeps
 pub record IsTooDeep (s : Content) (editor : History (List ℕ)) : Type 0 where
   pub history : History (List ℕ)
   pub tells : Tells s history
   pub deep : editor.depth < length history.past + length history.future
 
--- it tells one that is not too deep, with a list of more cells than a register may have
+-- the session tells a history that is not too deep, but has a list of more cells than a register may have
 pub record IsTooMany (s : Content) (editor : History (List ℕ)) : Type 0 where
   pub history : History (List ℕ)
   pub tells : Tells s history
   pub kept : length history.past + length history.future ≤ editor.depth
   pub many : EachList (λ u. length u ≤ editor.limit) history → ⊥
 
--- why a session is refused: the first of these that holds; memory may want for any of the answers
+-- why a session is refused: it tells no history, or the history is too deep, or a list has too many cells; or memory
+-- ran out
 abbrev pub RefusesSession : Content → History (List ℕ) → RestoreFault → Type 0
 RefusesSession s editor Fit = (h : History (List ℕ)) → Tells s h → ⊥
 RefusesSession s editor TooDeep = IsTooDeep s editor

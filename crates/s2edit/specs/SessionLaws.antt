@@ -6,19 +6,22 @@ use Rattle.s2edit.specs.Session.{Text, Stored, StoredSets, Restored, RefusesSess
 use Rattle.s2edit.specs.declared.session.RestoreFault.{RestoreFault}
 use Rattle.s2edit.specs.declared.session.RestoreFault.TheVariants.{Memory}
 
--- The history's lists keep to its limit, and its states to its depth, as those of an editor do.
+-- The lists of the history keep to its limit, and the number of its states to its depth, as those of an editor do.
 pub record IsKept (h : History (List ℕ)) : Type 0 where
   pub few : EachList (λ u. length u ≤ h.limit) h
   pub kept : length h.past + length h.future ≤ h.depth
 
--- For one limit and depth, bytes stand for one history at most, list for list and set for set. The text of a history
--- stands for it; and in an editor of its limit and depth, where the session that the text spells is restored, the
--- history is that one again, and it is refused only if there is no memory.
+-- For a given limit and depth, bytes stand for at most one history, list for list and set for set. The text of a
+-- history stands for it. If an editor with the history's limit and depth restores the session that the text spells, its
+-- history is that one again, and it refuses only if there is no memory.
 pub record LawOfSessions : Type 0 where
-  pub one_history : (bytes : List ℕ) (h k : History (List ℕ)) → Stored bytes h → Stored bytes k → h.limit ≡ k.limit → h.depth ≡ k.depth → h ≡ k
-  pub one_history_of_sets : (bytes : List ℕ) (h k : History (ℕ → Bool)) → StoredSets bytes h → StoredSets bytes k → h.limit ≡ k.limit → h.depth ≡ k.depth → h ≡ k
+  pub one_history : (bytes : List ℕ) (h k : History (List ℕ)) → Stored bytes h → Stored bytes k →
+      h.limit ≡ k.limit → h.depth ≡ k.depth → h ≡ k
+  pub one_history_of_sets : (bytes : List ℕ) (h k : History (ℕ → Bool)) → StoredSets bytes h → StoredSets bytes k →
+      h.limit ≡ k.limit → h.depth ≡ k.depth → h ≡ k
   pub text_is_stored : (bytes : List ℕ) (h : History (List ℕ)) → Text h bytes → Stored bytes h
   pub comes_back : (bytes : List ℕ) (s : Content) (h old new : History (List ℕ)) → Text h bytes → Spells bytes s →
       old.limit ≡ h.limit → old.depth ≡ h.depth → Restored s old new → new ≡ h
-  pub not_refused : (bytes : List ℕ) (s : Content) (h old : History (List ℕ)) (fault : RestoreFault) → Text h bytes → Spells bytes s → IsKept h →
+  pub not_refused : (bytes : List ℕ) (s : Content) (h old : History (List ℕ)) (fault : RestoreFault) →
+      Text h bytes → Spells bytes s → IsKept h →
       old.limit ≡ h.limit → old.depth ≡ h.depth → RefusesSession s old fault → fault ≡ Memory

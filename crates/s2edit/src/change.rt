@@ -37,10 +37,10 @@ impl Model for Change {
 impl Change {
     ghost use Rattle.s2edit.specs.Diff.{between, inverse};
 
-    /// The change of a register from one union to another: `out` has the cells of `old` that `new` lacks,
-    /// `put` those of `new` that `old` lacks.
+    /// The change of a register from one union to another: `out` has the cells of `old` that `new` lacks, and `put`
+    /// those of `new` that `old` lacks.
     ///
-    /// A few passes over both lists. Takes just the memory of the two lists of the change.
+    /// A few passes over both lists. Takes exactly the memory of the two lists of the change.
     pub fn between(
         alloc: Global,
         register: Register,
@@ -53,7 +53,7 @@ impl Change {
         Ok(Change { register, out, put })
     }
 
-    /// The same of a union that may be used up: if `old` is empty, the union's own list becomes `put`, and no memory is
+    /// The same for a union that is given away: if `old` is empty, the union's own list becomes `put`, and no memory is
     /// taken.
     pub(crate) fn leading_to(
         alloc: Global,
@@ -88,7 +88,7 @@ impl Change {
         }
     }
 
-    /// The change that takes this one back: the two lists, exchanged. Takes no memory.
+    /// The change that reverses this one: the two lists, exchanged. Takes no memory.
     pub fn inverse(self) -> Change
         ensures { result ≡ inverse self }
     {
@@ -101,7 +101,7 @@ impl Change {
     }
 
     /// Whether the change can be made in the union's list: every cell of `out` is in it, no cell of `put`
-    /// is, and the list without `out` and with `put` is normalised.
+    /// is, and the list without `out` and with `put` is normalized.
     ///
     /// One pass over the three lists. Takes no memory.
     pub fn fits(&self, union: &CellUnion) -> bool
@@ -111,7 +111,7 @@ impl Change {
     }
 }
 
-/// The law of a change: what is changed can be changed back, and between two lists there is one change.
+/// The law of changes: a change can be reversed, and between two lists there is exactly one change.
 pub fn law_of_changes()
     ensures { LawOfChanges }
 {}

@@ -1,5 +1,6 @@
 //! The editor: registers, and the history of their changes.
-ghost use Rattle.std.specs.Prelude.{◌≡◌, ◌+◌, ◌<◌, ◌≤◌, ◌↔◌, [], ◌∷◌, length, replicate, IfOk, OnOk, OnErr, IsOk, IfSome, IsNone, slice_get, slice_set, Some, vec_len, MatchOption};
+ghost use Rattle.std.specs.Prelude.{◌≡◌, ◌+◌, ◌<◌, ◌≤◌, ◌↔◌, [], ◌∷◌, length, replicate, IfOk, OnOk};
+ghost use Rattle.std.specs.Prelude.{OnErr, IsOk, IfSome, IsNone, slice_get, slice_set, Some, vec_len, MatchOption};
 ghost use Rattle.s2union.specs.Union.{has_leaf, IsLocal, IsNormalForm};
 ghost use Rattle.s2union.specs.Apply.{applied, Fits};
 ghost use Rattle.s2edit.specs.History.{untouched, Assigned, sets, undone, redone, numbers, EachList};
@@ -16,7 +17,7 @@ use std::alloc::{AllocError, Global};
 use std::marker::Model;
 use std::mem;
 
-/// Why an assignment was refused. The editor is then unchanged, and the given union dropped.
+/// Why an assignment was refused. The editor is then unchanged, and the given union is dropped.
 #[derive(Clone, Copy, Debug, PartialEq, Eq, Drop, thiserror::Error)]
 pub enum EditFault {
     #[error("the union has more cells than a register may")]
@@ -27,9 +28,9 @@ pub enum EditFault {
 
 /// Registers that hold unions, and a bounded history of what was assigned to them.
 ///
-/// A contract sees it as the list of its earlier tables, its present table, and those that were undone.
-/// It holds one list for each register and one more, each with room for `limit` cells from the start on,
-/// and at most `depth` changes.
+/// A contract sees it as the list of its earlier tables, its present table, and those that were undone. It holds one
+/// list for each register and one spare list, each with room for `limit` cells from the start, and at most `depth`
+/// changes.
 #[derive(Drop)]
 pub struct Editor {
     pub(crate) alloc: Global,
@@ -55,12 +56,13 @@ impl Model for Editor {
 }
 
 impl Editor {
-    /// An editor with empty registers and no history, which lets a register have at most `limit` cells (1 to
-    /// [`MOST_CELLS`](crate::MOST_CELLS)) and keeps at most `depth` states (1 to [`MOST_STATES`](crate::MOST_STATES)).
+    /// An editor with empty registers and no history. A register may have at most `limit` cells (1 to
+    /// [`MOST_CELLS`](crate::MOST_CELLS)), and at most `depth` states are kept (1 to
+    /// [`MOST_STATES`](crate::MOST_STATES)).
     ///
-    /// Takes at once the memory that registers, undo and redo need from then on: room for `limit` cells for
-    /// each register and once more, 8 bytes a cell, and two rings of `depth` changes. At the greatest limit that
-    /// is 216,000,000 bytes of address space, of which a system such as Linux gives what is used.
+    /// Takes all memory that registers, undo and redo will need: room for `limit` cells for each register and for the
+    /// spare list, 8 bytes a cell, and two rings of `depth` changes. At the greatest limit that is 216,000,000 bytes of
+    /// address space; a system such as Linux provides only the part that is used.
     pub fn open(alloc: Global, limit: usize, depth: usize) -> Result<Editor, AllocError>
         requires limit { (1 ≤ limit) × (limit ≤ MOST_CELLS) }
         requires depth { (1 ≤ depth) × (depth ≤ MOST_STATES) }
@@ -91,12 +93,12 @@ impl Editor {
 
     /// Gives a register a union, and answers how many cells were taken out of its list and put in.
     ///
-    /// Where that changes the list, the present state goes to the past, of which the newest `depth` are kept,
-    /// and the future is dropped; where it doesn't, the answer is `(0, 0)` and nothing changes, the future
-    /// included. A few passes over the two lists; no other register is looked at.
+    /// If that changes the list, the present state goes to the past, which keeps the newest `depth` states, and the
+    /// future is dropped. If it doesn't, the answer is `(0, 0)` and nothing changes, the future included. A few passes
+    /// over the two lists; no other register is looked at.
     ///
-    /// Refuses a union of more than `limit` cells by `TooMany`, and answers `Memory` where there is none for the
-    /// two lists of the change: never for an empty register, nor for the register's own list.
+    /// Answers `TooMany` for a union of more than `limit` cells, and `Memory` if there is no memory for the two lists
+    /// of the change. `Memory` is never the answer for an empty register or for the register's own list.
     pub fn assign(
         &mut self,
         register: Register,
@@ -108,8 +110,9 @@ impl Editor {
         ensures too_many { (result ≡ Err EditFault.TooMany) ↔ (self.old.limit < length union.cells) }
         ensures err { OnErr result (self.new ≡ self.old) }
 
-        // Into an empty register, and of the register's own list, it is not refused for want of memory.
-        ensures into_empty { slice_get self.old.now register ≡ Some [] → length union.cells ≤ self.old.limit → IsOk result }
+        // Assigning to an empty register, or assigning the register's own list, never runs out of memory.
+        ensures into_empty { slice_get self.old.now register ≡ Some [] → length union.cells ≤ self.old.limit →
+            IsOk result }
         ensures same_list { slice_get self.old.now register ≡ Some union.cells → IsOk result }
     {
         if union.len() > self.limit {
@@ -133,7 +136,7 @@ impl Editor {
     /// Goes back to the newest state of the past, and answers how many cells were taken out and put in.
     /// The present state goes to the future.
     ///
-    /// None, and no change, exactly where the past is empty. Two passes over the register's list; takes no
+    /// Answers None, and changes nothing, exactly if the past is empty. Two passes over the register's list; takes no
     /// memory.
     pub fn undo(&mut self) -> Option<(usize, usize)>
         ensures after { self.new ≡ undone self.old }
@@ -157,7 +160,7 @@ impl Editor {
     /// Goes forward again to the state that was undone last, and answers how many cells were taken out and
     /// put in. The present state goes to the past.
     ///
-    /// None, and no change, exactly where the future is empty. Costs what `undo` costs.
+    /// Answers None, and changes nothing, exactly if the future is empty. Costs what `undo` costs.
     pub fn redo(&mut self) -> Option<(usize, usize)>
         ensures after { self.new ≡ redone self.old }
         ensures after_sets { sets self.new ≡ redone (sets self.old) }
@@ -177,28 +180,30 @@ impl Editor {
         Some(numbers)
     }
 
-    /// The kept change that undo number `n` from now would take back, counted from 0; None exactly where
-    /// fewer states may be undone. It leads from the earlier state to the later one.
+    /// The kept change that undo number `n` from now would reverse, counted from 0; None exactly if fewer states can be
+    /// undone. It leads from the earlier state to the later one.
     pub fn change_back(&self, n: usize) -> Option<&Change>
         ensures none { IsNone result ↔ (length self.now.past ≤ n) }
         ensures leads { IfSome result
-            (λ c. Leads c.now (table_at (self.now.now ∷ self.now.past) (n + 1)) (table_at (self.now.now ∷ self.now.past) n)) }
+            (λ c. Leads c.now (table_at (self.now.now ∷ self.now.past) (n + 1))
+            (table_at (self.now.now ∷ self.now.past) n)) }
     {
         self.past.get(n)
     }
 
-    /// The kept change that redo number `n` from now would make again, counted from 0; None exactly where
-    /// fewer states may be redone. It leads from the earlier state to the later one.
+    /// The kept change that redo number `n` from now would make again, counted from 0; None exactly if fewer states can
+    /// be redone. It leads from the earlier state to the later one.
     pub fn change_ahead(&self, n: usize) -> Option<&Change>
         ensures none { IsNone result ↔ (length self.now.future ≤ n) }
         ensures leads { IfSome result
-            (λ c. Leads c.now (table_at (self.now.now ∷ self.now.future) n) (table_at (self.now.now ∷ self.now.future) (n + 1))) }
+            (λ c. Leads c.now (table_at (self.now.now ∷ self.now.future) n)
+            (table_at (self.now.now ∷ self.now.future) (n + 1))) }
     {
         self.future.get(n)
     }
 
-    /// The most cells that a register may have. No list of the present state, of an earlier one or of one that
-    /// was undone has more, and each is normalised.
+    /// The most cells that a register may have. No list of the present state, an earlier one or one that was undone has
+    /// more, and each list is normalized.
     pub fn limit(&self) -> usize
         ensures value { result ≡ self.now.limit }
         ensures most { result ≤ MOST_CELLS }
@@ -209,7 +214,7 @@ impl Editor {
         self.limit
     }
 
-    /// How many states may be undone. With those that may be redone they are at most `depth`.
+    /// How many states can be undone. Together with those that can be redone they are at most `depth`.
     pub fn undoable(&self) -> usize
         ensures count { result ≡ length self.now.past }
         ensures within { result + length self.now.future ≤ self.now.depth }
@@ -217,7 +222,7 @@ impl Editor {
         self.past.len()
     }
 
-    /// How many states may be redone. With those that may be undone they are at most `depth`.
+    /// How many states can be redone. Together with those that can be undone they are at most `depth`.
     pub fn redoable(&self) -> usize
         ensures count { result ≡ length self.now.future }
         ensures within { length self.now.past + result ≤ self.now.depth }
@@ -240,15 +245,15 @@ fn empty_registers(alloc: Global, limit: usize) -> Result<Vec<CellUnion>, AllocE
 
 ghost use Rattle.std.specs.Prelude.{◌≢◌, MatchBool};
 
-/// Whether the two lists are one.
+/// Whether the two lists are the same.
 fn are_same(cells: &[CellId], others: &[CellId]) -> bool
     ensures { MatchBool result (cells.now ≡ others.now) (cells.now ≢ others.now) }
 {
     cells == others
 }
 
-/// Takes cells out of a register's list and puts others in, by way of the scratch list, with which the
-/// register's list is exchanged.
+/// Takes cells out of a register's list and puts others in: writes the new list into the scratch list, and exchanges
+/// the two.
 fn rewrite(
     registers: &mut Vec<CellUnion>,
     scratch: &mut CellUnion,
@@ -258,8 +263,10 @@ fn rewrite(
 )
     requires in_range { register < vec_len registers.old }
     requires fits { Fits out.now put.now (list_at (lists_of registers.old.items) register) }
-    requires room { length (applied out.now put.now (list_at (lists_of registers.old.items) register)) ≤ scratch.old.room }
-    ensures registers { registers.new.items ≡ slice_set registers.old.items register (union_of (applied out.now put.now (list_at (lists_of registers.old.items) register)) scratch.old.room) }
+    requires room { length (applied out.now put.now (list_at (lists_of registers.old.items) register))
+        ≤ scratch.old.room }
+    ensures registers { registers.new.items ≡ slice_set registers.old.items register
+        (union_of (applied out.now put.now (list_at (lists_of registers.old.items) register)) scratch.old.room) }
     ensures scratch { slice_get registers.old.items register ≡ Some scratch.new }
 {
     registers[register.index()].apply_into(out, put, scratch);

@@ -16,8 +16,8 @@ pub enum Edit {
     Redo,
 }
 
-/// How an edit ended: done, refused (a union above the limit, or nothing to undo or to redo), or for want of
-/// memory. In the last two cases the editor is as it was.
+/// How an edit ended: it was done, it was refused (a union above the limit, or nothing to undo or to redo), or it ran
+/// out of memory. In the last two cases the editor is as it was.
 #[derive(Clone, Copy, Debug, PartialEq, Eq)]
 pub enum Outcome {
     Done,
@@ -34,9 +34,9 @@ pub struct EditTally {
 }
 
 impl Edit {
-    /// Carries the edit out, and tells how it ended.
+    /// Carries out the edit, and answers how it ended.
     ///
-    /// An assignment copies its union, unless that is above the limit and refused.
+    /// An assignment copies its union, unless the union is above the limit and refused.
     pub fn carry_out(&self, editor: &mut Editor) -> Outcome
         ensures lists { Edited (λ u. u) editor.old self.now result editor.new }
         ensures leaf_sets { Edited has_leaf (sets editor.old) self.now result (sets editor.new) }
@@ -67,8 +67,8 @@ impl Edit {
     }
 }
 
-/// Carries out edits in order, and counts how they ended. One that is refused, or meets want of memory, is
-/// skipped: the editor is then as it was.
+/// Carries out edits in order, and counts how they ended. An edit that is refused or runs out of memory is skipped and
+/// leaves the editor as it was.
 pub fn run_edits(editor: &mut Editor, edits: &[Edit]) -> EditTally
     ensures run { Ran editor.old edits.now result editor.new }
     ensures gives_back { GivesBack (λ u. u) editor.old edits.now result editor.new }
@@ -89,7 +89,7 @@ pub fn run_edits(editor: &mut Editor, edits: &[Edit]) -> EditTally
     tally
 }
 
-/// Where memory is never wanted, what a list of edits does is one function of it and of the editor's state.
+/// If memory never runs out, what a list of edits does is one function of the list and of the state of the editor.
 pub fn law_of_runs()
     ensures { LawOfRuns }
 {}

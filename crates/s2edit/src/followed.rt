@@ -4,7 +4,7 @@ ghost use Rattle.std.specs.List.Sorted.{IsStrictlyIncreasing};
 ghost use Rattle.s2union.specs.Apply.{applied, Fits};
 ghost use Rattle.s2file.specs.Session.{AreApart};
 ghost use Rattle.s2edit.specs.Diff.{IsDiff};
-ghost use Rattle.s2edit.specs.Followed.{start_of, joined, both_out, CanFollowOn};
+ghost use Rattle.s2edit.specs.Followed.{joined, both_out, CanFollowOn};
 ghost use Rattle.s2edit.specs.Following.{FailsToFollow};
 
 use crate::lacking::lacking;
@@ -15,23 +15,22 @@ use std::alloc::{AllocError, Global};
 use std::cmp::Ordering;
 use std::marker::Model;
 
-/// How many cells are copied in the time in which one cell of a change is checked.
+/// How many cells can be copied in the time that checking one cell of a change takes.
 const COPIES_A_CHECK: usize = 32;
 
-/// A register's list that is followed along changes: the list that it had at some point, which the session lends as
-/// long as none was made, and the change that leads from there to now.
+/// A list that is followed along changes: the list at some earlier point, and the change that leads from there to the
+/// present list.
 ///
-/// So the list isn't made anew for each change. It is made once the checks of the gathered changes have cost as much.
+/// So the list isn't rebuilt for each change. It is rebuilt once the checks of the gathered changes have cost as much.
 #[derive(Drop)]
-pub(crate) struct Followed<'a> {
-    lent: &'a CellUnion,
-    own: Option<CellUnion>,
+pub(crate) struct Followed {
+    start: CellUnion,
     out: Vec<CellId>,
     put: Vec<CellId>,
     checked: usize,
 }
 
-impl<'a> Model for Followed<'a> {
+impl Model for Followed {
     ghost use Rattle.std.specs.Prelude.{List, ℕ};
     ghost use Rattle.s2edit.specs.Followed.{list_of, IsFollowed};
 
@@ -42,15 +41,14 @@ impl<'a> Model for Followed<'a> {
     ghost invariant = { IsFollowed };
 }
 
-impl<'a> Followed<'a> {
-    /// The list of a union, which no change has led away from yet.
-    pub(crate) fn from(alloc: Global, lent: &'a CellUnion) -> Followed<'a>
-        ensures { result ≡ lent.now.cells }
+impl Followed {
+    /// The list of a union, with no change yet.
+    pub(crate) fn from(alloc: Global, start: CellUnion) -> Followed
+        ensures { result ≡ start.cells }
     {
-        let _local = lent.cells();
+        let _local = start.cells();
         Followed {
-            lent,
-            own: None,
+            start,
             out: Vec::new(alloc),
             put: Vec::new(alloc),
             checked: 0,
@@ -61,7 +59,7 @@ impl<'a> Followed<'a> {
     pub(crate) fn len(&self) -> usize
         ensures { result ≡ length self.now }
     {
-        start(&self.own, self.lent).cells().len() - self.out.len() + self.put.len()
+        self.start.cells().len() - self.out.len() + self.put.len()
     }
 
     /// Makes a change; refused as `Fit` if it can't be made.
@@ -73,11 +71,12 @@ impl<'a> Followed<'a> {
     ) -> Result<(), RestoreFault>
         requires { IsDiff out.now put.now }
         ensures after { OnOk result (self.new ≡ applied out.now put.now self.old) }
-        ensures answer { MatchResult result (λ _. Fits out.now put.now self.old) (λ fault. FailsToFollow fault (Fits out.now put.now self.old)) }
+        ensures answer { MatchResult result (λ _. Fits out.now put.now self.old)
+            (λ fault. FailsToFollow fault (Fits out.now put.now self.old)) }
     {
         self.settle(alloc)?;
         let (out, put) = changes_in_turn(alloc, &self.out, &self.put, out, put)?;
-        if !start(&self.own, self.lent).can_apply(&out, &put) {
+        if !self.start.can_apply(&out, &put) {
             return Err(RestoreFault::Fit);
         }
         self.out = out;
@@ -85,7 +84,7 @@ impl<'a> Followed<'a> {
         Ok(())
     }
 
-    /// Makes the list, so that no change leads to it any more, if the checks of the gathered change were as dear.
+    /// Rebuilds the list once the checks of the gathered change have cost more than that. No change is gathered then.
     fn settle(&mut self, alloc: Global) -> Result<(), AllocError>
         ensures { OnOk result (self.new ≡ self.old) }
     {
@@ -98,9 +97,9 @@ impl<'a> Followed<'a> {
             return Ok(());
         }
         let mut list = CellUnion::with_room(alloc, len)?;
-        start(&self.own, self.lent).apply_into(&self.out, &self.put, &mut list);
+        self.start.apply_into(&self.out, &self.put, &mut list);
         let _local = list.cells();
-        self.own = Some(list);
+        self.start = list;
         self.out.clear();
         self.put.clear();
         self.checked = 0;
@@ -108,17 +107,8 @@ impl<'a> Followed<'a> {
     }
 }
 
-/// The list that was made last, or the one that was lent where none was made yet.
-fn start<'s>(own: &'s Option<CellUnion>, lent: &'s CellUnion) -> &'s CellUnion
-    ensures { result.now.cells ≡ start_of own.now lent.now }
-{
-    match own {
-        Some(list) => list,
-        None => lent,
-    }
-}
-
-/// What two changes in turn take out and put in; refused as `Fit` where one cell is taken out twice, or put in twice.
+/// What two changes, one after the other, take out and put in. Refused as `Fit` if a cell is taken out twice or put in
+/// twice.
 fn changes_in_turn(
     alloc: Global,
     out: &[CellId],
@@ -132,7 +122,8 @@ fn changes_in_turn(
     requires more_put_ascends { IsStrictlyIncreasing more_put.now }
     ensures out { IfOk result (λ lists. lists.0.items ≡ both_out out.now put.now more_out.now more_put.now) }
     ensures put { IfOk result (λ lists. lists.1.items ≡ both_out put.now out.now more_put.now more_out.now) }
-    ensures answer { MatchResult result (λ _. CanFollowOn out.now put.now more_out.now more_put.now) (λ fault. FailsToFollow fault (CanFollowOn out.now put.now more_out.now more_put.now)) }
+    ensures answer { MatchResult result (λ _. CanFollowOn out.now put.now more_out.now more_put.now)
+        (λ fault. FailsToFollow fault (CanFollowOn out.now put.now more_out.now more_put.now)) }
 {
     let (kept_out, new_put) = lacking(alloc, out, more_put)?;
     let (kept_put, new_out) = lacking(alloc, put, more_out)?;
@@ -141,12 +132,13 @@ fn changes_in_turn(
     Ok((outs, puts))
 }
 
-/// One ascending list of the cells of two, if no cell is in both.
+/// The cells of two lists in one ascending list, if no cell is in both.
 fn joined(alloc: Global, us: &[CellId], vs: &[CellId]) -> Result<Option<Vec<CellId>>, AllocError>
     requires us_ascends { IsStrictlyIncreasing us.now }
     requires vs_ascends { IsStrictlyIncreasing vs.now }
     ensures list { IfOk result (λ found. IfSome found (λ list. list.items ≡ joined us.now vs.now)) }
-    ensures apart { IfOk result (λ found. MatchOption found (AreApart us.now vs.now → ⊥) (λ _. AreApart us.now vs.now)) }
+    ensures apart { IfOk result (λ found. MatchOption found (AreApart us.now vs.now → ⊥)
+        (λ _. AreApart us.now vs.now)) }
 {
     let mut list = Vec::with_capacity(alloc, us.len() + vs.len())?;
     let mut i = 0;

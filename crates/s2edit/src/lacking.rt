@@ -7,10 +7,11 @@ use s2cell::CellId;
 use std::alloc::{AllocError, Global};
 use std::cmp::Ordering;
 
-/// The cells of `old` that `new` lacks, and those of `new` that `old` lacks. The two lists have just
-/// the room that they need.
+/// The cells of `old` that `new` lacks, and those of `new` that `old` lacks. The two lists have exactly the room that
+/// they need.
 ///
-/// What both begin with and what both end with is passed over; the rest takes two walks along both, one of which counts.
+/// Skips what both lists begin with and what both end with. For the rest it walks along both lists twice, the first
+/// time to count.
 pub(crate) fn lacking(
     alloc: Global,
     old: &[CellId],
@@ -32,7 +33,8 @@ pub(crate) fn lacking(
 fn same_front(us: &[CellId], vs: &[CellId]) -> usize
     ensures within { (result ≤ length us.now) × (result ≤ length vs.now) }
     ensures same { take result us.now ≡ take result vs.now }
-    ensures differ { result < length us.now → result < length vs.now → slice_index us.now result ≢ slice_index vs.now result }
+    ensures differ { result < length us.now → result < length vs.now →
+        slice_index us.now result ≢ slice_index vs.now result }
 {
     let most = us.len().min(vs.len());
     for i in 0..most {
@@ -47,7 +49,8 @@ fn same_front(us: &[CellId], vs: &[CellId]) -> usize
 fn same_back(us: &[CellId], vs: &[CellId]) -> usize
     ensures within { (result ≤ length us.now) × (result ≤ length vs.now) }
     ensures same { drop (length us.now - result) us.now ≡ drop (length vs.now - result) vs.now }
-    ensures differ { result < length us.now → result < length vs.now → slice_index us.now (length us.now - result - 1) ≢ slice_index vs.now (length vs.now - result - 1) }
+    ensures differ { result < length us.now → result < length vs.now →
+        slice_index us.now (length us.now - result - 1) ≢ slice_index vs.now (length vs.now - result - 1) }
 {
     let most = us.len().min(vs.len());
     for i in 0..most {
@@ -58,7 +61,7 @@ fn same_back(us: &[CellId], vs: &[CellId]) -> usize
     most
 }
 
-/// How many cells of a list the others lack.
+/// How many cells of a list another one lacks.
 fn count_lacking(us: &[CellId], others: &[CellId]) -> usize
     requires ascends { IsStrictlyIncreasing us.now }
     requires others_ascend { IsStrictlyIncreasing others.now }

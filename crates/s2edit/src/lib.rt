@@ -1,10 +1,9 @@
 //! An editor of registers that hold cell unions, with undo that cannot fail.
 //!
-//! Each register holds one normalised union. An assignment that changes a register is kept as the
-//! [`Change`] between its two lists: the cells that went out and those that were put in. A change has an
-//! inverse, so that two bounded rings of changes are the whole history: undo moves the newest change of
-//! the past across to the future and applies its inverse, redo goes the other way. No earlier list is
-//! kept, and neither of them takes memory.
+//! Each register holds one normalized union. An assignment that changes a register is kept as the [`Change`] between
+//! its two lists: the cells that were taken out and those that were put in. A change has an inverse, so two bounded
+//! rings of changes are the whole history: undo moves the newest change of the past to the future and applies its
+//! inverse; redo does the opposite. Earlier lists are not kept, and undo and redo take no memory.
 #![tactic(auto)]
 
 mod change;
@@ -12,6 +11,8 @@ mod editor;
 mod edits;
 mod followed;
 mod lacking;
+mod lengths;
+mod parts;
 mod register;
 mod session;
 
@@ -21,7 +22,7 @@ pub use edits::{Edit, EditTally, Outcome, law_of_runs, run_edits};
 pub use register::Register;
 pub use session::{RestoreFault, law_of_sessions};
 
-/// How many registers there are, named by the letters from `a` on.
+/// How many registers there are. They are named by the letters from `a` on.
 pub const REGISTERS: usize = 26;
 
 /// The most cells that a register may ever have: the greatest limit of an editor.

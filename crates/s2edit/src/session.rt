@@ -7,7 +7,7 @@ ghost use Rattle.s2file.specs.Session.{content_of, moved_of, IsContent, IsMoved}
 ghost use Rattle.s2edit.specs.History.{AllLists};
 ghost use Rattle.s2edit.specs.Diff.{inverse};
 ghost use Rattle.s2edit.specs.Chain.{lists_of, AllWithin, FitsTable, FitAlong};
-ghost use Rattle.s2edit.specs.Session.{moved, diff, Tells, Restored, RefusesSession};
+ghost use Rattle.s2edit.specs.Session.{moved, diff, Tells, Text, Restored, RefusesSession};
 ghost use Rattle.s2edit.specs.SessionLaws.{LawOfSessions};
 ghost use Rattle.s2edit.specs.Following.{FailsToFollow, Follows, Steps, HaveRoom, KeepRoom};
 ghost use Rattle.s2edit.specs.declared.session.RestoreFault.TheVariants.{Memory};
@@ -16,23 +16,26 @@ use crate::REGISTERS;
 use crate::change::Change;
 use crate::editor::Editor;
 use crate::followed::Followed;
+use crate::lengths::{longest_ahead, longest_back};
+use crate::parts::parts_of;
 use crate::register::Register;
 use circular_buffer::HeapCircularBuffer;
 use s2cell::CellId;
-use s2file::{Move, SESSION_CELLS, Session};
+use s2file::{Move, SESSION_CELLS, Session, encode_parts};
 use s2union::CellUnion;
 use std::alloc::{AllocError, Global};
+use std::mem;
 
-/// Why a session was not restored. The editor is then unchanged, and the session dropped.
+/// Why a session was not restored. The editor is then unchanged, and the session is dropped.
 #[derive(Clone, Copy, Debug, PartialEq, Eq, Drop, thiserror::Error)]
 pub enum RestoreFault {
-    /// A change can't be made in the list that it is told for, or makes one of more than 1,000,000 cells.
+    /// A change can't be made in its register's list, or makes a list of more than 1,000,000 cells.
     #[error("a change of the session can't be made")]
     Fit,
     /// There are more changes than the editor keeps.
     #[error("the session has more changes than the editor keeps")]
     TooDeep,
-    /// A list of the present state, of an earlier one or of one that was undone is too long.
+    /// A list of the present state, of an earlier state or of an undone state is too long.
     #[error("a list of the session has more cells than a register may")]
     TooMany,
     #[error("out of memory")]
@@ -50,7 +53,7 @@ impl From<AllocError> for RestoreFault {
 impl Editor {
     /// The registers and both sides of the history, as a session file holds them.
     ///
-    /// Copies each list. Takes memory for the copies alone.
+    /// Copies each list. Takes memory only for the copies.
     pub fn session(&self) -> Result<Session, AllocError>
         ensures tells { IfOk result (λ session. Tells (content_of session) self.now) }
         ensures content { IfOk result (λ session. IsContent (content_of session)) }
@@ -66,28 +69,42 @@ impl Editor {
         })
     }
 
-    /// Takes over a session: its registers, and its changes as past and future. Nothing of what the editor held
-    /// stays, and `undo` and `redo` then go on where the session stood, without memory.
+    /// The session file of the registers and of both sides of the history: what `encode_session` makes of `session`.
     ///
-    /// Refuses, in this order: by `Fit` a session with a change that can't be made along its chain (the past
-    /// backwards from the registers, the future forwards) or with a list there of more than 1,000,000 cells; by
-    /// `TooDeep` more changes than the editor keeps; by `TooMany` a list, also one that only an undo or a redo
-    /// would bring back, of more cells than a register may have. `Memory` may stand for any answer. A change
-    /// costs what it takes out and puts in, and what the changes before it that are gathered with it did; a list is
-    /// copied only once its gathered changes have cost as much.
+    /// Copies the changes, and takes memory for the file. The registers are copied only into the file.
+    pub fn session_file(&self) -> Result<Vec<u8>, AllocError>
+        ensures { IfOk result (λ bytes. Text self.now bytes.items) }
+    {
+        let mut past = moves_of(self.alloc, &self.past)?;
+        past.reverse();
+        let ahead = moves_of(self.alloc, &self.future)?;
+        encode_parts(self.alloc, &self.registers, &past, &ahead)
+    }
+
+    /// Takes over a session: its registers, and its changes as past and future. Nothing that the editor held stays.
+    /// `undo` and `redo` then go on from the session's present state, and take no memory.
+    ///
+    /// Refuses, in this order: with `Fit`, a session with a change that can't be made along its chain (the past
+    /// backward from the registers, the future forward) or with a list along it of more than 1,000,000 cells; with
+    /// `TooDeep`, more changes than the editor keeps; with `TooMany`, a list of more cells than a register may have,
+    /// even if only an undo or a redo would bring it back. Any call may answer `Memory` instead.
+    ///
+    /// Looks only at the cells of each list that are near cells that changes name, and copies only these. The cost of a
+    /// change is in proportion to the cells that it takes out and puts in, and those of the changes gathered before it.
     pub fn restore(&mut self, session: Session) -> Result<(), RestoreFault>
         requires { IsContent (content_of session) }
-        ensures answer { MatchResult result (λ _. Restored (content_of session) self.old self.new) (λ fault. RefusesSession (content_of session) self.old fault) }
+        ensures answer { MatchResult result (λ _. Restored (content_of session) self.old self.new)
+            (λ fault. RefusesSession (content_of session) self.old fault) }
         ensures err { OnErr result (self.new ≡ self.old) }
     {
         let Session {
-            registers,
+            mut registers,
             mut past,
             future,
         } = session;
         past.reverse();
-        let past_within = follow_back(self.alloc, &registers, &past, self.limit)?;
-        let future_within = follow_ahead(self.alloc, &registers, &future, self.limit)?;
+        let past_within = fit_back(self.alloc, &registers, &past, self.limit)?;
+        let future_within = fit_ahead(self.alloc, &registers, &future, self.limit)?;
         if past.len() + future.len() > self.depth {
             return Err(RestoreFault::TooDeep);
         }
@@ -95,14 +112,14 @@ impl Editor {
         if !both(changes_within, are_within(&registers, self.limit)) {
             return Err(RestoreFault::TooMany);
         }
-        copy_all(&mut self.registers, &registers);
+        take_all(self.alloc, &mut self.registers, &mut registers);
         fill(&mut self.past, past);
         fill(&mut self.future, future);
         Ok(())
     }
 }
 
-/// The laws of sessions: bytes stand for one history at most, and what is written of a history comes back.
+/// The laws of sessions: bytes stand for at most one history, and a history that is written comes back.
 pub fn law_of_sessions()
     ensures { LawOfSessions }
 {}
@@ -119,18 +136,37 @@ fn are_within(unions: &[CellUnion], limit: usize) -> bool
     true
 }
 
-/// Makes each union a copy of the other of its place, for which it has room.
-fn copy_all(unions: &mut Vec<CellUnion>, others: &[CellUnion])
-    requires room { HaveRoom (lists_of others.now) unions.old.items }
-    ensures lists { lists_of unions.new.items ≡ lists_of others.now }
+/// Replaces each union by the other one at its place, for which it has room, and leaves the other one empty.
+fn take_all(alloc: Global, unions: &mut Vec<CellUnion>, others: &mut Vec<CellUnion>)
+    requires room { HaveRoom (lists_of others.old.items) unions.old.items }
+    ensures lists { lists_of unions.new.items ≡ lists_of others.old.items }
     ensures rooms { KeepRoom unions.old.items unions.new.items }
 {
     for i in 0..others.len() {
-        unions[i].copy_from(&others[i]);
+        let other = mem::replace(&mut others[i], CellUnion::empty(alloc));
+        take_over(&mut unions[i], other);
     }
 }
 
-/// Makes a ring hold these changes, the first at its front.
+/// Replaces a union by another one, for whose list it has room. That list isn't copied if its own block of memory can
+/// be given as much room.
+fn take_over(union: &mut CellUnion, other: CellUnion)
+    requires { length other.cells ≤ union.old.room }
+    ensures cells { union.new.cells ≡ other.cells }
+    ensures room { union.old.room ≤ union.new.room }
+{
+    let mut cells = other.into_cells();
+    let lacking = union.room() - cells.len();
+    let has_room = cells.reserve_exact(lacking).is_ok();
+    let taken = CellUnion::from_normalized(cells);
+    if has_room {
+        *union = taken;
+    } else {
+        union.copy_from(&taken);
+    }
+}
+
+/// Makes a ring hold just these changes, the first at its front.
 fn fill(ring: &mut HeapCircularBuffer<Change>, mut moves: Vec<Move>)
     requires each { AllByRecursion IsMoved (map moved_of moves.items) }
     requires room { vec_len moves ≤ ring.old.capacity }
@@ -142,20 +178,72 @@ fn fill(ring: &mut HeapCircularBuffer<Change>, mut moves: Vec<Move>)
     }
 }
 
-/// Whether the changes can be made one after another from these registers on, and each list on the way, but for
-/// the first ones, keeps to the limit; refused as `Fit` where a change can't be made.
+/// Whether each list that the changes make, one after another from these registers, keeps to the limit. Refused as
+/// `Fit` if a change can't be made, or makes a list of more than `SESSION_CELLS` cells.
+///
+/// Makes the changes only in the parts of the lists that they can concern, which are often short, and counts how long
+/// the whole lists get.
+fn fit_ahead(
+    alloc: Global,
+    registers: &[CellUnion],
+    moves: &[Move],
+    limit: usize,
+) -> Result<bool, RestoreFault>
+    requires count { length registers.now ≡ REGISTERS }
+    requires within { AllWithin SESSION_CELLS (lists_of registers.now) }
+    requires each { AllByRecursion IsMoved (map moved_of moves.now) }
+    ensures { MatchResult result (λ within. Follows limit (lists_of registers.now)
+        (map diff (map moved_of moves.now)) within) (λ fault.
+        FailsToFollow fault (FitAlong SESSION_CELLS (lists_of registers.now) (map diff (map moved_of moves.now)))) }
+{
+    let parts = parts_of(alloc, registers, moves)?;
+    let _within = follow_ahead(alloc, parts, moves, limit)?;
+    let most = longest_ahead(alloc, registers, moves)?;
+    if most > SESSION_CELLS {
+        return Err(RestoreFault::Fit);
+    }
+    Ok(most <= limit)
+}
+
+/// The same for the inverse changes.
+fn fit_back(
+    alloc: Global,
+    registers: &[CellUnion],
+    moves: &[Move],
+    limit: usize,
+) -> Result<bool, RestoreFault>
+    requires count { length registers.now ≡ REGISTERS }
+    requires within { AllWithin SESSION_CELLS (lists_of registers.now) }
+    requires each { AllByRecursion IsMoved (map moved_of moves.now) }
+    ensures { MatchResult result (λ within. Follows limit (lists_of registers.now)
+        (map inverse (map diff (map moved_of moves.now))) within)
+        (λ fault. FailsToFollow fault (FitAlong SESSION_CELLS (lists_of registers.now)
+        (map inverse (map diff (map moved_of moves.now))))) }
+{
+    let parts = parts_of(alloc, registers, moves)?;
+    let _within = follow_back(alloc, parts, moves, limit)?;
+    let most = longest_back(alloc, registers, moves)?;
+    if most > SESSION_CELLS {
+        return Err(RestoreFault::Fit);
+    }
+    Ok(most <= limit)
+}
+
+/// Whether each list that the changes make, one after another from this table, keeps to the limit. Refused as `Fit` if
+/// a change can't be made, or makes a list of more than `SESSION_CELLS` cells.
 fn follow_ahead(
     alloc: Global,
-    registers: &[CellUnion],
+    mut table: Vec<Followed>,
     moves: &[Move],
     limit: usize,
 ) -> Result<bool, RestoreFault>
-    requires count { length registers.now ≡ REGISTERS }
-    requires within { AllWithin SESSION_CELLS (lists_of registers.now) }
+    requires count { length table.items ≡ REGISTERS }
+    requires within { AllWithin SESSION_CELLS table.items }
     requires each { AllByRecursion IsMoved (map moved_of moves.now) }
-    ensures { MatchResult result (λ within. Follows limit (lists_of registers.now) (map diff (map moved_of moves.now)) within) (λ fault. FailsToFollow fault (FitAlong SESSION_CELLS (lists_of registers.now) (map diff (map moved_of moves.now)))) }
+    ensures { MatchResult result (λ within. Follows limit table.items
+        (map diff (map moved_of moves.now)) within) (λ fault.
+        FailsToFollow fault (FitAlong SESSION_CELLS table.items (map diff (map moved_of moves.now)))) }
 {
-    let mut table = followed(alloc, registers)?;
     let mut within = true;
     for change in moves {
         let few = step(
@@ -171,19 +259,21 @@ fn follow_ahead(
     Ok(within)
 }
 
-/// The same of the inverse changes.
+/// The same for the inverse changes.
 fn follow_back(
     alloc: Global,
-    registers: &[CellUnion],
+    mut table: Vec<Followed>,
     moves: &[Move],
     limit: usize,
 ) -> Result<bool, RestoreFault>
-    requires count { length registers.now ≡ REGISTERS }
-    requires within { AllWithin SESSION_CELLS (lists_of registers.now) }
+    requires count { length table.items ≡ REGISTERS }
+    requires within { AllWithin SESSION_CELLS table.items }
     requires each { AllByRecursion IsMoved (map moved_of moves.now) }
-    ensures { MatchResult result (λ within. Follows limit (lists_of registers.now) (map inverse (map diff (map moved_of moves.now))) within) (λ fault. FailsToFollow fault (FitAlong SESSION_CELLS (lists_of registers.now) (map inverse (map diff (map moved_of moves.now))))) }
+    ensures { MatchResult result (λ within. Follows limit table.items
+        (map inverse (map diff (map moved_of moves.now))) within)
+        (λ fault. FailsToFollow fault (FitAlong SESSION_CELLS table.items
+        (map inverse (map diff (map moved_of moves.now))))) }
 {
-    let mut table = followed(alloc, registers)?;
     let mut within = true;
     for change in moves {
         let few = step(
@@ -199,21 +289,10 @@ fn follow_back(
     Ok(within)
 }
 
-/// The lists of registers, to be followed.
-fn followed<'a>(alloc: Global, registers: &'a [CellUnion]) -> Result<Vec<Followed<'a>>, AllocError>
-    ensures { IfOk result (λ table. table.items ≡ lists_of registers.now) }
-{
-    let mut table = Vec::with_capacity(alloc, registers.len())?;
-    for register in registers {
-        table.push(Followed::from(alloc, register))?;
-    }
-    Ok(table)
-}
-
-/// Makes a change in a table of registers, and says whether the new list keeps to the limit.
+/// Makes a change in a table of registers, and answers whether the new list keeps to the limit.
 fn step(
     alloc: Global,
-    table: &mut Vec<Followed<'_>>,
+    table: &mut Vec<Followed>,
     register: u8,
     out: &[CellId],
     put: &[CellId],
@@ -222,7 +301,10 @@ fn step(
     requires count { length table.old.items ≡ REGISTERS }
     requires within { AllWithin SESSION_CELLS table.old.items }
     requires change { IsMoved (record { register = register; out = out.now; put = put.now }) }
-    ensures { MatchResult result (λ few. Steps limit table.old.items (record { register = register; out = out.now; put = put.now }) table.new.items few) (λ fault. FailsToFollow fault (FitsTable SESSION_CELLS table.old.items (record { register = register; out = out.now; put = put.now }))) }
+    ensures { MatchResult result (λ few. Steps limit table.old.items
+        (record { register = register; out = out.now; put = put.now }) table.new.items few)
+        (λ fault. FailsToFollow fault (FitsTable SESSION_CELLS table.old.items
+        (record { register = register; out = out.now; put = put.now }))) }
 {
     let place = Register::at(register);
     let list = &mut table[place.index()];
@@ -255,7 +337,7 @@ fn copies_of(alloc: Global, unions: &[CellUnion]) -> Result<Vec<CellUnion>, Allo
     Ok(copies)
 }
 
-/// Copies of the changes of a ring, from its front on.
+/// Copies of the changes of a ring, from front to back.
 fn moves_of(alloc: Global, ring: &HeapCircularBuffer<Change>) -> Result<Vec<Move>, AllocError>
     ensures { IfOk result (λ moves. map moved_of moves.items ≡ map moved ring.now.items) }
 {

@@ -1,5 +1,6 @@
 -- Bytes that are longer than any file.
-use Rattle.std.proofs.Common.{◌≡◌, ◌≢◌, ℕ, ◌<◌, ◌≤◌, ◌⊎◌, ⊎_elim, inl, inr, Bool, List, [], ◌∷◌, ◌++◌, length, take, drop, slice_index, refl, sym, ◌∙◌, subst, arith}
+use Rattle.std.proofs.Common.{◌≡◌, ◌≢◌, ℕ, ◌<◌, ◌≤◌, ◌⊎◌, ⊎_elim, inl, inr, Bool, List, [], ◌∷◌}
+use Rattle.std.proofs.Common.{◌++◌, length, take, drop, slice_index, refl, sym, ◌∙◌, subst, arith}
 use Rattle.std.proofs.lemmas.List.{length-append, length-take-le, take_all, take-append-drop, get_or_append_left}
 use Rattle.std.proofs.lemmas.Bool.Decides.{leb_tells}
 use Rattle.s2file.specs.declared.union_file.TheConstants.{MOST_SIZE}
@@ -30,13 +31,20 @@ head-longer : (xs ys : List ℕ) → MOST_SIZE < length xs → HasHead xs → Ha
 head-longer xs ys h v = record { version = version-longer xs ys h v.version; whole = omega (arith, longer xs ys) }
 
 count-longer : (xs ys : List ℕ) → MOST_SIZE < length xs → HasCount xs → HasCount (xs ++ ys)
-count-longer xs ys h v = record { head = head-longer xs ys h v.head; most = omega (arith, v.most, stated-longer xs ys h) }
+count-longer xs ys h v = record {
+  head = head-longer xs ys h v.head;
+  most = omega (arith, v.most, stated-longer xs ys h);
+}
 
 -- they are too long for the last checks, and not too short
-fault-longer : (xs ys : List ℕ) (fault : FileFault) → MOST_SIZE < length xs → fault ≢ Memory → Faults xs fault → Faults (xs ++ ys) fault
+fault-longer : (xs ys : List ℕ) (fault : FileFault) → MOST_SIZE < length xs → fault ≢ Memory → Faults xs fault →
+    Faults (xs ++ ys) fault
 fault-longer xs ys Version h n f = (omega (arith, longer xs ys), λ e. f.1 (sym (first-longer xs ys h) ∙ e))
 fault-longer xs ys Count h n f = (head-longer xs ys h f.0, omega (arith, f.1, stated-longer xs ys h))
-fault-longer xs ys Trailing h n f = (count-longer xs ys h f.0, omega (arith, f.0.most, stated-longer xs ys h, longer xs ys))
+fault-longer xs ys Trailing h n f = (
+  count-longer xs ys h f.0,
+  omega (arith, f.0.most, stated-longer xs ys h, longer xs ys),
+)
 fault-longer xs ys Short h n (inl none) = absurd (omega (arith, none))
 fault-longer xs ys Short h n (inr (inl head)) = absurd (omega (arith, head.1))
 fault-longer xs ys Short h n (inr (inr tail)) = absurd (omega (arith, tail.0.most, tail.1))
@@ -47,13 +55,17 @@ fault-longer xs ys Memory h n f = absurd (n refl)
 
 -- all there is, or that many bytes of it
 all_or_more : (bytes : List ℕ) (n : ℕ) → (take n bytes ≡ bytes) ⊎ (length (take n bytes) ≡ n)
-all_or_more bytes n = ⊎_elim (λ h. inl (take_all n bytes h.1)) (λ h. inr (length-take-le n bytes (omega (arith, h.1)))) (leb_tells (length bytes) n)
+all_or_more bytes n = ⊎_elim (λ h. inl (take_all n bytes h.1))
+    (λ h. inr (length-take-le n bytes (omega (arith, h.1)))) (leb_tells (length bytes) n)
 
 pub file_begins : (bytes : List ℕ) (n : ℕ) (S : ℕ → Bool) → MOST_SIZE < n → File (take n bytes) S → File bytes S
 file_begins bytes n S h f =
-    ⊎_elim (λ e. subst (λ b. File b S) e f) (λ e. absurd (omega (arith, h, e, longest (take n bytes) S f))) (all_or_more bytes n)
+    ⊎_elim (λ e. subst (λ b. File b S) e f) (λ e. absurd (omega (arith, h, e, longest (take n bytes) S f)))
+    (all_or_more bytes n)
 
-pub fault_begins : (bytes : List ℕ) (n : ℕ) (fault : FileFault) → MOST_SIZE < n → fault ≢ Memory → Faults (take n bytes) fault → Faults bytes fault
+pub fault_begins : (bytes : List ℕ) (n : ℕ) (fault : FileFault) → MOST_SIZE < n → fault ≢ Memory →
+    Faults (take n bytes) fault → Faults bytes fault
 fault_begins bytes n fault h m f =
     ⊎_elim (λ e. subst (λ b. Faults b fault) e f)
-    (λ e. subst (λ b. Faults b fault) (take-append-drop n bytes) (fault-longer (take n bytes) (drop n bytes) fault (omega (arith, h, e)) m f)) (all_or_more bytes n)
+    (λ e. subst (λ b. Faults b fault) (take-append-drop n bytes)
+    (fault-longer (take n bytes) (drop n bytes) fault (omega (arith, h, e)) m f)) (all_or_more bytes n)

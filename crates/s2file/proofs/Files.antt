@@ -1,5 +1,6 @@
 -- Files, and what is wrong with other bytes.
-use Rattle.std.proofs.Common.{Result, Ok, Err, ◌≡◌, ◌≢◌, ℕ, ◌+◌, ◌*◌, ◌<◌, ◌≤◌, inl, inr, Bool, List, length, refl, sym, ap, ◌∙◌, subst, arith}
+use Rattle.std.proofs.Common.{Result, Ok, Err, ◌≡◌, ◌≢◌, ℕ, ◌+◌, ◌*◌, ◌<◌, ◌≤◌, inl, inr, Bool, List}
+use Rattle.std.proofs.Common.{length, refl, sym, ap, ◌∙◌, subst, arith}
 use Rattle.std.specs.Prelude.{MatchResult}
 use Rattle.std.proofs.lemmas.List.{ext_get_or}
 use Rattle.std.proofs.lemmas.List.Elements.{All-get_or}
@@ -12,7 +13,8 @@ use Rattle.s2file.specs.File.{stated_count, IsFileOf, File, HasCount, Faults}
 -- a file has one list of identifiers
 same_ids : (bytes xs ys : List ℕ) → IsFileOf bytes xs → IsFileOf bytes ys → xs ≡ ys
 same_ids bytes xs ys f g =
-    ext_get_or 0 xs ys (sym f.count ∙ g.count) (λ i h. f.numbers i h ∙ sym (g.numbers i (omega (arith, f.count, g.count))))
+    ext_get_or 0 xs ys (sym f.count ∙ g.count) (λ i h. f.numbers i h
+    ∙ sym (g.numbers i (omega (arith, f.count, g.count))))
 
 pub same_leaves : (bytes : List ℕ) (S T : ℕ → Bool) → File bytes S → File bytes T → (x : ℕ) → S x ≡ T x
 same_leaves bytes S T f g x =
@@ -33,7 +35,8 @@ no_fault bytes S Trailing f h = absurd (omega (arith, f.is.length_is, f.is.count
 no_fault bytes S Cell f h =
     let found = h.1 in
     let within : found.place < length f.ids = omega (arith, f.is.count, found.within) in
-    absurd (found.wrong (subst IsCell (f.is.numbers found.place within) (All-get_or IsCell f.ids found.place 0 within f.is.cells)))
+    absurd (found.wrong (subst IsCell (f.is.numbers found.place within)
+    (All-get_or IsCell f.ids found.place 0 within f.is.cells)))
 no_fault bytes S Memory f h = refl
 
 -- bytes that end too early don't begin with another byte than 1
@@ -67,7 +70,8 @@ short_ends bytes h counted enough = elim h [
 ]
 
 -- two checks don't both fail first
-pub one_fault : (bytes : List ℕ) (fault other : FileFault) → Faults bytes fault → Faults bytes other → fault ≢ Memory → other ≢ Memory → fault ≡ other
+pub one_fault : (bytes : List ℕ) (fault other : FileFault) → Faults bytes fault → Faults bytes other →
+    fault ≢ Memory → other ≢ Memory → fault ≡ other
 one_fault bytes Memory other h g m n = absurd (m refl)
 one_fault bytes Version Memory h g m n = absurd (n refl)
 one_fault bytes Version Version h g m n = refl
@@ -101,7 +105,8 @@ one_fault bytes Cell Trailing h g m n = absurd (omega (arith, g.1, h.0.length_is
 one_fault bytes Cell Cell h g m n = refl
 
 -- an answer that is right for the bytes is the one for each set whose file they are
-pub exact_answer : (bytes : List ℕ) (r : Result Union FileFault) → MatchResult r (λ u. File bytes (has_leaf u.cells)) (Faults bytes)
+pub exact_answer : (bytes : List ℕ) (r : Result Union FileFault) →
+    MatchResult r (λ u. File bytes (has_leaf u.cells)) (Faults bytes)
     → (S : ℕ → Bool) → File bytes S → MatchResult r (λ u. (x : ℕ) → has_leaf u.cells x ≡ S x) (λ fault. fault ≡ Memory)
 exact_answer bytes (Ok u) answer S file = λ x. same_leaves bytes (has_leaf u.cells) S answer file x
 exact_answer bytes (Err fault) answer S file = no_fault bytes S fault file answer

@@ -1,5 +1,6 @@
--- What stands at the front of bytes stands there in one way.
-use Rattle.std.proofs.Common.{◌≡◌, ℕ, ◌+◌, ◌*◌, ◌<◌, ◌≤◌, ◌^◌, List, [], ◌∷◌, ◌++◌, length, take, drop, get_or, All, flat_map, refl, sym, ap, ◌∙◌, subst, append_assoc, arith}
+-- What is at the front of bytes is there in only one way.
+use Rattle.std.proofs.Common.{◌≡◌, ℕ, ◌+◌, ◌*◌, ◌<◌, ◌≤◌, ◌^◌, List, [], ◌∷◌, ◌++◌, length, take}
+use Rattle.std.proofs.Common.{drop, get_or, All, flat_map, refl, sym, ap, ◌∙◌, subst, append_assoc, arith}
 use Rattle.std.proofs.lemmas.List.{length-append, drop_at, append-nil, length-take}
 use Rattle.std.proofs.lemmas.List.Elements.{recursion_from_All}
 use Rattle.std.specs.List.{AllByRecursion}
@@ -8,7 +9,8 @@ use Rattle.std.proofs.lemmas.Nat.{le_bytes_8}
 use Rattle.s2cell.specs.Cell.{IsCell}
 use Rattle.s2cell.proofs.Calls.{fits_u64}
 use Rattle.s2file.specs.File.{first_number, number_text}
-use Rattle.s2file.specs.Session.{Moved, Content, list_text, move_text, moves_text, parts_text, IsRegisterList, IsChangeList, IsMoved, IsContent}
+use Rattle.s2file.specs.Session.{Moved, Content, list_text, move_text, moves_text, parts_text, IsRegisterList}
+use Rattle.s2file.specs.Session.{IsChangeList, IsMoved, IsContent}
 use Rattle.s2file.specs.SessionParts.{Begins, IsNumber, AreCells, AreMoves, AreRegisters, registers_text}
 use Rattle.s2file.proofs.Numbers.{first_number-number_text, length-number_text, first_number-append}
 
@@ -21,11 +23,13 @@ pub one_number : IsOneWay number_text IsNumber
 one_number bytes a b r q f g =
     let same : number_text a ++ r ≡ number_text b ++ q = sym f.is ∙ g.is in (
       sym (first_number-number_text a r f.ok) ∙ ap first_number same ∙ first_number-number_text b q g.ok,
-      sym (drop_at (number_text a) r 8 (length-number_text a)) ∙ ap (drop 8) same ∙ drop_at (number_text b) q 8 (length-number_text b),
+      sym (drop_at (number_text a) r 8 (length-number_text a)) ∙ ap (drop 8) same
+          ∙ drop_at (number_text b) q 8 (length-number_text b),
     )
 
 -- one kind of values that is within another
-module _ {A : Type 0} (text : A → List ℕ) (Ok More : A → Type 0) (more : (a : A) → Ok a → More a) (one : IsOneWay text More) where
+module _ {A : Type 0} (text : A → List ℕ) (Ok More : A → Type 0) (more : (a : A) → Ok a → More a)
+    (one : IsOneWay text More) where
   wider : (bytes : List ℕ) (a : A) (r : List ℕ) → Begins text Ok bytes a r → Begins text More bytes a r
   wider bytes a r f = record { is = f.is; ok = more a f.ok }
 
@@ -34,10 +38,12 @@ module _ {A : Type 0} (text : A → List ℕ) (Ok More : A → Type 0) (more : (
 
 -- values one after another
 module _ {A : Type 0} (text : A → List ℕ) (Ok : A → Type 0) (one : IsOneWay text Ok) where
-  first_of : (x : A) (xs : List A) (r : List ℕ) → Ok x → Begins text Ok (flat_map text (x ∷ xs) ++ r) x (flat_map text xs ++ r)
+  first_of : (x : A) (xs : List A) (r : List ℕ) → Ok x →
+      Begins text Ok (flat_map text (x ∷ xs) ++ r) x (flat_map text xs ++ r)
   first_of x xs r ok = record { is = append_assoc (text x) (flat_map text xs) r; ok = ok }
 
-  heads : (x y : A) (xs ys : List A) (r q : List ℕ) → Ok x → Ok y → flat_map text (x ∷ xs) ++ r ≡ flat_map text (y ∷ ys) ++ q
+  heads : (x y : A) (xs ys : List A) (r q : List ℕ) → Ok x → Ok y →
+      flat_map text (x ∷ xs) ++ r ≡ flat_map text (y ∷ ys) ++ q
       → (x ≡ y) × (flat_map text xs ++ r ≡ flat_map text ys ++ q)
   heads x y xs ys r q a b e =
       one (flat_map text (x ∷ xs) ++ r) x y (flat_map text xs ++ r) (flat_map text ys ++ q) (first_of x xs r a)
@@ -58,7 +64,8 @@ module _ {A : Type 0} (text : A → List ℕ) (Ok : A → Type 0) (one : IsOneWa
       → flat_map text xs ++ mid ≡ flat_map text ys ++ r → ((a : A) (rest : List ℕ) → Begins text Ok mid a rest → ⊥) → ⊥
   no_more [] [] mid r a b l e none = absurd (omega arith)
   no_more [] (y ∷ ys) mid r a b l e none =
-      none y (flat_map text ys ++ r) (subst (λ (l : List ℕ). Begins text Ok l y (flat_map text ys ++ r)) (sym e) (first_of y ys r b.0))
+      none y (flat_map text ys ++ r) (subst (λ (l : List ℕ). Begins text Ok l y (flat_map text ys ++ r)) (sym e)
+      (first_of y ys r b.0))
   no_more (x ∷ xs) [] mid r a b l e none = absurd (omega arith)
   no_more (x ∷ xs) (y ∷ ys) mid r a b l e none =
       no_more xs ys mid r a.1 b.1 (omega arith) (heads x y xs ys mid r a.0 b.0 e).1 none
@@ -71,7 +78,8 @@ pub one_cell : IsOneWay number_text IsCell
 one_cell = one_within number_text IsCell IsNumber fits_u64 one_number
 
 -- a list of cells: its count, and what follows
-pub list_count : (bytes ids r : List ℕ) → Begins list_text AreCells bytes ids r → Begins number_text IsNumber bytes (length ids) (flat_map number_text ids ++ r)
+pub list_count : (bytes ids r : List ℕ) → Begins list_text AreCells bytes ids r →
+    Begins number_text IsNumber bytes (length ids) (flat_map number_text ids ++ r)
 list_count bytes ids r f = record {
   is = f.is ∙ append_assoc (number_text (length ids)) (flat_map number_text ids) r;
   ok = omega (arith, f.ok.few);
@@ -79,8 +87,10 @@ list_count bytes ids r f = record {
 
 pub one_list : IsOneWay list_text AreCells
 one_list bytes a b r q f g =
-    let n = one_number bytes (length a) (length b) (flat_map number_text a ++ r) (flat_map number_text b ++ q) (list_count bytes a r f) (list_count bytes b q g) in
-    one_row number_text IsCell one_cell a b r q (recursion_from_All IsCell a f.ok.valid) (recursion_from_All IsCell b g.ok.valid) n.0 n.1
+    let n = one_number bytes (length a) (length b) (flat_map number_text a ++ r) (flat_map number_text b ++ q)
+    (list_count bytes a r f) (list_count bytes b q g) in
+    one_row number_text IsCell one_cell a b r q (recursion_from_All IsCell a f.ok.valid)
+    (recursion_from_All IsCell b g.ok.valid) n.0 n.1
 
 pub register_cells : (cells : List ℕ) → IsRegisterList cells → AreCells cells
 register_cells cells l = record { valid = l.local.cells; few = l.few }
@@ -92,7 +102,8 @@ pub one_register : IsOneWay list_text IsRegisterList
 one_register = one_within list_text IsRegisterList AreCells register_cells one_list
 
 -- a change: the byte of its register, and what follows
-pub move_front : (bytes : List ℕ) (m : Moved) (r : List ℕ) → bytes ≡ move_text m ++ r → bytes ≡ m.register ∷ (list_text m.out ++ (list_text m.put ++ r))
+pub move_front : (bytes : List ℕ) (m : Moved) (r : List ℕ) → bytes ≡ move_text m ++ r →
+    bytes ≡ m.register ∷ (list_text m.out ++ (list_text m.put ++ r))
 move_front bytes m r e = e ∙ ap (λ (l : List ℕ). m.register ∷ l) (append_assoc (list_text m.out) (list_text m.put) r)
 
 pub behind_byte : (x y : ℕ) (xs ys : List ℕ) → x ∷ xs ≡ y ∷ ys → (x ≡ y) × (xs ≡ ys)
@@ -105,19 +116,24 @@ same_moved m n e f g =
     ∙ ap (λ (x : List ℕ). record { register = n.register; out = n.out; put = x }) g
 
 -- two changes at the front are one if their lists are lists of cells
-pub same_move : (bytes : List ℕ) (m n : Moved) (r q : List ℕ) → bytes ≡ move_text m ++ r → bytes ≡ move_text n ++ q → AreCells m.out → AreCells m.put →
+pub same_move : (bytes : List ℕ) (m n : Moved) (r q : List ℕ) → bytes ≡ move_text m ++ r →
+    bytes ≡ move_text n ++ q → AreCells m.out → AreCells m.put →
     AreCells n.out → AreCells n.put → (m ≡ n) × (r ≡ q)
 same_move bytes m n r q e f mo mp po pp =
     let b = behind_byte _ _ _ _ (sym (move_front bytes m r e) ∙ move_front bytes n q f) in
-    let out = one_list (list_text m.out ++ (list_text m.put ++ r)) m.out n.out (list_text m.put ++ r) (list_text n.put ++ q) (record { is = refl; ok = mo }) (record { is = b.1; ok = po }) in
-    let put = one_list (list_text m.put ++ r) m.put n.put r q (record { is = refl; ok = mp }) (record { is = out.1; ok = pp }) in
+    let out = one_list (list_text m.out ++ (list_text m.put ++ r)) m.out n.out (list_text m.put ++ r)
+    (list_text n.put ++ q) (record { is = refl; ok = mo }) (record { is = b.1; ok = po }) in
+    let put = one_list (list_text m.put ++ r) m.put n.put r q (record { is = refl; ok = mp })
+    (record { is = out.1; ok = pp }) in
     (same_moved m n b.0 out.0 put.0, put.1)
 
 pub one_move : IsOneWay move_text IsMoved
 one_move bytes m n r q f g =
-    same_move bytes m n r q f.is g.is (change_cells m.out f.ok.out) (change_cells m.put f.ok.put) (change_cells n.out g.ok.out) (change_cells n.put g.ok.put)
+    same_move bytes m n r q f.is g.is (change_cells m.out f.ok.out) (change_cells m.put f.ok.put)
+    (change_cells n.out g.ok.out) (change_cells n.put g.ok.put)
 
-pub moves_count : (bytes : List ℕ) (ms : List Moved) (r : List ℕ) → Begins moves_text AreMoves bytes ms r → Begins number_text IsNumber bytes (length ms) (flat_map move_text ms ++ r)
+pub moves_count : (bytes : List ℕ) (ms : List Moved) (r : List ℕ) → Begins moves_text AreMoves bytes ms r →
+    Begins number_text IsNumber bytes (length ms) (flat_map move_text ms ++ r)
 moves_count bytes ms r f = record {
   is = f.is ∙ append_assoc (number_text (length ms)) (flat_map move_text ms) r;
   ok = omega (arith, f.ok.few);
@@ -125,12 +141,14 @@ moves_count bytes ms r f = record {
 
 pub one_moves : IsOneWay moves_text AreMoves
 one_moves bytes a b r q f g =
-    let n = one_number bytes (length a) (length b) (flat_map move_text a ++ r) (flat_map move_text b ++ q) (moves_count bytes a r f) (moves_count bytes b q g) in
+    let n = one_number bytes (length a) (length b) (flat_map move_text a ++ r) (flat_map move_text b ++ q)
+    (moves_count bytes a r f) (moves_count bytes b q g) in
     one_row move_text IsMoved one_move a b r q f.ok.each g.ok.each n.0 n.1
 
 pub one_registers : IsOneWay registers_text AreRegisters
 one_registers bytes a b r q f g =
-    one_row list_text IsRegisterList one_register a b r q f.ok.each g.ok.each (f.ok.count ∙ sym g.ok.count) (sym f.is ∙ g.is)
+    one_row list_text IsRegisterList one_register a b r q f.ok.each g.ok.each (f.ok.count ∙ sym g.ok.count)
+    (sym f.is ∙ g.is)
 
 -- the three parts of a session, from the front
 pub record Parts (bytes : List ℕ) (s : Content) (behind last rest : List ℕ) : Type 0 where
@@ -138,11 +156,15 @@ pub record Parts (bytes : List ℕ) (s : Content) (behind last rest : List ℕ) 
   pub past : Begins moves_text AreMoves behind s.past last
   pub future : Begins moves_text AreMoves last s.future rest
 
-pub parts_of : (bytes : List ℕ) (s : Content) → IsContent s → bytes ≡ parts_text s → Parts bytes s (moves_text s.past ++ moves_text s.future) (moves_text s.future) []
+pub parts_of : (bytes : List ℕ) (s : Content) → IsContent s → bytes ≡ parts_text s →
+    Parts bytes s (moves_text s.past ++ moves_text s.future) (moves_text s.future) []
 parts_of bytes s c e = record {
   registers = record { is = e; ok = record { count = c.count; each = c.registers } };
   past = record { is = refl; ok = record { few = omega (arith, c.few); each = c.past } };
-  future = record { is = sym (append-nil (moves_text s.future)); ok = record { few = omega (arith, c.few); each = c.future } };
+  future = record {
+    is = sym (append-nil (moves_text s.future));
+    ok = record { few = omega (arith, c.few); each = c.future };
+  };
 }
 
 pub same_content : (s t : Content) → s.registers ≡ t.registers → s.past ≡ t.past → s.future ≡ t.future → s ≡ t
@@ -151,9 +173,12 @@ same_content s t e f g =
     ∙ ap (λ (x : List Moved). record { registers = t.registers; past = x; future = s.future }) f
     ∙ ap (λ (x : List Moved). record { registers = t.registers; past = t.past; future = x }) g
 
-pub one_session : (bytes : List ℕ) (s t : Content) (b l r b' l' r' : List ℕ) → Parts bytes s b l r → Parts bytes t b' l' r' → (s ≡ t) × (r ≡ r')
+pub one_session : (bytes : List ℕ) (s t : Content) (b l r b' l' r' : List ℕ) → Parts bytes s b l r →
+    Parts bytes t b' l' r' → (s ≡ t) × (r ≡ r')
 one_session bytes s t b l r b' l' r' f g =
     let regs = one_registers bytes s.registers t.registers b b' f.registers g.registers in
-    let past = one_moves b s.past t.past l l' f.past (subst (λ (x : List ℕ). Begins moves_text AreMoves x t.past l') (sym regs.1) g.past) in
-    let future = one_moves l s.future t.future r r' f.future (subst (λ (x : List ℕ). Begins moves_text AreMoves x t.future r') (sym past.1) g.future) in
+    let past = one_moves b s.past t.past l l' f.past
+    (subst (λ (x : List ℕ). Begins moves_text AreMoves x t.past l') (sym regs.1) g.past) in
+    let future = one_moves l s.future t.future r r' f.future
+    (subst (λ (x : List ℕ). Begins moves_text AreMoves x t.future r') (sym past.1) g.future) in
     (same_content s t regs.0 past.0 future.0, future.1)

@@ -1,5 +1,6 @@
 -- Known files and refused bytes.
-use Rattle.std.proofs.Common.{◌≡◌, ℕ, ◌≤◌, ◌||◌, Bool, true, false, List, [], ◌∷◌, length, All, refl, sym, ◌∙◌, subst, lit<, lit≤, arith}
+use Rattle.std.proofs.Common.{◌≡◌, ℕ, ◌≤◌, ◌||◌, Bool, true, false, List, [], ◌∷◌, length, All, refl, sym}
+use Rattle.std.proofs.Common.{◌∙◌, subst, lit<, lit≤, arith}
 use Rattle.std.proofs.lemmas.List.Elements.{All-nil, All-cons}
 use Rattle.std.specs.Int.Count.{count_trailing_zeros}
 use Rattle.s2cell.specs.Cell.{IsCell, covers, level_of, place_of, child_of}
@@ -12,9 +13,14 @@ use Rattle.s2file.specs.File.{IsFileOf, File, file_text}
 use Rattle.s2file.proofs.Texts.{text_is_file}
 
 -- the text of identifiers is a file of a set
-pub file_from_text : (ids bytes : List ℕ) (S : ℕ → Bool) → All IsCell ids → length ids ≤ MOST_CELLS → file_text ids ≡ bytes → ((x : ℕ) → S x ≡ has_leaf ids x) → File bytes S
+pub file_from_text : (ids bytes : List ℕ) (S : ℕ → Bool) → All IsCell ids → length ids ≤ MOST_CELLS →
+    file_text ids ≡ bytes → ((x : ℕ) → S x ≡ has_leaf ids x) → File bytes S
 file_from_text ids bytes S cells most text leaves =
-    record { ids = ids; is = subst (λ (b : List ℕ). IsFileOf b ids) text (text_is_file ids cells most); leaves = leaves }
+    record {
+      ids = ids;
+      is = subst (λ (b : List ℕ). IsFileOf b ids) text (text_is_file ids cells most);
+      leaves = leaves;
+    }
 
 pub face_0 : IsCell 0x1000_0000_0000_0000
 face_0 = (0, 0, record { level = lit≤ tt; place = lit< tt; id = refl })
@@ -64,7 +70,8 @@ one_cell = All-cons IsCell 0x0400_0000_0000_0000 [] child_0 no_cells
 
 pub doubled_cells : All IsCell doubled
 doubled_cells =
-    All-cons IsCell 0x0c00_0000_0000_0000 one_child_doubled child_1 (All-cons IsCell 0x0400_0000_0000_0000 one_child child_0 one_cell)
+    All-cons IsCell 0x0c00_0000_0000_0000 one_child_doubled child_1
+    (All-cons IsCell 0x0400_0000_0000_0000 one_child child_0 one_cell)
 
 two_cells : All IsCell two_children
 two_cells = All-cons IsCell 0x0c00_0000_0000_0000 one_child child_1 one_cell
@@ -76,7 +83,8 @@ pub four_cells : All IsCell four_children
 four_cells = All-cons IsCell 0x1c00_0000_0000_0000 three_children child_3 three_cells
 
 -- the four children of the face 0
-pub family : IsFamily 0x0400_0000_0000_0000 0x0c00_0000_0000_0000 0x1400_0000_0000_0000 0x1c00_0000_0000_0000 0x1000_0000_0000_0000
+pub family : IsFamily 0x0400_0000_0000_0000 0x0c00_0000_0000_0000 0x1400_0000_0000_0000 0x1c00_0000_0000_0000
+    0x1000_0000_0000_0000
 unfolding level_of place_of child_of count_trailing_zeros
 family = record { cell = face_0; inner = lit< tt; zero = refl; one = refl; two = refl; three = refl }
 
@@ -116,7 +124,9 @@ siblings_leaves x =
     let b = covers 0x0c00_0000_0000_0000 x in
     let c = covers 0x1400_0000_0000_0000 x in
     let d = covers 0x1c00_0000_0000_0000 x in
-    one_or_none (covers 0x1000_0000_0000_0000 x) ∙ sym (family_covers 0x0400_0000_0000_0000 0x0c00_0000_0000_0000 0x1400_0000_0000_0000 0x1c00_0000_0000_0000 0x1000_0000_0000_0000 x family)
+    one_or_none (covers 0x1000_0000_0000_0000 x)
+    ∙ sym (family_covers 0x0400_0000_0000_0000 0x0c00_0000_0000_0000 0x1400_0000_0000_0000 0x1c00_0000_0000_0000
+    0x1000_0000_0000_0000 x family)
     ∙ reversed a b c d
 
 -- numbers that are no identifier

@@ -1,5 +1,6 @@
 -- Numbers of eight bytes, one after the other.
-use Rattle.std.proofs.Common.{◌≡◌, ℕ, zero, suc, ◌+◌, ◌*◌, ◌^◌, ◌<◌, ◌≤◌, List, [], ◌∷◌, ◌++◌, length, drop, slice_index, flat_map, refl, sym, ap, ◌∙◌, arith}
+use Rattle.std.proofs.Common.{◌≡◌, ℕ, zero, suc, ◌+◌, ◌*◌, ◌^◌, ◌<◌, ◌≤◌, List, [], ◌∷◌, ◌++◌}
+use Rattle.std.proofs.Common.{length, drop, slice_index, flat_map, refl, sym, ap, ◌∙◌, arith}
 use Rattle.std.proofs.lemmas.List.{length-append, drop-drop, drop_at, get_or_append_left}
 use Rattle.byteorder.specs.Endian.{little_bytes, little_number}
 use Rattle.byteorder.specs.Numbers.{length-bytes_low_first, little_number-reads_back}
@@ -7,7 +8,10 @@ use Rattle.s2file.specs.File.{weighed, first_number, number_text}
 
 weighed-append : (n : ℕ) (chunk more : List ℕ) → n ≤ length chunk → weighed n (chunk ++ more) ≡ weighed n chunk
 weighed-append zero chunk more h = refl
-weighed-append (suc n) chunk more h = rw (weighed-append n chunk more (omega arith), get_or_append_left chunk more 0 n (omega arith)) refl
+weighed-append (suc n) chunk more h = rw (
+  weighed-append n chunk more (omega arith),
+  get_or_append_left chunk more 0 n (omega arith),
+) refl
 
 -- the number of the first eight bytes needs no others
 pub first_number-longer : (xs more : List ℕ) → 8 ≤ length xs → first_number (xs ++ more) ≡ first_number xs
@@ -40,10 +44,15 @@ drop-number_texts (x ∷ xs) (suc i) h =
     let rest = flat_map number_text xs in
     let step : 8 * suc i ≡ 8 + 8 * i = omega arith in
     let behind : drop (8 * suc i) (text ++ rest) ≡ drop (8 * i) rest =
-    ap (λ (k : ℕ). drop k (text ++ rest)) step ∙ sym (drop-drop (8 * i) 8 (text ++ rest)) ∙ ap (drop (8 * i)) (drop_at text rest 8 (length-number_text x)) in
+    ap (λ (k : ℕ). drop k (text ++ rest)) step ∙ sym (drop-drop (8 * i) 8 (text ++ rest))
+    ∙ ap (drop (8 * i)) (drop_at text rest 8 (length-number_text x)) in
     (more.0, behind ∙ more.1)
 
 pub length-number_texts : (ids : List ℕ) → length (flat_map number_text ids) ≡ 8 * length ids
 length-number_texts [] = refl
 length-number_texts (x ∷ xs) =
-    let more = length-number_texts xs in omega (arith, length-append (number_text x) (flat_map number_text xs), length-number_text x)
+    let more = length-number_texts xs in omega (
+      arith,
+      length-append (number_text x) (flat_map number_text xs),
+      length-number_text x,
+    )

@@ -1,6 +1,8 @@
 -- A file's identifiers while they are read.
-use Rattle.std.proofs.Common.{◌≡◌, ℕ, ◌+◌, ◌*◌, ◌<◌, ◌≤◌, Bool, List, [], ◌∷◌, ◌++◌, length, drop, slice_index, All, refl, sym, ap, ◌∙◌, subst, arith}
-use Rattle.std.proofs.lemmas.List.{length-append, length-drop, drop-drop, drop_at, get_or_append_left, get_or_push, length_push}
+use Rattle.std.proofs.Common.{◌≡◌, ℕ, ◌+◌, ◌*◌, ◌<◌, ◌≤◌, Bool, List, [], ◌∷◌, ◌++◌, length, drop}
+use Rattle.std.proofs.Common.{slice_index, All, refl, sym, ap, ◌∙◌, subst, arith}
+use Rattle.std.proofs.lemmas.List.{length-append, length-drop, drop-drop, drop_at, get_or_append_left, get_or_push}
+use Rattle.std.proofs.lemmas.List.{length_push}
 use Rattle.std.proofs.lemmas.List.Elements.{All-push}
 use borrow.Author.Count.{below_more}
 use Rattle.s2cell.specs.Cell.{IsCell}
@@ -9,14 +11,14 @@ use Rattle.s2file.specs.File.{first_number, number_at, IsFileOf, File, HasFrame,
 use Rattle.s2file.specs.declared.fault.FileFault.TheVariants.{Cell}
 use Rattle.s2file.proofs.Numbers.{first_number-append}
 
--- these are the first identifiers behind the head, and the rest is still to be read
+-- these are the first identifiers after the head, and the rest is still to be read
 pub record ReadsSome (bytes ids rest : List ℕ) : Type 0 where
   pub within : 9 + 8 * length ids ≤ length bytes
   pub rest_is : rest ≡ drop (8 * length ids) (drop 9 bytes)
   pub numbers : (i : ℕ) → i < length ids → slice_index ids i ≡ number_at bytes i
   pub cells : All IsCell ids
 
--- the chunk that comes next is the number behind those that were read
+-- the chunk that comes next is the number after those that were read
 next_number : (bytes ids rest chunk more : List ℕ) → ReadsSome bytes ids rest → rest ≡ chunk ++ more → length chunk ≡ 8
     → number_at bytes (length ids) ≡ first_number chunk
 next_number bytes ids rest chunk more r e h =
@@ -31,7 +33,8 @@ next_within : (bytes ids rest chunk more : List ℕ) → ReadsSome bytes ids res
 next_within bytes ids rest chunk more r e h =
     omega (arith, rest_length bytes ids rest r, ap length e, length-append chunk more)
 
-pub reads_more : (bytes ids rest chunk more : List ℕ) (n : ℕ) → ReadsSome bytes ids rest → rest ≡ chunk ++ more → length chunk ≡ 8
+pub reads_more : (bytes ids rest chunk more : List ℕ) (n : ℕ) → ReadsSome bytes ids rest → rest ≡ chunk ++ more →
+    length chunk ≡ 8
     → n ≡ first_number chunk → IsCell n → ReadsSome bytes (ids ++ n ∷ []) more
 reads_more bytes ids rest chunk more n r e h is cell =
     let len : length (ids ++ n ∷ []) ≡ length ids + 1 = length_push ids n in
@@ -41,14 +44,16 @@ reads_more bytes ids rest chunk more n r e h is cell =
     let step : 8 * length ids + 8 ≡ 8 * length (ids ++ n ∷ []) = omega arith in
     record {
       within = omega arith;
-      rest_is = sym (drop_at chunk more 8 h) ∙ ap (drop 8) (sym e ∙ r.rest_is) ∙ drop-drop 8 (8 * length ids) (drop 9 bytes) ∙ ap (λ (k : ℕ). drop k (drop 9 bytes)) step;
+      rest_is = sym (drop_at chunk more 8 h) ∙ ap (drop 8) (sym e ∙ r.rest_is)
+          ∙ drop-drop 8 (8 * length ids) (drop 9 bytes) ∙ ap (λ (k : ℕ). drop k (drop 9 bytes)) step;
       numbers = λ i below. below_more (λ (k : ℕ). slice_index (ids ++ n ∷ []) k ≡ number_at bytes k) (length ids)
           (λ k small. get_or_append_left ids (n ∷ []) 0 k small ∙ r.numbers k small) here i (omega arith);
       cells = All-push IsCell ids n r.cells cell;
     }
 
 -- a number of no cell
-pub reads_wrong : (bytes ids rest chunk more : List ℕ) → HasFrame bytes → ReadsSome bytes ids rest → rest ≡ chunk ++ more → length chunk ≡ 8
+pub reads_wrong : (bytes ids rest chunk more : List ℕ) → HasFrame bytes → ReadsSome bytes ids rest →
+    rest ≡ chunk ++ more → length chunk ≡ 8
     → (IsCell (first_number chunk) → ⊥) → Faults bytes Cell
 reads_wrong bytes ids rest chunk more frame r e h wrong = (
   frame,
@@ -59,5 +64,6 @@ reads_wrong bytes ids rest chunk more frame r e h wrong = (
   },
 )
 
-pub file_from_cells : (bytes ids : List ℕ) (S : ℕ → Bool) → IsFileOf bytes ids → ((x : ℕ) → S x ≡ has_leaf ids x) → File bytes S
+pub file_from_cells : (bytes ids : List ℕ) (S : ℕ → Bool) → IsFileOf bytes ids → ((x : ℕ) → S x ≡ has_leaf ids x) →
+    File bytes S
 file_from_cells bytes ids S is leaves = record { ids = ids; is = is; leaves = leaves }

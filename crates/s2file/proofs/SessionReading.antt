@@ -1,6 +1,9 @@
 -- The parts of a session file while they are read.
-use Rattle.std.proofs.Common.{◌≡◌, ◌↔◌, Bool, true, false, IsTrue, ℕ, zero, suc, ◌+◌, ◌*◌, ◌<◌, ◌≤◌, ◌^◌, List, [], ◌∷◌, ◌++◌, length, map, take, drop, get_or, All, flat_map, inl, inr, refl, sym, ap, ◌∙◌, subst, append_assoc, arith}
-use Rattle.std.proofs.lemmas.List.{length-append, length-take, get_or-take, get_or_past, get_or_append_left, take_at, take-append-drop, append-nil}
+use Rattle.std.proofs.Common.{◌≡◌, ◌↔◌, Bool, true, false, IsTrue, ℕ, zero, suc, ◌+◌, ◌*◌, ◌<◌, ◌≤◌}
+use Rattle.std.proofs.Common.{◌^◌, List, [], ◌∷◌, ◌++◌, length, map, take, drop, get_or, All, flat_map, inl, inr, refl}
+use Rattle.std.proofs.Common.{sym, ap, ◌∙◌, subst, append_assoc, arith}
+use Rattle.std.proofs.lemmas.List.{length-append, length-take, get_or-take, get_or_past, get_or_append_left, take_at}
+use Rattle.std.proofs.lemmas.List.{take-append-drop, append-nil}
 use Rattle.std.proofs.lemmas.Bool.{cases_lt, true≢false, false≢true}
 use Rattle.std.proofs.lemmas.List.Elements.{All-push, recursion_from_All, All-from_recursion}
 use Rattle.std.proofs.lemmas.Grind.{flat_map-append}
@@ -11,13 +14,18 @@ use Rattle.std.specs.List.Sorted.{IsStrictlyIncreasing}
 use Rattle.s2cell.specs.Cell.{IsCell}
 use Rattle.s2cell.proofs.Calls.{fits_u64}
 use Rattle.s2union.specs.Union.{IsLocal}
+use Rattle.s2file.specs.declared.TheConstants.{SESSION_CELLS}
 use Rattle.s2file.specs.declared.session.SessionFault.{SessionFault}
 use Rattle.s2file.specs.declared.session.SessionFault.TheVariants.{Form, Memory}
 use Rattle.s2file.specs.File.{first_number, number_text}
-use Rattle.s2file.specs.Session.{Moved, list_text, move_text, moves_text, IsRegisterList, IsChangeList, IsMoved, AreApart}
-use Rattle.s2file.specs.SessionParts.{Begins, BeginsNone, Refuses, IsNumber, AreCells, AreMoves, AreRegisters, registers_text, SpellsCells}
-use Rattle.s2file.proofs.Numbers.{first_number-number_text, length-number_text, first_number-append, length-number_texts}
-use Rattle.s2file.proofs.Fronts.{IsOneWay, one_number, one_cell, one_list, one_move, one_row, one_register, no_more, same_move, behind_byte, register_cells, change_cells, list_count, move_front}
+use Rattle.s2file.specs.Session.{Moved, list_text, move_text, moves_text, IsRegisterList, IsChangeList, IsMoved}
+use Rattle.s2file.specs.Session.{AreApart}
+use Rattle.s2file.specs.SessionParts.{Begins, BeginsNone, Refuses, IsNumber, AreCells, AreMoves, AreRegisters}
+use Rattle.s2file.specs.SessionParts.{registers_text, SpellsCells}
+use Rattle.s2file.proofs.Numbers.{first_number-number_text, length-number_text, first_number-append}
+use Rattle.s2file.proofs.Numbers.{length-number_texts}
+use Rattle.s2file.proofs.Fronts.{IsOneWay, one_number, one_cell, one_list, one_move, one_row, one_register, no_more}
+use Rattle.s2file.proofs.Fronts.{same_move, behind_byte, register_cells, change_cells, list_count, move_front}
 
 pub refuses : (fault : SessionFault) (P Q : Type 0) → (P → Q) → Refuses fault P → Refuses fault Q
 refuses Form P Q f h = f h
@@ -33,7 +41,8 @@ not_test true P i e p = absurd (true≢false e)
 not_test false P i e p = absurd (false≢true (i.1 p))
 
 -- eight bytes are the only ones with their number
-number_back : (front : List ℕ) → length front ≡ 8 → ((i : ℕ) → get_or front i 0 < 256) → number_text (first_number front) ≡ front
+number_back : (front : List ℕ) → length front ≡ 8 → ((i : ℕ) → get_or front i 0 < 256) →
+    number_text (first_number front) ≡ front
 unfolding number_text first_number
 number_back front l b = le_bytes_8 front (first_number front) l b (omega arith)
 
@@ -41,45 +50,61 @@ number_fits : (front : List ℕ) → ((i : ℕ) → get_or front i 0 < 256) → 
 unfolding first_number
 number_fits front b = omega (arith, b 0, b 1, b 2, b 3, b 4, b 5, b 6, b 7)
 
-front_bytes : (bytes : List ℕ) → 8 ≤ length bytes → ((i : ℕ) → get_or bytes i 0 < 256) → (i : ℕ) → get_or (take 8 bytes) i 0 < 256
+front_bytes : (bytes : List ℕ) → 8 ≤ length bytes → ((i : ℕ) → get_or bytes i 0 < 256) → (i : ℕ) →
+    get_or (take 8 bytes) i 0 < 256
 front_bytes bytes l b i =
     elim (cases_lt i 8) [
       | inl below ↦ let e = get_or-take 8 bytes i 0 below in omega (arith, e, b i)
       | inr above ↦ let e = get_or_past (take 8 bytes) i 0 (omega (arith, length-take 8 bytes)) in omega (arith, e)
     ]
 
-pub number_begins : (bytes front rest : List ℕ) → front ≡ take 8 bytes → rest ≡ drop 8 bytes → 8 ≤ length bytes → ((i : ℕ) → get_or bytes i 0 < 256)
+pub number_begins : (bytes front rest : List ℕ) → front ≡ take 8 bytes → rest ≡ drop 8 bytes → 8 ≤ length bytes →
+    ((i : ℕ) → get_or bytes i 0 < 256)
     → Begins number_text IsNumber bytes (first_number front) rest
 number_begins bytes front rest f r l b =
-    let fb : (i : ℕ) → get_or front i 0 < 256 = subst (λ (x : List ℕ). (i : ℕ) → get_or x i 0 < 256) (sym f) (front_bytes bytes l b) in
+    let fb : (i : ℕ) → get_or front i 0 < 256 = subst (λ (x : List ℕ). (i : ℕ) → get_or x i 0 < 256) (sym f)
+    (front_bytes bytes l b) in
     let fl : length front ≡ 8 = omega (arith, ap length f, length-take 8 bytes) in
     record {
-      is = sym (take-append-drop 8 bytes) ∙ ap (λ (x : List ℕ). x ++ drop 8 bytes) (sym f ∙ sym (number_back front fl fb))
+      is = sym (take-append-drop 8 bytes) ∙ ap (λ (x : List ℕ). x ++ drop 8 bytes)
+          (sym f ∙ sym (number_back front fl fb))
           ∙ ap (λ (x : List ℕ). number_text (first_number front) ++ x) (sym r);
       ok = number_fits front fb;
     }
 
 pub number_short : (bytes : List ℕ) → length bytes < 8 → BeginsNone number_text IsNumber bytes
-number_short bytes l n rest f = absurd (omega (arith, ap length f.is, length-append (number_text n) rest, length-number_text n))
+number_short bytes l n rest f =
+    absurd (omega (arith, ap length f.is, length-append (number_text n) rest, length-number_text n))
 
 -- the cells of a list
 module _ (bytes behind : List ℕ) (count : ℕ) (n : Begins number_text IsNumber bytes count behind) where
-  pub list_begins : (numbers rest ids : List ℕ) → count ≤ 1000000 → 8 * count ≤ length behind → numbers ≡ take (8 * count) behind → rest ≡ drop (8 * count) behind
+  pub list_begins : (numbers rest ids : List ℕ) → count ≤ SESSION_CELLS → 8 * count ≤ length behind →
+      numbers ≡ take (8 * count) behind → rest ≡ drop (8 * count) behind
       → SpellsCells numbers ids → Begins list_text AreCells bytes ids rest
   list_begins numbers rest ids most enough f r s =
       let whole : behind ≡ flat_map number_text ids ++ rest =
-      sym (take-append-drop (8 * count) behind) ∙ ap (λ (x : List ℕ). x ++ drop (8 * count) behind) (sym f ∙ s.is) ∙ ap (λ (x : List ℕ). flat_map number_text ids ++ x) (sym r) in
-      let len : length ids ≡ count = omega (arith, ap length f, ap length s.is, length-take (8 * count) behind, length-number_texts ids) in
+      sym (take-append-drop (8 * count) behind) ∙ ap (λ (x : List ℕ). x ++ drop (8 * count) behind) (sym f ∙ s.is)
+      ∙ ap (λ (x : List ℕ). flat_map number_text ids ++ x) (sym r) in
+      let len : length ids ≡ count = omega (
+        arith,
+        ap length f,
+        ap length s.is,
+        length-take (8 * count) behind,
+        length-number_texts ids,
+      ) in
       record {
-        is = n.is ∙ ap (λ (x : List ℕ). number_text count ++ x) whole ∙ ap (λ (k : ℕ). number_text k ++ (flat_map number_text ids ++ rest)) (sym len)
+        is = n.is ∙ ap (λ (x : List ℕ). number_text count ++ x) whole
+            ∙ ap (λ (k : ℕ). number_text k ++ (flat_map number_text ids ++ rest)) (sym len)
             ∙ sym (append_assoc (number_text (length ids)) (flat_map number_text ids) rest);
         ok = record { valid = s.valid; few = omega (arith, len, most) };
       }
 
-  counted : (ids rest : List ℕ) → Begins list_text AreCells bytes ids rest → (count ≡ length ids) × (behind ≡ flat_map number_text ids ++ rest)
-  counted ids rest f = one_number bytes count (length ids) behind (flat_map number_text ids ++ rest) n (list_count bytes ids rest f)
+  counted : (ids rest : List ℕ) → Begins list_text AreCells bytes ids rest → (count ≡ length ids)
+      × (behind ≡ flat_map number_text ids ++ rest)
+  counted ids rest f = one_number bytes count (length ids) behind (flat_map number_text ids ++ rest) n
+      (list_count bytes ids rest f)
 
-  pub list_counts_many : 1000000 < count → BeginsNone list_text AreCells bytes
+  pub list_counts_many : SESSION_CELLS < count → BeginsNone list_text AreCells bytes
   list_counts_many many ids rest f = absurd (omega (arith, (counted ids rest f).0, f.ok.few))
 
   pub list_ends : length behind < 8 * count → BeginsNone list_text AreCells bytes
@@ -87,41 +112,49 @@ module _ (bytes behind : List ℕ) (count : ℕ) (n : Begins number_text IsNumbe
       let c = counted ids rest f in
       absurd (omega (arith, c.0, ap length c.1, length-append (flat_map number_text ids) rest, length-number_texts ids))
 
-  pub list_wrong : (numbers : List ℕ) → numbers ≡ take (8 * count) behind → ((ids : List ℕ) → SpellsCells numbers ids → ⊥) → BeginsNone list_text AreCells bytes
+  pub list_wrong : (numbers : List ℕ) → numbers ≡ take (8 * count) behind →
+      ((ids : List ℕ) → SpellsCells numbers ids → ⊥) → BeginsNone list_text AreCells bytes
   list_wrong numbers f none ids rest g =
       let c = counted ids rest g in
       let e : take (8 * count) behind ≡ flat_map number_text ids =
-      ap (take (8 * count)) c.1 ∙ take_at (flat_map number_text ids) rest (8 * count) (omega (arith, c.0, length-number_texts ids)) in
+      ap (take (8 * count)) c.1 ∙ take_at (flat_map number_text ids) rest (8 * count)
+      (omega (arith, c.0, length-number_texts ids)) in
       none ids (record { is = f ∙ e; valid = g.ok.valid })
 
 pub list_uncounted : (bytes : List ℕ) → BeginsNone number_text IsNumber bytes → BeginsNone list_text AreCells bytes
-list_uncounted bytes none ids rest f = none (length ids) (flat_map number_text ids ++ rest) (list_count bytes ids rest f)
+list_uncounted bytes none ids rest f = none (length ids) (flat_map number_text ids ++ rest)
+    (list_count bytes ids rest f)
 
 -- identifiers one after another: these are the first, and the rest is still to be read
 pub record SpellsSome (numbers cells rest : List ℕ) : Type 0 where
   pub is : numbers ≡ flat_map number_text cells ++ rest
   pub valid : All IsCell cells
 
-pub row_more : {A : Type 0} (text : A → List ℕ) (xs : List A) (x : A) (bytes mid rest : List ℕ) → bytes ≡ flat_map text xs ++ mid → mid ≡ text x ++ rest
+pub row_more : {A : Type 0} (text : A → List ℕ) (xs : List A) (x : A) (bytes mid rest : List ℕ) →
+    bytes ≡ flat_map text xs ++ mid → mid ≡ text x ++ rest
     → bytes ≡ flat_map text (xs ++ x ∷ []) ++ rest
 row_more text xs x bytes mid rest e f =
     e ∙ ap (λ (l : List ℕ). flat_map text xs ++ l) f ∙ sym (append_assoc (flat_map text xs) (text x) rest)
     ∙ ap (λ (l : List ℕ). l ++ rest) (flat_map_end text xs x)
   where
-    flat_map_end : {A : Type 0} (text : A → List ℕ) (xs : List A) (x : A) → flat_map text xs ++ text x ≡ flat_map text (xs ++ x ∷ [])
+    flat_map_end : {A : Type 0} (text : A → List ℕ) (xs : List A) (x : A) →
+        flat_map text xs ++ text x ≡ flat_map text (xs ++ x ∷ [])
     flat_map_end text xs x =
         ap (λ (l : List ℕ). flat_map text xs ++ l) (sym (append-nil (text x))) ∙ sym (flat_map-append text xs (x ∷ []))
 
-pub spells_more : (numbers cells rest chunk more : List ℕ) (n : ℕ) → SpellsSome numbers cells rest → rest ≡ chunk ++ more → length chunk ≡ 8
+pub spells_more : (numbers cells rest chunk more : List ℕ) (n : ℕ) → SpellsSome numbers cells rest →
+    rest ≡ chunk ++ more → length chunk ≡ 8
     → ((i : ℕ) → get_or chunk i 0 < 256) → n ≡ first_number chunk → IsCell n → SpellsSome numbers (cells ++ n ∷ []) more
 spells_more numbers cells rest chunk more n s e l b is cell = record {
   is = row_more number_text cells n numbers rest more s.is
-      (e ∙ ap (λ (x : List ℕ). x ++ more) (sym (number_back chunk l b)) ∙ ap (λ (k : ℕ). number_text k ++ more) (sym is));
+      (e ∙ ap (λ (x : List ℕ). x ++ more) (sym (number_back chunk l b))
+      ∙ ap (λ (k : ℕ). number_text k ++ more) (sym is));
   valid = All-push IsCell cells n s.valid cell;
 }
 
 -- the bytes of a chunk are bytes
-pub chunk_bytes : (numbers cells rest chunk more : List ℕ) → SpellsSome numbers cells rest → rest ≡ chunk ++ more → ((i : ℕ) → get_or numbers i 0 < 256)
+pub chunk_bytes : (numbers cells rest chunk more : List ℕ) → SpellsSome numbers cells rest → rest ≡ chunk ++ more →
+    ((i : ℕ) → get_or numbers i 0 < 256)
     → (i : ℕ) → get_or chunk i 0 < 256
 chunk_bytes numbers cells rest chunk more s e b i =
     elim (cases_lt i (length chunk)) [
@@ -140,26 +173,49 @@ chunk_bytes numbers cells rest chunk more s e b i =
         let z : length (x ∷ xs) + i ≡ suc (length xs + i) = omega arith in
         ap (λ (k : ℕ). get_or (x ∷ (xs ++ ys)) k 0) z ∙ get_or_append_right xs ys i
 
-pub spells_wrong : (numbers cells rest chunk more : List ℕ) (count : ℕ) → length numbers ≡ 8 * count → SpellsSome numbers cells rest → rest ≡ chunk ++ more → length chunk ≡ 8
+pub spells_wrong : (numbers cells rest chunk more : List ℕ) (count : ℕ) → length numbers ≡ 8 * count →
+    SpellsSome numbers cells rest → rest ≡ chunk ++ more → length chunk ≡ 8
     → (IsCell (first_number chunk) → ⊥) → (ids : List ℕ) → SpellsCells numbers ids → ⊥
 spells_wrong numbers cells rest chunk more count len s e l wrong ids t =
-    no_more number_text IsCell one_cell cells ids rest [] (recursion_from_All IsCell cells s.valid) (recursion_from_All IsCell ids t.valid)
-    (omega (arith, ap length s.is, ap length t.is, ap length e, length-append (flat_map number_text cells) rest, length-append chunk more, length-number_texts cells, length-number_texts ids))
+    no_more number_text IsCell one_cell cells ids rest [] (recursion_from_All IsCell cells s.valid)
+    (recursion_from_All IsCell ids t.valid)
+    (omega (
+      arith,
+      ap length s.is,
+      ap length t.is,
+      ap length e,
+      length-append (flat_map number_text cells) rest,
+      length-append chunk more,
+      length-number_texts cells,
+      length-number_texts ids,
+    ))
     (sym s.is ∙ t.is ∙ sym (append-nil (flat_map number_text ids)))
-    (λ n more' f. wrong (subst IsCell (sym (ap first_number (sym e) ∙ ap first_number f.is ∙ first_number-number_text n more' (fits_u64 n f.ok)) ∙ first_number-append chunk more l) f.ok))
+    (λ n more' f. wrong (subst IsCell (sym (ap first_number (sym e) ∙ ap first_number f.is
+    ∙ first_number-number_text n more' (fits_u64 n f.ok)) ∙ first_number-append chunk more l) f.ok))
 
-pub spells_all : (numbers cells rest : List ℕ) (count : ℕ) → length numbers ≡ 8 * count → SpellsSome numbers cells rest → length rest < 8 → SpellsCells numbers cells
-spells_all numbers cells [] count len s short = record { is = s.is ∙ append-nil (flat_map number_text cells); valid = s.valid }
+pub spells_all : (numbers cells rest : List ℕ) (count : ℕ) → length numbers ≡ 8 * count →
+    SpellsSome numbers cells rest → length rest < 8 → SpellsCells numbers cells
+spells_all numbers cells [] count len s short =
+    record { is = s.is ∙ append-nil (flat_map number_text cells); valid = s.valid }
 spells_all numbers cells (x ∷ rest) count len s short =
-    absurd (omega (arith, ap length s.is, length-append (flat_map number_text cells) (x ∷ rest), length-number_texts cells))
+    absurd (omega (
+      arith,
+      ap length s.is,
+      length-append (flat_map number_text cells) (x ∷ rest),
+      length-number_texts cells,
+    ))
 
 -- the list of a register
-pub register_begins : (bytes cells rest : List ℕ) → Begins list_text AreCells bytes cells rest → IsLocal cells → Begins list_text IsRegisterList bytes cells rest
+pub register_begins : (bytes cells rest : List ℕ) → Begins list_text AreCells bytes cells rest → IsLocal cells →
+    Begins list_text IsRegisterList bytes cells rest
 register_begins bytes cells rest f local = record { is = f.is; ok = record { local = local; few = f.ok.few } }
 
-pub register_cells_at : (bytes : List ℕ) → BeginsNone list_text AreCells bytes → BeginsNone list_text IsRegisterList bytes
+pub register_cells_at : (bytes : List ℕ) → BeginsNone list_text AreCells bytes →
+    BeginsNone list_text IsRegisterList bytes
 register_cells_at bytes none cells rest f = none cells rest (record { is = f.is; ok = register_cells cells f.ok })
 
-pub register_unmerged : (bytes cells rest : List ℕ) → Begins list_text AreCells bytes cells rest → (IsLocal cells → ⊥) → BeginsNone list_text IsRegisterList bytes
+pub register_unmerged : (bytes cells rest : List ℕ) → Begins list_text AreCells bytes cells rest →
+    (IsLocal cells → ⊥) → BeginsNone list_text IsRegisterList bytes
 register_unmerged bytes cells rest f wrong others more g =
-    wrong (subst IsLocal (sym (one_list bytes cells others rest more f (record { is = g.is; ok = register_cells others g.ok })).0) g.ok.local)
+    wrong (subst IsLocal (sym (one_list bytes cells others rest more f
+    (record { is = g.is; ok = register_cells others g.ok })).0) g.ok.local)

@@ -1,19 +1,26 @@
 -- Changes, rows of registers and of changes, and whole sessions while they are read.
-use Rattle.std.proofs.Common.{◌≡◌, ◌≢◌, ℕ, zero, suc, ◌+◌, ◌*◌, ◌<◌, ◌≤◌, List, [], ◌∷◌, ◌++◌, length, map, take, drop, get_or, All, flat_map, inl, inr, refl, sym, ap, ◌∙◌, subst, append_assoc, arith}
+use Rattle.std.proofs.Common.{◌≡◌, ◌≢◌, ℕ, zero, suc, ◌+◌, ◌*◌, ◌<◌, ◌≤◌, List, [], ◌∷◌, ◌++◌}
+use Rattle.std.proofs.Common.{length, map, take, drop, get_or, All, flat_map, inl, inr, refl, sym, ap, ◌∙◌, subst}
+use Rattle.std.proofs.Common.{append_assoc, arith}
 use Rattle.std.proofs.lemmas.List.{append-nil, map-append}
 use Rattle.std.proofs.lemmas.Grind.{flat_map-append}
 use Rattle.std.specs.List.{AllByRecursion}
 use Rattle.std.specs.List.Sorted.{IsStrictlyIncreasing}
 use Rattle.s2file.specs.File.{number_text}
-use Rattle.s2file.specs.Session.{Moved, Content, list_text, move_text, moves_text, parts_text, session_text, IsRegisterList, IsChangeList, IsMoved, IsContent, AreApart, IsSessionFile}
-use Rattle.s2file.specs.SessionParts.{Begins, BeginsNone, IsNumber, AreCells, AreMoves, AreRegisters, IsRow, registers_text, row_text}
+use Rattle.s2file.specs.Session.{Moved, Content, list_text, move_text, moves_text, parts_text, session_text}
+use Rattle.s2file.specs.Session.{IsRegisterList, IsChangeList, IsMoved, IsContent, AreApart, IsSessionFile}
+use Rattle.s2file.specs.SessionParts.{Begins, BeginsNone, IsNumber, AreCells, AreMoves, AreRegisters, IsRow}
+use Rattle.s2file.specs.SessionParts.{registers_text, row_text}
 use Rattle.s2file.specs.declared.TheConstants.{SESSION_REGISTERS, SESSION_CHANGES}
-use Rattle.s2file.proofs.Fronts.{IsOneWay, one_number, one_list, one_move, one_moves, one_registers, one_register, no_more, same_move, behind_byte, change_cells, move_front, moves_count, Parts, parts_of, one_session}
+use Rattle.s2file.proofs.Fronts.{IsOneWay, one_number, one_list, one_move, one_moves, one_registers, one_register}
+use Rattle.s2file.proofs.Fronts.{no_more, same_move, behind_byte, change_cells, move_front, moves_count, Parts}
+use Rattle.s2file.proofs.Fronts.{parts_of, one_session}
 use Rattle.s2file.proofs.SessionReading.{row_more}
 
 -- a change
 module _ (bytes lists : List ℕ) (r : ℕ) (e : bytes ≡ r ∷ lists) where
-  parts_behind : (m : Moved) (rest : List ℕ) → Begins move_text IsMoved bytes m rest → (r ≡ m.register) × (lists ≡ list_text m.out ++ (list_text m.put ++ rest))
+  parts_behind : (m : Moved) (rest : List ℕ) → Begins move_text IsMoved bytes m rest → (r ≡ m.register)
+      × (lists ≡ list_text m.out ++ (list_text m.put ++ rest))
   parts_behind m rest g = behind_byte _ _ _ _ (sym e ∙ move_front bytes m rest g.is)
 
   pub move_without_out : BeginsNone list_text AreCells lists → BeginsNone move_text IsMoved bytes
@@ -23,7 +30,8 @@ module _ (bytes lists : List ℕ) (r : ℕ) (e : bytes ≡ r ∷ lists) where
   module _ (out behind : List ℕ) (o : Begins list_text AreCells lists out behind) where
     pub move_without_put : BeginsNone list_text AreCells behind → BeginsNone move_text IsMoved bytes
     move_without_put none m rest g =
-        let same = one_list lists out m.out behind (list_text m.put ++ rest) o (record { is = (parts_behind m rest g).1; ok = change_cells m.out g.ok.out }) in
+        let same = one_list lists out m.out behind (list_text m.put ++ rest) o
+        (record { is = (parts_behind m rest g).1; ok = change_cells m.out g.ok.out }) in
         none m.put rest (record { is = same.1; ok = change_cells m.put g.ok.put })
 
     module _ (put rest : List ℕ) (p : Begins list_text AreCells behind put rest) where
@@ -31,14 +39,18 @@ module _ (bytes lists : List ℕ) (r : ℕ) (e : bytes ≡ r ∷ lists) where
       moved = record { register = r; out = out; put = put }
 
       move_is : bytes ≡ move_text (record { register = r; out = out; put = put }) ++ rest
-      move_is = e ∙ ap (λ (l : List ℕ). r ∷ l) (o.is ∙ ap (λ (l : List ℕ). list_text out ++ l) p.is ∙ sym (append_assoc (list_text out) (list_text put) rest))
+      move_is = e ∙ ap (λ (l : List ℕ). r ∷ l) (o.is ∙ ap (λ (l : List ℕ). list_text out ++ l) p.is
+          ∙ sym (append_assoc (list_text out) (list_text put) rest))
 
-      pub move_wrong : (IsMoved (record { register = r; out = out; put = put }) → ⊥) → BeginsNone move_text IsMoved bytes
+      pub move_wrong : (IsMoved (record { register = r; out = out; put = put }) → ⊥) →
+          BeginsNone move_text IsMoved bytes
       move_wrong wrong m more g =
-          let same = same_move bytes (record { register = r; out = out; put = put }) m rest more move_is g.is o.ok p.ok (change_cells m.out g.ok.out) (change_cells m.put g.ok.put) in
+          let same = same_move bytes (record { register = r; out = out; put = put }) m rest more move_is g.is o.ok
+          p.ok (change_cells m.out g.ok.out) (change_cells m.put g.ok.put) in
           wrong (subst IsMoved (sym same.0) g.ok)
 
-      pub move_begins : r < 26 → 0 < length out + length put → IsStrictlyIncreasing out → IsStrictlyIncreasing put → AreApart out put
+      pub move_begins : r < 26 → 0 < length out + length put → IsStrictlyIncreasing out →
+          IsStrictlyIncreasing put → AreApart out put
           → Begins move_text IsMoved bytes (record { register = r; out = out; put = put }) rest
       move_begins in_range some oa pa apart = record {
         is = move_is;
@@ -52,38 +64,51 @@ module _ (bytes lists : List ℕ) (r : ℕ) (e : bytes ≡ r ∷ lists) where
       }
 
 -- values one after another: these are the first, and the rest is still to be read
-pub record RowSoFar {A : Type 0} (text : A → List ℕ) (Ok : A → Type 0) (bytes : List ℕ) (xs : List A) (rest : List ℕ) : Type 0 where
+pub record RowSoFar {A : Type 0} (text : A → List ℕ) (Ok : A → Type 0) (bytes : List ℕ) (xs : List A)
+    (rest : List ℕ) : Type 0 where
   pub is : bytes ≡ flat_map text xs ++ rest
   pub each : AllByRecursion Ok xs
 
-all_push : {A : Type 0} (Ok : A → Type 0) (xs : List A) (x : A) → AllByRecursion Ok xs → Ok x → AllByRecursion Ok (xs ++ x ∷ [])
+all_push : {A : Type 0} (Ok : A → Type 0) (xs : List A) (x : A) → AllByRecursion Ok xs → Ok x →
+    AllByRecursion Ok (xs ++ x ∷ [])
 all_push Ok [] x a ok = (ok, tt)
 all_push Ok (y ∷ xs) x a ok = (a.0, all_push Ok xs x a.1 ok)
 
-pub row_push : {A : Type 0} (text : A → List ℕ) (Ok : A → Type 0) (bytes : List ℕ) (xs : List A) (x : A) (mid rest : List ℕ)
+pub row_push : {A : Type 0} (text : A → List ℕ) (Ok : A → Type 0) (bytes : List ℕ) (xs : List A) (x : A)
+    (mid rest : List ℕ)
     → RowSoFar text Ok bytes xs mid → Begins text Ok mid x rest → RowSoFar text Ok bytes (xs ++ x ∷ []) rest
-row_push text Ok bytes xs x mid rest r b = record { is = row_more text xs x bytes mid rest r.is b.is; each = all_push Ok xs x r.each b.ok }
+row_push text Ok bytes xs x mid rest r b =
+    record { is = row_more text xs x bytes mid rest r.is b.is; each = all_push Ok xs x r.each b.ok }
 
 -- the same of values under a view
-pub row_push_view : {T A : Type 0} (f : T → A) (text : A → List ℕ) (Ok : A → Type 0) (bytes : List ℕ) (ts : List T) (t : T) (mid rest : List ℕ)
-    → RowSoFar text Ok bytes (map f ts) mid → Begins text Ok mid (f t) rest → RowSoFar text Ok bytes (map f (ts ++ t ∷ [])) rest
+pub row_push_view : {T A : Type 0} (f : T → A) (text : A → List ℕ) (Ok : A → Type 0) (bytes : List ℕ) (ts : List T)
+    (t : T) (mid rest : List ℕ)
+    → RowSoFar text Ok bytes (map f ts) mid → Begins text Ok mid (f t) rest →
+    RowSoFar text Ok bytes (map f (ts ++ t ∷ [])) rest
 row_push_view {A = A} f text Ok bytes ts t mid rest r b =
-    subst (λ (xs : List A). RowSoFar text Ok bytes xs rest) (sym (map-append f ts (t ∷ []))) (row_push text Ok bytes (map f ts) (f t) mid rest r b)
+    subst (λ (xs : List A). RowSoFar text Ok bytes xs rest) (sym (map-append f ts (t ∷ [])))
+    (row_push text Ok bytes (map f ts) (f t) mid rest r b)
 
-pub registers_none : (bytes : List ℕ) (xs : List (List ℕ)) (mid : List ℕ) → RowSoFar list_text IsRegisterList bytes xs mid → length xs < SESSION_REGISTERS
+pub registers_none : (bytes : List ℕ) (xs : List (List ℕ)) (mid : List ℕ) →
+    RowSoFar list_text IsRegisterList bytes xs mid → length xs < SESSION_REGISTERS
     → BeginsNone list_text IsRegisterList mid → BeginsNone registers_text AreRegisters bytes
 registers_none bytes xs mid r few none lists rest f =
-    no_more list_text IsRegisterList one_register xs lists mid rest r.each f.ok.each (omega (arith, few, f.ok.count)) (sym r.is ∙ f.is) none
+    no_more list_text IsRegisterList one_register xs lists mid rest r.each f.ok.each
+    (omega (arith, few, f.ok.count)) (sym r.is ∙ f.is) none
 
-pub row_none : (bytes : List ℕ) (xs : List Moved) (mid : List ℕ) (count : ℕ) → RowSoFar move_text IsMoved bytes xs mid → length xs < count
+pub row_none : (bytes : List ℕ) (xs : List Moved) (mid : List ℕ) (count : ℕ) →
+    RowSoFar move_text IsMoved bytes xs mid → length xs < count
     → BeginsNone move_text IsMoved mid → BeginsNone row_text (IsRow count) bytes
 row_none bytes xs mid count r few none ms rest f =
-    no_more move_text IsMoved one_move xs ms mid rest r.each f.ok.each (omega (arith, few, f.ok.len)) (sym r.is ∙ f.is) none
+    no_more move_text IsMoved one_move xs ms mid rest r.each f.ok.each (omega (arith, few, f.ok.len))
+    (sym r.is ∙ f.is) none
 
 -- changes after their count
 module _ (bytes behind : List ℕ) (count : ℕ) (n : Begins number_text IsNumber bytes count behind) where
-  counted : (ms : List Moved) (rest : List ℕ) → Begins moves_text AreMoves bytes ms rest → (count ≡ length ms) × (behind ≡ flat_map move_text ms ++ rest)
-  counted ms rest f = one_number bytes count (length ms) behind (flat_map move_text ms ++ rest) n (moves_count bytes ms rest f)
+  counted : (ms : List Moved) (rest : List ℕ) → Begins moves_text AreMoves bytes ms rest → (count ≡ length ms)
+      × (behind ≡ flat_map move_text ms ++ rest)
+  counted ms rest f = one_number bytes count (length ms) behind (flat_map move_text ms ++ rest) n
+      (moves_count bytes ms rest f)
 
   pub moves_count_many : SESSION_CHANGES < count → BeginsNone moves_text AreMoves bytes
   moves_count_many many ms rest f = absurd (omega (arith, many, (counted ms rest f).0, f.ok.few))
@@ -93,10 +118,12 @@ module _ (bytes behind : List ℕ) (count : ℕ) (n : Begins number_text IsNumbe
       let c = counted ms rest f in
       none ms rest (record { is = c.1; ok = record { len = sym c.0; each = f.ok.each } })
 
-  pub moves_begin : (ms : List Moved) (rest : List ℕ) → Begins row_text (IsRow count) behind ms rest → count ≤ SESSION_CHANGES
+  pub moves_begin : (ms : List Moved) (rest : List ℕ) → Begins row_text (IsRow count) behind ms rest →
+      count ≤ SESSION_CHANGES
       → Begins moves_text AreMoves bytes ms rest
   moves_begin ms rest r few = record {
-    is = n.is ∙ ap (λ (l : List ℕ). number_text count ++ l) r.is ∙ ap (λ (k : ℕ). number_text k ++ (flat_map move_text ms ++ rest)) (sym r.ok.len)
+    is = n.is ∙ ap (λ (l : List ℕ). number_text count ++ l) r.is
+        ∙ ap (λ (k : ℕ). number_text k ++ (flat_map move_text ms ++ rest)) (sym r.ok.len)
         ∙ sym (append_assoc (number_text (length ms)) (flat_map move_text ms) rest);
     ok = record { few = omega (arith, r.ok.len, few); each = r.ok.each };
   }
@@ -109,31 +136,40 @@ behind_two : (a b c d : ℕ) (xs ys : List ℕ) → a ∷ b ∷ xs ≡ c ∷ d �
 behind_two a b c d xs ys e = (behind_byte b d xs ys (behind_byte a c (b ∷ xs) (d ∷ ys) e).1).1
 
 module _ (bytes parts : List ℕ) (e : bytes ≡ 0x73 ∷ 1 ∷ parts) where
-  whole : (s : Content) → IsSessionFile bytes s → Parts parts s (moves_text s.past ++ moves_text s.future) (moves_text s.future) []
+  whole : (s : Content) → IsSessionFile bytes s →
+      Parts parts s (moves_text s.past ++ moves_text s.future) (moves_text s.future) []
   whole s f = parts_of parts s f.content (behind_two 0x73 1 0x73 1 parts (parts_text s) (sym e ∙ f.text))
 
   pub file_without_registers : BeginsNone registers_text AreRegisters parts → (s : Content) → IsSessionFile bytes s → ⊥
   file_without_registers none s f = none s.registers (moves_text s.past ++ moves_text s.future) (whole s f).registers
 
-  module _ (registers : List (List ℕ)) (behind : List ℕ) (r : Begins registers_text AreRegisters parts registers behind) where
+  module _ (registers : List (List ℕ)) (behind : List ℕ)
+      (r : Begins registers_text AreRegisters parts registers behind) where
     pub file_without_past : BeginsNone moves_text AreMoves behind → (s : Content) → IsSessionFile bytes s → ⊥
     file_without_past none s f =
-        let same = one_registers parts registers s.registers behind (moves_text s.past ++ moves_text s.future) r (whole s f).registers in
-        none s.past (moves_text s.future) (subst (λ (l : List ℕ). Begins moves_text AreMoves l s.past (moves_text s.future)) (sym same.1) (whole s f).past)
+        let same = one_registers parts registers s.registers behind (moves_text s.past ++ moves_text s.future) r
+        (whole s f).registers in
+        none s.past (moves_text s.future)
+        (subst (λ (l : List ℕ). Begins moves_text AreMoves l s.past (moves_text s.future)) (sym same.1)
+        (whole s f).past)
 
     module _ (past : List Moved) (last : List ℕ) (p : Begins moves_text AreMoves behind past last) where
       pub file_without_future : BeginsNone moves_text AreMoves last → (s : Content) → IsSessionFile bytes s → ⊥
       file_without_future none s f =
-          let same = one_registers parts registers s.registers behind (moves_text s.past ++ moves_text s.future) r (whole s f).registers in
+          let same = one_registers parts registers s.registers behind (moves_text s.past ++ moves_text s.future) r
+          (whole s f).registers in
           let sides = one_moves behind past s.past last (moves_text s.future) p
-          (subst (λ (l : List ℕ). Begins moves_text AreMoves l s.past (moves_text s.future)) (sym same.1) (whole s f).past) in
-          none s.future [] (subst (λ (l : List ℕ). Begins moves_text AreMoves l s.future []) (sym sides.1) (whole s f).future)
+          (subst (λ (l : List ℕ). Begins moves_text AreMoves l s.past (moves_text s.future)) (sym same.1)
+          (whole s f).past) in
+          none s.future [] (subst (λ (l : List ℕ). Begins moves_text AreMoves l s.future []) (sym sides.1)
+          (whole s f).future)
 
       module _ (future : List Moved) (rest : List ℕ) (q : Begins moves_text AreMoves last future rest) where
         read : Parts parts (record { registers = registers; past = past; future = future }) behind last rest
         read = record { registers = r; past = p; future = q }
 
-        same_session : (s : Content) → IsSessionFile bytes s → (record { registers = registers; past = past; future = future } ≡ s) × (rest ≡ [])
+        same_session : (s : Content) → IsSessionFile bytes s →
+            (record { registers = registers; past = past; future = future } ≡ s) × (rest ≡ [])
         same_session s f =
             one_session parts (record { registers = registers; past = past; future = future }) s behind last rest
             (moves_text s.past ++ moves_text s.future) (moves_text s.future) [] read (whole s f)
@@ -146,9 +182,17 @@ module _ (bytes parts : List ℕ) (e : bytes ≡ 0x73 ∷ 1 ∷ parts) where
             let c = subst IsContent (sym (same_session s f).0) f.content in
             absurd (omega (arith, many, c.few))
 
-        pub file_read : rest ≡ [] → length past + length future ≤ SESSION_CHANGES → IsSessionFile bytes (record { registers = registers; past = past; future = future })
+        pub file_read : rest ≡ [] → length past + length future ≤ SESSION_CHANGES →
+            IsSessionFile bytes (record { registers = registers; past = past; future = future })
         file_read none few = record {
-          content = record { count = r.ok.count; registers = r.ok.each; past = p.ok.each; future = q.ok.each; few = few };
+          content = record {
+            count = r.ok.count;
+            registers = r.ok.each;
+            past = p.ok.each;
+            future = q.ok.each;
+            few = few;
+          };
           text = e ∙ ap (λ (l : List ℕ). 0x73 ∷ 1 ∷ l) (r.is ∙ ap (λ (l : List ℕ). registers_text registers ++ l)
-              (p.is ∙ ap (λ (l : List ℕ). moves_text past ++ l) (q.is ∙ ap (λ (l : List ℕ). moves_text future ++ l) none ∙ append-nil (moves_text future))));
+              (p.is ∙ ap (λ (l : List ℕ). moves_text past ++ l)
+              (q.is ∙ ap (λ (l : List ℕ). moves_text future ++ l) none ∙ append-nil (moves_text future))));
         }

@@ -1,5 +1,7 @@
--- The union file: the byte 1, a count, and that many identifiers of cells, each number in eight bytes, the lowest first.
-use Rattle.std.specs.Prelude.{◌≡◌, ◌≢◌, ℕ, zero, suc, ◌+◌, ◌*◌, ◌^◌, ◌<◌, ◌≤◌, ◌⊎◌, Bool, List, ◌∷◌, ◌++◌, length, drop, slice_index, All, flat_map}
+-- The union file: the byte 1, a count, and that many identifiers of cells, each number in eight bytes, the lowest
+-- first.
+use Rattle.std.specs.Prelude.{◌≡◌, ◌≢◌, ℕ, zero, suc, ◌+◌, ◌*◌, ◌^◌, ◌<◌, ◌≤◌, ◌⊎◌, Bool, List}
+use Rattle.std.specs.Prelude.{◌∷◌, ◌++◌, length, drop, slice_index, All, flat_map}
 use Rattle.byteorder.specs.Endian.{little_bytes}
 use Rattle.s2cell.specs.Cell.{IsCell}
 use Rattle.s2union.specs.Union.{has_leaf, IsNormalForm}
@@ -12,7 +14,7 @@ abbrev pub weighed : ℕ → List ℕ → ℕ
 weighed zero bytes = 0
 weighed (suc n) bytes = weighed n bytes + slice_index bytes n * 256 ^ n
 
--- the number that the first eight bytes stand for
+-- the number in the first eight bytes
 unfoldable pub first_number : List ℕ → ℕ
 first_number bytes = weighed 8 bytes
 
@@ -20,15 +22,16 @@ first_number bytes = weighed 8 bytes
 unfoldable pub number_text : ℕ → List ℕ
 number_text x = little_bytes 8 x
 
--- the count that a file states, behind its first byte
+-- the count that a file states, after its first byte
 abbrev pub stated_count : List ℕ → ℕ
 stated_count bytes = first_number (drop 1 bytes)
 
--- the number with the place `i`, behind the head of nine bytes
+-- the number at the place `i` after the head of nine bytes
 abbrev pub number_at : List ℕ → ℕ → ℕ
 number_at bytes i = first_number (drop (8 * i) (drop 9 bytes))
 
--- the bytes are the byte 1, a count of at most 1,000,000 (`MOST_CELLS`), that many identifiers of cells, which are `ids`, and nothing else
+-- the bytes are the byte 1, a count of at most 1,000,000 (`MOST_CELLS`), that many identifiers of cells, which are
+-- `ids`, and nothing else
 pub record IsFileOf (bytes ids : List ℕ) : Type 0 where
   pub version : slice_index bytes 0 ≡ 1
   pub count : stated_count bytes ≡ length ids
@@ -48,28 +51,28 @@ pub record HasVersion (bytes : List ℕ) : Type 0 where
   pub some : 0 < length bytes
   pub version : slice_index bytes 0 ≡ 1
 
--- and the second: the head of nine bytes is whole
+-- the second check passes too: the head of nine bytes is complete
 pub record HasHead (bytes : List ℕ) : Type 0 where
   pub version : HasVersion bytes
   pub whole : 9 ≤ length bytes
 
--- and the third: the head states at most 1,000,000 identifiers
+-- the third check passes too: the head states at most 1,000,000 identifiers
 pub record HasCount (bytes : List ℕ) : Type 0 where
   pub head : HasHead bytes
   pub most : stated_count bytes ≤ MOST_CELLS
 
--- and the fourth: just as many follow
+-- the fourth check passes too: exactly that many identifiers follow
 pub record HasFrame (bytes : List ℕ) : Type 0 where
   pub counted : HasCount bytes
   pub length_is : length bytes ≡ 9 + 8 * stated_count bytes
 
--- the fifth fails: some number behind the head is no identifier of a cell
+-- the fifth check fails: some number after the head is not the identifier of a cell
 pub record HasWrongNumber (bytes : List ℕ) : Type 0 where
   pub place : ℕ
   pub within : place < stated_count bytes
   pub wrong : IsCell (number_at bytes place) → ⊥
 
--- the fault of the first check that fails; memory may want once the first four have passed
+-- the fault of the first check that fails; once the first four have passed, memory may run out
 abbrev pub Faults : List ℕ → FileFault → Type 0
 Faults bytes Version = (0 < length bytes) × (slice_index bytes 0 ≢ 1)
 Faults bytes Short =
@@ -81,11 +84,11 @@ Faults bytes Trailing = HasCount bytes × (9 + 8 * stated_count bytes < length b
 Faults bytes Cell = HasFrame bytes × HasWrongNumber bytes
 Faults bytes Memory = HasFrame bytes
 
--- the text of a list of identifiers, however many
+-- the bytes of a file with these identifiers, however many
 abbrev pub file_text : List ℕ → List ℕ
 file_text ids = 1 ∷ (number_text (length ids) ++ flat_map number_text ids)
 
--- the bytes are the text of the normal form of `S`
+-- the bytes are the file of the normal form of `S`
 pub record Bytes (S : ℕ → Bool) (bytes : List ℕ) : Type 0 where
   pub ids : List ℕ
   pub normal : IsNormalForm S ids

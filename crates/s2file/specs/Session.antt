@@ -1,6 +1,7 @@
--- The session file: the lists of the registers, and the changes of both sides of their history. Counts and identifiers take
--- eight bytes each, the lowest first.
-use Rattle.std.specs.Prelude.{◌≡◌, ℕ, ◌+◌, ◌-◌, ◌<◌, ◌≤◌, ◌⊎◌, Bool, true, false, List, [], ◌∷◌, ◌++◌, length, map, replicate, All, flat_map}
+-- The session file: the lists of the registers, and the changes of both sides of their history. Counts and
+-- identifiers take eight bytes each, the lowest first.
+use Rattle.std.specs.Prelude.{◌≡◌, ℕ, ◌+◌, ◌-◌, ◌<◌, ◌≤◌, ◌⊎◌, Bool, true, false, List, [], ◌∷◌}
+use Rattle.std.specs.Prelude.{◌++◌, length, map, replicate, All, flat_map}
 use Rattle.std.specs.List.{AllByRecursion}
 use Rattle.std.specs.List.Sorted.{IsStrictlyIncreasing}
 use Rattle.s2cell.specs.Cell.{IsCell}
@@ -11,13 +12,15 @@ use Rattle.s2file.specs.declared.TheConstants.{SESSION_REGISTERS, SESSION_CELLS,
 use Rattle.s2file.specs.declared.session.Move.{Move}
 use Rattle.s2file.specs.declared.session.Session.{Session}
 
--- a change of one register: the register's number, the cells that are taken out of its list, and those that are put in
+-- a change of one register: the number of the register, the cells that are taken out of its list, and those that are
+-- put in
 pub record Moved : Type 0 where
   pub register : ℕ
   pub out : List ℕ
   pub put : List ℕ
 
--- what a session tells: the list of each register, the changes of the past, oldest first, and those of the future, nearest first
+-- what a session says: the list of each register, the changes of the past, oldest first, and those of the future,
+-- nearest first
 pub record Content : Type 0 where
   pub registers : List (List ℕ)
   pub past : List Moved
@@ -39,16 +42,16 @@ moves_text ms = number_text (length ms) ++ flat_map move_text ms
 abbrev pub parts_text : Content → List ℕ
 parts_text s = flat_map list_text s.registers ++ (moves_text s.past ++ moves_text s.future)
 
--- the file: the bytes 73 and 01, and the parts
+-- the file: the bytes 73 and 01, followed by the parts
 abbrev pub session_text : Content → List ℕ
 session_text s = 0x73 ∷ 1 ∷ parts_text s
 
--- a list that a session may have in a register
+-- a list that a session may have as a register
 pub record IsRegisterList (cells : List ℕ) : Type 0 where
   pub local : IsLocal cells
   pub few : length cells ≤ SESSION_CELLS
 
--- a list that a change may have
+-- a list that a change may take out or put in
 pub record IsChangeList (cells : List ℕ) : Type 0 where
   pub valid : All IsCell cells
   pub ascending : IsStrictlyIncreasing cells
@@ -66,7 +69,7 @@ pub record IsMoved (m : Moved) : Type 0 where
   pub apart : AreApart m.out m.put
   pub some : 0 < length m.out + length m.put
 
--- what a session may tell, all but that its changes can be made one after another
+-- what a session may say, except that its changes need not fit one after another
 pub record IsContent (s : Content) : Type 0 where
   pub count : length s.registers ≡ SESSION_REGISTERS
   pub registers : AllByRecursion IsRegisterList s.registers
@@ -78,12 +81,12 @@ pub record IsContent (s : Content) : Type 0 where
 abbrev pub content_of_list : List ℕ → Content
 content_of_list cells = record { registers = cells ∷ replicate (SESSION_REGISTERS - 1) []; past = []; future = [] }
 
--- the bytes are a session file that tells `s`
+-- the bytes are a session file that says `s`
 pub record IsSessionFile (bytes : List ℕ) (s : Content) : Type 0 where
   pub content : IsContent s
   pub text : bytes ≡ session_text s
 
--- the bytes are a union file, of whose leaves register a has the normalised list
+-- the bytes are a union file, and register a has the normalized list of its leaves
 pub record IsUnionFile (bytes : List ℕ) (s : Content) : Type 0 where
   pub cells : List ℕ
   pub local : IsLocal cells
@@ -98,6 +101,14 @@ Spells bytes s = IsSessionFile bytes s ⊎ IsUnionFile bytes s
 abbrev pub moved_of : Move → Moved
 moved_of m = record { register = m.register; out = m.out.items; put = m.put.items }
 
--- what a `Session` tells
+-- what registers, a past with the oldest change first, and a future with the nearest first say
+abbrev pub content_of_parts : List Union → List Move → List Move → Content
+content_of_parts registers past future = record {
+  registers = map (λ (u : Union). u.cells) registers;
+  past = map moved_of past;
+  future = map moved_of future;
+}
+
+-- what a `Session` says
 abbrev pub content_of : Session → Content
-content_of s = record { registers = map (λ (u : Union). u.cells) s.registers.items; past = map moved_of s.past.items; future = map moved_of s.future.items }
+content_of s = content_of_parts s.registers.items s.past.items s.future.items

@@ -5,8 +5,8 @@ ghost use Rattle.s2file.specs.declared.fault.FileFault.TheVariants.{Memory};
 use std::alloc::AllocError;
 use thiserror::Error;
 
-/// Why bytes are no union file: the first check that fails, in the order in which they stand here
-/// but for `Short`, which comes wherever the bytes end too early.
+/// Why bytes are not a union file: the first check that fails, in the order of this list, except for `Short`, which is
+/// answered wherever the bytes end too early.
 #[derive(Clone, Copy, Debug, PartialEq, Eq, Error)]
 pub enum FileFault {
     /// The first byte is not 1.
@@ -21,10 +21,10 @@ pub enum FileFault {
     /// Bytes follow the last identifier.
     #[error("bytes behind the last identifier")]
     Trailing,
-    /// A number is no identifier of a cell.
+    /// A number is not the identifier of a cell.
     #[error("no identifier of a cell")]
     Cell,
-    /// The list of cells found no memory; the bytes passed every check but that of the identifiers.
+    /// There was no memory for the list of cells; the bytes passed every check except that of the identifiers.
     #[error("out of memory")]
     Memory,
 }

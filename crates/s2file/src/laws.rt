@@ -1,5 +1,6 @@
-//! What follows for union files from their definitions, and the way back from bytes to a union.
-ghost use Rattle.std.specs.Prelude.{◌≡◌, ◌≢◌, ◌<◌, ◌≤◌, ℕ, Bool, List, [], ◌∷◌, ◌++◌, length, take, drop, replicate, MatchResult};
+//! Laws that follow from the definitions of files, and the way back from bytes to a union.
+ghost use Rattle.std.specs.Prelude.{◌≡◌, ◌≢◌, ◌<◌, ◌≤◌, ℕ, Bool, List, [], ◌∷◌, ◌++◌, length, take};
+ghost use Rattle.std.specs.Prelude.{drop, replicate, MatchResult};
 ghost use Rattle.s2union.specs.Union.{has_leaf};
 ghost use Rattle.s2file.specs.declared.union_file.TheConstants.{MOST_CELLS, MOST_SIZE};
 ghost use Rattle.s2file.specs.File.{File, Faults, file_text, Bytes};
@@ -12,23 +13,26 @@ use crate::union_file::{decode, encode};
 use s2union::CellUnion;
 use std::alloc::Global;
 
-/// Bytes are read in one way: a file stands for one set of leaves and has no fault but want of
-/// memory, and other bytes have one fault beside it at most.
+/// Bytes can be read in one way only: a file stands for one set of leaves and has no fault except out of memory, and
+/// other bytes have at most one fault besides it.
 pub fn one_reading()
     ensures leaves { (bytes : List ℕ) (S T : ℕ → Bool) → File bytes S → File bytes T → (x : ℕ) → S x ≡ T x }
-    ensures no_fault { (bytes : List ℕ) (S : ℕ → Bool) (fault : Fault) → File bytes S → Faults bytes fault → fault ≡ FileFault.Memory }
-    ensures one_fault { (bytes : List ℕ) (fault other : Fault) → Faults bytes fault → Faults bytes other → fault ≢ FileFault.Memory → other ≢ FileFault.Memory → fault ≡ other }
+    ensures no_fault { (bytes : List ℕ) (S : ℕ → Bool) (fault : Fault) → File bytes S → Faults bytes fault →
+        fault ≡ FileFault.Memory }
+    ensures one_fault { (bytes : List ℕ) (fault other : Fault) → Faults bytes fault → Faults bytes other →
+        fault ≢ FileFault.Memory → other ≢ FileFault.Memory → fault ≡ other }
 {}
 
-/// A text is judged by its first `n` bytes if `n` is more than `MOST_SIZE`: it is a file of each set that they are a file
-/// of, and has each fault that they have, out of memory aside. A file is never longer than `MOST_SIZE`.
+/// The first `n` bytes decide what the whole is if `n` is more than `MOST_SIZE`: if they are a file of a set, so is the
+/// whole, and the whole has each fault that they have, except out of memory. A file is never longer than `MOST_SIZE`.
 pub fn beginning_decides()
     ensures longest { (bytes : List ℕ) (S : ℕ → Bool) → File bytes S → length bytes ≤ MOST_SIZE }
     ensures file { (bytes : List ℕ) (n : ℕ) (S : ℕ → Bool) → MOST_SIZE < n → File (take n bytes) S → File bytes S }
-    ensures fault { (bytes : List ℕ) (n : ℕ) (fault : Fault) → MOST_SIZE < n → fault ≢ FileFault.Memory → Faults (take n bytes) fault → Faults bytes fault }
+    ensures fault { (bytes : List ℕ) (n : ℕ) (fault : Fault) → MOST_SIZE < n → fault ≢ FileFault.Memory →
+        Faults (take n bytes) fault → Faults bytes fault }
 {}
 
-/// Bytes spell one session at most.
+/// Bytes spell at most one session.
 pub fn one_session()
     ensures { (bytes : List ℕ) (s t : Content) → Spells bytes s → Spells bytes t → s ≡ t }
 {}
@@ -37,23 +41,29 @@ pub fn one_session()
 pub fn known_sessions()
     ensures untouched { length (session_text (content_of_list [])) ≡ 226 }
     ensures one_change { length (session_text one_change) ≡ 259 }
-    ensures one_change_begins { take 26 (session_text one_change) ≡ 0x73 ∷ 1 ∷ 1 ∷ 0 ∷ 0 ∷ 0 ∷ 0 ∷ 0 ∷ 0 ∷ 0 ∷ 0 ∷ 0 ∷ 0 ∷ 0 ∷ 0 ∷ 0 ∷ 0 ∷ 0x10 ∷ 0 ∷ 0 ∷ 0 ∷ 0 ∷ 0 ∷ 0 ∷ 0 ∷ 0 ∷ [] }
-    ensures one_change_ends { drop 218 (session_text one_change) ≡ 1 ∷ 0 ∷ 0 ∷ 0 ∷ 0 ∷ 0 ∷ 0 ∷ 0 ∷ 0 ∷ 0 ∷ 0 ∷ 0 ∷ 0 ∷ 0 ∷ 0 ∷ 0 ∷ 0 ∷ 1 ∷ 0 ∷ 0 ∷ 0 ∷ 0 ∷ 0 ∷ 0 ∷ 0 ∷ 0 ∷ 0 ∷ 0 ∷ 0 ∷ 0 ∷ 0 ∷ 0 ∷ 0x10 ∷ 0 ∷ 0 ∷ 0 ∷ 0 ∷ 0 ∷ 0 ∷ 0 ∷ 0 ∷ [] }
+    ensures one_change_begins { take 26 (session_text one_change) ≡ 0x73 ∷ 1 ∷ 1 ∷ 0 ∷ 0 ∷ 0 ∷ 0 ∷ 0 ∷ 0 ∷ 0 ∷ 0
+        ∷ 0 ∷ 0 ∷ 0 ∷ 0 ∷ 0 ∷ 0 ∷ 0x10 ∷ 0 ∷ 0 ∷ 0 ∷ 0 ∷ 0 ∷ 0 ∷ 0 ∷ 0 ∷ [] }
+    ensures one_change_ends { drop 218 (session_text one_change) ≡ 1 ∷ 0 ∷ 0 ∷ 0 ∷ 0 ∷ 0 ∷ 0 ∷ 0 ∷ 0 ∷ 0 ∷ 0 ∷ 0
+        ∷ 0 ∷ 0 ∷ 0 ∷ 0 ∷ 0 ∷ 1 ∷ 0 ∷ 0 ∷ 0 ∷ 0 ∷ 0 ∷ 0
+        ∷ 0 ∷ 0 ∷ 0 ∷ 0 ∷ 0 ∷ 0 ∷ 0 ∷ 0 ∷ 0x10 ∷ 0 ∷ 0 ∷ 0 ∷ 0 ∷ 0
+        ∷ 0 ∷ 0 ∷ 0 ∷ [] }
 {}
 
 /// Equal sets of leaves have equal bytes.
 pub fn one_text()
-    ensures { (S T : ℕ → Bool) (bytes others : List ℕ) → ((x : ℕ) → S x ≡ T x) → Bytes S bytes → Bytes T others → bytes ≡ others }
+    ensures { (S T : ℕ → Bool) (bytes others : List ℕ) → ((x : ℕ) → S x ≡ T x) → Bytes S bytes → Bytes T others →
+        bytes ≡ others }
 {}
 
 /// Known files and the unions that they stand for, and what is written of these unions: none, the face 0, 04 and 0c
-/// (read out of order, one of them doubled), and the face 0 by its four children, the last one first.
+/// (read out of order, one of them repeated), and the face 0 by its four children, the last one first.
 pub fn known_files()
     ensures no_cell { File (1 ∷ replicate 8 0) (has_leaf []) }
     ensures face { File (1 ∷ 1 ∷ replicate 14 0 ++ 0x10 ∷ []) (has_leaf (0x1000000000000000 ∷ [])) }
     ensures any_order { File (1 ∷ 3 ∷ replicate 14 0 ++ 0x0c ∷ replicate 7 0 ++ 4 ∷ replicate 7 0 ++ 4 ∷ [])
         (has_leaf (0x0400000000000000 ∷ 0x0c00000000000000 ∷ [])) }
-    ensures siblings { File (1 ∷ 4 ∷ replicate 14 0 ++ 0x1c ∷ replicate 7 0 ++ 0x14 ∷ replicate 7 0 ++ 0x0c ∷ replicate 7 0 ++ 4 ∷ [])
+    ensures siblings { File (1 ∷ 4 ∷ replicate 14 0 ++ 0x1c ∷ replicate 7 0 ++ 0x14 ∷ replicate 7 0 ++ 0x0c
+        ∷ replicate 7 0 ++ 4 ∷ [])
         (has_leaf (0x1000000000000000 ∷ [])) }
     ensures no_cell_written { file_text [] ≡ 1 ∷ replicate 8 0 }
     ensures face_written { file_text (0x1000000000000000 ∷ []) ≡ 1 ∷ 1 ∷ replicate 14 0 ++ 0x10 ∷ [] }
@@ -76,7 +86,7 @@ pub fn refused_bytes()
     ensures face_6 { Faults (1 ∷ 1 ∷ replicate 14 0 ++ 0xd0 ∷ []) FileFault.Cell }
 {}
 
-/// The union that `decode` answers for what `encode` answers: that union itself, or want of memory.
+/// What `decode` answers for the bytes that `encode` wrote: the same union, or out of memory.
 pub fn round_trip(alloc: Global, union: &CellUnion) -> Result<CellUnion, FileFault>
     requires { length union.now.cells ≤ MOST_CELLS }
     ensures { MatchResult result (λ back. back.cells ≡ union.now.cells) (λ fault. fault ≡ FileFault.Memory) }

@@ -1,12 +1,13 @@
 //! Unions of cells as bytes.
 //!
-//! A union file is the byte 1, a count, and that many identifiers of cells, each number in eight
-//! bytes, the lowest first. `encode` writes a union's cells in ascending order. `decode` takes any
-//! order, doubled cells and unmerged siblings, and answers the union of their leaves; bytes of any
-//! other form are refused, with the first check that fails.
+//! A union file is the byte 1, a count, and that many identifiers of cells, each number in eight bytes, the lowest
+//! first. `encode` writes the cells of a union in ascending order. `decode` accepts any order, repeated cells and
+//! unmerged siblings, and answers the union of their leaves; it refuses all other bytes, and says which check failed
+//! first.
 //!
-//! A session file holds the lists of 26 registers and both sides of their history as changes: bytes spell one session
-//! at most. `encode_session` writes it; `decode_session` reads it, or a union file as a session with one register.
+//! A session file holds the lists of 26 registers and both sides of their history as changes. Bytes spell at most one
+//! session. `encode_session` writes a session file; `decode_session` reads one, and reads a union file as a session
+//! with one register.
 #![tactic(auto)]
 
 pub mod fault;
@@ -18,7 +19,7 @@ pub mod union_file;
 
 pub use crate::fault::FileFault;
 pub use crate::session::{Move, Session, SessionFault};
-pub use crate::session_file::{decode_session, encode_session};
+pub use crate::session_file::{decode_session, encode_parts, encode_session};
 pub use crate::union_file::{MOST_CELLS, MOST_SIZE, decode, encode};
 
 /// How many registers a session file has.

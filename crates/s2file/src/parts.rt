@@ -1,11 +1,13 @@
 //! The parts of a session file, each read from the front of the bytes that are left.
-ghost use Rattle.std.specs.Prelude.{◌≡◌, ◌*◌, ◌+◌, ◌<◌, ◌≤◌, ◌^◌, ℕ, List, length, map, All, flat_map, MatchResult, MatchBool};
+ghost use Rattle.std.specs.Prelude.{◌≡◌, ◌*◌, ◌+◌, ◌<◌, ◌≤◌, ◌^◌, ℕ, List, length, map, All, flat_map};
+ghost use Rattle.std.specs.Prelude.{MatchResult, MatchBool};
 ghost use Rattle.std.specs.List.Sorted.{IsStrictlyIncreasing};
 ghost use Rattle.s2cell.specs.Cell.{IsCell};
 ghost use Rattle.s2union.specs.Union.{Union};
 ghost use Rattle.s2file.specs.File.{number_text};
 ghost use Rattle.s2file.specs.Session.{list_text, move_text, moves_text, moved_of, AreApart, IsMoved, IsRegisterList};
-ghost use Rattle.s2file.specs.SessionParts.{Begins, BeginsNone, Refuses, AreCells, AreMoves, AreRegisters, IsRow, registers_text, row_text, IsNumber, SpellsCells};
+ghost use Rattle.s2file.specs.SessionParts.{Begins, BeginsNone, Refuses, AreCells, AreMoves, AreRegisters, IsRow};
+ghost use Rattle.s2file.specs.SessionParts.{registers_text, row_text, IsNumber, SpellsCells};
 
 use crate::session::{Move, SessionFault};
 use crate::union_file::{NUMBER_SIZE, number};
@@ -17,7 +19,8 @@ use std::cmp::Ordering;
 
 /// The number at the front, and the bytes after it.
 fn number_at(bytes: &[u8]) -> Result<(u64, &[u8]), SessionFault>
-    ensures { MatchResult result (λ x. Begins number_text IsNumber bytes.now x.0 x.1.now) (λ fault. Refuses fault (BeginsNone number_text IsNumber bytes.now)) }
+    ensures { MatchResult result (λ x. Begins number_text IsNumber bytes.now x.0 x.1.now)
+        (λ fault. Refuses fault (BeginsNone number_text IsNumber bytes.now)) }
 {
     if bytes.len() < NUMBER_SIZE {
         return Err(SessionFault::Form);
@@ -26,10 +29,11 @@ fn number_at(bytes: &[u8]) -> Result<(u64, &[u8]), SessionFault>
     Ok((number(front), rest))
 }
 
-/// The cells of a list at the front, in whatever order, and the bytes after it. No memory is asked for
-/// before the bytes that are left are known to hold as many.
+/// The cells of a list at the front, in any order, and the bytes after it. Asks for memory only when the bytes that are
+/// left are known to have that many identifiers.
 fn cells_at(alloc: Global, bytes: &[u8]) -> Result<(Vec<CellId>, &[u8]), SessionFault>
-    ensures { MatchResult result (λ x. Begins list_text AreCells bytes.now x.0.items x.1.now) (λ fault. Refuses fault (BeginsNone list_text AreCells bytes.now)) }
+    ensures { MatchResult result (λ x. Begins list_text AreCells bytes.now x.0.items x.1.now)
+        (λ fault. Refuses fault (BeginsNone list_text AreCells bytes.now)) }
 {
     let (count, rest) = number_at(bytes)?;
     if count > SESSION_CELLS as u64 {
@@ -44,10 +48,11 @@ fn cells_at(alloc: Global, bytes: &[u8]) -> Result<(Vec<CellId>, &[u8]), Session
     Ok((cells, rest))
 }
 
-/// The cells whose identifiers the bytes are, one after another.
+/// The cells whose identifiers are the bytes, one after another.
 fn cells_spelled(alloc: Global, numbers: &[u8], count: usize) -> Result<Vec<CellId>, SessionFault>
     requires { length numbers.now ≡ 8 * count }
-    ensures { MatchResult result (λ cells. SpellsCells numbers.now cells.items) (λ fault. Refuses fault ((ids : List ℕ) → SpellsCells numbers.now ids → ⊥)) }
+    ensures { MatchResult result (λ cells. SpellsCells numbers.now cells.items)
+        (λ fault. Refuses fault ((ids : List ℕ) → SpellsCells numbers.now ids → ⊥)) }
 {
     let mut cells = Vec::with_capacity(alloc, count)?;
     for chunk in numbers.chunks_exact(NUMBER_SIZE) {
@@ -61,7 +66,8 @@ fn cells_spelled(alloc: Global, numbers: &[u8], count: usize) -> Result<Vec<Cell
 
 /// The union of a register at the front, and the bytes after it.
 fn register_at(alloc: Global, bytes: &[u8]) -> Result<(CellUnion, &[u8]), SessionFault>
-    ensures { MatchResult result (λ x. Begins list_text IsRegisterList bytes.now x.0.cells x.1.now) (λ fault. Refuses fault (BeginsNone list_text IsRegisterList bytes.now)) }
+    ensures { MatchResult result (λ x. Begins list_text IsRegisterList bytes.now x.0.cells x.1.now)
+        (λ fault. Refuses fault (BeginsNone list_text IsRegisterList bytes.now)) }
 {
     let (cells, rest) = cells_at(alloc, bytes)?;
     if !is_normalized(&cells) {
@@ -75,7 +81,9 @@ pub(crate) fn registers_at(
     alloc: Global,
     bytes: &[u8],
 ) -> Result<(Vec<CellUnion>, &[u8]), SessionFault>
-    ensures { MatchResult result (λ x. Begins registers_text AreRegisters bytes.now (map (λ (u : Union). u.cells) x.0.items) x.1.now) (λ fault. Refuses fault (BeginsNone registers_text AreRegisters bytes.now)) }
+    ensures { MatchResult result (λ x. Begins registers_text AreRegisters bytes.now
+        (map (λ (u : Union). u.cells) x.0.items) x.1.now)
+        (λ fault. Refuses fault (BeginsNone registers_text AreRegisters bytes.now)) }
 {
     let mut registers = Vec::new(alloc);
     let mut rest = bytes;
@@ -89,7 +97,8 @@ pub(crate) fn registers_at(
 
 /// The change at the front, and the bytes after it.
 fn move_at(alloc: Global, bytes: &[u8]) -> Result<(Move, &[u8]), SessionFault>
-    ensures { MatchResult result (λ x. Begins move_text IsMoved bytes.now (moved_of x.0) x.1.now) (λ fault. Refuses fault (BeginsNone move_text IsMoved bytes.now)) }
+    ensures { MatchResult result (λ x. Begins move_text IsMoved bytes.now (moved_of x.0) x.1.now)
+        (λ fault. Refuses fault (BeginsNone move_text IsMoved bytes.now)) }
 {
     let Some((&register, lists)) = bytes.split_first() else {
         return Err(SessionFault::Form);
@@ -102,12 +111,13 @@ fn move_at(alloc: Global, bytes: &[u8]) -> Result<(Move, &[u8]), SessionFault>
     Ok((Move { register, out, put }, rest))
 }
 
-/// Whether lists of cells are a change: there is such a register, the lists ascend, share no cell and are not
-/// both empty.
+/// Whether a register and two lists of cells are a change: the register exists, and the lists ascend, share no cell and
+/// are not both empty.
 fn is_change(register: u8, out: &[CellId], put: &[CellId]) -> bool
     requires out { AreCells out.now }
     requires put { AreCells put.now }
-    ensures { MatchBool result (IsMoved (record { register = register; out = out.now; put = put.now })) (IsMoved (record { register = register; out = out.now; put = put.now }) → ⊥) }
+    ensures { MatchBool result (IsMoved (record { register = register; out = out.now; put = put.now }))
+        (IsMoved (record { register = register; out = out.now; put = put.now }) → ⊥) }
 {
     if (register as usize) >= SESSION_REGISTERS {
         return false;
@@ -126,7 +136,8 @@ fn is_change(register: u8, out: &[CellId], put: &[CellId]) -> bool
 
 /// The changes at the front, after their count, and the bytes after them.
 pub(crate) fn moves_at(alloc: Global, bytes: &[u8]) -> Result<(Vec<Move>, &[u8]), SessionFault>
-    ensures { MatchResult result (λ x. Begins moves_text AreMoves bytes.now (map moved_of x.0.items) x.1.now) (λ fault. Refuses fault (BeginsNone moves_text AreMoves bytes.now)) }
+    ensures { MatchResult result (λ x. Begins moves_text AreMoves bytes.now (map moved_of x.0.items) x.1.now)
+        (λ fault. Refuses fault (BeginsNone moves_text AreMoves bytes.now)) }
 {
     let (count, behind) = number_at(bytes)?;
     if count > SESSION_CHANGES as u64 {
@@ -138,7 +149,8 @@ pub(crate) fn moves_at(alloc: Global, bytes: &[u8]) -> Result<(Vec<Move>, &[u8])
 
 /// The changes at the front, as many as were counted, and the bytes after them.
 fn row_at(alloc: Global, bytes: &[u8], count: usize) -> Result<(Vec<Move>, &[u8]), SessionFault>
-    ensures { MatchResult result (λ x. Begins row_text (IsRow count) bytes.now (map moved_of x.0.items) x.1.now) (λ fault. Refuses fault (BeginsNone row_text (IsRow count) bytes.now)) }
+    ensures { MatchResult result (λ x. Begins row_text (IsRow count) bytes.now (map moved_of x.0.items) x.1.now)
+        (λ fault. Refuses fault (BeginsNone row_text (IsRow count) bytes.now)) }
 {
     let mut moves = Vec::new(alloc);
     let mut rest = bytes;

@@ -11,7 +11,7 @@ use thiserror::Error;
 /// lists ascend by identifier, share no cell, and are not both empty.
 #[derive(Drop)]
 pub struct Move {
-    /// The register's number, from 0 on.
+    /// The number of the register, from 0 on.
     pub register: u8,
     /// The cells that are taken out of the register's list.
     pub out: Vec<CellId>,

@@ -13,29 +13,31 @@ use std::alloc::{AllocError, Global};
 /// The byte that a file begins with.
 pub(crate) const VERSION: u8 = 1;
 
-/// The version and the count: how many bytes stand before the identifiers.
+/// How many bytes come before the identifiers: the version and the count.
 const HEAD_SIZE: usize = 9;
 
 /// The size of a number, in bytes.
 pub(crate) const NUMBER_SIZE: usize = 8;
 
-/// How many identifiers a file may hold: the greatest count that `decode` takes.
+/// How many identifiers a file may hold: the greatest count that `decode` accepts.
 pub const MOST_CELLS: u64 = 1_000_000;
 
 /// The size of the longest file, in bytes: the head and `MOST_CELLS` identifiers.
-pub const MOST_SIZE: usize = 8_000_009;
+pub const MOST_SIZE: usize = HEAD_SIZE + NUMBER_SIZE * MOST_CELLS as usize;
 
 /// The union that a file stands for: the normal form of the leaves of its cells.
 ///
-/// The cells may come in any order, doubled, contained in one another or unmerged. Bytes of any
-/// other form are refused with the first check that fails, in the order: a first byte, and it is 1;
-/// nine bytes at least; a count of at most `MOST_CELLS`; just as many identifiers; each one of a cell.
-/// One list of cells is taken, once the first four have passed. One pass over the bytes, and a sort,
-/// which costs next to nothing where the cells ascend.
+/// The cells may be in any order, repeated, contained in one another or unmerged. All other bytes are refused, and the
+/// fault says which check failed first: there is a first byte, and it is 1; there are at least nine bytes; the count is
+/// at most `MOST_CELLS`; exactly that many identifiers follow; each is the identifier of a cell. Takes one list of
+/// cells, once the first four checks have passed. One pass over the bytes, and a sort, which costs almost nothing if
+/// the cells ascend.
 #[tactic(auto, using(crate::proofs::Reading::file_from_cells))]
 pub fn decode(alloc: Global, bytes: &[u8]) -> Result<CellUnion, FileFault>
-    ensures answer { MatchResult result (λ union. File bytes.now (has_leaf union.cells)) (λ fault. Faults bytes.now fault) }
-    ensures exact { (S : ℕ → Bool) → File bytes.now S → MatchResult result (λ union. (x : ℕ) → has_leaf union.cells x ≡ S x) (λ fault. fault ≡ FileFault.Memory) }
+    ensures answer { MatchResult result (λ union. File bytes.now (has_leaf union.cells))
+        (λ fault. Faults bytes.now fault) }
+    ensures exact { (S : ℕ → Bool) → File bytes.now S →
+        MatchResult result (λ union. (x : ℕ) → has_leaf union.cells x ≡ S x) (λ fault. fault ≡ FileFault.Memory) }
     ensures local { IfOk result (λ union. IsLocal union.cells) }
 {
     check_frame(bytes)?;
@@ -69,7 +71,7 @@ fn check_frame(bytes: &[u8]) -> Result<(), FileFault>
     Ok(())
 }
 
-/// The cells behind the head of a file, in their order.
+/// The cells after the head of a file, in their order.
 fn cells_of(alloc: Global, bytes: &[u8]) -> Result<Vec<CellId>, FileFault>
     requires { HasFrame bytes.now }
     ensures { MatchResult result (λ cells. IsFileOf bytes.now cells.items) (λ fault. Faults bytes.now fault) }
@@ -85,7 +87,7 @@ fn cells_of(alloc: Global, bytes: &[u8]) -> Result<Vec<CellId>, FileFault>
     Ok(cells)
 }
 
-/// The number that the first eight bytes stand for.
+/// The number in the first eight bytes.
 #[tactic(auto, unfolding(crate::specs::File::first_number))]
 pub(crate) fn number(bytes: &[u8]) -> u64
     requires { 8 ≤ length bytes.now }
@@ -96,12 +98,13 @@ pub(crate) fn number(bytes: &[u8]) -> u64
 
 /// The file of a union: its cells in ascending order, however many they are.
 ///
-/// Two unions with the same leaves have the same file. `decode` reads it back, where the union has
-/// at most `MOST_CELLS` cells. One list of nine bytes and eight for each cell is taken.
+/// Two unions with the same leaves have the same file. `decode` reads it back, if the union has at most `MOST_CELLS`
+/// cells. Takes one list of nine bytes plus eight for each cell.
 pub fn encode(alloc: Global, union: &CellUnion) -> Result<Vec<u8>, AllocError>
     ensures text { IfOk result (λ bytes. bytes.items ≡ file_text union.now.cells) }
     ensures bytes { IfOk result (λ bytes. Bytes (has_leaf union.now.cells) bytes.items) }
-    ensures back { length union.now.cells ≤ MOST_CELLS → IfOk result (λ bytes. File bytes.items (has_leaf union.now.cells)) }
+    ensures back { length union.now.cells ≤ MOST_CELLS →
+        IfOk result (λ bytes. File bytes.items (has_leaf union.now.cells)) }
 {
     let cells = union.cells();
     let size = cells

@@ -12,13 +12,21 @@ use Rattle.s2script.proofs.NamedLemmas.{token_some, token_none}
 pub token_0C00 : cell_named (codes "0C00") ≡ Some 0x0c00_0000_0000_0000
 unfolding cell_named
 token_0C00 =
-    token_some (codes "0C00") 0x0c00_0000_0000_0000 (record { some = lit< tt; most = lit≤ tt; digits = (lit< tt, (lit< tt, (lit< tt, (lit< tt, tt)))); value = refl })
+    token_some (codes "0C00") 0x0c00_0000_0000_0000
+    (record {
+      some = lit< tt;
+      most = lit≤ tt;
+      digits = (lit< tt, (lit< tt, (lit< tt, (lit< tt, tt))));
+      value = refl;
+    })
     (1, 1, record { level = lit≤ tt; place = lit< tt; id = refl })
 
 pub token_1 : cell_named (codes "1") ≡ Some 0x1000_0000_0000_0000
 unfolding cell_named
 token_1 =
-    token_some (codes "1") 0x1000_0000_0000_0000 (record { some = lit< tt; most = lit≤ tt; digits = (lit< tt, tt); value = refl }) (0, 0, record { level = lit≤ tt; place = lit< tt; id = refl })
+    token_some (codes "1") 0x1000_0000_0000_0000
+    (record { some = lit< tt; most = lit≤ tt; digits = (lit< tt, tt); value = refl })
+    (0, 0, record { level = lit≤ tt; place = lit< tt; id = refl })
 
 -- the face would be 6
 pub token_c : cell_named (codes "c") ≡ None

@@ -1,12 +1,15 @@
 -- Lemmas on the words of a line.
-use Rattle.std.proofs.Common.{◌≡◌, ℕ, ◌+◌, Bool, true, false, List, [], ◌∷◌, ◌++◌, length, take, drop, slice_index, refl, sym, ap, ◌∙◌, take-append-drop, arith, ◌<◌}
+use Rattle.std.proofs.Common.{◌≡◌, ℕ, ◌+◌, Bool, true, false, List, [], ◌∷◌, ◌++◌, length, take, drop, slice_index}
+use Rattle.std.proofs.Common.{refl, sym, ap, ◌∙◌, take-append-drop, arith, ◌<◌}
 use Rattle.std.proofs.lemmas.List.Splits.{slice_split-cons_yes, slice_split-cons_no}
 use Rattle.std.specs.List.{AllByRecursion, slice_split, onto_first, filter}
 use Rattle.s2script.specs.Words.{is_blank, is_nonempty, words, EndsWordAt}
 
-split_at : (p : ℕ → Bool) (word : List ℕ) (b : ℕ) (more : List ℕ) → AllByRecursion (λ x. p x ≡ false) word → p b ≡ true → slice_split p (word ++ b ∷ more) ≡ word ∷ slice_split p more
+split_at : (p : ℕ → Bool) (word : List ℕ) (b : ℕ) (more : List ℕ) → AllByRecursion (λ x. p x ≡ false) word →
+    p b ≡ true → slice_split p (word ++ b ∷ more) ≡ word ∷ slice_split p more
 split_at p [] b more u e = slice_split-cons_yes p b more e
-split_at p (x ∷ xs) b more u e = slice_split-cons_no p x (xs ++ b ∷ more) u.0 ∙ ap (onto_first x) (split_at p xs b more u.1 e)
+split_at p (x ∷ xs) b more u e = slice_split-cons_no p x (xs ++ b ∷ more) u.0
+    ∙ ap (onto_first x) (split_at p xs b more u.1 e)
 
 split_none : (p : ℕ → Bool) (word : List ℕ) → AllByRecursion (λ x. p x ≡ false) word → slice_split p word ≡ word ∷ []
 split_none p [] u = refl
@@ -17,13 +20,17 @@ abbrev pub with_word : List ℕ → List (List ℕ) → List (List ℕ)
 with_word [] ws = ws
 with_word (b ∷ bs) ws = (b ∷ bs) ∷ ws
 
-filter_cons : (word : List ℕ) (parts : List (List ℕ)) → filter is_nonempty (word ∷ parts) ≡ with_word word (filter is_nonempty parts)
+filter_cons : (word : List ℕ) (parts : List (List ℕ)) →
+    filter is_nonempty (word ∷ parts) ≡ with_word word (filter is_nonempty parts)
 filter_cons [] parts = refl
 filter_cons (b ∷ bs) parts = refl
 
-pub words_at : (bytes : List ℕ) (at : ℕ) → EndsWordAt bytes at → words bytes ≡ with_word (take at bytes) (words (drop (at + 1) bytes))
+pub words_at : (bytes : List ℕ) (at : ℕ) → EndsWordAt bytes at →
+    words bytes ≡ with_word (take at bytes) (words (drop (at + 1) bytes))
 words_at bytes at h =
-    ap words (sym (take-append-drop at bytes) ∙ ap (λ s. take at bytes ++ s) h.here) ∙ ap (filter is_nonempty) (split_at is_blank (take at bytes) (slice_index bytes at) (drop (at + 1) bytes) h.before h.blank)
+    ap words (sym (take-append-drop at bytes) ∙ ap (λ s. take at bytes ++ s) h.here)
+    ∙ ap (filter is_nonempty) (split_at is_blank (take at bytes) (slice_index bytes at) (drop (at + 1) bytes)
+    h.before h.blank)
     ∙ filter_cons (take at bytes) (slice_split is_blank (drop (at + 1) bytes))
 
 pub words_last : (bytes : List ℕ) → AllByRecursion (λ b. is_blank b ≡ false) bytes → words bytes ≡ with_word bytes []

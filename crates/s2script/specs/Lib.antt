@@ -4,6 +4,8 @@ pub mod Values
 pub mod Number
 pub mod FileName
 pub mod Named
+pub mod Misfits
+pub mod MisfitTexts
 pub mod CellList
 pub mod Refusals
 pub mod Forms

@@ -1,27 +1,42 @@
--- What a line says.
-use Rattle.std.specs.Prelude.{ℕ, List, [], ◌∷◌, nat_lt, if◌then◌else◌, length, Result, Ok, Err}
-use Rattle.s2script.specs.declared.refusal.Refusal.{Refusal}
-use Rattle.s2script.specs.declared.refusal.Refusal.TheVariants.{Line}
+-- What a line says, and where it does not fit.
+use Rattle.std.specs.Prelude.{ℕ, List, [], ◌∷◌, nat_lt, if◌then◌else◌, length, Option, Some, None, Result, Ok, Err}
 use Rattle.s2script.specs.declared.command.Command.{Command}
 use Rattle.s2script.specs.declared.command.Parsed.{Parsed}
 use Rattle.s2script.specs.declared.command.Parsed.TheVariants.{Nothing, Does, Fails}
 use Rattle.s2script.specs.declared.limits.TheConstants.{LONGEST_LINE}
+use Rattle.s2script.specs.declared.misfit.Misfit.{Misfit}
+use Rattle.s2script.specs.declared.misfit.Misfit.TheVariants.{LongLine}
 use Rattle.s2script.specs.Words.{words, without_cr, is_comment}
+use Rattle.s2script.specs.Forms.{◌gives◌}
+use Rattle.s2script.specs.Misfits.{refusal_of}
 use Rattle.s2script.specs.Table.{command_of}
 
-abbrev pub parsed_of : Result Command Refusal → Parsed
-parsed_of (Ok command) = Does command
-parsed_of (Err refusal) = Fails refusal
+-- the command of a line's words, by the first word; none if there are no words
+abbrev pub asked_by : List (List ℕ) → Result (Option Command) Misfit
+asked_by [] = Ok None
+asked_by (name ∷ ws) = command_of name ws gives λ command. Some command
 
--- what the words of a line say, by the first
-abbrev pub words_say : List (List ℕ) → Parsed
-words_say [] = Nothing
-words_say (name ∷ ws) = parsed_of (command_of name ws)
+-- the command of a line that is not too long; none for a comment
+abbrev pub read_within : List ℕ → Result (Option Command) Misfit
+read_within line = if is_comment line then Ok None else asked_by (words (without_cr line))
 
--- what a line says that isn't too long
-abbrev pub line_within : List ℕ → Parsed
-line_within line = if is_comment line then Nothing else words_say (words (without_cr line))
+-- the command that a line asks for, if it asks for one, or where the line does not fit
+unfoldable pub reading_of : List ℕ → Result (Option Command) Misfit
+reading_of line = if nat_lt LONGEST_LINE (length line) then Err LongLine else read_within line
+
+abbrev pub parsed_of : Result (Option Command) Misfit → Parsed
+parsed_of (Ok None) = Nothing
+parsed_of (Ok (Some command)) = Does command
+parsed_of (Err misfit) = Fails (refusal_of misfit)
 
 -- what a line says
 unfoldable pub line_of : List ℕ → Parsed
-line_of line = if nat_lt LONGEST_LINE (length line) then Fails Line else line_within line
+line_of line = parsed_of (reading_of line)
+
+abbrev pub misfit_in : Result (Option Command) Misfit → Option Misfit
+misfit_in (Ok command) = None
+misfit_in (Err misfit) = Some misfit
+
+-- where a line does not fit: the first word from the left that is not what the grammar wants in its place
+unfoldable pub misfit_of : List ℕ → Option Misfit
+misfit_of line = misfit_in (reading_of line)

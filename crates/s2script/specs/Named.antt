@@ -1,5 +1,6 @@
--- Words that name cells: a debug text where there is a slash, else a token.
-use Rattle.std.specs.Prelude.{ℕ, ◌+◌, ◌-◌, ◌*◌, ◌^◌, Bool, true, false, ◌&&◌, List, [], ◌∷◌, ◌==◌, nat_lt, nat_le, if◌then◌else◌, length, Option, Some, None}
+-- Words that name cells: a debug text if there is a slash, else a token.
+use Rattle.std.specs.Prelude.{ℕ, ◌+◌, ◌-◌, ◌*◌, ◌^◌, Bool, true, false, ◌&&◌, List, [], ◌∷◌, ◌==◌}
+use Rattle.std.specs.Prelude.{nat_lt, nat_le, if◌then◌else◌, length, Option, Some, None}
 use Rattle.std.specs.List.{list_all, list_any}
 use Rattle.std.specs.Char.{is_digit}
 use Rattle.std.specs.Str.Parse.{digits_value}
@@ -7,7 +8,7 @@ use Rattle.s2cell.specs.Cell.{IsCell, level_of, place_of, id_at}
 use Rattle.s2cell.specs.Token.{IsReading}
 use Rattle.s2cell.specs.Debug.{IsDebug}
 
--- whether `n` is the identifier of a cell: of the one at its own level and place
+-- whether `n` is the identifier of a cell, the one at the level and place computed from `n`
 unfoldable pub is_cell : ℕ → Bool
 unfolding level_of place_of
 is_cell n = nat_lt (place_of n) (6 * 4 ^ level_of n) && (n == id_at (level_of n) (place_of n))
@@ -16,7 +17,7 @@ is_cell n = nat_lt (place_of n) (6 * 4 ^ level_of n) && (n == id_at (level_of n)
 abbrev pub is_hexadecimal : List ℕ → Bool
 is_hexadecimal word = nat_le 1 (length word) && (nat_le (length word) 16 && list_all (λ b. is_digit b 16) word)
 
--- what the digits stand for, with zeros behind them up to the sixteenth
+-- the number that the digits stand for, with zeros appended up to 16 digits
 abbrev pub padded_value : List ℕ → ℕ
 padded_value word = digits_value 16 word * 16 ^ (16 - length word)
 
@@ -27,9 +28,10 @@ token_cell word = if is_hexadecimal word && is_cell (padded_value word) then Som
 
 -- a digit 0 to 5, a slash, and 0 to 30 digits 0 to 3
 abbrev pub is_face_and_digits : ℕ → ℕ → List ℕ → Bool
-is_face_and_digits face slash digits = is_digit face 6 && ((slash == 47) && (nat_le (length digits) 30 && list_all (λ b. is_digit b 4) digits))
+is_face_and_digits face slash digits = is_digit face 6
+    && ((slash == 47) && (nat_le (length digits) 30 && list_all (λ b. is_digit b 4) digits))
 
--- the cell that a face and a digit for each level lead to
+-- the cell that a face and a digit for each level name
 abbrev pub cell_below : ℕ → List ℕ → ℕ
 cell_below face digits = id_at (length digits) ((face - 48) * 4 ^ length digits + digits_value 4 digits)
 
@@ -37,8 +39,10 @@ cell_below face digits = id_at (length digits) ((face - 48) * 4 ^ length digits 
 unfoldable pub debug_cell : List ℕ → Option ℕ
 debug_cell [] = None
 debug_cell (face ∷ []) = None
-debug_cell (face ∷ slash ∷ digits) = if is_face_and_digits face slash digits then Some (cell_below face digits) else None
+debug_cell (face ∷ slash ∷ digits) = if is_face_and_digits face slash digits then Some (cell_below face digits)
+    else None
 
+-- whether the word has a slash
 abbrev pub has_slash : List ℕ → Bool
 has_slash word = list_any (λ b. b == 47) word
 
@@ -47,11 +51,11 @@ unfoldable pub cell_named : List ℕ → Option ℕ
 unfolding token_cell debug_cell
 cell_named word = if has_slash word then debug_cell word else token_cell word
 
--- as a debug text, or as a token
+-- the word names the cell as a debug text, or as a token
 abbrev pub NamesBy : Bool → List ℕ → ℕ → Type 0
 NamesBy true word n = IsDebug word n
 NamesBy false word n = IsReading word n × IsCell n
 
--- the word is the cell's debug text where it holds a slash, else a reading of its token
+-- the word is the debug text of the cell if it has a slash, else a reading of its token
 abbrev pub Names : List ℕ → ℕ → Type 0
 Names word n = NamesBy (has_slash word) word n

@@ -1,7 +1,8 @@
--- What a refusal of words is called.
+-- The names of refusals.
 use Rattle.std.specs.Prelude.{ℕ, List, codes}
 use Rattle.s2script.specs.declared.refusal.Refusal.{Refusal}
-use Rattle.s2script.specs.declared.refusal.Refusal.TheVariants.{Syntax, Cell, Register, Level, Face, Rectangle, Order, Name, Line}
+use Rattle.s2script.specs.declared.refusal.Refusal.TheVariants.{Syntax, Cell, Register, Level, Face, Rectangle, Order}
+use Rattle.s2script.specs.declared.refusal.Refusal.TheVariants.{Name, Line}
 
 -- the name that is printed
 abbrev pub name_of : Refusal → List ℕ

@@ -1,42 +1,44 @@
 //! The cells that words name.
-ghost use Rattle.std.specs.Prelude.{◌≡◌, ◌∷◌, [], MatchOption, true, Ok, Err};
-ghost use Rattle.s2script.specs.CellList.{are_cells, next_cells};
+ghost use Rattle.std.specs.Prelude.{◌≡◌, ◌∷◌, [], MatchOption, Some, None};
+ghost use Rattle.s2script.specs.CellList.{no_cell_in, next_cells};
 
+use crate::misfit::{Misfit, Wanted};
 use crate::named::cell_in;
-use crate::refusal::Refusal;
 use crate::words::Words;
 use s2cell::CellId;
 use std::marker::Model;
 
-/// The cells that words name, one each. A contract sees their list.
+/// The cells that words name, one for each word. A contract sees them as a list.
 #[derive(Drop)]
 pub struct Cells<'a> {
     words: Words<'a>,
 }
 
 impl<'a> Model for Cells<'a> {
-    ghost use Rattle.std.specs.Prelude.{◌≡◌, List, ℕ, true};
-    ghost use Rattle.s2script.specs.CellList.{cells_of, are_cells};
+    ghost use Rattle.std.specs.Prelude.{◌≡◌, List, ℕ, None};
+    ghost use Rattle.s2script.specs.CellList.{cells_of, no_cell_in};
 
     ghost Value = { List ℕ };
 
     ghost view = { λ c. cells_of c.words };
 
-    ghost invariant = { λ c. are_cells c.words ≡ true };
+    ghost invariant = { λ c. no_cell_in c.words ≡ None };
 }
 
 impl<'a> Cells<'a> {
-    /// The cells of one word or more, each of which has to name one.
-    pub(crate) fn of(words: Words<'a>) -> Result<Cells<'a>, Refusal>
+    /// The cells of one or more words, each of which must name a cell.
+    pub(crate) fn of(words: Words<'a>) -> Result<Cells<'a>, Misfit<'a>>
         ensures { result ≡ next_cells words.entry }
     {
         if words.is_empty() {
-            return Err(Refusal::Syntax);
+            return Err(Misfit::Missing {
+                wanted: Wanted::Cell,
+            });
         }
-        if !are_cells(words.again()) {
-            return Err(Refusal::Cell);
+        match no_cell_in(words.again()) {
+            Some(word) => Err(Misfit::unfit(word, Wanted::Cell)),
+            None => Ok(Cells { words }),
         }
-        Ok(Cells { words })
     }
 
     /// The next cell, if one is left.
@@ -50,14 +52,14 @@ impl<'a> Cells<'a> {
     }
 }
 
-/// Whether each word names a cell.
-fn are_cells(mut words: Words<'_>) -> bool
-    ensures { result ≡ are_cells words.entry }
+/// The first word that names no cell, if there is one.
+fn no_cell_in<'a>(mut words: Words<'a>) -> Option<&'a [u8]>
+    ensures { MatchOption result (no_cell_in words.entry ≡ None) (λ word. no_cell_in words.entry ≡ Some word.now) }
 {
     while let Some(word) = words.next() {
         if cell_in(word).is_none() {
-            return false;
+            return Some(word);
         }
     }
-    true
+    None
 }

@@ -9,24 +9,24 @@ use s2cell::CellId;
 use s2cover::FaceRect;
 use s2edit::Register;
 
-/// What a register is given.
+/// What a register becomes.
 #[derive(Drop)]
 pub enum Edit<'a> {
-    /// What it has, and the cells.
+    /// The register with the cells added.
     Add(Cells<'a>),
-    /// What it has, without the cells.
+    /// The register without the leaves of the cells.
     Remove(Cells<'a>),
-    /// What it shares with the cells.
+    /// The leaves that the register shares with the cells.
     Keep(Cells<'a>),
-    /// Nothing.
+    /// No leaf.
     Clear,
-    /// What the other register has.
+    /// The other register.
     Copy(Register),
-    /// What either has.
+    /// The leaves that the register or the other one has.
     Union(Register),
-    /// What both have.
+    /// The leaves that both have.
     Intersect(Register),
-    /// What the other has not.
+    /// The leaves of the register that the other one doesn't have.
     Subtract(Register),
     /// All leaves from the first of one cell to the last of another.
     Range(Span),
@@ -54,7 +54,7 @@ pub enum Edit<'a> {
     },
 }
 
-/// How two registers may stand to each other.
+/// How two registers may be related.
 #[derive(Clone, Copy)]
 pub enum Comparison {
     /// The first has all leaves of the second.
@@ -63,12 +63,12 @@ pub enum Comparison {
     Meets,
 }
 
-/// What is asked, of cells or of registers.
+/// A question about cells or registers.
 #[derive(Drop)]
 pub enum Question {
-    /// What is known of a cell.
+    /// The facts about a cell.
     Cell(CellId),
-    /// What is known of the leaf at a place.
+    /// The facts about the leaf at a place.
     At(Place),
     /// The square of a cell.
     Square(CellId),
@@ -86,13 +86,13 @@ pub enum Question {
         register: Register,
         cell: CellId,
     },
-    /// Whether two registers stand so to each other.
+    /// Whether two registers are related this way.
     Compares {
         comparison: Comparison,
         register: Register,
         other: Register,
     },
-    /// The cells of a register, cut to the levels from the least one on in steps of the modulus.
+    /// The cells of a register, cut to levels that begin at the least one and rise in steps of the modulus.
     Denorm {
         register: Register,
         least: Level,
@@ -105,9 +105,9 @@ pub enum Question {
 /// What a line asks for.
 #[derive(Drop)]
 pub enum Command<'a> {
-    /// To give a register something.
+    /// To edit a register.
     Edit { register: Register, edit: Edit<'a> },
-    /// To give a register what a file holds.
+    /// To give a register the union that a file holds.
     Load { register: Register, name: Name<'a> },
     /// To write a register to a file.
     Save { register: Register, name: Name<'a> },
@@ -115,9 +115,9 @@ pub enum Command<'a> {
     Dump { name: Name<'a> },
     /// To take over the registers and the history that a file holds.
     Restore { name: Name<'a> },
-    /// To go back to the state before.
+    /// To go back one state.
     Undo,
-    /// To go forward again.
+    /// To go forward one state.
     Redo,
     /// To answer a question.
     Ask(Question),
@@ -130,6 +130,6 @@ pub enum Parsed<'a> {
     Nothing,
     /// A command, with the values of its words.
     Does(Command<'a>),
-    /// A line that is refused.
+    /// Nothing, since the line is refused.
     Fails(Refusal),
 }

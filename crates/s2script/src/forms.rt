@@ -1,16 +1,20 @@
-//! What the words of a command may have to be, from left to right.
-ghost use Rattle.std.specs.Prelude.{◌≡◌, ◌≤◌, ◌<◌, ◌+◌, [], ◌∷◌, MatchOption, MatchResult, IfOk, Ok, Err, length};
+//! The forms that the words of a command may have, from left to right.
+ghost use Rattle.std.specs.Prelude.{◌≡◌, ◌≤◌, ◌<◌, ◌+◌, ℕ, List, [], ◌∷◌, MatchResult, IfOk, Ok, Err};
 ghost use Rattle.s2cell.specs.Cell.{first_leaf, size_of};
-ghost use Rattle.s2script.specs.Forms.{register_named, next_register, next_cell, next_last, next_span, next_level, next_modulus, next_face, next_coordinate, next_place, next_name, next_rect, optional_rect, one_cell, one_place, one_register, two_registers, register_and_cell, register_and_cells, register_and_span, register_and_name, one_name, register_level_modulus, register_level_rect, registers_level_rect};
+ghost use Rattle.s2script.specs.Forms.{register_named, next_register, next_cell, next_last, next_span, next_level};
+ghost use Rattle.s2script.specs.Forms.{next_modulus, next_face, next_coordinate, next_place, next_name, next_rect};
+ghost use Rattle.s2script.specs.Forms.{optional_rect, one_cell, one_place, one_register, two_registers};
+ghost use Rattle.s2script.specs.Forms.{register_and_cell, register_and_cells, register_and_span, register_and_name};
+ghost use Rattle.s2script.specs.Forms.{one_name, register_level_modulus, register_level_rect, registers_level_rect};
 
 use crate::cells::Cells;
 use crate::level::{Level, Modulus};
 use crate::limits::{GREATEST_COORDINATE, GREATEST_FACE, GREATEST_LEVEL, GREATEST_MODULUS};
+use crate::misfit::{Misfit, Wanted};
 use crate::name::{Name, name_in};
 use crate::named::cell_in;
 use crate::number::number_within;
 use crate::place::Place;
-use crate::refusal::Refusal;
 use crate::span::Span;
 use crate::words::Words;
 use s2cell::CellId;
@@ -28,64 +32,70 @@ fn register_in(word: &[u8]) -> Option<Register>
 }
 
 impl<'a> Words<'a> {
-    /// The next word, which has to be there.
-    fn word(&mut self) -> Result<&'a [u8], Refusal>
-        ensures { MatchResult result (λ word. self.old ≡ word.now ∷ self.new) (λ refusal. (self.old ≡ []) × (refusal ≡ Refusal.Syntax)) }
+    /// The next word. It must be there.
+    fn word(&mut self, wanted: Wanted) -> Result<&'a [u8], Misfit<'a>>
+        ensures { MatchResult result (λ word. self.old ≡ word.now ∷ self.new) (λ misfit. (self.old ≡ [])
+            × (misfit ≡ Misfit.Missing wanted)) }
     {
         match self.next() {
             Some(word) => Ok(word),
-            None => Err(Refusal::Syntax),
+            None => Err(Misfit::Missing { wanted }),
         }
     }
 
-    /// No word is left.
-    pub(crate) fn end(&mut self) -> Result<(), Refusal>
-        ensures { MatchResult result (λ _. self.old ≡ []) (λ refusal. (0 < length self.old) × (refusal ≡ Refusal.Syntax)) }
+    /// The end of the line: no word may be left.
+    pub(crate) fn end(&mut self) -> Result<(), Misfit<'a>>
+        ensures { MatchResult result (λ _. self.old ≡ []) (λ misfit. (word : List ℕ)
+            × (self.old ≡ word ∷ self.new) × (misfit ≡ Misfit.Unfit word Wanted.EndOfLine)) }
     {
         match self.next() {
-            Some(_) => Err(Refusal::Syntax),
+            Some(word) => Err(Misfit::unfit(word, Wanted::EndOfLine)),
             None => Ok(()),
         }
     }
 
     /// A register.
-    pub(crate) fn register(&mut self) -> Result<Register, Refusal>
-        ensures { MatchResult result (λ register. next_register self.old ≡ Ok (register, self.new)) (λ refusal. next_register self.old ≡ Err refusal) }
+    pub(crate) fn register(&mut self) -> Result<Register, Misfit<'a>>
+        ensures { MatchResult result (λ register. next_register self.old ≡ Ok (register, self.new))
+            (λ misfit. next_register self.old ≡ Err misfit) }
     {
-        let word = self.word()?;
+        let word = self.word(Wanted::Register)?;
         match register_in(word) {
             Some(register) => Ok(register),
-            None => Err(Refusal::Register),
+            None => Err(Misfit::unfit(word, Wanted::Register)),
         }
     }
 
     /// A cell.
-    pub(crate) fn cell(&mut self) -> Result<CellId, Refusal>
-        ensures { MatchResult result (λ cell. next_cell self.old ≡ Ok (cell, self.new)) (λ refusal. next_cell self.old ≡ Err refusal) }
+    pub(crate) fn cell(&mut self) -> Result<CellId, Misfit<'a>>
+        ensures { MatchResult result (λ cell. next_cell self.old ≡ Ok (cell, self.new))
+            (λ misfit. next_cell self.old ≡ Err misfit) }
     {
-        let word = self.word()?;
+        let word = self.word(Wanted::Cell)?;
         match cell_in(word) {
             Some(cell) => Ok(cell),
-            None => Err(Refusal::Cell),
+            None => Err(Misfit::unfit(word, Wanted::Cell)),
         }
     }
 
     /// The second cell of a range.
-    fn last(&mut self, first: CellId) -> Result<CellId, Refusal>
-        ensures cell { MatchResult result (λ cell. next_last first self.old ≡ Ok (cell, self.new)) (λ refusal. next_last first self.old ≡ Err refusal) }
+    fn last(&mut self, first: CellId) -> Result<CellId, Misfit<'a>>
+        ensures cell { MatchResult result (λ cell. next_last first self.old ≡ Ok (cell, self.new))
+            (λ misfit. next_last first self.old ≡ Err misfit) }
         ensures order { IfOk result (λ cell. first_leaf first < first_leaf cell + size_of cell) }
     {
-        let last = self.cell()?;
-        if first.first_leaf() < last.end_leaf() {
-            Ok(last)
-        } else {
-            Err(Refusal::Order)
+        let word = self.word(Wanted::Cell)?;
+        match cell_in(word) {
+            Some(last) if first.first_leaf() < last.end_leaf() => Ok(last),
+            Some(_) => Err(Misfit::unfit(word, Wanted::RangeEnd)),
+            None => Err(Misfit::unfit(word, Wanted::Cell)),
         }
     }
 
     /// The two cells of a range.
-    pub(crate) fn span(&mut self) -> Result<Span, Refusal>
-        ensures { MatchResult result (λ span. next_span self.old ≡ Ok (span, self.new)) (λ refusal. next_span self.old ≡ Err refusal) }
+    pub(crate) fn span(&mut self) -> Result<Span, Misfit<'a>>
+        ensures { MatchResult result (λ span. next_span self.old ≡ Ok (span, self.new))
+            (λ misfit. next_span self.old ≡ Err misfit) }
     {
         let first = self.cell()?;
         let last = self.last(first)?;
@@ -93,54 +103,60 @@ impl<'a> Words<'a> {
     }
 
     /// A level.
-    pub(crate) fn level(&mut self) -> Result<Level, Refusal>
-        ensures { MatchResult result (λ level. next_level self.old ≡ Ok (level, self.new)) (λ refusal. next_level self.old ≡ Err refusal) }
+    pub(crate) fn level(&mut self) -> Result<Level, Misfit<'a>>
+        ensures { MatchResult result (λ level. next_level self.old ≡ Ok (level, self.new))
+            (λ misfit. next_level self.old ≡ Err misfit) }
     {
-        let word = self.word()?;
+        let word = self.word(Wanted::Level)?;
         match number_within(word, 0, GREATEST_LEVEL) {
             Some(level) => Ok(Level::of(level as u8)),
-            None => Err(Refusal::Level),
+            None => Err(Misfit::unfit(word, Wanted::Level)),
         }
     }
 
     /// A modulus of levels.
-    pub(crate) fn modulus(&mut self) -> Result<Modulus, Refusal>
-        ensures { MatchResult result (λ modulus. next_modulus self.old ≡ Ok (modulus, self.new)) (λ refusal. next_modulus self.old ≡ Err refusal) }
+    pub(crate) fn modulus(&mut self) -> Result<Modulus, Misfit<'a>>
+        ensures { MatchResult result (λ modulus. next_modulus self.old ≡ Ok (modulus, self.new))
+            (λ misfit. next_modulus self.old ≡ Err misfit) }
     {
-        let word = self.word()?;
+        let word = self.word(Wanted::Modulus)?;
         match number_within(word, 1, GREATEST_MODULUS) {
             Some(modulus) => Ok(Modulus::of(modulus as u8)),
-            None => Err(Refusal::Level),
+            None => Err(Misfit::unfit(word, Wanted::Modulus)),
         }
     }
 
     /// A face.
-    fn face(&mut self) -> Result<u8, Refusal>
-        ensures face { MatchResult result (λ face. next_face self.old ≡ Ok (face, self.new)) (λ refusal. next_face self.old ≡ Err refusal) }
+    fn face(&mut self) -> Result<u8, Misfit<'a>>
+        ensures face { MatchResult result (λ face. next_face self.old ≡ Ok (face, self.new))
+            (λ misfit. next_face self.old ≡ Err misfit) }
         ensures most { IfOk result (λ face. face ≤ 5) }
     {
-        let word = self.word()?;
+        let word = self.word(Wanted::Face)?;
         match number_within(word, 0, GREATEST_FACE) {
             Some(face) => Ok(face as u8),
-            None => Err(Refusal::Face),
+            None => Err(Misfit::unfit(word, Wanted::Face)),
         }
     }
 
-    /// A coordinate that is at least so much.
-    fn coordinate(&mut self, low: u32) -> Result<u32, Refusal>
-        ensures place { MatchResult result (λ place. next_coordinate low self.old ≡ Ok (place, self.new)) (λ refusal. next_coordinate low self.old ≡ Err refusal) }
+    /// A coordinate that is not below the least one.
+    fn coordinate(&mut self, low: u32) -> Result<u32, Misfit<'a>>
+        ensures place { MatchResult result (λ place. next_coordinate low self.old ≡ Ok (place, self.new))
+            (λ misfit. next_coordinate low self.old ≡ Err misfit) }
         ensures bounds { IfOk result (λ place. (low ≤ place) × (place ≤ GREATEST_COORDINATE)) }
     {
-        let word = self.word()?;
+        let wanted = Wanted::Coordinate { least: low };
+        let word = self.word(wanted)?;
         match number_within(word, u64::from(low), GREATEST_COORDINATE) {
             Some(place) => Ok(place as u32),
-            None => Err(Refusal::Rectangle),
+            None => Err(Misfit::unfit(word, wanted)),
         }
     }
 
-    /// A place of a leaf.
-    pub(crate) fn place(&mut self) -> Result<Place, Refusal>
-        ensures { MatchResult result (λ place. next_place self.old ≡ Ok (place, self.new)) (λ refusal. next_place self.old ≡ Err refusal) }
+    /// The place of a leaf.
+    pub(crate) fn place(&mut self) -> Result<Place, Misfit<'a>>
+        ensures { MatchResult result (λ place. next_place self.old ≡ Ok (place, self.new))
+            (λ misfit. next_place self.old ≡ Err misfit) }
     {
         let face = self.face()?;
         let i = self.coordinate(0)?;
@@ -149,34 +165,34 @@ impl<'a> Words<'a> {
     }
 
     /// The name of a file.
-    pub(crate) fn name(&mut self) -> Result<Name<'a>, Refusal>
-        ensures { MatchResult result (λ name. next_name self.old ≡ Ok (name, self.new)) (λ refusal. next_name self.old ≡ Err refusal) }
+    pub(crate) fn name(&mut self) -> Result<Name<'a>, Misfit<'a>>
+        ensures { MatchResult result (λ name. next_name self.old ≡ Ok (name, self.new))
+            (λ misfit. next_name self.old ≡ Err misfit) }
     {
-        let word = self.word()?;
+        let word = self.word(Wanted::FileName)?;
         match name_in(word) {
             Some(name) => Ok(name),
-            None => Err(Refusal::Name),
+            None => Err(Misfit::unfit(word, Wanted::FileName)),
         }
     }
 
     /// A rectangle, by its face and its bounds.
-    pub(crate) fn rect(&mut self) -> Result<FaceRect, Refusal>
-        ensures { MatchResult result (λ rect. next_rect self.old ≡ Ok (rect, self.new)) (λ refusal. next_rect self.old ≡ Err refusal) }
+    pub(crate) fn rect(&mut self) -> Result<FaceRect, Misfit<'a>>
+        ensures { MatchResult result (λ rect. next_rect self.old ≡ Ok (rect, self.new))
+            (λ misfit. next_rect self.old ≡ Err misfit) }
     {
         let face = self.face()?;
         let i0 = self.coordinate(0)?;
         let i1 = self.coordinate(i0)?;
         let j0 = self.coordinate(0)?;
         let j1 = self.coordinate(j0)?;
-        match FaceRect::new(face, i0, i1, j0, j1) {
-            Some(rect) => Ok(rect),
-            None => Err(Refusal::Rectangle),
-        }
+        Ok(FaceRect::new(face, i0, i1, j0, j1).unwrap())
     }
 
     /// Nothing, or a rectangle.
-    pub(crate) fn optional_rect(&mut self) -> Result<Option<FaceRect>, Refusal>
-        ensures { MatchResult result (λ rect. optional_rect self.old ≡ Ok (rect, self.new)) (λ refusal. optional_rect self.old ≡ Err refusal) }
+    pub(crate) fn optional_rect(&mut self) -> Result<Option<FaceRect>, Misfit<'a>>
+        ensures { MatchResult result (λ rect. optional_rect self.old ≡ Ok (rect, self.new))
+            (λ misfit. optional_rect self.old ≡ Err misfit) }
     {
         if self.is_empty() {
             return Ok(None);
@@ -188,7 +204,7 @@ impl<'a> Words<'a> {
 
 /// `CELL`
 #[tactic(auto, unfolding(crate::specs::Forms::one_cell))]
-pub(crate) fn one_cell(mut words: Words<'_>) -> Result<CellId, Refusal>
+pub(crate) fn one_cell(mut words: Words<'_>) -> Result<CellId, Misfit<'_>>
     ensures { result ≡ one_cell words.entry }
 {
     let cell = words.cell()?;
@@ -198,7 +214,7 @@ pub(crate) fn one_cell(mut words: Words<'_>) -> Result<CellId, Refusal>
 
 /// `FACE I J`
 #[tactic(auto, unfolding(crate::specs::Forms::one_place))]
-pub(crate) fn one_place(mut words: Words<'_>) -> Result<Place, Refusal>
+pub(crate) fn one_place(mut words: Words<'_>) -> Result<Place, Misfit<'_>>
     ensures { result ≡ one_place words.entry }
 {
     let place = words.place()?;
@@ -208,7 +224,7 @@ pub(crate) fn one_place(mut words: Words<'_>) -> Result<Place, Refusal>
 
 /// `r`
 #[tactic(auto, unfolding(crate::specs::Forms::one_register))]
-pub(crate) fn one_register(mut words: Words<'_>) -> Result<Register, Refusal>
+pub(crate) fn one_register(mut words: Words<'_>) -> Result<Register, Misfit<'_>>
     ensures { result ≡ one_register words.entry }
 {
     let register = words.register()?;
@@ -218,7 +234,7 @@ pub(crate) fn one_register(mut words: Words<'_>) -> Result<Register, Refusal>
 
 /// `r s`
 #[tactic(auto, unfolding(crate::specs::Forms::two_registers))]
-pub(crate) fn two_registers(mut words: Words<'_>) -> Result<(Register, Register), Refusal>
+pub(crate) fn two_registers(mut words: Words<'_>) -> Result<(Register, Register), Misfit<'_>>
     ensures { result ≡ two_registers words.entry }
 {
     let register = words.register()?;
@@ -229,7 +245,7 @@ pub(crate) fn two_registers(mut words: Words<'_>) -> Result<(Register, Register)
 
 /// `r CELL`
 #[tactic(auto, unfolding(crate::specs::Forms::register_and_cell))]
-pub(crate) fn register_and_cell(mut words: Words<'_>) -> Result<(Register, CellId), Refusal>
+pub(crate) fn register_and_cell(mut words: Words<'_>) -> Result<(Register, CellId), Misfit<'_>>
     ensures { result ≡ register_and_cell words.entry }
 {
     let register = words.register()?;
@@ -240,7 +256,7 @@ pub(crate) fn register_and_cell(mut words: Words<'_>) -> Result<(Register, CellI
 
 /// `r CELL..`
 #[tactic(auto, unfolding(crate::specs::Forms::register_and_cells))]
-pub(crate) fn register_and_cells(mut words: Words<'_>) -> Result<(Register, Cells<'_>), Refusal>
+pub(crate) fn register_and_cells(mut words: Words<'_>) -> Result<(Register, Cells<'_>), Misfit<'_>>
     ensures { result ≡ register_and_cells words.entry }
 {
     let register = words.register()?;
@@ -250,7 +266,7 @@ pub(crate) fn register_and_cells(mut words: Words<'_>) -> Result<(Register, Cell
 
 /// `r CELL CELL`
 #[tactic(auto, unfolding(crate::specs::Forms::register_and_span))]
-pub(crate) fn register_and_span(mut words: Words<'_>) -> Result<(Register, Span), Refusal>
+pub(crate) fn register_and_span(mut words: Words<'_>) -> Result<(Register, Span), Misfit<'_>>
     ensures { result ≡ register_and_span words.entry }
 {
     let register = words.register()?;
@@ -261,7 +277,7 @@ pub(crate) fn register_and_span(mut words: Words<'_>) -> Result<(Register, Span)
 
 /// `r NAME`
 #[tactic(auto, unfolding(crate::specs::Forms::register_and_name))]
-pub(crate) fn register_and_name(mut words: Words<'_>) -> Result<(Register, Name<'_>), Refusal>
+pub(crate) fn register_and_name(mut words: Words<'_>) -> Result<(Register, Name<'_>), Misfit<'_>>
     ensures { result ≡ register_and_name words.entry }
 {
     let register = words.register()?;
@@ -272,7 +288,7 @@ pub(crate) fn register_and_name(mut words: Words<'_>) -> Result<(Register, Name<
 
 /// `NAME`
 #[tactic(auto, unfolding(crate::specs::Forms::one_name))]
-pub(crate) fn one_name(mut words: Words<'_>) -> Result<Name<'_>, Refusal>
+pub(crate) fn one_name(mut words: Words<'_>) -> Result<Name<'_>, Misfit<'_>>
     ensures { result ≡ one_name words.entry }
 {
     let name = words.name()?;
@@ -284,7 +300,7 @@ pub(crate) fn one_name(mut words: Words<'_>) -> Result<Name<'_>, Refusal>
 #[tactic(auto, unfolding(crate::specs::Forms::register_level_modulus))]
 pub(crate) fn register_level_modulus(
     mut words: Words<'_>,
-) -> Result<(Register, Level, Modulus), Refusal>
+) -> Result<(Register, Level, Modulus), Misfit<'_>>
     ensures { result ≡ register_level_modulus words.entry }
 {
     let register = words.register()?;
@@ -298,7 +314,7 @@ pub(crate) fn register_level_modulus(
 #[tactic(auto, unfolding(crate::specs::Forms::register_level_rect))]
 pub(crate) fn register_level_rect(
     mut words: Words<'_>,
-) -> Result<(Register, Level, FaceRect), Refusal>
+) -> Result<(Register, Level, FaceRect), Misfit<'_>>
     ensures { result ≡ register_level_rect words.entry }
 {
     let register = words.register()?;
@@ -312,7 +328,7 @@ pub(crate) fn register_level_rect(
 #[tactic(auto, unfolding(crate::specs::Forms::registers_level_rect))]
 pub(crate) fn registers_level_rect(
     mut words: Words<'_>,
-) -> Result<(Register, Register, Level, Option<FaceRect>), Refusal>
+) -> Result<(Register, Register, Level, Option<FaceRect>), Misfit<'_>>
     ensures { result ≡ registers_level_rect words.entry }
 {
     let register = words.register()?;

@@ -1,34 +1,64 @@
-//! What a line says.
-ghost use Rattle.std.specs.Prelude.{◌≡◌};
+//! What a line says, and where it does not fit.
+ghost use Rattle.std.specs.Prelude.{◌≡◌, MatchOption};
 ghost use Rattle.s2script.specs.Words.{is_comment, without_cr};
-ghost use Rattle.s2script.specs.Line.{line_of, line_within, words_say};
+ghost use Rattle.s2script.specs.Misfits.{refusal_of};
+ghost use Rattle.s2script.specs.Line.{line_of, misfit_of, reading_of, read_within, asked_by};
+ghost use Rattle.s2script.specs.declared.refusal.Refusal.{Refusal};
+ghost use Rattle.s2script.specs.declared.command.Parsed.TheVariants.{Fails};
 
-use crate::command::Parsed;
+use crate::command::{Command, Parsed};
 use crate::limits::LONGEST_LINE;
-use crate::refusal::Refusal;
+use crate::misfit::Misfit;
 use crate::table::command_of;
 use crate::words::Words;
 
-/// What a line says. The line comes without its newline; one CR at its end is dropped.
+/// What a line says. The line is given without its newline; one CR at its end is dropped.
 #[tactic(auto, unfolding(crate::specs::Line::line_of))]
 pub fn parse(line: &[u8]) -> Parsed<'_>
     ensures { result ≡ line_of line.now }
 {
-    if line.len() > LONGEST_LINE {
-        Parsed::Fails(Refusal::Line)
-    } else {
-        parse_within(line)
+    match read(line) {
+        Ok(None) => Parsed::Nothing,
+        Ok(Some(command)) => Parsed::Does(command),
+        Err(misfit) => Parsed::Fails(misfit.refusal()),
     }
 }
 
-/// What a line says that isn't too long.
-fn parse_within(line: &[u8]) -> Parsed<'_>
-    ensures { result ≡ line_within line.now }
+/// Where a line does not fit: the first word, from the left, that is not what is wanted in its place, and what is
+/// wanted there. `None` exactly if `parse` does not refuse the line; otherwise `parse` refuses it with the refusal of
+/// this misfit. Takes no memory.
+#[tactic(auto, unfolding(crate::specs::Line::line_of, crate::specs::Line::misfit_of))]
+pub fn misfit_of(line: &[u8]) -> Option<Misfit<'_>>
+    ensures value { result ≡ misfit_of line.now }
+    ensures refusal { MatchOption result ((refusal : Refusal) → line_of line.now ≡ Fails refusal → ⊥)
+        (λ misfit. line_of line.now ≡ Fails (refusal_of misfit)) }
+{
+    match read(line) {
+        Ok(_) => None,
+        Err(misfit) => Some(misfit),
+    }
+}
+
+/// The command that a line asks for, if it asks for one, or where the line does not fit.
+#[tactic(auto, unfolding(crate::specs::Line::reading_of))]
+fn read(line: &[u8]) -> Result<Option<Command<'_>>, Misfit<'_>>
+    ensures { result ≡ reading_of line.now }
+{
+    if line.len() > LONGEST_LINE {
+        Err(Misfit::LongLine)
+    } else {
+        read_within(line)
+    }
+}
+
+/// The command of a line that is not too long. None for a comment.
+fn read_within(line: &[u8]) -> Result<Option<Command<'_>>, Misfit<'_>>
+    ensures { result ≡ read_within line.now }
 {
     if is_comment(line) {
-        Parsed::Nothing
+        Ok(None)
     } else {
-        words_say(Words::of(without_cr(line)))
+        asked_by(Words::of(without_cr(line)))
     }
 }
 
@@ -52,15 +82,13 @@ fn without_cr(line: &[u8]) -> &[u8]
     }
 }
 
-/// What the words of a line say, by the first.
-fn words_say(mut words: Words<'_>) -> Parsed<'_>
-    ensures { result ≡ words_say words.entry }
+/// The command of a line's words, by the first word. None if there are no words.
+fn asked_by(mut words: Words<'_>) -> Result<Option<Command<'_>>, Misfit<'_>>
+    ensures { result ≡ asked_by words.entry }
 {
     let Some(name) = words.next() else {
-        return Parsed::Nothing;
+        return Ok(None);
     };
-    match command_of(name, words) {
-        Ok(command) => Parsed::Does(command),
-        Err(refusal) => Parsed::Fails(refusal),
-    }
+    let command = command_of(name, words)?;
+    Ok(Some(command))
 }

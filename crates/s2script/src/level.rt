@@ -1,9 +1,10 @@
-//! Levels and their moduli, as words give them.
+//! Levels and moduli of levels, as words give them.
 ghost use Rattle.std.specs.Prelude.{◌≡◌, ◌≤◌};
 
+use s2cell::GREATEST_LEVEL;
 use std::marker::Model;
 
-/// A level, 0 to 30. A contract sees the number.
+/// A level, 0 to 30. A contract sees it as a number.
 #[derive(Clone, Copy)]
 pub struct Level {
     number: u8,
@@ -11,6 +12,7 @@ pub struct Level {
 
 impl Model for Level {
     ghost use Rattle.std.specs.Prelude.{ℕ, ◌≤◌};
+    ghost use Rattle.s2cell.specs.declared.TheConstants.{GREATEST_LEVEL};
 
     ghost Value = { ℕ };
 
@@ -18,13 +20,13 @@ impl Model for Level {
 
     ghost inverse = { λ n. record { number = n } };
 
-    ghost invariant = { λ l. l.number ≤ 30 };
+    ghost invariant = { λ l. l.number ≤ GREATEST_LEVEL };
 }
 
 impl Level {
-    /// The level of that number.
+    /// The level with this number.
     pub(crate) fn of(number: u8) -> Level
-        requires { number ≤ 30 }
+        requires { number ≤ GREATEST_LEVEL }
         ensures { result ≡ number }
     {
         Level { number }
@@ -33,13 +35,13 @@ impl Level {
     /// Its number.
     pub fn number(self) -> u8
         ensures value { result ≡ self }
-        ensures most { result ≤ 30 }
+        ensures most { result ≤ GREATEST_LEVEL }
     {
         self.number
     }
 }
 
-/// The modulus of a choice of levels, 1 to 3. A contract sees the number.
+/// The modulus of a choice of levels, 1 to 3. A contract sees it as a number.
 #[derive(Clone, Copy)]
 pub struct Modulus {
     number: u8,
@@ -58,7 +60,7 @@ impl Model for Modulus {
 }
 
 impl Modulus {
-    /// The modulus of that number.
+    /// The modulus with this number.
     pub(crate) fn of(number: u8) -> Modulus
         requires some { 1 ≤ number }
         requires most { number ≤ 3 }

@@ -1,14 +1,15 @@
-//! The grammar of a script's lines: from the bytes of one line to its words, and from the words to what
-//! the line says. A line says nothing, or asks for a command, or is refused; `parse` says which, without
-//! memory and with every word checked, from left to right, before anything is done.
+//! The grammar of a script's lines: from the bytes of one line to its words, and from the words to what the line says.
+//! A line says nothing, or asks for a command, or is refused. `parse` tells which: it takes no memory, and checks every
+//! word, from left to right, before anything is done. For a refused line, `misfit_of` tells which word does not fit,
+//! and what is wanted in its place.
 //!
-//! A command refers to the words that it was read from: `Cells` goes over the cells of an `add`, however
-//! many, and `Name` is the name of a file as it stands in the line.
+//! A command refers to the words that it was read from: `Cells` goes over the cells of an `add`, however many there
+//! are, `Name` is the name of a file as it is in the line, and `Word` is a word that does not fit.
 //!
-//! Modules: `words` (the words of a line), `number`, `named`, `name`, `cells`, `level`, `place` and `span`
-//! (what words may stand for), `limits`, `forms` (the words that a command may have), `table` (the commands by
-//! their names), `command` and `refusal` (what a line may ask for, and why its words may be refused), `grammar`
-//! (what a line says).
+//! Modules: `words` (the words of a line), `number`, `named`, `name`, `cells`, `level`, `place` and `span` (what words
+//! may stand for), `limits`, `forms` (the words that a command may have), `table` (the commands by their names, and the
+//! help on them), `command`, `misfit` and `refusal` (what a line may ask for, where it may not fit, and why it is then
+//! refused), `grammar` (what a line says).
 #![tactic(auto)]
 
 mod cells;
@@ -17,6 +18,8 @@ mod forms;
 mod grammar;
 mod level;
 mod limits;
+mod misfit;
+mod misfit_text;
 mod name;
 mod named;
 mod number;
@@ -29,12 +32,15 @@ mod worked;
 
 pub use cells::Cells;
 pub use command::{Command, Comparison, Edit, Parsed, Question};
-pub use grammar::parse;
+pub use grammar::{misfit_of, parse};
 pub use level::{Level, Modulus};
 pub use limits::{LONGEST_LINE, LONGEST_NAME};
+pub use misfit::{Misfit, Wanted};
 pub use name::{Name, name_in};
 pub use named::cell_in;
 pub use place::Place;
 pub use refusal::Refusal;
 pub use span::Span;
+pub use table::HELP;
+pub use words::Word;
 pub use worked::examples;

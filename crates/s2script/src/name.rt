@@ -7,7 +7,7 @@ use crate::limits::LONGEST_NAME;
 use std::marker::Model;
 use std::str;
 
-/// The name of a file, as it stands in a line.
+/// The name of a file, as it is in a line.
 #[derive(Drop)]
 pub struct Name<'a> {
     text: &'a str,
@@ -51,7 +51,7 @@ fn is_first_byte(byte: u8) -> bool
     byte != b'.' && byte != b'-'
 }
 
-/// Whether a word is a name: 1 to 64 such bytes, the first no `.` and no `-`.
+/// Whether a word is a name: 1 to 64 such bytes, the first of which is not `.` or `-`.
 fn is_name(word: &[u8]) -> bool
     ensures { result ≡ is_name word.now }
 {
@@ -61,7 +61,7 @@ fn is_name(word: &[u8]) -> bool
     is_first_byte(word[0]) && are_name_bytes(word)
 }
 
-/// The name of a file that a word is, if it is one.
+/// A word as the name of a file, if it is one.
 #[tactic(auto, using(crate::proofs::NameLemmas::not_utf8))]
 pub fn name_in(word: &[u8]) -> Option<Name<'_>>
     ensures { result ≡ name_of_word word.now }

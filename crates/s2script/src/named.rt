@@ -7,14 +7,14 @@ ghost use Rattle.s2script.specs.Named.{cell_named, token_cell, debug_cell, has_s
 
 use s2cell::CellId;
 
-/// Whether a word is to be read as a debug text.
+/// Whether a word is read as a debug text.
 fn has_slash(word: &[u8]) -> bool
     ensures { result ≡ has_slash word.now }
 {
     word.iter().any(|b| *b == b'/')
 }
 
-/// The cell that a word names: by its debug text where the word holds a slash, else by a token.
+/// The cell that a word names: by its debug text if the word has a slash, else by a token.
 #[tactic(auto, unfolding(crate::specs::Named::cell_named))]
 pub fn cell_in(word: &[u8]) -> Option<CellId>
     ensures value { result ≡ cell_named word.now }
@@ -31,7 +31,8 @@ pub fn cell_in(word: &[u8]) -> Option<CellId>
 #[tactic(auto, using(crate::proofs::NamedLemmas::token_some, crate::proofs::NamedLemmas::token_none))]
 fn token_in(word: &[u8]) -> Option<CellId>
     ensures value { result ≡ token_cell word.now }
-    ensures names { MatchOption result ((n : ℕ) → IsReading word.now n × IsCell n → ⊥) (λ c. IsReading word.now c × IsCell c) }
+    ensures names { MatchOption result ((n : ℕ) → IsReading word.now n × IsCell n → ⊥) (λ c. IsReading word.now c
+        × IsCell c) }
 {
     match CellId::from_token(word) {
         Some(cell) => {

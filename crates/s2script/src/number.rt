@@ -4,7 +4,7 @@ ghost use Rattle.s2script.specs.Number.{number, number_within};
 
 use crate::limits::MOST_DIGITS;
 
-/// What 1 to 10 decimal digits stand for.
+/// The number that 1 to 10 decimal digits stand for.
 fn number_in(word: &[u8]) -> Option<u64>
     ensures { result ≡ number word.now }
 {
@@ -21,7 +21,7 @@ fn number_in(word: &[u8]) -> Option<u64>
     Some(number)
 }
 
-/// A number from one to another, in 1 to 10 decimal digits.
+/// The same, if it lies between two numbers, these included.
 pub(crate) fn number_within(word: &[u8], low: u64, high: u64) -> Option<u64>
     ensures value { result ≡ number_within low high word.now }
     ensures bounds { IfSome result (λ n. (low ≤ n) × (n ≤ high)) }

@@ -2,24 +2,24 @@
 ghost use Rattle.std.specs.Prelude.{◌≡◌, ◌≤◌, length};
 ghost use Rattle.s2script.specs.Refusals.{name_of};
 
-/// Why a line is refused for its words or its length, before anything is done.
+/// Why a line is refused because of its words or its length, before anything is done.
 #[derive(Clone, Copy, Debug, PartialEq, Eq)]
 pub enum Refusal {
-    /// An unknown command, a word missing, or a word too many.
+    /// An unknown command, a missing word, or a word too many.
     Syntax,
     /// A word that names no cell.
     Cell,
     /// A word that names no register.
     Register,
-    /// A word that is no level, or no level modulus.
+    /// A word that is not a level, or not a modulus of levels.
     Level,
-    /// A word that is no face.
+    /// A word that is not a face.
     Face,
-    /// A word that is no coordinate, or bounds in the wrong order.
+    /// A word that is not a coordinate, or bounds in the wrong order.
     Rectangle,
     /// A range that ends before it begins.
     Order,
-    /// A word that is no name of a file.
+    /// A word that is not the name of a file.
     Name,
     /// A line that is too long.
     Line,

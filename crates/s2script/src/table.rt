@@ -2,7 +2,7 @@
 ghost use Rattle.std.specs.Prelude.{◌≡◌};
 ghost use Rattle.s2script.specs.declared.command.Command.TheVariants.{Edit as EditOf};
 ghost use Rattle.s2script.specs.declared.command.Question.TheVariants.{Compares};
-ghost use Rattle.s2script.specs.Table.{command_of, file_or_move_of, question_of};
+ghost use Rattle.s2script.specs.Table.{combination_of, command_of, covering_of, fact_of, file_or_move_of, question_of};
 
 use crate::command::{Command, Comparison, Edit, Question};
 use crate::forms::{
@@ -10,13 +10,36 @@ use crate::forms::{
     register_and_name, register_and_span, register_level_modulus, register_level_rect,
     registers_level_rect, two_registers,
 };
-use crate::refusal::Refusal;
+use crate::misfit::{Misfit, Wanted};
 use crate::words::Words;
 use s2edit::Register;
 
-/// What the command of a name asks for, by the words after the name: an edit of a register, or another command.
+/// The help on a script: the commands of this table, with the forms of their words.
+pub const HELP: &str =
+    "The script has one command a line. Registers r and s are letters from a to z; a CELL is a token (64c) or a debug
+text (3/021).
+
+  add, remove, keep r CELL..               adds cells, takes them out, keeps what both share
+  union, intersect, subtract, copy r s     the same with another register
+  clear r                                  empties a register
+  range r CELL CELL                        all leaves between two cells
+  outer, inner r LEVEL FACE I0 I1 J0 J1    coverings of a rectangle
+  outerof, innerof r s LEVEL [FACE I0 I1 J0 J1]
+                                           coverings of a register, or of what a rectangle has of it
+  show, count r                            its cells; their number, and that of its leaves
+  denorm r MIN MOD                         its cells, cut to levels
+  has, touches r CELL                      yes or no: all leaves of the cell, or one of them
+  covers, meets r s                        yes or no: the same of another register
+  cell CELL; at FACE I J; square CELL      what is known of a cell, of a leaf by its place, of a cell's square
+  load, save r NAME                        reads and writes a file in S2's own encoding
+  undo, redo, history                      goes back and forth; counts what can be undone and redone
+  dump, restore NAME                       writes all registers and their history, and goes on from there
+
+A line that can't be carried out is answered 'error NAME' and changes nothing.";
+
+/// What the command with this name asks for, by the words after it: an edit of a register by cells, or another command.
 #[tactic(auto, unfolding(crate::specs::Table::command_of))]
-pub(crate) fn command_of<'a>(name: &[u8], words: Words<'a>) -> Result<Command<'a>, Refusal>
+pub(crate) fn command_of<'a>(name: &'a [u8], words: Words<'a>) -> Result<Command<'a>, Misfit<'a>>
     ensures { result ≡ command_of name.now words.entry }
 {
     if name == b"add".as_slice() {
@@ -31,7 +54,20 @@ pub(crate) fn command_of<'a>(name: &[u8], words: Words<'a>) -> Result<Command<'a
     } else if name == b"clear".as_slice() {
         let register = one_register(words)?;
         Ok(edited(register, Edit::Clear))
-    } else if name == b"copy".as_slice() {
+    } else if name == b"range".as_slice() {
+        let (register, span) = register_and_span(words)?;
+        Ok(edited(register, Edit::Range(span)))
+    } else {
+        combination_of(name, words)
+    }
+}
+
+/// The same, for an edit of a register by another register, or another command.
+#[tactic(auto, unfolding(crate::specs::Table::combination_of))]
+fn combination_of<'a>(name: &'a [u8], words: Words<'a>) -> Result<Command<'a>, Misfit<'a>>
+    ensures { result ≡ combination_of name.now words.entry }
+{
+    if name == b"copy".as_slice() {
         let (register, other) = two_registers(words)?;
         Ok(edited(register, Edit::Copy(other)))
     } else if name == b"union".as_slice() {
@@ -43,10 +79,17 @@ pub(crate) fn command_of<'a>(name: &[u8], words: Words<'a>) -> Result<Command<'a
     } else if name == b"subtract".as_slice() {
         let (register, other) = two_registers(words)?;
         Ok(edited(register, Edit::Subtract(other)))
-    } else if name == b"range".as_slice() {
-        let (register, span) = register_and_span(words)?;
-        Ok(edited(register, Edit::Range(span)))
-    } else if name == b"outer".as_slice() {
+    } else {
+        covering_of(name, words)
+    }
+}
+
+/// The same, for an edit of a register by a covering, or another command.
+#[tactic(auto, unfolding(crate::specs::Table::covering_of))]
+fn covering_of<'a>(name: &'a [u8], words: Words<'a>) -> Result<Command<'a>, Misfit<'a>>
+    ensures { result ≡ covering_of name.now words.entry }
+{
+    if name == b"outer".as_slice() {
         let (register, level, rect) = register_level_rect(words)?;
         Ok(edited(register, Edit::Outer { level, rect }))
     } else if name == b"inner".as_slice() {
@@ -63,9 +106,9 @@ pub(crate) fn command_of<'a>(name: &[u8], words: Words<'a>) -> Result<Command<'a
     }
 }
 
-/// The same of the commands with files and of those that move in the history, or of a question.
+/// The same, for the commands with files, those that move in the history, and the questions.
 #[tactic(auto, unfolding(crate::specs::Table::file_or_move_of))]
-fn file_or_move_of<'a>(name: &[u8], mut words: Words<'a>) -> Result<Command<'a>, Refusal>
+fn file_or_move_of<'a>(name: &'a [u8], mut words: Words<'a>) -> Result<Command<'a>, Misfit<'a>>
     ensures { result ≡ file_or_move_of name.now words.entry }
 {
     if name == b"load".as_slice() {
@@ -92,9 +135,9 @@ fn file_or_move_of<'a>(name: &[u8], mut words: Words<'a>) -> Result<Command<'a>,
     }
 }
 
-/// What the question of a name asks, by the words after the name.
+/// What the question with this name asks, by the words after it: a question about registers, or another one.
 #[tactic(auto, unfolding(crate::specs::Table::question_of))]
-fn question_of(name: &[u8], mut words: Words<'_>) -> Result<Question, Refusal>
+fn question_of<'a>(name: &'a [u8], words: Words<'a>) -> Result<Question, Misfit<'a>>
     ensures { result ≡ question_of name.now words.entry }
 {
     if name == b"show".as_slice() {
@@ -122,7 +165,17 @@ fn question_of(name: &[u8], mut words: Words<'_>) -> Result<Question, Refusal>
             least,
             modulus,
         })
-    } else if name == b"cell".as_slice() {
+    } else {
+        fact_of(name, words)
+    }
+}
+
+/// The same, for the questions about a cell, a place or the history.
+#[tactic(auto, unfolding(crate::specs::Table::fact_of))]
+fn fact_of<'a>(name: &'a [u8], mut words: Words<'a>) -> Result<Question, Misfit<'a>>
+    ensures { result ≡ fact_of name.now words.entry }
+{
+    if name == b"cell".as_slice() {
         let cell = one_cell(words)?;
         Ok(Question::Cell(cell))
     } else if name == b"at".as_slice() {
@@ -135,7 +188,7 @@ fn question_of(name: &[u8], mut words: Words<'_>) -> Result<Question, Refusal>
         words.end()?;
         Ok(Question::History)
     } else {
-        Err(Refusal::Syntax)
+        Err(Misfit::unfit(name, Wanted::CommandName))
     }
 }
 

@@ -20,7 +20,37 @@ impl<'a> Model for Words<'a> {
     ghost view = { λ w. words w.rest.now };
 }
 
-/// Whether a byte parts words.
+/// A word, as it is in a line. A contract sees its bytes.
+#[derive(Drop)]
+pub struct Word<'a> {
+    bytes: &'a [u8],
+}
+
+impl<'a> Model for Word<'a> {
+    ghost use Rattle.std.specs.Prelude.{List, ℕ};
+
+    ghost Value = { List ℕ };
+
+    ghost view = { λ w. w.bytes.now };
+}
+
+impl<'a> Word<'a> {
+    /// The word with these bytes.
+    pub(crate) fn of(bytes: &'a [u8]) -> Word<'a>
+        ensures { result ≡ bytes.now }
+    {
+        Word { bytes }
+    }
+
+    /// Its bytes.
+    pub fn as_bytes(&self) -> &'a [u8]
+        ensures { result.now ≡ self.now }
+    {
+        self.bytes
+    }
+}
+
+/// Whether a byte separates words.
 fn is_blank(byte: u8) -> bool
     ensures { result ≡ is_blank byte }
 {
@@ -43,7 +73,7 @@ impl<'a> Words<'a> {
         Words { rest: line }
     }
 
-    /// The same words, for another walk along them.
+    /// The same words, to go through them again.
     pub fn again(&self) -> Words<'a>
         ensures { result ≡ self.now }
     {
@@ -60,7 +90,7 @@ impl<'a> Words<'a> {
         }
     }
 
-    /// The next word, if one is left. Each byte is looked at once.
+    /// The next word, if one is left. Looks at each byte once.
     pub fn next(&mut self) -> Option<&'a [u8]>
         ensures { MatchOption result ((self.old ≡ []) × (self.new ≡ [])) (λ word. self.old ≡ word.now ∷ self.new) }
     {

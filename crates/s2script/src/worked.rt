@@ -1,4 +1,4 @@
-//! The definitions at work.
+//! Worked examples of the definitions.
 ghost use Rattle.std.specs.Prelude.{◌≡◌, [], ◌∷◌, ◌++◌, codes, Some, None};
 ghost use Rattle.s2script.specs.Lines.{lines, unended};
 ghost use Rattle.s2script.specs.Words.{words};
@@ -9,8 +9,7 @@ ghost use Rattle.s2script.specs.declared.command.Question.TheVariants.{Cell};
 ghost use Rattle.s2script.specs.declared.command.Command.TheVariants.{Ask};
 ghost use Rattle.s2script.specs.declared.command.Parsed.TheVariants.{Nothing, Does, Fails};
 
-/// Lines, words and cells of small scripts: what the definitions say of them.
-#[tactic(auto, unfolding(crate::specs::Line::line_of, crate::specs::Named::cell_named, crate::specs::Named::token_cell, crate::specs::Named::debug_cell, crate::specs::Named::is_cell, crate::specs::Table::command_of, crate::specs::Table::file_or_move_of, crate::specs::Table::question_of, crate::specs::Forms::one_cell))]
+/// What the definitions say about the lines, words and cells of small scripts.
 pub fn examples()
     // An empty line counts, and what follows the last newline counts unless it is empty.
     ensures empty_script { lines [] ≡ [] }

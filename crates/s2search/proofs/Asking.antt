@@ -32,7 +32,8 @@ begun_there u at c local own behind next = (
       (λ (a : at < length u).
       ⊎_elim
       (λ (b : first_leaf (get_or u at 0) < first_leaf c + size_of c). (a, b))
-      (λ (b : first_leaf c + size_of c ≤ first_leaf (get_or u at 0)). absurd (shared_none u at c local behind (λ _. b) s))
+      (λ (b : first_leaf c + size_of c ≤ first_leaf (get_or u at 0)).
+      absurd (shared_none u at c local behind (λ _. b) s))
       (cases_lt (first_leaf (get_or u at 0)) (first_leaf c + size_of c)))
       (λ (a : length u ≤ at). absurd (shared_none u at c local behind (λ (h : at < length u). absurd (omega arith)) s))
       (cases_lt at (length u)),
@@ -43,7 +44,8 @@ pub both : {A B C : Type 0} → (A ↔ B) → (B ↔ C) → A ↔ C
 both f g = (λ a. g.0 (f.0 a), λ c. f.1 (g.1 c))
 
 -- the cells of a union that come after one begin after it
-pub behind_on : (xs ys : List ℕ) (at k j : ℕ) → IsLocal ys → k ≤ j → j < length ys → Behind xs at (first_leaf (get_or ys k 0)) → Behind xs at (first_leaf (get_or ys j 0))
+pub behind_on : (xs ys : List ℕ) (at k j : ℕ) → IsLocal ys → k ≤ j → j < length ys
+    → Behind xs at (first_leaf (get_or ys k 0)) → Behind xs at (first_leaf (get_or ys j 0))
 behind_on xs ys at k j local h l b =
     let p = packed_from_local ys local in
     ⊎_elim
@@ -55,15 +57,20 @@ behind_on xs ys at k j local h l b =
     (cases_lt k j)
 
 -- a part is within a set of leaves exactly where its cells are
-pub part_within : (S : ℕ → Bool) (ys : List ℕ) (k : ℕ) → k < length ys → IsWithin (has_leaf ys) S → IsWithin (covers (get_or ys k 0)) S
+pub part_within : (S : ℕ → Bool) (ys : List ℕ) (k : ℕ) → k < length ys → IsWithin (has_leaf ys) S →
+    IsWithin (covers (get_or ys k 0)) S
 part_within S ys k h w x v = w x (leaf_to ys (get_or ys k 0) x (member_at ys k (get_or ys k 0) h refl) v)
 
-pub all_within : (S : ℕ → Bool) (ys : List ℕ) → ((j : ℕ) → j < length ys → IsWithin (covers (get_or ys j 0)) S) → IsWithin (has_leaf ys) S
+pub all_within : (S : ℕ → Bool) (ys : List ℕ) → ((j : ℕ) → j < length ys → IsWithin (covers (get_or ys j 0)) S) →
+    IsWithin (has_leaf ys) S
 all_within S ys all x v = let l = leaf_at ys x v in all l.at l.below x (covers_there (get_or ys l.at 0) x l.low l.high)
 
 -- and shares a leaf with it exactly where one of them does
-pub part_shares : (S : ℕ → Bool) (ys : List ℕ) (k : ℕ) → k < length ys → ShareSome (covers (get_or ys k 0)) S → ShareSome S (has_leaf ys)
+pub part_shares : (S : ℕ → Bool) (ys : List ℕ) (k : ℕ) → k < length ys → ShareSome (covers (get_or ys k 0)) S →
+    ShareSome S (has_leaf ys)
 part_shares S ys k h (x, v, s) = (x, s, leaf_to ys (get_or ys k 0) x (member_at ys k (get_or ys k 0) h refl) v)
 
-pub none_shares : (S : ℕ → Bool) (ys : List ℕ) → ((j : ℕ) → j < length ys → ShareSome (covers (get_or ys j 0)) S → ⊥) → ShareSome S (has_leaf ys) → ⊥
-none_shares S ys none (x, s, v) = let l = leaf_at ys x v in none l.at l.below (x, covers_there (get_or ys l.at 0) x l.low l.high, s)
+pub none_shares : (S : ℕ → Bool) (ys : List ℕ) → ((j : ℕ) → j < length ys → ShareSome (covers (get_or ys j 0)) S → ⊥)
+    → ShareSome S (has_leaf ys) → ⊥
+none_shares S ys none (x, s, v) = let l = leaf_at ys x v in
+    none l.at l.below (x, covers_there (get_or ys l.at 0) x l.low l.high, s)

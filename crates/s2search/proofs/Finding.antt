@@ -1,5 +1,6 @@
 -- How the places narrow where a leaf may stand.
-use Rattle.std.proofs.Common.{◌≡◌, ℕ, ◌+◌, ◌<◌, ◌≤◌, ◌↔◌, IsTrue, Bool, false, sym, ◌∙◌, arith, List, length, get_or}
+use Rattle.std.proofs.Common.{◌≡◌, ℕ, ◌+◌, ◌<◌, ◌≤◌, ◌↔◌, IsTrue, Bool, false, sym, ◌∙◌, arith, List}
+use Rattle.std.proofs.Common.{length, get_or}
 use Rattle.std.proofs.Math.Logic.{⊎_elim}
 use Rattle.std.proofs.lemmas.Bool.{cases_lt, false≢true}
 use Rattle.s2cell.specs.Cell.{first_leaf, size_of}
@@ -9,19 +10,23 @@ use Rattle.s2search.specs.Search.{IsFrom}
 
 -- a test that fails says the opposite
 pub later : (b : Bool) (a lo : ℕ) → (IsTrue b ↔ (a ≤ lo)) → b ≡ false → lo < a
-later b a lo test e = ⊎_elim (λ (h : lo < a). h) (λ (h : a ≤ lo). absurd (false≢true (sym e ∙ test.1 h))) (cases_lt lo a)
+later b a lo test e = ⊎_elim (λ (h : lo < a). h) (λ (h : a ≤ lo). absurd (false≢true (sym e ∙ test.1 h)))
+    (cases_lt lo a)
 
 -- all cells up to one that ends by the leaf end by it
-pub behind_up : (u : List ℕ) (lo k : ℕ) → IsPacked u → k < length u → first_leaf (get_or u k 0) + size_of (get_or u k 0) ≤ lo → Behind u (k + 1) lo
+pub behind_up : (u : List ℕ) (lo k : ℕ) → IsPacked u → k < length u
+    → first_leaf (get_or u k 0) + size_of (get_or u k 0) ≤ lo → Behind u (k + 1) lo
 behind_up u lo k p h e j l = let a = ends_later u j k p (omega arith) h in omega arith
 
 pub from_up : (u : List ℕ) (lo start end k : ℕ) → IsPacked u → IsFrom u lo start end → k < length u
     → first_leaf (get_or u k 0) + size_of (get_or u k 0) ≤ lo → IsFrom u lo (k + 1) end
 from_up u lo start end k p f h e = record { behind = behind_up u lo k p h e; next = f.next }
 
-pub from_down : (u : List ℕ) (lo start end k : ℕ) → IsFrom u lo start end → lo < first_leaf (get_or u k 0) + size_of (get_or u k 0) → IsFrom u lo start k
+pub from_down : (u : List ℕ) (lo start end k : ℕ) → IsFrom u lo start end
+    → lo < first_leaf (get_or u k 0) + size_of (get_or u k 0) → IsFrom u lo start k
 from_down u lo start end k f e = record { behind = f.behind; next = λ _. e }
 
 -- where the places have met, the leaf is found
-pub from_met : (u : List ℕ) (lo first last : ℕ) → IsFrom u lo first last → first ≤ last → last ≤ first → IsFrom u lo first first
+pub from_met : (u : List ℕ) (lo first last : ℕ) → IsFrom u lo first last → first ≤ last → last ≤ first →
+    IsFrom u lo first first
 from_met u lo first last f a b = let e : last ≡ first = omega arith in rw e at f

@@ -1,5 +1,7 @@
 -- The cells of a union and their ancestors in the order of their identifiers.
-use Rattle.std.proofs.Common.{◌≡◌, ℕ, ◌+◌, ◌-◌, ◌*◌, ◌<◌, ◌≤◌, refl, ◌∙◌, ap, arith, ◌⊎◌, inl, inr, List, [], ◌∷◌, ◌++◌, length, get_or, Contains}
+use Rattle.std.proofs.Common.{◌≡◌, ℕ, ◌+◌, ◌-◌, ◌*◌, ◌<◌, ◌≤◌, refl, ◌∙◌, ap, arith, ◌⊎◌, inl}
+use Rattle.std.proofs.Common.{inr, List, [], ◌∷◌, ◌++◌}
+use Rattle.std.proofs.Common.{length, get_or, Contains}
 use Rattle.std.specs.List.Sorted.{IsStrictlyIncreasing}
 use Rattle.std.proofs.Math.Logic.{⊎_elim}
 use Rattle.std.proofs.lemmas.Bool.{cases_lt}
@@ -9,14 +11,16 @@ use Rattle.std.proofs.lemmas.List.Elements.{Contains-push, Contains-append_left,
 use Rattle.s2cell.specs.Cell.{IsCell, IsInside, level_of, size_of, first_leaf, parent_of}
 use Rattle.s2cell.proofs.CellLemmas.{cell_leaves}
 use Rattle.s2cell.proofs.Calls.{IsCell-parent_of}
-use Rattle.s2cell.proofs.Leaves.{Within, before, after, within, around, meeting, middle_apart, inside_from_within, within_from_inside}
+use Rattle.s2cell.proofs.Leaves.{Within, before, after, within, around, meeting, middle_apart, inside_from_within}
+use Rattle.s2cell.proofs.Leaves.{within_from_inside}
 use Rattle.s2cell.proofs.Family.{same_from_within, deeper_inside, parent_level, parent_around}
 use Rattle.s2union.proofs.Checking.{member_at}
 use Rattle.s2search.specs.Ancestors.{Gains, IsBefore, IsAfter}
 
 -- ---- lists that ascend
 
-pub rises_more : (xs : List ℕ) (x : ℕ) → IsStrictlyIncreasing xs → ((e : ℕ) → Contains xs e → e < x) → IsStrictlyIncreasing (xs ++ x ∷ [])
+pub rises_more : (xs : List ℕ) (x : ℕ) → IsStrictlyIncreasing xs → ((e : ℕ) → Contains xs e → e < x) →
+    IsStrictlyIncreasing (xs ++ x ∷ [])
 rises_more xs x rises below k h_in =
     let len = length_push xs x in
     let first : get_or (xs ++ x ∷ []) k 0 ≡ get_or xs k 0 = get_or_append_left xs (x ∷ []) 0 k (omega arith) in
@@ -27,7 +31,8 @@ rises_more xs x rises below k h_in =
     rw (first, second) r)
     (λ (h : length xs ≤ k + 1).
     let e : k + 1 ≡ length xs = omega arith in
-    let second : get_or (xs ++ x ∷ []) (k + 1) 0 ≡ x = ap (λ n. get_or (xs ++ x ∷ []) n 0) e ∙ get_or-append_seam xs x [] 0 in
+    let second : get_or (xs ++ x ∷ []) (k + 1) 0 ≡ x = ap (λ n. get_or (xs ++ x ∷ []) n 0) e
+    ∙ get_or-append_seam xs x [] 0 in
     let r : get_or xs k 0 < x = below (get_or xs k 0) (member_at xs k (get_or xs k 0) (omega arith) refl) in
     rw (first, second) r)
     (cases_lt (k + 1) (length xs))
@@ -39,7 +44,8 @@ gains_more P Q old list x g below up own down = record {
   ascending = rises_more list x g.ascending below;
   members = λ c. (
     λ has. ⊎_elim
-        (λ (h : Contains list c). ⊎_elim (λ (o : Contains old c). inl o) (λ (p : P c). inr (up c p)) ((g.members c).0 h))
+        (λ (h : Contains list c). ⊎_elim (λ (o : Contains old c). inl o) (λ (p : P c). inr (up c p))
+        ((g.members c).0 h))
         (λ (e : x ≡ c). inr (rw e at own))
         (Contains-push_cases list x c has),
     λ from. ⊎_elim
@@ -52,7 +58,8 @@ gains_more P Q old list x g below up own down = record {
   );
 }
 
-pub gains_same : (P Q : ℕ → Type 0) (old list : List ℕ) → Gains P old list → ((c : ℕ) → P c → Q c) → ((c : ℕ) → Q c → P c) → Gains Q old list
+pub gains_same : (P Q : ℕ → Type 0) (old list : List ℕ) → Gains P old list → ((c : ℕ) → P c → Q c)
+    → ((c : ℕ) → Q c → P c) → Gains Q old list
 gains_same P Q old list g up down = record {
   ascending = g.ascending;
   members = λ c. (
@@ -62,12 +69,18 @@ gains_same P Q old list g up down = record {
 }
 
 pub gains_none : (P : ℕ → Type 0) (old : List ℕ) → IsStrictlyIncreasing old → ((c : ℕ) → P c → ⊥) → Gains P old old
-gains_none P old rises none = record { ascending = rises; members = λ c. (λ h. inl h, λ from. ⊎_elim (λ (o : Contains old c). o) (λ (p : P c). absurd (none c p)) from) }
+gains_none P old rises none =
+    record {
+      ascending = rises;
+      members = λ c.
+          (λ h. inl h, λ from. ⊎_elim (λ (o : Contains old c). o) (λ (p : P c). absurd (none c p)) from);
+    }
 
 -- ---- ancestors of one cell
 
 -- of two ancestors the deeper lies in the other
-pub nested : (u c d : ℕ) → IsCell u → IsCell c → IsCell d → Within u c → Within u d → level_of d ≤ level_of c → Within c d
+pub nested : (u c d : ℕ) → IsCell u → IsCell c → IsCell d → Within u c → Within u d → level_of d ≤ level_of c →
+    Within c d
 nested u c d cu cc cd wc wd h =
     let some = (cell_leaves u cu).some in
     let cl = wc.low in
@@ -76,7 +89,8 @@ nested u c d cu cc cd wc wd h =
     let dh = wd.high in
     deeper_inside c d (first_leaf u) cc cd h (omega arith) (omega arith) (omega arith) (omega arith)
 
-pub same_level : (u c d : ℕ) → IsCell u → IsCell c → IsCell d → Within u c → Within u d → level_of c ≡ level_of d → c ≡ d
+pub same_level : (u c d : ℕ) → IsCell u → IsCell c → IsCell d → Within u c → Within u d → level_of c ≡ level_of d →
+    c ≡ d
 same_level u c d cu cc cd wc wd e =
     same_from_within c d cc cd (nested u c d cu cc cd wc wd (omega arith)) (nested u d c cu cd cc wd wc (omega arith))
 
@@ -88,11 +102,13 @@ pub above_level : (u c : ℕ) → IsCell u → IsCell c → Within u c → (c �
 above_level u c cu cc w other =
     ⊎_elim
     (λ (h : level_of c < level_of u). h)
-    (λ (h : level_of u ≤ level_of c). absurd (other (same_from_within c u cc cu (nested u c u cu cc cu w (own_within u) h) w)))
+    (λ (h : level_of u ≤ level_of c).
+    absurd (other (same_from_within c u cc cu (nested u c u cu cc cu w (own_within u) h) w)))
     (cases_lt (level_of c) (level_of u))
 
 -- of two ancestors that come before the cell the larger comes first
-pub outer_before : (e p u : ℕ) → IsCell e → IsCell p → IsCell u → Within u e → Within u p → level_of e < level_of p → e < u → e < p
+pub outer_before : (e p u : ℕ) → IsCell e → IsCell p → IsCell u → Within u e → Within u p →
+    level_of e < level_of p → e < u → e < p
 outer_before e p u ce cp cu we wp deeper below =
     let w = nested u p e cu cp ce wp we (omega arith) in
     let lp = cell_leaves p cp in
@@ -105,11 +121,13 @@ outer_before e p u ce cp cu we wp deeper below =
     let ph = wp.high in
     ⊎_elim
     (λ (same : p ≡ e). let l : level_of p ≡ level_of e = ap level_of same in absurd (omega arith))
-    (⊎_elim (λ (h : 2 * (first_leaf p + size_of p) ≤ e). absurd (omega arith)) (λ (h : e ≤ 2 * first_leaf p). omega arith))
+    (⊎_elim (λ (h : 2 * (first_leaf p + size_of p) ≤ e). absurd (omega arith))
+    (λ (h : e ≤ 2 * first_leaf p). omega arith))
     (middle_apart p e cp ce w)
 
 -- and of two that come after it the smaller
-pub inner_before : (e p u : ℕ) → IsCell e → IsCell p → IsCell u → Within u e → Within u p → level_of p < level_of e → u < p → e < p
+pub inner_before : (e p u : ℕ) → IsCell e → IsCell p → IsCell u → Within u e → Within u p →
+    level_of p < level_of e → u < p → e < p
 inner_before e p u ce cp cu we wp deeper above =
     let w = nested u e p cu ce cp we wp (omega arith) in
     let le = cell_leaves e ce in
@@ -122,11 +140,13 @@ inner_before e p u ce cp cu we wp deeper above =
     let eh = we.high in
     ⊎_elim
     (λ (same : e ≡ p). let l : level_of e ≡ level_of p = ap level_of same in absurd (omega arith))
-    (⊎_elim (λ (h : 2 * (first_leaf e + size_of e) ≤ p). omega arith) (λ (h : p ≤ 2 * first_leaf e). absurd (omega arith)))
+    (⊎_elim (λ (h : 2 * (first_leaf e + size_of e) ≤ p). omega arith)
+    (λ (h : p ≤ 2 * first_leaf e). absurd (omega arith)))
     (middle_apart e p ce cp w)
 
 -- what begins before `from` and comes before the cell comes before an ancestor that begins there or later
-pub earlier_before : (e p u from : ℕ) → IsCell e → IsCell p → IsCell u → Within u p → first_leaf e < from → from ≤ first_leaf p → e < u → e < p
+pub earlier_before : (e p u from : ℕ) → IsCell e → IsCell p → IsCell u → Within u p → first_leaf e < from
+    → from ≤ first_leaf p → e < u → e < p
 earlier_before e p u from ce cp cu wp began start below =
     let lp = cell_leaves p cp in
     let le = cell_leaves e ce in
@@ -147,7 +167,8 @@ earlier_before e p u from ce cp cu wp began start below =
           let wl = w.low in
           ⊎_elim
           (λ (same : p ≡ e). let f : first_leaf p ≡ first_leaf e = ap first_leaf same in absurd (omega arith))
-          (⊎_elim (λ (h : 2 * (first_leaf p + size_of p) ≤ e). absurd (omega arith)) (λ (h : e ≤ 2 * first_leaf p). omega arith))
+          (⊎_elim (λ (h : 2 * (first_leaf p + size_of p) ≤ e). absurd (omega arith))
+          (λ (h : e ≤ 2 * first_leaf p). omega arith))
           (middle_apart p e cp ce w)
     ]
 
@@ -175,19 +196,28 @@ pub record Ancestor (u level p : ℕ) : Type 0 where
   pub level_is : level_of p ≡ level
 
 pub ancestor_at : (u level : ℕ) → IsCell u → level ≤ level_of u → Ancestor u level (parent_of u level)
-ancestor_at u level cu h = record { cell = IsCell-parent_of u level (parent_of u level) cu h refl; around = parent_around u level cu h; level_is = parent_level u level cu h }
+ancestor_at u level cu h =
+    record {
+      cell = IsCell-parent_of u level (parent_of u level) cu h refl;
+      around = parent_around u level cu h;
+      level_is = parent_level u level cu h;
+    }
 
 -- ---- those that come before the cell, level by level
 
 abbrev pub BeforeTo : (u from level : ℕ) → ℕ → Type 0
 BeforeTo u from level c = IsBefore u from c × (level_of c < level)
 
-pub before_start : (u from level : ℕ) (old : List ℕ) → IsStrictlyIncreasing old → ((c : ℕ) → IsCell c → IsInside u c → from ≤ first_leaf c → level ≤ level_of c)
+pub before_start : (u from level : ℕ) (old : List ℕ) → IsStrictlyIncreasing old
+    → ((c : ℕ) → IsCell c → IsInside u c → from ≤ first_leaf c → level ≤ level_of c)
     → Gains (BeforeTo u from level) old old
-before_start u from level old rises least = gains_none (BeforeTo u from level) old rises (λ c (b, l). let h = least c b.own b.around b.start in omega arith)
+before_start u from level old rises least = gains_none (BeforeTo u from level) old rises
+    (λ c (b, l). let h = least c b.own b.around b.start in omega arith)
 
-pub before_more : (u from level : ℕ) (old list : List ℕ) → IsCell u → level < level_of u → from ≤ first_leaf (parent_of u level) → parent_of u level < u
-    → ((c : ℕ) → Contains old c → IsCell c) → ((c : ℕ) → Contains old c → first_leaf c < from) → ((c : ℕ) → Contains old c → c < u)
+pub before_more : (u from level : ℕ) (old list : List ℕ) → IsCell u → level < level_of u
+    → from ≤ first_leaf (parent_of u level) → parent_of u level < u
+    → ((c : ℕ) → Contains old c → IsCell c) → ((c : ℕ) → Contains old c → first_leaf c < from) →
+    ((c : ℕ) → Contains old c → c < u)
     → Gains (BeforeTo u from level) old list → Gains (BeforeTo u from (level + 1)) old (list ++ parent_of u level ∷ [])
 before_more u from level old list cu h start less cells began below g =
     let a = ancestor_at u level cu (omega arith) in
@@ -225,23 +255,31 @@ before_none u from level old list cu h not_less g =
     absurd (not_less (rw is at b.0.below)))
     (cases_lt (level_of c) level))
 
-pub before_all : (u from : ℕ) (old list : List ℕ) → IsCell u → Gains (BeforeTo u from (level_of u)) old list → Gains (IsBefore u from) old list
+pub before_all : (u from : ℕ) (old list : List ℕ) → IsCell u → Gains (BeforeTo u from (level_of u)) old list
+    → Gains (IsBefore u from) old list
 before_all u from old list cu g =
     gains_same (BeforeTo u from (level_of u)) (IsBefore u from) old list g
     (λ c b. b.0)
-    (λ c b. (b, above_level u c cu b.own (within_from_inside u c cu b.around) (λ e. let l = b.below in omega (arith, e, l))))
+    (λ c b. (
+      b,
+      above_level u c cu b.own (within_from_inside u c cu b.around) (λ e. let l = b.below in
+          omega (arith, e, l)),
+    ))
 
 -- ---- those that come after it
 
 abbrev pub AfterTo : (u next level : ℕ) → ℕ → Type 0
 AfterTo u next level c = IsAfter u next c × (level ≤ level_of c)
 
-pub after_start : (u next : ℕ) (old : List ℕ) → IsCell u → IsStrictlyIncreasing old → Gains (AfterTo u next (level_of u)) old old
+pub after_start : (u next : ℕ) (old : List ℕ) → IsCell u → IsStrictlyIncreasing old →
+    Gains (AfterTo u next (level_of u)) old old
 after_start u next old cu rises =
     gains_none (AfterTo u next (level_of u)) old rises
-    (λ c (b, l). let h = above_level u c cu b.own (within_from_inside u c cu b.around) (λ e. let m = b.above in omega (arith, e, m)) in omega arith)
+    (λ c (b, l). let h = above_level u c cu b.own (within_from_inside u c cu b.around)
+    (λ e. let m = b.above in omega (arith, e, m)) in omega arith)
 
-pub after_more : (u next level : ℕ) (old list : List ℕ) → IsCell u → level < level_of u → u < parent_of u level → parent_of u level < next
+pub after_more : (u next level : ℕ) (old list : List ℕ) → IsCell u → level < level_of u → u < parent_of u level →
+    parent_of u level < next
     → ((c : ℕ) → Contains old c → c ≤ u)
     → Gains (AfterTo u next (level + 1)) old list → Gains (AfterTo u next level) old (list ++ parent_of u level ∷ [])
 after_more u next level old list cu h above below most g =
@@ -264,7 +302,8 @@ after_more u next level old list cu h above below most g =
     inr (same_level u c p cu b.0.own a.cell (within_from_inside u c cu b.0.around) a.around same))
     (cases_lt level (level_of c)))
 
-pub after_none : (u next level : ℕ) (old list : List ℕ) → IsCell u → level < level_of u → (u < parent_of u level → parent_of u level < next → ⊥)
+pub after_none : (u next level : ℕ) (old list : List ℕ) → IsCell u → level < level_of u
+    → (u < parent_of u level → parent_of u level < next → ⊥)
     → Gains (AfterTo u next (level + 1)) old list → Gains (AfterTo u next level) old list
 after_none u next level old list cu h not_between g =
     let a = ancestor_at u level cu (omega arith) in
@@ -281,9 +320,11 @@ after_none u next level old list cu h not_between g =
     (cases_lt level (level_of c)))
 
 pub after_all : (u next : ℕ) (old list : List ℕ) → Gains (AfterTo u next 0) old list → Gains (IsAfter u next) old list
-after_all u next old list g = gains_same (AfterTo u next 0) (IsAfter u next) old list g (λ c b. b.0) (λ c b. (b, omega arith))
+after_all u next old list g = gains_same (AfterTo u next 0) (IsAfter u next) old list g (λ c b. b.0)
+    (λ c b. (b, omega arith))
 
-pub after_reached : (u next level : ℕ) (old list : List ℕ) → IsCell u → level < level_of u → next ≤ 2 * (first_leaf (parent_of u level) + size_of (parent_of u level)) - 1
+pub after_reached : (u next level : ℕ) (old list : List ℕ) → IsCell u → level < level_of u
+    → next ≤ 2 * (first_leaf (parent_of u level) + size_of (parent_of u level)) - 1
     → Gains (AfterTo u next level) old list → Gains (IsAfter u next) old list
 after_reached u next level old list cu h reached g =
     let a = ancestor_at u level cu (omega arith) in
@@ -296,14 +337,16 @@ after_reached u next level old list cu h reached g =
       ⊎_elim
           (λ (l : level_of c < level).
           let deeper : level_of c < level_of p = omega arith in
-          absurd (none_between p c u next a.cell b.own cu a.around (within_from_inside u c cu b.around) deeper reached b.above b.below))
+          absurd (none_between p c u next a.cell b.own cu a.around (within_from_inside u c cu b.around) deeper
+          reached b.above b.below))
           (λ (l : level ≤ level_of c). l)
           (cases_lt (level_of c) level),
     ))
 
 -- ---- the outermost that begins at `from` or later
 
-pub least_level : (u from level : ℕ) → IsCell u → level ≤ level_of u → (0 < level → first_leaf (parent_of u (level - 1)) < from)
+pub least_level : (u from level : ℕ) → IsCell u → level ≤ level_of u →
+    (0 < level → first_leaf (parent_of u (level - 1)) < from)
     → (c : ℕ) → IsCell c → IsInside u c → from ≤ first_leaf c → level ≤ level_of c
 least_level u from level cu h stopped c cc inside start =
     ⊎_elim
@@ -319,7 +362,8 @@ least_level u from level cu h stopped c cc inside start =
     (cases_lt (level_of c) level)
 
 -- a deeper ancestor begins no earlier
-pub starts_later : (u from least level : ℕ) → IsCell u → least ≤ level → level ≤ level_of u → from ≤ first_leaf (parent_of u least) → from ≤ first_leaf (parent_of u level)
+pub starts_later : (u from least level : ℕ) → IsCell u → least ≤ level → level ≤ level_of u
+    → from ≤ first_leaf (parent_of u least) → from ≤ first_leaf (parent_of u level)
 starts_later u from least level cu l h start =
     let a = ancestor_at u least cu (omega arith) in
     let b = ancestor_at u level cu h in
@@ -336,9 +380,12 @@ own_parent u cu =
 
 -- ---- one step of each loop
 
-pub before_step : (u from level : ℕ) (old list new : List ℕ) → IsCell u → level < level_of u → from ≤ first_leaf (parent_of u level)
-    → ((c : ℕ) → Contains old c → IsCell c) → ((c : ℕ) → Contains old c → first_leaf c < from) → ((c : ℕ) → Contains old c → c < u)
-    → (0 < parent_of u level → parent_of u level < u → new ≡ list ++ parent_of u level ∷ []) → ((0 < parent_of u level → parent_of u level < u → ⊥) → new ≡ list)
+pub before_step : (u from level : ℕ) (old list new : List ℕ) → IsCell u → level < level_of u →
+    from ≤ first_leaf (parent_of u level)
+    → ((c : ℕ) → Contains old c → IsCell c) → ((c : ℕ) → Contains old c → first_leaf c < from) →
+    ((c : ℕ) → Contains old c → c < u)
+    → (0 < parent_of u level → parent_of u level < u → new ≡ list ++ parent_of u level ∷ [])
+    → ((0 < parent_of u level → parent_of u level < u → ⊥) → new ≡ list)
     → Gains (BeforeTo u from level) old list → Gains (BeforeTo u from (level + 1)) old new
 before_step u from level old list new cu h start cells began below added same g =
     let a = ancestor_at u level cu (omega arith) in
@@ -346,19 +393,26 @@ before_step u from level old list new cu h start cells began below added same g 
     let m = l.middle in
     let s = l.some in
     ⊎_elim
-    (λ (less : parent_of u level < u). rw (added (omega arith) less) (before_more u from level old list cu h start less cells began below g))
-    (λ (more : u ≤ parent_of u level). rw (same (λ p less. omega (arith, less, more))) (before_none u from level old list cu h (λ less. omega (arith, less, more)) g))
+    (λ (less : parent_of u level < u). rw (added (omega arith) less)
+    (before_more u from level old list cu h start less cells began below g))
+    (λ (more : u ≤ parent_of u level). rw (same (λ p less. omega (arith, less, more)))
+    (before_none u from level old list cu h (λ less. omega (arith, less, more)) g))
     (cases_lt (parent_of u level) u)
 
-pub after_step : (u next level : ℕ) (old list new : List ℕ) → IsCell u → level < level_of u → ((c : ℕ) → Contains old c → c ≤ u)
-    → (u < parent_of u level → parent_of u level < next → new ≡ list ++ parent_of u level ∷ []) → ((u < parent_of u level → parent_of u level < next → ⊥) → new ≡ list)
+pub after_step : (u next level : ℕ) (old list new : List ℕ) → IsCell u → level < level_of u →
+    ((c : ℕ) → Contains old c → c ≤ u)
+    → (u < parent_of u level → parent_of u level < next → new ≡ list ++ parent_of u level ∷ [])
+    → ((u < parent_of u level → parent_of u level < next → ⊥) → new ≡ list)
     → Gains (AfterTo u next (level + 1)) old list → Gains (AfterTo u next level) old new
 after_step u next level old list new cu h most added same g =
     ⊎_elim
     (λ (above : u < parent_of u level).
     ⊎_elim
-    (λ (below : parent_of u level < next). rw (added above below) (after_more u next level old list cu h above below most g))
-    (λ (past : next ≤ parent_of u level). rw (same (λ a b. omega (arith, b, past))) (after_none u next level old list cu h (λ a b. omega (arith, b, past)) g))
+    (λ (below : parent_of u level < next). rw (added above below)
+    (after_more u next level old list cu h above below most g))
+    (λ (past : next ≤ parent_of u level). rw (same (λ a b. omega (arith, b, past)))
+    (after_none u next level old list cu h (λ a b. omega (arith, b, past)) g))
     (cases_lt (parent_of u level) next))
-    (λ (under : parent_of u level ≤ u). rw (same (λ a b. omega (arith, a, under))) (after_none u next level old list cu h (λ a b. omega (arith, a, under)) g))
+    (λ (under : parent_of u level ≤ u). rw (same (λ a b. omega (arith, a, under)))
+    (after_none u next level old list cu h (λ a b. omega (arith, a, under)) g))
     (cases_lt u (parent_of u level))

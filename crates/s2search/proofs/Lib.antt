@@ -4,4 +4,5 @@ mod Holders
 mod Reaching
 mod Numbers
 mod Packing
+mod Reading
 mod Running

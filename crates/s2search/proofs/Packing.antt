@@ -1,5 +1,6 @@
 -- What makes a list of numbers a union, cell by cell.
-use Rattle.std.proofs.Common.{◌≡◌, ℕ, ◌+◌, ◌-◌, ◌<◌, ◌≤◌, ◌∙◌, ap, arith, List, [], ◌∷◌, ◌++◌, length, get_or, take, All}
+use Rattle.std.proofs.Common.{◌≡◌, ℕ, ◌+◌, ◌-◌, ◌<◌, ◌≤◌, ◌∙◌, ap, arith, List, [], ◌∷◌, ◌++◌}
+use Rattle.std.proofs.Common.{length, get_or, take, All}
 use Rattle.std.proofs.lemmas.Option.{gets}
 use Rattle.std.proofs.lemmas.List.{take_more, get_or-take, length-take-le}
 use Rattle.s2cell.specs.Cell.{IsCell}
@@ -17,14 +18,18 @@ packed_more u k h packed own follows none =
     let p : IsPacked (take k u ++ get_or u k 0 ∷ []) =
     fits (take k u) (get_or u k 0) packed own
     (λ s.
-    let at : get_or (take k u) (length (take k u) - 1) 0 ≡ get_or u (k - 1) 0 = ap (λ n. get_or (take k u) (n - 1) 0) len ∙ get_or-take k u (k - 1) 0 (omega arith) in
+    let at : get_or (take k u) (length (take k u) - 1) 0 ≡ get_or u (k - 1) 0 =
+    ap (λ n. get_or (take k u) (n - 1) 0) len ∙ get_or-take k u (k - 1) 0 (omega arith) in
     let f = follows (omega arith) in
     rw at f)
     (λ less p e f.
     let three : 3 ≤ k = omega arith in
-    let a : get_or (take k u) less 0 ≡ get_or u (k - 3) 0 = ap (λ n. get_or (take k u) n 0) (less_is less k (e ∙ len)) ∙ get_or-take k u (k - 3) 0 (omega arith) in
-    let b : get_or (take k u) (less + 1) 0 ≡ get_or u (k - 2) 0 = ap (λ n. get_or (take k u) n 0) (less_two less k (e ∙ len)) ∙ get_or-take k u (k - 2) 0 (omega arith) in
-    let c : get_or (take k u) (less + 2) 0 ≡ get_or u (k - 1) 0 = ap (λ n. get_or (take k u) n 0) (less_one less k (e ∙ len)) ∙ get_or-take k u (k - 1) 0 (omega arith) in
+    let a : get_or (take k u) less 0 ≡ get_or u (k - 3) 0 =
+    ap (λ n. get_or (take k u) n 0) (less_is less k (e ∙ len)) ∙ get_or-take k u (k - 3) 0 (omega arith) in
+    let b : get_or (take k u) (less + 1) 0 ≡ get_or u (k - 2) 0 =
+    ap (λ n. get_or (take k u) n 0) (less_two less k (e ∙ len)) ∙ get_or-take k u (k - 2) 0 (omega arith) in
+    let c : get_or (take k u) (less + 2) 0 ≡ get_or u (k - 1) 0 =
+    ap (λ n. get_or (take k u) n 0) (less_one less k (e ∙ len)) ∙ get_or-take k u (k - 1) 0 (omega arith) in
     none (three, p, rw (a, b, c) at f)) in
     rw more p
   where
@@ -38,12 +43,14 @@ packed_more u k h packed own follows none =
     less_one less k e = omega arith
 
 -- of packed cells each comes after the one before it
-pub follows_from : (u : List ℕ) (k : ℕ) → k < length u → IsPacked (take (k + 1) u) → 0 < k → EndsBefore (get_or u (k - 1) 0) (get_or u k 0)
+pub follows_from : (u : List ℕ) (k : ℕ) → k < length u → IsPacked (take (k + 1) u) → 0 < k →
+    EndsBefore (get_or u (k - 1) 0) (get_or u k 0)
 follows_from u k h packed some =
     let len : length (take (k + 1) u) ≡ k + 1 = length-take-le (k + 1) u (omega arith) in
     let a : get_or (take (k + 1) u) (k - 1) 0 ≡ get_or u (k - 1) 0 = get_or-take (k + 1) u (k - 1) 0 (omega arith) in
     let b : get_or (take (k + 1) u) k 0 ≡ get_or u k 0 = get_or-take (k + 1) u k 0 (omega arith) in
-    let c : EndsBefore (get_or (take (k + 1) u) (k - 1) 0) (get_or (take (k + 1) u) k 0) = packed.chain (k - 1) k 0 (omega arith) (omega arith) in
+    let c : EndsBefore (get_or (take (k + 1) u) (k - 1) 0) (get_or (take (k + 1) u) k 0) =
+    packed.chain (k - 1) k 0 (omega arith) (omega arith) in
     rw (a, b) at c
 
 -- and is that of a cell
@@ -62,9 +69,12 @@ no_family u k p h packed three f =
     let g : (k - 3) + 2 ≡ k - 1 = omega arith in
     let i : (k - 3) + 3 ≡ k = omega arith in
     let a : get_or (take (k + 1) u) (k - 3) 0 ≡ get_or u (k - 3) 0 = get_or-take (k + 1) u (k - 3) 0 (omega arith) in
-    let b : get_or (take (k + 1) u) ((k - 3) + 1) 0 ≡ get_or u (k - 2) 0 = ap (λ n. get_or (take (k + 1) u) n 0) e ∙ get_or-take (k + 1) u (k - 2) 0 (omega arith) in
-    let c : get_or (take (k + 1) u) ((k - 3) + 2) 0 ≡ get_or u (k - 1) 0 = ap (λ n. get_or (take (k + 1) u) n 0) g ∙ get_or-take (k + 1) u (k - 1) 0 (omega arith) in
-    let d : get_or (take (k + 1) u) ((k - 3) + 3) 0 ≡ get_or u k 0 = ap (λ n. get_or (take (k + 1) u) n 0) i ∙ get_or-take (k + 1) u k 0 (omega arith) in
+    let b : get_or (take (k + 1) u) ((k - 3) + 1) 0 ≡ get_or u (k - 2) 0 =
+    ap (λ n. get_or (take (k + 1) u) n 0) e ∙ get_or-take (k + 1) u (k - 2) 0 (omega arith) in
+    let c : get_or (take (k + 1) u) ((k - 3) + 2) 0 ≡ get_or u (k - 1) 0 =
+    ap (λ n. get_or (take (k + 1) u) n 0) g ∙ get_or-take (k + 1) u (k - 1) 0 (omega arith) in
+    let d : get_or (take (k + 1) u) ((k - 3) + 3) 0 ≡ get_or u k 0 =
+    ap (λ n. get_or (take (k + 1) u) n 0) i ∙ get_or-take (k + 1) u k 0 (omega arith) in
     packed.unmerged (k - 3) p (omega arith) (rw (a, b, c, d) f)
 
 -- numbers that are cells at each place are all cells

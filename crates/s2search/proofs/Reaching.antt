@@ -1,12 +1,15 @@
 -- The keys of the first cells of a union, while the list of all is put together; and what the keys of two unions tell.
-use Rattle.std.proofs.Common.{◌≡◌, ℕ, ◌+◌, ◌-◌, ◌^◌, ◌<◌, ◌≤◌, refl, sym, ap, arith, inl, inr, List, [], ◌∷◌, ◌++◌, length, get_or, All, Contains}
+use Rattle.std.proofs.Common.{◌≡◌, ℕ, ◌+◌, ◌-◌, ◌^◌, ◌<◌, ◌≤◌, refl, sym, ap, arith, inl, inr, List, []}
+use Rattle.std.proofs.Common.{◌∷◌, ◌++◌}
+use Rattle.std.proofs.Common.{length, get_or, All, Contains}
 use Rattle.std.specs.List.Sorted.{IsStrictlyIncreasing}
 use Rattle.std.proofs.Math.Logic.{⊎_elim}
 use Rattle.std.proofs.lemmas.Bool.{cases_lt, cases_order}
 use Rattle.std.proofs.lemmas.List.Elements.{All-contains, Contains-push, Contains-append_left, Contains-push_cases}
 use Rattle.s2cell.specs.Cell.{IsCell, IsInside, size_of, first_leaf}
 use Rattle.s2cell.proofs.CellLemmas.{cell_leaves}
-use Rattle.s2cell.proofs.Leaves.{Within, before, after, within, around, meeting, covers_there, inside_from_within, within_from_inside, nested_from_shared}
+use Rattle.s2cell.proofs.Leaves.{Within, before, after, within, around, meeting, covers_there, inside_from_within}
+use Rattle.s2cell.proofs.Leaves.{within_from_inside, nested_from_shared}
 use Rattle.s2union.specs.Union.{ShareSome, has_leaf}
 use Rattle.s2union.specs.Packed.{IsPacked}
 use Rattle.s2union.proofs.Checking.{member_at}
@@ -28,7 +31,8 @@ pub record Reached (u : List ℕ) (k from : ℕ) (list : List ℕ) : Type 0 wher
   pub sound : (c : ℕ) → Contains list c → HoldsFirst u k c
   pub began : (c : ℕ) → Contains list c → first_leaf c < from
   pub below : k < length u → (c : ℕ) → Contains list c → c < get_or u k 0
-  pub complete : (c j : ℕ) → IsCell c → j < k → Within (get_or u j 0) c → (k < length u → c < get_or u k 0) → Contains list c
+  pub complete : (c j : ℕ) → IsCell c → j < k → Within (get_or u j 0) c → (k < length u → c < get_or u k 0) →
+      Contains list c
   pub none : k ≡ 0 → from ≡ 0
   pub end : 0 < k → from ≡ first_leaf (get_or u (k - 1) 0) + size_of (get_or u (k - 1) 0)
 
@@ -47,36 +51,45 @@ reached_start u = record {
 }
 
 -- what the next cell asks for
-pub starts : (u : List ℕ) (k from : ℕ) (list : List ℕ) → IsPacked u → k < length u → Reached u k from list → from ≤ first_leaf (get_or u k 0)
+pub starts : (u : List ℕ) (k from : ℕ) (list : List ℕ) → IsPacked u → k < length u → Reached u k from list
+    → from ≤ first_leaf (get_or u k 0)
 starts u k from list p h r =
     ⊎_elim
     (λ (some : 0 < k).
     let e = r.end some in
-    let c : first_leaf (get_or u (k - 1) 0) + size_of (get_or u (k - 1) 0) ≤ first_leaf (get_or u k 0) = p.chain (k - 1) k 0 (omega arith) h in
+    let c : first_leaf (get_or u (k - 1) 0) + size_of (get_or u (k - 1) 0) ≤ first_leaf (get_or u k 0) =
+    p.chain (k - 1) k 0 (omega arith) h in
     omega arith)
     (λ (zero : k ≤ 0). let e = r.none (omega arith) in omega arith)
     (cases_lt 0 k)
 
-ended : (u : List ℕ) (k j from : ℕ) (list : List ℕ) → IsPacked u → k < length u → j < k → Reached u k from list → first_leaf (get_or u j 0) + size_of (get_or u j 0) ≤ from
+ended : (u : List ℕ) (k j from : ℕ) (list : List ℕ) → IsPacked u → k < length u → j < k → Reached u k from list
+    → first_leaf (get_or u j 0) + size_of (get_or u j 0) ≤ from
 ended u k j from list p h l r =
     let e = r.end (omega arith) in
     ⊎_elim
     (λ (earlier : j < k - 1).
-    let c : first_leaf (get_or u j 0) + size_of (get_or u j 0) ≤ first_leaf (get_or u (k - 1) 0) = p.chain j (k - 1) 0 earlier (omega arith) in
+    let c : first_leaf (get_or u j 0) + size_of (get_or u j 0) ≤ first_leaf (get_or u (k - 1) 0) =
+    p.chain j (k - 1) 0 earlier (omega arith) in
     omega arith)
     (λ (last : k - 1 ≤ j).
     let is : k - 1 ≡ j = omega arith in
-    let same : first_leaf (get_or u (k - 1) 0) + size_of (get_or u (k - 1) 0) ≡ first_leaf (get_or u j 0) + size_of (get_or u j 0) = ap (λ n. first_leaf (get_or u n 0) + size_of (get_or u n 0)) is in
+    let one : first_leaf (get_or u (k - 1) 0) ≡ first_leaf (get_or u j 0) = ap (λ n. first_leaf (get_or u n 0)) is in
+    let two : size_of (get_or u (k - 1) 0) ≡ size_of (get_or u j 0) = ap (λ n. size_of (get_or u n 0)) is in
     omega arith)
     (cases_lt j (k - 1))
 
-pub all_below : (cell from : ℕ) (old new : List ℕ) → ((c : ℕ) → Contains old c → c < cell) → Gains (IsBefore cell from) old new → (c : ℕ) → Contains new c → c < cell
-all_below cell from old new below g c h = ⊎_elim (λ (o : Contains old c). below c o) (λ (b : IsBefore cell from c). b.below) ((g.members c).0 h)
+pub all_below : (cell from : ℕ) (old new : List ℕ) → ((c : ℕ) → Contains old c → c < cell)
+    → Gains (IsBefore cell from) old new → (c : ℕ) → Contains new c → c < cell
+all_below cell from old new below g c h = ⊎_elim (λ (o : Contains old c). below c o)
+    (λ (b : IsBefore cell from c). b.below) ((g.members c).0 h)
 
-pub rises_to : (cell from : ℕ) (old new : List ℕ) → ((c : ℕ) → Contains old c → c < cell) → Gains (IsBefore cell from) old new → IsStrictlyIncreasing (new ++ cell ∷ [])
+pub rises_to : (cell from : ℕ) (old new : List ℕ) → ((c : ℕ) → Contains old c → c < cell)
+    → Gains (IsBefore cell from) old new → IsStrictlyIncreasing (new ++ cell ∷ [])
 rises_to cell from old new below g = rises_more new cell g.ascending (all_below cell from old new below g)
 
-pub most_to : (cell from : ℕ) (old new : List ℕ) → ((c : ℕ) → Contains old c → c < cell) → Gains (IsBefore cell from) old new → (c : ℕ) → Contains (new ++ cell ∷ []) c → c ≤ cell
+pub most_to : (cell from : ℕ) (old new : List ℕ) → ((c : ℕ) → Contains old c → c < cell)
+    → Gains (IsBefore cell from) old new → (c : ℕ) → Contains (new ++ cell ∷ []) c → c ≤ cell
 most_to cell from old new below g c h =
     ⊎_elim
     (λ (o : Contains new c). let l = all_below cell from old new below g c o in omega arith)
@@ -100,7 +113,8 @@ holds_later cell c cu cc began above =
     ]
 
 -- a cell that holds `cell`, and begins before the end of the one before it, holds that too
-holds_earlier : (last cell c : ℕ) → IsCell last → IsCell c → IsCell cell → first_leaf last + size_of last ≤ first_leaf cell → Within cell c
+holds_earlier : (last cell c : ℕ) → IsCell last → IsCell c → IsCell cell →
+    first_leaf last + size_of last ≤ first_leaf cell → Within cell c
     → first_leaf c < first_leaf last + size_of last → Within last c
 holds_earlier last cell c cl cc cu apart w began =
     let lu = cell_leaves cell cu in
@@ -138,33 +152,43 @@ data Origin (cell from next : ℕ) (old : List ℕ) (c : ℕ) : Type 0 where
   own : cell ≡ c → Origin cell from next old c
   follows : IsAfter cell next c → Origin cell from next old c
 
-origin : (cell from next : ℕ) (old one two : List ℕ) (c : ℕ) → Pushed cell from next old one two → Contains two c → Origin cell from next old c
+origin : (cell from next : ℕ) (old one two : List ℕ) (c : ℕ) → Pushed cell from next old one two → Contains two c
+    → Origin cell from next old c
 origin cell from next old one two c p h =
     ⊎_elim
     (λ (m : Contains (one ++ cell ∷ []) c).
     ⊎_elim
-    (λ (o : Contains one c). ⊎_elim (λ (x : Contains old c). was x) (λ (x : IsBefore cell from c). leads x) ((p.front.members c).0 o))
+    (λ (o : Contains one c). ⊎_elim (λ (x : Contains old c). was x) (λ (x : IsBefore cell from c). leads x)
+    ((p.front.members c).0 o))
     (λ (e : cell ≡ c). own e)
     (Contains-push_cases one cell c m))
     (λ (x : IsAfter cell next c). follows x)
     ((p.back.members c).0 h)
 
-from_one : (cell from next : ℕ) (old one two : List ℕ) (c : ℕ) → Pushed cell from next old one two → Contains one c → Contains two c
+from_one : (cell from next : ℕ) (old one two : List ℕ) (c : ℕ) → Pushed cell from next old one two →
+    Contains one c → Contains two c
 from_one cell from next old one two c p h = (p.back.members c).1 (inl (Contains-append_left one (cell ∷ []) c h))
 
-reached_sound : (u : List ℕ) (k from next : ℕ) (old one two : List ℕ) → IsPacked u → k < length u → Reached u k from old → Pushed (get_or u k 0) from next old one two
+reached_sound : (u : List ℕ) (k from next : ℕ) (old one two : List ℕ) → IsPacked u → k < length u → Reached u k from old
+    → Pushed (get_or u k 0) from next old one two
     → (c : ℕ) → Contains two c → HoldsFirst u (k + 1) c
 reached_sound u k from next old one two p h r pushed c has =
     let cell = get_or u k 0 in
     let cu : IsCell cell = p.cells k 0 h in
     elim (origin cell from next old one two c pushed has) [
-      | was x ↦ let s = r.sound c x in record { cell = s.cell; at = s.at; early = (let e = s.early in omega arith); around = s.around }
+      | was x ↦ let s = r.sound c x in record {
+        cell = s.cell;
+        at = s.at;
+        early = (let e = s.early in omega arith);
+        around = s.around;
+      }
       | leads x ↦ record { cell = x.own; at = k; early = omega arith; around = within_from_inside cell c cu x.around }
       | own e ↦ record { cell = rw e at cu; at = k; early = omega arith; around = rw (sym e) (own_within cell) }
       | follows x ↦ record { cell = x.own; at = k; early = omega arith; around = within_from_inside cell c cu x.around }
     ]
 
-reached_began : (u : List ℕ) (k from next : ℕ) (old one two : List ℕ) → IsPacked u → k < length u → Reached u k from old → Pushed (get_or u k 0) from next old one two
+reached_began : (u : List ℕ) (k from next : ℕ) (old one two : List ℕ) → IsPacked u → k < length u → Reached u k from old
+    → Pushed (get_or u k 0) from next old one two
     → (c : ℕ) → Contains two c → first_leaf c < first_leaf (get_or u k 0) + size_of (get_or u k 0)
 reached_began u k from next old one two p h r pushed c has =
     let cell = get_or u k 0 in
@@ -178,7 +202,8 @@ reached_began u k from next old one two p h r pushed c has =
       | follows x ↦ let w = (within_from_inside cell c cu x.around).low in omega arith
     ]
 
-reached_below : (u : List ℕ) (k from next : ℕ) (old one two : List ℕ) → IsPacked u → k + 1 < length u → next ≡ get_or u (k + 1) 0 → Reached u k from old
+reached_below : (u : List ℕ) (k from next : ℕ) (old one two : List ℕ) → IsPacked u → k + 1 < length u
+    → next ≡ get_or u (k + 1) 0 → Reached u k from old
     → Pushed (get_or u k 0) from next old one two → (c : ℕ) → Contains two c → c < get_or u (k + 1) 0
 reached_below u k from next old one two p h is r pushed c has =
     let cell = get_or u k 0 in
@@ -198,12 +223,14 @@ reached_below u k from next old one two p h is r pushed c has =
       | follows x ↦ let b = x.below in omega arith
     ]
 
-complete_low : (u : List ℕ) (k from next : ℕ) (old one two : List ℕ) → IsPacked u → k < length u → Reached u k from old → Pushed (get_or u k 0) from next old one two
+complete_low : (u : List ℕ) (k from next : ℕ) (old one two : List ℕ) → IsPacked u → k < length u → Reached u k from old
+    → Pushed (get_or u k 0) from next old one two
     → (c j : ℕ) → IsCell c → j < k + 1 → Within (get_or u j 0) c → c < get_or u k 0 → Contains two c
 complete_low u k from next old one two p h r pushed c j cc hj w low =
     let cell = get_or u k 0 in
     let cu : IsCell cell = p.cells k 0 h in
-    let kept : Contains old c → Contains two c = λ o. from_one cell from next old one two c pushed ((pushed.front.members c).1 (inl o)) in
+    let kept : Contains old c → Contains two c = λ o.
+    from_one cell from next old one two c pushed ((pushed.front.members c).1 (inl o)) in
     ⊎_elim
     (λ (early : j < k).
     ⊎_elim
@@ -222,17 +249,22 @@ complete_low u k from next old one two p h r pushed c j cc hj w low =
     ⊎_elim
     (λ (some : 0 < k).
     let e = r.end some in
-    let apart : first_leaf (get_or u (k - 1) 0) + size_of (get_or u (k - 1) 0) ≤ first_leaf cell = p.chain (k - 1) k 0 (omega arith) h in
-    let x : Within (get_or u (k - 1) 0) c = holds_earlier (get_or u (k - 1) 0) cell c (p.cells (k - 1) 0 (omega arith)) cc cu apart v (omega arith) in
+    let apart : first_leaf (get_or u (k - 1) 0) + size_of (get_or u (k - 1) 0) ≤ first_leaf cell =
+    p.chain (k - 1) k 0 (omega arith) h in
+    let x : Within (get_or u (k - 1) 0) c =
+    holds_earlier (get_or u (k - 1) 0) cell c (p.cells (k - 1) 0 (omega arith)) cc cu apart v (omega arith) in
     kept (r.complete c (k - 1) cc (omega arith) x (λ _. low)))
     (λ (zero : k ≤ 0). let e = r.none (omega arith) in absurd (omega arith))
     (cases_lt 0 k))
     (λ (b : from ≤ first_leaf c).
-    from_one cell from next old one two c pushed ((pushed.front.members c).1 (inr (record { own = cc; around = inside_from_within cell c v; below = low; start = b }))))
+    from_one cell from next old one two c pushed
+    ((pushed.front.members c).1
+    (inr (record { own = cc; around = inside_from_within cell c v; below = low; start = b }))))
     (cases_lt (first_leaf c) from))
     (cases_lt j k)
 
-complete_high : (u : List ℕ) (k from next : ℕ) (old one two : List ℕ) → IsPacked u → k < length u → Reached u k from old → Pushed (get_or u k 0) from next old one two
+complete_high : (u : List ℕ) (k from next : ℕ) (old one two : List ℕ) → IsPacked u → k < length u → Reached u k from old
+    → Pushed (get_or u k 0) from next old one two
     → (c j : ℕ) → IsCell c → j < k + 1 → Within (get_or u j 0) c → get_or u k 0 < c → c < next → Contains two c
 complete_high u k from next old one two p h r pushed c j cc hj w high below =
     let cell = get_or u k 0 in
@@ -247,7 +279,8 @@ complete_high u k from next old one two p h r pushed c j cc hj w high below =
     holds_later cell c cu cc (omega arith) high)
     (λ (late : k ≤ j). let same : j ≡ k = omega arith in rw same at w)
     (cases_lt j k) in
-    (pushed.back.members c).1 (inr (record { own = cc; around = inside_from_within cell c v; above = high; below = below }))
+    (pushed.back.members c).1
+    (inr (record { own = cc; around = inside_from_within cell c v; above = high; below = below }))
 
 pub reached_more : (u : List ℕ) (k from next : ℕ) (old one two : List ℕ) → IsPacked u → k < length u
     → (k + 1 < length u → next ≡ get_or u (k + 1) 0) → (length u ≤ k + 1 → next ≡ 2 ^ 64 - 1)
@@ -274,17 +307,24 @@ reached_more u k from next old one two p h is_next is_last r pushed =
           complete_high u k from next old one two p h r pushed c j cc hj w high below))
           (cases_order c cell);
       none = λ e. absurd (omega arith);
-      end = λ _. let e : k ≡ (k + 1) - 1 = omega arith in ap (λ n. first_leaf (get_or u n 0) + size_of (get_or u n 0)) e;
+      end = λ _. let e : k ≡ (k + 1) - 1 = omega arith in
+          ap (λ n. first_leaf (get_or u n 0) + size_of (get_or u n 0)) e;
     }
 
-pub reached_done : (u : List ℕ) (k from : ℕ) (list : List ℕ) → IsPacked u → k ≡ length u → Reached u k from list → AreHolders u list
+pub reached_done : (u : List ℕ) (k from : ℕ) (list : List ℕ) → IsPacked u → k ≡ length u → Reached u k from list →
+    AreHolders u list
 reached_done u k from list p h r = record {
   ascending = r.ascending;
   members = λ c. (
     λ has.
         let s = r.sound c has in
         let e = s.early in
-        record { cell = s.cell; held = get_or u s.at 0; among = member_at u s.at (get_or u s.at 0) (omega arith) refl; inside = inside_from_within (get_or u s.at 0) c s.around },
+        record {
+          cell = s.cell;
+          held = get_or u s.at 0;
+          among = member_at u s.at (get_or u s.at 0) (omega arith) refl;
+          inside = inside_from_within (get_or u s.at 0) c s.around;
+        },
     λ holder.
         let at = place u holder.held holder.among in
         let b = at.below in
@@ -296,7 +336,8 @@ reached_done u k from list p h r = record {
 
 -- ---- the law
 
-pub indexed : (xs ys x_holders y_holders : List ℕ) → All IsCell xs → All IsCell ys → AreHolders xs x_holders → AreHolders ys y_holders
+pub indexed : (xs ys x_holders y_holders : List ℕ) → All IsCell xs → All IsCell ys → AreHolders xs x_holders →
+    AreHolders ys y_holders
     → ShareSome (has_leaf xs) (has_leaf ys) → ShareHolder xs ys x_holders y_holders
 indexed xs ys x_holders y_holders cx cy ax ay (x, there, here) =
     let a = leaf_from xs x there in
@@ -304,22 +345,30 @@ indexed xs ys x_holders y_holders cx cy ax ay (x, there, here) =
     let ca : IsCell a.cell = All-contains IsCell xs a.cell cx a.member in
     let cb : IsCell b.cell = All-contains IsCell ys b.cell cy b.member in
     ⊎_elim
-    (λ (i : IsInside b.cell a.cell). inl (a.cell, a.member, (ay.members a.cell).1 (record { cell = ca; held = b.cell; among = b.member; inside = i })))
-    (λ (i : IsInside a.cell b.cell). inr (b.cell, b.member, (ax.members b.cell).1 (record { cell = cb; held = a.cell; among = a.member; inside = i })))
+    (λ (i : IsInside b.cell a.cell). inl
+    (a.cell, a.member, (ay.members a.cell).1 (record { cell = ca; held = b.cell; among = b.member; inside = i })))
+    (λ (i : IsInside a.cell b.cell). inr
+    (b.cell, b.member, (ax.members b.cell).1 (record { cell = cb; held = a.cell; among = a.member; inside = i })))
     (nested_from_shared a.cell b.cell ca cb (x, covers_there a.cell x a.low a.high, covers_there b.cell x b.low b.high))
 
-shares : (xs ys : List ℕ) (c : ℕ) → All IsCell ys → Contains xs c → IsHolder ys c → ShareSome (has_leaf xs) (has_leaf ys)
+shares : (xs ys : List ℕ) (c : ℕ) → All IsCell ys → Contains xs c → IsHolder ys c →
+    ShareSome (has_leaf xs) (has_leaf ys)
 shares xs ys c cy member holder =
     let d = holder.held in
     let cd : IsCell d = All-contains IsCell ys d cy holder.among in
     let some = (cell_leaves d cd).some in
-    let leaf = covers_there d (first_leaf d) (omega arith) (omega arith) in
-    (first_leaf d, leaf_to xs c (first_leaf d) member (holder.inside (first_leaf d) leaf), leaf_to ys d (first_leaf d) holder.among leaf)
+    let leaf = covers_there d (first_leaf d) (omega arith) (omega arith) in (
+      first_leaf d,
+      leaf_to xs c (first_leaf d) member (holder.inside (first_leaf d) leaf),
+      leaf_to ys d (first_leaf d) holder.among leaf,
+    )
 
-pub found : (xs ys x_holders y_holders : List ℕ) → All IsCell xs → All IsCell ys → AreHolders xs x_holders → AreHolders ys y_holders
+pub found : (xs ys x_holders y_holders : List ℕ) → All IsCell xs → All IsCell ys → AreHolders xs x_holders →
+    AreHolders ys y_holders
     → ShareHolder xs ys x_holders y_holders → ShareSome (has_leaf xs) (has_leaf ys)
 found xs ys x_holders y_holders cx cy ax ay shared =
     ⊎_elim
     (λ (s : (c : ℕ) × Contains xs c × Contains y_holders c). shares xs ys s.0 cy s.1 ((ay.members s.0).0 s.2))
-    (λ (s : (c : ℕ) × Contains ys c × Contains x_holders c). let r = shares ys xs s.0 cx s.1 ((ax.members s.0).0 s.2) in (r.0, r.2, r.1))
+    (λ (s : (c : ℕ) × Contains ys c × Contains x_holders c).
+    let r = shares ys xs s.0 cx s.1 ((ax.members s.0).0 s.2) in (r.0, r.2, r.1))
     shared

@@ -6,7 +6,7 @@ use Rattle.s2cell.specs.Cell.{IsCell, covers, first_leaf, size_of}
 use Rattle.s2cell.proofs.CellLemmas.{cell_leaves}
 use Rattle.s2cell.proofs.Leaves.{covers_there, covers_from}
 use Rattle.s2union.specs.Union.{ShareSome}
-use Rattle.s2union.specs.Packed.{Behind, IsPacked}
+use Rattle.s2union.specs.Packed.{Behind, EndsBefore, IsPacked}
 use Rattle.s2union.proofs.Finding.{ends_later}
 use Rattle.s2search.specs.Search.{IsRunAt}
 
@@ -18,7 +18,8 @@ pub record Between (u : List ℕ) (lo hi start end : ℕ) : Type 0 where
   pub begun : (k : ℕ) → k < end → first_leaf (get_or u k 0) < hi
   pub rest : (k : ℕ) → end ≤ k → k < length u → hi ≤ first_leaf (get_or u k 0)
 
-pub in_order : (u : List ℕ) (lo hi start end : ℕ) → IsPacked u → start ≤ length u → lo < hi → Between u lo hi start end → start ≤ end
+pub in_order : (u : List ℕ) (lo hi start end : ℕ) → IsPacked u → start ≤ length u → lo < hi →
+    Between u lo hi start end → start ≤ end
 in_order u lo hi start end p w h b =
     ⊎_elim
     (λ (l : end < start).
@@ -37,10 +38,14 @@ run_at u c start end count p own w e b =
     let bw = b.within in
     record {
       within = omega arith;
-      members = λ k l. (λ h. shares u c start end k p own l b h.0 (let g = h.1 in omega arith), λ s. found u c start end count k p o e l b s);
+      members = λ k l. (
+        λ h. shares u c start end k p own l b h.0 (let g = h.1 in omega arith),
+        λ s. found u c start end count k p o e l b s,
+      );
     }
   where
-    shares : (u : List ℕ) (c start end k : ℕ) → IsPacked u → IsCell c → k < length u → Between u (first_leaf c) (first_leaf c + size_of c) start end
+    shares : (u : List ℕ) (c start end k : ℕ) → IsPacked u → IsCell c → k < length u
+        → Between u (first_leaf c) (first_leaf c + size_of c) start end
         → start ≤ k → k < end → ShareSome (covers c) (covers (get_or u k 0))
     shares u c start end k p own l b h g =
         let some = (cell_leaves c own).some in
@@ -51,7 +56,8 @@ run_at u c start end count p own w e b =
         let x = max (first_leaf c) (first_leaf (get_or u k 0)) in
         (x, covers_there c x (omega arith) (omega arith), covers_there (get_or u k 0) x (omega arith) (omega arith))
 
-    found : (u : List ℕ) (c start end count k : ℕ) → IsPacked u → start ≤ end → count ≡ end - start → k < length u → Between u (first_leaf c) (first_leaf c + size_of c) start end
+    found : (u : List ℕ) (c start end count k : ℕ) → IsPacked u → start ≤ end → count ≡ end - start → k < length u
+        → Between u (first_leaf c) (first_leaf c + size_of c) start end
         → ShareSome (covers c) (covers (get_or u k 0)) → (start ≤ k) × (k < start + count)
     found u c start end count k p o e l b (x, v, t) =
         let r = covers_from c x v in
@@ -60,15 +66,18 @@ run_at u c start end count p own w e b =
         let r1 = r.1 in
         let s0 = s.0 in
         let s1 = s.1 in (
-          ⊎_elim (λ (g : k < start). let a = b.behind k g in absurd (omega arith)) (λ (g : start ≤ k). g) (cases_lt k start),
-          ⊎_elim (λ (g : k < end). omega arith) (λ (g : end ≤ k). let a = b.rest k g l in absurd (omega arith)) (cases_lt k end),
+          ⊎_elim (λ (g : k < start). let a = b.behind k g in absurd (omega arith)) (λ (g : start ≤ k). g)
+              (cases_lt k start),
+          ⊎_elim (λ (g : k < end). omega arith) (λ (g : end ≤ k). let a = b.rest k g l in absurd (omega arith))
+              (cases_lt k end),
         )
 
 -- where the cells that begin before `hi` end, from how many end by it
 pub between_from : (u : List ℕ) (lo hi start ended end : ℕ) → IsPacked u → ended ≤ length u → Behind u start lo
     → (start < length u → lo < first_leaf (get_or u start 0) + size_of (get_or u start 0))
     → Behind u ended hi → (ended < length u → hi < first_leaf (get_or u ended 0) + size_of (get_or u ended 0))
-    → ((ended < length u) × (first_leaf (get_or u ended 0) < hi) × (end ≡ ended + 1)) ⊎ (((ended < length u) → hi ≤ first_leaf (get_or u ended 0)) × (end ≡ ended))
+    → ((ended < length u) × (first_leaf (get_or u ended 0) < hi) × (end ≡ ended + 1))
+    ⊎ (((ended < length u) → hi ≤ first_leaf (get_or u ended 0)) × (end ≡ ended))
     → Between u lo hi start end
 between_from u lo hi start ended end p w behind next ends later (inl (l, f, e)) =
     record {
@@ -77,20 +86,28 @@ between_from u lo hi start ended end p w behind next ends later (inl (l, f, e)) 
       next = next;
       begun = λ k h.
           ⊎_elim
-          (λ (g : k < ended). let s = (cell_leaves (get_or u k 0) (p.cells k 0 (omega arith))).some in let a = ends k g in omega arith)
+          (λ (g : k < ended). let s = (cell_leaves (get_or u k 0) (p.cells k 0 (omega arith))).some in
+          let a = ends k g in omega arith)
           (λ (g : ended ≤ k). let i : k ≡ ended = omega arith in rw i f)
           (cases_lt k ended);
-      rest = λ k h g. let c : first_leaf (get_or u ended 0) + size_of (get_or u ended 0) ≤ first_leaf (get_or u k 0) = p.chain ended k 0 (omega arith) g in let n = later l in omega arith;
+      rest = λ k h g.
+          let c : EndsBefore (get_or u ended 0) (get_or u k 0) = p.chain ended k 0 (omega arith) g in
+          let n = later l in
+          omega arith;
     }
 between_from u lo hi start ended end p w behind next ends later (inr (f, e)) =
     record {
       within = omega arith;
       behind = behind;
       next = next;
-      begun = λ k h. let s = (cell_leaves (get_or u k 0) (p.cells k 0 (omega arith))).some in let a = ends k (omega arith) in omega arith;
+      begun = λ k h. let s = (cell_leaves (get_or u k 0) (p.cells k 0 (omega arith))).some in let a =
+          ends k (omega arith) in omega arith;
       rest = λ k h g.
           ⊎_elim
-          (λ (i : ended < k). let c : first_leaf (get_or u ended 0) + size_of (get_or u ended 0) ≤ first_leaf (get_or u k 0) = p.chain ended k 0 i g in let n = later (omega arith) in omega arith)
+          (λ (i : ended < k).
+          let c : EndsBefore (get_or u ended 0) (get_or u k 0) = p.chain ended k 0 i g in
+          let n = later (omega arith) in
+          omega arith)
           (λ (i : k ≤ ended). let j : k ≡ ended = omega arith in rw j (f (omega arith)))
           (cases_lt ended k);
     }

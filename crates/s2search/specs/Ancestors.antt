@@ -10,28 +10,29 @@ pub record IsHolder (u : List ℕ) (c : ℕ) : Type 0 where
   pub among : Contains u held
   pub inside : IsInside held c
 
--- the cells of `u` and all their ancestors, ascending, each once
+-- `list` is the cells of `u` and all their ancestors, ascending, each once
 pub record AreHolders (u list : List ℕ) : Type 0 where
   pub ascending : IsStrictlyIncreasing list
   pub members : (c : ℕ) → Contains list c ↔ IsHolder u c
 
--- a cell of one of the lists is one of the other's holders
+-- a cell of one of the two lists is a holder of the other
 abbrev pub ShareHolder : (xs ys x_holders y_holders : List ℕ) → Type 0
-ShareHolder xs ys x_holders y_holders = ((c : ℕ) × Contains xs c × Contains y_holders c) ⊎ ((c : ℕ) × Contains ys c × Contains x_holders c)
+ShareHolder xs ys x_holders y_holders = ((c : ℕ) × Contains xs c × Contains y_holders c)
+    ⊎ ((c : ℕ) × Contains ys c × Contains x_holders c)
 
--- `new` ascends, and is `old` with the numbers that have the property
+-- `new` ascends, and has exactly the numbers of `old` and those with the property `P`
 pub record Gains (P : ℕ → Type 0) (old new : List ℕ) : Type 0 where
   pub ascending : IsStrictlyIncreasing new
   pub members : (c : ℕ) → Contains new c ↔ (Contains old c ⊎ P c)
 
--- `c` is an ancestor of `cell` that has the smaller identifier, and no leaf before `from`
+-- `c` is an ancestor of `cell` with a smaller identifier, and has no leaf before `from`
 pub record IsBefore (cell from c : ℕ) : Type 0 where
   pub own : IsCell c
   pub around : IsInside cell c
   pub below : c < cell
   pub start : from ≤ first_leaf c
 
--- `c` is an ancestor of `cell` that has the greater identifier, below `next`
+-- `c` is an ancestor of `cell` with a greater identifier, and that is below `next`
 pub record IsAfter (cell next c : ℕ) : Type 0 where
   pub own : IsCell c
   pub around : IsInside cell c

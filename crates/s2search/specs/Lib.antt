@@ -1,3 +1,4 @@
 pub mod Numbers
 pub mod Search
 pub mod Ancestors
+pub mod Normalising

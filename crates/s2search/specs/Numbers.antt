@@ -3,10 +3,10 @@ use Rattle.std.specs.Prelude.{ℕ, ◌*◌, ◌/◌, List, map, length, drop}
 use Rattle.std.specs.List.{range_with_len}
 use Rattle.s2file.specs.File.{first_number}
 
--- the number with the place `i` among those that stand in the bytes, eight bytes each
+-- the number at the place `i` in the bytes, eight bytes each
 abbrev pub number_in : List ℕ → ℕ → ℕ
 number_in bytes i = first_number (drop (8 * i) bytes)
 
--- all of them, in order
+-- all numbers in the bytes, in order
 unfoldable pub numbers : List ℕ → List ℕ
 numbers bytes = map (number_in bytes) (range_with_len 0 (length bytes / 8))

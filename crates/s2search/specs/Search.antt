@@ -1,20 +1,21 @@
--- Where a leaf stands among cells that follow each other, and which of them lie at a cell.
+-- The place of a leaf among cells in order, and the cells that share a leaf with a cell.
 use Rattle.std.specs.Prelude.{ℕ, ◌+◌, ◌<◌, ◌≤◌, ◌↔◌, List, length, slice_index}
 use Rattle.s2cell.specs.Cell.{IsCell, first_leaf, size_of, covers}
 use Rattle.s2union.specs.Union.{ShareSome}
 use Rattle.s2union.specs.Packed.{Behind}
 
--- the first cell that ends after the leaf `lo` has one of the places from `start` to `end`, or there is none and they end there
+-- the first cell that ends after the leaf `lo`, if there is one, is at a place from `start` to `end`
 pub record IsFrom (u : List ℕ) (lo start end : ℕ) : Type 0 where
   pub behind : Behind u start lo
   pub next : end < length u → lo < first_leaf (slice_index u end) + size_of (slice_index u end)
 
--- the cells of `u` that share a leaf with `cell` are those with the `count` places from `first` on
+-- the cells of `u` that share a leaf with `cell` are the `count` cells from the place `first` on
 pub record IsRunAt (u : List ℕ) (cell first count : ℕ) : Type 0 where
   pub within : first + count ≤ length u
-  pub members : (k : ℕ) → k < length u → ((first ≤ k) × (k < first + count)) ↔ ShareSome (covers cell) (covers (slice_index u k))
+  pub members : (k : ℕ) → k < length u → ((first ≤ k) × (k < first + count)) ↔ ShareSome (covers cell)
+      (covers (slice_index u k))
 
--- the first number of `u` that is no cell's has the place `k`
+-- the first number of `u` that is not the identifier of a cell is the one at the place `k`
 pub record IsFirstWrong (u : List ℕ) (k : ℕ) : Type 0 where
   pub within : k < length u
   pub wrong : IsCell (slice_index u k) → ⊥

@@ -1,9 +1,11 @@
 //! Numbers by their places, in a list or in bytes.
 ghost use Rattle.std.specs.Prelude.{◌≡◌, ◌/◌, ◌<◌, ◌≤◌, ℕ, List, length, slice_index};
+ghost use Rattle.s2cell.specs.Cell.{IsCell};
 ghost use Rattle.s2file.specs.File.{first_number};
 ghost use Rattle.s2search.specs.Numbers.{number_in};
 
 use byteorder::{ByteOrder, LittleEndian};
+use s2cell::CellId;
 
 /// The size of a number in a file, in bytes.
 const NUMBER_SIZE: usize = 8;
@@ -16,7 +18,7 @@ pub trait Cells {
     fn len(&self) -> usize
         ensures { result ≡ length (ids self.now) };
 
-    /// The number with the place `k`, counted from 0.
+    /// The number at the place `k`, counted from 0.
     fn id(&self, k: usize) -> u64
         requires { k < length (ids self.now) }
         ensures { result ≡ slice_index (ids self.now) k };
@@ -41,10 +43,10 @@ impl<'a> Cells for IdList<'a> {
     }
 }
 
-/// The numbers of a union file after its head: eight bytes each, the lowest first.
+/// The numbers of a union file after its head: eight bytes each, the lowest byte first.
 #[derive(Clone, Copy)]
 pub struct FileIds<'a> {
-    /// The bytes after the head. Fewer than eight at the end are no number.
+    /// The bytes after the head. Fewer than eight bytes at the end are not a number.
     pub bytes: &'a [u8],
 }
 
@@ -62,7 +64,7 @@ impl<'a> Cells for FileIds<'a> {
     }
 }
 
-/// The number with the place `k` among those of eight bytes each.
+/// The number at the place `k`, eight bytes each.
 fn number_at(bytes: &[u8], k: usize) -> u64
     requires { k < length bytes.now / 8 }
     ensures { result ≡ number_in bytes.now k }
@@ -77,4 +79,15 @@ pub fn number(bytes: &[u8]) -> u64
     ensures { result ≡ first_number bytes.now }
 {
     LittleEndian::read_u64(bytes)
+}
+
+/// The cell with this identifier.
+pub fn cell_of(id: u64) -> CellId
+    requires { IsCell id }
+    ensures { result ≡ id }
+{
+    let Some(cell) = CellId::from_id(id) else {
+        unreachable!();
+    };
+    cell
 }

@@ -1,8 +1,10 @@
 //! The cells of a union and all their ancestors: the keys by which an index finds the unions that share a leaf.
 //!
-//! Identifiers in order are cells in order of their middles. So an ancestor stands before the first cell in it if that
-//! lies in its second half, and else after the last one in its first half.
-ghost use Rattle.std.specs.Prelude.{◌≡◌, ◌+◌, ◌-◌, ◌^◌, ◌<◌, ◌≤◌, ◌↔◌, ℕ, Contains, List, [], ◌∷◌, ◌++◌, All, IfOk, OnOk, length, slice_index};
+//! Identifiers in order are cells in order of their middles. So an ancestor comes before the first cell in it if that
+//! cell lies in its second half; otherwise it comes after the last cell in its first half.
+ghost use Rattle.std.specs.Prelude.{◌≡◌, ◌+◌, ◌-◌, ◌^◌, ◌<◌, ◌≤◌, ◌↔◌, ℕ, Contains, List, []};
+ghost use Rattle.std.specs.Prelude.{◌∷◌, ◌++◌, All, IfOk};
+ghost use Rattle.std.specs.Prelude.{OnOk, length, slice_index};
 ghost use Rattle.std.specs.List.Sorted.{IsStrictlyIncreasing};
 ghost use Rattle.s2cell.specs.Cell.{IsCell, IsInside, first_leaf, level_of, parent_of};
 ghost use Rattle.s2union.specs.Union.{IsLocal, ShareSome, has_leaf};
@@ -12,17 +14,17 @@ use crate::cells::Cells;
 use s2cell::CellId;
 use std::alloc::{AllocError, Global};
 
-/// Two lists of cells share a leaf exactly if a cell of one is a cell or an ancestor of a cell of the other. So an index
-/// that keeps, for each union, its cells and what `ancestors` gives, finds those that share a leaf with a union by
-/// looking its cells up among the latter, and what `ancestors` gives of it among the former.
+/// Two lists of cells share a leaf exactly if a cell of one is a cell of the other, or an ancestor of a cell of the
+/// other. So an index can keep, for each union, its cells and its `ancestors`. It finds the unions that share a leaf
+/// with a given one by looking up the cells of that one among the `ancestors`, and its `ancestors` among the cells.
 pub fn law_of_indexes()
     ensures { (xs ys x_holders y_holders : List ℕ) → All IsCell xs → All IsCell ys
         → AreHolders xs x_holders → AreHolders ys y_holders
         → (ShareSome (has_leaf xs) (has_leaf ys) ↔ ShareHolder xs ys x_holders y_holders) }
 {}
 
-/// The cells of a union and all their ancestors, ascending, each once. It takes steps for each of these, at most 31 for
-/// a cell of the union. Fails only if there is no memory.
+/// The cells of a union and all their ancestors, ascending, each once. The work is in proportion to their number, at
+/// most 31 for each cell of the union. Fails only if it is out of memory.
 pub fn ancestors<C: Cells>(alloc: Global, cells: &C) -> Result<Vec<CellId>, AllocError>
     requires { IsLocal (C.ids cells.now) }
     ensures { IfOk result (λ list. AreHolders (C.ids cells.now) list.items) }
@@ -41,7 +43,7 @@ pub fn ancestors<C: Cells>(alloc: Global, cells: &C) -> Result<Vec<CellId>, Allo
     Ok(list)
 }
 
-/// The number after the one with the place `k`, or the greatest of all if that is the last.
+/// The number after the one at the place `k`, or the greatest number if that is the last.
 fn id_after<C: Cells>(cells: &C, k: usize) -> u64
     requires within { k < length (C.ids cells.now) }
     ensures next { k + 1 < length (C.ids cells.now) → result ≡ slice_index (C.ids cells.now) (k + 1) }
@@ -54,7 +56,7 @@ fn id_after<C: Cells>(cells: &C, k: usize) -> u64
     }
 }
 
-/// Adds the ancestors of a cell that come before it, and have no leaf before `from`.
+/// Adds the ancestors of a cell that come before it and have no leaf before `from`.
 fn push_before(list: &mut Vec<CellId>, cell: CellId, from: u64) -> Result<(), AllocError>
     requires from { from ≤ first_leaf cell }
     requires ascending { IsStrictlyIncreasing list.old.items }
@@ -86,8 +88,8 @@ fn outermost(cell: CellId, from: u64) -> u8
     level
 }
 
-/// Adds the ancestors of a cell that come after it and before the cell `next`, from the smallest to the one that holds
-/// both.
+/// Adds the ancestors of a cell that come after it and before the cell `next`, from the smallest to the one that
+/// contains both.
 fn push_after(list: &mut Vec<CellId>, cell: CellId, next: u64) -> Result<(), AllocError>
     requires ascending { IsStrictlyIncreasing list.old.items }
     requires most { (c : ℕ) → Contains list.old.items c → c ≤ cell }

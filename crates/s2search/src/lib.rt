@@ -1,19 +1,26 @@
-//! Questions of cells where they lie: in a list of numbers, or in the bytes of a union file at any address.
+//! Questions about cells where they lie: in a list of numbers, or in the bytes of a union file at any address.
 //!
 //! No question copies anything or takes memory, and none has a precondition: whatever the numbers are, the call is safe
-//! and returns. What it answers is exact if the numbers are the cells of a normalised union; of other numbers the answer
-//! means nothing. `ancestors` makes a list, the keys of an index, and takes the cells of a union.
+//! and returns. The answer is exact if the numbers are the cells of a normalized union; for other numbers it means
+//! nothing. `ancestors` requires the cells of a union, and makes a list: the keys of an index. `union_of` tests and
+//! copies numbers in one pass. `normalise` makes a list of cells a union in place.
 #![tactic(auto)]
 
 mod ask;
 mod cells;
+mod copying;
 mod find;
 mod keys;
+mod normalising;
 mod run;
 mod whole;
 
-pub use ask::{contains, contains_cell, intersects, intersects_cell};
-pub use cells::{Cells, FileIds, IdList, number};
+pub use ask::{
+    contains, contains_cell, contains_cell_near, intersects, intersects_cell, intersects_cell_near,
+};
+pub use cells::{Cells, FileIds, IdList, cell_of, number};
+pub use copying::union_of;
 pub use keys::{ancestors, law_of_indexes};
+pub use normalising::normalise;
 pub use run::cells_at;
 pub use whole::{first_wrong, is_union, leaf_count};

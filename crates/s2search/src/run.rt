@@ -1,4 +1,4 @@
-//! The cells of a union at a cell.
+//! The cells of a union that share a leaf with a cell.
 ghost use Rattle.s2union.specs.Union.{IsLocal};
 ghost use Rattle.s2search.specs.Search.{IsRunAt};
 
@@ -7,8 +7,8 @@ use crate::cells::Cells;
 use crate::find::find;
 use s2cell::CellId;
 
-/// The cells of a union that share a leaf with the cell: the place of the first, and how many there are. They are one
-/// run of it. Logarithmic.
+/// The cells of a union that share a leaf with the cell: the place of the first, and how many there are. They follow
+/// each other in the union. Logarithmic.
 pub fn cells_at<C: Cells>(cells: &C, cell: CellId) -> (usize, usize)
     ensures { IsLocal (C.ids cells.now) → IsRunAt (C.ids cells.now) cell result.0 result.1 }
 {

@@ -4,7 +4,7 @@ use Rattle.std.specs.String.{string_bytes}
 use Rattle.s2shelf.specs.declared.dir_shelf.DirShelf.{DirShelf}
 use Rattle.s2shelf.specs.Shelf.{Files}
 
--- a folder doesn't tell its files: they are what the system gives
+-- what is known of a folder: it doesn't expose its files, which are what the system gives
 abbrev pub folder_files : {R F D : Type 0} → DirShelf R F D → Files
 folder_files shelf = record { tells = false; at = λ _. None; found = None; failures = shelf.failures }
 

@@ -8,10 +8,10 @@ use Rattle.s2shelf.specs.Shelf.{Files}
 abbrev pub content_of : MemoryShelf → List ℕ → Option (List ℕ)
 content_of shelf name = option_map (λ bytes. bytes.items) (get_by_text shelf.named name)
 
--- the shelf tells every file, from which follows what was found
+-- what is known of the shelf: it tells every file, so what was found needs no record
 abbrev pub files_of : MemoryShelf → Files
 files_of shelf = record { tells = true; at = content_of shelf; found = None; failures = shelf.failures }
 
--- which call from now fails, 1 being the next; 0 where none does
+-- which call from now on fails: 1 is the next one, 0 means none
 abbrev pub failing_of : MemoryShelf → ℕ
 failing_of shelf = shelf.failing

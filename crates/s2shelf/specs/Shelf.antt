@@ -1,5 +1,6 @@
 -- What is known of named files, and what a call on them may do.
-use Rattle.std.specs.Prelude.{◌≡◌, ◌≢◌, ℕ, ◌+◌, ◌%◌, ◌^◌, Bool, true, List, ◌∷◌, take, Option, Some, option_map}
+use Rattle.std.specs.Prelude.{◌≡◌, ◌≢◌, ℕ, ◌+◌, ◌%◌, ◌^◌, Bool, true, List, ◌∷◌, take, Option, Some}
+use Rattle.std.specs.Prelude.{option_map}
 use Rattle.s2shelf.specs.declared.shelf.ShelfFault.{ShelfFault}
 use Rattle.s2shelf.specs.declared.shelf.ShelfFault.TheVariants.{Device, Memory}
 
@@ -8,15 +9,15 @@ pub record Found : Type 0 where
   pub name : List ℕ
   pub content : Option (List ℕ)
 
--- what is known of a shelf: whether its contents are known, and the file of each name; all that was found by asking,
--- the newest first, or None if that isn't known; and how many calls answered `Device`
+-- what is known of a shelf: whether its contents are known, and the file of each name; what was found each time it was
+-- asked for a file, newest first, or None if that isn't known; and how many calls answered `Device`
 pub record Files : Type 0 where
   pub tells : Bool
   pub at : List ℕ → Option (List ℕ)
   pub found : Option (List Found)
   pub failures : ℕ
 
--- one more failure; behind the greatest u64 the count begins at 0 again
+-- one more failure; after the greatest u64 the count starts again at 0
 abbrev pub one_more : ℕ → ℕ
 one_more n = (n + 1) % 2 ^ 64
 
@@ -29,20 +30,20 @@ pub record KeepsFiles (old new : Files) : Type 0 where
 abbrev pub SameFiles : Files → Files → Type 0
 SameFiles old new = KeepsFiles old new × (new.failures ≡ old.failures)
 
--- a call failed; every file but that one stays as it was
+-- a call failed on the file `name`: its content is not known, and every other file stays as it was
 pub record LosesFile (old new : Files) (name : List ℕ) : Type 0 where
   pub tells : new.tells ≡ old.tells
   pub others : old.tells ≡ true → (other : List ℕ) → other ≢ name → new.at other ≡ old.at other
   pub failed : new.failures ≡ one_more old.failures
 
--- that file holds the bytes, and all else stays as it was
+-- the file `name` holds the bytes, and everything else stays as it was
 pub record PutsFile (old new : Files) (name bytes : List ℕ) : Type 0 where
   pub tells : new.tells ≡ old.tells
   pub there : old.tells ≡ true → new.at name ≡ Some bytes
   pub others : old.tells ≡ true → (other : List ℕ) → other ≢ name → new.at other ≡ old.at other
   pub failures : new.failures ≡ old.failures
 
--- what was found is what a shelf that tells holds under that name
+-- if the shelf exposes its contents, `content` is what it holds under that name
 abbrev pub Holds : Files → List ℕ → Option (List ℕ) → Type 0
 Holds files name content = files.tells ≡ true → content ≡ files.at name
 
@@ -52,18 +53,20 @@ pub record Finds (old : Files) (name : List ℕ) (content : Option (List ℕ)) (
   pub holds : Holds old name content
   pub asked : new.found ≡ option_map (λ before. record { name = name; content = content } ∷ before) old.found
 
--- the same, where the first `most` bytes of what was found were handed over
-pub record FindsBeginning (old : Files) (name : List ℕ) (most : ℕ) (beginning : Option (List ℕ)) (new : Files) : Type 0 where
+-- the same, but only the first `most` bytes of what was found are handed over
+pub record FindsBeginning (old : Files) (name : List ℕ) (most : ℕ) (beginning : Option (List ℕ)) (new : Files) :
+    Type 0 where
   pub content : Option (List ℕ)
   pub finds : Finds old name content new
   pub is : beginning ≡ option_map (take most) content
 
--- a file was not read: no content changes, and the count rises for `Device` alone
+-- a file was not read: no content changes, and the count rises only if the fault is `Device`
 abbrev pub FailsToGet : Files → Files → ShelfFault → Type 0
 FailsToGet old new Device = KeepsFiles old new × (new.failures ≡ one_more old.failures)
 FailsToGet old new Memory = SameFiles old new
 
--- a file was not written: after `Device` that one file is open, and the count rises for `Device` alone
+-- a file was not written: if the fault is `Device`, the count rises and the content of that one file is not known; else
+-- nothing changes
 abbrev pub FailsToPut : Files → List ℕ → Files → ShelfFault → Type 0
 FailsToPut old name new Device = LosesFile old new name
 FailsToPut old name new Memory = SameFiles old new

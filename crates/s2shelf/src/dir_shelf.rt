@@ -11,13 +11,12 @@ use std::io::{ErrorKind, Read};
 use std::rt::Files;
 use std::{fs, io};
 
-/// A folder of files. It doesn't tell its contents: they are what the system gives.
+/// A folder of files. It doesn't expose its contents, which are what the system gives.
 ///
-/// The file NAME is `PATH/NAME`, word for word, and nothing else is touched. A file that the system
-/// doesn't find is absent, also when the folder is; every other fault is `Device`, as a file that may not
-/// be read, a full disk, or a `put` into an absent folder. So is a name of anything but a regular file,
-/// as a folder, a FIFO or a device, which is not opened; a symbolic link stands for what it leads to, also
-/// outside the folder.
+/// The file NAME is at `PATH/NAME`, literally, and nothing else is touched. A file that the system doesn't find is
+/// absent, also if the folder is. Every other fault is `Device`: a file that may not be read, a full disk, or a `put`
+/// into an absent folder. A name of anything but a regular file, such as a folder, a FIFO or a device, is `Device` too,
+/// and is not opened. A symbolic link stands for what it leads to, also outside the folder.
 #[derive(Drop)]
 pub struct DirShelf<R: Files + AllocGlobal> {
     rt: R,
@@ -26,8 +25,8 @@ pub struct DirShelf<R: Files + AllocGlobal> {
 }
 
 impl<R: Files + AllocGlobal> DirShelf<R> {
-    /// The folder at a path, by a runtime that the shelf keeps (`&rt` where the caller needs it
-    /// too). The folder isn't looked at before the first call.
+    /// The folder at a path, accessed through a runtime that the shelf keeps (`&rt` if the caller needs it too). The
+    /// folder isn't looked at before the first call.
     pub fn at(rt: R, path: &str) -> Result<DirShelf<R>, AllocError>
     where
         R: Drop,
@@ -42,7 +41,7 @@ impl<R: Files + AllocGlobal> DirShelf<R> {
         })
     }
 
-    /// Where the file of that name stands.
+    /// The path of the file with that name.
     fn path_of(&self, name: &str) -> Result<String, AllocError>
         ensures { IfOk result (λ path. string_bytes path ≡ path_to (folder_path self.now) name.now) }
     {
@@ -60,13 +59,14 @@ fn failed(failures: &mut u64) -> ShelfFault
     ShelfFault::Device
 }
 
-/// What the system's answer to a read means.
+/// What the answer of the system to a read means.
 fn read_answer(
     answer: io::Result<Vec<u8>>,
     failures: &mut u64,
 ) -> Result<Option<Vec<u8>>, ShelfFault>
     ensures { MatchResult result (λ _. failures.new ≡ failures.old) (λ fault.
-        ((fault ≡ ShelfFault.Device) × (failures.new ≡ one_more failures.old)) ⊎ ((fault ≡ ShelfFault.Memory) × (failures.new ≡ failures.old))) }
+        ((fault ≡ ShelfFault.Device) × (failures.new ≡ one_more failures.old))
+        ⊎ ((fault ≡ ShelfFault.Memory) × (failures.new ≡ failures.old))) }
 {
     match answer {
         Ok(bytes) => Ok(Some(bytes)),
@@ -78,7 +78,7 @@ fn read_answer(
     }
 }
 
-/// Refuses what is no regular file, before it is opened: a FIFO would be waited for, and a device has no end.
+/// Refuses anything but a regular file, before it is opened: a FIFO would block, and a device has no end.
 fn check_regular<R: Files>(rt: &R, path: &str) -> io::Result<()> {
     if fs::metadata(rt, path)?.is_file() {
         Ok(())
@@ -102,7 +102,7 @@ fn read_beginning<R: Files + AllocGlobal>(rt: &R, path: &str, most: usize) -> io
     Ok(bytes)
 }
 
-/// Writes a regular file anew, or a new one.
+/// Overwrites a regular file, or creates one.
 fn write_whole<R: Files>(rt: &R, path: &str, bytes: &[u8]) -> io::Result<()> {
     match check_regular(rt, path) {
         Err(error) if error.kind() != ErrorKind::NotFound => Err(error),

@@ -1,7 +1,7 @@
 //! Named files that may fail, and the places that hold them.
 //!
-//! A `Shelf` is a place for files that may fail at any call, and counts its failures. `MemoryShelf`
-//! is one in memory, `DirShelf` a folder. What a file means is no matter of a shelf: it holds bytes.
+//! A `Shelf` is a place for files that may fail at any call, and counts its failures. `MemoryShelf` is a shelf in
+//! memory, `DirShelf` is a folder. A shelf holds bytes, and knows nothing of what they mean.
 #![tactic(auto)]
 
 pub mod dir_shelf;

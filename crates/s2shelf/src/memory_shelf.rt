@@ -1,5 +1,6 @@
 //! A shelf in memory.
-ghost use Rattle.std.specs.Prelude.{◌≡◌, ◌≤◌, ◌-◌, ◌≢◌, ◌↔◌, ℕ, List, None, IsErrOf, OnErr, MatchResult, is_ok, option_map, if◌then◌else◌};
+ghost use Rattle.std.specs.Prelude.{◌≡◌, ◌≤◌, ◌-◌, ◌≢◌, ◌↔◌, ℕ, List, None, IsErrOf, OnErr, MatchResult};
+ghost use Rattle.std.specs.Prelude.{is_ok, option_map, if◌then◌else◌};
 ghost use Rattle.s2shelf.specs.Shelf.{one_more, KeepsFiles, SameFiles, Finds, PutsFile, FailsToGet, FailsToPut};
 ghost use Rattle.s2shelf.specs.MemoryShelf.{files_of, failing_of};
 
@@ -7,18 +8,18 @@ use crate::shelf::{Shelf, ShelfFault};
 use std::alloc::Global;
 use std::collections::BTreeMap;
 
-/// A shelf in memory, which tells its contents, and which may be told to fail.
+/// A shelf in memory, which exposes its contents and can be made to fail.
 #[derive(Drop)]
 pub struct MemoryShelf {
     alloc: Global,
     named: BTreeMap<String, Vec<u8>>,
-    /// Which call from now fails, 1 being the next; 0 where none does.
+    /// Which call from now on fails: 1 is the next one, 0 means none.
     failing: u64,
     failures: u64,
 }
 
 impl MemoryShelf {
-    /// An empty shelf. Takes no memory; its files will come from `alloc`.
+    /// An empty shelf. Takes no memory; its files will be allocated from `alloc`.
     pub fn new(alloc: Global) -> MemoryShelf
         ensures empty { (name : List ℕ) → (files_of result).at name ≡ None }
         ensures failures { (files_of result).failures ≡ 0 }
@@ -32,8 +33,8 @@ impl MemoryShelf {
         }
     }
 
-    /// Makes the call number `n` from now on answer `Device`, once, in place of an earlier such
-    /// order. Takes no memory, and is itself no call.
+    /// Makes the call number `n` from now on answer `Device`, once; this replaces an earlier order. Takes no memory,
+    /// and does not count as a call.
     pub fn fail_at(&mut self, n: u64)
         requires { 1 ≤ n }
         ensures failing { failing_of self.new ≡ n }
@@ -43,9 +44,10 @@ impl MemoryShelf {
     }
 }
 
-/// Counts a call, which fails where its turn has come.
+/// Counts a call, and fails it if its turn has come.
 fn take_turn(failing: &mut u64, failures: &mut u64) -> Result<(), ShelfFault>
-    ensures turn { MatchResult result (λ _. failing.old ≢ 1) (λ fault. (fault ≡ ShelfFault.Device) × (failing.old ≡ 1)) }
+    ensures turn { MatchResult result (λ _. failing.old ≢ 1) (λ fault. (fault ≡ ShelfFault.Device)
+        × (failing.old ≡ 1)) }
     ensures failing { failing.new ≡ failing.old - 1 }
     ensures failures { failures.new ≡ (if is_ok result then failures.old else one_more failures.old) }
 {
@@ -61,7 +63,7 @@ fn take_turn(failing: &mut u64, failures: &mut u64) -> Result<(), ShelfFault>
 impl Shelf for MemoryShelf {
     ghost files = { files_of };
 
-    /// A copy of the file. `Device` comes exactly where this is the call that was told to fail.
+    /// A copy of the file. Answers `Device` exactly if this is the call that was made to fail.
     fn get(&mut self, name: &str) -> Result<Option<Vec<u8>>, ShelfFault>
         ensures answer { MatchResult result
             (λ content. Finds (files_of self.old) name.now (option_map (λ v. v.items) content) (files_of self.new))
@@ -76,8 +78,8 @@ impl Shelf for MemoryShelf {
         }
     }
 
-    /// Copies name and bytes first, so that a fault changes no file. `Device` comes exactly where
-    /// this is the call that was told to fail.
+    /// Copies name and bytes first, so that a fault changes no file. Answers `Device` exactly if this is the call that
+    /// was made to fail.
     fn put(&mut self, name: &str, bytes: &[u8]) -> Result<(), ShelfFault>
         ensures answer { MatchResult result
             (λ _. PutsFile (files_of self.old) (files_of self.new) name.now bytes.now)

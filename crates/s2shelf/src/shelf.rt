@@ -12,7 +12,7 @@ pub enum ShelfFault {
     /// The place that holds the files failed. The shelf counts these.
     #[error("the device failed")]
     Device,
-    /// A growth was refused; nothing has changed.
+    /// An allocation failed; nothing has changed.
     #[error("out of memory")]
     Memory,
 }
@@ -40,10 +40,10 @@ pub(crate) fn beginning_of(content: Option<Vec<u8>>, most: usize) -> Option<Vec<
 
 /// Files by their names.
 ///
-/// A contract sees a shelf as `Files`: whether it tells its contents, those contents, what was found by
-/// asking, and how many calls answered `Device` (a u64, which begins at 0 again after its greatest value).
-/// A shelf of which nothing is known doesn't tell, and what was found is None. Code for any shelf can't
-/// know that: it can show that a content was found by the clause of `get` alone, so by a call of it.
+/// A contract sees a shelf as `Files`: whether it exposes its contents, those contents, what was found by asking, and
+/// how many calls answered `Device` (a u64, which starts again at 0 after its greatest value). A shelf about which
+/// nothing is known doesn't expose its contents, and what was found is None. Code for any shelf can't know that: only
+/// the clauses of `get` and `get_beginning` show that a content was found, so the code has to call one of the two.
 pub trait Shelf {
     ghost files: { Self → Files };
 
@@ -54,18 +54,19 @@ pub trait Shelf {
             (λ content. Finds (files self.old) name.now (option_map (λ v. v.items) content) (files self.new))
             (λ fault. FailsToGet (files self.old) (files self.new) fault) };
 
-    /// The first `most` bytes of the file of that name, all of it if it has no more, or None if there is
-    /// none. All else is as for `get`.
+    /// The first `most` bytes of the file of that name, the whole file if it has no more, or None if there is none.
+    /// Otherwise like `get`.
     fn get_beginning(&mut self, name: &str, most: usize) -> Result<Option<Vec<u8>>, ShelfFault>
         ensures { MatchResult result
-            (λ beginning. FindsBeginning (files self.old) name.now most (option_map (λ v. v.items) beginning) (files self.new))
+            (λ beginning. FindsBeginning (files self.old) name.now most (option_map (λ v. v.items) beginning)
+            (files self.new))
             (λ fault. FailsToGet (files self.old) (files self.new) fault) }
     {
         Ok(beginning_of(self.get(name)?, most))
     }
 
-    /// Writes the file of that name anew, so that it holds these bytes alone; no other file changes.
-    /// After `Device` the content of that one file is open, and the count has risen by one.
+    /// Overwrites the file of that name, so that it holds exactly these bytes; no other file changes. After `Device`
+    /// the content of that one file is not known, and the count has risen by one.
     fn put(&mut self, name: &str, bytes: &[u8]) -> Result<(), ShelfFault>
         ensures { MatchResult result
             (λ _. PutsFile (files self.old) (files self.new) name.now bytes.now)

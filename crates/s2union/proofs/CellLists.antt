@@ -1,5 +1,6 @@
 -- Ascending lists of cells as sets of cells.
-use Rattle.std.proofs.Common.{◌≡◌, ℕ, ◌<◌, ◌+◌, true, false, not, ◌||◌, ◌&&◌, eqb, ltb, List, [], ◌∷◌, get_or, zero, suc, refl, ap, ◌∙◌, subst, ⊎_elim, arith, ltb-true}
+use Rattle.std.proofs.Common.{◌≡◌, ℕ, ◌<◌, ◌+◌, true, false, not, ◌||◌, ◌&&◌, eqb, ltb, List, [], ◌∷◌}
+use Rattle.std.proofs.Common.{get_or, zero, suc, refl, ap, ◌∙◌, subst, ⊎_elim, arith, ltb-true}
 use Rattle.std.proofs.lemmas.Grind.{common_steps}
 use Rattle.std.proofs.lemmas.Bool.{cond_both, cases_order}
 use Rattle.std.specs.List.Sorted.{IsStrictlyIncreasing}
@@ -27,17 +28,21 @@ AllAbove-trans x y (z ∷ zs) l a = (omega arith, AllAbove-trans x y zs l a.1)
 pub AllAbove-cells_without : (x : ℕ) (us vs : List ℕ) → AllAbove x us → AllAbove x (cells_without us vs)
 AllAbove-cells_without x [] vs a = tt
 AllAbove-cells_without x (u ∷ us) vs a =
-    cond_both (has vs u) (cells_without us vs) (u ∷ cells_without us vs) (AllAbove x) (λ _. AllAbove-cells_without x us vs a.1) (λ _. (a.0, AllAbove-cells_without x us vs a.1))
+    cond_both (has vs u) (cells_without us vs) (u ∷ cells_without us vs) (AllAbove x)
+    (λ _. AllAbove-cells_without x us vs a.1) (λ _. (a.0, AllAbove-cells_without x us vs a.1))
 
 pub IsAscending-cells_without : (us vs : List ℕ) → IsAscending us → IsAscending (cells_without us vs)
 IsAscending-cells_without [] vs a = tt
 IsAscending-cells_without (u ∷ us) vs a =
-    cond_both (has vs u) (cells_without us vs) (u ∷ cells_without us vs) IsAscending (λ _. IsAscending-cells_without us vs a.1) (λ _. (AllAbove-cells_without u us vs a.0, IsAscending-cells_without us vs a.1))
+    cond_both (has vs u) (cells_without us vs) (u ∷ cells_without us vs) IsAscending
+    (λ _. IsAscending-cells_without us vs a.1) (λ _.
+    (AllAbove-cells_without u us vs a.0, IsAscending-cells_without us vs a.1))
 
 pub AllAbove-insert_cell : (x y : ℕ) (us : List ℕ) → x < y → AllAbove x us → AllAbove x (insert_cell y us)
 AllAbove-insert_cell x y [] l a = (l, tt)
 AllAbove-insert_cell x y (u ∷ us) l a =
-    cond_both (ltb y u) (y ∷ u ∷ us) (u ∷ insert_cell y us) (AllAbove x) (λ _. (l, a)) (λ _. (a.0, AllAbove-insert_cell x y us l a.1))
+    cond_both (ltb y u) (y ∷ u ∷ us) (u ∷ insert_cell y us) (AllAbove x) (λ _. (l, a))
+    (λ _. (a.0, AllAbove-insert_cell x y us l a.1))
 
 pub has-cells_without : (us vs : List ℕ) (x : ℕ) → has (cells_without us vs) x ≡ (has us x && not (has vs x))
 has-cells_without [] vs x = refl
@@ -49,19 +54,30 @@ has-insert_cell y (u ∷ us) x = grind (arith, common_steps, has-insert_cell y u
 
 pub has-insert_cells : (ys us : List ℕ) (x : ℕ) → has (insert_cells ys us) x ≡ (has ys x || has us x)
 has-insert_cells [] us x = refl
-has-insert_cells (y ∷ ys) us x = grind (arith, common_steps, has-insert_cells ys (insert_cell y us) x, has-insert_cell y us x)
+has-insert_cells (y ∷ ys) us x = grind (
+  arith,
+  common_steps,
+  has-insert_cells ys (insert_cell y us) x,
+  has-insert_cell y us x,
+)
 
-pub has-applied : (out put us : List ℕ) (x : ℕ) → has (applied out put us) x ≡ (has put x || (has us x && not (has out x)))
-has-applied out put us x = has-insert_cells put (cells_without us out) x ∙ ap (λ b. has put x || b) (has-cells_without us out x)
+pub has-applied : (out put us : List ℕ) (x : ℕ) →
+    has (applied out put us) x ≡ (has put x || (has us x && not (has out x)))
+has-applied out put us x = has-insert_cells put (cells_without us out) x
+    ∙ ap (λ b. has put x || b) (has-cells_without us out x)
 
 pub IsAscending-insert_cell : (y : ℕ) (us : List ℕ) → has us y ≡ false → IsAscending us → IsAscending (insert_cell y us)
 IsAscending-insert_cell y [] n a = (tt, tt)
 IsAscending-insert_cell y (u ∷ us) n a =
     cond_both (ltb y u) (y ∷ u ∷ us) (u ∷ insert_cell y us) IsAscending
     (λ e. ((ltb-true y u e, AllAbove-trans y u us (ltb-true y u e) a.0), a))
-    (λ e. (AllAbove-insert_cell u y us (grind (arith, common_steps)) a.0, IsAscending-insert_cell y us (grind (arith, common_steps)) a.1))
+    (λ e. (
+      AllAbove-insert_cell u y us (grind (arith, common_steps)) a.0,
+      IsAscending-insert_cell y us (grind (arith, common_steps)) a.1,
+    ))
 
-pub IsAscending-insert_cells : (ys us : List ℕ) → IsAscending ys → ((x : ℕ) → has ys x ≡ true → has us x ≡ false) → IsAscending us → IsAscending (insert_cells ys us)
+pub IsAscending-insert_cells : (ys us : List ℕ) → IsAscending ys → ((x : ℕ) → has ys x ≡ true → has us x ≡ false) →
+    IsAscending us → IsAscending (insert_cells ys us)
 IsAscending-insert_cells [] us b n a = a
 IsAscending-insert_cells (y ∷ ys) us b n a =
     IsAscending-insert_cells ys (insert_cell y us) b.1
@@ -85,9 +101,11 @@ same_cells (u ∷ us) (v ∷ vs) a b h =
     cc
 
 -- what taking out and putting in leaves ascends
-pub IsAscending-applied : (out put us : List ℕ) → IsAscending put → IsAscending us → ((x : ℕ) → has put x ≡ true → has us x ≡ false) → IsAscending (applied out put us)
+pub IsAscending-applied : (out put us : List ℕ) → IsAscending put → IsAscending us →
+    ((x : ℕ) → has put x ≡ true → has us x ≡ false) → IsAscending (applied out put us)
 IsAscending-applied out put us p a n =
-    IsAscending-insert_cells put (cells_without us out) p (λ x h. has-cells_without us out x ∙ ap (λ b. b && not (has out x)) (n x h)) (IsAscending-cells_without us out a)
+    IsAscending-insert_cells put (cells_without us out) p (λ x h. has-cells_without us out x
+    ∙ ap (λ b. b && not (has out x)) (n x h)) (IsAscending-cells_without us out a)
 
 -- and by its places, as contracts say it
 pub ascends_from : (us : List ℕ) → IsStrictlyIncreasing us → IsAscending us
@@ -96,7 +114,8 @@ ascends_from (u ∷ []) h = (tt, tt)
 ascends_from (u ∷ v ∷ us) h =
     let l : u < v = h 0 (omega arith) in
     let rest : IsAscending (v ∷ us) =
-    ascends_from (v ∷ us) (λ k within. let e : suc k + 1 ≡ suc (k + 1) = omega arith in subst (λ n. get_or (v ∷ us) k 0 < get_or (u ∷ v ∷ us) n 0) e (h (suc k) (omega arith))) in
+    ascends_from (v ∷ us) (λ k within. let e : suc k + 1 ≡ suc (k + 1) = omega arith in
+    subst (λ n. get_or (v ∷ us) k 0 < get_or (u ∷ v ∷ us) n 0) e (h (suc k) (omega arith))) in
     ((l, AllAbove-trans u v us l rest.0), rest)
 
 pub increasing_from : (us : List ℕ) → IsAscending us → IsStrictlyIncreasing us

@@ -1,5 +1,6 @@
 -- The level that a cell is cut to, and the cells of that level in it.
-use Rattle.std.proofs.Common.{◌≡◌, ℕ, ◌+◌, ◌-◌, ◌*◌, ◌/◌, ◌%◌, ◌^◌, ◌<◌, ◌≤◌, refl, sym, ◌∙◌, ap, arith, subst, inl, inr, length, get_or, min}
+use Rattle.std.proofs.Common.{◌≡◌, ℕ, ◌+◌, ◌-◌, ◌*◌, ◌/◌, ◌%◌, ◌^◌, ◌<◌, ◌≤◌, refl, sym}
+use Rattle.std.proofs.Common.{◌∙◌, ap, arith, subst, inl, inr, length, get_or, min}
 use Rattle.std.proofs.Math.Logic.{⊎_elim}
 use Rattle.std.proofs.Math.Nat.{mul-le-mul_right, lt_of_mul-lt-mul_right, mul-mod_left, div-mul-le_self, lt-div-mul-add}
 use Rattle.std.proofs.lemmas.Bool.{cases_lt}
@@ -19,14 +20,16 @@ record Steps (level least modulus steps : ℕ) : Type 0 where
   pub enough : level ≤ least + steps * modulus
   pub fewest : steps * modulus < level - least + modulus
 
-steps_of : (level least modulus : ℕ) → 0 < modulus → Steps level least modulus ((level - least + (modulus - 1)) / modulus)
+steps_of : (level least modulus : ℕ) → 0 < modulus →
+    Steps level least modulus ((level - least + (modulus - 1)) / modulus)
 steps_of level least modulus some =
     let x = level - least + (modulus - 1) in
     let low : x / modulus * modulus ≤ x = div-mul-le_self x modulus in
     let high : x < x / modulus * modulus + modulus = lt-div-mul-add some in
     record { enough = omega arith; fewest = omega arith }
 
-wanted_later : (level least modulus steps s : ℕ) → 0 < modulus → Steps level least modulus steps → IsWanted level least modulus s → least + steps * modulus ≤ s
+wanted_later : (level least modulus steps s : ℕ) → 0 < modulus → Steps level least modulus steps →
+    IsWanted level least modulus s → least + steps * modulus ≤ s
 wanted_later level least modulus steps s some st w =
     let own = w.own in
     let high = w.high in
@@ -39,12 +42,14 @@ wanted_later level least modulus steps s some st w =
     let m : steps * modulus ≤ j * modulus = mul-le-mul_right modulus (omega arith) in
     omega arith
 
-wanted_there : (level least modulus steps : ℕ) → Steps level least modulus steps → IsWanted level least modulus (least + steps * modulus)
+wanted_there : (level least modulus steps : ℕ) → Steps level least modulus steps →
+    IsWanted level least modulus (least + steps * modulus)
 wanted_there level least modulus steps st =
     let e : least + steps * modulus - least ≡ steps * modulus = omega arith in
     record { own = st.enough; high = omega arith; step = ap (λ x. x % modulus) e ∙ mul-mod_left steps modulus }
 
-pub cut_level_is : (level least modulus : ℕ) → level ≤ 30 → 0 < modulus → IsCutLevel level least modulus (cut_level level least modulus)
+pub cut_level_is : (level least modulus : ℕ) → level ≤ 30 → 0 < modulus →
+    IsCutLevel level least modulus (cut_level level least modulus)
 unfolding cut_level
 cut_level_is level least modulus l some =
     let st = steps_of level least modulus some in
@@ -57,7 +62,8 @@ cut_level_is level least modulus l some =
           (λ (h : 30 < t).
           let e : min t 30 ≡ 30 = omega arith in
           inr (e, λ s fits w. let later = wanted_later level least modulus steps s some st w in absurd (omega arith)))
-          (λ (h : t ≤ 30). let e : t ≡ min t 30 = omega arith in inl (subst (IsWanted level least modulus) e (wanted_there level least modulus steps st)))
+          (λ (h : t ≤ 30). let e : t ≡ min t 30 = omega arith in
+          inl (subst (IsWanted level least modulus) e (wanted_there level least modulus steps st)))
           (cases_lt 30 t);
       first = λ s w. let later = wanted_later level least modulus steps s some st w in omega arith;
     }
@@ -83,7 +89,8 @@ unfolding cells_in
 get_or-cells_in t c i d h = get_or-map-range_with_len (descendant_of c t) 0 (4 ^ (t - level_of c)) i i d h (omega arith)
 
 -- a cell of a level inside another is one of its descendants
-descendant_from : (c t d : ℕ) → IsCell c → level_of c ≤ t → t ≤ 30 → IsCell d → level_of d ≡ t → IsInside d c → (i : ℕ) × (i < 4 ^ (t - level_of c)) × (descendant_of c t i ≡ d)
+descendant_from : (c t d : ℕ) → IsCell c → level_of c ≤ t → t ≤ 30 → IsCell d → level_of d ≡ t → IsInside d c →
+    (i : ℕ) × (i < 4 ^ (t - level_of c)) × (descendant_of c t i ≡ d)
 descendant_from c t d cc own deep cd e inside =
     let w = within_from_inside d c cd inside in
     let lo = w.low in
@@ -104,22 +111,27 @@ descendant_from c t d cc own deep cd e inside =
     let size_x = x.size in
     let level_x = x.level in
     let some_d = (cell_leaves d cd).some in
-    let v = deeper_inside d (descendant_of c t i) (first_leaf d) cd cx (omega arith) (omega arith) (omega arith) (omega arith) (omega arith) in
-    let u = deeper_inside (descendant_of c t i) d (first_leaf d) cx cd (omega arith) (omega arith) (omega arith) (omega arith) (omega arith) in
+    let v = deeper_inside d (descendant_of c t i) (first_leaf d) cd cx (omega arith) (omega arith) (omega arith)
+    (omega arith) (omega arith) in
+    let u = deeper_inside (descendant_of c t i) d (first_leaf d) cx cd (omega arith) (omega arith) (omega arith)
+    (omega arith) (omega arith) in
     (i, below, same_from_within (descendant_of c t i) d cx cd u v)
 
 -- a descendant lies inside
-descendant_within : (c t i : ℕ) → IsCell c → level_of c ≤ t → t ≤ 30 → i < 4 ^ (t - level_of c) → Within (descendant_of c t i) c
+descendant_within : (c t i : ℕ) → IsCell c → level_of c ≤ t → t ≤ 30 → i < 4 ^ (t - level_of c) →
+    Within (descendant_of c t i) c
 descendant_within c t i cc own deep h =
     let x = descendant c t i cc own deep h in
     let first_x = x.first in
     let size_x = x.size in
     let whole = x.whole in
-    let m : (i + 1) * 4 ^ (30 - t) ≤ 4 ^ (t - level_of c) * 4 ^ (30 - t) = mul-le-mul_right (4 ^ (30 - t)) (omega arith) in
+    let m : (i + 1) * 4 ^ (30 - t) ≤ 4 ^ (t - level_of c) * 4 ^ (30 - t) =
+    mul-le-mul_right (4 ^ (30 - t)) (omega arith) in
     record { low = omega arith; high = omega arith }
 
 -- a later descendant has a greater identifier
-descendant_rises : (c t i : ℕ) → IsCell c → level_of c ≤ t → t ≤ 30 → i + 1 < 4 ^ (t - level_of c) → descendant_of c t i < descendant_of c t (i + 1)
+descendant_rises : (c t i : ℕ) → IsCell c → level_of c ≤ t → t ≤ 30 → i + 1 < 4 ^ (t - level_of c) →
+    descendant_of c t i < descendant_of c t (i + 1)
 descendant_rises c t i cc own deep h =
     let x = descendant c t i cc own deep (omega arith) in
     let y = descendant c t (i + 1) cc own deep h in
@@ -142,15 +154,21 @@ cells_in_is c t cc own deep =
     record {
       ascending = λ k h.
           let a : get_or (cells_in t c) k 0 ≡ descendant_of c t k = get_or-cells_in t c k 0 (omega arith) in
-          let b : get_or (cells_in t c) (k + 1) 0 ≡ descendant_of c t (k + 1) = get_or-cells_in t c (k + 1) 0 (omega arith) in
+          let b : get_or (cells_in t c) (k + 1) 0 ≡ descendant_of c t (k + 1) =
+          get_or-cells_in t c (k + 1) 0 (omega arith) in
           let r = descendant_rises c t k cc own deep (omega arith) in
           omega arith;
       members = λ d. (
         λ (k, l, e).
             let below : k < n = omega arith in
             let x = descendant c t k cc own deep below in
-            let is : descendant_of c t k ≡ d = sym (get_or-cells_in t c k d below) ∙ e in
-            (IsCell-descendant_of c t k d cc own deep below (sym is), ap level_of (sym is) ∙ x.level, subst (λ y. IsInside y c) is (inside_from_within (descendant_of c t k) c (descendant_within c t k cc own deep below))),
+            let is : descendant_of c t k ≡ d = sym (get_or-cells_in t c k d below) ∙ e in (
+              IsCell-descendant_of c t k d cc own deep below (sym is),
+              ap level_of (sym is)
+                  ∙ x.level,
+              subst (λ y. IsInside y c) is
+                  (inside_from_within (descendant_of c t k) c (descendant_within c t k cc own deep below)),
+            ),
         λ (cd, ld, inside).
             let r = descendant_from c t d cc own deep cd ld inside in
             (r.0, rw len r.1, get_or-cells_in t c r.0 d r.1 ∙ r.2),

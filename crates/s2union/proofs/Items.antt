@@ -1,5 +1,7 @@
 -- The items of a denormalised union, one after the other.
-use Rattle.std.proofs.Common.{zero, ◌≡◌, ℕ, suc, ◌+◌, ◌-◌, ◌*◌, ◌%◌, ◌^◌, ◌<◌, ◌≤◌, refl, sym, ◌∙◌, ap, arith, subst, List, [], ◌∷◌, ◌++◌, length, get_or, drop, take, All, lit<, append_assoc, add-one, Bool, true, false}
+use Rattle.std.proofs.Common.{zero, ◌≡◌, ℕ, suc, ◌+◌, ◌-◌, ◌*◌, ◌%◌, ◌^◌, ◌<◌, ◌≤◌, refl, sym}
+use Rattle.std.proofs.Common.{◌∙◌, ap, arith, subst, List, [], ◌∷◌, ◌++◌, length, get_or, drop, take, All, lit<}
+use Rattle.std.proofs.Common.{append_assoc, add-one, Bool, true, false}
 use Rattle.std.specs.Bool.{◌==◌}
 use Rattle.std.proofs.lemmas.Bool.Decides.{nat_tests}
 use Rattle.std.proofs.Math.Seq.{drop-cons, drop-append_seam}
@@ -15,20 +17,25 @@ use Rattle.s2cell.proofs.CellLemmas.{cell_leaves, four_pos}
 use Rattle.s2cell.proofs.Calls.{size_at}
 use Rattle.s2union.specs.Union.{IsLocal}
 use Rattle.s2union.specs.Denorm.{IsDenormalised, IsUnderway, cut_level, cells_in, denormalised}
+use Rattle.s2cell.specs.declared.TheConstants.{LEAVES}
 use Rattle.s2union.proofs.Checking.{packed_from_local}
 use Rattle.s2union.proofs.Packing.{read_at}
-use Rattle.s2union.proofs.Cutting.{cut_level_is, cut_level_own, cut_level_most, level_most, length-cells_in, get_or-cells_in, cells_in_is}
+use Rattle.s2union.proofs.Cutting.{cut_level_is, cut_level_own, cut_level_most, level_most, length-cells_in}
+use Rattle.s2union.proofs.Cutting.{get_or-cells_in, cells_in_is}
 
 pub denormalised-nil : (least modulus : ℕ) → denormalised least modulus [] ≡ []
 unfolding denormalised
 denormalised-nil least modulus = refl
 
-pub denormalised-cons : (least modulus c : ℕ) (u : List ℕ) → denormalised least modulus (c ∷ u) ≡ cells_in (cut_level (level_of c) least modulus) c ++ denormalised least modulus u
+pub denormalised-cons : (least modulus c : ℕ) (u : List ℕ) →
+    denormalised least modulus (c ∷ u) ≡ cells_in (cut_level (level_of c) least modulus) c
+    ++ denormalised least modulus u
 unfolding denormalised
 denormalised-cons least modulus c u = refl
 
 -- the list is what the definition asks for
-pub denormalised_is : (least modulus : ℕ) (u : List ℕ) → All IsCell u → 0 < modulus → IsDenormalised least modulus u (denormalised least modulus u)
+pub denormalised_is : (least modulus : ℕ) (u : List ℕ) → All IsCell u → 0 < modulus →
+    IsDenormalised least modulus u (denormalised least modulus u)
 denormalised_is least modulus [] all some = denormalised-nil least modulus
 denormalised_is least modulus (c ∷ u) all some =
     let cc : IsCell c = all 0 0 (omega arith) in
@@ -38,44 +45,56 @@ denormalised_is least modulus (c ∷ u) all some =
       cells_in t c,
       denormalised least modulus u,
       cut_level_is (level_of c) least modulus deep some,
-      cells_in_is c t cc (cut_level_own (level_of c) least modulus deep some) (cut_level_most (level_of c) least modulus),
+      cells_in_is c t cc (cut_level_own (level_of c) least modulus deep some)
+          (cut_level_most (level_of c) least modulus),
       denormalised_is least modulus u (All-tail IsCell c u all) some,
       denormalised-cons least modulus c u,
     )
 
--- the item where an iterator stands, and those behind it
-pub items_next : (cells : List ℕ) (least modulus level number count c : ℕ) → IsUnderway cells least modulus level number count → 0 < length cells → c ≡ get_or cells 0 c
-    → drop number (denormalised least modulus cells) ≡ descendant_of c level number ∷ drop (number + 1) (denormalised least modulus cells)
+-- the item where an iterator is, and those after it
+pub items_next : (cells : List ℕ) (least modulus level number count c : ℕ) →
+    IsUnderway cells least modulus level number count → 0 < length cells → c ≡ get_or cells 0 c
+    → drop number (denormalised least modulus cells) ≡ descendant_of c level number
+    ∷ drop (number + 1) (denormalised least modulus cells)
 items_next [] least modulus level number count c w some e = absurd (omega arith)
 items_next (b ∷ u) least modulus level number count c w some e =
     let t : level ≡ cut_level (level_of b) least modulus = w.cut some in
     let n : count ≡ 4 ^ (level - level_of b) = w.items some in
     let h : number < 4 ^ (level - level_of b) = (let x = w.before some in omega arith) in
     let len : length (cells_in level b) ≡ 4 ^ (level - level_of b) = length-cells_in level b in
-    let all : denormalised least modulus (b ∷ u) ≡ cells_in level b ++ denormalised least modulus u = rw t (denormalised-cons least modulus b u) in
+    let all : denormalised least modulus (b ∷ u) ≡ cells_in level b ++ denormalised least modulus u =
+    rw t (denormalised-cons least modulus b u) in
     let many = length-append (cells_in level b) (denormalised least modulus u) in
     let first : get_or (cells_in level b ++ denormalised least modulus u) number 0 ≡ descendant_of c level number =
-    get_or_append_left (cells_in level b) (denormalised least modulus u) 0 number (omega arith) ∙ get_or-cells_in level b number 0 h ∙ ap (λ x. descendant_of x level number) (sym e) in
+    get_or_append_left (cells_in level b) (denormalised least modulus u) 0 number (omega arith)
+    ∙ get_or-cells_in level b number 0 h ∙ ap (λ x. descendant_of x level number) (sym e) in
     let d = drop-cons (cells_in level b ++ denormalised least modulus u) number 0 (omega arith) in
     rw (all, add-one) (d ∙ ap (λ x. x ∷ drop (suc number) (cells_in level b ++ denormalised least modulus u)) first)
 
 drop-cons_one : (b : ℕ) (u : List ℕ) → drop 1 (b ∷ u) ≡ u
 drop-cons_one b u = refl
 
--- behind the last item of a cell come those of the next cells
-pub items_last : (cells : List ℕ) (least modulus level number count : ℕ) → IsUnderway cells least modulus level number count → 0 < length cells → number + 1 ≡ count
-    → drop (number + 1) (denormalised least modulus cells) ≡ denormalised least modulus (take (length cells - 1) (drop 1 cells))
+-- after the last item of a cell come those of the next cells
+pub items_last : (cells : List ℕ) (least modulus level number count : ℕ) →
+    IsUnderway cells least modulus level number count → 0 < length cells → number + 1 ≡ count
+    → drop (number + 1) (denormalised least modulus cells)
+    ≡ denormalised least modulus (take (length cells - 1) (drop 1 cells))
 items_last [] least modulus level number count w some e = absurd (omega arith)
 items_last (b ∷ u) least modulus level number count w some e =
     let t : level ≡ cut_level (level_of b) least modulus = w.cut some in
     let n : count ≡ 4 ^ (level - level_of b) = w.items some in
     let len : length (cells_in level b) ≡ 4 ^ (level - level_of b) = length-cells_in level b in
-    let all : denormalised least modulus (b ∷ u) ≡ cells_in level b ++ denormalised least modulus u = rw t (denormalised-cons least modulus b u) in
+    let all : denormalised least modulus (b ∷ u) ≡ cells_in level b ++ denormalised least modulus u =
+    rw t (denormalised-cons least modulus b u) in
     let k : number + 1 ≡ length (cells_in level b) = omega arith in
-    let rest : take (length (b ∷ u) - 1) (drop 1 (b ∷ u)) ≡ u = take_all (length (b ∷ u) - 1) (drop 1 (b ∷ u)) (let e = ap length (drop-cons_one b u) in omega arith) ∙ drop-cons_one b u in
+    let rest : take (length (b ∷ u) - 1) (drop 1 (b ∷ u)) ≡ u =
+    take_all (length (b ∷ u) - 1) (drop 1 (b ∷ u)) (let e = ap length (drop-cons_one b u) in omega arith)
+    ∙ drop-cons_one b u in
     rw (all, k, rest) (drop-append_seam (cells_in level b) (denormalised least modulus u))
 
-pub items_none : (cells : List ℕ) (least modulus level number count : ℕ) → IsUnderway cells least modulus level number count → length cells ≡ 0 → drop number (denormalised least modulus cells) ≡ []
+pub items_none : (cells : List ℕ) (least modulus level number count : ℕ) →
+    IsUnderway cells least modulus level number count → length cells ≡ 0 →
+    drop number (denormalised least modulus cells) ≡ []
 items_none [] least modulus level number count w none =
     let e : number ≡ 0 = w.ended none in
     rw (e, denormalised-nil least modulus) refl
@@ -87,15 +106,18 @@ none_from_test n r e t = grind (arith, nat_tests)
 pub some_from_test : (n : ℕ) (r : Bool) → r ≡ (n == 0) → r ≡ false → 0 < n
 some_from_test n r e t = grind (arith, nat_tests)
 
--- where an iterator stands at first
-pub underway : (cells : List ℕ) (least modulus own level count c : ℕ) → least ≤ 30 → 0 < modulus → modulus ≤ 3 → 0 < length cells → c ≡ get_or cells 0 c
-    → own ≡ level_of c → level ≡ cut_level own least modulus → count ≡ 1 * 2 ^ (2 * (level - own)) % 2 ^ 64 → IsUnderway cells least modulus level 0 count
+-- where an iterator is at first
+pub underway : (cells : List ℕ) (least modulus own level count c : ℕ) → least ≤ 30 → 0 < modulus → modulus ≤ 3 →
+    0 < length cells → c ≡ get_or cells 0 c
+    → own ≡ level_of c → level ≡ cut_level own least modulus → count ≡ 1 * 2 ^ (2 * (level - own)) % 2 ^ 64 →
+    IsUnderway cells least modulus level 0 count
 underway [] least modulus own level count c a b d some e o f g = absurd (omega arith)
 underway (x ∷ u) least modulus own level count c a b d some e o f0 g0 =
     let f : level ≡ cut_level (level_of c) least modulus = rw (← o) f0 in
     let g : count ≡ 1 * 2 ^ (2 * (level - level_of c)) % 2 ^ 64 = rw (← o) g0 in
     let m = cut_level_most (level_of c) least modulus in
-    let n : count ≡ 4 ^ (level - level_of c) = g ∙ one_shl (2 * (level - level_of c)) 64 (omega arith) ∙ sym (four_pow (level - level_of c)) in
+    let n : count ≡ 4 ^ (level - level_of c) = g ∙ one_shl (2 * (level - level_of c)) 64 (omega arith)
+    ∙ sym (four_pow (level - level_of c)) in
     let pos : 0 < 4 ^ (level - level_of c) = four_pos (level - level_of c) in
     record {
       least_fits = a;
@@ -107,7 +129,8 @@ underway (x ∷ u) least modulus own level count c a b d some e o f0 g0 =
       before = λ z. omega arith;
     }
 
-pub underway_none : (cells : List ℕ) (least modulus level count : ℕ) → least ≤ 30 → 0 < modulus → modulus ≤ 3 → length cells ≡ 0 → IsUnderway cells least modulus level 0 count
+pub underway_none : (cells : List ℕ) (least modulus level count : ℕ) → least ≤ 30 → 0 < modulus → modulus ≤ 3 →
+    length cells ≡ 0 → IsUnderway cells least modulus level 0 count
 underway_none cells least modulus level count a b d none = record {
   least_fits = a;
   modulus_some = b;
@@ -119,7 +142,9 @@ underway_none cells least modulus level count a b d none = record {
 }
 
 -- the level to cut to is at least that of the cell, and at most 30
-pub underway_level : (cells : List ℕ) (least modulus level number count c : ℕ) → IsUnderway cells least modulus level number count → 0 < length cells → c ≡ get_or cells 0 c → (level_of c ≤ level) × (level ≤ 30)
+pub underway_level : (cells : List ℕ) (least modulus level number count c : ℕ) →
+    IsUnderway cells least modulus level number count → 0 < length cells → c ≡ get_or cells 0 c →
+    (level_of c ≤ level) × (level ≤ 30)
 underway_level [] least modulus level number count c w some e = absurd (omega arith)
 underway_level (b ∷ u) least modulus level number count c w some e =
     let t : level ≡ cut_level (level_of b) least modulus = w.cut some in
@@ -130,23 +155,38 @@ underway_level (b ∷ u) least modulus level number count c w some e =
 
 -- ---- how many they are
 
-denormalised-push : (least modulus c : ℕ) (u : List ℕ) → denormalised least modulus (u ++ c ∷ []) ≡ denormalised least modulus u ++ cells_in (cut_level (level_of c) least modulus) c
-denormalised-push least modulus c [] = rw (denormalised-cons least modulus c [], denormalised-nil least modulus) (append-nil (cells_in (cut_level (level_of c) least modulus) c))
+denormalised-push : (least modulus c : ℕ) (u : List ℕ) →
+    denormalised least modulus (u ++ c ∷ []) ≡ denormalised least modulus u
+    ++ cells_in (cut_level (level_of c) least modulus) c
+denormalised-push least modulus c [] = rw (denormalised-cons least modulus c [], denormalised-nil least modulus)
+    (append-nil (cells_in (cut_level (level_of c) least modulus) c))
 denormalised-push least modulus c (b ∷ u) =
-    rw (denormalised-cons least modulus b (u ++ c ∷ []), denormalised-cons least modulus b u, denormalised-push least modulus c u)
-    (sym (append_assoc (cells_in (cut_level (level_of b) least modulus) b) (denormalised least modulus u) (cells_in (cut_level (level_of c) least modulus) c)))
+    rw (
+      denormalised-cons least modulus b (u ++ c ∷ []),
+      denormalised-cons least modulus b u,
+      denormalised-push least modulus c u,
+    )
+    (sym (append_assoc (cells_in (cut_level (level_of b) least modulus) b) (denormalised least modulus u)
+    (cells_in (cut_level (level_of c) least modulus) c)))
 
 -- the number of the items of the first i cells, which is at most that of the leaves before the next
 pub record Totalling (cells : List ℕ) (least modulus i total : ℕ) : Type 0 where
   pub is : total ≡ length (denormalised least modulus (take i cells))
   pub before : i < length cells → total ≤ first_leaf (get_or cells i 0)
-  pub most : total ≤ 6 * 4 ^ 30
+  pub most : total ≤ LEAVES
 
 pub totalling_start : (cells : List ℕ) (least modulus : ℕ) → Totalling cells least modulus 0 0
-totalling_start cells least modulus = record { is = ap length (sym (denormalised-nil least modulus)); before = λ h. omega arith; most = omega arith }
+totalling_start cells least modulus = record {
+  is = ap length (sym (denormalised-nil least modulus));
+  before = λ h.
+      omega arith;
+  most = omega arith;
+}
 
-pub totalling_more : (cells : List ℕ) (least modulus i total own_level level count c : ℕ) → IsLocal cells → Totalling cells least modulus i total → i < length cells → c ≡ get_or cells i c → 0 < modulus
-    → own_level ≡ level_of c → level ≡ cut_level own_level least modulus → count ≡ 1 * 2 ^ (2 * (level - own_level)) % 2 ^ 64 → Totalling cells least modulus (i + 1) (total + count)
+pub totalling_more : (cells : List ℕ) (least modulus i total own_level level count c : ℕ) → IsLocal cells →
+    Totalling cells least modulus i total → i < length cells → c ≡ get_or cells i c → 0 < modulus
+    → own_level ≡ level_of c → level ≡ cut_level own_level least modulus →
+    count ≡ 1 * 2 ^ (2 * (level - own_level)) % 2 ^ 64 → Totalling cells least modulus (i + 1) (total + count)
 totalling_more cells least modulus i total own_level level count c local w h e some o t0 n0 =
     let t : level ≡ cut_level (level_of c) least modulus = rw (← o) t0 in
     let n : count ≡ 1 * 2 ^ (2 * (level - level_of c)) % 2 ^ 64 = rw (← o) n0 in
@@ -156,34 +196,43 @@ totalling_more cells least modulus i total own_level level count c local w h e s
     let deep = level_most c in
     let own = cut_level_own (level_of c) least modulus deep some in
     let most = cut_level_most (level_of c) least modulus in
-    let four : count ≡ 4 ^ (level - level_of c) = n ∙ one_shl (2 * (level - level_of c)) 64 (omega arith) ∙ sym (four_pow (level - level_of c)) in
+    let four : count ≡ 4 ^ (level - level_of c) = n ∙ one_shl (2 * (level - level_of c)) 64 (omega arith)
+    ∙ sym (four_pow (level - level_of c)) in
     let size : size_of c ≡ 4 ^ (30 - level_of c) = size_at c cc in
-    let fits : 4 ^ (level - level_of c) ≤ 4 ^ (30 - level_of c) = pow-le-pow_right {n = 4} (lit< tt) {i = level - level_of c} {j = 30 - level_of c} (omega arith) in
+    let fits : 4 ^ (level - level_of c) ≤ 4 ^ (30 - level_of c) =
+    pow-le-pow_right {n = 4} (lit< tt) {i = level - level_of c} {j = 30 - level_of c} (omega arith) in
     let leaves = (cell_leaves c cc).within in
     let was = w.is in
     let low : total ≤ first_leaf c = (let x = w.before h in let y = ap first_leaf same in omega arith) in
-    let split : denormalised least modulus (take (i + 1) cells) ≡ denormalised least modulus (take i cells) ++ cells_in level c =
-    rw t (ap (denormalised least modulus) (take_more cells i 0 h ∙ ap (λ x. take i cells ++ x ∷ []) same) ∙ denormalised-push least modulus c (take i cells)) in
-    let len : length (denormalised least modulus (take (i + 1) cells)) ≡ length (denormalised least modulus (take i cells)) + length (cells_in level c) =
+    let split : denormalised least modulus (take (i + 1) cells) ≡ denormalised least modulus (take i cells)
+    ++ cells_in level c =
+    rw t (ap (denormalised least modulus) (take_more cells i 0 h ∙ ap (λ x. take i cells ++ x ∷ []) same)
+    ∙ denormalised-push least modulus c (take i cells)) in
+    let len : length (denormalised least modulus (take (i + 1) cells))
+    ≡ length (denormalised least modulus (take i cells)) + length (cells_in level c) =
     ap length split ∙ length-append (denormalised least modulus (take i cells)) (cells_in level c) in
     let part = length-cells_in level c in
     record {
       is = omega arith;
       before = λ g.
-          let x : first_leaf (get_or cells i 0) + size_of (get_or cells i 0) ≤ first_leaf (get_or cells (i + 1) 0) = packed.chain i (i + 1) 0 (omega arith) g in
+          let x : first_leaf (get_or cells i 0) + size_of (get_or cells i 0)
+          ≤ first_leaf (get_or cells (i + 1) 0) = packed.chain i (i + 1) 0 (omega arith) g in
           let fs = ap first_leaf same in
           let ss = ap size_of same in
           omega arith;
       most = omega arith;
     }
 
-pub totalling_done : (cells : List ℕ) (least modulus i total : ℕ) → Totalling cells least modulus i total → length cells ≤ i → total ≡ length (denormalised least modulus cells)
-totalling_done cells least modulus i total w h = w.is ∙ ap (λ x. length (denormalised least modulus x)) (take_all i cells h)
+pub totalling_done : (cells : List ℕ) (least modulus i total : ℕ) → Totalling cells least modulus i total →
+    length cells ≤ i → total ≡ length (denormalised least modulus cells)
+totalling_done cells least modulus i total w h = w.is
+    ∙ ap (λ x. length (denormalised least modulus x)) (take_all i cells h)
 
 read_at_place : (u : List ℕ) (i : ℕ) → i < length u → get_or u i 0 ≡ get_or u i (get_or u i 0)
 read_at_place u i h = grind (arith, gets)
 
-totalling_at : (cells : List ℕ) (least modulus i : ℕ) → IsLocal cells → 0 < modulus → i ≤ length cells → (total : ℕ) × Totalling cells least modulus i total
+totalling_at : (cells : List ℕ) (least modulus i : ℕ) → IsLocal cells → 0 < modulus → i ≤ length cells →
+    (total : ℕ) × Totalling cells least modulus i total
 totalling_at cells least modulus zero local some h = (0, totalling_start cells least modulus)
 totalling_at cells least modulus (suc i) local some h =
     let w = totalling_at cells least modulus i local some (omega arith) in
@@ -193,11 +242,13 @@ totalling_at cells least modulus (suc i) local some h =
     let e : i + 1 ≡ suc i = omega arith in (
       w.0 + count,
       subst (λ x. Totalling cells least modulus x (w.0 + count)) e
-          (totalling_more cells least modulus i w.0 (level_of c) level count c local w.1 (omega arith) (read_at_place cells i (omega arith)) some refl refl refl),
+          (totalling_more cells least modulus i w.0 (level_of c) level count c local w.1 (omega arith)
+          (read_at_place cells i (omega arith)) some refl refl refl),
     )
 
 -- there are no more items than leaves
-pub length-denormalised-le : (least modulus : ℕ) (cells : List ℕ) → IsLocal cells → 0 < modulus → length (denormalised least modulus cells) ≤ 6 * 4 ^ 30
+pub length-denormalised-le : (least modulus : ℕ) (cells : List ℕ) → IsLocal cells → 0 < modulus →
+    length (denormalised least modulus cells) ≤ LEAVES
 length-denormalised-le least modulus cells local some =
     let w = totalling_at cells least modulus (length cells) local some (omega arith) in
     let most = w.1.most in

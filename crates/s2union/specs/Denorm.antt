@@ -1,47 +1,51 @@
--- Unions cut to the levels that a caller wants (`S2CellUnion::Denormalize`).
-use Rattle.std.specs.Prelude.{◌≡◌, ℕ, ◌+◌, ◌-◌, ◌*◌, ◌/◌, ◌%◌, ◌^◌, ◌<◌, ◌≤◌, ◌⊎◌, ◌↔◌, min, List, [], ◌∷◌, ◌++◌, map, flat_map, Contains, length, slice_index}
+-- Unions whose cells are cut to the levels that a caller wants (`S2CellUnion::Denormalize`).
+use Rattle.std.specs.Prelude.{◌≡◌, ℕ, ◌+◌, ◌-◌, ◌*◌, ◌/◌, ◌%◌, ◌^◌, ◌<◌, ◌≤◌, ◌⊎◌}
+use Rattle.std.specs.Prelude.{◌↔◌, min, List, [], ◌∷◌, ◌++◌, map, flat_map, Contains, length, slice_index}
 use Rattle.std.specs.List.{range_with_len}
 use Rattle.std.specs.List.Sorted.{IsStrictlyIncreasing}
 use Rattle.s2cell.specs.Cell.{IsCell, level_of, IsInside}
 use Rattle.s2cell.specs.Descendant.{descendant_of}
 
--- a cell of level `level` may be cut to level `t`: it is at least the cell's own and at least `least`, and differs from `least` by a multiple of `modulus`
+-- a cell of level `level` may be cut to level `t`: `t` is at least `level` and at least `least`, and differs from
+-- `least` by a multiple of `modulus`
 pub record IsWanted (level least modulus t : ℕ) : Type 0 where
   pub own : level ≤ t
   pub high : least ≤ t
   pub step : (t - least) % modulus ≡ 0
 
--- `t` is the least such level, and 30 where there is none
+-- `t` is the least wanted level, or 30 if there is none up to 30
 pub record IsCutLevel (level least modulus t : ℕ) : Type 0 where
   pub real : t ≤ 30
   pub wanted : IsWanted level least modulus t ⊎ ((t ≡ 30) × ((s : ℕ) → s ≤ 30 → IsWanted level least modulus s → ⊥))
   pub first : (s : ℕ) → IsWanted level least modulus s → t ≤ s
 
--- `xs` is all cells of level `t` that the cell `c` contains, ascending
+-- `xs` lists all cells of level `t` inside the cell `c`, ascending
 pub record IsCut (c t : ℕ) (xs : List ℕ) : Type 0 where
   pub ascending : IsStrictlyIncreasing xs
   pub members : (d : ℕ) → Contains xs d ↔ (IsCell d × (level_of d ≡ t) × IsInside d c)
 
--- `xs` is, for each cell of `u` in order, all cells of its level to be cut to that it contains
+-- `xs` lists, for each cell of `u` in order, all cells that it is cut into
 abbrev pub IsDenormalised : ℕ → ℕ → List ℕ → List ℕ → Type 0
 IsDenormalised least modulus [] xs = xs ≡ []
 IsDenormalised least modulus (c ∷ u) xs =
-    (t : ℕ) × (ys : List ℕ) × (zs : List ℕ) × IsCutLevel (level_of c) least modulus t × IsCut c t ys × IsDenormalised least modulus u zs × (xs ≡ ys ++ zs)
+    (t : ℕ) × (ys : List ℕ) × (zs : List ℕ) × IsCutLevel (level_of c) least modulus t × IsCut c t ys
+    × IsDenormalised least modulus u zs × (xs ≡ ys ++ zs)
 
--- the level by computation
+-- the level that a cell of level `level` is cut to, computed
 unfoldable pub cut_level : ℕ → ℕ → ℕ → ℕ
 cut_level level least modulus = min (least + (level - least + (modulus - 1)) / modulus * modulus) 30
 
--- the cells of level `t` in the cell `c`, by their numbers
+-- the cells of level `t` inside the cell `c`, computed, in order
 unfoldable pub cells_in : ℕ → ℕ → List ℕ
 cells_in t c = map (descendant_of c t) (range_with_len 0 (4 ^ (t - level_of c)))
 
--- the list of them for all cells of `u`: the one list that `IsDenormalised` allows
+-- these cells for all cells of `u`: the one list that `IsDenormalised` allows
 unfoldable pub denormalised : ℕ → ℕ → List ℕ → List ℕ
 unfolding cut_level cells_in
 denormalised least modulus u = flat_map (λ c. cells_in (cut_level (level_of c) least modulus) c) u
 
--- where an iterator over that list stands: at the item `number` of the `count` items of its first cell, which is cut to `level`
+-- where an iterator over that list is: at the item `number` of the `count` items of its first cell, which is cut to
+-- `level`
 pub record IsUnderway (cells : List ℕ) (least modulus level number count : ℕ) : Type 0 where
   pub least_fits : least ≤ 30
   pub modulus_some : 0 < modulus

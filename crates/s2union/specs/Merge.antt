@@ -1,5 +1,6 @@
 -- A walk along a list and the two lists of a change.
-use Rattle.std.specs.Prelude.{◌≡◌, ◌<◌, ◌≤◌, ◌↔◌, ◌+◌, ◌-◌, ◌^◌, ℕ, true, false, List, [], ◌∷◌, ◌++◌, length}
+use Rattle.std.specs.Prelude.{◌≡◌, ◌<◌, ◌≤◌, ◌↔◌, ◌+◌, ◌-◌, ◌^◌, ℕ, true, false, List, [], ◌∷◌}
+use Rattle.std.specs.Prelude.{◌++◌, length}
 use Rattle.std.specs.List.Sorted.{IsStrictlyIncreasing}
 use Rattle.std.specs.declared.cmp.Ordering.{Ordering}
 use Rattle.std.specs.declared.cmp.Ordering.TheVariants.{Less, Equal, Greater}
@@ -8,13 +9,13 @@ use Rattle.s2union.specs.Packed.{IsPacked}
 use Rattle.s2union.specs.declared.merge.Turn.{Turn}
 use Rattle.s2union.specs.declared.merge.Turn.TheVariants.{Write, Skip, Misfit, End}
 
--- what is left of the three lists
+-- what is left of the three lists: the cells to take out, the cells to put in, and the cells of the list
 pub record Left : Type 0 where
   pub out : List ℕ
   pub put : List ℕ
   pub cells : List ℕ
 
--- every cell to be taken out is there, and none to be put in is
+-- every cell to take out is in the list, and no cell to put in is
 pub record CanApply (l : Left) : Type 0 where
   pub out_is_there : (x : ℕ) → has l.out x ≡ true → has l.cells x ≡ true
   pub put_is_new : (x : ℕ) → has l.put x ≡ true → has l.cells x ≡ false
@@ -23,37 +24,38 @@ pub record CanApply (l : Left) : Type 0 where
 abbrev pub made : Left → List ℕ
 made l = applied l.out l.put l.cells
 
--- one step: it gives the front cells of what the change makes, and leaves less
+-- one step of the walk: it gives `front`, the next cells of the result, and leaves less
 pub record Goes (front : List ℕ) (old new : Left) : Type 0 where
   pub same : CanApply old ↔ CanApply new
   pub gives : CanApply old → made old ≡ front ++ made new
   pub less : length new.cells + length new.put < length old.cells + length old.put
 
--- a run of cells that stay: they are the front of what the change makes
+-- a run of cells that stay: `front` is the beginning of the result
 pub record Keeps (front : List ℕ) (old new : Left) : Type 0 where
   pub same : CanApply old ↔ CanApply new
   pub gives : CanApply old → made old ≡ front ++ made new
   pub less : length new.cells + length new.put ≤ length old.cells + length old.put
 
+-- what each kind of turn says: it writes a cell, writes nothing, finds that the change does not fit, or is at the end
 abbrev pub IsTurn : Turn → Left → Left → Type 0
 IsTurn (Write c) old new = Goes (c ∷ []) old new
 IsTurn Skip old new = Goes [] old new
 IsTurn Misfit old new = CanApply old → ⊥
 IsTurn End old new = CanApply old × (made old ≡ [])
 
--- how the first of a list stands to the cell, where none stands as one above it
+-- how the first cell of a list compares to `cell`; an empty list compares as greater
 abbrev pub IsHead : Ordering → List ℕ → ℕ → Type 0
 IsHead o [] cell = o ≡ Greater
 IsHead Less (x ∷ xs) cell = x < cell
 IsHead Equal (x ∷ xs) cell = x ≡ cell
 IsHead Greater (x ∷ xs) cell = cell < x
 
--- the first of the list, or a number that no cell reaches where there is none
+-- the first cell of the list, or a number above every cell if the list is empty
 abbrev pub IsFirst : ℕ → List ℕ → Type 0
 IsFirst n [] = n ≡ 2 ^ 64 - 1
 IsFirst n (x ∷ xs) = n ≡ x
 
--- the three lists ascend, and the cells are packed
+-- the lists of the change ascend, and the list of cells is packed
 pub record Ascend (l : Left) : Type 0 where
   pub out : IsStrictlyIncreasing l.out
   pub put : IsStrictlyIncreasing l.put

@@ -9,7 +9,7 @@ pub record Brackets (u : List ℕ) (mark low high : ℕ) : Type 0 where
   pub below : (k : ℕ) → k < low → slice_index u k < mark
   pub rest : (k : ℕ) → high ≤ k → k < length u → mark ≤ slice_index u k
 
--- a local list, and a place in it
+-- `u` is local, and `at` is a place in it or its end
 pub record IsCursor (u : List ℕ) (at : ℕ) : Type 0 where
   pub local : IsLocal u
   pub within : at ≤ length u

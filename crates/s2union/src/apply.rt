@@ -14,7 +14,7 @@ impl CellUnion {
     /// An empty union with room for `n` cells, which [`apply_into`](CellUnion::apply_into) and
     /// [`copy_from`](CellUnion::copy_from) may fill.
     ///
-    /// The one call of its kind that takes memory: as much as the room needs, at once.
+    /// Of the calls on changes this is the only one that takes memory: all that the room needs, at once.
     pub fn with_room(alloc: Global, n: usize) -> Result<CellUnion, AllocError>
         ensures cells { IfOk result (λ u. u.cells ≡ []) }
         ensures room { IfOk result (λ u. n ≤ u.room) }
@@ -23,9 +23,9 @@ impl CellUnion {
         Ok(CellUnion { cells })
     }
 
-    /// Makes this union a copy of another, for whose list it has room. It keeps its room.
+    /// Makes this union a copy of another. It must have room for the other's list, and keeps its room.
     ///
-    /// The list is copied whole; what was there before is dropped. Takes no memory.
+    /// Copies the whole list, and drops what was there before. Takes no memory.
     pub fn copy_from(&mut self, other: &CellUnion)
         requires { length other.now.cells ≤ self.old.room }
         ensures cells { self.new.cells ≡ other.now.cells }
@@ -37,10 +37,10 @@ impl CellUnion {
     }
 
     /// Whether the cells of `out` can be taken out of the list and those of `put` be put in: every cell
-    /// of `out` is in the list, none of `put` is, and what comes of it is normalised.
+    /// of `out` is in the list, none of `put` is, and the result is normalized.
     ///
-    /// Both given lists ascend by identifier. A search for each of their cells, which goes on from the one before, so a
-    /// small change of a long list is logarithmic in the list. Takes no memory.
+    /// Both given lists ascend by identifier. Searches for each of their cells, starting where the search before ended,
+    /// so the cost of a small change is logarithmic in the length of the list. Takes no memory.
     pub fn can_apply(&self, out: &[CellId], put: &[CellId]) -> bool
         requires out_ascends { IsStrictlyIncreasing out.now }
         requires put_ascends { IsStrictlyIncreasing put.now }
@@ -49,11 +49,11 @@ impl CellUnion {
         fits_cells(self.cells(), out, put)
     }
 
-    /// Writes this list without `out` and with `put` into another union, which has room for it and keeps
-    /// that room.
+    /// Writes this list without `out` and with `put` into another union, which must have room for it and keeps that
+    /// room.
     ///
-    /// A search for each cell of `out` and `put`, and whole copies of what lies between. What `into` held before is
-    /// dropped. Takes no memory.
+    /// Searches for each cell of `out` and `put`, and copies what lies between whole. Drops what `into` held before.
+    /// Takes no memory.
     pub fn apply_into(&self, out: &[CellId], put: &[CellId], into: &mut CellUnion)
         requires fits { Fits out.now put.now self.now.cells }
         requires room { length (applied out.now put.now self.now.cells) ≤ into.old.room }
@@ -87,7 +87,7 @@ fn apply_cells(cells: &[CellId], out: &[CellId], put: &[CellId], into: &mut Vec<
     }
 }
 
-/// Puts cells behind a list that has room for them, and leaves its room as it is.
+/// Appends cells to a list that has room for them, and leaves its room as it is.
 fn push_all(list: &mut Vec<CellId>, cells: &[CellId])
     requires { vec_len list.old + length cells.now ≤ vec_capacity list.old }
     ensures items { list.new.items ≡ list.old.items ++ cells.now }
@@ -98,8 +98,8 @@ fn push_all(list: &mut Vec<CellId>, cells: &[CellId])
     }
 }
 
-/// Whether the change fits the cells: the walk finds no misfit, and what it gives is packed. Runs of cells that stay are
-/// passed over.
+/// Whether the change fits the cells: the walk finds no misfit, and the cells that it gives are packed. Skips runs of
+/// cells that stay.
 fn fits_cells<'a>(cells: &'a [CellId], out: &'a [CellId], put: &'a [CellId]) -> bool
     requires local { IsLocal cells.now }
     requires out_ascends { IsStrictlyIncreasing out.now }

@@ -1,19 +1,19 @@
 //! Questions that are asked in order.
-ghost use Rattle.std.specs.Prelude.{◌≡◌, ◌≤◌, ◌<◌, ◌+◌, ◌*◌, ◌^◌, ◌↔◌, IsTrue, length, slice_index};
-ghost use Rattle.s2cell.specs.Cell.{covers, first_leaf, size_of};
+ghost use Rattle.std.specs.Prelude.{◌≡◌, ◌≤◌, ◌*◌, ◌^◌, ◌↔◌, IsTrue, length};
+ghost use Rattle.s2cell.specs.Cell.{covers, first_leaf};
 ghost use Rattle.s2union.specs.Union.{has_leaf, IsWithin, ShareSome};
-ghost use Rattle.s2union.specs.Packed.{IsPacked, Behind};
+ghost use Rattle.s2union.specs.Packed.{IsPacked, Behind, EndsAfter};
 
 use crate::search::{find, find_from, holds_at, meets_at};
 use crate::union::CellUnion;
-use s2cell::CellId;
+use s2cell::{CellId, LEAVES};
 use std::marker::Model;
 
-/// A union that is asked about one cell after another, and the place where the last one was looked for.
+/// A union that is asked about one cell after another, and the place where the last search ended.
 ///
-/// The answers are those of the union itself, in any order of the cells. When they ascend each search goes on from the
-/// one before, and takes a number of steps that is logarithmic in how far apart the two are. A contract sees the
-/// union's cells.
+/// The answers are those of the union itself, whatever the order of the cells. If the cells ascend, each search starts
+/// where the one before ended, and its steps are logarithmic in the distance between the two. A contract sees the cells
+/// of the union.
 #[derive(Drop)]
 pub struct Cursor<'a> {
     cells: &'a [CellId],
@@ -32,7 +32,7 @@ impl<'a> Model for Cursor<'a> {
 }
 
 impl CellUnion {
-    /// The union, to be asked about cells in order. Takes no memory.
+    /// A cursor for questions about cells in order. Takes no memory.
     pub fn cursor(&self) -> Cursor<'_>
         ensures { result ≡ self.now.cells }
     {
@@ -51,7 +51,8 @@ impl<'a> Cursor<'a> {
     {
         let at = find_near(self.cells, self.at, cell.first_leaf());
         self.at = at;
-        holds_at(self.cells, at, cell)
+        let mut looks = 0;
+        holds_at(self.cells, at, cell, &mut looks)
     }
 
     /// Whether the union has a leaf of the cell.
@@ -61,18 +62,20 @@ impl<'a> Cursor<'a> {
     {
         let at = find_near(self.cells, self.at, cell.first_leaf());
         self.at = at;
-        meets_at(self.cells, at, cell)
+        let mut looks = 0;
+        meets_at(self.cells, at, cell, &mut looks)
     }
 }
 
-/// How many cells end by the leaf `lo`: the search begins with the first `near` when these do, and anew otherwise.
+/// How many cells end by the leaf `lo`. The search starts after the first `near` cells if these do, else from the
+/// beginning.
 fn find_near(cells: &[CellId], near: usize, lo: u64) -> usize
     requires packed { IsPacked cells.now }
-    requires leaf { lo ≤ 6 * 4 ^ 30 }
+    requires leaf { lo ≤ LEAVES }
     requires within { near ≤ length cells.now }
     ensures within { result ≤ length cells.now }
     ensures behind { Behind cells.now result lo }
-    ensures next { result < length cells.now → lo < first_leaf (slice_index cells.now result) + size_of (slice_index cells.now result) }
+    ensures next { EndsAfter cells.now result lo }
 {
     if near > 0 && cells[near - 1].end_leaf() <= lo {
         find_from(cells, near, lo)

@@ -1,16 +1,15 @@
 //! Unions cut to the levels that a caller wants.
 
-ghost use Rattle.std.specs.Prelude.{◌*◌, ◌^◌, ◌≡◌, ◌≤◌, ◌<◌, length};
+ghost use Rattle.std.specs.Prelude.{◌*◌, ◌≡◌, ◌≤◌, ◌<◌, length};
 ghost use Rattle.s2union.specs.Union.{IsLocal};
 ghost use Rattle.s2union.specs.Denorm.{denormalised, IsDenormalised, IsCutLevel, cut_level};
 
 use crate::union::CellUnion;
-use s2cell::CellId;
+use s2cell::{CellId, GREATEST_LEVEL, LEAVES};
 use std::marker::Model;
 
-/// The cells of a union, each cut to the level that is wanted: an iterator that borrows the union
-/// and holds a few numbers, and takes no memory. A contract sees it as the list of the cells that
-/// are still to come.
+/// The cells of a union, each cut to the level that is wanted: an iterator that borrows the union, holds a few numbers
+/// and takes no memory. A contract sees it as the list of the cells that are still to come.
 #[derive(Drop)]
 pub struct Denorm<'a> {
     cells: &'a [CellId],
@@ -34,9 +33,9 @@ impl<'a> Model for Denorm<'a> {
 }
 
 impl<'a> Denorm<'a> {
-    /// Stands at the first cell of those that `cells` are cut to.
+    /// The iterator over the cells that `cells` are cut to, at its first cell.
     fn over(cells: &'a [CellId], min: u8, modulus: u8) -> Denorm<'a>
-        requires min { min ≤ 30 }
+        requires min { min ≤ GREATEST_LEVEL }
         requires some { 0 < modulus }
         requires modulus { modulus ≤ 3 }
         ensures { result ≡ denormalised min modulus cells.now }
@@ -83,39 +82,38 @@ impl<'a> Iterator for Denorm<'a> {
 
 /// The level that a cell of this level is cut to.
 fn level_to_cut(level: u8, min: u8, modulus: u8) -> u8
-    requires level { level ≤ 30 }
-    requires min { min ≤ 30 }
+    requires level { level ≤ GREATEST_LEVEL }
+    requires min { min ≤ GREATEST_LEVEL }
     requires some { 0 < modulus }
     requires modulus { modulus ≤ 3 }
     ensures value { result ≡ cut_level level min modulus }
     ensures meaning { IsCutLevel level min modulus result }
     ensures own { level ≤ result }
-    ensures most { result ≤ 30 }
+    ensures most { result ≤ GREATEST_LEVEL }
 {
     let steps = (level.saturating_sub(min) + (modulus - 1)) / modulus;
-    (min + steps * modulus).min(30)
+    (min + steps * modulus).min(GREATEST_LEVEL)
 }
 
 impl CellUnion {
-    /// The cells, each cut into those of the least level that is at least its own and at least
-    /// `min` and differs from `min` by a multiple of `modulus`; into its leaves where there is no
-    /// such level. The items ascend, and have the leaves of the union. `min` is at most 30 and
-    /// `modulus` 1 to 3. A face has `4^30` leaves: ask `denormalized_len` first. S2 calls it
-    /// `Denormalize`.
+    /// The cells, each cut into cells of the least level that is at least its own, is at least `min`, and differs from
+    /// `min` by a multiple of `modulus`; into its leaves if there is no such level. The items ascend, and have the
+    /// leaves of the union. `min` is at most 30, and `modulus` is 1 to 3. There may be as many items as leaves, `4^30`
+    /// for a face: call `denormalized_len` first. S2 calls it `Denormalize`.
     pub fn denormalized(&self, min: u8, modulus: u8) -> Denorm<'_>
-        requires min { min ≤ 30 }
+        requires min { min ≤ GREATEST_LEVEL }
         requires some { 0 < modulus }
         requires modulus { modulus ≤ 3 }
         ensures items { result ≡ denormalised min modulus self.now.cells }
         ensures meaning { IsDenormalised min modulus self.now.cells result }
-        ensures most { length result ≤ 6 * 4 ^ 30 }
+        ensures most { length result ≤ LEAVES }
     {
         Denorm::over(self.cells(), min, modulus)
     }
 
-    /// How many cells `denormalized` gives, without going through them, under the same conditions.
+    /// How many cells `denormalized` gives, computed without going through them, under the same conditions.
     pub fn denormalized_len(&self, min: u8, modulus: u8) -> u64
-        requires min { min ≤ 30 }
+        requires min { min ≤ GREATEST_LEVEL }
         requires some { 0 < modulus }
         requires modulus { modulus ≤ 3 }
         ensures { result ≡ length (denormalised min modulus self.now.cells) }
@@ -124,10 +122,10 @@ impl CellUnion {
     }
 }
 
-/// How many cells those of a local list are cut to.
+/// How many cells the cells of a local list are cut into.
 fn count_items(cells: &[CellId], min: u8, modulus: u8) -> u64
     requires local { IsLocal cells.now }
-    requires min { min ≤ 30 }
+    requires min { min ≤ GREATEST_LEVEL }
     requires some { 0 < modulus }
     requires modulus { modulus ≤ 3 }
     ensures { result ≡ length (denormalised min modulus cells.now) }

@@ -1,14 +1,12 @@
-//! The search that all calls on lists in order share.
-ghost use Rattle.std.specs.Prelude.{◌≡◌, ◌≤◌, ◌<◌, ◌+◌, ℕ, length, slice_index, ◌⊎◌};
+//! The search that all calls on ordered lists share.
+ghost use Rattle.std.specs.Prelude.{◌≡◌, ◌≤◌, ◌<◌, ◌+◌, ◌-◌, ◌*◌, ◌^◌, ℕ, length, slice_index, ◌⊎◌};
 ghost use Rattle.std.specs.List.Sorted.{IsStrictlyIncreasing};
 ghost use Rattle.s2union.specs.Search.{Brackets};
 
+use crate::looks::{Found, look};
 use s2cell::CellId;
 
-/// How many cells of an ascending list have an identifier below `mark`, where the first `from` have.
-///
-/// It leaps on from there, each leap eight times as long as the one before, and searches what the last leap passed
-/// over. So it takes a number of steps that is logarithmic in how far it gets, however long the list is.
+/// How many cells of an ascending list have an identifier below `mark`, given that the first `from` have.
 pub(crate) fn gallop(cells: &[CellId], from: usize, mark: u64) -> usize
     requires ascends { IsStrictlyIncreasing cells.now }
     requires within { from ≤ length cells.now }
@@ -16,49 +14,74 @@ pub(crate) fn gallop(cells: &[CellId], from: usize, mark: u64) -> usize
     ensures from { from ≤ result }
     ensures place { Brackets cells.now mark result result }
 {
+    gallop_counted(cells, from, mark).at
+}
+
+/// The same, counted.
+///
+/// Starts at `from` and leaps ahead, each leap eight times as long as the one before, and then searches what the last
+/// leap passed over. So the number of looks is logarithmic in how far it gets, however long the list is.
+pub(crate) fn gallop_counted(cells: &[CellId], from: usize, mark: u64) -> Found
+    requires ascends { IsStrictlyIncreasing cells.now }
+    requires within { from ≤ length cells.now }
+    requires below { (k : ℕ) → k < from → slice_index cells.now k < mark }
+    ensures from { from ≤ result.at }
+    ensures place { Brackets cells.now mark result.at result.at }
+    ensures looks { (k : ℕ) → result.at - from < 2 ^ k → result.looks ≤ 4 * k + 13 }
+{
     let mut low = from;
     let mut leap = 1;
-    while leap <= cells.len() - low && cells[low + (leap - 1)].id() < mark {
+    let mut looks = 0;
+    while leap <= cells.len() - low {
+        if is_below(cells, low + (leap - 1), mark, &mut looks) == 0 {
+            return narrow(cells, low, low + (leap - 1), mark, looks);
+        }
         low += leap;
         leap = leap.saturating_mul(8);
     }
-    let high = if leap <= cells.len() - low {
-        low + (leap - 1)
-    } else {
-        cells.len()
-    };
-    narrow(cells, low, high, mark)
+    narrow(cells, low, cells.len(), mark, looks)
 }
 
-/// How many cells of an ascending list have an identifier below `mark`, where the first `low` have and those from
-/// `high` on have not. It looks at three cells at once and sums what they say, since a branch on each would be guessed
-/// wrong half the time.
-pub(crate) fn narrow(cells: &[CellId], low: usize, high: usize, mark: u64) -> usize
+/// How many cells of an ascending list have an identifier below `mark`, given that the first `low` have and those from
+/// `high` on do not; its looks are added to those before. It compares three cells at once and sums the results, since a
+/// branch on each would be mispredicted half the time.
+pub(crate) fn narrow(cells: &[CellId], low: usize, high: usize, mark: u64, before: u64) -> Found
     requires ascends { IsStrictlyIncreasing cells.now }
     requires brackets { Brackets cells.now mark low high }
-    ensures from { low ≤ result }
-    ensures place { Brackets cells.now mark result result }
+    requires before { before ≤ 1000 }
+    ensures from { low ≤ result.at }
+    ensures place { Brackets cells.now mark result.at result.at }
+    ensures looks { (k : ℕ) → high - low ≤ 2 ^ k → result.looks ≤ before + 3 * k + 3 }
 {
     let mut base = low;
     let mut size = high - low;
+    let mut looks = before;
     while size >= 4 {
         let quarter = size / 4;
-        let first = is_below(cells[base + (quarter - 1)], mark);
-        let second = is_below(cells[base + (2 * quarter - 1)], mark);
-        let third = is_below(cells[base + (3 * quarter - 1)], mark);
+        let first = is_below(cells, base + (quarter - 1), mark, &mut looks);
+        let second = is_below(cells, base + (2 * quarter - 1), mark, &mut looks);
+        let third = is_below(cells, base + (3 * quarter - 1), mark, &mut looks);
         base += quarter * (first + second + third);
         size -= 3 * quarter;
     }
-    while size > 0 && cells[base].id() < mark {
+    while size > 0 {
+        if is_below(cells, base, mark, &mut looks) == 0 {
+            return Found { at: base, looks };
+        }
         base += 1;
         size -= 1;
     }
-    base
+    Found { at: base, looks }
 }
 
-/// 1 when the identifier of the cell is below `mark`, else 0.
-fn is_below(cell: CellId, mark: u64) -> usize
-    ensures { ((result ≡ 1) × (cell < mark)) ⊎ ((result ≡ 0) × (mark ≤ cell)) }
+/// 1 if the identifier of the cell at the place `at` is below `mark`, else 0.
+#[inline(always)]
+fn is_below(cells: &[CellId], at: usize, mark: u64, looks: &mut u64) -> usize
+    requires there { at < length cells.now }
+    requires count { looks.old + 1 < 2 ^ 64 }
+    ensures below { ((result ≡ 1) × (slice_index cells.now at < mark))
+        ⊎ ((result ≡ 0) × (mark ≤ slice_index cells.now at)) }
+    ensures count { looks.new ≡ looks.old + 1 }
 {
-    (cell.id() < mark) as usize
+    (look(cells, at, looks).id() < mark) as usize
 }

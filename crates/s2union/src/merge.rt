@@ -9,7 +9,7 @@ use s2cell::CellId;
 use std::cmp::Ordering;
 use std::marker::Model;
 
-/// What is left of a list, of the cells that are taken out of it and of those that are put in.
+/// What is left of a list, of the cells to take out of it, and of those to put in.
 #[derive(Drop)]
 pub(crate) struct Merge<'a> {
     cells: &'a [CellId],
@@ -36,7 +36,7 @@ pub(crate) enum Turn {
     Skip,
     /// The change does not fit the list.
     Misfit,
-    /// All is walked.
+    /// The walk is at its end.
     End,
 }
 
@@ -51,7 +51,7 @@ impl<'a> Merge<'a> {
         Merge { cells, out, put }
     }
 
-    /// The cells of the list before the next one that is taken out or put in: they stay. The walk goes on behind them.
+    /// The cells of the list before the next one that is taken out or put in, which stay. The walk goes on after them.
     pub(crate) fn run(&mut self) -> &'a [CellId]
         ensures keeps { Keeps result.now self.old self.new }
         ensures packed { IsPacked result.now }
@@ -63,7 +63,7 @@ impl<'a> Merge<'a> {
         &cells[..len]
     }
 
-    /// The step where no cell of the list is left.
+    /// The step if no cell of the list is left.
     fn turn_behind(&mut self) -> Turn
         requires { self.old.cells ≡ [] }
         ensures { IsTurn result self.old self.new }
@@ -108,7 +108,7 @@ impl<'a> Merge<'a> {
     }
 }
 
-/// How the first cell of a list stands to the cell; where there is none, as one above it.
+/// How the first cell of a list compares to the cell; an empty list compares as greater.
 fn head_order(list: &[CellId], cell: CellId) -> Ordering
     ensures { IsHead result list.now cell }
 {
@@ -118,7 +118,7 @@ fn head_order(list: &[CellId], cell: CellId) -> Ordering
     }
 }
 
-/// The identifier of the first cell of a list; where there is none, one above all.
+/// The identifier of the first cell of a list, or a number above every cell if the list is empty.
 fn first_id(list: &[CellId]) -> u64
     ensures { IsFirst result list.now }
 {

@@ -1,20 +1,20 @@
-//! The merging core: how one more cell goes behind cells that are packed.
+//! The core of merging: how one more cell is appended to packed cells.
 //!
-//! Packed cells follow each other, and no four neighbours are a family, the children of one cell.
-//! A cell that comes behind them in order of identifiers lies in the last of them, or around some
-//! at the end, or behind all; and where it is the last of a family, it gives way to the parent,
-//! which may be the last of a family again. So the end of the list is a stack, and each cell is
-//! put on it once and taken off once at most.
+//! Packed cells are in order and share no leaf, and no four in a row are a family, the children of one cell. A cell
+//! that comes after them in order of identifiers lies in the last of them, or contains some at the end, or lies after
+//! all of them. If it completes a family, the parent replaces the family, and may complete a family in turn. So the end
+//! of the list is a stack, and each cell is pushed once and popped at most once.
 
-ghost use Rattle.std.specs.Prelude.{◌≡◌, ◌≤◌, ◌<◌, ◌+◌, ◌↔◌, ℕ, IsTrue, MatchOption, length, take, All, ◌||◌, slice_index, ◌-◌, ◌*◌, ◌++◌, ◌∷◌, [], IfSome};
+ghost use Rattle.std.specs.Prelude.{◌≡◌, ◌≤◌, ◌<◌, ◌+◌, ◌↔◌, ℕ, IsTrue, MatchOption, length, take, All};
+ghost use Rattle.std.specs.Prelude.{◌||◌, slice_index, ◌-◌, ◌*◌, ◌++◌, ◌∷◌, [], IfSome};
 ghost use Rattle.std.specs.Vec.{vec_len, vec_capacity};
 ghost use Rattle.s2cell.specs.Cell.{IsCell, level_of, covers, first_leaf, IsInside};
 ghost use Rattle.s2union.specs.Union.{has_leaf};
 ghost use Rattle.s2union.specs.Packed.{EndsBefore, IsFamily, IsPacked, Merges};
 
-use s2cell::CellId;
+use s2cell::{CellId, GREATEST_LEVEL};
 
-/// Adds the leaves of a cell to packed cells, where there is room for one more.
+/// Adds the leaves of a cell to packed cells that have room for one more.
 pub(crate) fn add_reserved(list: &mut Vec<CellId>, cell: CellId)
     requires packed { IsPacked list.old.items }
     requires starts { All (λ c. 2 * first_leaf c < cell) list.old.items }
@@ -31,12 +31,13 @@ pub(crate) fn add_reserved(list: &mut Vec<CellId>, cell: CellId)
     }
 }
 
-/// What the front becomes where a cell is added: how many cells of it stay, and the one that
-/// follows them. None where the last cell of the front holds the new one.
+/// What the front becomes when a cell is added: how many of its cells stay, and the cell that follows them. None if the
+/// last cell of the front contains the new one.
 pub(crate) fn settled(front: &[CellId], cell: CellId) -> Option<(usize, CellId)>
     requires packed { IsPacked front.now }
     requires starts { All (λ c. 2 * first_leaf c < cell) front.now }
-    ensures cases { MatchOption result ((x : ℕ) → has_leaf front.now x ≡ (has_leaf front.now x || covers cell x)) (λ r. Merges front.now cell r.0 r.1) }
+    ensures cases { MatchOption result ((x : ℕ) → has_leaf front.now x ≡ (has_leaf front.now x || covers cell x))
+        (λ r. Merges front.now cell r.0 r.1) }
     ensures starts { IfSome result (λ r. All (λ c. 2 * first_leaf c < cell) (take r.0 front.now ++ r.1 ∷ [])) }
 {
     let n = front.len();
@@ -49,7 +50,7 @@ pub(crate) fn settled(front: &[CellId], cell: CellId) -> Option<(usize, CellId)>
     Some((kept, last))
 }
 
-/// How many cells of the front lie outside the cell, which come first.
+/// How many cells of the front lie outside the cell; these come first.
 pub(crate) fn outside(front: &[CellId], cell: CellId) -> usize
     requires packed { IsPacked front.now }
     requires starts { All (λ c. 2 * first_leaf c < cell) front.now }
@@ -57,7 +58,8 @@ pub(crate) fn outside(front: &[CellId], cell: CellId) -> usize
     requires not_held { 0 < length front.now → IsInside cell (slice_index front.now (length front.now - 1)) → ⊥ }
     ensures within { result ≤ length front.now }
     ensures after { All (λ c. EndsBefore c cell) (take result front.now) }
-    ensures leaves { (x : ℕ) → (has_leaf (take result front.now) x || covers cell x) ≡ (has_leaf front.now x || covers cell x) }
+    ensures leaves { (x : ℕ) → (has_leaf (take result front.now) x || covers cell x)
+        ≡ (has_leaf front.now x || covers cell x) }
 {
     let mut kept = front.len();
     while kept > 0 && cell.contains(front[kept - 1]) {
@@ -66,7 +68,7 @@ pub(crate) fn outside(front: &[CellId], cell: CellId) -> usize
     kept
 }
 
-/// The same for a cell behind the whole front: only families are merged.
+/// The same for a cell after the whole front, for which only families are merged.
 pub(crate) fn merged(front: &[CellId], cell: CellId) -> (usize, CellId)
     requires packed { IsPacked front.now }
     requires after { All (λ c. EndsBefore c cell) front.now }
@@ -108,7 +110,7 @@ pub(crate) fn parent_of_family(a: CellId, b: CellId, c: CellId, d: CellId) -> Op
 
 /// Whether these four are the children of `parent`, in order.
 pub(crate) fn is_family(parent: CellId, a: CellId, b: CellId, c: CellId, d: CellId) -> bool
-    requires { level_of parent < 30 }
+    requires { level_of parent < GREATEST_LEVEL }
     ensures { IsTrue result ↔ IsFamily a b c d parent }
 {
     let _ = parent.id();

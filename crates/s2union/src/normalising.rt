@@ -1,6 +1,7 @@
-//! Normalising a list, and telling whether it is normalised.
+//! Normalizing a list, and testing whether it is normalized.
 
-ghost use Rattle.std.specs.Prelude.{◌≡◌, ◌≤◌, ◌<◌, ◌+◌, ◌↔◌, ℕ, IsTrue, take, All, ◌||◌, slice_index_or, ◌*◌, ◌++◌, ◌∷◌, []};
+ghost use Rattle.std.specs.Prelude.{◌≡◌, ◌≤◌, ◌<◌, ◌+◌, ◌↔◌, ℕ, IsTrue, take, All, ◌||◌, slice_index_or};
+ghost use Rattle.std.specs.Prelude.{◌*◌, ◌++◌, ◌∷◌, []};
 ghost use Rattle.std.specs.Vec.{vec_len, vec_capacity};
 ghost use Rattle.std.specs.List.Sorted.{IsNonDecreasing};
 ghost use Rattle.s2cell.specs.Cell.{covers, first_leaf};
@@ -11,10 +12,9 @@ use crate::merging::{parent_of_family, settled};
 use crate::union::CellUnion;
 use s2cell::CellId;
 
-/// The union that has the leaves of these cells, whatever their order, and however they lie in one
-/// another. It works in the list's own place and keeps its room, takes no memory and can't fail. A
-/// sort and one pass: `n log n` steps, and little more than `n` where the list is in order. S2
-/// calls it `Normalize`.
+/// The union of the leaves of these cells, which may be in any order and contain one another. Works in the list's own
+/// place and keeps its room, takes no memory and can't fail. A sort and one pass: `n log n` steps, and little more than
+/// `n` if the list is in order. S2 calls it `Normalize`.
 pub fn normalise(mut cells: Vec<CellId>) -> CellUnion
     ensures leaves { (x : ℕ) → has_leaf result.cells x ≡ has_leaf cells.items x }
     ensures local { IsLocal result.cells }
@@ -27,7 +27,7 @@ pub fn normalise(mut cells: Vec<CellId>) -> CellUnion
     CellUnion { cells }
 }
 
-/// Packs cells that are in order, in their own place.
+/// Packs cells that are in order, in place.
 fn compact(cells: &mut Vec<CellId>)
     requires { IsNonDecreasing cells.old.items }
     ensures leaves { (x : ℕ) → has_leaf cells.new.items x ≡ has_leaf cells.old.items x }
@@ -42,7 +42,7 @@ fn compact(cells: &mut Vec<CellId>)
     cells.truncate(n);
 }
 
-/// Puts a cell behind the first `n` cells, which are packed, and says how many they are then.
+/// Adds a cell after the first `n` cells, which are packed, and answers how many packed cells there are then.
 fn placed(cells: &mut Vec<CellId>, n: usize, cell: CellId) -> usize
     requires room { n < vec_len cells.old }
     requires packed { IsPacked (take n cells.old.items) }
@@ -50,7 +50,8 @@ fn placed(cells: &mut Vec<CellId>, n: usize, cell: CellId) -> usize
     ensures within { result ≤ n + 1 }
     ensures packed { IsPacked (take result cells.new.items) }
     ensures starts { All (λ c. 2 * first_leaf c < cell) (take result cells.new.items) }
-    ensures leaves { (x : ℕ) → has_leaf (take result cells.new.items) x ≡ (has_leaf (take n cells.old.items) x || covers cell x) }
+    ensures leaves { (x : ℕ) → has_leaf (take result cells.new.items) x
+        ≡ (has_leaf (take n cells.old.items) x || covers cell x) }
     ensures rest { (k d : ℕ) → n < k → slice_index_or cells.new.items k d ≡ slice_index_or cells.old.items k d }
     ensures len { vec_len cells.new ≡ vec_len cells.old }
     ensures room { vec_capacity cells.new ≡ vec_capacity cells.old }
@@ -64,8 +65,8 @@ fn placed(cells: &mut Vec<CellId>, n: usize, cell: CellId) -> usize
     }
 }
 
-/// Whether a list of cells is normalised: it ascends, no two cells share a leaf, and no four are
-/// the children of one cell. That is so exactly where it is the normal form of its leaves. Linear.
+/// Whether a list of cells is normalized: it ascends, no two cells share a leaf, and no four are
+/// the children of one cell. That is so exactly if it is the normal form of its leaves. Linear.
 /// S2 calls it `IsNormalized`.
 pub fn is_normalized(cells: &[CellId]) -> bool
     ensures local { IsTrue result ↔ IsLocal cells.now }
@@ -79,7 +80,7 @@ pub fn is_normalized(cells: &[CellId]) -> bool
     true
 }
 
-/// Whether a cell behind packed cells leaves them packed.
+/// Whether packed cells are still packed with this cell appended.
 fn fits_behind(front: &[CellId], cell: CellId) -> bool
     requires packed { IsPacked front.now }
     ensures { IsTrue result ↔ IsPacked (front.now ++ cell ∷ []) }

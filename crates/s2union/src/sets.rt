@@ -1,6 +1,7 @@
 //! The set operations, each a pass over two sorted lists side by side.
 
-ghost use Rattle.std.specs.Prelude.{All, MatchOption, slice_index, ◌≡◌, ◌≤◌, ◌<◌, ◌+◌, ℕ, length, ◌||◌, ◌*◌, ◌^◌, [], IfOk, OnOk, ◌&&◌, not};
+ghost use Rattle.std.specs.Prelude.{All, MatchOption, slice_index, ◌≡◌, ◌≤◌, ◌<◌, ◌+◌, ℕ, length, ◌||◌, []};
+ghost use Rattle.std.specs.Prelude.{IfErr, IfOk, List, OnOk, ◌&&◌, not};
 ghost use Rattle.std.specs.Vec.{vec_len, vec_capacity};
 ghost use Rattle.std.specs.List.Sorted.{IsStrictlyIncreasing};
 ghost use Rattle.s2cell.specs.Cell.{IsCell, first_leaf, size_of};
@@ -8,22 +9,25 @@ ghost use Rattle.s2union.specs.Union.{IsLocal, IsNormalForm, has_leaf, between};
 ghost use Rattle.s2union.specs.Sets.{either, shared, without};
 ghost use Rattle.s2union.specs.Packed.{Behind, FillsGap, IsPacked};
 
+use crate::fault::UnionFault;
 use crate::gallop::gallop;
 use crate::merging::add_reserved;
-use crate::runs::{add_run, extend};
+use crate::runs::{add_run, extend, extend_up_to};
 use crate::search::find_from;
 use crate::union::CellUnion;
-use s2cell::CellId;
+use s2cell::{CellId, LEAVES};
 use std::alloc::{AllocError, Global};
 
 impl CellUnion {
-    /// The leaves of either. One pass over both; where one is much the shorter, a search for each of its
-    /// cells and whole copies of what lies between. It takes room for the cells of both beforehand, and
-    /// refuses only where there is no memory. S2 calls it `Union`.
+    /// The leaves of either. One pass over both lists; if one is much shorter, a search for each of its cells, and
+    /// whole copies of what lies between them. Takes room for the cells of both at the start. Refuses only if it is
+    /// out of memory. S2 calls it `Union`.
     pub fn union(&self, other: &CellUnion) -> Result<CellUnion, AllocError>
         ensures local { IfOk result (λ u. IsLocal u.cells) }
-        ensures leaves { IfOk result (λ u. (x : ℕ) → has_leaf u.cells x ≡ (has_leaf self.now.cells x || has_leaf other.now.cells x)) }
-        ensures normal { IfOk result (λ u. IsNormalForm (either (has_leaf self.now.cells) (has_leaf other.now.cells)) u.cells) }
+        ensures leaves { IfOk result (λ u. (x : ℕ) →
+            has_leaf u.cells x ≡ (has_leaf self.now.cells x || has_leaf other.now.cells x)) }
+        ensures normal { IfOk result (λ u. IsNormalForm
+            (either (has_leaf self.now.cells) (has_leaf other.now.cells)) u.cells) }
     {
         let room = self.cells.len() + other.cells.len();
         let mut cells = Vec::with_capacity(*self.cells.allocator(), room)?;
@@ -31,37 +35,64 @@ impl CellUnion {
         Ok(CellUnion { cells })
     }
 
-    /// The leaves that both have. A search in the longer list for each cell of the shorter one, and whole copies of what
-    /// lies in it; memory for the cells that come out. Refused only where there is none. S2 calls it `Intersection`.
+    /// The leaves that both have. A search in the longer list for each cell of the shorter one, and whole copies of
+    /// what lies in that cell. Takes memory for the cells of the result. Refuses only if it is out of memory. S2 calls
+    /// it `Intersection`.
     pub fn intersection(&self, other: &CellUnion) -> Result<CellUnion, AllocError>
         ensures local { IfOk result (λ u. IsLocal u.cells) }
-        ensures leaves { IfOk result (λ u. (x : ℕ) → has_leaf u.cells x ≡ (has_leaf self.now.cells x && has_leaf other.now.cells x)) }
-        ensures normal { IfOk result (λ u. IsNormalForm (shared (has_leaf self.now.cells) (has_leaf other.now.cells)) u.cells) }
+        ensures leaves { IfOk result (λ u. (x : ℕ) →
+            has_leaf u.cells x ≡ (has_leaf self.now.cells x && has_leaf other.now.cells x)) }
+        ensures normal { IfOk result (λ u. IsNormalForm
+            (shared (has_leaf self.now.cells) (has_leaf other.now.cells)) u.cells) }
     {
         let mut cells = Vec::new(*self.cells.allocator());
         share(&mut cells, self.cells(), other.cells())?;
         Ok(CellUnion { cells })
     }
 
-    /// The leaves of this union that the other has not. A search in the longer list for each cell of the shorter one,
-    /// whole copies of what lies between, and the cells that come out; memory for these. Refused only where there is
-    /// none. S2 calls it `Difference`.
+    /// The leaves of this union that the other doesn't have. A search in the longer list for each cell of the shorter
+    /// one, whole copies of what lies between, and the cells of the gaps. Takes memory for the cells of the result.
+    /// Refuses only if it is out of memory. S2 calls it `Difference`.
     pub fn difference(&self, other: &CellUnion) -> Result<CellUnion, AllocError>
         ensures local { IfOk result (λ u. IsLocal u.cells) }
-        ensures leaves { IfOk result (λ u. (x : ℕ) → has_leaf u.cells x ≡ (has_leaf self.now.cells x && not (has_leaf other.now.cells x))) }
-        ensures normal { IfOk result (λ u. IsNormalForm (without (has_leaf self.now.cells) (has_leaf other.now.cells)) u.cells) }
+        ensures leaves { IfOk result (λ u. (x : ℕ) →
+            has_leaf u.cells x ≡ (has_leaf self.now.cells x && not (has_leaf other.now.cells x))) }
+        ensures normal { IfOk result (λ u. IsNormalForm
+            (without (has_leaf self.now.cells) (has_leaf other.now.cells)) u.cells) }
+    {
+        // Only memory can run out: no list has more cells than this limit.
+        match self.difference_up_to(other, usize::MAX) {
+            Ok(union) => Ok(union),
+            Err(_) => Err(AllocError),
+        }
+    }
+
+    /// The same, if it has at most `limit` cells. Stops as soon as it has made more, so it takes memory for `limit`
+    /// cells and those that fill one gap (fewer than 200), however long the whole difference would be.
+    ///
+    /// Answers `TooMany` only if the whole difference has more than `limit` cells. S2 has no such call.
+    pub fn difference_up_to(&self, other: &CellUnion, limit: usize) -> Result<CellUnion, UnionFault>
+        ensures local { IfOk result (λ u. IsLocal u.cells) }
+        ensures leaves { IfOk result (λ u. (x : ℕ) →
+            has_leaf u.cells x ≡ (has_leaf self.now.cells x && not (has_leaf other.now.cells x))) }
+        ensures normal { IfOk result (λ u. IsNormalForm
+            (without (has_leaf self.now.cells) (has_leaf other.now.cells)) u.cells) }
+        ensures within { IfOk result (λ u. length u.cells ≤ limit) }
+        ensures many { IfErr result (λ fault. fault ≡ UnionFault.TooMany → (u : List ℕ) →
+            IsNormalForm (without (has_leaf self.now.cells) (has_leaf other.now.cells)) u → limit < length u) }
     {
         let mut cells = Vec::new(*self.cells.allocator());
-        subtract(&mut cells, self.cells(), other.cells())?;
+        subtract(&mut cells, self.cells(), other.cells(), limit)?;
         Ok(CellUnion { cells })
     }
 
-    /// All leaves from the first of `x` to the last of `y`, across faces too. A few steps a cell
-    /// that comes out; refused only where there is no memory. S2 has `InitFromMinMax` for leaves.
+    /// All leaves from the first of `x` to the last of `y`, across faces too. Takes a few steps for each cell of the
+    /// result. Refuses only if it is out of memory. S2 has `InitFromMinMax` for leaves.
     pub fn from_range(alloc: Global, x: CellId, y: CellId) -> Result<CellUnion, AllocError>
         requires { first_leaf x < first_leaf y + size_of y }
         ensures local { IfOk result (λ u. IsLocal u.cells) }
-        ensures leaves { IfOk result (λ u. (n : ℕ) → has_leaf u.cells n ≡ between (first_leaf x) (first_leaf y + size_of y) n) }
+        ensures leaves { IfOk result (λ u. (n : ℕ) →
+            has_leaf u.cells n ≡ between (first_leaf x) (first_leaf y + size_of y) n) }
         ensures normal { IfOk result (λ u. IsNormalForm (between (first_leaf x) (first_leaf y + size_of y)) u.cells) }
     {
         let mut cells = Vec::new(alloc);
@@ -70,7 +101,7 @@ impl CellUnion {
     }
 }
 
-/// A list counts as short where the other is so many times as long. A search in the other takes no more steps
+/// A list counts as short if the other is at least this many times as long. A search in the other takes no more steps
 /// than that, so the searches for all cells of the short one take no more than a pass.
 const MUCH_LONGER: usize = 64;
 
@@ -104,7 +135,7 @@ fn join_evenly(list: &mut Vec<CellId>, xs: &[CellId], ys: &[CellId])
     let mut i = 0;
     let mut j = 0;
     while i < xs.len() && j < ys.len() {
-        // A choice and two sums in place of branches, which would be guessed wrong half the time.
+        // A choice and two sums in place of branches, which the processor would guess wrong half of the time.
         let x = xs[i];
         let y = ys[j];
         let is_x = x < y;
@@ -139,8 +170,8 @@ fn join_few(list: &mut Vec<CellId>, xs: &[CellId], ys: &[CellId])
     add_run(list, &xs[done..]);
 }
 
-/// Puts the leaves that `xs` and `ys` share into an empty list. The cells of one that lie in a cell of the other are
-/// copied as one run, and those before the next cell of the other are passed over by a search.
+/// Puts the leaves that `xs` and `ys` share into an empty list. Copies the cells of one list that lie in a cell of the
+/// other as one run, and passes over those before the next cell of the other by a search.
 fn share(list: &mut Vec<CellId>, xs: &[CellId], ys: &[CellId]) -> Result<(), AllocError>
     requires empty { list.old.items ≡ [] }
     requires x_local { IsLocal xs.now }
@@ -172,19 +203,29 @@ fn share(list: &mut Vec<CellId>, xs: &[CellId], ys: &[CellId]) -> Result<(), All
     Ok(())
 }
 
-/// Puts the leaves of `xs` that `ys` has not into an empty list. The cells of `xs` before the next of `ys` are copied as
-/// one run, and what one list has before the other goes on, or in a cell of `ys`, is passed over by a search.
-fn subtract(list: &mut Vec<CellId>, xs: &[CellId], ys: &[CellId]) -> Result<(), AllocError>
+/// Puts the leaves of `xs` that `ys` doesn't have into an empty list. Copies the cells of `xs` before the next cell of
+/// `ys` as one run. Passes by a search over the cells of `ys` before the next cell of `xs`, and over those of `xs` in a
+/// cell of `ys`. Stops once it has made more than `limit` cells: each is in the normal form, so that has more too.
+fn subtract(
+    list: &mut Vec<CellId>,
+    xs: &[CellId],
+    ys: &[CellId],
+    limit: usize,
+) -> Result<(), UnionFault>
     requires empty { list.old.items ≡ [] }
     requires x_local { IsLocal xs.now }
     requires y_local { IsLocal ys.now }
     ensures local { OnOk result (IsLocal list.new.items) }
-    ensures leaves { OnOk result ((x : ℕ) → has_leaf list.new.items x ≡ (has_leaf xs.now x && not (has_leaf ys.now x))) }
+    ensures leaves { OnOk result ((x : ℕ) → has_leaf list.new.items x
+        ≡ (has_leaf xs.now x && not (has_leaf ys.now x))) }
+    ensures within { OnOk result (length list.new.items ≤ limit) }
+    ensures many { IfErr result (λ fault. fault ≡ UnionFault.TooMany → (u : List ℕ) →
+        IsNormalForm (without (has_leaf xs.now) (has_leaf ys.now)) u → limit < length u) }
 {
     let mut lo = 0;
     let mut i = 0;
     let mut j = 0;
-    while i < xs.len() {
+    while i < xs.len() && list.len() <= limit {
         let x = xs[i];
         let start = x.first_leaf().max(lo);
         let end = x.end_leaf();
@@ -201,7 +242,7 @@ fn subtract(list: &mut Vec<CellId>, xs: &[CellId], ys: &[CellId]) -> Result<(), 
             None => {
                 if start == x.first_leaf() {
                     let next = free_until(xs, i, ys, j);
-                    extend(list, &xs[i..next])?;
+                    extend_up_to(list, &xs[i..next], limit)?;
                     lo = xs[next - 1].end_leaf();
                     i = next;
                 } else {
@@ -212,15 +253,20 @@ fn subtract(list: &mut Vec<CellId>, xs: &[CellId], ys: &[CellId]) -> Result<(), 
             }
         }
     }
-    Ok(())
+    if list.len() <= limit {
+        Ok(())
+    } else {
+        Err(UnionFault::TooMany)
+    }
 }
 
-/// How many cells of `xs` end before the next cell of `ys`, as the one at the place `i` does.
+/// How many cells of `xs` end before the next cell of `ys`. The cell at the place `i` is one of them.
 fn free_until(xs: &[CellId], i: usize, ys: &[CellId], j: usize) -> usize
     requires x_local { IsLocal xs.now }
     requires y_cells { All IsCell ys.now }
     requires there { i < length xs.now }
-    requires free { j < length ys.now → first_leaf (slice_index xs.now i) + size_of (slice_index xs.now i) ≤ first_leaf (slice_index ys.now j) }
+    requires free { j < length ys.now → first_leaf (slice_index xs.now i) + size_of (slice_index xs.now i)
+        ≤ first_leaf (slice_index ys.now j) }
     ensures more { i < result }
     ensures within { result ≤ length xs.now }
     ensures free { j < length ys.now → Behind xs.now result (first_leaf (slice_index ys.now j)) }
@@ -234,7 +280,8 @@ fn free_until(xs: &[CellId], i: usize, ys: &[CellId], j: usize) -> usize
 
 /// The cell at the place `at`, if there is one that begins before the leaf `end`.
 fn cell_before(cells: &[CellId], at: usize, end: u64) -> Option<CellId>
-    ensures { MatchOption result (at < length cells.now → end ≤ first_leaf (slice_index cells.now at)) (λ c. (at < length cells.now) × (slice_index cells.now at ≡ c) × (first_leaf c < end)) }
+    ensures { MatchOption result (at < length cells.now → end ≤ first_leaf (slice_index cells.now at))
+        (λ c. (at < length cells.now) × (slice_index cells.now at ≡ c) × (first_leaf c < end)) }
 {
     if at >= cells.len() {
         return None;
@@ -247,10 +294,10 @@ fn cell_before(cells: &[CellId], at: usize, end: u64) -> Option<CellId>
     }
 }
 
-/// Adds the normal form of the leaves from `lo` to before `hi`: the largest cell that begins at the
-/// first and fits, and so on behind it.
+/// Adds the normal form of the leaves from `lo` to before `hi`: the largest cell that begins at `lo` and fits, then the
+/// largest that begins after it, and so on.
 fn fill_gap(list: &mut Vec<CellId>, lo: u64, hi: u64) -> Result<(), AllocError>
-    requires { hi ≤ 6 * 4 ^ 30 }
+    requires { hi ≤ LEAVES }
     ensures { OnOk result (FillsGap list.old.items list.new.items lo hi) }
 {
     let mut first = lo;

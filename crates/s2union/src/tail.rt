@@ -1,4 +1,4 @@
-//! The end of a list of cells that go by one after another.
+//! The last cells of a list that is passed one cell after another.
 ghost use Rattle.std.specs.Prelude.{◌≡◌, ◌↔◌, IsTrue, Some, None};
 ghost use Rattle.s2cell.specs.Cell.{IsCell};
 ghost use Rattle.s2union.specs.Tail.{Follows, Passes};
@@ -7,8 +7,8 @@ ghost use Rattle.s2union.specs.Packed.{IsPacked};
 use crate::merging::parent_of_family;
 use s2cell::CellId;
 
-/// The last three of the cells that went by, as far as there were so many. A cell that comes next can share
-/// leaves or make a family with no others.
+/// The last three of the cells that were passed, or fewer if there were fewer. The next cell can share leaves or make a
+/// family only with these.
 #[derive(Drop)]
 pub(crate) struct Tail {
     last: Option<CellId>,
@@ -17,7 +17,7 @@ pub(crate) struct Tail {
 }
 
 impl Tail {
-    /// Before any cell went by.
+    /// The tail before any cell was passed.
     pub(crate) fn new() -> Tail
         ensures { result ≡ record { last = None; second = None; third = None } }
     {
@@ -52,8 +52,8 @@ impl Tail {
         }
     }
 
-    /// Whether the cells of a run of a list may come next, one after the other, which then have gone by. Only the first
-    /// three of them can share leaves or make a family with those before: the others follow each other as in the list.
+    /// Whether the cells of a run of a list may come next, one after another; if so, they are passed. Only the first
+    /// three of them can share leaves or make a family with those before; the others follow each other as in the list.
     pub(crate) fn pass(&mut self, run: &[CellId]) -> bool
         requires packed { IsPacked run.now }
         ensures { Passes (IsTrue result) self.old self.new run.now }
@@ -73,7 +73,7 @@ impl Tail {
         true
     }
 
-    /// The cell went by.
+    /// Passes the cell.
     pub(crate) fn push(&mut self, cell: CellId)
         ensures { self.new ≡ record { last = Some cell; second = self.old.last; third = self.old.second } }
     {

@@ -1,19 +1,19 @@
-//! The type of a normalised union, and what it says of itself.
+//! The type of a normalized union, and its own properties.
 
-ghost use Rattle.std.specs.Prelude.{◌≡◌, ◌≤◌, ◌↔◌, IsTrue, length, ◌*◌, ◌^◌, [], IfOk};
+ghost use Rattle.std.specs.Prelude.{◌≡◌, ◌≤◌, ◌↔◌, IsTrue, length, [], IfOk};
 ghost use Rattle.std.specs.Vec.{vec_capacity};
 ghost use Rattle.s2union.specs.Union.{IsLocal, IsNormalForm, has_leaf};
 ghost use Rattle.s2union.specs.Count.{count_below};
 
-use s2cell::CellId;
+use s2cell::{CellId, LEAVES};
 use std::alloc::{AllocError, Global};
 use std::marker::Model;
 
-/// A set of leaves, as the one normalised list of cells that covers it.
+/// A set of leaves, as the one normalized list of cells that covers it.
 ///
-/// The cells ascend by identifier and share no leaf, and no four of them are the children of one
-/// parent. Cells of level 0, the faces, have no parent and stay apart. Unions of the same leaves
-/// have the same cells, whatever they were made from. S2 calls it `S2CellUnion`.
+/// The cells ascend by identifier and share no leaf, and no four of them are the children of one parent. Cells of level
+/// 0, the faces, have no parent and are never merged. Unions of the same leaves have the same cells, whatever they were
+/// made from. S2 calls it `S2CellUnion`.
 #[derive(Drop)]
 pub struct CellUnion {
     pub(crate) cells: Vec<CellId>,
@@ -31,7 +31,7 @@ impl Model for CellUnion {
 }
 
 impl CellUnion {
-    /// The union without a leaf, which takes no memory.
+    /// The union without leaves. Takes no memory.
     pub fn empty(alloc: Global) -> CellUnion
         ensures cells { result.cells ≡ [] }
         ensures room { result.room ≡ 0 }
@@ -57,29 +57,29 @@ impl CellUnion {
         self.cells.len()
     }
 
-    /// For how many cells its list has room.
+    /// How many cells its list has room for.
     pub fn room(&self) -> usize
         ensures { result ≡ self.now.room }
     {
         self.cells.capacity()
     }
 
-    /// Whether it has no cell, and so no leaf.
+    /// Whether it has no cells, and so no leaves.
     pub fn is_empty(&self) -> bool
         ensures { IsTrue result ↔ (self.now.cells ≡ []) }
     {
         self.cells.is_empty()
     }
 
-    /// How many leaves it has, of the `6 * 4^30` that there are. Linear in its cells.
+    /// How many leaves it has, out of `6 * 4^30`. Linear in its cells.
     pub fn leaf_count(&self) -> u64
-        ensures value { result ≡ count_below (has_leaf self.now.cells) (6 * 4 ^ 30) }
-        ensures most { result ≤ 6 * 4 ^ 30 }
+        ensures value { result ≡ count_below (has_leaf self.now.cells) LEAVES }
+        ensures most { result ≤ LEAVES }
     {
         count(self.cells())
     }
 
-    /// A second union of the same cells. Refused only where there is no memory.
+    /// A second union with the same cells. Fails only if there is no memory.
     pub fn try_clone(&self) -> Result<CellUnion, AllocError>
         ensures { IfOk result (λ u. u.cells ≡ self.now.cells) }
     {
@@ -101,8 +101,8 @@ impl CellUnion {
 /// How many leaves the cells of a local list have.
 fn count(cells: &[CellId]) -> u64
     requires { IsLocal cells.now }
-    ensures value { result ≡ count_below (has_leaf cells.now) (6 * 4 ^ 30) }
-    ensures most { result ≤ 6 * 4 ^ 30 }
+    ensures value { result ≡ count_below (has_leaf cells.now) LEAVES }
+    ensures most { result ≤ LEAVES }
 {
     let mut total = 0;
     for cell in cells {

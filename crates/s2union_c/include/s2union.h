@@ -1,37 +1,38 @@
-/* s2union.h: unions of S2 cells for C, C++ and whatever calls C.
+/* s2union.h: unions of S2 cells for C, C++ and any language that calls C.
  *
  * A union is a set of leaf cells of the sphere, kept as the one normalised list of cells that covers it: ascending, no
- * two cells share a leaf, no four are the children of one cell. Two unions are the same set exactly when they are the
- * same list, so memcmp is equality and any hash of the bytes is a hash of the region.
+ * two cells share a leaf, no four are the children of one cell. Two unions are the same set exactly if they are the
+ * same list, so memcmp tests equality and any hash of the bytes is a hash of the region.
  *
  * WHAT A CALL PROMISES. Every call is proved, in Rattle, to meet its contract for every input that the types allow: any
  * number, any list, any bytes. No call aborts, raises, jumps, prints, sets a locale, uses floating point, or reads or
- * writes a byte outside the lists that it is given. The caller owes three things only:
- *   1. a pointer and its length are those of memory that the call may use; a pointer may be NULL if its length is 0;
+ * writes a byte outside the lists that it is given. The caller must ensure only three things:
+ *   1. a pointer and its length describe memory that the call may use; a pointer may be NULL if its length is 0;
  *   2. lists that a call writes (out, len, text, ..) overlap no other argument;
  *   3. lists of uint64_t are aligned to 8 bytes. Bytes and texts need no alignment.
  *
- * RESULTS. int32_t results are statuses: 0 or more is an answer, below 0 a refusal. Treat an unknown number below 0 as a
- * refusal; later versions may add some. Calls that answer a cell answer 0 if there is none (0 is no cell).
+ * RESULTS. int32_t results are statuses: 0 or more is an answer, below 0 a refusal. Treat an unknown number below 0 as
+ * a refusal; later versions may add statuses. Calls that answer a cell answer 0 if there is none (0 is no cell).
  *
  * HOW LONG A RESULT IS. A call that makes a list takes `out`, `room` (how many elements it has) and `len`.
  *   S2U_OK     out[0 .. *len) is the result. What comes after it is not touched.
  *   S2U_ROOM   room is too small, *len is exactly how many elements the result has, and out is not touched. Call again
- *              with that much; the second call cannot be refused for room.
- *   otherwise  *len is 0 and out is not touched.
- * So `room` 0 (and out NULL) asks for the length, at the price of the work. Nobody has to ask: a bound stands beside
- * each call, as a macro S2U_MOST_.. when it is worth one. Nothing that a call makes belongs to the library: there is
- * nothing to free, and no handle.
+ *              with that much room; the second call cannot be refused for room.
+ *   otherwise  *len is 0 and out is not touched. (s2u_from_tokens reports in *len where the wrong word is.)
+ * Only s2u_normalise works in the list that it is given, and it never needs more room. So `room` 0 (and out NULL) asks
+ * for the length, which costs as much as the call itself. It is never necessary to ask: each call has a bound, given as
+ * a macro S2U_MOST_.. if it is worth one. Nothing that a call makes belongs to the library: there is nothing to free,
+ * and no handle.
  *
  * THREADS. The library has no state. Every call is reentrant; any number of calls may run at once in any threads, also
- * on the same lists as long as no call writes them. Calls marked [pure] take no memory, cannot run out of it, and may be
- * called from a signal handler and after fork. The others take memory for the time of the call (see MEMORY); out of
- * memory is S2U_MEMORY, and nothing has changed.
+ * on the same lists as long as no call writes them. Calls marked [pure] take no memory, cannot run out of it, and may
+ * be called from a signal handler and after fork. The others take memory during the call (see the end of this file);
+ * out of memory is S2U_MEMORY, and nothing has changed.
  *
- * VERSIONS. s2u_version() is that of the library, S2U_VERSION that of this file. Within one major version calls are only
- * added, no call changes its meaning, and structures keep their size. The shared library is libs2union.so.MAJOR, its
- * symbols carry the version node S2UNION_MAJOR, and it exports s2u_* alone. The form of files has a version of its own.
- * Needs x86-64 with SSE4.2 and popcnt (x86-64-v2).
+ * VERSIONS. s2u_version() is the version of the library, S2U_VERSION that of this file. Within one major version calls
+ * are only added, no call changes its meaning, and structures keep their size. The shared library is
+ * libs2union.so.MAJOR, its symbols carry the version node S2UNION_MAJOR, and it exports only s2u_*. The form of files
+ * has a version of its own. Needs x86-64 with SSE4.2 and popcnt (x86-64-v2).
  */
 #ifndef S2UNION_H
 #define S2UNION_H
@@ -53,7 +54,7 @@ enum {
   S2U_OK = 0,
   S2U_ROOM = -1,           /* the result is longer than room; *len says how long */
   S2U_MEMORY = -2,         /* out of memory */
-  S2U_NO_CELL = -3,        /* a number is no identifier of a cell, or a text names none */
+  S2U_NO_CELL = -3,        /* a number is not the identifier of a cell, or a text names none */
   S2U_NO_UNION = -4,       /* a list is not normalised: s2u_normalise makes it so */
   S2U_ARGUMENT = -5,       /* a level, coordinate, modulus or order out of range */
   S2U_MANY = -6,           /* the result would have more cells than `most` */
@@ -83,13 +84,13 @@ int32_t s2u_is_cell(uint64_t id); /* 1 or 0. S2CellId::is_valid */
 int32_t s2u_level(uint64_t id);   /* 0 (a face) to 30 (a leaf), or S2U_NO_CELL */
 int32_t s2u_face(uint64_t id);    /* 0 to 5, or S2U_NO_CELL */
 
-/* The cell of this level that holds the cell; itself at its own level. 0: no cell, or a level below its own. */
+/* The cell of this level that contains the cell; at its own level, itself. 0: not a cell, or a deeper level. */
 uint64_t s2u_parent(uint64_t id, uint32_t level);
-/* The child, 0 to 3 along the curve. 0: no cell, a leaf, or another number. */
+/* The child, 0 to 3 along the curve. 0: not a cell, a leaf, or a child above 3. */
 uint64_t s2u_child(uint64_t id, uint32_t child);
-/* The first and the last leaf of the cell, 0 if it is none. A cell is in another exactly when its identifier lies
- * between these, both included: `WHERE cell BETWEEN range_min AND range_max`. Both have the sign bit of the cell, so the
- * same holds of signed numbers, as databases have them; the order of two cells doesn't survive that (faces 3 and 4). */
+/* The first and the last leaf of the cell, 0 if it is none. A cell is in another exactly if its identifier lies
+ * between these, both included: `WHERE cell BETWEEN range_min AND range_max`. Both have the sign bit of the cell, so
+ * the same holds for signed numbers, as databases have them; then the order of cells is not kept (faces 3 and 4). */
 uint64_t s2u_range_min(uint64_t id);
 uint64_t s2u_range_max(uint64_t id);
 uint64_t s2u_size(uint64_t id);                             /* how many leaves it has, 1 to 4^30; 0: no cell */
@@ -114,10 +115,20 @@ int32_t s2u_from_token(const char* text, size_t n, uint64_t* id);
 int32_t s2u_debug(uint64_t id, char* text, size_t room, size_t* len);
 int32_t s2u_from_debug(const char* text, size_t n, uint64_t* id);
 
-/* ---- questions of a union: all [pure], where the list lies, without a copy -------------------------------------------
+/* The tokens of the cells of a list, one blank between two: at most S2U_MOST_TOKENS(n) bytes. S2U_ROOM, S2U_NO_CELL,
+ * S2U_MANY (2^64 bytes or more, which takes 10^18 cells). Two passes. */
+#define S2U_MOST_TOKENS(n) (17 * (n))
+int32_t s2u_tokens(const uint64_t* ids, size_t n, char* text, size_t room, size_t* len);
+/* The cells that a text names, in its order and each time that it names one: words with blanks, tabs, line ends or commas
+ * between them, each a token or a debug text. At most S2U_MOST_NAMED(n) cells. S2U_ROOM. S2U_NO_CELL: a word names none,
+ * *len is the place in the text where the first such word begins, and out is not touched. Two passes. */
+#define S2U_MOST_NAMED(n) ((n) / 2 + (n) % 2)
+int32_t s2u_from_tokens(const char* text, size_t n, uint64_t* out, size_t room, size_t* len);
+
+/* ---- questions about a union: all [pure], in place, without a copy --------------------------------------------------
  *
- * These do not look whether the list is a union, which would cost more than the question: s2u_is_union does. Of a list
- * that is none the answer is 0 or 1 and means nothing; the call is as safe as any other. */
+ * These do not check that the list is a union, which would cost more than the question; s2u_is_union does. If it is not
+ * one, the answer is 0 or 1 and means nothing; the call is as safe as any other. */
 
 int32_t s2u_is_union(const uint64_t* ids, size_t n);                       /* 1 or 0. n steps */
 uint64_t s2u_leaf_count(const uint64_t* ids, size_t n);                    /* at most 6 * 4^30, which an int64_t holds. n steps */
@@ -126,7 +137,8 @@ int32_t s2u_intersects_cell(const uint64_t* ids, size_t n, uint64_t cell); /* th
 /* The cells of the union that share a leaf with the cell: ids[*first .. *first + *count). log n steps. */
 int32_t s2u_cells_at(const uint64_t* ids, size_t n, uint64_t cell, size_t* first, size_t* count);
 /* answers[k] is 1 or 0 for cells[k], k below m. S2U_NO_CELL: one is none, and *bad is the first such k. S2U_ROOM: room is
- * less than m, and *bad is m. After a refusal answers is not touched. */
+ * less than m, and *bad is m. After a refusal answers is not touched. Each search begins at the place of the one before:
+ * cells in order are quick. */
 int32_t s2u_contains_cells(const uint64_t* ids, size_t n, const uint64_t* cells, size_t m, uint8_t* answers, size_t room, size_t* bad);
 int32_t s2u_intersects_cells(const uint64_t* ids, size_t n, const uint64_t* cells, size_t m, uint8_t* answers, size_t room, size_t* bad);
 int32_t s2u_contains(const uint64_t* xs, size_t nx, const uint64_t* ys, size_t ny);   /* all leaves of ys are in xs: 1 or 0 */
@@ -136,9 +148,10 @@ int32_t s2u_compare(const uint64_t* xs, size_t nx, const uint64_t* ys, size_t ny
 
 /* ---- making unions --------------------------------------------------------------------------------------------------- */
 
-/* Normalises a list of cells in its own place: any order, doubled, one in another. *len is the length then, at most n.
- * S2U_NO_CELL: a number is no cell; the list is not touched and *len is the place of the first. S2U_MEMORY. n log n
- * steps, n if it is in order. The union of many lists is their concatenation, normalised. 8 n bytes. */
+/* [pure] Normalises a list of cells in place; they may be in any order, repeated, or inside one another. *len is then
+ * the new length, at most n; what the list holds after that has no meaning. S2U_NO_CELL: a number is not a cell; the
+ * list is not touched and *len is the place of the first one that is not. n log n steps, n if it is in order. The union
+ * of many lists is their concatenation, normalised. */
 int32_t s2u_normalise(uint64_t* ids, size_t n, size_t* len);
 
 /* S2U_ROOM, S2U_MEMORY, S2U_NO_UNION. At most nx + ny cells, but for a difference; 24 (nx + ny) bytes. */
@@ -148,7 +161,7 @@ int32_t s2u_intersection(const uint64_t* xs, size_t nx, const uint64_t* ys, size
 #define S2U_MOST_DIFFERENCE(nx, ny) ((nx) + 90 * (ny))
 int32_t s2u_difference(const uint64_t* xs, size_t nx, const uint64_t* ys, size_t ny, uint64_t* out, size_t room, size_t* len);
 
-/* All leaves from the first of `first` to the last of `last`, across faces too. S2U_ROOM, S2U_MEMORY, S2U_NO_CELL,
+/* All leaves from the first of `first` to the last of `last`, also across faces. S2U_ROOM, S2U_MEMORY, S2U_NO_CELL,
  * S2U_ARGUMENT (the last leaf comes before the first). */
 #define S2U_MOST_RANGE 184
 int32_t s2u_range(uint64_t first, uint64_t last, uint64_t* out, size_t room, size_t* len);
@@ -159,18 +172,18 @@ int32_t s2u_range(uint64_t first, uint64_t last, uint64_t* out, size_t room, siz
 int32_t s2u_denormalised_len(const uint64_t* ids, size_t n, uint32_t min, uint32_t modulus, uint64_t* len);
 int32_t s2u_denormalised(const uint64_t* ids, size_t n, uint32_t min, uint32_t modulus, uint64_t* out, size_t room, size_t* len);
 
-/* The cells of a union and all their ancestors, ascending, each once. Two unions share a leaf exactly when a cell of one is
- * among the cells and ancestors of the other: the law of every inverted index over cells, proved. S2U_ROOM, S2U_MEMORY,
- * S2U_NO_UNION. At most S2U_MOST_ANCESTORS(n); up to 24 bytes for each. */
+/* The cells of a union and all their ancestors, ascending, each once. Two unions share a leaf exactly if a cell of one
+ * is among the cells and ancestors of the other: the law of every inverted index over cells, proved. S2U_ROOM,
+ * S2U_MEMORY, S2U_NO_UNION. At most S2U_MOST_ANCESTORS(n); up to 24 bytes for each. */
 #define S2U_MOST_ANCESTORS(n) (31 * (n))
 int32_t s2u_ancestors(const uint64_t* ids, size_t n, uint64_t* out, size_t room, size_t* len);
 
 /* ---- coverings at one level ------------------------------------------------------------------------------------------
  *
- * The outer covering: the cells of the level that share a leaf with the region, normalised; the inner: those that lie in
- * it. S2U_ROOM, S2U_MEMORY, S2U_ARGUMENT, S2U_NO_UNION, S2U_MANY if it would have more than `most` cells (the list on the
- * way is bounded by that too). A `most` greater than S2U_MOST_COVERING counts as that: no covering has more cells, and
- * one that would is refused with S2U_MANY, whatever `most` and room are. */
+ * The outer covering: the cells of the level that share a leaf with the region, normalised; the inner: those that lie
+ * in it. S2U_ROOM, S2U_MEMORY, S2U_ARGUMENT, S2U_NO_UNION, S2U_MANY if it would have more than `most` cells (which
+ * bounds the list on the way too). A `most` greater than S2U_MOST_COVERING counts as S2U_MOST_COVERING: a covering that
+ * would have more cells is refused with S2U_MANY, whatever `most` and room are. */
 #define S2U_MOST_COVERING 1000000
 int32_t s2u_outer(const s2u_rect* rect, uint32_t level, size_t most, uint64_t* out, size_t room, size_t* len);
 int32_t s2u_inner(const s2u_rect* rect, uint32_t level, size_t most, uint64_t* out, size_t room, size_t* len);
@@ -207,9 +220,9 @@ int32_t s2u_file_ancestors(const uint8_t* bytes, size_t n, uint64_t* out, size_t
 
 /* ---- memory for a host that has its own -------------------------------------------------------------------------------
  *
- * Link libs2union_noheap.a in place of libs2union.a and define these three. They may not jump out of the call (a host's
- * error by longjmp included). `size` may be 0: any address will do. A block of a size that 16 (8) divides is aligned to
- * 16 (8). `ok` is 1, or 0 for out of memory; `at` is never NULL. */
+ * Link libs2union_noheap.a in place of libs2union.a and define these three. They must not jump out of the call (not by
+ * longjmp for a host's error either). `size` may be 0: any address will do. A block whose size is divisible by 16 (8)
+ * is aligned to 16 (8). `ok` is 1, or 0 for out of memory; `at` is never NULL. */
 typedef struct s2u_block {
   uint64_t ok;
   void* at;
@@ -218,7 +231,7 @@ s2u_block s2u_heap_take(size_t size, size_t align);
 s2u_block s2u_heap_grow(void* at, size_t old_size, size_t size, size_t align);
 void s2u_heap_give_back(void* at);
 
-/* The words for a status, for messages. */
+/* A text for a status, for messages. */
 static inline const char* s2u_status_text(int32_t status) {
   switch (status) {
     case S2U_ROOM: return "too little room";

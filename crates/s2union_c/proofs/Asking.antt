@@ -15,5 +15,6 @@ bits_more P bits k bit room so_far last i within =
     ⊎_elim
     (λ e. subst (λ n. IsBit (get_or (slice_set bits k bit) n 0) (P n)) (sym e)
     (subst (λ a. IsBit a (P k)) (sym (get_or-set_same bits k bit 0 room)) last))
-    (λ before. subst (λ a. IsBit a (P i)) (sym (get_or-set_other bits k i bit 0 (λ e. omega (arith, e, before)))) (so_far i before))
+    (λ before. subst (λ a. IsBit a (P i)) (sym (get_or-set_other bits k i bit 0 (λ e. omega (arith, e, before))))
+    (so_far i before))
     (eq-or-lt_of_le up_to)

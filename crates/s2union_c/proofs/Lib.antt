@@ -2,3 +2,6 @@ mod Asking
 mod Writing
 mod Ordering
 mod Wrong
+mod Words
+mod Joining
+mod Naming

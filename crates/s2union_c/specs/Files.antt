@@ -1,4 +1,4 @@
--- Union files of any number of cells: their frame, the numbers in them, and what is wrong with other bytes.
+-- Union files with any number of cells: their frame, the numbers in them, and what is wrong with other bytes.
 use Rattle.std.specs.Prelude.{◌≡◌, ◌≢◌, ℕ, ◌+◌, ◌*◌, ◌<◌, ◌⊎◌, ℤ, List, All, length, drop, slice_index}
 use Rattle.s2cell.specs.Cell.{IsCell}
 use Rattle.s2file.specs.File.{HasHead, HasVersion, stated_count}
@@ -16,7 +16,8 @@ file_ids bytes = numbers (drop 9 bytes)
 
 -- bytes of the file are missing
 abbrev pub IsShortFile : List ℕ → Type 0
-IsShortFile bytes = (length bytes ≡ 0) ⊎ ((HasVersion bytes × (length bytes < 9)) ⊎ (HasHead bytes × (length bytes < 9 + 8 * stated_count bytes)))
+IsShortFile bytes = (length bytes ≡ 0)
+    ⊎ ((HasVersion bytes × (length bytes < 9)) ⊎ (HasHead bytes × (length bytes < 9 + 8 * stated_count bytes)))
 
 -- the first byte is not 1
 abbrev pub IsOtherVersion : List ℕ → Type 0
@@ -34,4 +35,5 @@ pub record IsCellFile (bytes : List ℕ) : Type 0 where
 -- the status tells what is wrong with the frame
 abbrev pub IsFrameFault : List ℕ → ℤ → Type 0
 IsFrameFault bytes status =
-    ((status ≡ short_file) × IsShortFile bytes) ⊎ (((status ≡ other_version) × IsOtherVersion bytes) ⊎ ((status ≡ long_file) × IsLongFile bytes))
+    ((status ≡ short_file) × IsShortFile bytes)
+    ⊎ (((status ≡ other_version) × IsOtherVersion bytes) ⊎ ((status ≡ long_file) × IsLongFile bytes))

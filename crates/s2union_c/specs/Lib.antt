@@ -3,3 +3,4 @@ pub mod Cutting
 pub mod Files
 pub mod Order
 pub mod Results
+pub mod Texts

@@ -1,14 +1,14 @@
--- What calls leave in the lists that they write.
+-- What calls leave in the lists that they write to.
 use Rattle.std.specs.Prelude.{◌≡◌, ◌<◌, ◌≤◌, ◌⊎◌, ℕ, ℤ, List, ◌++◌, length, drop}
 use Rattle.s2union_c.specs.Status.{made, no_room, no_memory}
 
--- the list `xs` fits the room, stands at its front, and what comes after it is as it was
+-- the list `xs` fits in the room and is at its front, and what comes after it is unchanged
 pub record IsWritten {X : Type 0} (xs old new : List X) (len : ℕ) : Type 0 where
   pub len_is : len ≡ length xs
   pub fits : length xs ≤ length old
   pub front : new ≡ xs ++ drop len old
 
--- the list `xs` is longer than the room: its length is told, and nothing is written
+-- the list `xs` is longer than the room: its length is reported, and nothing is written
 pub record IsTooLong {X : Type 0} (xs old new : List X) (len : ℕ) : Type 0 where
   pub len_is : len ≡ length xs
   pub short : length old < length xs
@@ -16,12 +16,14 @@ pub record IsTooLong {X : Type 0} (xs old new : List X) (len : ℕ) : Type 0 whe
 
 -- the list `xs` was written, or is longer than the room
 abbrev pub Made : {X : Type 0} → ℤ → List X → List X → List X → ℕ → Type 0
-Made status xs old new len = ((status ≡ made) × IsWritten xs old new len) ⊎ ((status ≡ no_room) × IsTooLong xs old new len)
+Made status xs old new len = ((status ≡ made) × IsWritten xs old new len)
+    ⊎ ((status ≡ no_room) × IsTooLong xs old new len)
 
--- the call was refused for this reason: there is no length, and nothing is written
+-- the call was refused for this reason: the length is 0, and nothing is written
 abbrev pub Refused : {X : Type 0} → ℤ → ℤ → List X → List X → ℕ → Type 0
 Refused status reason old new len = (status ≡ reason) × (len ≡ 0) × (new ≡ old)
 
 -- a list with the property was written or is longer than the room, or there was no memory
 abbrev pub MadeOne : {X : Type 0} → ℤ → (List X → Type 0) → List X → List X → ℕ → Type 0
-MadeOne {X} status P old new len = ((xs : List X) × P xs × Made status xs old new len) ⊎ Refused status no_memory old new len
+MadeOne {X} status P old new len = ((xs : List X) × P xs × Made status xs old new len)
+    ⊎ Refused status no_memory old new len

@@ -13,11 +13,11 @@ no_room = negsuc 0
 abbrev pub no_memory : ℤ
 no_memory = negsuc 1
 
--- a number or a text stands for no cell
+-- a number or a text does not stand for a cell
 abbrev pub no_cell : ℤ
 no_cell = negsuc 2
 
--- a list is not normalised
+-- a list is not normalized
 abbrev pub no_union : ℤ
 no_union = negsuc 3
 
@@ -25,7 +25,7 @@ no_union = negsuc 3
 abbrev pub bad_argument : ℤ
 bad_argument = negsuc 4
 
--- the result would have more cells than were allowed
+-- the result would have more cells than are allowed
 abbrev pub too_many : ℤ
 too_many = negsuc 5
 
@@ -41,7 +41,7 @@ other_version = negsuc 10
 abbrev pub long_file : ℤ
 long_file = negsuc 11
 
--- an identifier in the file is that of no cell
+-- an identifier in the file is not the identifier of a cell
 abbrev pub wrong_cell : ℤ
 wrong_cell = negsuc 12
 
@@ -52,14 +52,14 @@ yes = pos 1
 abbrev pub no : ℤ
 no = pos 0
 
--- the question whether `P` holds was answered, rightly
+-- the status is the right answer to the question whether `P` holds
 abbrev pub Answers : ℤ → Type 0 → Type 0
 Answers status P = ((status ≡ yes) × P) ⊎ ((status ≡ no) × (P → ⊥))
 
--- the question was answered, with yes or no
+-- the status is yes or no
 abbrev pub IsAnswer : ℤ → Type 0
 IsAnswer status = (status ≡ yes) ⊎ (status ≡ no)
 
--- a byte tells whether `P` holds: 1, or 0
+-- a byte tells whether `P` holds: 1 if it does, else 0
 abbrev pub IsBit : ℕ → Type 0 → Type 0
 IsBit bit P = ((bit ≡ 1) × P) ⊎ ((bit ≡ 0) × (P → ⊥))

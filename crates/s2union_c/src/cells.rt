@@ -1,13 +1,14 @@
-//! Cells: any number is taken, and 0, which is no cell, is answered if there is none.
+//! Cells. The calls take any number, and answer 0, which is not a cell, if there is no cell to answer.
 ghost use Rattle.std.specs.Prelude.{◌≡◌, ◌+◌, ◌-◌, ◌*◌, ◌^◌, ◌<◌, ◌≤◌, ◌⊎◌, pos, MatchOption};
-ghost use Rattle.s2cell.specs.Cell.{IsCell, IsInside, ShareLeaf, child_of, face_of, first_leaf, level_of, parent_of, size_of};
+ghost use Rattle.s2cell.specs.Cell.{IsCell, IsInside, ShareLeaf, child_of, face_of, first_leaf, level_of, parent_of};
+ghost use Rattle.s2cell.specs.Cell.{size_of};
 ghost use Rattle.s2cell.specs.Curve.{IsPlaceOf};
 ghost use Rattle.s2cell.specs.Neighbours.{IsCommonAncestor, IsFirst, IsLast, IsNext};
 ghost use Rattle.s2cell.specs.Square.{IsSquareOf};
 ghost use Rattle.s2union_c.specs.Status.{Answers, made, no_cell};
 
 use crate::status::{MADE, NO_CELL, answer};
-use s2cell::CellId;
+use s2cell::{CellId, SIDE};
 
 /// The square of a cell on its face: its least coordinates and its side, in leaves.
 #[repr(C)]
@@ -22,9 +23,6 @@ pub struct FaceSquare {
     /// The length of the side.
     pub size: u32,
 }
-
-/// The number of places along a side of a face.
-const SIDE: u32 = 1 << 30;
 
 /// The version of the library: 10,000 times the major number, 100 times the minor one and the patch.
 #[unsafe(no_mangle)]
@@ -69,7 +67,7 @@ pub extern "C" fn s2u_face(id: u64) -> i32
     }
 }
 
-/// The cell of the level that contains the cell. 0 if there is no cell or its own level is lower.
+/// The cell of the level that contains the cell. 0 if the number is not a cell, or its own level is lower.
 #[unsafe(no_mangle)]
 pub extern "C" fn s2u_parent(id: u64, level: u32) -> u64
     ensures parent { IsCell id → level ≤ level_of id → result ≡ parent_of id level }
@@ -81,8 +79,8 @@ pub extern "C" fn s2u_parent(id: u64, level: u32) -> u64
     }
 }
 
-/// The child of the cell with this number, 0 to 3 along the curve. 0 if there is no cell, or it is a leaf, or the
-/// number is another.
+/// The child of the cell with this number, 0 to 3 along the curve. 0 if `cell` is not a cell, or is a leaf, or the
+/// number is not from 0 to 3.
 #[unsafe(no_mangle)]
 pub extern "C" fn s2u_child(id: u64, child: u32) -> u64
     ensures child { IsCell id → level_of id < 30 → child < 4 → result ≡ child_of id child }
@@ -94,7 +92,7 @@ pub extern "C" fn s2u_child(id: u64, child: u32) -> u64
     }
 }
 
-/// The first leaf of the cell. 0 if there is no cell.
+/// The first leaf of the cell. 0 if the number is not a cell.
 #[unsafe(no_mangle)]
 pub extern "C" fn s2u_range_min(id: u64) -> u64
     ensures leaf { IsCell id → result ≡ 2 * first_leaf id + 1 }
@@ -106,7 +104,7 @@ pub extern "C" fn s2u_range_min(id: u64) -> u64
     }
 }
 
-/// The last leaf of the cell. 0 if there is no cell.
+/// The last leaf of the cell. 0 if the number is not a cell.
 #[unsafe(no_mangle)]
 pub extern "C" fn s2u_range_max(id: u64) -> u64
     ensures leaf { IsCell id → result ≡ 2 * (first_leaf id + size_of id) - 1 }
@@ -118,7 +116,7 @@ pub extern "C" fn s2u_range_max(id: u64) -> u64
     }
 }
 
-/// How many leaves the cell has, 1 to 4^30. 0 if there is no cell.
+/// How many leaves the cell has, 1 to 4^30. 0 if the number is not a cell.
 #[unsafe(no_mangle)]
 pub extern "C" fn s2u_size(id: u64) -> u64
     ensures size { IsCell id → result ≡ size_of id }
@@ -130,7 +128,7 @@ pub extern "C" fn s2u_size(id: u64) -> u64
     }
 }
 
-/// The next cell of its level along the curve, across faces. 0 after the last, and if there is no cell.
+/// The next cell of its level along the curve, across faces. 0 after the last, and if the number is not a cell.
 #[unsafe(no_mangle)]
 pub extern "C" fn s2u_next(id: u64) -> u64
     ensures next { IsCell id → (IsLast id → ⊥) → IsNext id result }
@@ -145,7 +143,7 @@ pub extern "C" fn s2u_next(id: u64) -> u64
     }
 }
 
-/// The cell of its level before it along the curve, across faces. 0 before the first, and if there is no cell.
+/// The cell of its level before it along the curve, across faces. 0 before the first, and if the number is not a cell.
 #[unsafe(no_mangle)]
 pub extern "C" fn s2u_prev(id: u64) -> u64
     ensures previous { IsCell id → (IsFirst id → ⊥) → IsNext result id }
@@ -157,7 +155,7 @@ pub extern "C" fn s2u_prev(id: u64) -> u64
     }
 }
 
-/// The smallest cell that contains both. 0 if they lie on two faces, or one is no cell.
+/// The smallest cell that contains both. 0 if they lie on two faces, or one of the numbers is not a cell.
 #[unsafe(no_mangle)]
 pub extern "C" fn s2u_common_ancestor(a: u64, b: u64) -> u64
     ensures ancestor { IsCell a → IsCell b → face_of a ≡ face_of b → IsCommonAncestor a b result }
@@ -169,7 +167,7 @@ pub extern "C" fn s2u_common_ancestor(a: u64, b: u64) -> u64
     }
 }
 
-/// Whether each leaf of `part` is one of `whole`.
+/// Whether each leaf of `part` is a leaf of `whole`.
 #[unsafe(no_mangle)]
 pub extern "C" fn s2u_cell_contains(whole: u64, part: u64) -> i32
     ensures answer { IsCell whole → IsCell part → Answers result (IsInside part whole) }
@@ -194,12 +192,12 @@ pub extern "C" fn s2u_cell_intersects(a: u64, b: u64) -> i32
     }
 }
 
-/// The leaf at a place of a face. 0 if there is no such face or place.
+/// The leaf at a place on a face. 0 if there is no such face or place.
 #[unsafe(no_mangle)]
 pub extern "C" fn s2u_from_face_ij(face: u32, i: u32, j: u32) -> u64
-    ensures leaf { face < 6 → i < 2 ^ 30 → j < 2 ^ 30 → level_of result ≡ 30 }
-    ensures place { face < 6 → i < 2 ^ 30 → j < 2 ^ 30 → IsPlaceOf (first_leaf result) face i j }
-    ensures none { (6 ≤ face) ⊎ ((2 ^ 30 ≤ i) ⊎ (2 ^ 30 ≤ j)) → result ≡ 0 }
+    ensures leaf { face < 6 → i < SIDE → j < SIDE → level_of result ≡ 30 }
+    ensures place { face < 6 → i < SIDE → j < SIDE → IsPlaceOf (first_leaf result) face i j }
+    ensures none { (6 ≤ face) ⊎ ((SIDE ≤ i) ⊎ (SIDE ≤ j)) → result ≡ 0 }
 {
     if face >= 6 || i >= SIDE || j >= SIDE {
         return 0;
@@ -210,7 +208,8 @@ pub extern "C" fn s2u_from_face_ij(face: u32, i: u32, j: u32) -> u64
 /// The square of a cell.
 #[unsafe(no_mangle)]
 pub extern "C" fn s2u_square_of(id: u64, square: &mut FaceSquare) -> i32
-    ensures made { IsCell id → (result ≡ made) × IsSquareOf id square.new.face square.new.i square.new.j square.new.size }
+    ensures made { IsCell id → (result ≡ made)
+        × IsSquareOf id square.new.face square.new.i square.new.j square.new.size }
     ensures no_cell { (IsCell id → ⊥) → (result ≡ no_cell) × (square.new ≡ square.old) }
 {
     let Some(cell) = CellId::from_id(id) else {

@@ -9,14 +9,11 @@ ghost use Rattle.s2union_c.specs.Status.{bad_argument, no_union, too_many};
 use crate::lists::union_of;
 use crate::results::put_cells;
 use crate::status::{BAD_ARGUMENT, NO_MEMORY, NO_UNION, TOO_MANY};
-use s2cover::{CoverFault, FaceRect, Looks, inner, outer, rect_inner, rect_outer};
+use s2cover::{CoverFault, FaceRect, Looks, MOST_CELLS, inner, outer, rect_inner, rect_outer};
 use s2search::{IdList, is_union};
 use std::alloc::Global;
 
-/// The most cells that a covering can be allowed.
-const MOST_CELLS: usize = 1_000_000;
-
-/// The leaves of a face, 0 to 5, with coordinates from `i0` to `i1` and from `j0` to `j1`, the bounds included.
+/// The leaves of a face, 0 to 5, with coordinates from `i0` to `i1` and from `j0` to `j1`, bounds included.
 #[repr(C)]
 #[derive(Clone, Copy)]
 pub struct Bounds {
@@ -32,7 +29,8 @@ pub struct Bounds {
     pub j1: u32,
 }
 
-/// The cells of a level that share a leaf with a rectangle, normalised: at most `most` of them, and at most 1,000,000.
+/// The cells of a level that share a leaf with a rectangle, normalized: at most `most` of them, and at most
+/// `MOST_CELLS`.
 #[unsafe(no_mangle)]
 pub extern "C" fn s2u_outer(
     alloc: Global,
@@ -42,10 +40,23 @@ pub extern "C" fn s2u_outer(
     out: &mut [u64],
     len: &mut usize,
 ) -> i32
-    ensures made { let r : Rect = record { face = bounds.now.face; i0 = bounds.now.i0; i1 = bounds.now.i1; j0 = bounds.now.j0; j1 = bounds.now.j1 } in
-        IsRect r → level ≤ 30 → MadeOne result (IsNormalForm (outer_set (rect_set r) level)) out.old out.new len.new ⊎ (Refused result too_many out.old out.new len.new
-        × ((u : List ℕ) → IsNormalForm (outer_set (rect_set r) level) u → min most 1000000 < length u)) }
-    ensures argument { let r : Rect = record { face = bounds.now.face; i0 = bounds.now.i0; i1 = bounds.now.i1; j0 = bounds.now.j0; j1 = bounds.now.j1 } in
+    ensures made { let r : Rect = record {
+      face = bounds.now.face;
+      i0 = bounds.now.i0;
+      i1 = bounds.now.i1;
+      j0 = bounds.now.j0;
+      j1 = bounds.now.j1;
+    } in
+        IsRect r → level ≤ 30 → MadeOne result (IsNormalForm (outer_set (rect_set r) level)) out.old out.new
+        len.new ⊎ (Refused result too_many out.old out.new len.new
+        × ((u : List ℕ) → IsNormalForm (outer_set (rect_set r) level) u → min most MOST_CELLS < length u)) }
+    ensures argument { let r : Rect = record {
+      face = bounds.now.face;
+      i0 = bounds.now.i0;
+      i1 = bounds.now.i1;
+      j0 = bounds.now.j0;
+      j1 = bounds.now.j1;
+    } in
         (IsRect r → 30 < level) → Refused result bad_argument out.old out.new len.new }
 {
     *len = 0;
@@ -63,7 +74,7 @@ pub extern "C" fn s2u_outer(
     }
 }
 
-/// The cells of a level that lie inside a rectangle, normalised: at most `most` of them, and at most 1,000,000.
+/// The cells of a level that lie inside a rectangle, normalized: at most `most` of them, and at most `MOST_CELLS`.
 #[unsafe(no_mangle)]
 pub extern "C" fn s2u_inner(
     alloc: Global,
@@ -73,10 +84,23 @@ pub extern "C" fn s2u_inner(
     out: &mut [u64],
     len: &mut usize,
 ) -> i32
-    ensures made { let r : Rect = record { face = bounds.now.face; i0 = bounds.now.i0; i1 = bounds.now.i1; j0 = bounds.now.j0; j1 = bounds.now.j1 } in
-        IsRect r → level ≤ 30 → MadeOne result (IsNormalForm (inner_set (rect_set r) level)) out.old out.new len.new ⊎ (Refused result too_many out.old out.new len.new
-        × ((u : List ℕ) → IsNormalForm (inner_set (rect_set r) level) u → min most 1000000 < length u)) }
-    ensures argument { let r : Rect = record { face = bounds.now.face; i0 = bounds.now.i0; i1 = bounds.now.i1; j0 = bounds.now.j0; j1 = bounds.now.j1 } in
+    ensures made { let r : Rect = record {
+      face = bounds.now.face;
+      i0 = bounds.now.i0;
+      i1 = bounds.now.i1;
+      j0 = bounds.now.j0;
+      j1 = bounds.now.j1;
+    } in
+        IsRect r → level ≤ 30 → MadeOne result (IsNormalForm (inner_set (rect_set r) level)) out.old out.new
+        len.new ⊎ (Refused result too_many out.old out.new len.new
+        × ((u : List ℕ) → IsNormalForm (inner_set (rect_set r) level) u → min most MOST_CELLS < length u)) }
+    ensures argument { let r : Rect = record {
+      face = bounds.now.face;
+      i0 = bounds.now.i0;
+      i1 = bounds.now.i1;
+      j0 = bounds.now.j0;
+      j1 = bounds.now.j1;
+    } in
         (IsRect r → 30 < level) → Refused result bad_argument out.old out.new len.new }
 {
     *len = 0;
@@ -94,7 +118,7 @@ pub extern "C" fn s2u_inner(
     }
 }
 
-/// The cells of a level that share a leaf with a union, normalised: at most `most` of them, and at most 1,000,000.
+/// The cells of a level that share a leaf with a union, normalized: at most `most` of them, and at most `MOST_CELLS`.
 #[unsafe(no_mangle)]
 pub extern "C" fn s2u_outer_of(
     alloc: Global,
@@ -104,8 +128,11 @@ pub extern "C" fn s2u_outer_of(
     out: &mut [u64],
     len: &mut usize,
 ) -> i32
-    ensures made { IsLocal ids.now → level ≤ 30 → MadeOne result (IsNormalForm (outer_set (has_leaf ids.now) level)) out.old out.new len.new
-        ⊎ (Refused result too_many out.old out.new len.new × ((u : List ℕ) → IsNormalForm (outer_set (has_leaf ids.now) level) u → min most 1000000 < length u)) }
+    ensures made { IsLocal ids.now → level ≤ 30 →
+        MadeOne result (IsNormalForm (outer_set (has_leaf ids.now) level)) out.old out.new len.new
+        ⊎ (Refused result too_many out.old out.new len.new
+        × ((u : List ℕ) → IsNormalForm (outer_set (has_leaf ids.now) level) u →
+        min most MOST_CELLS < length u)) }
     ensures no_union { (IsLocal ids.now → ⊥) → Refused result no_union out.old out.new len.new }
     ensures argument { IsLocal ids.now → 30 < level → Refused result bad_argument out.old out.new len.new }
 {
@@ -126,7 +153,7 @@ pub extern "C" fn s2u_outer_of(
     }
 }
 
-/// The cells of a level that lie inside a union, normalised: at most `most` of them, and at most 1,000,000.
+/// The cells of a level that lie inside a union, normalized: at most `most` of them, and at most `MOST_CELLS`.
 #[unsafe(no_mangle)]
 pub extern "C" fn s2u_inner_of(
     alloc: Global,
@@ -136,8 +163,11 @@ pub extern "C" fn s2u_inner_of(
     out: &mut [u64],
     len: &mut usize,
 ) -> i32
-    ensures made { IsLocal ids.now → level ≤ 30 → MadeOne result (IsNormalForm (inner_set (has_leaf ids.now) level)) out.old out.new len.new
-        ⊎ (Refused result too_many out.old out.new len.new × ((u : List ℕ) → IsNormalForm (inner_set (has_leaf ids.now) level) u → min most 1000000 < length u)) }
+    ensures made { IsLocal ids.now → level ≤ 30 →
+        MadeOne result (IsNormalForm (inner_set (has_leaf ids.now) level)) out.old out.new len.new
+        ⊎ (Refused result too_many out.old out.new len.new
+        × ((u : List ℕ) → IsNormalForm (inner_set (has_leaf ids.now) level) u →
+        min most MOST_CELLS < length u)) }
     ensures no_union { (IsLocal ids.now → ⊥) → Refused result no_union out.old out.new len.new }
     ensures argument { IsLocal ids.now → 30 < level → Refused result bad_argument out.old out.new len.new }
 {
@@ -160,7 +190,13 @@ pub extern "C" fn s2u_inner_of(
 
 /// The rectangle with these bounds, if there is one.
 fn rect_of(bounds: &Bounds) -> Option<FaceRect>
-    ensures { let r : Rect = record { face = bounds.now.face; i0 = bounds.now.i0; i1 = bounds.now.i1; j0 = bounds.now.j0; j1 = bounds.now.j1 } in SomeIff result (IsRect r) r }
+    ensures { let r : Rect = record {
+      face = bounds.now.face;
+      i0 = bounds.now.i0;
+      i1 = bounds.now.i1;
+      j0 = bounds.now.j0;
+      j1 = bounds.now.j1;
+    } in SomeIff result (IsRect r) r }
 {
     if bounds.face > 5 {
         return None;

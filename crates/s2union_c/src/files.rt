@@ -1,6 +1,7 @@
 //! Union files, which S2's `S2CellUnion::Encode` writes too: the byte 1, the number of cells in eight bytes, and eight
-//! bytes for each, the lowest first. Questions of a file are answered from its bytes where they lie, at any address.
-ghost use Rattle.std.specs.Prelude.{◌≡◌, ◌*◌, ◌^◌, ◌<◌, ◌≤◌, ◌⊎◌, All, MatchResult, length, slice_index, drop};
+//! bytes for each cell, the lowest byte first. Questions are answered from a file's bytes where they lie, at any
+//! address.
+ghost use Rattle.std.specs.Prelude.{◌≡◌, ◌*◌, ◌<◌, ◌≤◌, ◌⊎◌, All, MatchResult, length, slice_index, drop};
 ghost use Rattle.s2cell.specs.Cell.{IsCell, covers};
 ghost use Rattle.s2union.specs.Union.{IsLocal, IsNormalForm, IsWithin, ShareSome, has_leaf};
 ghost use Rattle.s2union.specs.Count.{count_below};
@@ -8,7 +9,8 @@ ghost use Rattle.s2file.specs.File.{file_text};
 ghost use Rattle.s2search.specs.Ancestors.{AreHolders};
 ghost use Rattle.s2union_c.specs.Files.{IsCellFile, IsFrameFault, IsFramed, file_ids};
 ghost use Rattle.s2union_c.specs.Results.{Made, MadeOne, Refused};
-ghost use Rattle.s2union_c.specs.Status.{Answers, IsAnswer, bad_argument, made, no_cell, no_memory, no_union, wrong_cell};
+ghost use Rattle.s2union_c.specs.Status.{Answers, IsAnswer, bad_argument, made, no_cell, no_memory, no_union};
+ghost use Rattle.s2union_c.specs.Status.{wrong_cell};
 
 use crate::lists::{cells_of, union_of};
 use crate::results::{put, put_cells};
@@ -16,7 +18,7 @@ use crate::status::{
     BAD_ARGUMENT, LONG_FILE, MADE, NO_CELL, NO_MEMORY, NO_UNION, OTHER_VERSION, SHORT_FILE,
     WRONG_CELL, answer,
 };
-use s2cell::CellId;
+use s2cell::{CellId, LEAVES};
 use s2search::{Cells, FileIds, IdList, ancestors, first_wrong, is_union, number};
 use s2union::normalise;
 use std::alloc::Global;
@@ -24,13 +26,14 @@ use std::alloc::Global;
 /// The byte that a file begins with.
 const VERSION: u8 = 1;
 
-/// How many bytes stand before the identifiers: the version and the count.
+/// How many bytes are before the identifiers: the version and the count.
 const HEAD_SIZE: usize = 9;
 
 /// The file of a union, of `9 + 8 n` bytes for n cells.
 #[unsafe(no_mangle)]
 pub extern "C" fn s2u_encode(alloc: Global, ids: &[u64], out: &mut [u8], len: &mut usize) -> i32
-    ensures made { IsLocal ids.now → Made result (file_text ids.now) out.old out.new len.new ⊎ Refused result no_memory out.old out.new len.new }
+    ensures made { IsLocal ids.now → Made result (file_text ids.now) out.old out.new len.new
+        ⊎ Refused result no_memory out.old out.new len.new }
     ensures no_union { (IsLocal ids.now → ⊥) → Refused result no_union out.old out.new len.new }
 {
     *len = 0;
@@ -46,12 +49,14 @@ pub extern "C" fn s2u_encode(alloc: Global, ids: &[u64], out: &mut [u8], len: &m
     }
 }
 
-/// The union that a file stands for. Its cells may stand in any order.
+/// The union that a file stands for. The file's cells may be in any order.
 #[unsafe(no_mangle)]
 pub extern "C" fn s2u_decode(alloc: Global, bytes: &[u8], out: &mut [u64], len: &mut usize) -> i32
-    ensures made { IsCellFile bytes.now → MadeOne result (IsNormalForm (has_leaf (file_ids bytes.now))) out.old out.new len.new }
+    ensures made { IsCellFile bytes.now
+        → MadeOne result (IsNormalForm (has_leaf (file_ids bytes.now))) out.old out.new len.new }
     ensures fault { (IsFramed bytes.now → ⊥) → IsFrameFault bytes.now result × (len.new ≡ 0) × (out.new ≡ out.old) }
-    ensures wrong { IsFramed bytes.now → (All IsCell (file_ids bytes.now) → ⊥) → Refused result wrong_cell out.old out.new len.new }
+    ensures wrong { IsFramed bytes.now → (All IsCell (file_ids bytes.now) → ⊥)
+        → Refused result wrong_cell out.old out.new len.new }
 {
     *len = 0;
     let ids = match framed(bytes) {
@@ -67,8 +72,8 @@ pub extern "C" fn s2u_decode(alloc: Global, bytes: &[u8], out: &mut [u64], len: 
     }
 }
 
-/// Whether the bytes are the file that `s2u_encode` writes of some union: 1, or 0 for another file that `s2u_decode`
-/// takes.
+/// Whether the bytes are the file that `s2u_encode` writes for some union: 1 if they are, 0 for any other file that
+/// `s2u_decode` takes.
 #[unsafe(no_mangle)]
 pub extern "C" fn s2u_file_check(bytes: &[u8]) -> i32
     ensures answer { IsCellFile bytes.now → Answers result (IsLocal (file_ids bytes.now)) }
@@ -103,11 +108,12 @@ pub extern "C" fn s2u_file_count(bytes: &[u8], count: &mut u64) -> i32
     }
 }
 
-/// How many leaves the union of a file has, of the `6 * 4^30` that there are.
+/// How many of the `6 * 4^30` leaves the union of a file has.
 #[unsafe(no_mangle)]
 pub extern "C" fn s2u_file_leaf_count(bytes: &[u8], leaves: &mut u64) -> i32
     ensures made { IsFramed bytes.now → result ≡ made }
-    ensures exact { IsFramed bytes.now → IsLocal (file_ids bytes.now) → leaves.new ≡ count_below (has_leaf (file_ids bytes.now)) (6 * 4 ^ 30) }
+    ensures exact { IsFramed bytes.now → IsLocal (file_ids bytes.now)
+        → leaves.new ≡ count_below (has_leaf (file_ids bytes.now)) LEAVES }
     ensures fault { (IsFramed bytes.now → ⊥) → IsFrameFault bytes.now result × (leaves.new ≡ 0) }
 {
     *leaves = 0;
@@ -120,10 +126,11 @@ pub extern "C" fn s2u_file_leaf_count(bytes: &[u8], leaves: &mut u64) -> i32
     }
 }
 
-/// The identifier with the place `k` in a file.
+/// The identifier at the place `k` in a file.
 #[unsafe(no_mangle)]
 pub extern "C" fn s2u_file_cell(bytes: &[u8], k: u64, id: &mut u64) -> i32
-    ensures made { IsFramed bytes.now → k < length (file_ids bytes.now) → (result ≡ made) × (id.new ≡ slice_index (file_ids bytes.now) k) }
+    ensures made { IsFramed bytes.now → k < length (file_ids bytes.now) → (result ≡ made)
+        × (id.new ≡ slice_index (file_ids bytes.now) k) }
     ensures argument { IsFramed bytes.now → length (file_ids bytes.now) ≤ k → (result ≡ bad_argument) × (id.new ≡ 0) }
     ensures fault { (IsFramed bytes.now → ⊥) → IsFrameFault bytes.now result × (id.new ≡ 0) }
 {
@@ -177,7 +184,7 @@ pub extern "C" fn s2u_file_intersects_cell(bytes: &[u8], cell: u64) -> i32
     }
 }
 
-/// Whether the union of one file has all leaves of another's.
+/// Whether the union of one file has all leaves of the union of another.
 #[unsafe(no_mangle)]
 pub extern "C" fn s2u_file_contains(xs: &[u8], ys: &[u8]) -> i32
     ensures exact { IsFramed xs.now → IsFramed ys.now → IsLocal (file_ids xs.now) → IsLocal (file_ids ys.now)
@@ -227,7 +234,8 @@ pub extern "C" fn s2u_file_ancestors(
 ) -> i32
     ensures made { IsFramed bytes.now → IsLocal (file_ids bytes.now)
         → MadeOne result (AreHolders (file_ids bytes.now)) out.old out.new len.new }
-    ensures no_union { IsFramed bytes.now → (IsLocal (file_ids bytes.now) → ⊥) → Refused result no_union out.old out.new len.new }
+    ensures no_union { IsFramed bytes.now → (IsLocal (file_ids bytes.now) → ⊥)
+        → Refused result no_union out.old out.new len.new }
     ensures fault { (IsFramed bytes.now → ⊥) → IsFrameFault bytes.now result × (len.new ≡ 0) × (out.new ≡ out.old) }
 {
     *len = 0;
@@ -244,9 +252,10 @@ pub extern "C" fn s2u_file_ancestors(
     }
 }
 
-/// The bytes after the head of a file, if they are as many as the head says.
+/// The bytes after the head of a file, if there are as many as the head says.
 fn framed(bytes: &[u8]) -> Result<&[u8], i32>
-    ensures { MatchResult result (λ numbers. IsFramed bytes.now × (numbers.now ≡ drop 9 bytes.now)) (λ status. IsFrameFault bytes.now status) }
+    ensures { MatchResult result (λ numbers. IsFramed bytes.now × (numbers.now ≡ drop 9 bytes.now))
+        (λ status. IsFrameFault bytes.now status) }
 {
     match bytes.first() {
         None => return Err(SHORT_FILE),

@@ -1,10 +1,10 @@
-//! The unions of S2 cells for C, and for whatever calls C.
+//! The unions of S2 cells for C, and for anything that can call C.
 //!
-//! A cell is its identifier, a union the ascending list of its cells, a text or a file its bytes; in C a slice is a
-//! pointer and a length. Each export takes every number, every list and every bytes: none has a precondition. What it
-//! answers, and which refusal comes exactly when, stands on its contract, with the statuses of `status`.
+//! A cell is its identifier, a union is the ascending list of its cells, and a text or a file is its bytes. In C, a
+//! slice is a pointer and a length. No export has a precondition: each takes any numbers, lists and bytes. Its contract
+//! says what it answers, and exactly when it refuses with which status of `status`.
 //!
-//! `include/s2union.h` declares the exports for C and says the same in C's words.
+//! `include/s2union.h` declares the exports for C, and documents them in C's terms.
 #![tactic(auto)]
 
 mod cells;
@@ -16,4 +16,5 @@ mod results;
 mod sets;
 mod status;
 mod texts;
+mod token_lists;
 mod unions;

@@ -1,6 +1,6 @@
-//! Questions of a union where it lies: without a copy and without memory. They do not look whether the list is a union,
-//! which would cost more than the question; of a list that is none the answer means nothing.
-ghost use Rattle.std.specs.Prelude.{◌≡◌, ◌*◌, ◌^◌, ◌<◌, ◌≤◌, ℕ, All, length, slice_index};
+//! Questions about a union where it lies: without a copy, and without taking memory. They don't check that the list is
+//! a union, which would cost more than the question. If it isn't one, the answer means nothing.
+ghost use Rattle.std.specs.Prelude.{◌≡◌, ◌<◌, ◌≤◌, ℕ, All, length, slice_index};
 ghost use Rattle.s2cell.specs.Cell.{IsCell, covers};
 ghost use Rattle.s2union.specs.Union.{IsLocal, IsWithin, ShareSome, has_leaf};
 ghost use Rattle.s2union.specs.Count.{count_below};
@@ -9,10 +9,11 @@ ghost use Rattle.s2union_c.specs.Status.{Answers, IsAnswer, IsBit, made, no_cell
 ghost use Rattle.s2union_c.specs.Order.{order};
 
 use crate::status::{MADE, NO_CELL, NO_ROOM, answer};
-use s2cell::CellId;
+use s2cell::{CellId, LEAVES};
 use s2search::{IdList, first_wrong};
 
-/// Whether a list is a union: cells, ascending, no two with a common leaf, no four the children of one. Linear.
+/// Whether a list is a union: cells, ascending, no two that share a leaf, no four that are the children of one cell.
+/// Linear.
 #[unsafe(no_mangle)]
 pub extern "C" fn s2u_is_union(ids: &[u64]) -> i32
     ensures { Answers result (IsLocal ids.now) }
@@ -20,10 +21,10 @@ pub extern "C" fn s2u_is_union(ids: &[u64]) -> i32
     answer(s2search::is_union(&IdList { ids }))
 }
 
-/// How many leaves a union has, of the `6 * 4^30` that there are. Linear.
+/// How many of the `6 * 4^30` leaves a union has. Linear.
 #[unsafe(no_mangle)]
 pub extern "C" fn s2u_leaf_count(ids: &[u64]) -> u64
-    ensures { IsLocal ids.now → result ≡ count_below (has_leaf ids.now) (6 * 4 ^ 30) }
+    ensures { IsLocal ids.now → result ≡ count_below (has_leaf ids.now) LEAVES }
 {
     s2search::leaf_count(&IdList { ids })
 }
@@ -123,7 +124,8 @@ pub extern "C" fn s2u_compare(xs: &[u64], ys: &[u64]) -> i32
 }
 
 /// Whether a union has all leaves of each cell in turn: 1 or 0 for each. `bad` is the place of the first number that is
-/// no cell's, or the number of answers if they are more than the room.
+/// not a cell, or if there is none, how many answers there are. Each search begins at the place of the one before, so
+/// cells in order are quick.
 #[unsafe(no_mangle)]
 pub extern "C" fn s2u_contains_cells(
     ids: &[u64],
@@ -133,8 +135,10 @@ pub extern "C" fn s2u_contains_cells(
 ) -> i32
     ensures made { All IsCell cells.now → length cells.now ≤ length answers.old → result ≡ made }
     ensures exact { IsLocal ids.now → All IsCell cells.now → length cells.now ≤ length answers.old
-        → (k : ℕ) → k < length cells.now → IsBit (slice_index answers.new k) (IsWithin (covers (slice_index cells.now k)) (has_leaf ids.now)) }
-    ensures no_cell { (All IsCell cells.now → ⊥) → (result ≡ no_cell) × IsFirstWrong cells.now bad.new × (answers.new ≡ answers.old) }
+        → (k : ℕ) → k < length cells.now
+        → IsBit (slice_index answers.new k) (IsWithin (covers (slice_index cells.now k)) (has_leaf ids.now)) }
+    ensures no_cell { (All IsCell cells.now → ⊥) → (result ≡ no_cell) × IsFirstWrong cells.now bad.new
+        × (answers.new ≡ answers.old) }
     ensures room { All IsCell cells.now → length answers.old < length cells.now
         → (result ≡ no_room) × (bad.new ≡ length cells.now) × (answers.new ≡ answers.old) }
 {
@@ -146,8 +150,11 @@ pub extern "C" fn s2u_contains_cells(
     if cells.len() > answers.len() {
         return NO_ROOM;
     }
+    let mut near = 0;
     for k in 0..cells.len() {
-        answers[k] = contains_one(ids, cells[k]);
+        let (bit, at) = contains_one(ids, near, cells[k]);
+        answers[k] = bit;
+        near = at;
     }
     MADE
 }
@@ -162,8 +169,10 @@ pub extern "C" fn s2u_intersects_cells(
 ) -> i32
     ensures made { All IsCell cells.now → length cells.now ≤ length answers.old → result ≡ made }
     ensures exact { IsLocal ids.now → All IsCell cells.now → length cells.now ≤ length answers.old
-        → (k : ℕ) → k < length cells.now → IsBit (slice_index answers.new k) (ShareSome (covers (slice_index cells.now k)) (has_leaf ids.now)) }
-    ensures no_cell { (All IsCell cells.now → ⊥) → (result ≡ no_cell) × IsFirstWrong cells.now bad.new × (answers.new ≡ answers.old) }
+        → (k : ℕ) → k < length cells.now
+        → IsBit (slice_index answers.new k) (ShareSome (covers (slice_index cells.now k)) (has_leaf ids.now)) }
+    ensures no_cell { (All IsCell cells.now → ⊥) → (result ≡ no_cell) × IsFirstWrong cells.now bad.new
+        × (answers.new ≡ answers.old) }
     ensures room { All IsCell cells.now → length answers.old < length cells.now
         → (result ≡ no_room) × (bad.new ≡ length cells.now) × (answers.new ≡ answers.old) }
 {
@@ -175,28 +184,37 @@ pub extern "C" fn s2u_intersects_cells(
     if cells.len() > answers.len() {
         return NO_ROOM;
     }
+    let mut near = 0;
     for k in 0..cells.len() {
-        answers[k] = intersects_one(ids, cells[k]);
+        let (bit, at) = intersects_one(ids, near, cells[k]);
+        answers[k] = bit;
+        near = at;
     }
     MADE
 }
 
-/// 1 if a union has all leaves of a cell, else 0.
-fn contains_one(ids: &[u64], cell: u64) -> u8
-    ensures { IsLocal ids.now → IsCell cell → IsBit result (IsWithin (covers cell) (has_leaf ids.now)) }
+/// 1 if a union has all leaves of a cell, else 0, and the place where the search ended.
+fn contains_one(ids: &[u64], near: usize, cell: u64) -> (u8, usize)
+    ensures { IsLocal ids.now → IsCell cell → IsBit result.0 (IsWithin (covers cell) (has_leaf ids.now)) }
 {
     match CellId::from_id(cell) {
-        Some(part) if s2search::contains_cell(&IdList { ids }, part) => 1,
-        _ => 0,
+        Some(part) => {
+            let (holds, at) = s2search::contains_cell_near(&IdList { ids }, near, part);
+            (if holds { 1 } else { 0 }, at)
+        }
+        None => (0, near),
     }
 }
 
-/// 1 if a union has a leaf of a cell, else 0.
-fn intersects_one(ids: &[u64], cell: u64) -> u8
-    ensures { IsLocal ids.now → IsCell cell → IsBit result (ShareSome (covers cell) (has_leaf ids.now)) }
+/// 1 if a union has a leaf of a cell, else 0, and the place where the search ended.
+fn intersects_one(ids: &[u64], near: usize, cell: u64) -> (u8, usize)
+    ensures { IsLocal ids.now → IsCell cell → IsBit result.0 (ShareSome (covers cell) (has_leaf ids.now)) }
 {
     match CellId::from_id(cell) {
-        Some(part) if s2search::intersects_cell(&IdList { ids }, part) => 1,
-        _ => 0,
+        Some(part) => {
+            let (holds, at) = s2search::intersects_cell_near(&IdList { ids }, near, part);
+            (if holds { 1 } else { 0 }, at)
+        }
+        None => (0, near),
     }
 }

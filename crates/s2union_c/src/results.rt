@@ -1,10 +1,10 @@
-//! Results into the lists that a caller has ready.
+//! Writing results into the lists that a caller provides.
 ghost use Rattle.s2union_c.specs.Results.{Made};
 
 use crate::status::{MADE, NO_ROOM};
 use s2cell::CellId;
 
-/// Writes bytes to the front of the room, or tells how many there are.
+/// Writes bytes to the front of the room, if they fit, and tells how many there are.
 pub(crate) fn put(bytes: &[u8], out: &mut [u8], len: &mut usize) -> i32
     ensures { Made result bytes.now out.old out.new len.new }
 {
@@ -16,7 +16,7 @@ pub(crate) fn put(bytes: &[u8], out: &mut [u8], len: &mut usize) -> i32
     MADE
 }
 
-/// Writes the identifiers of cells to the front of the room, or tells how many there are.
+/// Writes the identifiers of cells to the front of the room, if they fit, and tells how many there are.
 pub(crate) fn put_cells(cells: &[CellId], out: &mut [u64], len: &mut usize) -> i32
     ensures { Made result cells.now out.old out.new len.new }
 {

@@ -1,14 +1,12 @@
 //! The operations on two unions.
-ghost use Rattle.std.specs.Prelude.{◌↔◌, IsTrue};
 ghost use Rattle.s2union.specs.Sets.{either, shared, without};
 ghost use Rattle.s2union.specs.Union.{IsLocal, IsNormalForm, has_leaf};
 ghost use Rattle.s2union_c.specs.Results.{MadeOne, Refused};
 ghost use Rattle.s2union_c.specs.Status.{no_union};
 
-use crate::lists::union_of;
+use crate::lists::both_unions;
 use crate::results::put_cells;
-use crate::status::{NO_MEMORY, NO_UNION};
-use s2search::{IdList, is_union};
+use crate::status::NO_MEMORY;
 use std::alloc::Global;
 
 /// The leaves of either union.
@@ -25,11 +23,9 @@ pub extern "C" fn s2u_union(
     ensures no_union { (IsLocal xs.now → IsLocal ys.now → ⊥) → Refused result no_union out.old out.new len.new }
 {
     *len = 0;
-    if !are_unions(xs, ys) {
-        return NO_UNION;
-    }
-    let (Ok(first), Ok(second)) = (union_of(alloc, xs), union_of(alloc, ys)) else {
-        return NO_MEMORY;
+    let (first, second) = match both_unions(alloc, xs, ys) {
+        Ok(both) => both,
+        Err(refusal) => return refusal,
     };
     match first.union(&second) {
         Ok(union) => put_cells(union.cells(), out, len),
@@ -51,11 +47,9 @@ pub extern "C" fn s2u_intersection(
     ensures no_union { (IsLocal xs.now → IsLocal ys.now → ⊥) → Refused result no_union out.old out.new len.new }
 {
     *len = 0;
-    if !are_unions(xs, ys) {
-        return NO_UNION;
-    }
-    let (Ok(first), Ok(second)) = (union_of(alloc, xs), union_of(alloc, ys)) else {
-        return NO_MEMORY;
+    let (first, second) = match both_unions(alloc, xs, ys) {
+        Ok(both) => both,
+        Err(refusal) => return refusal,
     };
     match first.intersection(&second) {
         Ok(union) => put_cells(union.cells(), out, len),
@@ -63,7 +57,7 @@ pub extern "C" fn s2u_intersection(
     }
 }
 
-/// The leaves of the first union that the second has not.
+/// The leaves of the first union that the second doesn't have.
 #[unsafe(no_mangle)]
 pub extern "C" fn s2u_difference(
     alloc: Global,
@@ -77,21 +71,12 @@ pub extern "C" fn s2u_difference(
     ensures no_union { (IsLocal xs.now → IsLocal ys.now → ⊥) → Refused result no_union out.old out.new len.new }
 {
     *len = 0;
-    if !are_unions(xs, ys) {
-        return NO_UNION;
-    }
-    let (Ok(first), Ok(second)) = (union_of(alloc, xs), union_of(alloc, ys)) else {
-        return NO_MEMORY;
+    let (first, second) = match both_unions(alloc, xs, ys) {
+        Ok(both) => both,
+        Err(refusal) => return refusal,
     };
     match first.difference(&second) {
         Ok(union) => put_cells(union.cells(), out, len),
         Err(_) => NO_MEMORY,
     }
-}
-
-/// Whether both lists are normalised.
-fn are_unions(xs: &[u64], ys: &[u64]) -> bool
-    ensures { IsTrue result ↔ (IsLocal xs.now × IsLocal ys.now) }
-{
-    is_union(&IdList { ids: xs }) && is_union(&IdList { ids: ys })
 }

@@ -11,16 +11,16 @@ pub(crate) const NO_ROOM: i32 = -1;
 /// The system refused memory.
 pub(crate) const NO_MEMORY: i32 = -2;
 
-/// A number or a text stands for no cell.
+/// A number or a text does not stand for a cell.
 pub(crate) const NO_CELL: i32 = -3;
 
-/// A list is not normalised.
+/// A list is not normalized.
 pub(crate) const NO_UNION: i32 = -4;
 
 /// An argument is out of its range.
 pub(crate) const BAD_ARGUMENT: i32 = -5;
 
-/// The result would have more cells than were allowed.
+/// The result would have more cells than are allowed.
 pub(crate) const TOO_MANY: i32 = -6;
 
 /// Bytes of the file are missing.
@@ -32,7 +32,7 @@ pub(crate) const OTHER_VERSION: i32 = -11;
 /// Bytes follow the file's last identifier.
 pub(crate) const LONG_FILE: i32 = -12;
 
-/// An identifier in the file is that of no cell.
+/// An identifier in the file is not the identifier of a cell.
 pub(crate) const WRONG_CELL: i32 = -13;
 
 /// The answer to a question.

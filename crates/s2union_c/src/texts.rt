@@ -25,7 +25,7 @@ pub extern "C" fn s2u_token(id: u64, text: &mut [u8], len: &mut usize) -> i32
     }
 }
 
-/// The cell of a token, in either case.
+/// The cell of a token, in upper or lower case.
 #[unsafe(no_mangle)]
 pub extern "C" fn s2u_from_token(text: &[u8], id: &mut u64) -> i32
     ensures found { (n : ℕ) → IsReading text.now n → IsCell n → (result ≡ made) × (id.new ≡ n) }
@@ -43,7 +43,7 @@ pub extern "C" fn s2u_from_token(text: &[u8], id: &mut u64) -> i32
     }
 }
 
-/// The debug text of a cell: its face, a slash, and the number of the child for each level, 2 to 32 bytes.
+/// The debug text of a cell: its face, a slash, and the number of the child at each level, 2 to 32 bytes.
 #[unsafe(no_mangle)]
 pub extern "C" fn s2u_debug(id: u64, text: &mut [u8], len: &mut usize) -> i32
     ensures made { IsCell id → Made result (debug_of id) text.old text.new len.new }

@@ -1,41 +1,38 @@
-//! Unions that are made of a list, of a range, or by cutting a union to levels.
+//! Making unions from a list or a range, the ancestors of a union's cells, and its cells cut to levels.
 ghost use Rattle.std.specs.Prelude.{◌≡◌, ◌+◌, ◌<◌, ◌≤◌, ◌⊎◌, ◌↔◌, IsTrue, All, length};
 ghost use Rattle.s2cell.specs.Cell.{IsCell, first_leaf, size_of};
 ghost use Rattle.s2union.specs.Union.{IsLocal, IsNormalForm, between, has_leaf};
 ghost use Rattle.s2union.specs.Denorm.{denormalised};
 ghost use Rattle.s2search.specs.Ancestors.{AreHolders};
+ghost use Rattle.s2search.specs.Normalising.{IsNormalisedIn};
 ghost use Rattle.s2search.specs.Search.{IsFirstWrong};
 ghost use Rattle.s2union_c.specs.Results.{Made, MadeOne, Refused};
 ghost use Rattle.s2union_c.specs.Cutting.{IsCutting};
-ghost use Rattle.s2union_c.specs.Status.{bad_argument, made, no_cell, no_memory, no_room, no_union};
+ghost use Rattle.s2union_c.specs.Status.{bad_argument, made, no_cell, no_memory, no_union};
 
-use crate::lists::{cells_of, union_of};
+use crate::lists::union_of;
 use crate::results::put_cells;
 use crate::status::{BAD_ARGUMENT, MADE, NO_CELL, NO_MEMORY, NO_ROOM, NO_UNION};
 use s2cell::CellId;
 use s2search::{IdList, ancestors, first_wrong, is_union};
-use s2union::{CellUnion, normalise};
+use s2union::CellUnion;
 use std::alloc::Global;
 
-/// Normalises a list of cells in its own place: any order, doubled, one in another. `len` is its length then, or the
-/// place of the first number that is no cell.
+/// Normalizes a list of cells in place, without taking memory. The cells may be in any order, repeated, or one in
+/// another. `len` is then the number of cells at its front, or the place of the first number that is not a cell. What
+/// follows the cells has no meaning.
 #[unsafe(no_mangle)]
-pub extern "C" fn s2u_normalise(alloc: Global, ids: &mut [u64], len: &mut usize) -> i32
-    ensures made { All IsCell ids.old → MadeOne result (IsNormalForm (has_leaf ids.old)) ids.old ids.new len.new }
-    ensures fits { result ≡ no_room → ⊥ }
-    ensures no_cell { (All IsCell ids.old → ⊥) → (result ≡ no_cell) × (ids.new ≡ ids.old) × IsFirstWrong ids.old len.new }
+pub extern "C" fn s2u_normalise(ids: &mut [u64], len: &mut usize) -> i32
+    ensures made { All IsCell ids.old → (result ≡ made) × IsNormalisedIn ids.old ids.new len.new }
+    ensures no_cell { (All IsCell ids.old → ⊥)
+        → (result ≡ no_cell) × (ids.new ≡ ids.old) × IsFirstWrong ids.old len.new }
 {
     if let Some(k) = first_wrong(&IdList { ids: &*ids }) {
         *len = k;
         return NO_CELL;
     }
-    match cells_of(alloc, &IdList { ids: &*ids }) {
-        Ok(cells) => put_cells(normalise(cells).cells(), ids, len),
-        Err(_) => {
-            *len = 0;
-            NO_MEMORY
-        }
-    }
+    *len = s2search::normalise(ids);
+    MADE
 }
 
 /// All leaves from the first of one cell to the last of another, across faces too.
@@ -48,7 +45,8 @@ pub extern "C" fn s2u_range(
     len: &mut usize,
 ) -> i32
     ensures made { IsCell first → IsCell last → first_leaf first < first_leaf last + size_of last
-        → MadeOne result (IsNormalForm (between (first_leaf first) (first_leaf last + size_of last))) out.old out.new len.new }
+        → MadeOne result (IsNormalForm (between (first_leaf first) (first_leaf last + size_of last)))
+        out.old out.new len.new }
     ensures no_cell { (IsCell first → IsCell last → ⊥) → Refused result no_cell out.old out.new len.new }
     ensures order { IsCell first → IsCell last → first_leaf last + size_of last ≤ first_leaf first
         → Refused result bad_argument out.old out.new len.new }
@@ -93,7 +91,8 @@ pub extern "C" fn s2u_denormalised_len(
     len: &mut u64,
 ) -> i32
     ensures made { IsLocal ids.now → IsCutting min modulus
-        → ((result ≡ made) × (len.new ≡ length (denormalised min modulus ids.now))) ⊎ ((result ≡ no_memory) × (len.new ≡ 0)) }
+        → ((result ≡ made) × (len.new ≡ length (denormalised min modulus ids.now)))
+        ⊎ ((result ≡ no_memory) × (len.new ≡ 0)) }
     ensures no_union { (IsLocal ids.now → ⊥) → (result ≡ no_union) × (len.new ≡ 0) }
     ensures argument { IsLocal ids.now → (IsCutting min modulus → ⊥) → (result ≡ bad_argument) × (len.new ≡ 0) }
 {
@@ -113,8 +112,8 @@ pub extern "C" fn s2u_denormalised_len(
     }
 }
 
-/// The cells of a union, each cut to the least level that is at least its own and at least `min` and differs from `min`
-/// by a multiple of `modulus`; to leaves if there is no such level. `min` is at most 30 and `modulus` 1 to 3.
+/// The cells of a union, each cut to the least level that is at least its own, is at least `min`, and differs from
+/// `min` by a multiple of `modulus`; to leaves if there is no such level. `min` is at most 30, `modulus` 1 to 3.
 #[unsafe(no_mangle)]
 pub extern "C" fn s2u_denormalised(
     alloc: Global,
@@ -125,9 +124,11 @@ pub extern "C" fn s2u_denormalised(
     len: &mut usize,
 ) -> i32
     ensures made { IsLocal ids.now → IsCutting min modulus
-        → Made result (denormalised min modulus ids.now) out.old out.new len.new ⊎ Refused result no_memory out.old out.new len.new }
+        → Made result (denormalised min modulus ids.now) out.old out.new len.new
+        ⊎ Refused result no_memory out.old out.new len.new }
     ensures no_union { (IsLocal ids.now → ⊥) → Refused result no_union out.old out.new len.new }
-    ensures argument { IsLocal ids.now → (IsCutting min modulus → ⊥) → Refused result bad_argument out.old out.new len.new }
+    ensures argument { IsLocal ids.now → (IsCutting min modulus → ⊥)
+        → Refused result bad_argument out.old out.new len.new }
 {
     *len = 0;
     if !is_union(&IdList { ids }) {
@@ -142,7 +143,7 @@ pub extern "C" fn s2u_denormalised(
     }
 }
 
-/// Writes the cells that those of a union are cut to, once they are known to have room.
+/// Writes the cells that a union is cut to, if they fit the room, or tells how many there are.
 fn put_denormalised(
     alloc: Global,
     union: &CellUnion,
@@ -153,7 +154,8 @@ fn put_denormalised(
 ) -> i32
     requires cutting { IsCutting min modulus }
     requires len { len.old ≡ 0 }
-    ensures { Made result (denormalised min modulus union.now.cells) out.old out.new len.new ⊎ Refused result no_memory out.old out.new len.new }
+    ensures { Made result (denormalised min modulus union.now.cells) out.old out.new len.new
+        ⊎ Refused result no_memory out.old out.new len.new }
 {
     let need = union.denormalized_len(min, modulus);
     if need > out.len() as u64 {
@@ -169,7 +171,7 @@ fn put_denormalised(
     }
 }
 
-/// Whether a union can be cut to levels by these numbers.
+/// Whether these numbers are in range, so that a union can be cut by them.
 fn is_cutting(min: u32, modulus: u32) -> bool
     ensures { IsTrue result ↔ IsCutting min modulus }
 {

@@ -1,11 +1,12 @@
-//! The file format, by its two tables and by texts that differ from a file in one byte.
+//! The file format: its two tables, and texts that differ from a file in one byte.
 use super::bytes_of;
 use s2file::laws::round_trip;
 use s2file::{FileFault, decode, encode};
 use s2union::CellUnion;
+use std::alloc::Global;
 use std::test::Fail;
 
-/// Whether a union has just these cells.
+/// Whether a union has exactly these cells.
 fn has_cells(union: &CellUnion, ids: &[u64]) -> bool {
     union
         .cells()
@@ -14,63 +15,103 @@ fn has_cells(union: &CellUnion, ids: &[u64]) -> bool {
         .eq(ids.iter().copied())
 }
 
+/// Files that are accepted: their bytes, their cells, and the file that is written of these cells.
+const TAKEN: [(&str, &[u64], &str); 4] = [
+    ("01 0000000000000000", &[], "01 0000000000000000"),
+    (
+        "01 0100000000000000 0000000000000010",
+        &[0x1000000000000000],
+        "01 0100000000000000 0000000000000010",
+    ),
+    (
+        "01 0300000000000000 000000000000000c 0000000000000004 0000000000000004",
+        &[0x0400000000000000, 0x0c00000000000000],
+        "01 0200000000000000 0000000000000004 000000000000000c",
+    ),
+    (
+        "01 0400000000000000 000000000000001c 0000000000000014 000000000000000c 0000000000000004",
+        &[0x1000000000000000],
+        "01 0100000000000000 0000000000000010",
+    ),
+];
+
+/// Whether a file is read as these cells, again after it was written, and written as another file.
+fn is_taken(alloc: Global, read: &str, ids: &[u64], written: &str) -> Result<bool, Fail> {
+    let union = decode(alloc, &bytes_of(alloc, read)?)?;
+    Ok(
+        has_cells(&union, ids)
+            && is_written(alloc, &union, written)?
+            && comes_back(alloc, &union, ids)?,
+    )
+}
+
+/// Whether a union is written as these bytes.
+fn is_written(alloc: Global, union: &CellUnion, written: &str) -> Result<bool, Fail> {
+    let text = encode(alloc, union)?;
+    let wanted = bytes_of(alloc, written)?;
+    Ok(text.as_slice() == wanted.as_slice())
+}
+
+/// Whether a union has these cells after it was written and read.
+fn comes_back(alloc: Global, union: &CellUnion, ids: &[u64]) -> Result<bool, Fail> {
+    if union.cells().len() > 1_000_000 {
+        return Ok(false);
+    }
+    Ok(has_cells(&round_trip(alloc, union)?, ids))
+}
+
+/// The first file of the table that is not accepted this way.
+fn first_not_taken(alloc: Global) -> Result<Option<&'static str>, Fail> {
+    for (read, ids, written) in TAKEN {
+        if !is_taken(alloc, read, ids, written)? {
+            return Ok(Some(read));
+        }
+    }
+    Ok(None)
+}
+
 #[test]
 fn takes_files_in_any_order_and_writes_them_normalised(rt: HostRuntime) -> Result<(), Fail> {
-    let rows: [(&str, &[u64], &str); 4] = [
-        ("01 0000000000000000", &[], "01 0000000000000000"),
-        (
-            "01 0100000000000000 0000000000000010",
-            &[0x1000000000000000],
-            "01 0100000000000000 0000000000000010",
-        ),
-        (
-            "01 0300000000000000 000000000000000c 0000000000000004 0000000000000004",
-            &[0x0400000000000000, 0x0c00000000000000],
-            "01 0200000000000000 0000000000000004 000000000000000c",
-        ),
-        (
-            "01 0400000000000000 000000000000001c 0000000000000014 000000000000000c 0000000000000004",
-            &[0x1000000000000000],
-            "01 0100000000000000 0000000000000010",
-        ),
-    ];
-    for (read, ids, written) in rows {
-        let union = decode(rt.alloc(), bytes_of(rt.alloc(), read)?.as_slice())?;
-        assert!(rt; has_cells(&union, ids), "{read}");
-        let text = encode(rt.alloc(), &union)?;
-        assert_eq!(rt;
-            text.as_slice(),
-            bytes_of(rt.alloc(), written)?.as_slice(),
-            "{read}"
-        );
-        assert!(rt; union.cells().len() <= 1_000_000);
-        assert!(rt; has_cells(&round_trip(rt.alloc(), &union)?, ids), "{read}");
-    }
+    assert_eq!(rt; first_not_taken(rt.alloc())?, None);
     Ok(())
+}
+
+/// Files that are refused, and why.
+const REFUSED: [(&str, FileFault); 11] = [
+    ("", FileFault::Short),
+    ("02", FileFault::Version),
+    ("02 0000000000000000", FileFault::Version),
+    ("01 00000000000000", FileFault::Short),
+    ("01 ffffffffffffffff", FileFault::Count),
+    ("01 41420f0000000000", FileFault::Count),
+    ("01 0100000000000000 00000000000000", FileFault::Short),
+    (
+        "01 0100000000000000 0000000000000010 00",
+        FileFault::Trailing,
+    ),
+    ("01 0100000000000000 0000000000000000", FileFault::Cell),
+    ("01 0100000000000000 0000000000000020", FileFault::Cell),
+    ("01 0100000000000000 00000000000000d0", FileFault::Cell),
+];
+
+/// Whether bytes are refused for this reason.
+fn is_refused(alloc: Global, bytes: &[u8], fault: FileFault) -> bool {
+    decode(alloc, bytes).err() == Some(fault)
+}
+
+/// The first file of the table that is not refused for its reason.
+fn first_not_refused(alloc: Global) -> Result<Option<&'static str>, Fail> {
+    for (digits, fault) in REFUSED {
+        if !is_refused(alloc, &bytes_of(alloc, digits)?, fault) {
+            return Ok(Some(digits));
+        }
+    }
+    Ok(None)
 }
 
 #[test]
 fn refuses_by_the_first_check_that_fails(rt: HostRuntime) -> Result<(), Fail> {
-    let rows = [
-        ("", FileFault::Short),
-        ("02", FileFault::Version),
-        ("02 0000000000000000", FileFault::Version),
-        ("01 00000000000000", FileFault::Short),
-        ("01 ffffffffffffffff", FileFault::Count),
-        ("01 41420f0000000000", FileFault::Count),
-        ("01 0100000000000000 00000000000000", FileFault::Short),
-        (
-            "01 0100000000000000 0000000000000010 00",
-            FileFault::Trailing,
-        ),
-        ("01 0100000000000000 0000000000000000", FileFault::Cell),
-        ("01 0100000000000000 0000000000000020", FileFault::Cell),
-        ("01 0100000000000000 00000000000000d0", FileFault::Cell),
-    ];
-    for (digits, fault) in rows {
-        let answer = decode(rt.alloc(), bytes_of(rt.alloc(), digits)?.as_slice());
-        assert_eq!(rt; answer.err(), Some(fault), "{digits}");
-    }
+    assert_eq!(rt; first_not_refused(rt.alloc())?, None);
     Ok(())
 }
 
@@ -79,38 +120,53 @@ const TWO_CELLS: [u8; 25] = [
     1, 2, 0, 0, 0, 0, 0, 0, 0, 0, 0, 0, 0, 0, 0, 0, 4, 0, 0, 0, 0, 0, 0, 0, 12,
 ];
 
-#[test]
-fn refuses_every_proper_beginning(rt: HostRuntime) -> Result<(), Fail> {
+/// The length of the first proper beginning that is not refused as short.
+fn first_beginning_not_refused(alloc: Global) -> Option<usize> {
     for len in 0..TWO_CELLS.len() {
-        let answer = decode(rt.alloc(), &TWO_CELLS[..len]);
-        assert_eq!(rt; answer.err(), Some(FileFault::Short), "{len} bytes");
+        if !is_refused(alloc, &TWO_CELLS[..len], FileFault::Short) {
+            return Some(len);
+        }
     }
-    Ok(())
+    None
 }
 
 #[test]
-fn reads_every_change_of_one_byte_as_the_format_says(rt: HostRuntime) -> Result<(), Fail> {
+fn refuses_every_proper_beginning(rt: HostRuntime) {
+    assert_eq!(rt; first_beginning_not_refused(rt.alloc()), None);
+}
+
+/// Whether a text is read as the format says.
+fn is_read_as_said(alloc: Global, text: &[u8; 25]) -> bool {
+    match (decode(alloc, text), plain_reading(text)) {
+        (Ok(union), Ok((first, None))) => has_cells(&union, &[first]),
+        (Ok(union), Ok((first, Some(second)))) => has_cells(&union, &[first, second]),
+        (Err(found), Err(fault)) => found == fault,
+        _ => false,
+    }
+}
+
+/// How many texts there are that differ from the file in one byte, or the first that is not read as the format says.
+fn changes_read_as_said(alloc: Global) -> Result<u32, (usize, u8)> {
     let mut texts = 0u32;
     for place in 0..25 {
         for change in 1..=255u8 {
             let mut text = TWO_CELLS;
             text[place] = text[place].wrapping_add(change);
-            match (decode(rt.alloc(), &text), plain_reading(&text)) {
-                (Ok(union), Ok((first, None))) => assert!(rt; has_cells(&union, &[first])),
-                (Ok(union), Ok((first, Some(second)))) => {
-                    assert!(rt; has_cells(&union, &[first, second]));
-                }
-                (Err(found), Err(fault)) => assert_eq!(rt; found, fault, "{place} {change}"),
-                _ => assert!(rt; false, "{place} {change}"),
+            if !is_read_as_said(alloc, &text) {
+                return Err((place, change));
             }
             texts = texts.wrapping_add(1);
         }
     }
-    assert_eq!(rt; texts, 6_375);
-    Ok(())
+    Ok(texts)
 }
 
-/// What 25 bytes stand for, by the words of the format: a cell or two, which can't merge.
+#[test]
+fn reads_every_change_of_one_byte_as_the_format_says(rt: HostRuntime) {
+    assert_eq!(rt; changes_read_as_said(rt.alloc()), Ok(6_375));
+}
+
+/// What 25 bytes stand for by the text of the format: one or two cells, which can't merge.
 fn plain_reading(text: &[u8; 25]) -> Result<(u64, Option<u64>), FileFault> {
     if text[0] != 1 {
         return Err(FileFault::Version);
@@ -146,7 +202,7 @@ fn little_endian(bytes: &[u8]) -> u64 {
     sum
 }
 
-/// The first leaf of the cell with this identifier, and the one behind its last.
+/// The first leaf of the cell with this identifier, and the one after its last.
 fn leaves(id: u64) -> Option<(u64, u64)> {
     for level in 0..31u32 {
         let size = 1u64 << (60 - 2 * level);

@@ -5,7 +5,7 @@ use std::io;
 use std::io::{ErrorKind, Read, Seek, SeekFrom, Write};
 use std::rt::Files;
 
-/// What goes wrong: the look at a path, the opening of a file, or a read or a write.
+/// What fails: the look at a path, the opening of a file, or a read or a write.
 #[derive(Clone, Copy, PartialEq, Eq)]
 pub enum Fails {
     Look,
@@ -13,7 +13,7 @@ pub enum Fails {
     Transfer,
 }
 
-/// A runtime whose file system holds one file, which has no byte, and answers faults of one kind.
+/// A runtime whose file system holds one empty file, and answers faults of one kind.
 #[derive(Drop)]
 pub struct Faulty {
     pub alloc: Global,
@@ -29,14 +29,14 @@ impl Alloc for Faulty {
     }
 }
 
-/// A file of which the first read or write goes wrong, unless there is no fault left.
+/// A file whose first read or write fails, if a fault is left.
 #[derive(Drop)]
 pub struct FaultyFile {
     fault: Option<ErrorKind>,
 }
 
 impl FaultyFile {
-    /// The fault, once; then none, so that a call that is tried again goes through.
+    /// The fault, once. Then None, so a call that is tried again succeeds.
     fn transfer(&mut self) -> io::Result<()> {
         match self.fault {
             Some(kind) => {

@@ -11,7 +11,8 @@ loop-k-preserved c =
     let list : c.in-Some-Some.union.cells ≡ c.args.ids.now = search rules in
     let asked : c.deref.result.now ≡ c.args.questions.now = search rules in
     let answer = subst (λ cells. yes ↔ IsWithin (covers (slice_index cells c.loop-k.k)) (has_leaf c.args.ids.now)) asked
-    (subst (λ u. yes ↔ IsWithin (covers (slice_index c.deref.result.now c.loop-k.k)) (has_leaf u)) list c.contains_at.ensures) in
+    (subst (λ u. yes ↔ IsWithin (covers (slice_index c.deref.result.now c.loop-k.k)) (has_leaf u)) list
+    c.contains_at.ensures) in
     record {
       so_far = answers_more (λ i. IsWithin (covers (slice_index c.args.questions.now i)) (has_leaf c.args.ids.now))
           c.loop-k.answers c.loop-k.k c.contains_at.result (search rules) c.loop-k.invariant.so_far answer;

@@ -6,6 +6,7 @@ use Rattle.s2c.proofs.questions.s2c_contains_cells.Given as goal
 
 abbrev pub invariant-loop-k : goal.invariant-loop-k
 invariant-loop-k l = record {
-  so_far : (i : ℕ) → i < l.k → (IsTrue (slice_index_or l.answers i false) ↔ IsWithin (covers (slice_index l.questions i)) (has_leaf l.ids));
+  so_far : (i : ℕ) → i < l.k → (IsTrue (slice_index_or l.answers i false) ↔ IsWithin
+      (covers (slice_index l.questions i)) (has_leaf l.ids));
   room : length l.questions ≤ length l.answers;
 }

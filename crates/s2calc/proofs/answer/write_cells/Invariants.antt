@@ -6,4 +6,5 @@ use Rattle.s2calc.proofs.answer.write_cells.Given as goal
 
 -- the lines of the cells so far are written
 abbrev pub invariant-loop-cell : goal.invariant-loop-cell
-invariant-loop-cell g l = Appends (g.W.Write.contents l.fn.writer) (g.W.Write.contents l.writer) (flat_map token_line (take l.cell-index l.cells))
+invariant-loop-cell g l = Appends (g.W.Write.contents l.fn.writer) (g.W.Write.contents l.writer)
+    (flat_map token_line (take l.cell-index l.cells))

@@ -7,5 +7,8 @@ use Rattle.s2calc.proofs.edits.added.Goals as goal
 
 pub returns : goal.returns
 returns c =
-    IfOk-weaker c.union-2.result _ _ (λ u normal. normal_form_same (either (has_leaf c.args.union.now.cells) (has_leaf c.in_ok-gathered.field-0.cells)) _ u.cells
-    (λ x. ap (λ b. has_leaf c.args.union.now.cells x || b) (c.in_ok-gathered.ensures x)) normal) c.union-2.ensures.normal
+    IfOk-weaker c.union-2.result _ _ (λ u normal.
+    normal_form_same (either (has_leaf c.args.union.now.cells) (has_leaf c.in_ok-gathered.field-0.cells)) _
+    u.cells
+    (λ x. ap (λ b. has_leaf c.args.union.now.cells x || b) (c.in_ok-gathered.ensures x)) normal)
+    c.union-2.ensures.normal

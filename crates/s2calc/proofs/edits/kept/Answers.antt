@@ -7,5 +7,8 @@ use Rattle.s2calc.proofs.edits.kept.Goals as goal
 
 pub returns : goal.returns
 returns c =
-    IfOk-weaker c.intersection-2.result _ _ (λ u normal. normal_form_same (shared (has_leaf c.args.union.now.cells) (has_leaf c.in_ok-gathered.field-0.cells)) _ u.cells
-    (λ x. ap (λ b. has_leaf c.args.union.now.cells x && b) (c.in_ok-gathered.ensures x)) normal) c.intersection-2.ensures.normal
+    IfOk-weaker c.intersection-2.result _ _ (λ u normal.
+    normal_form_same (shared (has_leaf c.args.union.now.cells) (has_leaf c.in_ok-gathered.field-0.cells)) _
+    u.cells
+    (λ x. ap (λ b. has_leaf c.args.union.now.cells x && b) (c.in_ok-gathered.ensures x)) normal)
+    c.intersection-2.ensures.normal

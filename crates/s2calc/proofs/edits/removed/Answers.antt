@@ -1,11 +1,12 @@
 use Rattle.std.proofs.Common.{◌&&◌, not, ap}
-use Rattle.std.proofs.lemmas.Result.{IfOk-weaker}
 use Rattle.s2union.specs.Union.{has_leaf}
 use Rattle.s2union.specs.Sets.{without}
-use Rattle.s2union.proofs.Normal.{normal_form_same}
+use Rattle.s2calc.proofs.CoveringLemmas.{makes_same}
 use Rattle.s2calc.proofs.edits.removed.Goals as goal
 
-pub returns : goal.returns
-returns c =
-    IfOk-weaker c.difference-2.result _ _ (λ u normal. normal_form_same (without (has_leaf c.args.union.now.cells) (has_leaf c.in_ok-gathered.field-0.cells)) _ u.cells
-    (λ x. ap (λ b. has_leaf c.args.union.now.cells x && not b) (c.in_ok-gathered.ensures x)) normal) c.difference-2.ensures.normal
+pub returns-in-Ok : goal.returns-in-Ok
+returns-in-Ok c =
+    makes_same (without (has_leaf c.args.union.now.cells) (has_leaf c.in-Ok.taken.cells)) _ c.args.limit
+    c.subtracted.result
+    (λ x. ap (λ b. has_leaf c.args.union.now.cells x && not b) (c.in-Ok.ensures x))
+    c.subtracted.ensures

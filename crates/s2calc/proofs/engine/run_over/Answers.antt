@@ -13,29 +13,40 @@ returns-in_err-before_read-clause-runs g c =
     let i = c.loop.invariant in
     let p = err_from_is_err_and c.from_residual.result c.from_residual.ensures.1 in
     let f = c.in_err-before_read.ensures.fault in
-    rw (p.1, p.2, f.0) (inl (f.1, StopsReading-here _ _ _ i.0 i.1 _ _ _ i.2 (Keeps-refl _) i.3 (Appends-kept _ _ _ _ i.4 c.before_read.ensures.kept)))
+    rw (p.1, p.2, f.0) (inl (
+      f.1,
+      StopsReading-here _ _ _ i.0 i.1 _ _ _ i.2 (Keeps-refl _) i.3
+          (Appends-kept _ _ _ _ i.4 c.before_read.ensures.kept),
+    ))
 
 pub returns-in-Ok-eq0-clause-runs : goal.returns-in-Ok-eq0-clause-runs
 returns-in-Ok-eq0-clause-runs g c =
     let i = c.loop.invariant in
     let read = c.in-Ok-eq0.ensures.bytes in
-    Runs-close _ _ _ i.0 i.1 _ _ c.finish.result (Consumes-none _ _ _ i.0 _ c.in-Ok-eq0.field-0 c.in-Ok-eq0.field-0-test i.2 read.0) (read.1 c.in-Ok-eq0.field-0-test (omega arith))
+    Runs-close _ _ _ i.0 i.1 _ _ c.finish.result
+    (Consumes-none _ _ _ i.0 _ c.in-Ok-eq0.field-0 c.in-Ok-eq0.field-0-test i.2 read.0)
+    (read.1 c.in-Ok-eq0.field-0-test (omega arith))
     (Appends-kept _ _ _ _ i.4 c.before_read.ensures.kept) (c.finish.ensures.closes _ i.0 i.1 i.3)
 
 pub returns-in-Ok-eq0-clause-sent : goal.returns-in-Ok-eq0-clause-sent
-returns-in-Ok-eq0-clause-sent g c = MatchResult-weaker c.finish.result c.finish.ensures.sent (λ _ s. s) (λ fault is_output is_input. absurd cc)
+returns-in-Ok-eq0-clause-sent g c = MatchResult-weaker c.finish.result c.finish.ensures.sent (λ _ s. s)
+    (λ fault is_output is_input. absurd cc)
 
 pub returns-in_err-take_in-in-Ok-clause-runs : goal.returns-in_err-take_in-in-Ok-clause-runs
 returns-in_err-take_in-in-Ok-clause-runs g c =
     let i = c.loop.invariant in
-    let p = err_from_is_err_and c.from_residual-in_err-take_in-in-Ok.result c.from_residual-in_err-take_in-in-Ok.ensures.1 in
+    let p = err_from_is_err_and c.from_residual-in_err-take_in-in-Ok.result
+    c.from_residual-in_err-take_in-in-Ok.ensures.1 in
     let done = c.in_err-take_in-in-Ok.ensures in
-    rw (p.1, p.2, done.fault) (inr (inl (StopsWriting-inside _ _ _ i.0 i.1 _ _ _ i.2 c.in-Ok.ensures.bytes.0 (Appends-kept _ _ _ _ i.4 c.before_read.ensures.kept) (done.err _ i.0 i.1 i.3))))
+    rw (p.1, p.2, done.fault)
+    (inr (inl (StopsWriting-inside _ _ _ i.0 i.1 _ _ _ i.2 c.in-Ok.ensures.bytes.0
+    (Appends-kept _ _ _ _ i.4 c.before_read.ensures.kept) (done.err _ i.0 i.1 i.3))))
 
 pub returns-in-Err-clause-runs : goal.returns-in-Err-clause-runs
 returns-in-Err-clause-runs g c =
     let i = c.loop.invariant in
-    StopsReading-here _ _ _ i.0 i.1 _ _ _ i.2 c.in-Err.ensures.bytes i.3 (Appends-kept _ _ _ _ i.4 c.before_read.ensures.kept)
+    StopsReading-here _ _ _ i.0 i.1 _ _ _ i.2 c.in-Err.ensures.bytes i.3
+    (Appends-kept _ _ _ _ i.4 c.before_read.ensures.kept)
 
 pub loop-preserved : goal.loop-preserved
 loop-preserved g c =
@@ -51,9 +62,14 @@ loop-preserved g c =
 pub returns-in_err-before_read-2-clause-runs : goal.returns-in_err-before_read-2-clause-runs
 returns-in_err-before_read-2-clause-runs g c =
     let i = c.loop.invariant in
-    let p = err_from_is_err_and c.from_residual-in_err-before_read-2.result c.from_residual-in_err-before_read-2.ensures.1 in
+    let p = err_from_is_err_and c.from_residual-in_err-before_read-2.result
+    c.from_residual-in_err-before_read-2.ensures.1 in
     let f = c.in_err-before_read-2.ensures.fault in
-    rw (p.1, p.2, f.0) (inl (f.1, StopsReading-here _ _ _ i.0 i.1 _ _ _ i.2 (Keeps-refl _) i.3 (Appends-kept _ _ _ _ i.4 c.before_read-2.ensures.kept)))
+    rw (p.1, p.2, f.0) (inl (
+      f.1,
+      StopsReading-here _ _ _ i.0 i.1 _ _ _ i.2 (Keeps-refl _) i.3
+          (Appends-kept _ _ _ _ i.4 c.before_read-2.ensures.kept),
+    ))
 
 pub returns-clause-runs : goal.returns-clause-runs
 returns-clause-runs g c =

@@ -8,5 +8,8 @@ use Rattle.s2calc.proofs.engine.run_over.Given as goal
 -- what was read is taken in, and its answers are written
 abbrev pub invariant-loop : goal.invariant-loop
 invariant-loop g l =
-    (script : List ℕ) × (replies : List Reply) × Consumes (g.R.Read.remaining l.fn.reader) (g.R.Read.remaining l.reader) script
-    × Stands (world l.fn.editor (g.S.Shelf.files l.fn.shelf)) script replies (world l.editor (g.S.Shelf.files l.shelf)) l.kept l.tally × Appends (g.W.Write.contents l.fn.writer) (g.W.Write.contents l.writer) (texts replies)
+    (script : List ℕ) × (replies : List Reply) × Consumes (g.R.Read.remaining l.fn.reader)
+    (g.R.Read.remaining l.reader) script
+    × Stands (world l.fn.editor (g.S.Shelf.files l.fn.shelf)) script replies
+    (world l.editor (g.S.Shelf.files l.shelf)) l.kept l.tally
+    × Appends (g.W.Write.contents l.fn.writer) (g.W.Write.contents l.writer) (texts replies)

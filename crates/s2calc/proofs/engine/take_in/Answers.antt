@@ -1,4 +1,5 @@
-use Rattle.std.proofs.Common.{◌≡◌, ℕ, List, [], ◌∷◌, ◌++◌, ◌+◌, ◌-◌, length, take, drop, refl, ap, sym, ◌∙◌, append_assoc, take-append-drop}
+use Rattle.std.proofs.Common.{◌≡◌, ℕ, List, [], ◌∷◌, ◌++◌, ◌+◌, ◌-◌, length, take, drop, refl, ap, sym}
+use Rattle.std.proofs.Common.{◌∙◌, append_assoc, take-append-drop}
 use Rattle.std.proofs.lemmas.List.{take_rest}
 use Rattle.std.proofs.lemmas.Result.{err_from_is_err_and}
 use Rattle.s2script.specs.Lines.{EndsLineAt}
@@ -6,13 +7,17 @@ use Rattle.s2calc.proofs.TakeInLemmas.{StandsAfter-none, StandsAfter-line, Stand
 use Rattle.s2calc.proofs.engine.take_in.Goals as goal
 
 -- the chunk, cut at a newline
-cut_at : (chunk seen rest : List ℕ) (at : ℕ) → chunk ≡ seen ++ rest → EndsLineAt rest at → chunk ≡ (seen ++ take at rest) ++ 10 ∷ drop (at + 1) rest
+cut_at : (chunk seen rest : List ℕ) (at : ℕ) → chunk ≡ seen ++ rest → EndsLineAt rest at →
+    chunk ≡ (seen ++ take at rest) ++ 10 ∷ drop (at + 1) rest
 cut_at chunk seen rest at e h =
-    e ∙ ap (λ s. seen ++ s) (sym (take-append-drop at rest) ∙ ap (λ s. take at rest ++ s) h.here) ∙ sym (append_assoc seen (take at rest) (10 ∷ drop (at + 1) rest))
+    e ∙ ap (λ s. seen ++ s) (sym (take-append-drop at rest) ∙ ap (λ s. take at rest ++ s) h.here)
+    ∙ sym (append_assoc seen (take at rest) (10 ∷ drop (at + 1) rest))
 
-cut_behind : (chunk seen rest : List ℕ) (at : ℕ) → chunk ≡ seen ++ rest → EndsLineAt rest at → chunk ≡ ((seen ++ take at rest) ++ 10 ∷ []) ++ take (length rest - (at + 1)) (drop (at + 1) rest)
+cut_behind : (chunk seen rest : List ℕ) (at : ℕ) → chunk ≡ seen ++ rest → EndsLineAt rest at →
+    chunk ≡ ((seen ++ take at rest) ++ 10 ∷ []) ++ take (length rest - (at + 1)) (drop (at + 1) rest)
 cut_behind chunk seen rest at e h =
-    cut_at chunk seen rest at e h ∙ sym (append_assoc (seen ++ take at rest) (10 ∷ []) (drop (at + 1) rest)) ∙ ap (λ s. ((seen ++ take at rest) ++ 10 ∷ []) ++ s) (sym (take_rest rest (at + 1)))
+    cut_at chunk seen rest at e h ∙ sym (append_assoc (seen ++ take at rest) (10 ∷ []) (drop (at + 1) rest))
+    ∙ ap (λ s. ((seen ++ take at rest) ++ 10 ∷ []) ++ s) (sym (take_rest rest (at + 1)))
 
 pub loop-at-init : goal.loop-at-init
 loop-at-init g c = ([], refl, λ start script replies s. StandsAfter-none start script replies _ _ _ _ s)
@@ -25,7 +30,8 @@ returns-in_err-outcome-clause-err g c =
     let ends = c.in-Some.ensures.some in
     let done = c.in_err-outcome.ensures.executes in
     rw p.1 (λ start script replies s.
-    StopsInside-line start script replies _ i.0 (take c.in-Some.at rest) (drop (c.in-Some.at + 1) rest) _ _ _ _ _ _ _ _ done.reply (i.2 start script replies s) ends.before
+    StopsInside-line start script replies _ i.0 (take c.in-Some.at rest) (drop (c.in-Some.at + 1) rest) _ _ _ _ _ _
+    _ _ done.reply (i.2 start script replies s) ends.before
     (c.as_slice.ensures ∙ c.keep.ensures) done.step done.writes.1 (cut_at _ i.0 rest c.in-Some.at i.1 ends))
 
 pub loop-at-preserved : goal.loop-at-preserved
@@ -37,7 +43,8 @@ loop-at-preserved g c =
       (i.0 ++ take c.in-Some.at rest) ++ 10 ∷ [],
       cut_behind _ i.0 rest c.in-Some.at i.1 ends,
       λ start script replies s.
-          StandsAfter-line start script replies i.0 (take c.in-Some.at rest) _ _ _ _ _ _ _ _ _ _ done.reply (i.2 start script replies s) ends.before (c.as_slice.ensures ∙ c.keep.ensures) done.step
+          StandsAfter-line start script replies i.0 (take c.in-Some.at rest) _ _ _ _ _ _ _ _ _ _ done.reply
+          (i.2 start script replies s) ends.before (c.as_slice.ensures ∙ c.keep.ensures) done.step
           c.clear.ensures (λ before e. c.count.ensures done.reply before done.writes.0 e) done.writes.1,
     )
 
@@ -45,4 +52,5 @@ pub returns-clause-ok : goal.returns-clause-ok
 returns-clause-ok g c =
     let i = c.loop-at.invariant in
     λ start script replies s.
-    StandsAfter-rest start script replies _ i.0 c.loop-at.rest.now _ _ _ _ _ _ (i.2 start script replies s) c.in_default.ensures.none c.keep-2.ensures i.1
+    StandsAfter-rest start script replies _ i.0 c.loop-at.rest.now _ _ _ _ _ _ (i.2 start script replies s)
+    c.in_default.ensures.none c.keep-2.ensures i.1

@@ -14,5 +14,18 @@ returns-in-Ok g c =
     let same : c.as_slice.result.now ≡ bytes = search rules in
     let longer : MOST_SIZE < BYTES_OF_A_UNION = omega arith in
     MatchResult-weaker c.read.result c.read.ensures
-    (λ union known. ((content, fetched, reads_whole content bytes BYTES_OF_A_UNION (has_leaf union.cells) longer begins (subst (λ b. Reads b (Ok (has_leaf union.cells))) same known.0)), known.1))
-    (λ refusal known. inr (content, fetched, refuses_whole content bytes BYTES_OF_A_UNION refusal longer begins (subst (λ b. Reads b (Err refusal)) same known)))
+    (λ union known. (
+      (
+        content,
+        fetched,
+        reads_whole content bytes BYTES_OF_A_UNION (has_leaf union.cells) longer
+            begins (subst (λ b. Reads b (Ok (has_leaf union.cells))) same known.0),
+      ),
+      known.1,
+    ))
+    (λ refusal known. inr (
+      content,
+      fetched,
+      refuses_whole content bytes BYTES_OF_A_UNION refusal longer begins
+          (subst (λ b. Reads b (Err refusal)) same known),
+    ))

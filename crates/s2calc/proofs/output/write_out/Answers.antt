@@ -12,5 +12,6 @@ loop-written-preserved g c =
     let before = c.loop-written.invariant in
     let fits = c.in-Ok.ensures.bound in
     let most = length-take (length bytes - done) (drop done bytes) in
-    let joined = ap (λ l. take done bytes ++ l) (take-take n (length bytes - done) (drop done bytes) (omega arith)) ∙ sym (take-add done n bytes) in
+    let joined = ap (λ l. take done bytes ++ l) (take-take n (length bytes - done) (drop done bytes) (omega arith))
+    ∙ sym (take-add done n bytes) in
     (omega arith, subst (Appends _ _) joined (Appends-trans _ _ _ _ _ before.1 c.in-Ok.ensures.bytes))

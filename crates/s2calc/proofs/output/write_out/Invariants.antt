@@ -4,7 +4,8 @@ use Rattle.s2calc.proofs.output.write_out.Given as goal
 
 -- what is written is a beginning of the bytes
 abbrev pub invariant-loop-written : goal.invariant-loop-written
-invariant-loop-written g l = (l.written ≤ length l.bytes) × Appends (g.W.Write.contents l.fn.writer) (g.W.Write.contents l.writer) (take l.written l.bytes)
+invariant-loop-written g l = (l.written ≤ length l.bytes)
+    × Appends (g.W.Write.contents l.fn.writer) (g.W.Write.contents l.writer) (take l.written l.bytes)
 
 abbrev pub decreases-loop-written : goal.decreases-loop-written
 decreases-loop-written g l = length l.bytes - l.written

@@ -7,5 +7,6 @@ use Rattle.s2calc.proofs.sessions.take_over.Goals as goal
 pub returns-in-Err-Fit-clause-answer : goal.returns-in-Err-Fit-clause-answer
 returns-in-Err-Fit-clause-answer c =
     let s = content_of c.args.session in
-    let fails = subst (λ fault. RefusesSession s c.args.editor.now fault) c.in-Err-Fit.field-0-is c.in-Err-Fit.ensures.answer in
+    let fails = subst (λ fault. RefusesSession s c.args.editor.now fault) c.in-Err-Fit.field-0-is
+    c.in-Err-Fit.ensures.answer in
     λ bytes spells. inl (refl, unfit bytes s spells fails)

@@ -3,10 +3,12 @@ use Rattle.s2cell.proofs.Quarters.{orientation_of_face, square_of_face, square_o
 use Rattle.s2cell.proofs.laws.law_of_squares.Goals as goal
 
 pub returns-clause-one_square : goal.returns-clause-one_square
-returns-clause-one_square c n f i j s g x y t ic a b = let e = one_square n f i j s g x y t ic a b in (e.face, e.first, e.second, e.size)
+returns-clause-one_square c n f i j s g x y t ic a b = let e = one_square n f i j s g x y t ic a b in
+    (e.face, e.first, e.second, e.size)
 
 pub returns-clause-within : goal.returns-clause-within
-returns-clause-within c cell face i j size n x y sq at = (place_in_square cell face i j size n x y sq at, leaf_in_cell cell face i j size n x y sq at)
+returns-clause-within c cell face i j size n x y sq at =
+    (place_in_square cell face i j size n x y sq at, leaf_in_cell cell face i j size n x y sq at)
 
 pub returns-clause-face : goal.returns-clause-face
 returns-clause-face c n i e = (square_of_face n i e, orientation_of_face n e)

@@ -7,7 +7,8 @@ returns-clause-picks c = (leaf_step_is c.args.orientation c.args.wanted c.requir
 
 pub returns-clause-turned : goal.returns-clause-turned
 unfolding leaf_steps
-returns-clause-turned c = (leaf_step_is c.args.orientation c.args.wanted c.requires.orientation c.requires.wanted).turned
+returns-clause-turned c = (leaf_step_is c.args.orientation c.args.wanted c.requires.orientation
+    c.requires.wanted).turned
 
 pub returns-clause-entry : goal.returns-clause-entry
 unfolding leaf_steps

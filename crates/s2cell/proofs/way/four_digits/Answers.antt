@@ -4,4 +4,5 @@ use Rattle.s2cell.proofs.Lowest.{four_pow}
 use Rattle.s2cell.proofs.way.four_digits.Goals as goal
 
 pub returns : goal.returns
-returns c = and_mask (c.args.leaf / 2 ^ (2 * c.args.behind)) 8 ∙ ap (λ z. c.args.leaf / z % 256) (sym (four_pow c.args.behind))
+returns c = and_mask (c.args.leaf / 2 ^ (2 * c.args.behind)) 8
+    ∙ ap (λ z. c.args.leaf / z % 256) (sym (four_pow c.args.behind))

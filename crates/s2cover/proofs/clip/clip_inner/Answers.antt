@@ -8,29 +8,40 @@ use Rattle.s2cover.proofs.clip.clip_inner.Goals as goal
 
 pub returns-in-Some-clause-leaves : goal.returns-in-Some-clause-leaves
 returns-in-Some-clause-leaves c =
-    leaves_ok c.inner_part.result (inner_set (λ y. has_leaf c.args.union.now.cells y && rect_set c.in-Some.narrow y) c.args.level) (inner_set (λ y. has_leaf c.args.union.now.cells y && rect_set c.args.rect.now y) c.args.level)
-    (narrow_clip c.args.level (has_leaf c.args.union.now.cells) (rect_set c.in-Some.narrow) (rect_set c.args.rect.now) c.requires.level c.in-Some.ensures.leaves)
+    leaves_ok c.inner_part.result (inner_set (λ y. has_leaf c.args.union.now.cells y
+    && rect_set c.in-Some.narrow y) c.args.level)
+    (inner_set (λ y. has_leaf c.args.union.now.cells y && rect_set c.args.rect.now y) c.args.level)
+    (narrow_clip c.args.level (has_leaf c.args.union.now.cells) (rect_set c.in-Some.narrow)
+    (rect_set c.args.rect.now) c.requires.level c.in-Some.ensures.leaves)
     c.inner_part.ensures.leaves
 
 pub returns-in-Some-clause-normal : goal.returns-in-Some-clause-normal
 returns-in-Some-clause-normal c =
-    normal_ok c.inner_part.result (inner_set (λ y. has_leaf c.args.union.now.cells y && rect_set c.in-Some.narrow y) c.args.level) (inner_set (λ y. has_leaf c.args.union.now.cells y && rect_set c.args.rect.now y) c.args.level)
-    (narrow_clip c.args.level (has_leaf c.args.union.now.cells) (rect_set c.in-Some.narrow) (rect_set c.args.rect.now) c.requires.level c.in-Some.ensures.leaves)
+    normal_ok c.inner_part.result (inner_set (λ y. has_leaf c.args.union.now.cells y
+    && rect_set c.in-Some.narrow y) c.args.level)
+    (inner_set (λ y. has_leaf c.args.union.now.cells y && rect_set c.args.rect.now y) c.args.level)
+    (narrow_clip c.args.level (has_leaf c.args.union.now.cells) (rect_set c.in-Some.narrow)
+    (rect_set c.args.rect.now) c.requires.level c.in-Some.ensures.leaves)
     c.inner_part.ensures.normal
 
 pub returns-in-Some-clause-many : goal.returns-in-Some-clause-many
 returns-in-Some-clause-many c =
-    many_same c.inner_part.result _ c.args.max (inner_set (λ y. has_leaf c.args.union.now.cells y && rect_set c.in-Some.narrow y) c.args.level) (inner_set (λ y. has_leaf c.args.union.now.cells y && rect_set c.args.rect.now y) c.args.level)
-    (narrow_clip c.args.level (has_leaf c.args.union.now.cells) (rect_set c.in-Some.narrow) (rect_set c.args.rect.now) c.requires.level c.in-Some.ensures.leaves)
+    many_same c.inner_part.result _ c.args.max
+    (inner_set (λ y. has_leaf c.args.union.now.cells y && rect_set c.in-Some.narrow y) c.args.level)
+    (inner_set (λ y. has_leaf c.args.union.now.cells y && rect_set c.args.rect.now y) c.args.level)
+    (narrow_clip c.args.level (has_leaf c.args.union.now.cells) (rect_set c.in-Some.narrow)
+    (rect_set c.args.rect.now) c.requires.level c.in-Some.ensures.leaves)
     c.inner_part.ensures.many
 
 pub returns-in-None-clause-leaves : goal.returns-in-None-clause-leaves
 returns-in-None-clause-leaves c x =
-    let no = no_clip c.args.level (has_leaf c.args.union.now.cells) (rect_set c.args.rect.now) (c.in-None.ensures.none refl) x in
+    let no = no_clip c.args.level (has_leaf c.args.union.now.cells) (rect_set c.args.rect.now)
+    (c.in-None.ensures.none refl) x in
     rw (c.from_normalized.ensures.value, c.new.ensures.items) (rw no refl)
 
 pub returns-in-None-clause-normal : goal.returns-in-None-clause-normal
 returns-in-None-clause-normal c =
-    none_normal (inner_set (λ y. has_leaf c.args.union.now.cells y && rect_set c.args.rect.now y) c.args.level) c.from_normalized.result.cells
+    none_normal (inner_set (λ y. has_leaf c.args.union.now.cells y && rect_set c.args.rect.now y) c.args.level)
+    c.from_normalized.result.cells
     (no_clip c.args.level (has_leaf c.args.union.now.cells) (rect_set c.args.rect.now) (c.in-None.ensures.none refl))
     (c.from_normalized.ensures.value ∙ c.new.ensures.items)

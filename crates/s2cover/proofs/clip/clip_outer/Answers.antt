@@ -8,18 +8,28 @@ use Rattle.s2cover.proofs.clip.clip_outer.Goals as goal
 
 pub returns-in-Ok-clause-leaves : goal.returns-in-Ok-clause-leaves
 returns-in-Ok-clause-leaves c =
-    leaves_ok c.outer.result (outer_set (λ y. has_leaf c.in-Ok.whole.cells y && rect_set c.widened.result y) c.args.level) (outer_set (λ y. has_leaf c.args.union.now.cells y && rect_set c.args.rect.now y) c.args.level)
-    (cut_clip c.args.level c.args.union.now.cells c.in-Ok.whole.cells (rect_set c.args.rect.now) (rect_set c.widened.result) c.requires.level c.cells-local.ensures.local c.in-Ok.ensures c.widened.ensures.leaves)
+    leaves_ok c.outer.result (outer_set (λ y. has_leaf c.in-Ok.whole.cells y && rect_set c.widened.result y)
+    c.args.level) (outer_set (λ y. has_leaf c.args.union.now.cells y && rect_set c.args.rect.now y) c.args.level)
+    (cut_clip c.args.level c.args.union.now.cells c.in-Ok.whole.cells (rect_set c.args.rect.now)
+    (rect_set c.widened.result) c.requires.level c.cells-local.ensures.local c.in-Ok.ensures
+    c.widened.ensures.leaves)
     c.outer.ensures.leaves
 
 pub returns-in-Ok-clause-normal : goal.returns-in-Ok-clause-normal
 returns-in-Ok-clause-normal c =
-    normal_ok c.outer.result (outer_set (λ y. has_leaf c.in-Ok.whole.cells y && rect_set c.widened.result y) c.args.level) (outer_set (λ y. has_leaf c.args.union.now.cells y && rect_set c.args.rect.now y) c.args.level)
-    (cut_clip c.args.level c.args.union.now.cells c.in-Ok.whole.cells (rect_set c.args.rect.now) (rect_set c.widened.result) c.requires.level c.cells-local.ensures.local c.in-Ok.ensures c.widened.ensures.leaves)
+    normal_ok c.outer.result (outer_set (λ y. has_leaf c.in-Ok.whole.cells y && rect_set c.widened.result y)
+    c.args.level) (outer_set (λ y. has_leaf c.args.union.now.cells y && rect_set c.args.rect.now y) c.args.level)
+    (cut_clip c.args.level c.args.union.now.cells c.in-Ok.whole.cells (rect_set c.args.rect.now)
+    (rect_set c.widened.result) c.requires.level c.cells-local.ensures.local c.in-Ok.ensures
+    c.widened.ensures.leaves)
     c.outer.ensures.normal
 
 pub returns-in-Ok-clause-many : goal.returns-in-Ok-clause-many
 returns-in-Ok-clause-many c =
-    many_same c.outer.result _ c.args.max (outer_set (λ y. has_leaf c.in-Ok.whole.cells y && rect_set c.widened.result y) c.args.level) (outer_set (λ y. has_leaf c.args.union.now.cells y && rect_set c.args.rect.now y) c.args.level)
-    (cut_clip c.args.level c.args.union.now.cells c.in-Ok.whole.cells (rect_set c.args.rect.now) (rect_set c.widened.result) c.requires.level c.cells-local.ensures.local c.in-Ok.ensures c.widened.ensures.leaves)
+    many_same c.outer.result _ c.args.max
+    (outer_set (λ y. has_leaf c.in-Ok.whole.cells y && rect_set c.widened.result y) c.args.level)
+    (outer_set (λ y. has_leaf c.args.union.now.cells y && rect_set c.args.rect.now y) c.args.level)
+    (cut_clip c.args.level c.args.union.now.cells c.in-Ok.whole.cells (rect_set c.args.rect.now)
+    (rect_set c.widened.result) c.requires.level c.cells-local.ensures.local c.in-Ok.ensures
+    c.widened.ensures.leaves)
     c.outer.ensures.many

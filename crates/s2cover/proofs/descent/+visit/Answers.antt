@@ -1,15 +1,23 @@
-use Rattle.std.proofs.Common.{rules, arith, ◌≡◌, ◌-◌, ◌<◌, ◌≤◌, true, false, [], ◌∷◌, length, vec_len, refl, ◌∙◌, ap, inl, inr}
+use Rattle.std.proofs.Common.{rules, arith, ◌≡◌, ◌-◌, ◌<◌, ◌≤◌, true, false, [], ◌∷◌, length, vec_len, refl}
+use Rattle.std.proofs.Common.{◌∙◌, ap, inl, inr}
 use Rattle.std.proofs.lemmas.Bool.{both_ways}
 use Rattle.s2cell.specs.Cell.{level_of, place_of}
 use Rattle.s2cover.specs.Descent.{blocks, depth_of}
-use Rattle.s2cover.proofs.Visits.{in_whole, out_nothing, cross_whole, cross_nothing, same_list, one_more, is_full, too_many, Both, visited_next, whole_next, list_next, many_next, many_child, id_of, all_children, some_children, kept, child_from, child_stops, visited_none, Held, held_full, held_none}
+use Rattle.s2cover.proofs.Visits.{in_whole, out_nothing, cross_whole, cross_nothing, same_list, one_more, is_full}
+use Rattle.s2cover.proofs.Visits.{too_many, Both, visited_next, whole_next, list_next, many_next, many_child, id_of}
+use Rattle.s2cover.proofs.Visits.{all_children, some_children, kept, child_from, child_stops, visited_none, Held}
+use Rattle.s2cover.proofs.Visits.{held_full, held_none}
 use Rattle.s2cover.proofs.descent.+visit.Goals as goal
-use Rattle.s2cover.proofs.descent.+visit.Goals.{then-full, else-full, then-full-2, else-full-2, else-not-full-via-then-not-full+else-len-max, else-not-full-via-else-not-full}
+use Rattle.s2cover.proofs.descent.+visit.Goals.{then-full, else-full, then-full-2, else-full-2}
+use Rattle.s2cover.proofs.descent.+visit.Goals.{else-not-full-via-then-not-full+else-len-max}
+use Rattle.s2cover.proofs.descent.+visit.Goals.{else-not-full-via-else-not-full}
 
 pub loop-digit-init : goal.loop-digit-init
 loop-digit-init g t c =
     let S = blocks c.args.whole (g.R.Region.holds c.args.region.now) (30 - c.args.level) in
-    visited_none S (30 - c.args.level) (depth_of c.args.placed.now.cell) (place_of c.args.placed.now.cell) c.args.list.now.items (vec_len c.args.list.now) c.args.loose c.args.max c.len-before.result c.requires.room c.len-before.ensures
+    visited_none S (30 - c.args.level) (depth_of c.args.placed.now.cell) (place_of c.args.placed.now.cell)
+    c.args.list.now.items (vec_len c.args.list.now) c.args.loose c.args.max c.len-before.result c.requires.room
+    c.len-before.ensures
 
 pub visit-requires : goal.visit-requires
 visit-requires g t c κs within =
@@ -22,10 +30,17 @@ visit-requires g t c κs within =
     let n = c.if-level.false in
     let v = c.level.ensures.value in
     let above : level_of c.child.result.cell ≤ c.args.level = (let k = c.requires.above in omega arith) in
-    let held : Held (level_of c.args.placed.now.cell) (level_of c.child.result.cell) c.args.loose c.loop-digit.digit c.if-full.held c.args.max (vec_len c.loop-digit.list) =
+    let held : Held (level_of c.args.placed.now.cell) (level_of c.child.result.cell) c.args.loose
+    c.loop-digit.digit c.if-full.held c.args.max (vec_len c.loop-digit.list) =
     elim c.if-full.branch [
-      | then-full w ↦ held_full S grain (level_of c.args.placed.now.cell) d m c.loop-digit.digit c.args.list.now.items c.loop-digit.list.items (vec_len c.args.list.now) (vec_len c.loop-digit.list) c.loop-digit.full c.args.loose c.args.max c.len-before.result (level_of c.child.result.cell) c.if-full.held lv c.loop-digit-test.true c.requires.loose w.held-is w.if-full.true c.loop-digit.invariant
-      | else-full w ↦ held_none S grain (level_of c.args.placed.now.cell) d m c.loop-digit.digit c.args.list.now.items c.loop-digit.list.items (vec_len c.args.list.now) (vec_len c.loop-digit.list) c.loop-digit.full c.args.loose c.args.max c.len-before.result (level_of c.child.result.cell) c.if-full.held w.held-is w.if-full.false c.loop-digit.invariant
+      | then-full w ↦ held_full S grain (level_of c.args.placed.now.cell) d m c.loop-digit.digit
+          c.args.list.now.items c.loop-digit.list.items (vec_len c.args.list.now) (vec_len c.loop-digit.list)
+          c.loop-digit.full c.args.loose c.args.max c.len-before.result (level_of c.child.result.cell) c.if-full.held
+          lv c.loop-digit-test.true c.requires.loose w.held-is w.if-full.true c.loop-digit.invariant
+      | else-full w ↦ held_none S grain (level_of c.args.placed.now.cell) d m c.loop-digit.digit
+          c.args.list.now.items c.loop-digit.list.items (vec_len c.args.list.now) (vec_len c.loop-digit.list)
+          c.loop-digit.full c.args.loose c.args.max c.len-before.result (level_of c.child.result.cell) c.if-full.held
+          w.held-is w.if-full.false c.loop-digit.invariant
     ] in
     let bound = held.bound in
     let room = held.room in
@@ -38,8 +53,13 @@ returns-in-Err-clause-many g t c =
     let grain = 30 - c.args.level in
     let d = depth_of c.args.placed.now.cell in
     let m = place_of c.args.placed.now.cell in
-    let s = child_stops S grain d m c.loop-digit.digit (depth_of c.child.result.cell) (place_of c.child.result.cell) c.args.max (vec_len c.loop-digit.list) c.child.ensures.depth c.child.ensures.place (c.in-Err.ensures.many e) in
-    many_child S grain d m c.loop-digit.digit c.args.list.now.items c.loop-digit.list.items (vec_len c.args.list.now) (vec_len c.loop-digit.list) c.args.max c.loop-digit.full (let n = c.if-level.false in let v = c.level.ensures.value in let k = c.requires.above in let l = c.requires.level in omega arith) c.loop-digit-test.true c.args.list.now.ok.0 c.loop-digit.list.ok.0
+    let s = child_stops S grain d m c.loop-digit.digit (depth_of c.child.result.cell)
+    (place_of c.child.result.cell) c.args.max (vec_len c.loop-digit.list) c.child.ensures.depth
+    c.child.ensures.place (c.in-Err.ensures.many e) in
+    many_child S grain d m c.loop-digit.digit c.args.list.now.items c.loop-digit.list.items
+    (vec_len c.args.list.now) (vec_len c.loop-digit.list) c.args.max c.loop-digit.full
+    (let n = c.if-level.false in let v = c.level.ensures.value in let k = c.requires.above in
+    let l = c.requires.level in omega arith) c.loop-digit-test.true c.args.list.now.ok.0 c.loop-digit.list.ok.0
     c.loop-digit.invariant.list c.loop-digit.invariant.whole s.0 s.1
 
 pub returns-then-len-max-clause-many : goal.returns-then-len-max-clause-many
@@ -49,13 +69,25 @@ returns-then-len-max-clause-many g t c =
     let grain = 30 - c.args.level in
     let d = depth_of c.args.placed.now.cell in
     let m = place_of c.args.placed.now.cell in
-    let kid = child_from S grain d m c.loop-digit.digit c.loop-digit.list.items c.visit.new.list.items c.in-Ok.inside (depth_of c.child.result.cell) (place_of c.child.result.cell) c.child.ensures.depth c.child.ensures.place c.in-Ok.ensures.list c.in-Ok.ensures.full in
-    let both : Both c.loop-digit.full c.in-Ok.inside c.if-full-2.full = elim c.if-full-2.branch [ then-full-2 w ↦ inl (w.if-full-2.true, w.full-is) | else-full-2 w ↦ inr (w.if-full-2.false, w.full-is ∙ w.if-full-2.false) ] in
-    let list = list_next S grain d m c.loop-digit.digit c.args.list.now.items c.loop-digit.list.items c.visit.new.list.items c.loop-digit.invariant.list kid.list in
-    let below : grain < d = (let n = c.if-level.false in let v = c.level.ensures.value in let k = c.requires.above in let l = c.requires.level in omega arith) in
-    let whole = whole_next S d m c.loop-digit.digit c.loop-digit.full c.in-Ok.inside c.if-full-2.full (omega arith) c.loop-digit-test.true c.loop-digit.invariant.whole kid.full both in
+    let kid = child_from S grain d m c.loop-digit.digit c.loop-digit.list.items c.visit.new.list.items
+    c.in-Ok.inside (depth_of c.child.result.cell) (place_of c.child.result.cell) c.child.ensures.depth
+    c.child.ensures.place c.in-Ok.ensures.list c.in-Ok.ensures.full in
+    let both : Both c.loop-digit.full c.in-Ok.inside c.if-full-2.full =
+    elim c.if-full-2.branch [
+      | then-full-2 w ↦ inl (w.if-full-2.true, w.full-is)
+      | else-full-2 w ↦ inr
+          (w.if-full-2.false, w.full-is ∙ w.if-full-2.false)
+    ] in
+    let list = list_next S grain d m c.loop-digit.digit c.args.list.now.items c.loop-digit.list.items
+    c.visit.new.list.items c.loop-digit.invariant.list kid.list in
+    let below : grain < d = (let n = c.if-level.false in let v = c.level.ensures.value in
+    let k = c.requires.above in let l = c.requires.level in omega arith) in
+    let whole = whole_next S d m c.loop-digit.digit c.loop-digit.full c.in-Ok.inside c.if-full-2.full (omega arith)
+    c.loop-digit-test.true c.loop-digit.invariant.whole kid.full both in
     let len : vec_len c.visit.new.list ≡ length c.visit.new.list.items = c.visit.new.list.ok.0 in
-    many_next S grain d m c.loop-digit.digit c.args.list.now.items c.visit.new.list.items (vec_len c.args.list.now) c.args.max c.if-full-2.full below c.loop-digit-test.true c.args.list.now.ok.0 list whole (search rules) (omega (arith, c.len.ensures, c.if-len-max.true))
+    many_next S grain d m c.loop-digit.digit c.args.list.now.items c.visit.new.list.items (vec_len c.args.list.now)
+    c.args.max c.if-full-2.full below c.loop-digit-test.true c.args.list.now.ok.0 list whole (search rules)
+    (omega (arith, c.len.ensures, c.if-len-max.true))
 
 pub loop-digit-preserved : goal.loop-digit-preserved
 loop-digit-preserved g t c =
@@ -63,10 +95,21 @@ loop-digit-preserved g t c =
     let grain = 30 - c.args.level in
     let d = depth_of c.args.placed.now.cell in
     let m = place_of c.args.placed.now.cell in
-    let kid = child_from S grain d m c.loop-digit.digit c.loop-digit.list.items c.visit.new.list.items c.in-Ok.inside (depth_of c.child.result.cell) (place_of c.child.result.cell) c.child.ensures.depth c.child.ensures.place c.in-Ok.ensures.list c.in-Ok.ensures.full in
-    let both : Both c.loop-digit.full c.in-Ok.inside c.if-full-2.full = elim c.if-full-2.branch [ then-full-2 w ↦ inl (w.if-full-2.true, w.full-is) | else-full-2 w ↦ inr (w.if-full-2.false, w.full-is ∙ w.if-full-2.false) ] in
-    visited_next S grain d m c.loop-digit.digit c.args.list.now.items c.loop-digit.list.items c.visit.new.list.items (vec_len c.args.list.now) (vec_len c.loop-digit.list) (vec_len c.visit.new.list) c.loop-digit.full c.in-Ok.inside c.if-full-2.full c.args.loose c.args.max c.len-before.result
-    (let n = c.if-level.false in let v = c.level.ensures.value in let k = c.requires.above in let l = c.requires.level in omega arith) c.loop-digit-test.true c.loop-digit.list.ok.0 c.visit.new.list.ok.0 c.loop-digit.invariant kid both
+    let kid = child_from S grain d m c.loop-digit.digit c.loop-digit.list.items c.visit.new.list.items
+    c.in-Ok.inside (depth_of c.child.result.cell) (place_of c.child.result.cell) c.child.ensures.depth
+    c.child.ensures.place c.in-Ok.ensures.list c.in-Ok.ensures.full in
+    let both : Both c.loop-digit.full c.in-Ok.inside c.if-full-2.full =
+    elim c.if-full-2.branch [
+      | then-full-2 w ↦ inl (w.if-full-2.true, w.full-is)
+      | else-full-2 w ↦ inr
+          (w.if-full-2.false, w.full-is ∙ w.if-full-2.false)
+    ] in
+    visited_next S grain d m c.loop-digit.digit c.args.list.now.items c.loop-digit.list.items
+    c.visit.new.list.items (vec_len c.args.list.now) (vec_len c.loop-digit.list) (vec_len c.visit.new.list)
+    c.loop-digit.full c.in-Ok.inside c.if-full-2.full c.args.loose c.args.max c.len-before.result
+    (let n = c.if-level.false in let v = c.level.ensures.value in let k = c.requires.above in
+    let l = c.requires.level in omega arith) c.loop-digit-test.true c.loop-digit.list.ok.0 c.visit.new.list.ok.0
+    c.loop-digit.invariant kid both
     (λ f. elim c.else-not-full.branch [
       | else-not-full-via-then-not-full+else-len-max w ↦ omega (arith, w.len.ensures, w.if-len-max.false)
       | else-not-full-via-else-not-full w ↦ absurd (both_ways c.if-full-2.full f w.if-not-full.false)
@@ -74,53 +117,72 @@ loop-digit-preserved g t c =
 
 pub returns-in-Out-clause-list : goal.returns-in-Out-clause-list
 returns-in-Out-clause-list g t c =
-    let n = out_nothing c.args.whole (g.R.Region.holds c.args.region.now) (30 - c.args.level) c.args.placed.now.cell (let k = c.requires.above in omega arith) (c.in-Out.ensures.out.0 refl) in
+    let n = out_nothing c.args.whole (g.R.Region.holds c.args.region.now) (30 - c.args.level)
+    c.args.placed.now.cell (let k = c.requires.above in omega arith) (c.in-Out.ensures.out.0 refl) in
     same_list c.settle.result _ c.args.list.now.items _ n.cells c.settle.ensures.ok
 
 pub returns-in-Out-clause-full : goal.returns-in-Out-clause-full
 returns-in-Out-clause-full g t c =
-    let n = out_nothing c.args.whole (g.R.Region.holds c.args.region.now) (30 - c.args.level) c.args.placed.now.cell (let k = c.requires.above in omega arith) (c.in-Out.ensures.out.0 refl) in
+    let n = out_nothing c.args.whole (g.R.Region.holds c.args.region.now) (30 - c.args.level)
+    c.args.placed.now.cell (let k = c.requires.above in omega arith) (c.in-Out.ensures.out.0 refl) in
     is_full c.settle.result _ false _ n.holds c.settle.ensures.ok
 
 pub returns-in-Out-clause-many : goal.returns-in-Out-clause-many
 returns-in-Out-clause-many g t c =
-    let n = out_nothing c.args.whole (g.R.Region.holds c.args.region.now) (30 - c.args.level) c.args.placed.now.cell (let k = c.requires.above in omega arith) (c.in-Out.ensures.out.0 refl) in
+    let n = out_nothing c.args.whole (g.R.Region.holds c.args.region.now) (30 - c.args.level)
+    c.args.placed.now.cell (let k = c.requires.above in omega arith) (c.in-Out.ensures.out.0 refl) in
     too_many c.settle.result _ _ c.args.max (vec_len c.args.list.now) _ n.holds c.settle.ensures.many
 
 pub returns-in-In-clause-list : goal.returns-in-In-clause-list
 returns-in-In-clause-list g t c =
-    let n = in_whole c.args.whole (g.R.Region.holds c.args.region.now) (30 - c.args.level) c.args.placed.now.cell (let k = c.requires.above in omega arith) (c.in-In.ensures.inside.0 refl) in
-    one_more c.take.result c.args.list.now.items c.take.new.list.items _ c.args.placed.now.cell (n.cells ∙ ap (λ z. z ∷ []) (id_of c.args.placed.now.cell c.requires.placed.cell)) c.take.ensures.list
+    let n = in_whole c.args.whole (g.R.Region.holds c.args.region.now) (30 - c.args.level) c.args.placed.now.cell
+    (let k = c.requires.above in omega arith) (c.in-In.ensures.inside.0 refl) in
+    one_more c.take.result c.args.list.now.items c.take.new.list.items _ c.args.placed.now.cell
+    (n.cells ∙ ap (λ z. z ∷ []) (id_of c.args.placed.now.cell c.requires.placed.cell)) c.take.ensures.list
 
 pub returns-in-In-clause-full : goal.returns-in-In-clause-full
 returns-in-In-clause-full g t c =
-    let n = in_whole c.args.whole (g.R.Region.holds c.args.region.now) (30 - c.args.level) c.args.placed.now.cell (let k = c.requires.above in omega arith) (c.in-In.ensures.inside.0 refl) in
+    let n = in_whole c.args.whole (g.R.Region.holds c.args.region.now) (30 - c.args.level) c.args.placed.now.cell
+    (let k = c.requires.above in omega arith) (c.in-In.ensures.inside.0 refl) in
     is_full c.take.result _ true _ n.holds c.take.ensures.list
 
 pub returns-then-whole-clause-list : goal.returns-then-whole-clause-list
 returns-then-whole-clause-list g t c =
-    let n = cross_whole c.args.whole (g.R.Region.holds c.args.region.now) (30 - c.args.level) c.args.placed.now.cell c.if-whole.true (let e = c.if-level.true in let v = c.level.ensures.value in omega arith) (λ h. let e = c.in-Cross.ensures.out.1 h in cc) in
-    one_more c.take-then-whole.result c.args.list.now.items c.take-then-whole.new.list.items _ c.args.placed.now.cell (n.cells ∙ ap (λ z. z ∷ []) (id_of c.args.placed.now.cell c.requires.placed.cell)) c.take-then-whole.ensures.list
+    let n = cross_whole c.args.whole (g.R.Region.holds c.args.region.now) (30 - c.args.level)
+    c.args.placed.now.cell c.if-whole.true (let e = c.if-level.true in let v = c.level.ensures.value in
+    omega arith) (λ h. let e = c.in-Cross.ensures.out.1 h in cc) in
+    one_more c.take-then-whole.result c.args.list.now.items c.take-then-whole.new.list.items _
+    c.args.placed.now.cell (n.cells ∙ ap (λ z. z ∷ []) (id_of c.args.placed.now.cell c.requires.placed.cell))
+    c.take-then-whole.ensures.list
 
 pub returns-then-whole-clause-full : goal.returns-then-whole-clause-full
 returns-then-whole-clause-full g t c =
-    let n = cross_whole c.args.whole (g.R.Region.holds c.args.region.now) (30 - c.args.level) c.args.placed.now.cell c.if-whole.true (let e = c.if-level.true in let v = c.level.ensures.value in omega arith) (λ h. let e = c.in-Cross.ensures.out.1 h in cc) in
+    let n = cross_whole c.args.whole (g.R.Region.holds c.args.region.now) (30 - c.args.level)
+    c.args.placed.now.cell c.if-whole.true (let e = c.if-level.true in let v = c.level.ensures.value in
+    omega arith) (λ h. let e = c.in-Cross.ensures.out.1 h in cc) in
     is_full c.take-then-whole.result _ true _ n.holds c.take-then-whole.ensures.list
 
 pub returns-else-whole-clause-list : goal.returns-else-whole-clause-list
 returns-else-whole-clause-list g t c =
-    let n = cross_nothing c.args.whole (g.R.Region.holds c.args.region.now) (30 - c.args.level) c.args.placed.now.cell c.if-whole.false (let e = c.if-level.true in let v = c.level.ensures.value in omega arith) (λ h. let e = c.in-Cross.ensures.inside.1 h in cc) in
+    let n = cross_nothing c.args.whole (g.R.Region.holds c.args.region.now) (30 - c.args.level)
+    c.args.placed.now.cell c.if-whole.false (let e = c.if-level.true in let v = c.level.ensures.value in
+    omega arith) (λ h. let e = c.in-Cross.ensures.inside.1 h in cc) in
     same_list c.settle-else-whole.result _ c.args.list.now.items _ n.cells c.settle-else-whole.ensures.ok
 
 pub returns-else-whole-clause-full : goal.returns-else-whole-clause-full
 returns-else-whole-clause-full g t c =
-    let n = cross_nothing c.args.whole (g.R.Region.holds c.args.region.now) (30 - c.args.level) c.args.placed.now.cell c.if-whole.false (let e = c.if-level.true in let v = c.level.ensures.value in omega arith) (λ h. let e = c.in-Cross.ensures.inside.1 h in cc) in
+    let n = cross_nothing c.args.whole (g.R.Region.holds c.args.region.now) (30 - c.args.level)
+    c.args.placed.now.cell c.if-whole.false (let e = c.if-level.true in let v = c.level.ensures.value in
+    omega arith) (λ h. let e = c.in-Cross.ensures.inside.1 h in cc) in
     is_full c.settle-else-whole.result _ false _ n.holds c.settle-else-whole.ensures.ok
 
 pub returns-else-whole-clause-many : goal.returns-else-whole-clause-many
 returns-else-whole-clause-many g t c =
-    let n = cross_nothing c.args.whole (g.R.Region.holds c.args.region.now) (30 - c.args.level) c.args.placed.now.cell c.if-whole.false (let e = c.if-level.true in let v = c.level.ensures.value in omega arith) (λ h. let e = c.in-Cross.ensures.inside.1 h in cc) in
-    too_many c.settle-else-whole.result _ _ c.args.max (vec_len c.args.list.now) _ n.holds c.settle-else-whole.ensures.many
+    let n = cross_nothing c.args.whole (g.R.Region.holds c.args.region.now) (30 - c.args.level)
+    c.args.placed.now.cell c.if-whole.false (let e = c.if-level.true in let v = c.level.ensures.value in
+    omega arith) (λ h. let e = c.in-Cross.ensures.inside.1 h in cc) in
+    too_many c.settle-else-whole.result _ _ c.args.max (vec_len c.args.list.now) _ n.holds
+    c.settle-else-whole.ensures.many
 
 pub returns-then-full-3-clause-list : goal.returns-then-full-3-clause-list
 returns-then-full-3-clause-list g t c =
@@ -128,22 +190,45 @@ returns-then-full-3-clause-list g t c =
     let grain = 30 - c.args.level in
     let d = depth_of c.args.placed.now.cell in
     let m = place_of c.args.placed.now.cell in
-    let n = all_children S grain d m c.loop-digit.digit c.args.list.now.items c.loop-digit.list.items (vec_len c.args.list.now) (vec_len c.loop-digit.list) c.loop-digit.full c.args.loose c.args.max c.len-before.result (let n = c.if-level.false in let v = c.level.ensures.value in let k = c.requires.above in let l = c.requires.level in omega arith) (let a = c.loop-digit-test.false in let b = c.loop-digit.auto.digit-end in omega arith) c.if-full-3.true c.args.list.now.ok.0 c.loop-digit.invariant in
-    let k = c.truncate.ensures.items ∙ kept S grain d m c.loop-digit.digit c.args.list.now.items c.loop-digit.list.items (vec_len c.args.list.now) (vec_len c.loop-digit.list) c.loop-digit.full c.args.loose c.args.max c.len-before.result c.args.list.now.ok.0 c.loop-digit.invariant in
-    rw k at (one_more c.take-then-full-3.result c.truncate.new.self.items c.take-then-full-3.new.list.items _ c.args.placed.now.cell (n.cells ∙ ap (λ z. z ∷ []) (id_of c.args.placed.now.cell c.requires.placed.cell)) c.take-then-full-3.ensures.list)
+    let n = all_children S grain d m c.loop-digit.digit c.args.list.now.items c.loop-digit.list.items
+    (vec_len c.args.list.now) (vec_len c.loop-digit.list) c.loop-digit.full c.args.loose c.args.max
+    c.len-before.result (let n = c.if-level.false in let v = c.level.ensures.value in let k = c.requires.above in
+    let l = c.requires.level in omega arith) (let a = c.loop-digit-test.false in let b =
+    c.loop-digit.auto.digit-end in omega arith) c.if-full-3.true c.args.list.now.ok.0 c.loop-digit.invariant in
+    let k = c.truncate.ensures.items ∙ kept S grain d m c.loop-digit.digit c.args.list.now.items
+    c.loop-digit.list.items (vec_len c.args.list.now) (vec_len c.loop-digit.list) c.loop-digit.full c.args.loose
+    c.args.max c.len-before.result c.args.list.now.ok.0 c.loop-digit.invariant in
+    rw k at (one_more c.take-then-full-3.result c.truncate.new.self.items c.take-then-full-3.new.list.items _
+    c.args.placed.now.cell (n.cells ∙ ap (λ z. z ∷ []) (id_of c.args.placed.now.cell c.requires.placed.cell))
+    c.take-then-full-3.ensures.list)
 
 pub returns-then-full-3-clause-full : goal.returns-then-full-3-clause-full
 returns-then-full-3-clause-full g t c =
     let S = blocks c.args.whole (g.R.Region.holds c.args.region.now) (30 - c.args.level) in
-    let n = all_children S (30 - c.args.level) (depth_of c.args.placed.now.cell) (place_of c.args.placed.now.cell) c.loop-digit.digit c.args.list.now.items c.loop-digit.list.items (vec_len c.args.list.now) (vec_len c.loop-digit.list) c.loop-digit.full c.args.loose c.args.max c.len-before.result (let n = c.if-level.false in let v = c.level.ensures.value in let k = c.requires.above in let l = c.requires.level in omega arith) (let a = c.loop-digit-test.false in let b = c.loop-digit.auto.digit-end in omega arith) c.if-full-3.true c.args.list.now.ok.0 c.loop-digit.invariant in
+    let n = all_children S (30 - c.args.level) (depth_of c.args.placed.now.cell) (place_of c.args.placed.now.cell)
+    c.loop-digit.digit c.args.list.now.items c.loop-digit.list.items (vec_len c.args.list.now)
+    (vec_len c.loop-digit.list) c.loop-digit.full c.args.loose c.args.max c.len-before.result
+    (let n = c.if-level.false in let v = c.level.ensures.value in let k = c.requires.above in
+    let l = c.requires.level in omega arith) (let a = c.loop-digit-test.false in let b =
+    c.loop-digit.auto.digit-end in omega arith) c.if-full-3.true c.args.list.now.ok.0 c.loop-digit.invariant in
     is_full c.take-then-full-3.result _ true _ n.holds c.take-then-full-3.ensures.list
 
 pub returns-else-full-3-clause-list : goal.returns-else-full-3-clause-list
 returns-else-full-3-clause-list g t c =
     let S = blocks c.args.whole (g.R.Region.holds c.args.region.now) (30 - c.args.level) in
-    (some_children S (30 - c.args.level) (depth_of c.args.placed.now.cell) (place_of c.args.placed.now.cell) c.loop-digit.digit c.args.list.now.items c.loop-digit.list.items (vec_len c.args.list.now) (vec_len c.loop-digit.list) c.loop-digit.full c.args.loose c.args.max c.len-before.result (let n = c.if-level.false in let v = c.level.ensures.value in let k = c.requires.above in let l = c.requires.level in omega arith) (let a = c.loop-digit-test.false in let b = c.loop-digit.auto.digit-end in omega arith) c.if-full-3.false c.loop-digit.invariant).1
+    (some_children S (30 - c.args.level) (depth_of c.args.placed.now.cell) (place_of c.args.placed.now.cell)
+    c.loop-digit.digit c.args.list.now.items c.loop-digit.list.items (vec_len c.args.list.now)
+    (vec_len c.loop-digit.list) c.loop-digit.full c.args.loose c.args.max c.len-before.result
+    (let n = c.if-level.false in let v = c.level.ensures.value in let k = c.requires.above in
+    let l = c.requires.level in omega arith) (let a = c.loop-digit-test.false in let b =
+    c.loop-digit.auto.digit-end in omega arith) c.if-full-3.false c.loop-digit.invariant).1
 
 pub returns-else-full-3-clause-full : goal.returns-else-full-3-clause-full
 returns-else-full-3-clause-full g t c =
     let S = blocks c.args.whole (g.R.Region.holds c.args.region.now) (30 - c.args.level) in
-    (some_children S (30 - c.args.level) (depth_of c.args.placed.now.cell) (place_of c.args.placed.now.cell) c.loop-digit.digit c.args.list.now.items c.loop-digit.list.items (vec_len c.args.list.now) (vec_len c.loop-digit.list) c.loop-digit.full c.args.loose c.args.max c.len-before.result (let n = c.if-level.false in let v = c.level.ensures.value in let k = c.requires.above in let l = c.requires.level in omega arith) (let a = c.loop-digit-test.false in let b = c.loop-digit.auto.digit-end in omega arith) c.if-full-3.false c.loop-digit.invariant).0
+    (some_children S (30 - c.args.level) (depth_of c.args.placed.now.cell) (place_of c.args.placed.now.cell)
+    c.loop-digit.digit c.args.list.now.items c.loop-digit.list.items (vec_len c.args.list.now)
+    (vec_len c.loop-digit.list) c.loop-digit.full c.args.loose c.args.max c.len-before.result
+    (let n = c.if-level.false in let v = c.level.ensures.value in let k = c.requires.above in
+    let l = c.requires.level in omega arith) (let a = c.loop-digit-test.false in let b =
+    c.loop-digit.auto.digit-end in omega arith) c.if-full-3.false c.loop-digit.invariant).0

@@ -10,34 +10,47 @@ pub from_normalized-requires : goal.from_normalized-requires
 from_normalized-requires c =
     let S = rect_set c.args.rect.now in
     let er : c.rect.inside.face ≡ c.args.rect.now.face = ap (λ (v : Rect). v.face) c.rect.view_is in
-    let one = one_face S (30 - c.args.level) c.face.result.cell c.requires.aligned (omega arith) c.face.ensures.placed.cell c.face.ensures.level
-    (λ x. on_face c.args.rect.now c.face.result.cell c.rect.inside.face x c.face.ensures.placed.cell c.face.ensures.level c.face.ensures.face er) in
-    let is : c.seek.new.list.items ≡ form_in S (30 - c.args.level) c.face.result.cell = c.in-Ok.ensures.list ∙ ap (λ z. z ++ form_in S (30 - c.args.level) c.face.result.cell) c.new-list.ensures.items in
+    let one = one_face S (30 - c.args.level) c.face.result.cell c.requires.aligned (omega arith)
+    c.face.ensures.placed.cell c.face.ensures.level
+    (λ x. on_face c.args.rect.now c.face.result.cell c.rect.inside.face x c.face.ensures.placed.cell
+    c.face.ensures.level c.face.ensures.face er) in
+    let is : c.seek.new.list.items ≡ form_in S (30 - c.args.level) c.face.result.cell = c.in-Ok.ensures.list
+    ∙ ap (λ z. z ++ form_in S (30 - c.args.level) c.face.result.cell) c.new-list.ensures.items in
     rw is (local_from_normal S (form_in S (30 - c.args.level) c.face.result.cell) one.normal)
 
 pub returns-in-Ok-clause-leaves : goal.returns-in-Ok-clause-leaves
 returns-in-Ok-clause-leaves c x =
     let S = rect_set c.args.rect.now in
     let er : c.rect.inside.face ≡ c.args.rect.now.face = ap (λ (v : Rect). v.face) c.rect.view_is in
-    let one = one_face S (30 - c.args.level) c.face.result.cell c.requires.aligned (omega arith) c.face.ensures.placed.cell c.face.ensures.level
-    (λ x. on_face c.args.rect.now c.face.result.cell c.rect.inside.face x c.face.ensures.placed.cell c.face.ensures.level c.face.ensures.face er) in
-    let is : c.seek.new.list.items ≡ form_in S (30 - c.args.level) c.face.result.cell = c.in-Ok.ensures.list ∙ ap (λ z. z ++ form_in S (30 - c.args.level) c.face.result.cell) c.new-list.ensures.items in
+    let one = one_face S (30 - c.args.level) c.face.result.cell c.requires.aligned (omega arith)
+    c.face.ensures.placed.cell c.face.ensures.level
+    (λ x. on_face c.args.rect.now c.face.result.cell c.rect.inside.face x c.face.ensures.placed.cell
+    c.face.ensures.level c.face.ensures.face er) in
+    let is : c.seek.new.list.items ≡ form_in S (30 - c.args.level) c.face.result.cell = c.in-Ok.ensures.list
+    ∙ ap (λ z. z ++ form_in S (30 - c.args.level) c.face.result.cell) c.new-list.ensures.items in
     ap (λ u. has_leaf u x) (c.from_normalized.ensures.value ∙ is) ∙ one.leaves x
 
 pub returns-in-Ok-clause-normal : goal.returns-in-Ok-clause-normal
 returns-in-Ok-clause-normal c =
     let S = rect_set c.args.rect.now in
     let er : c.rect.inside.face ≡ c.args.rect.now.face = ap (λ (v : Rect). v.face) c.rect.view_is in
-    let one = one_face S (30 - c.args.level) c.face.result.cell c.requires.aligned (omega arith) c.face.ensures.placed.cell c.face.ensures.level
-    (λ x. on_face c.args.rect.now c.face.result.cell c.rect.inside.face x c.face.ensures.placed.cell c.face.ensures.level c.face.ensures.face er) in
-    let is : c.seek.new.list.items ≡ form_in S (30 - c.args.level) c.face.result.cell = c.in-Ok.ensures.list ∙ ap (λ z. z ++ form_in S (30 - c.args.level) c.face.result.cell) c.new-list.ensures.items in
-    let all : c.from_normalized.result.cells ≡ form_in S (30 - c.args.level) c.face.result.cell = c.from_normalized.ensures.value ∙ is in
+    let one = one_face S (30 - c.args.level) c.face.result.cell c.requires.aligned (omega arith)
+    c.face.ensures.placed.cell c.face.ensures.level
+    (λ x. on_face c.args.rect.now c.face.result.cell c.rect.inside.face x c.face.ensures.placed.cell
+    c.face.ensures.level c.face.ensures.face er) in
+    let is : c.seek.new.list.items ≡ form_in S (30 - c.args.level) c.face.result.cell = c.in-Ok.ensures.list
+    ∙ ap (λ z. z ++ form_in S (30 - c.args.level) c.face.result.cell) c.new-list.ensures.items in
+    let all : c.from_normalized.result.cells ≡ form_in S (30 - c.args.level) c.face.result.cell =
+    c.from_normalized.ensures.value ∙ is in
     rw all one.normal
 
 pub returns-in-Err-clause-many : goal.returns-in-Err-clause-many
 returns-in-Err-clause-many c e u n =
     let S = rect_set c.args.rect.now in
     let er : c.rect.inside.face ≡ c.args.rect.now.face = ap (λ (v : Rect). v.face) c.rect.view_is in
-    let one = one_face S (30 - c.args.level) c.face.result.cell c.requires.aligned (omega arith) c.face.ensures.placed.cell c.face.ensures.level
-    (λ x. on_face c.args.rect.now c.face.result.cell c.rect.inside.face x c.face.ensures.placed.cell c.face.ensures.level c.face.ensures.face er) in
-    too_long S (form_in S (30 - c.args.level) c.face.result.cell) (vec_len c.new-list.result) c.args.max u one.normal c.new-list.ensures.len (c.in-Err.ensures.many e) n
+    let one = one_face S (30 - c.args.level) c.face.result.cell c.requires.aligned (omega arith)
+    c.face.ensures.placed.cell c.face.ensures.level
+    (λ x. on_face c.args.rect.now c.face.result.cell c.rect.inside.face x c.face.ensures.placed.cell
+    c.face.ensures.level c.face.ensures.face er) in
+    too_long S (form_in S (30 - c.args.level) c.face.result.cell) (vec_len c.new-list.result) c.args.max u
+    one.normal c.new-list.ensures.len (c.in-Err.ensures.many e) n

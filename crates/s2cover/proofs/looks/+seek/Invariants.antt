@@ -9,4 +9,5 @@ abbrev pub decreases-seek : goal.decreases-seek
 decreases-seek l = depth_of l.placed.now.cell
 
 abbrev pub invariant-loop-digit : goal.invariant-loop-digit
-invariant-loop-digit l = Sought (rect_set l.rect) (30 - l.level) (depth_of l.placed.cell) (place_of l.placed.cell) l.digit l.fn.list.items l.list.items (vec_len l.list) l.fn.looks.count l.looks.count l.max
+invariant-loop-digit l = Sought (rect_set l.rect) (30 - l.level) (depth_of l.placed.cell) (place_of l.placed.cell)
+    l.digit l.fn.list.items l.list.items (vec_len l.list) l.fn.looks.count l.looks.count l.max

@@ -11,7 +11,8 @@ only_change : (d : Diff) (u w : List ℕ) → IsLocal u → FitsList d u → app
 only_change d u w a f e =
     let b : IsLocal w = subst IsLocal e f.local in
     ap (λ (x : List ℕ). record { register = d.register; out = x; put = d.put }) (only_out d.out d.put u w a f e)
-    ∙ ap (λ (x : List ℕ). record { register = d.register; out = cells_without u w; put = x }) (only_put d.out d.put u w a b f e)
+    ∙ ap (λ (x : List ℕ). record { register = d.register; out = cells_without u w; put = x })
+    (only_put d.out d.put u w a b f e)
 
 pub returns : goal.returns
 returns c = record {

@@ -9,5 +9,6 @@ use Rattle.s2edit.proofs.edits.run_edits.Given as goal
 abbrev pub invariant-loop-edit : goal.invariant-loop-edit
 invariant-loop-edit l =
     (outcomes : List Outcome) × EditRun (λ u. u) l.initial.editor (take l.edit-index l.edits) outcomes l.editor
-    × EditRun has_leaf (sets l.initial.editor) (take l.edit-index l.edits) outcomes (sets l.editor) × (l.tally ≡ tally_of outcomes)
+    × EditRun has_leaf (sets l.initial.editor) (take l.edit-index l.edits) outcomes (sets l.editor)
+    × (l.tally ≡ tally_of outcomes)
     × (l.tally.done + l.tally.refused + l.tally.memory ≡ l.edit-index)

@@ -18,6 +18,7 @@ returns-then-len-limit c = (
         c.if-len-limit.true,
         c.len.ensures,
         ap length read,
-        few_at c.args.limit (lists_of us) i a (omega (arith, c.loop-union-test.true, length-map us (λ (u : Union). u.cells))),
+        few_at c.args.limit (lists_of us) i a
+            (omega (arith, c.loop-union-test.true, length-map us (λ (u : Union). u.cells))),
       )),
 )

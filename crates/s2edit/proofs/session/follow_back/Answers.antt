@@ -1,58 +1,79 @@
-use Rattle.std.proofs.Common.{◌≡◌, ℕ, List, length, map, refl, sym, ap, ◌∙◌, subst, true, arith}
-use Rattle.std.proofs.lemmas.List.{drop_all, length-map}
+use Rattle.std.proofs.Common.{◌≡◌, ℕ, List, map, refl, ap, arith}
+use Rattle.std.proofs.lemmas.List.{drop_all}
 use Rattle.std.proofs.lemmas.Result.{err_from_is_err_and}
-use Rattle.s2union.specs.Union.{Union}
 use Rattle.s2file.specs.Session.{moved_of}
 use Rattle.s2file.specs.declared.session.Move.{Move}
 use Rattle.s2file.specs.declared.TheConstants.{SESSION_CELLS}
 use Rattle.s2edit.specs.Diff.{Diff, inverse}
-use Rattle.s2edit.specs.Chain.{lists_of, FitsTable, FitAlong}
+use Rattle.s2edit.specs.Chain.{FitsTable, FitAlong}
 use Rattle.s2edit.specs.Session.{diff}
 use Rattle.s2edit.specs.declared.TheConstants.{REGISTERS}
-use Rattle.s2edit.proofs.Following.{Walks, same_diff, walk_starts, walk_on, walk_needs, walk_ends, fails, steps_count, each_next, swapped}
+use Rattle.s2edit.proofs.Following.{same_diff, walk_starts, walk_on, walk_needs, walk_ends, fails, steps_count}
+use Rattle.s2edit.proofs.Following.{each_next, swapped}
 use Rattle.s2edit.proofs.session.follow_back.Goals as goal
 
 pub loop-change-init : goal.loop-change-init
 loop-change-init c =
-    let t : List (List ℕ) = lists_of c.args.registers.now in
+    let t : List (List ℕ) = c.args.table.items in
     let ds : List Diff = map inverse (map diff (map moved_of c.args.moves.now)) in
     record {
-      walks = subst (λ (here : List (List ℕ)). Walks c.args.limit t ds here ds true) (sym c.in_ok-table.ensures) (walk_starts c.args.limit t ds c.requires.within);
+      walks = walk_starts c.args.limit t ds c.requires.within;
       each = c.requires.each;
-      count = ap length c.in_ok-table.ensures ∙ length-map c.args.registers.now (λ (u : Union). u.cells) ∙ c.requires.count;
+      count = c.requires.count;
     }
 
 pub step-requires-clause-change : goal.step-requires-clause-change
 step-requires-clause-change c =
     rw (c.deref.ensures.value, c.deref-in-loop-change.ensures.value)
-    (swapped (moved_of c.change-item.result) (each_next c.args.moves.now c.loop-change.change-index c.change-item.result c.loop-change-test.true c.change-item.is c.loop-change.invariant.each).0)
+    (swapped (moved_of c.change-item.result) (each_next c.args.moves.now c.loop-change.change-index
+    c.change-item.result c.loop-change-test.true c.change-item.is c.loop-change.invariant.each).0)
 
 pub loop-change-preserved : goal.loop-change-preserved
 loop-change-preserved c =
     let m = c.change-item.result in
-    let d : Diff = record { register = m.register; out = c.deref.result.now; put = c.deref-in-loop-change.result.now } in
-    let same : d ≡ inverse (diff (moved_of m)) = same_diff d (inverse (diff (moved_of m))) refl c.deref.ensures.value c.deref-in-loop-change.ensures.value in
+    let d : Diff = record {
+      register = m.register;
+      out = c.deref.result.now;
+      put = c.deref-in-loop-change.result.now;
+    } in
+    let same : d ≡ inverse (diff (moved_of m)) =
+    same_diff d (inverse (diff (moved_of m))) refl c.deref.ensures.value c.deref-in-loop-change.ensures.value in
     record {
-      walks = rw c.both-within.ensures (walk_on (λ (ms : List Move). map inverse (map diff (map moved_of ms))) (λ (m : Move). inverse (diff (moved_of m))) (λ m ms. refl) c.args.limit (lists_of c.args.registers.now) c.args.moves.now
-          c.loop-change.table.items c.loop-change.change-index m d c.loop-change.within c.loop-change-test.true c.change-item.is same c.loop-change.invariant.walks
+      walks = rw c.both-within.ensures (walk_on (λ (ms : List Move). map inverse (map diff (map moved_of ms)))
+          (λ (m : Move). inverse (diff (moved_of m))) (λ m ms. refl) c.args.limit c.args.table.items
+          c.args.moves.now
+          c.loop-change.table.items c.loop-change.change-index m d c.loop-change.within c.loop-change-test.true
+          c.change-item.is same c.loop-change.invariant.walks
           c.step.new.table.items c.in_ok-few.few c.in_ok-few.ensures);
-      each = (each_next c.args.moves.now c.loop-change.change-index m c.loop-change-test.true c.change-item.is c.loop-change.invariant.each).1;
-      count = steps_count c.args.limit c.loop-change.table.items c.step.new.table.items d c.in_ok-few.few REGISTERS c.in_ok-few.ensures c.loop-change.invariant.count;
+      each = (each_next c.args.moves.now c.loop-change.change-index m c.loop-change-test.true c.change-item.is
+          c.loop-change.invariant.each).1;
+      count = steps_count c.args.limit c.loop-change.table.items c.step.new.table.items d c.in_ok-few.few REGISTERS
+          c.in_ok-few.ensures c.loop-change.invariant.count;
     }
 
 pub returns-in_err-few : goal.returns-in_err-few
 returns-in_err-few c =
     let m = c.change-item.result in
-    let d : Diff = record { register = m.register; out = c.deref.result.now; put = c.deref-in-loop-change.result.now } in
-    let same : d ≡ inverse (diff (moved_of m)) = same_diff d (inverse (diff (moved_of m))) refl c.deref.ensures.value c.deref-in-loop-change.ensures.value in
-    let p = err_from_is_err_and c.from_residual-in_err-few.result c.from_residual-in_err-few.ensures.1 in
+    let d : Diff = record {
+      register = m.register;
+      out = c.deref.result.now;
+      put = c.deref-in-loop-change.result.now;
+    } in
+    let same : d ≡ inverse (diff (moved_of m)) =
+    same_diff d (inverse (diff (moved_of m))) refl c.deref.ensures.value c.deref-in-loop-change.ensures.value in
+    let p = err_from_is_err_and c.from_residual.result c.from_residual.ensures.1 in
     rw (p.1, p.2) (fails c.in_err-few.field-0.0 (FitsTable SESSION_CELLS c.loop-change.table.items d)
-    (FitAlong SESSION_CELLS (lists_of c.args.registers.now) (map inverse (map diff (map moved_of c.args.moves.now))))
-    (walk_needs (λ (ms : List Move). map inverse (map diff (map moved_of ms))) (λ (m : Move). inverse (diff (moved_of m))) (λ m ms. refl) c.args.limit (lists_of c.args.registers.now) c.args.moves.now
-    c.loop-change.table.items c.loop-change.change-index m d c.loop-change.within c.loop-change-test.true c.change-item.is same c.loop-change.invariant.walks)
+    (FitAlong SESSION_CELLS c.args.table.items (map inverse (map diff (map moved_of c.args.moves.now))))
+    (walk_needs (λ (ms : List Move). map inverse (map diff (map moved_of ms)))
+    (λ (m : Move). inverse (diff (moved_of m))) (λ m ms. refl) c.args.limit c.args.table.items
+    c.args.moves.now
+    c.loop-change.table.items c.loop-change.change-index m d c.loop-change.within c.loop-change-test.true
+    c.change-item.is same c.loop-change.invariant.walks)
     c.in_err-few.ensures)
 
 pub returns : goal.returns
 returns c =
-    walk_ends c.args.limit (lists_of c.args.registers.now) _ c.loop-change.table.items _ c.loop-change.within c.loop-change.invariant.walks
-    (ap (λ (ms : List Move). map inverse (map diff (map moved_of ms))) (drop_all c.loop-change.change-index c.args.moves.now (omega (arith, c.loop-change-test.false))))
+    walk_ends c.args.limit c.args.table.items _ c.loop-change.table.items _ c.loop-change.within
+    c.loop-change.invariant.walks
+    (ap (λ (ms : List Move). map inverse (map diff (map moved_of ms)))
+    (drop_all c.loop-change.change-index c.args.moves.now (omega (arith, c.loop-change-test.false))))

@@ -29,29 +29,42 @@ returns-clause-count_1000001 c = (record { version = version _; whole = lit≤ t
 
 pub returns-clause-identifier_cut_off : goal.returns-clause-identifier_cut_off
 unfolding first_number
-returns-clause-identifier_cut_off c = inr (inr (record { head = record { version = version _; whole = lit≤ tt }; most = lit≤ tt }, lit< tt))
+returns-clause-identifier_cut_off c =
+    inr (inr (record { head = record { version = version _; whole = lit≤ tt }; most = lit≤ tt }, lit< tt))
 
 pub returns-clause-byte_after : goal.returns-clause-byte_after
 unfolding first_number
-returns-clause-byte_after c = (record { head = record { version = version _; whole = lit≤ tt }; most = lit≤ tt }, lit< tt)
+returns-clause-byte_after c = (
+  record { head = record { version = version _; whole = lit≤ tt }; most = lit≤ tt },
+  lit< tt,
+)
 
 pub returns-clause-identifier_0 : goal.returns-clause-identifier_0
 unfolding first_number
 returns-clause-identifier_0 c = (
-  record { counted = record { head = record { version = version _; whole = lit≤ tt }; most = lit≤ tt }; length_is = refl },
+  record {
+    counted = record { head = record { version = version _; whole = lit≤ tt }; most = lit≤ tt };
+    length_is = refl;
+  },
   record { place = 0; within = lit< tt; wrong = zero_is_none },
 )
 
 pub returns-clause-odd_place : goal.returns-clause-odd_place
 unfolding first_number
 returns-clause-odd_place c = (
-  record { counted = record { head = record { version = version _; whole = lit≤ tt }; most = lit≤ tt }; length_is = refl },
+  record {
+    counted = record { head = record { version = version _; whole = lit≤ tt }; most = lit≤ tt };
+    length_is = refl;
+  },
   record { place = 0; within = lit< tt; wrong = odd_place_is_none },
 )
 
 pub returns-clause-face_6 : goal.returns-clause-face_6
 unfolding first_number
 returns-clause-face_6 c = (
-  record { counted = record { head = record { version = version _; whole = lit≤ tt }; most = lit≤ tt }; length_is = refl },
+  record {
+    counted = record { head = record { version = version _; whole = lit≤ tt }; most = lit≤ tt };
+    length_is = refl;
+  },
   record { place = 0; within = lit< tt; wrong = face_6_is_none },
 )

@@ -10,10 +10,12 @@ loop-chunk-preserved c =
     let step = c.in-Some.ensures.steps in
     let so_far = c.loop-chunk.invariant in
     let size : length c.in-Some.chunk.now ≡ 8 = step.1.1 ∙ so_far.size in
-    let n : c.in-Some-from_id.cell ≡ first_number c.in-Some.chunk.now = c.in-Some-from_id.ensures.1 ∙ c.number.ensures in
+    let n : c.in-Some-from_id.cell ≡ first_number c.in-Some.chunk.now = c.in-Some-from_id.ensures.1
+    ∙ c.number.ensures in
     record {
       spells = rw c.push_reserved.ensures.items (spells_more c.args.numbers.now _ _ _ _ _ so_far.spells step.1.0 size
-          (chunk_bytes c.args.numbers.now _ _ _ _ so_far.spells step.1.0 (λ i. omega (arith, c.type_inv.numbers i))) n (search rules));
+          (chunk_bytes c.args.numbers.now _ _ _ _ so_far.spells step.1.0
+          (λ i. omega (arith, c.type_inv.numbers i))) n (search rules));
       size = step.0 ∙ so_far.size;
       room = omega (
         arith,
@@ -36,4 +38,5 @@ returns-in-None-from_id c =
 pub returns : goal.returns
 returns c =
     let so_far = c.loop-chunk.invariant in
-    spells_all c.args.numbers.now _ _ c.args.count c.requires so_far.spells (omega (arith, so_far.size, c.in-None.ensures.steps.1))
+    spells_all c.args.numbers.now _ _ c.args.count c.requires so_far.spells
+    (omega (arith, so_far.size, c.in-None.ensures.steps.1))

@@ -7,5 +7,6 @@ returns-then-bytes-lt-NUMBER_SIZE c = number_short c.args.bytes.now (omega arith
 
 pub returns : goal.returns
 returns c =
-    rw c.number.ensures (number_begins c.args.bytes.now c.split_at.result.0.now c.split_at.result.1.now c.split_at.ensures.front c.split_at.ensures.back
+    rw c.number.ensures (number_begins c.args.bytes.now c.split_at.result.0.now c.split_at.result.1.now
+    c.split_at.ensures.front c.split_at.ensures.back
     c.if-bytes-lt-NUMBER_SIZE.false (λ i. omega (arith, c.type_inv.bytes i)))

@@ -12,6 +12,12 @@ pub returns-in_err-union : goal.returns-in_err-union
 returns-in_err-union c =
     let p = err_from_is_err_and c.from_residual.result c.from_residual.ensures.1 in
     let lists : List (List ℕ) = map (λ (u : Union). u.cells) c.loop-i.registers.items in
-    rw (p.1, p.2) (refuses c.in_err-union.field-0.0 (BeginsNone list_text IsRegisterList c.loop-i.rest.now) (BeginsNone registers_text AreRegisters c.args.bytes.now)
+    rw (p.1, p.2) (refuses c.in_err-union.field-0.0 (BeginsNone list_text IsRegisterList c.loop-i.rest.now)
+    (BeginsNone registers_text AreRegisters c.args.bytes.now)
     (registers_none c.args.bytes.now lists c.loop-i.rest.now c.loop-i.invariant.row
-    (omega (arith, c.loop-i.invariant.count, c.loop-i-test.true, length-map c.loop-i.registers.items (λ (u : Union). u.cells)))) c.in_err-union.ensures)
+    (omega (
+      arith,
+      c.loop-i.invariant.count,
+      c.loop-i-test.true,
+      length-map c.loop-i.registers.items (λ (u : Union). u.cells),
+    ))) c.in_err-union.ensures)

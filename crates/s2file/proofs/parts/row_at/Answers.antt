@@ -13,7 +13,8 @@ loop-i-init c = rw c.new-moves.ensures.items (record { row = record { is = refl;
 
 pub loop-i-preserved : goal.loop-i-preserved
 loop-i-preserved c = rw c.in_ok-push.ensures.items (record {
-  row = row_push_view moved_of move_text IsMoved c.args.bytes.now c.loop-i.moves.items c.in_ok-change.change c.loop-i.rest.now c.in_ok-change.behind.now c.loop-i.invariant.row c.in_ok-change.ensures;
+  row = row_push_view moved_of move_text IsMoved c.args.bytes.now c.loop-i.moves.items c.in_ok-change.change
+      c.loop-i.rest.now c.in_ok-change.behind.now c.loop-i.invariant.row c.in_ok-change.ensures;
   count = length_push c.loop-i.moves.items c.in_ok-change.change ∙ ap (λ (n : ℕ). n + 1) c.loop-i.invariant.count;
 })
 
@@ -21,15 +22,23 @@ pub returns-in_err-change : goal.returns-in_err-change
 returns-in_err-change c =
     let p = err_from_is_err_and c.from_residual.result c.from_residual.ensures.1 in
     let ms : List Moved = map moved_of c.loop-i.moves.items in
-    rw (p.1, p.2) (refuses c.in_err-change.field-0.0 (BeginsNone move_text IsMoved c.loop-i.rest.now) (BeginsNone row_text (IsRow c.args.count) c.args.bytes.now)
+    rw (p.1, p.2) (refuses c.in_err-change.field-0.0 (BeginsNone move_text IsMoved c.loop-i.rest.now)
+    (BeginsNone row_text (IsRow c.args.count) c.args.bytes.now)
     (row_none c.args.bytes.now ms c.loop-i.rest.now c.args.count c.loop-i.invariant.row
-    (omega (arith, c.loop-i.invariant.count, c.loop-i-test.true, length-map c.loop-i.moves.items moved_of))) c.in_err-change.ensures)
+    (omega (arith, c.loop-i.invariant.count, c.loop-i-test.true, length-map c.loop-i.moves.items moved_of)))
+    c.in_err-change.ensures)
 
 pub returns : goal.returns
 returns c = record {
   is = c.loop-i.invariant.row.is;
   ok = record {
-    len = omega (arith, c.loop-i.invariant.count, c.loop-i-test.false, c.loop-i.auto._i-end, length-map c.loop-i.moves.items moved_of);
+    len = omega (
+      arith,
+      c.loop-i.invariant.count,
+      c.loop-i-test.false,
+      c.loop-i.auto._i-end,
+      length-map c.loop-i.moves.items moved_of,
+    );
     each = c.loop-i.invariant.row.each;
   };
 }

@@ -3,4 +3,5 @@ use Rattle.s2union.specs.Union.{Union}
 use Rattle.s2file.proofs.session_file.add_empty.Given as goal
 
 abbrev pub invariant-loop-i : goal.invariant-loop-i
-invariant-loop-i l = map (λ (u : Union). u.cells) l.registers.items ≡ map (λ (u : Union). u.cells) l.fn.registers.items ++ replicate l._i []
+invariant-loop-i l = map (λ (u : Union). u.cells) l.registers.items
+    ≡ map (λ (u : Union). u.cells) l.fn.registers.items ++ replicate l._i []

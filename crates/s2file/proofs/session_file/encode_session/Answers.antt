@@ -1,6 +1,16 @@
-use Rattle.s2file.specs.Session.{content_of}
+use Rattle.std.proofs.Common.{◌≡◌, refl, subst}
+use Rattle.std.specs.Prelude.{IfOk}
+use Rattle.s2file.specs.Session.{Content, content_of, content_of_parts, session_text}
 use Rattle.s2file.proofs.Spelled.{text_spells}
 use Rattle.s2file.proofs.session_file.encode_session.Goals as goal
 
+pub returns-clause-text : goal.returns-clause-text
+returns-clause-text c =
+    let same : content_of_parts c.deref.result.now c.deref-2.result.now c.deref-3.result.now
+    ≡ content_of c.args.session.now =
+    rw (c.deref.ensures.value, c.deref-2.ensures.value, c.deref-3.ensures.value) refl in
+    subst (λ (s : Content). IfOk c.encode_parts.result (λ bytes. bytes.items ≡ session_text s)) same
+    c.encode_parts.ensures
+
 pub returns-clause-spells : goal.returns-clause-spells
-returns-clause-spells c = text_spells c.text_of.result (content_of c.args.session.now) c.text_of.ensures
+returns-clause-spells c = text_spells c.encode_parts.result (content_of c.args.session.now) (returns-clause-text c)

@@ -4,4 +4,5 @@ use Rattle.s2file.specs.Session.{list_text}
 use Rattle.s2file.proofs.session_file.put_registers.Given as goal
 
 abbrev pub invariant-loop-union : goal.invariant-loop-union
-invariant-loop-union l = l.bytes.items ≡ l.fn.bytes.items ++ flat_map list_text (map (λ (u : Union). u.cells) (take l.union-index l.registers))
+invariant-loop-union l = l.bytes.items ≡ l.fn.bytes.items
+    ++ flat_map list_text (map (λ (u : Union). u.cells) (take l.union-index l.registers))

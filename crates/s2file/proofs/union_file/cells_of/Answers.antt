@@ -10,9 +10,11 @@ loop-chunk-preserved c =
     let step = c.in-Some.ensures.steps in
     let so_far = c.loop-chunk.invariant in
     let size : length c.in-Some.chunk.now ≡ 8 = step.1.1 ∙ so_far.size in
-    let n : c.in-Some-from_id.cell ≡ first_number c.in-Some.chunk.now = c.in-Some-from_id.ensures.1 ∙ c.number.ensures in
+    let n : c.in-Some-from_id.cell ≡ first_number c.in-Some.chunk.now = c.in-Some-from_id.ensures.1
+    ∙ c.number.ensures in
     record {
-      reads = rw c.push_reserved.ensures.items (reads_more c.args.bytes.now _ _ _ _ _ so_far.reads step.1.0 size n (search rules));
+      reads = rw c.push_reserved.ensures.items (reads_more c.args.bytes.now _ _ _ _ _ so_far.reads step.1.0 size n
+          (search rules));
       size = step.0 ∙ so_far.size;
       room = omega (
         arith,

@@ -3,4 +3,5 @@ use Rattle.s2file.specs.File.{number_text}
 use Rattle.s2file.proofs.union_file.encode.Given as goal
 
 abbrev pub invariant-loop-cell : goal.invariant-loop-cell
-invariant-loop-cell l = l.bytes.items ≡ 1 ∷ (number_text (length l.cells) ++ flat_map number_text (take l.cell-index l.cells))
+invariant-loop-cell l = l.bytes.items ≡ 1
+    ∷ (number_text (length l.cells) ++ flat_map number_text (take l.cell-index l.cells))

@@ -21,11 +21,15 @@ returns-then-not-holds_at g c lx ly =
     let p = packed_from_local xs lx in
     let e : c.in-Some.cell ≡ get_or ys c.loop-k.k 0 = c.in-Some.ensures.1 ∙ c.id.ensures in
     let v = c.first_leaf.ensures.value in
-    let b = rw v at (c.find_from-at.ensures.behind p (rw (v, e) (c.loop-k.invariant.behind lx ly c.loop-k.k (omega arith) h))) in
-    let a = rw v at (c.find_from-at.ensures.next p (rw (v, e) (c.loop-k.invariant.behind lx ly c.loop-k.k (omega arith) h))) in
+    let b = rw v at (c.find_from-at.ensures.behind p
+    (rw (v, e) (c.loop-k.invariant.behind lx ly c.loop-k.k (omega arith) h))) in
+    let a = rw v at (c.find_from-at.ensures.next p
+    (rw (v, e) (c.loop-k.invariant.behind lx ly c.loop-k.k (omega arith) h))) in
     let there = held_there xs c.find_from-at.result c.in-Some.cell lx c.first_leaf.ensures.own b a in (
       λ t. absurd (false≢true t),
-      λ w. absurd (false≢true (sym c.if-not-holds_at.true ∙ (c.holds_at.ensures lx.cells).1 (there.1 (rw e (part_within (has_leaf xs) ys c.loop-k.k h w))))),
+      λ w. absurd (false≢true
+          (sym c.if-not-holds_at.true
+          ∙ (c.holds_at.ensures lx.cells).1 (there.1 (rw e (part_within (has_leaf xs) ys c.loop-k.k h w))))),
     )
 
 pub loop-k-preserved : goal.loop-k-preserved
@@ -41,15 +45,18 @@ loop-k-preserved g c =
       behind = λ lx ly j a l.
           let p = packed_from_local xs lx in
           behind_on xs ys c.find_from-at.result c.loop-k.k j ly (omega arith) l
-          (rw (v, e) at (c.find_from-at.ensures.behind p (rw (v, e) (c.loop-k.invariant.behind lx ly c.loop-k.k (omega arith) h))));
+          (rw (v, e) at (c.find_from-at.ensures.behind p
+          (rw (v, e) (c.loop-k.invariant.behind lx ly c.loop-k.k (omega arith) h))));
       held = λ lx ly j a.
           let p = packed_from_local xs lx in
           ⊎_elim
           (λ (f : j < c.loop-k.k). c.loop-k.invariant.held lx ly j f)
           (λ (f : c.loop-k.k ≤ j).
           let i : j ≡ c.loop-k.k = omega arith in
-          let b = rw v at (c.find_from-at.ensures.behind p (rw (v, e) (c.loop-k.invariant.behind lx ly c.loop-k.k (omega arith) h))) in
-          let d = rw v at (c.find_from-at.ensures.next p (rw (v, e) (c.loop-k.invariant.behind lx ly c.loop-k.k (omega arith) h))) in
+          let b = rw v at (c.find_from-at.ensures.behind p
+          (rw (v, e) (c.loop-k.invariant.behind lx ly c.loop-k.k (omega arith) h))) in
+          let d = rw v at (c.find_from-at.ensures.next p
+          (rw (v, e) (c.loop-k.invariant.behind lx ly c.loop-k.k (omega arith) h))) in
           let there = held_there xs c.find_from-at.result c.in-Some.cell lx c.first_leaf.ensures.own b d in
           rw i (rw e at (there.0 ((c.holds_at.ensures lx.cells).0 c.if-not-holds_at.false))))
           (cases_lt j c.loop-k.k);
@@ -57,5 +64,8 @@ loop-k-preserved g c =
 
 pub returns : goal.returns
 returns g c lx ly =
-    let n = c.len-k-end.ensures in
-    (λ _. all_within (has_leaf (g.X.Cells.ids c.args.whole.now)) (g.Y.Cells.ids c.args.part.now) (λ j h. c.loop-k.invariant.held lx ly j (omega arith)), λ _. refl)
+    let n = c.len-k-end.ensures in (
+      λ _. all_within (has_leaf (g.X.Cells.ids c.args.whole.now)) (g.Y.Cells.ids c.args.part.now)
+          (λ j h. c.loop-k.invariant.held lx ly j (omega arith)),
+      λ _. refl,
+    )

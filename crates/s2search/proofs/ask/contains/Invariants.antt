@@ -8,7 +8,8 @@ use Rattle.s2search.proofs.ask.contains.Given as goal
 abbrev pub invariant-loop-k : goal.invariant-loop-k
 invariant-loop-k g l = record {
   within : l.at ≤ length (g.X.Cells.ids l.whole);
-  behind : IsLocal (g.X.Cells.ids l.whole) → IsLocal (g.Y.Cells.ids l.part) → (j : ℕ) → l.k ≤ j → j < length (g.Y.Cells.ids l.part)
+  behind : IsLocal (g.X.Cells.ids l.whole) → IsLocal (g.Y.Cells.ids l.part) → (j : ℕ) → l.k ≤ j →
+      j < length (g.Y.Cells.ids l.part)
       → Behind (g.X.Cells.ids l.whole) l.at (first_leaf (slice_index (g.Y.Cells.ids l.part) j));
   held : IsLocal (g.X.Cells.ids l.whole) → IsLocal (g.Y.Cells.ids l.part) → (j : ℕ) → j < l.k
       → IsWithin (covers (slice_index (g.Y.Cells.ids l.part) j)) (has_leaf (g.X.Cells.ids l.whole));

@@ -15,7 +15,8 @@ loop-first-preserved-then-ends_by g c =
       within = w;
       found = λ p f.
           let test = c.ends_by.ensures (rw c.id.ensures (p.cells m 0 h)) in
-          from_up u c.args.lo c.loop-first.first c.loop-first.last m p (v.found p f) h (rw c.id.ensures at (test.0 c.if-ends_by.true));
+          from_up u c.args.lo c.loop-first.first c.loop-first.last m p (v.found p f) h
+          (rw c.id.ensures at (test.0 c.if-ends_by.true));
     }
 
 pub loop-first-preserved : goal.loop-first-preserved
@@ -31,7 +32,8 @@ loop-first-preserved g c =
       within = omega arith;
       found = λ p f.
           let test = c.ends_by.ensures (rw c.id.ensures (p.cells m 0 h)) in
-          from_down u c.args.lo c.loop-first.first c.loop-first.last m (v.found p f) (rw c.id.ensures at (later _ _ _ test c.if-ends_by.false));
+          from_down u c.args.lo c.loop-first.first c.loop-first.last m (v.found p f)
+          (rw c.id.ensures at (later _ _ _ test c.if-ends_by.false));
     }
 
 pub returns-clause-behind : goal.returns-clause-behind
@@ -39,4 +41,5 @@ returns-clause-behind g c p f = (c.loop-first.invariant.found p f).behind
 
 pub returns-clause-next : goal.returns-clause-next
 returns-clause-next g c p f h =
-    (from_met (g.C.Cells.ids c.args.cells.now) c.args.lo c.loop-first.first c.loop-first.last (c.loop-first.invariant.found p f) c.loop-first.invariant.order (omega arith)).next h
+    (from_met (g.C.Cells.ids c.args.cells.now) c.args.lo c.loop-first.first c.loop-first.last
+    (c.loop-first.invariant.found p f) c.loop-first.invariant.order (omega arith)).next h

@@ -15,7 +15,8 @@ loop-step-preserved g c =
       within = omega arith;
       behind = λ p b.
           let test = c.ends_by.ensures (rw c.id.ensures (p.cells k 0 h)) in
-          let all : Behind u (k + 1) c.args.lo = behind_up u c.args.lo k p h (rw c.id.ensures at (test.0 c.if-not-ends_by.false)) in
+          let all : Behind u (k + 1) c.args.lo = behind_up u c.args.lo k p h
+          (rw c.id.ensures at (test.0 c.if-not-ends_by.false)) in
           rw same at all;
     }
 
@@ -26,7 +27,12 @@ returns-then-not-ends_by-clause-behind g c p b =
     let n = c.len-len.ensures in
     let h : k < length u = omega arith in
     let test = c.ends_by.ensures (rw c.id.ensures (p.cells k 0 h)) in
-    let from : IsFrom u c.args.lo c.loop-step.base k = record { behind = c.loop-step.invariant.behind p b; next = λ _. rw c.id.ensures at (later _ _ _ test c.if-not-ends_by.true) } in
+    let from : IsFrom u c.args.lo c.loop-step.base k =
+    record {
+      behind = c.loop-step.invariant.behind p b;
+      next = λ _. rw c.id.ensures at
+          (later _ _ _ test c.if-not-ends_by.true);
+    } in
     c.find_between.ensures.behind p from
 
 pub returns-then-not-ends_by-clause-next : goal.returns-then-not-ends_by-clause-next
@@ -36,5 +42,10 @@ returns-then-not-ends_by-clause-next g c p b =
     let n = c.len-len.ensures in
     let h : k < length u = omega arith in
     let test = c.ends_by.ensures (rw c.id.ensures (p.cells k 0 h)) in
-    let from : IsFrom u c.args.lo c.loop-step.base k = record { behind = c.loop-step.invariant.behind p b; next = λ _. rw c.id.ensures at (later _ _ _ test c.if-not-ends_by.true) } in
+    let from : IsFrom u c.args.lo c.loop-step.base k =
+    record {
+      behind = c.loop-step.invariant.behind p b;
+      next = λ _. rw c.id.ensures at
+          (later _ _ _ test c.if-not-ends_by.true);
+    } in
     c.find_between.ensures.next p from

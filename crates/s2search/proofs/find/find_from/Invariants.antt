@@ -5,7 +5,8 @@ use Rattle.s2search.proofs.find.find_from.Given as goal
 abbrev pub invariant-loop-step : goal.invariant-loop-step
 invariant-loop-step g l = record {
   within : l.base ≤ length (g.C.Cells.ids l.cells);
-  behind : IsPacked (g.C.Cells.ids l.cells) → Behind (g.C.Cells.ids l.cells) l.start l.lo → Behind (g.C.Cells.ids l.cells) l.base l.lo;
+  behind : IsPacked (g.C.Cells.ids l.cells) → Behind (g.C.Cells.ids l.cells) l.start l.lo →
+      Behind (g.C.Cells.ids l.cells) l.base l.lo;
 }
 
 abbrev pub decreases-loop-step : goal.decreases-loop-step

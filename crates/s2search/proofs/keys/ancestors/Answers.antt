@@ -35,7 +35,8 @@ push_after-requires-clause-ascending g c =
     let h : c.loop-k.k < length u = omega (arith, c.loop-k-test.true) in
     let e : c.in-Some.cell ≡ get_or u c.loop-k.k 0 = c.in-Some.ensures.1 ∙ c.id.ensures in
     rw c.in_ok-push.ensures.items
-    (rises_to c.in-Some.cell c.loop-k.from c.loop-k.list.items c.push_before.new.list.items (λ held has. rw e (c.loop-k.invariant.below h held has)) c.in_ok-push_before.ensures)
+    (rises_to c.in-Some.cell c.loop-k.from c.loop-k.list.items c.push_before.new.list.items
+    (λ held has. rw e (c.loop-k.invariant.below h held has)) c.in_ok-push_before.ensures)
 
 pub push_after-requires-clause-most : goal.push_after-requires-clause-most
 push_after-requires-clause-most g c =
@@ -44,7 +45,8 @@ push_after-requires-clause-most g c =
     let h : c.loop-k.k < length u = omega (arith, c.loop-k-test.true) in
     let e : c.in-Some.cell ≡ get_or u c.loop-k.k 0 = c.in-Some.ensures.1 ∙ c.id.ensures in
     rw c.in_ok-push.ensures.items
-    (most_to c.in-Some.cell c.loop-k.from c.loop-k.list.items c.push_before.new.list.items (λ held has. rw e (c.loop-k.invariant.below h held has)) c.in_ok-push_before.ensures)
+    (most_to c.in-Some.cell c.loop-k.from c.loop-k.list.items c.push_before.new.list.items
+    (λ held has. rw e (c.loop-k.invariant.below h held has)) c.in_ok-push_before.ensures)
 
 pub loop-k-preserved : goal.loop-k-preserved
 loop-k-preserved g c =
@@ -53,9 +55,13 @@ loop-k-preserved g c =
     let h : c.loop-k.k < length u = omega (arith, c.loop-k-test.true) in
     let e : c.in-Some.cell ≡ get_or u c.loop-k.k 0 = c.in-Some.ensures.1 ∙ c.id.ensures in
     rw (c.end_leaf-from.ensures.value, e)
-    (reached_more u c.loop-k.k c.loop-k.from c.id_after.result c.loop-k.list.items c.push_before.new.list.items c.push_after.new.list.items
+    (reached_more u c.loop-k.k c.loop-k.from c.id_after.result c.loop-k.list.items c.push_before.new.list.items
+    c.push_after.new.list.items
     (packed_from_local u c.requires) h c.id_after.ensures.next c.id_after.ensures.last c.loop-k.invariant
-    (record { front = rw e at c.in_ok-push_before.ensures; back = rw (c.in_ok-push.ensures.items, e) at c.in_ok-push_after.ensures }))
+    (record {
+      front = rw e at c.in_ok-push_before.ensures;
+      back = rw (c.in_ok-push.ensures.items, e) at c.in_ok-push_after.ensures;
+    }))
 
 pub returns : goal.returns
 returns g c =

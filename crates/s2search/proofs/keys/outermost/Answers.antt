@@ -12,6 +12,8 @@ loop-level-init c =
 pub returns-else-from-first_leaf-clause-least : goal.returns-else-from-first_leaf-clause-least
 returns-else-from-first_leaf-clause-least c =
     let cu : IsCell c.args.cell = (_, _, c.id.ensures.cell) in
-    let f : c.first_leaf.result ≡ first_leaf (parent_of c.args.cell (c.loop-level.level - 1)) = rw c.parent.ensures.value at c.first_leaf.ensures.value in
-    let late : first_leaf (parent_of c.args.cell (c.loop-level.level - 1)) < c.args.from = omega (arith, f, c.if-from-first_leaf.false) in
+    let f : c.first_leaf.result ≡ first_leaf (parent_of c.args.cell (c.loop-level.level - 1)) =
+    rw c.parent.ensures.value at c.first_leaf.ensures.value in
+    let late : first_leaf (parent_of c.args.cell (c.loop-level.level - 1)) < c.args.from =
+    omega (arith, f, c.if-from-first_leaf.false) in
     least_level c.args.cell c.args.from c.loop-level.level cu c.loop-level.invariant.within (λ _. late)

@@ -11,7 +11,9 @@ loop-level-preserved c =
     let top = c.level-level-end.ensures.value in
     let h : level < level_of u = omega (arith, c.loop-level-test.true, top) in
     record {
-      gains = before_step u c.args.from level c.args.list.now.items c.loop-level.list.items c.push_between.new.list.items cu h c.loop-level.invariant.start
+      gains = before_step u c.args.from level c.args.list.now.items c.loop-level.list.items
+          c.push_between.new.list.items cu h
+          c.loop-level.invariant.start
           c.requires.cells c.requires.began c.requires.below
           (rw (c.parent.ensures.value, c.id-middle.ensures.value) at c.in_ok-push_between.ensures.added)
           (rw (c.parent.ensures.value, c.id-middle.ensures.value) at c.in_ok-push_between.ensures.same)

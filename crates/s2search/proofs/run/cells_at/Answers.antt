@@ -5,7 +5,9 @@ use Rattle.s2cell.specs.Cell.{first_leaf, size_of}
 use Rattle.s2union.proofs.Checking.{packed_from_local}
 use Rattle.s2search.proofs.Running.{run_at, between_from}
 use Rattle.s2search.proofs.run.cells_at.Goals as goal
-use Rattle.s2search.proofs.run.cells_at.Goals.{then-end-len+then-begins_at, else-end-len, else-end-len-via-then-end-len+else-begins_at, else-end-len-via-else-end-len}
+use Rattle.s2search.proofs.run.cells_at.Goals.{then-end-len+then-begins_at, else-end-len}
+use Rattle.s2search.proofs.run.cells_at.Goals.{else-end-len-via-then-end-len+else-begins_at}
+use Rattle.s2search.proofs.run.cells_at.Goals.{else-end-len-via-else-end-len}
 
 pub returns : goal.returns
 returns g c local =
@@ -18,10 +20,12 @@ returns g c local =
     let len = c.len.ensures in
     let v = c.first_leaf.ensures.value in
     let w = c.end_leaf.ensures.value in
-    let stop : ((ended < length u) × (first_leaf (get_or u ended 0) < hi) × (end ≡ ended + 1)) ⊎ ((ended < length u → hi ≤ first_leaf (get_or u ended 0)) × (end ≡ ended)) =
+    let stop : ((ended < length u) × (first_leaf (get_or u ended 0) < hi) × (end ≡ ended + 1))
+    ⊎ ((ended < length u → hi ≤ first_leaf (get_or u ended 0)) × (end ≡ ended)) =
     elim c.if-end-len.branch [
       | then-end-len+then-begins_at x ↦
-          let t = rw x.end_leaf-then-end-len.ensures.value at ((x.begins_at.ensures local.cells).0 x.if-begins_at.true) in
+          let t = rw x.end_leaf-then-end-len.ensures.value at
+          ((x.begins_at.ensures local.cells).0 x.if-begins_at.true) in
           inl (t.0, t.1, x.end-is)
       | else-end-len x ↦
           elim x.else-end-len.branch [
@@ -30,7 +34,8 @@ returns g c local =
                 inr (
                   λ h.
                       ⊎_elim
-                      (λ (f : first_leaf (get_or u ended 0) < hi). absurd (false≢true (sym y.if-begins_at.false ∙ test.1 (h, f))))
+                      (λ (f : first_leaf (get_or u ended 0) < hi).
+                      absurd (false≢true (sym y.if-begins_at.false ∙ test.1 (h, f))))
                       (λ (f : hi ≤ first_leaf (get_or u ended 0)). f)
                       (cases_lt (first_leaf (get_or u ended 0)) hi),
                   x.end-is,
@@ -38,7 +43,8 @@ returns g c local =
             | else-end-len-via-else-end-len y ↦ let f = y.if-end-len.false in inr (λ h. absurd (omega arith), x.end-is)
           ]
     ] in
-    run_at u c.args.cell c.find-first.result end c.saturating_sub.result p c.first_leaf.ensures.own c.find-first.ensures.within c.saturating_sub.ensures
+    run_at u c.args.cell c.find-first.result end c.saturating_sub.result p c.first_leaf.ensures.own
+    c.find-first.ensures.within c.saturating_sub.ensures
     (between_from u lo hi c.find-first.result ended end p c.find-end.ensures.within
     (rw v at (c.find-first.ensures.behind p)) (rw v at (c.find-first.ensures.next p))
     (rw w at (c.find-end.ensures.behind p)) (rw w at (c.find-end.ensures.next p)) stop)

@@ -12,7 +12,8 @@ returns-then-not-fits_at g c =
     let n = c.len-k-end.ensures in
     let h : c.loop-k.k + 1 ≤ length u = omega (arith, c.loop-k-test.true) in (
       λ e. absurd (false≢true e),
-      λ l. absurd (false≢true (sym c.if-not-fits_at.true ∙ c.fits_at.ensures.1 (packed_take (c.loop-k.k + 1) u h (packed_from_local u l)))),
+      λ l. absurd (false≢true (sym c.if-not-fits_at.true
+          ∙ c.fits_at.ensures.1 (packed_take (c.loop-k.k + 1) u h (packed_from_local u l)))),
     )
 
 pub returns : goal.returns

@@ -1,14 +1,15 @@
-use Rattle.std.proofs.Common.{◌≡◌, ◌+◌, ◌*◌, ◌^◌, ◌<◌, ◌≤◌, take, length, get_or, refl, sym, arith}
+use Rattle.std.proofs.Common.{◌≡◌, ◌+◌, ◌<◌, ◌≤◌, take, length, get_or, refl, sym, arith}
 use Rattle.s2cell.specs.Cell.{IsCell, size_of}
 use Rattle.s2cell.proofs.CellLemmas.{cell_leaves}
 use Rattle.s2union.specs.Union.{has_leaf}
 use Rattle.s2union.specs.Count.{count_below}
+use Rattle.s2cell.specs.declared.TheConstants.{LEAVES}
 use Rattle.s2union.proofs.Checking.{packed_from_local}
 use Rattle.s2union.proofs.Counting.{count_more, count_none, count_most}
 use Rattle.s2search.proofs.whole.leaf_count.Goals as goal
 
 pub loop-k-init : goal.loop-k-init
-loop-k-init g c local = sym (count_none (λ x. has_leaf (take 0 (g.C.Cells.ids c.args.cells.now)) x) (6 * 4 ^ 30) (λ x. refl))
+loop-k-init g c local = sym (count_none (λ x. has_leaf (take 0 (g.C.Cells.ids c.args.cells.now)) x) LEAVES (λ x. refl))
 
 pub loop-k-preserved : goal.loop-k-preserved
 loop-k-preserved g c local =
@@ -18,8 +19,10 @@ loop-k-preserved g c local =
     let h : i < length u = omega (arith, c.loop-k-test.true) in
     let own : IsCell (get_or u i 0) = local.cells i 0 h in
     let w = (cell_leaves (get_or u i 0) own).within in
-    let m : count_below (has_leaf (take (i + 1) u)) (6 * 4 ^ 30) ≡ count_below (has_leaf (take i u)) (6 * 4 ^ 30) + size_of (get_or u i 0) = count_more u i (6 * 4 ^ 30) (packed_from_local u local) h w in
-    let s : c.leaves_of-leaves.result ≡ size_of (get_or u i 0) = rw c.id.ensures at (c.leaves_of-leaves.ensures (rw c.id.ensures own)) in
+    let m : count_below (has_leaf (take (i + 1) u)) LEAVES ≡ count_below (has_leaf (take i u)) LEAVES
+    + size_of (get_or u i 0) = count_more u i LEAVES (packed_from_local u local) h w in
+    let s : c.leaves_of-leaves.result ≡ size_of (get_or u i 0) =
+    rw c.id.ensures at (c.leaves_of-leaves.ensures (rw c.id.ensures own)) in
     let v = c.loop-k.invariant local in
     omega arith
 
@@ -31,8 +34,11 @@ returns-then-total-leaves g c local =
     let h : i < length u = omega (arith, c.loop-k-test.true) in
     let own : IsCell (get_or u i 0) = local.cells i 0 h in
     let w = (cell_leaves (get_or u i 0) own).within in
-    let m : count_below (has_leaf (take (i + 1) u)) (6 * 4 ^ 30) ≡ count_below (has_leaf (take i u)) (6 * 4 ^ 30) + size_of (get_or u i 0) = count_more u i (6 * 4 ^ 30) (packed_from_local u local) h w in
-    let most : count_below (has_leaf (take (i + 1) u)) (6 * 4 ^ 30) ≤ 6 * 4 ^ 30 = count_most (has_leaf (take (i + 1) u)) (6 * 4 ^ 30) in
-    let s : c.leaves_of-leaves.result ≡ size_of (get_or u i 0) = rw c.id.ensures at (c.leaves_of-leaves.ensures (rw c.id.ensures own)) in
+    let m : count_below (has_leaf (take (i + 1) u)) LEAVES ≡ count_below (has_leaf (take i u)) LEAVES
+    + size_of (get_or u i 0) = count_more u i LEAVES (packed_from_local u local) h w in
+    let most : count_below (has_leaf (take (i + 1) u)) LEAVES ≤ LEAVES =
+    count_most (has_leaf (take (i + 1) u)) LEAVES in
+    let s : c.leaves_of-leaves.result ≡ size_of (get_or u i 0) =
+    rw c.id.ensures at (c.leaves_of-leaves.ensures (rw c.id.ensures own)) in
     let v = c.loop-k.invariant local in
     absurd (omega arith)

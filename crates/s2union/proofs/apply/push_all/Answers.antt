@@ -17,9 +17,11 @@ loop-k-preserved c =
     record {
       within = omega arith;
       len = omega arith;
-      items = p.items ∙ ap (λ (l : List ℕ). l ++ x ∷ []) v.items ∙ append_assoc old (take k u) (x ∷ []) ∙ ap (λ y. old ++ (take k u ++ y ∷ [])) (sym e) ∙ ap (λ l. old ++ l) (sym (take_more u k 0 (omega arith)));
+      items = p.items ∙ ap (λ (l : List ℕ). l ++ x ∷ []) v.items ∙ append_assoc old (take k u) (x ∷ [])
+          ∙ ap (λ y. old ++ (take k u ++ y ∷ [])) (sym e) ∙ ap (λ l. old ++ l) (sym (take_more u k 0 (omega arith)));
       room = p.capacity ∙ v.room;
     }
 
 pub returns-clause-items : goal.returns-clause-items
-returns-clause-items c = c.loop-k.invariant.items ∙ ap (λ l. c.args.list.now.items ++ l) (take_all c.loop-k.k c.args.cells.now (omega arith))
+returns-clause-items c = c.loop-k.invariant.items
+    ∙ ap (λ l. c.args.list.now.items ++ l) (take_all c.loop-k.k c.args.cells.now (omega arith))

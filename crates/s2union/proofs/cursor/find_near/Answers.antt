@@ -10,7 +10,8 @@ find_from-requires-clause-behind c =
     let u = c.args.cells.now in
     let k = c.args.near - 1 in
     let w = c.requires.within in
-    let e : get_or u k 0 ≡ c.index-cells-near.result = read_at u k k c.index-cells-near.result (omega arith) refl c.index-cells-near.is in
+    let e : get_or u k 0 ≡ c.index-cells-near.result =
+    read_at u k k c.index-cells-near.result (omega arith) refl c.index-cells-near.is in
     let f = ap first_leaf e in
     let s = ap size_of e in
     let v = c.end_leaf.ensures.value in

@@ -5,8 +5,10 @@ use Rattle.s2union.proofs.merging.merged.Goals.{else-loop-kept-test, then-loop-k
 
 pub loop-kept-preserved : goal.loop-kept-preserved
 loop-kept-preserved c =
-    step_from_reads c.args.front.now c.args.cell c.loop-kept.kept c.loop-kept.last c.in-Some.parent _ _ _ c.requires.packed c.loop-kept.invariant
-    (omega arith) c.index-front-kept.is c.index-front-kept-in-loop-kept.is c.index-front-kept-in-loop-kept-2.is c.in-Some.ensures
+    step_from_reads c.args.front.now c.args.cell c.loop-kept.kept c.loop-kept.last c.in-Some.parent _ _ _
+    c.requires.packed c.loop-kept.invariant
+    (omega arith) c.index-front-kept.is c.index-front-kept-in-loop-kept.is c.index-front-kept-in-loop-kept-2.is
+    c.in-Some.ensures
 
 pub returns : goal.returns
 returns c =
@@ -15,5 +17,6 @@ returns c =
       | else-loop-kept-test w ↦ λ less p e f. absurd (omega arith)
       | then-loop-kept-test+in-None w ↦
           none_from_reads c.args.front.now c.args.cell c.loop-kept.kept c.loop-kept.last _ _ _ c.loop-kept.invariant
-          (omega arith) w.index-front-kept.is w.index-front-kept-in-loop-kept.is w.index-front-kept-in-loop-kept-2.is w.in-None.ensures
+          (omega arith) w.index-front-kept.is w.index-front-kept-in-loop-kept.is
+          w.index-front-kept-in-loop-kept-2.is w.in-None.ensures
     ])

@@ -22,6 +22,8 @@ returns-then-level-eq0 c p f =
 pub returns-else-is_family : goal.returns-else-is_family
 returns-else-is_family c p f =
     let q : parent_of c.args.d (level_of c.args.d - 1) ≡ p = family_parent c.args.a c.args.b c.args.c c.args.d p f in
-    let is : c.parent-parent.result ≡ p = c.parent-parent.ensures.value ∙ ap (λ x. parent_of c.args.d (x - 1)) c.level-level.ensures.value ∙ q in
-    let g : IsFamily c.args.a c.args.b c.args.c c.args.d c.parent-parent.result = subst (λ x. IsFamily c.args.a c.args.b c.args.c c.args.d x) (sym is) f in
+    let is : c.parent-parent.result ≡ p = c.parent-parent.ensures.value
+    ∙ ap (λ x. parent_of c.args.d (x - 1)) c.level-level.ensures.value ∙ q in
+    let g : IsFamily c.args.a c.args.b c.args.c c.args.d c.parent-parent.result =
+    subst (λ x. IsFamily c.args.a c.args.b c.args.c c.args.d x) (sym is) f in
     absurd (false≢true (sym c.if-is_family.false ∙ c.is_family.ensures.1 g))

@@ -5,9 +5,11 @@ use Rattle.s2union.proofs.Placing.{starts_kept}
 use Rattle.s2union.proofs.merging.settled.Goals as goal
 
 pub merged-kept-requires-clause-packed : goal.merged-kept-requires-clause-packed
-merged-kept-requires-clause-packed c = packed_take c.outside-kept.result c.args.front.now (search rules) c.requires.packed
+merged-kept-requires-clause-packed c = packed_take c.outside-kept.result c.args.front.now (search rules)
+    c.requires.packed
 
 pub returns-clause-starts : goal.returns-clause-starts
 returns-clause-starts c =
     let i : IsCell c.args.cell = (level_of c.args.cell, place_of c.args.cell, c.id.ensures.cell) in
-    starts_kept c.args.front.now c.merged-kept.result.0 c.merged-kept.result.1 c.args.cell c.requires.starts i c.merged-kept.ensures.start
+    starts_kept c.args.front.now c.merged-kept.result.0 c.merged-kept.result.1 c.args.cell c.requires.starts i
+    c.merged-kept.ensures.start

@@ -5,4 +5,5 @@ use Rattle.s2union.proofs.normalising.compact.Given as goal
 
 -- what the loop keeps
 abbrev pub invariant-loop-i : goal.invariant-loop-i
-invariant-loop-i l = Compacting l.initial.cells.items l.cells.items l.n l.i × (vec_len l.cells ≡ vec_len l.initial.cells) × (vec_capacity l.cells ≡ vec_capacity l.initial.cells)
+invariant-loop-i l = Compacting l.initial.cells.items l.cells.items l.n l.i
+    × (vec_len l.cells ≡ vec_len l.initial.cells) × (vec_capacity l.cells ≡ vec_capacity l.initial.cells)

@@ -18,15 +18,20 @@ pub returns-then-not-fits_behind-clause-normal : goal.returns-then-not-fits_behi
 returns-then-not-fits_behind-clause-normal c = (
   λ e. absurd (false≢true e),
   λ n. absurd (unpacked_prefix c.args.cells.now c.loop-i.i c.index-cells-i.result c.loop-i-test.true c.index-cells-i.is
-      (λ p. false≢true (sym c.if-not-fits_behind.true ∙ c.fits_behind.ensures.1 p)) (local_from_normal (has_leaf c.args.cells.now) c.args.cells.now n)),
+      (λ p. false≢true (sym c.if-not-fits_behind.true ∙ c.fits_behind.ensures.1 p))
+      (local_from_normal (has_leaf c.args.cells.now) c.args.cells.now n)),
 )
 
 pub returns-clause-local : goal.returns-clause-local
 returns-clause-local c =
-    let all : take c.loop-i.i c.args.cells.now ≡ c.args.cells.now = take_all c.loop-i.i c.args.cells.now (search rules) in
+    let all : take c.loop-i.i c.args.cells.now ≡ c.args.cells.now =
+    take_all c.loop-i.i c.args.cells.now (search rules) in
     (λ _. local_from_packed c.args.cells.now (rw all at c.loop-i.invariant), λ _. refl)
 
 pub returns-clause-normal : goal.returns-clause-normal
 returns-clause-normal c =
-    let all : take c.loop-i.i c.args.cells.now ≡ c.args.cells.now = take_all c.loop-i.i c.args.cells.now (search rules) in
-    (λ _. normal_from_local c.args.cells.now (local_from_packed c.args.cells.now (rw all at c.loop-i.invariant)), λ _. refl)
+    let all : take c.loop-i.i c.args.cells.now ≡ c.args.cells.now =
+    take_all c.loop-i.i c.args.cells.now (search rules) in (
+      λ _. normal_from_local c.args.cells.now (local_from_packed c.args.cells.now (rw all at c.loop-i.invariant)),
+      λ _. refl,
+    )

@@ -1,27 +1,27 @@
-use Rattle.std.proofs.Common.{◌≡◌, false, nat_lt, length, get_or, arith, refl, sym, ◌∙◌}
+use Rattle.std.proofs.Common.{◌≡◌, false, nat_lt, length, get_or, arith, sym, ◌∙◌}
 use Rattle.std.proofs.lemmas.Bool.{false≢true}
 use Rattle.std.proofs.lemmas.Bool.Decides.{nat_tests}
 use Rattle.s2cell.proofs.Leaves.{inside_from_within}
-use Rattle.s2union.proofs.Packing.{read_at}
 use Rattle.s2union.proofs.Finding.{held_at, within_from_place}
 use Rattle.s2union.proofs.search.holds_at.Goals as goal
 
-pub returns-then-at-cells : goal.returns-then-at-cells
-returns-then-at-cells c =
+pub returns-then-at-cells-clause-answer : goal.returns-then-at-cells-clause-answer
+returns-then-at-cells-clause-answer c =
     let u = c.args.cells.now in
     let at = c.args.at in
     let r = c.requires in
-    let e : get_or u at 0 ≡ c.index-cells-at.result = read_at u at at c.index-cells-at.result c.if-at-cells.true refl c.index-cells-at.is in (
-      λ t. within_from_place u at c.args.cell c.index-cells-at.result c.if-at-cells.true e (c.contains.ensures.value.0 t),
+    let e : get_or u at 0 ≡ c.look.result = sym c.look.ensures.cell in (
+      λ t. within_from_place u at c.args.cell c.look.result c.if-at-cells.true e (c.contains.ensures.value.0 t),
       λ lies.
           let h = held_at u at c.args.cell r.local r.is_cell r.behind r.next lies in
           c.contains.ensures.value.1 (rw e at (inside_from_within c.args.cell (get_or u at 0) h.within)),
     )
 
-pub returns-else-at-cells : goal.returns-else-at-cells
-returns-else-at-cells c =
+pub returns-else-at-cells-clause-answer : goal.returns-else-at-cells-clause-answer
+returns-else-at-cells-clause-answer c =
     let r = c.requires in (
-      λ t. let f : nat_lt c.args.at (length c.args.cells.now) ≡ false = grind (arith, nat_tests) in absurd (false≢true (sym f ∙ t)),
+      λ t. let f : nat_lt c.args.at (length c.args.cells.now) ≡ false = grind (arith, nat_tests) in
+          absurd (false≢true (sym f ∙ t)),
       λ lies.
           let h = held_at c.args.cells.now c.args.at c.args.cell r.local r.is_cell r.behind r.next lies in
           let t = h.there in

@@ -1,22 +1,24 @@
-use Rattle.std.proofs.Common.{◌≡◌, ◌-◌, get_or, arith, refl, ap}
+use Rattle.std.proofs.Common.{◌≡◌, ◌-◌, get_or, arith, sym, ap}
 use Rattle.s2cell.specs.Cell.{first_leaf, size_of}
-use Rattle.s2union.proofs.Packing.{read_at}
 use Rattle.s2union.proofs.Finding.{ended_before, ended_behind, ended_all}
 use Rattle.s2union.proofs.search.without_last.Goals as goal
-use Rattle.s2union.proofs.search.without_last.Goals.{else-from-begun-via-then-from-begun+else-lo-end_leaf, else-from-begun-via-else-from-begun}
+use Rattle.s2union.proofs.search.without_last.Goals.{else-from-begun-via-then-from-begun+else-lo-end_leaf}
+use Rattle.s2union.proofs.search.without_last.Goals.{else-from-begun-via-else-from-begun}
 
 pub returns-then-lo-end_leaf-clause-behind : goal.returns-then-lo-end_leaf-clause-behind
-returns-then-lo-end_leaf-clause-behind c k h = ended_before c.args.cells.now c.args.lo c.args.begun k c.requires.packed c.requires.place (omega arith)
+returns-then-lo-end_leaf-clause-behind c k h = ended_before c.args.cells.now c.args.lo c.args.begun.at k
+    c.requires.packed
+    c.requires.place (omega arith)
 
 pub returns-else-from-begun-clause-behind : goal.returns-else-from-begun-clause-behind
 returns-else-from-begun-clause-behind c =
     let u = c.args.cells.now in
-    let at = c.args.begun in
+    let at = c.args.begun.at in
     ended_all u c.args.lo c.args.from at c.requires.packed c.requires.behind c.requires.from c.requires.place
     (λ l. elim c.else-from-begun.branch [
       | else-from-begun-via-then-from-begun+else-lo-end_leaf w ↦
           let p = c.requires.place.within in
-          let e : get_or u (at - 1) 0 ≡ w.index-cells-begun.result = read_at u (at - 1) (at - 1) w.index-cells-begun.result (omega arith) refl w.index-cells-begun.is in
+          let e : get_or u (at - 1) 0 ≡ w.look.result = sym w.look.ensures.cell in
           let f = ap first_leaf e in
           let s = ap size_of e in
           let v = w.end_leaf.ensures.value in
@@ -26,4 +28,5 @@ returns-else-from-begun-clause-behind c =
     ])
 
 pub returns-else-from-begun-clause-next : goal.returns-else-from-begun-clause-next
-returns-else-from-begun-clause-next c = ended_behind c.args.cells.now c.args.lo c.args.begun c.requires.packed c.requires.place
+returns-else-from-begun-clause-next c = ended_behind c.args.cells.now c.args.lo c.args.begun.at c.requires.packed
+    c.requires.place

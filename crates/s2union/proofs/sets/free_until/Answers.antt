@@ -10,8 +10,10 @@ find_from-requires-clause-packed c = packed_from_local c.args.xs.now c.requires.
 
 pub find_from-requires-clause-behind : goal.find_from-requires-clause-behind
 find_from-requires-clause-behind c =
-    let y : get_or c.args.ys.now c.args.j 0 ≡ c.index-ys-j.result = read_at c.args.ys.now c.args.j c.args.j c.index-ys-j.result c.if-j-ys.true refl c.index-ys-j.is in
+    let y : get_or c.args.ys.now c.args.j 0 ≡ c.index-ys-j.result =
+    read_at c.args.ys.now c.args.j c.args.j c.index-ys-j.result c.if-j-ys.true refl c.index-ys-j.is in
     let fy = ap first_leaf y in
     let b = c.first_leaf.ensures.value in
     let free = c.requires.free c.if-j-ys.true in
-    ended_to c.args.xs.now c.args.i _ (packed_from_local c.args.xs.now c.requires.x_local) c.requires.there (omega arith)
+    ended_to c.args.xs.now c.args.i _ (packed_from_local c.args.xs.now c.requires.x_local) c.requires.there
+    (omega arith)

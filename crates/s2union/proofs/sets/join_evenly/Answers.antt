@@ -11,8 +11,14 @@ returns-then-i-xs-clause-local c = local_from_packed _ c.add_run.ensures.packed
 
 pub returns-then-i-xs-clause-leaves : goal.returns-then-i-xs-clause-leaves
 returns-then-i-xs-clause-leaves c =
-    let ended : length c.args.ys.now ≤ c.loop-i.j = elim c.loop-i-test.branch [ then-loop-i-test+else-j-ys w ↦ omega arith | else-loop-i-test w ↦ absurd (omega arith) ] in
-    joining_rest c.args.xs.now c.args.ys.now c.loop-i.list.items c.add_run.new.list.items c.loop-i.i c.loop-i.j c.loop-i.invariant.joining c.loop-i.invariant.in_x ended
+    let ended : length c.args.ys.now ≤ c.loop-i.j =
+    elim c.loop-i-test.branch [
+      | then-loop-i-test+else-j-ys w ↦ omega arith
+      | else-loop-i-test w ↦ absurd
+          (omega arith)
+    ] in
+    joining_rest c.args.xs.now c.args.ys.now c.loop-i.list.items c.add_run.new.list.items c.loop-i.i c.loop-i.j
+    c.loop-i.invariant.joining c.loop-i.invariant.in_x ended
     c.add_run.ensures.leaves
 
 pub returns-else-i-xs-clause-local : goal.returns-else-i-xs-clause-local
@@ -20,7 +26,8 @@ returns-else-i-xs-clause-local c = local_from_packed _ c.add_run-else-i-xs.ensur
 
 pub returns-else-i-xs-clause-leaves : goal.returns-else-i-xs-clause-leaves
 returns-else-i-xs-clause-leaves c =
-    joining_rest_swap c.args.xs.now c.args.ys.now c.loop-i.list.items c.add_run-else-i-xs.new.list.items c.loop-i.i c.loop-i.j c.loop-i.invariant.joining c.loop-i.invariant.in_y (omega arith)
+    joining_rest_swap c.args.xs.now c.args.ys.now c.loop-i.list.items c.add_run-else-i-xs.new.list.items c.loop-i.i
+    c.loop-i.j c.loop-i.invariant.joining c.loop-i.invariant.in_y (omega arith)
     c.add_run-else-i-xs.ensures.leaves
 
 pub loop-i-preserved : goal.loop-i-preserved
@@ -30,7 +37,8 @@ loop-i-preserved c =
     elim c.if-is_x.branch [
       | then-is_x w ↦
           let less : c.index-xs-i.result < c.index-ys-j.result = lt_from_test _ _ _ c.lt-is_x.ensures w.if-is_x.true in
-          let ey : get_or c.args.ys.now c.loop-i.j 0 ≡ c.index-ys-j.result = read_at c.args.ys.now c.loop-i.j c.loop-i.j c.index-ys-j.result c.if-j-ys.true refl c.index-ys-j.is in
+          let ey : get_or c.args.ys.now c.loop-i.j 0 ≡ c.index-ys-j.result =
+          read_at c.args.ys.now c.loop-i.j c.loop-i.j c.index-ys-j.result c.if-j-ys.true refl c.index-ys-j.is in
           let cell = w.add_reserved-is in
           rw (w.if-is_x.true, add-zero)
           (record {
@@ -38,12 +46,16 @@ loop-i-preserved c =
             in_y = v.in_y;
             few = omega arith;
             room = e.room ∙ v.room;
-            joining = join_x c.args.xs.now c.args.ys.now c.loop-i.list.items c.add_reserved.new.list.items c.loop-i.i c.loop-i.j c.index-xs-i.result c.requires.x_local v.joining c.loop-i-test.true c.index-xs-i.is
+            joining = join_x c.args.xs.now c.args.ys.now c.loop-i.list.items c.add_reserved.new.list.items
+                c.loop-i.i c.loop-i.j c.index-xs-i.result c.requires.x_local v.joining c.loop-i-test.true
+                c.index-xs-i.is
                 (λ _. omega arith) e.packed (rw (← cell) e.starts) (rw (← cell) e.leaves);
           })
       | else-is_x w ↦
           let most : c.index-ys-j.result ≤ c.index-xs-i.result = le_from_test _ _ _ c.lt-is_x.ensures w.if-is_x.false in
-          let ex : get_or c.args.xs.now c.loop-i.i 0 ≡ c.index-xs-i.result = read_at c.args.xs.now c.loop-i.i c.loop-i.i c.index-xs-i.result c.loop-i-test.true refl c.index-xs-i.is in
+          let ex : get_or c.args.xs.now c.loop-i.i 0 ≡ c.index-xs-i.result =
+          read_at c.args.xs.now c.loop-i.i c.loop-i.i c.index-xs-i.result c.loop-i-test.true refl
+          c.index-xs-i.is in
           let cell = w.add_reserved-is in
           rw (w.if-is_x.false, add-zero)
           (record {
@@ -51,7 +63,8 @@ loop-i-preserved c =
             in_y = omega arith;
             few = omega arith;
             room = e.room ∙ v.room;
-            joining = join_y c.args.xs.now c.args.ys.now c.loop-i.list.items c.add_reserved.new.list.items c.loop-i.i c.loop-i.j c.index-ys-j.result c.requires.y_local v.joining c.if-j-ys.true c.index-ys-j.is
+            joining = join_y c.args.xs.now c.args.ys.now c.loop-i.list.items c.add_reserved.new.list.items
+                c.loop-i.i c.loop-i.j c.index-ys-j.result c.requires.y_local v.joining c.if-j-ys.true c.index-ys-j.is
                 (λ _. omega arith) e.packed (rw (← cell) e.starts) (rw (← cell) e.leaves);
           })
     ]

@@ -4,7 +4,13 @@ use Rattle.s2union.proofs.Joining.{Joining}
 use Rattle.s2union.proofs.sets.join_evenly.Given as goal
 
 abbrev pub invariant-loop-i : goal.invariant-loop-i
-invariant-loop-i l = record { in_x : l.i ≤ length l.xs; in_y : l.j ≤ length l.ys; few : vec_len l.list ≤ l.i + l.j; room : vec_capacity l.list ≡ vec_capacity l.initial.list; joining : Joining l.xs l.ys l.list.items l.i l.j }
+invariant-loop-i l = record {
+  in_x : l.i ≤ length l.xs;
+  in_y : l.j ≤ length l.ys;
+  few : vec_len l.list ≤ l.i + l.j;
+  room : vec_capacity l.list ≡ vec_capacity l.initial.list;
+  joining : Joining l.xs l.ys l.list.items l.i l.j;
+}
 
 abbrev pub decreases-loop-i : goal.decreases-loop-i
 decreases-loop-i l = (length l.xs - l.i) + (length l.ys - l.j)

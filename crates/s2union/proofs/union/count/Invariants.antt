@@ -1,7 +1,8 @@
-use Rattle.std.proofs.Common.{◌≡◌, ◌*◌, ◌^◌, take}
+use Rattle.std.proofs.Common.{◌≡◌, take}
 use Rattle.s2union.specs.Union.{has_leaf}
 use Rattle.s2union.specs.Count.{count_below}
+use Rattle.s2cell.specs.declared.TheConstants.{LEAVES}
 use Rattle.s2union.proofs.union.count.Given as goal
 
 abbrev pub invariant-loop-cell : goal.invariant-loop-cell
-invariant-loop-cell l = l.total ≡ count_below (has_leaf (take l.cell-index l.cells)) (6 * 4 ^ 30)
+invariant-loop-cell l = l.total ≡ count_below (has_leaf (take l.cell-index l.cells)) LEAVES

@@ -13,4 +13,5 @@ none_after_last a b next last =
 
 pub returns-in-Some-next-clause-none : goal.returns-in-Some-next-clause-none
 returns-in-Some-next-clause-none c last =
-    absurd (none_after_last c.in-Some.cell c.in-Some-next.next c.in-Some-next.ensures (rw c.in-Some.ensures.1 (last c.in-Some.ensures.0)))
+    absurd (none_after_last c.in-Some.cell c.in-Some-next.next c.in-Some-next.ensures
+    (rw c.in-Some.ensures.1 (last c.in-Some.ensures.0)))

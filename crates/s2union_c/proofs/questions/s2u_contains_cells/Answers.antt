@@ -12,6 +12,7 @@ loop-k-preserved c =
     record {
       so_far = λ local.
           bits_more (λ i. IsWithin (covers (slice_index c.args.cells.now i)) (has_leaf c.args.ids.now))
-          c.loop-k.answers c.loop-k.k c.contains_one.result (search rules) (c.loop-k.invariant.so_far local) (c.contains_one.ensures local own);
+          c.loop-k.answers c.loop-k.k c.contains_one-bit.result.0 (search rules) (c.loop-k.invariant.so_far local)
+          (c.contains_one-bit.ensures local own);
       room = search rules;
     }

@@ -7,6 +7,7 @@ use Rattle.s2union_c.proofs.questions.s2u_intersects_cells.Given as goal
 
 abbrev pub invariant-loop-k : goal.invariant-loop-k
 invariant-loop-k l = record {
-  so_far : IsLocal l.ids → (i : ℕ) → i < l.k → IsBit (slice_index l.answers i) (ShareSome (covers (slice_index l.cells i)) (has_leaf l.ids));
+  so_far : IsLocal l.ids → (i : ℕ) → i < l.k
+      → IsBit (slice_index l.answers i) (ShareSome (covers (slice_index l.cells i)) (has_leaf l.ids));
   room : length l.cells ≤ length l.answers;
 }

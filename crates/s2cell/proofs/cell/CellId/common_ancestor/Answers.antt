@@ -14,13 +14,18 @@ second c = rw (← c.other.view_is) c.other.invariant
 
 top : (c : After-max-covering) → IsHighest c.args.self c.args.other (63 - count_leading_zeros 64 c.max-covering.result)
 top c =
-    highest c.args.self c.args.other c.leaf_count.result c.leaf_count-2.result c.max.result c.max-covering.result (first c)
-    c.leaf_count.ensures.value c.leaf_count-2.ensures.value (rw (c.self.view_is, c.other.view_is) at c.max.ensures) c.max-covering.ensures c.max-covering.type_inv
+    highest c.args.self c.args.other c.leaf_count.result c.leaf_count-2.result c.max.result c.max-covering.result
+    (first c)
+    c.leaf_count.ensures.value c.leaf_count-2.ensures.value (rw (c.self.view_is, c.other.view_is) at c.max.ensures)
+    c.max-covering.ensures c.max-covering.type_inv
 
 pub returns-then-highest-gt-TOP_BIT-clause-faces : goal.returns-then-highest-gt-TOP_BIT-clause-faces
 returns-then-highest-gt-TOP_BIT-clause-faces c =
-    let d = (goal.at.returns-then-highest-gt-TOP_BIT-clause-faces c).After-max-covering in
-    (λ h. absurd (false≢true h), λ e. absurd (other_faces c.args.self c.args.other _ (first d) (second d) (top d) c.if-highest-gt-TOP_BIT.true e))
+    let d = (goal.at.returns-then-highest-gt-TOP_BIT-clause-faces c).After-max-covering in (
+      λ h. absurd (false≢true h),
+      λ e. absurd (other_faces c.args.self c.args.other _ (first d) (second d) (top d)
+          c.if-highest-gt-TOP_BIT.true e),
+    )
 
 pub parent-requires : goal.parent-requires
 parent-requires c =
@@ -30,7 +35,8 @@ parent-requires c =
 pub returns-clause-ancestor : goal.returns-clause-ancestor
 returns-clause-ancestor c =
     let d = (goal.at.returns-clause-ancestor c).After-max-covering in
-    rw c.parent.ensures.value (common_ancestor_is c.args.self c.args.other _ (first d) (second d) (top d) c.if-highest-gt-TOP_BIT.false)
+    rw c.parent.ensures.value (common_ancestor_is c.args.self c.args.other _ (first d) (second d) (top d)
+    c.if-highest-gt-TOP_BIT.false)
 
 pub returns-clause-faces : goal.returns-clause-faces
 returns-clause-faces c =

@@ -4,7 +4,8 @@ use Rattle.s2cell.proofs.Debugs.{debug_more, debug_done, IsDebug-debug_of}
 use Rattle.s2cell.proofs.cell.CellId.debug.Goals as goal
 
 pub loop-k-preserved : goal.loop-k-preserved
-loop-k-preserved c = debug_more c.args.self c.loop-k.k _ c.loop-k.digits c.loop-k.invariant (omega arith) (rw c.self.view_is refl)
+loop-k-preserved c = debug_more c.args.self c.loop-k.k _ c.loop-k.digits c.loop-k.invariant (omega arith)
+    (rw c.self.view_is refl)
 
 pub returns-clause-value : goal.returns-clause-value
 returns-clause-value c =

@@ -4,7 +4,8 @@ use Rattle.s2cell.proofs.Squares.{IsLeafNumbered, leaf_numbered, place_of_leaf, 
 use Rattle.s2cell.proofs.cell.CellId.from_face_ij.Goals as goal
 use Rattle.s2cell.proofs.cell.CellId.from_face_ij.Goals.{After-leaf_at}
 
-made : (c : After-leaf_at) → IsLeafNumbered (4 ^ 30 * c.from.result + c.leaf_at.result) (2 * (4 ^ 30 * c.from.result + c.leaf_at.result) + 1)
+made : (c : After-leaf_at) → IsLeafNumbered (4 ^ 30 * c.from.result + c.leaf_at.result)
+    (2 * (4 ^ 30 * c.from.result + c.leaf_at.result) + 1)
 made c = leaf_numbered (4 ^ 30 * c.from.result + c.leaf_at.result) _ (omega arith) refl
 
 there : (c : After-leaf_at) → IsPlaceOf (4 ^ 30 * c.from.result + c.leaf_at.result) c.args.face c.args.i c.args.j

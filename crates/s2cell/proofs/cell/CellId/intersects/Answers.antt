@@ -7,15 +7,19 @@ use Rattle.s2cell.proofs.cell.CellId.intersects.Goals as goal
 
 pub returns-then-contains-clause-shared : goal.returns-then-contains-clause-shared
 returns-then-contains-clause-shared c =
-    let holds = c.contains.ensures in
-    (λ _. shared_from_nested c.args.self c.args.other holds.own holds.others (inl (holds.value.0 c.if-contains.true)), λ _. c.if-contains.true)
+    let holds = c.contains.ensures in (
+      λ _. shared_from_nested c.args.self c.args.other holds.own holds.others
+          (inl (holds.value.0 c.if-contains.true)),
+      λ _. c.if-contains.true,
+    )
 
 pub returns-else-contains-clause-nested : goal.returns-else-contains-clause-nested
 returns-else-contains-clause-nested c =
     let back = c.contains-else-contains.ensures.value in (
       λ h. inr (back.0 h),
       λ nested. ⊎_elim
-          (λ (i : IsInside c.args.other c.args.self). absurd (true_and_false (c.contains.ensures.value.1 i) c.if-contains.false))
+          (λ (i : IsInside c.args.other c.args.self).
+          absurd (true_and_false (c.contains.ensures.value.1 i) c.if-contains.false))
           (λ (i : IsInside c.args.self c.args.other). back.1 i) nested,
     )
 

@@ -23,6 +23,8 @@ returns-clause-value c =
 pub returns-clause-level : goal.returns-clause-level
 returns-clause-level c =
     let i : IsCell c.args.self = rw (← c.self.view_is) c.self.invariant in
-    let e : bit_or (bit_and c.self.inside.id c.wrapping_neg.result) (1 * 2 ^ (2 * (30 - c.args.level)) % 2 ^ 64) ≡ parent_of c.args.self c.args.level =
-    rw c.self.view_is (parent_at c.args.self c.args.level _ _ i c.requires refl (search rules) c.wrapping_neg.ensures) in
+    let e : bit_or (bit_and c.self.inside.id c.wrapping_neg.result) (1 * 2 ^ (2 * (30 - c.args.level)) % 2 ^ 64)
+    ≡ parent_of c.args.self c.args.level =
+    rw c.self.view_is (parent_at c.args.self c.args.level _ _ i c.requires refl (search rules)
+    c.wrapping_neg.ensures) in
     rw e (parent_level c.args.self c.args.level i c.requires)

@@ -4,7 +4,8 @@ use Rattle.s2cell.proofs.Tokens.{token_more, token_done, IsToken-token_of}
 use Rattle.s2cell.proofs.cell.CellId.token.Goals as goal
 
 pub loop-k-preserved : goal.loop-k-preserved
-loop-k-preserved c = token_more c.args.self c.loop-k.k _ c.loop-k.digits c.loop-k.invariant (omega arith) (rw (← c.self.view_is) c.hex_digit.ensures)
+loop-k-preserved c = token_more c.args.self c.loop-k.k _ c.loop-k.digits c.loop-k.invariant (omega arith)
+    (rw (← c.self.view_is) c.hex_digit.ensures)
 
 pub returns-clause-value : goal.returns-clause-value
 returns-clause-value c =

@@ -1,17 +1,25 @@
-use Rattle.std.proofs.Common.{◌≡◌, ◌+◌, ◌-◌, ◌^◌, ◌≤◌, ◌⊎◌, inl, inr, ℕ, false, arith, refl, ◌∙◌, subst}
+use Rattle.std.proofs.Common.{◌≡◌, ◌+◌, ◌-◌, ◌^◌, ◌≤◌, ◌⊎◌, inl, inr, ℕ, false, arith, refl, ◌∙◌}
+use Rattle.std.proofs.Common.{subst}
 use Rattle.s2cover.specs.Coverings.{inner_set}
 use Rattle.s2cover.specs.Rectangles.{Rect, rect_set}
 use Rattle.s2cover.proofs.Rounded.{narrowed_inner, narrowed_aligned, narrowed_empty}
 use Rattle.s2cover.proofs.Squares.{Narrowed}
 use Rattle.s2cover.proofs.rect.FaceRect.narrowed.Goals as goal
-use Rattle.s2cover.proofs.rect.FaceRect.narrowed.Goals.{else-i0-i_end-via-then-i0-i_end+else-j0-j_end, else-i0-i_end-via-else-i0-i_end}
+use Rattle.s2cover.proofs.rect.FaceRect.narrowed.Goals.{else-i0-i_end-via-then-i0-i_end+else-j0-j_end}
+use Rattle.s2cover.proofs.rect.FaceRect.narrowed.Goals.{else-i0-i_end-via-else-i0-i_end}
 
 pub returns-then-j0-j_end-clause-leaves : goal.returns-then-j0-j_end-clause-leaves
 returns-then-j0-j_end-clause-leaves c =
     let f = c.self.inside in
     let s = c.side_of-side.ensures.value in
     let r : Rect = record { face = f.face; i0 = f.i0; i1 = f.i1; j0 = f.j0; j1 = f.j1 } in
-    let t : Rect = record { face = f.face; i0 = c.round_down-i0.result; i1 = c.round_down-i_end.result - 1; j0 = c.round_down-j0.result; j1 = c.round_down-j_end.result - 1 } in
+    let t : Rect = record {
+      face = f.face;
+      i0 = c.round_down-i0.result;
+      i1 = c.round_down-i_end.result - 1;
+      j0 = c.round_down-j0.result;
+      j1 = c.round_down-j_end.result - 1;
+    } in
     let bi = c.if-i0-i_end.true in
     let bj = c.if-j0-j_end.true in
     let ei : c.round_down-i_end.result - 1 + 1 ≡ c.round_down-i_end.result = omega arith in
@@ -20,14 +28,21 @@ returns-then-j0-j_end-clause-leaves c =
     record { low = rw s at c.round_down-i0.ensures.value; end_is = rw s at (ei ∙ c.round_down-i_end.ensures.value) } in
     let rj : Narrowed f.j0 f.j1 c.round_down-j0.result (c.round_down-j_end.result - 1 + 1) (2 ^ (30 - c.args.level)) =
     record { low = rw s at c.round_down-j0.ensures.value; end_is = rw s at (ej ∙ c.round_down-j_end.ensures.value) } in
-    subst (λ (v : Rect). (x : ℕ) → rect_set t x ≡ inner_set (rect_set v) c.args.level x) c.self.view_is (narrowed_inner r t c.args.level c.self.invariant.face refl ri rj)
+    subst (λ (v : Rect). (x : ℕ) → rect_set t x ≡ inner_set (rect_set v) c.args.level x) c.self.view_is
+    (narrowed_inner r t c.args.level c.self.invariant.face refl ri rj)
 
 pub returns-then-j0-j_end-clause-aligned : goal.returns-then-j0-j_end-clause-aligned
 returns-then-j0-j_end-clause-aligned c =
     let f = c.self.inside in
     let s = c.side_of-side.ensures.value in
     let r : Rect = record { face = f.face; i0 = f.i0; i1 = f.i1; j0 = f.j0; j1 = f.j1 } in
-    let t : Rect = record { face = f.face; i0 = c.round_down-i0.result; i1 = c.round_down-i_end.result - 1; j0 = c.round_down-j0.result; j1 = c.round_down-j_end.result - 1 } in
+    let t : Rect = record {
+      face = f.face;
+      i0 = c.round_down-i0.result;
+      i1 = c.round_down-i_end.result - 1;
+      j0 = c.round_down-j0.result;
+      j1 = c.round_down-j_end.result - 1;
+    } in
     let bi = c.if-i0-i_end.true in
     let bj = c.if-j0-j_end.true in
     let ei : c.round_down-i_end.result - 1 + 1 ≡ c.round_down-i_end.result = omega arith in
@@ -47,10 +62,12 @@ returns-else-i0-i_end-clause-none c e =
     record { low = rw s at c.round_down-i0.ensures.value; end_is = rw s at c.round_down-i_end.ensures.value } in
     let rj : Narrowed f.j0 f.j1 c.round_down-j0.result c.round_down-j_end.result (2 ^ (30 - c.args.level)) =
     record { low = rw s at c.round_down-j0.ensures.value; end_is = rw s at c.round_down-j_end.ensures.value } in
-    let none : (c.round_down-i_end.result ≤ c.round_down-i0.result) ⊎ (c.round_down-j_end.result ≤ c.round_down-j0.result) =
+    let none : (c.round_down-i_end.result ≤ c.round_down-i0.result)
+    ⊎ (c.round_down-j_end.result ≤ c.round_down-j0.result) =
     elim c.else-i0-i_end.branch [
       | else-i0-i_end-via-then-i0-i_end+else-j0-j_end w ↦ let n = w.if-j0-j_end.false in inr (omega arith)
       | else-i0-i_end-via-else-i0-i_end w ↦ let n = w.if-i0-i_end.false in inl (omega arith)
     ] in
     subst (λ (v : Rect). (x : ℕ) → inner_set (rect_set v) c.args.level x ≡ false) c.self.view_is
-    (narrowed_empty r c.round_down-i0.result c.round_down-i_end.result c.round_down-j0.result c.round_down-j_end.result c.args.level ri rj none)
+    (narrowed_empty r c.round_down-i0.result c.round_down-i_end.result c.round_down-j0.result
+    c.round_down-j_end.result c.args.level ri rj none)

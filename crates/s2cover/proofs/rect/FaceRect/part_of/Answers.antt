@@ -24,8 +24,11 @@ returns-clause-out c d s =
     let first = c.span_part-first.ensures.out in
     let second = c.span_part-second.ensures.out in
     let both = c.both_parts.ensures.out in
-    subst (λ (r : Rect). (c.both_parts.result ≡ Out) ↔ ((x : ℕ) → covers d x ≡ true → rect_set r x ≡ false)) c.self.view_is (
-      λ e. out_from _ d q.face q.i q.j q.size s (inr (⊎_elim (λ (a : c.span_part-first.result ≡ Out). inl (first.0 a)) (λ (b : c.span_part-second.result ≡ Out). inr (second.0 b)) (both.0 e))),
+    subst (λ (r : Rect). (c.both_parts.result ≡ Out) ↔ ((x : ℕ) → covers d x ≡ true → rect_set r x ≡ false))
+    c.self.view_is (
+      λ e. out_from _ d q.face q.i q.j q.size s
+          (inr (⊎_elim (λ (a : c.span_part-first.result ≡ Out). inl (first.0 a))
+          (λ (b : c.span_part-second.result ≡ Out). inr (second.0 b)) (both.0 e))),
       λ h. both.1
           (⊎_elim (λ a. inl (first.1 a))
           (λ na. ⊎_elim (λ b. inr (second.1 b))
@@ -40,7 +43,8 @@ returns-clause-inside c d s =
     let first = c.span_part-first.ensures.inside in
     let second = c.span_part-second.ensures.inside in
     let both = c.both_parts.ensures.inside in
-    subst (λ (r : Rect). (c.both_parts.result ≡ In) ↔ ((x : ℕ) → covers d x ≡ true → rect_set r x ≡ true)) c.self.view_is (
+    subst (λ (r : Rect). (c.both_parts.result ≡ In) ↔ ((x : ℕ) → covers d x ≡ true → rect_set r x ≡ true))
+    c.self.view_is (
       λ e. let b = both.0 e in in_from _ d q.face q.i q.j q.size s c.if-square-self.false (first.0 b.0) (second.0 b.1),
       λ h. let w = in_to _ d q.face q.i q.j q.size s h in both.1 (first.1 w.along, second.1 w.across),
     )

@@ -10,13 +10,21 @@ use Rattle.s2edit.proofs.editor.Editor.change_ahead.Goals as goal
 pub returns-clause-none : goal.returns-clause-none
 returns-clause-none c =
     let t : List (List ℕ) = lists_of c.self.inside.registers.items in
-    kept_none c.get.result c.self.inside.future.items c.args.n (length c.args.self.now.future) c.get.ensures (omega (arith, length-tables_after t c.self.inside.future.items, ap (λ (h : History (List ℕ)). length h.future) c.self.view_is))
+    kept_none c.get.result c.self.inside.future.items c.args.n (length c.args.self.now.future) c.get.ensures
+    (omega (
+      arith,
+      length-tables_after t c.self.inside.future.items,
+      ap (λ (h : History (List ℕ)). length h.future) c.self.view_is,
+    ))
 
 pub returns-clause-leads : goal.returns-clause-leads
 returns-clause-leads c =
     let t : List (List ℕ) = lists_of c.self.inside.registers.items in
     kept_some c.get.result c.self.inside.future.items c.args.n
-    (λ (d : Diff). (λ (k : History (List ℕ)). Leads d (table_at (k.now ∷ k.future) c.args.n) (table_at (k.now ∷ k.future) (c.args.n + 1))) c.args.self.now)
+    (λ (d : Diff). (λ (k : History (List ℕ)). Leads d (table_at (k.now ∷ k.future) c.args.n)
+    (table_at (k.now ∷ k.future) (c.args.n + 1))) c.args.self.now)
     c.get.ensures
-    (λ d h. subst (λ (k : History (List ℕ)). Leads d (table_at (k.now ∷ k.future) c.args.n) (table_at (k.now ∷ k.future) (c.args.n + 1))) c.self.view_is
-    (ahead_leads c.self.inside.limit t c.self.inside.future.items c.args.n d c.self.invariant.registers_within c.self.invariant.future_fits h))
+    (λ d h. subst (λ (k : History (List ℕ)). Leads d (table_at (k.now ∷ k.future) c.args.n)
+    (table_at (k.now ∷ k.future) (c.args.n + 1))) c.self.view_is
+    (ahead_leads c.self.inside.limit t c.self.inside.future.items c.args.n d c.self.invariant.registers_within
+    c.self.invariant.future_fits h))

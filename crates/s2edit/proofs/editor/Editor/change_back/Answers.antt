@@ -11,13 +11,22 @@ use Rattle.s2edit.proofs.editor.Editor.change_back.Goals as goal
 pub returns-clause-none : goal.returns-clause-none
 returns-clause-none c =
     let t : List (List ℕ) = lists_of c.self.inside.registers.items in
-    kept_none c.get.result c.self.inside.past.items c.args.n (length c.args.self.now.past) c.get.ensures (omega (arith, length-tables_after t (map inverse c.self.inside.past.items), length-map c.self.inside.past.items inverse, ap (λ (h : History (List ℕ)). length h.past) c.self.view_is))
+    kept_none c.get.result c.self.inside.past.items c.args.n (length c.args.self.now.past) c.get.ensures
+    (omega (
+      arith,
+      length-tables_after t (map inverse c.self.inside.past.items),
+      length-map c.self.inside.past.items inverse,
+      ap (λ (h : History (List ℕ)). length h.past) c.self.view_is,
+    ))
 
 pub returns-clause-leads : goal.returns-clause-leads
 returns-clause-leads c =
     let t : List (List ℕ) = lists_of c.self.inside.registers.items in
     kept_some c.get.result c.self.inside.past.items c.args.n
-    (λ (d : Diff). (λ (k : History (List ℕ)). Leads d (table_at (k.now ∷ k.past) (c.args.n + 1)) (table_at (k.now ∷ k.past) c.args.n)) c.args.self.now)
+    (λ (d : Diff). (λ (k : History (List ℕ)). Leads d (table_at (k.now ∷ k.past) (c.args.n + 1))
+    (table_at (k.now ∷ k.past) c.args.n)) c.args.self.now)
     c.get.ensures
-    (λ d h. subst (λ (k : History (List ℕ)). Leads d (table_at (k.now ∷ k.past) (c.args.n + 1)) (table_at (k.now ∷ k.past) c.args.n)) c.self.view_is
-    (back_leads c.self.inside.limit t c.self.inside.past.items c.args.n d c.self.invariant.registers_within c.self.invariant.past_fits h))
+    (λ d h. subst (λ (k : History (List ℕ)). Leads d (table_at (k.now ∷ k.past) (c.args.n + 1))
+    (table_at (k.now ∷ k.past) c.args.n)) c.self.view_is
+    (back_leads c.self.inside.limit t c.self.inside.past.items c.args.n d c.self.invariant.registers_within
+    c.self.invariant.past_fits h))

@@ -1,4 +1,5 @@
-use Rattle.std.proofs.Common.{◌≡◌, ◌+◌, ◌<◌, ◌≤◌, ◌&&◌, ℕ, Bool, true, List, length, map, sym, ap, ◌∙◌, subst, arith}
+use Rattle.std.proofs.Common.{◌≡◌, ◌+◌, ◌<◌, ◌≤◌, ◌&&◌, ℕ, Bool, true, List, length, map, sym, ap, ◌∙◌}
+use Rattle.std.proofs.Common.{subst, arith}
 use Rattle.std.proofs.lemmas.List.{length-map}
 use Rattle.std.proofs.lemmas.Result.{err_from_is_err_and}
 use Rattle.circular_buffer.specs.Buffer.{Buffer}
@@ -13,20 +14,24 @@ use Rattle.s2edit.specs.Session.{diff, Restored, IsTooDeep, IsTooMany}
 use Rattle.s2edit.specs.Following.{FailsToFollow, Follows}
 use Rattle.s2edit.proofs.Contents.{turned, all_reverse}
 use Rattle.s2edit.proofs.Following.{have_room, keep_room, keep_count}
-use Rattle.s2edit.proofs.Restoring.{registers_within, follows, too_deep, too_many, past_fails, future_fails, not_three, three, back_side, ahead_side, left_within, left_past, left_future, left_bound, left_restored}
+use Rattle.s2edit.proofs.Restoring.{registers_within, follows, too_deep, too_many, past_fails, future_fails, not_three}
+use Rattle.s2edit.proofs.Restoring.{three, back_side, ahead_side, left_within, left_past, left_future, left_bound}
+use Rattle.s2edit.proofs.Restoring.{left_restored}
 use Rattle.s2edit.proofs.editor.Editor.restore.Goals as goal
 
-pub follow_back-requires : goal.follow_back-requires
-follow_back-requires c =
+pub fit_back-requires : goal.fit_back-requires
+fit_back-requires c =
     let s = c.args.session in
     rw (c.deref.ensures.value, c.deref-2.ensures.value) (record {
       count = sym (length-map s.registers.items (λ (u : Union). u.cells)) ∙ c.requires.count;
       within = registers_within (lists_of s.registers.items) c.requires.registers;
-      each = subst (AllByRecursion IsMoved) (sym (turned s.past.items c.reverse.new.self.items c.reverse.ensures.items)) (all_reverse IsMoved (map moved_of s.past.items) c.requires.past);
+      each = subst (AllByRecursion IsMoved)
+          (sym (turned s.past.items c.reverse.new.self.items c.reverse.ensures.items))
+          (all_reverse IsMoved (map moved_of s.past.items) c.requires.past);
     })
 
-pub follow_ahead-requires : goal.follow_ahead-requires
-follow_ahead-requires c =
+pub fit_ahead-requires : goal.fit_ahead-requires
+fit_ahead-requires c =
     let s = c.args.session in
     rw (c.deref-3.ensures.value, c.deref-4.ensures.value) (record {
       count = sym (length-map s.registers.items (λ (u : Union). u.cells)) ∙ c.requires.count;
@@ -40,31 +45,50 @@ returns-in_err-past_within-clause-answer c =
     let fault = c.in_err-past_within.field-0.0 in
     let p = err_from_is_err_and c.from_residual.result c.from_residual.ensures.1 in
     rw (p.1, p.2) (past_fails (content_of s) c.args.self.now fault
-    (back_side (λ (t : List (List ℕ)) (ds : List Diff). FailsToFollow fault (FitAlong SESSION_CELLS t ds)) s.registers.items c.deref.result.now c.reverse.new.self.items c.deref-2.result.now s.past.items
+    (back_side (λ (t : List (List ℕ)) (ds : List Diff). FailsToFollow fault (FitAlong SESSION_CELLS t ds))
+    s.registers.items c.deref.result.now c.reverse.new.self.items c.deref-2.result.now s.past.items
     c.deref.ensures.value c.deref-2.ensures.value c.reverse.ensures.items c.in_err-past_within.ensures))
 
 pub returns-in_err-future_within-clause-answer : goal.returns-in_err-future_within-clause-answer
 returns-in_err-future_within-clause-answer c =
     let s = c.args.session in
     let fault = c.in_err-future_within.field-0.0 in
-    let p = err_from_is_err_and c.from_residual-in_err-future_within.result c.from_residual-in_err-future_within.ensures.1 in
+    let p = err_from_is_err_and c.from_residual-in_err-future_within.result
+    c.from_residual-in_err-future_within.ensures.1 in
     rw (p.1, p.2) (future_fails (content_of s) c.args.self.now fault
-    (ahead_side (λ (t : List (List ℕ)) (ds : List Diff). FailsToFollow fault (FitAlong SESSION_CELLS t ds)) s.registers.items c.deref-3.result.now s.future.items c.deref-4.result.now
+    (ahead_side (λ (t : List (List ℕ)) (ds : List Diff). FailsToFollow fault (FitAlong SESSION_CELLS t ds))
+    s.registers.items c.deref-3.result.now s.future.items c.deref-4.result.now
     c.deref-3.ensures.value c.deref-4.ensures.value c.in_err-future_within.ensures))
 
 pub returns-then-len-self-clause-answer : goal.returns-then-len-self-clause-answer
 returns-then-len-self-clause-answer c =
     let s = c.args.session in
     let e = c.self.inside in
-    let a = back_side (λ (t : List (List ℕ)) (ds : List Diff). Follows e.limit t ds c.in_ok-past_within.past_within) s.registers.items c.deref.result.now c.reverse.new.self.items c.deref-2.result.now s.past.items
+    let a = back_side (λ (t : List (List ℕ)) (ds : List Diff).
+    Follows e.limit t ds c.in_ok-past_within.past_within) s.registers.items c.deref.result.now
+    c.reverse.new.self.items c.deref-2.result.now s.past.items
     c.deref.ensures.value c.deref-2.ensures.value c.reverse.ensures.items c.in_ok-past_within.ensures in
-    let b = ahead_side (λ (t : List (List ℕ)) (ds : List Diff). Follows e.limit t ds c.in_ok-future_within.future_within) s.registers.items c.deref-3.result.now s.future.items c.deref-4.result.now
+    let b = ahead_side (λ (t : List (List ℕ)) (ds : List Diff).
+    Follows e.limit t ds c.in_ok-future_within.future_within) s.registers.items c.deref-3.result.now
+    s.future.items c.deref-4.result.now
     c.deref-3.ensures.value c.deref-4.ensures.value c.in_ok-future_within.ensures in
     let deep : e.depth < length (map moved_of s.past.items) + length (map moved_of s.future.items) =
-    omega (arith, c.if-len-self.true, c.len.ensures, c.len-2.ensures, c.reverse.ensures.len, s.past.ok, s.future.ok, c.reverse.new.self.ok, length-map s.past.items moved_of, length-map s.future.items moved_of) in
+    omega (
+      arith,
+      c.if-len-self.true,
+      c.len.ensures,
+      c.len-2.ensures,
+      c.reverse.ensures.len,
+      s.past.ok,
+      s.future.ok,
+      c.reverse.new.self.ok,
+      length-map s.past.items moved_of,
+      length-map s.future.items moved_of,
+    ) in
     subst (IsTooDeep (content_of s)) c.self.view_is
     (too_deep (content_of s) c.requires (history e.limit e.depth e.registers.items e.past.items e.future.items)
-    (follows (content_of s) c.requires e.limit c.in_ok-past_within.past_within c.in_ok-future_within.future_within a b) deep)
+    (follows (content_of s) c.requires e.limit c.in_ok-past_within.past_within c.in_ok-future_within.future_within
+    a b) deep)
 
 pub returns-then-not-both-clause-answer : goal.returns-then-not-both-clause-answer
 returns-then-not-both-clause-answer c =
@@ -72,31 +96,53 @@ returns-then-not-both-clause-answer c =
     let e = c.self.inside in
     let p = c.in_ok-past_within.past_within in
     let f = c.in_ok-future_within.future_within in
-    let a = back_side (λ (t : List (List ℕ)) (ds : List Diff). Follows e.limit t ds p) s.registers.items c.deref.result.now c.reverse.new.self.items c.deref-2.result.now s.past.items
+    let a = back_side (λ (t : List (List ℕ)) (ds : List Diff). Follows e.limit t ds p) s.registers.items
+    c.deref.result.now c.reverse.new.self.items c.deref-2.result.now s.past.items
     c.deref.ensures.value c.deref-2.ensures.value c.reverse.ensures.items c.in_ok-past_within.ensures in
-    let b = ahead_side (λ (t : List (List ℕ)) (ds : List Diff). Follows e.limit t ds f) s.registers.items c.deref-3.result.now s.future.items c.deref-4.result.now
+    let b = ahead_side (λ (t : List (List ℕ)) (ds : List Diff). Follows e.limit t ds f) s.registers.items
+    c.deref-3.result.now s.future.items c.deref-4.result.now
     c.deref-3.ensures.value c.deref-4.ensures.value c.in_ok-future_within.ensures in
     let kept : length (map moved_of s.past.items) + length (map moved_of s.future.items) ≤ e.depth =
-    omega (arith, c.if-len-self.false, c.len.ensures, c.len-2.ensures, c.reverse.ensures.len, s.past.ok, s.future.ok, c.reverse.new.self.ok, length-map s.past.items moved_of, length-map s.future.items moved_of) in
-    let failed = sym (c.both.ensures ∙ ap (λ (x : Bool). x && c.are_within.result) c.both-changes_within.ensures) ∙ c.if-not-both.true in
+    omega (
+      arith,
+      c.if-len-self.false,
+      c.len.ensures,
+      c.len-2.ensures,
+      c.reverse.ensures.len,
+      s.past.ok,
+      s.future.ok,
+      c.reverse.new.self.ok,
+      length-map s.past.items moved_of,
+      length-map s.future.items moved_of,
+    ) in
+    let failed = sym (c.both.ensures ∙ ap (λ (x : Bool). x && c.are_within.result) c.both-changes_within.ensures)
+    ∙ c.if-not-both.true in
     subst (IsTooMany (content_of s)) c.self.view_is
-    (too_many (content_of s) c.requires (history e.limit e.depth e.registers.items e.past.items e.future.items) (follows (content_of s) c.requires e.limit p f a b) kept
+    (too_many (content_of s) c.requires (history e.limit e.depth e.registers.items e.past.items e.future.items)
+    (follows (content_of s) c.requires e.limit p f a b) kept
     (λ now past future. not_three p f c.are_within.result failed (a.many past) (b.many future)
-    (c.are_within.ensures.1 (subst (λ (us : List Union). AllLists (λ u. length u ≤ e.limit) (lists_of us)) (sym c.deref-5.ensures.value) now))))
+    (c.are_within.ensures.1 (subst (λ (us : List Union). AllLists (λ u. length u ≤ e.limit) (lists_of us))
+    (sym c.deref-5.ensures.value) now))))
 
-pub copy_all-requires : goal.copy_all-requires
-copy_all-requires c =
+pub take_all-requires : goal.take_all-requires
+take_all-requires c =
     let s = c.args.session in
     let e = c.self.inside in
-    let passed = sym (c.both.ensures ∙ ap (λ (x : Bool). x && c.are_within.result) c.both-changes_within.ensures) ∙ c.if-not-both.false in
+    let passed = sym (c.both.ensures ∙ ap (λ (x : Bool). x && c.are_within.result) c.both-changes_within.ensures)
+    ∙ c.if-not-both.false in
     let few = subst (λ (us : List Union). AllLists (λ u. length u ≤ e.limit) (lists_of us)) c.deref-5.ensures.value
-    (c.are_within.ensures.0 (three c.in_ok-past_within.past_within c.in_ok-future_within.future_within c.are_within.result passed).2) in
-    record { room = rw c.deref-6.ensures.value (have_room e.limit (lists_of s.registers.items) e.registers.items (c.requires.count ∙ sym c.self.invariant.count) few c.self.invariant.registers_roomy) }
+    (c.are_within.ensures.0 (three c.in_ok-past_within.past_within c.in_ok-future_within.future_within
+    c.are_within.result passed).2) in
+    record {
+      room = have_room e.limit (lists_of s.registers.items) e.registers.items
+          (c.requires.count ∙ sym c.self.invariant.count) few c.self.invariant.registers_roomy;
+    }
 
 pub fill-requires-clause-each : goal.fill-requires-clause-each
 fill-requires-clause-each c =
     let s = c.args.session in
-    subst (AllByRecursion IsMoved) (sym (turned s.past.items c.reverse.new.self.items c.reverse.ensures.items)) (all_reverse IsMoved (map moved_of s.past.items) c.requires.past)
+    subst (AllByRecursion IsMoved) (sym (turned s.past.items c.reverse.new.self.items c.reverse.ensures.items))
+    (all_reverse IsMoved (map moved_of s.past.items) c.requires.past)
 
 -- what is known once everything was taken over
 pub record Taken (limit depth : ℕ) (us us' : List Union) (past' future' : List Diff) (s : Content) : Type 0 where
@@ -104,42 +150,67 @@ pub record Taken (limit depth : ℕ) (us us' : List Union) (past' future' : List
   pub past : FitAlong limit (lists_of us') (map inverse past')
   pub future : FitAlong limit (lists_of us') future'
   pub bound : length past' + length future' ≤ depth
-  pub restored : (past future : List Diff) → Restored s (history limit depth us past future) (history limit depth us' past' future')
+  pub restored : (past future : List Diff) → Restored s (history limit depth us past future)
+      (history limit depth us' past' future')
 
-taken : (c : goal.After-drop-registers-2) → Taken c.self.inside.limit c.self.inside.depth c.self.inside.registers.items c.copy_all.new.unions.items c.fill.new.ring.items c.fill-2.new.ring.items (content_of c.args.session)
+taken : (c : goal.After-drop-registers-2) → Taken c.self.inside.limit c.self.inside.depth
+    c.self.inside.registers.items c.take_all.new.unions.items c.fill.new.ring.items c.fill-2.new.ring.items
+    (content_of c.args.session)
 taken c =
     let s = c.args.session in
     let e = c.self.inside in
     let p = c.in_ok-past_within.past_within in
     let f = c.in_ok-future_within.future_within in
     let r = c.are_within.result in
-    let us' = c.copy_all.new.unions.items in
+    let us' = c.take_all.new.unions.items in
     let past' = c.fill.new.ring.items in
     let future' = c.fill-2.new.ring.items in
-    let a = back_side (λ (t : List (List ℕ)) (ds : List Diff). Follows e.limit t ds p) s.registers.items c.deref.result.now c.reverse.new.self.items c.deref-2.result.now s.past.items
+    let a = back_side (λ (t : List (List ℕ)) (ds : List Diff). Follows e.limit t ds p) s.registers.items
+    c.deref.result.now c.reverse.new.self.items c.deref-2.result.now s.past.items
     c.deref.ensures.value c.deref-2.ensures.value c.reverse.ensures.items c.in_ok-past_within.ensures in
-    let b = ahead_side (λ (t : List (List ℕ)) (ds : List Diff). Follows e.limit t ds f) s.registers.items c.deref-3.result.now s.future.items c.deref-4.result.now
+    let b = ahead_side (λ (t : List (List ℕ)) (ds : List Diff). Follows e.limit t ds f) s.registers.items
+    c.deref-3.result.now s.future.items c.deref-4.result.now
     c.deref-3.ensures.value c.deref-4.ensures.value c.in_ok-future_within.ensures in
     let kept : length (map moved_of s.past.items) + length (map moved_of s.future.items) ≤ e.depth =
-    omega (arith, c.if-len-self.false, c.len.ensures, c.len-2.ensures, c.reverse.ensures.len, s.past.ok, s.future.ok, c.reverse.new.self.ok, length-map s.past.items moved_of, length-map s.future.items moved_of) in
+    omega (
+      arith,
+      c.if-len-self.false,
+      c.len.ensures,
+      c.len-2.ensures,
+      c.reverse.ensures.len,
+      s.past.ok,
+      s.future.ok,
+      c.reverse.new.self.ok,
+      length-map s.past.items moved_of,
+      length-map s.future.items moved_of,
+    ) in
     let passed = sym (c.both.ensures ∙ ap (λ (x : Bool). x && r) c.both-changes_within.ensures) ∙ c.if-not-both.false in
-    let few = λ (h : r ≡ true). subst (λ (us : List Union). AllLists (λ u. length u ≤ e.limit) (lists_of us)) c.deref-5.ensures.value (c.are_within.ensures.0 h) in
-    let lists = c.copy_all.ensures.lists ∙ ap lists_of c.deref-6.ensures.value in
-    let past_is = ap (λ (b : Buffer Diff). b.items) c.fill.ensures ∙ ap (map diff) (turned s.past.items c.reverse.new.self.items c.reverse.ensures.items) in
+    let few = λ (h : r ≡ true). subst (λ (us : List Union). AllLists (λ u. length u ≤ e.limit) (lists_of us))
+    c.deref-5.ensures.value (c.are_within.ensures.0 h) in
+    let lists = c.take_all.ensures.lists in
+    let past_is = ap (λ (b : Buffer Diff). b.items) c.fill.ensures
+    ∙ ap (map diff) (turned s.past.items c.reverse.new.self.items c.reverse.ensures.items) in
     let future_is = ap (λ (b : Buffer Diff). b.items) c.fill-2.ensures in
     record {
-      within = left_within e.limit e.depth e.registers.items us' past' future' (content_of s) c.requires lists past_is future_is p f r passed a b few kept;
-      past = left_past e.limit e.depth e.registers.items us' past' future' (content_of s) c.requires lists past_is future_is p f r passed a b few kept;
-      future = left_future e.limit e.depth e.registers.items us' past' future' (content_of s) c.requires lists past_is future_is p f r passed a b few kept;
-      bound = left_bound e.limit e.depth e.registers.items us' past' future' (content_of s) c.requires lists past_is future_is p f r passed a b few kept;
-      restored = left_restored e.limit e.depth e.registers.items us' past' future' (content_of s) c.requires lists past_is future_is p f r passed a b few kept;
+      within = left_within e.limit e.depth e.registers.items us' past' future' (content_of s) c.requires lists
+          past_is future_is p f r passed a b few kept;
+      past = left_past e.limit e.depth e.registers.items us' past' future' (content_of s) c.requires lists past_is
+          future_is p f r passed a b few kept;
+      future = left_future e.limit e.depth e.registers.items us' past' future' (content_of s) c.requires lists
+          past_is future_is p f r passed a b few kept;
+      bound = left_bound e.limit e.depth e.registers.items us' past' future' (content_of s) c.requires lists
+          past_is future_is p f r passed a b few kept;
+      restored = left_restored e.limit e.depth e.registers.items us' past' future' (content_of s) c.requires lists
+          past_is future_is p f r passed a b few kept;
     }
 
 pub returns-clause-answer : goal.returns-clause-answer
 returns-clause-answer c =
     let e = c.self.inside in
-    let new : History (List ℕ) = history e.limit e.depth c.copy_all.new.unions.items c.fill.new.ring.items c.fill-2.new.ring.items in
-    subst (λ (h : History (List ℕ)). Restored (content_of c.args.session) h new) c.self.view_is ((taken c).restored e.past.items e.future.items)
+    let new : History (List ℕ) = history e.limit e.depth c.take_all.new.unions.items c.fill.new.ring.items
+    c.fill-2.new.ring.items in
+    subst (λ (h : History (List ℕ)). Restored (content_of c.args.session) h new) c.self.view_is
+    ((taken c).restored e.past.items e.future.items)
 
 pub invariant_of-self : goal.invariant_of-self
 invariant_of-self c =
@@ -149,13 +220,14 @@ invariant_of-self c =
     record {
       limit_bound = i.limit_bound;
       depth_most = i.depth_most;
-      count = sym (keep_count e.registers.items c.copy_all.new.unions.items c.copy_all.ensures.rooms) ∙ i.count;
+      count = sym (keep_count e.registers.items c.take_all.new.unions.items c.take_all.ensures.rooms) ∙ i.count;
       past_room = ap (λ (b : Buffer Diff). b.capacity) c.fill.ensures ∙ i.past_room;
       future_room = ap (λ (b : Buffer Diff). b.capacity) c.fill-2.ensures ∙ i.future_room;
       depth_bound = t.bound;
       registers_within = t.within;
       past_fits = t.past;
       future_fits = t.future;
-      registers_roomy = keep_room e.limit e.registers.items c.copy_all.new.unions.items c.copy_all.ensures.rooms i.registers_roomy;
+      registers_roomy = keep_room e.limit e.registers.items c.take_all.new.unions.items c.take_all.ensures.rooms
+          i.registers_roomy;
       scratch_roomy = i.scratch_roomy;
     }

@@ -10,12 +10,17 @@ pub returns-clause-tells : goal.returns-clause-tells
 returns-clause-tells c =
     let e = c.self.inside in
     let i = c.self.invariant in
-    let s : Content = record { registers = lists_of c.in_ok-registers.registers.items; past = map moved_of c.reverse.new.self.items; future = map moved_of c.in_ok-future.future.items } in
+    let s : Content = record {
+      registers = lists_of c.in_ok-registers.registers.items;
+      past = map moved_of c.reverse.new.self.items;
+      future = map moved_of c.in_ok-future.future.items;
+    } in
     subst (Tells s) c.self.view_is
     (session_tells e.limit e.depth e.registers.items e.past.items e.future.items s
     (c.in_ok-registers.ensures ∙ ap lists_of c.deref.ensures.value)
     (turned c.in_ok-past.past.items c.reverse.new.self.items c.reverse.ensures.items ∙ ap reverse c.in_ok-past.ensures)
-    c.in_ok-future.ensures i.limit_bound i.depth_most i.count i.depth_bound i.registers_within i.past_fits i.future_fits)
+    c.in_ok-future.ensures i.limit_bound i.depth_most i.count i.depth_bound i.registers_within i.past_fits
+    i.future_fits)
 
 pub returns-clause-content : goal.returns-clause-content
 returns-clause-content c = told_content _ c.args.self.now (returns-clause-tells c)

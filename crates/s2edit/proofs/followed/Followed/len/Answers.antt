@@ -1,21 +1,24 @@
 use Rattle.std.proofs.Common.{length, ap, arith}
-use Rattle.s2edit.specs.Followed.{start_of}
 use Rattle.s2edit.proofs.InTurn.{length_without, length_applied}
 use Rattle.s2edit.proofs.followed.Followed.len.Goals as goal
 
 pub overflow_sub-result : goal.overflow_sub-result
 overflow_sub-result c =
-    let own = c.self.inside.own in
-    omega (arith, length_without c.self.inside.out.items c.self.inside.put.items (start_of own c.self.inside.lent.now) c.self.invariant.local c.self.invariant.fits, ap length c.start.ensures, ap length c.cells.ensures.value)
+    omega (
+      arith,
+      length_without c.self.inside.out.items c.self.inside.put.items
+          c.self.inside.start.cells c.self.invariant.local c.self.invariant.fits,
+      ap length c.cells.ensures.value,
+    )
 
 pub returns : goal.returns
 returns c =
-    let own = c.self.inside.own in
     omega (
       arith,
-      length_applied c.self.inside.out.items c.self.inside.put.items (start_of own c.self.inside.lent.now) c.self.invariant.local c.self.invariant.fits,
-      length_without c.self.inside.out.items c.self.inside.put.items (start_of own c.self.inside.lent.now) c.self.invariant.local c.self.invariant.fits,
-      ap length c.start.ensures,
+      length_applied c.self.inside.out.items c.self.inside.put.items c.self.inside.start.cells
+          c.self.invariant.local c.self.invariant.fits,
+      length_without c.self.inside.out.items c.self.inside.put.items c.self.inside.start.cells
+          c.self.invariant.local c.self.invariant.fits,
       ap length c.cells.ensures.value,
       ap length c.self.view_is,
     )

@@ -9,7 +9,8 @@ pub returns-then-not-is_empty : goal.returns-then-not-is_empty
 returns-then-not-is_empty c =
     let rest = c.loop-at.self-inside.rest.now in
     let some : 0 < length (take c.in-Some.at rest) = grind (arith, common_steps) in
-    sym c.loop-at.invariant ∙ words_at rest c.in-Some.at c.in-Some.ensures.some ∙ with_word-some (take c.in-Some.at rest) _ some
+    sym c.loop-at.invariant ∙ words_at rest c.in-Some.at c.in-Some.ensures.some
+    ∙ with_word-some (take c.in-Some.at rest) _ some
     ∙ ap (λ r. take c.in-Some.at rest ∷ words r) (sym (take_rest rest (c.in-Some.at + 1)))
 
 pub returns : goal.returns

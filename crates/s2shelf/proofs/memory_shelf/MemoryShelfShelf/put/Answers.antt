@@ -14,7 +14,9 @@ returns-in-Ok-clause-answer c =
     let key : string_bytes c.in_ok-name.name ≡ c.args.name.now = search rules in
     record {
       tells = refl;
-      there = λ _. put_there (λ b. b.items) (get_by_text old) (get_by_text new) _ c.args.name.now bytes c.args.bytes.now after key (search rules);
-      others = λ _ other ne. put_elsewhere (λ b. b.items) (get_by_text old) (get_by_text new) _ _ other bytes after key ne;
+      there = λ _. put_there (λ b. b.items) (get_by_text old) (get_by_text new) _ c.args.name.now bytes
+          c.args.bytes.now after key (search rules);
+      others = λ _ other ne. put_elsewhere (λ b. b.items) (get_by_text old) (get_by_text new) _ _ other bytes after
+          key ne;
       failures = search rules;
     }

@@ -8,7 +8,10 @@ invariant_of-result c =
     elim c.if-not-is_empty.branch [
       | then-not-is_empty w ↦
           rw (w.level-is, w.count-is)
-          (underway c.args.cells.now c.args.min c.args.modulus w.level-own.result w.level_to_cut-level.result _ w.index-cells-0.result c.requires.min c.requires.some c.requires.modulus
-          (some_from_test _ _ c.is_empty.ensures w.if-not-is_empty.true) w.index-cells-0.is w.level-own.ensures.value w.level_to_cut-level.ensures.value refl)
-      | else-not-is_empty w ↦ underway_none _ _ _ _ _ c.requires.min c.requires.some c.requires.modulus (none_from_test _ _ c.is_empty.ensures w.if-not-is_empty.false)
+          (underway c.args.cells.now c.args.min c.args.modulus w.level-own.result w.level_to_cut-level.result _
+          w.index-cells-0.result c.requires.min c.requires.some c.requires.modulus
+          (some_from_test _ _ c.is_empty.ensures w.if-not-is_empty.true) w.index-cells-0.is
+          w.level-own.ensures.value w.level_to_cut-level.ensures.value refl)
+      | else-not-is_empty w ↦ underway_none _ _ _ _ _ c.requires.min c.requires.some c.requires.modulus
+          (none_from_test _ _ c.is_empty.ensures w.if-not-is_empty.false)
     ]

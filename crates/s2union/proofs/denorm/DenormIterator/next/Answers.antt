@@ -14,7 +14,8 @@ returns-then-is_empty-clause-steps c =
 pub descendant-item-requires-clause-own : goal.descendant-item-requires-clause-own
 descendant-item-requires-clause-own c =
     let some : 0 < length c.self.inside.cells.now = some_from_test _ _ c.is_empty.ensures c.if-is_empty.false in
-    rw (← c.index-self-0.is) (underway_level _ _ _ _ _ _ c.index-self-0.result c.self.invariant some c.index-self-0.is).0
+    rw (← c.index-self-0.is) (underway_level _ _ _ _ _ _ c.index-self-0.result c.self.invariant some
+    c.index-self-0.is).0
 
 pub descendant-item-requires-clause-deepest : goal.descendant-item-requires-clause-deepest
 descendant-item-requires-clause-deepest c =
@@ -25,14 +26,18 @@ pub returns-clause-steps : goal.returns-clause-steps
 returns-clause-steps c =
     let some : 0 < length c.self.inside.cells.now = some_from_test _ _ c.is_empty.ensures c.if-is_empty.false in
     let item : descendant_of c.index-self-0.result c.self.inside.level c.self.inside.number ≡ c.descendant-item.result =
-    ap (λ x. descendant_of x c.self.inside.level c.self.inside.number) c.index-self-0.is ∙ sym c.descendant-item.ensures.value in
-    let now : c.args.self.now ≡ c.descendant-item.result ∷ drop (c.self.inside.number + 1) (denormalised c.self.inside.min c.self.inside.modulus c.self.inside.cells.now) =
+    ap (λ x. descendant_of x c.self.inside.level c.self.inside.number) c.index-self-0.is
+    ∙ sym c.descendant-item.ensures.value in
+    let now : c.args.self.now ≡ c.descendant-item.result ∷ drop (c.self.inside.number + 1)
+    (denormalised c.self.inside.min c.self.inside.modulus c.self.inside.cells.now) =
     sym c.self.view_is ∙ items_next _ _ _ _ _ _ c.index-self-0.result c.self.invariant some c.index-self-0.is
-    ∙ ap (λ x. x ∷ drop (c.self.inside.number + 1) (denormalised c.self.inside.min c.self.inside.modulus c.self.inside.cells.now)) item in
+    ∙ ap (λ x. x ∷ drop (c.self.inside.number + 1)
+    (denormalised c.self.inside.min c.self.inside.modulus c.self.inside.cells.now)) item in
     elim c.if-self.branch [
       | then-self w ↦
           let rest = items_last _ _ _ _ _ _ c.self.invariant some w.if-self.true in
-          now ∙ ap (λ x. c.descendant-item.result ∷ x) (rest ∙ sym w.over.ensures ∙ sym w.self-then-self.view_is ∙ sym w.self-is)
+          now ∙ ap (λ x. c.descendant-item.result ∷ x) (rest ∙ sym w.over.ensures ∙ sym w.self-then-self.view_is
+          ∙ sym w.self-is)
       | else-self w ↦ now ∙ ap (λ x. c.descendant-item.result ∷ x) (sym w.self-is)
     ]
 

@@ -6,4 +6,5 @@ use Rattle.s2union.proofs.union.CellUnion.intersection.Goals as goal
 
 pub returns-clause-normal : goal.returns-clause-normal
 returns-clause-normal c =
-    normal_from_leaves (shared (has_leaf c.args.self.now.cells) (has_leaf c.args.other.now.cells)) _ c.in_ok-share.ensures.local (search rules)
+    normal_from_leaves (shared (has_leaf c.args.self.now.cells) (has_leaf c.args.other.now.cells)) _
+    c.in_ok-share.ensures.local (search rules)

@@ -1,0 +1,90 @@
+//! How long the registers' lists get along changes.
+ghost use Rattle.std.specs.Prelude.{◌≡◌, ◌<◌, length, map, slice_set, IfOk};
+ghost use Rattle.std.specs.Prelude.{◌+◌, ◌-◌, ◌^◌, min, slice_index_or};
+ghost use Rattle.std.specs.List.{AllByRecursion};
+ghost use Rattle.s2file.specs.Session.{moved_of, IsMoved};
+ghost use Rattle.s2edit.specs.Diff.{inverse};
+ghost use Rattle.s2edit.specs.Chain.{lists_of};
+ghost use Rattle.s2edit.specs.Part.{longest};
+ghost use Rattle.s2edit.specs.Session.{diff};
+
+use crate::REGISTERS;
+use crate::register::Register;
+use s2file::Move;
+use s2union::CellUnion;
+use std::alloc::{AllocError, Global};
+
+/// The greatest number of cells that a register's list has after one of the changes, if they can be made one after
+/// another. 0 if there are no changes.
+pub(crate) fn longest_ahead(
+    alloc: Global,
+    registers: &[CellUnion],
+    moves: &[Move],
+) -> Result<usize, AllocError>
+    requires count { length registers.now ≡ REGISTERS }
+    requires each { AllByRecursion IsMoved (map moved_of moves.now) }
+    ensures { IfOk result (λ most. most ≡ longest (map length (lists_of registers.now))
+        (map diff (map moved_of moves.now))) }
+{
+    let mut lengths = lengths_of(alloc, registers)?;
+    let mut most = 0;
+    for change in moves {
+        let length = resize(
+            &mut lengths,
+            change.register,
+            change.out.len(),
+            change.put.len(),
+        );
+        most = length.max(most);
+    }
+    Ok(most)
+}
+
+/// The same for the inverse changes.
+pub(crate) fn longest_back(
+    alloc: Global,
+    registers: &[CellUnion],
+    moves: &[Move],
+) -> Result<usize, AllocError>
+    requires count { length registers.now ≡ REGISTERS }
+    requires each { AllByRecursion IsMoved (map moved_of moves.now) }
+    ensures { IfOk result (λ most. most ≡ longest (map length (lists_of registers.now))
+        (map inverse (map diff (map moved_of moves.now)))) }
+{
+    let mut lengths = lengths_of(alloc, registers)?;
+    let mut most = 0;
+    for change in moves {
+        let length = resize(
+            &mut lengths,
+            change.register,
+            change.put.len(),
+            change.out.len(),
+        );
+        most = length.max(most);
+    }
+    Ok(most)
+}
+
+/// Updates the length of a register's list for a change, and answers the new length.
+fn resize(lengths: &mut Vec<usize>, register: u8, out: usize, put: usize) -> usize
+    requires count { length lengths.old.items ≡ REGISTERS }
+    requires register { register < REGISTERS }
+    ensures value { result ≡ min (slice_index_or lengths.old.items register 0 + put) (2 ^ 64 - 1) - out }
+    ensures lengths { lengths.new.items ≡ slice_set lengths.old.items register result }
+{
+    let place = Register::at(register).index();
+    let length = lengths[place].saturating_add(put).saturating_sub(out);
+    lengths[place] = length;
+    length
+}
+
+/// How many cells each list has.
+fn lengths_of(alloc: Global, registers: &[CellUnion]) -> Result<Vec<usize>, AllocError>
+    ensures { IfOk result (λ lengths. lengths.items ≡ map length (lists_of registers.now)) }
+{
+    let mut lengths = Vec::with_capacity(alloc, registers.len())?;
+    for register in registers {
+        lengths.push(register.len())?;
+    }
+    Ok(lengths)
+}

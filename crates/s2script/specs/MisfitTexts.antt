@@ -1,0 +1,47 @@
+-- What is printed for a line that does not fit.
+use Rattle.std.specs.Prelude.{ℕ, List, ◌++◌, codes, decimal, flat_map, encode_utf8_all}
+use Rattle.std.specs.Char.Escape.{escape_ascii}
+use Rattle.s2script.specs.declared.misfit.Wanted.{Wanted}
+use Rattle.s2script.specs.declared.misfit.Wanted.TheVariants.{CommandName, EndOfLine, Register, Cell, RangeEnd, Level}
+use Rattle.s2script.specs.declared.misfit.Wanted.TheVariants.{Modulus, Face, Coordinate, FileName}
+use Rattle.s2script.specs.declared.misfit.Misfit.{Misfit}
+use Rattle.s2script.specs.declared.misfit.Misfit.TheVariants.{LongLine, Missing, Unfit}
+use Rattle.s2script.specs.declared.limits.TheConstants.{GREATEST_FACE, GREATEST_LEVEL, GREATEST_MODULUS}
+use Rattle.s2script.specs.declared.limits.TheConstants.{GREATEST_COORDINATE, LONGEST_LINE, LONGEST_NAME}
+
+-- a byte as Rust's `escape_ascii` writes it: as it is, or escaped if it is a quote or a backslash or does not print
+abbrev pub shown_byte : ℕ → List ℕ
+shown_byte b = encode_utf8_all (escape_ascii b)
+
+-- a word between quotes
+abbrev pub word_text : List ℕ → List ℕ
+word_text word = codes "'" ++ flat_map shown_byte word ++ codes "'"
+
+-- a number of some kind, with its least and greatest value
+abbrev pub ranged : List ℕ → ℕ → ℕ → List ℕ
+ranged what least most = what ++ codes " (" ++ decimal least ++ codes " to " ++ decimal most ++ codes ")"
+
+-- what is wanted in the place of a word
+abbrev pub wanted_text : Wanted → List ℕ
+wanted_text CommandName = codes "a command"
+wanted_text EndOfLine = codes "the end of the line"
+wanted_text Register = codes "a register (a to z)"
+wanted_text Cell = codes "a cell (a token or a debug text)"
+wanted_text RangeEnd = codes "a second cell that does not end before the first begins"
+wanted_text Level = ranged (codes "a level") 0 GREATEST_LEVEL
+wanted_text Modulus = ranged (codes "a modulus") 1 GREATEST_MODULUS
+wanted_text Face = ranged (codes "a face") 0 GREATEST_FACE
+wanted_text (Coordinate least) = ranged (codes "a coordinate") least GREATEST_COORDINATE
+wanted_text FileName = codes "a file name (1 to " ++ decimal LONGEST_NAME
+    ++ codes " letters, digits, '.', '_' or '-', the first no '.' and no '-')"
+
+-- what is said about a word that is not what is wanted
+abbrev pub unfit_text : List ℕ → Wanted → List ℕ
+unfit_text word EndOfLine = word_text word ++ codes " is a word too many"
+unfit_text word wanted = word_text word ++ codes " is not " ++ wanted_text wanted
+
+-- the text that tells where a line does not fit
+abbrev pub misfit_text : Misfit → List ℕ
+misfit_text LongLine = codes "more than " ++ decimal LONGEST_LINE ++ codes " bytes"
+misfit_text (Missing wanted) = wanted_text wanted ++ codes " is missing"
+misfit_text (Unfit word wanted) = unfit_text word wanted

@@ -1,0 +1,106 @@
+//! What is printed for a line that does not fit. Each `Display` writes the text that the definitions give.
+ghost use Rattle.std.specs.Prelude.{flat_map};
+ghost use Rattle.std.specs.Fmt.{WritesOnOk};
+ghost use Rattle.s2script.specs.MisfitTexts.{shown_byte, ranged};
+
+use crate::limits::{
+    GREATEST_COORDINATE, GREATEST_FACE, GREATEST_LEVEL, GREATEST_MODULUS, LONGEST_LINE,
+    LONGEST_NAME,
+};
+use crate::misfit::{Misfit, Wanted};
+use crate::words::Word;
+use std::fmt;
+
+/// Writes a byte as `escape_ascii` does.
+fn write_byte<W: fmt::Write>(byte: u8, f: &mut fmt::Formatter<W>) -> fmt::Result
+    ensures { WritesOnOk W.write_str_gives f.old result (shown_byte byte) f.new }
+{
+    let mut rest = byte.escape_ascii();
+    'escape: while let Some(escaped) = rest.next() {
+        f.write_char(char::from(escaped))?;
+    }
+    Ok(())
+}
+
+/// Writes each of the bytes as `escape_ascii` does.
+fn write_bytes<W: fmt::Write>(bytes: &[u8], f: &mut fmt::Formatter<W>) -> fmt::Result
+    ensures { WritesOnOk W.write_str_gives f.old result (flat_map shown_byte bytes.now) f.new }
+{
+    for byte in bytes {
+        write_byte(*byte, f)?;
+    }
+    Ok(())
+}
+
+/// Writes what a number stands for, and its least and greatest value.
+fn write_ranged<W: fmt::Write>(
+    what: &str,
+    least: u64,
+    most: u64,
+    f: &mut fmt::Formatter<W>,
+) -> fmt::Result
+    ensures { WritesOnOk W.write_str_gives f.old result (ranged what.now least most) f.new }
+{
+    write!(f, "{what} ({least} to {most})")
+}
+
+impl<'a> fmt::Display for Word<'a> {
+    ghost use Rattle.std.specs.Prelude.{Some};
+    ghost use Rattle.s2script.specs.MisfitTexts.{word_text};
+
+    ghost output = { λ word. Some (word_text word) };
+
+    fn fmt<W: fmt::Write>(&self, f: &mut fmt::Formatter<W>) -> fmt::Result {
+        f.write_str("'")?;
+        write_bytes(self.as_bytes(), f)?;
+        f.write_str("'")
+    }
+}
+
+impl fmt::Display for Wanted {
+    ghost use Rattle.std.specs.Prelude.{Some};
+    ghost use Rattle.s2script.specs.MisfitTexts.{wanted_text};
+
+    ghost output = { λ wanted. Some (wanted_text wanted) };
+
+    fn fmt<W: fmt::Write>(&self, f: &mut fmt::Formatter<W>) -> fmt::Result {
+        match self {
+            Wanted::CommandName => f.write_str("a command"),
+            Wanted::EndOfLine => f.write_str("the end of the line"),
+            Wanted::Register => f.write_str("a register (a to z)"),
+            Wanted::Cell => f.write_str("a cell (a token or a debug text)"),
+            Wanted::RangeEnd => f.write_str(
+                "a second cell that does not end before the first begins",
+            ),
+            Wanted::Level => write_ranged("a level", 0, GREATEST_LEVEL, f),
+            Wanted::Modulus => write_ranged("a modulus", 1, GREATEST_MODULUS, f),
+            Wanted::Face => write_ranged("a face", 0, GREATEST_FACE, f),
+            Wanted::Coordinate { least } => {
+                write_ranged("a coordinate", u64::from(*least), GREATEST_COORDINATE, f)
+            }
+            Wanted::FileName => write!(
+                f,
+                "a file name (1 to {LONGEST_NAME} letters, digits, '.', '_' or '-', the first no '.' and no '-')"
+            ),
+        }
+    }
+}
+
+impl<'a> fmt::Display for Misfit<'a> {
+    ghost use Rattle.std.specs.Prelude.{Some};
+    ghost use Rattle.s2script.specs.MisfitTexts.{misfit_text};
+
+    ghost output = { λ misfit. Some (misfit_text misfit) };
+
+    fn fmt<W: fmt::Write>(&self, f: &mut fmt::Formatter<W>) -> fmt::Result {
+        match self {
+            Misfit::LongLine => write!(f, "more than {LONGEST_LINE} bytes"),
+            Misfit::Missing { wanted } => write!(f, "{wanted} is missing"),
+            Misfit::Unfit {
+                word,
+                wanted: Wanted::EndOfLine,
+            } => write!(f, "{word} is a word too many"),
+            Misfit::Unfit { word, wanted } => write!(f, "{word} is not {wanted}"),
+        }
+    }
+}

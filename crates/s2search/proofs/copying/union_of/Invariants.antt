@@ -1,0 +1,11 @@
+use Rattle.std.proofs.Common.{◌≡◌, ◌≤◌, take}
+use Rattle.std.specs.Vec.{vec_capacity}
+use Rattle.s2union.specs.Packed.{IsPacked}
+use Rattle.s2search.proofs.copying.union_of.Given as goal
+
+abbrev pub invariant-loop-k : goal.invariant-loop-k
+invariant-loop-k g l = record {
+  cells : l.cells.items ≡ take l.k (g.C.Cells.ids l.numbers);
+  packed : IsPacked (take l.k (g.C.Cells.ids l.numbers));
+  room : l.len ≤ vec_capacity l.cells;
+}

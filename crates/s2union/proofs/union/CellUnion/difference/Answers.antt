@@ -1,9 +1,0 @@
-use Rattle.std.proofs.Common.{rules}
-use Rattle.s2union.specs.Union.{has_leaf}
-use Rattle.s2union.specs.Sets.{without}
-use Rattle.s2union.proofs.Normal.{normal_from_leaves}
-use Rattle.s2union.proofs.union.CellUnion.difference.Goals as goal
-
-pub returns-clause-normal : goal.returns-clause-normal
-returns-clause-normal c =
-    normal_from_leaves (without (has_leaf c.args.self.now.cells) (has_leaf c.args.other.now.cells)) _ c.in_ok-subtract.ensures.local (search rules)

@@ -1,0 +1,134 @@
+/* The extension for PostgreSQL as its tests run it: s2union.c over an allocator that
+ *   - puts a guard after each block, and ends the session if one has been written over when the call ends,
+ *   - hides the guard from the address sanitizer or from valgrind, so that a read of it is caught too,
+ *   - refuses the allocation that s2_refuse(n) names: as the server does, or by telling the library that there is none,
+ *   - counts what a call leaves: s2_left(), the blocks of the call and the copies of its arguments that nobody freed.
+ * The build has rewritten each 'Datum NAME(PG_FUNCTION_ARGS)' of s2union.c to GUARDED(NAME). */
+#include "postgres.h"
+
+#include "access/gin.h"
+#include "access/stratnum.h"
+#include "catalog/pg_type.h"
+#include "common/hashfn.h"
+#include "fmgr.h"
+#include "libpq/pqformat.h"
+#include "nodes/primnodes.h"
+#include "utils/array.h"
+#include "utils/builtins.h"
+#include "utils/memutils.h"
+
+#ifdef __SANITIZE_ADDRESS__
+#include <sanitizer/asan_interface.h>
+#define HIDE(at, n) ASAN_POISON_MEMORY_REGION(at, n)
+#define SHOW(at, n) ASAN_UNPOISON_MEMORY_REGION(at, n)
+#else
+#include <valgrind/memcheck.h>
+#define HIDE(at, n) (void)VALGRIND_MAKE_MEM_NOACCESS(at, n)
+#define SHOW(at, n) (void)VALGRIND_MAKE_MEM_DEFINED(at, n)
+#endif
+
+enum { GUARD = 32, MOST = 1 << 20, MARK = 0xa5 };
+
+typedef struct Block {
+  char* at;
+  Size n;
+  int guard; /* none after a copy of an argument, which the server makes */
+} Block;
+
+static Block blocks[MOST];
+static int used, left;
+static int64 asked, refused = -1;
+
+static bool refuses(void) { return ++asked == refused; }
+
+static void* noted(void* at, Size n, int guard) {
+  if (used == MOST) elog(PANIC, "more blocks than the test can note");
+  memset((char*)at + n, MARK, guard);
+  HIDE((char*)at + n, guard);
+  blocks[used++] = (Block){at, n, guard};
+  return at;
+}
+
+static void look(const Block* b) {
+  SHOW(b->at + b->n, b->guard);
+  for (int k = 0; k < b->guard; k++)
+    if ((unsigned char)b->at[b->n + k] != MARK) elog(PANIC, "a block of %zu bytes is written over", b->n);
+}
+
+static void forget(void* at) {
+  for (int k = used - 1; k >= 0; k--)
+    if (blocks[k].at == at) {
+      look(&blocks[k]);
+      blocks[k] = blocks[--used];
+      return;
+    }
+}
+
+static void end_of_call(void) {
+  for (int k = 0; k < used; k++) look(&blocks[k]);
+  left = used;
+  used = 0;
+}
+
+static void* taken(MemoryContext context, Size n, int flags) {
+  if (refuses()) {
+    if (flags & MCXT_ALLOC_NO_OOM) return NULL;
+    ereport(ERROR, errcode(ERRCODE_OUT_OF_MEMORY), errmsg("out of memory"), errdetail("A test has refused it."));
+  }
+  void* at = MemoryContextAllocExtended(context, n + GUARD, flags);
+  return at ? noted(at, n, GUARD) : NULL;
+}
+
+static void* widened(void* at, Size n) {
+  if (refuses()) ereport(ERROR, errcode(ERRCODE_OUT_OF_MEMORY), errmsg("out of memory"));
+  forget(at);
+  return noted(repalloc_huge(at, n + GUARD), n, GUARD);
+}
+
+static void freed(void* at) {
+  forget(at);
+  pfree(at);
+}
+
+static struct varlena* detoasted(Datum datum) {
+  struct varlena *stored = (struct varlena*)DatumGetPointer(datum), *whole = pg_detoast_datum(stored);
+  return whole == stored ? whole : noted(whole, VARSIZE(whole), 0);
+}
+
+#define GUARDED(name) \
+  static Datum whole_##name(PG_FUNCTION_ARGS); \
+  Datum name(PG_FUNCTION_ARGS) { \
+    Datum answer = 0; \
+    PG_TRY(); \
+    { answer = whole_##name(fcinfo); } \
+    PG_FINALLY(); \
+    { end_of_call(); } \
+    PG_END_TRY(); \
+    return answer; \
+  } \
+  static Datum whole_##name(PG_FUNCTION_ARGS)
+
+/* s2_refuse(n): the n-th allocation from now on is refused; none if n is 0. Answers how many allocations there were
+ * since the last call of it. */
+PG_FUNCTION_INFO_V1(s2_refuse);
+Datum s2_refuse(PG_FUNCTION_ARGS) {
+  int64 were = asked;
+  asked = 0;
+  refused = PG_GETARG_INT64(0) > 0 ? PG_GETARG_INT64(0) : -1;
+  PG_RETURN_INT64(were);
+}
+
+PG_FUNCTION_INFO_V1(s2_left);
+Datum s2_left(PG_FUNCTION_ARGS) { PG_RETURN_INT32(left); }
+
+#define palloc(n) taken(CurrentMemoryContext, n, 0)
+#define palloc0(n) taken(CurrentMemoryContext, n, MCXT_ALLOC_ZERO)
+#define palloc_extended(n, flags) taken(CurrentMemoryContext, n, flags)
+#define MemoryContextAllocExtended(context, n, flags) taken(context, n, flags)
+#define MemoryContextAllocZero(context, n) taken(context, n, MCXT_ALLOC_ZERO)
+#define MemoryContextAllocHuge(context, n) taken(context, n, MCXT_ALLOC_HUGE)
+#define repalloc_huge(at, n) widened(at, n)
+#define pfree(at) freed(at)
+#undef PG_DETOAST_DATUM
+#define PG_DETOAST_DATUM(datum) detoasted(datum)
+#include "rewritten.c"
