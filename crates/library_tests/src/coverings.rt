@@ -1,4 +1,6 @@
 //! Worked examples of coverings.
+ghost use Rattle.std.specs.Prelude.{◌≤◌};
+
 use crate::even::Even;
 use crate::tokens::{is, of};
 use s2cover::{
