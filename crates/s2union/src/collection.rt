@@ -1,7 +1,7 @@
 //! A union as a collection of cells, with the traits that Rust's own collections have.
 //!
-//! There is no `Default` and no `FromIterator` without an allocator: `CellUnion::empty` and `CellUnion::from_cells` take
-//! their place.
+//! There is no `Default` and no `FromIterator` without an allocator: `CellUnion::empty` and `CellUnion::from_cells`
+//! take their place.
 ghost use Rattle.std.specs.Prelude.{◌≡◌, ◌<◌, ◌^◌, ℕ, length, nat_eq, vec_capacity};
 ghost use Rattle.std.specs.Cmp.{on_equiv, on_per, partial_equiv_from_equiv};
 ghost use Rattle.std.specs.Cmp.Lexicographic.{nat_list_eq_equiv, pointwise};

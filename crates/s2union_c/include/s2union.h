@@ -236,14 +236,14 @@ static inline const char* s2u_status_text(int32_t status) {
   switch (status) {
     case S2U_ROOM: return "too little room";
     case S2U_MEMORY: return "out of memory";
-    case S2U_NO_CELL: return "no cell";
-    case S2U_NO_UNION: return "no normalised list of cells";
+    case S2U_NO_CELL: return "not a cell";
+    case S2U_NO_UNION: return "not a normalized list of cells";
     case S2U_ARGUMENT: return "argument out of range";
     case S2U_MANY: return "too many cells";
     case S2U_FILE_SHORT: return "union file: bytes are missing";
     case S2U_FILE_VERSION: return "union file: unknown version";
     case S2U_FILE_TRAILING: return "union file: bytes after the last cell";
-    case S2U_FILE_CELL: return "union file: a number that is no cell";
+    case S2U_FILE_CELL: return "union file: a number that is not a cell";
     default: return status >= 0 ? "ok" : "unknown refusal";
   }
 }
