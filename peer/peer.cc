@@ -1,4 +1,5 @@
-// The proved library and S2 asked the same random questions: peer [CASES [SEED]]. It stops at the first answer that differs.
+// The proved library and S2 asked the same random questions: peer [CASES [SEED]]. It stops at the first answer that
+// differs.
 #include "rectangle.h"
 #include "sides.h"
 

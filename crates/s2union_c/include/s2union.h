@@ -94,7 +94,7 @@ uint64_t s2u_child(uint64_t id, uint32_t child);
 uint64_t s2u_range_min(uint64_t id);
 uint64_t s2u_range_max(uint64_t id);
 uint64_t s2u_size(uint64_t id);                           /* how many leaves it has, 1 to 4^30; 0: not a cell */
-uint64_t s2u_next(uint64_t id);                           /* the next cell of its level, across faces; 0 after the last */
+uint64_t s2u_next(uint64_t id);                           /* the next of its level, across faces; 0 after the last */
 uint64_t s2u_prev(uint64_t id);                           /* the one before; 0 before the first */
 /* The smallest cell that holds both; 0: they are on two faces, or one is not a cell. */
 uint64_t s2u_common_ancestor(uint64_t a, uint64_t b);
@@ -138,9 +138,9 @@ int32_t s2u_contains_cell(const uint64_t* ids, size_t n, uint64_t cell);   /* 1,
 int32_t s2u_intersects_cell(const uint64_t* ids, size_t n, uint64_t cell); /* the same: whether they share a leaf */
 /* The cells of the union that share a leaf with the cell: ids[*first .. *first + *count). log n steps. */
 int32_t s2u_cells_at(const uint64_t* ids, size_t n, uint64_t cell, size_t* first, size_t* count);
-/* answers[k] is 1 or 0 for cells[k], k below m. S2U_NO_CELL: one is not a cell, and *bad is the first such k. S2U_ROOM:
- * room is less than m, and *bad is m. After a refusal answers is not touched. Each search begins at the place of the one
- * before: cells in order are quick. */
+/* answers[k] is 1 or 0 for cells[k], k below m. S2U_NO_CELL: one is not a cell, and *bad is the first such k.
+ * S2U_ROOM: room is less than m, and *bad is m. After a refusal answers is not touched. Each search begins at the place
+ * of the one before: cells in order are quick. */
 int32_t s2u_contains_cells(const uint64_t* ids, size_t n, const uint64_t* cells, size_t m, uint8_t* answers,
                            size_t room, size_t* bad);
 int32_t s2u_intersects_cells(const uint64_t* ids, size_t n, const uint64_t* cells, size_t m, uint8_t* answers,
@@ -205,7 +205,8 @@ int32_t s2u_inner_of(const uint64_t* ids, size_t n, uint32_t level, size_t most,
  *
  * The bytes that S2's own S2CellUnion::Encode writes in C++, Go and Java: the byte 1, the number of cells in eight
  * bytes, and eight bytes for each, the lowest first. One union has one file: encode is a function of the set, so files
- * may be compared, hashed and used as keys. Any number of cells (S2's decoders take 1,000,000 unless told otherwise). */
+ * may be compared, hashed and used as keys. Any number of cells (S2's decoders take 1,000,000 unless told
+ * otherwise). */
 
 #define S2U_FILE_SIZE(n) (9 + 8 * (n))        /* exactly */
 #define S2U_MOST_IN_FILE(bytes) ((bytes) < 9 ? 0 : ((bytes) - 9) / 8)
@@ -214,14 +215,15 @@ int32_t s2u_inner_of(const uint64_t* ids, size_t n, uint32_t level, size_t most,
 int32_t s2u_encode(const uint64_t* ids, size_t n, uint8_t* out, size_t room, size_t* len);
 /* Takes cells in any order and answers the union. S2U_ROOM, S2U_MEMORY, S2U_FILE_* (the first check that fails). */
 int32_t s2u_decode(const uint8_t* bytes, size_t n, uint64_t* out, size_t room, size_t* len);
-/* [pure] 1: the file that encode writes of some union; 0: another file, which decode takes; else S2U_FILE_*. n steps. */
+/* [pure] 1: the file that encode writes of some union; 0: another file that decode takes; else S2U_FILE_*. n steps. */
 int32_t s2u_file_check(const uint8_t* bytes, size_t n);
 
-/* Questions of a file that lies in a row of a table, at any address: [pure], no copy. The frame is checked (S2U_FILE_*);
- * that it is encode's own is not (s2u_file_check does: once, when it comes in), and else 0 or 1 means nothing. */
+/* Questions of a file that lies in a row of a table, at any address: [pure], no copy. The frame is checked
+ * (S2U_FILE_*); that it is encode's own is not (s2u_file_check does: once, when it comes in), and else 0 or 1 means
+ * nothing. */
 int32_t s2u_file_count(const uint8_t* bytes, size_t n, uint64_t* count);
 int32_t s2u_file_leaf_count(const uint8_t* bytes, size_t n, uint64_t* leaves);   /* n steps */
-int32_t s2u_file_cell(const uint8_t* bytes, size_t n, uint64_t k, uint64_t* id); /* S2U_ARGUMENT: k is the count or more */
+int32_t s2u_file_cell(const uint8_t* bytes, size_t n, uint64_t k, uint64_t* id); /* S2U_ARGUMENT: k is too great */
 int32_t s2u_file_contains_cell(const uint8_t* bytes, size_t n, uint64_t cell);   /* log n steps; S2U_NO_CELL */
 int32_t s2u_file_intersects_cell(const uint8_t* bytes, size_t n, uint64_t cell); /* log n steps; S2U_NO_CELL */
 /* 1 if all leaves of ys are in xs, else 0; and 1 if they share a leaf, else 0. */
