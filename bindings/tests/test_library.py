@@ -30,8 +30,8 @@ class AgainstTheModel(unittest.TestCase):
             cell = model.cell(number)
             self.assertEqual(s2union.is_cell(number), cell is not None)
             if cell is None:
-                for call in ("level", "face", "range_min", "range_max", "size", "token", "debug", "square", "next_cell"):
-                    self.assertRaises(ValueError, getattr(s2union, call), number)
+                for name in "level face range_min range_max size token debug square next_cell".split():
+                    self.assertRaises(ValueError, getattr(s2union, name), number)
                 continue
             level, place = cell
             first, end = model.run(number)
@@ -79,7 +79,7 @@ class AgainstTheModel(unittest.TestCase):
             self.assertEqual(Union.from_tokens(text), a)
             self.assertEqual(Union.from_tokens((" " + text.replace(" ", ",")).encode()), a)
             wrong = self.random.choice(("x", "0c;", "2", "0/4", "6/", "\0", "0" * 17, "é"))
-            with self.assertRaisesRegex(ValueError, f"no cell: .* at place {len(text)}$"):
+            with self.assertRaisesRegex(ValueError, f"not a cell: .* at place {len(text)}$"):
                 Union.from_tokens(text + wrong + self.random.choice(("", " 04", ",y")))
         self.assertEqual((Union.from_tokens(""), Union().tokens()), (Union(), []))
         many = Union([self.random.cell(20, 30) for _ in range(20000)])
@@ -136,7 +136,8 @@ class AgainstTheModel(unittest.TestCase):
             for made, want in ((xs.outer, model.around), (xs.inner, model.within)):
                 self.assertEqual(list(made(level)), model.normal(want(runs, level)))
             side = 2 ** self.random.randint(0, 5)
-            i, j, face = self.random.randrange(2**30 - side), self.random.randrange(2**30 - side), self.random.randrange(6)
+            i, j = self.random.randrange(2**30 - side), self.random.randrange(2**30 - side)
+            face = self.random.randrange(6)
             leaves = [(s2union.from_face_ij(face, i + k % side, j + k // side) // 2,) for k in range(side * side)]
             square = model.joined([(leaf, leaf + 1) for leaf, in leaves])
             level = self.random.randint(20, 30)

@@ -225,7 +225,7 @@ class WhatIsRefused(Tests):
         self.all_refused([(f"'{text}'::s2union", "names no cell") for text in texts])
         wrong = [("'1 04,park 3 X'::s2union", '"park" names no cell'), ("' 0/5\t1'::s2union", '"0/5" names no cell')]
         self.all_refused(wrong)
-        self.all_refused([(f"s2_cell('{text}')", "no cell") for text in ("", "X", "1 1", "6/")])
+        self.all_refused([(f"s2_cell('{text}')", "not a cell") for text in ("", "X", "1 1", "6/")])
         self.all_are([("''::s2union::text = '' and ' , '::s2union = ''", "true")])
 
     def test_files(self):
@@ -234,7 +234,7 @@ class WhatIsRefused(Tests):
         faults += [(bytes([k]) + good[1:], "unknown version") for k in (0, 2, 255)]
         faults += [(good + bytes(k), "bytes after the last cell") for k in (1, 8, 100)]
         wrongs = [good[:17] + cell.to_bytes(8, "little") + good[25:] for cell in (0, 2, 2**64 - 1)]
-        faults += [(wrong, "a number that is no cell") for wrong in wrongs]
+        faults += [(wrong, "a number that is not a cell") for wrong in wrongs]
         faults += [(good[:1] + b"\xff" * 8 + good[9:], "bytes are missing")]
         faults = [(f"('\\x{file.hex()}'::bytea)::s2union", reason) for file, reason in faults]
         self.all_refused([(expression, f"s2union: union file: {reason}") for expression, reason in faults])
@@ -246,10 +246,10 @@ class WhatIsRefused(Tests):
             ("s2_outer(0, -1, 0, 0, 0, 5)", "argument"), ("s2_inner('1'::s2union, -1)", "argument"),
             ("s2_leaf(0, 0, -1)", "argument"),
             ("s2_outer(0, 0, 1073741823, 5, 5, 30)", "too many cells"),
-            ("(2::bigint)::s2union", "no cell"), ("s2_level(0)", "no cell"),
-            ("s2_token(0)", "no cell"), ("s2_parent(0, 0)", "no cell"), ("s2_range_max(0)", "no cell"),
-            ("'1'::s2union @> 0::bigint", "no cell"),
-            ("s2_range(-1, 1)", "no cell"), ("s2_range(s2_cell('3'), s2_cell('1'))", "argument"),
+            ("(2::bigint)::s2union", "not a cell"), ("s2_level(0)", "not a cell"),
+            ("s2_token(0)", "not a cell"), ("s2_parent(0, 0)", "not a cell"), ("s2_range_max(0)", "not a cell"),
+            ("'1'::s2union @> 0::bigint", "not a cell"),
+            ("s2_range(-1, 1)", "not a cell"), ("s2_range(s2_cell('3'), s2_cell('1'))", "argument"),
         ])
 
     def test_null_gives_null(self):
@@ -285,7 +285,7 @@ class WhatIsRefused(Tests):
                         's2union_hash(region)', 's2_outer(region, 3)', 's2_union_agg(region)'] LOOP
                         said := try(format('SELECT (%s)::text FROM flipped', query));
                         IF said NOT LIKE 'error: %' THEN answers := answers + 1;
-                        ELSIF said LIKE 'error: s2union: no normalised list of cells' THEN refusals := refusals + 1;
+                        ELSIF said LIKE 'error: s2union: not a normalized list of cells' THEN refusals := refusals + 1;
                         ELSE others := others + 1;
                         END IF;
                     END LOOP;

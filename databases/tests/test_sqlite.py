@@ -271,7 +271,7 @@ class AgainstTheModel(Tests):
         said = self.db.execute("SELECT kind, s2_union_agg(region) FROM regions GROUP BY kind ORDER BY kind").fetchall()
         self.assertEqual(said, wanted + [(9, None), (10, EMPTY)])
         self.db.execute("INSERT INTO regions VALUES(0, 'x')")
-        self.refused("s2: no cell", "s2_union_agg(region) FROM regions")
+        self.refused("s2: not a cell", "s2_union_agg(region) FROM regions")
 
     def test_an_aggregate_of_many_cells(self):
         cells = [model.identifier(30, 3 * k) for k in range(150000)]
@@ -314,12 +314,12 @@ class WhatIsRefused(Tests):
             for k, letter in enumerate(letters):
                 wrongs = {"n": (-1, 2**32, 2**63 - 1), "b": ()}.get(letter,
                     (0, 2, -1, "X", "0/4", "1 g", "1\0", "1\0 1"))
-                reason = "s2: argument out of range" if letter == "n" else "s2: no cell"
+                reason = "s2: argument out of range" if letter == "n" else "s2: not a cell"
                 for wrong in wrongs:
                     marks = ", ".join("?" * len(values))
                     self.refused(reason, f"{name}({marks})", *values[:k], wrong, *values[k + 1 :])
         for text in ("", "1 1", " 1", "1,"):
-            self.refused("s2: no cell", "s2_cell(?)", text)
+            self.refused("s2: not a cell", "s2_cell(?)", text)
         self.refused("s2: argument", "s2_leaf(6, 0, 0)")
         self.refused("s2: argument", "s2_leaf(0, 0, 1073741824)")
 
@@ -341,7 +341,7 @@ class WhatIsRefused(Tests):
         faults += [(bytes([k]) + good[1:], "unknown version") for k in (0, 2, 255)]
         faults += [(good + bytes(k), "bytes after the last cell") for k in (1, 8, 100)]
         wrongs = [good[:17] + cell.to_bytes(8, "little") + good[25:] for cell in (0, 2, 2**64 - 1)]
-        faults += [(wrong, "a number that is no cell") for wrong in wrongs]
+        faults += [(wrong, "a number that is not a cell") for wrong in wrongs]
         faults += [(good[:1] + b"\xff" * 8 + good[9:], "bytes are missing")]
         self.db.execute("CREATE TABLE faults(file)")
         for file, reason in faults:
@@ -371,8 +371,8 @@ class WhatIsRefused(Tests):
             query = f"SELECT {expression} FROM rows WHERE id <> ? ORDER BY id"
             self.assertEqual(len(self.db.execute(query, (leaf, 7)).fetchall()), 9)
             for _ in range(4):
-                self.refused("a number that is no cell", f"{expression} FROM rows WHERE id = ?", leaf, 7)
-            with self.assertRaisesRegex(sqlite3.OperationalError, "a number that is no cell"):
+                self.refused("a number that is not a cell", f"{expression} FROM rows WHERE id = ?", leaf, 7)
+            with self.assertRaisesRegex(sqlite3.OperationalError, "a number that is not a cell"):
                 self.db.execute(query, (leaf, 8)).fetchall()
 
     def test_a_constant_of_the_host_that_changes(self):

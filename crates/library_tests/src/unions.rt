@@ -44,6 +44,23 @@ fn siblings_merge_again_and_faces_never(rt: HostRuntime) -> Result<(), AllocErro
     Ok(())
 }
 
+#[test]
+fn a_union_is_a_collection(rt: HostRuntime) -> Result<(), AllocError> {
+    let union = of(rt.alloc(), "04 0c 14 1c 24")?;
+    let same = CellUnion::from_cells(cells(rt.alloc(), "24 1 04")?);
+    assert_eq!(rt; union, same);
+    assert!(rt; union != of(rt.alloc(), "1")?);
+    assert_eq!(rt; union.iter().count(), 2);
+    let mut last = None;
+    for cell in &same {
+        last = Some(*cell);
+    }
+    assert_eq!(rt; last, CellId::from_token(b"24"));
+    let list: Vec<CellId> = union.into_iter().collect(rt.alloc())?;
+    assert!(rt; is(&list, "1 24"));
+    Ok(())
+}
+
 /// Whether two sets of leaves have this union, intersection and difference.
 fn make(
     a: &CellUnion,

@@ -1,9 +1,15 @@
 -- Regions of leaves, and their outer and inner coverings.
 use Rattle.std.specs.Prelude.{◌≡◌, ℕ, zero, suc, ◌+◌, ◌-◌, ◌*◌, ◌/◌, ◌^◌, Bool, true, false, ◌&&◌}
-use Rattle.std.specs.Prelude.{◌||◌, nat_lt}
+use Rattle.std.specs.Prelude.{◌||◌, nat_lt, ◌<◌, List, length}
 use Rattle.s2cell.specs.Cell.{IsCell, level_of, covers}
-use Rattle.s2union.specs.Union.{LiesIn, ShareSome}
+use Rattle.s2union.specs.Union.{LiesIn, ShareSome, IsNormalForm, has_leaf}
+use Rattle.s2cover.specs.declared.region.CoverFault.{CoverFault}
+use Rattle.s2cover.specs.declared.region.CoverFault.TheVariants.{TooMany}
 use Rattle.s2cell.specs.declared.TheConstants.{LEAVES}
+
+-- no leaf of the cell `c` is in `S`
+abbrev pub LiesOutside : (ℕ → Bool) → ℕ → Type 0
+LiesOutside S c = (x : ℕ) → covers c x ≡ true → S x ≡ false
 
 -- the `n` leaves from `lo` on are all in `S`
 unfoldable pub filled : (ℕ → Bool) → ℕ → ℕ → Bool
@@ -40,3 +46,11 @@ IsInOuter R k x = (c : ℕ) × IsCell c × (level_of c ≡ k) × (covers c x ≡
 -- the leaf `x` is in a level `k` cell that lies inside `R`
 abbrev pub IsInInner : (ℕ → Bool) → ℕ → ℕ → Type 0
 IsInInner R k x = (c : ℕ) × IsCell c × (level_of c ≡ k) × (covers c x ≡ true) × LiesIn R c
+
+-- the leaves of the cells `u` are those of `S`
+abbrev pub HasLeavesOf : (ℕ → Bool) → List ℕ → Type 0
+HasLeavesOf S u = (x : ℕ) → has_leaf u x ≡ S x
+
+-- the fault is `TooMany` only if the normal form of `S` has more than `max` cells
+abbrev pub TooManyMeans : (ℕ → Bool) → ℕ → CoverFault → Type 0
+TooManyMeans S max fault = fault ≡ TooMany → (u : List ℕ) → IsNormalForm S u → max < length u

@@ -2,11 +2,11 @@
 //!
 //! First the union's cells are cut to the level, and the rectangle is rounded to the grid of the level. Then each cell
 //! that crosses what the two share has a cell of the answer in it, and the descent enters only such cells.
-ghost use Rattle.std.specs.Prelude.{◌≡◌, ◌<◌, ◌≤◌, ◌&&◌, ℕ, List, length, IfOk, IfErr};
+ghost use Rattle.std.specs.Prelude.{◌≡◌, ◌≤◌, ℕ, length, IfOk, IfErr};
 ghost use Rattle.s2union.specs.Union.{has_leaf, IsLocal, IsNormalForm};
-ghost use Rattle.s2cover.specs.Coverings.{inner_set, outer_set};
+ghost use Rattle.s2cover.specs.Coverings.{HasLeavesOf, TooManyMeans, inner_set, outer_set};
 ghost use Rattle.s2cover.specs.Cut.{cells_cut, cells_kept, cells_met, meets};
-ghost use Rattle.s2cover.specs.Rectangles.{rect_set};
+ghost use Rattle.s2cover.specs.Rectangles.{clipped, rect_set};
 
 use crate::MOST_CELLS;
 use crate::covering::{inner, outer};
@@ -31,14 +31,11 @@ pub fn clip_outer(
 ) -> Result<CellUnion, CoverFault>
     requires level { level ≤ GREATEST_LEVEL }
     requires max { max ≤ MOST_CELLS }
-    ensures leaves { IfOk result (λ u. (x : ℕ) →
-        has_leaf u.cells x ≡ outer_set (λ y. has_leaf union.now.cells y && rect_set rect.now y) level x) }
+    ensures leaves { IfOk result (λ u. HasLeavesOf (outer_set (clipped union.now.cells rect.now) level) u.cells) }
     ensures local { IfOk result (λ u. IsLocal u.cells) }
-    ensures normal { IfOk result (λ u. IsNormalForm
-        (outer_set (λ y. has_leaf union.now.cells y && rect_set rect.now y) level) u.cells) }
+    ensures normal { IfOk result (λ u. IsNormalForm (outer_set (clipped union.now.cells rect.now) level) u.cells) }
     ensures within { IfOk result (λ u. length u.cells ≤ max) }
-    ensures many { IfErr result (λ fault. fault ≡ CoverFault.TooMany → (u : List ℕ) →
-        IsNormalForm (outer_set (λ y. has_leaf union.now.cells y && rect_set rect.now y) level) u → max < length u) }
+    ensures many { IfErr result (TooManyMeans (outer_set (clipped union.now.cells rect.now) level) max) }
 {
     let _local = union.cells();
     match cut_union(alloc, union, rect, level) {
@@ -67,14 +64,11 @@ pub fn clip_inner(
 ) -> Result<CellUnion, CoverFault>
     requires level { level ≤ GREATEST_LEVEL }
     requires max { max ≤ MOST_CELLS }
-    ensures leaves { IfOk result (λ u. (x : ℕ) →
-        has_leaf u.cells x ≡ inner_set (λ y. has_leaf union.now.cells y && rect_set rect.now y) level x) }
+    ensures leaves { IfOk result (λ u. HasLeavesOf (inner_set (clipped union.now.cells rect.now) level) u.cells) }
     ensures local { IfOk result (λ u. IsLocal u.cells) }
-    ensures normal { IfOk result (λ u. IsNormalForm
-        (inner_set (λ y. has_leaf union.now.cells y && rect_set rect.now y) level) u.cells) }
+    ensures normal { IfOk result (λ u. IsNormalForm (inner_set (clipped union.now.cells rect.now) level) u.cells) }
     ensures within { IfOk result (λ u. length u.cells ≤ max) }
-    ensures many { IfErr result (λ fault. fault ≡ CoverFault.TooMany → (u : List ℕ) →
-        IsNormalForm (inner_set (λ y. has_leaf union.now.cells y && rect_set rect.now y) level) u → max < length u) }
+    ensures many { IfErr result (TooManyMeans (inner_set (clipped union.now.cells rect.now) level) max) }
 {
     match rect.narrowed(level) {
         Some(narrow) => inner_part(alloc, union, narrow, level, max),
@@ -93,14 +87,11 @@ fn inner_part(
 ) -> Result<CellUnion, CoverFault>
     requires level { level ≤ GREATEST_LEVEL }
     requires max { max ≤ MOST_CELLS }
-    ensures leaves { IfOk result (λ u. (x : ℕ) →
-        has_leaf u.cells x ≡ inner_set (λ y. has_leaf union.now.cells y && rect_set rect y) level x) }
+    ensures leaves { IfOk result (λ u. HasLeavesOf (inner_set (clipped union.now.cells rect) level) u.cells) }
     ensures local { IfOk result (λ u. IsLocal u.cells) }
-    ensures normal { IfOk result (λ u. IsNormalForm
-        (inner_set (λ y. has_leaf union.now.cells y && rect_set rect y) level) u.cells) }
+    ensures normal { IfOk result (λ u. IsNormalForm (inner_set (clipped union.now.cells rect) level) u.cells) }
     ensures within { IfOk result (λ u. length u.cells ≤ max) }
-    ensures many { IfErr result (λ fault. fault ≡ CoverFault.TooMany → (u : List ℕ) →
-        IsNormalForm (inner_set (λ y. has_leaf union.now.cells y && rect_set rect y) level) u → max < length u) }
+    ensures many { IfErr result (TooManyMeans (inner_set (clipped union.now.cells rect) level) max) }
 {
     let _local = union.cells();
     match kept_union(alloc, union, &rect, level) {

@@ -2,8 +2,8 @@
 ghost use Rattle.std.specs.Prelude.{◌≡◌, ◌+◌, ◌-◌, ◌<◌, ◌≤◌, ◌↔◌, ℕ, Bool, true, false, List, length};
 ghost use Rattle.std.specs.Prelude.{vec_len, IfOk, IfErr};
 ghost use Rattle.s2cell.specs.Cell.{IsCell};
-ghost use Rattle.s2union.specs.Union.{has_leaf, IsLocal, IsNormalForm};
-ghost use Rattle.s2cover.specs.Coverings.{IsInInner, IsInOuter, inner_set, outer_set};
+ghost use Rattle.s2union.specs.Union.{IsLocal, IsNormalForm};
+ghost use Rattle.s2cover.specs.Coverings.{HasLeavesOf, IsInInner, IsInOuter, TooManyMeans, inner_set, outer_set};
 ghost use Rattle.s2cover.specs.Descent.{covering_set};
 
 use crate::MOST_CELLS;
@@ -26,12 +26,11 @@ pub fn outer<R: Region>(
 ) -> Result<CellUnion, CoverFault>
     requires level { level ≤ GREATEST_LEVEL }
     requires max { max ≤ MOST_CELLS }
-    ensures leaves { IfOk result (λ u. (x : ℕ) → has_leaf u.cells x ≡ outer_set (R.holds region.now) level x) }
+    ensures leaves { IfOk result (λ u. HasLeavesOf (outer_set (R.holds region.now) level) u.cells) }
     ensures local { IfOk result (λ u. IsLocal u.cells) }
     ensures normal { IfOk result (λ u. IsNormalForm (outer_set (R.holds region.now) level) u.cells) }
     ensures within { IfOk result (λ u. length u.cells ≤ max) }
-    ensures many { IfErr result (λ fault. fault ≡ CoverFault.TooMany → (u : List ℕ) →
-        IsNormalForm (outer_set (R.holds region.now) level) u → max < length u) }
+    ensures many { IfErr result (TooManyMeans (outer_set (R.holds region.now) level) max) }
 {
     cover(alloc, region, true, level, max)
 }
@@ -48,12 +47,11 @@ pub fn inner<R: Region>(
 ) -> Result<CellUnion, CoverFault>
     requires level { level ≤ GREATEST_LEVEL }
     requires max { max ≤ MOST_CELLS }
-    ensures leaves { IfOk result (λ u. (x : ℕ) → has_leaf u.cells x ≡ inner_set (R.holds region.now) level x) }
+    ensures leaves { IfOk result (λ u. HasLeavesOf (inner_set (R.holds region.now) level) u.cells) }
     ensures local { IfOk result (λ u. IsLocal u.cells) }
     ensures normal { IfOk result (λ u. IsNormalForm (inner_set (R.holds region.now) level) u.cells) }
     ensures within { IfOk result (λ u. length u.cells ≤ max) }
-    ensures many { IfErr result (λ fault. fault ≡ CoverFault.TooMany → (u : List ℕ) →
-        IsNormalForm (inner_set (R.holds region.now) level) u → max < length u) }
+    ensures many { IfErr result (TooManyMeans (inner_set (R.holds region.now) level) max) }
 {
     cover(alloc, region, false, level, max)
 }
@@ -81,12 +79,11 @@ fn cover<R: Region>(
 ) -> Result<CellUnion, CoverFault>
     requires level { level ≤ GREATEST_LEVEL }
     requires max { max ≤ MOST_CELLS }
-    ensures leaves { IfOk result (λ u. (x : ℕ) → has_leaf u.cells x ≡ covering_set whole (R.holds region.now) level x) }
+    ensures leaves { IfOk result (λ u. HasLeavesOf (covering_set whole (R.holds region.now) level) u.cells) }
     ensures local { IfOk result (λ u. IsLocal u.cells) }
     ensures normal { IfOk result (λ u. IsNormalForm (covering_set whole (R.holds region.now) level) u.cells) }
     ensures within { IfOk result (λ u. length u.cells ≤ max) }
-    ensures many { IfErr result (λ fault. fault ≡ CoverFault.TooMany → (u : List ℕ) →
-        IsNormalForm (covering_set whole (R.holds region.now) level) u → max < length u) }
+    ensures many { IfErr result (TooManyMeans (covering_set whole (R.holds region.now) level) max) }
 {
     let mut list = Vec::new(alloc);
     for face in 0..6u8 {

@@ -1,7 +1,7 @@
 //! The coverings of a union, which are its own cells cut to a level.
-ghost use Rattle.std.specs.Prelude.{◌≡◌, ◌<◌, ◌≤◌, ℕ, List, length, IfOk, IfErr};
+ghost use Rattle.std.specs.Prelude.{◌≡◌, ◌<◌, ◌≤◌, length, IfOk, IfErr};
 ghost use Rattle.s2union.specs.Union.{has_leaf, IsLocal, IsNormalForm};
-ghost use Rattle.s2cover.specs.Coverings.{inner_set, outer_set};
+ghost use Rattle.s2cover.specs.Coverings.{HasLeavesOf, TooManyMeans, inner_set, outer_set};
 ghost use Rattle.s2cover.specs.Cut.{cells_cut, cells_kept, cut_at};
 
 use crate::region::CoverFault;
@@ -21,12 +21,11 @@ pub fn union_outer(
     max: usize,
 ) -> Result<CellUnion, CoverFault>
     requires level { level ≤ GREATEST_LEVEL }
-    ensures leaves { IfOk result (λ u. (x : ℕ) → has_leaf u.cells x ≡ outer_set (has_leaf union.now.cells) level x) }
+    ensures leaves { IfOk result (λ u. HasLeavesOf (outer_set (has_leaf union.now.cells) level) u.cells) }
     ensures local { IfOk result (λ u. IsLocal u.cells) }
     ensures normal { IfOk result (λ u. IsNormalForm (outer_set (has_leaf union.now.cells) level) u.cells) }
     ensures within { IfOk result (λ u. length u.cells ≤ max) }
-    ensures many { IfErr result (λ fault. fault ≡ CoverFault.TooMany → (u : List ℕ) →
-        IsNormalForm (outer_set (has_leaf union.now.cells) level) u → max < length u) }
+    ensures many { IfErr result (TooManyMeans (outer_set (has_leaf union.now.cells) level) max) }
 {
     match cut_cells(alloc, union.cells(), level) {
         Ok(cells) => bounded(normalise(cells), max),
@@ -45,12 +44,11 @@ pub fn union_inner(
     max: usize,
 ) -> Result<CellUnion, CoverFault>
     requires level { level ≤ GREATEST_LEVEL }
-    ensures leaves { IfOk result (λ u. (x : ℕ) → has_leaf u.cells x ≡ inner_set (has_leaf union.now.cells) level x) }
+    ensures leaves { IfOk result (λ u. HasLeavesOf (inner_set (has_leaf union.now.cells) level) u.cells) }
     ensures local { IfOk result (λ u. IsLocal u.cells) }
     ensures normal { IfOk result (λ u. IsNormalForm (inner_set (has_leaf union.now.cells) level) u.cells) }
     ensures within { IfOk result (λ u. length u.cells ≤ max) }
-    ensures many { IfErr result (λ fault. fault ≡ CoverFault.TooMany → (u : List ℕ) →
-        IsNormalForm (inner_set (has_leaf union.now.cells) level) u → max < length u) }
+    ensures many { IfErr result (TooManyMeans (inner_set (has_leaf union.now.cells) level) max) }
 {
     match kept_cells(alloc, union.cells(), level) {
         Ok(cells) => bounded(normalise(cells), max),

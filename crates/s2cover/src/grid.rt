@@ -1,7 +1,7 @@
 //! The coverings of a rectangle in time proportional to the answer.
-ghost use Rattle.std.specs.Prelude.{◌≡◌, ◌+◌, ◌-◌, ◌*◌, ◌<◌, ◌≤◌, ℕ, List, length, IfOk, IfErr, OnErr};
+ghost use Rattle.std.specs.Prelude.{◌≡◌, ◌+◌, ◌-◌, ◌*◌, ◌≤◌, length, IfOk, IfErr, OnErr};
 ghost use Rattle.s2union.specs.Union.{has_leaf, IsLocal, IsNormalForm};
-ghost use Rattle.s2cover.specs.Coverings.{inner_set, outer_set};
+ghost use Rattle.s2cover.specs.Coverings.{HasLeavesOf, TooManyMeans, inner_set, outer_set};
 ghost use Rattle.s2cover.specs.Descent.{IsAligned};
 ghost use Rattle.s2cover.specs.Rectangles.{rect_set};
 
@@ -27,12 +27,11 @@ pub fn rect_outer(
 ) -> Result<CellUnion, CoverFault>
     requires level { level ≤ GREATEST_LEVEL }
     requires max { max ≤ MOST_CELLS }
-    ensures leaves { IfOk result (λ u. (x : ℕ) → has_leaf u.cells x ≡ outer_set (rect_set rect.now) level x) }
+    ensures leaves { IfOk result (λ u. HasLeavesOf (outer_set (rect_set rect.now) level) u.cells) }
     ensures local { IfOk result (λ u. IsLocal u.cells) }
     ensures normal { IfOk result (λ u. IsNormalForm (outer_set (rect_set rect.now) level) u.cells) }
     ensures within { IfOk result (λ u. length u.cells ≤ max) }
-    ensures many { IfErr result (λ fault. fault ≡ CoverFault.TooMany → (u : List ℕ) →
-        IsNormalForm (outer_set (rect_set rect.now) level) u → max < length u) }
+    ensures many { IfErr result (TooManyMeans (outer_set (rect_set rect.now) level) max) }
     ensures least { IfOk result (λ u. length u.cells ≤ looks.new.count) }
     ensures most { IfOk result (λ u. looks.new.count ≤ 1 + 4 * level * length u.cells) }
     ensures stopped { OnErr result (looks.new.count ≤ 1 + 4 * level * (max + 1)) }
@@ -54,12 +53,11 @@ pub fn rect_inner(
 ) -> Result<CellUnion, CoverFault>
     requires level { level ≤ GREATEST_LEVEL }
     requires max { max ≤ MOST_CELLS }
-    ensures leaves { IfOk result (λ u. (x : ℕ) → has_leaf u.cells x ≡ inner_set (rect_set rect.now) level x) }
+    ensures leaves { IfOk result (λ u. HasLeavesOf (inner_set (rect_set rect.now) level) u.cells) }
     ensures local { IfOk result (λ u. IsLocal u.cells) }
     ensures normal { IfOk result (λ u. IsNormalForm (inner_set (rect_set rect.now) level) u.cells) }
     ensures within { IfOk result (λ u. length u.cells ≤ max) }
-    ensures many { IfErr result (λ fault. fault ≡ CoverFault.TooMany → (u : List ℕ) →
-        IsNormalForm (inner_set (rect_set rect.now) level) u → max < length u) }
+    ensures many { IfErr result (TooManyMeans (inner_set (rect_set rect.now) level) max) }
     ensures least { IfOk result (λ u. length u.cells ≤ looks.new.count) }
     ensures most { IfOk result (λ u. looks.new.count ≤ 1 + 4 * level * length u.cells) }
     ensures stopped { OnErr result (looks.new.count ≤ 1 + 4 * level * (max + 1)) }
@@ -83,12 +81,11 @@ fn cover_aligned(
     requires max { max ≤ MOST_CELLS }
     requires aligned { IsAligned (rect_set rect.now) (30 - level) }
     requires looks { looks.old.count ≡ 0 }
-    ensures leaves { IfOk result (λ u. (x : ℕ) → has_leaf u.cells x ≡ rect_set rect.now x) }
+    ensures leaves { IfOk result (λ u. HasLeavesOf (rect_set rect.now) u.cells) }
     ensures local { IfOk result (λ u. IsLocal u.cells) }
     ensures normal { IfOk result (λ u. IsNormalForm (rect_set rect.now) u.cells) }
     ensures within { IfOk result (λ u. length u.cells ≤ max) }
-    ensures many { IfErr result (λ fault. fault ≡ CoverFault.TooMany → (u : List ℕ) →
-        IsNormalForm (rect_set rect.now) u → max < length u) }
+    ensures many { IfErr result (TooManyMeans (rect_set rect.now) max) }
     ensures least { IfOk result (λ u. length u.cells ≤ looks.new.count) }
     ensures most { IfOk result (λ u. looks.new.count ≤ 1 + 4 * level * length u.cells) }
     ensures stopped { OnErr result (looks.new.count ≤ 1 + 4 * level * (max + 1)) }

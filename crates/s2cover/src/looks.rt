@@ -1,8 +1,10 @@
 //! The search for the greatest cells of a rectangle on the grid of a level.
 ghost use Rattle.std.specs.Prelude.{◌≡◌, ◌+◌, ◌-◌, ◌*◌, ◌^◌, ◌<◌, ◌≤◌, ◌↔◌, ◌++◌, ◌∷◌};
 ghost use Rattle.std.specs.Prelude.{[], ℕ, true, false, length, vec_len, OnOk, OnErr, IfErr};
-ghost use Rattle.s2cell.specs.Cell.{covers, level_of};
+ghost use Rattle.s2cell.specs.Cell.{level_of};
+ghost use Rattle.s2union.specs.Union.{LiesIn};
 ghost use Rattle.s2cell.specs.Square.{IsPlacedCell, IsSquareOf};
+ghost use Rattle.s2cover.specs.Coverings.{LiesOutside};
 ghost use Rattle.s2cover.specs.Descent.{IsAligned, depth_of, form_in};
 ghost use Rattle.s2cover.specs.Rectangles.{rect_set};
 
@@ -26,9 +28,9 @@ fn look(rect: &FaceRect, square: Square, looks: &mut Looks) -> Part
     requires count { looks.old.count + 1 < 2 ^ 64 }
     ensures count { looks.new.count ≡ looks.old.count + 1 }
     ensures out { (c : ℕ) → IsSquareOf c square.face square.i square.j square.size →
-        (result ≡ Part.Out) ↔ ((x : ℕ) → covers c x ≡ true → rect_set rect.now x ≡ false) }
+        (result ≡ Part.Out) ↔ LiesOutside (rect_set rect.now) c }
     ensures inside { (c : ℕ) → IsSquareOf c square.face square.i square.j square.size →
-        (result ≡ Part.In) ↔ ((x : ℕ) → covers c x ≡ true → rect_set rect.now x ≡ true) }
+        (result ≡ Part.In) ↔ LiesIn (rect_set rect.now) c }
 {
     looks.count += 1;
     rect.part_of(square)

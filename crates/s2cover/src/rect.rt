@@ -1,8 +1,9 @@
 //! Rectangles of leaves on one face.
 ghost use Rattle.std.specs.Prelude.{◌≡◌, ◌+◌, ◌<◌, ◌≤◌, ◌↔◌, ◌⊎◌, ℕ, true, false, IfSome, SomeIff};
-ghost use Rattle.s2cell.specs.Cell.{covers};
 ghost use Rattle.s2cell.specs.Curve.{IsPlaceOf};
 ghost use Rattle.s2cell.specs.Square.{IsSquareOf};
+ghost use Rattle.s2union.specs.Union.{LiesIn};
+ghost use Rattle.s2cover.specs.Coverings.{LiesOutside};
 ghost use Rattle.s2cover.specs.Rectangles.{IsInRect, IsRect, Rect, rect_set};
 
 use crate::region::{Part, Region};
@@ -73,9 +74,9 @@ impl FaceRect {
         requires i { square.i + square.size ≤ SIDE }
         requires j { square.j + square.size ≤ SIDE }
         ensures out { (c : ℕ) → IsSquareOf c square.face square.i square.j square.size →
-            (result ≡ Part.Out) ↔ ((x : ℕ) → covers c x ≡ true → rect_set self.now x ≡ false) }
+            (result ≡ Part.Out) ↔ LiesOutside (rect_set self.now) c }
         ensures inside { (c : ℕ) → IsSquareOf c square.face square.i square.j square.size →
-            (result ≡ Part.In) ↔ ((x : ℕ) → covers c x ≡ true → rect_set self.now x ≡ true) }
+            (result ≡ Part.In) ↔ LiesIn (rect_set self.now) c }
     {
         if square.face != self.face {
             return Part::Out;

@@ -1,7 +1,8 @@
 //! What a region is.
-ghost use Rattle.std.specs.Prelude.{◌≡◌, ◌↔◌, ℕ, Bool, true, false};
-ghost use Rattle.s2cell.specs.Cell.{covers};
+ghost use Rattle.std.specs.Prelude.{◌≡◌, ◌↔◌, ℕ, Bool};
 ghost use Rattle.s2cell.specs.Square.{IsPlacedCell};
+ghost use Rattle.s2union.specs.Union.{LiesIn};
+ghost use Rattle.s2cover.specs.Coverings.{LiesOutside};
 
 use s2cell::{CellId, PlacedCell};
 use thiserror::Error;
@@ -35,16 +36,16 @@ pub trait Region {
     /// How the cell lies relative to the region, exactly: `Out` if none of its leaves is in it, `In` if all are, else
     /// `Cross`.
     fn part(&self, cell: CellId) -> Part
-        ensures out { (result ≡ Part.Out) ↔ ((x : ℕ) → covers cell x ≡ true → holds self.now x ≡ false) }
-        ensures inside { (result ≡ Part.In) ↔ ((x : ℕ) → covers cell x ≡ true → holds self.now x ≡ true) };
+        ensures out { (result ≡ Part.Out) ↔ LiesOutside (holds self.now) cell }
+        ensures inside { (result ≡ Part.In) ↔ LiesIn (holds self.now) cell };
 
     /// The answer of `part` for a cell that comes with its square, as a descent carries it down. A region that needs
     /// the squares of cells implements this too, and so saves the way from the face down to each cell; other regions
     /// leave it out.
     fn part_of_placed(&self, placed: &PlacedCell) -> Part
         requires placed { IsPlacedCell placed.now }
-        ensures out { (result ≡ Part.Out) ↔ ((x : ℕ) → covers placed.now.cell x ≡ true → holds self.now x ≡ false) }
-        ensures inside { (result ≡ Part.In) ↔ ((x : ℕ) → covers placed.now.cell x ≡ true → holds self.now x ≡ true) }
+        ensures out { (result ≡ Part.Out) ↔ LiesOutside (holds self.now) placed.now.cell }
+        ensures inside { (result ≡ Part.In) ↔ LiesIn (holds self.now) placed.now.cell }
     {
         self.part(placed.cell)
     }

@@ -1,8 +1,8 @@
 //! A union as a region, and a union clipped by a rectangle.
 ghost use Rattle.std.specs.Prelude.{◌≡◌, ◌↔◌, ◌&&◌, ℕ, All, Bool, true, false, IsTrue};
-ghost use Rattle.s2cell.specs.Cell.{IsCell, covers};
 ghost use Rattle.s2union.specs.Union.{has_leaf, LiesIn};
-ghost use Rattle.s2cover.specs.Rectangles.{rect_set};
+ghost use Rattle.s2cover.specs.Coverings.{LiesOutside};
+ghost use Rattle.s2cover.specs.Rectangles.{clipped, rect_set};
 
 use crate::rect::FaceRect;
 use crate::region::{Part, Region};
@@ -37,7 +37,7 @@ pub struct Clip<'a> {
 }
 
 impl<'a> Region for Clip<'a> {
-    ghost holds = { λ c x. has_leaf c.union.now.cells x && rect_set c.rect x };
+    ghost holds = { λ c. clipped c.union.now.cells c.rect };
 
     fn part(&self, cell: CellId) -> Part {
         part_by(self.union, &self.rect, cell, self.rect.part(cell))
@@ -51,12 +51,10 @@ impl<'a> Region for Clip<'a> {
 
 /// How a cell lies relative to the clipped union, given how it lies relative to the rectangle.
 fn part_by(union: &CellUnion, rect: &FaceRect, cell: CellId, to_rect: Part) -> Part
-    requires out { (to_rect ≡ Part.Out) ↔ ((x : ℕ) → covers cell x ≡ true → rect_set rect.now x ≡ false) }
-    requires inside { (to_rect ≡ Part.In) ↔ ((x : ℕ) → covers cell x ≡ true → rect_set rect.now x ≡ true) }
-    ensures out { (result ≡ Part.Out) ↔ ((x : ℕ) → covers cell x ≡ true →
-        (has_leaf union.now.cells x && rect_set rect.now x) ≡ false) }
-    ensures inside { (result ≡ Part.In) ↔ ((x : ℕ) → covers cell x ≡ true →
-        (has_leaf union.now.cells x && rect_set rect.now x) ≡ true) }
+    requires out { (to_rect ≡ Part.Out) ↔ LiesOutside (rect_set rect.now) cell }
+    requires inside { (to_rect ≡ Part.In) ↔ LiesIn (rect_set rect.now) cell }
+    ensures out { (result ≡ Part.Out) ↔ LiesOutside (clipped union.now.cells rect.now) cell }
+    ensures inside { (result ≡ Part.In) ↔ LiesIn (clipped union.now.cells rect.now) cell }
 {
     match to_rect {
         Part::Out => Part::Out,
@@ -68,12 +66,10 @@ fn part_by(union: &CellUnion, rect: &FaceRect, cell: CellId, to_rect: Part) -> P
 /// How a cell that crosses the rectangle lies relative to the clipped union. It may cross both union and rectangle and
 /// yet share no leaf with what they share, so the union's cells in it are tried one by one.
 fn part_across(union: &CellUnion, rect: &FaceRect, cell: CellId) -> Part
-    requires some { ((x : ℕ) → covers cell x ≡ true → rect_set rect.now x ≡ false) → ⊥ }
+    requires some { LiesOutside (rect_set rect.now) cell → ⊥ }
     requires rest { LiesIn (rect_set rect.now) cell → ⊥ }
-    ensures out { (result ≡ Part.Out) ↔ ((x : ℕ) → covers cell x ≡ true →
-        (has_leaf union.now.cells x && rect_set rect.now x) ≡ false) }
-    ensures inside { (result ≡ Part.In) ↔ ((x : ℕ) → covers cell x ≡ true →
-        (has_leaf union.now.cells x && rect_set rect.now x) ≡ true) }
+    ensures out { (result ≡ Part.Out) ↔ LiesOutside (clipped union.now.cells rect.now) cell }
+    ensures inside { (result ≡ Part.In) ↔ LiesIn (clipped union.now.cells rect.now) cell }
 {
     let _ = cell.id();
     if !union.contains_cell(cell) && lie_outside(union.cells_at(cell), rect) {

@@ -1,6 +1,8 @@
 //! Taking cells out of a union's list and putting others in.
 ghost use Rattle.std.specs.Prelude.{◌≡◌, ◌≤◌, ◌+◌, ◌++◌, ◌↔◌, [], length, IfOk, IsTrue};
 ghost use Rattle.std.specs.List.Sorted.{IsStrictlyIncreasing};
+ghost use Rattle.std.specs.Vec.{vec_len, vec_capacity};
+ghost use Rattle.s2union.specs.Union.{IsLocal};
 ghost use Rattle.s2union.specs.Apply.{applied, Fits};
 
 use crate::merge::{Merge, Turn};
@@ -63,9 +65,6 @@ impl CellUnion {
         apply_cells(self.cells(), out, put, &mut into.cells);
     }
 }
-
-ghost use Rattle.std.specs.Vec.{vec_len, vec_capacity};
-ghost use Rattle.s2union.specs.Union.{IsLocal};
 
 /// Writes the cells without `out` and with `put` into a list that has room for them.
 fn apply_cells(cells: &[CellId], out: &[CellId], put: &[CellId], into: &mut Vec<CellId>)
