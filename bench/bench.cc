@@ -27,8 +27,15 @@ static void places(Table& table) {
   }
   List a(N), b(N);
   table.row({"from_face_ij", N, 0x7830da93e3796d2c, 10},
-            {[&](uint32_t) { for (size_t k = 0; k < N; k++) a[k] = S2CellId::FromFaceIJ(places[k].face, places[k].i, places[k].j).id(); }, [&] { return sum_of(a); }},
-            {[&](uint32_t) { for (size_t k = 0; k < N; k++) b[k] = s2c_from_face_ij(places[k].face, places[k].i, places[k].j); }, [&] { return sum_of(b); }});
+            {[&](uint32_t) {
+               for (size_t k = 0; k < N; k++)
+                 a[k] = S2CellId::FromFaceIJ(places[k].face, places[k].i, places[k].j).id();
+             },
+             [&] { return sum_of(a); }},
+            {[&](uint32_t) {
+               for (size_t k = 0; k < N; k++) b[k] = s2c_from_face_ij(places[k].face, places[k].i, places[k].j);
+             },
+             [&] { return sum_of(b); }});
   u64 last_a = 0, last_b = 0;
   auto chained = [&](u64* last, auto call) {
     u64 h = 0;
@@ -36,7 +43,10 @@ static void places(Table& table) {
     *last = h;
   };
   table.row({"from_face_ij_chained", N, 0x19bce297ab5651cd, 0},
-            {[&](uint32_t) { chained(&last_a, [](uint8_t f, uint32_t i, uint32_t j) { return S2CellId::FromFaceIJ(f, i, j).id(); }); }, [&] { return last_a; }},
+            {[&](uint32_t) {
+               chained(&last_a, [](uint8_t f, uint32_t i, uint32_t j) { return S2CellId::FromFaceIJ(f, i, j).id(); });
+             },
+             [&] { return last_a; }},
             {[&](uint32_t) { chained(&last_b, s2c_from_face_ij); }, [&] { return last_b; }});
 }
 
@@ -88,20 +98,42 @@ static void texts(Table& table) {
   };
   Texts proved;
   table.row({"token", N, 0xd45cf93fd9fd52c1, 20},
-            {[&](uint32_t) { for (size_t k = 0; k < N; k++) peer[k] = S2CellId(ids[k]).ToToken(); }, sum_of_texts},
-            {[&](uint32_t) { for (size_t k = 0; k < N; k++) proved.lens[k] = s2c_token(ids[k], &proved.bytes[32 * k], 32); }, [&] { return proved.sum(); }});
+            {[&](uint32_t) {
+               for (size_t k = 0; k < N; k++) peer[k] = S2CellId(ids[k]).ToToken();
+             },
+             sum_of_texts},
+            {[&](uint32_t) {
+               for (size_t k = 0; k < N; k++) proved.lens[k] = s2c_token(ids[k], &proved.bytes[32 * k], 32);
+             },
+             [&] { return proved.sum(); }});
   auto back = [&](Row it, auto from_text, auto proved_from_text) {
     table.row(it,
-              {[&](uint32_t) { for (size_t k = 0; k < N; k++) a[k] = from_text(peer[k]).id(); }, [&] { return sum_of(a); }},
-              {[&](uint32_t) { for (size_t k = 0; k < N; k++) must(proved_from_text(reinterpret_cast<const uint8_t*>(peer[k].data()), peer[k].size(), &b[k]), "from_text"); }, [&] { return sum_of(b); }});
+              {[&](uint32_t) {
+                 for (size_t k = 0; k < N; k++) a[k] = from_text(peer[k]).id();
+               },
+               [&] { return sum_of(a); }},
+              {[&](uint32_t) {
+                 for (size_t k = 0; k < N; k++)
+                   must(proved_from_text(reinterpret_cast<const uint8_t*>(peer[k].data()), peer[k].size(), &b[k]),
+                        "from_text");
+               },
+               [&] { return sum_of(b); }});
   };
   for (size_t k = 0; k < N; k++) peer[k] = S2CellId(ids[k]).ToToken();
-  back({"from_token", N, 0xe714663334a73aec, 22}, [](const std::string& t) { return S2CellId::FromToken(t); }, s2c_from_token);
+  back({"from_token", N, 0xe714663334a73aec, 22},
+       [](const std::string& t) { return S2CellId::FromToken(t); }, s2c_from_token);
   table.row({"debug_text", N, 0x13a109391df62c77, 40},
-            {[&](uint32_t) { for (size_t k = 0; k < N; k++) peer[k] = S2CellId(ids[k]).ToString(); }, sum_of_texts},
-            {[&](uint32_t) { for (size_t k = 0; k < N; k++) proved.lens[k] = s2c_debug(ids[k], &proved.bytes[32 * k], 32); }, [&] { return proved.sum(); }});
+            {[&](uint32_t) {
+               for (size_t k = 0; k < N; k++) peer[k] = S2CellId(ids[k]).ToString();
+             },
+             sum_of_texts},
+            {[&](uint32_t) {
+               for (size_t k = 0; k < N; k++) proved.lens[k] = s2c_debug(ids[k], &proved.bytes[32 * k], 32);
+             },
+             [&] { return proved.sum(); }});
   for (size_t k = 0; k < N; k++) peer[k] = S2CellId(ids[k]).ToString();
-  back({"from_debug_text", N, 0xe714663334a73aec, 38}, [](const std::string& t) { return S2CellId::FromDebugString(t); }, s2c_from_debug);
+  back({"from_debug_text", N, 0xe714663334a73aec, 38},
+       [](const std::string& t) { return S2CellId::FromDebugString(t); }, s2c_from_debug);
 }
 
 static void normalising(Table& table) {
@@ -110,8 +142,14 @@ static void normalising(Table& table) {
   auto row = [&](Row it, const List& list) {
     std::vector<S2CellId> cells = peer_cells(list);
     table.row(it,
-              {[&](uint32_t times) { while (times-- > 0) made = S2CellUnion(cells); }, [&] { return sum_of(made); }},
-              {[&](uint32_t times) { must(s2c_normalise(list.data(), list.size(), times, room.at(), room.size(), room.len()), it.name); }, [&] { return sum_of(room.made()); }, 2});
+              {[&](uint32_t times) {
+                 while (times-- > 0) made = S2CellUnion(cells);
+               },
+               [&] { return sum_of(made); }},
+              {[&](uint32_t times) {
+                 must(s2c_normalise(list.data(), list.size(), times, room.at(), room.size(), room.len()), it.name);
+               },
+               [&] { return sum_of(room.made()); }, 2});
   };
   List shuffled = Random(4).cells(N, 14, 20), sorted = shuffled;
   std::sort(sorted.begin(), sorted.end());
@@ -147,8 +185,15 @@ static void sets(Table& table, const Unions& u) {
     S2CellUnion x = peer_union(xs), y = peer_union(ys);
     it.units = xs.size() + ys.size();
     table.row(it,
-              {[&](uint32_t times) { while (times-- > 0) made = (x.*peer)(y); }, [&] { return sum_of(made); }},
-              {[&](uint32_t times) { must(proved(xs.data(), xs.size(), ys.data(), ys.size(), times, room.at(), room.size(), room.len()), it.name); }, [&] { return sum_of(room.made()); }, 5});
+              {[&](uint32_t times) {
+                 while (times-- > 0) made = (x.*peer)(y);
+               },
+               [&] { return sum_of(made); }},
+              {[&](uint32_t times) {
+                 must(proved(xs.data(), xs.size(), ys.data(), ys.size(), times, room.at(), room.size(), room.len()),
+                      it.name);
+               },
+               [&] { return sum_of(room.made()); }, 5});
   };
   row({"union_random", 0, 0, 12}, u.x, u.y, &S2CellUnion::Union, s2c_union);
   row({"union_alternating", 0, 0, 6}, u.even, u.odd, &S2CellUnion::Union, s2c_union);
@@ -172,7 +217,10 @@ static void cell_questions(Table& table, const Unions& u) {
   auto b = std::make_unique<bool[]>(N);
   auto row = [&](Row it, const List& questions, bool (S2CellUnion::*peer)(S2CellId) const, CellQuestions proved) {
     table.row(it,
-              {[&](uint32_t) { for (size_t k = 0; k < N; k++) a[k] = (x.*peer)(S2CellId(questions[k])); }, [&] { return Sum().add_all(a).value(); }},
+              {[&](uint32_t) {
+                 for (size_t k = 0; k < N; k++) a[k] = (x.*peer)(S2CellId(questions[k]));
+               },
+               [&] { return Sum().add_all(a).value(); }},
               {[&](uint32_t) { must(proved(u.x.data(), u.x.size(), questions.data(), N, b.get(), N), it.name); },
                [&] {
                  Sum sum;
@@ -189,12 +237,17 @@ static void cell_questions(Table& table, const Unions& u) {
 
 static void union_questions(Table& table, const Unions& u) {
   bool a = false, b = false;
-  auto row = [&](Row it, const List& xs, const List& ys, bool (S2CellUnion::*peer)(const S2CellUnion&) const, UnionQuestion proved) {
+  auto row = [&](Row it, const List& xs, const List& ys, bool (S2CellUnion::*peer)(const S2CellUnion&) const,
+                 UnionQuestion proved) {
     S2CellUnion x = peer_union(xs), y = peer_union(ys);
     it.units = xs.size() + ys.size();
     table.row(it,
-              {[&](uint32_t times) { while (times-- > 0) a = (x.*peer)(y); }, [&] { return Sum().add(a).value(); }},
-              {[&](uint32_t times) { must(proved(xs.data(), xs.size(), ys.data(), ys.size(), times, &b), it.name); }, [&] { return Sum().add(b).value(); }, 20});
+              {[&](uint32_t times) {
+                 while (times-- > 0) a = (x.*peer)(y);
+               },
+               [&] { return Sum().add(a).value(); }},
+              {[&](uint32_t times) { must(proved(xs.data(), xs.size(), ys.data(), ys.size(), times, &b), it.name); },
+               [&] { return Sum().add(b).value(); }, 20});
   };
   row({"contains_union_inside", 0, Sum().add(1).value(), 3}, u.x, u.inside, &S2CellUnion::Contains, s2c_contains);
   row({"contains_union_itself", 0, Sum().add(1).value(), 3}, u.x, u.x, &S2CellUnion::Contains, s2c_contains);
@@ -212,8 +265,13 @@ static void denormalising(Table& table, const Unions& u) {
                    made = std::vector<S2CellId>();
                    x.Denormalize(min, modulus, &made);
                  }
-               }, [&] { return sum_of(ids_of(made)); }, 2},
-              {[&](uint32_t times) { must(s2c_denormalised(u.x.data(), u.x.size(), min, modulus, times, room.at(), room.size(), room.len()), it.name); }, [&] { return sum_of(room.made()); }, 2},
+               },
+               [&] { return sum_of(ids_of(made)); }, 2},
+              {[&](uint32_t times) {
+                 must(s2c_denormalised(u.x.data(), u.x.size(), min, modulus, times, room.at(), room.size(), room.len()),
+                      it.name);
+               },
+               [&] { return sum_of(room.made()); }, 2},
               [&] { return made.size(); });
   };
   row({"denormalise_level_11", 0, 0x9420967cca17adb5, 3}, 11, 1);
@@ -233,12 +291,17 @@ static void files(Table& table) {
                  cells.Encode(&encoder);
                  peer_bytes.assign(encoder.base(), encoder.length());
                }
-             }, [&] {
+             },
+             [&] {
                Sum sum;
                for (unsigned char byte : peer_bytes) sum.add(byte);
                return sum.value();
-             }, 2},
-            {[&](uint32_t times) { must(s2c_encode(ids.data(), ids.size(), times, bytes.data(), bytes.size(), &len), "encode"); }, [&] { return Sum().add_all(bytes).value(); }, 2});
+             },
+             2},
+            {[&](uint32_t times) {
+               must(s2c_encode(ids.data(), ids.size(), times, bytes.data(), bytes.size(), &len), "encode");
+             },
+             [&] { return Sum().add_all(bytes).value(); }, 2});
   must(s2c_encode(ids.data(), ids.size(), 1, bytes.data(), bytes.size(), &len), "encode");
   Room room(ids.size());
   table.row({"decode_and_normalise", ids.size(), 0x2a71494719421e09, 8},
@@ -249,8 +312,12 @@ static void files(Table& table) {
                  for (S2CellId cell : decoded) must(cell.is_valid(), "Decode");
                  decoded.Normalize();
                }
-             }, [&] { return sum_of(decoded); }, 2},
-            {[&](uint32_t times) { must(s2c_decode(bytes.data(), bytes.size(), times, room.at(), room.size(), room.len()), "decode"); }, [&] { return sum_of(room.made()); }, 2});
+             },
+             [&] { return sum_of(decoded); }, 2},
+            {[&](uint32_t times) {
+               must(s2c_decode(bytes.data(), bytes.size(), times, room.at(), room.size(), room.len()), "decode");
+             },
+             [&] { return sum_of(room.made()); }, 2});
 }
 
 static void coverings(Table& table) {
@@ -258,9 +325,9 @@ static void coverings(Table& table) {
   Room room(300000);
   S2CellUnion made;
   auto row = [&](Row it, bool outer, S2CellUnion (*peer)(const Bounds&, int, bool), Covering proved) {
-    table.row(it,
-              {[&](uint32_t) { made = peer(large, 20, outer); }, [&] { return sum_of(made); }},
-              {[&](uint32_t) { must(proved(&large, 20, room.at(), room.size(), room.len()), it.name); }, [&] { return sum_of(room.made()); }},
+    table.row(it, {[&](uint32_t) { made = peer(large, 20, outer); }, [&] { return sum_of(made); }},
+              {[&](uint32_t) { must(proved(&large, 20, room.at(), room.size(), room.len()), it.name); },
+               [&] { return sum_of(room.made()); }},
               [&] { return made.num_cells(); });
   };
   const u64 outer_sum = 0x34e7e225fe88cd2f, inner_sum = 0xb844960511bf68f7;
@@ -311,8 +378,10 @@ static void ranges(Table& table) {
   table.row({"range", 0, 0xb789253b3d76d2c2, 9},
             {[&](uint32_t) {
                a = Sum();
-               for (auto& [first, last] : ends) for (S2CellId cell : S2CellUnion::FromMinMax(S2CellId(first), S2CellId(last))) a.add(cell.id());
-             }, [&] { return a.value(); }},
+               for (auto& [first, last] : ends)
+                 for (S2CellId cell : S2CellUnion::FromMinMax(S2CellId(first), S2CellId(last))) a.add(cell.id());
+             },
+             [&] { return a.value(); }},
             {[&](uint32_t) {
                b = Sum();
                cells = 0;
@@ -321,7 +390,8 @@ static void ranges(Table& table) {
                  b.add_all(room);
                  cells += *room.len();
                }
-             }, [&] { return b.value(); }},
+             },
+             [&] { return b.value(); }},
             [&] { return cells; });
 }
 

@@ -24,7 +24,9 @@ static void sets(Table& table, const List& xs, const List& ys) {
   auto row = [&](const char* name, PeerOperation peer, SetCall call) {
     table.row({name, xs.size() + ys.size(), 0, 0},
               {[&](uint32_t) { peer_made = (x.*peer)(y); }, [&] { return sum_of(peer_made); }},
-              {[&](uint32_t) { made(call(xs.data(), xs.size(), ys.data(), ys.size(), room.at(), room.size(), room.len()), name); },
+              {[&](uint32_t) {
+                 made(call(xs.data(), xs.size(), ys.data(), ys.size(), room.at(), room.size(), room.len()), name);
+               },
                [&] { return sum_of(room.made()); }});
   };
   PeerOperation intersection = &S2CellUnion::Intersection;
@@ -48,12 +50,17 @@ static void own_times(const List& xs, const List& ys, int rounds) {
   Room room(2 * (xs.size() + ys.size()));
   for (int round = 0; round < rounds; round++) {
     for (Pair& pair : pairs) {
-      pair.alone.measure({[&](uint32_t times) {
-                            must(pair.own(xs.data(), xs.size(), ys.data(), ys.size(), times, room.at(), room.size(), room.len()), pair.name);
-                          }, nullptr, 4});
-      pair.whole.measure({[&](uint32_t) {
-                            made(pair.call(xs.data(), xs.size(), ys.data(), ys.size(), room.at(), room.size(), room.len()), pair.name);
-                          }, nullptr, 0});
+      pair.alone.measure(
+          {[&](uint32_t times) {
+             must(pair.own(xs.data(), xs.size(), ys.data(), ys.size(), times, room.at(), room.size(), room.len()),
+                  pair.name);
+           },
+           nullptr, 4});
+      pair.whole.measure(
+          {[&](uint32_t) {
+             made(pair.call(xs.data(), xs.size(), ys.data(), ys.size(), room.at(), room.size(), room.len()), pair.name);
+           },
+           nullptr, 0});
     }
   }
   printf("%-30s %10s %10s %8s\n", "operation_alone, milliseconds", "alone", "call", "ratio");
@@ -68,8 +75,15 @@ static void normalising(Table& table, const char* name, const List& cells) {
   List list;
   size_t len = 0;
   table.row({name, cells.size(), 0, 0},
-            {[&](uint32_t) { peer_made = peer; S2CellUnion::Normalize(&peer_made); }, [&] { return sum_of(ids_of(peer_made)); }},
-            {[&](uint32_t) { list = cells; made(s2u_normalise(list.data(), list.size(), &len), name); },
+            {[&](uint32_t) {
+               peer_made = peer;
+               S2CellUnion::Normalize(&peer_made);
+             },
+             [&] { return sum_of(ids_of(peer_made)); }},
+            {[&](uint32_t) {
+               list = cells;
+               made(s2u_normalise(list.data(), list.size(), &len), name);
+             },
              [&] { return sum_of(List(list.begin(), list.begin() + len)); }});
 }
 
@@ -83,15 +97,29 @@ static void questions(Table& table, const List& xs) {
   u64 peer_yes = 0, yes = 0;
   auto row = [&](const char* name, bool (S2CellUnion::*peer)(S2CellId) const, CellCall call) {
     table.row({name, N, 0, 0},
-              {[&](uint32_t) { peer_yes = 0; for (S2CellId cell : cells) peer_yes += (x.*peer)(cell); }, [&] { return peer_yes; }},
-              {[&](uint32_t) { yes = 0; for (u64 cell : asked) yes += static_cast<u64>(call(xs.data(), xs.size(), cell)); }, [&] { return yes; }});
+              {[&](uint32_t) {
+                 peer_yes = 0;
+                 for (S2CellId cell : cells) peer_yes += (x.*peer)(cell);
+               },
+               [&] { return peer_yes; }},
+              {[&](uint32_t) {
+                 yes = 0;
+                 for (u64 cell : asked) yes += static_cast<u64>(call(xs.data(), xs.size(), cell));
+               },
+               [&] { return yes; }});
   };
   row("contains_cell", &S2CellUnion::Contains, s2u_contains_cell);
   row("intersects_cell", &S2CellUnion::Intersects, s2u_intersects_cell);
   auto all = [&](const char* name) {
     table.row({name, N, 0, 0},
-              {[&](uint32_t) { peer_yes = 0; for (S2CellId cell : cells) peer_yes += x.Contains(cell); }, [&] { return peer_yes; }},
-              {[&](uint32_t) { made(s2u_contains_cells(xs.data(), xs.size(), asked.data(), N, answers.data(), N, &bad), name); },
+              {[&](uint32_t) {
+                 peer_yes = 0;
+                 for (S2CellId cell : cells) peer_yes += x.Contains(cell);
+               },
+               [&] { return peer_yes; }},
+              {[&](uint32_t) {
+                 made(s2u_contains_cells(xs.data(), xs.size(), asked.data(), N, answers.data(), N, &bad), name);
+               },
                [&] { return static_cast<u64>(std::count(answers.begin(), answers.end(), 1)); }});
   };
   all("contains_cells");
@@ -113,9 +141,10 @@ static void ancestors(Table& table, const List& xs) {
     std::sort(keys.begin(), keys.end());
     keys.erase(std::unique(keys.begin(), keys.end()), keys.end());
   };
-  table.row({"ancestors", xs.size(), 0, 0}, {collect, [&] { return sum_of(keys); }},
-            {[&](uint32_t) { made(s2u_ancestors(xs.data(), xs.size(), room.at(), room.size(), room.len()), "ancestors"); },
-             [&] { return sum_of(room.made()); }});
+  table.row(
+      {"ancestors", xs.size(), 0, 0}, {collect, [&] { return sum_of(keys); }},
+      {[&](uint32_t) { made(s2u_ancestors(xs.data(), xs.size(), room.at(), room.size(), room.len()), "ancestors"); },
+       [&] { return sum_of(room.made()); }});
 }
 
 // S2 has no call for these either.
@@ -140,7 +169,10 @@ static void texts(Table& table, const List& xs) {
              [&] { return Sum().add_text(text.substr(0, len)).value(); }});
   if (peer_text.empty()) write(1);
   table.row({"from_tokens", xs.size(), 0, 0}, {read, [&] { return sum_of(ids_of(peer_back)); }},
-            {[&](uint32_t) { made(s2u_from_tokens(peer_text.data(), peer_text.size(), back.data(), back.size(), &count), "from_tokens"); },
+            {[&](uint32_t) {
+               made(s2u_from_tokens(peer_text.data(), peer_text.size(), back.data(), back.size(), &count),
+                    "from_tokens");
+             },
              [&] { return sum_of(back); }});
 }
 

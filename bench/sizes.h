@@ -63,7 +63,9 @@ class Sizes {
     S2CellUnion x = peer_union(xs), y = peer_union(ys);
     bool a = false, b = false;
     auto theirs = [&](uint32_t times) { while (times-- > 0) a = (x.*peer)(y); };
-    auto ours = [&](uint32_t times) { must(proved(xs.data(), xs.size(), ys.data(), ys.size(), times, &b), name.c_str()); };
+    auto ours = [&](uint32_t times) {
+      must(proved(xs.data(), xs.size(), ys.data(), ys.size(), times, &b), name.c_str());
+    };
     table_.row({kept(name), 1, 0, 0}, {theirs, [&] { return Sum().add(a).value(); }, repeats(theirs)},
                {ours, [&] { return Sum().add(b).value(); }, repeats(ours)});
   }

@@ -35,7 +35,9 @@ class Best {
   double of(const Side& side) const { return side.more == 0 ? once_ : (all_ - once_) / side.more; }
 
  private:
-  static double now() { return std::chrono::duration<double, std::nano>(std::chrono::steady_clock::now().time_since_epoch()).count(); }
+  static double now() {
+    return std::chrono::duration<double, std::nano>(std::chrono::steady_clock::now().time_since_epoch()).count();
+  }
 
   static double time_of(const Side& side, uint32_t times) {
     double start = now();
@@ -73,7 +75,8 @@ class Table {
     else printf("%8s %6s  ", "", "");
     printf("%016llx", static_cast<unsigned long long>(proved_sum));
     if (peer_sum != proved_sum) printf("  DIFFERS from S2's %016llx", static_cast<unsigned long long>(peer_sum));
-    if (row.sum != 0 && row.sum != proved_sum) printf("  DIFFERS from the known %016llx", static_cast<unsigned long long>(row.sum));
+    if (row.sum != 0 && row.sum != proved_sum)
+      printf("  DIFFERS from the known %016llx", static_cast<unsigned long long>(row.sum));
     printf("\n");
     fflush(stdout);
   }

@@ -1,4 +1,5 @@
-// The proved library and S2 asked the same random questions: peer [CASES [SEED]]. It stops at the first answer that differs.
+// The proved library and S2 asked the same random questions: peer [CASES [SEED]]. It stops at the first answer that
+// differs.
 #include "rectangle.h"
 #include "sides.h"
 
@@ -19,7 +20,8 @@ static void same(const Value& proved, const Value& peer, const std::string& abou
 
 static void same_cells(const Room& proved, const List& peer, const std::string& about) {
   if (proved.made() == peer) return;
-  fprintf(stderr, "%s differs for %s\n  proved  %s\n  S2      %s\n", question, about.c_str(), text_of(proved.made()).c_str(), text_of(peer).c_str());
+  fprintf(stderr, "%s differs for %s\n  proved  %s\n  S2      %s\n", question, about.c_str(),
+          text_of(proved.made()).c_str(), text_of(peer).c_str());
   exit(1);
 }
 
@@ -129,10 +131,13 @@ static void unions(Random& random) {
   auto answers = std::make_unique<bool[]>(others.size());
   question = "contains_cells";
   must(s2c_contains_cells(xs.data(), xs.size(), others.data(), others.size(), answers.get(), others.size()), question);
-  for (size_t k = 0; k < others.size(); k++) same(answers[k], x.Contains(S2CellId(others[k])), text_of(xs) + "and " + text_of({others[k]}));
+  for (size_t k = 0; k < others.size(); k++)
+    same(answers[k], x.Contains(S2CellId(others[k])), text_of(xs) + "and " + text_of({others[k]}));
   question = "intersects_cells";
-  must(s2c_intersects_cells(xs.data(), xs.size(), others.data(), others.size(), answers.get(), others.size()), question);
-  for (size_t k = 0; k < others.size(); k++) same(answers[k], x.Intersects(S2CellId(others[k])), text_of(xs) + "and " + text_of({others[k]}));
+  must(s2c_intersects_cells(xs.data(), xs.size(), others.data(), others.size(), answers.get(), others.size()),
+       question);
+  for (size_t k = 0; k < others.size(); k++)
+    same(answers[k], x.Intersects(S2CellId(others[k])), text_of(xs) + "and " + text_of({others[k]}));
 
   int min = std::min(30, S2CellId(around).level() + static_cast<int>(random.below(5))), modulus = 1 + random.below(3);
   std::vector<S2CellId> cut;
@@ -163,7 +168,9 @@ static void files(Random& random) {
   question = "decode";
   Encoder unsorted;
   peer_union(given).Encode(&unsorted);
-  must(s2c_decode(reinterpret_cast<const uint8_t*>(unsorted.base()), unsorted.length(), 1, room.at(), room.size(), room.len()), question);
+  must(s2c_decode(reinterpret_cast<const uint8_t*>(unsorted.base()), unsorted.length(), 1, room.at(), room.size(),
+                  room.len()),
+       question);
   same_cells(room, xs, text_of(given));
   files_of_s2_read++;
 }
@@ -190,7 +197,8 @@ static void coverings(Random& random) {
   bounds(&r.i0, &r.i1);
   bounds(&r.j0, &r.j1);
   int level = random.below(std::min(30, 30 - bits + 6) + 1);
-  std::string about = std::to_string(r.face) + " " + std::to_string(r.i0) + " " + std::to_string(r.i1) + " " + std::to_string(r.j0) + " " + std::to_string(r.j1) + " at " + std::to_string(level);
+  std::string about = std::to_string(r.face) + " " + std::to_string(r.i0) + " " + std::to_string(r.i1) + " " +
+                      std::to_string(r.j0) + " " + std::to_string(r.j1) + " at " + std::to_string(level);
   auto ask = [&](const char* name, Covering proved, const S2CellUnion& peer) {
     question = name;
     must(proved(&r, level, room.at(), room.size(), room.len()), name);
@@ -215,6 +223,7 @@ int main(int argc, char** argv) {
     ranges(random);
     if (k % 20 == 0) coverings(random);
   }
-  printf("union files: %ld with the bytes of S2's S2CellUnion::Encode, %ld read by S2, %ld of S2's read\n", files_same, files_read_by_s2, files_of_s2_read);
+  printf("union files: %ld with the bytes of S2's S2CellUnion::Encode, %ld read by S2, %ld of S2's read\n", files_same,
+         files_read_by_s2, files_of_s2_read);
   printf("%ld random cases with the seed %llu, none different\n", cases, static_cast<unsigned long long>(seed));
 }

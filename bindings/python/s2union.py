@@ -1,7 +1,7 @@
 """Unions of S2 cells, proved.
 
-A `Union` is a set of leaf cells of the sphere, kept as the one normalised list of cells that covers it. It is immutable,
-and works like a set:
+A `Union` is a set of leaf cells of the sphere, kept as the one normalised list of cells that covers it. It is
+immutable, and works like a set:
 
 >>> from s2union import Union, from_token
 >>> a = Union.from_tokens(["04", "0c", "14", "1c"])   # four siblings are their parent
@@ -13,18 +13,18 @@ and works like a set:
 >>> b < a, a | b == a, a & b == b, from_token("14") in b
 (True, True, True, False)
 
-Cells are their identifiers, as `int`. All work is done by the library libs2union, whose every call is proved; this module
-turns its statuses into exceptions and does no arithmetic on cells. The library is looked for at $S2UNION_LIBRARY, beside
-this module, in the folder above it, and in the system's own places.
+Cells are their identifiers, as `int`. All work is done by the library libs2union, whose every call is proved; this
+module turns its statuses into exceptions and does no arithmetic on cells. The library is looked for at
+$S2UNION_LIBRARY, beside this module, in the folder above it, and in the system's own places.
 """
 
 import ctypes as _c
 import os as _os
 from array import array as _array
 
-__all__ = ["Union", "UnionFile", "version", "is_cell", "level", "face", "parent", "child", "range_min", "range_max", "size",
-           "next_cell", "previous_cell", "common_ancestor", "contains", "intersects", "from_face_ij", "square", "token",
-           "from_token", "debug", "from_debug"]
+__all__ = ["Union", "UnionFile", "version", "is_cell", "level", "face", "parent", "child", "range_min", "range_max",
+           "size", "next_cell", "previous_cell", "common_ancestor", "contains", "intersects", "from_face_ij", "square",
+           "token", "from_token", "debug", "from_debug"]
 
 _OK, _ROOM, _MEMORY, _NO_CELL, _NO_UNION, _ARGUMENT, _MANY = 0, -1, -2, -3, -4, -5, -6
 _TEXTS = {_NO_CELL: "no cell", _NO_UNION: "no normalised list of cells", _ARGUMENT: "argument out of range",
@@ -453,7 +453,8 @@ class UnionFile:
 class Union:
     """An immutable set of leaf cells, as the one normalised list of cells that covers it.
 
-    `Union(cells)` takes any iterable of cells, in any order, or a buffer of unsigned 64-bit integers, as numpy's uint64.
+    `Union(cells)` takes any iterable of cells, in any order, or a buffer of unsigned 64-bit integers, as numpy's
+    uint64.
     """
 
     __slots__ = ("_cells", "_hash")
@@ -627,7 +628,7 @@ class Union:
         return memoryview(answers).cast("?")
 
     def contains_cells(self, cells):
-        """Whether the union has all leaves of each cell in turn: a memoryview of bool, which numpy takes as an array."""
+        """Whether the union has all leaves of each cell in turn: a memoryview of bool, which is an array to numpy."""
         return self._ask_all(_contains_cells, cells)
 
     def intersects_cells(self, cells):
@@ -648,7 +649,9 @@ class Union:
         return self._with(_intersection, other, len(self) + len(other)) if isinstance(other, Union) else NotImplemented
 
     def __sub__(self, other):
-        return self._with(_difference, other, len(self) + len(other) + 90) if isinstance(other, Union) else NotImplemented
+        if not isinstance(other, Union):
+            return NotImplemented
+        return self._with(_difference, other, len(self) + len(other) + 90)
 
     def __xor__(self, other):
         return (self - other) | (other - self) if isinstance(other, Union) else NotImplemented

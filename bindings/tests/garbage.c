@@ -29,7 +29,8 @@ int main(void) {
     if (round % 8 == 0 && s2u_normalise(ys, ny, &len) == S2U_OK) ys = memmove(ys_end - len, ys, 8 * len), ny = len;
     int32_t status = s2u_contains_cell(xs, nx, cell);
     CHECK(is_answer(status) || (status == S2U_NO_CELL && !s2u_is_cell(cell)));
-    CHECK(status == s2u_contains_cell(xs, nx, cell) && (is_answer(s2u_intersects_cell(xs, nx, cell)) || !s2u_is_cell(cell)));
+    CHECK(status == s2u_contains_cell(xs, nx, cell) &&
+          (is_answer(s2u_intersects_cell(xs, nx, cell)) || !s2u_is_cell(cell)));
     CHECK(s2u_cells_at(xs, nx, cell, &first, &count) == S2U_OK || !s2u_is_cell(cell));
     CHECK(is_answer(s2u_contains(xs, nx, ys, ny)) && is_answer(s2u_intersects(xs, nx, ys, ny)));
     CHECK(s2u_compare(xs, nx, ys, ny) == -s2u_compare(ys, ny, xs, nx));
@@ -40,20 +41,25 @@ int main(void) {
     CHECK(status == (s2u_is_union(xs, nx) && s2u_is_union(ys, ny) ? (len > room ? S2U_ROOM : S2U_OK) : S2U_NO_UNION));
     for (size_t k = status == S2U_OK ? len : 0; k < room; k++) CHECK(out[k] == 7);
     status = s2u_difference(xs, nx, ys, ny, out, room, &len);
-    CHECK(status == S2U_OK ? s2u_is_union(out, len) && len <= room : status == S2U_NO_UNION || (status == S2U_ROOM && len > room));
+    CHECK(status == S2U_OK ? s2u_is_union(out, len) && len <= room
+                           : status == S2U_NO_UNION || (status == S2U_ROOM && len > room));
     status = s2u_ancestors(xs, nx, out, room, &len);
-    CHECK(s2u_is_union(xs, nx) ? len >= nx && len <= S2U_MOST_ANCESTORS(nx) && status == (len > room ? S2U_ROOM : S2U_OK)
-                               : status == S2U_NO_UNION && len == 0);
+    CHECK(s2u_is_union(xs, nx)
+              ? len >= nx && len <= S2U_MOST_ANCESTORS(nx) && status == (len > room ? S2U_ROOM : S2U_OK)
+              : status == S2U_NO_UNION && len == 0);
     (void)s2u_denormalised(xs, nx, (uint32_t)(draw() % 40), (uint32_t)(draw() % 5), out, room, &len);
     char* text = text_end - draw() % (17 * MOST);
     size_t at_most = (size_t)(text_end - text);
     status = s2u_tokens(xs, nx, text, at_most, &len);
-    CHECK(status == S2U_OK ? len <= at_most : status == S2U_ROOM ? len > at_most && len <= S2U_MOST_TOKENS(nx) : len == 0);
+    CHECK(status == S2U_OK     ? len <= at_most
+          : status == S2U_ROOM ? len > at_most && len <= S2U_MOST_TOKENS(nx)
+                               : len == 0);
     if (status == S2U_OK) {
       if (len && draw() % 2) text[draw() % len] = (char)draw();
       size_t place = len, got = 77;
       status = s2u_from_tokens(text, place, out, room, &got);
-      CHECK(status == S2U_NO_CELL ? got < place : got <= S2U_MOST_NAMED(place) && status == (got > room ? S2U_ROOM : S2U_OK));
+      CHECK(status == S2U_NO_CELL ? got < place
+                                  : got <= S2U_MOST_NAMED(place) && status == (got > room ? S2U_ROOM : S2U_OK));
       texts += status == S2U_OK;
     }
     size_t size = draw() % (9 + 8 * MOST);

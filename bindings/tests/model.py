@@ -1,4 +1,4 @@
-"""A plain model of cells and unions: a cell is its level and its place, a union the sorted list of its runs of leaves."""
+"""A plain model of cells and unions: a cell is its level and place, a union the sorted list of its runs of leaves."""
 
 LEAVES = 6 * 4**30
 
@@ -89,7 +89,8 @@ def within(xs, level):
 
 def ancestors(cells):
     """The cells and all their ancestors, each once."""
-    return sorted({identifier(k, place // 4 ** (level - k)) for level, place in map(cell, cells) for k in range(level + 1)})
+    places = map(cell, cells)
+    return sorted({identifier(k, place // 4 ** (level - k)) for level, place in places for k in range(level + 1)})
 
 
 def file(cells):

@@ -45,7 +45,12 @@ static int32_t intersect(void) { return s2u_intersection(xs, nx, ys, ny, out, RO
 static int32_t subtract(void) { return s2u_difference(xs, nx, ys, ny, out, ROOM, &len); }
 static int32_t range(void) { return s2u_range(1, xs[nx - 1], out, ROOM, &len); }
 static int32_t cut(void) { return s2u_denormalised(xs, 40, 12, 1, out, ROOM, &len); }
-static int32_t cut_len(void) { uint64_t n = 0; int32_t status = s2u_denormalised_len(xs, nx, 12, 1, &n); len = (size_t)n; return status; }
+static int32_t cut_len(void) {
+  uint64_t n = 0;
+  int32_t status = s2u_denormalised_len(xs, nx, 12, 1, &n);
+  len = (size_t)n;
+  return status;
+}
 static int32_t ancestors(void) { return s2u_ancestors(xs, nx, out, ROOM, &len); }
 static int32_t of_file(void) { return s2u_file_ancestors(file, nfile, out, ROOM, &len); }
 static int32_t outer(void) { return s2u_outer(&rect, 14, 1000000, out, ROOM, &len); }

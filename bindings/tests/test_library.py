@@ -30,7 +30,8 @@ class AgainstTheModel(unittest.TestCase):
             cell = model.cell(number)
             self.assertEqual(s2union.is_cell(number), cell is not None)
             if cell is None:
-                for call in ("level", "face", "range_min", "range_max", "size", "token", "debug", "square", "next_cell"):
+                calls = ("level", "face", "range_min", "range_max", "size", "token", "debug", "square", "next_cell")
+                for call in calls:
                     self.assertRaises(ValueError, getattr(s2union, call), number)
                 continue
             level, place = cell
@@ -136,7 +137,8 @@ class AgainstTheModel(unittest.TestCase):
             for made, want in ((xs.outer, model.around), (xs.inner, model.within)):
                 self.assertEqual(list(made(level)), model.normal(want(runs, level)))
             side = 2 ** self.random.randint(0, 5)
-            i, j, face = self.random.randrange(2**30 - side), self.random.randrange(2**30 - side), self.random.randrange(6)
+            i, j = self.random.randrange(2**30 - side), self.random.randrange(2**30 - side)
+            face = self.random.randrange(6)
             leaves = [(s2union.from_face_ij(face, i + k % side, j + k // side) // 2,) for k in range(side * side)]
             square = model.joined([(leaf, leaf + 1) for leaf, in leaves])
             level = self.random.randint(20, 30)

@@ -10,7 +10,8 @@ static void* rounds(void* wrong) {
   uint64_t *out = malloc(sizeof want), *list = malloc(sizeof raw);
   size_t len;
   for (int k = 0; k < ROUNDS; k++) {
-    *(long*)wrong += s2u_union(x, nx, y, ny, out, 100 * N, &len) != S2U_OK || len != wanted || memcmp(out, want, 8 * len);
+    *(long*)wrong +=
+        s2u_union(x, nx, y, ny, out, 100 * N, &len) != S2U_OK || len != wanted || memcmp(out, want, 8 * len);
     *(long*)wrong += s2u_difference(x, nx, y, ny, out, 100 * N, &len) != S2U_OK || s2u_contains(x, nx, out, len) != 1;
     memcpy(list, raw, sizeof raw);
     *(long*)wrong += s2u_normalise(list, N, &len) != S2U_OK || len != nx || memcmp(list, x, 8 * nx);

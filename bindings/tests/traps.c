@@ -37,7 +37,8 @@ static void numbers_that_are_no_cell(void) {
 static void arguments_out_of_range(void) {
   uint64_t out[4], many = 77;
   size_t len = 77;
-  CHECK(s2u_from_face_ij(6, 0, 0) == 0 && s2u_from_face_ij(0, 1u << 30, 0) == 0 && s2u_from_face_ij(0, 0, 1u << 30) == 0);
+  CHECK(s2u_from_face_ij(6, 0, 0) == 0 && s2u_from_face_ij(0, 1u << 30, 0) == 0 &&
+        s2u_from_face_ij(0, 0, 1u << 30) == 0);
   CHECK(s2u_from_face_ij(0xffffffffu, 0xffffffffu, 0xffffffffu) == 0);
   CHECK(s2u_parent(face, 1) == 0 && s2u_parent(face, 0xffffffffu) == 0 && s2u_parent(1, 256) == 0);
   CHECK(s2u_child(face, 4) == 0 && s2u_child(face, 256) == 0 && s2u_child(1, 0) == 0);
@@ -63,7 +64,8 @@ static void lists_that_are_no_union(void) {
   }
   len = 77;
   CHECK(s2u_ancestors(unordered, 2, out, 4, &len) == S2U_NO_UNION && len == 0 && out[0] == 7);
-  CHECK(s2u_ancestors(wrong, 1, out, 4, &len) == S2U_NO_UNION && s2u_ancestors(siblings, 4, out, 4, &len) == S2U_NO_UNION);
+  CHECK(s2u_ancestors(wrong, 1, out, 4, &len) == S2U_NO_UNION &&
+        s2u_ancestors(siblings, 4, out, 4, &len) == S2U_NO_UNION);
   CHECK(s2u_is_union(unordered, 2) == 0 && s2u_is_union(siblings, 4) == 0 && s2u_is_union(siblings, 3) == 1);
   CHECK(s2u_denormalised_len(unordered, 2, 1, 1, &many) == S2U_NO_UNION && many == 0);
   CHECK(s2u_denormalised(unordered, 2, 1, 1, out, 4, &len) == S2U_NO_UNION && len == 0);
@@ -117,7 +119,8 @@ static void rooms(void) {
     for (size_t k = 0; k < room; k++) out[k] = 7;
     status = s2u_ancestors(siblings, 3, out, room, &len);
     CHECK(len == 4 && status == (room < 4 ? S2U_ROOM : S2U_OK));
-    CHECK(status != S2U_OK || (out[0] == siblings[0] && out[1] == siblings[1] && out[2] == face && out[3] == siblings[2]));
+    CHECK(status != S2U_OK ||
+          (out[0] == siblings[0] && out[1] == siblings[1] && out[2] == face && out[3] == siblings[2]));
     for (size_t k = status == S2U_OK ? 4 : 0; k < room; k++) CHECK(out[k] == 7);
     len = 77;
     status = s2u_denormalised(&face, 1, 1, 1, out, room, &len);
@@ -171,7 +174,8 @@ static void nothing_at_all(void) {
   CHECK(s2u_is_union(NULL, 0) == 1 && s2u_leaf_count(NULL, 0) == 0 && s2u_compare(NULL, 0, NULL, 0) == 0);
   CHECK(s2u_contains_cell(NULL, 0, face) == 0 && s2u_intersects_cell(NULL, 0, face) == 0);
   CHECK(s2u_cells_at(NULL, 0, face, &first, &count) == S2U_OK && first == 0 && count == 0);
-  CHECK(s2u_contains(NULL, 0, NULL, 0) == 1 && s2u_contains(&face, 1, NULL, 0) == 1 && s2u_contains(NULL, 0, &face, 1) == 0);
+  CHECK(s2u_contains(NULL, 0, NULL, 0) == 1 && s2u_contains(&face, 1, NULL, 0) == 1 &&
+        s2u_contains(NULL, 0, &face, 1) == 0);
   CHECK(s2u_intersects(NULL, 0, &face, 1) == 0 && s2u_compare(NULL, 0, &face, 1) == -1);
   CHECK(s2u_ancestors(NULL, 0, NULL, 0, &len) == S2U_OK && len == 0);
   CHECK(s2u_file_ancestors(NULL, 0, NULL, 0, &len) == S2U_FILE_SHORT && len == 0);

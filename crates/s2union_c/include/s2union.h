@@ -74,11 +74,11 @@ typedef struct s2u_rect {
   uint32_t face, i0, i1, j0, j1;
 } s2u_rect;
 
-/* ---- the library -------------------------------------------------------------------------------------------------- */
+/* ---- the library ------------------------------------------------------------------------------------------------- */
 
 uint32_t s2u_version(void); /* [pure] S2U_VERSION of the library that runs */
 
-/* ---- cells: all [pure], all for every number ------------------------------------------------------------------------ */
+/* ---- cells: all [pure], all for every number --------------------------------------------------------------------- */
 
 int32_t s2u_is_cell(uint64_t id); /* 1 or 0. S2CellId::is_valid */
 int32_t s2u_level(uint64_t id);   /* 0 (a face) to 30 (a leaf), or S2U_NO_CELL */
@@ -94,15 +94,18 @@ uint64_t s2u_child(uint64_t id, uint32_t child);
 uint64_t s2u_range_min(uint64_t id);
 uint64_t s2u_range_max(uint64_t id);
 uint64_t s2u_size(uint64_t id);                             /* how many leaves it has, 1 to 4^30; 0: no cell */
-uint64_t s2u_next(uint64_t id);                             /* the next cell of its level, across faces; 0 after the last */
+/* The next cell of its level, across faces; 0 after the last. */
+uint64_t s2u_next(uint64_t id);
 uint64_t s2u_prev(uint64_t id);                             /* the one before; 0 before the first */
-uint64_t s2u_common_ancestor(uint64_t a, uint64_t b);       /* the smallest cell that holds both; 0: on two faces, or no cell */
+/* The smallest cell that holds both; 0: on two faces, or no cell. */
+uint64_t s2u_common_ancestor(uint64_t a, uint64_t b);
 int32_t s2u_cell_contains(uint64_t whole, uint64_t part);   /* 1, 0 or S2U_NO_CELL */
 int32_t s2u_cell_intersects(uint64_t a, uint64_t b);        /* 1, 0 or S2U_NO_CELL */
-uint64_t s2u_from_face_ij(uint32_t face, uint32_t i, uint32_t j); /* the leaf at a place; 0: a face above 5, i or j from 2^30 */
+/* The leaf at a place; 0: a face above 5, i or j from 2^30. */
+uint64_t s2u_from_face_ij(uint32_t face, uint32_t i, uint32_t j);
 int32_t s2u_square_of(uint64_t id, s2u_square* square);     /* S2U_OK or S2U_NO_CELL (square is then not touched) */
 
-/* ---- texts: all [pure] ---------------------------------------------------------------------------------------------- */
+/* ---- texts: all [pure] ------------------------------------------------------------------------------------------- */
 
 #define S2U_MOST_TOKEN 16 /* bytes of a token, without a NUL, which no call writes or reads */
 #define S2U_MOST_DEBUG 32
@@ -119,9 +122,9 @@ int32_t s2u_from_debug(const char* text, size_t n, uint64_t* id);
  * S2U_MANY (2^64 bytes or more, which takes 10^18 cells). Two passes. */
 #define S2U_MOST_TOKENS(n) (17 * (n))
 int32_t s2u_tokens(const uint64_t* ids, size_t n, char* text, size_t room, size_t* len);
-/* The cells that a text names, in its order and each time that it names one: words with blanks, tabs, line ends or commas
- * between them, each a token or a debug text. At most S2U_MOST_NAMED(n) cells. S2U_ROOM. S2U_NO_CELL: a word names none,
- * *len is the place in the text where the first such word begins, and out is not touched. Two passes. */
+/* The cells that a text names, in its order and each time that it names one: words with blanks, tabs, line ends or
+ * commas between them, each a token or a debug text. At most S2U_MOST_NAMED(n) cells. S2U_ROOM. S2U_NO_CELL: a word
+ * names none, *len is the place in the text where the first such word begins, and out is not touched. Two passes. */
 #define S2U_MOST_NAMED(n) ((n) / 2 + (n) % 2)
 int32_t s2u_from_tokens(const char* text, size_t n, uint64_t* out, size_t room, size_t* len);
 
@@ -131,22 +134,26 @@ int32_t s2u_from_tokens(const char* text, size_t n, uint64_t* out, size_t room, 
  * one, the answer is 0 or 1 and means nothing; the call is as safe as any other. */
 
 int32_t s2u_is_union(const uint64_t* ids, size_t n);                       /* 1 or 0. n steps */
-uint64_t s2u_leaf_count(const uint64_t* ids, size_t n);                    /* at most 6 * 4^30, which an int64_t holds. n steps */
+/* At most 6 * 4^30, which an int64_t holds. n steps. */
+uint64_t s2u_leaf_count(const uint64_t* ids, size_t n);
 int32_t s2u_contains_cell(const uint64_t* ids, size_t n, uint64_t cell);   /* 1, 0 or S2U_NO_CELL. log n steps */
 int32_t s2u_intersects_cell(const uint64_t* ids, size_t n, uint64_t cell); /* the same: whether they share a leaf */
 /* The cells of the union that share a leaf with the cell: ids[*first .. *first + *count). log n steps. */
 int32_t s2u_cells_at(const uint64_t* ids, size_t n, uint64_t cell, size_t* first, size_t* count);
-/* answers[k] is 1 or 0 for cells[k], k below m. S2U_NO_CELL: one is none, and *bad is the first such k. S2U_ROOM: room is
- * less than m, and *bad is m. After a refusal answers is not touched. Each search begins at the place of the one before:
- * cells in order are quick. */
-int32_t s2u_contains_cells(const uint64_t* ids, size_t n, const uint64_t* cells, size_t m, uint8_t* answers, size_t room, size_t* bad);
-int32_t s2u_intersects_cells(const uint64_t* ids, size_t n, const uint64_t* cells, size_t m, uint8_t* answers, size_t room, size_t* bad);
-int32_t s2u_contains(const uint64_t* xs, size_t nx, const uint64_t* ys, size_t ny);   /* all leaves of ys are in xs: 1 or 0 */
-int32_t s2u_intersects(const uint64_t* xs, size_t nx, const uint64_t* ys, size_t ny); /* they share a leaf: 1 or 0 */
+/* answers[k] is 1 or 0 for cells[k], k below m. S2U_NO_CELL: one is none, and *bad is the first such k. S2U_ROOM: room
+ * is less than m, and *bad is m. After a refusal answers is not touched. Each search begins at the place of the one
+ * before: cells in order are quick. */
+int32_t s2u_contains_cells(const uint64_t* ids, size_t n, const uint64_t* cells, size_t m, uint8_t* answers,
+                           size_t room, size_t* bad);
+int32_t s2u_intersects_cells(const uint64_t* ids, size_t n, const uint64_t* cells, size_t m, uint8_t* answers,
+                             size_t room, size_t* bad);
+/* Whether all leaves of ys are in xs, and whether they share a leaf: 1 or 0. */
+int32_t s2u_contains(const uint64_t* xs, size_t nx, const uint64_t* ys, size_t ny);
+int32_t s2u_intersects(const uint64_t* xs, size_t nx, const uint64_t* ys, size_t ny);
 /* -1, 0 or 1: the order of lists, element by element and then by length. No refusal. A total order, for B-trees. */
 int32_t s2u_compare(const uint64_t* xs, size_t nx, const uint64_t* ys, size_t ny);
 
-/* ---- making unions --------------------------------------------------------------------------------------------------- */
+/* ---- making unions ----------------------------------------------------------------------------------------------- */
 
 /* [pure] Normalises a list of cells in place; they may be in any order, repeated, or inside one another. *len is then
  * the new length, at most n; what the list holds after that has no meaning. S2U_NO_CELL: a number is not a cell; the
@@ -155,11 +162,14 @@ int32_t s2u_compare(const uint64_t* xs, size_t nx, const uint64_t* ys, size_t ny
 int32_t s2u_normalise(uint64_t* ids, size_t n, size_t* len);
 
 /* S2U_ROOM, S2U_MEMORY, S2U_NO_UNION. At most nx + ny cells, but for a difference; 24 (nx + ny) bytes. */
-int32_t s2u_union(const uint64_t* xs, size_t nx, const uint64_t* ys, size_t ny, uint64_t* out, size_t room, size_t* len);
-int32_t s2u_intersection(const uint64_t* xs, size_t nx, const uint64_t* ys, size_t ny, uint64_t* out, size_t room, size_t* len);
+int32_t s2u_union(const uint64_t* xs, size_t nx, const uint64_t* ys, size_t ny, uint64_t* out,
+                  size_t room, size_t* len);
+int32_t s2u_intersection(const uint64_t* xs, size_t nx, const uint64_t* ys, size_t ny, uint64_t* out,
+                         size_t room, size_t* len);
 /* At most S2U_MOST_DIFFERENCE cells (a leaf taken out of a face leaves 90); nearly always less than nx + ny. */
 #define S2U_MOST_DIFFERENCE(nx, ny) ((nx) + 90 * (ny))
-int32_t s2u_difference(const uint64_t* xs, size_t nx, const uint64_t* ys, size_t ny, uint64_t* out, size_t room, size_t* len);
+int32_t s2u_difference(const uint64_t* xs, size_t nx, const uint64_t* ys, size_t ny, uint64_t* out,
+                       size_t room, size_t* len);
 
 /* All leaves from the first of `first` to the last of `last`, also across faces. S2U_ROOM, S2U_MEMORY, S2U_NO_CELL,
  * S2U_ARGUMENT (the last leaf comes before the first). */
@@ -170,7 +180,8 @@ int32_t s2u_range(uint64_t first, uint64_t last, uint64_t* out, size_t room, siz
  * `modulus` (1 to 3); to leaves if there is none. Ask for the length first: a face has 4^30 leaves.
  * S2U_NO_UNION, S2U_ARGUMENT, S2U_MEMORY, S2U_ROOM (found before any cell is made). */
 int32_t s2u_denormalised_len(const uint64_t* ids, size_t n, uint32_t min, uint32_t modulus, uint64_t* len);
-int32_t s2u_denormalised(const uint64_t* ids, size_t n, uint32_t min, uint32_t modulus, uint64_t* out, size_t room, size_t* len);
+int32_t s2u_denormalised(const uint64_t* ids, size_t n, uint32_t min, uint32_t modulus, uint64_t* out,
+                         size_t room, size_t* len);
 
 /* The cells of a union and all their ancestors, ascending, each once. Two unions share a leaf exactly if a cell of one
  * is among the cells and ancestors of the other: the law of every inverted index over cells, proved. S2U_ROOM,
@@ -178,7 +189,7 @@ int32_t s2u_denormalised(const uint64_t* ids, size_t n, uint32_t min, uint32_t m
 #define S2U_MOST_ANCESTORS(n) (31 * (n))
 int32_t s2u_ancestors(const uint64_t* ids, size_t n, uint64_t* out, size_t room, size_t* len);
 
-/* ---- coverings at one level ------------------------------------------------------------------------------------------
+/* ---- coverings at one level -----------------------------------------------------------------------------------------
  *
  * The outer covering: the cells of the level that share a leaf with the region, normalised; the inner: those that lie
  * in it. S2U_ROOM, S2U_MEMORY, S2U_ARGUMENT, S2U_NO_UNION, S2U_MANY if it would have more than `most` cells (which
@@ -187,38 +198,45 @@ int32_t s2u_ancestors(const uint64_t* ids, size_t n, uint64_t* out, size_t room,
 #define S2U_MOST_COVERING 1000000
 int32_t s2u_outer(const s2u_rect* rect, uint32_t level, size_t most, uint64_t* out, size_t room, size_t* len);
 int32_t s2u_inner(const s2u_rect* rect, uint32_t level, size_t most, uint64_t* out, size_t room, size_t* len);
-int32_t s2u_outer_of(const uint64_t* ids, size_t n, uint32_t level, size_t most, uint64_t* out, size_t room, size_t* len);
-int32_t s2u_inner_of(const uint64_t* ids, size_t n, uint32_t level, size_t most, uint64_t* out, size_t room, size_t* len);
+int32_t s2u_outer_of(const uint64_t* ids, size_t n, uint32_t level, size_t most, uint64_t* out,
+                     size_t room, size_t* len);
+int32_t s2u_inner_of(const uint64_t* ids, size_t n, uint32_t level, size_t most, uint64_t* out,
+                     size_t room, size_t* len);
 
-/* ---- files -----------------------------------------------------------------------------------------------------------
+/* ---- files ----------------------------------------------------------------------------------------------------------
  *
- * The bytes that S2's own S2CellUnion::Encode writes in C++, Go and Java: the byte 1, the number of cells in eight bytes,
- * and eight bytes for each, the lowest first. One union has one file: encode is a function of the set, so files may be
- * compared, hashed and keys. Any number of cells (S2's decoders take 1,000,000 unless told otherwise). */
+ * The bytes that S2's own S2CellUnion::Encode writes in C++, Go and Java: the byte 1, the number of cells in eight
+ * bytes, and eight bytes for each, the lowest first. One union has one file: encode is a function of the set, so files
+ * may be compared, hashed and keys. Any number of cells (S2's decoders take 1,000,000 unless told otherwise). */
 
 #define S2U_FILE_SIZE(n) (9 + 8 * (n))        /* exactly */
 #define S2U_MOST_IN_FILE(bytes) ((bytes) < 9 ? 0 : ((bytes) - 9) / 8)
 
-int32_t s2u_encode(const uint64_t* ids, size_t n, uint8_t* out, size_t room, size_t* len); /* S2U_ROOM, S2U_MEMORY, S2U_NO_UNION */
+/* S2U_ROOM, S2U_MEMORY, S2U_NO_UNION. */
+int32_t s2u_encode(const uint64_t* ids, size_t n, uint8_t* out, size_t room, size_t* len);
 /* Takes cells in any order and answers the union. S2U_ROOM, S2U_MEMORY, S2U_FILE_* (the first check that fails). */
 int32_t s2u_decode(const uint8_t* bytes, size_t n, uint64_t* out, size_t room, size_t* len);
-/* [pure] 1: the file that encode writes of some union; 0: another file, which decode takes; else S2U_FILE_*. n steps. */
+/* [pure] 1: the file that encode writes of some union; 0: another file, which decode takes; else S2U_FILE_*.
+ * n steps. */
 int32_t s2u_file_check(const uint8_t* bytes, size_t n);
 
-/* Questions of a file that lies in a row of a table, at any address: [pure], no copy. The frame is checked (S2U_FILE_*);
- * that it is encode's own is not (s2u_file_check does: once, when it comes in), and else 0 or 1 means nothing. */
+/* Questions of a file that lies in a row of a table, at any address: [pure], no copy. The frame is checked
+ * (S2U_FILE_*); that it is encode's own is not (s2u_file_check does: once, when it comes in), and else 0 or 1 means
+ * nothing. */
 int32_t s2u_file_count(const uint8_t* bytes, size_t n, uint64_t* count);
 int32_t s2u_file_leaf_count(const uint8_t* bytes, size_t n, uint64_t* leaves);        /* n steps */
-int32_t s2u_file_cell(const uint8_t* bytes, size_t n, uint64_t k, uint64_t* id);      /* S2U_ARGUMENT: k from the count on */
+/* S2U_ARGUMENT: k from the count on. */
+int32_t s2u_file_cell(const uint8_t* bytes, size_t n, uint64_t k, uint64_t* id);
 int32_t s2u_file_contains_cell(const uint8_t* bytes, size_t n, uint64_t cell);        /* log n steps; S2U_NO_CELL */
 int32_t s2u_file_intersects_cell(const uint8_t* bytes, size_t n, uint64_t cell);      /* log n steps; S2U_NO_CELL */
-int32_t s2u_file_contains(const uint8_t* xs, size_t nx, const uint8_t* ys, size_t ny); /* all leaves of ys are in xs: 1 or 0 */
+/* Whether all leaves of ys are in xs, and whether they share a leaf: 1 or 0. */
+int32_t s2u_file_contains(const uint8_t* xs, size_t nx, const uint8_t* ys, size_t ny);
 int32_t s2u_file_intersects(const uint8_t* xs, size_t nx, const uint8_t* ys, size_t ny);
 /* s2u_ancestors of the union in a file, with no copy of it. S2U_FILE_* of the frame, S2U_NO_UNION (not encode's own),
  * S2U_ROOM, S2U_MEMORY. */
 int32_t s2u_file_ancestors(const uint8_t* bytes, size_t n, uint64_t* out, size_t room, size_t* len);
 
-/* ---- memory for a host that has its own -------------------------------------------------------------------------------
+/* ---- memory for a host that has its own -----------------------------------------------------------------------------
  *
  * Link libs2union_noheap.a in place of libs2union.a and define these three. They must not jump out of the call (not by
  * longjmp for a host's error either). `size` may be 0: any address will do. A block whose size is divisible by 16 (8)
