@@ -4,7 +4,8 @@
 ghost use Rattle.std.specs.Prelude.{◌≤◌};
 
 use s2calc::{
-    AnswerBuffer, Job, RunFault, Tally, cell_answer, check_answer, job, run_promptly, status,
+    AnswerBuffer, Job, RunFault, Tally, cell_answer, check_answer, draw_answer, draw_cells_answer,
+    job, run_promptly, status,
 };
 use s2edit::{Editor, MOST_CELLS, MOST_STATES};
 use s2shelf::DirShelf;
@@ -30,6 +31,8 @@ fn main(rt: HostRuntime) -> ExitCode {
         Ok(Job::Run { limit, depth, dir }) => run_script(&rt, limit, depth, &dir),
         Ok(Job::Cell { word }) => answer_cell(&rt, &word),
         Ok(Job::Check { dir, name }) => answer_check(&rt, &dir, &name),
+        Ok(Job::Draw { dir, name, curve }) => answer_draw(&rt, &dir, &name, curve),
+        Ok(Job::DrawCells { words, curve }) => answer_draw_cells(&rt, words.as_slice(), curve),
         Err(error) => not_asked(&rt, &error),
     }
 }
@@ -71,6 +74,25 @@ fn answer_check(rt: &HostRuntime, dir: &str, name: &str) -> ExitCode {
     answered(
         rt,
         check_answer(rt.alloc(), &mut shelf, name, &mut io::writer(rt)),
+    )
+}
+
+/// Answers one `draw FILE`.
+fn answer_draw(rt: &HostRuntime, dir: &str, name: &str, curve: bool) -> ExitCode {
+    let Ok(mut shelf) = DirShelf::at(rt, dir) else {
+        return ended(rt, &Err(RunFault::Memory));
+    };
+    answered(
+        rt,
+        draw_answer(rt.alloc(), &mut shelf, name, curve, &mut io::writer(rt)),
+    )
+}
+
+/// Answers one `draw --cells CELL..`.
+fn answer_draw_cells(rt: &HostRuntime, words: &[String], curve: bool) -> ExitCode {
+    answered(
+        rt,
+        draw_cells_answer(rt.alloc(), words, curve, &mut io::writer(rt)),
     )
 }
 

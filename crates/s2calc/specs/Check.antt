@@ -1,6 +1,5 @@
 -- The answer about a file.
-use Rattle.std.specs.Prelude.{◌≡◌, ℕ, ◌⊎◌, Bool, false, true, not, List, length, Option, Result, Ok, Err, MatchResult}
-use Rattle.std.specs.Io.KnownBytes.{Appends}
+use Rattle.std.specs.Prelude.{◌≡◌, ℕ, ◌⊎◌, Bool, false, true, List, length, Option, Result, Ok, Err}
 use Rattle.s2union.specs.Union.{IsNormalForm}
 use Rattle.s2union.specs.Count.{count_below}
 use Rattle.s2shelf.specs.Shelf.{Files}
@@ -9,11 +8,10 @@ use Rattle.s2calc.specs.declared.refusal.Refusal.{Refusal}
 use Rattle.s2calc.specs.declared.refusal.Refusal.TheVariants.{Words}
 use Rattle.s2script.specs.FileName.{is_name}
 use Rattle.s2calc.specs.declared.fault.RunFault.{RunFault}
-use Rattle.s2calc.specs.declared.fault.RunFault.TheVariants.{Output}
 use Rattle.s2calc.specs.Fetch.{FetchesUnion}
-use Rattle.s2calc.specs.Output.{AppendsUnflushed}
+use Rattle.s2calc.specs.Program.{Tells}
 use Rattle.s2cell.specs.declared.TheConstants.{LEAVES}
-use Rattle.s2calc.specs.Replies.{Reply, Says, Refuses, text_of, is_refusal}
+use Rattle.s2calc.specs.Replies.{Reply, Says, Refuses}
 use Rattle.s2calc.specs.Texts.{count_line}
 
 -- the reply is the numbers of cells and leaves of the file; or no union could be read under the name
@@ -38,6 +36,4 @@ pub record ChecksAndTells (name : List ℕ) (old new : Files) (output_old output
     (result : Result Bool RunFault) : Type 0 where
   pub reply : Reply
   pub checks : Checks name old reply new
-  pub tells : MatchResult result (λ passed. (passed ≡ not (is_refusal reply))
-      × Appends output_old output_new (text_of reply)) (λ fault. (fault ≡ Output)
-      × AppendsUnflushed output_old output_new (text_of reply))
+  pub tells : Tells reply output_old output_new result

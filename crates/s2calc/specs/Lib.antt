@@ -17,3 +17,4 @@ pub mod Laws
 pub mod LawsScripts
 pub mod Program
 pub mod Check
+pub mod Draw

@@ -1,5 +1,6 @@
 -- What the program's own calls answer.
-use Rattle.std.specs.Prelude.{◌≤◌, ℕ, zero, suc, List, Option, None, Some, Result, Ok, Err}
+use Rattle.std.specs.Prelude.{◌≡◌, ◌≤◌, ℕ, zero, suc, Bool, not, List, Option, None, Some, Result, Ok, Err, MatchResult}
+use Rattle.std.specs.Io.KnownBytes.{Appends}
 use Rattle.s2script.specs.declared.refusal.Refusal.TheVariants.{Cell as NoCell}
 use Rattle.s2calc.specs.declared.refusal.Refusal.TheVariants.{Words}
 use Rattle.s2edit.specs.declared.TheConstants.{MOST_CELLS, MOST_STATES}
@@ -8,8 +9,9 @@ use Rattle.s2calc.specs.declared.engine.Tally.{Tally}
 use Rattle.s2calc.specs.declared.fault.RunFault.{RunFault}
 use Rattle.s2calc.specs.declared.fault.RunFault.TheVariants.{Input, Output, Memory}
 use Rattle.s2calc.specs.declared.task.Job.{Job}
-use Rattle.s2calc.specs.declared.task.Job.TheVariants.{Run, Cell, Check}
-use Rattle.s2calc.specs.Replies.{Reply, Says, Refuses}
+use Rattle.s2calc.specs.declared.task.Job.TheVariants.{Run, Cell, Check, Draw, DrawCells}
+use Rattle.s2calc.specs.Output.{AppendsUnflushed}
+use Rattle.s2calc.specs.Replies.{Reply, Says, Refuses, text_of, is_refusal}
 use Rattle.s2calc.specs.Texts.{cell_line}
 
 -- the answer about the cell that a word names, if it names one
@@ -20,6 +22,13 @@ reply_for (Some n) = Says (cell_line n)
 -- the answer to `cell WORD`, for one word, spaces included
 abbrev pub cell_reply : List ℕ → Reply
 cell_reply word = reply_for (cell_named word)
+
+-- the reply was written, and the result is true unless it is a refusal; or bytes of it are missing, or only the flush
+-- failed
+abbrev pub Tells : Reply → Option (List ℕ) → Option (List ℕ) → Result Bool RunFault → Type 0
+Tells reply old new result = MatchResult result
+    (λ passed. (passed ≡ not (is_refusal reply)) × Appends old new (text_of reply))
+    (λ fault. (fault ≡ Output) × AppendsUnflushed old new (text_of reply))
 
 -- 1 if something was refused, else 0
 abbrev pub status_of_refused : ℕ → ℕ
@@ -38,3 +47,5 @@ abbrev pub IsInRange : Job → Type 0
 IsInRange (Run limit depth dir) = (1 ≤ limit) × (limit ≤ MOST_CELLS) × (1 ≤ depth) × (depth ≤ MOST_STATES)
 IsInRange (Cell word) = Unit {0}
 IsInRange (Check dir name) = Unit {0}
+IsInRange (Draw dir name curve) = Unit {0}
+IsInRange (DrawCells words curve) = Unit {0}

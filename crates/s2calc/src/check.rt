@@ -1,10 +1,10 @@
 //! The answer about a file.
 ghost use Rattle.s2calc.specs.Check.{Checks, ChecksFile, ChecksAndTells, check_reply};
 
-use crate::answer::{count_line, error_line};
+use crate::answer::count_line;
 use crate::fault::RunFault;
 use crate::fetch::fetch_union;
-use crate::program::write_line;
+use crate::program::{refuse, say};
 use crate::refusal::Refusal;
 use s2script::name_in;
 use s2shelf::Shelf;
@@ -23,14 +23,8 @@ pub fn check_answer<S: Shelf, W: Write>(
         (W.contents writer.new) result }
 {
     match check(alloc, shelf, name) {
-        Ok((cells, leaves)) => {
-            write_line(count_line(cells, leaves).as_slice(), writer)?;
-            Ok(true)
-        }
-        Err(refusal) => {
-            write_line(error_line(refusal).as_slice(), writer)?;
-            Ok(false)
-        }
+        Ok((cells, leaves)) => say(count_line(cells, leaves).as_slice(), writer),
+        Err(refusal) => refuse(refusal, writer),
     }
 }
 

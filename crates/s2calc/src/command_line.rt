@@ -2,11 +2,11 @@
 ghost use Rattle.std.specs.Prelude.{◌≤◌, ◌↔◌, IsTrue, IfOk, IfSome};
 ghost use Rattle.s2calc.specs.Program.{IsInRange};
 
-use crate::help::{ABOUT, AFTER};
+use crate::help::{ABOUT, AFTER, PICTURE};
 use crate::task::Job;
 use clap::builder::ValueParser;
 use clap::error::ErrorKind;
-use clap::{Arg, ArgAction, ArgMatches, Command, Error, value_parser};
+use clap::{Arg, ArgAction, ArgGroup, ArgMatches, Command, Error, value_parser};
 use s2edit::{MOST_CELLS, MOST_STATES};
 use s2script::HELP;
 use std::alloc::{AllocError, Global};
@@ -44,6 +44,9 @@ fn job_of(alloc: Global, matches: &ArgMatches<'_>) -> Result<Option<Job>, AllocE
             name: text(alloc, check, "FILE")?,
         }));
     }
+    if let Some(draw) = matches.subcommand_matches("draw") {
+        return draw_job(alloc, draw);
+    }
     Ok(None)
 }
 
@@ -69,6 +72,33 @@ fn is_within(n: usize, most: usize) -> bool
     n >= 1 && n <= most
 }
 
+/// The picture that is asked for.
+fn draw_job(alloc: Global, draw: &ArgMatches<'_>) -> Result<Option<Job>, AllocError>
+    ensures { IfOk result (λ job. IfSome job IsInRange) }
+{
+    let curve = draw.get_flag("curve");
+    match draw.get_strs("cells") {
+        Some(words) => Ok(Some(Job::DrawCells {
+            words: texts(alloc, words)?,
+            curve,
+        })),
+        None => Ok(Some(Job::Draw {
+            dir: text(alloc, draw, "dir")?,
+            name: text(alloc, draw, "FILE")?,
+            curve,
+        })),
+    }
+}
+
+/// Copies of the words.
+fn texts(alloc: Global, words: &[&str]) -> Result<Vec<String>, AllocError> {
+    let mut texts = Vec::with_capacity(alloc, words.len())?;
+    for word in words {
+        texts.push(String::from_str(alloc, word)?)?;
+    }
+    Ok(texts)
+}
+
 /// The word of an argument that is required or has a default.
 fn text(alloc: Global, matches: &ArgMatches<'_>, id: &str) -> Result<String, AllocError> {
     String::from_str(alloc, matches.get_str(id).unwrap_or(""))
@@ -84,7 +114,8 @@ fn command<'a>(alloc: Global) -> Result<Command<'a>, AllocError> {
         .subcommand_required(true)
         .subcommand(run_command(alloc)?)?
         .subcommand(cell_command(alloc)?)?
-        .subcommand(check_command(alloc)?)
+        .subcommand(check_command(alloc)?)?
+        .subcommand(draw_command(alloc)?)
 }
 
 /// The command `run`.
@@ -126,6 +157,41 @@ fn check_command<'a>(alloc: Global) -> Result<Command<'a>, AllocError> {
         .about("Tells how many cells and leaves a union file has")
         .arg(dir(alloc))?
         .arg(word(alloc, "FILE", "The name of a file in the folder"))
+}
+
+/// The command `draw`. Either the file or the cells are required.
+fn draw_command<'a>(alloc: Global) -> Result<Command<'a>, AllocError> {
+    let drawn = ArgGroup::new(alloc, "drawn").arg("FILE")?.arg("cells")?;
+    Command::new(alloc, "draw")
+        .about("Draws a union file, or cells, as an SVG image")
+        .after_help(PICTURE)
+        .arg(dir(alloc).conflicts_with("cells")?)?
+        .arg(cells(alloc))?
+        .arg(curve(alloc))?
+        .arg(
+            Arg::new(alloc, "FILE")
+                .help("The name of a file in the folder")
+                .action(ArgAction::Set),
+        )?
+        .group(drawn.required(true))
+}
+
+/// The cells to draw.
+fn cells<'a>(alloc: Global) -> Arg<'a> {
+    Arg::new(alloc, "cells")
+        .long("cells")
+        .value_name("CELL")
+        .help("Draws these cells in this order, by tokens or debug texts")
+        .num_args(1..)
+        .action(ArgAction::Set)
+}
+
+/// Whether the line through the cells is drawn too.
+fn curve<'a>(alloc: Global) -> Arg<'a> {
+    Arg::new(alloc, "curve")
+        .long("curve")
+        .help("Joins the middles of the cells by a line, in their order")
+        .action(ArgAction::SetTrue)
 }
 
 /// A number from 1 on.

@@ -6,13 +6,14 @@
 //! (`execute`: `edits`, `files`, `sessions`, `questions`; `fetch` asks the shelf) -> an `answer` -> bytes
 //! (`output`, `answer_buffer`). `refusal` says why a line is refused, `fault` what ends a run, `flushing` when the
 //! writer is flushed; `limits` are the limits, `laws` laws about the definitions. For the program: `command_line`,
-//! `help` and `task` (what it is asked for), `program` and `check` (its other answers).
+//! `help` and `task` (what it is asked for), `program`, `check` and `draw` (its other answers).
 #![tactic(auto)]
 
 mod answer;
 mod answer_buffer;
 mod check;
 mod command_line;
+mod draw;
 mod edits;
 mod engine;
 mod execute;
@@ -34,6 +35,7 @@ mod task;
 pub use answer_buffer::AnswerBuffer;
 pub use check::check_answer;
 pub use command_line::job;
+pub use draw::{draw_answer, draw_cells_answer};
 pub use engine::{Tally, run, run_promptly};
 pub use fault::RunFault;
 pub use laws::{

@@ -2,8 +2,8 @@
 ghost use Rattle.std.specs.Prelude.{◌≡◌, OnOk, OnErr, IfOk, IfErr, not};
 ghost use Rattle.std.specs.Io.KnownBytes.{Appends};
 ghost use Rattle.s2calc.specs.Output.{AppendsUnflushed};
-ghost use Rattle.s2calc.specs.Replies.{text_of, is_refusal};
-ghost use Rattle.s2calc.specs.Program.{cell_reply, status_of};
+ghost use Rattle.s2calc.specs.Replies.{Says, Refuses, text_of, is_refusal};
+ghost use Rattle.s2calc.specs.Program.{Tells, cell_reply, status_of};
 
 use crate::answer::{cell_line, error_line};
 use crate::engine::Tally;
@@ -24,20 +24,29 @@ pub fn cell_answer<W: Write>(word: &[u8], writer: &mut W) -> Result<bool, RunFau
     ensures fault { IfErr result (λ fault. fault ≡ RunFault.Output) }
 {
     match cell_in(word) {
-        Some(cell) => {
-            write_line(cell_line(cell).as_slice(), writer)?;
-            Ok(true)
-        }
-        None => {
-            let refusal = Refusal::Words(s2script::Refusal::Cell);
-            write_line(error_line(refusal).as_slice(), writer)?;
-            Ok(false)
-        }
+        Some(cell) => say(cell_line(cell).as_slice(), writer),
+        None => refuse(Refusal::Words(s2script::Refusal::Cell), writer),
     }
 }
 
-/// Writes a line and flushes.
-pub(crate) fn write_line<W: Write>(line: &[u8], writer: &mut W) -> Result<(), RunFault>
+/// Writes an answer that is no refusal, and flushes.
+pub(crate) fn say<W: Write>(text: &[u8], writer: &mut W) -> Result<bool, RunFault>
+    ensures { Tells (Says text.now) (W.contents writer.old) (W.contents writer.new) result }
+{
+    write_line(text, writer)?;
+    Ok(true)
+}
+
+/// Writes why there is no other answer, and flushes.
+pub(crate) fn refuse<W: Write>(refusal: Refusal, writer: &mut W) -> Result<bool, RunFault>
+    ensures { Tells (Refuses refusal) (W.contents writer.old) (W.contents writer.new) result }
+{
+    write_line(error_line(refusal).as_slice(), writer)?;
+    Ok(false)
+}
+
+/// Writes bytes and flushes.
+fn write_line<W: Write>(line: &[u8], writer: &mut W) -> Result<(), RunFault>
     ensures ok { OnOk result (Appends (W.contents writer.old) (W.contents writer.new) line.now) }
     ensures err { OnErr result (AppendsUnflushed (W.contents writer.old) (W.contents writer.new) line.now) }
     ensures fault { IfErr result (λ fault. fault ≡ RunFault.Output) }

@@ -18,4 +18,15 @@ pub enum Job {
         dir: String,
         name: String,
     },
+    /// To draw what a file of a folder stands for, with the line through its cells if `curve`.
+    Draw {
+        dir: String,
+        name: String,
+        curve: bool,
+    },
+    /// To draw the cells that the words name, with the line through them if `curve`.
+    DrawCells {
+        words: Vec<String>,
+        curve: bool,
+    },
 }

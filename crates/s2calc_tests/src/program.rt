@@ -112,6 +112,49 @@ fn words_that_ask_for_a_cell_or_a_file(rt: HostRuntime) -> Result<(), Fail> {
     Ok(())
 }
 
+/// Copies of words.
+fn texts(rt: &impl AllocGlobal, words: &[&str]) -> Result<Vec<String>, Fail> {
+    let mut texts = Vec::new(rt.alloc());
+    for word in words {
+        texts.push(String::from_str(rt.alloc(), word)?)?;
+    }
+    Ok(texts)
+}
+
+#[test]
+fn words_that_ask_for_a_picture(rt: HostRuntime) -> Result<(), Fail> {
+    for (words, dir, name, curve) in [
+        (["draw", "f"].as_slice(), ".", "f", false),
+        (&["draw", ""], ".", "", false),
+        (&["draw", "--dir", "-d", "--", "-f"], "-d", "-f", false),
+        (&["draw", "f", "--curve", "--dir", "d"], "d", "f", true),
+    ] {
+        let wanted = Job::Draw {
+            dir: String::from_str(rt.alloc(), dir)?,
+            name: String::from_str(rt.alloc(), name)?,
+            curve,
+        };
+        assert_eq!(rt; asked(&rt, words)?, Ok(wanted), "{words:?}");
+    }
+    for (words, cells, curve) in [
+        (["draw", "--cells", "1"].as_slice(), ["1"].as_slice(), false),
+        (&["draw", "--cells=X"], &["X"], false),
+        (
+            &["draw", "--curve", "--cells", "3", "0/", "3"],
+            &["3", "0/", "3"],
+            true,
+        ),
+        (&["draw", "--cells", "3", "1", "--curve"], &["3", "1"], true),
+    ] {
+        let wanted = Job::DrawCells {
+            words: texts(&rt, cells)?,
+            curve,
+        };
+        assert_eq!(rt; asked(&rt, words)?, Ok(wanted), "{words:?}");
+    }
+    Ok(())
+}
+
 #[test]
 fn words_that_ask_for_nothing(rt: HostRuntime) -> Result<(), Fail> {
     for (words, kind) in [
@@ -155,6 +198,20 @@ fn words_that_ask_for_nothing(rt: HostRuntime) -> Result<(), Fail> {
         (&["check", "--dir"], ErrorKind::InvalidValue),
         (&["check", "f", "g"], ErrorKind::UnknownArgument),
         (&["check", "--limit", "f"], ErrorKind::UnknownArgument),
+        (&["draw"], ErrorKind::MissingRequiredArgument),
+        (&["draw", "--curve"], ErrorKind::MissingRequiredArgument),
+        (&["draw", "--cells"], ErrorKind::InvalidValue),
+        (&["draw", "f", "g"], ErrorKind::UnknownArgument),
+        (&["draw", "-f"], ErrorKind::UnknownArgument),
+        (&["draw", "f", "--cells", "1"], ErrorKind::ArgumentConflict),
+        (
+            &["draw", "--cells", "1", "--", "f"],
+            ErrorKind::ArgumentConflict,
+        ),
+        (
+            &["draw", "--dir", "d", "--cells", "1"],
+            ErrorKind::ArgumentConflict,
+        ),
         (&["help", "foo"], ErrorKind::InvalidSubcommand),
         (&["-V"], ErrorKind::DisplayVersion),
         (&["--version"], ErrorKind::DisplayVersion),

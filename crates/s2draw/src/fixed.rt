@@ -10,7 +10,7 @@ text{font:64px Helvetica,Arial,sans-serif;fill:#333}
 .paper{fill:#fff}
 .face{fill:#f3f4f6}
 .edge{fill:none;stroke:#4b5563;stroke-width:6}
-.curve{fill:none;stroke:#d9480f;stroke-width:14;stroke-linejoin:round;stroke-linecap:round}
+.curve{fill:none;stroke:#d9480f;stroke-width:8;stroke-linejoin:round;stroke-linecap:round}
 .l0,.l1,.l2,.l3,.l4,.l5,.l6,.l7{stroke:#163a5f}
 .l0,.l1,.l2,.l3{stroke-width:5}
 .l4,.l5{stroke-width:3}
