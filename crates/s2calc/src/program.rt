@@ -29,7 +29,7 @@ pub fn cell_answer<W: Write>(word: &[u8], writer: &mut W) -> Result<bool, RunFau
     }
 }
 
-/// Writes an answer that is no refusal, and flushes.
+/// Writes an answer that is not a refusal, and flushes.
 pub(crate) fn say<W: Write>(text: &[u8], writer: &mut W) -> Result<bool, RunFault>
     ensures { Tells (Says text.now) (W.contents writer.old) (W.contents writer.new) result }
 {
