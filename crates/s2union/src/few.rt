@@ -3,7 +3,7 @@
 //!
 //! The searches for four cells don't wait for each other, so while one waits for memory, the others go on. A walk that
 //! starts each search where the one before ended makes fewer looks, but each has to wait for the one before.
-ghost use Rattle.std.specs.Prelude.{ℕ, ◌≡◌, ◌≤◌, ◌<◌, ◌+◌, ◌*◌, ◌↔◌, IsTrue, length, slice_index};
+ghost use Rattle.std.specs.Prelude.{ℕ, ◌≡◌, ◌≤◌, ◌<◌, ◌+◌, ◌-◌, ◌*◌, ◌%◌, ◌↔◌, IsTrue, length, slice_index};
 ghost use Rattle.s2cell.specs.Cell.{covers, first_leaf};
 ghost use Rattle.s2union.specs.Union.{IsLocal, has_leaf, IsWithin, ShareSome};
 ghost use Rattle.s2union.specs.Packed.{IsPacked, Behind, EndsAfter};
@@ -29,6 +29,14 @@ pub(crate) struct Parts {
     size: usize,
 }
 
+/// How many of `n` cells are asked about alone, before the others by fours: at least the first, since it may decide.
+fn alone(n: usize) -> usize
+    ensures most { result ≤ n }
+    ensures fours { (n - result) % 4 ≡ 0 }
+{
+    n - n.saturating_sub(1) / 4 * 4
+}
+
 /// Whether `xs` has all leaves of `ys`, which is much shorter.
 pub(crate) fn holds_few(xs: &[CellId], ys: &[CellId]) -> Counted
     requires x_local { IsLocal xs.now }
@@ -39,15 +47,8 @@ pub(crate) fn holds_few(xs: &[CellId], ys: &[CellId]) -> Counted
 {
     let mut looks: u64 = 0;
     let mut j = 0;
-    while ys.len() - j >= 4 {
-        let mut more = 0;
-        if !holds_four(xs, ys, j, &mut more) {
-            return told(false, looks, more);
-        }
-        looks = looks.saturating_add(more);
-        j += 4;
-    }
-    while j < ys.len() {
+    let alone = alone(ys.len());
+    while j < alone {
         let mut more = 0;
         let found = holds(xs, look(ys, j, &mut more));
         looks = looks.saturating_add(more + found.looks);
@@ -55,6 +56,14 @@ pub(crate) fn holds_few(xs: &[CellId], ys: &[CellId]) -> Counted
             return told(false, looks, 0);
         }
         j += 1;
+    }
+    while j < ys.len() {
+        let mut more = 0;
+        if !holds_four(xs, ys, j, &mut more) {
+            return told(false, looks, more);
+        }
+        looks = looks.saturating_add(more);
+        j += 4;
     }
     told(true, looks, 0)
 }
@@ -69,15 +78,8 @@ pub(crate) fn meets_few(xs: &[CellId], ys: &[CellId]) -> Counted
 {
     let mut looks: u64 = 0;
     let mut j = 0;
-    while ys.len() - j >= 4 {
-        let mut more = 0;
-        if meets_four(xs, ys, j, &mut more) {
-            return told(true, looks, more);
-        }
-        looks = looks.saturating_add(more);
-        j += 4;
-    }
-    while j < ys.len() {
+    let alone = alone(ys.len());
+    while j < alone {
         let mut more = 0;
         let found = meets(xs, look(ys, j, &mut more));
         looks = looks.saturating_add(more + found.looks);
@@ -85,6 +87,14 @@ pub(crate) fn meets_few(xs: &[CellId], ys: &[CellId]) -> Counted
             return told(true, looks, 0);
         }
         j += 1;
+    }
+    while j < ys.len() {
+        let mut more = 0;
+        if meets_four(xs, ys, j, &mut more) {
+            return told(true, looks, more);
+        }
+        looks = looks.saturating_add(more);
+        j += 4;
     }
     told(false, looks, 0)
 }

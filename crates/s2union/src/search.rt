@@ -44,9 +44,9 @@ impl CellUnion {
         meets(self.cells(), cell)
     }
 
-    /// Whether it has all leaves of the other union; stops at the first cell that it lacks. Searches in the longer list
-    /// for each cell of the shorter one, starting where the search before ended: `m (1 + log (n / m))` steps, if the
-    /// shorter list has `m` cells and the longer one `n`. S2 calls it `Contains`.
+    /// Whether it has all leaves of the other union; stops by the third cell after the first that it lacks. Searches in
+    /// the longer list for each cell of the shorter one: `m (1 + log (n / m))` steps, if the shorter list has `m` cells
+    /// and the longer one `n`. S2 calls it `Contains`.
     pub fn contains(&self, other: &CellUnion) -> bool
         ensures { IsTrue result ↔ IsWithin (has_leaf other.now.cells) (has_leaf self.now.cells) }
     {
@@ -63,8 +63,8 @@ impl CellUnion {
         holds_all(self.cells(), other.cells())
     }
 
-    /// Whether the two share a leaf; stops at the first cell with a shared leaf. As many steps as `contains`. S2 calls
-    /// it `Intersects`.
+    /// Whether the two share a leaf; stops by the third cell after the first with a shared leaf. As many steps as
+    /// `contains`. S2 calls it `Intersects`.
     pub fn intersects(&self, other: &CellUnion) -> bool
         ensures { IsTrue result ↔ ShareSome (has_leaf self.now.cells) (has_leaf other.now.cells) }
     {

@@ -5,33 +5,36 @@ use Rattle.s2union.specs.Union.{has_leaf, IsWithin}
 use Rattle.s2union.proofs.AskingFew.{few_looks, last_place, within_each}
 use Rattle.s2union.proofs.few.holds_few.Goals as goal
 
-pub returns-then-not-holds_four-clause-looks : goal.returns-then-not-holds_four-clause-looks
-returns-then-not-holds_four-clause-looks c =
-    let few = c.loop-j.invariant.few in
-    let told = c.told.ensures.looks in
-    few_looks _ _ _ c.requires.few (omega arith)
-
 pub overflow_add-more : goal.overflow_add-more
 overflow_add-more c = let l = c.holds-found.ensures.looks 64 (omega arith) in omega arith
 
 pub returns-then-not-found-clause-looks : goal.returns-then-not-found-clause-looks
 returns-then-not-found-clause-looks c =
-    let few = c.loop-j-2.invariant.few in
+    let few = c.loop-j.invariant.few in
     let l = c.holds-found.ensures.looks 64 (omega arith) in
-    let told = c.told-then-not-found.ensures.looks in
+    let in_y = c.loop-j.invariant.in_y in
+    let told = c.told.ensures.looks in
     few_looks _ _ _ c.requires.few (omega arith)
 
-pub loop-j-2-preserved : goal.loop-j-2-preserved
-loop-j-2-preserved c =
-    let few = c.loop-j-2.invariant.few in
+pub loop-j-preserved : goal.loop-j-preserved
+loop-j-preserved c =
+    let few = c.loop-j.invariant.few in
     let l = c.holds-found.ensures.looks 64 (omega arith) in
     record {
       in_y = omega arith;
       inside = λ k h. last_place (λ n. IsWithin (covers (get_or c.args.ys.now n 0)) (has_leaf c.args.xs.now))
-          c.loop-j-2.j k c.loop-j-2.invariant.inside
+          c.loop-j.j k c.loop-j.invariant.inside
           (rw c.look.ensures.cell at (c.holds-found.ensures.answer.0 (not-false _ c.if-not-found.false))) h;
       few = omega arith;
     }
+
+pub returns-then-not-holds_four-clause-looks : goal.returns-then-not-holds_four-clause-looks
+returns-then-not-holds_four-clause-looks c =
+    let few = c.loop-j-2.invariant.few in
+    let in_y = c.loop-j-2.invariant.in_y in
+    let fours = c.loop-j-2.invariant.fours in
+    let told = c.told-then-not-holds_four.ensures.looks in
+    few_looks _ _ _ c.requires.few (omega arith)
 
 pub returns-clause-answer : goal.returns-clause-answer
 returns-clause-answer c = rw c.told-2.ensures.answer (
