@@ -235,6 +235,7 @@ static void cell_questions(Table& table, const Unions& u) {
   row({"contains_cell", N, 0xc716de7ca9f82722, 80}, questions, &S2CellUnion::Contains, s2c_contains_cells);
   row({"intersects_cell", N, 0x1c9f361b4a86b9c3, 80}, questions, &S2CellUnion::Intersects, s2c_intersects_cells);
   row({"contains_cell_sorted", N, 0xb36ffb8917552917, 0}, sorted, &S2CellUnion::Contains, s2c_contains_cells);
+  row({"contains_cell_cursor", N, 0xb36ffb8917552917, 0}, sorted, &S2CellUnion::Contains, s2c_contains_cells_in_order);
 }
 
 static void union_questions(Table& table, const Unions& u) {

@@ -35,6 +35,8 @@ bool s2c_difference(const uint64_t* xs, size_t nx, const uint64_t* ys, size_t ny
                     size_t room, size_t* len);
 
 bool s2c_contains_cells(const uint64_t* ids, size_t n, const uint64_t* questions, size_t m, bool* answers, size_t room);
+bool s2c_contains_cells_in_order(const uint64_t* ids, size_t n, const uint64_t* questions, size_t m, bool* answers,
+                                 size_t room);
 bool s2c_intersects_cells(const uint64_t* ids, size_t n, const uint64_t* questions, size_t m, bool* answers,
                           size_t room);
 bool s2c_contains(const uint64_t* xs, size_t nx, const uint64_t* ys, size_t ny, uint32_t times, bool* answer);

@@ -5,7 +5,7 @@ ghost use Rattle.s2union.specs.Union.{IsLocal, has_leaf, IsWithin, ShareSome};
 
 use crate::lists::{cells_of, union_of};
 use s2cell::CellId;
-use s2union::CellUnion;
+use s2union::{CellUnion, Cursor};
 use std::alloc::Global;
 
 /// Whether a union has all leaves of each cell in turn. Answers whether the questions were answered.
@@ -39,6 +39,41 @@ fn contains_at(union: &CellUnion, cells: &[CellId], k: usize) -> bool
     ensures { IsTrue result ↔ IsWithin (covers (slice_index cells.now k)) (has_leaf union.now.cells) }
 {
     union.contains_cell(cells[k])
+}
+
+/// The same, asked by a cursor, which is faster if the cells ascend.
+#[unsafe(no_mangle)]
+pub extern "C" fn s2c_contains_cells_in_order(
+    alloc: Global,
+    ids: &[u64],
+    questions: &[u64],
+    answers: &mut [bool],
+) -> bool
+    ensures answers { IsTrue result → (k : ℕ) → k < length questions.now
+        → (IsTrue (slice_index_or answers.new k false) ↔ IsWithin (covers (slice_index questions.now k))
+        (has_leaf ids.now)) }
+    ensures local { IsTrue result → IsLocal ids.now }
+{
+    let (Some(union), Some(cells)) = (union_of(alloc, ids), cells_of(alloc, questions)) else {
+        return false;
+    };
+    if cells.len() > answers.len() {
+        return false;
+    }
+    let mut cursor = union.cursor();
+    for k in 0..cells.len() {
+        answers[k] = contains_next(&mut cursor, &cells, k);
+    }
+    true
+}
+
+/// Whether the union of a cursor has all leaves of the cell at the place `k`.
+fn contains_next(cursor: &mut Cursor<'_>, cells: &[CellId], k: usize) -> bool
+    requires { k < length cells.now }
+    ensures answer { IsTrue result ↔ IsWithin (covers (slice_index cells.now k)) (has_leaf cursor.old) }
+    ensures same { cursor.new ≡ cursor.old }
+{
+    cursor.contains_cell(cells[k])
 }
 
 /// Whether a union has a leaf of each cell in turn. Answers whether the questions were answered.

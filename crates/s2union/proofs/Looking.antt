@@ -18,7 +18,7 @@ pub left_all : (size before k : ℕ) → size ≤ 2 ^ k → Left size before bef
 left_all size before k h = record { power = k; fits = h; paid = omega arith }
 
 -- three looks leave half at most
-quarter_left : (size j : ℕ) → 4 ≤ size → size ≤ 2 ^ suc j → size - 3 * (size / 4) ≤ 2 ^ j
+pub quarter_left : (size j : ℕ) → 4 ≤ size → size ≤ 2 ^ suc j → size - 3 * (size / 4) ≤ 2 ^ j
 quarter_left size zero h f = let e : 2 ^ suc zero ≡ 2 = refl in absurd (omega arith)
 quarter_left size (suc zero) h f =
     let e : 2 ^ suc (suc zero) ≡ 4 = refl in

@@ -1,5 +1,5 @@
 //! The search that all calls on ordered lists share.
-ghost use Rattle.std.specs.Prelude.{◌≡◌, ◌≤◌, ◌<◌, ◌+◌, ◌-◌, ◌*◌, ◌^◌, ℕ, length, slice_index, ◌⊎◌};
+ghost use Rattle.std.specs.Prelude.{◌≡◌, ◌≤◌, ◌<◌, ◌+◌, ◌-◌, ◌*◌, ◌/◌, ◌^◌, ℕ, length, slice_index, ◌⊎◌};
 ghost use Rattle.std.specs.List.Sorted.{IsStrictlyIncreasing};
 ghost use Rattle.s2union.specs.Search.{Brackets};
 
@@ -43,8 +43,7 @@ pub(crate) fn gallop_counted(cells: &[CellId], from: usize, mark: u64) -> Found
 }
 
 /// How many cells of an ascending list have an identifier below `mark`, given that the first `low` have and those from
-/// `high` on do not; its looks are added to those before. It compares three cells at once and sums the results, since a
-/// branch on each would be mispredicted half the time.
+/// `high` on do not; its looks are added to those before.
 pub(crate) fn narrow(cells: &[CellId], low: usize, high: usize, mark: u64, before: u64) -> Found
     requires ascends { IsStrictlyIncreasing cells.now }
     requires brackets { Brackets cells.now mark low high }
@@ -57,21 +56,59 @@ pub(crate) fn narrow(cells: &[CellId], low: usize, high: usize, mark: u64, befor
     let mut size = high - low;
     let mut looks = before;
     while size >= 4 {
-        let quarter = size / 4;
-        let first = is_below(cells, base + (quarter - 1), mark, &mut looks);
-        let second = is_below(cells, base + (2 * quarter - 1), mark, &mut looks);
-        let third = is_below(cells, base + (3 * quarter - 1), mark, &mut looks);
-        base += quarter * (first + second + third);
-        size -= 3 * quarter;
+        base = quarter(cells, base, size, mark, &mut looks);
+        size -= 3 * (size / 4);
     }
-    while size > 0 {
-        if is_below(cells, base, mark, &mut looks) == 0 {
-            return Found { at: base, looks };
+    let at = pass(cells, base, size, mark, &mut looks);
+    Found { at, looks }
+}
+
+/// Where the quarter begins that has the place of `mark`, which is one of the next `size` places from `base` on, or
+/// their end. It compares three cells at once and sums the results, since a branch on each would be mispredicted half
+/// the time.
+#[inline(always)]
+pub(crate) fn quarter(
+    cells: &[CellId],
+    base: usize,
+    size: usize,
+    mark: u64,
+    looks: &mut u64,
+) -> usize
+    requires ascends { IsStrictlyIncreasing cells.now }
+    requires some { 4 ≤ size }
+    requires brackets { Brackets cells.now mark base (base + size) }
+    requires count { looks.old ≤ 2000 }
+    ensures from { base ≤ result }
+    ensures brackets { Brackets cells.now mark result (result + (size - 3 * (size / 4))) }
+    ensures count { looks.new ≡ looks.old + 3 }
+{
+    let quarter = size / 4;
+    let first = is_below(cells, base + (quarter - 1), mark, looks);
+    let second = is_below(cells, base + (2 * quarter - 1), mark, looks);
+    let third = is_below(cells, base + (3 * quarter - 1), mark, looks);
+    base + quarter * (first + second + third)
+}
+
+/// The place of `mark`, which is one of the next `size` places from `base` on, or their end. Passes cell by cell.
+#[inline(always)]
+pub(crate) fn pass(cells: &[CellId], base: usize, size: usize, mark: u64, looks: &mut u64) -> usize
+    requires ascends { IsStrictlyIncreasing cells.now }
+    requires brackets { Brackets cells.now mark base (base + size) }
+    requires few { size ≤ 3 }
+    requires count { looks.old ≤ 2000 }
+    ensures from { base ≤ result }
+    ensures place { Brackets cells.now mark result result }
+    ensures count { looks.new ≤ looks.old + 3 }
+{
+    let mut at = base;
+    let end = base + size;
+    while at < end {
+        if is_below(cells, at, mark, looks) == 0 {
+            return at;
         }
-        base += 1;
-        size -= 1;
+        at += 1;
     }
-    Found { at: base, looks }
+    at
 }
 
 /// 1 if the identifier of the cell at the place `at` is below `mark`, else 0.

@@ -7,6 +7,7 @@ ghost use Rattle.s2union.specs.Packed.{IsPacked, Behind, EndsAt, EndsAfter};
 ghost use Rattle.s2union.specs.Search.{Brackets};
 ghost use Rattle.s2union.specs.Looks.{FewForCell, FewForUnion};
 
+use crate::few::{MUCH_LONGER, holds_few, meets_few};
 use crate::gallop::{gallop_counted, narrow};
 use crate::looks::{Counted, Found, look};
 use crate::union::CellUnion;
@@ -43,9 +44,9 @@ impl CellUnion {
         meets(self.cells(), cell)
     }
 
-    /// Whether it has all leaves of the other union; stops at the first cell that it lacks. Searches in the longer list
-    /// for each cell of the shorter one, starting where the search before ended: `m (1 + log (n / m))` steps, if the
-    /// shorter list has `m` cells and the longer one `n`. S2 calls it `Contains`.
+    /// Whether it has all leaves of the other union; stops by the third cell after the first that it lacks. Searches in
+    /// the longer list for each cell of the shorter one: `m (1 + log (n / m))` steps, if the shorter list has `m` cells
+    /// and the longer one `n`. S2 calls it `Contains`.
     pub fn contains(&self, other: &CellUnion) -> bool
         ensures { IsTrue result ↔ IsWithin (has_leaf other.now.cells) (has_leaf self.now.cells) }
     {
@@ -62,8 +63,8 @@ impl CellUnion {
         holds_all(self.cells(), other.cells())
     }
 
-    /// Whether the two share a leaf; stops at the first cell with a shared leaf. As many steps as `contains`. S2 calls
-    /// it `Intersects`.
+    /// Whether the two share a leaf; stops by the third cell after the first with a shared leaf. As many steps as
+    /// `contains`. S2 calls it `Intersects`.
     pub fn intersects(&self, other: &CellUnion) -> bool
         ensures { IsTrue result ↔ ShareSome (has_leaf self.now.cells) (has_leaf other.now.cells) }
     {
@@ -80,7 +81,7 @@ impl CellUnion {
 }
 
 /// Whether a local list has all leaves of the cell.
-fn holds(cells: &[CellId], cell: CellId) -> Counted
+pub(crate) fn holds(cells: &[CellId], cell: CellId) -> Counted
     requires { IsLocal cells.now }
     ensures answer { IsTrue result.answer ↔ IsWithin (covers cell) (has_leaf cells.now) }
     ensures looks { FewForCell (length cells.now) result.looks }
@@ -105,7 +106,7 @@ pub(crate) fn holds_at(cells: &[CellId], at: usize, cell: CellId, looks: &mut u6
 }
 
 /// Whether a local list has a leaf of the cell.
-fn meets(cells: &[CellId], cell: CellId) -> Counted
+pub(crate) fn meets(cells: &[CellId], cell: CellId) -> Counted
     requires { IsLocal cells.now }
     ensures answer { IsTrue result.answer ↔ ShareSome (covers cell) (has_leaf cells.now) }
     ensures looks { FewForCell (length cells.now) result.looks }
@@ -197,7 +198,7 @@ fn find_from_counted(cells: &[CellId], from: usize, lo: u64, looks: &mut u64) ->
 
 /// Whether there is a cell at the place `at`, and it ends by the leaf `lo`.
 #[inline(always)]
-fn ends_by(cells: &[CellId], at: usize, lo: u64, looks: &mut u64) -> bool
+pub(crate) fn ends_by(cells: &[CellId], at: usize, lo: u64, looks: &mut u64) -> bool
     requires before { looks.old ≤ 1001 }
     ensures answer { IsTrue result ↔ EndsAt cells.now at lo }
     ensures looks { looks.new ≤ looks.old + 1 }
@@ -222,7 +223,7 @@ fn leap_from(cells: &[CellId], from: usize, lo: u64) -> Found
 }
 
 /// The same, once it is known how many cells have their middle before `lo`; only the last of these may end after it.
-fn without_last(cells: &[CellId], from: usize, begun: Found, lo: u64) -> Found
+pub(crate) fn without_last(cells: &[CellId], from: usize, begun: Found, lo: u64) -> Found
     requires packed { IsPacked cells.now }
     requires from { from ≤ begun.at }
     requires behind { Behind cells.now from lo }
@@ -256,6 +257,20 @@ fn holds_all(xs: &[CellId], ys: &[CellId]) -> Counted
     ensures answer { IsTrue result.answer ↔ IsWithin (has_leaf ys.now) (has_leaf xs.now) }
     ensures looks { FewForUnion (length xs.now) (length ys.now) result.looks }
 {
+    if ys.len() <= xs.len() / MUCH_LONGER {
+        holds_few(xs, ys)
+    } else {
+        holds_evenly(xs, ys)
+    }
+}
+
+/// The same, by a walk along both lists.
+fn holds_evenly(xs: &[CellId], ys: &[CellId]) -> Counted
+    requires x_local { IsLocal xs.now }
+    requires y_local { IsLocal ys.now }
+    ensures answer { IsTrue result.answer ↔ IsWithin (has_leaf ys.now) (has_leaf xs.now) }
+    ensures looks { FewForUnion (length xs.now) (length ys.now) result.looks }
+{
     let mut looks: u64 = 0;
     let mut i = 0;
     let mut j = 0;
@@ -284,6 +299,22 @@ fn meets_any(xs: &[CellId], ys: &[CellId]) -> Counted
     ensures answer { IsTrue result.answer ↔ ShareSome (has_leaf xs.now) (has_leaf ys.now) }
     ensures looks { FewForUnion (length xs.now) (length ys.now) result.looks }
 {
+    if ys.len() <= xs.len() / MUCH_LONGER {
+        meets_few(xs, ys)
+    } else if xs.len() <= ys.len() / MUCH_LONGER {
+        meets_few(ys, xs)
+    } else {
+        meets_evenly(xs, ys)
+    }
+}
+
+/// The same, by a walk along both lists.
+fn meets_evenly(xs: &[CellId], ys: &[CellId]) -> Counted
+    requires x_local { IsLocal xs.now }
+    requires y_local { IsLocal ys.now }
+    ensures answer { IsTrue result.answer ↔ ShareSome (has_leaf xs.now) (has_leaf ys.now) }
+    ensures looks { FewForUnion (length xs.now) (length ys.now) result.looks }
+{
     let mut looks: u64 = 0;
     let mut i = 0;
     let mut j = 0;
@@ -305,7 +336,7 @@ fn meets_any(xs: &[CellId], ys: &[CellId]) -> Counted
 }
 
 /// An answer with its looks, and `more`.
-fn told(answer: bool, looks: u64, more: u64) -> Counted
+pub(crate) fn told(answer: bool, looks: u64, more: u64) -> Counted
     ensures answer { result.answer ≡ answer }
     ensures looks { result.looks ≡ min (looks + more) (2 ^ 64 - 1) }
 {

@@ -9,7 +9,9 @@ ghost use Rattle.s2union.specs.Union.{IsLocal, IsNormalForm, has_leaf, between};
 ghost use Rattle.s2union.specs.Sets.{either, shared, without};
 ghost use Rattle.s2union.specs.Packed.{Behind, FillsGap, IsPacked};
 
+use crate::ahead::Ahead;
 use crate::fault::UnionFault;
+use crate::few::MUCH_LONGER;
 use crate::gallop::gallop;
 use crate::merging::add_reserved;
 use crate::runs::{add_run, extend, extend_up_to};
@@ -100,10 +102,6 @@ impl CellUnion {
         Ok(CellUnion { cells })
     }
 }
-
-/// A list counts as short if the other is at least this many times as long. A search in the other takes no more steps
-/// than that, so the searches for all cells of the short one take no more than a pass.
-const MUCH_LONGER: usize = 64;
 
 /// Puts the leaves of `xs` and of `ys` into an empty list.
 fn join(list: &mut Vec<CellId>, xs: &[CellId], ys: &[CellId])
@@ -222,6 +220,7 @@ fn subtract(
     ensures many { IfErr result (λ fault. fault ≡ UnionFault.TooMany → (u : List ℕ) →
         IsNormalForm (without (has_leaf xs.now) (has_leaf ys.now)) u → limit < length u) }
 {
+    let mut ahead = Ahead::new(xs, ys);
     let mut lo = 0;
     let mut i = 0;
     let mut j = 0;
@@ -229,7 +228,7 @@ fn subtract(
         let x = xs[i];
         let start = x.first_leaf().max(lo);
         let end = x.end_leaf();
-        j = find_from(ys, j, start);
+        j = ahead.find(xs, i, ys, j, start);
         match cell_before(ys, j, end) {
             Some(y) => {
                 fill_gap(list, start, y.first_leaf())?;

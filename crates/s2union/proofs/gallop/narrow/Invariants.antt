@@ -1,4 +1,4 @@
-use Rattle.std.proofs.Common.{ℕ, ◌≤◌, ◌+◌, ◌-◌, ◌*◌, ◌^◌}
+use Rattle.std.proofs.Common.{ℕ, ◌≤◌, ◌-◌, ◌^◌}
 use Rattle.s2union.proofs.Galloping.{Seeking}
 use Rattle.s2union.proofs.Looking.{Left}
 use Rattle.s2union.proofs.gallop.narrow.Given as goal
@@ -11,12 +11,3 @@ invariant-loop-size l = record {
 
 abbrev pub decreases-loop-size : goal.decreases-loop-size
 decreases-loop-size l = l.size
-
-abbrev pub invariant-loop-size-2 : goal.invariant-loop-size-2
-invariant-loop-size-2 l = record {
-  seeking : Seeking l.cells l.mark l.low l.base l.size;
-  left : (k : ℕ) → l.high - l.low ≤ 2 ^ k → l.looks + l.size ≤ l.before + 3 * k + 3;
-}
-
-abbrev pub decreases-loop-size-2 : goal.decreases-loop-size-2
-decreases-loop-size-2 l = l.size

@@ -1,0 +1,182 @@
+-- Questions about a short list in a much longer one.
+use Rattle.std.proofs.Common.{◌≡◌, ℕ, zero, suc, ◌+◌, ◌-◌, ◌*◌, ◌/◌, ◌^◌, ◌<◌, ◌≤◌, refl, ap, subst, arith}
+use Rattle.std.proofs.Common.{Bool, true, false, ◌&&◌, ◌||◌, ◌↔◌, IsTrue, List, length, get_or, min, max}
+use Rattle.std.proofs.Math.Logic.{⊎_elim}
+use Rattle.std.proofs.Math.Nat.{mul-le-mul_right}
+use Rattle.std.proofs.lemmas.Bool.{cases_lt, false≢true}
+use Rattle.std.proofs.lemmas.Nat.{pow_below}
+use Rattle.s2cell.specs.Cell.{covers}
+use Rattle.s2cell.proofs.Leaves.{covers_there, covers_from}
+use Rattle.s2union.specs.Union.{has_leaf, IsWithin, ShareSome}
+use Rattle.s2union.specs.Packed.{IsPacked, Behind, EndsAt, EndsAfter}
+use Rattle.s2union.specs.Search.{Brackets}
+use Rattle.s2union.specs.Looks.{FewForUnion}
+use Rattle.s2union.proofs.Finding.{ended_to}
+use Rattle.s2union.proofs.Looking.{quarter_left}
+use Rattle.s2union.proofs.Walking.{leaf_there, leaf_at}
+
+-- what holds at four places in a row
+pub four_places : (P : ℕ → Type 0) (at k : ℕ) → P at → P (at + 1) → P (at + 2) → P (at + 3) → at ≤ k → k < at + 4 → P k
+four_places P at k a b c d h l =
+    ⊎_elim
+    (λ (m : k < at + 1). let e : k ≡ at = omega arith in rw e a)
+    (λ (m : at + 1 ≤ k).
+    ⊎_elim
+    (λ (n : k < at + 2). let e : k ≡ at + 1 = omega arith in rw e b)
+    (λ (n : at + 2 ≤ k).
+    ⊎_elim
+    (λ (o : k < at + 3). let e : k ≡ at + 2 = omega arith in rw e c)
+    (λ (o : at + 3 ≤ k). let e : k ≡ at + 3 = omega arith in rw e d)
+    (cases_lt k (at + 3)))
+    (cases_lt k (at + 2)))
+    (cases_lt k (at + 1))
+
+-- whether something holds at each of them
+pub all_of_four : (a b c d : Bool) (P : ℕ → Type 0) (at : ℕ) → (IsTrue a ↔ P at) → (IsTrue b ↔ P (at + 1)) →
+    (IsTrue c ↔ P (at + 2)) → (IsTrue d ↔ P (at + 3)) →
+    (IsTrue (((a && b) && c) && d) ↔ ((k : ℕ) → at ≤ k → k < at + 4 → P k))
+all_of_four true true true true P at p q r s =
+    (λ _ k h l. four_places P at k (p.0 refl) (q.0 refl) (r.0 refl) (s.0 refl) h l, λ _. refl)
+all_of_four false b c d P at p q r s =
+    (λ t. absurd (false≢true t), λ all. absurd (false≢true (p.1 (all at (omega arith) (omega arith)))))
+all_of_four true false c d P at p q r s =
+    (λ t. absurd (false≢true t), λ all. absurd (false≢true (q.1 (all (at + 1) (omega arith) (omega arith)))))
+all_of_four true true false d P at p q r s =
+    (λ t. absurd (false≢true t), λ all. absurd (false≢true (r.1 (all (at + 2) (omega arith) (omega arith)))))
+all_of_four true true true false P at p q r s =
+    (λ t. absurd (false≢true t), λ all. absurd (false≢true (s.1 (all (at + 3) (omega arith) (omega arith)))))
+
+-- or at one of them
+pub one_of_four : (a b c d : Bool) (P : ℕ → Type 0) (at : ℕ) → (IsTrue a ↔ P at) → (IsTrue b ↔ P (at + 1)) →
+    (IsTrue c ↔ P (at + 2)) → (IsTrue d ↔ P (at + 3)) →
+    (IsTrue (((a || b) || c) || d) ↔ ((k : ℕ) × (at ≤ k) × (k < at + 4) × P k))
+one_of_four true b c d P at p q r s = (λ _. (at, omega arith, omega arith, p.0 refl), λ _. refl)
+one_of_four false true c d P at p q r s = (λ _. (at + 1, omega arith, omega arith, q.0 refl), λ _. refl)
+one_of_four false false true d P at p q r s = (λ _. (at + 2, omega arith, omega arith, r.0 refl), λ _. refl)
+one_of_four false false false true P at p q r s = (λ _. (at + 3, omega arith, omega arith, s.0 refl), λ _. refl)
+one_of_four false false false false P at p q r s = (
+  λ t. absurd (false≢true t),
+  λ (k, h, l, x). absurd (four_places (λ n. P n → ⊥) at k (λ y. false≢true (p.1 y)) (λ y. false≢true (q.1 y))
+      (λ y. false≢true (r.1 y)) (λ y. false≢true (s.1 y)) h l x),
+)
+
+-- what holds at one more place
+pub last_place : (P : ℕ → Type 0) (j k : ℕ) → ((n : ℕ) → n < j → P n) → P j → k < j + 1 → P k
+last_place P j k before last h =
+    ⊎_elim
+    (λ (a : k < j). before k a)
+    (λ (a : j ≤ k). let e : k ≡ j = omega arith in rw e last)
+    (cases_lt k j)
+
+-- ---- looks
+
+-- a whole list
+pub all_places : (u : List ℕ) (mark : ℕ) → Brackets u mark 0 (0 + length u)
+all_places u mark = record {
+  order = omega arith;
+  within = omega arith;
+  below = λ k h. absurd (omega arith);
+  rest = λ k a b. absurd (omega arith);
+}
+
+-- the power is at least 32
+power_five : (m n k : ℕ) → 0 < m → 64 * m ≤ n → n ≤ (m + 1) * 2 ^ k → 5 ≤ k
+power_five m n k some few fits =
+    ⊎_elim
+    (λ (a : k < 5).
+    let p : 2 ^ k < 2 ^ 5 = pow_below k 5 a in
+    let e : 2 ^ 5 ≡ 32 = refl in
+    let q : 2 ^ k * (m + 1) ≤ 31 * (m + 1) = mul-le-mul_right (m + 1) (omega arith) in
+    absurd (omega arith))
+    (λ (a : 5 ≤ k). a)
+    (cases_lt k 5)
+
+-- what is left of four searches in parts of `size` cells
+pub record LeftFour (size looks : ℕ) : Type 0 where
+  pub power : ℕ
+  pub fits : size ≤ 2 ^ power
+  pub paid : looks + 12 * power ≤ 772
+
+pub left_four_all : (size looks : ℕ) → size ≤ 2 ^ 64 → looks ≤ 4 → LeftFour size looks
+left_four_all size looks h l = record { power = 64; fits = h; paid = omega arith }
+
+left_four_less : (size looks more j : ℕ) → 4 ≤ size → size ≤ 2 ^ j → looks + 12 * j ≤ 772 → more ≡ looks + 12 →
+    LeftFour (size - 3 * (size / 4)) more
+left_four_less size looks more zero h f p e = let g : 2 ^ zero ≡ 1 = refl in absurd (omega arith)
+left_four_less size looks more (suc j) h f p e =
+    record { power = j; fits = quarter_left size j h f; paid = omega arith }
+
+pub left_four : (size looks more : ℕ) → 4 ≤ size → LeftFour size looks → more ≡ looks + 12 →
+    LeftFour (size - 3 * (size / 4)) more
+left_four size looks more h l e = left_four_less size looks more l.power h l.fits l.paid e
+
+-- 200 looks for each cell of the shorter list
+pub few_looks : (n m looks : ℕ) → 64 * m ≤ n → looks ≤ 200 * m → FewForUnion n m looks
+few_looks n m looks few most k h =
+    ⊎_elim
+    (λ (a : 0 < m).
+    let less : min n m ≡ m = omega arith in
+    let more : max n m ≡ n = omega arith in
+    let same : (min n m + 1) * 2 ^ k ≡ (m + 1) * 2 ^ k = ap (λ x. (x + 1) * 2 ^ k) less in
+    let fits : n ≤ (m + 1) * 2 ^ k = omega arith in
+    let five = power_five m n k a few fits in
+    let p : 5 * m ≤ k * m = mul-le-mul_right m five in
+    let twice : min n m * k ≡ m * k = ap (λ x. x * k) less in
+    omega arith)
+    (λ (a : m ≤ 0). omega arith)
+    (cases_lt 0 m)
+
+pub few_looks_swap : (n m looks : ℕ) → FewForUnion n m looks → FewForUnion m n looks
+few_looks_swap n m looks few k h =
+    let less : min n m ≡ min m n = omega arith in
+    let more : max n m ≡ max m n = omega arith in
+    let same : (min n m + 1) * 2 ^ k ≡ (min m n + 1) * 2 ^ k = ap (λ x. (x + 1) * 2 ^ k) less in
+    let l = few k (omega arith) in
+    let twice : min n m * k ≡ min m n * k = ap (λ x. x * k) less in
+    omega arith
+
+-- ---- answers
+
+-- all leaves of a list, if those of each of its cells
+pub within_each : (xs ys : List ℕ) → ((k : ℕ) → k < length ys → IsWithin (covers (get_or ys k 0)) (has_leaf xs)) →
+    IsWithin (has_leaf ys) (has_leaf xs)
+within_each xs ys each x l =
+    let p = leaf_at ys x l in
+    each p.at p.below x (covers_there (get_or ys p.at 0) x p.low p.high)
+
+pub each_within : (xs ys : List ℕ) (k : ℕ) → k < length ys → IsWithin (has_leaf ys) (has_leaf xs) →
+    IsWithin (covers (get_or ys k 0)) (has_leaf xs)
+each_within xs ys k h w x v = let r = covers_from (get_or ys k 0) x v in w x (leaf_there ys k x h r.0 r.1)
+
+-- no leaf of a list, if none of each of its cells
+pub none_of_each : (xs ys : List ℕ) → ((k : ℕ) → k < length ys → ShareSome (covers (get_or ys k 0)) (has_leaf xs) → ⊥) →
+    ShareSome (has_leaf xs) (has_leaf ys) → ⊥
+none_of_each xs ys each (x, a, b) =
+    let p = leaf_at ys x b in
+    each p.at p.below (x, covers_there (get_or ys p.at 0) x p.low p.high, a)
+
+pub one_of_each : (xs ys : List ℕ) (k : ℕ) → k < length ys → ShareSome (covers (get_or ys k 0)) (has_leaf xs) →
+    ShareSome (has_leaf xs) (has_leaf ys)
+one_of_each xs ys k h (x, v, a) = let r = covers_from (get_or ys k 0) x v in (x, a, leaf_there ys k x h r.0 r.1)
+
+pub share_swap : (xs ys : List ℕ) → ShareSome (has_leaf xs) (has_leaf ys) → ShareSome (has_leaf ys) (has_leaf xs)
+share_swap xs ys (x, a, b) = (x, b, a)
+
+-- no place is before cells that end by the leaf
+pub place_from : (u : List ℕ) (from at lo : ℕ) → from ≤ length u → Behind u from lo → EndsAfter u at lo → from ≤ at
+place_from u from at lo w b next =
+    ⊎_elim
+    (λ (h : at < from). let e = b at h in let n = next (omega arith) in absurd (omega arith))
+    (λ (h : from ≤ at). h)
+    (cases_lt at from)
+
+-- nor after the last that does
+pub place_behind : (u : List ℕ) (at lo : ℕ) → IsPacked u → (0 < at → EndsAt u (at - 1) lo) → Behind u at lo
+place_behind u at lo p last =
+    ⊎_elim
+    (λ (h : 0 < at).
+    let e = last h in
+    let same : (at - 1) + 1 ≡ at = omega arith in
+    subst (λ n. Behind u n lo) same (ended_to u (at - 1) lo p e.0 e.1))
+    (λ (h : at ≤ 0). λ k l. absurd (omega arith))
+    (cases_lt 0 at)

@@ -1,0 +1,5 @@
+use Rattle.s2union.proofs.Finding.{ascends}
+use Rattle.s2union.proofs.few.settle.Goals as goal
+
+pub pass-at-requires-clause-ascends : goal.pass-at-requires-clause-ascends
+pass-at-requires-clause-ascends c = ascends c.args.cells.now c.requires.packed
