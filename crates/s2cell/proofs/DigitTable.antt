@@ -1,33 +1,38 @@
--- The table of the digits' values, entry by entry.
+-- The tables of digits, entry by entry.
 use Rattle.std.proofs.Common.{◌≡◌, ℕ, suc, zero, ◌+◌, ◌<◌, Bool, true, ◌&&◌, ◌==◌, List, [], ◌∷◌, length}
 use Rattle.std.proofs.Common.{get_or, refl, sym, ◌∙◌, ap, arith, eqb-true}
 use Rattle.std.proofs.lemmas.Bool.{and_parts}
-use Rattle.std.specs.Char.{digit_value}
-use Rattle.s2cell.specs.declared.digits.TheConstants.{DIGIT_VALUES}
+use Rattle.std.specs.Char.{digit_char, digit_value}
+use Rattle.s2cell.specs.declared.digits.TheConstants.{DIGIT_VALUES, HEX_DIGITS}
 
--- each entry, the first being that of the byte `i`, is the value of its byte
-abbrev values_from : ℕ → List ℕ → Bool
-values_from i [] = true
-values_from i (e ∷ es) = (e == digit_value i) && values_from (i + 1) es
+-- each entry, the first being that of the number `i`, is what the function gives for its number
+abbrev entries_from : (ℕ → ℕ) → ℕ → List ℕ → Bool
+entries_from f i [] = true
+entries_from f i (e ∷ es) = (e == f i) && entries_from f (i + 1) es
 
-value_from : (i : ℕ) (es : List ℕ) (k : ℕ) → values_from i es ≡ true → k < length es →
-    get_or es k 0 ≡ digit_value (i + k)
-value_from i [] k ok h = absurd (omega arith)
-value_from i (e ∷ es) zero ok h =
-    let first : e ≡ digit_value i = eqb-true e (digit_value i)
-    (and_parts (e == digit_value i) (values_from (i + 1) es) ok).0 in
+entry_from : (f : ℕ → ℕ) (i : ℕ) (es : List ℕ) (k : ℕ) → entries_from f i es ≡ true → k < length es →
+    get_or es k 0 ≡ f (i + k)
+entry_from f i [] k ok h = absurd (omega arith)
+entry_from f i (e ∷ es) zero ok h =
+    let first : e ≡ f i = eqb-true e (f i) (and_parts (e == f i) (entries_from f (i + 1) es) ok).0 in
     let same : i + 0 ≡ i = omega arith in
-    first ∙ ap digit_value (sym same)
-value_from i (e ∷ es) (suc k) ok h =
-    let rest = value_from (i + 1) es k (and_parts (e == digit_value i) (values_from (i + 1) es) ok).1 (omega arith) in
+    first ∙ ap f (sym same)
+entry_from f i (e ∷ es) (suc k) ok h =
+    let rest = entry_from f (i + 1) es k (and_parts (e == f i) (entries_from f (i + 1) es) ok).1 (omega arith) in
     let same : (i + 1) + k ≡ i + suc k = omega arith in
-    rest ∙ ap digit_value same
+    rest ∙ ap f same
 
-table_ok : values_from 0 DIGIT_VALUES ≡ true
-table_ok = refl
+entry_in : (f : ℕ → ℕ) (es : List ℕ) → entries_from f 0 es ≡ true → (c : ℕ) → c < length es → get_or es c 0 ≡ f c
+entry_in f es ok c h = let same : 0 + c ≡ c = omega arith in entry_from f 0 es c ok h ∙ ap f same
 
-value_in : (es : List ℕ) → values_from 0 es ≡ true → (c : ℕ) → c < length es → get_or es c 0 ≡ digit_value c
-value_in es ok c h = let same : 0 + c ≡ c = omega arith in value_from 0 es c ok h ∙ ap digit_value same
+values_ok : entries_from digit_value 0 DIGIT_VALUES ≡ true
+values_ok = refl
 
 pub value_in_table : (c : ℕ) → c < 256 → get_or DIGIT_VALUES c 0 ≡ digit_value c
-value_in_table c h = value_in DIGIT_VALUES table_ok c h
+value_in_table c h = entry_in digit_value DIGIT_VALUES values_ok c h
+
+digits_ok : entries_from digit_char 0 HEX_DIGITS ≡ true
+digits_ok = refl
+
+pub digit_in_table : (v : ℕ) → v < 16 → get_or HEX_DIGITS v 0 ≡ digit_char v
+digit_in_table v h = entry_in digit_char HEX_DIGITS digits_ok v h

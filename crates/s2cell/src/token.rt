@@ -1,6 +1,7 @@
 //! Tokens: the hexadecimal digits of an identifier, without the zeros at their end.
-ghost use Rattle.std.specs.Prelude.{◌≡◌, MatchOption, ℕ};
+ghost use Rattle.std.specs.Prelude.{◌≡◌, MatchOption, length, take, ℕ};
 ghost use Rattle.s2cell.specs.Cell.{IsCell};
+ghost use Rattle.s2cell.specs.Text.{in_digits};
 ghost use Rattle.s2cell.specs.Token.{IsReading, IsToken, token_of};
 
 use crate::CellId;
@@ -39,12 +40,30 @@ impl CellId {
         ensures value { result.items ≡ token_of self }
     {
         // All sixteen digits, then cut: this is faster than a test for the end at each digit.
+        let _ = self.id();
         let mut digits = [0u8; TOKEN_LEN];
+        self.write_digits(&mut digits);
+        let mut text = ArrayVec::from(digits);
+        text.truncate(self.token_len());
+        text
+    }
+
+    /// How many bytes the token has. Does not form it.
+    pub fn token_len(self) -> usize
+        ensures { result ≡ length (token_of self) }
+    {
+        TOKEN_LEN - self.id.trailing_zeros() as usize / 4
+    }
+
+    /// Writes the sixteen hexadecimal digits of the identifier, with the zeros at their end. The token is the first
+    /// `token_len` of them.
+    pub fn write_digits(self, digits: &mut [u8])
+        requires { length digits.old ≡ 16 }
+        ensures digits { digits.new ≡ in_digits 16 16 self }
+        ensures token { take (length (token_of self)) digits.new ≡ token_of self }
+    {
         for k in 0..16u32 {
             digits[k as usize] = hex_digit(((self.id >> (60 - 4 * k)) & 15) as u8);
         }
-        let mut text = ArrayVec::from(digits);
-        text.truncate(TOKEN_LEN - self.id.trailing_zeros() as usize / 4);
-        text
     }
 }

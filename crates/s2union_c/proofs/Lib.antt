@@ -4,4 +4,5 @@ mod Ordering
 mod Wrong
 mod Words
 mod Joining
+mod Pieces
 mod Naming

@@ -1,6 +1,6 @@
 //! Lists of cells as texts: their tokens with blanks between them, and words that name cells.
 ghost use Rattle.std.specs.Prelude.{◌≡◌, ◌+◌, ◌*◌, ◌^◌, ◌<◌, ◌≤◌, ◌⊎◌, ℕ, List, [], ◌++◌, All};
-ghost use Rattle.std.specs.Prelude.{length, drop};
+ghost use Rattle.std.specs.Prelude.{length, drop, take};
 ghost use Rattle.std.specs.Prelude.{true, false, ◌↔◌, IfNone, IfSome, IsTrue, MatchOption, MatchResult, slice_index};
 ghost use Rattle.std.specs.List.{AllByRecursion, AllZip};
 ghost use Rattle.s2cell.specs.Cell.{IsCell};
@@ -13,6 +13,9 @@ ghost use Rattle.s2union_c.specs.Texts.{is_between, piece, tokens_of, words};
 use crate::status::{MADE, NO_CELL, NO_ROOM, TOO_MANY};
 use s2cell::CellId;
 use s2search::{IdList, cell_of, first_wrong};
+
+/// How many hexadecimal digits an identifier has.
+const DIGITS: usize = 16;
 
 /// The tokens of cells, with one blank between each two.
 #[unsafe(no_mangle)]
@@ -34,7 +37,7 @@ pub extern "C" fn s2u_tokens(ids: &[u64], text: &mut [u8], len: &mut usize) -> i
     if need > text.len() {
         return NO_ROOM;
     }
-    write_tokens(ids, text);
+    write_tokens(ids, &mut text[..need]);
     MADE
 }
 
@@ -81,48 +84,51 @@ fn piece_len(k: usize, id: u64) -> usize
     requires { IsCell id }
     ensures { result ≡ length (piece k (token_of id)) }
 {
-    let len = cell_of(id).token().len();
+    let len = cell_of(id).token_len();
     if k == 0 { len } else { len + 1 }
 }
 
-/// Writes the tokens of cells with the blanks between them. They have room.
+/// Writes the tokens of cells with the blanks between them. They fill the text.
 fn write_tokens(ids: &[u64], text: &mut [u8])
     requires cells { All IsCell ids.now }
-    requires room { length (tokens_of ids.now) ≤ length text.old }
-    ensures { IsFilled text.old text.new (tokens_of ids.now) }
+    requires room { length (tokens_of ids.now) ≡ length text.old }
+    ensures { text.new ≡ tokens_of ids.now }
 {
     let mut at = 0;
     for k in 0..ids.len() {
-        at = append_piece(text, at, k, cell_of(ids[k]).token().as_slice());
+        at = append_piece(text, at, k, cell_of(ids[k]));
     }
 }
 
-/// Adds a token to the first `at` bytes of a text, after a blank unless it is the first token (`k` is 0). Answers how
-/// many bytes there are then.
-fn append_piece(text: &mut [u8], at: usize, k: usize, token: &[u8]) -> usize
-    requires { at + length (piece k token.now) ≤ length text.old }
-    ensures end { result ≡ at + length (piece k token.now) }
+/// Adds a cell's token to the first `at` bytes of a text, after a blank unless it is the first token (`k` is 0). Answers
+/// how many bytes there are then; those after them may change.
+fn append_piece(text: &mut [u8], at: usize, k: usize, cell: CellId) -> usize
+    requires { at + length (piece k (token_of cell)) ≤ length text.old }
+    ensures end { result ≡ at + length (piece k (token_of cell)) }
     ensures len { length text.new ≡ length text.old }
-    ensures filled { (base front : List ℕ) → IsFilled base text.old front → at ≡ length front
-        → IsFilled base text.new (front ++ piece k token.now) }
+    ensures front { take result text.new ≡ take at text.old ++ piece k (token_of cell) }
 {
     if k == 0 {
-        return append(text, at, token);
+        return append_token(text, at, cell);
     }
-    let next = append(text, at, b" ");
-    append(text, next, token)
+    text[at] = b' ';
+    append_token(text, at + 1, cell)
 }
 
-/// Adds bytes to the first `at` of a text, and answers how many there are then.
-fn append(text: &mut [u8], at: usize, bytes: &[u8]) -> usize
-    requires { at + length bytes.now ≤ length text.old }
-    ensures end { result ≡ at + length bytes.now }
+/// Adds a cell's token to the first `at` bytes of a text, and answers how many there are then; those after them may
+/// change. Writes all the digits of the identifier if they have room: this is faster than a copy of some of them.
+fn append_token(text: &mut [u8], at: usize, cell: CellId) -> usize
+    requires { at + length (token_of cell) ≤ length text.old }
+    ensures end { result ≡ at + length (token_of cell) }
     ensures len { length text.new ≡ length text.old }
-    ensures filled { (base front : List ℕ) → IsFilled base text.old front → at ≡ length front
-        → IsFilled base text.new (front ++ bytes.now) }
+    ensures front { take result text.new ≡ take at text.old ++ token_of cell }
 {
-    let end = at + bytes.len();
-    text[at..end].copy_from_slice(bytes);
+    let end = at + cell.token_len();
+    if text.len() - at >= DIGITS {
+        cell.write_digits(&mut text[at..at + DIGITS]);
+    } else {
+        text[at..end].copy_from_slice(cell.token().as_slice());
+    }
     end
 }
 

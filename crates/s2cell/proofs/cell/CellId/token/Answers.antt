@@ -1,19 +1,13 @@
-use Rattle.std.proofs.Common.{arith}
-use Rattle.s2cell.specs.Cell.{IsCell}
-use Rattle.s2cell.proofs.Tokens.{token_more, token_done, IsToken-token_of}
+use Rattle.std.proofs.Common.{◌∙◌}
+use Rattle.s2cell.specs.Cell.{IsCell, level_of, place_of}
+use Rattle.s2cell.proofs.Tokens.{IsToken-token_of}
 use Rattle.s2cell.proofs.cell.CellId.token.Goals as goal
-
-pub loop-k-preserved : goal.loop-k-preserved
-loop-k-preserved c = token_more c.args.self c.loop-k.k _ c.loop-k.digits c.loop-k.invariant (omega arith)
-    (rw (← c.self.view_is) c.hex_digit.ensures)
 
 pub returns-clause-value : goal.returns-clause-value
 returns-clause-value c =
-    let i : IsCell c.args.self = rw (← c.self.view_is) c.self.invariant in
-    token_done c.args.self c.loop-k.k c.loop-k.digits _ i c.loop-k.invariant c.loop-k-test.false
-    (rw (← c.self.view_is) (rw c.from-text.ensures.0 at c.truncate.ensures.items))
+    rw (c.from-text.ensures.0, c.token_len.ensures) at c.truncate.ensures.items ∙ c.write_digits.ensures.token
 
 pub returns-clause-token : goal.returns-clause-token
 returns-clause-token c =
-    let i : IsCell c.args.self = rw (← c.self.view_is) c.self.invariant in
+    let i : IsCell c.args.self = (level_of c.args.self, place_of c.args.self, c.id.ensures.cell) in
     rw (returns-clause-value c) (IsToken-token_of c.args.self i)

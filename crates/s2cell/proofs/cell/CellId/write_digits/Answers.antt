@@ -1,0 +1,16 @@
+use Rattle.std.proofs.Common.{arith}
+use Rattle.s2cell.specs.Cell.{IsCell}
+use Rattle.s2cell.proofs.Tokens.{token_more, digits_done, token_done}
+use Rattle.s2cell.proofs.cell.CellId.write_digits.Goals as goal
+
+pub loop-k-preserved : goal.loop-k-preserved
+loop-k-preserved c = token_more c.args.self c.loop-k.k _ c.loop-k.digits c.loop-k.invariant (omega arith)
+    (rw (← c.self.view_is) c.hex_digit.ensures)
+
+pub returns-clause-digits : goal.returns-clause-digits
+returns-clause-digits c = digits_done c.args.self c.loop-k.k c.loop-k.digits c.loop-k.invariant c.loop-k-test.false
+
+pub returns-clause-token : goal.returns-clause-token
+returns-clause-token c =
+    let i : IsCell c.args.self = rw (← c.self.view_is) c.self.invariant in
+    token_done c.args.self c.loop-k.k c.loop-k.digits i c.loop-k.invariant c.loop-k-test.false
