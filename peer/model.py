@@ -18,8 +18,24 @@ MOST_CHANGES = 10_000
 MOST_LISTED = 1_000_000
 
 
+REASONS = {
+    "missing": "there is no file of that name",
+    "file": "the file could not be read or written",
+    "format": "the file is not a union file",
+    "session": "the file is not a session file",
+    "too-deep": "the session has more states than the depth",
+    "too-many": "there would be more cells than are allowed",
+    "nothing": "there is nothing to undo or redo",
+    "line": f"more than {LONGEST_LINE} bytes",
+}
+
+
 class Refused(Exception):
-    """A line is refused; its one argument is the refusal's name."""
+    """A line is refused, by this name and for this reason."""
+
+    def __init__(self, name, reason=None):
+        super().__init__(name)
+        self.reason = REASONS[name] if reason is None else reason
 
 
 # ---- cells: pairs of a level and a place
@@ -317,23 +333,39 @@ def read_session(text):
 # ---- words
 
 
-def number_in(word, most, refusal, least=0):
-    if not re.fullmatch(rb"[0-9]{1,10}", word) or not least <= int(word) <= most:
-        raise Refused(refusal)
-    return int(word)
+def shown(word):
+    """The word between quotes; a byte that doesn't print, a quote or a backslash is escaped."""
+    escapes = {9: r"\t", 10: r"\n", 13: r"\r", 34: r"\"", 39: r"\'", 92: r"\\"}
+    return "'" + "".join(escapes.get(b) or (chr(b) if 32 <= b < 127 else rf"\x{b:02x}") for b in word) + "'"
+
+
+def number_in(word, most, least=0):
+    """The number that a word stands for; None if it stands for none in range."""
+    if re.fullmatch(rb"[0-9]{1,10}", word) and least <= int(word) <= most:
+        return int(word)
+    return None
 
 
 def cell_in(word):
-    cell = None
+    """The cell that a word names; None if it names none."""
     if b"/" in word:
         if re.fullmatch(rb"[0-5]/[0-3]{0,30}", word):
             level = len(word) - 2
-            cell = (level, int(word[:1]) * 4**level + int(word[2:] or b"0", 4))
+            return (level, int(word[:1]) * 4**level + int(word[2:] or b"0", 4))
     elif re.fullmatch(rb"[0-9a-fA-F]{1,16}", word):
-        cell = cell_of(int(word.ljust(16, b"0"), 16))
-    if cell is None:
-        raise Refused("cell")
-    return cell
+        return cell_of(int(word.ljust(16, b"0"), 16))
+    return None
+
+
+def register_in(word):
+    """The register that a word names; None if it names none."""
+    letter = word.decode("latin-1")
+    return letter if len(letter) == 1 and letter in REGISTERS else None
+
+
+def name_in(word):
+    """The file name that a word is; None if it is none."""
+    return word.decode() if re.fullmatch(rb"[A-Za-z0-9_][A-Za-z0-9._-]{0,63}", word) else None
 
 
 class Words:
@@ -342,20 +374,21 @@ class Words:
     def __init__(self, words):
         self.words = list(words)
 
-    def next(self):
+    def next(self, meaning, refusal, wanted):
+        """What the next word means; it is wanted to be something, and refused if it isn't."""
         if not self.words:
-            raise Refused("syntax")
-        return self.words.pop(0)
+            raise Refused("syntax", f"{wanted} is missing")
+        word = self.words.pop(0)
+        value = meaning(word)
+        if value is None:
+            raise Refused(refusal, f"{shown(word)} is not {wanted}")
+        return value
 
     def register(self):
-        word = self.next()
-        letter = word.decode("latin-1")
-        if len(letter) != 1 or letter not in REGISTERS:
-            raise Refused("register")
-        return letter
+        return self.next(register_in, "register", "a register (a to z)")
 
     def cell(self):
-        return cell_in(self.next())
+        return self.next(cell_in, "cell", "a cell (a token or a debug text)")
 
     def cells(self):
         found = [self.cell()]
@@ -363,17 +396,28 @@ class Words:
             found.append(self.cell())
         return found
 
+    def span(self):
+        """Two cells; the second must not end before the first begins."""
+        first, word = self.cell(), self.words[:1]
+        last = self.cell()
+        if run_of(first)[0] > run_of(last)[1] - 1:
+            raise Refused("order", f"{shown(word[0])} is not a second cell that does not end before the first begins")
+        return first, last
+
+    def number(self, refusal, what, most, least=0):
+        return self.next(lambda word: number_in(word, most, least), refusal, f"a {what} ({least} to {most})")
+
     def level(self):
-        return number_in(self.next(), 30, "level")
+        return self.number("level", "level", 30)
 
     def modulus(self):
-        return number_in(self.next(), 3, "level", 1)
+        return self.number("level", "modulus", 3, 1)
 
     def face(self):
-        return number_in(self.next(), 5, "face")
+        return self.number("face", "face", 5)
 
     def coordinate(self, least=0):
-        return number_in(self.next(), SIDE - 1, "rectangle", least)
+        return self.number("rectangle", "coordinate", SIDE - 1, least)
 
     def rectangle(self):
         face = self.face()
@@ -383,14 +427,12 @@ class Words:
         return face, i0, i1, j0, self.coordinate(j0)
 
     def name(self):
-        word = self.next()
-        if not re.fullmatch(rb"[A-Za-z0-9_][A-Za-z0-9._-]{0,63}", word):
-            raise Refused("name")
-        return word.decode()
+        form = "1 to 64 letters, digits, '.', '_' or '-', the first no '.' and no '-'"
+        return self.next(name_in, "name", f"a file name ({form})")
 
     def end(self):
         if self.words:
-            raise Refused("syntax")
+            raise Refused("syntax", f"{shown(self.words[0])} is a word too many")
 
 
 # ---- the calculator
@@ -417,20 +459,22 @@ class Calculator:
     def __init__(self, limit, depth, files):
         self.limit, self.depth, self.files = limit, depth, files
         self.past, self.table, self.future = [], {r: [] for r in REGISTERS}, []
+        self.notes = b""
 
     def run(self, script):
-        """The bytes that are written, and whether a line was refused."""
+        """The bytes that are written, and whether a line was refused; `notes` says why."""
         lines = script.split(b"\n")
         if lines[-1] == b"":
             lines.pop()
-        written, refused = [], False
-        for line in lines:
+        written, notes = [], []
+        for number, line in enumerate(lines, 1):
             try:
                 written += [answer + "\n" for answer in self.answer(line)]
             except Refused as refusal:
                 written.append(f"error {refusal}\n")
-                refused = True
-        return "".join(written).encode(), refused
+                notes.append(f"line {number}: error {refusal}: {refusal.reason}\n")
+        self.notes = "".join(notes).encode()
+        return "".join(written).encode(), bool(notes)
 
     def answer(self, line):
         if len(line) > LONGEST_LINE:
@@ -446,7 +490,7 @@ class Calculator:
             return self.compare(Words(words[1:]), COMPARISONS[command])
         method = getattr(self, "do_" + command, None) if re.fullmatch("[a-z]+", command) else None
         if method is None:
-            raise Refused("syntax")
+            raise Refused("syntax", f"{shown(words[0])} is not a command")
         return method(Words(words[1:]))
 
     # Moves of the history.
@@ -513,9 +557,7 @@ class Calculator:
         return self.assign(register, operation(self.table[register], self.table[other]))
 
     def do_range(self, words):
-        register, first, last = words.register(), words.cell(), words.cell()
-        if run_of(first)[0] > run_of(last)[1] - 1:
-            raise Refused("order")
+        register, (first, last) = words.register(), words.span()
         words.end()
         return self.assign(register, [(run_of(first)[0], run_of(last)[1])])
 

@@ -4,8 +4,8 @@
 ghost use Rattle.std.specs.Prelude.{◌≤◌};
 
 use s2calc::{
-    AnswerBuffer, Job, RunFault, Tally, cell_answer, check_answer, draw_answer, draw_cells_answer,
-    job, run_promptly, status,
+    AnswerBuffer, Job, NoteWriter, RunFault, Tally, cell_answer, check_answer, draw_answer,
+    draw_cells_answer, job, run_explained, run_promptly, status,
 };
 use s2edit::{Editor, MOST_CELLS, MOST_STATES};
 use s2shelf::DirShelf;
@@ -28,7 +28,14 @@ fn main(rt: HostRuntime) -> ExitCode {
         Err(_) => return ended(&rt, &Err(RunFault::Memory)),
     };
     match job(rt.alloc(), words) {
-        Ok(Job::Run { limit, depth, dir }) => run_script(&rt, limit, depth, &dir),
+        Ok(
+            Job::Run {
+                limit,
+                depth,
+                dir,
+                explain,
+            },
+        ) => run_script(&rt, limit, depth, &dir, explain),
         Ok(Job::Cell { word }) => answer_cell(&rt, &word),
         Ok(Job::Check { dir, name }) => answer_check(&rt, &dir, &name),
         Ok(Job::Draw { dir, name, curve }) => answer_draw(&rt, &dir, &name, curve),
@@ -38,7 +45,7 @@ fn main(rt: HostRuntime) -> ExitCode {
 }
 
 /// Answers the script on standard input.
-fn run_script(rt: &HostRuntime, limit: usize, depth: usize, dir: &str) -> ExitCode
+fn run_script(rt: &HostRuntime, limit: usize, depth: usize, dir: &str, explain: bool) -> ExitCode
     requires limit { (1 ≤ limit) × (limit ≤ MOST_CELLS) }
     requires depth { (1 ≤ depth) × (depth ≤ MOST_STATES) }
 {
@@ -51,13 +58,27 @@ fn run_script(rt: &HostRuntime, limit: usize, depth: usize, dir: &str) -> ExitCo
     let Ok(mut writer) = AnswerBuffer::new(rt.alloc(), io::writer(rt)) else {
         return ended(rt, &Err(RunFault::Memory));
     };
-    let result = run_promptly(
-        rt.alloc(),
-        &mut editor,
-        &mut rt.reader(),
-        &mut writer,
-        &mut shelf,
-    );
+    let result = if explain {
+        let Ok(mut notes) = NoteWriter::new(rt.alloc(), rt.stderr()) else {
+            return ended(rt, &Err(RunFault::Memory));
+        };
+        run_explained(
+            rt.alloc(),
+            &mut editor,
+            &mut rt.reader(),
+            &mut writer,
+            &mut shelf,
+            &mut notes,
+        )
+    } else {
+        run_promptly(
+            rt.alloc(),
+            &mut editor,
+            &mut rt.reader(),
+            &mut writer,
+            &mut shelf,
+        )
+    };
     ended(rt, &result)
 }
 

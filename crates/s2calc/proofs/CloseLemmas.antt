@@ -7,18 +7,17 @@ use Rattle.std.specs.Io.KnownBytes.{Appends, Keeps}
 use Rattle.std.proofs.KnownBytes.{Appends-nil, Appends-kept}
 use Rattle.s2script.specs.declared.limits.TheConstants.{LONGEST_LINE}
 use Rattle.s2calc.specs.declared.limits.TheConstants.{KEPT}
-use Rattle.s2calc.specs.World.{World}
 use Rattle.s2calc.specs.declared.engine.Tally.{Tally}
-use Rattle.s2script.specs.Lines.{BeginsWith, but_last, last_line, lines}
+use Rattle.s2calc.specs.declared.progress.Progress.{Progress}
+use Rattle.s2script.specs.Lines.{but_last, last_line, lines}
 use Rattle.s2calc.specs.Replies.{Reply, text_of, texts, tally_of, IsCutOff}
 use Rattle.s2calc.specs.Step.{Step}
 use Rattle.s2calc.specs.Output.{AppendsPart}
 use Rattle.s2calc.specs.Run.{Steps}
-use Rattle.s2calc.specs.Stands.{Stands, Ended, EndsInPart, EndsUnflushed}
-use Rattle.s2calc.proofs.LineLemmas.{lines_begun}
-use Rattle.s2calc.proofs.RunLemmas.{Steps-push}
-use Rattle.s2calc.proofs.StepLemmas.{Step-kept}
-use Rattle.s2calc.proofs.TakeInLemmas.{IsCutOff-part}
+use Rattle.s2calc.specs.Explained.{Point, Explains}
+use Rattle.s2calc.specs.Stands.{Stands, Answered, Ended, EndsInPart, EndsUnflushed}
+use Rattle.s2calc.proofs.LineLemmas.{lines_begun, but_last-append}
+use Rattle.s2calc.proofs.TakeInLemmas.{IsCutOff-part, Explains-line, Explains-cut, Steps-line}
 
 but_last-more : (replies : List Reply) (m : Reply) (ms : List Reply) →
     but_last (replies ++ m ∷ ms) ≡ replies ++ but_last (m ∷ ms)
@@ -55,85 +54,98 @@ last_line-one : (rest : List ℕ) → 0 < length (take KEPT rest) → last_line 
 last_line-one [] h = absurd (omega arith)
 last_line-one (b ∷ bs) h = refl
 
-module _ (start : World) (script : List ℕ) (replies : List Reply) (editor : World) (kept : List ℕ) (tally : Tally)
-    (s : Stands start script replies editor kept tally) where
+module _ (start : Point) (script : List ℕ) (replies : List Reply) (now : Point) (progress : Progress)
+    (s : Stands start script replies now progress) where
   -- no line is left
-  lines_none : kept ≡ [] → lines script ≡ s.done
+  lines_none : progress.kept ≡ [] → lines script ≡ s.done
   lines_none e = lines_begun script s.done s.rest s.begins s.unbroken
       ∙ ap (λ ls. s.done ++ ls) (last_line-none s.rest (sym s.kept_is ∙ e)) ∙ append-nil s.done
 
-  lines_one : 0 < length kept → lines script ≡ s.done ++ s.rest ∷ []
+  lines_one : 0 < length progress.kept → lines script ≡ s.done ++ s.rest ∷ []
   lines_one h =
       let kept_is = s.kept_is in
       let more : 0 < length (take KEPT s.rest) = subst (λ k. 0 < length k) s.kept_is h in
       lines_begun script s.done s.rest s.begins s.unbroken ∙ ap (λ ls. s.done ++ ls) (last_line-one s.rest more)
 
-  run_none : kept ≡ [] → Steps start (lines script) (replies ++ []) editor
-  run_none e = subst (λ ls. Steps start ls (replies ++ []) editor) (sym (lines_none e))
-      (subst (λ rs. Steps start s.done rs editor) (sym (append-nil replies)) s.run)
+  run_none : progress.kept ≡ [] → Steps start.world (lines script) (replies ++ []) now.world
+  run_none e = subst (λ ls. Steps start.world ls (replies ++ []) now.world) (sym (lines_none e))
+      (subst (λ rs. Steps start.world s.done rs now.world) (sym (append-nil replies)) s.run)
 
-  run_one : (new : World) (reply : Reply) → 0 < length kept → Step editor kept reply new →
-      Steps start (lines script) (replies ++ reply ∷ []) new
-  run_one new reply h t =
-      let step : Step editor s.rest reply new = Step-kept editor new s.rest reply
-      (subst (λ k. Step editor k reply new) s.kept_is t) in
-      subst (λ ls. Steps start ls (replies ++ reply ∷ []) new) (sym (lines_one h))
-      (Steps-push start editor new s.done replies s.rest reply s.run step)
+  noted_none : progress.kept ≡ [] → Explains start now (lines script) (replies ++ [])
+  noted_none e = subst (λ ls. Explains start now ls (replies ++ [])) (sym (lines_none e))
+      (subst (λ rs. Explains start now s.done rs) (sym (append-nil replies)) s.noted)
 
-  pub Ended-none : (told : Tally) (output_old output_new : Option (List ℕ)) → kept ≡ [] →
-      Keeps output_old output_new → told ≡ tally → Ended start script replies editor output_old output_new told
+  pub Ended-none : (told : Tally) (output_old output_new : Option (List ℕ)) → progress.kept ≡ [] →
+      Keeps output_old output_new → told ≡ progress.tally → Ended start script replies now output_old output_new told
   Ended-none told output_old output_new e k t =
       record {
         more = [];
         run = run_none e;
         written = Appends-kept output_old output_old output_new [] (Appends-nil output_old) k;
         tally_is = t ∙ s.tally_is ∙ ap tally_of (sym (append-nil replies));
+        noted = noted_none e;
       }
 
-  pub EndsUnflushed-none : (output_old output_new : Option (List ℕ)) → kept ≡ [] → Keeps output_old output_new →
-      EndsUnflushed start script replies editor output_old output_new
+  pub EndsUnflushed-none : (output_old output_new : Option (List ℕ)) → progress.kept ≡ [] →
+      Keeps output_old output_new → EndsUnflushed start script replies now output_old output_new
   EndsUnflushed-none output_old output_new e k =
       record {
         more = [];
         run = run_none e;
         written = Appends-kept output_old output_old output_new [] (Appends-nil output_old) k;
+        noted = noted_none e;
       }
 
   texts-one : (reply : Reply) → texts (reply ∷ []) ≡ text_of reply
   texts-one reply = append-nil (text_of reply)
 
-  pub Ended-line : (told : Tally) (output_old output_mid output_new : Option (List ℕ)) (new : World)
-      (reply : Reply) → 0 < length kept → Step editor kept reply new → Appends output_old output_mid (text_of reply)
-      → Keeps output_mid output_new → told ≡ tally_of (replies ++ reply ∷ []) →
-      Ended start script replies new output_old output_new told
-  Ended-line told output_old output_mid output_new new reply h t w k e =
-      record {
-        more = reply ∷ [];
-        run = run_one new reply h t;
-        written = subst (Appends output_old output_new) (sym (texts-one reply))
-            (Appends-kept output_old output_mid output_new (text_of reply) w k);
-        tally_is = e;
-      }
+  module _ (new : Point) (reply : Reply) (h : 0 < length progress.kept)
+      (t : Step now.world progress.kept reply new.world) where
+    run_one : Steps start.world (lines script) (replies ++ reply ∷ []) new.world
+    run_one = subst (λ ls. Steps start.world ls (replies ++ reply ∷ []) new.world) (sym (lines_one h))
+        (Steps-line start script replies now progress s reply new t)
 
-  pub EndsUnflushed-line : (output_old output_mid output_new : Option (List ℕ)) (new : World) (reply : Reply) →
-      0 < length kept → Step editor kept reply new → Appends output_old output_mid (text_of reply)
-      → Keeps output_mid output_new → EndsUnflushed start script replies new output_old output_new
-  EndsUnflushed-line output_old output_mid output_new new reply h t w k =
-      record {
-        more = reply ∷ [];
-        run = run_one new reply h t;
-        written = subst (Appends output_old output_new) (sym (texts-one reply))
-            (Appends-kept output_old output_mid output_new (text_of reply) w k);
-      }
+    pub EndsInPart-part : (output_old output_new : Option (List ℕ)) →
+        AppendsPart output_old output_new (text_of reply) → new.noted ≡ now.noted
+        → EndsInPart start script replies new output_old output_new
+    EndsInPart-part output_old output_new w quiet =
+        let said : Explains start new (s.done ++ s.rest ∷ []) (but_last (replies ++ reply ∷ [])) =
+        subst (λ rs. Explains start new (s.done ++ s.rest ∷ []) rs) (sym (but_last-append replies reply))
+        (Explains-cut start script replies now progress s reply new quiet) in
+        record {
+          more = reply ∷ [];
+          bytes = w.part;
+          run = run_one;
+          written = w.written;
+          cut_off = IsCutOff-part [] reply w.part w.rest w.bytes_are w.lacking;
+          noted = subst (λ ls. Explains start new ls (but_last (replies ++ reply ∷ []))) (sym (lines_one h)) said;
+        }
 
-  pub EndsInPart-part : (output_old output_new : Option (List ℕ)) (new : World) (reply : Reply) → 0 < length kept →
-      Step editor kept reply new → AppendsPart output_old output_new (text_of reply)
-      → EndsInPart start script replies new output_old output_new
-  EndsInPart-part output_old output_new new reply h t w =
-      record {
-        more = reply ∷ [];
-        bytes = w.part;
-        run = run_one new reply h t;
-        written = w.written;
-        cut_off = IsCutOff-part [] reply w.part w.rest w.bytes_are w.lacking;
-      }
+    module _ (after : Progress) (output_old output_mid output_new : Option (List ℕ))
+        (a : Answered now progress reply new after output_old output_mid) (k : Keeps output_mid output_new) where
+      noted_one : Explains start new (lines script) (replies ++ reply ∷ [])
+      noted_one = subst (λ ls. Explains start new ls (replies ++ reply ∷ [])) (sym (lines_one h))
+          (Explains-line start script replies now progress s reply new a.noted)
+
+      written_one : Appends output_old output_new (texts (reply ∷ []))
+      written_one = subst (Appends output_old output_new) (sym (texts-one reply))
+          (Appends-kept output_old output_mid output_new (text_of reply) a.written k)
+
+      pub Ended-line : (told : Tally) → told ≡ after.tally → Ended start script replies new output_old output_new told
+      Ended-line told e =
+          record {
+            more = reply ∷ [];
+            run = run_one;
+            written = written_one;
+            tally_is = e ∙ a.tally_is replies s.tally_is;
+            noted = noted_one;
+          }
+
+      pub EndsUnflushed-line : EndsUnflushed start script replies new output_old output_new
+      EndsUnflushed-line =
+          record {
+            more = reply ∷ [];
+            run = run_one;
+            written = written_one;
+            noted = noted_one;
+          }

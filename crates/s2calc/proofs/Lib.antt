@@ -4,6 +4,7 @@ pub mod Failures
 pub mod LineLemmas
 pub mod ListingLemmas
 pub mod FetchLemmas
+pub mod NoteLemmas
 pub mod OneRun
 pub mod OutputLemmas
 pub mod ReadLemmas

@@ -1,14 +1,11 @@
 -- The bytes of a state, and what comes of them.
-use Rattle.std.proofs.Common.{◌≡◌, ◌≢◌, ℕ, ◌+◌, ◌<◌, ◌≤◌, inl, inr, List, length, Ok, Err, MatchResult, refl}
-use Rattle.std.proofs.Common.{sym, ap, ◌∙◌, subst, arith, Result}
-use Rattle.s2file.specs.Session.{Content, Spells, content_of}
-use Rattle.s2file.specs.declared.session.Session.{Session as Kept}
-use Rattle.s2file.specs.declared.session.SessionFault.{SessionFault}
+use Rattle.std.proofs.Common.{◌≡◌, ◌≢◌, ℕ, ◌+◌, ◌≤◌, inl, inr, List, length, Ok, refl}
+use Rattle.std.proofs.Common.{sym, ap, ◌∙◌, subst, arith}
+use Rattle.s2file.specs.Session.{Content, Spells}
 use Rattle.s2file.specs.declared.session.SessionFault.TheVariants.{Form, Memory as NoMemory}
 use Rattle.s2file.proofs.Spelled.{one_spelled}
-use Rattle.s2edit.specs.History.{History, EachList, AllTables, AllLists}
+use Rattle.s2edit.specs.History.{History, EachList}
 use Rattle.s2edit.specs.Session.{Tells, Stored, Restored, IsTooDeep, IsTooMany}
-use Rattle.s2edit.specs.SessionLaws.{IsKept}
 use Rattle.s2edit.proofs.Spelling.{one_history}
 use Rattle.s2shelf.specs.Shelf.{Files, SameFiles}
 use Rattle.s2calc.specs.declared.refusal.Refusal.{Refusal}

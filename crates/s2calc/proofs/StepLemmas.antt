@@ -5,12 +5,10 @@ use Rattle.std.proofs.lemmas.List.{length-take, take_all}
 use Rattle.std.proofs.lemmas.Bool.{cases_lt}
 use Rattle.s2calc.specs.World.{World}
 use Rattle.s2script.specs.declared.limits.TheConstants.{LONGEST_LINE}
-use Rattle.s2script.specs.declared.command.Parsed.TheVariants.{Fails}
-use Rattle.s2script.specs.declared.refusal.Refusal.TheVariants.{Line}
 use Rattle.s2script.specs.declared.misfit.Misfit.TheVariants.{LongLine}
 use Rattle.s2calc.specs.declared.limits.TheConstants.{KEPT}
 use Rattle.s2calc.specs.Replies.{Reply}
-use Rattle.s2script.specs.Line.{line_of, parsed_of, reading_of, read_within}
+use Rattle.s2script.specs.Line.{line_of, misfit_of, parsed_of, misfit_in, reading_of, read_within}
 use Rattle.s2calc.specs.Step.{Step, StepBy}
 
 is_above : (n : ℕ) → LONGEST_LINE < n → ltb LONGEST_LINE n ≡ true
@@ -20,24 +18,34 @@ first_case : {X : Type 0} (b : Bool) (x y : X) → b ≡ true → cond b x y ≡
 first_case true x y e = refl
 first_case false x y e = cc
 
-line_of_long : (line : List ℕ) → LONGEST_LINE < length line → line_of line ≡ Fails Line
-unfolding line_of reading_of
-line_of_long line h = ap parsed_of (first_case (ltb LONGEST_LINE (length line)) (Err LongLine) (read_within line)
-    (is_above (length line) h))
+reading_of_long : (line : List ℕ) → LONGEST_LINE < length line → reading_of line ≡ Err LongLine
+unfolding reading_of
+reading_of_long line h = first_case (ltb LONGEST_LINE (length line)) (Err LongLine) (read_within line)
+    (is_above (length line) h)
 
-line_of_short : (line : List ℕ) → length line ≤ KEPT → line_of (take KEPT line) ≡ line_of line
-line_of_short line h = ap line_of (take_all KEPT line h)
+reading_of_short : (line : List ℕ) → length line ≤ KEPT → reading_of (take KEPT line) ≡ reading_of line
+reading_of_short line h = ap reading_of (take_all KEPT line h)
 
 cut_long : (line : List ℕ) → LONGEST_LINE < length line → LONGEST_LINE < length (take KEPT line)
 cut_long line h = let e = length-take KEPT line in omega arith
 
--- the first `KEPT` bytes of a line say what it says
-pub line_of-kept : (line : List ℕ) → line_of (take KEPT line) ≡ line_of line
-line_of-kept line =
+-- the first `KEPT` bytes of a line are read as it is
+reading_of-kept : (line : List ℕ) → reading_of (take KEPT line) ≡ reading_of line
+reading_of-kept line =
     elim (cases_lt LONGEST_LINE (length line)) [
-      | inl h ↦ line_of_long (take KEPT line) (cut_long line h) ∙ sym (line_of_long line h)
-      | inr h ↦ line_of_short line (omega arith)
+      | inl h ↦ reading_of_long (take KEPT line) (cut_long line h) ∙ sym (reading_of_long line h)
+      | inr h ↦ reading_of_short line (omega arith)
     ]
+
+-- so they say what it says
+pub line_of-kept : (line : List ℕ) → line_of (take KEPT line) ≡ line_of line
+unfolding line_of
+line_of-kept line = ap parsed_of (reading_of-kept line)
+
+-- and they do not fit where it does not fit
+pub misfit_of-kept : (line : List ℕ) → misfit_of (take KEPT line) ≡ misfit_of line
+unfolding misfit_of
+misfit_of-kept line = ap misfit_in (reading_of-kept line)
 
 pub Step-kept : (old new : World) (line : List ℕ) (reply : Reply) → Step old (take KEPT line) reply new →
     Step old line reply new

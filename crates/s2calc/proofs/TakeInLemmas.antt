@@ -1,20 +1,22 @@
 -- Lemmas on taking in the bytes of a script.
-use Rattle.std.proofs.Common.{◌≡◌, ℕ, ◌<◌, List, [], ◌∷◌, ◌++◌, Option, length, take, refl, sym, ap, ◌∙◌}
-use Rattle.std.proofs.Common.{subst, append_assoc, append-nil}
+use Rattle.std.proofs.Common.{◌≡◌, ℕ, ◌+◌, ◌<◌, List, [], ◌∷◌, ◌++◌, Option, length, take, refl, sym, ap, ◌∙◌}
+use Rattle.std.proofs.Common.{subst, append_assoc, append-nil, arith, length-append}
 use Rattle.std.proofs.lemmas.List.Concat.{flat_map-append}
 use Rattle.std.specs.Io.KnownBytes.{Appends}
 use Rattle.std.proofs.KnownBytes.{Appends-nil, Appends-trans}
 use Rattle.s2calc.specs.declared.limits.TheConstants.{KEPT}
-use Rattle.s2calc.specs.World.{World}
-use Rattle.s2calc.specs.declared.engine.Tally.{Tally}
-use Rattle.s2script.specs.Lines.{IsUnbroken, BeginsWith}
+use Rattle.s2calc.specs.declared.progress.Progress.{Progress}
+use Rattle.s2script.specs.Lines.{IsUnbroken, BeginsWith, but_last}
 use Rattle.s2calc.specs.Replies.{Reply, text_of, texts, tally_of, IsCutOff}
+use Rattle.s2calc.specs.Notes.{Tells, note_of, number_of, notes_of}
 use Rattle.s2calc.specs.Step.{Step}
 use Rattle.s2calc.specs.Output.{AppendsPart}
 use Rattle.s2calc.specs.Run.{Steps}
-use Rattle.s2calc.specs.Stands.{Stands, StandsAfter, StopsInside}
+use Rattle.s2calc.specs.Explained.{Point, Explains}
+use Rattle.s2calc.specs.Stands.{Stands, Answered, StandsAfter, StopsInside}
 use Rattle.s2calc.proofs.LineLemmas.{every-append, BeginsWith-more, BeginsWith-line, kept_more, but_last-append}
-use Rattle.s2calc.proofs.RunLemmas.{Steps-push}
+use Rattle.s2calc.proofs.NoteLemmas.{Tells-none, Tells-more, notes_from-push, notes_from-cut, note_of-kept}
+use Rattle.s2calc.proofs.RunLemmas.{Steps-push, Steps-lengths}
 use Rattle.s2calc.proofs.StepLemmas.{Step-kept}
 
 pub texts-push : (replies : List Reply) (reply : Reply) → texts (replies ++ reply ∷ []) ≡ texts replies ++ text_of reply
@@ -22,23 +24,23 @@ texts-push replies reply = flat_map-append text_of replies (reply ∷ [])
     ∙ ap (λ s. texts replies ++ s) (append-nil (text_of reply))
 
 -- a run that stands somewhere has seen no byte since
-pub StandsAfter-none : (start : World) (script : List ℕ) (replies : List Reply) (editor : World) (kept : List ℕ)
-    (tally : Tally) (output : Option (List ℕ)) → Stands start script replies editor kept tally
-    → StandsAfter start script replies [] editor kept tally output output
-StandsAfter-none start script replies editor kept tally output s =
+pub StandsAfter-none : (start : Point) (script : List ℕ) (replies : List Reply) (now : Point) (progress : Progress)
+    (output : Option (List ℕ)) → Stands start script replies now progress
+    → StandsAfter start script replies [] now progress output output
+StandsAfter-none start script replies now progress output s =
     record {
       more = [];
-      stands = subst (λ all. Stands start all (replies ++ []) editor kept tally) (sym (append-nil script))
-          (subst (λ rs. Stands start script rs editor kept tally) (sym (append-nil replies)) s);
+      stands = subst (λ all. Stands start all (replies ++ []) now progress) (sym (append-nil script))
+          (subst (λ rs. Stands start script rs now progress) (sym (append-nil replies)) s);
       written = Appends-nil output;
     }
 
 -- bytes without a newline are kept
-pub Stands-more : (start : World) (script : List ℕ) (replies : List Reply) (editor : World)
-    (kept new_kept : List ℕ) (tally : Tally) (bytes : List ℕ) → Stands start script replies editor kept tally
-    → IsUnbroken bytes → new_kept ≡ take KEPT (kept ++ bytes) →
-    Stands start (script ++ bytes) replies editor new_kept tally
-Stands-more start script replies editor kept new_kept tally bytes s u e =
+pub Stands-more : (start : Point) (script : List ℕ) (replies : List Reply) (now : Point)
+    (progress after : Progress) (bytes : List ℕ) → Stands start script replies now progress
+    → IsUnbroken bytes → after.kept ≡ take KEPT (progress.kept ++ bytes) → after.tally ≡ progress.tally →
+    after.lines ≡ progress.lines → Stands start (script ++ bytes) replies now after
+Stands-more start script replies now progress after bytes s u e same_tally same_lines =
     record {
       done = s.done;
       rest = s.rest ++ bytes;
@@ -46,64 +48,110 @@ Stands-more start script replies editor kept new_kept tally bytes s u e =
       unbroken = every-append _ s.rest bytes s.unbroken u;
       run = s.run;
       kept_is = e ∙ ap (λ k. take KEPT (k ++ bytes)) s.kept_is ∙ kept_more s.rest bytes KEPT;
-      tally_is = s.tally_is;
+      tally_is = same_tally ∙ s.tally_is;
+      lines_are = same_lines ∙ s.lines_are;
+      noted = s.noted;
     }
 
--- a newline ends the line that is kept
-pub Stands-line : (start : World) (script : List ℕ) (replies : List Reply) (editor new : World)
-    (kept new_kept : List ℕ) (tally new_tally : Tally) (reply : Reply) →
-    Stands start script replies editor kept tally
-    → Step editor kept reply new → new_kept ≡ [] → new_tally ≡ tally_of (replies ++ reply ∷ []) →
-    Stands start (script ++ 10 ∷ []) (replies ++ reply ∷ []) new new_kept new_tally
-Stands-line start script replies editor new kept new_kept tally new_tally reply s t none e =
-    let step : Step editor s.rest reply new = Step-kept editor new s.rest reply
-    (subst (λ k. Step editor k reply new) s.kept_is t) in
-    record {
-      done = s.done ++ s.rest ∷ [];
-      rest = [];
-      begins = BeginsWith-line script s.done s.rest s.begins s.unbroken;
-      unbroken = tt;
-      run = Steps-push start editor new s.done replies s.rest reply s.run step;
-      kept_is = none;
-      tally_is = e;
-    }
+module _ (start : Point) (script : List ℕ) (replies : List Reply) (now : Point) (progress : Progress)
+    (s : Stands start script replies now progress) (reply : Reply) (new : Point) where
+  -- the line that is kept has the next number, and the note of the whole line
+  note_here : note_of (number_of (progress.lines + 1)) progress.kept reply
+      ≡ note_of (number_of (1 + length replies)) s.rest reply
+  note_here =
+      let lines_are = s.lines_are in
+      let number : number_of (progress.lines + 1) ≡ number_of (1 + length replies) = omega arith in
+      ap (λ n. note_of n progress.kept reply) number
+      ∙ ap (λ k. note_of (number_of (1 + length replies)) k reply) s.kept_is
+      ∙ note_of-kept (number_of (1 + length replies)) s.rest reply
+
+  -- the note on the line that is kept was written
+  pub Explains-line : Tells now.noted (note_of (number_of (progress.lines + 1)) progress.kept reply) new.noted →
+      Explains start new (s.done ++ s.rest ∷ []) (replies ++ reply ∷ [])
+  Explains-line t =
+      let counted = Steps-lengths start.world now.world s.done replies s.run in
+      subst (λ bytes. Tells start.noted bytes new.noted)
+      (sym (notes_from-push 1 s.done replies s.rest reply counted
+      ∙ ap (λ n. notes_of s.done replies ++ n) (sym note_here)))
+      (Tells-more start.noted now.noted new.noted (notes_of s.done replies) _ s.noted t)
+
+  -- nothing was said of the line that is kept
+  pub Explains-cut : new.noted ≡ now.noted → Explains start new (s.done ++ s.rest ∷ []) replies
+  Explains-cut e =
+      let counted = Steps-lengths start.world now.world s.done replies s.run in
+      subst (λ n. Tells start.noted (notes_of (s.done ++ s.rest ∷ []) replies) n) (sym e)
+      (subst (λ bytes. Tells start.noted bytes now.noted) (sym (notes_from-cut 1 s.done replies s.rest counted))
+      s.noted)
+
+  -- the line that is kept was carried out
+  pub Steps-line : Step now.world progress.kept reply new.world →
+      Steps start.world (s.done ++ s.rest ∷ []) (replies ++ reply ∷ []) new.world
+  Steps-line t =
+      let step : Step now.world s.rest reply new.world = Step-kept now.world new.world s.rest reply
+      (subst (λ k. Step now.world k reply new.world) s.kept_is t) in
+      Steps-push start.world now.world new.world s.done replies s.rest reply s.run step
+
+  -- a newline ends the line that is kept
+  pub Stands-line : (after next : Progress) (output_old output_new : Option (List ℕ)) →
+      Step now.world progress.kept reply new.world → Answered now progress reply new after output_old output_new
+      → next.kept ≡ [] → next.tally ≡ after.tally → next.lines ≡ after.lines →
+      Stands start (script ++ 10 ∷ []) (replies ++ reply ∷ []) new next
+  Stands-line after next output_old output_new t a none same_tally same_lines =
+      let lines_are = s.lines_are in
+      let counted = a.lines_are in
+      let long = length-append replies (reply ∷ []) in
+      record {
+        done = s.done ++ s.rest ∷ [];
+        rest = [];
+        begins = BeginsWith-line script s.done s.rest s.begins s.unbroken;
+        unbroken = tt;
+        run = Steps-line t;
+        kept_is = none;
+        tally_is = same_tally ∙ a.tally_is replies s.tally_is;
+        lines_are = omega arith;
+        noted = Explains-line a.noted;
+      }
 
 -- the steps of the loop, joined: bytes without a newline are kept, and then a newline comes
-pub StandsAfter-line : (start : World) (script : List ℕ) (replies : List Reply) (seen bytes : List ℕ)
-    (editor new : World) (kept mid new_kept : List ℕ) (tally new_tally : Tally)
+pub StandsAfter-line : (start : Point) (script : List ℕ) (replies : List Reply) (seen bytes : List ℕ)
+    (now new : Point) (progress mid after next : Progress)
     (output_old output_mid output_new : Option (List ℕ)) (reply : Reply)
-    → StandsAfter start script replies seen editor kept tally output_old output_mid → IsUnbroken bytes →
-    mid ≡ take KEPT (kept ++ bytes) → Step editor mid reply new → new_kept ≡ []
-    → ((before : List Reply) → tally ≡ tally_of before → new_tally ≡ tally_of (before ++ reply ∷ [])) →
-    Appends output_mid output_new (text_of reply)
-    → StandsAfter start script replies ((seen ++ bytes) ++ 10 ∷ []) new new_kept new_tally output_old output_new
-StandsAfter-line start script replies seen bytes editor new kept mid new_kept tally new_tally output_old output_mid
-    output_new reply s u m t none count w =
-    let held = Stands-more start (script ++ seen) (replies ++ s.more) editor kept mid tally bytes s.stands u m in
-    let stepped = Stands-line start ((script ++ seen) ++ bytes) (replies ++ s.more) editor new mid new_kept tally
-    new_tally reply held t none (count (replies ++ s.more) s.stands.tally_is) in
+    → StandsAfter start script replies seen now progress output_old output_mid → IsUnbroken bytes →
+    mid.kept ≡ take KEPT (progress.kept ++ bytes) → mid.tally ≡ progress.tally → mid.lines ≡ progress.lines →
+    Step now.world mid.kept reply new.world → Answered now mid reply new after output_mid output_new →
+    next.kept ≡ [] → next.tally ≡ after.tally → next.lines ≡ after.lines
+    → StandsAfter start script replies ((seen ++ bytes) ++ 10 ∷ []) new next output_old output_new
+StandsAfter-line start script replies seen bytes now new progress mid after next output_old output_mid
+    output_new reply s u m mid_tally mid_lines t a none next_tally next_lines =
+    let held = Stands-more start (script ++ seen) (replies ++ s.more) now progress mid bytes s.stands u m mid_tally
+    mid_lines in
+    let stepped = Stands-line start ((script ++ seen) ++ bytes) (replies ++ s.more) now mid held reply new after next
+    output_mid output_new t a none next_tally next_lines in
     let moved : (((script ++ seen) ++ bytes) ++ 10 ∷ []) ≡ script ++ ((seen ++ bytes) ++ 10 ∷ []) = simp append_assoc in
     record {
       more = s.more ++ reply ∷ [];
-      stands = subst (λ all. Stands start all (replies ++ (s.more ++ reply ∷ [])) new new_kept new_tally) moved
-          (subst (λ rs. Stands start (((script ++ seen) ++ bytes) ++ 10 ∷ []) rs new new_kept new_tally)
+      stands = subst (λ all. Stands start all (replies ++ (s.more ++ reply ∷ [])) new next) moved
+          (subst (λ rs. Stands start (((script ++ seen) ++ bytes) ++ 10 ∷ []) rs new next)
           (append_assoc replies s.more (reply ∷ [])) stepped);
       written = subst (Appends output_old output_new) (sym (texts-push s.more reply))
-          (Appends-trans output_old output_mid output_new (texts s.more) (text_of reply) s.written w);
+          (Appends-trans output_old output_mid output_new (texts s.more) (text_of reply) s.written a.written);
     }
 
 -- what is left of the bytes has no newline
-pub StandsAfter-rest : (start : World) (script : List ℕ) (replies : List Reply) (all seen bytes : List ℕ)
-    (editor : World) (kept new_kept : List ℕ) (tally : Tally) (output_old output_new : Option (List ℕ))
-    → StandsAfter start script replies seen editor kept tally output_old output_new → IsUnbroken bytes →
-    new_kept ≡ take KEPT (kept ++ bytes) → all ≡ seen ++ bytes
-    → StandsAfter start script replies all editor new_kept tally output_old output_new
-StandsAfter-rest start script replies all seen bytes editor kept new_kept tally output_old output_new s u e whole =
+pub StandsAfter-rest : (start : Point) (script : List ℕ) (replies : List Reply) (all seen bytes : List ℕ)
+    (now : Point) (progress after : Progress) (output_old output_new : Option (List ℕ))
+    → StandsAfter start script replies seen now progress output_old output_new → IsUnbroken bytes →
+    after.kept ≡ take KEPT (progress.kept ++ bytes) → after.tally ≡ progress.tally → after.lines ≡ progress.lines →
+    all ≡ seen ++ bytes
+    → StandsAfter start script replies all now after output_old output_new
+StandsAfter-rest start script replies all seen bytes now progress after output_old output_new s u e same_tally
+    same_lines whole =
     record {
       more = s.more;
-      stands = subst (λ b. Stands start b (replies ++ s.more) editor new_kept tally)
+      stands = subst (λ b. Stands start b (replies ++ s.more) now after)
           (append_assoc script seen bytes ∙ ap (λ b. script ++ b) (sym whole))
-          (Stands-more start (script ++ seen) (replies ++ s.more) editor kept new_kept tally bytes s.stands u e);
+          (Stands-more start (script ++ seen) (replies ++ s.more) now progress after bytes s.stands u e same_tally
+          same_lines);
       written = s.written;
     }
 
@@ -119,42 +167,57 @@ IsCutOff-part replies reply part rest e h =
       all_but_last = (part, ap (λ rs. texts rs ++ part) (sym (but_last-append replies reply)));
     }
 
+-- all replies but the one that was added last
+pub but_last-push : (replies more : List Reply) (reply : Reply) →
+    but_last (replies ++ (more ++ reply ∷ [])) ≡ replies ++ more
+but_last-push replies more reply = ap but_last (sym (append_assoc replies more (reply ∷ [])))
+    ∙ but_last-append (replies ++ more) reply
+
 -- the writer failed at the line that these bytes end
-pub StopsInside-line : (start : World) (script : List ℕ) (replies : List Reply)
-    (all seen bytes more_bytes : List ℕ) (editor new : World) (kept mid : List ℕ) (tally : Tally)
+pub StopsInside-line : (start : Point) (script : List ℕ) (replies : List Reply)
+    (all seen bytes more_bytes : List ℕ) (now new : Point) (progress mid : Progress)
     (output_old output_mid output_new : Option (List ℕ)) (reply : Reply)
-    → StandsAfter start script replies seen editor kept tally output_old output_mid → IsUnbroken bytes →
-    mid ≡ take KEPT (kept ++ bytes) → Step editor mid reply new
-    → AppendsPart output_mid output_new (text_of reply) → all ≡ (seen ++ bytes) ++ 10 ∷ more_bytes
+    → StandsAfter start script replies seen now progress output_old output_mid → IsUnbroken bytes →
+    mid.kept ≡ take KEPT (progress.kept ++ bytes) → mid.tally ≡ progress.tally → mid.lines ≡ progress.lines →
+    Step now.world mid.kept reply new.world → AppendsPart output_mid output_new (text_of reply)
+    → new.noted ≡ now.noted → all ≡ (seen ++ bytes) ++ 10 ∷ more_bytes
     → StopsInside start script replies all new output_old output_new
-StopsInside-line start script replies all seen bytes more_bytes editor new kept mid tally output_old output_mid
-    output_new reply s u m t w whole =
-    let held = Stands-more start (script ++ seen) (replies ++ s.more) editor kept mid tally bytes s.stands u m in
-    let stepped = Stands-line start ((script ++ seen) ++ bytes) (replies ++ s.more) editor new mid [] tally
-    (tally_of ((replies ++ s.more) ++ reply ∷ [])) reply held t refl refl in
+StopsInside-line start script replies all seen bytes more_bytes now new progress mid output_old output_mid
+    output_new reply s u m mid_tally mid_lines t w quiet whole =
+    let before = replies ++ s.more in
+    let held = Stands-more start (script ++ seen) before now progress mid bytes s.stands u m mid_tally mid_lines in
+    let begun = BeginsWith-line ((script ++ seen) ++ bytes) held.done held.rest held.begins held.unbroken in
     let same : (((script ++ seen) ++ bytes) ++ 10 ∷ []) ++ more_bytes ≡ script
     ++ ((seen ++ bytes) ++ 10 ∷ more_bytes) = simp append_assoc in
     let moved = same ∙ ap (λ b. script ++ b) (sym whole) in
     record {
-      done = stepped.done;
-      rest = stepped.rest ++ more_bytes;
+      done = held.done ++ held.rest ∷ [];
+      rest = more_bytes;
       more = s.more ++ reply ∷ [];
       bytes = texts s.more ++ w.part;
-      begins = subst (λ b. BeginsWith b stepped.done (stepped.rest ++ more_bytes)) moved
-          (BeginsWith-more _ stepped.done stepped.rest more_bytes stepped.begins);
-      run = subst (λ rs. Steps start stepped.done rs new) (append_assoc replies s.more (reply ∷ [])) stepped.run;
+      begins = subst (λ b. BeginsWith b (held.done ++ held.rest ∷ []) more_bytes) moved
+          (BeginsWith-more _ (held.done ++ held.rest ∷ []) [] more_bytes begun);
+      run = subst (λ rs. Steps start.world (held.done ++ held.rest ∷ []) rs new.world)
+          (append_assoc replies s.more (reply ∷ []))
+          (Steps-line start ((script ++ seen) ++ bytes) before now mid held reply new t);
       written = Appends-trans output_old output_mid output_new (texts s.more) w.part s.written w.written;
       cut_off = IsCutOff-part s.more reply w.part w.rest w.bytes_are w.lacking;
+      noted = subst (λ rs. Explains start new (held.done ++ held.rest ∷ []) rs)
+          (sym (but_last-push replies s.more reply))
+          (Explains-cut start ((script ++ seen) ++ bytes) before now mid held reply new quiet);
     }
 
 -- a run that begins has seen no byte
-pub Stands-start : (start : World) (kept : List ℕ) → kept ≡ [] → Stands start [] [] start kept (tally_of [])
-Stands-start start kept e = record {
+pub Stands-start : (start : Point) (progress : Progress) → progress.kept ≡ [] → progress.tally ≡ tally_of [] →
+    progress.lines ≡ 0 → Stands start [] [] start progress
+Stands-start start progress e tally_is lines_are = record {
   done = [];
   rest = [];
   begins = record { bytes_are = refl; each = tt };
   unbroken = tt;
   run = refl;
   kept_is = e;
-  tally_is = refl;
+  tally_is = tally_is;
+  lines_are = lines_are;
+  noted = Tells-none start.noted;
 }

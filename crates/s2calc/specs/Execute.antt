@@ -14,7 +14,7 @@ use Rattle.s2calc.specs.Step.{Step}
 abbrev pub outcome_of : Reply → Outcome
 outcome_of Silent = NoAnswer
 outcome_of (Says text) = Answered
-outcome_of (Refuses refusal) = Refused
+outcome_of (Refuses refusal) = Refused refusal
 
 -- the outcome is that of the reply
 abbrev pub IsOutcome : Outcome → Reply → Type 0

@@ -8,6 +8,9 @@ pub mod Fetch
 pub mod Sessions
 pub mod Step
 pub mod Run
+pub mod Notes
+pub mod Noting
+pub mod Explained
 pub mod Output
 pub mod Buffered
 pub mod Answer

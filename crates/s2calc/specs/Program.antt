@@ -44,7 +44,7 @@ status_of (Err Memory) = 3
 
 -- the limit and the depth of a run are in range
 abbrev pub IsInRange : Job → Type 0
-IsInRange (Run limit depth dir) = (1 ≤ limit) × (limit ≤ MOST_CELLS) × (1 ≤ depth) × (depth ≤ MOST_STATES)
+IsInRange (Run limit depth dir explain) = (1 ≤ limit) × (limit ≤ MOST_CELLS) × (1 ≤ depth) × (depth ≤ MOST_STATES)
 IsInRange (Cell word) = Unit {0}
 IsInRange (Check dir name) = Unit {0}
 IsInRange (Draw dir name curve) = Unit {0}

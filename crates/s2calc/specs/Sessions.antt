@@ -1,5 +1,5 @@
 -- What can result from the bytes of a file that `restore` is to take as the state.
-use Rattle.std.specs.Prelude.{◌≡◌, ℕ, ◌+◌, ◌<◌, ◌≤◌, ◌⊎◌, List, length, Result, Ok, Err}
+use Rattle.std.specs.Prelude.{◌≡◌, ℕ, ◌+◌, ◌<◌, ◌≤◌, ◌⊎◌, List, length, Ok, Err}
 use Rattle.s2edit.specs.History.{History, EachList}
 use Rattle.s2edit.specs.Session.{Stored}
 use Rattle.s2edit.specs.SessionLaws.{IsKept}

@@ -1,86 +1,115 @@
 -- How far a run has come in its script.
-use Rattle.std.specs.Prelude.{◌≡◌, ℕ, List, ◌++◌, ◌⊎◌, Option, Result, MatchResult, take}
+use Rattle.std.specs.Prelude.{◌≡◌, ℕ, List, ◌∷◌, [], ◌++◌, ◌⊎◌, ◌+◌, Option, Result, MatchResult, length, take}
 use Rattle.s2calc.specs.declared.fault.RunFault.{RunFault}
 use Rattle.s2calc.specs.declared.fault.RunFault.TheVariants.{Input, Output, Memory}
 use Rattle.std.specs.Io.KnownBytes.{Appends}
 use Rattle.s2calc.specs.declared.limits.TheConstants.{KEPT}
-use Rattle.s2calc.specs.World.{World}
 use Rattle.s2calc.specs.declared.engine.Tally.{Tally}
-use Rattle.s2script.specs.Lines.{BeginsWith, IsUnbroken, lines}
-use Rattle.s2calc.specs.Replies.{Reply, texts, tally_of, IsCutOff}
-use Rattle.s2calc.specs.Run.{Steps, Ends, Finishes, StopsReading, StopsWriting, StopsFlushing, NeverBegins}
+use Rattle.s2calc.specs.declared.progress.Progress.{Progress}
+use Rattle.s2script.specs.Lines.{BeginsWith, IsUnbroken, lines, but_last}
+use Rattle.s2calc.specs.Output.{AppendsPart}
+use Rattle.s2calc.specs.Replies.{Reply, text_of, texts, tally_of, IsCutOff}
+use Rattle.s2calc.specs.Notes.{Tells, note_of, number_of}
+use Rattle.s2calc.specs.Step.{Step}
+use Rattle.s2calc.specs.Run.{Steps, Ends}
+use Rattle.s2calc.specs.Explained.{Point, Explains, FinishesExplained, StopsReadingExplained, StopsWritingExplained}
+use Rattle.s2calc.specs.Explained.{StopsFlushingExplained, NeverBeginsExplained}
 
--- Starting from `start`, after these bytes: the lines that end in a newline were carried out with these replies, and
--- the first `KEPT` bytes of the rest are kept.
-pub record Stands (start : World) (script : List ℕ) (replies : List Reply) (editor : World) (kept : List ℕ)
-    (tally : Tally) : Type 0 where
+-- Starting from `start`, after these bytes: the lines that end in a newline were carried out with these replies, the
+-- notes on them were written, and the first `KEPT` bytes of the rest are kept.
+pub record Stands (start : Point) (script : List ℕ) (replies : List Reply) (now : Point) (progress : Progress) :
+    Type 0 where
   pub done : List (List ℕ)
   pub rest : List ℕ
   pub begins : BeginsWith script done rest
   pub unbroken : IsUnbroken rest
-  pub run : Steps start done replies editor
-  pub kept_is : kept ≡ take KEPT rest
-  pub tally_is : tally ≡ tally_of replies
+  pub run : Steps start.world done replies now.world
+  pub kept_is : progress.kept ≡ take KEPT rest
+  pub tally_is : progress.tally ≡ tally_of replies
+  pub lines_are : progress.lines ≡ number_of (length replies)
+  pub noted : Explains start now done replies
+
+-- the line that is kept was answered with this reply, and counted, and the note on it was written
+pub record Answered (old : Point) (before : Progress) (reply : Reply) (new : Point) (after : Progress)
+    (output_old output_new : Option (List ℕ)) : Type 0 where
+  pub written : Appends output_old output_new (text_of reply)
+  pub kept_is : after.kept ≡ before.kept
+  pub tally_is : (replies : List Reply) → before.tally ≡ tally_of replies →
+      after.tally ≡ tally_of (replies ++ reply ∷ [])
+  pub lines_are : after.lines ≡ number_of (before.lines + 1)
+  pub noted : Tells old.noted (note_of (number_of (before.lines + 1)) before.kept reply) new.noted
+
+-- the line that is kept was carried out and answered, or the writer failed inside its answer
+pub record AnswersKept (old : Point) (before : Progress) (new : Point) (after : Progress)
+    (output_old output_new : Option (List ℕ)) (result : Result (Unit {0}) RunFault) : Type 0 where
+  pub reply : Reply
+  pub step : Step old.world before.kept reply new.world
+  pub ends : MatchResult result (λ _. Answered old before reply new after output_old output_new)
+      (λ fault. (fault ≡ Output) × AppendsPart output_old output_new (text_of reply) × (new.noted ≡ old.noted))
 
 -- the run has gone through the chunk too, and the replies to its lines were written
-pub record StandsAfter (start : World) (script : List ℕ) (replies : List Reply) (chunk : List ℕ) (editor : World)
-    (kept : List ℕ) (tally : Tally) (output_old output_new : Option (List ℕ)) : Type 0 where
+pub record StandsAfter (start : Point) (script : List ℕ) (replies : List Reply) (chunk : List ℕ) (now : Point)
+    (progress : Progress) (output_old output_new : Option (List ℕ)) : Type 0 where
   pub more : List Reply
-  pub stands : Stands start (script ++ chunk) (replies ++ more) editor kept tally
+  pub stands : Stands start (script ++ chunk) (replies ++ more) now progress
   pub written : Appends output_old output_new (texts more)
 
 -- the writer failed inside the answer to a line that ends in the chunk
-pub record StopsInside (start : World) (script : List ℕ) (replies : List Reply) (chunk : List ℕ) (editor : World)
+pub record StopsInside (start : Point) (script : List ℕ) (replies : List Reply) (chunk : List ℕ) (now : Point)
     (output_old output_new : Option (List ℕ)) : Type 0 where
   pub done : List (List ℕ)
   pub rest : List ℕ
   pub more : List Reply
   pub bytes : List ℕ
   pub begins : BeginsWith (script ++ chunk) done rest
-  pub run : Steps start done (replies ++ more) editor
+  pub run : Steps start.world done (replies ++ more) now.world
   pub written : Appends output_old output_new bytes
   pub cut_off : IsCutOff bytes more
+  pub noted : Explains start now done (but_last (replies ++ more))
 
 -- the last line of the script was carried out too, and all answers were written
-pub record Ended (start : World) (script : List ℕ) (replies : List Reply) (editor : World)
+pub record Ended (start : Point) (script : List ℕ) (replies : List Reply) (now : Point)
     (output_old output_new : Option (List ℕ)) (tally : Tally) : Type 0 where
   pub more : List Reply
-  pub run : Steps start (lines script) (replies ++ more) editor
+  pub run : Steps start.world (lines script) (replies ++ more) now.world
   pub written : Appends output_old output_new (texts more)
   pub tally_is : tally ≡ tally_of (replies ++ more)
+  pub noted : Explains start now (lines script) (replies ++ more)
 
 -- the last line was carried out, and the writer failed inside its answer
-pub record EndsInPart (start : World) (script : List ℕ) (replies : List Reply) (editor : World)
+pub record EndsInPart (start : Point) (script : List ℕ) (replies : List Reply) (now : Point)
     (output_old output_new : Option (List ℕ)) : Type 0 where
   pub more : List Reply
   pub bytes : List ℕ
-  pub run : Steps start (lines script) (replies ++ more) editor
+  pub run : Steps start.world (lines script) (replies ++ more) now.world
   pub written : Appends output_old output_new bytes
   pub cut_off : IsCutOff bytes more
+  pub noted : Explains start now (lines script) (but_last (replies ++ more))
 
 -- the last line was carried out and answered, and the flush failed
-pub record EndsUnflushed (start : World) (script : List ℕ) (replies : List Reply) (editor : World)
+pub record EndsUnflushed (start : Point) (script : List ℕ) (replies : List Reply) (now : Point)
     (output_old output_new : Option (List ℕ)) : Type 0 where
   pub more : List Reply
-  pub run : Steps start (lines script) (replies ++ more) editor
+  pub run : Steps start.world (lines script) (replies ++ more) now.world
   pub written : Appends output_old output_new (texts more)
+  pub noted : Explains start now (lines script) (replies ++ more)
 
 -- the end of a run: all lines were answered, or the writer or the flush failed
-abbrev pub Closes : World → List ℕ → List Reply → World → Option (List ℕ) → Option (List ℕ) →
+abbrev pub Closes : Point → List ℕ → List Reply → Point → Option (List ℕ) → Option (List ℕ) →
     Result Tally RunFault → Type 0
-Closes start script replies editor output_old output_new result =
-    MatchResult result (Ended start script replies editor output_old output_new) (λ fault. (fault ≡ Output)
-    × (EndsInPart start script replies editor output_old output_new
-    ⊎ EndsUnflushed start script replies editor output_old output_new))
+Closes start script replies now output_old output_new result =
+    MatchResult result (Ended start script replies now output_old output_new) (λ fault. (fault ≡ Output)
+    × (EndsInPart start script replies now output_old output_new
+    ⊎ EndsUnflushed start script replies now output_old output_new))
 
 -- what a run that ends with this fault leaves; `may_fail` says whether a flush before a read may fail
-abbrev pub FaultsBy : Type 0 → RunFault → Ends → World → World → Type 0
-FaultsBy may_fail Input ends old new = StopsReading ends old new
-FaultsBy may_fail Output ends old new = (may_fail × StopsReading ends old new) ⊎ StopsWriting ends old new
-    ⊎ StopsFlushing ends old new
-FaultsBy may_fail Memory ends old new = NeverBegins ends old new
+abbrev pub FaultsBy : Type 0 → RunFault → Ends → Point → Point → Type 0
+FaultsBy may_fail Input ends old new = StopsReadingExplained ends old new
+FaultsBy may_fail Output ends old new = (may_fail × StopsReadingExplained ends old new)
+    ⊎ StopsWritingExplained ends old new ⊎ StopsFlushingExplained ends old new
+FaultsBy may_fail Memory ends old new = NeverBeginsExplained ends old new
 
 -- what a run does, by its result; `may_fail` says whether a flush before a read may fail
-abbrev pub RunsBy : Type 0 → Ends → World → World → Result Tally RunFault → Type 0
-RunsBy may_fail ends old new result = MatchResult result (λ tally. Finishes ends old new tally)
+abbrev pub RunsBy : Type 0 → Ends → Point → Point → Result Tally RunFault → Type 0
+RunsBy may_fail ends old new result = MatchResult result (λ tally. FinishesExplained ends old new tally)
     (λ fault. FaultsBy may_fail fault ends old new)

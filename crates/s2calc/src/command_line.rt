@@ -63,6 +63,7 @@ fn run_job(alloc: Global, run: &ArgMatches<'_>) -> Result<Option<Job>, AllocErro
         limit,
         depth,
         dir: text(alloc, run, "dir")?,
+        explain: run.get_flag("explain"),
     }))
 }
 
@@ -137,7 +138,8 @@ fn run_command<'a>(alloc: Global) -> Result<Command<'a>, AllocError> {
             "100",
             "The most states that undo can go back, 1 to 10000",
         ))?
-        .arg(dir(alloc))
+        .arg(dir(alloc))?
+        .arg(explain(alloc))
 }
 
 /// The command `cell`.
@@ -215,6 +217,14 @@ fn dir<'a>(alloc: Global) -> Arg<'a> {
         .value_parser(ValueParser::NonEmptyString)
         .allow_hyphen_values(true)
         .default_value(".")
+}
+
+/// The flag that asks why lines are refused.
+fn explain<'a>(alloc: Global) -> Arg<'a> {
+    Arg::new(alloc, "explain")
+        .long("explain")
+        .help("Says on standard error why lines are refused")
+        .action(ArgAction::SetTrue)
 }
 
 /// A required word, whatever it begins with.

@@ -10,14 +10,17 @@ ghost use Rattle.s2script.specs.Lines.{IsUnbroken, EndsLineAt};
 ghost use Rattle.s2calc.specs.Run.{Runs, RunsPromptly};
 ghost use Rattle.s2calc.specs.Buffered.{written_to};
 ghost use Rattle.s2calc.specs.World.{World, world};
-ghost use Rattle.s2calc.specs.Stands.{Stands, StandsAfter, StopsInside, Closes, RunsBy};
+ghost use Rattle.s2calc.specs.Stands.{Stands, AnswersKept, StandsAfter, StopsInside, Closes, RunsBy};
+ghost use Rattle.s2calc.specs.Noting.{noted_by};
+ghost use Rattle.s2calc.specs.Explained.{Point, point, RunsExplained};
 
 use crate::answer_buffer::AnswerBuffer;
 use crate::execute::{Outcome, execute};
 use crate::fault::RunFault;
 use crate::flushing::{AtTheEnd, BeforeEachRead, Flushing};
-use crate::kept::Kept;
 use crate::limits::{MOST_WAITING, READ_SIZE};
+use crate::notes::{NoNotes, NoteWriter, Notes};
+use crate::progress::Progress;
 use s2edit::Editor;
 use s2shelf::Shelf;
 use std::alloc::Global;
@@ -34,14 +37,14 @@ pub struct Tally {
 
 impl Tally {
     /// Counts one line.
-    fn count(&mut self, outcome: Outcome)
+    pub(crate) fn count(&mut self, outcome: Outcome)
         ensures { (reply : Reply) (before : List Reply) → IsOutcome outcome reply → self.old ≡ tally_of before →
             self.new ≡ tally_of (before ++ reply ∷ []) }
     {
         match outcome {
             Outcome::Silent => {}
             Outcome::Answered => self.commands = self.commands.saturating_add(1),
-            Outcome::Refused => {
+            Outcome::Refused(_) => {
                 self.commands = self.commands.saturating_add(1);
                 self.refused = self.refused.saturating_add(1);
             }
@@ -58,32 +61,52 @@ fn newline_in(bytes: &[u8]) -> Option<usize>
 }
 
 /// Takes the next bytes of a script, and carries out each line that ends in them.
-fn take_in<W: Write, S: Shelf>(
+fn take_in<W: Write, S: Shelf, N: Notes>(
     alloc: Global,
     editor: &mut Editor,
-    kept: &mut Kept,
-    tally: &mut Tally,
+    progress: &mut Progress,
     chunk: &[u8],
     writer: &mut W,
     shelf: &mut S,
+    notes: &mut N,
 ) -> Result<(), RunFault>
-    ensures ok { OnOk result ((start : World) (script : List ℕ) (replies : List Reply) →
-        Stands start script replies (world editor.old (S.files shelf.old)) kept.old tally.old →
-        StandsAfter start script replies chunk.now (world editor.new (S.files shelf.new)) kept.new tally.new (W.contents writer.old) (W.contents writer.new)) }
-    ensures err { OnErr result ((start : World) (script : List ℕ) (replies : List Reply) →
-        Stands start script replies (world editor.old (S.files shelf.old)) kept.old tally.old →
-        StopsInside start script replies chunk.now (world editor.new (S.files shelf.new)) (W.contents writer.old) (W.contents writer.new)) }
+    ensures ok { OnOk result ((start : Point) (script : List ℕ) (replies : List Reply) →
+        Stands start script replies (point (world editor.old (S.files shelf.old)) (N.noted notes.old)) progress.old →
+        StandsAfter start script replies chunk.now (point (world editor.new (S.files shelf.new)) (N.noted notes.new))
+        progress.new (W.contents writer.old) (W.contents writer.new)) }
+    ensures err { OnErr result ((start : Point) (script : List ℕ) (replies : List Reply) →
+        Stands start script replies (point (world editor.old (S.files shelf.old)) (N.noted notes.old)) progress.old →
+        StopsInside start script replies chunk.now (point (world editor.new (S.files shelf.new)) (N.noted notes.new))
+        (W.contents writer.old) (W.contents writer.new)) }
     ensures fault { IfErr result (λ fault. fault ≡ RunFault.Output) }
 {
     let mut rest = chunk;
     while let Some(at) = newline_in(rest) {
-        kept.keep(&rest[..at]);
-        let outcome = execute(alloc, editor, kept.as_slice(), writer, shelf)?;
-        kept.clear();
-        tally.count(outcome);
+        progress.kept.keep(&rest[..at]);
+        answer_kept(alloc, editor, progress, writer, shelf, notes)?;
+        progress.kept.clear();
         rest = &rest[at + 1..];
     }
-    kept.keep(rest);
+    progress.kept.keep(rest);
+    Ok(())
+}
+
+/// Carries out the line that is kept, writes its answer, counts it, and says why it is refused, if it is.
+fn answer_kept<W: Write, S: Shelf, N: Notes>(
+    alloc: Global,
+    editor: &mut Editor,
+    progress: &mut Progress,
+    writer: &mut W,
+    shelf: &mut S,
+    notes: &mut N,
+) -> Result<(), RunFault>
+    ensures { AnswersKept (point (world editor.old (S.files shelf.old)) (N.noted notes.old)) progress.old
+        (point (world editor.new (S.files shelf.new)) (N.noted notes.new)) progress.new
+        (W.contents writer.old) (W.contents writer.new) result }
+{
+    let outcome = execute(alloc, editor, progress.kept.as_slice(), writer, shelf)?;
+    progress.count(outcome);
+    notes.note(progress.lines, progress.kept.as_slice(), outcome);
     Ok(())
 }
 
@@ -119,7 +142,15 @@ pub fn run<R: Read, W: Write, S: Shelf>(
 {
     let _before = editor.limit();
     let mut input = input_buffer(alloc)?;
-    let result = run_over::<R, W, S, AtTheEnd>(alloc, &mut input, editor, reader, writer, shelf);
+    let result = run_over::<R, W, S, AtTheEnd, NoNotes>(
+        alloc,
+        &mut input,
+        editor,
+        reader,
+        writer,
+        shelf,
+        &mut NoNotes,
+    );
     let _after = editor.limit();
     result
 }
@@ -152,8 +183,50 @@ pub fn run_promptly<R: Read, W: Write, S: Shelf>(
 {
     let _before = (editor.limit(), writer.waiting());
     let mut input = input_buffer(alloc)?;
-    let result = run_over::<R, AnswerBuffer<W>, S, BeforeEachRead>(
-        alloc, &mut input, editor, reader, writer, shelf,
+    let result = run_over::<R, AnswerBuffer<W>, S, BeforeEachRead, NoNotes>(
+        alloc,
+        &mut input,
+        editor,
+        reader,
+        writer,
+        shelf,
+        &mut NoNotes,
+    );
+    let _after = (editor.limit(), writer.waiting());
+    result
+}
+
+/// Runs a script as [`run_promptly`] does, and says why lines are refused: one line for each, with its number, the
+/// refusal and the reason.
+///
+/// The notes are those on the lines that were carried out, with the replies that they had. If the output failed inside
+/// an answer, there is none on that last line. If a note can't be written, the run goes on, and no more notes are
+/// written; the notes that were written are then a beginning of those.
+pub fn run_explained<R: Read, W: Write, S: Shelf, N: Write>(
+    alloc: Global,
+    editor: &mut Editor,
+    reader: &mut R,
+    writer: &mut AnswerBuffer<W>,
+    shelf: &mut S,
+    notes: &mut NoteWriter<N>,
+) -> Result<Tally, RunFault>
+    ensures runs { RunsExplained (record {
+      input_old = R.remaining reader.old;
+      input_new = R.remaining reader.new;
+      output_old = written_to W.contents writer.old;
+      output_new = W.contents writer.new.writer;
+    }) writer.new.waiting (point (world editor.old (S.files shelf.old)) (noted_by N.contents notes.old))
+        (point (world editor.new (S.files shelf.new)) (noted_by N.contents notes.new)) result }
+    ensures nothing_waits { MatchResult result (λ _. writer.new.waiting ≡ []) (λ fault. fault ≡ RunFault.Input →
+        writer.new.waiting ≡ []) }
+    ensures few_wait { length writer.new.waiting ≤ MOST_WAITING }
+    ensures before { EachList (λ u. IsNormalForm (has_leaf u) u) editor.old }
+    ensures after { EachList (λ u. IsNormalForm (has_leaf u) u) editor.new }
+{
+    let _before = (editor.limit(), writer.waiting());
+    let mut input = input_buffer(alloc)?;
+    let result = run_over::<R, AnswerBuffer<W>, S, BeforeEachRead, NoteWriter<N>>(
+        alloc, &mut input, editor, reader, writer, shelf, notes,
     );
     let _after = (editor.limit(), writer.waiting());
     result
@@ -171,13 +244,14 @@ fn input_buffer(alloc: Global) -> Result<Vec<u8>, RunFault>
 }
 
 /// The run, over a buffer for the reader.
-fn run_over<R: Read, W: Write, S: Shelf, F: Flushing<W>>(
+fn run_over<R: Read, W: Write, S: Shelf, F: Flushing<W>, N: Notes>(
     alloc: Global,
     input: &mut [u8],
     editor: &mut Editor,
     reader: &mut R,
     writer: &mut W,
     shelf: &mut S,
+    notes: &mut N,
 ) -> Result<Tally, RunFault>
     requires { 0 < length input.old }
     ensures runs { RunsBy F.may_fail (record {
@@ -185,27 +259,24 @@ fn run_over<R: Read, W: Write, S: Shelf, F: Flushing<W>>(
       input_new = R.remaining reader.new;
       output_old = W.contents writer.old;
       output_new = W.contents writer.new;
-    }) (world editor.old (S.files shelf.old)) (world editor.new (S.files shelf.new)) result }
+    }) (point (world editor.old (S.files shelf.old)) (N.noted notes.old))
+        (point (world editor.new (S.files shelf.new)) (N.noted notes.new)) result }
     ensures sent { MatchResult result (λ _. F.is_sent writer.new) (λ fault. fault ≡ RunFault.Input →
         F.is_sent writer.new) }
 {
-    let mut kept = Kept::new();
-    let mut tally = Tally {
-        commands: 0,
-        refused: 0,
-    };
+    let mut progress = Progress::new();
     for _ in 0..u64::MAX {
         F::before_read(writer)?;
         match reader.read(input) {
-            Ok(0) => return finish::<W, S, F>(alloc, editor, &kept, tally, writer, shelf),
+            Ok(0) => return finish::<W, S, F, N>(alloc, editor, progress, writer, shelf, notes),
             Ok(count) => take_in(
                 alloc,
                 editor,
-                &mut kept,
-                &mut tally,
+                &mut progress,
                 &input[..count],
                 writer,
                 shelf,
+                notes,
             )?,
             Err(_) => return Err(RunFault::Input),
         }
@@ -216,26 +287,25 @@ fn run_over<R: Read, W: Write, S: Shelf, F: Flushing<W>>(
 }
 
 /// Carries out a last line without a newline, and flushes.
-fn finish<W: Write, S: Shelf, F: Flushing<W>>(
+fn finish<W: Write, S: Shelf, F: Flushing<W>, N: Notes>(
     alloc: Global,
     editor: &mut Editor,
-    kept: &Kept,
-    mut tally: Tally,
+    mut progress: Progress,
     writer: &mut W,
     shelf: &mut S,
+    notes: &mut N,
 ) -> Result<Tally, RunFault>
-    ensures closes { (start : World) (script : List ℕ) (replies : List Reply) →
-        Stands start script replies (world editor.old (S.files shelf.old)) kept.now tally →
-        Closes start script replies (world editor.new (S.files shelf.new)) (W.contents writer.old) (W.contents writer.new) result }
+    ensures closes { (start : Point) (script : List ℕ) (replies : List Reply) →
+        Stands start script replies (point (world editor.old (S.files shelf.old)) (N.noted notes.old)) progress →
+        Closes start script replies (point (world editor.new (S.files shelf.new)) (N.noted notes.new))
+        (W.contents writer.old) (W.contents writer.new) result }
     ensures sent { MatchResult result (λ _. F.is_sent writer.new) (λ fault. fault ≡ RunFault.Output) }
 {
-    let line = kept.as_slice();
-    if line.is_empty() {
-        return flushed::<W, F>(tally, writer);
+    if progress.kept.as_slice().is_empty() {
+        return flushed::<W, F>(progress.tally, writer);
     }
-    let outcome = execute(alloc, editor, line, writer, shelf)?;
-    tally.count(outcome);
-    flushed::<W, F>(tally, writer)
+    answer_kept(alloc, editor, &mut progress, writer, shelf, notes)?;
+    flushed::<W, F>(progress.tally, writer)
 }
 
 /// Flushes the writer, and answers how many lines were answered.

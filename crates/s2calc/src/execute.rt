@@ -25,8 +25,8 @@ pub enum Outcome {
     Silent,
     /// An answer was written.
     Answered,
-    /// A refusal was written.
-    Refused,
+    /// This refusal was written.
+    Refused(Refusal),
 }
 
 /// Carries out a line and writes its answer. If the writer fails, the line was still carried out.
@@ -52,7 +52,7 @@ fn outcome_of(answer: &Answer, editor: &Editor) -> Outcome
     let _ = editor;
     match answer {
         Answer::Nothing => Outcome::Silent,
-        Answer::Refused(_) => Outcome::Refused,
+        Answer::Refused(refusal) => Outcome::Refused(*refusal),
         _ => Outcome::Answered,
     }
 }

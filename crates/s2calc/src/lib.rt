@@ -2,11 +2,12 @@
 //! files, and writes its answer. `run` is all of this: its contract says that what was written is the stated function
 //! of the bytes read, however reader and writer cut them, and what holds if one of them fails.
 //!
-//! A line flows one way: bytes (`engine`, `kept`) -> what it says (the crate `s2script`) -> its effect
+//! A line flows one way: bytes (`engine`, `progress`, `kept`) -> what it says (the crate `s2script`) -> its effect
 //! (`execute`: `edits`, `files`, `sessions`, `questions`; `fetch` asks the shelf) -> an `answer` -> bytes
-//! (`output`, `answer_buffer`). `refusal` says why a line is refused, `fault` what ends a run, `flushing` when the
-//! writer is flushed; `limits` are the limits, `laws` laws about the definitions. For the program: `command_line`,
-//! `help` and `task` (what it is asked for), `program`, `check` and `draw` (its other answers).
+//! (`output`, `answer_buffer`). `refusal` says why a line is refused, `notes` writes that to whoever asks, `fault` is
+//! what ends a run, `flushing` when the writer is flushed; `limits` are the limits, `laws` laws about the definitions.
+//! For the program: `command_line`, `help` and `task` (what it is asked for), `program`, `check` and `draw` (its other
+//! answers).
 #![tactic(auto)]
 
 mod answer;
@@ -25,8 +26,10 @@ mod help;
 mod kept;
 mod laws;
 mod limits;
+mod notes;
 mod output;
 mod program;
+mod progress;
 mod questions;
 mod refusal;
 mod sessions;
@@ -36,11 +39,12 @@ pub use answer_buffer::AnswerBuffer;
 pub use check::check_answer;
 pub use command_line::job;
 pub use draw::{draw_answer, draw_cells_answer};
-pub use engine::{Tally, run, run_promptly};
+pub use engine::{Tally, run, run_explained, run_promptly};
 pub use fault::RunFault;
 pub use laws::{
     counted_failures, one_end, one_run, restore_gives_back, undo_goes_back, whole_script,
 };
+pub use notes::NoteWriter;
 pub use program::{cell_answer, status};
 pub use refusal::Refusal;
 pub use task::Job;

@@ -3,11 +3,13 @@
 /// What the program is asked for.
 #[derive(Debug, PartialEq, Eq, Drop)]
 pub enum Job {
-    /// To answer a script, with at most this many cells in a register and this many kept states, and files in a folder.
+    /// To answer a script, with at most this many cells in a register and this many kept states, and files in a folder,
+    /// and if asked, to say why lines are refused.
     Run {
         limit: usize,
         depth: usize,
         dir: String,
+        explain: bool,
     },
     /// To answer `cell WORD`.
     Cell {

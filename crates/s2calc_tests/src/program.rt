@@ -45,13 +45,14 @@ fn asked(rt: &(impl Abort + AllocGlobal), words: &[&str]) -> Result<Result<Job, 
 
 #[test]
 fn words_that_ask_for_a_run(rt: HostRuntime) -> Result<(), Fail> {
-    for (words, limit, depth, dir) in [
-        (["run"].as_slice(), 10_000, 100, "."),
+    for (words, limit, depth, dir, explain) in [
+        (["run"].as_slice(), 10_000, 100, ".", false),
         (
             &["run", "--limit", "5", "--depth=7", "--dir", "x"],
             5,
             7,
             "x",
+            false,
         ),
         (
             &[
@@ -60,24 +61,43 @@ fn words_that_ask_for_a_run(rt: HostRuntime) -> Result<(), Fail> {
             1_000_000,
             10_000,
             "-x",
+            false,
         ),
         (
-            &["run", "--dir", "/", "--limit=1", "--depth", "1"],
+            &[
+                "run",
+                "--dir",
+                "/",
+                "--limit=1",
+                "--explain",
+                "--depth",
+                "1",
+            ],
             1,
             1,
             "/",
+            true,
         ),
         (
             &["run", "--limit", "+5", "--depth", "007", "--dir", "--limit"],
             5,
             7,
             "--limit",
+            false,
+        ),
+        (
+            &["run", "--dir", "--explain"],
+            10_000,
+            100,
+            "--explain",
+            false,
         ),
     ] {
         let wanted = Job::Run {
             limit,
             depth,
             dir: String::from_str(rt.alloc(), dir)?,
+            explain,
         };
         assert_eq!(rt; asked(&rt, words)?, Ok(wanted), "{words:?}");
     }

@@ -6,7 +6,9 @@ use Rattle.s2calc.proofs.TakeInLemmas.{Stands-start}
 use Rattle.s2calc.proofs.engine.run_over.Goals as goal
 
 pub loop-init : goal.loop-init
-loop-init g c = ([], [], Consumes-nil _, Stands-start _ _ c.new-kept.ensures, Appends-nil _)
+loop-init g c =
+    let new = c.new-progress.ensures in
+    ([], [], Consumes-nil _, Stands-start _ _ new.kept new.tally new.lines, Appends-nil _)
 
 pub returns-in_err-before_read-clause-runs : goal.returns-in_err-before_read-clause-runs
 returns-in_err-before_read-clause-runs g c =
@@ -15,7 +17,7 @@ returns-in_err-before_read-clause-runs g c =
     let f = c.in_err-before_read.ensures.fault in
     rw (p.1, p.2, f.0) (inl (
       f.1,
-      StopsReading-here _ _ _ i.0 i.1 _ _ _ i.2 (Keeps-refl _) i.3
+      StopsReading-here _ _ _ i.0 i.1 _ _ i.2 (Keeps-refl _) i.3
           (Appends-kept _ _ _ _ i.4 c.before_read.ensures.kept),
     ))
 
@@ -45,7 +47,7 @@ returns-in_err-take_in-in-Ok-clause-runs g c =
 pub returns-in-Err-clause-runs : goal.returns-in-Err-clause-runs
 returns-in-Err-clause-runs g c =
     let i = c.loop.invariant in
-    StopsReading-here _ _ _ i.0 i.1 _ _ _ i.2 c.in-Err.ensures.bytes i.3
+    StopsReading-here _ _ _ i.0 i.1 _ _ i.2 c.in-Err.ensures.bytes i.3
     (Appends-kept _ _ _ _ i.4 c.before_read.ensures.kept)
 
 pub loop-preserved : goal.loop-preserved
@@ -67,11 +69,11 @@ returns-in_err-before_read-2-clause-runs g c =
     let f = c.in_err-before_read-2.ensures.fault in
     rw (p.1, p.2, f.0) (inl (
       f.1,
-      StopsReading-here _ _ _ i.0 i.1 _ _ _ i.2 (Keeps-refl _) i.3
+      StopsReading-here _ _ _ i.0 i.1 _ _ i.2 (Keeps-refl _) i.3
           (Appends-kept _ _ _ _ i.4 c.before_read-2.ensures.kept),
     ))
 
 pub returns-clause-runs : goal.returns-clause-runs
 returns-clause-runs g c =
     let i = c.loop.invariant in
-    StopsReading-here _ _ _ i.0 i.1 _ _ _ i.2 (Keeps-refl _) i.3 (Appends-kept _ _ _ _ i.4 c.before_read-2.ensures.kept)
+    StopsReading-here _ _ _ i.0 i.1 _ _ i.2 (Keeps-refl _) i.3 (Appends-kept _ _ _ _ i.4 c.before_read-2.ensures.kept)

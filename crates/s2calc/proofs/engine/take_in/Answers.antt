@@ -20,37 +20,37 @@ cut_behind chunk seen rest at e h =
     ∙ ap (λ s. ((seen ++ take at rest) ++ 10 ∷ []) ++ s) (sym (take_rest rest (at + 1)))
 
 pub loop-at-init : goal.loop-at-init
-loop-at-init g c = ([], refl, λ start script replies s. StandsAfter-none start script replies _ _ _ _ s)
+loop-at-init g c = ([], refl, λ start script replies s. StandsAfter-none start script replies _ _ _ s)
 
-pub returns-in_err-outcome-clause-err : goal.returns-in_err-outcome-clause-err
-returns-in_err-outcome-clause-err g c =
+pub returns-in_err-answer_kept-clause-err : goal.returns-in_err-answer_kept-clause-err
+returns-in_err-answer_kept-clause-err g c =
     let p = err_from_is_err_and c.from_residual.result c.from_residual.ensures.1 in
     let i = c.loop-at.invariant in
     let rest = c.loop-at.rest.now in
     let ends = c.in-Some.ensures.some in
-    let done = c.in_err-outcome.ensures.executes in
+    let done = c.in_err-answer_kept.ensures in
     rw p.1 (λ start script replies s.
     StopsInside-line start script replies _ i.0 (take c.in-Some.at rest) (drop (c.in-Some.at + 1) rest) _ _ _ _ _ _
-    _ _ done.reply (i.2 start script replies s) ends.before
-    (c.as_slice.ensures ∙ c.keep.ensures) done.step done.writes.1 (cut_at _ i.0 rest c.in-Some.at i.1 ends))
+    _ done.reply (i.2 start script replies s) ends.before c.keep.ensures refl refl done.step done.ends.1 done.ends.2
+    (cut_at _ i.0 rest c.in-Some.at i.1 ends))
 
 pub loop-at-preserved : goal.loop-at-preserved
 loop-at-preserved g c =
     let i = c.loop-at.invariant in
     let rest = c.loop-at.rest.now in
     let ends = c.in-Some.ensures.some in
-    let done = c.in_ok-outcome.ensures.executes in (
+    let done = c.in_ok-answer_kept.ensures in (
       (i.0 ++ take c.in-Some.at rest) ++ 10 ∷ [],
       cut_behind _ i.0 rest c.in-Some.at i.1 ends,
       λ start script replies s.
-          StandsAfter-line start script replies i.0 (take c.in-Some.at rest) _ _ _ _ _ _ _ _ _ _ done.reply
-          (i.2 start script replies s) ends.before (c.as_slice.ensures ∙ c.keep.ensures) done.step
-          c.clear.ensures (λ before e. c.count.ensures done.reply before done.writes.0 e) done.writes.1,
+          StandsAfter-line start script replies i.0 (take c.in-Some.at rest) _ _ _ _ _ _ _ _ _ done.reply
+          (i.2 start script replies s) ends.before c.keep.ensures refl refl done.step done.ends c.clear.ensures refl
+          refl,
     )
 
 pub returns-clause-ok : goal.returns-clause-ok
 returns-clause-ok g c =
     let i = c.loop-at.invariant in
     λ start script replies s.
-    StandsAfter-rest start script replies _ i.0 c.loop-at.rest.now _ _ _ _ _ _ (i.2 start script replies s)
-    c.in_default.ensures.none c.keep-2.ensures i.1
+    StandsAfter-rest start script replies _ i.0 c.loop-at.rest.now _ _ _ _ _ (i.2 start script replies s)
+    c.in_default.ensures.none c.keep-2.ensures refl refl i.1

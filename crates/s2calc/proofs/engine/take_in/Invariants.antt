@@ -1,6 +1,7 @@
 use Rattle.std.proofs.Common.{◌≡◌, ℕ, List, ◌++◌, length}
-use Rattle.s2calc.specs.World.{World, world}
+use Rattle.s2calc.specs.World.{world}
 use Rattle.s2calc.specs.Replies.{Reply}
+use Rattle.s2calc.specs.Explained.{Point, point}
 use Rattle.s2calc.specs.Stands.{Stands, StandsAfter}
 use Rattle.s2calc.proofs.engine.take_in.Given as goal
 
@@ -8,9 +9,11 @@ use Rattle.s2calc.proofs.engine.take_in.Given as goal
 abbrev pub invariant-loop-at : goal.invariant-loop-at
 invariant-loop-at g l =
     (seen : List ℕ) × (l.chunk ≡ seen ++ l.rest)
-    × ((start : World) (script : List ℕ) (replies : List Reply) →
-    Stands start script replies (world l.fn.editor (g.S.Shelf.files l.fn.shelf)) l.fn.kept l.fn.tally
-    → StandsAfter start script replies seen (world l.editor (g.S.Shelf.files l.shelf)) l.kept l.tally
+    × ((start : Point) (script : List ℕ) (replies : List Reply) →
+    Stands start script replies (point (world l.fn.editor (g.S.Shelf.files l.fn.shelf)) (g.N.Notes.noted l.fn.notes))
+    l.fn.progress
+    → StandsAfter start script replies seen
+    (point (world l.editor (g.S.Shelf.files l.shelf)) (g.N.Notes.noted l.notes)) l.progress
     (g.W.Write.contents l.fn.writer) (g.W.Write.contents l.writer))
 
 abbrev pub decreases-loop-at : goal.decreases-loop-at

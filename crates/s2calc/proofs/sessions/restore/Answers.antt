@@ -1,4 +1,4 @@
-use Rattle.std.proofs.Common.{◌≡◌, Ok, Err, inl, inr, refl, rules, subst}
+use Rattle.std.proofs.Common.{◌≡◌, Ok, inl, inr, refl, rules, subst}
 use Rattle.s2calc.specs.Fetch.{Fetches}
 use Rattle.s2calc.specs.Sessions.{FetchesNoState}
 use Rattle.s2calc.proofs.sessions.restore.Goals as goal

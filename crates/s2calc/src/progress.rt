@@ -1,0 +1,49 @@
+//! How far a run has come.
+ghost use Rattle.std.specs.Prelude.{◌≡◌, ◌+◌, List, [], ◌∷◌, ◌++◌};
+ghost use Rattle.s2calc.specs.Replies.{Reply, tally_of};
+ghost use Rattle.s2calc.specs.Execute.{IsOutcome};
+ghost use Rattle.s2calc.specs.Notes.{number_of};
+
+use crate::engine::Tally;
+use crate::execute::Outcome;
+use crate::kept::Kept;
+
+/// What a run keeps from one line to the next.
+#[derive(Drop)]
+pub(crate) struct Progress {
+    /// The line that is being read.
+    pub(crate) kept: Kept,
+    /// The lines that were answered and refused.
+    pub(crate) tally: Tally,
+    /// How many lines were carried out. It stops at its greatest value.
+    pub(crate) lines: u64,
+}
+
+impl Progress {
+    /// That of a run that has read nothing.
+    pub(crate) fn new() -> Progress
+        ensures kept { result.kept ≡ [] }
+        ensures tally { result.tally ≡ tally_of [] }
+        ensures lines { result.lines ≡ 0 }
+    {
+        Progress {
+            kept: Kept::new(),
+            tally: Tally {
+                commands: 0,
+                refused: 0,
+            },
+            lines: 0,
+        }
+    }
+
+    /// Counts one line.
+    pub(crate) fn count(&mut self, outcome: Outcome)
+        ensures kept { self.new.kept ≡ self.old.kept }
+        ensures tally { (reply : Reply) (before : List Reply) → IsOutcome outcome reply →
+            self.old.tally ≡ tally_of before → self.new.tally ≡ tally_of (before ++ reply ∷ []) }
+        ensures lines { self.new.lines ≡ number_of (self.old.lines + 1) }
+    {
+        self.tally.count(outcome);
+        self.lines = self.lines.saturating_add(1);
+    }
+}
