@@ -9,12 +9,12 @@ use Rattle.s2calc.specs.declared.refusal.Refusal.{Refusal}
 use Rattle.s2calc.specs.declared.refusal.Refusal.TheVariants.{Words, Missing, File, Format, Session, TooDeep, TooMany}
 use Rattle.s2calc.specs.declared.refusal.Refusal.TheVariants.{Nothing, Memory}
 use Rattle.s2calc.specs.Replies.{Reply, Silent, Says, Refuses}
-use Rattle.s2calc.specs.Notes.{Noted, Tells, note_of, notes_from, number_of, reason_of, misfit_reason}
+use Rattle.s2calc.specs.Notes.{Noted, WritesNotes, note_of, notes_from, number_of, reason_of, misfit_reason}
 use Rattle.s2calc.proofs.StepLemmas.{misfit_of-kept}
 
 -- nothing is told
-pub Tells-none : (a : Noted) → Tells a [] a
-Tells-none a = record {
+pub WritesNotes-none : (a : Noted) → WritesNotes a [] a
+WritesNotes-none a = record {
   part = [];
   rest = [];
   notes_are = refl;
@@ -24,9 +24,9 @@ Tells-none a = record {
   stays = λ t. (refl, t);
 }
 
-module _ (a b c : Noted) (front back : List ℕ) (p : Tells a front b) (q : Tells b back c) where
+module _ (a b c : Noted) (front back : List ℕ) (p : WritesNotes a front b) (q : WritesNotes b back c) where
   -- the first notes were written whole
-  told_whole : b.stopped ≡ false → Tells a (front ++ back) c
+  told_whole : b.stopped ≡ false → WritesNotes a (front ++ back) c
   told_whole e =
       let part_is : p.part ≡ front =
       sym (append-nil p.part) ∙ ap (λ s. p.part ++ s) (sym (p.whole e)) ∙ sym p.notes_are in
@@ -42,7 +42,7 @@ module _ (a b c : Noted) (front back : List ℕ) (p : Tells a front b) (q : Tell
       }
 
   -- the writer stopped inside the first notes
-  told_in_part : b.stopped ≡ true → Tells a (front ++ back) c
+  told_in_part : b.stopped ≡ true → WritesNotes a (front ++ back) c
   told_in_part e =
       let quiet : q.part ≡ [] = (q.stays e).0 in
       let stopped : c.stopped ≡ true = (q.stays e).1 in
@@ -58,13 +58,13 @@ module _ (a b c : Noted) (front back : List ℕ) (p : Tells a front b) (q : Tell
         stays = λ t. ((p.stays t).0, stopped);
       }
 
-  told_by : (s : Bool) → b.stopped ≡ s → Tells a (front ++ back) c
+  told_by : (s : Bool) → b.stopped ≡ s → WritesNotes a (front ++ back) c
   told_by true e = told_in_part e
   told_by false e = told_whole e
 
   -- notes, and then others
-  pub Tells-more : Tells a (front ++ back) c
-  Tells-more = told_by b.stopped refl
+  pub WritesNotes-more : WritesNotes a (front ++ back) c
+  WritesNotes-more = told_by b.stopped refl
 
 -- one more line with its reply
 pub notes_from-push : (n : ℕ) (ls : List (List ℕ)) (rs : List Reply) (line : List ℕ) (reply : Reply) →
@@ -109,9 +109,9 @@ note_of-kept n line (Says text) = refl
 note_of-kept n line (Refuses refusal) = rw (reason_of-kept line refusal) refl
 
 -- nothing is known of what was told
-pub Tells-unknown : (notes : List ℕ) →
-    Tells (record { contents = None; stopped = false }) notes (record { contents = None; stopped = false })
-Tells-unknown notes = record {
+pub WritesNotes-unknown : (notes : List ℕ) →
+    WritesNotes (record { contents = None; stopped = false }) notes (record { contents = None; stopped = false })
+WritesNotes-unknown notes = record {
   part = notes;
   rest = [];
   notes_are = sym (append-nil notes);
@@ -122,9 +122,9 @@ Tells-unknown notes = record {
 }
 
 -- notes were written whole
-pub Tells-wrote : (old new : Noted) (bytes notes : List ℕ) → old.stopped ≡ false → new.stopped ≡ false →
-    Appends old.contents new.contents bytes → bytes ≡ notes → Tells old notes new
-Tells-wrote old new bytes notes e f w same = record {
+pub WritesNotes-wrote : (old new : Noted) (bytes notes : List ℕ) → old.stopped ≡ false → new.stopped ≡ false →
+    Appends old.contents new.contents bytes → bytes ≡ notes → WritesNotes old notes new
+WritesNotes-wrote old new bytes notes e f w same = record {
   part = bytes;
   rest = [];
   notes_are = sym same ∙ sym (append-nil bytes);

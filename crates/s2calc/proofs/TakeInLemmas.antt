@@ -8,14 +8,14 @@ use Rattle.s2calc.specs.declared.limits.TheConstants.{KEPT}
 use Rattle.s2calc.specs.declared.progress.Progress.{Progress}
 use Rattle.s2script.specs.Lines.{IsUnbroken, BeginsWith, but_last}
 use Rattle.s2calc.specs.Replies.{Reply, text_of, texts, tally_of, IsCutOff}
-use Rattle.s2calc.specs.Notes.{Tells, note_of, number_of, notes_of}
+use Rattle.s2calc.specs.Notes.{WritesNotes, note_of, number_of, notes_of}
 use Rattle.s2calc.specs.Step.{Step}
 use Rattle.s2calc.specs.Output.{AppendsPart}
 use Rattle.s2calc.specs.Run.{Steps}
 use Rattle.s2calc.specs.Explained.{Point, Explains}
 use Rattle.s2calc.specs.Stands.{Stands, Answered, StandsAfter, StopsInside}
 use Rattle.s2calc.proofs.LineLemmas.{every-append, BeginsWith-more, BeginsWith-line, kept_more, but_last-append}
-use Rattle.s2calc.proofs.NoteLemmas.{Tells-none, Tells-more, notes_from-push, notes_from-cut, note_of-kept}
+use Rattle.s2calc.proofs.NoteLemmas.{WritesNotes-none, WritesNotes-more, notes_from-push, notes_from-cut, note_of-kept}
 use Rattle.s2calc.proofs.RunLemmas.{Steps-push, Steps-lengths}
 use Rattle.s2calc.proofs.StepLemmas.{Step-kept}
 
@@ -66,21 +66,21 @@ module _ (start : Point) (script : List ℕ) (replies : List Reply) (now : Point
       ∙ note_of-kept (number_of (1 + length replies)) s.rest reply
 
   -- the note on the line that is kept was written
-  pub Explains-line : Tells now.noted (note_of (number_of (progress.lines + 1)) progress.kept reply) new.noted →
+  pub Explains-line : WritesNotes now.noted (note_of (number_of (progress.lines + 1)) progress.kept reply) new.noted →
       Explains start new (s.done ++ s.rest ∷ []) (replies ++ reply ∷ [])
   Explains-line t =
       let counted = Steps-lengths start.world now.world s.done replies s.run in
-      subst (λ bytes. Tells start.noted bytes new.noted)
+      subst (λ bytes. WritesNotes start.noted bytes new.noted)
       (sym (notes_from-push 1 s.done replies s.rest reply counted
       ∙ ap (λ n. notes_of s.done replies ++ n) (sym note_here)))
-      (Tells-more start.noted now.noted new.noted (notes_of s.done replies) _ s.noted t)
+      (WritesNotes-more start.noted now.noted new.noted (notes_of s.done replies) _ s.noted t)
 
   -- nothing was said of the line that is kept
   pub Explains-cut : new.noted ≡ now.noted → Explains start new (s.done ++ s.rest ∷ []) replies
   Explains-cut e =
       let counted = Steps-lengths start.world now.world s.done replies s.run in
-      subst (λ n. Tells start.noted (notes_of (s.done ++ s.rest ∷ []) replies) n) (sym e)
-      (subst (λ bytes. Tells start.noted bytes now.noted) (sym (notes_from-cut 1 s.done replies s.rest counted))
+      subst (λ n. WritesNotes start.noted (notes_of (s.done ++ s.rest ∷ []) replies) n) (sym e)
+      (subst (λ bytes. WritesNotes start.noted bytes now.noted) (sym (notes_from-cut 1 s.done replies s.rest counted))
       s.noted)
 
   -- the line that is kept was carried out
@@ -219,5 +219,5 @@ Stands-start start progress e tally_is lines_are = record {
   kept_is = e;
   tally_is = tally_is;
   lines_are = lines_are;
-  noted = Tells-none start.noted;
+  noted = WritesNotes-none start.noted;
 }

@@ -9,7 +9,7 @@ use Rattle.s2calc.specs.declared.refusal.Refusal.TheVariants.{Words}
 use Rattle.s2script.specs.FileName.{is_name}
 use Rattle.s2calc.specs.declared.fault.RunFault.{RunFault}
 use Rattle.s2calc.specs.Fetch.{FetchesUnion}
-use Rattle.s2calc.specs.Program.{Tells}
+use Rattle.s2calc.specs.Program.{ShowsReply}
 use Rattle.s2cell.specs.declared.TheConstants.{LEAVES}
 use Rattle.s2calc.specs.Replies.{Reply, Says, Refuses}
 use Rattle.s2calc.specs.Texts.{count_line}
@@ -36,4 +36,4 @@ pub record ChecksAndTells (name : List ℕ) (old new : Files) (output_old output
     (result : Result Bool RunFault) : Type 0 where
   pub reply : Reply
   pub checks : Checks name old reply new
-  pub tells : Tells reply output_old output_new result
+  pub tells : ShowsReply reply output_old output_new result

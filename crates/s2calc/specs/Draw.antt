@@ -12,7 +12,7 @@ use Rattle.s2calc.specs.declared.refusal.Refusal.{Refusal}
 use Rattle.s2calc.specs.declared.refusal.Refusal.TheVariants.{Words, Memory}
 use Rattle.s2calc.specs.declared.fault.RunFault.{RunFault}
 use Rattle.s2calc.specs.Fetch.{FetchesUnion}
-use Rattle.s2calc.specs.Program.{Tells}
+use Rattle.s2calc.specs.Program.{ShowsReply}
 use Rattle.s2calc.specs.Replies.{Reply, Says, Refuses}
 
 -- the reply is the picture of the cells; or there was no memory for it
@@ -44,11 +44,11 @@ pub record DrawsAndTells (name : List ℕ) (curve : Bool) (old new : Files) (out
     (result : Result Bool RunFault) : Type 0 where
   pub reply : Reply
   pub draws : Draws name curve old reply new
-  pub tells : Tells reply output_old output_new result
+  pub tells : ShowsReply reply output_old output_new result
 
 -- the cells that the words name were drawn, and the answer was written as far as the writer took it
 pub record DrawsWordsAndTells (words : List (List ℕ)) (curve : Bool) (output_old output_new : Option (List ℕ))
     (result : Result Bool RunFault) : Type 0 where
   pub reply : Reply
   pub draws : DrawsWords words curve reply
-  pub tells : Tells reply output_old output_new result
+  pub tells : ShowsReply reply output_old output_new result

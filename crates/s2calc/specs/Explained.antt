@@ -6,7 +6,7 @@ use Rattle.s2calc.specs.declared.fault.RunFault.{RunFault}
 use Rattle.s2calc.specs.declared.fault.RunFault.TheVariants.{Input, Output, Memory}
 use Rattle.s2script.specs.Lines.{lines, whole_lines, but_last}
 use Rattle.s2calc.specs.Replies.{Reply}
-use Rattle.s2calc.specs.Notes.{Noted, Tells, notes_of}
+use Rattle.s2calc.specs.Notes.{Noted, WritesNotes, notes_of}
 use Rattle.s2calc.specs.Run.{Ends, Finishes, StopsReading, StopsWriting, StopsFlushing, NeverBegins, with_waiting}
 
 -- what a run has come to: the state and the files, and what was said of refused lines
@@ -19,7 +19,7 @@ point world noted = record { world = world; noted = noted }
 
 -- the notes on lines with these replies were written
 abbrev pub Explains : Point → Point → List (List ℕ) → List Reply → Type 0
-Explains old new ls replies = Tells old.noted (notes_of ls replies) new.noted
+Explains old new ls replies = WritesNotes old.noted (notes_of ls replies) new.noted
 
 -- the run finished, and the notes are those on all lines of its script
 abbrev pub FinishesExplained : Ends → Point → Point → Tally → Type 0

@@ -60,7 +60,7 @@ pub record Noted : Type 0 where
 
 -- A beginning of the notes was written, and all of them if the writer has not stopped. It stops only if some byte of a
 -- note could not be written, and writes nothing after that.
-pub record Tells (old : Noted) (notes : List ℕ) (new : Noted) : Type 0 where
+pub record WritesNotes (old : Noted) (notes : List ℕ) (new : Noted) : Type 0 where
   pub part : List ℕ
   pub rest : List ℕ
   pub notes_are : notes ≡ part ++ rest

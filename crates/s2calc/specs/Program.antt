@@ -25,8 +25,8 @@ cell_reply word = reply_for (cell_named word)
 
 -- the reply was written, and the result is true unless it is a refusal; or bytes of it are missing, or only the flush
 -- failed
-abbrev pub Tells : Reply → Option (List ℕ) → Option (List ℕ) → Result Bool RunFault → Type 0
-Tells reply old new result = MatchResult result
+abbrev pub ShowsReply : Reply → Option (List ℕ) → Option (List ℕ) → Result Bool RunFault → Type 0
+ShowsReply reply old new result = MatchResult result
     (λ passed. (passed ≡ not (is_refusal reply)) × Appends old new (text_of reply))
     (λ fault. (fault ≡ Output) × AppendsUnflushed old new (text_of reply))
 

@@ -9,7 +9,7 @@ use Rattle.s2calc.specs.declared.progress.Progress.{Progress}
 use Rattle.s2script.specs.Lines.{BeginsWith, IsUnbroken, lines, but_last}
 use Rattle.s2calc.specs.Output.{AppendsPart}
 use Rattle.s2calc.specs.Replies.{Reply, text_of, texts, tally_of, IsCutOff}
-use Rattle.s2calc.specs.Notes.{Tells, note_of, number_of}
+use Rattle.s2calc.specs.Notes.{WritesNotes, note_of, number_of}
 use Rattle.s2calc.specs.Step.{Step}
 use Rattle.s2calc.specs.Run.{Steps, Ends}
 use Rattle.s2calc.specs.Explained.{Point, Explains, FinishesExplained, StopsReadingExplained, StopsWritingExplained}
@@ -37,7 +37,7 @@ pub record Answered (old : Point) (before : Progress) (reply : Reply) (new : Poi
   pub tally_is : (replies : List Reply) → before.tally ≡ tally_of replies →
       after.tally ≡ tally_of (replies ++ reply ∷ [])
   pub lines_are : after.lines ≡ number_of (before.lines + 1)
-  pub noted : Tells old.noted (note_of (number_of (before.lines + 1)) before.kept reply) new.noted
+  pub noted : WritesNotes old.noted (note_of (number_of (before.lines + 1)) before.kept reply) new.noted
 
 -- the line that is kept was carried out and answered, or the writer failed inside its answer
 pub record AnswersKept (old : Point) (before : Progress) (new : Point) (after : Progress)

@@ -4,7 +4,7 @@ ghost use Rattle.std.specs.Fmt.{WritesOnOk};
 ghost use Rattle.s2script.specs.Line.{misfit_of};
 ghost use Rattle.s2calc.specs.Replies.{Reply};
 ghost use Rattle.s2calc.specs.Execute.{IsOutcome};
-ghost use Rattle.s2calc.specs.Notes.{Tells, note_of, note_text, reason_of, misfit_reason};
+ghost use Rattle.s2calc.specs.Notes.{WritesNotes, note_of, note_text, reason_of, misfit_reason};
 ghost use Rattle.s2calc.specs.Noting.{noted_by};
 
 use crate::execute::Outcome;
@@ -27,7 +27,7 @@ pub(crate) trait Notes {
     /// Says why the line with this number is refused, if it is.
     fn note(&mut self, number: u64, line: &[u8], outcome: Outcome)
         ensures { (reply : Reply) → IsOutcome outcome reply →
-            Tells (noted self.old) (note_of number line.now reply) (noted self.new) };
+            WritesNotes (noted self.old) (note_of number line.now reply) (noted self.new) };
 }
 
 /// No note is written.
@@ -147,7 +147,7 @@ impl<W> NoteWriter<W> {
 impl<W: Write> NoteWriter<W> {
     /// Writes a note, unless it has stopped.
     fn write_note(&mut self, note: Note<'_>)
-        ensures { Tells (noted_by W.contents self.old)
+        ensures { WritesNotes (noted_by W.contents self.old)
             (note_text note.entry.number note.entry.line.now note.entry.refusal ++ 10 ∷ [])
             (noted_by W.contents self.new) }
     {

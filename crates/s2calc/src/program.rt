@@ -3,7 +3,7 @@ ghost use Rattle.std.specs.Prelude.{◌≡◌, OnOk, OnErr, IfOk, IfErr, not};
 ghost use Rattle.std.specs.Io.KnownBytes.{Appends};
 ghost use Rattle.s2calc.specs.Output.{AppendsUnflushed};
 ghost use Rattle.s2calc.specs.Replies.{Says, Refuses, text_of, is_refusal};
-ghost use Rattle.s2calc.specs.Program.{Tells, cell_reply, status_of};
+ghost use Rattle.s2calc.specs.Program.{ShowsReply, cell_reply, status_of};
 
 use crate::answer::{cell_line, error_line};
 use crate::engine::Tally;
@@ -31,7 +31,7 @@ pub fn cell_answer<W: Write>(word: &[u8], writer: &mut W) -> Result<bool, RunFau
 
 /// Writes an answer that is not a refusal, and flushes.
 pub(crate) fn say<W: Write>(text: &[u8], writer: &mut W) -> Result<bool, RunFault>
-    ensures { Tells (Says text.now) (W.contents writer.old) (W.contents writer.new) result }
+    ensures { ShowsReply (Says text.now) (W.contents writer.old) (W.contents writer.new) result }
 {
     write_line(text, writer)?;
     Ok(true)
@@ -39,7 +39,7 @@ pub(crate) fn say<W: Write>(text: &[u8], writer: &mut W) -> Result<bool, RunFaul
 
 /// Writes why there is no other answer, and flushes.
 pub(crate) fn refuse<W: Write>(refusal: Refusal, writer: &mut W) -> Result<bool, RunFault>
-    ensures { Tells (Refuses refusal) (W.contents writer.old) (W.contents writer.new) result }
+    ensures { ShowsReply (Refuses refusal) (W.contents writer.old) (W.contents writer.new) result }
 {
     write_line(error_line(refusal).as_slice(), writer)?;
     Ok(false)

@@ -100,8 +100,8 @@ fn write_tokens(ids: &[u64], text: &mut [u8])
     }
 }
 
-/// Adds a cell's token to the first `at` bytes of a text, after a blank unless it is the first token (`k` is 0). Answers
-/// how many bytes there are then; those after them may change.
+/// Adds a cell's token to the first `at` bytes of a text, after a blank unless it is the first token (`k` is 0).
+/// Answers how many bytes there are then; those after them may change.
 fn append_piece(text: &mut [u8], at: usize, k: usize, cell: CellId) -> usize
     requires { at + length (piece k (token_of cell)) ≤ length text.old }
     ensures end { result ≡ at + length (piece k (token_of cell)) }

@@ -1,5 +1,5 @@
-use Rattle.s2calc.proofs.NoteLemmas.{Tells-unknown}
+use Rattle.s2calc.proofs.NoteLemmas.{WritesNotes-unknown}
 use Rattle.s2calc.proofs.notes.NoNotesNotes.note.Goals as goal
 
 pub returns : goal.returns
-returns c = λ reply is. Tells-unknown _
+returns c = λ reply is. WritesNotes-unknown _

@@ -1,7 +1,7 @@
 use Rattle.std.proofs.Common.{◌≡◌, false, sym, subst, ◌∙◌, Result, Ok, Err}
 use Rattle.std.specs.Result.{OnOk, is_err}
 use Rattle.std.specs.Io.KnownBytes.{Appends}
-use Rattle.s2calc.proofs.NoteLemmas.{Tells-wrote}
+use Rattle.s2calc.proofs.NoteLemmas.{WritesNotes-wrote}
 use Rattle.s2calc.proofs.notes.NoteWriter.write_note.Goals as goal
 
 on_ok : {T E : Type 0} (r : Result T E) (P : Type 0) → is_err r ≡ false → OnOk r P → P
@@ -17,6 +17,6 @@ returns-else-is_err-2 g c =
     let bytes = rw c.clear.ensures.bytes at text in
     let wrote = on_ok c.emit.result _ second c.emit.ensures.ok in
     let view = c.self.view_is in
-    Tells-wrote _ _ c.as_bytes.result.now _ (subst (λ v. v.stopped ≡ false) view fresh) fresh
+    WritesNotes-wrote _ _ c.as_bytes.result.now _ (subst (λ v. v.stopped ≡ false) view fresh) fresh
     (subst (λ v. Appends (g.W.Write.contents v.writer) (g.W.Write.contents c.emit.new.writer) c.as_bytes.result.now)
     view wrote) (c.as_bytes.ensures.value ∙ bytes)
