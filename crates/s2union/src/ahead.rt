@@ -64,6 +64,10 @@ impl Ahead {
         ensures behind { Behind ys.now result lo }
         ensures next { EndsAfter ys.now result lo }
     {
+        let mut looks = 0;
+        if !ends_by(ys, from, lo, &mut looks) {
+            return from;
+        }
         if self.next <= i && i <= xs.len() && xs.len() - i >= 4 {
             self.places = find_four(ys, xs, i);
             self.next = i + 4;

@@ -1,4 +1,4 @@
-use Rattle.std.proofs.Common.{◌-◌, arith}
+use Rattle.std.proofs.Common.{arith}
 use Rattle.s2union.proofs.AskingFew.{place_behind}
 use Rattle.s2union.proofs.ahead.is_place.Goals as goal
 use Rattle.s2union.proofs.ahead.is_place.Goals.{else-at-gt0-via-then-at-gt0+else-not-ends_by, else-at-gt0-via-else-at-gt0}
