@@ -1,5 +1,5 @@
 -- Questions about a short list in a much longer one.
-use Rattle.std.proofs.Common.{◌≡◌, ℕ, zero, suc, ◌+◌, ◌-◌, ◌*◌, ◌/◌, ◌^◌, ◌<◌, ◌≤◌, refl, ap, subst, arith}
+use Rattle.std.proofs.Common.{◌≡◌, ℕ, zero, suc, ◌+◌, ◌-◌, ◌*◌, ◌/◌, ◌^◌, ◌<◌, ◌≤◌, refl, ap, arith}
 use Rattle.std.proofs.Common.{Bool, true, false, ◌&&◌, ◌||◌, ◌↔◌, IsTrue, List, length, get_or, min, max}
 use Rattle.std.proofs.Math.Logic.{⊎_elim}
 use Rattle.std.proofs.Math.Nat.{mul-le-mul_right}
@@ -8,10 +8,8 @@ use Rattle.std.proofs.lemmas.Nat.{pow_below}
 use Rattle.s2cell.specs.Cell.{covers}
 use Rattle.s2cell.proofs.Leaves.{covers_there, covers_from}
 use Rattle.s2union.specs.Union.{has_leaf, IsWithin, ShareSome}
-use Rattle.s2union.specs.Packed.{IsPacked, Behind, EndsAt, EndsAfter}
 use Rattle.s2union.specs.Search.{Brackets}
 use Rattle.s2union.specs.Looks.{FewForUnion}
-use Rattle.s2union.proofs.Finding.{ended_to}
 use Rattle.s2union.proofs.Looking.{quarter_left}
 use Rattle.s2union.proofs.Walking.{leaf_there, leaf_at}
 
@@ -161,22 +159,3 @@ one_of_each xs ys k h (x, v, a) = let r = covers_from (get_or ys k 0) x v in (x,
 
 pub share_swap : (xs ys : List ℕ) → ShareSome (has_leaf xs) (has_leaf ys) → ShareSome (has_leaf ys) (has_leaf xs)
 share_swap xs ys (x, a, b) = (x, b, a)
-
--- no place is before cells that end by the leaf
-pub place_from : (u : List ℕ) (from at lo : ℕ) → from ≤ length u → Behind u from lo → EndsAfter u at lo → from ≤ at
-place_from u from at lo w b next =
-    ⊎_elim
-    (λ (h : at < from). let e = b at h in let n = next (omega arith) in absurd (omega arith))
-    (λ (h : from ≤ at). h)
-    (cases_lt at from)
-
--- nor after the last that does
-pub place_behind : (u : List ℕ) (at lo : ℕ) → IsPacked u → (0 < at → EndsAt u (at - 1) lo) → Behind u at lo
-place_behind u at lo p last =
-    ⊎_elim
-    (λ (h : 0 < at).
-    let e = last h in
-    let same : (at - 1) + 1 ≡ at = omega arith in
-    subst (λ n. Behind u n lo) same (ended_to u (at - 1) lo p e.0 e.1))
-    (λ (h : at ≤ 0). λ k l. absurd (omega arith))
-    (cases_lt 0 at)

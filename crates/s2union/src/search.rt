@@ -198,7 +198,7 @@ fn find_from_counted(cells: &[CellId], from: usize, lo: u64, looks: &mut u64) ->
 
 /// Whether there is a cell at the place `at`, and it ends by the leaf `lo`.
 #[inline(always)]
-pub(crate) fn ends_by(cells: &[CellId], at: usize, lo: u64, looks: &mut u64) -> bool
+fn ends_by(cells: &[CellId], at: usize, lo: u64, looks: &mut u64) -> bool
     requires before { looks.old ≤ 1001 }
     ensures answer { IsTrue result ↔ EndsAt cells.now at lo }
     ensures looks { looks.new ≤ looks.old + 1 }

@@ -9,7 +9,6 @@ ghost use Rattle.s2union.specs.Union.{IsLocal, IsNormalForm, has_leaf, between};
 ghost use Rattle.s2union.specs.Sets.{either, shared, without};
 ghost use Rattle.s2union.specs.Packed.{Behind, FillsGap, IsPacked};
 
-use crate::ahead::Ahead;
 use crate::fault::UnionFault;
 use crate::few::MUCH_LONGER;
 use crate::gallop::gallop;
@@ -220,7 +219,6 @@ fn subtract(
     ensures many { IfErr result (λ fault. fault ≡ UnionFault.TooMany → (u : List ℕ) →
         IsNormalForm (without (has_leaf xs.now) (has_leaf ys.now)) u → limit < length u) }
 {
-    let mut ahead = Ahead::new(xs, ys);
     let mut lo = 0;
     let mut i = 0;
     let mut j = 0;
@@ -228,7 +226,7 @@ fn subtract(
         let x = xs[i];
         let start = x.first_leaf().max(lo);
         let end = x.end_leaf();
-        j = ahead.find(xs, i, ys, j, start);
+        j = find_from(ys, j, start);
         match cell_before(ys, j, end) {
             Some(y) => {
                 fill_gap(list, start, y.first_leaf())?;

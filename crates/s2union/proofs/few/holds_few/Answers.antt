@@ -1,4 +1,4 @@
-use Rattle.std.proofs.Common.{ℕ, ◌≡◌, get_or, arith, refl, sym}
+use Rattle.std.proofs.Common.{get_or, arith, refl}
 use Rattle.std.proofs.lemmas.Bool.{not-false}
 use Rattle.s2cell.specs.Cell.{covers}
 use Rattle.s2union.specs.Union.{has_leaf, IsWithin}

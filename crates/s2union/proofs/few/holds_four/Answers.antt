@@ -1,4 +1,4 @@
-use Rattle.std.proofs.Common.{ℕ, get_or}
+use Rattle.std.proofs.Common.{get_or}
 use Rattle.s2cell.specs.Cell.{covers}
 use Rattle.s2union.specs.Union.{has_leaf, IsWithin}
 use Rattle.s2union.proofs.Checking.{packed_from_local}

@@ -1,5 +1,5 @@
-use Rattle.std.proofs.Common.{◌+◌, ◌-◌, ◌*◌, ◌/◌, arith}
-use Rattle.s2union.proofs.Galloping.{Seeking, seeking_quarter}
+use Rattle.std.proofs.Common.{◌/◌, arith}
+use Rattle.s2union.proofs.Galloping.{seeking_quarter}
 use Rattle.s2union.proofs.gallop.quarter.Goals as goal
 
 pub returns-clause-brackets : goal.returns-clause-brackets

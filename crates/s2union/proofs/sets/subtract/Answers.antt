@@ -10,8 +10,8 @@ use Rattle.s2union.proofs.Subtracting.{subtracting_taken, subtracting_free, subt
 use Rattle.s2union.proofs.sets.subtract.Goals as goal
 use Rattle.s2union.proofs.sets.subtract.Goals.{then-loop-i-test+else-len-limit, else-loop-i-test}
 
-pub find-j-requires-clause-packed : goal.find-j-requires-clause-packed
-find-j-requires-clause-packed c = packed_from_local c.args.ys.now c.requires.y_local
+pub find_from-j-requires-clause-packed : goal.find_from-j-requires-clause-packed
+find_from-j-requires-clause-packed c = packed_from_local c.args.ys.now c.requires.y_local
 
 pub find_from-i-requires-clause-packed : goal.find_from-i-requires-clause-packed
 find_from-i-requires-clause-packed c = packed_from_local c.args.xs.now c.requires.x_local
@@ -19,7 +19,7 @@ find_from-i-requires-clause-packed c = packed_from_local c.args.xs.now c.require
 pub find_from-i-requires-clause-behind : goal.find_from-i-requires-clause-behind
 find_from-i-requires-clause-behind c =
     let v = c.loop-i.invariant in
-    let f = c.find-j.ensures in
+    let f = c.find_from-j.ensures in
     let most = c.first_leaf.ensures.most in
     let last = c.end_leaf-end.ensures.most in
     let leaf = v.leaf in
@@ -27,7 +27,7 @@ find_from-i-requires-clause-behind c =
     read_at c.args.xs.now c.loop-i.i c.loop-i.i c.index-xs-i.result
     c.loop-i-test.true refl c.index-xs-i.is in
     let here = subtracting_on_y c.args.xs.now c.args.ys.now c.loop-i.list.items c.loop-i.i c.loop-i.j c.max-start.result
-    c.find-j.result
+    c.find_from-j.result
     (subtracting_from c.args.xs.now c.args.ys.now c.loop-i.list.items c.loop-i.i c.loop-i.j c.loop-i.lo
     c.max-start.result
     c.index-xs-i.result c.requires.x_local v.so_far c.loop-i-test.true ex (omega arith))
@@ -35,7 +35,7 @@ find_from-i-requires-clause-behind c =
     let (below, ey, before) = c.in-Some.ensures in
     let end = c.end_leaf.ensures.most in
     let taken = subtracting_taken c.args.xs.now c.args.ys.now c.loop-i.list.items c.fill_gap.new.list.items c.loop-i.i
-    c.find-j.result c.max-start.result c.max-start.result c.first_leaf-in-Some.result c.max-lo.result
+    c.find_from-j.result c.max-start.result c.max-start.result c.first_leaf-in-Some.result c.max-lo.result
     c.index-xs-i.result c.in-Some.y c.requires.x_local c.requires.y_local here c.loop-i-test.true below ex ey
     (omega arith) (omega arith)
     c.first_leaf-in-Some.ensures.value (omega arith)
@@ -45,7 +45,7 @@ find_from-i-requires-clause-behind c =
 pub loop-i-preserved-then-end-lo : goal.loop-i-preserved-then-end-lo
 loop-i-preserved-then-end-lo c =
     let v = c.loop-i.invariant in
-    let f = c.find-j.ensures in
+    let f = c.find_from-j.ensures in
     let most = c.first_leaf.ensures.most in
     let last = c.end_leaf-end.ensures.most in
     let leaf = v.leaf in
@@ -53,7 +53,7 @@ loop-i-preserved-then-end-lo c =
     read_at c.args.xs.now c.loop-i.i c.loop-i.i c.index-xs-i.result
     c.loop-i-test.true refl c.index-xs-i.is in
     let here = subtracting_on_y c.args.xs.now c.args.ys.now c.loop-i.list.items c.loop-i.i c.loop-i.j c.max-start.result
-    c.find-j.result
+    c.find_from-j.result
     (subtracting_from c.args.xs.now c.args.ys.now c.loop-i.list.items c.loop-i.i c.loop-i.j c.loop-i.lo
     c.max-start.result
     c.index-xs-i.result c.requires.x_local v.so_far c.loop-i-test.true ex (omega arith))
@@ -61,7 +61,7 @@ loop-i-preserved-then-end-lo c =
     let (below, ey, before) = c.in-Some.ensures in
     let end = c.end_leaf.ensures.most in
     let taken = subtracting_taken c.args.xs.now c.args.ys.now c.loop-i.list.items c.fill_gap.new.list.items c.loop-i.i
-    c.find-j.result c.max-start.result c.max-start.result c.first_leaf-in-Some.result c.max-lo.result
+    c.find_from-j.result c.max-start.result c.max-start.result c.first_leaf-in-Some.result c.max-lo.result
     c.index-xs-i.result c.in-Some.y c.requires.x_local c.requires.y_local here c.loop-i-test.true below ex ey
     (omega arith) (omega arith)
     c.first_leaf-in-Some.ensures.value (omega arith)
@@ -70,14 +70,14 @@ loop-i-preserved-then-end-lo c =
     record {
       leaf = omega arith;
       so_far = subtracting_on_x c.args.xs.now c.args.ys.now c.fill_gap.new.list.items c.loop-i.i
-          (c.find-j.result + 1)
+          (c.find_from-j.result + 1)
           c.max-lo.result c.find_from-i.result c.requires.x_local taken g.from g.within g.behind;
     }
 
 pub loop-i-preserved-else-end-lo : goal.loop-i-preserved-else-end-lo
 loop-i-preserved-else-end-lo c =
     let v = c.loop-i.invariant in
-    let f = c.find-j.ensures in
+    let f = c.find_from-j.ensures in
     let most = c.first_leaf.ensures.most in
     let last = c.end_leaf-end.ensures.most in
     let leaf = v.leaf in
@@ -85,7 +85,7 @@ loop-i-preserved-else-end-lo c =
     read_at c.args.xs.now c.loop-i.i c.loop-i.i c.index-xs-i.result
     c.loop-i-test.true refl c.index-xs-i.is in
     let here = subtracting_on_y c.args.xs.now c.args.ys.now c.loop-i.list.items c.loop-i.i c.loop-i.j c.max-start.result
-    c.find-j.result
+    c.find_from-j.result
     (subtracting_from c.args.xs.now c.args.ys.now c.loop-i.list.items c.loop-i.i c.loop-i.j c.loop-i.lo
     c.max-start.result
     c.index-xs-i.result c.requires.x_local v.so_far c.loop-i-test.true ex (omega arith))
@@ -93,7 +93,7 @@ loop-i-preserved-else-end-lo c =
     let (below, ey, before) = c.in-Some.ensures in
     let end = c.end_leaf.ensures.most in
     let taken = subtracting_taken c.args.xs.now c.args.ys.now c.loop-i.list.items c.fill_gap.new.list.items c.loop-i.i
-    c.find-j.result c.max-start.result c.max-start.result c.first_leaf-in-Some.result c.max-lo.result
+    c.find_from-j.result c.max-start.result c.max-start.result c.first_leaf-in-Some.result c.max-lo.result
     c.index-xs-i.result c.in-Some.y c.requires.x_local c.requires.y_local here c.loop-i-test.true below ex ey
     (omega arith) (omega arith)
     c.first_leaf-in-Some.ensures.value (omega arith)
@@ -103,7 +103,7 @@ loop-i-preserved-else-end-lo c =
 pub loop-i-preserved-then-start-first_leaf : goal.loop-i-preserved-then-start-first_leaf
 loop-i-preserved-then-start-first_leaf c =
     let v = c.loop-i.invariant in
-    let f = c.find-j.ensures in
+    let f = c.find_from-j.ensures in
     let most = c.first_leaf.ensures.most in
     let last = c.end_leaf-end.ensures.most in
     let leaf = v.leaf in
@@ -111,7 +111,7 @@ loop-i-preserved-then-start-first_leaf c =
     read_at c.args.xs.now c.loop-i.i c.loop-i.i c.index-xs-i.result
     c.loop-i-test.true refl c.index-xs-i.is in
     let here = subtracting_on_y c.args.xs.now c.args.ys.now c.loop-i.list.items c.loop-i.i c.loop-i.j c.max-start.result
-    c.find-j.result
+    c.find_from-j.result
     (subtracting_from c.args.xs.now c.args.ys.now c.loop-i.list.items c.loop-i.i c.loop-i.j c.loop-i.lo
     c.max-start.result
     c.index-xs-i.result c.requires.x_local v.so_far c.loop-i-test.true ex (omega arith))
@@ -128,7 +128,7 @@ loop-i-preserved-then-start-first_leaf c =
     record {
       leaf = c.end_leaf-lo.ensures.most;
       so_far = subtracting_run c.args.xs.now c.args.ys.now c.loop-i.list.items c.extend_up_to.new.list.items c.loop-i.i
-          c.find-j.result
+          c.find_from-j.result
           c.max-start.result c.free_until-next.result c.end_leaf-lo.result
           c.requires.x_local c.requires.y_local here (let t = c.if-start-first_leaf.true in omega arith) g.more
           g.within g.free
@@ -138,7 +138,7 @@ loop-i-preserved-then-start-first_leaf c =
 pub loop-i-preserved : goal.loop-i-preserved
 loop-i-preserved c =
     let v = c.loop-i.invariant in
-    let f = c.find-j.ensures in
+    let f = c.find_from-j.ensures in
     let most = c.first_leaf.ensures.most in
     let last = c.end_leaf-end.ensures.most in
     let leaf = v.leaf in
@@ -146,7 +146,7 @@ loop-i-preserved c =
     read_at c.args.xs.now c.loop-i.i c.loop-i.i c.index-xs-i.result
     c.loop-i-test.true refl c.index-xs-i.is in
     let here = subtracting_on_y c.args.xs.now c.args.ys.now c.loop-i.list.items c.loop-i.i c.loop-i.j c.max-start.result
-    c.find-j.result
+    c.find_from-j.result
     (subtracting_from c.args.xs.now c.args.ys.now c.loop-i.list.items c.loop-i.i c.loop-i.j c.loop-i.lo
     c.max-start.result
     c.index-xs-i.result c.requires.x_local v.so_far c.loop-i-test.true ex (omega arith))
@@ -155,7 +155,7 @@ loop-i-preserved c =
       leaf = omega arith;
       so_far = subtracting_free c.args.xs.now c.args.ys.now c.loop-i.list.items
           c.fill_gap-else-start-first_leaf.new.list.items
-          c.loop-i.i c.find-j.result c.max-start.result c.max-start.result c.end_leaf-end.result
+          c.loop-i.i c.find_from-j.result c.max-start.result c.max-start.result c.end_leaf-end.result
           c.max-lo-else-start-first_leaf.result
           c.index-xs-i.result c.requires.x_local c.requires.y_local here c.loop-i-test.true ex c.in-None.ensures
           (omega arith)
@@ -168,7 +168,7 @@ returns-in_err-extend_up_to-in-None-clause-many c =
     let p = err_from_is_err_and c.from_residual-in_err-extend_up_to-in-None.result
     c.from_residual-in_err-extend_up_to-in-None.ensures.1 in
     let v = c.loop-i.invariant in
-    let f = c.find-j.ensures in
+    let f = c.find_from-j.ensures in
     let most = c.first_leaf.ensures.most in
     let last = c.end_leaf-end.ensures.most in
     let leaf = v.leaf in
@@ -176,7 +176,7 @@ returns-in_err-extend_up_to-in-None-clause-many c =
     read_at c.args.xs.now c.loop-i.i c.loop-i.i c.index-xs-i.result
     c.loop-i-test.true refl c.index-xs-i.is in
     let here = subtracting_on_y c.args.xs.now c.args.ys.now c.loop-i.list.items c.loop-i.i c.loop-i.j c.max-start.result
-    c.find-j.result
+    c.find_from-j.result
     (subtracting_from c.args.xs.now c.args.ys.now c.loop-i.list.items c.loop-i.i c.loop-i.j c.loop-i.lo
     c.max-start.result
     c.index-xs-i.result c.requires.x_local v.so_far c.loop-i-test.true ex (omega arith))
@@ -184,7 +184,7 @@ returns-in_err-extend_up_to-in-None-clause-many c =
     let g = c.free_until-next.ensures in
     let fx = ap first_leaf ex in
     let first = c.first_leaf-in-None.ensures.value in
-    let taken = subtracting_run c.args.xs.now c.args.ys.now c.loop-i.list.items _ c.loop-i.i c.find-j.result
+    let taken = subtracting_run c.args.xs.now c.args.ys.now c.loop-i.list.items _ c.loop-i.i c.find_from-j.result
     c.max-start.result c.free_until-next.result _ c.requires.x_local c.requires.y_local here
     (let t = c.if-start-first_leaf.true in omega arith) g.more g.within g.free refl refl in
     rw (p.1, p.2) (λ is u normal.
