@@ -238,9 +238,9 @@ difference_gap xs ys i j lo start end lx ly bx by h edge es ee =
           let high : first_leaf p + size_of p ≤ end =
           ⊎_elim
           (λ (g : (end ≡ first_leaf (get_or xs i 0) + size_of (get_or xs i 0))
-            × (j < length ys → end ≤ first_leaf (get_or ys j 0))). let e = g.0 in omega arith)
+          × (j < length ys → end ≤ first_leaf (get_or ys j 0))). let e = g.0 in omega arith)
           (λ (g : (j < length ys) × (end ≡ first_leaf (get_or ys j 0))
-            × (end < first_leaf (get_or xs i 0) + size_of (get_or xs i 0))).
+          × (end < first_leaf (get_or xs i 0) + size_of (get_or xs i 0))).
           let e = g.1 in
           ⊎_elim
           (λ (a : end < first_leaf p + size_of p).

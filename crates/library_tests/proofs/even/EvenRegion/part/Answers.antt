@@ -30,7 +30,7 @@ both c i h =
     let f = first_leaf_of_cell (level_of c) (place_of c) c o in
     let d : 30 - level_of c ≡ (29 - level_of c) + 1 = omega arith in
     let four : 4 ^ (30 - level_of c) ≡ 4 ^ (29 - level_of c) * 4 =
-      ap (λ z. 4 ^ z) d ∙ pow-add 4 (29 - level_of c) 1 in
+    ap (λ z. 4 ^ z) d ∙ pow-add 4 (29 - level_of c) 1 in
     let some : 0 < 4 ^ (29 - level_of c) = four_pos (29 - level_of c) in
     let even : first_leaf c ≡ place_of c * (4 ^ (29 - level_of c) * 4) = f ∙ ap (λ z. place_of c * z) four in
     record {
@@ -68,8 +68,8 @@ returns-then-not-is_leaf-clause-out c = (
   λ e. cc,
   λ h.
       let shallow : level_of c.args.cell < 30 =
-        below c.args.cell c.id.ensures.cell.level
-          (λ l. false≢true (sym c.if-not-is_leaf.true ∙ c.is_leaf.ensures.1 l)) in
+      below c.args.cell c.id.ensures.cell.level
+      (λ l. false≢true (sym c.if-not-is_leaf.true ∙ c.is_leaf.ensures.1 l)) in
       let b = both c.args.cell (cell_of c.args.cell c.id.ensures.cell) shallow in
       absurd (false≢true (sym (h (first_leaf c.args.cell) b.low) ∙ even (first_leaf c.args.cell) b.even)),
 )
@@ -79,8 +79,8 @@ returns-then-not-is_leaf-clause-inside c = (
   λ e. cc,
   λ h.
       let shallow : level_of c.args.cell < 30 =
-        below c.args.cell c.id.ensures.cell.level
-          (λ l. false≢true (sym c.if-not-is_leaf.true ∙ c.is_leaf.ensures.1 l)) in
+      below c.args.cell c.id.ensures.cell.level
+      (λ l. false≢true (sym c.if-not-is_leaf.true ∙ c.is_leaf.ensures.1 l)) in
       let b = both c.args.cell (cell_of c.args.cell c.id.ensures.cell) shallow in
       let e = b.even in
       let x = first_leaf c.args.cell + 1 in
