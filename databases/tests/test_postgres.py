@@ -218,7 +218,7 @@ class WhatIsRefused(Tests):
         cut = [f"'\\x{value[:k].hex()}'::raw8::s2union" for k in range(len(value) + 1)]
         whole = {4 + 8 * k: tokens(cells[:k]) for k in range(4)}
         self.all_are([(cut[k], text) for k, text in whole.items()])
-        self.all_refused([(sql, "no normalised list") for k, sql in enumerate(cut) if k not in whole])
+        self.all_refused([(sql, "not a normalized list") for k, sql in enumerate(cut) if k not in whole])
 
     def test_texts(self):
         texts = ("X", "2", "g", "1 g", "1,0/4", "0" * 17, "é" * 60)
