@@ -14,7 +14,8 @@ use Rattle.s2union.proofs.Looking.{quarter_left}
 use Rattle.s2union.proofs.Walking.{leaf_there, leaf_at}
 
 -- what holds at four places in a row
-pub four_places : (P : ℕ → Type 0) (at k : ℕ) → P at → P (at + 1) → P (at + 2) → P (at + 3) → at ≤ k → k < at + 4 → P k
+pub four_places : (P : ℕ → Type 0) (at k : ℕ) → P at → P (at + 1) → P (at + 2) → P (at + 3) →
+    at ≤ k → k < at + 4 → P k
 four_places P at k a b c d h l =
     ⊎_elim
     (λ (m : k < at + 1). let e : k ≡ at = omega arith in rw e a)

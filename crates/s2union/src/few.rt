@@ -3,7 +3,8 @@
 //!
 //! The searches for four cells don't wait for each other, so while one waits for memory, the others go on. A walk that
 //! starts each search where the one before ended makes fewer looks, but each has to wait for the one before.
-ghost use Rattle.std.specs.Prelude.{ℕ, ◌≡◌, ◌≤◌, ◌<◌, ◌+◌, ◌-◌, ◌*◌, ◌%◌, ◌↔◌, IsTrue, length, slice_index};
+ghost use Rattle.std.specs.Prelude.{◌≡◌, ◌≤◌, ◌<◌, ◌+◌, ◌-◌, ◌*◌, ◌%◌, ◌↔◌};
+ghost use Rattle.std.specs.Prelude.{ℕ, IsTrue, length, slice_index};
 ghost use Rattle.s2cell.specs.Cell.{covers, first_leaf};
 ghost use Rattle.s2union.specs.Union.{IsLocal, has_leaf, IsWithin, ShareSome};
 ghost use Rattle.s2union.specs.Packed.{IsPacked, Behind, EndsAfter};
