@@ -12,7 +12,7 @@ ghost use Rattle.std.specs.Vec.Iter.{into_iter_items, into_iter_len, into_iter_s
 ghost use Rattle.std.specs.Hash as fed;
 ghost use Rattle.std.specs.Cmp.Rules.{hashing};
 ghost use Rattle.std.proofs.Common.{rules};
-ghost use Rattle.s2union.specs.Union.{IsNormalForm, has_leaf};
+ghost use Rattle.s2union.specs.Union.{IsLocal, IsNormalForm, has_leaf};
 
 use crate::normalising::normalise;
 use crate::union::CellUnion;
@@ -25,7 +25,9 @@ impl CellUnion {
     ///
     /// The list is used for the result, and no memory is taken. S2: `S2CellUnion(cell_ids)`.
     pub fn from_cells(cells: Vec<CellId>) -> CellUnion
-        ensures { IsNormalForm (has_leaf cells.items) result.cells }
+        ensures local { IsLocal result.cells }
+        ensures normal { IsNormalForm (has_leaf cells.items) result.cells }
+        ensures room { result.room ≡ vec_capacity cells }
     {
         normalise(cells)
     }
