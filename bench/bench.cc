@@ -26,7 +26,7 @@ static void places(Table& table) {
     p.j = random.coordinate();
   }
   List a(N), b(N);
-  table.row({"from_face_ij", N, 0x7830da93e3796d2c, 10},
+  table.row({"from_face_ij", N, 0x7830da93e3796d2c},
             {[&](uint32_t) {
                for (size_t k = 0; k < N; k++)
                  a[k] = S2CellId::FromFaceIJ(places[k].face, places[k].i, places[k].j).id();
@@ -42,7 +42,7 @@ static void places(Table& table) {
     for (const Place& p : places) h = call(p.face, p.i ^ (h >> 40 & 1), p.j);
     *last = h;
   };
-  table.row({"from_face_ij_chained", N, 0x19bce297ab5651cd, 0},
+  table.row({"from_face_ij_chained", N, 0x19bce297ab5651cd},
             {[&](uint32_t) {
                chained(&last_a, [](uint8_t f, uint32_t i, uint32_t j) { return S2CellId::FromFaceIJ(f, i, j).id(); });
              },
@@ -71,8 +71,8 @@ static void squares(Table& table) {
   Random leaves(2);
   List ids(N);
   for (u64& id : ids) id = leaves.leaf();
-  row({"square_of_leaf", N, 0x4d6129f6e9f8d588, 10}, ids);
-  row({"square_of_any_cell", N, 0x23dd0e8822e18c5d, 0}, Random(20).cells(N, 0, 30));
+  row({"square_of_leaf", N, 0x4d6129f6e9f8d588}, ids);
+  row({"square_of_any_cell", N, 0x23dd0e8822e18c5d}, Random(20).cells(N, 0, 30));
 }
 
 // Texts side by side, each with room for 32 bytes.
@@ -97,7 +97,7 @@ static void texts(Table& table) {
     return sum.value();
   };
   Texts proved;
-  table.row({"token", N, 0xd45cf93fd9fd52c1, 20},
+  table.row({"token", N, 0xd45cf93fd9fd52c1},
             {[&](uint32_t) {
                for (size_t k = 0; k < N; k++) peer[k] = S2CellId(ids[k]).ToToken();
              },
@@ -121,9 +121,9 @@ static void texts(Table& table) {
   };
   for (size_t k = 0; k < N; k++) peer[k] = S2CellId(ids[k]).ToToken();
   back(
-      {"from_token", N, 0xe714663334a73aec, 22}, [](const std::string& t) { return S2CellId::FromToken(t); },
+      {"from_token", N, 0xe714663334a73aec}, [](const std::string& t) { return S2CellId::FromToken(t); },
       s2c_from_token);
-  table.row({"debug_text", N, 0x13a109391df62c77, 40},
+  table.row({"debug_text", N, 0x13a109391df62c77},
             {[&](uint32_t) {
                for (size_t k = 0; k < N; k++) peer[k] = S2CellId(ids[k]).ToString();
              },
@@ -134,7 +134,7 @@ static void texts(Table& table) {
              [&] { return proved.sum(); }});
   for (size_t k = 0; k < N; k++) peer[k] = S2CellId(ids[k]).ToString();
   back(
-      {"from_debug_text", N, 0xe714663334a73aec, 38}, [](const std::string& t) { return S2CellId::FromDebugString(t); },
+      {"from_debug_text", N, 0xe714663334a73aec}, [](const std::string& t) { return S2CellId::FromDebugString(t); },
       s2c_from_debug);
 }
 
@@ -155,13 +155,13 @@ static void normalising(Table& table) {
   };
   List shuffled = Random(4).cells(N, 14, 20), sorted = shuffled;
   std::sort(sorted.begin(), sorted.end());
-  row({"normalise_sorted", N, 0x0a3d9902386a5f06, 5}, sorted);
-  row({"normalise_shuffled", N, 0x0a3d9902386a5f06, 30}, shuffled);
+  row({"normalise_sorted", N, 0x0a3d9902386a5f06}, sorted);
+  row({"normalise_shuffled", N, 0x0a3d9902386a5f06}, shuffled);
   List level(1048576);
   for (size_t m = 0; m < level.size(); m++) level[m] = cell_at(10, m);
-  row({"normalise_one_face_sorted", level.size(), 0x5000000000000000, 6}, level);
+  row({"normalise_one_face_sorted", level.size(), 0x5000000000000000}, level);
   Random(5).shuffle(level);
-  row({"normalise_one_face_shuffled", level.size(), 0x5000000000000000, 32}, level);
+  row({"normalise_one_face_shuffled", level.size(), 0x5000000000000000}, level);
 }
 
 // The unions that the set operations are measured on.
@@ -197,20 +197,20 @@ static void sets(Table& table, const Unions& u) {
                },
                [&] { return sum_of(room.made()); }, 5});
   };
-  row({"union_random", 0, 0, 12}, u.x, u.y, &S2CellUnion::Union, s2c_union);
-  row({"union_alternating", 0, 0, 6}, u.even, u.odd, &S2CellUnion::Union, s2c_union);
-  row({"union_disjoint", 0, 0, 5}, u.x, u.far, &S2CellUnion::Union, s2c_union);
-  row({"union_inside", 0, 0, 6}, u.x, u.inside, &S2CellUnion::Union, s2c_union);
+  row({"union_random", 0, 0}, u.x, u.y, &S2CellUnion::Union, s2c_union);
+  row({"union_alternating", 0, 0}, u.even, u.odd, &S2CellUnion::Union, s2c_union);
+  row({"union_disjoint", 0, 0}, u.x, u.far, &S2CellUnion::Union, s2c_union);
+  row({"union_inside", 0, 0}, u.x, u.inside, &S2CellUnion::Union, s2c_union);
   PeerOperation intersection = &S2CellUnion::Intersection;
-  row({"intersection_random", 0, 0, 9}, u.x, u.y, intersection, s2c_intersection);
-  row({"intersection_alternating", 0, 0, 3}, u.even, u.odd, intersection, s2c_intersection);
-  row({"intersection_disjoint", 0, 0, 0}, u.x, u.far, intersection, s2c_intersection);
-  row({"intersection_inside", 0, 0, 3}, u.x, u.inside, intersection, s2c_intersection);
-  row({"difference_random", 0, 0, 22}, u.x, u.y, &S2CellUnion::Difference, s2c_difference);
-  row({"difference_alternating", 0, 0, 3}, u.even, u.odd, &S2CellUnion::Difference, s2c_difference);
-  row({"difference_disjoint", 0, 0, 0}, u.x, u.far, &S2CellUnion::Difference, s2c_difference);
-  row({"difference_inside", 0, 0, 25}, u.x, u.inside, &S2CellUnion::Difference, s2c_difference);
-  row({"difference_from_face", 0, 0, 70}, u.face, u.y, &S2CellUnion::Difference, s2c_difference);
+  row({"intersection_random", 0, 0}, u.x, u.y, intersection, s2c_intersection);
+  row({"intersection_alternating", 0, 0}, u.even, u.odd, intersection, s2c_intersection);
+  row({"intersection_disjoint", 0, 0}, u.x, u.far, intersection, s2c_intersection);
+  row({"intersection_inside", 0, 0}, u.x, u.inside, intersection, s2c_intersection);
+  row({"difference_random", 0, 0}, u.x, u.y, &S2CellUnion::Difference, s2c_difference);
+  row({"difference_alternating", 0, 0}, u.even, u.odd, &S2CellUnion::Difference, s2c_difference);
+  row({"difference_disjoint", 0, 0}, u.x, u.far, &S2CellUnion::Difference, s2c_difference);
+  row({"difference_inside", 0, 0}, u.x, u.inside, &S2CellUnion::Difference, s2c_difference);
+  row({"difference_from_face", 0, 0}, u.face, u.y, &S2CellUnion::Difference, s2c_difference);
 }
 
 static void cell_questions(Table& table, const Unions& u) {
@@ -232,10 +232,10 @@ static void cell_questions(Table& table, const Unions& u) {
   };
   List questions = Random(9).cells_of(0, N, 8, 30), sorted = questions;
   std::sort(sorted.begin(), sorted.end());
-  row({"contains_cell", N, 0xc716de7ca9f82722, 80}, questions, &S2CellUnion::Contains, s2c_contains_cells);
-  row({"intersects_cell", N, 0x1c9f361b4a86b9c3, 80}, questions, &S2CellUnion::Intersects, s2c_intersects_cells);
-  row({"contains_cell_sorted", N, 0xb36ffb8917552917, 0}, sorted, &S2CellUnion::Contains, s2c_contains_cells);
-  row({"contains_cell_cursor", N, 0xb36ffb8917552917, 0}, sorted, &S2CellUnion::Contains, s2c_contains_cells_in_order);
+  row({"contains_cell", N, 0xc716de7ca9f82722}, questions, &S2CellUnion::Contains, s2c_contains_cells);
+  row({"intersects_cell", N, 0x1c9f361b4a86b9c3}, questions, &S2CellUnion::Intersects, s2c_intersects_cells);
+  row({"contains_cell_sorted", N, 0xb36ffb8917552917}, sorted, &S2CellUnion::Contains, s2c_contains_cells);
+  row({"contains_cell_cursor", N, 0xb36ffb8917552917}, sorted, &S2CellUnion::Contains, s2c_contains_cells_in_order);
 }
 
 static void union_questions(Table& table, const Unions& u) {
@@ -252,9 +252,9 @@ static void union_questions(Table& table, const Unions& u) {
               {[&](uint32_t times) { must(proved(xs.data(), xs.size(), ys.data(), ys.size(), times, &b), it.name); },
                [&] { return Sum().add(b).value(); }, 20});
   };
-  row({"contains_union_inside", 0, Sum().add(1).value(), 3}, u.x, u.inside, &S2CellUnion::Contains, s2c_contains);
-  row({"contains_union_itself", 0, Sum().add(1).value(), 3}, u.x, u.x, &S2CellUnion::Contains, s2c_contains);
-  row({"intersects_union_apart", 0, Sum().add(0).value(), 3}, u.even, u.odd, &S2CellUnion::Intersects, s2c_intersects);
+  row({"contains_union_inside", 0, Sum().add(1).value()}, u.x, u.inside, &S2CellUnion::Contains, s2c_contains);
+  row({"contains_union_itself", 0, Sum().add(1).value()}, u.x, u.x, &S2CellUnion::Contains, s2c_contains);
+  row({"intersects_union_apart", 0, Sum().add(0).value()}, u.even, u.odd, &S2CellUnion::Intersects, s2c_intersects);
 }
 
 static void denormalising(Table& table, const Unions& u) {
@@ -277,8 +277,8 @@ static void denormalising(Table& table, const Unions& u) {
                [&] { return sum_of(room.made()); }, 2},
               [&] { return made.size(); });
   };
-  row({"denormalise_level_11", 0, 0x9420967cca17adb5, 3}, 11, 1);
-  row({"denormalise_every_third", 0, 0xcf20f4307d92eba9, 3}, 4, 3);
+  row({"denormalise_level_11", 0, 0x9420967cca17adb5}, 11, 1);
+  row({"denormalise_every_third", 0, 0xcf20f4307d92eba9}, 4, 3);
 }
 
 static void files(Table& table) {
@@ -287,7 +287,7 @@ static void files(Table& table) {
   std::vector<uint8_t> bytes(9 + 8 * ids.size());
   size_t len = 0;
   std::string peer_bytes;
-  table.row({"encode", ids.size(), 0x8fa81b1fd1049144, 2},
+  table.row({"encode", ids.size(), 0x8fa81b1fd1049144},
             {[&](uint32_t times) {
                while (times-- > 0) {
                  Encoder encoder;
@@ -307,7 +307,7 @@ static void files(Table& table) {
              [&] { return Sum().add_all(bytes).value(); }, 2});
   must(s2c_encode(ids.data(), ids.size(), 1, bytes.data(), bytes.size(), &len), "encode");
   Room room(ids.size());
-  table.row({"decode_and_normalise", ids.size(), 0x2a71494719421e09, 8},
+  table.row({"decode_and_normalise", ids.size(), 0x2a71494719421e09},
             {[&](uint32_t times) {
                while (times-- > 0) {
                  Decoder decoder(bytes.data(), bytes.size());
@@ -334,10 +334,10 @@ static void coverings(Table& table) {
               [&] { return made.num_cells(); });
   };
   const u64 outer_sum = 0x34e7e225fe88cd2f, inner_sum = 0xb844960511bf68f7;
-  row({"outer_large", 0, outer_sum, 110}, true, covering_by_descent, s2c_outer);
-  row({"inner_large", 0, inner_sum, 25}, false, covering_by_descent, s2c_inner);
-  row({"outer_large_any_region", 0, outer_sum, 0}, true, covering_by_coverer, s2c_region_outer);
-  row({"inner_large_any_region", 0, inner_sum, 0}, false, covering_by_coverer, s2c_region_inner);
+  row({"outer_large", 0, outer_sum}, true, covering_by_descent, s2c_outer);
+  row({"inner_large", 0, inner_sum}, false, covering_by_descent, s2c_inner);
+  row({"outer_large_any_region", 0, outer_sum}, true, covering_by_coverer, s2c_region_outer);
+  row({"inner_large_any_region", 0, inner_sum}, false, covering_by_coverer, s2c_region_inner);
 
   Random random(11);
   std::vector<Bounds> small(10000);
@@ -350,7 +350,7 @@ static void coverings(Table& table) {
   }
   Sum a, b;
   size_t cells = 0;
-  table.row({"outer_small", 0, 0x3911cab6bd233914, 0},
+  table.row({"outer_small", 0, 0x3911cab6bd233914},
             {[&](uint32_t) {
                a = Sum();
                for (const Bounds& r : small) for (S2CellId cell : covering_by_descent(r, 18, true)) a.add(cell.id());
@@ -378,7 +378,7 @@ static void ranges(Table& table) {
   Room room(1000);
   Sum a, b;
   size_t cells = 0;
-  table.row({"range", 0, 0xb789253b3d76d2c2, 9},
+  table.row({"range", 0, 0xb789253b3d76d2c2},
             {[&](uint32_t) {
                a = Sum();
                for (auto& [first, last] : ends)

@@ -22,7 +22,7 @@ static void sets(Table& table, const List& xs, const List& ys) {
   S2CellUnion x = peer_union(xs), y = peer_union(ys), peer_made;
   Room room(2 * (xs.size() + ys.size()));
   auto row = [&](const char* name, PeerOperation peer, SetCall call) {
-    table.row({name, xs.size() + ys.size(), 0, 0},
+    table.row({name, xs.size() + ys.size(), 0},
               {[&](uint32_t) { peer_made = (x.*peer)(y); }, [&] { return sum_of(peer_made); }},
               {[&](uint32_t) {
                  made(call(xs.data(), xs.size(), ys.data(), ys.size(), room.at(), room.size(), room.len()), name);
@@ -74,7 +74,7 @@ static void normalising(Table& table, const char* name, const List& cells) {
   std::vector<S2CellId> peer = peer_cells(cells), peer_made;
   List list;
   size_t len = 0;
-  table.row({name, cells.size(), 0, 0},
+  table.row({name, cells.size(), 0},
             {[&](uint32_t) {
                peer_made = peer;
                S2CellUnion::Normalize(&peer_made);
@@ -96,7 +96,7 @@ static void questions(Table& table, const List& xs) {
   size_t bad = 0;
   u64 peer_yes = 0, yes = 0;
   auto row = [&](const char* name, bool (S2CellUnion::*peer)(S2CellId) const, CellCall call) {
-    table.row({name, N, 0, 0},
+    table.row({name, N, 0},
               {[&](uint32_t) {
                  peer_yes = 0;
                  for (S2CellId cell : cells) peer_yes += (x.*peer)(cell);
@@ -111,7 +111,7 @@ static void questions(Table& table, const List& xs) {
   row("contains_cell", &S2CellUnion::Contains, s2u_contains_cell);
   row("intersects_cell", &S2CellUnion::Intersects, s2u_intersects_cell);
   auto all = [&](const char* name) {
-    table.row({name, N, 0, 0},
+    table.row({name, N, 0},
               {[&](uint32_t) {
                  peer_yes = 0;
                  for (S2CellId cell : cells) peer_yes += x.Contains(cell);
@@ -142,7 +142,7 @@ static void ancestors(Table& table, const List& xs) {
     keys.erase(std::unique(keys.begin(), keys.end()), keys.end());
   };
   table.row(
-      {"ancestors", xs.size(), 0, 0}, {collect, [&] { return sum_of(keys); }},
+      {"ancestors", xs.size(), 0}, {collect, [&] { return sum_of(keys); }},
       {[&](uint32_t) { made(s2u_ancestors(xs.data(), xs.size(), room.at(), room.size(), room.len()), "ancestors"); },
        [&] { return sum_of(room.made()); }});
 }
@@ -164,11 +164,11 @@ static void texts(Table& table, const List& xs) {
       peer_back.push_back(S2CellId::FromToken({peer_text.data() + at, end - at}));
     }
   };
-  table.row({"tokens", xs.size(), 0, 0}, {write, [&] { return Sum().add_text(peer_text).value(); }},
+  table.row({"tokens", xs.size(), 0}, {write, [&] { return Sum().add_text(peer_text).value(); }},
             {[&](uint32_t) { made(s2u_tokens(xs.data(), xs.size(), &text[0], text.size(), &len), "tokens"); },
              [&] { return Sum().add_text(text.substr(0, len)).value(); }});
   if (peer_text.empty()) write(1);
-  table.row({"from_tokens", xs.size(), 0, 0}, {read, [&] { return sum_of(ids_of(peer_back)); }},
+  table.row({"from_tokens", xs.size(), 0}, {read, [&] { return sum_of(ids_of(peer_back)); }},
             {[&](uint32_t) {
                made(s2u_from_tokens(peer_text.data(), peer_text.size(), back.data(), back.size(), &count),
                     "from_tokens");

@@ -66,7 +66,7 @@ class Sizes {
     auto ours = [&](uint32_t times) {
       must(proved(xs.data(), xs.size(), ys.data(), ys.size(), times, &b), name.c_str());
     };
-    table_.row({kept(name), 1, 0, 0}, {theirs, [&] { return Sum().add(a).value(); }, repeats(theirs)},
+    table_.row({kept(name), 1, 0}, {theirs, [&] { return Sum().add(a).value(); }, repeats(theirs)},
                {ours, [&] { return Sum().add(b).value(); }, repeats(ours)});
   }
 
@@ -78,7 +78,7 @@ class Sizes {
     auto ours = [&](uint32_t times) {
       must(proved(xs.data(), xs.size(), ys.data(), ys.size(), times, room.at(), room.size(), room.len()), name.c_str());
     };
-    table_.row({kept(name), 1, 0, 0}, {theirs, [&] { return Sum().add_all(ids_of(made)).value(); }, repeats(theirs)},
+    table_.row({kept(name), 1, 0}, {theirs, [&] { return Sum().add_all(ids_of(made)).value(); }, repeats(theirs)},
                {ours, [&] { return Sum().add_all(room.made()).value(); }, repeats(ours)});
   }
 

@@ -20,7 +20,6 @@ struct Row {
   const char* name;
   size_t units;
   u64 sum;
-  double goal;
 };
 
 // The least time of the rounds, in nanoseconds.
@@ -51,7 +50,7 @@ class Best {
 class Table {
  public:
   Table(const char* only, int rounds) : only_(only), rounds_(rounds) {
-    printf("%-30s %10s %10s %8s %8s %6s  %s\n", "", "S2", "proved", "S2/it", "goal", "met", "checksum");
+    printf("%-30s %10s %10s %8s  %s\n", "", "S2", "proved", "S2/it", "checksum");
   }
 
   bool wants(const char* name) const { return strstr(name, only_) != nullptr; }
@@ -70,10 +69,9 @@ class Table {
     u64 peer_sum = peer.sum(), proved_sum = proved.sum();
     bool is_equal = peer_sum == proved_sum && (row.sum == 0 || row.sum == proved_sum);
     all_equal_ = all_equal_ && is_equal;
-    printf("%-30s %10.2f %10.2f %8.2f ", row.name, peer_ns, proved_ns, peer_ns / proved_ns);
-    if (row.goal > 0) printf("%8.0f %6s  ", row.goal, proved_ns <= row.goal ? "yes" : "no");
-    else printf("%8s %6s  ", "", "");
+    printf("%-30s %10.2f %10.2f %8.2f  ", row.name, peer_ns, proved_ns, peer_ns / proved_ns);
     printf("%016llx", static_cast<unsigned long long>(proved_sum));
+    if (proved_ns > peer_ns) printf("  S2 is ahead");
     if (peer_sum != proved_sum) printf("  DIFFERS from S2's %016llx", static_cast<unsigned long long>(peer_sum));
     if (row.sum != 0 && row.sum != proved_sum)
       printf("  DIFFERS from the known %016llx", static_cast<unsigned long long>(row.sum));

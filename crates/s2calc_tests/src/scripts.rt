@@ -21,22 +21,29 @@ const ROWS: [(&str, &str); 31] = [
     // A debug text, and a square.
     (
         "cell 3/021\nsquare 64c\n",
-        "cell 64c 3/021 level 3 face 3 leaves 3620894100405878784 3638908498915360767\nface 3 i 268435456 j 402653184 size 134217728\n",
+        "cell 64c 3/021 level 3 face 3 leaves 3620894100405878784 3638908498915360767\n\
+         face 3 i 268435456 j 402653184 size 134217728\n",
     ),
     // Places on faces 0 and 1.
     (
         "at 0 1 0\nat 0 0 1\nat 1 0 1\n",
-        "cell 0000000000000003 0/000000000000000000000000000001 level 30 face 0 leaves 1 1\ncell 0000000000000007 0/000000000000000000000000000003 level 30 face 0 leaves 3 3\ncell 2000000000000003 1/000000000000000000000000000001 level 30 face 1 leaves 1152921504606846977 1152921504606846977\n",
+        "cell 0000000000000003 0/000000000000000000000000000001 level 30 face 0 leaves 1 1\n\
+         cell 0000000000000007 0/000000000000000000000000000003 level 30 face 0 leaves 3 3\n\
+         cell 2000000000000003 1/000000000000000000000000000001 level 30 face 1 leaves 1152921504606846977 \
+         1152921504606846977\n",
     ),
     // The last leaf of a face, and a place beyond.
     (
         "at 0 1073741823 0\nat 0 1073741824 0\n",
-        "cell 1fffffffffffffff 0/333333333333333333333333333333 level 30 face 0 leaves 1152921504606846975 1152921504606846975\nerror rectangle\n",
+        "cell 1fffffffffffffff 0/333333333333333333333333333333 level 30 face 0 leaves 1152921504606846975 \
+         1152921504606846975\n\
+         error rectangle\n",
     ),
     // Squares of cells, faces and leaves.
     (
         "square 2c\nsquare 1\nat 6 0 0\nsquare bfffffffffffffff\n",
-        "face 1 i 536870912 j 0 size 536870912\nface 0 i 0 j 0 size 1073741824\nerror face\nface 5 i 0 j 1073741823 size 1\n",
+        "face 1 i 536870912 j 0 size 536870912\nface 0 i 0 j 0 size 1073741824\nerror face\n\
+         face 5 i 0 j 1073741823 size 1\n",
     ),
     // A leaf is taken out of a face, and put back.
     (
@@ -50,7 +57,8 @@ const ROWS: [(&str, &str); 31] = [
     ),
     // Registers and their sets.
     (
-        "add a 04 0c\nadd b 0c 14\ncopy c a\nunion c b\nintersect a b\nsubtract b a\ncovers c a\nmeets a b\nhas c 1\ntouches c 1\nadd c 1c\nundo\n",
+        "add a 04 0c\nadd b 0c 14\ncopy c a\nunion c b\nintersect a b\nsubtract b a\ncovers c a\n\
+         meets a b\nhas c 1\ntouches c 1\nadd c 1c\nundo\n",
         "ok 0 2\nok 0 2\nok 0 2\nok 0 1\nok 1 0\nok 1 0\nyes\nno\nno\nyes\nok 3 1\nok 1 3\n",
     ),
     // What a face shares with cells.
@@ -134,8 +142,10 @@ const ROWS: [(&str, &str); 31] = [
     ),
     // The first word that doesn't fit gives the refusal.
     (
-        "outer a 31 0 0 0 0 0\nouter a 5 6 0 0 0 0\nouter a 5 0 3 2 0 0\ndenorm a 0 4\nadd i zz\nadd a\nAdd a 1\nundo a\nload a ../x\n",
-        "error level\nerror face\nerror rectangle\nerror level\nerror cell\nerror syntax\nerror syntax\nerror syntax\nerror name\n",
+        "outer a 31 0 0 0 0 0\nouter a 5 6 0 0 0 0\nouter a 5 0 3 2 0 0\ndenorm a 0 4\nadd i zz\nadd a\n\
+         Add a 1\nundo a\nload a ../x\n",
+        "error level\nerror face\nerror rectangle\nerror level\nerror cell\nerror syntax\nerror syntax\n\
+         error syntax\nerror name\n",
     ),
     // The last registers, and an edit without effect.
     (
@@ -149,8 +159,13 @@ const ROWS: [(&str, &str); 31] = [
     ),
     // Each register has a list of its own.
     (
-        "add a 1\ncopy b a\ncopy c b\ncopy d c\ncopy e d\ncopy f e\ncopy g f\ncopy h g\ncopy i h\ncopy j i\ncopy k j\ncopy l k\ncopy m l\ncopy n m\ncopy o n\ncopy p o\ncopy q p\ncopy r q\ncopy s r\ncopy t s\ncopy u t\ncopy v u\ncopy w v\ncopy x w\ncopy y x\ncopy z y\nclear a\nmeets z y\nmeets z a\nhistory\n",
-        "ok 0 1\nok 0 1\nok 0 1\nok 0 1\nok 0 1\nok 0 1\nok 0 1\nok 0 1\nok 0 1\nok 0 1\nok 0 1\nok 0 1\nok 0 1\nok 0 1\nok 0 1\nok 0 1\nok 0 1\nok 0 1\nok 0 1\nok 0 1\nok 0 1\nok 0 1\nok 0 1\nok 0 1\nok 0 1\nok 0 1\nok 1 0\nyes\nno\nundo 27 redo 0\n",
+        "add a 1\ncopy b a\ncopy c b\ncopy d c\ncopy e d\ncopy f e\ncopy g f\ncopy h g\ncopy i h\n\
+         copy j i\ncopy k j\ncopy l k\ncopy m l\ncopy n m\ncopy o n\ncopy p o\ncopy q p\ncopy r q\n\
+         copy s r\ncopy t s\ncopy u t\ncopy v u\ncopy w v\ncopy x w\ncopy y x\ncopy z y\nclear a\n\
+         meets z y\nmeets z a\nhistory\n",
+        "ok 0 1\nok 0 1\nok 0 1\nok 0 1\nok 0 1\nok 0 1\nok 0 1\nok 0 1\nok 0 1\nok 0 1\nok 0 1\n\
+         ok 0 1\nok 0 1\nok 0 1\nok 0 1\nok 0 1\nok 0 1\nok 0 1\nok 0 1\nok 0 1\nok 0 1\nok 0 1\n\
+         ok 0 1\nok 0 1\nok 0 1\nok 0 1\nok 1 0\nyes\nno\nundo 27 redo 0\n",
     ),
     // Unknown commands.
     ("count a\r\n", "cells 0 leaves 0\n"),
