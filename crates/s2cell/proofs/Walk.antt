@@ -137,10 +137,6 @@ to_leaf_begin o i j s ho hi hj es =
       whole = omega arith;
     }
 
--- an entry's shift is a whole orientation
-pub shift_by_leaf : (o x y e s : ℕ) → IsLeafEntry o x y e → s ≡ e % 64 → s % 16 ≡ 0
-shift_by_leaf o x y e s entry es = let h = entry.next in omega arith
-
 -- ten levels more by two entries
 pub to_leaf_ten : (b o n i j s odd even p q d r e z u v : ℕ) → b < 3 → DownToLeaf b o n i j s
     → odd ≡ 32 * fives (i / 32) + fives (j / 32) → even ≡ 32 * fives i + fives j
@@ -256,9 +252,6 @@ to_place_begin o n s ho hn es =
       shift = omega arith;
       whole = omega arith;
     }
-
-pub shift_by_place : (o n e s : ℕ) → IsPlaceEntry o n e → s ≡ e % 64 → s % 16 ≡ 0
-shift_by_place o n e s entry es = let h = entry.next in omega arith
 
 -- the two numbers have room for ten bits more
 pub room : (b x : ℕ) → b < 3 → x < 1024 ^ b → x < 2 ^ 20
