@@ -1,5 +1,5 @@
 //! The places of four leaves among cells in order, searched at once: while one search waits for memory, the others go on.
-ghost use Rattle.std.specs.Prelude.{◌≡◌, ◌+◌, ◌-◌, ◌*◌, ◌/◌, ◌<◌, ◌≤◌, ◌⊎◌, length};
+ghost use Rattle.std.specs.Prelude.{◌≡◌, ◌+◌, ◌-◌, ◌*◌, ◌/◌, ◌^◌, ◌<◌, ◌≤◌, ◌⊎◌, length};
 ghost use Rattle.s2cell.specs.Cell.{first_leaf};
 ghost use Rattle.s2union.specs.Union.{IsLocal};
 ghost use Rattle.s2union.specs.Packed.{IsPacked, IsPlace};
@@ -46,34 +46,34 @@ pub fn places_of_four<C: Cells>(
     ensures third { IsLocal (C.ids cells.now) → IsPlace (C.ids cells.now) (first_leaf third) result.third }
     ensures fourth { IsLocal (C.ids cells.now) → IsPlace (C.ids cells.now) (first_leaf fourth) result.fourth }
 {
-    let parts = parts_of_four(
-        cells,
-        2 * first.first_leaf(),
-        2 * second.first_leaf(),
-        2 * third.first_leaf(),
-        2 * fourth.first_leaf(),
-    );
+    let a = first.first_leaf();
+    let b = second.first_leaf();
+    let c = third.first_leaf();
+    let d = fourth.first_leaf();
+    let parts = parts_of_four(cells, 2 * a, 2 * b, 2 * c, 2 * d);
     Places {
-        first: settle(cells, parts.first, parts.size, first.first_leaf()),
-        second: settle(cells, parts.second, parts.size, second.first_leaf()),
-        third: settle(cells, parts.third, parts.size, third.first_leaf()),
-        fourth: settle(cells, parts.fourth, parts.size, fourth.first_leaf()),
+        first: settle(cells, parts.first, parts.size, a),
+        second: settle(cells, parts.second, parts.size, b),
+        third: settle(cells, parts.third, parts.size, c),
+        fourth: settle(cells, parts.fourth, parts.size, d),
     }
 }
 
 /// How many cells end by the leaf `lo`, if the first number from `2 * lo` on is at one of the `size` places from `base`
 /// on, or at their end.
 fn settle<C: Cells>(cells: &C, base: usize, size: usize, lo: u64) -> usize
+    requires fits { length (C.ids cells.now) < 2 ^ 64 }
     requires within { base + size ≤ length (C.ids cells.now) }
     ensures { IsPacked (C.ids cells.now) → Brackets (C.ids cells.now) (2 * lo) base (base + size)
         → IsPlace (C.ids cells.now) lo result }
 {
-    // Only the last cell before that number may end after the leaf.
+    // Of the cells before `base`, only the last may end after the leaf.
     find_between(cells, base.saturating_sub(1), base + size, lo)
 }
 
 /// The parts of a list that have the places of four numbers: at most three places, or their end.
 fn parts_of_four<C: Cells>(cells: &C, a: u64, b: u64, c: u64, d: u64) -> Parts
+    ensures fits { length (C.ids cells.now) < 2 ^ 64 }
     ensures first_within { result.first + result.size ≤ length (C.ids cells.now) }
     ensures second_within { result.second + result.size ≤ length (C.ids cells.now) }
     ensures third_within { result.third + result.size ≤ length (C.ids cells.now) }
@@ -113,6 +113,7 @@ fn parts_of_four<C: Cells>(cells: &C, a: u64, b: u64, c: u64, d: u64) -> Parts
 /// the time.
 #[inline(always)]
 fn quarter<C: Cells>(cells: &C, base: usize, size: usize, mark: u64) -> usize
+    requires fits { length (C.ids cells.now) < 2 ^ 64 }
     requires some { 4 ≤ size }
     requires within { base + size ≤ length (C.ids cells.now) }
     ensures within { result + (size - 3 * (size / 4)) ≤ length (C.ids cells.now) }

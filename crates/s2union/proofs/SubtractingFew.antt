@@ -1,5 +1,5 @@
 -- The leaves of a short list of cells that a much longer one has not.
-use Rattle.std.proofs.Common.{◌≡◌, ℕ, [], ◌+◌, ◌-◌, ◌<◌, ◌≤◌, refl, sym, ◌∙◌, ap, arith}
+use Rattle.std.proofs.Common.{◌≡◌, ℕ, [], ◌+◌, ◌<◌, ◌≤◌, refl, sym, ◌∙◌, ap, arith}
 use Rattle.std.proofs.Common.{Bool, true, false, ◌&&◌, ltb, List, length, take, get_or, not, max, inl}
 use Rattle.std.proofs.Math.Logic.{⊎_elim}
 use Rattle.std.proofs.lemmas.Bool.{cases_lt}

@@ -7,6 +7,7 @@ loop-size-init g c =
     let u = g.C.Cells.ids c.args.cells.now in
     let n : c.len-size.result ≡ length u = c.len-size.ensures in
     record {
+      fits = omega arith;
       first_within = omega arith;
       second_within = omega arith;
       third_within = omega arith;
@@ -21,6 +22,7 @@ pub loop-size-preserved : goal.loop-size-preserved
 loop-size-preserved g c =
     let v = c.loop-size.invariant in
     record {
+      fits = v.fits;
       first_within = c.quarter-first.ensures.within;
       second_within = c.quarter-second.ensures.within;
       third_within = c.quarter-third.ensures.within;

@@ -1,10 +1,11 @@
-use Rattle.std.proofs.Common.{◌+◌, ◌≤◌, length}
+use Rattle.std.proofs.Common.{◌+◌, ◌^◌, ◌<◌, ◌≤◌, length}
 use Rattle.s2union.specs.Packed.{IsPacked}
 use Rattle.s2union.specs.Search.{Brackets}
 use Rattle.s2search.proofs.four.parts_of_four.Given as goal
 
 abbrev pub invariant-loop-size : goal.invariant-loop-size
 invariant-loop-size g l = record {
+  fits : length (g.C.Cells.ids l.cells) < 2 ^ 64;
   first_within : l.first + l.size ≤ length (g.C.Cells.ids l.cells);
   second_within : l.second + l.size ≤ length (g.C.Cells.ids l.cells);
   third_within : l.third + l.size ≤ length (g.C.Cells.ids l.cells);

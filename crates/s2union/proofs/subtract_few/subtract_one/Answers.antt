@@ -1,4 +1,4 @@
-use Rattle.std.proofs.Common.{◌≡◌, ◌+◌, ◌≤◌, get_or, arith, refl, ap}
+use Rattle.std.proofs.Common.{◌≡◌, ◌≤◌, get_or, arith, refl, ap}
 use Rattle.s2cell.specs.Cell.{first_leaf, size_of}
 use Rattle.s2union.proofs.Packing.{read_at}
 use Rattle.s2union.proofs.Shortest.{picked_length}
