@@ -1,4 +1,4 @@
-use Rattle.std.proofs.Common.{◌≡◌, ◌+◌, length, arith}
+use Rattle.std.proofs.Common.{◌≡◌, length, arith}
 use Rattle.s2union.proofs.AskingFew.{all_places}
 use Rattle.s2search.proofs.four.parts_of_four.Goals as goal
 

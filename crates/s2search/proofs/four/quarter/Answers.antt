@@ -1,4 +1,4 @@
-use Rattle.std.proofs.Common.{◌+◌, ◌-◌, ◌*◌, ◌/◌, get_or, arith}
+use Rattle.std.proofs.Common.{◌/◌, arith}
 use Rattle.s2union.proofs.Finding.{ascends}
 use Rattle.s2union.proofs.Galloping.{seeking_quarter, small}
 use Rattle.s2search.proofs.Finding.{quarter_within}
