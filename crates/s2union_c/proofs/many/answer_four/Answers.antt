@@ -1,4 +1,4 @@
-use Rattle.std.proofs.Common.{rules, arith, ◌+◌, ◌<◌, ℕ, length, slice_set}
+use Rattle.std.proofs.Common.{rules, arith, ◌+◌, ℕ, slice_set}
 use Rattle.std.specs.Prelude.{slice_index}
 use Rattle.s2union_c.specs.Many.{Holds}
 use Rattle.s2union_c.proofs.Asking.{bits_more}
