@@ -1,6 +1,6 @@
 //! Questions about a union where it lies: without a copy, and without taking memory. They don't check that the list is
 //! a union, which would cost more than the question. If it isn't one, the answer means nothing.
-ghost use Rattle.std.specs.Prelude.{◌≡◌, ◌<◌, ◌≤◌, ℕ, All, length, slice_index};
+ghost use Rattle.std.specs.Prelude.{◌≡◌, ◌+◌, ◌<◌, ◌≤◌, ℕ, All, length, drop, slice_index};
 ghost use Rattle.s2cell.specs.Cell.{IsCell, covers};
 ghost use Rattle.s2union.specs.Union.{IsLocal, IsWithin, ShareSome, has_leaf};
 ghost use Rattle.s2union.specs.Count.{count_below};
@@ -59,6 +59,7 @@ pub extern "C" fn s2u_intersects_cell(ids: &[u64], cell: u64) -> i32
 #[unsafe(no_mangle)]
 pub extern "C" fn s2u_cells_at(ids: &[u64], cell: u64, first: &mut usize, count: &mut usize) -> i32
     ensures made { IsCell cell → result ≡ made }
+    ensures within { first.new + count.new ≤ length ids.now }
     ensures run { IsLocal ids.now → IsCell cell → IsRunAt ids.now cell first.new count.new }
     ensures no_cell { (IsCell cell → ⊥) → (result ≡ no_cell) × (first.new ≡ 0) × (count.new ≡ 0) }
 {
@@ -137,6 +138,9 @@ pub extern "C" fn s2u_contains_cells(
     ensures exact { IsLocal ids.now → All IsCell cells.now → length cells.now ≤ length answers.old
         → (k : ℕ) → k < length cells.now
         → IsBit (slice_index answers.new k) (IsWithin (covers (slice_index cells.now k)) (has_leaf ids.now)) }
+    ensures bits { All IsCell cells.now → length cells.now ≤ length answers.old
+        → (k : ℕ) → k < length cells.now → slice_index answers.new k ≤ 1 }
+    ensures rest { drop (length cells.now) answers.new ≡ drop (length cells.now) answers.old }
     ensures no_cell { (All IsCell cells.now → ⊥) → (result ≡ no_cell) × IsFirstWrong cells.now bad.new
         × (answers.new ≡ answers.old) }
     ensures room { All IsCell cells.now → length answers.old < length cells.now
@@ -171,6 +175,9 @@ pub extern "C" fn s2u_intersects_cells(
     ensures exact { IsLocal ids.now → All IsCell cells.now → length cells.now ≤ length answers.old
         → (k : ℕ) → k < length cells.now
         → IsBit (slice_index answers.new k) (ShareSome (covers (slice_index cells.now k)) (has_leaf ids.now)) }
+    ensures bits { All IsCell cells.now → length cells.now ≤ length answers.old
+        → (k : ℕ) → k < length cells.now → slice_index answers.new k ≤ 1 }
+    ensures rest { drop (length cells.now) answers.new ≡ drop (length cells.now) answers.old }
     ensures no_cell { (All IsCell cells.now → ⊥) → (result ≡ no_cell) × IsFirstWrong cells.now bad.new
         × (answers.new ≡ answers.old) }
     ensures room { All IsCell cells.now → length answers.old < length cells.now
@@ -195,7 +202,8 @@ pub extern "C" fn s2u_intersects_cells(
 
 /// 1 if a union has all leaves of a cell, else 0, and the place where the search ended.
 fn contains_one(ids: &[u64], near: usize, cell: u64) -> (u8, usize)
-    ensures { IsLocal ids.now → IsCell cell → IsBit result.0 (IsWithin (covers cell) (has_leaf ids.now)) }
+    ensures bit { result.0 ≤ 1 }
+    ensures exact { IsLocal ids.now → IsCell cell → IsBit result.0 (IsWithin (covers cell) (has_leaf ids.now)) }
 {
     match CellId::from_id(cell) {
         Some(part) => {
@@ -208,7 +216,8 @@ fn contains_one(ids: &[u64], near: usize, cell: u64) -> (u8, usize)
 
 /// 1 if a union has a leaf of a cell, else 0, and the place where the search ended.
 fn intersects_one(ids: &[u64], near: usize, cell: u64) -> (u8, usize)
-    ensures { IsLocal ids.now → IsCell cell → IsBit result.0 (ShareSome (covers cell) (has_leaf ids.now)) }
+    ensures bit { result.0 ≤ 1 }
+    ensures exact { IsLocal ids.now → IsCell cell → IsBit result.0 (ShareSome (covers cell) (has_leaf ids.now)) }
 {
     match CellId::from_id(cell) {
         Some(part) => {

@@ -1,8 +1,10 @@
-use Rattle.std.proofs.Common.{rules, ◌<◌, length}
+use Rattle.std.proofs.Common.{rules, ◌∙◌, ◌<◌, ◌≤◌, length}
+use Rattle.std.proofs.lemmas.List.{drop-set-lt}
 use Rattle.std.specs.Prelude.{slice_index}
 use Rattle.s2cell.specs.Cell.{IsCell, covers}
 use Rattle.s2union.specs.Union.{IsWithin, has_leaf}
-use Rattle.s2union_c.proofs.Asking.{bits_more}
+use Rattle.s2union_c.specs.Status.{IsBit}
+use Rattle.s2union_c.proofs.Asking.{each_more}
 use Rattle.s2union_c.proofs.questions.s2u_contains_cells.Goals as goal
 
 pub loop-k-preserved : goal.loop-k-preserved
@@ -11,8 +13,13 @@ loop-k-preserved c =
     let own : IsCell (slice_index c.args.cells.now c.loop-k.k) = c.in_default.ensures c.loop-k.k 0 h in
     record {
       so_far = λ local.
-          bits_more (λ i. IsWithin (covers (slice_index c.args.cells.now i)) (has_leaf c.args.ids.now))
+          each_more (λ i bit. IsBit bit (IsWithin (covers (slice_index c.args.cells.now i)) (has_leaf c.args.ids.now)))
           c.loop-k.answers c.loop-k.k c.contains_one-bit.result.0 (search rules) (c.loop-k.invariant.so_far local)
-          (c.contains_one-bit.ensures local own);
+          (c.contains_one-bit.ensures.exact local own);
+      bits =
+          each_more (λ i bit. bit ≤ 1) c.loop-k.answers c.loop-k.k c.contains_one-bit.result.0 (search rules)
+          c.loop-k.invariant.bits c.contains_one-bit.ensures.bit;
+      rest = drop-set-lt (length c.args.cells.now) c.loop-k.answers c.loop-k.k c.contains_one-bit.result.0 h
+          ∙ c.loop-k.invariant.rest;
       room = search rules;
     }
