@@ -43,6 +43,8 @@ pub(crate) struct Places {
 fn alone(n: usize) -> usize
     ensures most { result ≤ n }
     ensures fours { (n - result) % 4 ≡ 0 }
+    ensures first { 0 < n → 0 < result }
+    ensures few { result ≤ 4 }
 {
     n - n.saturating_sub(1) / 4 * 4
 }

@@ -130,7 +130,7 @@ int32_t s2u_from_tokens(const char* text, size_t n, uint64_t* out, size_t room, 
 /* ---- questions about a union: all [pure], in place, without a copy --------------------------------------------------
  *
  * These do not check that the list is a union, which would cost more than the question; s2u_is_union does. If it is not
- * one, the answer is 0 or 1 and means nothing; the call is as safe as any other. */
+ * one, the answer means nothing (0 or 1, places in the list, any count of leaves); the call is as safe as any other. */
 
 int32_t s2u_is_union(const uint64_t* ids, size_t n);                       /* 1 or 0. n steps */
 uint64_t s2u_leaf_count(const uint64_t* ids, size_t n);                    /* at most 6 * 4^30: an int64_t. n steps */

@@ -1,5 +1,5 @@
 //! Many questions about one union, where it lies, as in `questions`.
-ghost use Rattle.std.specs.Prelude.{◌≡◌, ◌+◌, ◌<◌, ◌≤◌, ℕ, All, length, slice_index};
+ghost use Rattle.std.specs.Prelude.{◌≡◌, ◌+◌, ◌<◌, ◌≤◌, ℕ, All, length, drop, slice_index};
 ghost use Rattle.s2cell.specs.Cell.{IsCell, covers, first_leaf};
 ghost use Rattle.s2union.specs.Union.{IsLocal, IsWithin, ShareSome, has_leaf};
 ghost use Rattle.s2union.specs.Packed.{IsPlace};
@@ -37,6 +37,9 @@ pub extern "C" fn s2u_contains_cells(
     ensures exact { IsLocal ids.now → All IsCell cells.now → length cells.now ≤ length answers.old
         → (k : ℕ) → k < length cells.now
         → IsBit (slice_index answers.new k) (IsWithin (covers (slice_index cells.now k)) (has_leaf ids.now)) }
+    ensures bits { All IsCell cells.now → length cells.now ≤ length answers.old
+        → (k : ℕ) → k < length cells.now → slice_index answers.new k ≤ 1 }
+    ensures rest { drop (length cells.now) answers.new ≡ drop (length cells.now) answers.old }
     ensures no_cell { (All IsCell cells.now → ⊥) → (result ≡ no_cell) × IsFirstWrong cells.now bad.new
         × (answers.new ≡ answers.old) }
     ensures room { All IsCell cells.now → length answers.old < length cells.now
@@ -66,6 +69,9 @@ pub extern "C" fn s2u_intersects_cells(
     ensures exact { IsLocal ids.now → All IsCell cells.now → length cells.now ≤ length answers.old
         → (k : ℕ) → k < length cells.now
         → IsBit (slice_index answers.new k) (ShareSome (covers (slice_index cells.now k)) (has_leaf ids.now)) }
+    ensures bits { All IsCell cells.now → length cells.now ≤ length answers.old
+        → (k : ℕ) → k < length cells.now → slice_index answers.new k ≤ 1 }
+    ensures rest { drop (length cells.now) answers.new ≡ drop (length cells.now) answers.old }
     ensures no_cell { (All IsCell cells.now → ⊥) → (result ≡ no_cell) × IsFirstWrong cells.now bad.new
         × (answers.new ≡ answers.old) }
     ensures room { All IsCell cells.now → length answers.old < length cells.now
@@ -88,8 +94,10 @@ pub extern "C" fn s2u_intersects_cells(
 fn answer_each(question: Question, ids: &[u64], cells: &[u64], answers: &mut [u8])
     requires cells { All IsCell cells.now }
     requires room { length cells.now ≤ length answers.old }
-    ensures { IsLocal ids.now → (k : ℕ) → k < length cells.now
+    ensures exact { IsLocal ids.now → (k : ℕ) → k < length cells.now
         → IsBit (slice_index answers.new k) (Holds question (slice_index cells.now k) ids.now) }
+    ensures bits { (k : ℕ) → k < length cells.now → slice_index answers.new k ≤ 1 }
+    ensures rest { drop (length cells.now) answers.new ≡ drop (length cells.now) answers.old }
 {
     let mut near = 0;
     let mut apart = false;
@@ -124,9 +132,12 @@ fn answer_four(
     requires there { k + 4 ≤ length cells.now }
     requires room { length cells.now ≤ length answers.old }
     ensures length { length answers.new ≡ length answers.old }
-    ensures bits { IsLocal ids.now
+    ensures exact { IsLocal ids.now
         → ((i : ℕ) → i < k → IsBit (slice_index answers.old i) (Holds question (slice_index cells.now i) ids.now))
         → (i : ℕ) → i < k + 4 → IsBit (slice_index answers.new i) (Holds question (slice_index cells.now i) ids.now) }
+    ensures bits { ((i : ℕ) → i < k → slice_index answers.old i ≤ 1)
+        → (i : ℕ) → i < k + 4 → slice_index answers.new i ≤ 1 }
+    ensures rest { drop (length cells.now) answers.new ≡ drop (length cells.now) answers.old }
 {
     let first = cell_of(cells[k]);
     let second = cell_of(cells[k + 1]);
@@ -142,7 +153,9 @@ fn answer_four(
 
 /// The answer about a cell, once its place in the union is known: 1 or 0.
 fn bit(question: Question, ids: &[u64], at: usize, cell: CellId) -> u8
-    ensures { IsLocal ids.now → IsPlace ids.now (first_leaf cell) at → IsBit result (Holds question cell ids.now) }
+    ensures exact { IsLocal ids.now → IsPlace ids.now (first_leaf cell) at
+        → IsBit result (Holds question cell ids.now) }
+    ensures bit { result ≤ 1 }
 {
     let holds = match question {
         Question::Contains => contains_cell_at(&IdList { ids }, at, cell),

@@ -1,6 +1,6 @@
 //! Questions about a union where it lies: without a copy, and without taking memory. They don't check that the list is
 //! a union, which would cost more than the question. If it isn't one, the answer means nothing.
-ghost use Rattle.std.specs.Prelude.{◌≡◌};
+ghost use Rattle.std.specs.Prelude.{◌≡◌, ◌+◌, ◌≤◌, length};
 ghost use Rattle.s2cell.specs.Cell.{IsCell, covers};
 ghost use Rattle.s2union.specs.Union.{IsLocal, IsWithin, ShareSome, has_leaf};
 ghost use Rattle.s2union.specs.Count.{count_below};
@@ -59,6 +59,7 @@ pub extern "C" fn s2u_intersects_cell(ids: &[u64], cell: u64) -> i32
 #[unsafe(no_mangle)]
 pub extern "C" fn s2u_cells_at(ids: &[u64], cell: u64, first: &mut usize, count: &mut usize) -> i32
     ensures made { IsCell cell → result ≡ made }
+    ensures within { first.new + count.new ≤ length ids.now }
     ensures run { IsLocal ids.now → IsCell cell → IsRunAt ids.now cell first.new count.new }
     ensures no_cell { (IsCell cell → ⊥) → (result ≡ no_cell) × (first.new ≡ 0) × (count.new ≡ 0) }
 {

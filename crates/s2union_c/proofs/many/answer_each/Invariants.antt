@@ -1,4 +1,4 @@
-use Rattle.std.proofs.Common.{◌-◌, ◌<◌, ◌≤◌, ℕ, length}
+use Rattle.std.proofs.Common.{◌≡◌, ◌-◌, ◌<◌, ◌≤◌, ℕ, length, drop}
 use Rattle.std.specs.Prelude.{slice_index}
 use Rattle.s2union.specs.Union.{IsLocal}
 use Rattle.s2union_c.specs.Many.{Holds}
@@ -9,6 +9,8 @@ abbrev pub invariant-loop-k : goal.invariant-loop-k
 invariant-loop-k l = record {
   so_far : IsLocal l.ids → (i : ℕ) → i < l.k →
       IsBit (slice_index l.answers i) (Holds l.question (slice_index l.cells i) l.ids);
+  bits : (i : ℕ) → i < l.k → slice_index l.answers i ≤ 1;
+  rest : drop (length l.cells) l.answers ≡ drop (length l.cells) l.fn.answers;
   room : length l.cells ≤ length l.answers;
   within : l.k ≤ length l.cells;
 }
