@@ -1,4 +1,4 @@
-use Rattle.std.proofs.Common.{rules, arith, ◌≡◌, ◌∙◌, ◌+◌, ◌<◌, ◌≤◌, ℕ, length, slice_set}
+use Rattle.std.proofs.Common.{rules, arith, ◌∙◌, ◌+◌, ◌≤◌, ℕ, length, slice_set}
 use Rattle.std.specs.Prelude.{slice_index}
 use Rattle.std.proofs.lemmas.List.{drop-set-lt}
 use Rattle.s2union_c.specs.Many.{Holds}
