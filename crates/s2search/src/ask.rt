@@ -22,7 +22,7 @@ pub fn intersects_cell<C: Cells>(cells: &C, cell: CellId) -> bool
     begins_at(cells, find(cells, cell.first_leaf()), cell.end_leaf())
 }
 
-/// How many cells of a union end by the first leaf of the cell: its place. It is found quickly if it is at `near`, or at
+/// How many cells of a union end by the first leaf of the cell: its place. It is found quickly if it is `near`, or at
 /// most `LAST_STEP` places after it. Any `near` will do. Logarithmic.
 pub fn place_near<C: Cells>(cells: &C, near: usize, cell: CellId) -> usize
     ensures { IsLocal (C.ids cells.now) → IsPlace (C.ids cells.now) (first_leaf cell) result }

@@ -1,4 +1,4 @@
-//! The places of four leaves among cells in order, searched at once: while one search waits for memory, the others go on.
+//! The places of four leaves among cells in order, searched at once: while one search waits for memory, others go on.
 ghost use Rattle.std.specs.Prelude.{◌≡◌, ◌+◌, ◌-◌, ◌*◌, ◌/◌, ◌^◌, ◌<◌, ◌≤◌, ◌⊎◌, length};
 ghost use Rattle.s2cell.specs.Cell.{first_leaf};
 ghost use Rattle.s2union.specs.Union.{IsLocal};

@@ -105,7 +105,8 @@ leaving_start xs ys list i at lo end local h el ee place left =
           behind_x = behind;
           behind_y = rw el place.behind;
           leaves = λ x. left.leaves x
-              ∙ ap (λ v. v && not (has_leaf ys x)) (has_leaf-take xs i lo x packed (omega arith) behind (λ _. omega arith))
+              ∙ ap (λ v. v && not (has_leaf ys x))
+              (has_leaf-take xs i lo x packed (omega arith) behind (λ _. omega arith))
               ∙ and_group (ltb x lo) (has_leaf xs x) (not (has_leaf ys x));
         };
         edge = λ _. inl (omega arith);

@@ -15,8 +15,8 @@ shared S T x = S x && T x
 abbrev pub without : (ℕ → Bool) → (ℕ → Bool) → ℕ → Bool
 without S T x = S x && not (T x)
 
--- `list` is what the first `n` cells of `xs` have without the leaves of `ys`: each of its cells ends before the next, and
--- is greatest in what all of `xs` has without them
+-- `list` is what the first `n` cells of `xs` have without the leaves of `ys`: each of its cells ends before the next,
+-- and is greatest in what all of `xs` has without them
 pub record IsLeft (xs ys list : List ℕ) (n : ℕ) : Type 0 where
   pub chain : AllPairs EndsBefore list
   pub greatest : All (IsGreatestIn (without (has_leaf xs) (has_leaf ys))) list

@@ -13,8 +13,8 @@ use crate::sets::{cell_before, fill_gap};
 use s2cell::CellId;
 
 /// Puts the leaves of `xs` that `ys` doesn't have into an empty list. Searches in the whole of `ys` for each cell of
-/// `xs`, for four at once, and goes through the cells of `ys` in it. Stops once it has made more than `limit` cells: each
-/// is in the normal form, so that has more too.
+/// `xs`, for four at once, and goes through the cells of `ys` in it. Stops once it has made more than `limit` cells:
+/// each is in the normal form, so that has more too.
 pub(crate) fn subtract_few(
     list: &mut Vec<CellId>,
     xs: &[CellId],

@@ -24,8 +24,8 @@ pub(crate) enum Question {
 }
 
 /// Whether a union has all leaves of each cell in turn: 1 or 0 for each. `bad` is the place of the first number that is
-/// not a cell, or if there is none, how many answers there are. A search begins at the place of the one before, so cells
-/// in order are quick; cells whose places are far apart are searched four at once.
+/// not a cell, or if there is none, how many answers there are. A search begins at the place of the one before, so
+/// cells in order are quick; cells whose places are far apart are searched four at once.
 #[unsafe(no_mangle)]
 pub extern "C" fn s2u_contains_cells(
     ids: &[u64],
@@ -89,8 +89,8 @@ pub extern "C" fn s2u_intersects_cells(
     MADE
 }
 
-/// Answers the question about each cell in turn. If the last two places were far apart, the next four cells are searched
-/// at once; else the search for the next cell begins at the last place.
+/// Answers the question about each cell in turn. If the last two places were far apart, the next four cells are
+/// searched at once; else the search for the next cell begins at the last place.
 fn answer_each(question: Question, ids: &[u64], cells: &[u64], answers: &mut [u8])
     requires cells { All IsCell cells.now }
     requires room { length cells.now ≤ length answers.old }

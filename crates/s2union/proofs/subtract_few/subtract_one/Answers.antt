@@ -87,8 +87,8 @@ returns-then-len-limit-2-clause-left c =
     let fx = ap first_leaf ex in
     let sx = ap size_of ex in
     let last = c.end_leaf-end.ensures.value in
-    leaving_done c.args.xs.now c.args.ys.now c.loop-lo.list.items c.args.i c.loop-lo.j c.loop-lo.lo c.end_leaf-end.result
-    c.requires.x_local c.requires.there (omega arith) c.loop-lo.invariant.so_far past
+    leaving_done c.args.xs.now c.args.ys.now c.loop-lo.list.items c.args.i c.loop-lo.j c.loop-lo.lo
+    c.end_leaf-end.result c.requires.x_local c.requires.there (omega arith) c.loop-lo.invariant.so_far past
 
 pub returns-else-len-limit-2-clause-many : goal.returns-else-len-limit-2-clause-many
 returns-else-len-limit-2-clause-many c is u normal =
