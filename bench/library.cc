@@ -110,22 +110,23 @@ static void questions(Table& table, const List& xs) {
   };
   row("contains_cell", &S2CellUnion::Contains, s2u_contains_cell);
   row("intersects_cell", &S2CellUnion::Intersects, s2u_intersects_cell);
-  auto all = [&](const char* name) {
+  auto all = [&](const char* name, bool (S2CellUnion::*peer)(S2CellId) const, decltype(&s2u_contains_cells) call) {
     table.row({name, N, 0},
               {[&](uint32_t) {
                  peer_yes = 0;
-                 for (S2CellId cell : cells) peer_yes += x.Contains(cell);
+                 for (S2CellId cell : cells) peer_yes += (x.*peer)(cell);
                },
                [&] { return peer_yes; }},
               {[&](uint32_t) {
-                 made(s2u_contains_cells(xs.data(), xs.size(), asked.data(), N, answers.data(), N, &bad), name);
+                 made(call(xs.data(), xs.size(), asked.data(), N, answers.data(), N, &bad), name);
                },
                [&] { return static_cast<u64>(std::count(answers.begin(), answers.end(), 1)); }});
   };
-  all("contains_cells");
+  all("contains_cells", &S2CellUnion::Contains, s2u_contains_cells);
+  all("intersects_cells", &S2CellUnion::Intersects, s2u_intersects_cells);
   std::sort(asked.begin(), asked.end());
   cells = peer_cells(asked);
-  all("contains_cells_in_order");
+  all("contains_cells_in_order", &S2CellUnion::Contains, s2u_contains_cells);
 }
 
 // S2 has no call for these, so its side does the same one cell at a time.

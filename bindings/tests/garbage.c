@@ -32,6 +32,7 @@ int main(void) {
     CHECK(status == s2u_contains_cell(xs, nx, cell) &&
           (is_answer(s2u_intersects_cell(xs, nx, cell)) || !s2u_is_cell(cell)));
     CHECK(s2u_cells_at(xs, nx, cell, &first, &count) == S2U_OK || !s2u_is_cell(cell));
+    CHECK(first + count <= nx);
     CHECK(is_answer(s2u_contains(xs, nx, ys, ny)) && is_answer(s2u_intersects(xs, nx, ys, ny)));
     CHECK(s2u_compare(xs, nx, ys, ny) == -s2u_compare(ys, ny, xs, nx));
     (void)s2u_leaf_count(xs, nx);

@@ -145,6 +145,10 @@ class AgainstTheModel(unittest.TestCase):
             self.assertEqual(list(Union.covering(*place)), model.normal(model.around(square, level)))
             self.assertEqual(list(Union.covering(*place, inner=True)), model.normal(model.within(square, level)))
         self.assertRaises(ValueError, Union.covering, 0, 0, 2**30 - 1, 3, 3, 30, most=1000)
+        # Too many cells, answered as out of memory, would be proved: every contract allows that.
+        self.assertRaises(ValueError, Union.covering, 0, 0, 2**30 - 1, 3, 3, 30, inner=True, most=1000)
+        self.assertRaises(ValueError, Union([FACE, 5 * FACE]).outer, 3, most=1)
+        self.assertRaises(ValueError, Union([FACE, 5 * FACE]).inner, 3, most=1)
         self.assertRaises(ValueError, Union.covering, 0, 5, 4, 0, 0, 30)
 
     def test_ancestors(self):

@@ -2,6 +2,7 @@
 ghost use Rattle.std.specs.Prelude.{◌<◌, ◌↔◌, IsTrue, All, length, slice_index};
 ghost use Rattle.s2cell.specs.Cell.{IsCell, IsInside, covers, first_leaf};
 ghost use Rattle.s2union.specs.Union.{IsLocal, IsWithin, ShareSome, has_leaf};
+ghost use Rattle.s2union.specs.Packed.{IsPlace};
 
 use crate::cells::Cells;
 use crate::find::{find, find_from, find_near};
@@ -21,21 +22,30 @@ pub fn intersects_cell<C: Cells>(cells: &C, cell: CellId) -> bool
     begins_at(cells, find(cells, cell.first_leaf()), cell.end_leaf())
 }
 
-/// The same as `contains_cell`, and the place where it looked. With that place as `near`, the next question is quick
-/// if its cell comes soon after this one. Any `near` will do. Logarithmic.
-pub fn contains_cell_near<C: Cells>(cells: &C, near: usize, cell: CellId) -> (bool, usize)
-    ensures { IsLocal (C.ids cells.now) → (IsTrue result.0 ↔ IsWithin (covers cell) (has_leaf (C.ids cells.now))) }
+/// How many cells of a union end by the first leaf of the cell: its place. It is found quickly if it is `near`, or at
+/// most `LAST_STEP` places after it. Any `near` will do. Logarithmic.
+pub fn place_near<C: Cells>(cells: &C, near: usize, cell: CellId) -> usize
+    ensures { IsLocal (C.ids cells.now) → IsPlace (C.ids cells.now) (first_leaf cell) result }
 {
-    let at = find_near(cells, near, cell.first_leaf());
-    (holds_at(cells, at, cell), at)
+    find_near(cells, near, cell.first_leaf())
 }
 
-/// The same as `intersects_cell`, with places as in `contains_cell_near`.
-pub fn intersects_cell_near<C: Cells>(cells: &C, near: usize, cell: CellId) -> (bool, usize)
-    ensures { IsLocal (C.ids cells.now) → (IsTrue result.0 ↔ ShareSome (covers cell) (has_leaf (C.ids cells.now))) }
+/// Whether a union has all leaves of the cell, once its place is known.
+#[inline(always)]
+pub fn contains_cell_at<C: Cells>(cells: &C, at: usize, cell: CellId) -> bool
+    ensures { IsLocal (C.ids cells.now) → IsPlace (C.ids cells.now) (first_leaf cell) at
+        → (IsTrue result ↔ IsWithin (covers cell) (has_leaf (C.ids cells.now))) }
 {
-    let at = find_near(cells, near, cell.first_leaf());
-    (begins_at(cells, at, cell.end_leaf()), at)
+    holds_at(cells, at, cell)
+}
+
+/// Whether a union has a leaf of the cell, once its place is known.
+#[inline(always)]
+pub fn intersects_cell_at<C: Cells>(cells: &C, at: usize, cell: CellId) -> bool
+    ensures { IsLocal (C.ids cells.now) → IsPlace (C.ids cells.now) (first_leaf cell) at
+        → (IsTrue result ↔ ShareSome (covers cell) (has_leaf (C.ids cells.now))) }
+{
+    begins_at(cells, at, cell.end_leaf())
 }
 
 /// Whether a union has all leaves of another. Goes through the cells of the part, and looks for each from the place of

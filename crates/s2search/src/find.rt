@@ -7,7 +7,7 @@ ghost use Rattle.s2search.specs.Search.{IsFrom};
 use crate::cells::Cells;
 
 /// The longest of the steps that double. A place farther away is looked for among all cells that are left.
-const LAST_STEP: usize = 15;
+pub const LAST_STEP: usize = 15;
 
 /// How many cells end by the leaf `lo`; these come first.
 pub(crate) fn find<C: Cells>(cells: &C, lo: u64) -> usize
@@ -44,7 +44,7 @@ pub(crate) fn find_from<C: Cells>(cells: &C, start: usize, lo: u64) -> usize
 }
 
 /// The same, if that place is known to be one from `start` to `end`.
-fn find_between<C: Cells>(cells: &C, start: usize, end: usize, lo: u64) -> usize
+pub(crate) fn find_between<C: Cells>(cells: &C, start: usize, end: usize, lo: u64) -> usize
     requires order { start ≤ end }
     requires within { end ≤ length (C.ids cells.now) }
     ensures within { result ≤ length (C.ids cells.now) }

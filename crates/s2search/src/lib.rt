@@ -10,16 +10,20 @@ mod ask;
 mod cells;
 mod copying;
 mod find;
+mod four;
 mod keys;
 mod normalising;
 mod run;
 mod whole;
 
 pub use ask::{
-    contains, contains_cell, contains_cell_near, intersects, intersects_cell, intersects_cell_near,
+    contains, contains_cell, contains_cell_at, intersects, intersects_cell, intersects_cell_at,
+    place_near,
 };
 pub use cells::{Cells, FileIds, IdList, cell_of, number};
 pub use copying::union_of;
+pub use find::LAST_STEP;
+pub use four::{Places, places_of_four};
 pub use keys::{ancestors, law_of_indexes};
 pub use normalising::normalise;
 pub use run::cells_at;

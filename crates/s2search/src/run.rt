@@ -1,4 +1,5 @@
 //! The cells of a union that share a leaf with a cell.
+ghost use Rattle.std.specs.Prelude.{◌+◌, ◌≤◌, length};
 ghost use Rattle.s2union.specs.Union.{IsLocal};
 ghost use Rattle.s2search.specs.Search.{IsRunAt};
 
@@ -8,9 +9,10 @@ use crate::find::find;
 use s2cell::CellId;
 
 /// The cells of a union that share a leaf with the cell: the place of the first, and how many there are. They follow
-/// each other in the union. Logarithmic.
+/// each other in the union. Of numbers that are not a union these are some places in the list. Logarithmic.
 pub fn cells_at<C: Cells>(cells: &C, cell: CellId) -> (usize, usize)
-    ensures { IsLocal (C.ids cells.now) → IsRunAt (C.ids cells.now) cell result.0 result.1 }
+    ensures within { result.0 + result.1 ≤ length (C.ids cells.now) }
+    ensures run { IsLocal (C.ids cells.now) → IsRunAt (C.ids cells.now) cell result.0 result.1 }
 {
     let first = find(cells, cell.first_leaf());
     let mut end = find(cells, cell.end_leaf());

@@ -1,5 +1,7 @@
 -- The sets of leaves that the set operations make.
-use Rattle.std.specs.Prelude.{ℕ, Bool, ◌||◌, ◌&&◌, not}
+use Rattle.std.specs.Prelude.{◌≡◌, ℕ, Bool, ◌||◌, ◌&&◌, not, List, take, All, AllPairs}
+use Rattle.s2union.specs.Union.{has_leaf, IsGreatestIn}
+use Rattle.s2union.specs.Packed.{EndsBefore}
 
 -- the leaves of `S` or of `T`
 abbrev pub either : (ℕ → Bool) → (ℕ → Bool) → ℕ → Bool
@@ -12,3 +14,10 @@ shared S T x = S x && T x
 -- the leaves of `S` that are not in `T`
 abbrev pub without : (ℕ → Bool) → (ℕ → Bool) → ℕ → Bool
 without S T x = S x && not (T x)
+
+-- `list` is what the first `n` cells of `xs` have without the leaves of `ys`: each of its cells ends before the next,
+-- and is greatest in what all of `xs` has without them
+pub record IsLeft (xs ys list : List ℕ) (n : ℕ) : Type 0 where
+  pub chain : AllPairs EndsBefore list
+  pub greatest : All (IsGreatestIn (without (has_leaf xs) (has_leaf ys))) list
+  pub leaves : (x : ℕ) → has_leaf list x ≡ (has_leaf (take n xs) x && not (has_leaf ys x))

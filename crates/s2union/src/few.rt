@@ -1,5 +1,5 @@
-//! Questions about a short list in a much longer one: a search in the whole longer list for each cell of the shorter
-//! one, for four cells at once.
+//! The places of the cells of a short list in a much longer one, and questions about them: a search in the whole longer
+//! list for each cell of the shorter one, for four cells at once.
 //!
 //! The searches for four cells don't wait for each other, so while one waits for memory, the others go on. A walk that
 //! starts each search where the one before ended makes fewer looks, but each has to wait for the one before.
@@ -7,7 +7,7 @@ ghost use Rattle.std.specs.Prelude.{◌≡◌, ◌≤◌, ◌<◌, ◌+◌, ◌-
 ghost use Rattle.std.specs.Prelude.{ℕ, IsTrue, length, slice_index};
 ghost use Rattle.s2cell.specs.Cell.{covers, first_leaf};
 ghost use Rattle.s2union.specs.Union.{IsLocal, has_leaf, IsWithin, ShareSome};
-ghost use Rattle.s2union.specs.Packed.{IsPacked, Behind, EndsAfter};
+ghost use Rattle.s2union.specs.Packed.{IsPacked, IsPlace, Behind, EndsAfter};
 ghost use Rattle.s2union.specs.Search.{Brackets};
 ghost use Rattle.s2union.specs.Looks.{FewForUnion};
 
@@ -30,10 +30,21 @@ pub(crate) struct Parts {
     size: usize,
 }
 
+/// The places of four cells in a list.
+#[derive(Clone, Copy)]
+pub(crate) struct Places {
+    pub(crate) first: usize,
+    pub(crate) second: usize,
+    pub(crate) third: usize,
+    pub(crate) fourth: usize,
+}
+
 /// How many of `n` cells are asked about alone, before the others by fours: at least the first, since it may decide.
 fn alone(n: usize) -> usize
     ensures most { result ≤ n }
     ensures fours { (n - result) % 4 ≡ 0 }
+    ensures first { 0 < n → 0 < result }
+    ensures few { result ≤ 4 }
 {
     n - n.saturating_sub(1) / 4 * 4
 }
@@ -214,6 +225,49 @@ fn settle(cells: &[CellId], base: usize, size: usize, lo: u64, looks: &mut u64) 
     let found = without_last(cells, 0, Found { at, looks: *looks }, lo);
     *looks = found.looks;
     found.at
+}
+
+/// How many cells end by the first leaf of each of four cells of `few`, from the place `at` on. The four searches take
+/// turns.
+pub(crate) fn find_four(cells: &[CellId], few: &[CellId], at: usize) -> Places
+    requires packed { IsPacked cells.now }
+    requires there { at + 4 ≤ length few.now }
+    ensures first { IsPlace cells.now (first_leaf (slice_index few.now at)) result.first }
+    ensures second { IsPlace cells.now (first_leaf (slice_index few.now (at + 1))) result.second }
+    ensures third { IsPlace cells.now (first_leaf (slice_index few.now (at + 2))) result.third }
+    ensures fourth { IsPlace cells.now (first_leaf (slice_index few.now (at + 3))) result.fourth }
+{
+    let mut looks = 0;
+    let parts = parts_of_four(cells, few, at, &mut looks);
+    let size = parts.size;
+    let first = settle(cells, parts.first, size, few[at].first_leaf(), &mut looks);
+    let second = settle(
+        cells,
+        parts.second,
+        size,
+        few[at + 1].first_leaf(),
+        &mut looks,
+    );
+    let third = settle(
+        cells,
+        parts.third,
+        size,
+        few[at + 2].first_leaf(),
+        &mut looks,
+    );
+    let fourth = settle(
+        cells,
+        parts.fourth,
+        size,
+        few[at + 3].first_leaf(),
+        &mut looks,
+    );
+    Places {
+        first,
+        second,
+        third,
+        fourth,
+    }
 }
 
 /// The parts of a list in which the places of the first leaves of four cells are, from the place `at` of `few` on: at

@@ -15,6 +15,7 @@ use crate::gallop::gallop;
 use crate::merging::add_reserved;
 use crate::runs::{add_run, extend, extend_up_to};
 use crate::search::find_from;
+use crate::subtract_few::subtract_few;
 use crate::union::CellUnion;
 use s2cell::{CellId, LEAVES};
 use std::alloc::{AllocError, Global};
@@ -200,10 +201,34 @@ fn share(list: &mut Vec<CellId>, xs: &[CellId], ys: &[CellId]) -> Result<(), All
     Ok(())
 }
 
-/// Puts the leaves of `xs` that `ys` doesn't have into an empty list. Copies the cells of `xs` before the next cell of
-/// `ys` as one run. Passes by a search over the cells of `ys` before the next cell of `xs`, and over those of `xs` in a
-/// cell of `ys`. Stops once it has made more than `limit` cells: each is in the normal form, so that has more too.
+/// Puts the leaves of `xs` that `ys` doesn't have into an empty list. Stops once it has made more than `limit` cells:
+/// each is in the normal form, so that has more too.
 fn subtract(
+    list: &mut Vec<CellId>,
+    xs: &[CellId],
+    ys: &[CellId],
+    limit: usize,
+) -> Result<(), UnionFault>
+    requires empty { list.old.items ≡ [] }
+    requires x_local { IsLocal xs.now }
+    requires y_local { IsLocal ys.now }
+    ensures local { OnOk result (IsLocal list.new.items) }
+    ensures leaves { OnOk result ((x : ℕ) → has_leaf list.new.items x
+        ≡ (has_leaf xs.now x && not (has_leaf ys.now x))) }
+    ensures within { OnOk result (length list.new.items ≤ limit) }
+    ensures many { IfErr result (λ fault. fault ≡ UnionFault.TooMany → (u : List ℕ) →
+        IsNormalForm (without (has_leaf xs.now) (has_leaf ys.now)) u → limit < length u) }
+{
+    if xs.len() <= ys.len() / MUCH_LONGER {
+        subtract_few(list, xs, ys, limit)
+    } else {
+        subtract_evenly(list, xs, ys, limit)
+    }
+}
+
+/// The same, by a walk along both lists. Copies the cells of `xs` before the next cell of `ys` as one run. Passes by a
+/// search over the cells of `ys` before the next cell of `xs`, and over those of `xs` in a cell of `ys`.
+fn subtract_evenly(
     list: &mut Vec<CellId>,
     xs: &[CellId],
     ys: &[CellId],
@@ -276,7 +301,7 @@ fn free_until(xs: &[CellId], i: usize, ys: &[CellId], j: usize) -> usize
 }
 
 /// The cell at the place `at`, if there is one that begins before the leaf `end`.
-fn cell_before(cells: &[CellId], at: usize, end: u64) -> Option<CellId>
+pub(crate) fn cell_before(cells: &[CellId], at: usize, end: u64) -> Option<CellId>
     ensures { MatchOption result (at < length cells.now → end ≤ first_leaf (slice_index cells.now at))
         (λ c. (at < length cells.now) × (slice_index cells.now at ≡ c) × (first_leaf c < end)) }
 {
@@ -293,7 +318,7 @@ fn cell_before(cells: &[CellId], at: usize, end: u64) -> Option<CellId>
 
 /// Adds the normal form of the leaves from `lo` to before `hi`: the largest cell that begins at `lo` and fits, then the
 /// largest that begins after it, and so on.
-fn fill_gap(list: &mut Vec<CellId>, lo: u64, hi: u64) -> Result<(), AllocError>
+pub(crate) fn fill_gap(list: &mut Vec<CellId>, lo: u64, hi: u64) -> Result<(), AllocError>
     requires { hi ≤ LEAVES }
     ensures { OnOk result (FillsGap list.old.items list.new.items lo hi) }
 {

@@ -130,7 +130,7 @@ int32_t s2u_from_tokens(const char* text, size_t n, uint64_t* out, size_t room, 
 /* ---- questions about a union: all [pure], in place, without a copy --------------------------------------------------
  *
  * These do not check that the list is a union, which would cost more than the question; s2u_is_union does. If it is not
- * one, the answer is 0 or 1 and means nothing; the call is as safe as any other. */
+ * one, the answer means nothing (0 or 1, places in the list, any count of leaves); the call is as safe as any other. */
 
 int32_t s2u_is_union(const uint64_t* ids, size_t n);                       /* 1 or 0. n steps */
 uint64_t s2u_leaf_count(const uint64_t* ids, size_t n);                    /* at most 6 * 4^30: an int64_t. n steps */
@@ -139,8 +139,8 @@ int32_t s2u_intersects_cell(const uint64_t* ids, size_t n, uint64_t cell); /* th
 /* The cells of the union that share a leaf with the cell: ids[*first .. *first + *count). log n steps. */
 int32_t s2u_cells_at(const uint64_t* ids, size_t n, uint64_t cell, size_t* first, size_t* count);
 /* answers[k] is 1 or 0 for cells[k], k below m. S2U_NO_CELL: one is not a cell, and *bad is the first such k.
- * S2U_ROOM: room is less than m, and *bad is m. After a refusal answers is not touched. Each search begins at the place
- * of the one before: cells in order are quick. */
+ * S2U_ROOM: room is less than m, and *bad is m. After a refusal answers is not touched. A search begins at the place of
+ * the one before, so cells in order are quickest; cells whose places are far apart are searched four at once. */
 int32_t s2u_contains_cells(const uint64_t* ids, size_t n, const uint64_t* cells, size_t m, uint8_t* answers,
                            size_t room, size_t* bad);
 int32_t s2u_intersects_cells(const uint64_t* ids, size_t n, const uint64_t* cells, size_t m, uint8_t* answers,

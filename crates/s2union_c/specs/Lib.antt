@@ -1,6 +1,7 @@
 pub mod Status
 pub mod Cutting
 pub mod Files
+pub mod Many
 pub mod Order
 pub mod Results
 pub mod Texts

@@ -11,6 +11,7 @@ mod cells;
 mod coverings;
 mod files;
 mod lists;
+mod many;
 mod questions;
 mod results;
 mod sets;

@@ -1,16 +1,16 @@
 //! Questions about a union where it lies: without a copy, and without taking memory. They don't check that the list is
 //! a union, which would cost more than the question. If it isn't one, the answer means nothing.
-ghost use Rattle.std.specs.Prelude.{◌≡◌, ◌<◌, ◌≤◌, ℕ, All, length, slice_index};
+ghost use Rattle.std.specs.Prelude.{◌≡◌, ◌+◌, ◌≤◌, length};
 ghost use Rattle.s2cell.specs.Cell.{IsCell, covers};
 ghost use Rattle.s2union.specs.Union.{IsLocal, IsWithin, ShareSome, has_leaf};
 ghost use Rattle.s2union.specs.Count.{count_below};
-ghost use Rattle.s2search.specs.Search.{IsFirstWrong, IsRunAt};
-ghost use Rattle.s2union_c.specs.Status.{Answers, IsAnswer, IsBit, made, no_cell, no_room};
+ghost use Rattle.s2search.specs.Search.{IsRunAt};
+ghost use Rattle.s2union_c.specs.Status.{Answers, IsAnswer, made, no_cell};
 ghost use Rattle.s2union_c.specs.Order.{order};
 
-use crate::status::{MADE, NO_CELL, NO_ROOM, answer};
+use crate::status::{MADE, NO_CELL, answer};
 use s2cell::{CellId, LEAVES};
-use s2search::{IdList, first_wrong};
+use s2search::IdList;
 
 /// Whether a list is a union: cells, ascending, no two that share a leaf, no four that are the children of one cell.
 /// Linear.
@@ -59,6 +59,7 @@ pub extern "C" fn s2u_intersects_cell(ids: &[u64], cell: u64) -> i32
 #[unsafe(no_mangle)]
 pub extern "C" fn s2u_cells_at(ids: &[u64], cell: u64, first: &mut usize, count: &mut usize) -> i32
     ensures made { IsCell cell → result ≡ made }
+    ensures within { first.new + count.new ≤ length ids.now }
     ensures run { IsLocal ids.now → IsCell cell → IsRunAt ids.now cell first.new count.new }
     ensures no_cell { (IsCell cell → ⊥) → (result ≡ no_cell) × (first.new ≡ 0) × (count.new ≡ 0) }
 {
@@ -120,101 +121,5 @@ pub extern "C" fn s2u_compare(xs: &[u64], ys: &[u64]) -> i32
         1
     } else {
         0
-    }
-}
-
-/// Whether a union has all leaves of each cell in turn: 1 or 0 for each. `bad` is the place of the first number that is
-/// not a cell, or if there is none, how many answers there are. Each search begins at the place of the one before, so
-/// cells in order are quick.
-#[unsafe(no_mangle)]
-pub extern "C" fn s2u_contains_cells(
-    ids: &[u64],
-    cells: &[u64],
-    answers: &mut [u8],
-    bad: &mut usize,
-) -> i32
-    ensures made { All IsCell cells.now → length cells.now ≤ length answers.old → result ≡ made }
-    ensures exact { IsLocal ids.now → All IsCell cells.now → length cells.now ≤ length answers.old
-        → (k : ℕ) → k < length cells.now
-        → IsBit (slice_index answers.new k) (IsWithin (covers (slice_index cells.now k)) (has_leaf ids.now)) }
-    ensures no_cell { (All IsCell cells.now → ⊥) → (result ≡ no_cell) × IsFirstWrong cells.now bad.new
-        × (answers.new ≡ answers.old) }
-    ensures room { All IsCell cells.now → length answers.old < length cells.now
-        → (result ≡ no_room) × (bad.new ≡ length cells.now) × (answers.new ≡ answers.old) }
-{
-    if let Some(k) = first_wrong(&IdList { ids: cells }) {
-        *bad = k;
-        return NO_CELL;
-    }
-    *bad = cells.len();
-    if cells.len() > answers.len() {
-        return NO_ROOM;
-    }
-    let mut near = 0;
-    for k in 0..cells.len() {
-        let (bit, at) = contains_one(ids, near, cells[k]);
-        answers[k] = bit;
-        near = at;
-    }
-    MADE
-}
-
-/// Whether a union has a leaf of each cell in turn: 1 or 0 for each. `bad` is as in `s2u_contains_cells`.
-#[unsafe(no_mangle)]
-pub extern "C" fn s2u_intersects_cells(
-    ids: &[u64],
-    cells: &[u64],
-    answers: &mut [u8],
-    bad: &mut usize,
-) -> i32
-    ensures made { All IsCell cells.now → length cells.now ≤ length answers.old → result ≡ made }
-    ensures exact { IsLocal ids.now → All IsCell cells.now → length cells.now ≤ length answers.old
-        → (k : ℕ) → k < length cells.now
-        → IsBit (slice_index answers.new k) (ShareSome (covers (slice_index cells.now k)) (has_leaf ids.now)) }
-    ensures no_cell { (All IsCell cells.now → ⊥) → (result ≡ no_cell) × IsFirstWrong cells.now bad.new
-        × (answers.new ≡ answers.old) }
-    ensures room { All IsCell cells.now → length answers.old < length cells.now
-        → (result ≡ no_room) × (bad.new ≡ length cells.now) × (answers.new ≡ answers.old) }
-{
-    if let Some(k) = first_wrong(&IdList { ids: cells }) {
-        *bad = k;
-        return NO_CELL;
-    }
-    *bad = cells.len();
-    if cells.len() > answers.len() {
-        return NO_ROOM;
-    }
-    let mut near = 0;
-    for k in 0..cells.len() {
-        let (bit, at) = intersects_one(ids, near, cells[k]);
-        answers[k] = bit;
-        near = at;
-    }
-    MADE
-}
-
-/// 1 if a union has all leaves of a cell, else 0, and the place where the search ended.
-fn contains_one(ids: &[u64], near: usize, cell: u64) -> (u8, usize)
-    ensures { IsLocal ids.now → IsCell cell → IsBit result.0 (IsWithin (covers cell) (has_leaf ids.now)) }
-{
-    match CellId::from_id(cell) {
-        Some(part) => {
-            let (holds, at) = s2search::contains_cell_near(&IdList { ids }, near, part);
-            (if holds { 1 } else { 0 }, at)
-        }
-        None => (0, near),
-    }
-}
-
-/// 1 if a union has a leaf of a cell, else 0, and the place where the search ended.
-fn intersects_one(ids: &[u64], near: usize, cell: u64) -> (u8, usize)
-    ensures { IsLocal ids.now → IsCell cell → IsBit result.0 (ShareSome (covers cell) (has_leaf ids.now)) }
-{
-    match CellId::from_id(cell) {
-        Some(part) => {
-            let (holds, at) = s2search::intersects_cell_near(&IdList { ids }, near, part);
-            (if holds { 1 } else { 0 }, at)
-        }
-        None => (0, near),
     }
 }

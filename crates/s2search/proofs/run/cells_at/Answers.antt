@@ -9,8 +9,8 @@ use Rattle.s2search.proofs.run.cells_at.Goals.{then-end-len+then-begins_at, else
 use Rattle.s2search.proofs.run.cells_at.Goals.{else-end-len-via-then-end-len+else-begins_at}
 use Rattle.s2search.proofs.run.cells_at.Goals.{else-end-len-via-else-end-len}
 
-pub returns : goal.returns
-returns g c local =
+pub returns-clause-run : goal.returns-clause-run
+returns-clause-run g c local =
     let u = g.C.Cells.ids c.args.cells.now in
     let p = packed_from_local u local in
     let lo = first_leaf c.args.cell in

@@ -7,8 +7,8 @@ use Rattle.s2union.proofs.Picking.{picked_local}
 use Rattle.s2union.proofs.Shortest.{picked_length}
 use Rattle.s2union.proofs.Subtracting.{minus, subtracting_from, subtracting_on_x, subtracting_on_y, subtracting_run}
 use Rattle.s2union.proofs.Subtracting.{subtracting_taken, subtracting_free, subtract_done}
-use Rattle.s2union.proofs.sets.subtract.Goals as goal
-use Rattle.s2union.proofs.sets.subtract.Goals.{then-loop-i-test+else-len-limit, else-loop-i-test}
+use Rattle.s2union.proofs.sets.subtract_evenly.Goals as goal
+use Rattle.s2union.proofs.sets.subtract_evenly.Goals.{then-loop-i-test+else-len-limit, else-loop-i-test}
 
 pub find_from-j-requires-clause-packed : goal.find_from-j-requires-clause-packed
 find_from-j-requires-clause-packed c = packed_from_local c.args.ys.now c.requires.y_local

@@ -1,0 +1,165 @@
+//! Many questions about one union, where it lies, as in `questions`.
+ghost use Rattle.std.specs.Prelude.{◌≡◌, ◌+◌, ◌<◌, ◌≤◌, ℕ, All, length, drop, slice_index};
+ghost use Rattle.s2cell.specs.Cell.{IsCell, covers, first_leaf};
+ghost use Rattle.s2union.specs.Union.{IsLocal, IsWithin, ShareSome, has_leaf};
+ghost use Rattle.s2union.specs.Packed.{IsPlace};
+ghost use Rattle.s2search.specs.Search.{IsFirstWrong};
+ghost use Rattle.s2union_c.specs.Many.{Holds};
+ghost use Rattle.s2union_c.specs.Status.{IsBit, made, no_cell, no_room};
+
+use crate::status::{MADE, NO_CELL, NO_ROOM};
+use s2cell::CellId;
+use s2search::{
+    IdList, LAST_STEP, cell_of, contains_cell_at, first_wrong, intersects_cell_at, place_near,
+    places_of_four,
+};
+
+/// What is asked about each cell.
+#[derive(Clone, Copy, PartialEq, Eq)]
+pub(crate) enum Question {
+    /// Whether the union has all leaves of the cell.
+    Contains,
+    /// Whether the union has a leaf of the cell.
+    Intersects,
+}
+
+/// Whether a union has all leaves of each cell in turn: 1 or 0 for each. `bad` is the place of the first number that is
+/// not a cell, or if there is none, how many answers there are. A search begins at the place of the one before, so
+/// cells in order are quick; cells whose places are far apart are searched four at once.
+#[unsafe(no_mangle)]
+pub extern "C" fn s2u_contains_cells(
+    ids: &[u64],
+    cells: &[u64],
+    answers: &mut [u8],
+    bad: &mut usize,
+) -> i32
+    ensures made { All IsCell cells.now → length cells.now ≤ length answers.old → result ≡ made }
+    ensures exact { IsLocal ids.now → All IsCell cells.now → length cells.now ≤ length answers.old
+        → (k : ℕ) → k < length cells.now
+        → IsBit (slice_index answers.new k) (IsWithin (covers (slice_index cells.now k)) (has_leaf ids.now)) }
+    ensures bits { All IsCell cells.now → length cells.now ≤ length answers.old
+        → (k : ℕ) → k < length cells.now → slice_index answers.new k ≤ 1 }
+    ensures rest { drop (length cells.now) answers.new ≡ drop (length cells.now) answers.old }
+    ensures no_cell { (All IsCell cells.now → ⊥) → (result ≡ no_cell) × IsFirstWrong cells.now bad.new
+        × (answers.new ≡ answers.old) }
+    ensures room { All IsCell cells.now → length answers.old < length cells.now
+        → (result ≡ no_room) × (bad.new ≡ length cells.now) × (answers.new ≡ answers.old) }
+{
+    if let Some(k) = first_wrong(&IdList { ids: cells }) {
+        *bad = k;
+        return NO_CELL;
+    }
+    *bad = cells.len();
+    if cells.len() > answers.len() {
+        return NO_ROOM;
+    }
+    answer_each(Question::Contains, ids, cells, answers);
+    MADE
+}
+
+/// Whether a union has a leaf of each cell in turn: 1 or 0 for each. `bad` is as in `s2u_contains_cells`.
+#[unsafe(no_mangle)]
+pub extern "C" fn s2u_intersects_cells(
+    ids: &[u64],
+    cells: &[u64],
+    answers: &mut [u8],
+    bad: &mut usize,
+) -> i32
+    ensures made { All IsCell cells.now → length cells.now ≤ length answers.old → result ≡ made }
+    ensures exact { IsLocal ids.now → All IsCell cells.now → length cells.now ≤ length answers.old
+        → (k : ℕ) → k < length cells.now
+        → IsBit (slice_index answers.new k) (ShareSome (covers (slice_index cells.now k)) (has_leaf ids.now)) }
+    ensures bits { All IsCell cells.now → length cells.now ≤ length answers.old
+        → (k : ℕ) → k < length cells.now → slice_index answers.new k ≤ 1 }
+    ensures rest { drop (length cells.now) answers.new ≡ drop (length cells.now) answers.old }
+    ensures no_cell { (All IsCell cells.now → ⊥) → (result ≡ no_cell) × IsFirstWrong cells.now bad.new
+        × (answers.new ≡ answers.old) }
+    ensures room { All IsCell cells.now → length answers.old < length cells.now
+        → (result ≡ no_room) × (bad.new ≡ length cells.now) × (answers.new ≡ answers.old) }
+{
+    if let Some(k) = first_wrong(&IdList { ids: cells }) {
+        *bad = k;
+        return NO_CELL;
+    }
+    *bad = cells.len();
+    if cells.len() > answers.len() {
+        return NO_ROOM;
+    }
+    answer_each(Question::Intersects, ids, cells, answers);
+    MADE
+}
+
+/// Answers the question about each cell in turn. If the last two places were far apart, the next four cells are
+/// searched at once; else the search for the next cell begins at the last place.
+fn answer_each(question: Question, ids: &[u64], cells: &[u64], answers: &mut [u8])
+    requires cells { All IsCell cells.now }
+    requires room { length cells.now ≤ length answers.old }
+    ensures exact { IsLocal ids.now → (k : ℕ) → k < length cells.now
+        → IsBit (slice_index answers.new k) (Holds question (slice_index cells.now k) ids.now) }
+    ensures bits { (k : ℕ) → k < length cells.now → slice_index answers.new k ≤ 1 }
+    ensures rest { drop (length cells.now) answers.new ≡ drop (length cells.now) answers.old }
+{
+    let mut near = 0;
+    let mut apart = false;
+    let mut k = 0;
+    while k < cells.len() {
+        if apart && cells.len() - k >= 4 {
+            let (third, fourth) = answer_four(question, ids, cells, k, answers);
+            apart = third.abs_diff(fourth) > LAST_STEP;
+            near = fourth;
+            k += 4;
+        } else {
+            let cell = cell_of(cells[k]);
+            let at = place_near(&IdList { ids }, near, cell);
+            answers[k] = bit(question, ids, at, cell);
+            apart = near.abs_diff(at) > LAST_STEP;
+            near = at;
+            k += 1;
+        }
+    }
+}
+
+/// Answers the question about the four cells from the place `k` on, whose places in the union are searched at once. The
+/// last two of these places.
+fn answer_four(
+    question: Question,
+    ids: &[u64],
+    cells: &[u64],
+    k: usize,
+    answers: &mut [u8],
+) -> (usize, usize)
+    requires cells { All IsCell cells.now }
+    requires there { k + 4 ≤ length cells.now }
+    requires room { length cells.now ≤ length answers.old }
+    ensures length { length answers.new ≡ length answers.old }
+    ensures exact { IsLocal ids.now
+        → ((i : ℕ) → i < k → IsBit (slice_index answers.old i) (Holds question (slice_index cells.now i) ids.now))
+        → (i : ℕ) → i < k + 4 → IsBit (slice_index answers.new i) (Holds question (slice_index cells.now i) ids.now) }
+    ensures bits { ((i : ℕ) → i < k → slice_index answers.old i ≤ 1)
+        → (i : ℕ) → i < k + 4 → slice_index answers.new i ≤ 1 }
+    ensures rest { drop (length cells.now) answers.new ≡ drop (length cells.now) answers.old }
+{
+    let first = cell_of(cells[k]);
+    let second = cell_of(cells[k + 1]);
+    let third = cell_of(cells[k + 2]);
+    let fourth = cell_of(cells[k + 3]);
+    let places = places_of_four(&IdList { ids }, first, second, third, fourth);
+    answers[k] = bit(question, ids, places.first, first);
+    answers[k + 1] = bit(question, ids, places.second, second);
+    answers[k + 2] = bit(question, ids, places.third, third);
+    answers[k + 3] = bit(question, ids, places.fourth, fourth);
+    (places.third, places.fourth)
+}
+
+/// The answer about a cell, once its place in the union is known: 1 or 0.
+fn bit(question: Question, ids: &[u64], at: usize, cell: CellId) -> u8
+    ensures exact { IsLocal ids.now → IsPlace ids.now (first_leaf cell) at
+        → IsBit result (Holds question cell ids.now) }
+    ensures bit { result ≤ 1 }
+{
+    let holds = match question {
+        Question::Contains => contains_cell_at(&IdList { ids }, at, cell),
+        Question::Intersects => intersects_cell_at(&IdList { ids }, at, cell),
+    };
+    if holds { 1 } else { 0 }
+}
