@@ -126,22 +126,19 @@ module _ (start : Point) (script : List ℕ) (replies : List Reply) (now : Point
 
     module _ (after : Progress) (output_old output_mid output_new : Option (List ℕ))
         (a : Answered now progress new after output_old output_mid) (k : Keeps output_mid output_new) where
-      reply : Reply
-      reply = a.reply
+      noted_one : Explains start new (lines script) (replies ++ a.reply ∷ [])
+      noted_one = subst (λ ls. Explains start new ls (replies ++ a.reply ∷ [])) (sym (lines_one h))
+          (Explains-line start script replies now progress s a.reply new a.noted)
 
-      noted_one : Explains start new (lines script) (replies ++ reply ∷ [])
-      noted_one = subst (λ ls. Explains start new ls (replies ++ reply ∷ [])) (sym (lines_one h))
-          (Explains-line start script replies now progress s reply new a.noted)
-
-      written_one : Appends output_old output_new (texts (reply ∷ []))
-      written_one = subst (Appends output_old output_new) (sym (texts-one reply))
-          (Appends-kept output_old output_mid output_new (text_of reply) a.written k)
+      written_one : Appends output_old output_new (texts (a.reply ∷ []))
+      written_one = subst (Appends output_old output_new) (sym (texts-one a.reply))
+          (Appends-kept output_old output_mid output_new (text_of a.reply) a.written k)
 
       pub Ended-line : (told : Tally) → told ≡ after.tally → Ended start script replies new output_old output_new told
       Ended-line told e =
           record {
-            more = reply ∷ [];
-            run = run_one reply a.step;
+            more = a.reply ∷ [];
+            run = run_one a.reply a.step;
             written = written_one;
             tally_is = e ∙ a.tally_is replies s.tally_is;
             noted = noted_one;
@@ -150,8 +147,8 @@ module _ (start : Point) (script : List ℕ) (replies : List Reply) (now : Point
       pub EndsUnflushed-line : EndsUnflushed start script replies new output_old output_new
       EndsUnflushed-line =
           record {
-            more = reply ∷ [];
-            run = run_one reply a.step;
+            more = a.reply ∷ [];
+            run = run_one a.reply a.step;
             written = written_one;
             noted = noted_one;
           }
