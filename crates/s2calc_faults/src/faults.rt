@@ -134,18 +134,16 @@ fn writes_go_wrong_both_ways(rt: &(impl Abort + AllocGlobal), size: usize) -> Re
 
 #[test]
 fn each_write_and_flush_of_a_prompt_run_fails_in_turn(rt: HostRuntime) -> Result<(), Fail> {
-    // The second time the whole script is read at once.
-    for piece in [PIECE, 4096] {
-        let flushes =
-            writes_go_wrong_in_turn(&rt, Flushing::Promptly, piece, 5, Mishap::Fails)?;
-        // One for each read, including the one that finds the end, one after that, and two for each call of the shelf.
-        let reads = script_of(rt.alloc(), &LINES)?
-            .len()
-            .div_ceil(piece)
-            .saturating_add(1);
-        let others = CALLS.saturating_mul(2).saturating_add(1);
-        assert_eq!(rt; flushes, reads.saturating_add(others));
-    }
+    // A read gives several lines.
+    let piece = 61;
+    let flushes = writes_go_wrong_in_turn(&rt, Flushing::Promptly, piece, 40, Mishap::Fails)?;
+    // One for each read, including the one that finds the end, one after that, and two for each call of the shelf.
+    let reads = script_of(rt.alloc(), &LINES)?
+        .len()
+        .div_ceil(piece)
+        .saturating_add(1);
+    let others = CALLS.saturating_mul(2).saturating_add(1);
+    assert_eq!(rt; flushes, reads.saturating_add(others));
     Ok(())
 }
 
@@ -170,7 +168,7 @@ fn an_empty_script_is_flushed_once(rt: HostRuntime) -> Result<(), Fail> {
     Ok(())
 }
 
-/// How many bytes a read gives in the tests where writes fail.
+/// How many bytes a read gives in the tests where writes fail and answers are not buffered.
 const PIECE: usize = 7;
 
 /// How many lines of the script call the shelf.
@@ -224,7 +222,10 @@ fn writes_go_wrong_in_turn(
                 let mut before = run_well(rt.alloc(), &script_of(rt.alloc(), answered)?)?;
                 let one_more = &LINES[..done.saturating_add(1).min(LINES.len())];
                 let mut after = run_well(rt.alloc(), &script_of(rt.alloc(), one_more)?)?;
-                assert!(rt; left.has_files_of(&mut before) || left.has_files_of(&mut after), "call {call}");
+                assert!(rt;
+                    left.has_files_of(&mut before) || left.has_files_of(&mut after),
+                    "call {call}"
+                );
                 continue;
             }
             done = done.saturating_add(1);

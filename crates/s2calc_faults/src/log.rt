@@ -44,7 +44,7 @@ impl LoggedShelf<'_> {
             Ok(mut log) => {
                 log.extend_from_slice(call.as_bytes())?;
                 log.extend_from_slice(name.as_bytes())?;
-                log.push(b'\n')?;
+                log.extend_from_slice(b"\n")?;
                 Ok(())
             }
             Err(_) => Err(ShelfFault::Memory),
