@@ -1,5 +1,6 @@
 -- How far a run has come in its script.
-use Rattle.std.specs.Prelude.{◌≡◌, ℕ, List, ◌∷◌, [], ◌++◌, ◌⊎◌, ◌+◌, true, Option, Result, MatchResult, length, take}
+use Rattle.std.specs.Prelude.{◌≡◌, ℕ, List, ◌∷◌, [], ◌++◌, ◌⊎◌, ◌+◌, true, Option, Result, MatchResult, length}
+use Rattle.std.specs.Prelude.{take}
 use Rattle.s2calc.specs.declared.fault.RunFault.{RunFault}
 use Rattle.s2calc.specs.declared.fault.RunFault.TheVariants.{Input, Output, Memory}
 use Rattle.std.specs.Io.KnownBytes.{Appends, Keeps}

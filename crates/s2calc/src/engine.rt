@@ -97,8 +97,8 @@ fn take_in<W: Write, S: Shelf, F: Flushing<W>, N: Notes>(
     Ok(())
 }
 
-/// Carries out the line that is kept, writes its answer, counts it, and says why it is refused, if it is. If it asks for
-/// a command with a file, all answers are handed over before it is carried out, and its own after that.
+/// Carries out the line that is kept, writes its answer, counts it, and says why it is refused, if it is. If it asks
+/// for a command with a file, all earlier answers are handed over before it is carried out, and its own after that.
 fn answer_kept<W: Write, S: Shelf, F: Flushing<W>, N: Notes>(
     alloc: Global,
     editor: &mut Editor,
