@@ -1,23 +1,24 @@
 -- Lemmas on the end of a script.
-use Rattle.std.proofs.Common.{◌≡◌, ℕ, ◌+◌, ◌-◌, ◌<◌, List, [], ◌∷◌, ◌++◌, Option, length, take, refl, sym}
-use Rattle.std.proofs.Common.{ap, ◌∙◌, subst, append_assoc, append-nil, arith, length-append}
+use Rattle.std.proofs.Common.{◌≡◌, ℕ, ◌+◌, ◌-◌, ◌<◌, ◌⊎◌, inl, inr, List, [], ◌∷◌, ◌++◌, Option, length}
+use Rattle.std.proofs.Common.{take, refl, sym, ap, ◌∙◌, subst, append_assoc, append-nil, arith, length-append}
 use Rattle.std.proofs.lemmas.List.Concat.{flat_map-append}
 use Rattle.std.proofs.Math.Seq.{take-append-add}
 use Rattle.std.specs.Io.KnownBytes.{Appends, Keeps}
-use Rattle.std.proofs.KnownBytes.{Appends-nil, Appends-kept}
+use Rattle.std.proofs.KnownBytes.{Appends-nil, Appends-kept, Keeps-refl}
 use Rattle.s2script.specs.declared.limits.TheConstants.{LONGEST_LINE}
 use Rattle.s2calc.specs.declared.limits.TheConstants.{KEPT}
 use Rattle.s2calc.specs.declared.engine.Tally.{Tally}
 use Rattle.s2calc.specs.declared.progress.Progress.{Progress}
+use Rattle.s2script.specs.Line.{line_of}
 use Rattle.s2script.specs.Lines.{but_last, last_line, lines}
 use Rattle.s2calc.specs.Replies.{Reply, text_of, texts, tally_of, IsCutOff}
-use Rattle.s2calc.specs.Step.{Step}
-use Rattle.s2calc.specs.Output.{AppendsPart}
+use Rattle.s2calc.specs.Step.{Step, asks_for_file}
 use Rattle.s2calc.specs.Run.{Steps}
 use Rattle.s2calc.specs.Explained.{Point, Explains}
-use Rattle.s2calc.specs.Stands.{Stands, Answered, Ended, EndsInPart, EndsUnflushed}
+use Rattle.s2calc.specs.Stands.{Stands, Answered, AnsweredInPart, AnsweredUnflushed, Ended, EndsInPart}
+use Rattle.s2calc.specs.Stands.{EndsUnflushed, EndsBefore}
 use Rattle.s2calc.proofs.LineLemmas.{lines_begun, but_last-append}
-use Rattle.s2calc.proofs.TakeInLemmas.{IsCutOff-part, Explains-line, Explains-cut, Steps-line}
+use Rattle.s2calc.proofs.TakeInLemmas.{IsCutOff-part, Explains-line, Explains-cut, Steps-line, has_file-kept}
 
 but_last-more : (replies : List Reply) (m : Reply) (ms : List Reply) →
     but_last (replies ++ m ∷ ms) ≡ replies ++ but_last (m ∷ ms)
@@ -99,43 +100,45 @@ module _ (start : Point) (script : List ℕ) (replies : List Reply) (now : Point
   texts-one : (reply : Reply) → texts (reply ∷ []) ≡ text_of reply
   texts-one reply = append-nil (text_of reply)
 
-  module _ (new : Point) (reply : Reply) (h : 0 < length progress.kept)
-      (t : Step now.world progress.kept reply new.world) where
-    run_one : Steps start.world (lines script) (replies ++ reply ∷ []) new.world
-    run_one = subst (λ ls. Steps start.world ls (replies ++ reply ∷ []) new.world) (sym (lines_one h))
+  module _ (new : Point) (h : 0 < length progress.kept) where
+    run_one : (reply : Reply) → Step now.world progress.kept reply new.world →
+        Steps start.world (lines script) (replies ++ reply ∷ []) new.world
+    run_one reply t = subst (λ ls. Steps start.world ls (replies ++ reply ∷ []) new.world) (sym (lines_one h))
         (Steps-line start script replies now progress s reply new t)
 
     pub EndsInPart-part : (output_old output_new : Option (List ℕ)) →
-        AppendsPart output_old output_new (text_of reply) → new.noted ≡ now.noted
+        AnsweredInPart now progress new output_old output_new
         → EndsInPart start script replies new output_old output_new
-    EndsInPart-part output_old output_new w quiet =
+    EndsInPart-part output_old output_new p =
+        let reply = p.reply in
+        let w = p.part in
         let said : Explains start new (s.done ++ s.rest ∷ []) (but_last (replies ++ reply ∷ [])) =
         subst (λ rs. Explains start new (s.done ++ s.rest ∷ []) rs) (sym (but_last-append replies reply))
-        (Explains-cut start script replies now progress s reply new quiet) in
+        (Explains-cut start script replies now progress s reply new p.quiet) in
         record {
           more = reply ∷ [];
           bytes = w.part;
-          run = run_one;
+          run = run_one reply p.step;
           written = w.written;
           cut_off = IsCutOff-part [] reply w.part w.rest w.bytes_are w.lacking;
           noted = subst (λ ls. Explains start new ls (but_last (replies ++ reply ∷ []))) (sym (lines_one h)) said;
         }
 
     module _ (after : Progress) (output_old output_mid output_new : Option (List ℕ))
-        (a : Answered now progress reply new after output_old output_mid) (k : Keeps output_mid output_new) where
-      noted_one : Explains start new (lines script) (replies ++ reply ∷ [])
-      noted_one = subst (λ ls. Explains start new ls (replies ++ reply ∷ [])) (sym (lines_one h))
-          (Explains-line start script replies now progress s reply new a.noted)
+        (a : Answered now progress new after output_old output_mid) (k : Keeps output_mid output_new) where
+      noted_one : Explains start new (lines script) (replies ++ a.reply ∷ [])
+      noted_one = subst (λ ls. Explains start new ls (replies ++ a.reply ∷ [])) (sym (lines_one h))
+          (Explains-line start script replies now progress s a.reply new a.noted)
 
-      written_one : Appends output_old output_new (texts (reply ∷ []))
-      written_one = subst (Appends output_old output_new) (sym (texts-one reply))
-          (Appends-kept output_old output_mid output_new (text_of reply) a.written k)
+      written_one : Appends output_old output_new (texts (a.reply ∷ []))
+      written_one = subst (Appends output_old output_new) (sym (texts-one a.reply))
+          (Appends-kept output_old output_mid output_new (text_of a.reply) a.written k)
 
       pub Ended-line : (told : Tally) → told ≡ after.tally → Ended start script replies new output_old output_new told
       Ended-line told e =
           record {
-            more = reply ∷ [];
-            run = run_one;
+            more = a.reply ∷ [];
+            run = run_one a.reply a.step;
             written = written_one;
             tally_is = e ∙ a.tally_is replies s.tally_is;
             noted = noted_one;
@@ -144,8 +147,30 @@ module _ (start : Point) (script : List ℕ) (replies : List Reply) (now : Point
       pub EndsUnflushed-line : EndsUnflushed start script replies new output_old output_new
       EndsUnflushed-line =
           record {
-            more = reply ∷ [];
-            run = run_one;
+            more = a.reply ∷ [];
+            run = run_one a.reply a.step;
             written = written_one;
             noted = noted_one;
           }
+
+    -- a flush failed before the last line, or after it
+    pub Ends-unflushed : (may_fail : Type 0) (after : Progress) (output_old output_new : Option (List ℕ)) →
+        may_fail → AnsweredUnflushed now progress new after output_old output_new
+        → EndsUnflushed start script replies new output_old output_new
+        ⊎ (may_fail × EndsBefore start script replies new output_old output_new)
+    Ends-unflushed may_fail after output_old output_new m f =
+        elim f.flush [
+          | inl p ↦ inr (
+            m,
+            record {
+              before = s.done;
+              line = s.rest;
+              lines_are = sym (lines_one h);
+              has_file = has_file-kept start script replies now progress s f.has_file;
+              run = subst (λ to. Steps start.world s.done replies to.world) (sym p.0) s.run;
+              kept = p.1;
+              noted = subst (λ to. Explains start to s.done replies) (sym p.0) s.noted;
+            },
+          )
+          | inr a ↦ inl (EndsUnflushed-line after output_old output_new output_new a (Keeps-refl output_new))
+        ]

@@ -1,3 +1,4 @@
+pub mod AnswerLemmas
 pub mod CloseLemmas
 pub mod CoveringLemmas
 pub mod Failures

@@ -4,18 +4,19 @@ use Rattle.std.proofs.Common.{refl, sym, ap, subst, append-nil, ◌⊎◌, inl, 
 use Rattle.std.proofs.lemmas.List.Concat.{flat_map-append}
 use Rattle.std.proofs.lemmas.Result.{MatchResult-weaker}
 use Rattle.std.specs.Io.KnownBytes.{Appends, Consumes, Keeps, IsAtEnd, append_known}
-use Rattle.std.proofs.KnownBytes.{Appends-trans, Consumes-trans, Consumes-kept}
+use Rattle.std.proofs.KnownBytes.{Appends-trans, Appends-kept, Consumes-trans, Consumes-kept}
 use Rattle.s2calc.specs.declared.engine.Tally.{Tally}
 use Rattle.s2calc.specs.declared.progress.Progress.{Progress}
 use Rattle.s2calc.specs.declared.fault.RunFault.{RunFault}
 use Rattle.s2calc.specs.declared.fault.RunFault.TheVariants.{Input, Output, Memory}
 use Rattle.s2script.specs.Lines.{lines}
 use Rattle.s2calc.specs.Replies.{Reply, text_of, texts}
-use Rattle.s2calc.specs.Run.{Steps, Ends, Finishes, StopsReading, StopsWriting, StopsFlushing, Runs, RunsPromptly}
-use Rattle.s2calc.specs.Run.{Faults, PromptFaults, with_waiting}
+use Rattle.s2calc.specs.Run.{Steps, Ends, Finishes, StopsReading, StopsWriting, StopsFlushing, StopsAtFile, Runs}
+use Rattle.s2calc.specs.Run.{RunsPromptly, Faults, PromptFaults, with_waiting}
 use Rattle.s2calc.specs.Explained.{Point, Explains, FinishesExplained, StopsReadingExplained, StopsWritingExplained}
-use Rattle.s2calc.specs.Explained.{StopsFlushingExplained, ExplainedFaults, RunsExplained}
-use Rattle.s2calc.specs.Stands.{Stands, StopsInside, Ended, EndsInPart, EndsUnflushed, Closes, FaultsBy, RunsBy}
+use Rattle.s2calc.specs.Explained.{StopsFlushingExplained, StopsAtFileExplained, ExplainedFaults, RunsExplained}
+use Rattle.s2calc.specs.Stands.{Stands, StopsInside, StopsBeside, Ended, EndsInPart, EndsUnflushed, EndsBefore}
+use Rattle.s2calc.specs.Stands.{Closes, FaultsBy, RunsBy}
 use Rattle.s2calc.proofs.LineLemmas.{whole_lines_begun}
 use Rattle.s2calc.proofs.CloseLemmas.{IsCutOff-after}
 
@@ -61,6 +62,36 @@ module _ (ends : Ends) (old new : Point) (script : List ℕ) (replies : List Rep
         cut_off = IsCutOff-after replies s.more s.bytes s.cut_off;
       } in (run, s.noted)
 
+  pub StopsAtFile-beside : (input output : Option (List ℕ)) (chunk : List ℕ) →
+      Consumes ends.input_old input script → Consumes input ends.input_new chunk →
+      Appends ends.output_old output (texts replies)
+      → StopsBeside old script replies chunk new output ends.output_new → StopsAtFileExplained ends old new
+  StopsAtFile-beside input output chunk r q w s =
+      let run : StopsAtFile ends old.world new.world = record {
+        script = script ++ chunk;
+        replies = replies ++ s.more;
+        before = s.before;
+        line = s.line;
+        done = s.done;
+        read = Consumes-trans ends.input_old input ends.input_new script chunk r q;
+        read_whole = inl (s.rest, s.begins);
+        has_file = s.has_file;
+        done_are = s.done_are;
+        run = s.run;
+        written = Appends-texts ends.output_old output ends.output_new replies s.more w s.written;
+      } in (run, s.noted)
+
+  -- a line that ends in the chunk stopped the run
+  pub Faults-inside : (may_fail : Type 0) (input output : Option (List ℕ)) (chunk : List ℕ) →
+      Consumes ends.input_old input script → Consumes input ends.input_new chunk →
+      Appends ends.output_old output (texts replies)
+      → StopsInside old script replies chunk new output ends.output_new
+      ⊎ (may_fail × StopsBeside old script replies chunk new output ends.output_new)
+      → FaultsBy may_fail Output ends old new
+  Faults-inside may_fail input output chunk r q w (inl s) = inr (inl (StopsWriting-inside input output chunk r q w s))
+  Faults-inside may_fail input output chunk r q w (inr s) =
+      inr (inr (inr (s.0, StopsAtFile-beside input output chunk r q w s.1)))
+
   Finishes-here : (output : Option (List ℕ)) (tally : Tally) → Consumes ends.input_old ends.input_new script →
       IsAtEnd ends.input_new → Appends ends.output_old output (texts replies)
       → Ended old script replies new output ends.output_new tally → FinishesExplained ends old new tally
@@ -104,17 +135,37 @@ module _ (ends : Ends) (old new : Point) (script : List ℕ) (replies : List Rep
         written = Appends-texts ends.output_old output ends.output_new replies s.more w s.written;
       } in (run, s.noted)
 
+  StopsAtFile-here : (output : Option (List ℕ)) → Consumes ends.input_old ends.input_new script →
+      IsAtEnd ends.input_new → Appends ends.output_old output (texts replies)
+      → EndsBefore old script replies new output ends.output_new → StopsAtFileExplained ends old new
+  StopsAtFile-here output r e w s =
+      let run : StopsAtFile ends old.world new.world = record {
+        script = script;
+        replies = replies;
+        before = s.before;
+        line = s.line;
+        done = s.before;
+        read = r;
+        read_whole = inr (s.lines_are, e);
+        has_file = s.has_file;
+        done_are = inl refl;
+        run = s.run;
+        written = Appends-kept ends.output_old output ends.output_new (texts replies) w s.kept;
+      } in (run, s.noted)
+
   StopsClosing : (may_fail : Type 0) (output : Option (List ℕ)) → Consumes ends.input_old ends.input_new script →
       IsAtEnd ends.input_new → Appends ends.output_old output (texts replies)
       → EndsInPart old script replies new output ends.output_new
-      ⊎ EndsUnflushed old script replies new output ends.output_new → FaultsBy may_fail Output ends old new
+      ⊎ EndsUnflushed old script replies new output ends.output_new
+      ⊎ (may_fail × EndsBefore old script replies new output ends.output_new) → FaultsBy may_fail Output ends old new
   StopsClosing may_fail output r e w (inl s) = inr (inl (StopsWriting-here output r e w s))
-  StopsClosing may_fail output r e w (inr s) = inr (inr (StopsFlushing-here output r e w s))
+  StopsClosing may_fail output r e w (inr (inl s)) = inr (inr (inl (StopsFlushing-here output r e w s)))
+  StopsClosing may_fail output r e w (inr (inr s)) = inr (inr (inr (s.0, StopsAtFile-here output r e w s.1)))
 
   pub Runs-close : (may_fail : Type 0) (output : Option (List ℕ)) (result : Result Tally RunFault) →
       Consumes ends.input_old ends.input_new script → IsAtEnd ends.input_new →
       Appends ends.output_old output (texts replies)
-      → Closes old script replies new output ends.output_new result → RunsBy may_fail ends old new result
+      → Closes may_fail old script replies new output ends.output_new result → RunsBy may_fail ends old new result
   Runs-close may_fail output result r e w closes =
       MatchResult-weaker result closes (λ tally s. Finishes-here output tally r e w s)
       (λ fault s. subst (λ f. FaultsBy may_fail f ends old new) (sym s.0)
@@ -127,10 +178,11 @@ faults_at_the_end : (ends : Ends) (old new : Point) (fault : RunFault) → Fault
 faults_at_the_end ends old new Input s = s.0
 faults_at_the_end ends old new Output (inl s) = absurd s.0
 faults_at_the_end ends old new Output (inr (inl s)) = inl s.0
-faults_at_the_end ends old new Output (inr (inr s)) = inr s.0
+faults_at_the_end ends old new Output (inr (inr (inl s))) = inr s.0
+faults_at_the_end ends old new Output (inr (inr (inr s))) = absurd s.0
 faults_at_the_end ends old new Memory s = s.0
 
--- no flush before a read fails
+-- no flush before the end fails
 pub Runs-at_the_end : (ends : Ends) (old new : Point) (result : Result Tally RunFault) →
     RunsBy ⊥ ends old new result → Runs ends old.world new.world result
 Runs-at_the_end ends old new result runs = MatchResult-weaker result runs (λ tally s. s.0)
@@ -149,7 +201,9 @@ module _ (ends : Ends) (waiting : List ℕ) (old new : Point) where
       (fault ≡ Input → waiting ≡ []) → ExplainedFaults fault ends waiting old new
   faults_explained Input s e = subst (λ x. StopsReadingExplained x old new) (with_none (e refl)) s
   faults_explained Output (inl s) e = inl s.1
-  faults_explained Output (inr s) e = inr s
+  faults_explained Output (inr (inl s)) e = inr (inl s)
+  faults_explained Output (inr (inr (inl s))) e = inr (inr (inl s))
+  faults_explained Output (inr (inr (inr s))) e = inr (inr (inr s.1))
   faults_explained Memory s e = s
 
   pub RunsExplained-sent : (result : Result Tally RunFault) →
@@ -164,7 +218,8 @@ module _ (ends : Ends) (waiting : List ℕ) (old new : Point) where
   faults_promptly Input s = s.0
   faults_promptly Output (inl s) = inl s.0
   faults_promptly Output (inr (inl s)) = inr (inl s.0)
-  faults_promptly Output (inr (inr s)) = inr (inr s.0)
+  faults_promptly Output (inr (inr (inl s))) = inr (inr (inl s.0))
+  faults_promptly Output (inr (inr (inr s))) = inr (inr (inr s.0))
   faults_promptly Memory s = s.0
 
   -- a run that says why lines are refused is a run over a buffer

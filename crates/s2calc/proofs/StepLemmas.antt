@@ -6,10 +6,14 @@ use Rattle.std.proofs.lemmas.Bool.{cases_lt}
 use Rattle.s2calc.specs.World.{World}
 use Rattle.s2script.specs.declared.limits.TheConstants.{LONGEST_LINE}
 use Rattle.s2script.specs.declared.misfit.Misfit.TheVariants.{LongLine}
+use Rattle.s2script.specs.declared.command.Command.{Command}
+use Rattle.s2script.specs.declared.command.Command.TheVariants.{Edit, Load, Save, Dump, Restore, Undo, Redo, Ask}
+use Rattle.s2script.specs.declared.command.Parsed.{Parsed}
+use Rattle.s2script.specs.declared.command.Parsed.TheVariants.{Nothing, Does, Fails}
 use Rattle.s2calc.specs.declared.limits.TheConstants.{KEPT}
 use Rattle.s2calc.specs.Replies.{Reply}
 use Rattle.s2script.specs.Line.{line_of, misfit_of, parsed_of, misfit_in, reading_of, read_within}
-use Rattle.s2calc.specs.Step.{Step, StepBy}
+use Rattle.s2calc.specs.Step.{Step, StepBy, Acts, uses_file, asks_for_file}
 
 is_above : (n : ℕ) → LONGEST_LINE < n → ltb LONGEST_LINE n ≡ true
 is_above n h = search (rules, tests)
@@ -54,3 +58,25 @@ Step-kept old new line reply s = record { by = subst (λ p. StepBy p old reply n
 pub Step-same : (old new : World) (given line : List ℕ) (reply : Reply) → given ≡ line → Step old given reply new →
     Step old line reply new
 Step-same old new given line reply e s = subst (λ l. Step old l reply new) e s
+
+act_stays : (command : Command) (old new : World) (reply : Reply) → Acts command old reply new →
+    uses_file command ≡ false → new.files ≡ old.files
+act_stays (Edit r edit) old new reply a h = a.1
+act_stays (Load r name) old new reply a h = absurd cc
+act_stays (Save r name) old new reply a h = absurd cc
+act_stays (Dump name) old new reply a h = absurd cc
+act_stays (Restore name) old new reply a h = absurd cc
+act_stays Undo old new reply a h = a.1
+act_stays Redo old new reply a h = a.1
+act_stays (Ask question) old new reply a h = ap (λ w. w.files) a.1
+
+said_stays : (said : Parsed) (old new : World) (reply : Reply) → StepBy said old reply new →
+    asks_for_file said ≡ false → new.files ≡ old.files
+said_stays Nothing old new reply a h = ap (λ w. w.files) a.1
+said_stays (Fails refusal) old new reply a h = ap (λ w. w.files) a.1
+said_stays (Does command) old new reply a h = act_stays command old new reply a h
+
+-- a line that asks for no command with a file changes no file, and finds none
+pub files_stay : (old new : World) (line : List ℕ) (reply : Reply) → Step old line reply new →
+    asks_for_file (line_of line) ≡ false → new.files ≡ old.files
+files_stay old new line reply s h = said_stays (line_of line) old new reply s.by h

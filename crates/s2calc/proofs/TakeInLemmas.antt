@@ -1,24 +1,25 @@
 -- Lemmas on taking in the bytes of a script.
-use Rattle.std.proofs.Common.{◌≡◌, ℕ, ◌+◌, ◌<◌, List, [], ◌∷◌, ◌++◌, Option, length, take}
-use Rattle.std.proofs.Common.{refl, sym, ap, ◌∙◌}
+use Rattle.std.proofs.Common.{◌≡◌, ℕ, ◌+◌, ◌<◌, true, List, [], ◌∷◌, ◌++◌, Option, length, take}
+use Rattle.std.proofs.Common.{refl, sym, ap, ◌∙◌, inl, inr}
 use Rattle.std.proofs.Common.{subst, append_assoc, append-nil, arith, length-append}
 use Rattle.std.proofs.lemmas.List.Concat.{flat_map-append}
 use Rattle.std.specs.Io.KnownBytes.{Appends}
-use Rattle.std.proofs.KnownBytes.{Appends-nil, Appends-trans}
+use Rattle.std.proofs.KnownBytes.{Appends-nil, Appends-trans, Appends-kept}
 use Rattle.s2calc.specs.declared.limits.TheConstants.{KEPT}
 use Rattle.s2calc.specs.declared.progress.Progress.{Progress}
+use Rattle.s2script.specs.Line.{line_of}
 use Rattle.s2script.specs.Lines.{IsUnbroken, BeginsWith, but_last}
 use Rattle.s2calc.specs.Replies.{Reply, text_of, texts, tally_of, IsCutOff}
 use Rattle.s2calc.specs.Notes.{WritesNotes, note_of, number_of, notes_of}
-use Rattle.s2calc.specs.Step.{Step}
-use Rattle.s2calc.specs.Output.{AppendsPart}
+use Rattle.s2calc.specs.Step.{Step, asks_for_file}
 use Rattle.s2calc.specs.Run.{Steps}
 use Rattle.s2calc.specs.Explained.{Point, Explains}
-use Rattle.s2calc.specs.Stands.{Stands, Answered, StandsAfter, StopsInside}
+use Rattle.s2calc.specs.Stands.{Stands, Answered, AnsweredInPart, AnsweredUnflushed, StandsAfter, StopsInside}
+use Rattle.s2calc.specs.Stands.{StopsBeside}
 use Rattle.s2calc.proofs.LineLemmas.{every-append, BeginsWith-more, BeginsWith-line, kept_more, but_last-append}
 use Rattle.s2calc.proofs.NoteLemmas.{WritesNotes-none, WritesNotes-more, notes_from-push, notes_from-cut, note_of-kept}
 use Rattle.s2calc.proofs.RunLemmas.{Steps-push, Steps-lengths}
-use Rattle.s2calc.proofs.StepLemmas.{Step-kept}
+use Rattle.s2calc.proofs.StepLemmas.{Step-kept, line_of-kept}
 
 pub texts-push : (replies : List Reply) (reply : Reply) → texts (replies ++ reply ∷ []) ≡ texts replies ++ text_of reply
 texts-push replies reply = flat_map-append text_of replies (reply ∷ [])
@@ -53,6 +54,13 @@ Stands-more start script replies now progress after bytes s u e same_tally same_
       lines_are = same_lines ∙ s.lines_are;
       noted = s.noted;
     }
+
+-- the line asks for a command with a file if what is kept of it does
+pub has_file-kept : (start : Point) (script : List ℕ) (replies : List Reply) (now : Point) (progress : Progress)
+    (s : Stands start script replies now progress) → asks_for_file (line_of progress.kept) ≡ true →
+    asks_for_file (line_of s.rest) ≡ true
+has_file-kept start script replies now progress s h =
+    ap asks_for_file (sym (ap line_of s.kept_is ∙ line_of-kept s.rest)) ∙ h
 
 module _ (start : Point) (script : List ℕ) (replies : List Reply) (now : Point) (progress : Progress)
     (s : Stands start script replies now progress) (reply : Reply) (new : Point) where
@@ -92,42 +100,44 @@ module _ (start : Point) (script : List ℕ) (replies : List Reply) (now : Point
       (subst (λ k. Step now.world k reply new.world) s.kept_is t) in
       Steps-push start.world now.world new.world s.done replies s.rest reply s.run step
 
-  -- a newline ends the line that is kept
-  pub Stands-line : (after next : Progress) (output_old output_new : Option (List ℕ)) →
-      Step now.world progress.kept reply new.world → Answered now progress reply new after output_old output_new
-      → next.kept ≡ [] → next.tally ≡ after.tally → next.lines ≡ after.lines →
-      Stands start (script ++ 10 ∷ []) (replies ++ reply ∷ []) new next
-  Stands-line after next output_old output_new t a none same_tally same_lines =
-      let lines_are = s.lines_are in
-      let counted = a.lines_are in
-      let long = length-append replies (reply ∷ []) in
-      record {
-        done = s.done ++ s.rest ∷ [];
-        rest = [];
-        begins = BeginsWith-line script s.done s.rest s.begins s.unbroken;
-        unbroken = tt;
-        run = Steps-line t;
-        kept_is = none;
-        tally_is = same_tally ∙ a.tally_is replies s.tally_is;
-        lines_are = omega arith;
-        noted = Explains-line a.noted;
-      }
+-- a newline ends the line that is kept
+pub Stands-line : (start : Point) (script : List ℕ) (replies : List Reply) (now new : Point)
+    (progress after next : Progress) (output_old output_new : Option (List ℕ)) →
+    Stands start script replies now progress → (a : Answered now progress new after output_old output_new)
+    → next.kept ≡ [] → next.tally ≡ after.tally → next.lines ≡ after.lines →
+    Stands start (script ++ 10 ∷ []) (replies ++ a.reply ∷ []) new next
+Stands-line start script replies now new progress after next output_old output_new s a none same_tally same_lines =
+    let lines_are = s.lines_are in
+    let counted = a.lines_are in
+    let long = length-append replies (a.reply ∷ []) in
+    record {
+      done = s.done ++ s.rest ∷ [];
+      rest = [];
+      begins = BeginsWith-line script s.done s.rest s.begins s.unbroken;
+      unbroken = tt;
+      run = Steps-line start script replies now progress s a.reply new a.step;
+      kept_is = none;
+      tally_is = same_tally ∙ a.tally_is replies s.tally_is;
+      lines_are = omega arith;
+      noted = Explains-line start script replies now progress s a.reply new a.noted;
+    }
 
 -- the steps of the loop, joined: bytes without a newline are kept, and then a newline comes
 pub StandsAfter-line : (start : Point) (script : List ℕ) (replies : List Reply) (seen bytes : List ℕ)
     (now new : Point) (progress mid after next : Progress)
-    (output_old output_mid output_new : Option (List ℕ)) (reply : Reply)
+    (output_old output_mid output_new : Option (List ℕ))
     → StandsAfter start script replies seen now progress output_old output_mid → IsUnbroken bytes →
     mid.kept ≡ take KEPT (progress.kept ++ bytes) → mid.tally ≡ progress.tally → mid.lines ≡ progress.lines →
-    Step now.world mid.kept reply new.world → Answered now mid reply new after output_mid output_new →
+    Answered now mid new after output_mid output_new →
     next.kept ≡ [] → next.tally ≡ after.tally → next.lines ≡ after.lines
     → StandsAfter start script replies ((seen ++ bytes) ++ 10 ∷ []) new next output_old output_new
 StandsAfter-line start script replies seen bytes now new progress mid after next output_old output_mid
-    output_new reply s u m mid_tally mid_lines t a none next_tally next_lines =
+    output_new s u m mid_tally mid_lines a none next_tally next_lines =
+    let reply = a.reply in
     let held = Stands-more start (script ++ seen) (replies ++ s.more) now progress mid bytes s.stands u m mid_tally
     mid_lines in
-    let stepped = Stands-line start ((script ++ seen) ++ bytes) (replies ++ s.more) now mid held reply new after next
-    output_mid output_new t a none next_tally next_lines in
+    let stepped = Stands-line start ((script ++ seen) ++ bytes) (replies ++ s.more) now new mid after next
+    output_mid output_new held a none next_tally next_lines in
     let moved : (((script ++ seen) ++ bytes) ++ 10 ∷ []) ≡ script ++ ((seen ++ bytes) ++ 10 ∷ []) = simp append_assoc in
     record {
       more = s.more ++ reply ∷ [];
@@ -174,39 +184,95 @@ pub but_last-push : (replies more : List Reply) (reply : Reply) →
 but_last-push replies more reply = ap but_last (sym (append_assoc replies more (reply ∷ [])))
     ∙ but_last-append (replies ++ more) reply
 
+-- the script goes on with the line that these bytes end
+begins_line : (script seen bytes more_bytes all : List ℕ) (done : List (List ℕ)) (rest : List ℕ) →
+    BeginsWith ((script ++ seen) ++ bytes) done rest → IsUnbroken rest → all ≡ (seen ++ bytes) ++ 10 ∷ more_bytes →
+    BeginsWith (script ++ all) (done ++ rest ∷ []) more_bytes
+begins_line script seen bytes more_bytes all done rest b u whole =
+    let begun = BeginsWith-line ((script ++ seen) ++ bytes) done rest b u in
+    let same : (((script ++ seen) ++ bytes) ++ 10 ∷ []) ++ more_bytes ≡ script
+    ++ ((seen ++ bytes) ++ 10 ∷ more_bytes) = simp append_assoc in
+    subst (λ s. BeginsWith s (done ++ rest ∷ []) more_bytes) (same ∙ ap (λ s. script ++ s) (sym whole))
+    (BeginsWith-more _ (done ++ rest ∷ []) [] more_bytes begun)
+
 -- the writer failed at the line that these bytes end
 pub StopsInside-line : (start : Point) (script : List ℕ) (replies : List Reply)
     (all seen bytes more_bytes : List ℕ) (now new : Point) (progress mid : Progress)
-    (output_old output_mid output_new : Option (List ℕ)) (reply : Reply)
+    (output_old output_mid output_new : Option (List ℕ))
     → StandsAfter start script replies seen now progress output_old output_mid → IsUnbroken bytes →
     mid.kept ≡ take KEPT (progress.kept ++ bytes) → mid.tally ≡ progress.tally → mid.lines ≡ progress.lines →
-    Step now.world mid.kept reply new.world → AppendsPart output_mid output_new (text_of reply)
-    → new.noted ≡ now.noted → all ≡ (seen ++ bytes) ++ 10 ∷ more_bytes
+    AnsweredInPart now mid new output_mid output_new → all ≡ (seen ++ bytes) ++ 10 ∷ more_bytes
     → StopsInside start script replies all new output_old output_new
 StopsInside-line start script replies all seen bytes more_bytes now new progress mid output_old output_mid
-    output_new reply s u m mid_tally mid_lines t w quiet whole =
+    output_new s u m mid_tally mid_lines p whole =
+    let reply = p.reply in
+    let w = p.part in
     let before = replies ++ s.more in
     let held = Stands-more start (script ++ seen) before now progress mid bytes s.stands u m mid_tally mid_lines in
-    let begun = BeginsWith-line ((script ++ seen) ++ bytes) held.done held.rest held.begins held.unbroken in
-    let same : (((script ++ seen) ++ bytes) ++ 10 ∷ []) ++ more_bytes ≡ script
-    ++ ((seen ++ bytes) ++ 10 ∷ more_bytes) = simp append_assoc in
-    let moved = same ∙ ap (λ b. script ++ b) (sym whole) in
     record {
       done = held.done ++ held.rest ∷ [];
       rest = more_bytes;
       more = s.more ++ reply ∷ [];
       bytes = texts s.more ++ w.part;
-      begins = subst (λ b. BeginsWith b (held.done ++ held.rest ∷ []) more_bytes) moved
-          (BeginsWith-more _ (held.done ++ held.rest ∷ []) [] more_bytes begun);
+      begins = begins_line script seen bytes more_bytes all held.done held.rest held.begins held.unbroken whole;
       run = subst (λ rs. Steps start.world (held.done ++ held.rest ∷ []) rs new.world)
           (append_assoc replies s.more (reply ∷ []))
-          (Steps-line start ((script ++ seen) ++ bytes) before now mid held reply new t);
+          (Steps-line start ((script ++ seen) ++ bytes) before now mid held reply new p.step);
       written = Appends-trans output_old output_mid output_new (texts s.more) w.part s.written w.written;
       cut_off = IsCutOff-part s.more reply w.part w.rest w.bytes_are w.lacking;
       noted = subst (λ rs. Explains start new (held.done ++ held.rest ∷ []) rs)
           (sym (but_last-push replies s.more reply))
-          (Explains-cut start ((script ++ seen) ++ bytes) before now mid held reply new quiet);
+          (Explains-cut start ((script ++ seen) ++ bytes) before now mid held reply new p.quiet);
     }
+
+-- a flush failed before the line that these bytes end, or after it
+pub StopsBeside-line : (start : Point) (script : List ℕ) (replies : List Reply)
+    (all seen bytes more_bytes : List ℕ) (now new : Point) (progress mid after : Progress)
+    (output_old output_mid output_new : Option (List ℕ))
+    → StandsAfter start script replies seen now progress output_old output_mid → IsUnbroken bytes →
+    mid.kept ≡ take KEPT (progress.kept ++ bytes) → mid.tally ≡ progress.tally → mid.lines ≡ progress.lines →
+    AnsweredUnflushed now mid new after output_mid output_new → all ≡ (seen ++ bytes) ++ 10 ∷ more_bytes
+    → StopsBeside start script replies all new output_old output_new
+StopsBeside-line start script replies all seen bytes more_bytes now new progress mid after output_old output_mid
+    output_new s u m mid_tally mid_lines f whole =
+    let sofar = (script ++ seen) ++ bytes in
+    let earlier = replies ++ s.more in
+    let held = Stands-more start (script ++ seen) earlier now progress mid bytes s.stands u m mid_tally mid_lines in
+    let begins = begins_line script seen bytes more_bytes all held.done held.rest held.begins held.unbroken whole in
+    let has_file = has_file-kept start sofar earlier now mid held f.has_file in
+    elim f.flush [
+      | inl p ↦ record {
+        before = held.done;
+        line = held.rest;
+        done = held.done;
+        rest = more_bytes;
+        more = s.more;
+        begins = begins;
+        has_file = has_file;
+        done_are = inl refl;
+        run = subst (λ to. Steps start.world held.done earlier to.world) (sym p.0) held.run;
+        written = Appends-kept output_old output_mid output_new (texts s.more) s.written p.1;
+        noted = subst (λ to. Explains start to held.done earlier) (sym p.0) held.noted;
+      }
+      | inr a ↦ record {
+        before = held.done;
+        line = held.rest;
+        done = held.done ++ held.rest ∷ [];
+        rest = more_bytes;
+        more = s.more ++ a.reply ∷ [];
+        begins = begins;
+        has_file = has_file;
+        done_are = inr refl;
+        run = subst (λ rs. Steps start.world (held.done ++ held.rest ∷ []) rs new.world)
+            (append_assoc replies s.more (a.reply ∷ []))
+            (Steps-line start sofar earlier now mid held a.reply new a.step);
+        written = subst (Appends output_old output_new) (sym (texts-push s.more a.reply))
+            (Appends-trans output_old output_mid output_new (texts s.more) (text_of a.reply) s.written a.written);
+        noted = subst (λ rs. Explains start new (held.done ++ held.rest ∷ []) rs)
+            (append_assoc replies s.more (a.reply ∷ []))
+            (Explains-line start sofar earlier now mid held a.reply new a.noted);
+      }
+    ]
 
 -- a run that begins has seen no byte
 pub Stands-start : (start : Point) (progress : Progress) → progress.kept ≡ [] → progress.tally ≡ tally_of [] →

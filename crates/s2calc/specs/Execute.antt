@@ -1,6 +1,7 @@
 -- What carrying out one line does.
 use Rattle.std.specs.Prelude.{◌≡◌, ℕ, List, Option, Result, MatchResult}
 use Rattle.std.specs.Io.KnownBytes.{Appends}
+use Rattle.s2script.specs.declared.command.Parsed.{Parsed}
 use Rattle.s2calc.specs.World.{World}
 use Rattle.s2calc.specs.declared.execute.Outcome.{Outcome}
 use Rattle.s2calc.specs.declared.execute.Outcome.TheVariants.{Silent as NoAnswer, Answered, Refused}
@@ -8,7 +9,7 @@ use Rattle.s2calc.specs.declared.fault.RunFault.{RunFault}
 use Rattle.s2calc.specs.declared.fault.RunFault.TheVariants.{Output}
 use Rattle.s2calc.specs.Output.{AppendsPart}
 use Rattle.s2calc.specs.Replies.{Reply, Silent, Says, Refuses, text_of}
-use Rattle.s2calc.specs.Step.{Step}
+use Rattle.s2calc.specs.Step.{StepBy}
 
 -- how a reply counts in the tally
 abbrev pub outcome_of : Reply → Outcome
@@ -26,9 +27,9 @@ Writes old new reply result =
     MatchResult result (λ outcome. IsOutcome outcome reply × Appends old new (text_of reply))
     (λ fault. (fault ≡ Output) × AppendsPart old new (text_of reply))
 
--- the line was carried out, and its reply was written as far as the writer took it
-pub record Executes (old : World) (line : List ℕ) (new : World) (output_old output_new : Option (List ℕ))
+-- what a line says was carried out, and its reply was written as far as the writer took it
+pub record Executes (old : World) (said : Parsed) (new : World) (output_old output_new : Option (List ℕ))
     (result : Result Outcome RunFault) : Type 0 where
   pub reply : Reply
-  pub step : Step old line reply new
+  pub step : StepBy said old reply new
   pub writes : Writes output_old output_new reply result

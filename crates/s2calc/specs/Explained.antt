@@ -7,7 +7,8 @@ use Rattle.s2calc.specs.declared.fault.RunFault.TheVariants.{Input, Output, Memo
 use Rattle.s2script.specs.Lines.{lines, whole_lines, but_last}
 use Rattle.s2calc.specs.Replies.{Reply}
 use Rattle.s2calc.specs.Notes.{Noted, WritesNotes, notes_of}
-use Rattle.s2calc.specs.Run.{Ends, Finishes, StopsReading, StopsWriting, StopsFlushing, NeverBegins, with_waiting}
+use Rattle.s2calc.specs.Run.{Ends, Finishes, StopsReading, StopsWriting, StopsFlushing, StopsAtFile, NeverBegins}
+use Rattle.s2calc.specs.Run.{with_waiting}
 
 -- what a run has come to: the state and the files, and what was said of refused lines
 pub record Point : Type 0 where
@@ -36,10 +37,15 @@ abbrev pub StopsWritingExplained : Ends → Point → Point → Type 0
 StopsWritingExplained ends old new =
     (run : StopsWriting ends old.world new.world) × Explains old new run.done (but_last run.replies)
 
--- the flush at the end failed, and the notes are those on all lines of the script
+-- a flush after the last line failed, and the notes are those on all lines of the script
 abbrev pub StopsFlushingExplained : Ends → Point → Point → Type 0
 StopsFlushingExplained ends old new =
     (run : StopsFlushing ends old.world new.world) × Explains old new (lines run.script) run.replies
+
+-- the flush before or after a command with a file failed, and the notes are those on the lines that were carried out
+abbrev pub StopsAtFileExplained : Ends → Point → Point → Type 0
+StopsAtFileExplained ends old new =
+    (run : StopsAtFile ends old.world new.world) × Explains old new run.done run.replies
 
 -- there was no memory: nothing was read, written or changed, and nothing was said
 abbrev pub NeverBeginsExplained : Ends → Point → Point → Type 0
@@ -53,9 +59,11 @@ ExplainedFaults Output ends waiting old new =
     StopsReadingExplained (with_waiting ends waiting) old new
     ⊎ StopsWritingExplained (with_waiting ends waiting) old new
     ⊎ StopsFlushingExplained (with_waiting ends waiting) old new
+    ⊎ StopsAtFileExplained (with_waiting ends waiting) old new
 ExplainedFaults Memory ends waiting old new = NeverBeginsExplained (with_waiting ends waiting) old new
 
--- a run over a buffer that is flushed before each read, by its result, with the notes on the lines that it carried out
+-- a run over a buffer that is flushed before each read, and before and after each command with a file, by its result,
+-- with the notes on the lines that it carried out
 abbrev pub RunsExplained : Ends → List ℕ → Point → Point → Result Tally RunFault → Type 0
 RunsExplained ends waiting old new result = MatchResult result (λ tally. FinishesExplained ends old new tally)
     (λ fault. ExplainedFaults fault ends waiting old new)

@@ -4,10 +4,12 @@ use Rattle.std.specs.Prelude.{Some, count_by}
 use Rattle.std.specs.Io.KnownBytes.{Appends}
 use Rattle.s2calc.specs.World.{World}
 use Rattle.s2calc.specs.declared.engine.Tally.{Tally}
+use Rattle.s2script.specs.Line.{line_of}
 use Rattle.s2script.specs.Lines.{lines}
 use Rattle.s2calc.specs.Replies.{Reply, Silent, Says, Refuses, texts, tally_of}
 use Rattle.s2calc.specs.declared.refusal.Refusal.{Refusal}
 use Rattle.s2calc.specs.declared.refusal.Refusal.TheVariants.{File, Memory}
+use Rattle.s2calc.specs.Step.{Step, asks_for_file}
 use Rattle.s2calc.specs.Run.{Ends, Finishes, Steps}
 
 -- a run that finishes has answered the lines of all bytes that its reader tells
@@ -59,3 +61,10 @@ abbrev pub CountsFailures : Type 0
 CountsFailures =
     (a b : World) (ls : List (List ℕ)) (rs : List Reply) → a.files.failures < 2 ^ 64 → Steps a ls rs b →
     b.files.failures ≡ (a.files.failures + count_by is_failure rs) % 2 ^ 64
+
+-- a line that asks for no command with a file leaves all that is known of the files as it was, so it asks the shelf for
+-- none
+abbrev pub FilesStay : Type 0
+FilesStay =
+    (old new : World) (line : List ℕ) (reply : Reply) → Step old line reply new →
+    asks_for_file (line_of line) ≡ false → new.files ≡ old.files

@@ -1,19 +1,21 @@
 -- How far a run has come in its script.
-use Rattle.std.specs.Prelude.{◌≡◌, ℕ, List, ◌∷◌, [], ◌++◌, ◌⊎◌, ◌+◌, Option, Result, MatchResult, length, take}
+use Rattle.std.specs.Prelude.{◌≡◌, ℕ, List, ◌∷◌, [], ◌++◌, ◌⊎◌, ◌+◌, true, Option, Result, MatchResult, length}
+use Rattle.std.specs.Prelude.{take}
 use Rattle.s2calc.specs.declared.fault.RunFault.{RunFault}
 use Rattle.s2calc.specs.declared.fault.RunFault.TheVariants.{Input, Output, Memory}
-use Rattle.std.specs.Io.KnownBytes.{Appends}
+use Rattle.std.specs.Io.KnownBytes.{Appends, Keeps}
 use Rattle.s2calc.specs.declared.limits.TheConstants.{KEPT}
 use Rattle.s2calc.specs.declared.engine.Tally.{Tally}
 use Rattle.s2calc.specs.declared.progress.Progress.{Progress}
+use Rattle.s2script.specs.Line.{line_of}
 use Rattle.s2script.specs.Lines.{BeginsWith, IsUnbroken, lines, but_last}
 use Rattle.s2calc.specs.Output.{AppendsPart}
 use Rattle.s2calc.specs.Replies.{Reply, text_of, texts, tally_of, IsCutOff}
 use Rattle.s2calc.specs.Notes.{WritesNotes, note_of, number_of}
-use Rattle.s2calc.specs.Step.{Step}
+use Rattle.s2calc.specs.Step.{Step, asks_for_file}
 use Rattle.s2calc.specs.Run.{Steps, Ends}
 use Rattle.s2calc.specs.Explained.{Point, Explains, FinishesExplained, StopsReadingExplained, StopsWritingExplained}
-use Rattle.s2calc.specs.Explained.{StopsFlushingExplained, NeverBeginsExplained}
+use Rattle.s2calc.specs.Explained.{StopsFlushingExplained, StopsAtFileExplained, NeverBeginsExplained}
 
 -- Starting from `start`, after these bytes: the lines that end in a newline were carried out with these replies, the
 -- notes on them were written, and the first `KEPT` bytes of the rest are kept.
@@ -29,9 +31,11 @@ pub record Stands (start : Point) (script : List ℕ) (replies : List Reply) (no
   pub lines_are : progress.lines ≡ number_of (length replies)
   pub noted : Explains start now done replies
 
--- the line that is kept was answered with this reply, and counted, and the note on it was written
-pub record Answered (old : Point) (before : Progress) (reply : Reply) (new : Point) (after : Progress)
+-- the line that is kept was carried out, answered and counted, and the note on it was written
+pub record Answered (old : Point) (before : Progress) (new : Point) (after : Progress)
     (output_old output_new : Option (List ℕ)) : Type 0 where
+  pub reply : Reply
+  pub step : Step old.world before.kept reply new.world
   pub written : Appends output_old output_new (text_of reply)
   pub kept_is : after.kept ≡ before.kept
   pub tally_is : (replies : List Reply) → before.tally ≡ tally_of replies →
@@ -39,13 +43,28 @@ pub record Answered (old : Point) (before : Progress) (reply : Reply) (new : Poi
   pub lines_are : after.lines ≡ number_of (before.lines + 1)
   pub noted : WritesNotes old.noted (note_of (number_of (before.lines + 1)) before.kept reply) new.noted
 
--- the line that is kept was carried out and answered, or the writer failed inside its answer
-pub record AnswersKept (old : Point) (before : Progress) (new : Point) (after : Progress)
-    (output_old output_new : Option (List ℕ)) (result : Result (Unit {0}) RunFault) : Type 0 where
+-- the line that is kept was carried out, and the writer failed inside its answer
+pub record AnsweredInPart (old : Point) (before : Progress) (new : Point) (output_old output_new : Option (List ℕ)) :
+    Type 0 where
   pub reply : Reply
   pub step : Step old.world before.kept reply new.world
-  pub ends : MatchResult result (λ _. Answered old before reply new after output_old output_new)
-      (λ fault. (fault ≡ Output) × AppendsPart output_old output_new (text_of reply) × (new.noted ≡ old.noted))
+  pub part : AppendsPart output_old output_new (text_of reply)
+  pub quiet : new.noted ≡ old.noted
+
+-- the line that is kept asks for a command with a file, and the flush before it failed, or that after it
+pub record AnsweredUnflushed (old : Point) (before : Progress) (new : Point) (after : Progress)
+    (output_old output_new : Option (List ℕ)) : Type 0 where
+  pub has_file : asks_for_file (line_of before.kept) ≡ true
+  pub flush : ((new ≡ old) × Keeps output_old output_new) ⊎ Answered old before new after output_old output_new
+
+-- the line that is kept was carried out and answered, or the writer or a flush failed; `may_fail` says whether a flush
+-- before the end may fail
+abbrev pub AnswersKept : Type 0 → Point → Progress → Point → Progress → Option (List ℕ) → Option (List ℕ) →
+    Result (Unit {0}) RunFault → Type 0
+AnswersKept may_fail old before new after output_old output_new result =
+    MatchResult result (λ _. Answered old before new after output_old output_new) (λ fault. (fault ≡ Output)
+    × (AnsweredInPart old before new output_old output_new
+    ⊎ (may_fail × AnsweredUnflushed old before new after output_old output_new)))
 
 -- the run has gone through the chunk too, and the replies to its lines were written
 pub record StandsAfter (start : Point) (script : List ℕ) (replies : List Reply) (chunk : List ℕ) (now : Point)
@@ -67,6 +86,21 @@ pub record StopsInside (start : Point) (script : List ℕ) (replies : List Reply
   pub cut_off : IsCutOff bytes more
   pub noted : Explains start now done (but_last (replies ++ more))
 
+-- the flush before or after a line that ends in the chunk and asks for a command with a file failed
+pub record StopsBeside (start : Point) (script : List ℕ) (replies : List Reply) (chunk : List ℕ) (now : Point)
+    (output_old output_new : Option (List ℕ)) : Type 0 where
+  pub before : List (List ℕ)
+  pub line : List ℕ
+  pub done : List (List ℕ)
+  pub rest : List ℕ
+  pub more : List Reply
+  pub begins : BeginsWith (script ++ chunk) (before ++ line ∷ []) rest
+  pub has_file : asks_for_file (line_of line) ≡ true
+  pub done_are : (done ≡ before) ⊎ (done ≡ before ++ line ∷ [])
+  pub run : Steps start.world done (replies ++ more) now.world
+  pub written : Appends output_old output_new (texts more)
+  pub noted : Explains start now done (replies ++ more)
+
 -- the last line of the script was carried out too, and all answers were written
 pub record Ended (start : Point) (script : List ℕ) (replies : List Reply) (now : Point)
     (output_old output_new : Option (List ℕ)) (tally : Tally) : Type 0 where
@@ -86,7 +120,7 @@ pub record EndsInPart (start : Point) (script : List ℕ) (replies : List Reply)
   pub cut_off : IsCutOff bytes more
   pub noted : Explains start now (lines script) (but_last (replies ++ more))
 
--- the last line was carried out and answered, and the flush failed
+-- the last line was carried out and answered, and a flush failed
 pub record EndsUnflushed (start : Point) (script : List ℕ) (replies : List Reply) (now : Point)
     (output_old output_new : Option (List ℕ)) : Type 0 where
   pub more : List Reply
@@ -94,22 +128,36 @@ pub record EndsUnflushed (start : Point) (script : List ℕ) (replies : List Rep
   pub written : Appends output_old output_new (texts more)
   pub noted : Explains start now (lines script) (replies ++ more)
 
--- the end of a run: all lines were answered, or the writer or the flush failed
-abbrev pub Closes : Point → List ℕ → List Reply → Point → Option (List ℕ) → Option (List ℕ) →
+-- the flush before the last line failed, which asks for a command with a file
+pub record EndsBefore (start : Point) (script : List ℕ) (replies : List Reply) (now : Point)
+    (output_old output_new : Option (List ℕ)) : Type 0 where
+  pub before : List (List ℕ)
+  pub line : List ℕ
+  pub lines_are : before ++ line ∷ [] ≡ lines script
+  pub has_file : asks_for_file (line_of line) ≡ true
+  pub run : Steps start.world before replies now.world
+  pub kept : Keeps output_old output_new
+  pub noted : Explains start now before replies
+
+-- the end of a run: all lines were answered, or the writer or a flush failed; `may_fail` says whether a flush before
+-- the end may fail
+abbrev pub Closes : Type 0 → Point → List ℕ → List Reply → Point → Option (List ℕ) → Option (List ℕ) →
     Result Tally RunFault → Type 0
-Closes start script replies now output_old output_new result =
+Closes may_fail start script replies now output_old output_new result =
     MatchResult result (Ended start script replies now output_old output_new) (λ fault. (fault ≡ Output)
     × (EndsInPart start script replies now output_old output_new
-    ⊎ EndsUnflushed start script replies now output_old output_new))
+    ⊎ EndsUnflushed start script replies now output_old output_new
+    ⊎ (may_fail × EndsBefore start script replies now output_old output_new)))
 
--- what a run that ends with this fault leaves; `may_fail` says whether a flush before a read may fail
+-- what a run that ends with this fault leaves; `may_fail` says whether a flush before the end may fail
 abbrev pub FaultsBy : Type 0 → RunFault → Ends → Point → Point → Type 0
 FaultsBy may_fail Input ends old new = StopsReadingExplained ends old new
 FaultsBy may_fail Output ends old new = (may_fail × StopsReadingExplained ends old new)
     ⊎ StopsWritingExplained ends old new ⊎ StopsFlushingExplained ends old new
+    ⊎ (may_fail × StopsAtFileExplained ends old new)
 FaultsBy may_fail Memory ends old new = NeverBeginsExplained ends old new
 
--- what a run does, by its result; `may_fail` says whether a flush before a read may fail
+-- what a run does, by its result; `may_fail` says whether a flush before the end may fail
 abbrev pub RunsBy : Type 0 → Ends → Point → Point → Result Tally RunFault → Type 0
 RunsBy may_fail ends old new result = MatchResult result (λ tally. FinishesExplained ends old new tally)
     (λ fault. FaultsBy may_fail fault ends old new)

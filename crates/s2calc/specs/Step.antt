@@ -1,5 +1,5 @@
 -- What a line may do.
-use Rattle.std.specs.Prelude.{◌≡◌, ℕ, ◌⊎◌, Bool, List, Ok, Err}
+use Rattle.std.specs.Prelude.{◌≡◌, ℕ, ◌⊎◌, Bool, true, false, List, Ok, Err}
 use Rattle.s2shelf.specs.Shelf.{SameFiles, PutsFile, LosesFile}
 use Rattle.s2file.specs.File.{Bytes}
 use Rattle.s2script.specs.declared.command.Command.{Command}
@@ -66,7 +66,24 @@ Acts Redo old reply new = Moves old.state.future old.state (redone old.state) (r
     new.state × (new.files ≡ old.files)
 Acts (Ask question) old reply new = Answers question old.state reply × (new ≡ old)
 
--- the same for what a line says: a line without words is silent, a refused one changes nothing
+-- whether the command reads or writes a file
+abbrev pub uses_file : Command → Bool
+uses_file (Edit r edit) = false
+uses_file (Load r name) = true
+uses_file (Save r name) = true
+uses_file (Dump name) = true
+uses_file (Restore name) = true
+uses_file Undo = false
+uses_file Redo = false
+uses_file (Ask question) = false
+
+-- whether a line that says this asks for a command with a file
+abbrev pub asks_for_file : Parsed → Bool
+asks_for_file Nothing = false
+asks_for_file (Fails refusal) = false
+asks_for_file (Does command) = uses_file command
+
+-- the same as `Acts`, for what a line says: a line without words is silent, a refused one changes nothing
 abbrev pub StepBy : Parsed → World → Reply → World → Type 0
 StepBy Nothing old reply new = (reply ≡ Silent) × (new ≡ old)
 StepBy (Fails refusal) old reply new = (reply ≡ Refuses (Words refusal)) × (new ≡ old)

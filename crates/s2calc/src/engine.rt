@@ -1,27 +1,30 @@
 //! The run of a script.
-ghost use Rattle.std.specs.Prelude.{◌≡◌, ℕ, List, [], ◌∷◌, ◌++◌, OnOk, OnErr, IfOk, IfErr, IfSome, IfNone, MatchResult};
-ghost use Rattle.std.specs.Prelude.{◌<◌, ◌≤◌, length};
+ghost use Rattle.std.specs.Prelude.{◌≡◌, ℕ, ◌⊎◌, List, [], ◌∷◌, ◌++◌, OnOk, OnErr, IfOk, IfErr, IfSome, IfNone};
+ghost use Rattle.std.specs.Prelude.{◌<◌, ◌≤◌, true, length, MatchResult};
 ghost use Rattle.std.specs.Io.KnownBytes.{Keeps};
 ghost use Rattle.s2union.specs.Union.{IsNormalForm, has_leaf};
 ghost use Rattle.s2edit.specs.History.{EachList};
 ghost use Rattle.s2calc.specs.Replies.{Reply, tally_of};
 ghost use Rattle.s2calc.specs.Execute.{IsOutcome};
+ghost use Rattle.s2script.specs.Line.{line_of};
 ghost use Rattle.s2script.specs.Lines.{IsUnbroken, EndsLineAt};
+ghost use Rattle.s2calc.specs.Step.{asks_for_file};
 ghost use Rattle.s2calc.specs.Run.{Runs, RunsPromptly};
 ghost use Rattle.s2calc.specs.Buffered.{written_to};
 ghost use Rattle.s2calc.specs.World.{World, world};
-ghost use Rattle.s2calc.specs.Stands.{Stands, AnswersKept, StandsAfter, StopsInside, Closes, RunsBy};
+ghost use Rattle.s2calc.specs.Stands.{Stands, AnswersKept, StandsAfter, StopsInside, StopsBeside, Closes, RunsBy};
 ghost use Rattle.s2calc.specs.Noting.{noted_by};
 ghost use Rattle.s2calc.specs.Explained.{Point, point, RunsExplained};
 
 use crate::answer_buffer::AnswerBuffer;
-use crate::execute::{Outcome, execute};
+use crate::execute::{Outcome, asks_for_file, execute};
 use crate::fault::RunFault;
-use crate::flushing::{AtTheEnd, BeforeEachRead, Flushing};
+use crate::flushing::{AtTheEnd, Flushing, Promptly, beside_file};
 use crate::limits::{MOST_WAITING, READ_SIZE};
 use crate::notes::{NoNotes, NoteWriter, Notes};
 use crate::progress::Progress;
 use s2edit::Editor;
+use s2script::parse;
 use s2shelf::Shelf;
 use std::alloc::Global;
 use std::io::{Read, Write};
@@ -61,7 +64,7 @@ fn newline_in(bytes: &[u8]) -> Option<usize>
 }
 
 /// Takes the next bytes of a script, and carries out each line that ends in them.
-fn take_in<W: Write, S: Shelf, N: Notes>(
+fn take_in<W: Write, S: Shelf, F: Flushing<W>, N: Notes>(
     alloc: Global,
     editor: &mut Editor,
     progress: &mut Progress,
@@ -77,13 +80,16 @@ fn take_in<W: Write, S: Shelf, N: Notes>(
     ensures err { OnErr result ((start : Point) (script : List ℕ) (replies : List Reply) →
         Stands start script replies (point (world editor.old (S.files shelf.old)) (N.noted notes.old)) progress.old →
         StopsInside start script replies chunk.now (point (world editor.new (S.files shelf.new)) (N.noted notes.new))
-        (W.contents writer.old) (W.contents writer.new)) }
+        (W.contents writer.old) (W.contents writer.new)
+        ⊎ (F.may_fail × StopsBeside start script replies chunk.now
+        (point (world editor.new (S.files shelf.new)) (N.noted notes.new))
+        (W.contents writer.old) (W.contents writer.new))) }
     ensures fault { IfErr result (λ fault. fault ≡ RunFault.Output) }
 {
     let mut rest = chunk;
     while let Some(at) = newline_in(rest) {
         progress.kept.keep(&rest[..at]);
-        answer_kept(alloc, editor, progress, writer, shelf, notes)?;
+        answer_kept::<W, S, F, N>(alloc, editor, progress, writer, shelf, notes)?;
         progress.kept.clear();
         rest = &rest[at + 1..];
     }
@@ -91,8 +97,9 @@ fn take_in<W: Write, S: Shelf, N: Notes>(
     Ok(())
 }
 
-/// Carries out the line that is kept, writes its answer, counts it, and says why it is refused, if it is.
-fn answer_kept<W: Write, S: Shelf, N: Notes>(
+/// Carries out the line that is kept, writes its answer, counts it, and says why it is refused, if it is. If it asks
+/// for a command with a file, all earlier answers are handed over before it is carried out, and its own after that.
+fn answer_kept<W: Write, S: Shelf, F: Flushing<W>, N: Notes>(
     alloc: Global,
     editor: &mut Editor,
     progress: &mut Progress,
@@ -100,14 +107,18 @@ fn answer_kept<W: Write, S: Shelf, N: Notes>(
     shelf: &mut S,
     notes: &mut N,
 ) -> Result<(), RunFault>
-    ensures { AnswersKept (point (world editor.old (S.files shelf.old)) (N.noted notes.old)) progress.old
-        (point (world editor.new (S.files shelf.new)) (N.noted notes.new)) progress.new
+    ensures answers { AnswersKept F.may_fail (point (world editor.old (S.files shelf.old)) (N.noted notes.old))
+        progress.old (point (world editor.new (S.files shelf.new)) (N.noted notes.new)) progress.new
         (W.contents writer.old) (W.contents writer.new) result }
+    ensures sent { OnOk result (asks_for_file (line_of progress.old.kept) ≡ true → F.is_sent writer.new) }
 {
-    let outcome = execute(alloc, editor, progress.kept.as_slice(), writer, shelf)?;
+    let said = parse(progress.kept.as_slice());
+    let has_file = asks_for_file(&said);
+    beside_file::<W, F>(has_file, writer)?;
+    let outcome = execute::<W, S, F>(alloc, editor, said, writer, shelf)?;
     progress.count(outcome);
     notes.note(progress.lines, progress.kept.as_slice(), outcome);
-    Ok(())
+    beside_file::<W, F>(has_file, writer)
 }
 
 /// Runs a script: its lines come from the reader, its answers go to the writer, and its files are on the shelf.
@@ -155,13 +166,17 @@ pub fn run<R: Read, W: Write, S: Shelf>(
     result
 }
 
-/// Runs a script as [`run`] does, over a writer that buffers answers, and flushes it before each read too. So the
-/// answers go out before the run waits for more of the script, and whoever typed a line sees its answer.
+/// Runs a script as [`run`] does, over a writer that buffers answers, and flushes it before each read too, and before
+/// and after each command with a file. So the answers go out before the run waits for more of the script, and whoever
+/// typed a line sees its answer. No file is touched before all earlier answers are out, and the answer to a command
+/// with a file goes out before the next line is carried out.
 ///
 /// After `Ok` all answers have reached the writer below; after `Input` exactly the answers to the lines that were read
 /// whole have. In both cases nothing waits in the buffer. After `Output` what was written is as [`run`] says, or a
-/// flush before a read failed, and then it is exactly the answers to the lines that were read whole. At most 64 KiB of
-/// it wait in the buffer, and are lost when the buffer is dropped.
+/// flush before a read failed, and then it is exactly the answers to the lines that were read whole, or a flush before
+/// or after a command with a file failed, and then it is exactly the answers to the lines that were carried out: those
+/// before the command, or the command too. At most 64 KiB of it wait in the buffer, and are lost when the buffer is
+/// dropped.
 pub fn run_promptly<R: Read, W: Write, S: Shelf>(
     alloc: Global,
     editor: &mut Editor,
@@ -183,7 +198,7 @@ pub fn run_promptly<R: Read, W: Write, S: Shelf>(
 {
     let _before = (editor.limit(), writer.waiting());
     let mut input = input_buffer(alloc)?;
-    let result = run_over::<R, AnswerBuffer<W>, S, BeforeEachRead, NoNotes>(
+    let result = run_over::<R, AnswerBuffer<W>, S, Promptly, NoNotes>(
         alloc,
         &mut input,
         editor,
@@ -225,7 +240,7 @@ pub fn run_explained<R: Read, W: Write, S: Shelf, N: Write>(
 {
     let _before = (editor.limit(), writer.waiting());
     let mut input = input_buffer(alloc)?;
-    let result = run_over::<R, AnswerBuffer<W>, S, BeforeEachRead, NoteWriter<N>>(
+    let result = run_over::<R, AnswerBuffer<W>, S, Promptly, NoteWriter<N>>(
         alloc, &mut input, editor, reader, writer, shelf, notes,
     );
     let _after = (editor.limit(), writer.waiting());
@@ -266,10 +281,10 @@ fn run_over<R: Read, W: Write, S: Shelf, F: Flushing<W>, N: Notes>(
 {
     let mut progress = Progress::new();
     for _ in 0..u64::MAX {
-        F::before_read(writer)?;
+        F::in_between(writer)?;
         match reader.read(input) {
             Ok(0) => return finish::<W, S, F, N>(alloc, editor, progress, writer, shelf, notes),
-            Ok(count) => take_in(
+            Ok(count) => take_in::<W, S, F, N>(
                 alloc,
                 editor,
                 &mut progress,
@@ -282,7 +297,7 @@ fn run_over<R: Read, W: Write, S: Shelf, F: Flushing<W>, N: Notes>(
         }
     }
     // 2^64 - 1 reads have not come to the end.
-    F::before_read(writer)?;
+    F::in_between(writer)?;
     Err(RunFault::Input)
 }
 
@@ -297,14 +312,14 @@ fn finish<W: Write, S: Shelf, F: Flushing<W>, N: Notes>(
 ) -> Result<Tally, RunFault>
     ensures closes { (start : Point) (script : List ℕ) (replies : List Reply) →
         Stands start script replies (point (world editor.old (S.files shelf.old)) (N.noted notes.old)) progress →
-        Closes start script replies (point (world editor.new (S.files shelf.new)) (N.noted notes.new))
+        Closes F.may_fail start script replies (point (world editor.new (S.files shelf.new)) (N.noted notes.new))
         (W.contents writer.old) (W.contents writer.new) result }
     ensures sent { MatchResult result (λ _. F.is_sent writer.new) (λ fault. fault ≡ RunFault.Output) }
 {
     if progress.kept.as_slice().is_empty() {
         return flushed::<W, F>(progress.tally, writer);
     }
-    answer_kept(alloc, editor, &mut progress, writer, shelf, notes)?;
+    answer_kept::<W, S, F, N>(alloc, editor, &mut progress, writer, shelf, notes)?;
     flushed::<W, F>(progress.tally, writer)
 }
 

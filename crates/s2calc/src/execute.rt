@@ -1,19 +1,20 @@
 //! Carrying out a line.
-ghost use Rattle.std.specs.Prelude.{◌≡◌, IfErr};
+ghost use Rattle.std.specs.Prelude.{◌≡◌, true, IfErr};
 ghost use Rattle.s2calc.specs.Execute.{Executes, outcome_of};
 ghost use Rattle.s2calc.specs.Answer.{reply_of};
-ghost use Rattle.s2calc.specs.Step.{Step, Acts};
+ghost use Rattle.s2calc.specs.Step.{StepBy, Acts, uses_file, asks_for_file};
 ghost use Rattle.s2calc.specs.World.{world};
 
 use crate::answer::{Answer, write_answer};
 use crate::edits::{edit_register, redo, undo};
 use crate::fault::RunFault;
 use crate::files::{load, save};
+use crate::flushing::Flushing;
 use crate::questions::answer_to;
 use crate::refusal::Refusal;
 use crate::sessions::{dump, restore};
 use s2edit::Editor;
-use s2script::{Command, Parsed, parse};
+use s2script::{Command, Parsed};
 use s2shelf::Shelf;
 use std::alloc::Global;
 use std::io::Write;
@@ -29,19 +30,21 @@ pub enum Outcome {
     Refused(Refusal),
 }
 
-/// Carries out a line and writes its answer. If the writer fails, the line was still carried out.
-pub(crate) fn execute<W: Write, S: Shelf>(
+/// Carries out what a line says, and writes its answer. If the writer fails, it was still carried out. Nothing waits in
+/// the writer when a command with a file is carried out.
+pub(crate) fn execute<W: Write, S: Shelf, F: Flushing<W>>(
     alloc: Global,
     editor: &mut Editor,
-    line: &[u8],
+    said: Parsed<'_>,
     writer: &mut W,
     shelf: &mut S,
 ) -> Result<Outcome, RunFault>
-    ensures executes { Executes (world editor.old (S.files shelf.old)) line.now
+    requires { asks_for_file said ≡ true → F.is_sent writer.old }
+    ensures executes { Executes (world editor.old (S.files shelf.old)) said.entry
         (world editor.new (S.files shelf.new)) (W.contents writer.old) (W.contents writer.new) result }
     ensures fault { IfErr result (λ fault. fault ≡ RunFault.Output) }
 {
-    let answer = carry_out(alloc, editor, line, shelf);
+    let answer = carry_out(alloc, editor, said, shelf);
     write_answer(writer, &answer, editor)?;
     Ok(outcome_of(&answer, editor))
 }
@@ -57,12 +60,40 @@ fn outcome_of(answer: &Answer, editor: &Editor) -> Outcome
     }
 }
 
-/// Carries out a line. The answer must be written before the next line.
-fn carry_out<S: Shelf>(alloc: Global, editor: &mut Editor, line: &[u8], shelf: &mut S) -> Answer
-    ensures { Step (world editor.old (S.files shelf.old)) line.now (reply_of result editor.new)
+/// Whether a line that says this asks for a command with a file.
+pub(crate) fn asks_for_file(said: &Parsed<'_>) -> bool
+    ensures { result ≡ asks_for_file said.now }
+{
+    match said {
+        Parsed::Does(command) => uses_file(command),
+        Parsed::Nothing | Parsed::Fails(_) => false,
+    }
+}
+
+/// Whether a command reads or writes a file.
+fn uses_file(command: &Command<'_>) -> bool
+    ensures { result ≡ uses_file command.now }
+{
+    match command {
+        Command::Load { .. }
+        | Command::Save { .. }
+        | Command::Dump { .. }
+        | Command::Restore { .. } => true,
+        Command::Edit { .. } | Command::Undo | Command::Redo | Command::Ask(_) => false,
+    }
+}
+
+/// Carries out what a line says. The answer must be written before the next line.
+fn carry_out<S: Shelf>(
+    alloc: Global,
+    editor: &mut Editor,
+    said: Parsed<'_>,
+    shelf: &mut S,
+) -> Answer
+    ensures { StepBy said.entry (world editor.old (S.files shelf.old)) (reply_of result editor.new)
         (world editor.new (S.files shelf.new)) }
 {
-    match parse(line) {
+    match said {
         Parsed::Nothing => Answer::Nothing,
         Parsed::Fails(refusal) => Answer::Refused(Refusal::Words(refusal)),
         Parsed::Does(command) => act(alloc, editor, command, shelf),

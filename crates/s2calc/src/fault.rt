@@ -7,7 +7,7 @@ pub enum RunFault {
     /// A read failed, or the reads ran out.
     #[error("the input failed")]
     Input,
-    /// A write failed or took nothing, or the flush failed.
+    /// A write failed or took nothing, or a flush failed.
     #[error("the output failed")]
     Output,
     /// There was no memory for the buffers.

@@ -1,5 +1,5 @@
 //! When a run flushes its writer.
-ghost use Rattle.std.specs.Prelude.{◌≡◌, [], OnOk, IfErr};
+ghost use Rattle.std.specs.Prelude.{◌≡◌, true, [], OnOk, IfErr};
 ghost use Rattle.std.specs.Io.KnownBytes.{Keeps};
 ghost use Rattle.s2calc.specs.Buffered.{written_to};
 
@@ -13,11 +13,11 @@ pub(crate) trait Flushing<W: Write> {
     // nothing that was written waits in the writer
     ghost is_sent: { W → Type 0 };
 
-    // a flush before a read may fail
+    // a flush before the end may fail
     ghost may_fail: { Type 0 };
 
-    /// What happens before each read.
-    fn before_read(writer: &mut W) -> Result<(), RunFault>
+    /// What happens before each read, and before and after each command with a file.
+    fn in_between(writer: &mut W) -> Result<(), RunFault>
         ensures kept { Keeps (W.contents writer.old) (W.contents writer.new) }
         ensures sent { OnOk result (is_sent writer.new) }
         ensures fault { IfErr result (λ fault. (fault ≡ RunFault.Output) × may_fail) };
@@ -29,7 +29,7 @@ pub(crate) trait Flushing<W: Write> {
         ensures fault { IfErr result (λ fault. fault ≡ RunFault.Output) };
 }
 
-/// Nothing happens before a read. It isn't known what waits in a writer of any kind.
+/// Nothing happens before the end. It isn't known what waits in a writer of any kind.
 pub(crate) struct AtTheEnd;
 
 impl<W: Write> Flushing<W> for AtTheEnd {
@@ -37,7 +37,7 @@ impl<W: Write> Flushing<W> for AtTheEnd {
 
     ghost may_fail = { ⊥ };
 
-    fn before_read(_writer: &mut W) -> Result<(), RunFault> {
+    fn in_between(_writer: &mut W) -> Result<(), RunFault> {
         Ok(())
     }
 
@@ -46,15 +46,15 @@ impl<W: Write> Flushing<W> for AtTheEnd {
     }
 }
 
-/// The buffer is flushed before each read.
-pub(crate) struct BeforeEachRead;
+/// The buffer is flushed each time.
+pub(crate) struct Promptly;
 
-impl<W: Write> Flushing<AnswerBuffer<W>> for BeforeEachRead {
+impl<W: Write> Flushing<AnswerBuffer<W>> for Promptly {
     ghost is_sent = { λ b. b.waiting ≡ [] };
 
     ghost may_fail = { Unit {0} };
 
-    fn before_read(writer: &mut AnswerBuffer<W>) -> Result<(), RunFault> {
+    fn in_between(writer: &mut AnswerBuffer<W>) -> Result<(), RunFault> {
         handed_over(writer)
     }
 
@@ -72,5 +72,21 @@ fn handed_over<W: Write>(writer: &mut AnswerBuffer<W>) -> Result<(), RunFault>
     match writer.flush() {
         Ok(()) => Ok(()),
         Err(_) => Err(RunFault::Output),
+    }
+}
+
+/// What happens before and after a line, if it asks for a command with a file.
+pub(crate) fn beside_file<W: Write, F: Flushing<W>>(
+    has_file: bool,
+    writer: &mut W,
+) -> Result<(), RunFault>
+    ensures kept { Keeps (W.contents writer.old) (W.contents writer.new) }
+    ensures sent { OnOk result (has_file ≡ true → F.is_sent writer.new) }
+    ensures fault { IfErr result (λ fault. (fault ≡ RunFault.Output) × F.may_fail × (has_file ≡ true)) }
+{
+    if has_file {
+        F::in_between(writer)
+    } else {
+        Ok(())
     }
 }

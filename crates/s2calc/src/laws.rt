@@ -1,5 +1,5 @@
 //! Laws about the definitions.
-ghost use Rattle.s2calc.specs.Laws.{TellsWhole, OneRun, CountsFailures};
+ghost use Rattle.s2calc.specs.Laws.{TellsWhole, OneRun, CountsFailures, FilesStay};
 ghost use Rattle.s2calc.specs.LawsScripts.{OneEnd, LawOfUndo, RestoreGivesBack};
 
 /// If the reader exposes its bytes, a run that finishes has carried out the lines of exactly these bytes.
@@ -16,6 +16,11 @@ pub fn one_run()
 /// A run has as many answers `error file` as the shelf's count of failures rose.
 pub fn counted_failures()
     ensures { CountsFailures }
+{}
+
+/// Only a command with a file changes a file, or finds one.
+pub fn files_stay()
+    ensures { FilesStay }
 {}
 
 /// If no line is answered `error memory` or `error file`, whole runs of the same bytes have one end: what is written,

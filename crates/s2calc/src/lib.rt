@@ -42,7 +42,8 @@ pub use draw::{draw_answer, draw_cells_answer};
 pub use engine::{Tally, run, run_explained, run_promptly};
 pub use fault::RunFault;
 pub use laws::{
-    counted_failures, one_end, one_run, restore_gives_back, undo_goes_back, whole_script,
+    counted_failures, files_stay, one_end, one_run, restore_gives_back, undo_goes_back,
+    whole_script,
 };
 pub use notes::NoteWriter;
 pub use program::{cell_answer, status};

@@ -35,7 +35,7 @@ fn the_answers_of_whole_lines_are_out_when_a_read_fails(rt: HostRuntime) -> Resu
 fn each_read_fails_in_turn(rt: HostRuntime) -> Result<(), Fail> {
     let script = script_of(rt.alloc(), &LINES)?;
     reads_fail_in_turn(&rt, Flushing::AtTheEnd, &script, 3)?;
-    reads_fail_in_turn(&rt, Flushing::BeforeEachRead, &script, 3)
+    reads_fail_in_turn(&rt, Flushing::Promptly, &script, 3)
 }
 
 #[test]
@@ -126,21 +126,24 @@ fn each_write_goes_wrong_in_turn(rt: HostRuntime) -> Result<(), Fail> {
 /// Makes each write of at most n bytes fail in turn, and then makes each take nothing in turn.
 fn writes_go_wrong_both_ways(rt: &(impl Abort + AllocGlobal), size: usize) -> Result<(), Fail> {
     for mishap in [Mishap::Fails, Mishap::TakesNothing] {
-        let flushes = writes_go_wrong_in_turn(rt, Flushing::AtTheEnd, size, mishap)?;
+        let flushes = writes_go_wrong_in_turn(rt, Flushing::AtTheEnd, PIECE, size, mishap)?;
         assert_eq!(rt; flushes, 1);
     }
     Ok(())
 }
 
 #[test]
-fn each_write_and_flush_before_a_read_fails_in_turn(rt: HostRuntime) -> Result<(), Fail> {
-    let flushes = writes_go_wrong_in_turn(&rt, Flushing::BeforeEachRead, 5, Mishap::Fails)?;
-    // One for each read, including the one that finds the end, and one after that.
+fn each_write_and_flush_of_a_prompt_run_fails_in_turn(rt: HostRuntime) -> Result<(), Fail> {
+    // A read gives several lines.
+    let piece = 61;
+    let flushes = writes_go_wrong_in_turn(&rt, Flushing::Promptly, piece, 40, Mishap::Fails)?;
+    // One for each read, including the one that finds the end, one after that, and two for each call of the shelf.
     let reads = script_of(rt.alloc(), &LINES)?
         .len()
-        .div_ceil(PIECE)
+        .div_ceil(piece)
         .saturating_add(1);
-    assert_eq!(rt; flushes, reads.saturating_add(1));
+    let others = CALLS.saturating_mul(2).saturating_add(1);
+    assert_eq!(rt; flushes, reads.saturating_add(others));
     Ok(())
 }
 
@@ -165,18 +168,25 @@ fn an_empty_script_is_flushed_once(rt: HostRuntime) -> Result<(), Fail> {
     Ok(())
 }
 
-/// How many bytes a read gives in the tests where writes fail.
+/// How many bytes a read gives in the tests where writes fail and answers are not buffered.
 const PIECE: usize = 7;
 
+/// How many lines of the script call the shelf.
+const CALLS: usize = 16;
+
 /// Makes each write and each flush fail in turn. What is out is a beginning of all answers. Unless answers are
-/// buffered, the last line carried out is the one to whose answer the next byte belongs. If a flush failed, whole
-/// answers are out, and exactly their lines were carried out. Answers how many flushes there were.
+/// buffered, the last line carried out is the one to whose answer the next byte belongs. If they are, the files are
+/// those after the lines whose answers are out, or after one line more. If a flush failed, whole answers are out, and
+/// exactly their lines were carried out. Answers how many flushes there were.
 fn writes_go_wrong_in_turn(
     rt: &(impl Abort + AllocGlobal),
     flushing: Flushing,
+    piece: usize,
     size: usize,
     mishap: Mishap,
-) -> Result<usize, Fail> {
+) -> Result<usize, Fail>
+    requires { 0 < piece }
+{
     let script = script_of(rt.alloc(), &LINES)?;
     let whole = run_well(rt.alloc(), &script)?;
     let answers = whole.writer.written();
@@ -184,7 +194,7 @@ fn writes_go_wrong_in_turn(
     let mut flushes = 0usize;
     let mut is_all_out = false;
     for call in 1..100_000 {
-        let reader = Pieces::of(&script, PIECE, None);
+        let reader = Pieces::of(&script, piece, None);
         let writer = Narrow::new(rt.alloc(), 8192, size, Some((call, mishap)))?;
         let mut left = run_over(
             rt.alloc(),
@@ -207,7 +217,15 @@ fn writes_go_wrong_in_turn(
             assert!(rt; out.is_empty() || ends.contains(&out.len()), "call {call}");
         } else {
             // If answers are buffered, the answers to more than one line may be missing.
-            if matches!(flushing, Flushing::BeforeEachRead) {
+            if matches!(flushing, Flushing::Promptly) {
+                let answered = &LINES[..done.min(LINES.len())];
+                let mut before = run_well(rt.alloc(), &script_of(rt.alloc(), answered)?)?;
+                let one_more = &LINES[..done.saturating_add(1).min(LINES.len())];
+                let mut after = run_well(rt.alloc(), &script_of(rt.alloc(), one_more)?)?;
+                assert!(rt;
+                    left.has_files_of(&mut before) || left.has_files_of(&mut after),
+                    "call {call}"
+                );
                 continue;
             }
             done = done.saturating_add(1);
@@ -284,6 +302,6 @@ fn each_call_of_the_shelf_fails_in_turn(rt: HostRuntime) -> Result<(), Fail> {
         assert_eq!(rt; rest, wanted, "call {call}");
         assert!(rt; left.stands_as(&mut without), "call {call}");
     }
-    assert_eq!(rt; call, 16);
+    assert_eq!(rt; call, CALLS as u64);
     Ok(())
 }

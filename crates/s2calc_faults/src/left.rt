@@ -13,7 +13,7 @@ const NAMES: [&str; 6] = ["f", "g", "h", "s", "w", "missing"];
 #[derive(Clone, Copy)]
 pub enum Flushing {
     AtTheEnd,
-    BeforeEachRead,
+    Promptly,
 }
 
 /// What a run left.
@@ -45,7 +45,7 @@ pub fn full_shelf(alloc: Global) -> Result<MemoryShelf, Fail> {
 }
 
 /// Runs a script over empty registers of at most 100 cells and a history of at most 5 states. Buffers the answers if
-/// the writer is flushed before each read.
+/// they are flushed promptly.
 pub fn run_over(
     alloc: Global,
     flushing: Flushing,
@@ -59,7 +59,7 @@ pub fn run_over(
             let ended = run(alloc, &mut editor, &mut reader, &mut writer, &mut shelf);
             (ended, writer)
         }
-        Flushing::BeforeEachRead => {
+        Flushing::Promptly => {
             let mut buffer = AnswerBuffer::new(alloc, writer)?;
             let ended = run_promptly(alloc, &mut editor, &mut reader, &mut buffer, &mut shelf);
             (ended, buffer.into_writer())
@@ -93,12 +93,17 @@ pub fn run_well(alloc: Global, script: &[u8]) -> Result<Left, Fail> {
 impl Left {
     /// Whether registers, history and files are the same after two runs.
     pub fn stands_as(&mut self, other: &mut Left) -> bool {
+        self.has_files_of(other) && are_same(&self.editor, &other.editor)
+    }
+
+    /// Whether the files are the same after two runs.
+    pub fn has_files_of(&mut self, other: &mut Left) -> bool {
         for name in NAMES {
             if self.shelf.get(name) != other.shelf.get(name) {
                 return false;
             }
         }
-        are_same(&self.editor, &other.editor)
+        true
     }
 }
 

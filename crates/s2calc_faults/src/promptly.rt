@@ -1,6 +1,8 @@
-//! Answers that are out before the next read.
+//! Answers that are out before the next read, and before and after a command with a file.
+use crate::log::{LoggedShelf, LoggedWriter};
 use crate::typist::{Screen, Typist};
 use s2calc::{AnswerBuffer, RunFault, Tally, run, run_promptly};
+use s2calc_tests::Pieces;
 use s2edit::Editor;
 use s2shelf::MemoryShelf;
 use std::alloc::Global;
@@ -65,5 +67,58 @@ fn answers_that_cannot_be_handed_over_are_a_fault_of_the_output(
     let (ended, seen) = seen_by_the_typist(rt.alloc(), Kind::Promptly, true)?;
     assert_eq!(rt; ended, Err(RunFault::Output));
     assert_eq!(rt; seen.as_slice(), [0].as_slice());
+    Ok(())
+}
+
+/// A script that is read at once, with files in its middle and on its last line, which has no newline.
+const FILES: &[u8] = b"add a 1
+history
+save a f
+undo
+load b g
+load b .g
+redo
+dump s
+restore s";
+
+/// What its run does: the answers as they are written, `|` for each flush, and the calls of the shelf.
+const DONE: &str = "|ok 0 1
+undo 1 redo 0
+|PUT f
+ok
+|ok 1 0
+|GET g
+error missing
+|error name
+ok 0 1
+|PUT s
+ok
+|||GET s
+error missing
+||";
+
+#[test]
+fn answers_are_out_before_and_after_each_command_with_a_file(rt: HostRuntime) -> Result<(), Fail> {
+    let log = RefCell::new(Vec::new(rt.alloc()));
+    let mut editor = Editor::open(rt.alloc(), 10, 10)?;
+    let mut reader = Pieces::of(FILES, 4096, None);
+    let mut writer = AnswerBuffer::new(rt.alloc(), LoggedWriter { log: &log })?;
+    let mut shelf = LoggedShelf { log: &log };
+    let ended = run_promptly(
+        rt.alloc(),
+        &mut editor,
+        &mut reader,
+        &mut writer,
+        &mut shelf,
+    );
+    let whole = Ok(Tally {
+        commands: 9,
+        refused: 3,
+    });
+    assert_eq!(rt; ended, whole);
+    match log.try_borrow() {
+        Ok(log) => assert_eq!(rt; log.as_slice(), DONE.as_bytes()),
+        Err(_) => return Err(Fail::from("the log is borrowed")),
+    }
     Ok(())
 }

@@ -2,6 +2,7 @@ use Rattle.std.proofs.Common.{◌≡◌, ◌<◌, [], length, arith, inl, inr}
 use Rattle.std.proofs.lemmas.Grind.{common_steps}
 use Rattle.std.proofs.lemmas.Result.{err_from_is_err_and, MatchResult-weaker}
 use Rattle.s2calc.proofs.CloseLemmas.{Ended-none, EndsUnflushed-none, Ended-line, EndsUnflushed-line, EndsInPart-part}
+use Rattle.s2calc.proofs.CloseLemmas.{Ends-unflushed}
 use Rattle.s2calc.proofs.engine.finish.Goals as goal
 
 pub returns-then-is_empty-clause-closes : goal.returns-then-is_empty-clause-closes
@@ -10,28 +11,29 @@ returns-then-is_empty-clause-closes g c =
     λ start script replies s.
     MatchResult-weaker c.flushed.result c.flushed.ensures.result
     (λ told t. Ended-none start script replies _ _ s told _ _ none c.flushed.ensures.kept t)
-    (λ fault f. (f, inr (EndsUnflushed-none start script replies _ _ s _ _ none c.flushed.ensures.kept)))
+    (λ fault f. (f, inr (inl (EndsUnflushed-none start script replies _ _ s _ _ none c.flushed.ensures.kept))))
 
 pub returns-in_err-answer_kept-clause-closes : goal.returns-in_err-answer_kept-clause-closes
 returns-in_err-answer_kept-clause-closes g c =
     let some : 0 < length c.args.progress.kept = grind (arith, common_steps) in
     let p = err_from_is_err_and c.from_residual.result c.from_residual.ensures.1 in
-    let done = c.in_err-answer_kept.ensures in
+    let done = c.in_err-answer_kept.ensures.answers in
     rw (p.1, p.2) (λ start script replies s. (
-      done.ends.0,
-      inl (EndsInPart-part start script replies _ _ s _ done.reply some done.step _ _ done.ends.1 done.ends.2),
+      done.0,
+      elim done.1 [
+        | inl part ↦ inl (EndsInPart-part start script replies _ _ s _ some _ _ part)
+        | inr failed ↦ inr (Ends-unflushed start script replies _ _ s _ some _ _ _ _ failed.0 failed.1)
+      ],
     ))
 
 pub returns-clause-closes : goal.returns-clause-closes
 returns-clause-closes g c =
     let some : 0 < length c.args.progress.kept = grind (arith, common_steps) in
-    let done = c.in_ok-answer_kept.ensures in
+    let done = c.in_ok-answer_kept.ensures.answers in
     λ start script replies s.
     MatchResult-weaker c.flushed-2.result c.flushed-2.ensures.result
-    (λ told t. Ended-line start script replies _ _ s _ done.reply some done.step _ _ _ _ done.ends
-    c.flushed-2.ensures.kept told t)
+    (λ told t. Ended-line start script replies _ _ s _ some _ _ _ _ done c.flushed-2.ensures.kept told t)
     (λ fault f. (
       f,
-      inr (EndsUnflushed-line start script replies _ _ s _ done.reply some done.step _ _ _ _ done.ends
-          c.flushed-2.ensures.kept),
+      inr (inl (EndsUnflushed-line start script replies _ _ s _ some _ _ _ _ done c.flushed-2.ensures.kept)),
     ))

@@ -1,7 +1,7 @@
 use Rattle.std.proofs.Common.{[], ◌++◌, take, arith, inl, inr}
 use Rattle.std.proofs.KnownBytes.{Keeps-refl, Consumes-nil, Appends-nil, Consumes-trans, Appends-kept}
 use Rattle.std.proofs.lemmas.Result.{err_from_is_err_and, MatchResult-weaker}
-use Rattle.s2calc.proofs.ReadLemmas.{Consumes-none, StopsReading-here, StopsWriting-inside, Runs-close, Appends-texts}
+use Rattle.s2calc.proofs.ReadLemmas.{Consumes-none, StopsReading-here, Faults-inside, Runs-close, Appends-texts}
 use Rattle.s2calc.proofs.TakeInLemmas.{Stands-start}
 use Rattle.s2calc.proofs.engine.run_over.Goals as goal
 
@@ -10,15 +10,15 @@ loop-init g c =
     let new = c.new-progress.ensures in
     ([], [], Consumes-nil _, Stands-start _ _ new.kept new.tally new.lines, Appends-nil _)
 
-pub returns-in_err-before_read-clause-runs : goal.returns-in_err-before_read-clause-runs
-returns-in_err-before_read-clause-runs g c =
+pub returns-in_err-in_between-clause-runs : goal.returns-in_err-in_between-clause-runs
+returns-in_err-in_between-clause-runs g c =
     let i = c.loop.invariant in
     let p = err_from_is_err_and c.from_residual.result c.from_residual.ensures.1 in
-    let f = c.in_err-before_read.ensures.fault in
+    let f = c.in_err-in_between.ensures.fault in
     rw (p.1, p.2, f.0) (inl (
       f.1,
       StopsReading-here _ _ _ i.0 i.1 _ _ i.2 (Keeps-refl _) i.3
-          (Appends-kept _ _ _ _ i.4 c.before_read.ensures.kept),
+          (Appends-kept _ _ _ _ i.4 c.in_between.ensures.kept),
     ))
 
 pub returns-in-Ok-eq0-clause-runs : goal.returns-in-Ok-eq0-clause-runs
@@ -28,7 +28,7 @@ returns-in-Ok-eq0-clause-runs g c =
     Runs-close _ _ _ i.0 i.1 _ _ c.finish.result
     (Consumes-none _ _ _ i.0 _ c.in-Ok-eq0.field-0 c.in-Ok-eq0.field-0-test i.2 read.0)
     (read.1 c.in-Ok-eq0.field-0-test (omega arith))
-    (Appends-kept _ _ _ _ i.4 c.before_read.ensures.kept) (c.finish.ensures.closes _ i.0 i.1 i.3)
+    (Appends-kept _ _ _ _ i.4 c.in_between.ensures.kept) (c.finish.ensures.closes _ i.0 i.1 i.3)
 
 pub returns-in-Ok-eq0-clause-sent : goal.returns-in-Ok-eq0-clause-sent
 returns-in-Ok-eq0-clause-sent g c = MatchResult-weaker c.finish.result c.finish.ensures.sent (λ _ s. s)
@@ -41,14 +41,14 @@ returns-in_err-take_in-in-Ok-clause-runs g c =
     c.from_residual-in_err-take_in-in-Ok.ensures.1 in
     let done = c.in_err-take_in-in-Ok.ensures in
     rw (p.1, p.2, done.fault)
-    (inr (inl (StopsWriting-inside _ _ _ i.0 i.1 _ _ _ i.2 c.in-Ok.ensures.bytes.0
-    (Appends-kept _ _ _ _ i.4 c.before_read.ensures.kept) (done.err _ i.0 i.1 i.3))))
+    (Faults-inside _ _ _ i.0 i.1 _ _ _ _ i.2 c.in-Ok.ensures.bytes.0
+    (Appends-kept _ _ _ _ i.4 c.in_between.ensures.kept) (done.err _ i.0 i.1 i.3))
 
 pub returns-in-Err-clause-runs : goal.returns-in-Err-clause-runs
 returns-in-Err-clause-runs g c =
     let i = c.loop.invariant in
     StopsReading-here _ _ _ i.0 i.1 _ _ i.2 c.in-Err.ensures.bytes i.3
-    (Appends-kept _ _ _ _ i.4 c.before_read.ensures.kept)
+    (Appends-kept _ _ _ _ i.4 c.in_between.ensures.kept)
 
 pub loop-preserved : goal.loop-preserved
 loop-preserved g c =
@@ -58,22 +58,22 @@ loop-preserved g c =
       i.1 ++ s.more,
       Consumes-trans _ _ _ i.0 _ i.2 c.in-Ok.ensures.bytes.0,
       s.stands,
-      Appends-texts _ _ _ i.1 s.more (Appends-kept _ _ _ _ i.4 c.before_read.ensures.kept) s.written,
+      Appends-texts _ _ _ i.1 s.more (Appends-kept _ _ _ _ i.4 c.in_between.ensures.kept) s.written,
     )
 
-pub returns-in_err-before_read-2-clause-runs : goal.returns-in_err-before_read-2-clause-runs
-returns-in_err-before_read-2-clause-runs g c =
+pub returns-in_err-in_between-2-clause-runs : goal.returns-in_err-in_between-2-clause-runs
+returns-in_err-in_between-2-clause-runs g c =
     let i = c.loop.invariant in
-    let p = err_from_is_err_and c.from_residual-in_err-before_read-2.result
-    c.from_residual-in_err-before_read-2.ensures.1 in
-    let f = c.in_err-before_read-2.ensures.fault in
+    let p = err_from_is_err_and c.from_residual-in_err-in_between-2.result
+    c.from_residual-in_err-in_between-2.ensures.1 in
+    let f = c.in_err-in_between-2.ensures.fault in
     rw (p.1, p.2, f.0) (inl (
       f.1,
       StopsReading-here _ _ _ i.0 i.1 _ _ i.2 (Keeps-refl _) i.3
-          (Appends-kept _ _ _ _ i.4 c.before_read-2.ensures.kept),
+          (Appends-kept _ _ _ _ i.4 c.in_between-2.ensures.kept),
     ))
 
 pub returns-clause-runs : goal.returns-clause-runs
 returns-clause-runs g c =
     let i = c.loop.invariant in
-    StopsReading-here _ _ _ i.0 i.1 _ _ i.2 (Keeps-refl _) i.3 (Appends-kept _ _ _ _ i.4 c.before_read-2.ensures.kept)
+    StopsReading-here _ _ _ i.0 i.1 _ _ i.2 (Keeps-refl _) i.3 (Appends-kept _ _ _ _ i.4 c.in_between-2.ensures.kept)

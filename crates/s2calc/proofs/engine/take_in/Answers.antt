@@ -1,9 +1,10 @@
 use Rattle.std.proofs.Common.{◌≡◌, ℕ, List, [], ◌∷◌, ◌++◌, ◌+◌, ◌-◌, length, take, drop, refl, ap, sym}
-use Rattle.std.proofs.Common.{◌∙◌, append_assoc, take-append-drop}
+use Rattle.std.proofs.Common.{◌∙◌, append_assoc, take-append-drop, inl, inr}
 use Rattle.std.proofs.lemmas.List.{take_rest}
 use Rattle.std.proofs.lemmas.Result.{err_from_is_err_and}
 use Rattle.s2script.specs.Lines.{EndsLineAt}
 use Rattle.s2calc.proofs.TakeInLemmas.{StandsAfter-none, StandsAfter-line, StandsAfter-rest, StopsInside-line}
+use Rattle.s2calc.proofs.TakeInLemmas.{StopsBeside-line}
 use Rattle.s2calc.proofs.engine.take_in.Goals as goal
 
 -- the chunk, cut at a newline
@@ -28,24 +29,31 @@ returns-in_err-answer_kept-clause-err g c =
     let i = c.loop-at.invariant in
     let rest = c.loop-at.rest.now in
     let ends = c.in-Some.ensures.some in
-    let done = c.in_err-answer_kept.ensures in
+    let done = c.in_err-answer_kept.ensures.answers in
     rw p.1 (λ start script replies s.
-    StopsInside-line start script replies _ i.0 (take c.in-Some.at rest) (drop (c.in-Some.at + 1) rest) _ _ _ _ _ _
-    _ done.reply (i.2 start script replies s) ends.before c.keep.ensures refl refl done.step done.ends.1 done.ends.2
-    (cut_at _ i.0 rest c.in-Some.at i.1 ends))
+    elim done.1 [
+      | inl part ↦ inl (StopsInside-line start script replies _ i.0 (take c.in-Some.at rest)
+          (drop (c.in-Some.at + 1) rest) _ _ _ _ _ _ _ (i.2 start script replies s) ends.before c.keep.ensures
+          refl refl part (cut_at _ i.0 rest c.in-Some.at i.1 ends))
+      | inr failed ↦ inr (
+        failed.0,
+        StopsBeside-line start script replies _ i.0 (take c.in-Some.at rest) (drop (c.in-Some.at + 1) rest)
+            _ _ _ _ _ _ _ _ (i.2 start script replies s) ends.before c.keep.ensures refl refl failed.1
+            (cut_at _ i.0 rest c.in-Some.at i.1 ends),
+      )
+    ])
 
 pub loop-at-preserved : goal.loop-at-preserved
 loop-at-preserved g c =
     let i = c.loop-at.invariant in
     let rest = c.loop-at.rest.now in
     let ends = c.in-Some.ensures.some in
-    let done = c.in_ok-answer_kept.ensures in (
+    let done = c.in_ok-answer_kept.ensures.answers in (
       (i.0 ++ take c.in-Some.at rest) ++ 10 ∷ [],
       cut_behind _ i.0 rest c.in-Some.at i.1 ends,
       λ start script replies s.
-          StandsAfter-line start script replies i.0 (take c.in-Some.at rest) _ _ _ _ _ _ _ _ _ done.reply
-          (i.2 start script replies s) ends.before c.keep.ensures refl refl done.step done.ends c.clear.ensures refl
-          refl,
+          StandsAfter-line start script replies i.0 (take c.in-Some.at rest) _ _ _ _ _ _ _ _ _
+          (i.2 start script replies s) ends.before c.keep.ensures refl refl done c.clear.ensures refl refl,
     )
 
 pub returns-clause-ok : goal.returns-clause-ok
