@@ -11,6 +11,7 @@ mod cells;
 mod copying;
 mod find;
 mod keys;
+pub mod laws;
 mod normalising;
 mod run;
 mod whole;
@@ -20,7 +21,7 @@ pub use ask::{
 };
 pub use cells::{Cells, FileIds, IdList, cell_of, number};
 pub use copying::union_of;
-pub use keys::{ancestors, law_of_indexes};
+pub use keys::ancestors;
 pub use normalising::normalise;
 pub use run::cells_at;
 pub use whole::{first_wrong, is_union, leaf_count};
