@@ -14,6 +14,17 @@ use std::marker::Model;
 /// The cells ascend by identifier and share no leaf, and no four of them are the children of one parent. Cells of level
 /// 0, the faces, have no parent and are never merged. Unions of the same leaves have the same cells, whatever they were
 /// made from. S2 calls it `S2CellUnion`.
+///
+/// Its methods, and the files that have them:
+///
+/// - made, here: `empty`, `from_normalized`, `try_clone`, `into_cells`; elsewhere: `from_cells` (collection.rt, as
+///   `normalise` in normalising.rt), `from_range` (sets.rt), `with_room` (apply.rt)
+/// - its list, here: `cells`, `len`, `is_empty`, `leaf_count`, `room`; `iter`, `==`, `Hash`, `Debug` (collection.rt)
+/// - questions: `contains_cell`, `intersects_cell`, `contains`, `intersects`, each with a `_counted` form (search.rt),
+///   `cells_at` (overlap.rt), `cursor` (cursor.rt)
+/// - set operations: `union`, `intersection`, `difference`, `difference_up_to` (sets.rt)
+/// - changes: `can_apply`, `apply_into`, `copy_from` (apply.rt)
+/// - cut to levels: `denormalized`, `denormalized_len` (denorm.rt)
 #[derive(Drop)]
 pub struct CellUnion {
     pub(crate) cells: Vec<CellId>,
@@ -39,6 +50,16 @@ impl CellUnion {
         CellUnion {
             cells: Vec::new(alloc),
         }
+    }
+
+    /// The union whose list is this one, which must be normalized already. Looks at no cell and takes no memory. S2:
+    /// `FromNormalized`.
+    pub fn from_normalized(cells: Vec<CellId>) -> CellUnion
+        requires { IsLocal cells.items }
+        ensures value { result.cells ≡ cells.items }
+        ensures room { result.room ≡ vec_capacity cells }
+    {
+        CellUnion { cells }
     }
 
     /// The cells, ascending: the normal form of the leaves.
