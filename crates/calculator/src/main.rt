@@ -19,7 +19,7 @@ fn main(rt: HostRuntime) -> ExitCode {
         Err(error) => {
             return match error.kind() {
                 ErrorKind::OutOfMemory => ended(&rt, &Err(RunFault::Memory)),
-                _ => misused(&rt),
+                _ => unreadable(&rt),
             };
         }
     };
@@ -142,12 +142,23 @@ fn not_asked(rt: &(impl Eprint + Print), error: &clap::Error) -> ExitCode {
     if error.kind() == clap::error::ErrorKind::OutOfMemory {
         return ended(rt, &Err(RunFault::Memory));
     }
-    let status = if error.use_stderr() {
-        misused(rt)
-    } else {
-        ExitCode::SUCCESS
-    };
-    let _ = error.print(rt);
+    if error.use_stderr() {
+        let status = misused(rt);
+        let _ = error.print(rt);
+        return status;
+    }
+    match error.print(rt) {
+        Ok(()) => ExitCode::SUCCESS,
+        Err(_) => ended(rt, &Err(RunFault::Output)),
+    }
+}
+
+/// What is wrong with words that aren't UTF-8, in clap's words.
+fn unreadable(rt: &impl Eprint) -> ExitCode {
+    let status = misused(rt);
+    let _ = rt.eprintln(
+        "error: invalid UTF-8 was detected in one or more arguments\n\nFor more information, try '--help'.",
+    );
     status
 }
 

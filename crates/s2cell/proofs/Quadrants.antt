@@ -66,7 +66,7 @@ digit_of_below = sixteen_cases (λ o q. digit_of o q < 4)
     (four_cases (λ q. digit_of 2 q < 4) (omega arith) (omega arith) (omega arith) (omega arith))
     (four_cases (λ q. digit_of 3 q < 4) (omega arith) (omega arith) (omega arith) (omega arith))
 
--- ---- the two tables of one level
+-- ---- the table of one level
 
 -- the entry at the orientation `o` and the digit `p`: the quadrant and the next orientation
 pub record IsPlaceStep (o p e : ℕ) : Type 0 where
@@ -100,36 +100,3 @@ place_step_is = sixteen_cases (λ o p. IsPlaceStep o p (get_or place_steps (4 * 
     (record { picked = refl; turned = refl; entry = lit< tt })
     (record { picked = refl; turned = refl; entry = lit< tt })
     (record { picked = refl; turned = refl; entry = lit< tt }))
-
--- the entry at the orientation `o` and the quadrant `q`: the digit and the next orientation
-pub record IsLeafStep (o q e : ℕ) : Type 0 where
-  pub picks : quadrant o (e / 4) ≡ q
-  pub turned : e % 4 ≡ bit_xor o (turn (e / 4))
-  pub entry : e < 16
-
-unfoldable pub leaf_steps : List ℕ
-leaf_steps = 1 ∷ 0 ∷ 10 ∷ 11 ∷ 4 ∷ 14 ∷ 13 ∷ 7 ∷ 15 ∷ 5 ∷ 6 ∷ 12 ∷ 8 ∷ 9 ∷ 3 ∷ 2 ∷ []
-
-pub leaf_step_is : (o q : ℕ) → o < 4 → q < 4 → IsLeafStep o q (get_or leaf_steps (4 * q + o) 0)
-unfolding leaf_steps quadrant quadrants turn
-leaf_step_is = sixteen_cases (λ o q. IsLeafStep o q (get_or leaf_steps (4 * q + o) 0))
-    (four_cases (λ p. IsLeafStep 0 p (get_or leaf_steps (4 * p + 0) 0))
-    (record { picks = refl; turned = refl; entry = lit< tt })
-    (record { picks = refl; turned = refl; entry = lit< tt })
-    (record { picks = refl; turned = refl; entry = lit< tt })
-    (record { picks = refl; turned = refl; entry = lit< tt }))
-    (four_cases (λ p. IsLeafStep 1 p (get_or leaf_steps (4 * p + 1) 0))
-    (record { picks = refl; turned = refl; entry = lit< tt })
-    (record { picks = refl; turned = refl; entry = lit< tt })
-    (record { picks = refl; turned = refl; entry = lit< tt })
-    (record { picks = refl; turned = refl; entry = lit< tt }))
-    (four_cases (λ p. IsLeafStep 2 p (get_or leaf_steps (4 * p + 2) 0))
-    (record { picks = refl; turned = refl; entry = lit< tt })
-    (record { picks = refl; turned = refl; entry = lit< tt })
-    (record { picks = refl; turned = refl; entry = lit< tt })
-    (record { picks = refl; turned = refl; entry = lit< tt }))
-    (four_cases (λ p. IsLeafStep 3 p (get_or leaf_steps (4 * p + 3) 0))
-    (record { picks = refl; turned = refl; entry = lit< tt })
-    (record { picks = refl; turned = refl; entry = lit< tt })
-    (record { picks = refl; turned = refl; entry = lit< tt })
-    (record { picks = refl; turned = refl; entry = lit< tt }))

@@ -1,113 +1,111 @@
 -- Every entry of the two tables, by a test that computes.
 use Rattle.std.proofs.Common.{◌≡◌, ℕ, suc, zero, ◌+◌, ◌*◌, ◌/◌, ◌%◌, ◌^◌, ◌<◌, Bool, true, ◌&&◌}
-use Rattle.std.proofs.Common.{◌==◌, nat_lt, List, [], ◌∷◌, length, get_or, refl, sym, arith, subst, eqb-true, ltb-true}
+use Rattle.std.proofs.Common.{◌==◌, bit_xor, List, [], ◌∷◌, length, get_or, refl, sym, arith, subst, eqb-true}
+use Rattle.std.proofs.Math.Nat.{div-one}
+use Rattle.std.proofs.lemmas.Nat.{pow_pos, mod_below}
 use Rattle.std.proofs.lemmas.Bool.{and_parts}
 use Rattle.s2cell.specs.declared.tables.TheConstants.{PLACES, LEAVES}
-use Rattle.s2cell.specs.Curve.{At, orientation_after, quadrant, quadrants, turn, i_within, j_within}
-use Rattle.s2cell.specs.Entries.{IsPlaceEntry, IsLeafEntry, word_i, word_j}
-use Rattle.s2cell.proofs.Places.{at_within}
+use Rattle.s2cell.specs.Curve.{At, orientation_after, quadrant, quadrants, turn}
+use Rattle.s2cell.specs.Entries.{IsPlaceEntry, IsLeafEntry, held}
+use Rattle.s2cell.proofs.CellLemmas.{four_pos}
+use Rattle.s2cell.proofs.Quadrants.{four_cases}
 
--- each entry of a list passes a test with its index, counted from `i`
-unfoldable pub entries_pass : (ℕ → ℕ → Bool) → ℕ → List ℕ → Bool
-entries_pass p i [] = true
-entries_pass p i (e ∷ es) = p i e && entries_pass p (i + 1) es
+-- leaf `n` of a square with sides of `2 ^ k`, entered at the orientation `o`, is at `x`, `y`, and `s` is sixteen times
+-- the orientation after it
+unfoldable pub way_test : ℕ → ℕ → ℕ → ℕ → ℕ → ℕ → Bool
+way_test zero o n x y s = s == 16 * o
+way_test (suc k) o n x y s = (2 * (x / 2 ^ k) + y / 2 ^ k == quadrant o (n / 4 ^ k))
+    && way_test k (bit_xor o (turn (n / 4 ^ k))) (n % 4 ^ k) (x % 2 ^ k) (y % 2 ^ k) s
 
-pub entry_passes : (p : ℕ → ℕ → Bool) (i : ℕ) (es : List ℕ) (k : ℕ) → entries_pass p i es ≡ true → k < length es →
-    p (i + k) (get_or es k 0) ≡ true
-unfolding entries_pass
-entry_passes p i [] k h lt = absurd (omega arith)
-entry_passes p i (e ∷ es) zero h lt =
-    let at : i ≡ i + 0 = omega arith in
-    subst (λ (z : ℕ). p z e ≡ true) at (and_parts (p i e) (entries_pass p (i + 1) es) h).0
-entry_passes p i (e ∷ es) (suc k) h lt =
-    let at : i + 1 + k ≡ i + suc k = omega arith in
-    subst (λ (z : ℕ). p z (get_or es k 0) ≡ true) at
-    (entry_passes p (i + 1) es k (and_parts (p i e) (entries_pass p (i + 1) es) h).1 (omega arith))
+pub record Passed (k o n x y s : ℕ) : Type 0 where
+  pub at : At k o n x y
+  pub next : s ≡ 16 * orientation_after k o n
 
--- an entry, taken apart, is a place and an orientation
+pub way_test-true : (k o n x y s : ℕ) → n < 4 ^ k → x < 2 ^ k → y < 2 ^ k → way_test k o n x y s ≡ true →
+    Passed k o n x y s
+unfolding way_test At orientation_after
+way_test-true zero o n x y s hn hx hy h = record {
+  at = (omega arith, omega arith, omega arith);
+  next = eqb-true s (16 * o) h;
+}
+way_test-true (suc k) o n x y s hn hx hy h =
+    let q = 2 * (x / 2 ^ k) + y / 2 ^ k in
+    let u = bit_xor o (turn (n / 4 ^ k)) in
+    let parts = and_parts (q == quadrant o (n / 4 ^ k)) (way_test k u (n % 4 ^ k) (x % 2 ^ k) (y % 2 ^ k) s) h in
+    let below = way_test-true k u (n % 4 ^ k) (x % 2 ^ k) (y % 2 ^ k) s (mod_below n (4 ^ k) (four_pos k))
+    (mod_below x (2 ^ k) (pow_pos k)) (mod_below y (2 ^ k) (pow_pos k)) parts.1 in
+    record { at = (hn, hx, hy, eqb-true q (quadrant o (n / 4 ^ k)) parts.0, below.at); next = below.next }
+
+-- an entry at an orientation and an index
 unfoldable pub place_test : ℕ → ℕ → ℕ → Bool
-place_test o n e = (i_within 4 o n == word_i e) && (j_within 4 o n == word_j e)
-    && (orientation_after 4 o n == e / 2 ^ 62)
+place_test o n e = way_test 5 o n (held e / 32) (held e % 32) (e % 64)
 
-pub place_test-true : (o n e : ℕ) → o < 4 → n < 4 ^ 4 → place_test o n e ≡ true → IsPlaceEntry o n e
+unfoldable pub leaf_test : ℕ → ℕ → ℕ → Bool
+leaf_test o p e = way_test 5 o (held e) (p / 32) (p % 32) (e % 64)
+
+pub place_test-true : (o n e : ℕ) → n < 1024 → place_test o n e ≡ true → IsPlaceEntry o n e
 unfolding place_test
-place_test-true o n e ho hn h =
-    let outer = and_parts ((i_within 4 o n == word_i e) && (j_within 4 o n == word_j e))
-    (orientation_after 4 o n == e / 2 ^ 62) h in
-    let inner = and_parts (i_within 4 o n == word_i e) (j_within 4 o n == word_j e) outer.0 in
-    let x : i_within 4 o n ≡ word_i e = eqb-true (i_within 4 o n) (word_i e) inner.0 in
-    let y : j_within 4 o n ≡ word_j e = eqb-true (j_within 4 o n) (word_j e) inner.1 in
-    let t : orientation_after 4 o n ≡ e / 2 ^ 62 = eqb-true (orientation_after 4 o n) (e / 2 ^ 62) outer.1 in
-    let way = at_within 4 o n ho hn in
-    record {
-      place = subst (λ (z : ℕ). At 4 o n z (word_j e)) x
-          (subst (λ (z : ℕ). At 4 o n (i_within 4 o n) z) y way);
-      next = sym t;
-    }
+place_test-true o n e hn h =
+    let p = way_test-true 5 o n (held e / 32) (held e % 32) (e % 64) hn (omega arith) (omega arith) h in
+    record { place = p.at; next = p.next }
 
-unfoldable pub leaf_test : ℕ → ℕ → ℕ → ℕ → Bool
-leaf_test o x y e = nat_lt (e / 4) 256 && (i_within 4 o (e / 4) == x) && (j_within 4 o (e / 4) == y)
-    && (orientation_after 4 o (e / 4) == e % 4)
-
-pub leaf_test-true : (o x y e : ℕ) → o < 4 → leaf_test o x y e ≡ true → IsLeafEntry o x y e
+pub leaf_test-true : (o p e : ℕ) → p < 1024 → leaf_test o p e ≡ true → IsLeafEntry o (p / 32) (p % 32) e
 unfolding leaf_test
-leaf_test-true o x y e ho h =
-    let n = e / 4 in
-    let one = and_parts ((nat_lt n 256 && (i_within 4 o n == x)) && (j_within 4 o n == y))
-    (orientation_after 4 o n == e % 4) h in
-    let two = and_parts (nat_lt n 256 && (i_within 4 o n == x)) (j_within 4 o n == y) one.0 in
-    let three = and_parts (nat_lt n 256) (i_within 4 o n == x) two.0 in
-    let hn : n < 256 = ltb-true n 256 three.0 in
-    let hx : i_within 4 o n ≡ x = eqb-true (i_within 4 o n) x three.1 in
-    let hy : j_within 4 o n ≡ y = eqb-true (j_within 4 o n) y two.1 in
-    let t : orientation_after 4 o n ≡ e % 4 = eqb-true (orientation_after 4 o n) (e % 4) one.1 in
-    let way = at_within 4 o n ho hn in
-    record {
-      leaf = subst (λ (z : ℕ). At 4 o n z y) hx (subst (λ (z : ℕ). At 4 o n (i_within 4 o n) z) hy way);
-      next = sym t;
-    }
+leaf_test-true o p e hp h =
+    let w = way_test-true 5 o (held e) (p / 32) (p % 32) (e % 64) (omega arith) (omega arith) (omega arith) h in
+    record { leaf = w.at; next = w.next }
 
--- each entry of the first table passes, at its index 4 * digits + orientation
-unfoldable pub all_places : List ℕ → Bool
-all_places es = entries_pass (λ i e. place_test (i % 4) (i / 4) e) 0 es
+-- the four entries of each word of a list pass a test with their orientation and the word's index, counted from `i`
+unfoldable pub word_passes : (ℕ → ℕ → ℕ → Bool) → ℕ → ℕ → Bool
+word_passes p i w = (p 0 i w && p 1 i (w / 2 ^ 16)) && (p 2 i (w / 2 ^ 32) && p 3 i (w / 2 ^ 48))
 
--- each entry of the second, at its index 64 * i + 4 * j + orientation
-unfoldable pub all_leaves : List ℕ → Bool
-all_leaves es = entries_pass (λ i e. leaf_test (i % 4) (i / 64) (i / 4 % 16) e) 0 es
+unfoldable pub words_pass : (ℕ → ℕ → ℕ → Bool) → ℕ → List ℕ → Bool
+words_pass p i [] = true
+words_pass p i (w ∷ ws) = word_passes p i w && words_pass p (suc i) ws
 
-places_ok : all_places PLACES ≡ true
-unfolding all_places place_test entries_pass i_within j_within orientation_after turn quadrant quadrants
+pub entry_passes : (p : ℕ → ℕ → ℕ → Bool) (i w o : ℕ) → o < 4 → word_passes p i w ≡ true →
+    p o i (w / 2 ^ (16 * o)) ≡ true
+unfolding word_passes
+entry_passes p i w o ho h =
+    let halves = and_parts (p 0 i w && p 1 i (w / 2 ^ 16)) (p 2 i (w / 2 ^ 32) && p 3 i (w / 2 ^ 48)) h in
+    let low = and_parts (p 0 i w) (p 1 i (w / 2 ^ 16)) halves.0 in
+    let high = and_parts (p 2 i (w / 2 ^ 32)) (p 3 i (w / 2 ^ 48)) halves.1 in
+    four_cases (λ o. p o i (w / 2 ^ (16 * o)) ≡ true)
+    (subst (λ z. p 0 i z ≡ true) (sym (div-one w)) low.0) low.1 high.0 high.1 o ho
+
+pub word_at : (p : ℕ → ℕ → ℕ → Bool) (i : ℕ) (ws : List ℕ) (k : ℕ) → words_pass p i ws ≡ true → k < length ws →
+    word_passes p (i + k) (get_or ws k 0) ≡ true
+unfolding words_pass
+word_at p i [] k h lt = absurd (omega arith)
+word_at p i (w ∷ ws) zero h lt =
+    let at : i ≡ i + 0 = omega arith in
+    subst (λ z. word_passes p z w ≡ true) at (and_parts (word_passes p i w) (words_pass p (suc i) ws) h).0
+word_at p i (w ∷ ws) (suc k) h lt =
+    let at : suc i + k ≡ i + suc k = omega arith in
+    subst (λ z. word_passes p z (get_or ws k 0) ≡ true) at
+    (word_at p (suc i) ws k (and_parts (word_passes p i w) (words_pass p (suc i) ws) h).1 (omega arith))
+
+places_ok : words_pass place_test 0 PLACES ≡ true
+unfolding words_pass word_passes place_test way_test turn quadrant quadrants
 places_ok = refl
 
-leaves_ok : all_leaves LEAVES ≡ true
-unfolding all_leaves leaf_test entries_pass i_within j_within orientation_after turn quadrant quadrants
+leaves_ok : words_pass leaf_test 0 LEAVES ≡ true
+unfolding words_pass word_passes leaf_test way_test turn quadrant quadrants
 leaves_ok = refl
 
-place_at_index : (es : List ℕ) → all_places es ≡ true → (o n : ℕ) → o < 4 → n < 256 → 4 * n + o < length es →
-    IsPlaceEntry o n (get_or es (4 * n + o) 0)
-unfolding all_places
-place_at_index es ok o n ho hn lt =
-    let i = 4 * n + o in
-    let e = get_or es i 0 in
-    let passes = entry_passes (λ i e. place_test (i % 4) (i / 4) e) 0 es i ok lt in
-    let a : (0 + i) % 4 ≡ o = omega arith in
-    let b : (0 + i) / 4 ≡ n = omega arith in
-    place_test-true o n e ho hn (rw (a, b) at passes)
+passes : (p : ℕ → ℕ → ℕ → Bool) (ws : List ℕ) → words_pass p 0 ws ≡ true → (s k : ℕ) → s < 64 → s % 16 ≡ 0 →
+    k < length ws → p (s / 16) k (get_or ws k 0 / 2 ^ s) ≡ true
+passes p ws ok s k hs he lt =
+    let es : 16 * (s / 16) ≡ s = omega arith in
+    let ek : 0 + k ≡ k = omega arith in
+    let there = entry_passes p (0 + k) (get_or ws k 0) (s / 16) (omega arith) (word_at p 0 ws k ok lt) in
+    rw (es, ek) at there
 
-leaf_at_index : (es : List ℕ) → all_leaves es ≡ true → (o x y : ℕ) → o < 4 → x < 16 → y < 16 →
-    64 * x + 4 * y + o < length es → IsLeafEntry o x y (get_or es (64 * x + 4 * y + o) 0)
-unfolding all_leaves
-leaf_at_index es ok o x y ho hx hy lt =
-    let i = 64 * x + 4 * y + o in
-    let e = get_or es i 0 in
-    let passes = entry_passes (λ i e. leaf_test (i % 4) (i / 64) (i / 4 % 16) e) 0 es i ok lt in
-    let a : (0 + i) % 4 ≡ o = omega arith in
-    let b : (0 + i) / 64 ≡ x = omega arith in
-    let c : (0 + i) / 4 % 16 ≡ y = omega arith in
-    leaf_test-true o x y e ho (rw (a, b, c) at passes)
+pub place_entry_is : (s n : ℕ) → s < 64 → s % 16 ≡ 0 → n < 1024 → IsPlaceEntry (s / 16) n (get_or PLACES n 0 / 2 ^ s)
+place_entry_is s n hs he hn =
+    place_test-true (s / 16) n (get_or PLACES n 0 / 2 ^ s) hn (passes place_test PLACES places_ok s n hs he hn)
 
-pub place_entry_is : (o n : ℕ) → o < 4 → n < 256 → IsPlaceEntry o n (get_or PLACES (4 * n + o) 0)
-place_entry_is o n ho hn = place_at_index PLACES places_ok o n ho hn (omega arith)
-
-pub leaf_entry_is : (o x y : ℕ) → o < 4 → x < 16 → y < 16 → IsLeafEntry o x y (get_or LEAVES (64 * x + 4 * y + o) 0)
-leaf_entry_is o x y ho hx hy = leaf_at_index LEAVES leaves_ok o x y ho hx hy (omega arith)
+pub leaf_entry_is : (s p : ℕ) → s < 64 → s % 16 ≡ 0 → p < 1024 →
+    IsLeafEntry (s / 16) (p / 32) (p % 32) (get_or LEAVES p 0 / 2 ^ s)
+leaf_entry_is s p hs he hp =
+    leaf_test-true (s / 16) p (get_or LEAVES p 0 / 2 ^ s) hp (passes leaf_test LEAVES leaves_ok s p hs he hp)

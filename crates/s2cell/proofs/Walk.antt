@@ -1,10 +1,10 @@
 -- The way down the curve, as the code goes it: what each step adds to the way so far.
-use Rattle.std.proofs.Common.{◌≡◌, ℕ, ◌+◌, ◌-◌, ◌*◌, ◌/◌, ◌%◌, ◌^◌, ◌<◌, ◌≤◌, refl, sym}
+use Rattle.std.proofs.Common.{◌≡◌, ℕ, suc, zero, ◌+◌, ◌-◌, ◌*◌, ◌/◌, ◌%◌, ◌^◌, ◌<◌, ◌≤◌, refl, sym}
 use Rattle.std.proofs.Common.{◌∙◌, ap, arith, subst, bit_xor}
 use Rattle.std.proofs.Math.Nat.{div-div-eq-div-mul, div-eq_of_lt, div-one, pow-le-pow_right}
 use Rattle.std.proofs.lemmas.Nat.{pow-add, div-add-mod'}
 use Rattle.s2cell.specs.Curve.{At, orientation_after, quadrant, turn}
-use Rattle.s2cell.specs.Entries.{IsPlaceEntry, IsLeafEntry, word_i, word_j}
+use Rattle.s2cell.specs.Entries.{IsPlaceEntry, IsLeafEntry, fives, held}
 use Rattle.s2cell.proofs.Quadrants.{turn_keeps}
 use Rattle.s2cell.proofs.Levels.{at_bounds, at_step, at_join, orientation_join}
 
@@ -54,13 +54,17 @@ way_one o p a b t ho hp ha hb q et =
       below = subst (λ z. z < 4) (sym et) (turn_keeps o p ho hp);
     }
 
--- four levels by an entry of the first table
-pub way_by_place : (o n e : ℕ) → e < 2 ^ 64 → IsPlaceEntry o n e → Way 4 o n (word_i e) (word_j e) (e / 2 ^ 62)
-way_by_place o n e he entry = record { at = entry.place; orientation = entry.next; below = omega arith }
+-- five levels by an entry of the first table
+way_by_place : (o n e : ℕ) → IsPlaceEntry o n e → Way 5 o n (held e / 32) (held e % 32) (e % 64 / 16)
+way_by_place o n e entry =
+    let h = entry.next in
+    record { at = entry.place; orientation = omega arith; below = omega arith }
 
--- four levels by an entry of the second table
-pub way_by_leaf : (o x y e : ℕ) → IsLeafEntry o x y e → Way 4 o (e / 4) x y (e % 4)
-way_by_leaf o x y e entry = record { at = entry.leaf; orientation = entry.next; below = omega arith }
+-- five levels by an entry of the second table
+way_by_leaf : (o x y e : ℕ) → IsLeafEntry o x y e → Way 5 o (held e) x y (e % 64 / 16)
+way_by_leaf o x y e entry =
+    let h = entry.next in
+    record { at = entry.leaf; orientation = omega arith; below = omega arith }
 
 -- the leading bits of a coordinate, with `b` bits more
 pub bits_more : (i b s : ℕ) → i / 2 ^ (s + b) * 2 ^ b + i / 2 ^ s % 2 ^ b ≡ i / 2 ^ s
@@ -90,28 +94,71 @@ to_leaf_more k b o n i j t m u r h w below eu =
     (way_join k b o n (i / 2 ^ (30 - k)) (j / 2 ^ (30 - k)) t m (i / 2 ^ s % 2 ^ b) (j / 2 ^ s % 2 ^ b) r w below)
     refl (sym eu) (rw e (bits_more i b s)) (rw e (bits_more j b s))
 
--- one level more by an entry
-pub to_leaf_one : (k o n i j t q e m u : ℕ) → k < 30 → o < 4 → WayToLeaf k o n i j t
-    → q ≡ 2 * (i / 2 ^ (29 - k) % 2) + j / 2 ^ (29 - k) % 2 → quadrant t (e / 4) ≡ q →
-    e % 4 ≡ bit_xor t (turn (e / 4)) → e < 16 → m ≡ e / 4 → u ≡ e % 4
-    → WayToLeaf (k + 1) o (4 * n + m) i j u
-to_leaf_one k o n i j t q e m u hk ho w eq picks turned he em eu =
-    let s : 30 - (k + 1) ≡ 29 - k = omega arith in
-    let one = way_one t (e / 4) (i / 2 ^ (29 - k) % 2) (j / 2 ^ (29 - k) % 2) u w.below (omega arith) (omega arith)
-    (omega arith) (sym eq ∙ sym picks) (eu ∙ turned) in
-    to_leaf_more k 1 o n i j t (e / 4) (4 * n + m) u (omega arith) w (rw s one) (omega arith)
+-- five levels more by an entry
+to_leaf_five : (k o n i j t x y e : ℕ) → k + 5 ≤ 30 → WayToLeaf k o n i j t → x ≡ i / 2 ^ (30 - (k + 5)) % 32
+    → y ≡ j / 2 ^ (30 - (k + 5)) % 32 → IsLeafEntry t x y e
+    → WayToLeaf (k + 5) o (1024 * n + held e) i j (e % 64 / 16)
+to_leaf_five k o n i j t x y e h w ex ey entry =
+    to_leaf_more k 5 o n i j t (held e) (1024 * n + held e) (e % 64 / 16) h w
+    (rw (← ex, ← ey) (way_by_leaf t x y e entry)) (omega arith)
 
--- four levels more by an entry
-pub to_leaf_four : (b o n i j t e x y u r : ℕ) → b < 7 → WayToLeaf (2 + 4 * b) o n i j t
-    → x ≡ i / 2 ^ (24 - 4 * b) % 16 → y ≡ j / 2 ^ (24 - 4 * b) % 16 → IsLeafEntry t x y e → r ≡ e / 4 → u ≡ e % 4
-    → WayToLeaf (2 + 4 * (b + 1)) o (256 * n + r) i j u
-to_leaf_four b o n i j t e x y u r hb w ex ey entry er eu =
-    let k = 2 + 4 * b in
-    let es : 30 - (k + 4) ≡ 24 - 4 * b = omega arith in
-    let ek : k + 4 ≡ 2 + 4 * (b + 1) = omega arith in
-    let four = way_by_leaf t x y e entry in
-    subst (λ z. WayToLeaf z o (256 * n + r) i j u) ek
-    (to_leaf_more k 4 o n i j t (e / 4) (256 * n + r) u (omega arith) w (rw (es, ← ex, ← ey, eu) four) (omega arith))
+-- ten bits of two numbers whose fives are side by side
+record Pair (p u v : ℕ) : Type 0 where
+  pub first : p / 32 ≡ u
+  pub second : p % 32 ≡ v
+
+pair_at : (b x y p : ℕ) → b < 3 → p ≡ (32 * fives x + fives y) / 2 ^ (20 - 10 * b) % 1024 →
+    Pair p (x / 2 ^ (20 - 10 * b) % 32) (y / 2 ^ (20 - 10 * b) % 32)
+unfolding fives
+pair_at zero x y p h e = record { first = omega arith; second = omega arith }
+pair_at (suc zero) x y p h e = record { first = omega arith; second = omega arith }
+pair_at (suc (suc zero)) x y p h e = record { first = omega arith; second = omega arith }
+pair_at (suc (suc (suc b))) x y p h e = absurd (omega arith)
+
+-- five bits, counted without the lowest five
+above_five : (b x : ℕ) → b < 3 → x / 32 / 2 ^ (20 - 10 * b) % 32 ≡ x / 2 ^ (30 - (10 * b + 5)) % 32
+above_five zero x h = omega arith
+above_five (suc zero) x h = omega arith
+above_five (suc (suc zero)) x h = omega arith
+above_five (suc (suc (suc b))) x h = absurd (omega arith)
+
+-- ten levels for each of `b` blocks, with the orientation as a shift
+pub record DownToLeaf (b o n i j s : ℕ) : Type 0 where
+  pub way : WayToLeaf (10 * b) o n i j (s / 16)
+  pub shift : s < 64
+  pub whole : s % 16 ≡ 0
+
+pub to_leaf_begin : (o i j s : ℕ) → o < 4 → i < 2 ^ 30 → j < 2 ^ 30 → s ≡ 16 * o → DownToLeaf 0 o 0 i j s
+to_leaf_begin o i j s ho hi hj es =
+    let e : o ≡ s / 16 = omega arith in
+    record {
+      way = subst (λ t. WayToLeaf 0 o 0 i j t) e (to_leaf_start o i j ho hi hj);
+      shift = omega arith;
+      whole = omega arith;
+    }
+
+-- ten levels more by two entries
+pub to_leaf_ten : (b o n i j s odd even p q d r e z u v : ℕ) → b < 3 → DownToLeaf b o n i j s
+    → odd ≡ 32 * fives (i / 32) + fives (j / 32) → even ≡ 32 * fives i + fives j
+    → p ≡ odd / 2 ^ (20 - 10 * b) % 1024 → q ≡ even / 2 ^ (20 - 10 * b) % 1024
+    → IsLeafEntry (s / 16) (p / 32) (p % 32) d → r ≡ d % 64 → IsLeafEntry (r / 16) (q / 32) (q % 32) e → z ≡ e % 64
+    → u ≡ held d → v ≡ held e → DownToLeaf (b + 1) o (1024 * (1024 * n + u) + v) i j z
+to_leaf_ten b o n i j s odd even p q d r e z u v hb w eo ee ep eq upper er lower ez eu ev =
+    let first = pair_at b (i / 32) (j / 32) p hb (rw eo at ep) in
+    let second = pair_at b i j q hb (rw ee at eq) in
+    let one = to_leaf_five (10 * b) o n i j (s / 16) (p / 32) (p % 32) d (omega arith) w.way
+    (first.first ∙ above_five b i hb) (first.second ∙ above_five b j hb) upper in
+    let low : 30 - (10 * b + 5 + 5) ≡ 20 - 10 * b = omega arith in
+    let two = to_leaf_five (10 * b + 5) o (1024 * n + held d) i j (d % 64 / 16) (q / 32) (q % 32) e (omega arith) one
+    (rw low second.first) (rw low second.second) (rw er at lower) in
+    let ek : 10 * b + 5 + 5 ≡ 10 * (b + 1) = omega arith in
+    let h = lower.next in
+    record {
+      way = rw (eu, ev, ez) (subst
+          (λ k. WayToLeaf k o (1024 * (1024 * n + held d) + held e) i j (e % 64 / 16)) ek two);
+      shift = omega arith;
+      whole = omega arith;
+    }
 
 -- the leaf's number stays small
 pub to_leaf_small : (k a o n i j t : ℕ) → k ≤ a → WayToLeaf k o n i j t → n < 4 ^ a
@@ -144,29 +191,12 @@ to_place_more k b o n x y t u v r x' y' h w below ex ey =
     (way_join k b o (n / 4 ^ (30 - k)) x y t (n / 4 ^ s % 4 ^ b) u v r w below)
     refl (rw e (digits_more n b s)) (sym ex) (sym ey)
 
--- one level more by an entry
-pub to_place_one : (k o n x y t p e a b u : ℕ) → k < 30 → o < 4 → WayToPlace k o n x y t
-    → p ≡ n / 4 ^ (29 - k) % 4 → e / 4 ≡ quadrant t p → e % 4 ≡ bit_xor t (turn p) → e < 16 → a ≡ e / 8 →
-    b ≡ e / 4 % 2 → u ≡ e % 4
-    → WayToPlace (k + 1) o n (2 * x + a) (2 * y + b) u
-to_place_one k o n x y t p e a b u hk ho w ep picked turned he ea eb eu =
-    let s : 30 - (k + 1) ≡ 29 - k = omega arith in
-    let one = way_one t p a b u w.below (omega arith) (omega arith) (omega arith) (omega arith) (eu ∙ turned) in
-    to_place_more k 1 o n x y t a b u (2 * x + a) (2 * y + b) (omega arith) w (rw (s, ← ep) one) (omega arith)
-    (omega arith)
-
--- four levels more by an entry
-to_place_four : (b o n x y t d e : ℕ) → b < 7 → WayToPlace (2 + 4 * b) o n x y t
-    → d ≡ n / 4 ^ (24 - 4 * b) % 256 → e < 2 ^ 64 → IsPlaceEntry t d e
-    → WayToPlace (2 + 4 * (b + 1)) o n (16 * x + word_i e) (16 * y + word_j e) (e / 2 ^ 62)
-to_place_four b o n x y t d e hb w ed he entry =
-    let k = 2 + 4 * b in
-    let es : 30 - (k + 4) ≡ 24 - 4 * b = omega arith in
-    let ek : k + 4 ≡ 2 + 4 * (b + 1) = omega arith in
-    let four = way_by_place t d e he entry in
-    subst (λ z. WayToPlace z o n (16 * x + word_i e) (16 * y + word_j e) (e / 2 ^ 62)) ek
-    (to_place_more k 4 o n x y t (word_i e) (word_j e) (e / 2 ^ 62) (16 * x + word_i e) (16 * y + word_j e)
-    (omega arith) w (rw (es, ← ed) four) (omega arith) (omega arith))
+-- five levels more by an entry
+to_place_five : (k o n x y t d e : ℕ) → k + 5 ≤ 30 → WayToPlace k o n x y t → d ≡ n / 4 ^ (30 - (k + 5)) % 1024
+    → IsPlaceEntry t d e → WayToPlace (k + 5) o n (32 * x + held e / 32) (32 * y + held e % 32) (e % 64 / 16)
+to_place_five k o n x y t d e h w ed entry =
+    to_place_more k 5 o n x y t (held e / 32) (held e % 32) (e % 64 / 16) (32 * x + held e / 32)
+    (32 * y + held e % 32) h w (rw (← ed) (way_by_place t d e entry)) (omega arith) (omega arith)
 
 -- the coordinates stay small
 pub to_place_small : (k a o n x y t : ℕ) → k ≤ a → WayToPlace k o n x y t → (x < 2 ^ a) × (y < 2 ^ a)
@@ -181,43 +211,91 @@ pub to_place_end : (k o n x y t : ℕ) → k ≡ 30 → WayToPlace k o n x y t �
 to_place_end k o n x y t e w = rw (div-one n) at
     (let v : WayToPlace 30 o n x y t = subst (λ z. WayToPlace z o n x y t) e w in v.at)
 
--- ---- the place in a word
+-- ---- the place in two numbers
 
--- the way has come `k` levels down to the place of the leaf n, in the word `w`
-abbrev pub WordToPlace : ℕ → ℕ → ℕ → ℕ → ℕ → Type 0
-WordToPlace k o n w t = WayToPlace k o n (word_i w) (word_j w) t
+pub fives_small : (x : ℕ) → fives x < 2 ^ 25
+unfolding fives
+fives_small x = omega arith
 
--- two coordinates, put into a word
-pub word_start : (k o n i j t : ℕ) → k ≤ 30 → WayToPlace k o n i j t → WordToPlace k o n (i * 2 ^ 32 % 2 ^ 64 + j) t
-word_start k o n i j t hk w =
-    let s = to_place_small k 30 o n i j t hk w in
-    let a = s.0 in
-    let b = s.1 in
-    let ei : word_i (i * 2 ^ 32 % 2 ^ 64 + j) ≡ i = omega arith in
-    let ej : word_j (i * 2 ^ 32 % 2 ^ 64 + j) ≡ j = omega arith in
-    rw (ei, ej) w
+-- ten bits more
+fives_more : (x r : ℕ) → x < 2 ^ 20 → r < 1024 → fives (1024 * x + r) ≡ 1024 * fives x + r % 32
+unfolding fives
+fives_more x r hx hr = omega arith
 
--- a word that has moved up by four bits and taken an entry
-pub record Moved (w e : ℕ) : Type 0 where
-  pub first : word_i (w * 16 % 2 ^ 64 + e) ≡ 16 * word_i w + word_i e
-  pub second : word_j (w * 16 % 2 ^ 64 + e) ≡ 16 * word_j w + word_j e
-  pub fits : w * 16 % 2 ^ 64 + e < 2 ^ 64
+fives_above : (x r : ℕ) → x < 2 ^ 20 → r < 1024 → fives ((1024 * x + r) / 32) ≡ 1024 * fives (x / 32) + r / 32
+unfolding fives
+fives_above x r hx hr = omega arith
 
-moved : (w e : ℕ) → w < 2 ^ 64 → word_i w < 2 ^ 26 → word_j w < 2 ^ 26 → e < 2 ^ 64 → word_i e < 16 →
-    word_j e < 16 → Moved w e
-moved w e a b c d x y = record { first = omega arith; second = omega arith; fits = omega arith }
+-- both coordinates, each by fives, in two numbers
+unfoldable pub first_of : ℕ → ℕ → ℕ
+first_of odd even = 32 * fives (odd / 32) + fives (even / 32)
 
-pub word_moved : (b o n w t d e : ℕ) → b < 7 → w < 2 ^ 64 → WordToPlace (2 + 4 * b) o n w t → e < 2 ^ 64 →
-    IsPlaceEntry t d e → Moved w e
-word_moved b o n w t d e hb hw way he entry =
-    let s = to_place_small (2 + 4 * b) 26 o n (word_i w) (word_j w) t (omega arith) way in
-    let u = at_bounds 4 t d (word_i e) (word_j e) entry.place in
-    moved w e hw s.0 s.1 he u.first u.second
+unfoldable pub second_of : ℕ → ℕ → ℕ
+second_of odd even = 32 * fives odd + fives even
 
--- four levels more by an entry
-pub word_four : (b o n w t d e : ℕ) → b < 7 → w < 2 ^ 64 → WordToPlace (2 + 4 * b) o n w t →
-    d ≡ n / 4 ^ (24 - 4 * b) % 256 → e < 2 ^ 64 → IsPlaceEntry t d e
-    → WordToPlace (2 + 4 * (b + 1)) o n (w * 16 % 2 ^ 64 + e) (e / 2 ^ 62)
-word_four b o n w t d e hb hw way ed he entry =
-    let m = word_moved b o n w t d e hb hw way he entry in
-    rw (m.first, m.second) (to_place_four b o n (word_i w) (word_j w) t d e hb way ed he entry)
+-- ten levels for each of `b` blocks, with the orientation as a shift
+pub record DownToPlace (b o n odd even s : ℕ) : Type 0 where
+  pub way : WayToPlace (10 * b) o n (first_of odd even) (second_of odd even) (s / 16)
+  pub odd_below : odd < 1024 ^ b
+  pub even_below : even < 1024 ^ b
+  pub shift : s < 64
+  pub whole : s % 16 ≡ 0
+
+pub to_place_begin : (o n s : ℕ) → o < 4 → n < 4 ^ 30 → s ≡ 16 * o → DownToPlace 0 o n 0 0 s
+unfolding first_of second_of fives
+to_place_begin o n s ho hn es =
+    let e : o ≡ s / 16 = omega arith in
+    record {
+      way = subst (λ t. WayToPlace 0 o n 0 0 t) e (to_place_start o n ho hn);
+      odd_below = omega arith;
+      even_below = omega arith;
+      shift = omega arith;
+      whole = omega arith;
+    }
+
+-- the two numbers have room for ten bits more
+pub room : (b x : ℕ) → b < 3 → x < 1024 ^ b → x < 2 ^ 20
+room b x hb hx =
+    let most : b ≤ 2 = omega arith in
+    let e : 1024 ^ b ≤ 1024 ^ 2 = pow-le-pow_right {n = 1024} (omega arith) most in
+    omega arith
+
+more_below : (b x r : ℕ) → x < 1024 ^ b → r < 1024 → 1024 * x + r < 1024 ^ (b + 1)
+more_below b x r hx hr = let e = pow-add 1024 b 1 in omega arith
+
+-- ten levels more by two entries
+pub to_place_ten : (b o n odd even s p q d r e z u v : ℕ) → b < 3 → DownToPlace b o n odd even s
+    → p ≡ n / 4 ^ (25 - 10 * b) % 1024 → q ≡ n / 4 ^ (20 - 10 * b) % 1024
+    → IsPlaceEntry (s / 16) p d → r ≡ d % 64 → IsPlaceEntry (r / 16) q e → z ≡ e % 64 → u ≡ held d → v ≡ held e
+    → DownToPlace (b + 1) o n (1024 * odd + u) (1024 * even + v) z
+unfolding first_of second_of
+to_place_ten b o n odd even s p q d r e z u v hb w ep eq upper er lower ez eu ev =
+    let high : 30 - (10 * b + 5) ≡ 25 - 10 * b = omega arith in
+    let low : 30 - (10 * b + 5 + 5) ≡ 20 - 10 * b = omega arith in
+    let x = first_of odd even in
+    let y = second_of odd even in
+    let one = to_place_five (10 * b) o n x y (s / 16) p d (omega arith) w.way (rw high ep) upper in
+    let two = to_place_five (10 * b + 5) o n (32 * x + held d / 32) (32 * y + held d % 32) (d % 64 / 16) q e
+    (omega arith) one (rw low eq) (rw er at lower) in
+    let ek : 10 * b + 5 + 5 ≡ 10 * (b + 1) = omega arith in
+    let ho = room b odd hb w.odd_below in
+    let he = room b even hb w.even_below in
+    let hu : u < 1024 = omega arith in
+    let hv : v < 1024 = omega arith in
+    let oa = fives_above odd u ho hu in
+    let ea = fives_above even v he hv in
+    let om = fives_more odd u ho hu in
+    let em = fives_more even v he hv in
+    let ex : 32 * (32 * x + held d / 32) + held e / 32 ≡ first_of (1024 * odd + u) (1024 * even + v) = omega arith in
+    let ey : 32 * (32 * y + held d % 32) + held e % 32 ≡ second_of (1024 * odd + u) (1024 * even + v) = omega arith in
+    let h = lower.next in
+    record {
+      way = way_as (10 * b + 5 + 5) o (n / 4 ^ (30 - (10 * b + 5 + 5))) (32 * (32 * x + held d / 32) + held e / 32)
+          (32 * (32 * y + held d % 32) + held e % 32) (z / 16) (10 * (b + 1)) (n / 4 ^ (30 - 10 * (b + 1)))
+          (first_of (1024 * odd + u) (1024 * even + v)) (second_of (1024 * odd + u) (1024 * even + v))
+          (rw ez two) ek (ap (λ k. n / 4 ^ (30 - k)) ek) ex ey;
+      odd_below = more_below b odd u w.odd_below hu;
+      even_below = more_below b even v w.even_below hv;
+      shift = omega arith;
+      whole = omega arith;
+    }

@@ -1,8 +1,8 @@
 use Rattle.std.proofs.Common.{sym, ◌∙◌, ap, ◌%◌, ◌/◌, ◌^◌, ◌*◌}
 use Rattle.std.proofs.lemmas.Nat.{and_mask}
 use Rattle.s2cell.proofs.Lowest.{four_pow}
-use Rattle.s2cell.proofs.way.four_digits.Goals as goal
+use Rattle.s2cell.proofs.way.five_digits.Goals as goal
 
 pub returns : goal.returns
-returns c = and_mask (c.args.leaf / 2 ^ (2 * c.args.behind)) 8
-    ∙ ap (λ z. c.args.leaf / z % 256) (sym (four_pow c.args.behind))
+returns c = and_mask (c.args.leaf / 2 ^ (2 * c.args.behind)) 10
+    ∙ ap (λ z. c.args.leaf / z % 1024) (sym (four_pow c.args.behind))
