@@ -17,16 +17,16 @@ use Rattle.s2script.specs.declared.command.Parsed.TheVariants.{Nothing as Silenc
 use Rattle.s2script.specs.Line.{line_of}
 use Rattle.s2calc.specs.World.{World}
 use Rattle.s2calc.specs.Replies.{Reply, Refuses}
-use Rattle.s2calc.specs.Questions.{Tells, ListsSome, Answers}
+use Rattle.s2calc.specs.Questions.{AnswersYesIf, ListsSome, Answers}
 use Rattle.s2calc.specs.Edits.{Gets, Moves}
 use Rattle.s2calc.specs.Fetch.{FetchesUnion}
 use Rattle.s2calc.specs.Sessions.{FetchesNoState}
-use Rattle.s2calc.specs.Step.{Loads, Writes, Restores, Acts, StepBy}
+use Rattle.s2calc.specs.Step.{Loads, WritesFile, Restores, Acts, StepBy}
 use Rattle.s2calc.specs.Run.{Steps}
 use Rattle.s2calc.specs.Laws.{is_of_shelf, is_failure}
 use Rattle.s2calc.proofs.FetchLemmas.{union_keeps}
 
-tells_no_failure : (P : Type 0) (x : Reply) → Tells P x → is_failure x ≡ false
+tells_no_failure : (P : Type 0) (x : Reply) → AnswersYesIf P x → is_failure x ≡ false
 tells_no_failure P x (inl a) = ap is_failure a.1
 tells_no_failure P x (inr a) = ap is_failure a.1
 
@@ -90,7 +90,7 @@ count_load r name a c x h (inl l) = stays a c x h (get_no_failure l.0 r a.state 
 count_load r name a c x h (inr l) = count_refused name a c l.0 x h l.1 l.2
 
 count_write : (P : List ℕ → Type 0) (name : List ℕ) (a c : World) (x : Reply) → a.files.failures < 2 ^ 64 →
-    Writes P name a x c → IsCounted a c x
+    WritesFile P name a x c → IsCounted a c x
 count_write P name a c x h (inl l) = stays a c x h (ap is_failure l.0) l.2.2.failures
 count_write P name a c x h (inr (inl l)) = rises a c x (ap is_failure l.0) l.2.failed
 count_write P name a c x h (inr (inr l)) = stays a c x h (ap is_failure l.0) l.2.1

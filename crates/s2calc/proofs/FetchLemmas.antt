@@ -4,7 +4,7 @@ use Rattle.std.proofs.Common.{sym, ◌∙◌, subst}
 use Rattle.std.specs.Prelude.{option_map}
 use Rattle.std.proofs.lemmas.Option.{same_Some, none-some}
 use Rattle.s2file.specs.declared.union_file.TheConstants.{MOST_SIZE}
-use Rattle.s2file.specs.File.{File, Faults}
+use Rattle.s2file.specs.File.{File, HasFault}
 use Rattle.s2file.proofs.Beginnings.{file_begins, fault_begins}
 use Rattle.s2file.proofs.Files.{same_leaves, no_fault}
 use Rattle.s2shelf.specs.Shelf.{Files, SameFiles, Finds, FindsBeginning}
@@ -55,7 +55,7 @@ reads_whole content bytes n S h e r = file_begins content n S h (subst (λ b. Fi
 pub refuses_whole : (content bytes : List ℕ) (n : ℕ) (refusal : Refusal) → MOST_SIZE < n → bytes ≡ take n content →
     Reads bytes (Err refusal) → Reads content (Err refusal)
 refuses_whole content bytes n refusal h e (inl r) =
-    inl (r.0, fault_begins content n r.0 h r.2 (subst (λ b. Faults b r.0) e r.1), r.2, r.3)
+    inl (r.0, fault_begins content n r.0 h r.2 (subst (λ b. HasFault b r.0) e r.1), r.2, r.3)
 refuses_whole content bytes n refusal h e (inr r) = inr r
 
 -- ---- the content

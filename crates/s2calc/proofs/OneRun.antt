@@ -31,10 +31,10 @@ use Rattle.s2script.specs.Line.{line_of}
 use Rattle.s2calc.specs.World.{World}
 use Rattle.s2calc.specs.Replies.{Reply, Says, Refuses}
 use Rattle.s2calc.specs.Texts.{cell_line, square_line, ok_line, done_line}
-use Rattle.s2calc.specs.Questions.{Tells, ListsSome, Answers}
+use Rattle.s2calc.specs.Questions.{AnswersYesIf, ListsSome, Answers}
 use Rattle.s2calc.specs.Edits.{new_set, leaves_of, IsTooLong, Gets, Moves}
 use Rattle.s2calc.specs.Sessions.{TakesOver, RefusesBytes, FetchesNoState}
-use Rattle.s2calc.specs.Step.{Loads, Writes, Saves, Dumps, Restores, Acts, Step, StepBy}
+use Rattle.s2calc.specs.Step.{Loads, WritesFile, Saves, Dumps, Restores, Acts, Step, StepBy}
 use Rattle.s2calc.specs.Run.{Steps}
 use Rattle.s2calc.specs.Laws.{SameWorld, IsPlain, AllPlain}
 use Rattle.s2calc.proofs.TextLemmas.{one_text_of}
@@ -45,7 +45,7 @@ use Rattle.s2calc.proofs.FetchLemmas.{same_refusal, union_keeps, refusal_keeps, 
 
 -- ---- questions
 
-one_tells : (P : Type 0) (x y : Reply) → Tells P x → Tells P y → x ≡ y
+one_tells : (P : Type 0) (x y : Reply) → AnswersYesIf P x → AnswersYesIf P y → x ≡ y
 one_tells P x y (inl a) (inl b) = a.1 ∙ sym b.1
 one_tells P x y (inl a) (inr b) = absurd (b.0 a.0)
 one_tells P x y (inr a) (inl b) = absurd (a.0 b.0)
@@ -209,7 +209,7 @@ both_put a b c d name bytes other s (inr l) (inr m) = l.1 ∙ s other ∙ sym m.
 
 one_write : (P Q : List ℕ → Type 0) (name : List ℕ) (a b c d : World) (x y : Reply) →
     ((bytes others : List ℕ) → P bytes → Q others → bytes ≡ others) → SameWorld a b → a.files.tells ≡ true
-    → Writes P name a x c → Writes Q name b y d → IsPlain x → IsPlain y → (x ≡ y) × SameWorld c d
+    → WritesFile P name a x c → WritesFile Q name b y d → IsPlain x → IsPlain y → (x ≡ y) × SameWorld c d
 one_write P Q name a b c d x y one s t (inl l) (inl m) p q =
     let bytes : m.2.0 ≡ l.2.0 = sym (one l.2.0 m.2.0 l.2.1 m.2.1) in
     let told : b.files.tells ≡ true = sym s.tells ∙ t in
@@ -324,7 +324,7 @@ still_loads : (r : ℕ) (name : List ℕ) (a c : World) (x : Reply) → Loads r 
 still_loads r name a c x (inl l) = (union_keeps a.files c.files name l.0 l.1).0.tells
 still_loads r name a c x (inr l) = refusal_tells a.files c.files name l.0 l.1
 
-still_writes : (P : List ℕ → Type 0) (name : List ℕ) (a c : World) (x : Reply) → Writes P name a x c →
+still_writes : (P : List ℕ → Type 0) (name : List ℕ) (a c : World) (x : Reply) → WritesFile P name a x c →
     c.files.tells ≡ a.files.tells
 still_writes P name a c x (inl l) = l.2.2.tells
 still_writes P name a c x (inr (inl l)) = l.2.tells

@@ -5,7 +5,7 @@ use Rattle.s2file.specs.Session.{Content, Spells}
 use Rattle.s2file.specs.declared.session.SessionFault.TheVariants.{Form, Memory as NoMemory}
 use Rattle.s2file.proofs.Spelled.{one_spelled}
 use Rattle.s2edit.specs.History.{History, EachList}
-use Rattle.s2edit.specs.Session.{Tells, Stored, Restored, IsTooDeep, IsTooMany}
+use Rattle.s2edit.specs.Session.{Records, Stored, Restored, IsTooDeep, IsTooMany}
 use Rattle.s2edit.proofs.Spelling.{one_history}
 use Rattle.s2shelf.specs.Shelf.{Files, SameFiles}
 use Rattle.s2calc.specs.declared.refusal.Refusal.{Refusal}
@@ -25,11 +25,11 @@ pub none_stored : (bytes : List ℕ) → ((s : Content) → Spells bytes s → F
 none_stored bytes only h st = form_apart (only st.content st.spells)
 
 -- bytes whose session tells none stand for none
-pub unfit : (bytes : List ℕ) (s : Content) → Spells bytes s → ((h : History (List ℕ)) → Tells s h → ⊥) →
+pub unfit : (bytes : List ℕ) (s : Content) → Spells bytes s → ((h : History (List ℕ)) → Records s h → ⊥) →
     (h : History (List ℕ)) → Stored bytes h → ⊥
-unfit bytes s p f h st = f h (subst (λ (x : Content). Tells x h) (one_spelled bytes st.content s st.spells p) st.tells)
+unfit bytes s p f h st = f h (subst (λ (x : Content). Records x h) (one_spelled bytes st.content s st.spells p) st.tells)
 
-pub stored_by : (bytes : List ℕ) (s : Content) (h : History (List ℕ)) → Spells bytes s → Tells s h → Stored bytes h
+pub stored_by : (bytes : List ℕ) (s : Content) (h : History (List ℕ)) → Spells bytes s → Records s h → Stored bytes h
 stored_by bytes s h p t = record { content = s; spells = p; tells = t }
 
 pub taken : (bytes : List ℕ) (s : Content) (old new : History (List ℕ)) → Spells bytes s → Restored s old new →

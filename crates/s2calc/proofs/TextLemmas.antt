@@ -4,9 +4,9 @@ use Rattle.std.proofs.lemmas.Bool.{cases_eq}
 use Rattle.std.proofs.lemmas.List.{get_or-set_other, reverse-reverse}
 use Rattle.s2file.specs.Session.{Moved, Content, session_text}
 use Rattle.s2edit.specs.History.{History}
-use Rattle.s2edit.specs.Diff.{Diff, between}
+use Rattle.s2edit.specs.Diff.{Diff, change_between}
 use Rattle.s2edit.specs.Leads.{list_at, Leads}
-use Rattle.s2edit.specs.Session.{diff, moved, LeadBack, LeadAhead, Tells, Text}
+use Rattle.s2edit.specs.Session.{diff, moved, LeadBack, LeadAhead, Records, Text}
 
 -- the register in which two tables differ is one
 one_register : (d e : Diff) (t u : List (List ℕ)) → Leads d t u → Leads e t u → d.register ≡ e.register
@@ -20,7 +20,7 @@ one_register d e t u f g =
 -- and so the change that leads from one to the other
 one_lead : (d e : Diff) (t u : List (List ℕ)) → Leads d t u → Leads e t u → d ≡ e
 one_lead d e t u f g =
-    f.change ∙ ap (λ (r : ℕ). between r (list_at t r) (list_at u r)) (one_register d e t u f g) ∙ sym g.change
+    f.change ∙ ap (λ (r : ℕ). change_between r (list_at t r) (list_at u r)) (one_register d e t u f g) ∙ sym g.change
 
 one_moved : (m n : Moved) (t u : List (List ℕ)) → Leads (diff m) t u → Leads (diff n) t u → m ≡ n
 one_moved m n t u f g = ap moved (one_lead (diff m) (diff n) t u f g)
@@ -49,7 +49,7 @@ one_back (m ∷ ms) (n ∷ ns) t (u ∷ us) f g =
     ap (λ (x : Moved). x ∷ ms) (one_moved m n u t f.0 g.0)
     ∙ ap (λ (xs : List Moved). n ∷ xs) (one_back ms ns u us f.1 g.1)
 
-one_telling : (s t : Content) (h : History (List ℕ)) → Tells s h → Tells t h → s ≡ t
+one_telling : (s t : Content) (h : History (List ℕ)) → Records s h → Records t h → s ≡ t
 one_telling s t h f g =
     let past : s.past ≡ t.past = sym (reverse-reverse s.past)
     ∙ ap reverse (one_back (reverse s.past) (reverse t.past) h.now h.past f.past g.past)

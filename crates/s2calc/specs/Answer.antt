@@ -1,7 +1,7 @@
 -- What the code keeps of a reply until it is written.
 use Rattle.std.specs.Prelude.{ℕ, List, Bool, true, false}
 use Rattle.s2calc.specs.declared.answer.Answer.{Answer}
-use Rattle.s2calc.specs.declared.answer.Answer.TheVariants.{Nothing, Cell, Square, Moved, Count, Tells, Listing, Cut}
+use Rattle.s2calc.specs.declared.answer.Answer.TheVariants.{Nothing, Cell, Square, Moved, Count, YesOrNo, Listing, Cut}
 use Rattle.s2calc.specs.declared.answer.Answer.TheVariants.{Sides, Done, Refused}
 use Rattle.s2union.specs.Denorm.{denormalised}
 use Rattle.s2edit.specs.History.{History}
@@ -22,7 +22,7 @@ reply_of (Cell n) state = Says (cell_line n)
 reply_of (Square square) state = Says (square_line square.face square.i square.j square.size)
 reply_of (Moved out put) state = Says (ok_line out put)
 reply_of (Count cells leaves) state = Says (count_line cells leaves)
-reply_of (Tells holds) state = Says (told holds)
+reply_of (YesOrNo holds) state = Says (told holds)
 reply_of (Listing r) state = Says (listing (list_at state.now r))
 reply_of (Cut r least modulus) state = Says (listing (denormalised least modulus (list_at state.now r)))
 reply_of (Sides undos redos) state = Says (history_line undos redos)

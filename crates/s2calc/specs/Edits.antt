@@ -9,9 +9,9 @@ use Rattle.s2cover.specs.Rectangles.{Rect, rect_set}
 use Rattle.s2cover.specs.Coverings.{outer_set, inner_set}
 use Rattle.s2edit.specs.History.{History, Assigned, sets, numbers}
 use Rattle.s2edit.specs.Leads.{list_at}
-use Rattle.s2script.specs.declared.command.Edit.{Edit}
-use Rattle.s2script.specs.declared.command.Edit.TheVariants.{Add, Remove, Keep, Clear, Copy, Union, Intersect, Subtract}
-use Rattle.s2script.specs.declared.command.Edit.TheVariants.{Range, Outer, Inner, OuterOf, InnerOf}
+use Rattle.s2script.specs.declared.command.RegisterEdit.{RegisterEdit}
+use Rattle.s2script.specs.declared.command.RegisterEdit.TheVariants.{Add, Remove, Keep, Clear, Copy, Union, Intersect, Subtract}
+use Rattle.s2script.specs.declared.command.RegisterEdit.TheVariants.{Range, Outer, Inner, OuterOf, InnerOf}
 use Rattle.s2calc.specs.declared.refusal.Refusal.{Refusal}
 use Rattle.s2calc.specs.declared.refusal.Refusal.TheVariants.{TooMany, Memory, Nothing}
 use Rattle.s2calc.specs.Replies.{Reply, Says, Refuses}
@@ -31,7 +31,7 @@ within None S = S
 within (Some rect) S = λ x. S x && rect_set rect x
 
 -- the new set of leaves of the register r after the edit
-abbrev pub new_set : List (List ℕ) → ℕ → Edit → ℕ → Bool
+abbrev pub new_set : List (List ℕ) → ℕ → RegisterEdit → ℕ → Bool
 new_set table r (Add cells) = either (leaves_of table r) (has_leaf cells)
 new_set table r (Remove cells) = without (leaves_of table r) (has_leaf cells)
 new_set table r (Keep cells) = shared (leaves_of table r) (has_leaf cells)
@@ -48,7 +48,7 @@ new_set table r (InnerOf s level rect) = inner_set (within rect (leaves_of table
 
 -- The register r holds the normal form of S, which has at most `limit` cells; the history records the change, list for
 -- list and set for set; and the reply is the numbers of cells taken out and put in.
-pub record Holds (S : ℕ → Bool) (r : ℕ) (old : History (List ℕ)) (reply : Reply) (new : History (List ℕ)) : Type 0 where
+pub record RegisterBecomes (S : ℕ → Bool) (r : ℕ) (old : History (List ℕ)) (reply : Reply) (new : History (List ℕ)) : Type 0 where
   pub list : List ℕ
   pub normal : IsNormalForm S list
   pub within : length list ≤ old.limit
@@ -73,7 +73,7 @@ Makes S limit result = MatchResult result (λ u. IsNormalForm S u.cells) (Fails 
 -- the register r gets the leaves of S; or their normal form has too many cells; or there is no memory
 abbrev pub Gets : (ℕ → Bool) → ℕ → History (List ℕ) → Reply → History (List ℕ) → Type 0
 Gets S r old reply new =
-    Holds S r old reply new
+    RegisterBecomes S r old reply new
     ⊎ ((reply ≡ Refuses TooMany) × IsTooLong S old.limit × (new ≡ old))
     ⊎ ((reply ≡ Refuses Memory) × (new ≡ old))
 

@@ -22,8 +22,8 @@ abbrev pub IsOutcome : Outcome → Reply → Type 0
 IsOutcome outcome reply = outcome ≡ outcome_of reply
 
 -- the reply was written, or the writer failed after a part of it
-abbrev pub Writes : Option (List ℕ) → Option (List ℕ) → Reply → Result Outcome RunFault → Type 0
-Writes old new reply result =
+abbrev pub WritesReply : Option (List ℕ) → Option (List ℕ) → Reply → Result Outcome RunFault → Type 0
+WritesReply old new reply result =
     MatchResult result (λ outcome. IsOutcome outcome reply × Appends old new (text_of reply))
     (λ fault. (fault ≡ Output) × AppendsPart old new (text_of reply))
 
@@ -32,4 +32,4 @@ pub record Executes (old : World) (said : Parsed) (new : World) (output_old outp
     (result : Result Outcome RunFault) : Type 0 where
   pub reply : Reply
   pub step : StepBy said old reply new
-  pub writes : Writes output_old output_new reply result
+  pub writes : WritesReply output_old output_new reply result

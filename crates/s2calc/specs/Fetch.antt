@@ -2,7 +2,7 @@
 use Rattle.std.specs.Prelude.{◌≡◌, ◌≢◌, ℕ, ◌⊎◌, Bool, List, None, Some, Result, Ok, Err}
 use Rattle.s2shelf.specs.Shelf.{Files, Finds, FailsToGet}
 use Rattle.s2shelf.specs.declared.shelf.ShelfFault.TheVariants.{Device, Memory as NoRoom}
-use Rattle.s2file.specs.File.{File, Faults}
+use Rattle.s2file.specs.File.{File, HasFault}
 use Rattle.s2file.specs.declared.fault.FileFault.{FileFault}
 use Rattle.s2file.specs.declared.fault.FileFault.TheVariants.{Memory as NoMemory}
 use Rattle.s2calc.specs.declared.refusal.Refusal.{Refusal}
@@ -20,7 +20,7 @@ Fetches name old (Err refusal) new =
 -- the bytes are a file whose leaves are this set; or they are not a file; or there is no memory for its cells
 abbrev pub Reads : List ℕ → Result (ℕ → Bool) Refusal → Type 0
 Reads bytes (Ok S) = File bytes S
-Reads bytes (Err refusal) = ((fault : FileFault) × Faults bytes fault × (fault ≢ NoMemory) × (refusal ≡ Format))
+Reads bytes (Err refusal) = ((fault : FileFault) × HasFault bytes fault × (fault ≢ NoMemory) × (refusal ≡ Format))
     ⊎ (refusal ≡ Memory)
 
 -- the file under the name was fetched and read: its leaves are this set; or it couldn't be fetched or read

@@ -20,8 +20,8 @@ use Rattle.s2calc.specs.Texts.{cell_line, square_line, count_line, history_line,
 use Rattle.s2cell.specs.declared.TheConstants.{LEAVES}
 
 -- `yes` if P holds, else `no`
-abbrev pub Tells : Type 0 → Reply → Type 0
-Tells P reply = (P × (reply ≡ Says yes_line)) ⊎ ((P → ⊥) × (reply ≡ Says no_line))
+abbrev pub AnswersYesIf : Type 0 → Reply → Type 0
+AnswersYesIf P reply = (P × (reply ≡ Says yes_line)) ⊎ ((P → ⊥) × (reply ≡ Says no_line))
 
 -- the cells, one a line, unless there are more than `MOST_LISTED`
 abbrev pub ListsSome : List ℕ → Reply → Type 0
@@ -43,9 +43,9 @@ Answers (Square n) state reply = IsCell n × ((face : ℕ) × (i : ℕ) × (j : 
 Answers (Show r) state reply = reply ≡ Says (listing (list_at state.now r))
 Answers (Count r) state reply = reply ≡ Says
     (count_line (length (list_at state.now r)) (count_below (has_leaf (list_at state.now r)) LEAVES))
-Answers (Has r n) state reply = Tells (IsWithin (covers n) (has_leaf (list_at state.now r))) reply
-Answers (Touches r n) state reply = Tells (ShareSome (covers n) (has_leaf (list_at state.now r))) reply
+Answers (Has r n) state reply = AnswersYesIf (IsWithin (covers n) (has_leaf (list_at state.now r))) reply
+Answers (Touches r n) state reply = AnswersYesIf (ShareSome (covers n) (has_leaf (list_at state.now r))) reply
 Answers (Compares comparison r s) state reply =
-    Tells (Relates comparison (has_leaf (list_at state.now r)) (has_leaf (list_at state.now s))) reply
+    AnswersYesIf (Relates comparison (has_leaf (list_at state.now r)) (has_leaf (list_at state.now s))) reply
 Answers (Denorm r least modulus) state reply = ListsSome (denormalised least modulus (list_at state.now r)) reply
 Answers Sides state reply = reply ≡ Says (history_line (length state.past) (length state.future))

@@ -28,8 +28,8 @@ Loads r name old reply new =
 
 -- the file becomes bytes of this kind; or the shelf fails, and the content of that one file is not known; or there is
 -- no memory
-abbrev pub Writes : (List ℕ → Type 0) → List ℕ → World → Reply → World → Type 0
-Writes AreThose name old reply new =
+abbrev pub WritesFile : (List ℕ → Type 0) → List ℕ → World → Reply → World → Type 0
+WritesFile AreThose name old reply new =
     ((reply ≡ Says done_line) × (new.state ≡ old.state)
     × ((bytes : List ℕ) × AreThose bytes × PutsFile old.files new.files name bytes))
     ⊎ ((reply ≡ Refuses NoFile) × (new.state ≡ old.state) × LosesFile old.files new.files name)
@@ -37,11 +37,11 @@ Writes AreThose name old reply new =
 
 -- if nothing fails, the file becomes the text of the register's leaves
 abbrev pub Saves : ℕ → List ℕ → World → Reply → World → Type 0
-Saves r name old reply new = Writes (Bytes (leaves_of old.state.now r)) name old reply new
+Saves r name old reply new = WritesFile (Bytes (leaves_of old.state.now r)) name old reply new
 
 -- if nothing fails, the file becomes the text of the registers and their history
 abbrev pub Dumps : List ℕ → World → Reply → World → Type 0
-Dumps name old reply new = Writes (Text old.state) name old reply new
+Dumps name old reply new = WritesFile (Text old.state) name old reply new
 
 -- the history that the bytes of the file stand for becomes the state; or no history could be taken over, and the state
 -- stays as it was

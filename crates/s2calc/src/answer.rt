@@ -43,7 +43,7 @@ pub enum Answer {
         leaves: u64,
     },
     /// Yes or no.
-    Tells(bool),
+    YesOrNo(bool),
     /// The cells of a register.
     Listing(Register),
     /// The cells of a register, cut to levels.
@@ -83,7 +83,7 @@ pub(crate) fn write_answer<W: Write>(
         Answer::Count { cells, leaves } => {
             emit(writer, count_line(*cells as u64, *leaves).as_slice())
         }
-        Answer::Tells(yes) => emit(writer, told(*yes)),
+        Answer::YesOrNo(yes) => emit(writer, told(*yes)),
         Answer::Listing(register) => write_cells(writer, editor.register(*register).cells()),
         Answer::Cut {
             register,

@@ -15,7 +15,7 @@ use s2cover::{
     union_outer,
 };
 use s2edit::{EditFault, Editor, Register};
-use s2script::{Cells, Edit, Level};
+use s2script::{Cells, Level, RegisterEdit};
 use s2union::{CellUnion, UnionFault, normalise};
 use std::alloc::{AllocError, Global};
 
@@ -24,7 +24,7 @@ pub(crate) fn edit_register(
     alloc: Global,
     editor: &mut Editor,
     register: Register,
-    edit: Edit<'_>,
+    edit: RegisterEdit<'_>,
 ) -> Answer
     ensures { Gets (new_set editor.old.now register edit.entry) register editor.old (reply_of result editor.new)
         editor.new }
@@ -74,28 +74,28 @@ fn make(
     alloc: Global,
     editor: &Editor,
     register: Register,
-    edit: Edit<'_>,
+    edit: RegisterEdit<'_>,
 ) -> Result<CellUnion, Refusal>
     ensures { Makes (new_set editor.now.now register edit.entry) editor.now.limit result }
 {
     let union = editor.register(register);
     match edit {
-        Edit::Add(cells) => in_memory(added(alloc, union, cells)),
-        Edit::Remove(cells) => removed(alloc, union, cells, editor.limit()),
-        Edit::Keep(cells) => in_memory(kept(alloc, union, cells)),
-        Edit::Clear => Ok(nothing(alloc)),
-        Edit::Copy(other) => in_memory(copied(editor.register(other))),
-        Edit::Union(other) => in_memory(union.union(editor.register(other))),
-        Edit::Intersect(other) => in_memory(union.intersection(editor.register(other))),
-        Edit::Subtract(other) => subtracted(union, editor.register(other), editor.limit()),
-        Edit::Range(span) => {
+        RegisterEdit::Add(cells) => in_memory(added(alloc, union, cells)),
+        RegisterEdit::Remove(cells) => removed(alloc, union, cells, editor.limit()),
+        RegisterEdit::Keep(cells) => in_memory(kept(alloc, union, cells)),
+        RegisterEdit::Clear => Ok(nothing(alloc)),
+        RegisterEdit::Copy(other) => in_memory(copied(editor.register(other))),
+        RegisterEdit::Union(other) => in_memory(union.union(editor.register(other))),
+        RegisterEdit::Intersect(other) => in_memory(union.intersection(editor.register(other))),
+        RegisterEdit::Subtract(other) => subtracted(union, editor.register(other), editor.limit()),
+        RegisterEdit::Range(span) => {
             let (first, last) = span.ends();
             in_memory(CellUnion::from_range(alloc, first, last))
         }
-        Edit::Outer { level, rect } => outer_rect(alloc, &rect, level, editor),
-        Edit::Inner { level, rect } => inner_rect(alloc, &rect, level, editor),
-        Edit::OuterOf { other, level, rect } => outer_of(alloc, editor, other, level, rect),
-        Edit::InnerOf { other, level, rect } => inner_of(alloc, editor, other, level, rect),
+        RegisterEdit::Outer { level, rect } => outer_rect(alloc, &rect, level, editor),
+        RegisterEdit::Inner { level, rect } => inner_rect(alloc, &rect, level, editor),
+        RegisterEdit::OuterOf { other, level, rect } => outer_of(alloc, editor, other, level, rect),
+        RegisterEdit::InnerOf { other, level, rect } => inner_of(alloc, editor, other, level, rect),
     }
 }
 
@@ -165,7 +165,7 @@ fn removed(
 fn subtracted(union: &CellUnion, taken: &CellUnion, limit: usize) -> Result<CellUnion, Refusal>
     ensures { Makes (without (has_leaf union.now.cells) (has_leaf taken.now.cells)) limit result }
 {
-    let _local = union.cells();
+    let _ = union.cells();
     match union.difference_up_to(taken, limit) {
         Ok(rest) => Ok(rest),
         Err(UnionFault::TooMany) => Err(Refusal::TooMany),
@@ -185,7 +185,7 @@ fn nothing(alloc: Global) -> CellUnion
     ensures { IsNormalForm no_leaf result.cells }
 {
     let union = CellUnion::empty(alloc);
-    let _normal = union.cells();
+    let _ = union.cells();
     union
 }
 
@@ -193,7 +193,7 @@ fn nothing(alloc: Global) -> CellUnion
 fn copied(union: &CellUnion) -> Result<CellUnion, AllocError>
     ensures { IfOk result (λ u. IsNormalForm (has_leaf union.now.cells) u.cells) }
 {
-    let _normal = union.cells();
+    let _ = union.cells();
     union.try_clone()
 }
 

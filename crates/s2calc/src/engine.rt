@@ -151,7 +151,7 @@ pub fn run<R: Read, W: Write, S: Shelf>(
     ensures before { EachList (λ u. IsNormalForm (has_leaf u) u) editor.old }
     ensures after { EachList (λ u. IsNormalForm (has_leaf u) u) editor.new }
 {
-    let _before = editor.limit();
+    let _ = editor.limit();
     let mut input = input_buffer(alloc)?;
     let result = run_over::<R, W, S, AtTheEnd, NoNotes>(
         alloc,
@@ -162,7 +162,7 @@ pub fn run<R: Read, W: Write, S: Shelf>(
         shelf,
         &mut NoNotes,
     );
-    let _after = editor.limit();
+    let _ = editor.limit();
     result
 }
 
@@ -196,7 +196,7 @@ pub fn run_promptly<R: Read, W: Write, S: Shelf>(
     ensures before { EachList (λ u. IsNormalForm (has_leaf u) u) editor.old }
     ensures after { EachList (λ u. IsNormalForm (has_leaf u) u) editor.new }
 {
-    let _before = (editor.limit(), writer.waiting());
+    let _ = (editor.limit(), writer.waiting());
     let mut input = input_buffer(alloc)?;
     let result = run_over::<R, AnswerBuffer<W>, S, Promptly, NoNotes>(
         alloc,
@@ -207,7 +207,7 @@ pub fn run_promptly<R: Read, W: Write, S: Shelf>(
         shelf,
         &mut NoNotes,
     );
-    let _after = (editor.limit(), writer.waiting());
+    let _ = (editor.limit(), writer.waiting());
     result
 }
 
@@ -238,12 +238,12 @@ pub fn run_explained<R: Read, W: Write, S: Shelf, N: Write>(
     ensures before { EachList (λ u. IsNormalForm (has_leaf u) u) editor.old }
     ensures after { EachList (λ u. IsNormalForm (has_leaf u) u) editor.new }
 {
-    let _before = (editor.limit(), writer.waiting());
+    let _ = (editor.limit(), writer.waiting());
     let mut input = input_buffer(alloc)?;
     let result = run_over::<R, AnswerBuffer<W>, S, Promptly, NoteWriter<N>>(
         alloc, &mut input, editor, reader, writer, shelf, notes,
     );
-    let _after = (editor.limit(), writer.waiting());
+    let _ = (editor.limit(), writer.waiting());
     result
 }
 

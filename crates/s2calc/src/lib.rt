@@ -24,7 +24,7 @@ mod files;
 mod flushing;
 mod help;
 mod kept;
-mod laws;
+pub mod laws;
 mod limits;
 mod notes;
 mod output;
@@ -41,10 +41,6 @@ pub use command_line::job;
 pub use draw::{draw_answer, draw_cells_answer};
 pub use engine::{Tally, run, run_explained, run_promptly};
 pub use fault::RunFault;
-pub use laws::{
-    counted_failures, files_stay, one_end, one_run, restore_gives_back, undo_goes_back,
-    whole_script,
-};
 pub use notes::NoteWriter;
 pub use program::{cell_answer, status};
 pub use refusal::Refusal;

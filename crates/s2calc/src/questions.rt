@@ -68,13 +68,13 @@ fn count(editor: &Editor, register: Register) -> Answer
 fn has(editor: &Editor, register: Register, cell: CellId) -> Answer
     ensures { Answers (Has register cell) editor.now (reply_of result editor.now) }
 {
-    Answer::Tells(editor.register(register).contains_cell(cell))
+    Answer::YesOrNo(editor.register(register).contains_cell(cell))
 }
 
 fn touches(editor: &Editor, register: Register, cell: CellId) -> Answer
     ensures { Answers (Touches register cell) editor.now (reply_of result editor.now) }
 {
-    Answer::Tells(editor.register(register).intersects_cell(cell))
+    Answer::YesOrNo(editor.register(register).intersects_cell(cell))
 }
 
 fn compares(editor: &Editor, comparison: Comparison, register: Register, other: Register) -> Answer
@@ -89,13 +89,13 @@ fn compares(editor: &Editor, comparison: Comparison, register: Register, other: 
 fn covers(editor: &Editor, register: Register, other: Register) -> Answer
     ensures { Answers (Compares Covers register other) editor.now (reply_of result editor.now) }
 {
-    Answer::Tells(editor.register(register).contains(editor.register(other)))
+    Answer::YesOrNo(editor.register(register).contains(editor.register(other)))
 }
 
 fn meets(editor: &Editor, register: Register, other: Register) -> Answer
     ensures { Answers (Compares Meets register other) editor.now (reply_of result editor.now) }
 {
-    Answer::Tells(editor.register(register).intersects(editor.register(other)))
+    Answer::YesOrNo(editor.register(register).intersects(editor.register(other)))
 }
 
 fn denorm(editor: &Editor, register: Register, least: Level, modulus: Modulus) -> Answer

@@ -1,9 +1,16 @@
 -- What a descent through the cells finds, by the depth of a cell (how many levels are below it) and its place in its
 -- level.
-use Rattle.std.specs.Prelude.{◌≡◌, ℕ, zero, suc, ◌+◌, ◌-◌, ◌*◌, ◌/◌, ◌^◌, Bool, cond, List, [], ◌∷◌}
+use Rattle.std.specs.Prelude.{◌≡◌, ℕ, zero, suc, ◌+◌, ◌-◌, ◌*◌, ◌/◌, ◌^◌, Bool, true, false, cond, List, [], ◌∷◌}
 use Rattle.std.specs.Prelude.{◌++◌}
 use Rattle.s2cell.specs.Cell.{level_of, place_of}
 use Rattle.s2cover.specs.Coverings.{filled, touched, outer_set, inner_set}
+use Rattle.s2cover.specs.declared.descent.Kind.{Kind}
+use Rattle.s2cover.specs.declared.descent.Kind.TheVariants.{Outer, Inner}
+
+-- whether the covering of this kind is the outer one
+abbrev pub is_outer : Kind → Bool
+is_outer Outer = true
+is_outer Inner = false
 
 -- how many levels are below the cell `c`
 abbrev pub depth_of : ℕ → ℕ

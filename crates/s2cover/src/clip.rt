@@ -37,7 +37,7 @@ pub fn clip_outer(
     ensures within { IfOk result (λ u. length u.cells ≤ max) }
     ensures many { IfErr result (TooManyMeans (outer_set (clipped union.now.cells rect.now) level) max) }
 {
-    let _local = union.cells();
+    let _ = union.cells();
     match cut_union(alloc, union, rect, level) {
         Ok(whole) => {
             let clip = Clip {
@@ -93,7 +93,7 @@ fn inner_part(
     ensures within { IfOk result (λ u. length u.cells ≤ max) }
     ensures many { IfErr result (TooManyMeans (inner_set (clipped union.now.cells rect) level) max) }
 {
-    let _local = union.cells();
+    let _ = union.cells();
     match kept_union(alloc, union, &rect, level) {
         Ok(whole) => {
             let clip = Clip {

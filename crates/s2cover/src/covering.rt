@@ -4,10 +4,10 @@ ghost use Rattle.std.specs.Prelude.{vec_len, IfOk, IfErr};
 ghost use Rattle.s2cell.specs.Cell.{IsCell};
 ghost use Rattle.s2union.specs.Union.{IsLocal, IsNormalForm};
 ghost use Rattle.s2cover.specs.Coverings.{HasLeavesOf, IsInInner, IsInOuter, TooManyMeans, inner_set, outer_set};
-ghost use Rattle.s2cover.specs.Descent.{covering_set};
+ghost use Rattle.s2cover.specs.Descent.{covering_set, is_outer};
 
 use crate::MOST_CELLS;
-use crate::descent::visit;
+use crate::descent::{Kind, visit};
 use crate::region::{CoverFault, Region};
 use s2cell::{GREATEST_LEVEL, LEAVES, PlacedCell};
 use s2union::CellUnion;
@@ -32,7 +32,7 @@ pub fn outer<R: Region>(
     ensures within { IfOk result (λ u. length u.cells ≤ max) }
     ensures many { IfErr result (TooManyMeans (outer_set (R.holds region.now) level) max) }
 {
-    cover(alloc, region, true, level, max)
+    cover(alloc, region, Kind::Outer, level, max)
 }
 
 /// The inner covering of a region: the cells of the level that lie inside it, normalized.
@@ -53,7 +53,7 @@ pub fn inner<R: Region>(
     ensures within { IfOk result (λ u. length u.cells ≤ max) }
     ensures many { IfErr result (TooManyMeans (inner_set (R.holds region.now) level) max) }
 {
-    cover(alloc, region, false, level, max)
+    cover(alloc, region, Kind::Inner, level, max)
 }
 
 /// A law; the function does nothing: each set of leaves has a normal form. (That it has only one is the law
@@ -69,26 +69,26 @@ pub fn covering_sets()
     ensures inner { (R : ℕ → Bool) (k x : ℕ) → k ≤ GREATEST_LEVEL → (inner_set R k x ≡ true) ↔ IsInInner R k x }
 {}
 
-/// The outer covering if `whole`, else the inner one.
+/// The covering of this kind.
 fn cover<R: Region>(
     alloc: Global,
     region: &R,
-    whole: bool,
+    kind: Kind,
     level: u8,
     max: usize,
 ) -> Result<CellUnion, CoverFault>
     requires level { level ≤ GREATEST_LEVEL }
     requires max { max ≤ MOST_CELLS }
-    ensures leaves { IfOk result (λ u. HasLeavesOf (covering_set whole (R.holds region.now) level) u.cells) }
+    ensures leaves { IfOk result (λ u. HasLeavesOf (covering_set (is_outer kind) (R.holds region.now) level) u.cells) }
     ensures local { IfOk result (λ u. IsLocal u.cells) }
-    ensures normal { IfOk result (λ u. IsNormalForm (covering_set whole (R.holds region.now) level) u.cells) }
+    ensures normal { IfOk result (λ u. IsNormalForm (covering_set (is_outer kind) (R.holds region.now) level) u.cells) }
     ensures within { IfOk result (λ u. length u.cells ≤ max) }
-    ensures many { IfErr result (TooManyMeans (covering_set whole (R.holds region.now) level) max) }
+    ensures many { IfErr result (TooManyMeans (covering_set (is_outer kind) (R.holds region.now) level) max) }
 {
     let mut list = Vec::new(alloc);
     for face in 0..6u8 {
         let top = PlacedCell::face(face);
-        match visit(region, whole, level, &top, 0, max, &mut list) {
+        match visit(region, kind, level, &top, 0, max, &mut list) {
             Ok(_) => {}
             Err(fault) => return Err(fault),
         }

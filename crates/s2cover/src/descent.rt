@@ -4,18 +4,38 @@ ghost use Rattle.std.specs.Prelude.{◌++◌, ◌∷◌, [], length, vec_len, If
 ghost use Rattle.s2cell.specs.Cell.{level_of, place_of};
 ghost use Rattle.s2cell.specs.Square.{IsPlacedCell};
 ghost use Rattle.s2cover.specs.Coverings.{filled};
-ghost use Rattle.s2cover.specs.Descent.{blocks, depth_of, filled_in, form_in};
+ghost use Rattle.s2cover.specs.Descent.{blocks, depth_of, filled_in, form_in, is_outer};
 
 use crate::MOST_CELLS;
 use crate::region::{CoverFault, Part, Region};
 use s2cell::{CellId, GREATEST_LEVEL, PlacedCell};
 
+/// Which covering is made.
+#[derive(Clone, Copy, Debug, PartialEq, Eq)]
+pub(crate) enum Kind {
+    /// The cells of the level that share a leaf with the region.
+    Outer,
+    /// The cells of the level that lie inside it.
+    Inner,
+}
+
+impl Kind {
+    /// Whether a cell of the level that crosses the region belongs to the covering.
+    fn has_crossing(self) -> bool
+        ensures { result ≡ is_outer self }
+    {
+        match self {
+            Kind::Outer => true,
+            Kind::Inner => false,
+        }
+    }
+}
+
 /// Adds the cells of a covering that lie in one cell; the last `loose` cells of the list may still merge. Answers
-/// whether the covering has the whole cell. `whole` says whether a cell of the level that crosses the region belongs to
-/// the covering.
+/// whether the covering has the whole cell.
 pub(crate) fn visit<R: Region>(
     region: &R,
-    whole: bool,
+    kind: Kind,
     level: u8,
     placed: &PlacedCell,
     loose: usize,
@@ -29,19 +49,20 @@ pub(crate) fn visit<R: Region>(
     requires max { max ≤ MOST_CELLS }
     requires room { vec_len list.old ≤ max + loose }
     ensures list { IfOk result (λ full. list.new.items ≡ list.old.items
-        ++ form_in (blocks whole (R.holds region.now) (30 - level)) (30 - level) placed.now.cell) }
-    ensures full { IfOk result (λ full. full ≡ filled_in (blocks whole (R.holds region.now) (30 - level))
+        ++ form_in (blocks (is_outer kind) (R.holds region.now) (30 - level)) (30 - level) placed.now.cell) }
+    ensures full { IfOk result (λ full. full ≡ filled_in (blocks (is_outer kind) (R.holds region.now) (30 - level))
         placed.now.cell) }
     ensures room { IfOk result (λ full. full ≡ false → vec_len list.new ≤ max) }
     ensures many { IfErr result (λ fault. fault ≡ CoverFault.TooMany →
-        (filled_in (blocks whole (R.holds region.now) (30 - level)) placed.now.cell ≡ false)
-        × (max < vec_len list.old + length (form_in (blocks whole (R.holds region.now) (30 - level)) (30 - level)
+        (filled_in (blocks (is_outer kind) (R.holds region.now) (30 - level)) placed.now.cell ≡ false)
+        × (max < vec_len list.old + length (form_in (blocks (is_outer kind) (R.holds region.now) (30 - level)) (30 - level)
         placed.now.cell))) }
 {
     match region.part_of_placed(placed) {
         Part::Out => settle(max, list),
         Part::In => take(placed.cell, list),
         Part::Cross if placed.cell.level() == level => {
+            let whole = kind.has_crossing();
             if whole {
                 take(placed.cell, list)
             } else {
@@ -53,7 +74,7 @@ pub(crate) fn visit<R: Region>(
             let mut full = true;
             for digit in 0..4u8 {
                 let held = if full { loose + digit as usize } else { 0 };
-                match visit(region, whole, level, &child(placed, digit), held, max, list) {
+                match visit(region, kind, level, &child(placed, digit), held, max, list) {
                     Ok(inside) => full = full && inside,
                     Err(fault) => return Err(fault),
                 }

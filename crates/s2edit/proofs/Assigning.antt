@@ -6,9 +6,9 @@ use Rattle.s2union.specs.Union.{Union, IsLocal}
 use Rattle.s2union.specs.Apply.{cells_without, applied, Fits}
 use Rattle.s2union.proofs.Applied.{applied-between, Fits-between}
 use Rattle.s2edit.specs.History.{History, Assigned, changed, cells_lost, numbers}
-use Rattle.s2edit.specs.Diff.{Diff, inverse, between}
+use Rattle.s2edit.specs.Diff.{Diff, inverse, change_between}
 use Rattle.s2edit.specs.Leads.{list_at}
-use Rattle.s2edit.specs.Chain.{table_after, tables_after, FitsTable, FitAlong, lists_of, IsWithin, AllWithin, history}
+use Rattle.s2edit.specs.Chain.{table_after, tables_after, FitsTable, FitAlong, lists_of, IsLocalWithin, AllWithin, history}
 use Rattle.s2edit.specs.Chain.{union_of}
 use Rattle.s2edit.proofs.Tables.{tables_after-take, FitAlong-take, AllWithin-at, within_after, tables_back, along_back}
 use Rattle.s2edit.proofs.Numbers.{out_lost, put_won}
@@ -25,7 +25,7 @@ assigned_other h h' r x y e n c = record { same = λ f. absurd (n (cc)); differs
 
 -- an assignment's change
 module _ (limit : ℕ) (t : List (List ℕ)) (r : ℕ) (v : List ℕ) (a : AllWithin limit t) (l : r < length t)
-    (w : IsWithin limit v) where
+    (w : IsLocalWithin limit v) where
   old_local : IsLocal (list_at t r)
   old_local = (AllWithin-at limit t r a l).local
 
@@ -35,10 +35,10 @@ module _ (limit : ℕ) (t : List (List ℕ)) (r : ℕ) (v : List ℕ) (a : AllWi
   pub between_leads : applied (cells_without (list_at t r) v) (cells_without v (list_at t r)) (list_at t r) ≡ v
   between_leads = applied-between (list_at t r) v old_local w.local
 
-  pub between_table : table_after t (between r (list_at t r) v) ≡ slice_set t r v
+  pub between_table : table_after t (change_between r (list_at t r) v) ≡ slice_set t r v
   between_table = ap (slice_set t r) between_leads
 
-  pub fits_table : v ≢ list_at t r → FitsTable limit t (between r (list_at t r) v)
+  pub fits_table : v ≢ list_at t r → FitsTable limit t (change_between r (list_at t r) v)
   fits_table n = record {
     in_range = l;
     fits = between_fits;
@@ -49,7 +49,7 @@ module _ (limit : ℕ) (t : List (List ℕ)) (r : ℕ) (v : List ℕ) (a : AllWi
   -- if a copy of the new list takes the register's place, the change is made
   pub taken_over : (us us' : List Union) (copy scratch' : Union) → lists_of us ≡ t → copy.cells ≡ v →
       us' ≡ slice_set us r copy → slice_get us r ≡ Some scratch' →
-      Rewrites us us' copy scratch' (between r (list_at (lists_of us) r) v)
+      Rewrites us us' copy scratch' (change_between r (list_at (lists_of us) r) v)
   taken_over us us' copy scratch' e f g h = record {
     registers = g ∙ ap (λ (x : List ℕ). slice_set us r (union_of x copy.room))
         (f ∙ sym between_leads ∙ ap (λ (k : List (List ℕ)).
@@ -60,35 +60,35 @@ module _ (limit : ℕ) (t : List (List ℕ)) (r : ℕ) (v : List ℕ) (a : AllWi
 -- what an assignment leaves
 pub record Changes (depth : ℕ) (us us' : List Union) (scratch scratch' : Union) (past past' future' : List Diff)
     (r : ℕ) (v : List ℕ) : Type 0 where
-  pub rewrites : Rewrites us us' scratch scratch' (between r (list_at (lists_of us) r) v)
-  pub onto : past' ≡ take depth (between r (list_at (lists_of us) r) v ∷ past)
+  pub rewrites : Rewrites us us' scratch scratch' (change_between r (list_at (lists_of us) r) v)
+  pub onto : past' ≡ take depth (change_between r (list_at (lists_of us) r) v ∷ past)
   pub cleared : future' ≡ []
 
 module _ (limit depth : ℕ) (us us' : List Union) (scratch scratch' : Union) (past past' future' : List Diff)
     (r : ℕ) (v : List ℕ)
     (a : AllWithin limit (lists_of us)) (f : FitAlong limit (lists_of us) (map inverse past))
-    (l : r < length (lists_of us)) (w : IsWithin limit v) (n : v ≢ list_at (lists_of us) r)
+    (l : r < length (lists_of us)) (w : IsLocalWithin limit v) (n : v ≢ list_at (lists_of us) r)
     (m : Changes depth us us' scratch scratch' past past' future' r v) where
   change_is : Diff
-  change_is = between r (list_at (lists_of us) r) v
+  change_is = change_between r (list_at (lists_of us) r) v
 
-  change_table : lists_of us' ≡ table_after (lists_of us) (between r (list_at (lists_of us) r) v)
-  change_table = table_is limit us us' scratch scratch' (between r (list_at (lists_of us) r) v) m.rewrites
+  change_table : lists_of us' ≡ table_after (lists_of us) (change_between r (list_at (lists_of us) r) v)
+  change_table = table_is limit us us' scratch scratch' (change_between r (list_at (lists_of us) r) v) m.rewrites
 
-  turned : map inverse past' ≡ take depth (inverse (between r (list_at (lists_of us) r) v) ∷ map inverse past)
-  turned = ap (map inverse) m.onto ∙ sym (take-map inverse depth (between r (list_at (lists_of us) r) v ∷ past))
+  turned : map inverse past' ≡ take depth (inverse (change_between r (list_at (lists_of us) r) v) ∷ map inverse past)
+  turned = ap (map inverse) m.onto ∙ sym (take-map inverse depth (change_between r (list_at (lists_of us) r) v ∷ past))
 
-  fits_it : FitsTable limit (lists_of us) (between r (list_at (lists_of us) r) v)
+  fits_it : FitsTable limit (lists_of us) (change_between r (list_at (lists_of us) r) v)
   fits_it = fits_table limit (lists_of us) r v a l w n
 
   past_tables : tables_after (lists_of us') (map inverse past')
       ≡ take depth (lists_of us ∷ tables_after (lists_of us) (map inverse past))
   past_tables =
       ap (tables_after (lists_of us')) turned
-      ∙ tables_after-take depth (lists_of us') (inverse (between r (list_at (lists_of us) r) v) ∷ map inverse past)
+      ∙ tables_after-take depth (lists_of us') (inverse (change_between r (list_at (lists_of us) r) v) ∷ map inverse past)
       ∙ ap (λ (t : List (List ℕ)). take depth
-      (tables_after t (inverse (between r (list_at (lists_of us) r) v) ∷ map inverse past))) change_table
-      ∙ ap (take depth) (tables_back limit (lists_of us) (between r (list_at (lists_of us) r) v) a fits_it
+      (tables_after t (inverse (change_between r (list_at (lists_of us) r) v) ∷ map inverse past))) change_table
+      ∙ ap (take depth) (tables_back limit (lists_of us) (change_between r (list_at (lists_of us) r) v) a fits_it
       (map inverse past))
 
   pub change_leaves : (future : List Diff) → history limit depth us' past' future'
@@ -113,15 +113,15 @@ module _ (limit depth : ℕ) (us us' : List Union) (scratch scratch' : Union) (p
 
   pub change_within : AllWithin limit (lists_of us')
   change_within = subst (AllWithin limit) (sym change_table)
-      (within_after limit (lists_of us) (between r (list_at (lists_of us) r) v) a fits_it)
+      (within_after limit (lists_of us) (change_between r (list_at (lists_of us) r) v) a fits_it)
 
   pub change_past : FitAlong limit (lists_of us') (map inverse past')
   change_past =
       subst (FitAlong limit (lists_of us')) (sym turned)
-      (FitAlong-take limit depth (lists_of us') (inverse (between r (list_at (lists_of us) r) v) ∷ map inverse past)
+      (FitAlong-take limit depth (lists_of us') (inverse (change_between r (list_at (lists_of us) r) v) ∷ map inverse past)
       (subst (λ (t : List (List ℕ)). FitAlong limit t
-      (inverse (between r (list_at (lists_of us) r) v) ∷ map inverse past)) (sym change_table)
-      (along_back limit (lists_of us) (between r (list_at (lists_of us) r) v) a fits_it (map inverse past) f)))
+      (inverse (change_between r (list_at (lists_of us) r) v) ∷ map inverse past)) (sym change_table)
+      (along_back limit (lists_of us) (change_between r (list_at (lists_of us) r) v) a fits_it (map inverse past) f)))
 
   pub change_future : FitAlong limit (lists_of us') future'
   change_future = subst (FitAlong limit (lists_of us')) (sym m.cleared) tt
@@ -131,20 +131,20 @@ module _ (limit depth : ℕ) (us us' : List Union) (scratch scratch' : Union) (p
     arith,
     ap length m.onto,
     ap length m.cleared,
-    length-take depth (between r (list_at (lists_of us) r) v ∷ past),
+    length-take depth (change_between r (list_at (lists_of us) r) v ∷ past),
   )
 
   pub change_numbers : (t : List (List ℕ)) (p : ℕ × ℕ) → lists_of us ≡ t →
       p.0 ≡ length (cells_without (list_at (lists_of us) r) v) →
       p.1 ≡ length (cells_without v (list_at (lists_of us) r)) → p ≡ numbers t (lists_of us')
   change_numbers t p h e k =
-      let d : Diff = between r (list_at (lists_of us) r) v in
-      ap (λ (x : ℕ). (x, p.1)) (e ∙ out_lost limit (lists_of us) (between r (list_at (lists_of us) r) v) a fits_it)
+      let d : Diff = change_between r (list_at (lists_of us) r) v in
+      ap (λ (x : ℕ). (x, p.1)) (e ∙ out_lost limit (lists_of us) (change_between r (list_at (lists_of us) r) v) a fits_it)
       ∙ ap (λ (x : ℕ). (
         cells_lost (lists_of us)
-            (table_after (lists_of us) (between r (list_at (lists_of us) r) v)),
+            (table_after (lists_of us) (change_between r (list_at (lists_of us) r) v)),
         x,
       ))
-      (k ∙ put_won limit (lists_of us) (between r (list_at (lists_of us) r) v) a fits_it)
+      (k ∙ put_won limit (lists_of us) (change_between r (list_at (lists_of us) r) v) a fits_it)
       ∙ ap (λ (v' : List (List ℕ)). numbers (lists_of us) v') (sym change_table)
       ∙ ap (λ (v' : List (List ℕ)). numbers v' (lists_of us')) h

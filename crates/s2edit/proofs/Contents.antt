@@ -16,8 +16,8 @@ use Rattle.s2edit.proofs.Sizes.{fewer_without}
 use Rattle.s2edit.specs.History.{History, AllTables}
 use Rattle.s2edit.specs.Diff.{Diff}
 use Rattle.s2edit.specs.Leads.{list_at, Leads}
-use Rattle.s2edit.specs.Chain.{IsWithin, AllWithin}
-use Rattle.s2edit.specs.Session.{diff, LeadBack, LeadAhead, Tells}
+use Rattle.s2edit.specs.Chain.{IsLocalWithin, AllWithin}
+use Rattle.s2edit.specs.Session.{diff, LeadBack, LeadAhead, Records}
 use Rattle.s2edit.specs.declared.TheConstants.{REGISTERS}
 use Rattle.s2edit.proofs.Tables.{AllWithin-at}
 use Rattle.s2edit.proofs.DiffLemmas.{IsDiff-between}
@@ -29,7 +29,7 @@ cells_of_without (u ∷ us) vs a =
     cond_both (has vs u) (cells_without us vs) (u ∷ cells_without us vs) (AllByRecursion IsCell)
     (λ _. cells_of_without us vs a.1) (λ _. (a.0, cells_of_without us vs a.1))
 
-change_list : (us vs : List ℕ) → IsWithin SESSION_CELLS us → IsLocal vs → IsChangeList (cells_without us vs)
+change_list : (us vs : List ℕ) → IsLocalWithin SESSION_CELLS us → IsLocal vs → IsChangeList (cells_without us vs)
 change_list us vs w l = record {
   valid = All-from_recursion IsCell (cells_without us vs)
       (cells_of_without us vs (recursion_from_All IsCell us w.local.cells));
@@ -64,8 +64,8 @@ good_change d t u a b count l =
     let old : List ℕ = list_at t d.register in
     let new : List ℕ = list_at u d.register in
     let len : length u ≡ length t = ap length l.only ∙ length-set t d.register new in
-    let w : IsWithin SESSION_CELLS old = AllWithin-at SESSION_CELLS t d.register a l.in_range in
-    let v : IsWithin SESSION_CELLS new = AllWithin-at SESSION_CELLS u d.register b (omega (arith, len, l.in_range)) in
+    let w : IsLocalWithin SESSION_CELLS old = AllWithin-at SESSION_CELLS t d.register a l.in_range in
+    let v : IsLocalWithin SESSION_CELLS new = AllWithin-at SESSION_CELLS u d.register b (omega (arith, len, l.in_range)) in
     let out : d.out ≡ cells_without old new = ap (λ (x : Diff). x.out) l.change in
     let put : d.put ≡ cells_without new old = ap (λ (x : Diff). x.put) l.change in
     record {
@@ -78,7 +78,7 @@ good_change d t u a b count l =
     }
 
 good_ahead : (t : List (List ℕ)) (ms : List Moved) (ts : List (List (List ℕ))) → AllWithin SESSION_CELLS t →
-    AllTables (IsWithin SESSION_CELLS) ts → length t ≡ REGISTERS
+    AllTables (IsLocalWithin SESSION_CELLS) ts → length t ≡ REGISTERS
     → LeadAhead ms t ts → AllByRecursion IsMoved ms
 good_ahead t [] [] a b n l = tt
 good_ahead t [] (u ∷ us) a b n l = absurd l
@@ -88,7 +88,7 @@ good_ahead t (m ∷ ms) (u ∷ us) a b n l =
     (good_change m t u a b.0 n l.0, good_ahead u ms us b.0 b.1 (len ∙ n) l.1)
 
 good_back : (t : List (List ℕ)) (ms : List Moved) (ts : List (List (List ℕ))) → AllWithin SESSION_CELLS t →
-    AllTables (IsWithin SESSION_CELLS) ts → length t ≡ REGISTERS
+    AllTables (IsLocalWithin SESSION_CELLS) ts → length t ≡ REGISTERS
     → LeadBack ms t ts → AllByRecursion IsMoved ms
 good_back t [] [] a b n l = tt
 good_back t [] (u ∷ us) a b n l = absurd l
@@ -117,7 +117,7 @@ register_lists [] a = tt
 register_lists (u ∷ t) a = (record { local = a.0.local; few = a.0.few }, register_lists t a.1)
 
 -- what a session says about a history may be in a file
-pub told_content : (s : Content) (h : History (List ℕ)) → Tells s h → IsContent s
+pub told_content : (s : Content) (h : History (List ℕ)) → Records s h → IsContent s
 told_content s h w = record {
   count = ap length (sym w.now) ∙ w.count;
   registers = register_lists s.registers (subst (AllWithin SESSION_CELLS) w.now w.lists.now);

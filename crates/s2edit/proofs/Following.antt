@@ -16,7 +16,7 @@ use Rattle.s2edit.specs.History.{AllLists}
 use Rattle.s2edit.specs.Diff.{Diff}
 use Rattle.s2edit.specs.Leads.{list_at}
 use Rattle.s2edit.specs.Chain.{list_after, table_after, FitsTable, FitAlong, AllWithin, AllRoomy}
-use Rattle.s2edit.specs.Following.{FailsToFollow, Follows, Steps, HaveRoom, KeepRoom}
+use Rattle.s2edit.specs.Following.{FailsToFollow, MakesChanges, MakesChange, HaveRoom, KeepRoom}
 use Rattle.s2edit.specs.declared.session.RestoreFault.{RestoreFault}
 use Rattle.s2edit.specs.declared.session.RestoreFault.TheVariants.{Fit, TooDeep, TooMany, Memory}
 use Rattle.s2edit.proofs.Numbers.{cells_lost-self}
@@ -66,7 +66,7 @@ module _ (t t' : List (List ℕ)) (i r : ℕ) (out put old new : List ℕ) (coun
     }
 
     pub step_few : (limit : ℕ) → length new ≤ SESSION_CELLS → length new ≤ limit →
-        Steps limit t (record { register = r; out = out; put = put }) t' true
+        MakesChange limit t (record { register = r; out = out; put = put }) t' true
     step_few limit most few = record {
       fit = fits_table SESSION_CELLS most;
       few = λ _. fits_table limit few;
@@ -75,7 +75,7 @@ module _ (t t' : List (List ℕ)) (i r : ℕ) (out put old new : List ℕ) (coun
     }
 
     pub step_many : (limit : ℕ) → length new ≤ SESSION_CELLS → limit < length new →
-        Steps limit t (record { register = r; out = out; put = put }) t' false
+        MakesChange limit t (record { register = r; out = out; put = put }) t' false
     step_many limit most many = record {
       fit = fits_table SESSION_CELLS most;
       few = λ h. absurd (false≢true h);
@@ -110,7 +110,7 @@ both_true false b e f = absurd (false≢true e)
 
 pub walk_steps : (limit : ℕ) (t : List (List ℕ)) (ds : List Diff) (here next : List (List ℕ)) (d : Diff)
     (left : List Diff) (within few : Bool)
-    → Walks limit t ds here (d ∷ left) within → Steps limit here d next few → Walks limit t ds next left (within && few)
+    → Walks limit t ds here (d ∷ left) within → MakesChange limit here d next few → Walks limit t ds next left (within && few)
 walk_steps limit t ds here next d left within few w s = record {
   fit = λ f. w.fit (s.fit, subst (λ (u : List (List ℕ)). FitAlong SESSION_CELLS u left) s.table f);
   back = λ f. subst (λ (u : List (List ℕ)). FitAlong SESSION_CELLS u left) (sym s.table) (w.back f).1;
@@ -130,7 +130,7 @@ walk_fails limit t ds here d left within w none f = none (w.back f).0
 
 pub walk_ends : (limit : ℕ) (t : List (List ℕ)) (ds : List Diff) (here : List (List ℕ)) (left : List Diff)
     (within : Bool)
-    → Walks limit t ds here left within → left ≡ [] → Follows limit t ds within
+    → Walks limit t ds here left within → left ≡ [] → MakesChanges limit t ds within
 walk_ends limit t ds here left within w e = record {
   fit = w.fit (subst (FitAlong SESSION_CELLS here) (sym e) tt);
   few = λ h. w.few h (subst (FitAlong limit here) (sym e) tt);
@@ -180,7 +180,7 @@ fails TooMany P Q f n = n
 fails Memory P Q f n = tt
 
 -- as many registers as before
-pub steps_count : (limit : ℕ) (t t' : List (List ℕ)) (d : Diff) (few : Bool) (n : ℕ) → Steps limit t d t' few →
+pub steps_count : (limit : ℕ) (t t' : List (List ℕ)) (d : Diff) (few : Bool) (n : ℕ) → MakesChange limit t d t' few →
     length t ≡ n → length t' ≡ n
 steps_count limit t t' d few n s e = ap length s.table ∙ length-set t d.register (list_after t d) ∙ e
 
@@ -259,7 +259,7 @@ module _ (whole : List Move → List Diff) (one : Move → Diff) (cons : (m : Mo
       (ap whole (drop_next moves i m l is) ∙ cons m (drop (i + 1) moves)
       ∙ ap (λ (x : Diff). x ∷ whole (drop (i + 1) moves)) (sym same)) w
 
-  pub walk_on : (next : List (List ℕ)) (few : Bool) → Steps limit here d next few →
+  pub walk_on : (next : List (List ℕ)) (few : Bool) → MakesChange limit here d next few →
       Walks limit t (whole moves) next (whole (drop (i + 1) moves)) (within && few)
   walk_on next few s = walk_steps limit t (whole moves) here next d (whole (drop (i + 1) moves)) within few walk_left s
 

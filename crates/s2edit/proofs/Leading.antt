@@ -11,7 +11,7 @@ use Rattle.s2union.specs.Union.{Union}
 use Rattle.s2edit.specs.History.{AllLists, AllTables, EachList}
 use Rattle.s2edit.specs.Diff.{Diff, inverse}
 use Rattle.s2edit.specs.Leads.{list_at, table_at, Leads}
-use Rattle.s2edit.specs.Chain.{list_after, table_after, tables_after, FitsTable, FitAlong, lists_of, IsWithin}
+use Rattle.s2edit.specs.Chain.{list_after, table_after, tables_after, FitsTable, FitAlong, lists_of, IsLocalWithin}
 use Rattle.s2edit.specs.Chain.{AllWithin, history}
 use Rattle.s2edit.proofs.Tables.{AllWithin-at, list_at-table_after, table_back, fits_back, within_after}
 
@@ -109,7 +109,7 @@ kept_some None xs n Q e q = tt
 kept_some (Some c) xs n Q e q = q c.now (sym e)
 
 -- each list that the changes lead to is one that a register may have
-module _ (P : List ℕ → Type 0) (limit : ℕ) (p : (u : List ℕ) → IsWithin limit u → P u) where
+module _ (P : List ℕ → Type 0) (limit : ℕ) (p : (u : List ℕ) → IsLocalWithin limit u → P u) where
   pub AllLists-within : (t : List (List ℕ)) → AllWithin limit t → AllLists P t
   AllLists-within [] a = tt
   AllLists-within (u ∷ t) a = (p u a.0, AllLists-within t a.1)

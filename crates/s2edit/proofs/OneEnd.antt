@@ -4,21 +4,21 @@ use Rattle.std.proofs.Common.{inr, refl, sym, ap, ◌∙◌, subst, arith, bytes
 use Rattle.std.proofs.lemmas.Bool.{false≢true}
 use Rattle.std.proofs.lemmas.Slice.Eq.{bytes_eq-Decides}
 use Rattle.s2edit.specs.History.{History, Assigned}
-use Rattle.s2edit.specs.Edits.{EditRun, Edited, Ran, tally_of}
+use Rattle.s2edit.specs.Edits.{EditRun, Edited, Ran, edit_tally_of}
 use Rattle.s2edit.specs.declared.edits.Edit.{Edit}
 use Rattle.s2edit.specs.declared.edits.Edit.TheVariants.{Assign, Undo, Redo}
 use Rattle.s2edit.specs.declared.edits.EditTally.{EditTally}
-use Rattle.s2edit.specs.declared.edits.Outcome.{Outcome}
-use Rattle.s2edit.specs.declared.edits.Outcome.TheVariants.{Done, Refused, NoMemory}
+use Rattle.s2edit.specs.declared.edits.EditOutcome.{EditOutcome}
+use Rattle.s2edit.specs.declared.edits.EditOutcome.TheVariants.{Done, Refused, NoMemory}
 
 -- no edit ran out of memory
-abbrev pub AllFit : List Outcome → Type 0
+abbrev pub AllFit : List EditOutcome → Type 0
 AllFit [] = Unit {0}
 AllFit (Done ∷ os) = AllFit os
 AllFit (Refused ∷ os) = AllFit os
 AllFit (NoMemory ∷ os) = ⊥
 
-pub fit_from_tally : (os : List Outcome) → (tally_of os).memory ≡ 0 → AllFit os
+pub fit_from_tally : (os : List EditOutcome) → (edit_tally_of os).memory ≡ 0 → AllFit os
 fit_from_tally [] e = tt
 fit_from_tally (Done ∷ os) e = fit_from_tally os e
 fit_from_tally (Refused ∷ os) e = fit_from_tally os e
@@ -38,7 +38,7 @@ Assigned-one : (h h₁ h₂ : History (List ℕ)) (r : ℕ) (x : List ℕ) → A
 Assigned-one h h₁ h₂ r x a b = ⊎_elim (λ e. a.same e ∙ sym (b.same e)) (λ n. a.differs n ∙ sym (b.differs n))
     (is_there h.now r x)
 
-Edited-one : (h h₁ h₂ : History (List ℕ)) (e : Edit) (o p : Outcome) → Edited (λ u. u) h e o h₁ →
+Edited-one : (h h₁ h₂ : History (List ℕ)) (e : Edit) (o p : EditOutcome) → Edited (λ u. u) h e o h₁ →
     Edited (λ u. u) h e p h₂ → AllFit (o ∷ []) → AllFit (p ∷ []) → (h₁ ≡ h₂) × (o ≡ p)
 Edited-one h h₁ h₂ (Assign r u) Done Done a b m n = (Assigned-one h h₁ h₂ r u.cells a.1 b.1, refl)
 Edited-one h h₁ h₂ (Assign r u) Done Refused a b m n = absurd (omega (arith, a.0, b.0))
@@ -62,12 +62,12 @@ Edited-one h h₁ h₂ Redo NoMemory p a b m n = absurd m
 Edited-one h h₁ h₂ Redo Done NoMemory a b m n = absurd n
 Edited-one h h₁ h₂ Redo Refused NoMemory a b m n = absurd n
 
-fit_first : (o : Outcome) (os : List Outcome) → AllFit (o ∷ os) → AllFit (o ∷ []) × AllFit os
+fit_first : (o : EditOutcome) (os : List EditOutcome) → AllFit (o ∷ os) → AllFit (o ∷ []) × AllFit os
 fit_first Done os f = (tt, f)
 fit_first Refused os f = (tt, f)
 fit_first NoMemory os f = absurd f
 
-pub EditRun-one : (h h₁ h₂ : History (List ℕ)) (es : List Edit) (os ps : List Outcome) →
+pub EditRun-one : (h h₁ h₂ : History (List ℕ)) (es : List Edit) (os ps : List EditOutcome) →
     EditRun (λ u. u) h es os h₁ → EditRun (λ u. u) h es ps h₂ → AllFit os → AllFit ps → (h₁ ≡ h₂) × (os ≡ ps)
 EditRun-one h h₁ h₂ [] [] [] a b m n = (a ∙ sym b, refl)
 EditRun-one h h₁ h₂ [] (o ∷ os) ps a b m n = absurd a
@@ -78,13 +78,13 @@ EditRun-one h h₁ h₂ (e ∷ es) (o ∷ os) (p ∷ ps) a b m n =
     let s = Edited-one h a.0 b.0 e o p a.1 b.1 (fit_first o os m).0 (fit_first p ps n).0 in
     let t = EditRun-one a.0 h₁ h₂ es os ps a.2 (subst (λ (k : History (List ℕ)). EditRun (λ u. u) k es ps h₂)
     (sym s.0) b.2) (fit_first o os m).1 (fit_first p ps n).1 in
-    (t.0, ap (λ q. q ∷ os) s.1 ∙ ap (λ (qs : List Outcome). p ∷ qs) t.1)
+    (t.0, ap (λ q. q ∷ os) s.1 ∙ ap (λ (qs : List EditOutcome). p ∷ qs) t.1)
 
 pub Ran-one : (h h₁ h₂ : History (List ℕ)) (es : List Edit) (t₁ t₂ : EditTally) → Ran h es t₁ h₁ → Ran h es t₂ h₂ →
     t₁.memory ≡ 0 → t₂.memory ≡ 0 → (h₁ ≡ h₂) × (t₁ ≡ t₂)
 Ran-one h h₁ h₂ es t₁ t₂ a b m n =
-    let no_memory : (os : List Outcome) (t : EditTally) → t ≡ tally_of os → t.memory ≡ 0 → AllFit os =
+    let no_memory : (os : List EditOutcome) (t : EditTally) → t ≡ edit_tally_of os → t.memory ≡ 0 → AllFit os =
     λ os t c e. fit_from_tally os (sym (ap (λ (x : EditTally). x.memory) c) ∙ e) in
     let one = EditRun-one h h₁ h₂ es a.outcomes b.outcomes a.by_lists.run b.by_lists.run
     (no_memory a.outcomes t₁ a.counted m) (no_memory b.outcomes t₂ b.counted n) in
-    (one.0, a.counted ∙ ap tally_of one.1 ∙ sym b.counted)
+    (one.0, a.counted ∙ ap edit_tally_of one.1 ∙ sym b.counted)

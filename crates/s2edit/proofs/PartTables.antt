@@ -25,10 +25,10 @@ use Rattle.s2file.specs.declared.TheConstants.{SESSION_CELLS}
 use Rattle.s2edit.specs.Diff.{Diff, inverse}
 use Rattle.s2edit.specs.History.{AllLists}
 use Rattle.s2edit.specs.Leads.{list_at}
-use Rattle.s2edit.specs.Chain.{list_after, table_after, FitsTable, FitAlong, IsWithin, AllWithin}
+use Rattle.s2edit.specs.Chain.{list_after, table_after, FitsTable, FitAlong, IsLocalWithin, AllWithin}
 use Rattle.s2edit.specs.Chain.{lists_of}
 use Rattle.s2edit.specs.Session.{diff}
-use Rattle.s2edit.specs.Following.{Follows}
+use Rattle.s2edit.specs.Following.{MakesChanges}
 use Rattle.s2edit.specs.Part.{around, around_both, around_all, IsWatched, IsPart, HasParts, resized, longest}
 use Rattle.s2edit.proofs.InTurn.{length_applied, length_without}
 use Rattle.s2edit.proofs.Following.{applied_differs, drop_next}
@@ -260,7 +260,7 @@ module _ (ms : List Moved) (t s : List (List ℕ)) (n : ℕ) (h : HasParts n ms 
   are_parts = record { count = h.count ∙ n_is; parts = λ r l. h.parts r (omega (arith, n_is, l)) }
 
   pub parts_within : AllWithin SESSION_CELLS s
-  parts_within = all_lists (IsWithin SESSION_CELLS) s (λ r l.
+  parts_within = all_lists (IsLocalWithin SESSION_CELLS) s (λ r l.
       let in_t : r < length t = omega (arith, l, are_parts.count) in
       let p = are_parts.parts r in_t in
       record { local = p.part_local; few = omega (arith, p.few, (AllWithin-at SESSION_CELLS t r w in_t).few) })
@@ -274,7 +274,7 @@ module _ (ms : List Moved) (t s : List (List ℕ)) (n : ℕ) (h : HasParts n ms 
     not_long most e l f = let k = longest_few SESSION_CELLS sets t ds w near f f in absurd (omega (arith, e, l, k))
 
     pub follows : (limit most : ℕ) (b : Bool) → FitAlong SESSION_CELLS s ds → most ≡ longest (map length t) ds →
-        most ≤ SESSION_CELLS → (b ≡ true → most ≤ limit) → (most ≤ limit → b ≡ true) → Follows limit t ds b
+        most ≤ SESSION_CELLS → (b ≡ true → most ≤ limit) → (most ≤ limit → b ≡ true) → MakesChanges limit t ds b
     follows limit most b f e few true_few few_true =
         let fit = whole_along sets t s ds are_parts near w f (omega (arith, e, few)) in
         record {

@@ -3,14 +3,14 @@ use Rattle.std.proofs.Common.{◌≡◌, ℕ, zero, suc, ◌+◌, ◌≤◌, Lis
 use Rattle.std.proofs.Common.{replicate, refl, sym, ap, ◌∙◌, subst, append_assoc, arith}
 use Rattle.std.proofs.lemmas.List.{replicate_more, take-take}
 use Rattle.s2edit.specs.History.{History, changed, undone, undone_to}
-use Rattle.s2edit.specs.Edits.{Edited, EditRun, tally_of, AllChange, GivesBack}
+use Rattle.s2edit.specs.Edits.{Edited, EditRun, edit_tally_of, AllChange, GivesBack}
 use Rattle.s2edit.specs.declared.edits.Edit.{Edit}
 use Rattle.s2edit.specs.declared.edits.Edit.TheVariants.{Assign, Undo, Redo}
-use Rattle.s2edit.specs.declared.edits.Outcome.{Outcome}
-use Rattle.s2edit.specs.declared.edits.Outcome.TheVariants.{Done, Refused, NoMemory}
+use Rattle.s2edit.specs.declared.edits.EditOutcome.{EditOutcome}
+use Rattle.s2edit.specs.declared.edits.EditOutcome.TheVariants.{Done, Refused, NoMemory}
 use Rattle.s2edit.specs.declared.edits.EditTally.{EditTally}
 
-few_done : (os : List Outcome) → (tally_of os).done ≤ length os
+few_done : (os : List EditOutcome) → (edit_tally_of os).done ≤ length os
 few_done [] = omega arith
 few_done (Done ∷ os) = omega (arith, few_done os)
 few_done (Refused ∷ os) = omega (arith, few_done os)
@@ -34,15 +34,15 @@ module _ {X : Type 0} (f : List ℕ → X) where
   DoneRun h [] h' = h' ≡ h
   DoneRun h (e ∷ es) h' = (mid : History X) × Edited f h e Done mid × DoneRun mid es h'
 
-  length-outcomes : (h h' : History X) (es : List Edit) (os : List Outcome) → EditRun f h es os h' →
+  length-outcomes : (h h' : History X) (es : List Edit) (os : List EditOutcome) → EditRun f h es os h' →
       length os ≡ length es
   length-outcomes h h' [] [] r = refl
   length-outcomes h h' [] (o ∷ os) r = absurd r
   length-outcomes h h' (e ∷ es) [] r = absurd r
   length-outcomes h h' (e ∷ es) (o ∷ os) r = ap suc (length-outcomes r.0 h' es os r.2)
 
-  all_done : (h h' : History X) (es : List Edit) (os : List Outcome) → EditRun f h es os h' →
-      (tally_of os).done ≡ length es → DoneRun h es h'
+  all_done : (h h' : History X) (es : List Edit) (os : List EditOutcome) → EditRun f h es os h' →
+      (edit_tally_of os).done ≡ length es → DoneRun h es h'
   all_done h h' [] [] r n = r
   all_done h h' [] (o ∷ os) r n = absurd r
   all_done h h' (e ∷ es) [] r n = absurd r
@@ -92,9 +92,9 @@ module _ {X : Type 0} (f : List ℕ → X) where
             (b.1 (suc k) (omega arith)),
       )
 
-  pub gives_back : (h h' : History X) (es : List Edit) (os : List Outcome) (t : EditTally) → EditRun f h es os h' →
-      t ≡ tally_of os → GivesBack f h es t h'
+  pub gives_back : (h h' : History X) (es : List Edit) (os : List EditOutcome) (t : EditTally) → EditRun f h es os h' →
+      t ≡ edit_tally_of os → GivesBack f h es t h'
   gives_back h h' es os t r c changes e l a n =
-      let done : (tally_of os).done ≡ length es = ap (λ (x : EditTally). x.done) (sym c) ∙ n in
+      let done : (edit_tally_of os).done ≡ length es = ap (λ (x : EditTally). x.done) (sym c) ∙ n in
       (back (length changes) changes h h' refl l a
       (subst (λ (fs : List Edit). DoneRun h fs h') e (all_done h h' es os r done))).0

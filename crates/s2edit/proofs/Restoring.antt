@@ -12,8 +12,8 @@ use Rattle.s2edit.specs.History.{History, AllLists, AllTables}
 use Rattle.s2edit.specs.Diff.{Diff, inverse}
 use Rattle.s2edit.specs.Leads.{list_at}
 use Rattle.s2edit.specs.Chain.{list_after, table_after, tables_after, FitAlong, lists_of, AllWithin, history}
-use Rattle.s2edit.specs.Session.{diff, Tells, Restored, IsTooDeep, IsTooMany, RefusesSession}
-use Rattle.s2edit.specs.Following.{FailsToFollow, Follows}
+use Rattle.s2edit.specs.Session.{diff, Records, Restored, IsTooDeep, IsTooMany, RefusesSession}
+use Rattle.s2edit.specs.Following.{FailsToFollow, MakesChanges}
 use Rattle.s2edit.specs.declared.session.RestoreFault.{RestoreFault}
 use Rattle.s2edit.specs.declared.session.RestoreFault.TheVariants.{Fit, TooDeep, TooMany, Memory}
 use Rattle.s2edit.proofs.Tables.{list_at-table_after, length-tables_after}
@@ -63,8 +63,8 @@ module _ (s : Content) (content : IsContent s) where
   lists : AllWithin SESSION_CELLS s.registers
   lists = registers_within s.registers content.registers
 
-  pub follows : (limit : ℕ) (p f : Bool) → Follows limit s.registers (map inverse (map diff (reverse s.past))) p →
-      Follows limit s.registers (map diff s.future) f → CanFollow s
+  pub follows : (limit : ℕ) (p f : Bool) → MakesChanges limit s.registers (map inverse (map diff (reverse s.past))) p →
+      MakesChanges limit s.registers (map diff s.future) f → CanFollow s
   follows limit p f a b = record { count = content.count; within = lists; past = a.fit; future = b.fit }
 
   past_count : (t : List (List ℕ)) → length (tables_after t (map inverse (map diff (reverse s.past)))) ≡ length s.past
@@ -115,7 +115,7 @@ module _ (s : Content) (content : IsContent s) where
   })
 
 -- a session whose changes can't be made tells no history
-pub tells_none : (s : Content) → (CanFollow s → ⊥) → (h : History (List ℕ)) → Tells s h → ⊥
+pub tells_none : (s : Content) → (CanFollow s → ⊥) → (h : History (List ℕ)) → Records s h → ⊥
 tells_none s none h w = none (can_follow s h w)
 
 -- a side that can't be followed
@@ -168,8 +168,8 @@ module _ (limit depth : ℕ) (us us' : List Union) (past' future' : List Diff) (
     (lists : lists_of us' ≡ s.registers) (past_is : past' ≡ map diff (reverse s.past))
     (future_is : future' ≡ map diff s.future)
     (p f r : Bool) (passed : ((p && f) && r) ≡ true)
-    (a : Follows limit s.registers (map inverse (map diff (reverse s.past))) p)
-    (b : Follows limit s.registers (map diff s.future) f)
+    (a : MakesChanges limit s.registers (map inverse (map diff (reverse s.past))) p)
+    (b : MakesChanges limit s.registers (map diff s.future) f)
     (few : r ≡ true → AllLists (λ u. length u ≤ limit) s.registers)
     (kept : length s.past + length s.future ≤ depth) where
   all_few : AllLists (λ u. length u ≤ limit) s.registers

@@ -3,14 +3,14 @@ use Rattle.std.proofs.Common.{◌≡◌, ◌≢◌, ℕ, ◌+◌, List, [], ◌�
 use Rattle.std.proofs.Common.{◌∙◌, subst, append_assoc, arith}
 use Rattle.std.proofs.lemmas.List.{reverse-append}
 use Rattle.s2edit.specs.History.{History, undone_to, redone_to, timeline}
-use Rattle.s2edit.specs.Edits.{Edited, EditRun, tally_of, tally_with, undos_done, redos_done, AllMoves, RunsTo}
+use Rattle.s2edit.specs.Edits.{Edited, EditRun, edit_tally_of, tally_with, undos_done, redos_done, AllMoves, RunsTo}
 use Rattle.s2edit.specs.declared.edits.Edit.{Edit}
 use Rattle.s2edit.specs.declared.edits.Edit.TheVariants.{Assign, Undo, Redo}
-use Rattle.s2edit.specs.declared.edits.Outcome.{Outcome}
-use Rattle.s2edit.specs.declared.edits.Outcome.TheVariants.{Done, Refused, NoMemory}
+use Rattle.s2edit.specs.declared.edits.EditOutcome.{EditOutcome}
+use Rattle.s2edit.specs.declared.edits.EditOutcome.TheVariants.{Done, Refused, NoMemory}
 use Rattle.s2edit.specs.declared.edits.EditTally.{EditTally}
 
-tally_with-comm : (o p : Outcome) (t : EditTally) → tally_with o (tally_with p t) ≡ tally_with p (tally_with o t)
+tally_with-comm : (o p : EditOutcome) (t : EditTally) → tally_with o (tally_with p t) ≡ tally_with p (tally_with o t)
 tally_with-comm Done Done t = refl
 tally_with-comm Done Refused t = refl
 tally_with-comm Done NoMemory t = refl
@@ -21,9 +21,9 @@ tally_with-comm NoMemory Done t = refl
 tally_with-comm NoMemory Refused t = refl
 tally_with-comm NoMemory NoMemory t = refl
 
-pub tally_of-push : (os : List Outcome) (o : Outcome) → tally_of (os ++ o ∷ []) ≡ tally_with o (tally_of os)
+pub tally_of-push : (os : List EditOutcome) (o : EditOutcome) → edit_tally_of (os ++ o ∷ []) ≡ tally_with o (edit_tally_of os)
 tally_of-push [] o = refl
-tally_of-push (p ∷ os) o = ap (tally_with p) (tally_of-push os o) ∙ tally_with-comm p o (tally_of os)
+tally_of-push (p ∷ os) o = ap (tally_with p) (tally_of-push os o) ∙ tally_with-comm p o (edit_tally_of os)
 
 reverse_first : {X : Type 0} (t : X) (ts us : List X) → reverse (t ∷ ts) ++ us ≡ reverse ts ++ t ∷ us
 reverse_first t ts us = ap (λ xs. xs ++ us) (reverse-append (t ∷ []) ts) ∙ append_assoc (reverse ts) (t ∷ []) us
@@ -35,7 +35,7 @@ moves_first Redo es m = (tt, m)
 
 module _ {X : Type 0} (f : List ℕ → X) where
   -- a run goes on by one edit
-  pub EditRun-push : (h m h' : History X) (es : List Edit) (os : List Outcome) (e : Edit) (o : Outcome) →
+  pub EditRun-push : (h m h' : History X) (es : List Edit) (os : List EditOutcome) (e : Edit) (o : EditOutcome) →
       EditRun f h es os m → Edited f m e o h' → EditRun f h (es ++ e ∷ []) (os ++ o ∷ []) h'
   EditRun-push h m h' [] [] e o r s = (h', subst (λ (k : History X). Edited f k e o h') r s, refl)
   EditRun-push h m h' [] (p ∷ os) e o r s = absurd r
@@ -62,7 +62,7 @@ module _ {X : Type 0} (f : List ℕ → X) where
     redo_place [] e n = absurd (n refl)
     redo_place (t ∷ fs) e n = omega arith
 
-  edit_timeline : (h h' : History X) (e : Edit) (o : Outcome) → AllMoves (e ∷ []) → Edited f h e o h' →
+  edit_timeline : (h h' : History X) (e : Edit) (o : EditOutcome) → AllMoves (e ∷ []) → Edited f h e o h' →
       timeline h' ≡ timeline h
   edit_timeline h h' (Assign r u) o m s = absurd m
   edit_timeline h h' Undo Done m s = ap timeline s.1 ∙ undo_timeline h h.past refl
@@ -72,7 +72,7 @@ module _ {X : Type 0} (f : List ℕ → X) where
   edit_timeline h h' Redo Refused m s = ap timeline s.1
   edit_timeline h h' Redo NoMemory m s = absurd s
 
-  pub run_timeline : (h h' : History X) (es : List Edit) (os : List Outcome) → AllMoves es → EditRun f h es os h' →
+  pub run_timeline : (h h' : History X) (es : List Edit) (os : List EditOutcome) → AllMoves es → EditRun f h es os h' →
       timeline h' ≡ timeline h
   run_timeline h h' [] [] m r = ap timeline r
   run_timeline h h' [] (o ∷ os) m r = absurd r
@@ -80,7 +80,7 @@ module _ {X : Type 0} (f : List ℕ → X) where
   run_timeline h h' (e ∷ es) (o ∷ os) m r =
       run_timeline r.0 h' es os (moves_first e es m).1 r.2 ∙ edit_timeline h r.0 e o (moves_first e es m).0 r.1
 
-  pub run_place : (h h' : History X) (es : List Edit) (os : List Outcome) → AllMoves es → EditRun f h es os h' →
+  pub run_place : (h h' : History X) (es : List Edit) (os : List EditOutcome) → AllMoves es → EditRun f h es os h' →
       length h'.past + undos_done es os ≡ length h.past + redos_done es os
   run_place h h' [] [] m r = omega (arith, ap (λ (k : History X). length k.past) r)
   run_place h h' [] (o ∷ os) m r = absurd r
@@ -107,7 +107,7 @@ module _ {X : Type 0} (f : List ℕ → X) where
       omega (arith, run_place r.0 h' es os m r.2, ap (λ (k : History X). length k.past) r.1.1)
   run_place h h' (Redo ∷ es) (NoMemory ∷ os) m r = absurd r.1
 
-  pub runs_to : (h h' : History X) (es : List Edit) (os : List Outcome) → EditRun f h es os h' → RunsTo f h es os h'
+  pub runs_to : (h h' : History X) (es : List Edit) (os : List EditOutcome) → EditRun f h es os h' → RunsTo f h es os h'
   runs_to h h' es os r = record {
     run = r;
     same_timeline = λ m. run_timeline h h' es os m r;

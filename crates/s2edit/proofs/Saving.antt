@@ -14,7 +14,7 @@ use Rattle.s2file.specs.declared.TheConstants.{SESSION_CELLS, SESSION_CHANGES}
 use Rattle.s2edit.specs.Diff.{Diff, inverse}
 use Rattle.s2edit.specs.Chain.{table_after, tables_after, FitAlong, lists_of, AllWithin, history}
 use Rattle.s2edit.specs.History.{History}
-use Rattle.s2edit.specs.Session.{diff, moved, Tells, Text}
+use Rattle.s2edit.specs.Session.{diff, moved, Records, Text}
 use Rattle.s2edit.specs.declared.TheConstants.{REGISTERS}
 use Rattle.s2edit.proofs.Contents.{reverse_twice}
 use Rattle.s2edit.proofs.Leading.{none_past}
@@ -78,7 +78,7 @@ module _ (limit depth : ℕ) (us : List Union) (past future : List Diff) (s : Co
       length past + length future ≤ depth
       → AllWithin limit (lists_of us) → FitAlong limit (lists_of us) (map inverse past) →
       FitAlong limit (lists_of us) future
-      → Tells s (history limit depth us past future)
+      → Records s (history limit depth us past future)
   session_tells cells changes count kept a b g =
       let can : CanFollow s = record {
         count = ap length r ∙ length-map us (λ (u : Union). u.cells) ∙ count;
@@ -90,7 +90,7 @@ module _ (limit depth : ℕ) (us : List Union) (past future : List Diff) (s : Co
             (subst (λ (t : List (List ℕ)). FitAlong SESSION_CELLS t future) (sym r)
             (more_along limit SESSION_CELLS (lists_of us) future cells g));
       } in
-      subst (Tells s) same_history (tells_it limit depth s can (omega (
+      subst (Records s) same_history (tells_it limit depth s can (omega (
         arith,
         changes,
         kept,
@@ -102,7 +102,7 @@ module _ (limit depth : ℕ) (us : List Union) (past future : List Diff) (s : Co
       )))
 
 -- the text of a session that tells the history
-pub text_told : (r : Result (Vec ℕ Global) AllocError) (s : Content) (h : History (List ℕ)) → Tells s h →
+pub text_told : (r : Result (Vec ℕ Global) AllocError) (s : Content) (h : History (List ℕ)) → Records s h →
     IfOk r (λ bytes. bytes.items ≡ session_text s)
     → IfOk r (λ bytes. Text h bytes.items)
 text_told (Ok bytes) s h t is = record { content = s; tells = t; is = is }

@@ -5,11 +5,11 @@ use Rattle.s2union.specs.Union.{has_leaf, IsLocal}
 use Rattle.s2union.proofs.Normal.{same_from_leaves}
 use Rattle.s2edit.specs.History.{History, changed, undone, undone_to, redone, redone_to, sets, sets_of, AllLists}
 use Rattle.s2edit.specs.History.{AllTables, EachList}
-use Rattle.s2edit.specs.Edits.{Edited, EditRun, tally_of, AssignLocal}
+use Rattle.s2edit.specs.Edits.{Edited, EditRun, edit_tally_of, AssignLocal}
 use Rattle.s2edit.specs.declared.edits.Edit.{Edit}
 use Rattle.s2edit.specs.declared.edits.Edit.TheVariants.{Assign, Undo, Redo}
-use Rattle.s2edit.specs.declared.edits.Outcome.{Outcome}
-use Rattle.s2edit.specs.declared.edits.Outcome.TheVariants.{Done, Refused, NoMemory}
+use Rattle.s2edit.specs.declared.edits.EditOutcome.{EditOutcome}
+use Rattle.s2edit.specs.declared.edits.EditOutcome.TheVariants.{Done, Refused, NoMemory}
 use Rattle.s2edit.proofs.SetLemmas.{slice_get_map, sets-changed, sets-undone, sets-redone}
 use Rattle.s2edit.proofs.OneEnd.{is_there, EditRun-one, fit_from_tally}
 
@@ -56,13 +56,13 @@ map_none [] e = refl
 map_none (t ∷ ts) e = absurd (cc)
 
 -- what an edit of the sets does is what it does of the lists
-pub record Lifted (h : History (List ℕ)) (e : Edit) (o : Outcome) (s : History (ℕ → Bool)) : Type 0 where
+pub record Lifted (h : History (List ℕ)) (e : Edit) (o : EditOutcome) (s : History (ℕ → Bool)) : Type 0 where
   pub end : History (List ℕ)
   pub edited : Edited (λ u. u) h e o end
   pub is : s ≡ sets end
   pub local : EachList IsLocal end
 
-lift : (h : History (List ℕ)) (s : History (ℕ → Bool)) (e : Edit) (o : Outcome) → EachList IsLocal h →
+lift : (h : History (List ℕ)) (s : History (ℕ → Bool)) (e : Edit) (o : EditOutcome) → EachList IsLocal h →
     AssignLocal (e ∷ []) → Edited has_leaf (sets h) e o s → Lifted h e o s
 lift h s (Assign r u) Done a l g =
     ⊎_elim
@@ -105,12 +105,12 @@ local_first (Assign r u) es l = ((l.0, tt), l.1)
 local_first Undo es l = (tt, l)
 local_first Redo es l = (tt, l)
 
-pub record LiftedRun (h : History (List ℕ)) (es : List Edit) (os : List Outcome) (s : History (ℕ → Bool)) : Type 0 where
+pub record LiftedRun (h : History (List ℕ)) (es : List Edit) (os : List EditOutcome) (s : History (ℕ → Bool)) : Type 0 where
   pub end : History (List ℕ)
   pub run : EditRun (λ u. u) h es os end
   pub is : s ≡ sets end
 
-lift_run : (h : History (List ℕ)) (s : History (ℕ → Bool)) (es : List Edit) (os : List Outcome) →
+lift_run : (h : History (List ℕ)) (s : History (ℕ → Bool)) (es : List Edit) (os : List EditOutcome) →
     EachList IsLocal h → AssignLocal es → EditRun has_leaf (sets h) es os s → LiftedRun h es os s
 lift_run h s [] [] a l r = record { end = h; run = refl; is = r }
 lift_run h s [] (o ∷ os) a l r = absurd r
@@ -122,9 +122,9 @@ lift_run h s (e ∷ es) (o ∷ os) a l r =
     record { end = g.end; run = (f.end, f.edited, g.run); is = g.is }
 
 pub EditRun-one_of_sets : (h : History (List ℕ)) (s₁ s₂ : History (ℕ → Bool)) (es : List Edit)
-    (os ps : List Outcome) → EachList IsLocal h → AssignLocal es →
-    EditRun has_leaf (sets h) es os s₁ → EditRun has_leaf (sets h) es ps s₂ → (tally_of os).memory ≡ 0 →
-    (tally_of ps).memory ≡ 0 → (s₁ ≡ s₂) × (os ≡ ps)
+    (os ps : List EditOutcome) → EachList IsLocal h → AssignLocal es →
+    EditRun has_leaf (sets h) es os s₁ → EditRun has_leaf (sets h) es ps s₂ → (edit_tally_of os).memory ≡ 0 →
+    (edit_tally_of ps).memory ≡ 0 → (s₁ ≡ s₂) × (os ≡ ps)
 EditRun-one_of_sets h s₁ s₂ es os ps a l r q m n =
     let f = lift_run h s₁ es os a l r in
     let g = lift_run h s₂ es ps a l q in

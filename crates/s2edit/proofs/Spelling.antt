@@ -3,7 +3,7 @@ use Rattle.std.proofs.Common.{◌≡◌, ℕ, ◌≤◌, Bool, List, length, inl
 use Rattle.s2file.specs.Session.{Content, Spells}
 use Rattle.s2file.proofs.Spelled.{one_spelled}
 use Rattle.s2edit.specs.History.{History, EachList, sets}
-use Rattle.s2edit.specs.Session.{Tells, Text, Stored, StoredSets, Restored, RefusesSession}
+use Rattle.s2edit.specs.Session.{Records, Text, Stored, StoredSets, Restored, RefusesSession}
 use Rattle.s2edit.specs.SessionLaws.{IsKept}
 use Rattle.s2edit.specs.declared.session.RestoreFault.{RestoreFault}
 use Rattle.s2edit.specs.declared.session.RestoreFault.TheVariants.{Fit, TooDeep, TooMany, Memory}
@@ -19,7 +19,7 @@ text_is_stored bytes h t = record { content = t.content; spells = spelled_text b
 pub one_history : (bytes : List ℕ) (h k : History (List ℕ)) → Stored bytes h → Stored bytes k → h.limit ≡ k.limit →
     h.depth ≡ k.depth → h ≡ k
 one_history bytes h k f g e d =
-    one_told g.content h k (subst (λ (s : Content). Tells s h)
+    one_told g.content h k (subst (λ (s : Content). Records s h)
     (one_spelled bytes f.content g.content f.spells g.spells) f.tells) g.tells e d
 
 pub one_history_of_sets : (bytes : List ℕ) (h k : History (ℕ → Bool)) → StoredSets bytes h → StoredSets bytes k →
@@ -31,8 +31,8 @@ one_history_of_sets bytes h k f g e d =
     ∙ sym g.are
 
 -- what the text of a history spells tells it
-tells_again : (bytes : List ℕ) (s : Content) (h : History (List ℕ)) → Text h bytes → Spells bytes s → Tells s h
-tells_again bytes s h t p = subst (λ (x : Content). Tells x h)
+tells_again : (bytes : List ℕ) (s : Content) (h : History (List ℕ)) → Text h bytes → Spells bytes s → Records s h
+tells_again bytes s h t p = subst (λ (x : Content). Records x h)
     (one_spelled bytes t.content s (spelled_text bytes h t) p) t.tells
 
 pub comes_back : (bytes : List ℕ) (s : Content) (h old new : History (List ℕ)) → Text h bytes → Spells bytes s →
@@ -41,7 +41,7 @@ comes_back bytes s h old new t p e d r = one_told s new h r.tells (tells_again b
     (r.depth ∙ d)
 
 -- a session that tells a history which the editor may keep is not refused
-fits_editor : (s : Content) (h old : History (List ℕ)) (fault : RestoreFault) → Tells s h → IsKept h →
+fits_editor : (s : Content) (h old : History (List ℕ)) (fault : RestoreFault) → Records s h → IsKept h →
     old.limit ≡ h.limit → old.depth ≡ h.depth
     → RefusesSession s old fault → fault ≡ Memory
 fits_editor s h old Fit w k e d r = absurd (r h w)
@@ -66,8 +66,8 @@ fits_editor s h old TooMany w k e d r =
     subst (EachList (λ u. length u ≤ old.limit)) (sym same) each in
     absurd (r.many (record { past = back.past; now = back.now; future = back.future }))
   where
-    moved_to : (s : Content) (h : History (List ℕ)) (limit depth : ℕ) → Tells s h →
-        Tells s (record h { limit = limit; depth = depth })
+    moved_to : (s : Content) (h : History (List ℕ)) (limit depth : ℕ) → Records s h →
+        Records s (record h { limit = limit; depth = depth })
     moved_to s h limit depth w = record {
       now = w.now;
       count = w.count;

@@ -9,7 +9,7 @@ use Rattle.s2union.specs.Apply.{applied, Fits}
 use Rattle.s2union.proofs.Applied.{applied-inverse, Fits-inverse}
 use Rattle.s2edit.specs.Diff.{Diff, inverse}
 use Rattle.s2edit.specs.Leads.{list_at}
-use Rattle.s2edit.specs.Chain.{list_after, table_after, tables_after, FitsTable, FitAlong, lists_of, IsWithin}
+use Rattle.s2edit.specs.Chain.{list_after, table_after, tables_after, FitsTable, FitAlong, lists_of, IsLocalWithin}
 use Rattle.s2edit.specs.Chain.{AllWithin, AllRoomy}
 
 pub length-tables_after : (t : List (List ℕ)) (ds : List Diff) → length (tables_after t ds) ≡ length ds
@@ -29,12 +29,12 @@ FitAlong-take limit (suc n) t [] f = tt
 FitAlong-take limit (suc n) t (d ∷ ds) f = (f.0, FitAlong-take limit n (table_after t d) ds f.1)
 
 pub AllWithin-at : (limit : ℕ) (t : List (List ℕ)) (r : ℕ) → AllWithin limit t → r < length t →
-    IsWithin limit (list_at t r)
+    IsLocalWithin limit (list_at t r)
 AllWithin-at limit [] r a l = absurd (omega arith)
 AllWithin-at limit (u ∷ t) zero a l = a.0
 AllWithin-at limit (u ∷ t) (suc r) a l = AllWithin-at limit t r a.1 (omega arith)
 
-pub AllWithin-set : (limit : ℕ) (t : List (List ℕ)) (r : ℕ) (v : List ℕ) → AllWithin limit t → IsWithin limit v →
+pub AllWithin-set : (limit : ℕ) (t : List (List ℕ)) (r : ℕ) (v : List ℕ) → AllWithin limit t → IsLocalWithin limit v →
     AllWithin limit (slice_set t r v)
 AllWithin-set limit [] r v a w = tt
 AllWithin-set limit (u ∷ t) zero v a w = (w, a.1)
@@ -101,9 +101,9 @@ slice_get-lists_of (v ∷ us) zero u h = let e : v ≡ u = cc in ap (λ (w : Uni
 slice_get-lists_of (v ∷ us) (suc r) u h = slice_get-lists_of us r u h
 
 pub AllWithin-get : (limit : ℕ) (t : List (List ℕ)) (r : ℕ) (u : List ℕ) → AllWithin limit t →
-    slice_get t r ≡ Some u → IsWithin limit u
+    slice_get t r ≡ Some u → IsLocalWithin limit u
 AllWithin-get limit [] r u a h = absurd (cc)
-AllWithin-get limit (v ∷ t) zero u a h = let e : v ≡ u = cc in subst (IsWithin limit) e a.0
+AllWithin-get limit (v ∷ t) zero u a h = let e : v ≡ u = cc in subst (IsLocalWithin limit) e a.0
 AllWithin-get limit (v ∷ t) (suc r) u a h = AllWithin-get limit t r u a.1 h
 
 -- a register that is read

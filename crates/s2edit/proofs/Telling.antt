@@ -7,8 +7,8 @@ use Rattle.s2file.specs.declared.TheConstants.{SESSION_CELLS, SESSION_CHANGES}
 use Rattle.s2edit.specs.History.{History, AllTables}
 use Rattle.s2edit.specs.Diff.{Diff, inverse}
 use Rattle.s2edit.specs.Leads.{list_at, Leads}
-use Rattle.s2edit.specs.Chain.{table_after, tables_after, FitsTable, FitAlong, IsWithin, AllWithin}
-use Rattle.s2edit.specs.Session.{diff, LeadBack, LeadAhead, Tells}
+use Rattle.s2edit.specs.Chain.{table_after, tables_after, FitsTable, FitAlong, IsLocalWithin, AllWithin}
+use Rattle.s2edit.specs.Session.{diff, LeadBack, LeadAhead, Records}
 use Rattle.s2edit.specs.declared.TheConstants.{REGISTERS}
 use Rattle.s2edit.proofs.Tables.{AllWithin-at, fits_back, table_back, within_after, length-tables_after}
 use Rattle.s2edit.proofs.Assigning.{fits_table, between_table}
@@ -42,7 +42,7 @@ from_lead : (limit : ℕ) (d : Diff) (t u : List (List ℕ)) → AllWithin limit
 from_lead limit d t u a b l =
     let v : List ℕ = list_at u d.register in
     let len : length u ≡ length t = ap length l.only ∙ length-set t d.register v in
-    let w : IsWithin limit v = AllWithin-at limit u d.register b (omega (arith, len, l.in_range)) in
+    let w : IsLocalWithin limit v = AllWithin-at limit u d.register b (omega (arith, len, l.in_range)) in
     record {
       fits = subst (FitsTable limit t) (sym l.change) (fits_table limit t d.register v a l.in_range w l.differs);
       is = l.only ∙ sym (between_table limit t d.register v a l.in_range w) ∙ ap (table_after t) (sym l.change);
@@ -70,7 +70,7 @@ along_more limit d ds t u us m r = record {
 }
 
 pub along_ahead : (limit : ℕ) (t : List (List ℕ)) (ms : List Moved) (ts : List (List (List ℕ))) →
-    AllWithin limit t → AllTables (IsWithin limit) ts → LeadAhead ms t ts → Along limit (map diff ms) t ts
+    AllWithin limit t → AllTables (IsLocalWithin limit) ts → LeadAhead ms t ts → Along limit (map diff ms) t ts
 along_ahead limit t [] [] a b l = record { fits = tt; are = refl }
 along_ahead limit t [] (u ∷ us) a b l = absurd l
 along_ahead limit t (m ∷ ms) [] a b l = absurd l
@@ -79,7 +79,7 @@ along_ahead limit t (m ∷ ms) (u ∷ us) a b l =
     (along_ahead limit u ms us b.0 b.1 l.1)
 
 pub along_back : (limit : ℕ) (t : List (List ℕ)) (ms : List Moved) (ts : List (List (List ℕ))) →
-    AllWithin limit t → AllTables (IsWithin limit) ts → LeadBack ms t ts →
+    AllWithin limit t → AllTables (IsLocalWithin limit) ts → LeadBack ms t ts →
     Along limit (map inverse (map diff ms)) t ts
 along_back limit t [] [] a b l = record { fits = tt; are = refl }
 along_back limit t [] (u ∷ us) a b l = absurd l
@@ -105,7 +105,7 @@ pub record CanFollow (s : Content) : Type 0 where
   pub past : FitAlong SESSION_CELLS s.registers (map inverse (map diff (reverse s.past)))
   pub future : FitAlong SESSION_CELLS s.registers (map diff s.future)
 
-module _ (s : Content) (h : History (List ℕ)) (w : Tells s h) where
+module _ (s : Content) (h : History (List ℕ)) (w : Records s h) where
   within : AllWithin SESSION_CELLS s.registers
   within = subst (AllWithin SESSION_CELLS) w.now w.lists.now
 
@@ -159,7 +159,7 @@ module _ (s : Content) (h : History (List ℕ)) (w : Tells s h) where
   told_future = ap length ahead.are ∙ length-tables_after s.registers (map diff s.future) ∙ length-map s.future diff
 
 -- a session tells one history in an editor of one limit and depth
-pub one_told : (s : Content) (h k : History (List ℕ)) → Tells s h → Tells s k → h.limit ≡ k.limit →
+pub one_told : (s : Content) (h k : History (List ℕ)) → Records s h → Records s k → h.limit ≡ k.limit →
     h.depth ≡ k.depth → h ≡ k
 one_told s h k f g e d =
     told_is s h f ∙ ap (λ (n : ℕ). history_told n h.depth s) e ∙ ap (λ (n : ℕ). history_told k.limit n s) d
@@ -167,7 +167,7 @@ one_told s h k f g e d =
 
 -- and where its changes can be made, it tells that one
 pub tells_it : (limit depth : ℕ) (s : Content) → CanFollow s → length s.past + length s.future ≤ SESSION_CHANGES →
-    Tells s (history_told limit depth s)
+    Records s (history_told limit depth s)
 tells_it limit depth s f few =
     let past : LeadBack (reverse s.past) s.registers
     (tables_after s.registers (map inverse (map diff (reverse s.past)))) =
@@ -184,10 +184,10 @@ tells_it limit depth s f few =
       past = past;
       future = all_ahead SESSION_CELLS s.registers s.future f.within f.future;
       lists = record {
-        past = AllTables-within (IsWithin SESSION_CELLS) SESSION_CELLS (λ u w. w) s.registers
+        past = AllTables-within (IsLocalWithin SESSION_CELLS) SESSION_CELLS (λ u w. w) s.registers
             (map inverse (map diff (reverse s.past))) f.within f.past;
         now = f.within;
-        future = AllTables-within (IsWithin SESSION_CELLS) SESSION_CELLS (λ u w. w) s.registers (map diff s.future)
+        future = AllTables-within (IsLocalWithin SESSION_CELLS) SESSION_CELLS (λ u w. w) s.registers (map diff s.future)
             f.within f.future;
       };
       few = omega (arith, p, q, few);

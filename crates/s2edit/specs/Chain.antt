@@ -35,13 +35,13 @@ abbrev pub lists_of : List Union → List (List ℕ)
 lists_of us = map (λ (u : Union). u.cells) us
 
 -- a list that a register may have: local, with at most limit cells
-pub record IsWithin (limit : ℕ) (cells : List ℕ) : Type 0 where
+pub record IsLocalWithin (limit : ℕ) (cells : List ℕ) : Type 0 where
   pub local : IsLocal cells
   pub few : length cells ≤ limit
 
 -- each list of the table is one that a register may have
 abbrev pub AllWithin : ℕ → List (List ℕ) → Type 0
-AllWithin limit t = AllLists (IsWithin limit) t
+AllWithin limit t = AllLists (IsLocalWithin limit) t
 
 -- each union has room for n cells
 abbrev pub AllRoomy : ℕ → List Union → Type 0

@@ -28,5 +28,5 @@ abbrev pub inverse : Diff → Diff
 inverse d = record { register = d.register; out = d.put; put = d.out }
 
 -- the change of a register from one list to another: the cells that the new one lacks, and those that the old one lacks
-abbrev pub between : ℕ → List ℕ → List ℕ → Diff
-between r u v = record { register = r; out = cells_without u v; put = cells_without v u }
+abbrev pub change_between : ℕ → List ℕ → List ℕ → Diff
+change_between r u v = record { register = r; out = cells_without u v; put = cells_without v u }

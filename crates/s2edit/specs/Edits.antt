@@ -5,13 +5,13 @@ use Rattle.s2union.specs.Union.{has_leaf, IsLocal}
 use Rattle.s2edit.specs.History.{History, Assigned, changed, undone, redone, timeline, sets, EachList}
 use Rattle.s2edit.specs.declared.edits.Edit.{Edit}
 use Rattle.s2edit.specs.declared.edits.Edit.TheVariants.{Assign, Undo, Redo}
-use Rattle.s2edit.specs.declared.edits.Outcome.{Outcome}
-use Rattle.s2edit.specs.declared.edits.Outcome.TheVariants.{Done, Refused, NoMemory}
+use Rattle.s2edit.specs.declared.edits.EditOutcome.{EditOutcome}
+use Rattle.s2edit.specs.declared.edits.EditOutcome.TheVariants.{Done, Refused, NoMemory}
 use Rattle.s2edit.specs.declared.edits.EditTally.{EditTally}
 
 module _ {X : Type 0} (f : List ℕ → X) where
   -- the edit, made in the history h, may have this outcome and leave the history h'
-  abbrev pub Edited : History X → Edit → Outcome → History X → Type 0
+  abbrev pub Edited : History X → Edit → EditOutcome → History X → Type 0
   -- an assignment is refused exactly if the list is above the limit
   Edited h (Assign r u) Done h' = (length u.cells ≤ h.limit) × Assigned h r (f u.cells) h'
   Edited h (Assign r u) Refused h' = (h.limit < length u.cells) × (h' ≡ h)
@@ -25,7 +25,7 @@ module _ {X : Type 0} (f : List ℕ → X) where
   Edited h Redo NoMemory h' = ⊥
 
   -- one edit after another, each with its outcome
-  abbrev pub EditRun : History X → List Edit → List Outcome → History X → Type 0
+  abbrev pub EditRun : History X → List Edit → List EditOutcome → History X → Type 0
   EditRun h [] [] h' = h' ≡ h
   EditRun h (e ∷ es) (o ∷ os) h' = (mid : History X) × Edited h e o mid × EditRun mid es os h'
   EditRun h [] (o ∷ os) h' = ⊥
@@ -46,13 +46,13 @@ module _ {X : Type 0} (f : List ℕ → X) where
       tally.done ≡ length edits → new.now ≡ old.now
 
 -- how many undos were done
-abbrev pub undos_done : List Edit → List Outcome → ℕ
+abbrev pub undos_done : List Edit → List EditOutcome → ℕ
 undos_done (Undo ∷ es) (Done ∷ os) = undos_done es os + 1
 undos_done (e ∷ es) (o ∷ os) = undos_done es os
 undos_done es os = 0
 
 -- how many redos were done
-abbrev pub redos_done : List Edit → List Outcome → ℕ
+abbrev pub redos_done : List Edit → List EditOutcome → ℕ
 redos_done (Redo ∷ es) (Done ∷ os) = redos_done es os + 1
 redos_done (e ∷ es) (o ∷ os) = redos_done es os
 redos_done es os = 0
@@ -66,28 +66,28 @@ AllMoves (Redo ∷ es) = AllMoves es
 
 -- What a list of edits did. If all are undos and redos, the timeline stays, and now moves back by the number of undos
 -- done, less the number of redos done.
-pub record RunsTo {X : Type 0} (f : List ℕ → X) (old : History X) (edits : List Edit) (outcomes : List Outcome)
+pub record RunsTo {X : Type 0} (f : List ℕ → X) (old : History X) (edits : List Edit) (outcomes : List EditOutcome)
     (new : History X) : Type 0 where
   pub run : EditRun f old edits outcomes new
   pub same_timeline : AllMoves edits → timeline new ≡ timeline old
   pub place : AllMoves edits → length new.past + undos_done edits outcomes ≡ length old.past + redos_done edits outcomes
 
 -- a tally with one more outcome
-abbrev pub tally_with : Outcome → EditTally → EditTally
+abbrev pub tally_with : EditOutcome → EditTally → EditTally
 tally_with Done t = record t { done = t.done + 1 }
 tally_with Refused t = record t { refused = t.refused + 1 }
 tally_with NoMemory t = record t { memory = t.memory + 1 }
 
 -- how many edits had each outcome
-abbrev pub tally_of : List Outcome → EditTally
-tally_of [] = record { done = 0; refused = 0; memory = 0 }
-tally_of (o ∷ os) = tally_with o (tally_of os)
+abbrev pub edit_tally_of : List EditOutcome → EditTally
+edit_tally_of [] = record { done = 0; refused = 0; memory = 0 }
+edit_tally_of (o ∷ os) = tally_with o (edit_tally_of os)
 
 -- Each edit had an outcome, which the tally counts; with these outcomes the edits lead from the one history to
 -- the other, list for list and set for set.
 pub record Ran (old : History (List ℕ)) (edits : List Edit) (tally : EditTally) (new : History (List ℕ)) : Type 0 where
-  pub outcomes : List Outcome
-  pub counted : tally ≡ tally_of outcomes
+  pub outcomes : List EditOutcome
+  pub counted : tally ≡ edit_tally_of outcomes
   pub by_lists : RunsTo (λ u. u) old edits outcomes new
   pub by_sets : RunsTo has_leaf (sets old) edits outcomes (sets new)
 
@@ -105,6 +105,6 @@ pub record LawOfRuns : Type 0 where
       Ran h es t₂ h₂ →
       t₁.memory ≡ 0 → t₂.memory ≡ 0 → (h₁ ≡ h₂) × (t₁ ≡ t₂)
   pub one_end_of_sets : (h : History (List ℕ)) (s₁ s₂ : History (ℕ → Bool)) (es : List Edit)
-      (os ps : List Outcome) → EachList IsLocal h → AssignLocal es →
-      EditRun has_leaf (sets h) es os s₁ → EditRun has_leaf (sets h) es ps s₂ → (tally_of os).memory ≡ 0 →
-      (tally_of ps).memory ≡ 0 → (s₁ ≡ s₂) × (os ≡ ps)
+      (os ps : List EditOutcome) → EachList IsLocal h → AssignLocal es →
+      EditRun has_leaf (sets h) es os s₁ → EditRun has_leaf (sets h) es ps s₂ → (edit_tally_of os).memory ≡ 0 →
+      (edit_tally_of ps).memory ≡ 0 → (s₁ ≡ s₂) × (os ≡ ps)

@@ -15,13 +15,13 @@ FailsToFollow TooMany P = ⊥
 FailsToFollow Memory P = Unit {0}
 
 -- the changes can be made one after another, and `within` tells whether each list made keeps to the limit
-pub record Follows (limit : ℕ) (t : List (List ℕ)) (ds : List Diff) (within : Bool) : Type 0 where
+pub record MakesChanges (limit : ℕ) (t : List (List ℕ)) (ds : List Diff) (within : Bool) : Type 0 where
   pub fit : FitAlong SESSION_CELLS t ds
   pub few : within ≡ true → FitAlong limit t ds
   pub many : FitAlong limit t ds → within ≡ true
 
 -- the change was made, and `within` tells whether the new list keeps to the limit
-pub record Steps (limit : ℕ) (t : List (List ℕ)) (d : Diff) (t' : List (List ℕ)) (within : Bool) : Type 0 where
+pub record MakesChange (limit : ℕ) (t : List (List ℕ)) (d : Diff) (t' : List (List ℕ)) (within : Bool) : Type 0 where
   pub fit : FitsTable SESSION_CELLS t d
   pub few : within ≡ true → FitsTable limit t d
   pub many : FitsTable limit t d → within ≡ true

@@ -1,6 +1,6 @@
 -- What a kept change says about the two tables that it lies between.
 use Rattle.std.specs.Prelude.{◌≡◌, ◌≢◌, ℕ, ◌<◌, List, [], length, slice_set, slice_index_or}
-use Rattle.s2edit.specs.Diff.{Diff, between}
+use Rattle.s2edit.specs.Diff.{Diff, change_between}
 
 -- the list of a register in a table
 abbrev pub list_at : List (List ℕ) → ℕ → List ℕ
@@ -16,4 +16,4 @@ pub record Leads (d : Diff) (t t' : List (List ℕ)) : Type 0 where
   pub in_range : d.register < length t
   pub only : t' ≡ slice_set t d.register (list_at t' d.register)
   pub differs : list_at t' d.register ≢ list_at t d.register
-  pub change : d ≡ between d.register (list_at t d.register) (list_at t' d.register)
+  pub change : d ≡ change_between d.register (list_at t d.register) (list_at t' d.register)

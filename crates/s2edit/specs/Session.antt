@@ -5,7 +5,7 @@ use Rattle.s2file.specs.declared.TheConstants.{SESSION_CELLS, SESSION_CHANGES}
 use Rattle.s2edit.specs.History.{History, EachList, sets}
 use Rattle.s2edit.specs.Diff.{Diff}
 use Rattle.s2edit.specs.Leads.{Leads}
-use Rattle.s2edit.specs.Chain.{IsWithin}
+use Rattle.s2edit.specs.Chain.{IsLocalWithin}
 use Rattle.s2edit.specs.declared.TheConstants.{REGISTERS}
 use Rattle.s2edit.specs.declared.session.RestoreFault.{RestoreFault}
 use Rattle.s2edit.specs.declared.session.RestoreFault.TheVariants.{Fit, TooDeep, TooMany, Memory}
@@ -34,25 +34,25 @@ LeadAhead (m ∷ ms) t (u ∷ us) = Leads (diff m) t u × LeadAhead ms u us
 -- The session tells the history: its registers are the present table, and its changes are those between adjacent
 -- tables, the past oldest first, each in the one register that differs. Every list is normalized and not too long for a
 -- file.
-pub record Tells (s : Content) (h : History (List ℕ)) : Type 0 where
+pub record Records (s : Content) (h : History (List ℕ)) : Type 0 where
   pub now : h.now ≡ s.registers
   pub count : length h.now ≡ REGISTERS
   pub past : LeadBack (reverse s.past) h.now h.past
   pub future : LeadAhead s.future h.now h.future
-  pub lists : EachList (IsWithin SESSION_CELLS) h
+  pub lists : EachList (IsLocalWithin SESSION_CELLS) h
   pub few : length h.past + length h.future ≤ SESSION_CHANGES
 
 -- `Text(h)`: the bytes are the session file of the history
 pub record Text (h : History (List ℕ)) (bytes : List ℕ) : Type 0 where
   pub content : Content
-  pub tells : Tells content h
+  pub tells : Records content h
   pub is : bytes ≡ session_text content
 
 -- `Stored(b, h)`: the bytes spell a session, as a session file or a union file, that tells the history
 pub record Stored (bytes : List ℕ) (h : History (List ℕ)) : Type 0 where
   pub content : Content
   pub spells : Spells bytes content
-  pub tells : Tells content h
+  pub tells : Records content h
 
 -- the same for a history of tables of leaf sets
 pub record StoredSets (bytes : List ℕ) (h : History (ℕ → Bool)) : Type 0 where
@@ -62,7 +62,7 @@ pub record StoredSets (bytes : List ℕ) (h : History (ℕ → Bool)) : Type 0 w
 
 -- the new history is the one that the session tells, with the limit and depth of the old one, and keeps to them
 pub record Restored (s : Content) (old new : History (List ℕ)) : Type 0 where
-  pub tells : Tells s new
+  pub tells : Records s new
   pub limit : new.limit ≡ old.limit
   pub depth : new.depth ≡ old.depth
   pub few : EachList (λ u. length u ≤ new.limit) new
@@ -71,20 +71,20 @@ pub record Restored (s : Content) (old new : History (List ℕ)) : Type 0 where
 -- the session tells a history with more states than the editor keeps
 pub record IsTooDeep (s : Content) (editor : History (List ℕ)) : Type 0 where
   pub history : History (List ℕ)
-  pub tells : Tells s history
+  pub tells : Records s history
   pub deep : editor.depth < length history.past + length history.future
 
 -- the session tells a history that is not too deep, but has a list of more cells than a register may have
 pub record IsTooMany (s : Content) (editor : History (List ℕ)) : Type 0 where
   pub history : History (List ℕ)
-  pub tells : Tells s history
+  pub tells : Records s history
   pub kept : length history.past + length history.future ≤ editor.depth
   pub many : EachList (λ u. length u ≤ editor.limit) history → ⊥
 
 -- why a session is refused: it tells no history, or the history is too deep, or a list has too many cells; or memory
 -- ran out
 abbrev pub RefusesSession : Content → History (List ℕ) → RestoreFault → Type 0
-RefusesSession s editor Fit = (h : History (List ℕ)) → Tells s h → ⊥
+RefusesSession s editor Fit = (h : History (List ℕ)) → Records s h → ⊥
 RefusesSession s editor TooDeep = IsTooDeep s editor
 RefusesSession s editor TooMany = IsTooMany s editor
 RefusesSession s editor Memory = Unit {0}

@@ -3,7 +3,6 @@ ghost use Rattle.std.specs.Prelude.{◌≡◌, [], IfOk, IsOk, ◌↔◌, IsTrue
 ghost use Rattle.s2file.specs.Session.{moved_of, IsMoved};
 ghost use Rattle.s2edit.specs.Diff.{FitsList};
 ghost use Rattle.s2edit.specs.Session.{diff};
-ghost use Rattle.s2edit.specs.Laws.{LawOfChanges};
 
 use crate::lacking::lacking;
 use crate::register::Register;
@@ -35,7 +34,7 @@ impl Model for Change {
 }
 
 impl Change {
-    ghost use Rattle.s2edit.specs.Diff.{between, inverse};
+    ghost use Rattle.s2edit.specs.Diff.{change_between, inverse};
 
     /// The change of a register from one union to another: `out` has the cells of `old` that `new` lacks, and `put`
     /// those of `new` that `old` lacks.
@@ -47,7 +46,7 @@ impl Change {
         old: &CellUnion,
         new: &CellUnion,
     ) -> Result<Change, AllocError>
-        ensures { IfOk result (λ c. c ≡ between register old.now.cells new.now.cells) }
+        ensures { IfOk result (λ c. c ≡ change_between register old.now.cells new.now.cells) }
     {
         let (out, put) = lacking(alloc, old.cells(), new.cells())?;
         Ok(Change { register, out, put })
@@ -61,13 +60,13 @@ impl Change {
         old: &CellUnion,
         new: CellUnion,
     ) -> Result<Change, AllocError>
-        ensures change { IfOk result (λ c. c ≡ between register old.now.cells new.cells) }
+        ensures change { IfOk result (λ c. c ≡ change_between register old.now.cells new.cells) }
         ensures from_empty { old.now.cells ≡ [] → IsOk result }
     {
         if !old.is_empty() {
             return Change::between(alloc, register, old, &new);
         }
-        let _ascending = new.cells();
+        let _ = new.cells();
         Ok(Change {
             register,
             out: Vec::new(alloc),
@@ -110,8 +109,3 @@ impl Change {
         union.can_apply(&self.out, &self.put)
     }
 }
-
-/// The law of changes: a change can be reversed, and between two lists there is exactly one change.
-pub fn law_of_changes()
-    ensures { LawOfChanges }
-{}

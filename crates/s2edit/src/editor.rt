@@ -1,6 +1,7 @@
 //! The editor: registers, and the history of their changes.
-ghost use Rattle.std.specs.Prelude.{◌≡◌, ◌+◌, ◌<◌, ◌≤◌, ◌↔◌, [], ◌∷◌, length, replicate, IfOk, OnOk};
-ghost use Rattle.std.specs.Prelude.{OnErr, IsOk, IfSome, IsNone, slice_get, slice_set, Some, vec_len, MatchOption};
+ghost use Rattle.std.specs.Prelude.{◌≡◌, ◌≢◌, ◌+◌, ◌<◌, ◌≤◌, ◌↔◌, [], ◌∷◌, length};
+ghost use Rattle.std.specs.Prelude.{replicate, IfOk, OnOk, OnErr, IsOk, IfSome, IsNone, slice_get, slice_set, Some};
+ghost use Rattle.std.specs.Prelude.{vec_len, MatchBool, MatchOption};
 ghost use Rattle.s2union.specs.Union.{has_leaf, IsLocal, IsNormalForm};
 ghost use Rattle.s2union.specs.Apply.{applied, Fits};
 ghost use Rattle.s2edit.specs.History.{untouched, Assigned, sets, undone, redone, numbers, EachList};
@@ -242,8 +243,6 @@ fn empty_registers(alloc: Global, limit: usize) -> Result<Vec<CellUnion>, AllocE
     }
     Ok(registers)
 }
-
-ghost use Rattle.std.specs.Prelude.{◌≢◌, MatchBool};
 
 /// Whether the two lists are the same.
 fn are_same(cells: &[CellId], others: &[CellId]) -> bool

@@ -2,7 +2,7 @@
 ghost use Rattle.std.specs.Prelude.{◌≡◌};
 ghost use Rattle.s2union.specs.Union.{has_leaf};
 ghost use Rattle.s2edit.specs.History.{sets};
-ghost use Rattle.s2edit.specs.Edits.{Edited, Ran, GivesBack, LawOfRuns};
+ghost use Rattle.s2edit.specs.Edits.{Edited, Ran, GivesBack};
 
 use crate::editor::{EditFault, Editor};
 use crate::register::Register;
@@ -19,7 +19,7 @@ pub enum Edit {
 /// How an edit ended: it was done, it was refused (a union above the limit, or nothing to undo or to redo), or it ran
 /// out of memory. In the last two cases the editor is as it was.
 #[derive(Clone, Copy, Debug, PartialEq, Eq)]
-pub enum Outcome {
+pub enum EditOutcome {
     Done,
     Refused,
     NoMemory,
@@ -37,31 +37,31 @@ impl Edit {
     /// Carries out the edit, and answers how it ended.
     ///
     /// An assignment copies its union, unless the union is above the limit and refused.
-    pub fn carry_out(&self, editor: &mut Editor) -> Outcome
+    pub fn carry_out(&self, editor: &mut Editor) -> EditOutcome
         ensures lists { Edited (λ u. u) editor.old self.now result editor.new }
         ensures leaf_sets { Edited has_leaf (sets editor.old) self.now result (sets editor.new) }
     {
         match self {
             Edit::Assign(register, union) => {
                 if union.len() > editor.limit() {
-                    return Outcome::Refused;
+                    return EditOutcome::Refused;
                 }
                 let Ok(union) = union.try_clone() else {
-                    return Outcome::NoMemory;
+                    return EditOutcome::NoMemory;
                 };
                 match editor.assign(*register, union) {
-                    Ok(_) => Outcome::Done,
-                    Err(EditFault::TooMany) => Outcome::Refused,
-                    Err(EditFault::Memory) => Outcome::NoMemory,
+                    Ok(_) => EditOutcome::Done,
+                    Err(EditFault::TooMany) => EditOutcome::Refused,
+                    Err(EditFault::Memory) => EditOutcome::NoMemory,
                 }
             }
             Edit::Undo => match editor.undo() {
-                Some(_) => Outcome::Done,
-                None => Outcome::Refused,
+                Some(_) => EditOutcome::Done,
+                None => EditOutcome::Refused,
             },
             Edit::Redo => match editor.redo() {
-                Some(_) => Outcome::Done,
-                None => Outcome::Refused,
+                Some(_) => EditOutcome::Done,
+                None => EditOutcome::Refused,
             },
         }
     }
@@ -81,15 +81,10 @@ pub fn run_edits(editor: &mut Editor, edits: &[Edit]) -> EditTally
     };
     for edit in edits {
         match edit.carry_out(editor) {
-            Outcome::Done => tally.done += 1,
-            Outcome::Refused => tally.refused += 1,
-            Outcome::NoMemory => tally.memory += 1,
+            EditOutcome::Done => tally.done += 1,
+            EditOutcome::Refused => tally.refused += 1,
+            EditOutcome::NoMemory => tally.memory += 1,
         }
     }
     tally
 }
-
-/// If memory never runs out, what a list of edits does is one function of the list and of the state of the editor.
-pub fn law_of_runs()
-    ensures { LawOfRuns }
-{}

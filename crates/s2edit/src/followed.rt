@@ -46,7 +46,7 @@ impl Followed {
     pub(crate) fn from(alloc: Global, start: CellUnion) -> Followed
         ensures { result ≡ start.cells }
     {
-        let _local = start.cells();
+        let _ = start.cells();
         Followed {
             start,
             out: Vec::new(alloc),
@@ -98,7 +98,7 @@ impl Followed {
         }
         let mut list = CellUnion::with_room(alloc, len)?;
         self.start.apply_into(&self.out, &self.put, &mut list);
-        let _local = list.cells();
+        let _ = list.cells();
         self.start = list;
         self.out.clear();
         self.put.clear();

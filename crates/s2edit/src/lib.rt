@@ -11,16 +11,17 @@ mod editor;
 mod edits;
 mod followed;
 mod lacking;
+pub mod laws;
 mod lengths;
 mod parts;
 mod register;
 mod session;
 
-pub use change::{Change, law_of_changes};
+pub use change::Change;
 pub use editor::{EditFault, Editor};
-pub use edits::{Edit, EditTally, Outcome, law_of_runs, run_edits};
+pub use edits::{Edit, EditOutcome, EditTally, run_edits};
 pub use register::Register;
-pub use session::{RestoreFault, law_of_sessions};
+pub use session::RestoreFault;
 
 /// How many registers there are. They are named by the letters from `a` on.
 pub const REGISTERS: usize = 26;

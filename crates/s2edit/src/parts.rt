@@ -36,7 +36,7 @@ pub(crate) fn parts_of(
 fn part_of(union: &CellUnion, watched: &CellUnion) -> Result<CellUnion, AllocError>
     ensures { IfOk result (λ part. IsPart (has_leaf watched.now.cells) union.now.cells part.cells) }
 {
-    let _local = union.cells();
+    let _ = union.cells();
     let part = union.intersection(watched)?;
     if union.can_apply(part.cells(), &[]) {
         return Ok(part);

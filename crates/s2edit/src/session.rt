@@ -7,9 +7,8 @@ ghost use Rattle.s2file.specs.Session.{content_of, moved_of, IsContent, IsMoved}
 ghost use Rattle.s2edit.specs.History.{AllLists};
 ghost use Rattle.s2edit.specs.Diff.{inverse};
 ghost use Rattle.s2edit.specs.Chain.{lists_of, AllWithin, FitsTable, FitAlong};
-ghost use Rattle.s2edit.specs.Session.{moved, diff, Tells, Text, Restored, RefusesSession};
-ghost use Rattle.s2edit.specs.SessionLaws.{LawOfSessions};
-ghost use Rattle.s2edit.specs.Following.{FailsToFollow, Follows, Steps, HaveRoom, KeepRoom};
+ghost use Rattle.s2edit.specs.Session.{moved, diff, Records, Text, Restored, RefusesSession};
+ghost use Rattle.s2edit.specs.Following.{FailsToFollow, MakesChanges, MakesChange, HaveRoom, KeepRoom};
 ghost use Rattle.s2edit.specs.declared.session.RestoreFault.TheVariants.{Memory};
 
 use crate::REGISTERS;
@@ -55,7 +54,7 @@ impl Editor {
     ///
     /// Copies each list. Takes memory only for the copies.
     pub fn session(&self) -> Result<Session, AllocError>
-        ensures tells { IfOk result (λ session. Tells (content_of session) self.now) }
+        ensures tells { IfOk result (λ session. Records (content_of session) self.now) }
         ensures content { IfOk result (λ session. IsContent (content_of session)) }
     {
         let registers = copies_of(self.alloc, &self.registers)?;
@@ -118,11 +117,6 @@ impl Editor {
         Ok(())
     }
 }
-
-/// The laws of sessions: bytes stand for at most one history, and a history that is written comes back.
-pub fn law_of_sessions()
-    ensures { LawOfSessions }
-{}
 
 /// Whether no list has more cells than the limit.
 fn are_within(unions: &[CellUnion], limit: usize) -> bool
@@ -192,7 +186,7 @@ fn fit_ahead(
     requires count { length registers.now ≡ REGISTERS }
     requires within { AllWithin SESSION_CELLS (lists_of registers.now) }
     requires each { AllByRecursion IsMoved (map moved_of moves.now) }
-    ensures { MatchResult result (λ within. Follows limit (lists_of registers.now)
+    ensures { MatchResult result (λ within. MakesChanges limit (lists_of registers.now)
         (map diff (map moved_of moves.now)) within) (λ fault.
         FailsToFollow fault (FitAlong SESSION_CELLS (lists_of registers.now) (map diff (map moved_of moves.now)))) }
 {
@@ -215,7 +209,7 @@ fn fit_back(
     requires count { length registers.now ≡ REGISTERS }
     requires within { AllWithin SESSION_CELLS (lists_of registers.now) }
     requires each { AllByRecursion IsMoved (map moved_of moves.now) }
-    ensures { MatchResult result (λ within. Follows limit (lists_of registers.now)
+    ensures { MatchResult result (λ within. MakesChanges limit (lists_of registers.now)
         (map inverse (map diff (map moved_of moves.now))) within)
         (λ fault. FailsToFollow fault (FitAlong SESSION_CELLS (lists_of registers.now)
         (map inverse (map diff (map moved_of moves.now))))) }
@@ -240,7 +234,7 @@ fn follow_ahead(
     requires count { length table.items ≡ REGISTERS }
     requires within { AllWithin SESSION_CELLS table.items }
     requires each { AllByRecursion IsMoved (map moved_of moves.now) }
-    ensures { MatchResult result (λ within. Follows limit table.items
+    ensures { MatchResult result (λ within. MakesChanges limit table.items
         (map diff (map moved_of moves.now)) within) (λ fault.
         FailsToFollow fault (FitAlong SESSION_CELLS table.items (map diff (map moved_of moves.now)))) }
 {
@@ -269,7 +263,7 @@ fn follow_back(
     requires count { length table.items ≡ REGISTERS }
     requires within { AllWithin SESSION_CELLS table.items }
     requires each { AllByRecursion IsMoved (map moved_of moves.now) }
-    ensures { MatchResult result (λ within. Follows limit table.items
+    ensures { MatchResult result (λ within. MakesChanges limit table.items
         (map inverse (map diff (map moved_of moves.now))) within)
         (λ fault. FailsToFollow fault (FitAlong SESSION_CELLS table.items
         (map inverse (map diff (map moved_of moves.now))))) }
@@ -301,7 +295,7 @@ fn step(
     requires count { length table.old.items ≡ REGISTERS }
     requires within { AllWithin SESSION_CELLS table.old.items }
     requires change { IsMoved (record { register = register; out = out.now; put = put.now }) }
-    ensures { MatchResult result (λ few. Steps limit table.old.items
+    ensures { MatchResult result (λ few. MakesChange limit table.old.items
         (record { register = register; out = out.now; put = put.now }) table.new.items few)
         (λ fault. FailsToFollow fault (FitsTable SESSION_CELLS table.old.items
         (record { register = register; out = out.now; put = put.now }))) }

@@ -6,7 +6,7 @@ use Rattle.std.proofs.lemmas.Bool.Decides.{leb_tells}
 use Rattle.s2file.specs.declared.union_file.TheConstants.{MOST_SIZE}
 use Rattle.s2file.specs.declared.fault.FileFault.{FileFault}
 use Rattle.s2file.specs.declared.fault.FileFault.TheVariants.{Version, Count, Short, Trailing, Cell, Memory}
-use Rattle.s2file.specs.File.{stated_count, File, HasVersion, HasHead, HasCount, Faults}
+use Rattle.s2file.specs.File.{stated_count, File, HasVersion, HasHead, HasCount, HasFault}
 use Rattle.s2file.proofs.Numbers.{first_number-longer}
 
 pub longest : (bytes : List ℕ) (S : ℕ → Bool) → File bytes S → length bytes ≤ MOST_SIZE
@@ -37,8 +37,8 @@ count-longer xs ys h v = record {
 }
 
 -- they are too long for the last checks, and not too short
-fault-longer : (xs ys : List ℕ) (fault : FileFault) → MOST_SIZE < length xs → fault ≢ Memory → Faults xs fault →
-    Faults (xs ++ ys) fault
+fault-longer : (xs ys : List ℕ) (fault : FileFault) → MOST_SIZE < length xs → fault ≢ Memory → HasFault xs fault →
+    HasFault (xs ++ ys) fault
 fault-longer xs ys Version h n f = (omega (arith, longer xs ys), λ e. f.1 (sym (first-longer xs ys h) ∙ e))
 fault-longer xs ys Count h n f = (head-longer xs ys h f.0, omega (arith, f.1, stated-longer xs ys h))
 fault-longer xs ys Trailing h n f = (
@@ -64,8 +64,8 @@ file_begins bytes n S h f =
     (all_or_more bytes n)
 
 pub fault_begins : (bytes : List ℕ) (n : ℕ) (fault : FileFault) → MOST_SIZE < n → fault ≢ Memory →
-    Faults (take n bytes) fault → Faults bytes fault
+    HasFault (take n bytes) fault → HasFault bytes fault
 fault_begins bytes n fault h m f =
-    ⊎_elim (λ e. subst (λ b. Faults b fault) e f)
-    (λ e. subst (λ b. Faults b fault) (take-append-drop n bytes)
+    ⊎_elim (λ e. subst (λ b. HasFault b fault) e f)
+    (λ e. subst (λ b. HasFault b fault) (take-append-drop n bytes)
     (fault-longer (take n bytes) (drop n bytes) fault (omega (arith, h, e)) m f)) (all_or_more bytes n)

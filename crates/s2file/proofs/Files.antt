@@ -8,7 +8,7 @@ use Rattle.s2cell.specs.Cell.{IsCell}
 use Rattle.s2union.specs.Union.{Union, has_leaf}
 use Rattle.s2file.specs.declared.fault.FileFault.{FileFault}
 use Rattle.s2file.specs.declared.fault.FileFault.TheVariants.{Version, Count, Short, Trailing, Cell, Memory}
-use Rattle.s2file.specs.File.{stated_count, IsFileOf, File, HasCount, Faults}
+use Rattle.s2file.specs.File.{stated_count, IsFileOf, File, HasCount, HasFault}
 
 -- a file has one list of identifiers
 same_ids : (bytes xs ys : List ℕ) → IsFileOf bytes xs → IsFileOf bytes ys → xs ≡ ys
@@ -21,7 +21,7 @@ same_leaves bytes S T f g x =
     f.leaves x ∙ ap (λ (ids : List ℕ). has_leaf ids x) (same_ids bytes f.ids g.ids f.is g.is) ∙ sym (g.leaves x)
 
 -- a file has no fault
-pub no_fault : (bytes : List ℕ) (S : ℕ → Bool) (fault : FileFault) → File bytes S → Faults bytes fault → fault ≡ Memory
+pub no_fault : (bytes : List ℕ) (S : ℕ → Bool) (fault : FileFault) → File bytes S → HasFault bytes fault → fault ≡ Memory
 no_fault bytes S Version f h = absurd (h.1 f.is.version)
 no_fault bytes S Count f h = absurd (omega (arith, f.is.count, f.is.most, h.1))
 no_fault bytes S Short f h = elim h [
@@ -40,7 +40,7 @@ no_fault bytes S Cell f h =
 no_fault bytes S Memory f h = refl
 
 -- bytes that end too early don't begin with another byte than 1
-short_begins : (bytes : List ℕ) → Faults bytes Short → Faults bytes Version → ⊥
+short_begins : (bytes : List ℕ) → HasFault bytes Short → HasFault bytes Version → ⊥
 short_begins bytes h version = elim h [
   | inl none ↦ absurd (omega (arith, version.0))
   | inr more ↦ elim more [
@@ -50,7 +50,7 @@ short_begins bytes h version = elim h [
 ]
 
 -- nor do they state too many
-short_counts : (bytes : List ℕ) → Faults bytes Short → Faults bytes Count → ⊥
+short_counts : (bytes : List ℕ) → HasFault bytes Short → HasFault bytes Count → ⊥
 short_counts bytes h count = elim h [
   | inl none ↦ absurd (omega (arith, count.0.whole))
   | inr more ↦ elim more [
@@ -60,7 +60,7 @@ short_counts bytes h count = elim h [
 ]
 
 -- nor have they as many as they state
-short_ends : (bytes : List ℕ) → Faults bytes Short → HasCount bytes → 9 + 8 * stated_count bytes ≤ length bytes → ⊥
+short_ends : (bytes : List ℕ) → HasFault bytes Short → HasCount bytes → 9 + 8 * stated_count bytes ≤ length bytes → ⊥
 short_ends bytes h counted enough = elim h [
   | inl none ↦ absurd (omega (arith, enough))
   | inr more ↦ elim more [
@@ -70,7 +70,7 @@ short_ends bytes h counted enough = elim h [
 ]
 
 -- two checks don't both fail first
-pub one_fault : (bytes : List ℕ) (fault other : FileFault) → Faults bytes fault → Faults bytes other →
+pub one_fault : (bytes : List ℕ) (fault other : FileFault) → HasFault bytes fault → HasFault bytes other →
     fault ≢ Memory → other ≢ Memory → fault ≡ other
 one_fault bytes Memory other h g m n = absurd (m refl)
 one_fault bytes Version Memory h g m n = absurd (n refl)
@@ -106,7 +106,7 @@ one_fault bytes Cell Cell h g m n = refl
 
 -- an answer that is right for the bytes is the one for each set whose file they are
 pub exact_answer : (bytes : List ℕ) (r : Result Union FileFault) →
-    MatchResult r (λ u. File bytes (has_leaf u.cells)) (Faults bytes)
+    MatchResult r (λ u. File bytes (has_leaf u.cells)) (HasFault bytes)
     → (S : ℕ → Bool) → File bytes S → MatchResult r (λ u. (x : ℕ) → has_leaf u.cells x ≡ S x) (λ fault. fault ≡ Memory)
 exact_answer bytes (Ok u) answer S file = λ x. same_leaves bytes (has_leaf u.cells) S answer file x
 exact_answer bytes (Err fault) answer S file = no_fault bytes S fault file answer

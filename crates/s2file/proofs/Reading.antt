@@ -7,7 +7,7 @@ use Rattle.std.proofs.lemmas.List.Elements.{All-push}
 use borrow.Author.Count.{below_more}
 use Rattle.s2cell.specs.Cell.{IsCell}
 use Rattle.s2union.specs.Union.{has_leaf}
-use Rattle.s2file.specs.File.{first_number, number_at, IsFileOf, File, HasFrame, Faults}
+use Rattle.s2file.specs.File.{first_number, number_at, IsFileOf, File, HasFrame, HasFault}
 use Rattle.s2file.specs.declared.fault.FileFault.TheVariants.{Cell}
 use Rattle.s2file.proofs.Numbers.{first_number-append}
 
@@ -54,7 +54,7 @@ reads_more bytes ids rest chunk more n r e h is cell =
 -- a number of no cell
 pub reads_wrong : (bytes ids rest chunk more : List ℕ) → HasFrame bytes → ReadsSome bytes ids rest →
     rest ≡ chunk ++ more → length chunk ≡ 8
-    → (IsCell (first_number chunk) → ⊥) → Faults bytes Cell
+    → (IsCell (first_number chunk) → ⊥) → HasFault bytes Cell
 reads_wrong bytes ids rest chunk more frame r e h wrong = (
   frame,
   record {

@@ -73,16 +73,16 @@ pub record HasWrongNumber (bytes : List ℕ) : Type 0 where
   pub wrong : IsCell (number_at bytes place) → ⊥
 
 -- the fault of the first check that fails; once the first four have passed, memory may run out
-abbrev pub Faults : List ℕ → FileFault → Type 0
-Faults bytes Version = (0 < length bytes) × (slice_index bytes 0 ≢ 1)
-Faults bytes Short =
+abbrev pub HasFault : List ℕ → FileFault → Type 0
+HasFault bytes Version = (0 < length bytes) × (slice_index bytes 0 ≢ 1)
+HasFault bytes Short =
     (length bytes ≡ 0)
     ⊎ (HasVersion bytes × (length bytes < 9))
     ⊎ (HasCount bytes × (length bytes < 9 + 8 * stated_count bytes))
-Faults bytes Count = HasHead bytes × (MOST_CELLS < stated_count bytes)
-Faults bytes Trailing = HasCount bytes × (9 + 8 * stated_count bytes < length bytes)
-Faults bytes Cell = HasFrame bytes × HasWrongNumber bytes
-Faults bytes Memory = HasFrame bytes
+HasFault bytes Count = HasHead bytes × (MOST_CELLS < stated_count bytes)
+HasFault bytes Trailing = HasCount bytes × (9 + 8 * stated_count bytes < length bytes)
+HasFault bytes Cell = HasFrame bytes × HasWrongNumber bytes
+HasFault bytes Memory = HasFrame bytes
 
 -- the bytes of a file with these identifiers, however many
 abbrev pub file_text : List ℕ → List ℕ

@@ -3,7 +3,7 @@ ghost use Rattle.std.specs.Prelude.{◌≡◌, ◌≢◌, ◌<◌, ◌≤◌, �
 ghost use Rattle.std.specs.Prelude.{drop, replicate, MatchResult};
 ghost use Rattle.s2union.specs.Union.{has_leaf};
 ghost use Rattle.s2file.specs.declared.union_file.TheConstants.{MOST_CELLS, MOST_SIZE};
-ghost use Rattle.s2file.specs.File.{File, Faults, file_text, Bytes};
+ghost use Rattle.s2file.specs.File.{File, HasFault, file_text, Bytes};
 ghost use Rattle.s2file.specs.Session.{Content, Spells, session_text, content_of_list};
 ghost use Rattle.s2file.specs.SessionParts.{one_change};
 ghost use Rattle.s2file.specs.declared.fault.FileFault.{FileFault as Fault};
@@ -17,9 +17,9 @@ use std::alloc::Global;
 /// other bytes have at most one fault besides it.
 pub fn one_reading()
     ensures leaves { (bytes : List ℕ) (S T : ℕ → Bool) → File bytes S → File bytes T → (x : ℕ) → S x ≡ T x }
-    ensures no_fault { (bytes : List ℕ) (S : ℕ → Bool) (fault : Fault) → File bytes S → Faults bytes fault →
+    ensures no_fault { (bytes : List ℕ) (S : ℕ → Bool) (fault : Fault) → File bytes S → HasFault bytes fault →
         fault ≡ FileFault.Memory }
-    ensures one_fault { (bytes : List ℕ) (fault other : Fault) → Faults bytes fault → Faults bytes other →
+    ensures one_fault { (bytes : List ℕ) (fault other : Fault) → HasFault bytes fault → HasFault bytes other →
         fault ≢ FileFault.Memory → other ≢ FileFault.Memory → fault ≡ other }
 {}
 
@@ -29,7 +29,7 @@ pub fn beginning_decides()
     ensures longest { (bytes : List ℕ) (S : ℕ → Bool) → File bytes S → length bytes ≤ MOST_SIZE }
     ensures file { (bytes : List ℕ) (n : ℕ) (S : ℕ → Bool) → MOST_SIZE < n → File (take n bytes) S → File bytes S }
     ensures fault { (bytes : List ℕ) (n : ℕ) (fault : Fault) → MOST_SIZE < n → fault ≢ FileFault.Memory →
-        Faults (take n bytes) fault → Faults bytes fault }
+        HasFault (take n bytes) fault → HasFault bytes fault }
 {}
 
 /// Bytes spell at most one session.
@@ -73,17 +73,17 @@ pub fn known_files()
 
 /// Bytes that are no file, and the fault of each: the first check that fails.
 pub fn refused_bytes()
-    ensures no_byte { Faults [] FileFault.Short }
-    ensures version_2 { Faults (2 ∷ []) FileFault.Version }
-    ensures version_2_and_count { Faults (2 ∷ replicate 8 0) FileFault.Version }
-    ensures head_cut_off { Faults (1 ∷ replicate 7 0) FileFault.Short }
-    ensures greatest_count { Faults (1 ∷ replicate 8 255) FileFault.Count }
-    ensures count_1000001 { Faults (1 ∷ 0x41 ∷ 0x42 ∷ 0x0f ∷ replicate 5 0) FileFault.Count }
-    ensures identifier_cut_off { Faults (1 ∷ 1 ∷ replicate 14 0) FileFault.Short }
-    ensures byte_after { Faults (1 ∷ 1 ∷ replicate 14 0 ++ 0x10 ∷ 0 ∷ []) FileFault.Trailing }
-    ensures identifier_0 { Faults (1 ∷ 1 ∷ replicate 15 0) FileFault.Cell }
-    ensures odd_place { Faults (1 ∷ 1 ∷ replicate 14 0 ++ 0x20 ∷ []) FileFault.Cell }
-    ensures face_6 { Faults (1 ∷ 1 ∷ replicate 14 0 ++ 0xd0 ∷ []) FileFault.Cell }
+    ensures no_byte { HasFault [] FileFault.Short }
+    ensures version_2 { HasFault (2 ∷ []) FileFault.Version }
+    ensures version_2_and_count { HasFault (2 ∷ replicate 8 0) FileFault.Version }
+    ensures head_cut_off { HasFault (1 ∷ replicate 7 0) FileFault.Short }
+    ensures greatest_count { HasFault (1 ∷ replicate 8 255) FileFault.Count }
+    ensures count_1000001 { HasFault (1 ∷ 0x41 ∷ 0x42 ∷ 0x0f ∷ replicate 5 0) FileFault.Count }
+    ensures identifier_cut_off { HasFault (1 ∷ 1 ∷ replicate 14 0) FileFault.Short }
+    ensures byte_after { HasFault (1 ∷ 1 ∷ replicate 14 0 ++ 0x10 ∷ 0 ∷ []) FileFault.Trailing }
+    ensures identifier_0 { HasFault (1 ∷ 1 ∷ replicate 15 0) FileFault.Cell }
+    ensures odd_place { HasFault (1 ∷ 1 ∷ replicate 14 0 ++ 0x20 ∷ []) FileFault.Cell }
+    ensures face_6 { HasFault (1 ∷ 1 ∷ replicate 14 0 ++ 0xd0 ∷ []) FileFault.Cell }
 {}
 
 /// What `decode` answers for the bytes that `encode` wrote: the same union, or out of memory.

@@ -2,7 +2,7 @@
 ghost use Rattle.std.specs.Prelude.{◌≡◌, ◌≤◌, ◌++◌, ℕ, Bool, length, MatchResult, IfOk, OnOk};
 ghost use Rattle.s2union.specs.Union.{has_leaf, IsLocal};
 ghost use Rattle.s2file.specs.declared.union_file.TheConstants.{MOST_CELLS};
-ghost use Rattle.s2file.specs.File.{first_number, number_text, HasFrame, IsFileOf, File, Faults, file_text, Bytes};
+ghost use Rattle.s2file.specs.File.{first_number, number_text, HasFrame, IsFileOf, File, HasFault, file_text, Bytes};
 
 use crate::fault::FileFault;
 use byteorder::{ByteOrder, LittleEndian};
@@ -35,7 +35,7 @@ pub const MOST_SIZE: usize = HEAD_SIZE + NUMBER_SIZE * MOST_CELLS as usize;
 #[tactic(auto, using(crate::proofs::Reading::file_from_cells))]
 pub fn decode(alloc: Global, bytes: &[u8]) -> Result<CellUnion, FileFault>
     ensures answer { MatchResult result (λ union. File bytes.now (has_leaf union.cells))
-        (λ fault. Faults bytes.now fault) }
+        (λ fault. HasFault bytes.now fault) }
     ensures exact { (S : ℕ → Bool) → File bytes.now S →
         MatchResult result (λ union. (x : ℕ) → has_leaf union.cells x ≡ S x) (λ fault. fault ≡ FileFault.Memory) }
     ensures local { IfOk result (λ union. IsLocal union.cells) }
@@ -47,7 +47,7 @@ pub fn decode(alloc: Global, bytes: &[u8]) -> Result<CellUnion, FileFault>
 
 /// Checks all but the identifiers.
 fn check_frame(bytes: &[u8]) -> Result<(), FileFault>
-    ensures { MatchResult result (λ _. HasFrame bytes.now) (λ fault. Faults bytes.now fault) }
+    ensures { MatchResult result (λ _. HasFrame bytes.now) (λ fault. HasFault bytes.now fault) }
 {
     match bytes.first() {
         None => return Err(FileFault::Short),
@@ -74,7 +74,7 @@ fn check_frame(bytes: &[u8]) -> Result<(), FileFault>
 /// The cells after the head of a file, in their order.
 fn cells_of(alloc: Global, bytes: &[u8]) -> Result<Vec<CellId>, FileFault>
     requires { HasFrame bytes.now }
-    ensures { MatchResult result (λ cells. IsFileOf bytes.now cells.items) (λ fault. Faults bytes.now fault) }
+    ensures { MatchResult result (λ cells. IsFileOf bytes.now cells.items) (λ fault. HasFault bytes.now fault) }
 {
     let numbers = &bytes[HEAD_SIZE..];
     let mut cells = Vec::with_capacity(alloc, numbers.len() / NUMBER_SIZE)?;

@@ -13,7 +13,7 @@ use Rattle.s2script.specs.declared.limits.TheConstants.{GREATEST_FACE, GREATEST_
 use Rattle.s2script.specs.declared.limits.TheConstants.{GREATEST_COORDINATE}
 use Rattle.s2script.specs.Named.{cell_named}
 use Rattle.s2script.specs.Number.{number_within}
-use Rattle.s2script.specs.Values.{Spot, Ends}
+use Rattle.s2script.specs.Values.{Spot, RangeEnds}
 use Rattle.s2script.specs.FileName.{name_of_word}
 use Rattle.s2script.specs.CellList.{next_cells}
 
@@ -89,7 +89,7 @@ next_last first [] = Err (Missing Cell)
 next_last first (w ∷ ws) = value_or (cell_named w) w Cell ws and_then λ (last, ws). in_order first w last ws
 
 -- the next two words as the cells of a range
-abbrev pub next_span : List (List ℕ) → Taken Ends
+abbrev pub next_span : List (List ℕ) → Taken RangeEnds
 next_span ws = next_cell ws and_then λ (first, ws). next_last first ws
     and_then λ (last, ws). Ok (record { first = first; last = last }, ws)
 
@@ -135,7 +135,7 @@ unfoldable pub register_and_cells : List (List ℕ) → Result (ℕ × List ℕ)
 register_and_cells ws = next_register ws and_then λ (r, ws). next_cells ws gives λ cells. (r, cells)
 
 -- `r CELL CELL`
-unfoldable pub register_and_span : List (List ℕ) → Result (ℕ × Ends) Misfit
+unfoldable pub register_and_span : List (List ℕ) → Result (ℕ × RangeEnds) Misfit
 register_and_span ws = next_register ws and_then λ (r, ws). next_span ws and_then λ (span, ws). at_end ws (r, span)
 
 -- `r NAME`

@@ -8,6 +8,6 @@ pub record Spot : Type 0 where
   pub j : ℕ
 
 -- the two cells of a range
-pub record Ends : Type 0 where
+pub record RangeEnds : Type 0 where
   pub first : ℕ
   pub last : ℕ

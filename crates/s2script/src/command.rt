@@ -11,7 +11,7 @@ use s2edit::Register;
 
 /// What a register becomes.
 #[derive(Drop)]
-pub enum Edit<'a> {
+pub enum RegisterEdit<'a> {
     /// The register with the cells added.
     Add(Cells<'a>),
     /// The register without the leaves of the cells.
@@ -106,15 +106,28 @@ pub enum Question {
 #[derive(Drop)]
 pub enum Command<'a> {
     /// To edit a register.
-    Edit { register: Register, edit: Edit<'a> },
+    Edit {
+        register: Register,
+        edit: RegisterEdit<'a>,
+    },
     /// To give a register the union that a file holds.
-    Load { register: Register, name: Name<'a> },
+    Load {
+        register: Register,
+        name: Name<'a>,
+    },
     /// To write a register to a file.
-    Save { register: Register, name: Name<'a> },
+    Save {
+        register: Register,
+        name: Name<'a>,
+    },
     /// To write the registers and their history to a file.
-    Dump { name: Name<'a> },
+    Dump {
+        name: Name<'a>,
+    },
     /// To take over the registers and the history that a file holds.
-    Restore { name: Name<'a> },
+    Restore {
+        name: Name<'a>,
+    },
     /// To go back one state.
     Undo,
     /// To go forward one state.

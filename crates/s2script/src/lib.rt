@@ -31,7 +31,7 @@ mod words;
 mod worked;
 
 pub use cells::Cells;
-pub use command::{Command, Comparison, Edit, Parsed, Question};
+pub use command::{Command, Comparison, Parsed, Question, RegisterEdit};
 pub use grammar::{misfit_of, parse};
 pub use level::{Level, Modulus};
 pub use limits::{LONGEST_LINE, LONGEST_NAME};

@@ -15,9 +15,9 @@ pub struct Span {
 impl Model for Span {
     ghost use Rattle.std.specs.Prelude.{ℕ, ◌<◌, ◌+◌};
     ghost use Rattle.s2cell.specs.Cell.{first_leaf, size_of};
-    ghost use Rattle.s2script.specs.Values.{Ends};
+    ghost use Rattle.s2script.specs.Values.{RangeEnds};
 
-    ghost Value = { Ends };
+    ghost Value = { RangeEnds };
 
     ghost view = { λ s. record { first = s.first; last = s.last } };
 

@@ -4,7 +4,7 @@ ghost use Rattle.s2script.specs.declared.command.Command.TheVariants.{Edit as Ed
 ghost use Rattle.s2script.specs.declared.command.Question.TheVariants.{Compares};
 ghost use Rattle.s2script.specs.Table.{combination_of, command_of, covering_of, fact_of, file_or_move_of, question_of};
 
-use crate::command::{Command, Comparison, Edit, Question};
+use crate::command::{Command, Comparison, Question, RegisterEdit};
 use crate::forms::{
     one_cell, one_name, one_place, one_register, register_and_cell, register_and_cells,
     register_and_name, register_and_span, register_level_modulus, register_level_rect,
@@ -44,19 +44,19 @@ pub(crate) fn command_of<'a>(name: &'a [u8], words: Words<'a>) -> Result<Command
 {
     if name == b"add".as_slice() {
         let (register, cells) = register_and_cells(words)?;
-        Ok(edited(register, Edit::Add(cells)))
+        Ok(edited(register, RegisterEdit::Add(cells)))
     } else if name == b"remove".as_slice() {
         let (register, cells) = register_and_cells(words)?;
-        Ok(edited(register, Edit::Remove(cells)))
+        Ok(edited(register, RegisterEdit::Remove(cells)))
     } else if name == b"keep".as_slice() {
         let (register, cells) = register_and_cells(words)?;
-        Ok(edited(register, Edit::Keep(cells)))
+        Ok(edited(register, RegisterEdit::Keep(cells)))
     } else if name == b"clear".as_slice() {
         let register = one_register(words)?;
-        Ok(edited(register, Edit::Clear))
+        Ok(edited(register, RegisterEdit::Clear))
     } else if name == b"range".as_slice() {
         let (register, span) = register_and_span(words)?;
-        Ok(edited(register, Edit::Range(span)))
+        Ok(edited(register, RegisterEdit::Range(span)))
     } else {
         combination_of(name, words)
     }
@@ -69,16 +69,16 @@ fn combination_of<'a>(name: &'a [u8], words: Words<'a>) -> Result<Command<'a>, M
 {
     if name == b"copy".as_slice() {
         let (register, other) = two_registers(words)?;
-        Ok(edited(register, Edit::Copy(other)))
+        Ok(edited(register, RegisterEdit::Copy(other)))
     } else if name == b"union".as_slice() {
         let (register, other) = two_registers(words)?;
-        Ok(edited(register, Edit::Union(other)))
+        Ok(edited(register, RegisterEdit::Union(other)))
     } else if name == b"intersect".as_slice() {
         let (register, other) = two_registers(words)?;
-        Ok(edited(register, Edit::Intersect(other)))
+        Ok(edited(register, RegisterEdit::Intersect(other)))
     } else if name == b"subtract".as_slice() {
         let (register, other) = two_registers(words)?;
-        Ok(edited(register, Edit::Subtract(other)))
+        Ok(edited(register, RegisterEdit::Subtract(other)))
     } else {
         covering_of(name, words)
     }
@@ -91,16 +91,16 @@ fn covering_of<'a>(name: &'a [u8], words: Words<'a>) -> Result<Command<'a>, Misf
 {
     if name == b"outer".as_slice() {
         let (register, level, rect) = register_level_rect(words)?;
-        Ok(edited(register, Edit::Outer { level, rect }))
+        Ok(edited(register, RegisterEdit::Outer { level, rect }))
     } else if name == b"inner".as_slice() {
         let (register, level, rect) = register_level_rect(words)?;
-        Ok(edited(register, Edit::Inner { level, rect }))
+        Ok(edited(register, RegisterEdit::Inner { level, rect }))
     } else if name == b"outerof".as_slice() {
         let (register, other, level, rect) = registers_level_rect(words)?;
-        Ok(edited(register, Edit::OuterOf { other, level, rect }))
+        Ok(edited(register, RegisterEdit::OuterOf { other, level, rect }))
     } else if name == b"innerof".as_slice() {
         let (register, other, level, rect) = registers_level_rect(words)?;
-        Ok(edited(register, Edit::InnerOf { other, level, rect }))
+        Ok(edited(register, RegisterEdit::InnerOf { other, level, rect }))
     } else {
         file_or_move_of(name, words)
     }
@@ -193,7 +193,7 @@ fn fact_of<'a>(name: &'a [u8], mut words: Words<'a>) -> Result<Question, Misfit<
 }
 
 /// An edit of a register, as a command.
-fn edited<'a>(register: Register, edit: Edit<'a>) -> Command<'a>
+fn edited<'a>(register: Register, edit: RegisterEdit<'a>) -> Command<'a>
     ensures { result ≡ EditOf register edit.entry }
 {
     Command::Edit { register, edit }

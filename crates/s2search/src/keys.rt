@@ -7,21 +7,12 @@ ghost use Rattle.std.specs.Prelude.{◌∷◌, ◌++◌, All, IfOk};
 ghost use Rattle.std.specs.Prelude.{OnOk, length, slice_index};
 ghost use Rattle.std.specs.List.Sorted.{IsStrictlyIncreasing};
 ghost use Rattle.s2cell.specs.Cell.{IsCell, IsInside, first_leaf, level_of, parent_of};
-ghost use Rattle.s2union.specs.Union.{IsLocal, ShareSome, has_leaf};
-ghost use Rattle.s2search.specs.Ancestors.{AreHolders, Gains, IsAfter, IsBefore, ShareHolder};
+ghost use Rattle.s2union.specs.Union.{IsLocal};
+ghost use Rattle.s2search.specs.Ancestors.{AreHolders, Gains, IsAfter, IsBefore};
 
 use crate::cells::Cells;
 use s2cell::CellId;
 use std::alloc::{AllocError, Global};
-
-/// Two lists of cells share a leaf exactly if a cell of one is a cell of the other, or an ancestor of a cell of the
-/// other. So an index can keep, for each union, its cells and its `ancestors`. It finds the unions that share a leaf
-/// with a given one by looking up the cells of that one among the `ancestors`, and its `ancestors` among the cells.
-pub fn law_of_indexes()
-    ensures { (xs ys x_holders y_holders : List ℕ) → All IsCell xs → All IsCell ys
-        → AreHolders xs x_holders → AreHolders ys y_holders
-        → (ShareSome (has_leaf xs) (has_leaf ys) ↔ ShareHolder xs ys x_holders y_holders) }
-{}
 
 /// The cells of a union and all their ancestors, ascending, each once. The work is in proportion to their number, at
 /// most 31 for each cell of the union. Fails only if it is out of memory.

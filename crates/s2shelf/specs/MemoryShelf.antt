@@ -5,12 +5,12 @@ use Rattle.s2shelf.specs.declared.memory_shelf.MemoryShelf.{MemoryShelf}
 use Rattle.s2shelf.specs.Shelf.{Files}
 
 -- the file of that name
-abbrev pub content_of : MemoryShelf → List ℕ → Option (List ℕ)
-content_of shelf name = option_map (λ bytes. bytes.items) (get_by_text shelf.named name)
+abbrev pub file_named : MemoryShelf → List ℕ → Option (List ℕ)
+file_named shelf name = option_map (λ bytes. bytes.items) (get_by_text shelf.named name)
 
 -- what is known of the shelf: it tells every file, so what was found needs no record
 abbrev pub files_of : MemoryShelf → Files
-files_of shelf = record { tells = true; at = content_of shelf; found = None; failures = shelf.failures }
+files_of shelf = record { tells = true; at = file_named shelf; found = None; failures = shelf.failures }
 
 -- which call from now on fails: 1 is the next one, 0 means none
 abbrev pub failing_of : MemoryShelf → ℕ

@@ -10,7 +10,7 @@ use Rattle.s2union.specs.Packed.{IsPacked}
 use Rattle.s2union.specs.Tail.{Follows, IsTail}
 use Rattle.s2union.specs.declared.tail.Tail.{Tail}
 use Rattle.s2union.specs.Apply.{applied, Fits}
-use Rattle.s2union.specs.Merge.{Left, CanApply, Goes, made}
+use Rattle.s2union.specs.Merge.{Left, CanApply, Goes, made_list}
 use Rattle.s2union.proofs.Packing.{packed_take}
 use Rattle.s2union.proofs.PackedLocal.{local_from_packed}
 use Rattle.s2union.proofs.Checking.{fits, pushed_after, pushed_unmerged, packed_from_local}
@@ -86,7 +86,7 @@ pub record Seen (start now : Left) (tail : Tail) : Type 0 where
   pub ends : IsTail tail back
   pub packed : IsPacked (reverse back)
   pub same : CanApply start ↔ CanApply now
-  pub gives : CanApply start → reverse back ++ made now ≡ made start
+  pub gives : CanApply start → reverse back ++ made_list now ≡ made_list start
 
 pub seen_write : (start now next : Left) (tail : Tail) (cell : ℕ) → Seen start now tail →
     Goes (cell ∷ []) now next → IsCell cell → Follows tail cell →
@@ -96,7 +96,7 @@ seen_write start now next tail cell s g c f = record {
   ends = tail_with tail s.back cell s.ends;
   packed = subst IsPacked (sym (reverse-append (cell ∷ []) s.back)) (packed_with tail s.back cell s.ends s.packed c f);
   same = (λ h. g.same.0 (s.same.0 h), λ h. s.same.1 (g.same.1 h));
-  gives = λ h. reverse_first cell s.back (made next) ∙ ap (λ zs. reverse s.back ++ zs) (sym (g.gives (s.same.0 h)))
+  gives = λ h. reverse_first cell s.back (made_list next) ∙ ap (λ zs. reverse s.back ++ zs) (sym (g.gives (s.same.0 h)))
       ∙ s.gives h;
 }
 
@@ -109,14 +109,14 @@ pub unfit_cell : (out put u : List ℕ) (now next : Left) (tail : Tail) (cell : 
     (Follows tail cell → ⊥) → Fits out put u → ⊥
 unfit_cell out put u now next tail cell s g n f =
     let can : CanApply (record { out = out; put = put; cells = u }) = can_from out put u f in
-    let whole : reverse s.back ++ cell ∷ made next ≡ applied out put u =
+    let whole : reverse s.back ++ cell ∷ made_list next ≡ applied out put u =
     ap (λ zs. reverse s.back ++ zs) (sym (g.gives (s.same.0 can))) ∙ s.gives can in
-    n (follows_packed tail s.back cell s.ends (packed_front (reverse s.back) (made next) cell
+    n (follows_packed tail s.back cell s.ends (packed_front (reverse s.back) (made_list next) cell
     (subst IsPacked (sym whole) (packed_from_local (applied out put u) f.local))))
 
 pub fits_all : (out put u : List ℕ) (now : Left) (tail : Tail) → IsStrictlyIncreasing out →
     IsStrictlyIncreasing put → Seen (record { out = out; put = put; cells = u }) now tail →
-    CanApply now → made now ≡ [] → Fits out put u
+    CanApply now → made_list now ≡ [] → Fits out put u
 fits_all out put u now tail a b s c e =
     let can : CanApply (record { out = out; put = put; cells = u }) = s.same.1 c in
     let whole : reverse s.back ≡ applied out put u = sym (append-nil (reverse s.back))

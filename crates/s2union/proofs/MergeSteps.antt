@@ -8,7 +8,7 @@ use Rattle.std.proofs.lemmas.Bool.{cond-true, cond-false, false≢true, true≢f
 use Rattle.std.specs.List.Sorted.{IsStrictlyIncreasing}
 use Rattle.s2union.specs.Apply.{has, cells_without, insert_cell, insert_cells, applied}
 use Rattle.std.specs.declared.cmp.Ordering.TheVariants.{Less, Equal, Greater}
-use Rattle.s2union.specs.Merge.{CanApply, Goes, Keeps, Ascend, IsHead, IsFirst}
+use Rattle.s2union.specs.Merge.{CanApply, Goes, Keeps, Ascend, IsHead, IsFrontOf}
 use Rattle.s2union.specs.Search.{Brackets}
 use Rattle.s2union.specs.Packed.{IsPacked}
 use Rattle.s2union.proofs.Finding.{ascends}
@@ -253,13 +253,13 @@ keep_run (suc n) out put (u ∷ us) a h hp ho =
       less = omega arith;
     }
 
-below_first : (x n : ℕ) (ys : List ℕ) → IsFirst n ys → x < n → IfHead (λ y. x < y) ys
+below_first : (x n : ℕ) (ys : List ℕ) → IsFrontOf n ys → x < n → IfHead (λ y. x < y) ys
 below_first x n [] f h = tt
 below_first x n (y ∷ ys) f h = omega arith
 
 -- the same of the cells that a search finds below the first of both
 pub keep_found : (len next a b : ℕ) (out put us : List ℕ) → Ascend (record { out = out; put = put; cells = us }) →
-    IsFirst a out → IsFirst b put → next ≡ min a b → Brackets us next len len
+    IsFrontOf a out → IsFrontOf b put → next ≡ min a b → Brackets us next len len
     → Keeps (take len us) (record { out = out; put = put; cells = us })
     (record { out = out; put = put; cells = drop len us })
 keep_found len next a b out put us s fa fb e found =

@@ -9,7 +9,7 @@ use Rattle.s2union.specs.Packed.{IsPacked, Continues}
 use Rattle.s2union.specs.Tail.{Follows, IsTail, Passes}
 use Rattle.s2union.specs.declared.tail.Tail.{Tail}
 use Rattle.s2union.specs.Apply.{applied, Fits}
-use Rattle.s2union.specs.Merge.{Left, CanApply, Keeps, made}
+use Rattle.s2union.specs.Merge.{Left, CanApply, Keeps, made_list}
 use Rattle.s2union.proofs.Packing.{packed_take, read_at}
 use Rattle.s2union.proofs.Checking.{packed_from_local}
 use Rattle.s2union.proofs.Following.{follow_packed}
@@ -145,7 +145,7 @@ seen_run passes start now next old new run s g p passed_by = record {
   ends = p.ends s.back s.ends s.packed passed_by;
   packed = subst IsPacked (sym (reverse_back run s.back)) ((p.exact s.back s.ends s.packed).0 passed_by);
   same = (λ h. g.same.0 (s.same.0 h), λ h. s.same.1 (g.same.1 h));
-  gives = λ h. ap (λ l. l ++ made next) (reverse_back run s.back) ∙ append_assoc (reverse s.back) run (made next)
+  gives = λ h. ap (λ l. l ++ made_list next) (reverse_back run s.back) ∙ append_assoc (reverse s.back) run (made_list next)
       ∙ ap (λ zs. reverse s.back ++ zs) (sym (g.gives (s.same.0 h))) ∙ s.gives h;
 }
 
@@ -155,13 +155,13 @@ pub unfit_run : (passes : Type 0) (out put u : List ℕ) (now next : Left) (old 
     → Passes passes old new run → (passes → ⊥) → Fits out put u → ⊥
 unfit_run passes out put u now next old new run s g p fails f =
     let can : CanApply (record { out = out; put = put; cells = u }) = can_from out put u f in
-    let whole : (reverse s.back ++ run) ++ made next ≡ applied out put u =
-    append_assoc (reverse s.back) run (made next) ∙ ap (λ zs. reverse s.back ++ zs) (sym (g.gives (s.same.0 can)))
+    let whole : (reverse s.back ++ run) ++ made_list next ≡ applied out put u =
+    append_assoc (reverse s.back) run (made_list next) ∙ ap (λ zs. reverse s.back ++ zs) (sym (g.gives (s.same.0 can)))
     ∙ s.gives can in
-    let all : IsPacked ((reverse s.back ++ run) ++ made next) =
+    let all : IsPacked ((reverse s.back ++ run) ++ made_list next) =
     subst IsPacked (sym whole) (packed_from_local (applied out put u) f.local) in
-    let n = length-append (reverse s.back ++ run) (made next) in
+    let n = length-append (reverse s.back ++ run) (made_list next) in
     let front : IsPacked (reverse s.back ++ run) =
-    subst IsPacked (take_at (reverse s.back ++ run) (made next) (length (reverse s.back ++ run)) refl)
-    (packed_take (length (reverse s.back ++ run)) ((reverse s.back ++ run) ++ made next) (omega arith) all) in
+    subst IsPacked (take_at (reverse s.back ++ run) (made_list next) (length (reverse s.back ++ run)) refl)
+    (packed_take (length (reverse s.back ++ run)) ((reverse s.back ++ run) ++ made_list next) (omega arith) all) in
     fails ((p.exact s.back s.ends s.packed).1 front)

@@ -21,19 +21,19 @@ pub record CanApply (l : Left) : Type 0 where
   pub put_is_new : (x : ℕ) → has l.put x ≡ true → has l.cells x ≡ false
 
 -- the list that the change makes
-abbrev pub made : Left → List ℕ
-made l = applied l.out l.put l.cells
+abbrev pub made_list : Left → List ℕ
+made_list l = applied l.out l.put l.cells
 
 -- one step of the walk: it gives `front`, the next cells of the result, and leaves less
 pub record Goes (front : List ℕ) (old new : Left) : Type 0 where
   pub same : CanApply old ↔ CanApply new
-  pub gives : CanApply old → made old ≡ front ++ made new
+  pub gives : CanApply old → made_list old ≡ front ++ made_list new
   pub less : length new.cells + length new.put < length old.cells + length old.put
 
 -- a run of cells that stay: `front` is the beginning of the result
 pub record Keeps (front : List ℕ) (old new : Left) : Type 0 where
   pub same : CanApply old ↔ CanApply new
-  pub gives : CanApply old → made old ≡ front ++ made new
+  pub gives : CanApply old → made_list old ≡ front ++ made_list new
   pub less : length new.cells + length new.put ≤ length old.cells + length old.put
 
 -- what each kind of turn says: it writes a cell, writes nothing, finds that the change does not fit, or is at the end
@@ -41,7 +41,7 @@ abbrev pub IsTurn : Turn → Left → Left → Type 0
 IsTurn (Write c) old new = Goes (c ∷ []) old new
 IsTurn Skip old new = Goes [] old new
 IsTurn Misfit old new = CanApply old → ⊥
-IsTurn End old new = CanApply old × (made old ≡ [])
+IsTurn End old new = CanApply old × (made_list old ≡ [])
 
 -- how the first cell of a list compares to `cell`; an empty list compares as greater
 abbrev pub IsHead : Ordering → List ℕ → ℕ → Type 0
@@ -51,9 +51,9 @@ IsHead Equal (x ∷ xs) cell = x ≡ cell
 IsHead Greater (x ∷ xs) cell = cell < x
 
 -- the first cell of the list, or a number above every cell if the list is empty
-abbrev pub IsFirst : ℕ → List ℕ → Type 0
-IsFirst n [] = n ≡ 2 ^ 64 - 1
-IsFirst n (x ∷ xs) = n ≡ x
+abbrev pub IsFrontOf : ℕ → List ℕ → Type 0
+IsFrontOf n [] = n ≡ 2 ^ 64 - 1
+IsFrontOf n (x ∷ xs) = n ≡ x
 
 -- the lists of the change ascend, and the list of cells is packed
 pub record Ascend (l : Left) : Type 0 where

@@ -33,7 +33,7 @@ impl CellUnion {
         ensures cells { self.new.cells ≡ other.now.cells }
         ensures room { self.old.room ≤ self.new.room }
     {
-        let _local = other.cells();
+        let _ = other.cells();
         self.cells.clear();
         extend_reserved(&mut self.cells, other.cells());
     }

@@ -1,7 +1,7 @@
 //! A walk along a list and the two lists of a change, which gives the changed list cell by cell.
 ghost use Rattle.std.specs.Prelude.{◌≡◌, []};
 ghost use Rattle.std.specs.List.Sorted.{IsStrictlyIncreasing};
-ghost use Rattle.s2union.specs.Merge.{IsTurn, IsHead, IsFirst, Keeps};
+ghost use Rattle.s2union.specs.Merge.{IsTurn, IsHead, IsFrontOf, Keeps};
 ghost use Rattle.s2union.specs.Packed.{IsPacked};
 
 use crate::gallop::gallop;
@@ -120,7 +120,7 @@ fn head_order(list: &[CellId], cell: CellId) -> Ordering
 
 /// The identifier of the first cell of a list, or a number above every cell if the list is empty.
 fn first_id(list: &[CellId]) -> u64
-    ensures { IsFirst result list.now }
+    ensures { IsFrontOf result list.now }
 {
     match list.first() {
         Some(first) => first.id(),

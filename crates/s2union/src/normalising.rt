@@ -98,13 +98,3 @@ fn fits_behind(front: &[CellId], cell: CellId) -> bool
         None => true,
     }
 }
-
-/// A law, which does nothing when it runs: two unions with the same leaves have the same cells. So
-/// unions can be compared by `cells()`.
-pub fn same_cells(a: &CellUnion, b: &CellUnion)
-    requires { (x : ℕ) → has_leaf a.now.cells x ≡ has_leaf b.now.cells x }
-    ensures { a.now.cells ≡ b.now.cells }
-{
-    let _ = &a.cells;
-    let _ = &b.cells;
-}

@@ -7,42 +7,42 @@ use Rattle.std.proofs.Math.ListN.{set}
 use Rattle.std.proofs.Math.Seq.{set-append_seam}
 use Rattle.std.proofs.lemmas.List.{length-drop}
 use Rattle.std.specs.List.{AllZip}
-use Rattle.s2union_c.specs.Texts.{AreNames, IsFilled, IsFirstNameless, IsNextWord, Names, words}
+use Rattle.s2union_c.specs.Texts.{AreNames, IsFilled, IsFirstNameless, IsNextWord, NamesCell, words_of_text}
 
 -- the words up to the place `at` name these cells, `count` of them
 pub record Naming (text : List ℕ) (at count : ℕ) (ids : List ℕ) : Type 0 where
   pub within : at ≤ length text
   pub few : count ≤ at
   pub done : List (List ℕ)
-  pub all : done ++ words (drop at text) ≡ words text
-  pub named : AllZip Names done ids
+  pub all : done ++ words_of_text (drop at text) ≡ words_of_text text
+  pub named : AllZip NamesCell done ids
   pub count_is : length ids ≡ count
 
 abbrev pub word_at : List ℕ → ℕ → ℕ → List ℕ
 word_at text start end = take (end - start) (drop start text)
 
-zip_push : (ws : List (List ℕ)) (ids : List ℕ) (w : List ℕ) (id : ℕ) → AllZip Names ws ids → Names w id
-    → AllZip Names (ws ++ w ∷ []) (ids ++ id ∷ [])
+zip_push : (ws : List (List ℕ)) (ids : List ℕ) (w : List ℕ) (id : ℕ) → AllZip NamesCell ws ids → NamesCell w id
+    → AllZip NamesCell (ws ++ w ∷ []) (ids ++ id ∷ [])
 zip_push [] [] w id z n = (n, tt)
 zip_push [] (i ∷ ids) w id z n = absurd z
 zip_push (v ∷ ws) [] w id z n = absurd z
 zip_push (v ∷ ws) (i ∷ ids) w id z n = (z.0, zip_push ws ids w id z.1 n)
 
-zip_length : (ws : List (List ℕ)) (ids : List ℕ) → AllZip Names ws ids → length ws ≡ length ids
+zip_length : (ws : List (List ℕ)) (ids : List ℕ) → AllZip NamesCell ws ids → length ws ≡ length ids
 zip_length [] [] z = refl
 zip_length [] (i ∷ ids) z = absurd z
 zip_length (v ∷ ws) [] z = absurd z
 zip_length (v ∷ ws) (i ∷ ids) z = ap suc (zip_length ws ids z.1)
 
-zip_names : (ws : List (List ℕ)) (ids : List ℕ) → AllZip Names ws ids → AreNames ws
+zip_names : (ws : List (List ℕ)) (ids : List ℕ) → AllZip NamesCell ws ids → AreNames ws
 zip_names [] [] z = tt
 zip_names [] (i ∷ ids) z = absurd z
 zip_names (v ∷ ws) [] z = absurd z
 zip_names (v ∷ ws) (i ∷ ids) z = ((i, z.0), zip_names ws ids z.1)
 
 name_at : (done : List (List ℕ)) (w : List ℕ) (later : List (List ℕ)) (ids : List ℕ) →
-    AllZip Names (done ++ w ∷ later) ids
-    → (id : ℕ) × Names w id
+    AllZip NamesCell (done ++ w ∷ later) ids
+    → (id : ℕ) × NamesCell w id
 name_at [] w later [] z = absurd z
 name_at [] w later (i ∷ ids) z = (i, z.0)
 name_at (v ∷ done) w later [] z = absurd z
@@ -65,12 +65,12 @@ naming_start text = record {
 -- the words before the next one, it, and those after it
 pub words_there : (text : List ℕ) (at count : ℕ) (ids : List ℕ) (start end : ℕ) → (n : Naming text at count ids)
     → IsNextWord text at start end
-    → n.done ++ word_at text start end ∷ words (drop end text) ≡ words text
+    → n.done ++ word_at text start end ∷ words_of_text (drop end text) ≡ words_of_text text
 words_there text at count ids start end n w = ap (λ ws. n.done ++ ws) (sym w.first ∙ w.same) ∙ n.all
 
 pub naming_more : (text : List ℕ) (at count : ℕ) (ids : List ℕ) (start end id : ℕ) → Naming text at count ids →
     IsNextWord text at start end
-    → Names (word_at text start end) id → Naming text end (count + 1) (ids ++ id ∷ [])
+    → NamesCell (word_at text start end) id → Naming text end (count + 1) (ids ++ id ∷ [])
 naming_more text at count ids start end id n w names =
     let within = n.within in
     let few = n.few in
@@ -82,28 +82,28 @@ naming_more text at count ids start end id n w names =
       within = w.within;
       few = omega arith;
       done = n.done ++ word_at text start end ∷ [];
-      all = append_assoc n.done (word_at text start end ∷ []) (words (drop end text))
+      all = append_assoc n.done (word_at text start end ∷ []) (words_of_text (drop end text))
           ∙ words_there text at count ids start end n w;
       named = zip_push n.done ids (word_at text start end) id n.named names;
       count_is = omega arith;
     }
 
-pub naming_done : (text : List ℕ) (at count : ℕ) (ids : List ℕ) → Naming text at count ids → words (drop at text) ≡ []
-    → AllZip Names (words text) ids
+pub naming_done : (text : List ℕ) (at count : ℕ) (ids : List ℕ) → Naming text at count ids → words_of_text (drop at text) ≡ []
+    → AllZip NamesCell (words_of_text text) ids
 naming_done text at count ids n none =
-    let all : n.done ≡ words text = sym (append_none n.done) ∙ ap (λ ws. n.done ++ ws) (sym none) ∙ n.all in
-    subst (λ ws. AllZip Names ws ids) all n.named
+    let all : n.done ≡ words_of_text text = sym (append_none n.done) ∙ ap (λ ws. n.done ++ ws) (sym none) ∙ n.all in
+    subst (λ ws. AllZip NamesCell ws ids) all n.named
 
 pub nameless_at : (text : List ℕ) (at count : ℕ) (ids : List ℕ) (start end : ℕ) → Naming text at count ids →
     IsNextWord text at start end
-    → ((id : ℕ) → Names (word_at text start end) id → ⊥) → IsFirstNameless text start
+    → ((id : ℕ) → NamesCell (word_at text start end) id → ⊥) → IsFirstNameless text start
 nameless_at text at count ids start end n w none =
     let some = w.some in
     let within = w.within in
     record {
       earlier = n.done;
       word = word_at text start end;
-      later = words (drop end text);
+      later = words_of_text (drop end text);
       words_are = sym (words_there text at count ids start end n w);
       named = zip_names n.done ids n.named;
       nameless = none;
@@ -114,23 +114,23 @@ nameless_at text at count ids start end n w none =
 
 -- where all words name cells, the next one does, and there is room for its cell
 pub name_there : (text : List ℕ) (at count : ℕ) (ids : List ℕ) (start end : ℕ) (all : List ℕ) → Naming text at count ids
-    → IsNextWord text at start end → AllZip Names (words text) all → (id : ℕ) × Names (word_at text start end) id
+    → IsNextWord text at start end → AllZip NamesCell (words_of_text text) all → (id : ℕ) × NamesCell (word_at text start end) id
 name_there text at count ids start end all n w zip =
-    name_at n.done (word_at text start end) (words (drop end text)) all
-    (subst (λ ws. AllZip Names ws all) (sym (words_there text at count ids start end n w)) zip)
+    name_at n.done (word_at text start end) (words_of_text (drop end text)) all
+    (subst (λ ws. AllZip NamesCell ws all) (sym (words_there text at count ids start end n w)) zip)
 
 pub room_there : (text : List ℕ) (at count : ℕ) (ids : List ℕ) (start end : ℕ) (all : List ℕ) → Naming text at count ids
-    → IsNextWord text at start end → AllZip Names (words text) all → count < length all
+    → IsNextWord text at start end → AllZip NamesCell (words_of_text text) all → count < length all
 room_there text at count ids start end all n w zip =
-    let one = zip_length (words text) all zip in
+    let one = zip_length (words_of_text text) all zip in
     let two = zip_length n.done ids n.named in
     let c = n.count_is in
-    let is : length (n.done ++ word_at text start end ∷ words (drop end text)) ≡ length (words text) =
+    let is : length (n.done ++ word_at text start end ∷ words_of_text (drop end text)) ≡ length (words_of_text text) =
     ap length (words_there text at count ids start end n w) in
-    let len = length-append n.done (word_at text start end ∷ words (drop end text)) in
+    let len = length-append n.done (word_at text start end ∷ words_of_text (drop end text)) in
     omega arith
 
-pub same_count : (ws : List (List ℕ)) (a b : List ℕ) → AllZip Names ws a → AllZip Names ws b → length a ≡ length b
+pub same_count : (ws : List (List ℕ)) (a b : List ℕ) → AllZip NamesCell ws a → AllZip NamesCell ws b → length a ≡ length b
 same_count ws a b x y = sym (zip_length ws a x) ∙ zip_length ws b y
 
 -- one more number after the front

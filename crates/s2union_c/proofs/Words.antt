@@ -8,7 +8,7 @@ use Rattle.std.proofs.lemmas.List.{drop-drop, length-drop, length-take-le, take_
 use Rattle.std.proofs.lemmas.List.Splits.{slice_split-cons_yes, slice_split-cons_no}
 use Rattle.std.specs.List.{AllByRecursion, slice_split, onto_first, filter}
 use Rattle.std.proofs.Math.ListN.{drop_of_length-le}
-use Rattle.s2union_c.specs.Texts.{EndsWordAt, IsNextWord, is_between, is_nonempty, words}
+use Rattle.s2union_c.specs.Texts.{EndsTextWordAt, IsNextWord, is_between, is_nonempty, words_of_text}
 
 split_at : (p : ℕ → Bool) (word : List ℕ) (b : ℕ) (more : List ℕ) → AllByRecursion (λ x. p x ≡ false) word → p b ≡ true
     → slice_split p (word ++ b ∷ more) ≡ word ∷ slice_split p more
@@ -26,24 +26,24 @@ filter_some [] parts h = absurd (omega arith)
 filter_some (b ∷ bs) parts h = refl
 
 -- what stands between words adds none
-pub words_skip : (b : ℕ) (more : List ℕ) → is_between b ≡ true → words (b ∷ more) ≡ words more
+pub words_skip : (b : ℕ) (more : List ℕ) → is_between b ≡ true → words_of_text (b ∷ more) ≡ words_of_text more
 words_skip b more e = ap (filter is_nonempty) (slice_split-cons_yes is_between b more e)
 
 -- a word ends at the first byte that stands between words
-pub words_at : (bytes : List ℕ) (at : ℕ) → EndsWordAt bytes at → 0 < length (take at bytes)
-    → words bytes ≡ take at bytes ∷ words (drop at bytes)
+pub words_at : (bytes : List ℕ) (at : ℕ) → EndsTextWordAt bytes at → 0 < length (take at bytes)
+    → words_of_text bytes ≡ take at bytes ∷ words_of_text (drop at bytes)
 words_at bytes at h some =
     let more = drop (at + 1) bytes in
-    let skip : words (drop at bytes) ≡ words more = ap words h.here
+    let skip : words_of_text (drop at bytes) ≡ words_of_text more = ap words_of_text h.here
     ∙ words_skip (slice_index bytes at) more h.between in
-    ap words (sym (take-append-drop at bytes) ∙ ap (λ s. take at bytes ++ s) h.here)
+    ap words_of_text (sym (take-append-drop at bytes) ∙ ap (λ s. take at bytes ++ s) h.here)
     ∙ ap (filter is_nonempty) (split_at is_between (take at bytes) (slice_index bytes at) more h.before h.between)
     ∙ filter_some (take at bytes) (slice_split is_between more) some
     ∙ ap (λ ws. take at bytes ∷ ws) (sym skip)
 
 -- or at the end of the text
 pub words_last : (bytes : List ℕ) → AllByRecursion (λ b. is_between b ≡ false) bytes → 0 < length bytes
-    → words bytes ≡ bytes ∷ []
+    → words_of_text bytes ≡ bytes ∷ []
 words_last bytes u some = ap (filter is_nonempty) (split_none is_between bytes u) ∙ filter_some bytes [] some
 
 -- ---- from a place of a text on
@@ -52,24 +52,24 @@ front : (text : List ℕ) (k : ℕ) → k < length text → drop k text ≡ get_
 front text k h = rw (add-one, drop-cons text k 0)
 
 pub words_step : (text : List ℕ) (k : ℕ) → k < length text → is_between (get_or text k 0) ≡ true
-    → words (drop (k + 1) text) ≡ words (drop k text)
-words_step text k h e = sym (ap words (front text k h) ∙ words_skip (get_or text k 0) (drop (k + 1) text) e)
+    → words_of_text (drop (k + 1) text) ≡ words_of_text (drop k text)
+words_step text k h e = sym (ap words_of_text (front text k h) ∙ words_skip (get_or text k 0) (drop (k + 1) text) e)
 
-pub words_end : (text : List ℕ) (k : ℕ) → length text ≤ k → words (drop k text) ≡ []
+pub words_end : (text : List ℕ) (k : ℕ) → length text ≤ k → words_of_text (drop k text) ≡ []
 words_end text k h = let e : drop k text ≡ [] = drop_of_length-le text h in rw e refl
 
 first_byte : (text : List ℕ) (k : ℕ) → k < length text → get_or (drop k text) 0 0 ≡ get_or text k 0
 first_byte text k h = ap (λ u. get_or u 0 0) (front text k h)
 
 not_at_once : (text : List ℕ) (start len : ℕ) → start < length text → is_between (get_or text start 0) ≡ false
-    → EndsWordAt (drop start text) len → 0 < len
+    → EndsTextWordAt (drop start text) len → 0 < len
 not_at_once text start zero h e ends =
     absurd (false≢true (sym e ∙ ap is_between (sym (first_byte text start h)) ∙ ends.between))
 not_at_once text start (suc len) h e ends = omega arith
 
 pub next_at : (text : List ℕ) (from start len : ℕ) → from ≤ start → start < length text
-    → is_between (get_or text start 0) ≡ false → words (drop start text) ≡ words (drop from text)
-    → EndsWordAt (drop start text) len → IsNextWord text from start (start + len)
+    → is_between (get_or text start 0) ≡ false → words_of_text (drop start text) ≡ words_of_text (drop from text)
+    → EndsTextWordAt (drop start text) len → IsNextWord text from start (start + len)
 next_at text from start len order h begins same ends =
     let some = not_at_once text start len h begins ends in
     let room : length (drop start text) ≡ length text - start = length-drop start text in
@@ -77,7 +77,7 @@ next_at text from start len order h begins same ends =
     let taken : length (take len (drop start text)) ≡ len = length-take-le len (drop start text) (omega arith) in
     let width : (start + len) - start ≡ len = omega arith in
     let rest : drop len (drop start text) ≡ drop (start + len) text = drop-drop len start text in
-    let first : words (drop start text) ≡ take len (drop start text) ∷ words (drop len (drop start text)) =
+    let first : words_of_text (drop start text) ≡ take len (drop start text) ∷ words_of_text (drop len (drop start text)) =
     words_at (drop start text) len ends (omega arith) in
     record {
       order = order;
@@ -89,13 +89,13 @@ next_at text from start len order h begins same ends =
     }
 
 pub next_last : (text : List ℕ) (from start : ℕ) → from ≤ start → start < length text
-    → is_between (get_or text start 0) ≡ false → words (drop start text) ≡ words (drop from text)
+    → is_between (get_or text start 0) ≡ false → words_of_text (drop start text) ≡ words_of_text (drop from text)
     → AllByRecursion (λ b. is_between b ≡ false) (drop start text) → IsNextWord text from start (length text)
 next_last text from start order h begins same none =
     let room : length (drop start text) ≡ length text - start = length-drop start text in
     let all : take (length text - start) (drop start text) ≡ drop start text =
     take_all (length text - start) (drop start text) (omega arith) in
-    let no_more : words (drop (length text) text) ≡ [] = words_end text (length text) (omega arith) in
+    let no_more : words_of_text (drop (length text) text) ≡ [] = words_end text (length text) (omega arith) in
     record {
       order = order;
       some = h;

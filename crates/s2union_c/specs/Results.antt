@@ -9,7 +9,7 @@ pub record IsWritten {X : Type 0} (xs old new : List X) (len : ℕ) : Type 0 whe
   pub front : new ≡ xs ++ drop len old
 
 -- the list `xs` is longer than the room: its length is reported, and nothing is written
-pub record IsTooLong {X : Type 0} (xs old new : List X) (len : ℕ) : Type 0 where
+pub record HasNoRoom {X : Type 0} (xs old new : List X) (len : ℕ) : Type 0 where
   pub len_is : len ≡ length xs
   pub short : length old < length xs
   pub same : new ≡ old
@@ -17,7 +17,7 @@ pub record IsTooLong {X : Type 0} (xs old new : List X) (len : ℕ) : Type 0 whe
 -- the list `xs` was written, or is longer than the room
 abbrev pub Made : {X : Type 0} → ℤ → List X → List X → List X → ℕ → Type 0
 Made status xs old new len = ((status ≡ made) × IsWritten xs old new len)
-    ⊎ ((status ≡ no_room) × IsTooLong xs old new len)
+    ⊎ ((status ≡ no_room) × HasNoRoom xs old new len)
 
 -- the call was refused for this reason: the length is 0, and nothing is written
 abbrev pub Refused : {X : Type 0} → ℤ → ℤ → List X → List X → ℕ → Type 0

@@ -53,8 +53,8 @@ abbrev pub no : ℤ
 no = pos 0
 
 -- the status is the right answer to the question whether `P` holds
-abbrev pub Answers : ℤ → Type 0 → Type 0
-Answers status P = ((status ≡ yes) × P) ⊎ ((status ≡ no) × (P → ⊥))
+abbrev pub IsAnswerTo : ℤ → Type 0 → Type 0
+IsAnswerTo status P = ((status ≡ yes) × P) ⊎ ((status ≡ no) × (P → ⊥))
 
 -- the status is yes or no
 abbrev pub IsAnswer : ℤ → Type 0

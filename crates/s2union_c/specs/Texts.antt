@@ -28,28 +28,28 @@ is_nonempty [] = false
 is_nonempty (b ∷ bs) = true
 
 -- the words of a text
-abbrev pub words : List ℕ → List (List ℕ)
-words text = filter is_nonempty (slice_split is_between text)
+abbrev pub words_of_text : List ℕ → List (List ℕ)
+words_of_text text = filter is_nonempty (slice_split is_between text)
 
 -- the word names the cell: by its token, in upper or lower case and with any zeros at its end, or by its debug text
-abbrev pub Names : List ℕ → ℕ → Type 0
-Names word id = (IsReading word id × IsCell id) ⊎ IsDebug word id
+abbrev pub NamesCell : List ℕ → ℕ → Type 0
+NamesCell word id = (IsReading word id × IsCell id) ⊎ IsDebug word id
 
 -- each word names a cell
 abbrev pub AreNames : List (List ℕ) → Type 0
-AreNames ws = AllByRecursion (λ word. (id : ℕ) × Names word id) ws
+AreNames ws = AllByRecursion (λ word. (id : ℕ) × NamesCell word id) ws
 
 -- the first word that names no cell begins at the place `place` of the text
 pub record IsFirstNameless (text : List ℕ) (place : ℕ) : Type 0 where
   pub earlier : List (List ℕ)
   pub word : List ℕ
   pub later : List (List ℕ)
-  pub words_are : words text ≡ earlier ++ word ∷ later
+  pub words_are : words_of_text text ≡ earlier ++ word ∷ later
   pub named : AreNames earlier
-  pub nameless : (id : ℕ) → Names word id → ⊥
+  pub nameless : (id : ℕ) → NamesCell word id → ⊥
   pub within : place < length text
   pub begins : is_between (slice_index text place) ≡ false
-  pub there : words (drop place text) ≡ word ∷ later
+  pub there : words_of_text (drop place text) ≡ word ∷ later
 
 -- the next word from the place `from` on is from `start` to `end`
 pub record IsNextWord (text : List ℕ) (from start end : ℕ) : Type 0 where
@@ -57,11 +57,11 @@ pub record IsNextWord (text : List ℕ) (from start end : ℕ) : Type 0 where
   pub some : start < end
   pub within : end ≤ length text
   pub begins : is_between (slice_index text start) ≡ false
-  pub same : words (drop start text) ≡ words (drop from text)
-  pub first : words (drop start text) ≡ take (end - start) (drop start text) ∷ words (drop end text)
+  pub same : words_of_text (drop start text) ≡ words_of_text (drop from text)
+  pub first : words_of_text (drop start text) ≡ take (end - start) (drop start text) ∷ words_of_text (drop end text)
 
 -- the first byte between words is at the place `at`
-pub record EndsWordAt (bytes : List ℕ) (at : ℕ) : Type 0 where
+pub record EndsTextWordAt (bytes : List ℕ) (at : ℕ) : Type 0 where
   pub within : at < length bytes
   pub before : AllByRecursion (λ b. is_between b ≡ false) (take at bytes)
   pub between : is_between (slice_index bytes at) ≡ true

@@ -5,7 +5,7 @@ ghost use Rattle.s2cell.specs.Cell.{size_of};
 ghost use Rattle.s2cell.specs.Curve.{IsPlaceOf};
 ghost use Rattle.s2cell.specs.Neighbours.{IsCommonAncestor, IsFirst, IsLast, IsNext};
 ghost use Rattle.s2cell.specs.Square.{IsSquareOf};
-ghost use Rattle.s2union_c.specs.Status.{Answers, made, no_cell};
+ghost use Rattle.s2union_c.specs.Status.{IsAnswerTo, made, no_cell};
 
 use crate::status::{MADE, NO_CELL, answer};
 use s2cell::{CellId, SIDE};
@@ -35,7 +35,7 @@ pub extern "C" fn s2u_version() -> u32
 /// Whether the number is the identifier of a cell.
 #[unsafe(no_mangle)]
 pub extern "C" fn s2u_is_cell(id: u64) -> i32
-    ensures { Answers result (IsCell id) }
+    ensures { IsAnswerTo result (IsCell id) }
 {
     match CellId::from_id(id) {
         Some(_) => 1,
@@ -170,7 +170,7 @@ pub extern "C" fn s2u_common_ancestor(a: u64, b: u64) -> u64
 /// Whether each leaf of `part` is a leaf of `whole`.
 #[unsafe(no_mangle)]
 pub extern "C" fn s2u_cell_contains(whole: u64, part: u64) -> i32
-    ensures answer { IsCell whole → IsCell part → Answers result (IsInside part whole) }
+    ensures answer { IsCell whole → IsCell part → IsAnswerTo result (IsInside part whole) }
     ensures no_cell { (IsCell whole → IsCell part → ⊥) → result ≡ no_cell }
 {
     match (CellId::from_id(whole), CellId::from_id(part)) {
@@ -182,7 +182,7 @@ pub extern "C" fn s2u_cell_contains(whole: u64, part: u64) -> i32
 /// Whether two cells share a leaf.
 #[unsafe(no_mangle)]
 pub extern "C" fn s2u_cell_intersects(a: u64, b: u64) -> i32
-    ensures answer { IsCell a → IsCell b → Answers result (ShareLeaf a b) }
+    ensures answer { IsCell a → IsCell b → IsAnswerTo result (ShareLeaf a b) }
     ensures no_cell { (IsCell a → IsCell b → ⊥) → result ≡ no_cell }
 {
     match (CellId::from_id(a), CellId::from_id(b)) {

@@ -9,7 +9,7 @@ ghost use Rattle.s2file.specs.File.{file_text};
 ghost use Rattle.s2search.specs.Ancestors.{AreHolders};
 ghost use Rattle.s2union_c.specs.Files.{IsCellFile, IsFrameFault, IsFramed, file_ids};
 ghost use Rattle.s2union_c.specs.Results.{Made, MadeOne, Refused};
-ghost use Rattle.s2union_c.specs.Status.{Answers, IsAnswer, bad_argument, made, no_cell, no_memory, no_union};
+ghost use Rattle.s2union_c.specs.Status.{IsAnswerTo, IsAnswer, bad_argument, made, no_cell, no_memory, no_union};
 ghost use Rattle.s2union_c.specs.Status.{wrong_cell};
 
 use crate::lists::{cells_of, union_of};
@@ -76,7 +76,7 @@ pub extern "C" fn s2u_decode(alloc: Global, bytes: &[u8], out: &mut [u64], len: 
 /// `s2u_decode` takes.
 #[unsafe(no_mangle)]
 pub extern "C" fn s2u_file_check(bytes: &[u8]) -> i32
-    ensures answer { IsCellFile bytes.now → Answers result (IsLocal (file_ids bytes.now)) }
+    ensures answer { IsCellFile bytes.now → IsAnswerTo result (IsLocal (file_ids bytes.now)) }
     ensures fault { (IsFramed bytes.now → ⊥) → IsFrameFault bytes.now result }
     ensures wrong { IsFramed bytes.now → (All IsCell (file_ids bytes.now) → ⊥) → result ≡ wrong_cell }
 {
@@ -152,7 +152,7 @@ pub extern "C" fn s2u_file_cell(bytes: &[u8], k: u64, id: &mut u64) -> i32
 #[unsafe(no_mangle)]
 pub extern "C" fn s2u_file_contains_cell(bytes: &[u8], cell: u64) -> i32
     ensures exact { IsFramed bytes.now → IsLocal (file_ids bytes.now) → IsCell cell
-        → Answers result (IsWithin (covers cell) (has_leaf (file_ids bytes.now))) }
+        → IsAnswerTo result (IsWithin (covers cell) (has_leaf (file_ids bytes.now))) }
     ensures answer { IsFramed bytes.now → IsCell cell → IsAnswer result }
     ensures no_cell { IsFramed bytes.now → (IsCell cell → ⊥) → result ≡ no_cell }
     ensures fault { (IsFramed bytes.now → ⊥) → IsFrameFault bytes.now result }
@@ -170,7 +170,7 @@ pub extern "C" fn s2u_file_contains_cell(bytes: &[u8], cell: u64) -> i32
 #[unsafe(no_mangle)]
 pub extern "C" fn s2u_file_intersects_cell(bytes: &[u8], cell: u64) -> i32
     ensures exact { IsFramed bytes.now → IsLocal (file_ids bytes.now) → IsCell cell
-        → Answers result (ShareSome (covers cell) (has_leaf (file_ids bytes.now))) }
+        → IsAnswerTo result (ShareSome (covers cell) (has_leaf (file_ids bytes.now))) }
     ensures answer { IsFramed bytes.now → IsCell cell → IsAnswer result }
     ensures no_cell { IsFramed bytes.now → (IsCell cell → ⊥) → result ≡ no_cell }
     ensures fault { (IsFramed bytes.now → ⊥) → IsFrameFault bytes.now result }
@@ -188,7 +188,7 @@ pub extern "C" fn s2u_file_intersects_cell(bytes: &[u8], cell: u64) -> i32
 #[unsafe(no_mangle)]
 pub extern "C" fn s2u_file_contains(xs: &[u8], ys: &[u8]) -> i32
     ensures exact { IsFramed xs.now → IsFramed ys.now → IsLocal (file_ids xs.now) → IsLocal (file_ids ys.now)
-        → Answers result (IsWithin (has_leaf (file_ids ys.now)) (has_leaf (file_ids xs.now))) }
+        → IsAnswerTo result (IsWithin (has_leaf (file_ids ys.now)) (has_leaf (file_ids xs.now))) }
     ensures answer { IsFramed xs.now → IsFramed ys.now → IsAnswer result }
     ensures first { (IsFramed xs.now → ⊥) → IsFrameFault xs.now result }
     ensures second { IsFramed xs.now → (IsFramed ys.now → ⊥) → IsFrameFault ys.now result }
@@ -208,7 +208,7 @@ pub extern "C" fn s2u_file_contains(xs: &[u8], ys: &[u8]) -> i32
 #[unsafe(no_mangle)]
 pub extern "C" fn s2u_file_intersects(xs: &[u8], ys: &[u8]) -> i32
     ensures exact { IsFramed xs.now → IsFramed ys.now → IsLocal (file_ids xs.now) → IsLocal (file_ids ys.now)
-        → Answers result (ShareSome (has_leaf (file_ids xs.now)) (has_leaf (file_ids ys.now))) }
+        → IsAnswerTo result (ShareSome (has_leaf (file_ids xs.now)) (has_leaf (file_ids ys.now))) }
     ensures answer { IsFramed xs.now → IsFramed ys.now → IsAnswer result }
     ensures first { (IsFramed xs.now → ⊥) → IsFrameFault xs.now result }
     ensures second { IsFramed xs.now → (IsFramed ys.now → ⊥) → IsFrameFault ys.now result }

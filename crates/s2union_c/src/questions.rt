@@ -5,7 +5,7 @@ ghost use Rattle.s2cell.specs.Cell.{IsCell, covers};
 ghost use Rattle.s2union.specs.Union.{IsLocal, IsWithin, ShareSome, has_leaf};
 ghost use Rattle.s2union.specs.Count.{count_below};
 ghost use Rattle.s2search.specs.Search.{IsRunAt};
-ghost use Rattle.s2union_c.specs.Status.{Answers, IsAnswer, made, no_cell};
+ghost use Rattle.s2union_c.specs.Status.{IsAnswerTo, IsAnswer, made, no_cell};
 ghost use Rattle.s2union_c.specs.Order.{order};
 
 use crate::status::{MADE, NO_CELL, answer};
@@ -16,7 +16,7 @@ use s2search::IdList;
 /// Linear.
 #[unsafe(no_mangle)]
 pub extern "C" fn s2u_is_union(ids: &[u64]) -> i32
-    ensures { Answers result (IsLocal ids.now) }
+    ensures { IsAnswerTo result (IsLocal ids.now) }
 {
     answer(s2search::is_union(&IdList { ids }))
 }
@@ -32,7 +32,7 @@ pub extern "C" fn s2u_leaf_count(ids: &[u64]) -> u64
 /// Whether a union has all leaves of a cell. Logarithmic.
 #[unsafe(no_mangle)]
 pub extern "C" fn s2u_contains_cell(ids: &[u64], cell: u64) -> i32
-    ensures exact { IsLocal ids.now → IsCell cell → Answers result (IsWithin (covers cell) (has_leaf ids.now)) }
+    ensures exact { IsLocal ids.now → IsCell cell → IsAnswerTo result (IsWithin (covers cell) (has_leaf ids.now)) }
     ensures answer { IsCell cell → IsAnswer result }
     ensures no_cell { (IsCell cell → ⊥) → result ≡ no_cell }
 {
@@ -45,7 +45,7 @@ pub extern "C" fn s2u_contains_cell(ids: &[u64], cell: u64) -> i32
 /// Whether a union has a leaf of a cell. Logarithmic.
 #[unsafe(no_mangle)]
 pub extern "C" fn s2u_intersects_cell(ids: &[u64], cell: u64) -> i32
-    ensures exact { IsLocal ids.now → IsCell cell → Answers result (ShareSome (covers cell) (has_leaf ids.now)) }
+    ensures exact { IsLocal ids.now → IsCell cell → IsAnswerTo result (ShareSome (covers cell) (has_leaf ids.now)) }
     ensures answer { IsCell cell → IsAnswer result }
     ensures no_cell { (IsCell cell → ⊥) → result ≡ no_cell }
 {
@@ -81,7 +81,7 @@ pub extern "C" fn s2u_cells_at(ids: &[u64], cell: u64, first: &mut usize, count:
 /// Whether one union has all leaves of another.
 #[unsafe(no_mangle)]
 pub extern "C" fn s2u_contains(xs: &[u64], ys: &[u64]) -> i32
-    ensures exact { IsLocal xs.now → IsLocal ys.now → Answers result (IsWithin (has_leaf ys.now) (has_leaf xs.now)) }
+    ensures exact { IsLocal xs.now → IsLocal ys.now → IsAnswerTo result (IsWithin (has_leaf ys.now) (has_leaf xs.now)) }
     ensures answer { IsAnswer result }
 {
     answer(s2search::contains(&IdList { ids: xs }, &IdList { ids: ys }))
@@ -90,7 +90,7 @@ pub extern "C" fn s2u_contains(xs: &[u64], ys: &[u64]) -> i32
 /// Whether two unions share a leaf.
 #[unsafe(no_mangle)]
 pub extern "C" fn s2u_intersects(xs: &[u64], ys: &[u64]) -> i32
-    ensures exact { IsLocal xs.now → IsLocal ys.now → Answers result (ShareSome (has_leaf xs.now) (has_leaf ys.now)) }
+    ensures exact { IsLocal xs.now → IsLocal ys.now → IsAnswerTo result (ShareSome (has_leaf xs.now) (has_leaf ys.now)) }
     ensures answer { IsAnswer result }
 {
     let (first, second) = (IdList { ids: xs }, IdList { ids: ys });

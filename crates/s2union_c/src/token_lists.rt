@@ -7,8 +7,8 @@ ghost use Rattle.s2cell.specs.Cell.{IsCell};
 ghost use Rattle.s2cell.specs.Token.{token_of};
 ghost use Rattle.s2union_c.specs.Results.{Made, Refused};
 ghost use Rattle.s2union_c.specs.Status.{no_cell, too_many};
-ghost use Rattle.s2union_c.specs.Texts.{EndsWordAt, IsFilled, IsFirstNameless, IsNextWord, Names};
-ghost use Rattle.s2union_c.specs.Texts.{is_between, piece, tokens_of, words};
+ghost use Rattle.s2union_c.specs.Texts.{EndsTextWordAt, IsFilled, IsFirstNameless, IsNextWord, NamesCell};
+ghost use Rattle.s2union_c.specs.Texts.{is_between, piece, tokens_of, words_of_text};
 
 use crate::status::{MADE, NO_CELL, NO_ROOM, TOO_MANY};
 use s2cell::CellId;
@@ -46,7 +46,7 @@ pub extern "C" fn s2u_tokens(ids: &[u64], text: &mut [u8], len: &mut usize) -> i
 /// cell.
 #[unsafe(no_mangle)]
 pub extern "C" fn s2u_from_tokens(text: &[u8], out: &mut [u64], len: &mut usize) -> i32
-    ensures { ((ids : List ℕ) × AllZip Names (words text.now) ids × Made result ids out.old out.new len.new)
+    ensures { ((ids : List ℕ) × AllZip NamesCell (words_of_text text.now) ids × Made result ids out.old out.new len.new)
         ⊎ ((result ≡ no_cell) × IsFirstNameless text.now len.new × (out.new ≡ out.old)) }
 {
     let count = match count_cells(text) {
@@ -135,7 +135,7 @@ fn append_token(text: &mut [u8], at: usize, cell: CellId) -> usize
 /// How many cells the words of a text name, or the place of the first word that names no cell.
 fn count_cells(text: &[u8]) -> Result<usize, usize>
     ensures { MatchResult result
-        (λ count. (ids : List ℕ) × AllZip Names (words text.now) ids × (count ≡ length ids))
+        (λ count. (ids : List ℕ) × AllZip NamesCell (words_of_text text.now) ids × (count ≡ length ids))
         (λ place. IsFirstNameless text.now place) }
 {
     let mut count = 0;
@@ -153,8 +153,8 @@ fn count_cells(text: &[u8]) -> Result<usize, usize>
 
 /// Writes the cells that the words of a text name. They have room.
 fn write_cells(text: &[u8], out: &mut [u64])
-    requires { (ids : List ℕ) × AllZip Names (words text.now) ids × (length ids ≤ length out.old) }
-    ensures { (ids : List ℕ) × AllZip Names (words text.now) ids × IsFilled out.old out.new ids }
+    requires { (ids : List ℕ) × AllZip NamesCell (words_of_text text.now) ids × (length ids ≤ length out.old) }
+    ensures { (ids : List ℕ) × AllZip NamesCell (words_of_text text.now) ids × IsFilled out.old out.new ids }
 {
     let mut count = 0;
     let mut at = 0;
@@ -171,7 +171,7 @@ fn write_cells(text: &[u8], out: &mut [u64])
 /// Where the next word, from a place on, begins and ends.
 fn next_word(text: &[u8], from: usize) -> Option<(usize, usize)>
     requires { from ≤ length text.now }
-    ensures { MatchOption result (words (drop from text.now) ≡ []) (λ r. IsNextWord text.now from r.0 r.1) }
+    ensures { MatchOption result (words_of_text (drop from text.now) ≡ []) (λ r. IsNextWord text.now from r.0 r.1) }
 {
     let mut start = from;
     while stands_between(text, start) {
@@ -196,7 +196,7 @@ fn stands_between(text: &[u8], place: usize) -> bool
 /// Where the first byte that separates words is.
 fn word_end(bytes: &[u8]) -> Option<usize>
     ensures none { IfNone result (AllByRecursion (λ b. is_between b ≡ false) bytes.now) }
-    ensures some { IfSome result (λ at. EndsWordAt bytes.now at) }
+    ensures some { IfSome result (λ at. EndsTextWordAt bytes.now at) }
 {
     bytes.iter().position(|b| is_between(*b))
 }
@@ -210,7 +210,7 @@ fn is_between(byte: u8) -> bool
 
 /// The cell that a word names.
 fn cell_in(word: &[u8]) -> Option<CellId>
-    ensures { MatchOption result ((id : ℕ) → Names word.now id → ⊥) (λ cell. Names word.now cell) }
+    ensures { MatchOption result ((id : ℕ) → NamesCell word.now id → ⊥) (λ cell. NamesCell word.now cell) }
 {
     match CellId::from_token(word) {
         Some(cell) => {

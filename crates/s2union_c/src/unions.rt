@@ -65,7 +65,7 @@ pub extern "C" fn s2u_range(
 }
 
 /// The cells of a union and all their ancestors, ascending, each once: the keys of an index, by
-/// `s2search::law_of_indexes`.
+/// `s2search::laws::law_of_indexes`.
 #[unsafe(no_mangle)]
 pub extern "C" fn s2u_ancestors(alloc: Global, ids: &[u64], out: &mut [u64], len: &mut usize) -> i32
     ensures made { IsLocal ids.now → MadeOne result (AreHolders ids.now) out.old out.new len.new }

@@ -11,7 +11,7 @@ returns-in-Ok-clause-leaves c =
     leaves_ok c.outer.result (outer_set (λ y. has_leaf c.in-Ok.whole.cells y && rect_set c.widened.result y)
     c.args.level) (outer_set (λ y. has_leaf c.args.union.now.cells y && rect_set c.args.rect.now y) c.args.level)
     (cut_clip c.args.level c.args.union.now.cells c.in-Ok.whole.cells (rect_set c.args.rect.now)
-    (rect_set c.widened.result) c.requires.level c.cells-local.ensures.local c.in-Ok.ensures
+    (rect_set c.widened.result) c.requires.level c.cells.ensures.local c.in-Ok.ensures
     c.widened.ensures.leaves)
     c.outer.ensures.leaves
 
@@ -20,7 +20,7 @@ returns-in-Ok-clause-normal c =
     normal_ok c.outer.result (outer_set (λ y. has_leaf c.in-Ok.whole.cells y && rect_set c.widened.result y)
     c.args.level) (outer_set (λ y. has_leaf c.args.union.now.cells y && rect_set c.args.rect.now y) c.args.level)
     (cut_clip c.args.level c.args.union.now.cells c.in-Ok.whole.cells (rect_set c.args.rect.now)
-    (rect_set c.widened.result) c.requires.level c.cells-local.ensures.local c.in-Ok.ensures
+    (rect_set c.widened.result) c.requires.level c.cells.ensures.local c.in-Ok.ensures
     c.widened.ensures.leaves)
     c.outer.ensures.normal
 
@@ -30,6 +30,6 @@ returns-in-Ok-clause-many c =
     (outer_set (λ y. has_leaf c.in-Ok.whole.cells y && rect_set c.widened.result y) c.args.level)
     (outer_set (λ y. has_leaf c.args.union.now.cells y && rect_set c.args.rect.now y) c.args.level)
     (cut_clip c.args.level c.args.union.now.cells c.in-Ok.whole.cells (rect_set c.args.rect.now)
-    (rect_set c.widened.result) c.requires.level c.cells-local.ensures.local c.in-Ok.ensures
+    (rect_set c.widened.result) c.requires.level c.cells.ensures.local c.in-Ok.ensures
     c.widened.ensures.leaves)
     c.outer.ensures.many

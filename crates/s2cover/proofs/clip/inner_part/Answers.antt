@@ -11,7 +11,7 @@ returns-in-Ok-clause-leaves c =
     leaves_ok c.inner.result (inner_set (λ y. has_leaf c.in-Ok.whole.cells y && rect_set c.args.rect y)
     c.args.level) (inner_set (λ y. has_leaf c.args.union.now.cells y && rect_set c.args.rect y) c.args.level)
     (kept_clip c.args.level c.args.union.now.cells c.in-Ok.whole.cells (rect_set c.args.rect) c.requires.level
-    c.cells-local.ensures.local c.in-Ok.ensures)
+    c.cells.ensures.local c.in-Ok.ensures)
     c.inner.ensures.leaves
 
 pub returns-in-Ok-clause-normal : goal.returns-in-Ok-clause-normal
@@ -19,7 +19,7 @@ returns-in-Ok-clause-normal c =
     normal_ok c.inner.result (inner_set (λ y. has_leaf c.in-Ok.whole.cells y && rect_set c.args.rect y)
     c.args.level) (inner_set (λ y. has_leaf c.args.union.now.cells y && rect_set c.args.rect y) c.args.level)
     (kept_clip c.args.level c.args.union.now.cells c.in-Ok.whole.cells (rect_set c.args.rect) c.requires.level
-    c.cells-local.ensures.local c.in-Ok.ensures)
+    c.cells.ensures.local c.in-Ok.ensures)
     c.inner.ensures.normal
 
 pub returns-in-Ok-clause-many : goal.returns-in-Ok-clause-many
@@ -28,5 +28,5 @@ returns-in-Ok-clause-many c =
     (inner_set (λ y. has_leaf c.in-Ok.whole.cells y && rect_set c.args.rect y) c.args.level)
     (inner_set (λ y. has_leaf c.args.union.now.cells y && rect_set c.args.rect y) c.args.level)
     (kept_clip c.args.level c.args.union.now.cells c.in-Ok.whole.cells (rect_set c.args.rect) c.requires.level
-    c.cells-local.ensures.local c.in-Ok.ensures)
+    c.cells.ensures.local c.in-Ok.ensures)
     c.inner.ensures.many

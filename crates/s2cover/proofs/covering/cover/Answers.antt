@@ -1,13 +1,13 @@
 use Rattle.std.proofs.Common.{arith, ◌≡◌, ◌+◌, ◌-◌, vec_len, ◌∙◌}
 use Rattle.s2union.proofs.Normal.{local_from_normal}
-use Rattle.s2cover.specs.Descent.{blocks, covering_set, form_faces}
+use Rattle.s2cover.specs.Descent.{blocks, covering_set, form_faces, is_outer}
 use Rattle.s2cover.proofs.Formed.{found_none, found_next, found_many, found_stops, found_long, covering_normal}
 use Rattle.s2cover.proofs.Formed.{covering_leaves}
 use Rattle.s2cover.proofs.covering.cover.Goals as goal
 
 pub loop-face-init : goal.loop-face-init
 loop-face-init g c =
-    let S = blocks c.args.whole (g.R.Region.holds c.args.region.now) (30 - c.args.level) in
+    let S = blocks (is_outer c.args.kind) (g.R.Region.holds c.args.region.now) (30 - c.args.level) in
     found_none S (30 - c.args.level) c.new-list.result.items (vec_len c.new-list.result) c.args.max
     c.new-list.ensures.items c.new-list.ensures.len
 
@@ -16,8 +16,8 @@ visit-requires-clause-above g c = let l = c.face-top.ensures.level in omega arit
 
 pub returns-in-Err-clause-many : goal.returns-in-Err-clause-many
 returns-in-Err-clause-many g c e u n =
-    let S = blocks c.args.whole (g.R.Region.holds c.args.region.now) (30 - c.args.level) in
-    found_many c.args.whole (g.R.Region.holds c.args.region.now) c.args.level (c.loop-face.face + 1) u c.args.max
+    let S = blocks (is_outer c.args.kind) (g.R.Region.holds c.args.region.now) (30 - c.args.level) in
+    found_many (is_outer c.args.kind) (g.R.Region.holds c.args.region.now) c.args.level (c.loop-face.face + 1) u c.args.max
     (let t = c.loop-face-test.true in omega arith)
     (found_stops S (30 - c.args.level) c.loop-face.face c.face-top.result.cell c.loop-face.list.items
     (vec_len c.loop-face.list) c.args.max
@@ -26,7 +26,7 @@ returns-in-Err-clause-many g c e u n =
 
 pub returns-then-len-max-clause-many : goal.returns-then-len-max-clause-many
 returns-then-len-max-clause-many g c e u n =
-    found_long c.args.whole (g.R.Region.holds c.args.region.now) c.args.level c.loop-face.face
+    found_long (is_outer c.args.kind) (g.R.Region.holds c.args.region.now) c.args.level c.loop-face.face
     c.face-top.result.cell c.loop-face.list.items c.visit.new.list.items (vec_len c.loop-face.list)
     (vec_len c.visit.new.list) c.args.max u
     c.loop-face-test.true c.face-top.ensures.level c.face-top.ensures.face c.visit.new.list.ok.0
@@ -35,7 +35,7 @@ returns-then-len-max-clause-many g c e u n =
 
 pub loop-face-preserved : goal.loop-face-preserved
 loop-face-preserved g c =
-    let S = blocks c.args.whole (g.R.Region.holds c.args.region.now) (30 - c.args.level) in
+    let S = blocks (is_outer c.args.kind) (g.R.Region.holds c.args.region.now) (30 - c.args.level) in
     found_next S (30 - c.args.level) c.loop-face.face c.face-top.result.cell c.loop-face.list.items
     c.visit.new.list.items (vec_len c.loop-face.list) (vec_len c.visit.new.list) c.args.max
     c.face-top.ensures.level c.face-top.ensures.face c.loop-face.invariant c.in-Ok.ensures.list
@@ -43,27 +43,27 @@ loop-face-preserved g c =
 
 pub from_normalized-requires : goal.from_normalized-requires
 from_normalized-requires g c =
-    let S = blocks c.args.whole (g.R.Region.holds c.args.region.now) (30 - c.args.level) in
+    let S = blocks (is_outer c.args.kind) (g.R.Region.holds c.args.region.now) (30 - c.args.level) in
     let six : c.loop-face.face ≡ 6 = (let f = c.loop-face-test.false in let e = c.loop-face.auto.face-end in
     omega arith) in
     let is : c.loop-face.list.items ≡ form_faces S (30 - c.args.level) 6 = rw six at c.loop-face.invariant.cells in
-    rw is (local_from_normal (covering_set c.args.whole (g.R.Region.holds c.args.region.now) c.args.level) _
-    (covering_normal c.args.whole (g.R.Region.holds c.args.region.now) c.args.level))
+    rw is (local_from_normal (covering_set (is_outer c.args.kind) (g.R.Region.holds c.args.region.now) c.args.level) _
+    (covering_normal (is_outer c.args.kind) (g.R.Region.holds c.args.region.now) c.args.level))
 
 pub returns-clause-leaves : goal.returns-clause-leaves
 returns-clause-leaves g c =
-    let S = blocks c.args.whole (g.R.Region.holds c.args.region.now) (30 - c.args.level) in
+    let S = blocks (is_outer c.args.kind) (g.R.Region.holds c.args.region.now) (30 - c.args.level) in
     let six : c.loop-face.face ≡ 6 = (let f = c.loop-face-test.false in let e = c.loop-face.auto.face-end in
     omega arith) in
     let is : c.from_normalized.result.cells ≡ form_faces S (30 - c.args.level) 6 = c.from_normalized.ensures.value
     ∙ (rw six at c.loop-face.invariant.cells) in
-    rw is (covering_leaves c.args.whole (g.R.Region.holds c.args.region.now) c.args.level)
+    rw is (covering_leaves (is_outer c.args.kind) (g.R.Region.holds c.args.region.now) c.args.level)
 
 pub returns-clause-normal : goal.returns-clause-normal
 returns-clause-normal g c =
-    let S = blocks c.args.whole (g.R.Region.holds c.args.region.now) (30 - c.args.level) in
+    let S = blocks (is_outer c.args.kind) (g.R.Region.holds c.args.region.now) (30 - c.args.level) in
     let six : c.loop-face.face ≡ 6 = (let f = c.loop-face-test.false in let e = c.loop-face.auto.face-end in
     omega arith) in
     let is : c.from_normalized.result.cells ≡ form_faces S (30 - c.args.level) 6 = c.from_normalized.ensures.value
     ∙ (rw six at c.loop-face.invariant.cells) in
-    rw is (covering_normal c.args.whole (g.R.Region.holds c.args.region.now) c.args.level)
+    rw is (covering_normal (is_outer c.args.kind) (g.R.Region.holds c.args.region.now) c.args.level)

@@ -1,8 +1,8 @@
 use Rattle.std.proofs.Common.{rules, arith, ◌≡◌, ◌-◌, ◌<◌, ◌≤◌, true, false, [], ◌∷◌, length, vec_len, refl}
-use Rattle.std.proofs.Common.{◌∙◌, ap, inl, inr}
+use Rattle.std.proofs.Common.{◌∙◌, ap, sym, inl, inr}
 use Rattle.std.proofs.lemmas.Bool.{both_ways}
 use Rattle.s2cell.specs.Cell.{level_of, place_of}
-use Rattle.s2cover.specs.Descent.{blocks, depth_of}
+use Rattle.s2cover.specs.Descent.{blocks, depth_of, is_outer}
 use Rattle.s2cover.proofs.Visits.{in_whole, out_nothing, cross_whole, cross_nothing, same_list, one_more, is_full}
 use Rattle.s2cover.proofs.Visits.{too_many, Both, visited_next, whole_next, list_next, many_next, many_child, id_of}
 use Rattle.s2cover.proofs.Visits.{all_children, some_children, kept, child_from, child_stops, visited_none, Held}
@@ -14,14 +14,14 @@ use Rattle.s2cover.proofs.descent.+visit.Goals.{else-not-full-via-else-not-full}
 
 pub loop-digit-init : goal.loop-digit-init
 loop-digit-init g t c =
-    let S = blocks c.args.whole (g.R.Region.holds c.args.region.now) (30 - c.args.level) in
+    let S = blocks (is_outer c.args.kind) (g.R.Region.holds c.args.region.now) (30 - c.args.level) in
     visited_none S (30 - c.args.level) (depth_of c.args.placed.now.cell) (place_of c.args.placed.now.cell)
     c.args.list.now.items (vec_len c.args.list.now) c.args.loose c.args.max c.len-before.result c.requires.room
     c.len-before.ensures
 
 pub visit-requires : goal.visit-requires
 visit-requires g t c κs within =
-    let S = blocks c.args.whole (g.R.Region.holds c.args.region.now) (30 - c.args.level) in
+    let S = blocks (is_outer c.args.kind) (g.R.Region.holds c.args.region.now) (30 - c.args.level) in
     let grain = 30 - c.args.level in
     let d = depth_of c.args.placed.now.cell in
     let m = place_of c.args.placed.now.cell in
@@ -49,7 +49,7 @@ visit-requires g t c κs within =
 pub returns-in-Err-clause-many : goal.returns-in-Err-clause-many
 returns-in-Err-clause-many g t c =
     λ e.
-    let S = blocks c.args.whole (g.R.Region.holds c.args.region.now) (30 - c.args.level) in
+    let S = blocks (is_outer c.args.kind) (g.R.Region.holds c.args.region.now) (30 - c.args.level) in
     let grain = 30 - c.args.level in
     let d = depth_of c.args.placed.now.cell in
     let m = place_of c.args.placed.now.cell in
@@ -65,7 +65,7 @@ returns-in-Err-clause-many g t c =
 pub returns-then-len-max-clause-many : goal.returns-then-len-max-clause-many
 returns-then-len-max-clause-many g t c =
     λ e.
-    let S = blocks c.args.whole (g.R.Region.holds c.args.region.now) (30 - c.args.level) in
+    let S = blocks (is_outer c.args.kind) (g.R.Region.holds c.args.region.now) (30 - c.args.level) in
     let grain = 30 - c.args.level in
     let d = depth_of c.args.placed.now.cell in
     let m = place_of c.args.placed.now.cell in
@@ -91,7 +91,7 @@ returns-then-len-max-clause-many g t c =
 
 pub loop-digit-preserved : goal.loop-digit-preserved
 loop-digit-preserved g t c =
-    let S = blocks c.args.whole (g.R.Region.holds c.args.region.now) (30 - c.args.level) in
+    let S = blocks (is_outer c.args.kind) (g.R.Region.holds c.args.region.now) (30 - c.args.level) in
     let grain = 30 - c.args.level in
     let d = depth_of c.args.placed.now.cell in
     let m = place_of c.args.placed.now.cell in
@@ -117,39 +117,39 @@ loop-digit-preserved g t c =
 
 pub returns-in-Out-clause-list : goal.returns-in-Out-clause-list
 returns-in-Out-clause-list g t c =
-    let n = out_nothing c.args.whole (g.R.Region.holds c.args.region.now) (30 - c.args.level)
+    let n = out_nothing (is_outer c.args.kind) (g.R.Region.holds c.args.region.now) (30 - c.args.level)
     c.args.placed.now.cell (let k = c.requires.above in omega arith) (c.in-Out.ensures.out.0 refl) in
     same_list c.settle.result _ c.args.list.now.items _ n.cells c.settle.ensures.ok
 
 pub returns-in-Out-clause-full : goal.returns-in-Out-clause-full
 returns-in-Out-clause-full g t c =
-    let n = out_nothing c.args.whole (g.R.Region.holds c.args.region.now) (30 - c.args.level)
+    let n = out_nothing (is_outer c.args.kind) (g.R.Region.holds c.args.region.now) (30 - c.args.level)
     c.args.placed.now.cell (let k = c.requires.above in omega arith) (c.in-Out.ensures.out.0 refl) in
     is_full c.settle.result _ false _ n.holds c.settle.ensures.ok
 
 pub returns-in-Out-clause-many : goal.returns-in-Out-clause-many
 returns-in-Out-clause-many g t c =
-    let n = out_nothing c.args.whole (g.R.Region.holds c.args.region.now) (30 - c.args.level)
+    let n = out_nothing (is_outer c.args.kind) (g.R.Region.holds c.args.region.now) (30 - c.args.level)
     c.args.placed.now.cell (let k = c.requires.above in omega arith) (c.in-Out.ensures.out.0 refl) in
     too_many c.settle.result _ _ c.args.max (vec_len c.args.list.now) _ n.holds c.settle.ensures.many
 
 pub returns-in-In-clause-list : goal.returns-in-In-clause-list
 returns-in-In-clause-list g t c =
-    let n = in_whole c.args.whole (g.R.Region.holds c.args.region.now) (30 - c.args.level) c.args.placed.now.cell
+    let n = in_whole (is_outer c.args.kind) (g.R.Region.holds c.args.region.now) (30 - c.args.level) c.args.placed.now.cell
     (let k = c.requires.above in omega arith) (c.in-In.ensures.inside.0 refl) in
     one_more c.take.result c.args.list.now.items c.take.new.list.items _ c.args.placed.now.cell
     (n.cells ∙ ap (λ z. z ∷ []) (id_of c.args.placed.now.cell c.requires.placed.cell)) c.take.ensures.list
 
 pub returns-in-In-clause-full : goal.returns-in-In-clause-full
 returns-in-In-clause-full g t c =
-    let n = in_whole c.args.whole (g.R.Region.holds c.args.region.now) (30 - c.args.level) c.args.placed.now.cell
+    let n = in_whole (is_outer c.args.kind) (g.R.Region.holds c.args.region.now) (30 - c.args.level) c.args.placed.now.cell
     (let k = c.requires.above in omega arith) (c.in-In.ensures.inside.0 refl) in
     is_full c.take.result _ true _ n.holds c.take.ensures.list
 
 pub returns-then-whole-clause-list : goal.returns-then-whole-clause-list
 returns-then-whole-clause-list g t c =
-    let n = cross_whole c.args.whole (g.R.Region.holds c.args.region.now) (30 - c.args.level)
-    c.args.placed.now.cell c.if-whole.true (let e = c.if-level.true in let v = c.level.ensures.value in
+    let n = cross_whole (is_outer c.args.kind) (g.R.Region.holds c.args.region.now) (30 - c.args.level)
+    c.args.placed.now.cell (sym c.has_crossing-whole.ensures ∙ c.if-whole.true) (let e = c.if-level.true in let v = c.level.ensures.value in
     omega arith) (λ h. let e = c.in-Cross.ensures.out.1 h in cc) in
     one_more c.take-then-whole.result c.args.list.now.items c.take-then-whole.new.list.items _
     c.args.placed.now.cell (n.cells ∙ ap (λ z. z ∷ []) (id_of c.args.placed.now.cell c.requires.placed.cell))
@@ -157,36 +157,36 @@ returns-then-whole-clause-list g t c =
 
 pub returns-then-whole-clause-full : goal.returns-then-whole-clause-full
 returns-then-whole-clause-full g t c =
-    let n = cross_whole c.args.whole (g.R.Region.holds c.args.region.now) (30 - c.args.level)
-    c.args.placed.now.cell c.if-whole.true (let e = c.if-level.true in let v = c.level.ensures.value in
+    let n = cross_whole (is_outer c.args.kind) (g.R.Region.holds c.args.region.now) (30 - c.args.level)
+    c.args.placed.now.cell (sym c.has_crossing-whole.ensures ∙ c.if-whole.true) (let e = c.if-level.true in let v = c.level.ensures.value in
     omega arith) (λ h. let e = c.in-Cross.ensures.out.1 h in cc) in
     is_full c.take-then-whole.result _ true _ n.holds c.take-then-whole.ensures.list
 
 pub returns-else-whole-clause-list : goal.returns-else-whole-clause-list
 returns-else-whole-clause-list g t c =
-    let n = cross_nothing c.args.whole (g.R.Region.holds c.args.region.now) (30 - c.args.level)
-    c.args.placed.now.cell c.if-whole.false (let e = c.if-level.true in let v = c.level.ensures.value in
+    let n = cross_nothing (is_outer c.args.kind) (g.R.Region.holds c.args.region.now) (30 - c.args.level)
+    c.args.placed.now.cell (sym c.has_crossing-whole.ensures ∙ c.if-whole.false) (let e = c.if-level.true in let v = c.level.ensures.value in
     omega arith) (λ h. let e = c.in-Cross.ensures.inside.1 h in cc) in
     same_list c.settle-else-whole.result _ c.args.list.now.items _ n.cells c.settle-else-whole.ensures.ok
 
 pub returns-else-whole-clause-full : goal.returns-else-whole-clause-full
 returns-else-whole-clause-full g t c =
-    let n = cross_nothing c.args.whole (g.R.Region.holds c.args.region.now) (30 - c.args.level)
-    c.args.placed.now.cell c.if-whole.false (let e = c.if-level.true in let v = c.level.ensures.value in
+    let n = cross_nothing (is_outer c.args.kind) (g.R.Region.holds c.args.region.now) (30 - c.args.level)
+    c.args.placed.now.cell (sym c.has_crossing-whole.ensures ∙ c.if-whole.false) (let e = c.if-level.true in let v = c.level.ensures.value in
     omega arith) (λ h. let e = c.in-Cross.ensures.inside.1 h in cc) in
     is_full c.settle-else-whole.result _ false _ n.holds c.settle-else-whole.ensures.ok
 
 pub returns-else-whole-clause-many : goal.returns-else-whole-clause-many
 returns-else-whole-clause-many g t c =
-    let n = cross_nothing c.args.whole (g.R.Region.holds c.args.region.now) (30 - c.args.level)
-    c.args.placed.now.cell c.if-whole.false (let e = c.if-level.true in let v = c.level.ensures.value in
+    let n = cross_nothing (is_outer c.args.kind) (g.R.Region.holds c.args.region.now) (30 - c.args.level)
+    c.args.placed.now.cell (sym c.has_crossing-whole.ensures ∙ c.if-whole.false) (let e = c.if-level.true in let v = c.level.ensures.value in
     omega arith) (λ h. let e = c.in-Cross.ensures.inside.1 h in cc) in
     too_many c.settle-else-whole.result _ _ c.args.max (vec_len c.args.list.now) _ n.holds
     c.settle-else-whole.ensures.many
 
 pub returns-then-full-3-clause-list : goal.returns-then-full-3-clause-list
 returns-then-full-3-clause-list g t c =
-    let S = blocks c.args.whole (g.R.Region.holds c.args.region.now) (30 - c.args.level) in
+    let S = blocks (is_outer c.args.kind) (g.R.Region.holds c.args.region.now) (30 - c.args.level) in
     let grain = 30 - c.args.level in
     let d = depth_of c.args.placed.now.cell in
     let m = place_of c.args.placed.now.cell in
@@ -204,7 +204,7 @@ returns-then-full-3-clause-list g t c =
 
 pub returns-then-full-3-clause-full : goal.returns-then-full-3-clause-full
 returns-then-full-3-clause-full g t c =
-    let S = blocks c.args.whole (g.R.Region.holds c.args.region.now) (30 - c.args.level) in
+    let S = blocks (is_outer c.args.kind) (g.R.Region.holds c.args.region.now) (30 - c.args.level) in
     let n = all_children S (30 - c.args.level) (depth_of c.args.placed.now.cell) (place_of c.args.placed.now.cell)
     c.loop-digit.digit c.args.list.now.items c.loop-digit.list.items (vec_len c.args.list.now)
     (vec_len c.loop-digit.list) c.loop-digit.full c.args.loose c.args.max c.len-before.result
@@ -215,7 +215,7 @@ returns-then-full-3-clause-full g t c =
 
 pub returns-else-full-3-clause-list : goal.returns-else-full-3-clause-list
 returns-else-full-3-clause-list g t c =
-    let S = blocks c.args.whole (g.R.Region.holds c.args.region.now) (30 - c.args.level) in
+    let S = blocks (is_outer c.args.kind) (g.R.Region.holds c.args.region.now) (30 - c.args.level) in
     (some_children S (30 - c.args.level) (depth_of c.args.placed.now.cell) (place_of c.args.placed.now.cell)
     c.loop-digit.digit c.args.list.now.items c.loop-digit.list.items (vec_len c.args.list.now)
     (vec_len c.loop-digit.list) c.loop-digit.full c.args.loose c.args.max c.len-before.result
@@ -225,7 +225,7 @@ returns-else-full-3-clause-list g t c =
 
 pub returns-else-full-3-clause-full : goal.returns-else-full-3-clause-full
 returns-else-full-3-clause-full g t c =
-    let S = blocks c.args.whole (g.R.Region.holds c.args.region.now) (30 - c.args.level) in
+    let S = blocks (is_outer c.args.kind) (g.R.Region.holds c.args.region.now) (30 - c.args.level) in
     (some_children S (30 - c.args.level) (depth_of c.args.placed.now.cell) (place_of c.args.placed.now.cell)
     c.loop-digit.digit c.args.list.now.items c.loop-digit.list.items (vec_len c.args.list.now)
     (vec_len c.loop-digit.list) c.loop-digit.full c.args.loose c.args.max c.len-before.result

@@ -1,6 +1,6 @@
 use Rattle.std.proofs.Common.{◌-◌, vec_len}
 use Rattle.s2cell.specs.Cell.{place_of}
-use Rattle.s2cover.specs.Descent.{blocks, depth_of}
+use Rattle.s2cover.specs.Descent.{blocks, depth_of, is_outer}
 use Rattle.s2cover.proofs.Forms.{Visited}
 use Rattle.s2cover.proofs.descent.+visit.Given as goal
 
@@ -8,6 +8,6 @@ abbrev pub decreases-visit : goal.decreases-visit
 decreases-visit g l = depth_of l.placed.now.cell
 
 abbrev pub invariant-loop-digit : goal.invariant-loop-digit
-invariant-loop-digit g l = Visited (blocks l.whole (g.R.Region.holds l.region) (30 - l.level)) (30 - l.level)
+invariant-loop-digit g l = Visited (blocks (is_outer l.kind) (g.R.Region.holds l.region) (30 - l.level)) (30 - l.level)
     (depth_of l.placed.cell) (place_of l.placed.cell) l.digit l.fn.list.items l.list.items (vec_len l.fn.list)
     (vec_len l.list) l.full l.loose l.max l.before

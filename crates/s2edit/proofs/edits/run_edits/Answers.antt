@@ -4,15 +4,15 @@ use Rattle.s2union.specs.Union.{has_leaf}
 use Rattle.s2edit.specs.History.{sets}
 use Rattle.s2edit.specs.Edits.{EditRun, tally_with}
 use Rattle.s2edit.specs.declared.edits.Edit.{Edit}
-use Rattle.s2edit.specs.declared.edits.Outcome.{Outcome}
-use Rattle.s2edit.specs.declared.edits.Outcome.TheVariants.{Done, Refused, NoMemory}
+use Rattle.s2edit.specs.declared.edits.EditOutcome.{EditOutcome}
+use Rattle.s2edit.specs.declared.edits.EditOutcome.TheVariants.{Done, Refused, NoMemory}
 use Rattle.s2edit.specs.declared.edits.EditTally.{EditTally}
 use Rattle.s2edit.proofs.Runs.{EditRun-push, tally_of-push, runs_to}
 use Rattle.s2edit.proofs.Replay.{gives_back}
 use Rattle.s2edit.proofs.edits.run_edits.Goals as goal
 use Rattle.s2edit.proofs.edits.run_edits.Goals.{in-Done, in-Refused, in-NoMemory}
 
-sum_with : (o : Outcome) (t : EditTally) (n : ℕ) → t.done + t.refused + t.memory ≡ n →
+sum_with : (o : EditOutcome) (t : EditTally) (n : ℕ) → t.done + t.refused + t.memory ≡ n →
     (tally_with o t).done + (tally_with o t).refused + (tally_with o t).memory ≡ n + 1
 sum_with Done t n e = omega arith
 sum_with Refused t n e = omega arith

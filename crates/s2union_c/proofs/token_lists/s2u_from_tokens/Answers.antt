@@ -1,5 +1,5 @@
 use Rattle.std.proofs.Common.{◌≡◌, inl, length, refl, ◌∙◌, arith}
-use Rattle.s2union_c.specs.Texts.{words}
+use Rattle.s2union_c.specs.Texts.{words_of_text}
 use Rattle.s2union_c.proofs.Naming.{same_count}
 use Rattle.s2union_c.proofs.token_lists.s2u_from_tokens.Goals as goal
 
@@ -7,5 +7,5 @@ pub returns : goal.returns
 returns c =
     let n = c.in-Ok.ensures in
     let w = c.write_cells.ensures in
-    let len : c.in-Ok.count ≡ length w.0 = n.2 ∙ same_count (words c.args.text.now) n.0 w.0 n.1 w.1 in
+    let len : c.in-Ok.count ≡ length w.0 = n.2 ∙ same_count (words_of_text c.args.text.now) n.0 w.0 n.1 w.1 in
     inl (w.0, w.1, inl (refl, record { len_is = len; fits = omega arith; front = rw len w.2 }))

@@ -4,9 +4,9 @@ use Rattle.circular_buffer.specs.Buffer.{Buffer}
 use Rattle.s2union.specs.Union.{Union}
 use Rattle.std.proofs.lemmas.Option.{get_or_from_slice_get, slice_get-get_or}
 use Rattle.s2edit.specs.History.{History, changed, Assigned}
-use Rattle.s2edit.specs.Diff.{Diff, between}
+use Rattle.s2edit.specs.Diff.{Diff, change_between}
 use Rattle.s2edit.specs.Leads.{list_at}
-use Rattle.s2edit.specs.Chain.{lists_of, IsWithin, history}
+use Rattle.s2edit.specs.Chain.{lists_of, IsLocalWithin, history}
 use Rattle.s2edit.proofs.Tables.{AllWithin-get, AllWithin-at, slice_get-lists_of, read_register, list_read}
 use Rattle.s2edit.proofs.Assigning.{taken_over, Changes, change_leaves, change_within, change_past, change_future}
 use Rattle.s2edit.proofs.Assigning.{change_bound, change_numbers, assigned_same, assigned_other}
@@ -83,17 +83,17 @@ in_table c = omega (
   length-map c.self.inside.registers.items (λ (u : Union). u.cells),
 )
 
-own : (c : goal.After-clear) → IsWithin c.self.inside.limit c.args.union.cells
+own : (c : goal.After-clear) → IsLocalWithin c.self.inside.limit c.args.union.cells
 own c = record { local = c.cells-2.ensures.local; few = omega (arith, c.len.ensures) }
 
 change_is : (c : goal.After-clear) → record {
   register = c.change.inside.register;
   out = c.change.inside.out.items;
   put = c.change.inside.put.items;
-} ≡ between c.args.register
+} ≡ change_between c.args.register
     (list_at (lists_of c.self.inside.registers.items) c.args.register) c.args.union.cells
 change_is c = c.change.view_is ∙ c.in-Ok.ensures.change
-    ∙ ap (λ (x : List ℕ). between c.args.register x c.args.union.cells) (sym (old_is c))
+    ∙ ap (λ (x : List ℕ). change_between c.args.register x c.args.union.cells) (sym (old_is c))
 
 differs : (c : goal.After-clear) → c.args.union.cells ≡ list_at (lists_of c.self.inside.registers.items)
     c.args.register → ⊥
@@ -152,7 +152,7 @@ returns-clause-numbers c =
 pub invariant_of-self-2 : goal.invariant_of-self-2
 invariant_of-self-2 c =
     let i = c.self.invariant in
-    let d : Diff = between c.args.register (list_at (lists_of c.self.inside.registers.items) c.args.register)
+    let d : Diff = change_between c.args.register (list_at (lists_of c.self.inside.registers.items) c.args.register)
     c.args.union.cells in
     let w = rewritten_roomy c.self.inside.limit _ _ _ _ d (changes c).rewrites i.registers_roomy
     (omega (arith, c.copy_from.ensures.room, i.scratch_roomy)) in

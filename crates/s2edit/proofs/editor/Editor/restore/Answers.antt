@@ -11,7 +11,7 @@ use Rattle.s2edit.specs.History.{History, AllLists}
 use Rattle.s2edit.specs.Diff.{Diff, inverse}
 use Rattle.s2edit.specs.Chain.{lists_of, AllWithin, FitAlong, history}
 use Rattle.s2edit.specs.Session.{diff, Restored, IsTooDeep, IsTooMany}
-use Rattle.s2edit.specs.Following.{FailsToFollow, Follows}
+use Rattle.s2edit.specs.Following.{FailsToFollow, MakesChanges}
 use Rattle.s2edit.proofs.Contents.{turned, all_reverse}
 use Rattle.s2edit.proofs.Following.{have_room, keep_room, keep_count}
 use Rattle.s2edit.proofs.Restoring.{registers_within, follows, too_deep, too_many, past_fails, future_fails, not_three}
@@ -65,11 +65,11 @@ returns-then-len-self-clause-answer c =
     let s = c.args.session in
     let e = c.self.inside in
     let a = back_side (λ (t : List (List ℕ)) (ds : List Diff).
-    Follows e.limit t ds c.in_ok-past_within.past_within) s.registers.items c.deref.result.now
+    MakesChanges e.limit t ds c.in_ok-past_within.past_within) s.registers.items c.deref.result.now
     c.reverse.new.self.items c.deref-2.result.now s.past.items
     c.deref.ensures.value c.deref-2.ensures.value c.reverse.ensures.items c.in_ok-past_within.ensures in
     let b = ahead_side (λ (t : List (List ℕ)) (ds : List Diff).
-    Follows e.limit t ds c.in_ok-future_within.future_within) s.registers.items c.deref-3.result.now
+    MakesChanges e.limit t ds c.in_ok-future_within.future_within) s.registers.items c.deref-3.result.now
     s.future.items c.deref-4.result.now
     c.deref-3.ensures.value c.deref-4.ensures.value c.in_ok-future_within.ensures in
     let deep : e.depth < length (map moved_of s.past.items) + length (map moved_of s.future.items) =
@@ -96,10 +96,10 @@ returns-then-not-both-clause-answer c =
     let e = c.self.inside in
     let p = c.in_ok-past_within.past_within in
     let f = c.in_ok-future_within.future_within in
-    let a = back_side (λ (t : List (List ℕ)) (ds : List Diff). Follows e.limit t ds p) s.registers.items
+    let a = back_side (λ (t : List (List ℕ)) (ds : List Diff). MakesChanges e.limit t ds p) s.registers.items
     c.deref.result.now c.reverse.new.self.items c.deref-2.result.now s.past.items
     c.deref.ensures.value c.deref-2.ensures.value c.reverse.ensures.items c.in_ok-past_within.ensures in
-    let b = ahead_side (λ (t : List (List ℕ)) (ds : List Diff). Follows e.limit t ds f) s.registers.items
+    let b = ahead_side (λ (t : List (List ℕ)) (ds : List Diff). MakesChanges e.limit t ds f) s.registers.items
     c.deref-3.result.now s.future.items c.deref-4.result.now
     c.deref-3.ensures.value c.deref-4.ensures.value c.in_ok-future_within.ensures in
     let kept : length (map moved_of s.past.items) + length (map moved_of s.future.items) ≤ e.depth =
@@ -165,10 +165,10 @@ taken c =
     let us' = c.take_all.new.unions.items in
     let past' = c.fill.new.ring.items in
     let future' = c.fill-2.new.ring.items in
-    let a = back_side (λ (t : List (List ℕ)) (ds : List Diff). Follows e.limit t ds p) s.registers.items
+    let a = back_side (λ (t : List (List ℕ)) (ds : List Diff). MakesChanges e.limit t ds p) s.registers.items
     c.deref.result.now c.reverse.new.self.items c.deref-2.result.now s.past.items
     c.deref.ensures.value c.deref-2.ensures.value c.reverse.ensures.items c.in_ok-past_within.ensures in
-    let b = ahead_side (λ (t : List (List ℕ)) (ds : List Diff). Follows e.limit t ds f) s.registers.items
+    let b = ahead_side (λ (t : List (List ℕ)) (ds : List Diff). MakesChanges e.limit t ds f) s.registers.items
     c.deref-3.result.now s.future.items c.deref-4.result.now
     c.deref-3.ensures.value c.deref-4.ensures.value c.in_ok-future_within.ensures in
     let kept : length (map moved_of s.past.items) + length (map moved_of s.future.items) ≤ e.depth =

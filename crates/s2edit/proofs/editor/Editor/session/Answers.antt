@@ -1,7 +1,7 @@
 use Rattle.std.proofs.Common.{map, reverse, ap, ◌∙◌, subst}
 use Rattle.s2file.specs.Session.{Content, moved_of}
 use Rattle.s2edit.specs.Chain.{lists_of}
-use Rattle.s2edit.specs.Session.{Tells}
+use Rattle.s2edit.specs.Session.{Records}
 use Rattle.s2edit.proofs.Contents.{told_content, turned}
 use Rattle.s2edit.proofs.Saving.{session_tells}
 use Rattle.s2edit.proofs.editor.Editor.session.Goals as goal
@@ -15,7 +15,7 @@ returns-clause-tells c =
       past = map moved_of c.reverse.new.self.items;
       future = map moved_of c.in_ok-future.future.items;
     } in
-    subst (Tells s) c.self.view_is
+    subst (Records s) c.self.view_is
     (session_tells e.limit e.depth e.registers.items e.past.items e.future.items s
     (c.in_ok-registers.ensures ∙ ap lists_of c.deref.ensures.value)
     (turned c.in_ok-past.past.items c.reverse.new.self.items c.reverse.ensures.items ∙ ap reverse c.in_ok-past.ensures)

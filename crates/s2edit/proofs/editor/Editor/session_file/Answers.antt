@@ -1,7 +1,7 @@
 use Rattle.std.proofs.Common.{map, reverse, ap, ◌∙◌, subst}
 use Rattle.s2file.specs.Session.{Content, moved_of, content_of_parts}
 use Rattle.s2edit.specs.Chain.{lists_of}
-use Rattle.s2edit.specs.Session.{Tells}
+use Rattle.s2edit.specs.Session.{Records}
 use Rattle.s2edit.proofs.Contents.{turned}
 use Rattle.s2edit.proofs.Saving.{session_tells, text_told}
 use Rattle.s2edit.proofs.editor.Editor.session_file.Goals as goal
@@ -12,7 +12,7 @@ returns c =
     let i = c.self.invariant in
     let s : Content = content_of_parts c.deref.result.now c.deref-2.result.now c.deref-3.result.now in
     text_told c.encode_parts.result s c.args.self.now
-    (subst (Tells s) c.self.view_is
+    (subst (Records s) c.self.view_is
     (session_tells e.limit e.depth e.registers.items e.past.items e.future.items s
     (ap lists_of c.deref.ensures.value)
     (ap (map moved_of) c.deref-2.ensures.value ∙ turned c.in_ok-past.past.items c.reverse.new.self.items

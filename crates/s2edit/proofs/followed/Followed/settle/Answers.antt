@@ -4,9 +4,9 @@ use Rattle.s2edit.proofs.followed.Followed.settle.Goals as goal
 
 pub invariant_of-self-2 : goal.invariant_of-self-2
 invariant_of-self-2 c = record {
-  local = c.cells-local.ensures.local;
+  local = c.cells.ensures.local;
   fits = nothing_fits c.clear.new.self.items c.clear-2.new.self.items c.apply_into.new.into.cells
-      c.clear.ensures.items c.clear-2.ensures.items c.cells-local.ensures.local;
+      c.clear.ensures.items c.clear-2.ensures.items c.cells.ensures.local;
 }
 
 pub returns : goal.returns

@@ -3,11 +3,11 @@ use Rattle.s2union.specs.Union.{IsLocal}
 use Rattle.s2union.specs.Apply.{cells_without}
 use Rattle.s2union.proofs.CellLists.{has-applied}
 use Rattle.s2union.proofs.Applied.{Fits-inverse, applied-inverse, Fits-between, applied-between, only_out, only_put}
-use Rattle.s2edit.specs.Diff.{Diff, FitsList, apply, between}
+use Rattle.s2edit.specs.Diff.{Diff, FitsList, apply, change_between}
 use Rattle.s2edit.proofs.DiffLemmas.{IsDiff-between}
-use Rattle.s2edit.proofs.change.law_of_changes.Goals as goal
+use Rattle.s2edit.proofs.laws.law_of_changes.Goals as goal
 
-only_change : (d : Diff) (u w : List ℕ) → IsLocal u → FitsList d u → apply d u ≡ w → d ≡ between d.register u w
+only_change : (d : Diff) (u w : List ℕ) → IsLocal u → FitsList d u → apply d u ≡ w → d ≡ change_between d.register u w
 only_change d u w a f e =
     let b : IsLocal w = subst IsLocal e f.local in
     ap (λ (x : List ℕ). record { register = d.register; out = x; put = d.put }) (only_out d.out d.put u w a f e)

@@ -1,7 +1,7 @@
 use Rattle.std.proofs.Common.{◌≡◌, ap}
 use Rattle.s2union.specs.Union.{Union}
 use Rattle.s2union.proofs.Normal.{same_from_leaves}
-use Rattle.s2union.proofs.normalising.same_cells.Goals as goal
+use Rattle.s2union.proofs.laws.same_cells.Goals as goal
 
 pub returns : goal.returns
 returns c =
