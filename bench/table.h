@@ -53,7 +53,10 @@ class Table {
     printf("%-30s %10s %10s %8s  %s\n", "", "S2", "proved", "S2/it", "checksum");
   }
 
-  bool wants(const char* name) const { return strstr(name, only_) != nullptr; }
+  // A word with a minus sign before it: the rows whose names don't contain it.
+  bool wants(const char* name) const {
+    return *only_ == '-' ? strstr(name, only_ + 1) == nullptr : strstr(name, only_) != nullptr;
+  }
   bool all_equal() const { return all_equal_; }
 
   // `units` of the row may be 0; then it is what `units` says after the work is done.
