@@ -33,7 +33,8 @@ use Rattle.s2cover.proofs.Formed.{Run, formed, all_pairs_append, or_and}
 
 -- ---- two sets with the same leaves in a cell
 
-filled_same : (S T : ℕ → Bool) (lo n : ℕ) → ((x : ℕ) → lo ≤ x → x < lo + n → S x ≡ T x) → filled S lo n ≡ filled T lo n
+filled_same : (S T : ℕ → Bool) (lo n : ℕ) → ((x : ℕ) → lo ≤ x → x < lo + n → S x ≡ T x) →
+    filled S lo n ≡ filled T lo n
 unfolding filled
 filled_same S T lo zero h = refl
 filled_same S T lo (suc n) h =
