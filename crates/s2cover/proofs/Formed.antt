@@ -25,7 +25,7 @@ use Rattle.s2cover.proofs.Runs.{filled_each, filled_from, block_here}
 use Rattle.s2cover.proofs.Forms.{form_whole, joined_more, joined_grows}
 use Rattle.s2cover.proofs.Visits.{covers_at, leaf_at, id_of, child_at}
 
-all_pairs_append : (R : ℕ → ℕ → Type 0) (xs ys : List ℕ) → AllPairs R xs → AllPairs R ys →
+pub all_pairs_append : (R : ℕ → ℕ → Type 0) (xs ys : List ℕ) → AllPairs R xs → AllPairs R ys →
     All (λ x. All (R x) ys) xs → AllPairs R (xs ++ ys)
 all_pairs_append R [] ys a b h = b
 all_pairs_append R (x ∷ xs) ys a b h =
@@ -55,7 +55,7 @@ run_none S lo = record {
 between_join : (lo mid hi x : ℕ) → lo ≤ mid → mid ≤ hi → between lo hi x ≡ (between lo mid x || between mid hi x)
 between_join lo mid hi x a b = grind (arith, nat_tests)
 
-or_and : (a b s : Bool) → ((a && s) || (b && s)) ≡ ((a || b) && s)
+pub or_and : (a b s : Bool) → ((a && s) || (b && s)) ≡ ((a || b) && s)
 or_and true true true = refl
 or_and true true false = refl
 or_and true false true = refl

@@ -1,3 +1,5 @@
+mod Parents
+mod Parts
 mod Runs
 mod Forms
 mod Visits

@@ -1,19 +1,22 @@
 //! The coverings of a union clipped by a rectangle, without a walk along the sides of the rectangle.
 //!
-//! First the union's cells are cut to the level, and the rectangle is rounded to the grid of the level. Then each cell
-//! that crosses what the two share has a cell of the answer in it, and the descent enters only such cells.
-ghost use Rattle.std.specs.Prelude.{◌≡◌, ◌≤◌, ℕ, length, IfOk, IfErr};
+//! First the union's cells are cut to the level, and the rectangle is rounded to the grid of the level. Then the greatest
+//! cells of the rectangle are sought in each cell of the union: a cell inside the rectangle is taken at once.
+ghost use Rattle.std.specs.Prelude.{◌≡◌, ◌-◌, ◌<◌, ◌≤◌, ℕ, All, length, IfOk, IfErr};
+ghost use Rattle.std.specs.List.{flat_map};
+ghost use Rattle.s2cell.specs.Cell.{level_of};
 ghost use Rattle.s2union.specs.Union.{has_leaf, IsLocal, IsNormalForm};
 ghost use Rattle.s2cover.specs.Coverings.{HasLeavesOf, TooManyMeans, inner_set, outer_set};
 ghost use Rattle.s2cover.specs.Cut.{cells_cut, cells_kept, cells_met, meets};
+ghost use Rattle.s2cover.specs.Descent.{IsAligned, form_in};
 ghost use Rattle.s2cover.specs.Rectangles.{clipped, rect_set};
 
 use crate::MOST_CELLS;
-use crate::covering::{inner, outer};
 use crate::cut::{cut_cells, kept_cells};
+use crate::looks::{Looks, seek};
+use crate::placing::placed;
 use crate::rect::FaceRect;
 use crate::region::{CoverFault, Part, Region};
-use crate::union::Clip;
 use s2cell::{CellId, GREATEST_LEVEL};
 use s2union::{CellUnion, normalise};
 use std::alloc::{AllocError, Global};
@@ -39,13 +42,7 @@ pub fn clip_outer(
 {
     let _ = union.cells();
     match cut_union(alloc, union, rect, level) {
-        Ok(whole) => {
-            let clip = Clip {
-                union: &whole,
-                rect: rect.widened(level),
-            };
-            outer(alloc, &clip, level, max)
-        }
+        Ok(whole) => clip_aligned(alloc, &whole, &rect.widened(level), level, max),
         Err(_) => Err(CoverFault::Memory),
     }
 }
@@ -76,8 +73,7 @@ pub fn clip_inner(
     }
 }
 
-/// The inner covering of what a union and a rectangle share, by a descent that is short if the rectangle is on the grid
-/// of the level.
+/// The inner covering of what a union and a rectangle share, for a rectangle on the grid of the level.
 fn inner_part(
     alloc: Global,
     union: &CellUnion,
@@ -87,6 +83,7 @@ fn inner_part(
 ) -> Result<CellUnion, CoverFault>
     requires level { level ≤ GREATEST_LEVEL }
     requires max { max ≤ MOST_CELLS }
+    requires aligned { IsAligned (rect_set rect) (30 - level) }
     ensures leaves { IfOk result (λ u. HasLeavesOf (inner_set (clipped union.now.cells rect) level) u.cells) }
     ensures local { IfOk result (λ u. IsLocal u.cells) }
     ensures normal { IfOk result (λ u. IsNormalForm (inner_set (clipped union.now.cells rect) level) u.cells) }
@@ -95,15 +92,62 @@ fn inner_part(
 {
     let _ = union.cells();
     match kept_union(alloc, union, &rect, level) {
-        Ok(whole) => {
-            let clip = Clip {
-                union: &whole,
-                rect,
-            };
-            inner(alloc, &clip, level, max)
-        }
+        Ok(whole) => clip_aligned(alloc, &whole, &rect, level, max),
         Err(_) => Err(CoverFault::Memory),
     }
+}
+
+/// The greatest cells of what a union and a rectangle share, if both are made of whole cells of the level.
+fn clip_aligned(
+    alloc: Global,
+    union: &CellUnion,
+    rect: &FaceRect,
+    level: u8,
+    max: usize,
+) -> Result<CellUnion, CoverFault>
+    requires level { level ≤ GREATEST_LEVEL }
+    requires max { max ≤ MOST_CELLS }
+    requires above { All (λ c. level_of c ≤ level) union.now.cells }
+    requires aligned { IsAligned (rect_set rect.now) (30 - level) }
+    ensures leaves { IfOk result (λ u. HasLeavesOf (clipped union.now.cells rect.now) u.cells) }
+    ensures local { IfOk result (λ u. IsLocal u.cells) }
+    ensures normal { IfOk result (λ u. IsNormalForm (clipped union.now.cells rect.now) u.cells) }
+    ensures within { IfOk result (λ u. length u.cells ≤ max) }
+    ensures many { IfErr result (TooManyMeans (clipped union.now.cells rect.now) max) }
+{
+    match cells_within(alloc, union.cells(), rect, level, max) {
+        Ok(list) => Ok(CellUnion::from_normalized(list)),
+        Err(fault) => Err(fault),
+    }
+}
+
+/// The greatest cells of a rectangle on the grid of the level that lie in these cells. The search stops at cell number
+/// `max + 1`.
+fn cells_within(
+    alloc: Global,
+    cells: &[CellId],
+    rect: &FaceRect,
+    level: u8,
+    max: usize,
+) -> Result<Vec<CellId>, CoverFault>
+    requires level { level ≤ GREATEST_LEVEL }
+    requires max { max ≤ MOST_CELLS }
+    requires above { All (λ c. level_of c ≤ level) cells.now }
+    requires aligned { IsAligned (rect_set rect.now) (30 - level) }
+    ensures list { IfOk result (λ list. list.items ≡ flat_map (form_in (rect_set rect.now) (30 - level)) cells.now) }
+    ensures within { IfOk result (λ list. length list.items ≤ max) }
+    ensures many { IfErr result (λ fault. fault ≡ CoverFault.TooMany →
+        max < length (flat_map (form_in (rect_set rect.now) (30 - level)) cells.now)) }
+{
+    let mut list = Vec::new(alloc);
+    for cell in cells {
+        let mut looks = Looks { count: 0 };
+        match seek(rect, level, &placed(*cell), max, &mut looks, &mut list) {
+            Ok(()) => {}
+            Err(fault) => return Err(fault),
+        }
+    }
+    Ok(list)
 }
 
 /// The union's cells that meet the rectangle, cut to the level.
@@ -114,8 +158,10 @@ fn cut_union(
     level: u8,
 ) -> Result<CellUnion, AllocError>
     requires { level ≤ GREATEST_LEVEL }
-    ensures { IfOk result (λ v. (x : ℕ) → has_leaf v.cells x
+    ensures leaves { IfOk result (λ v. (x : ℕ) → has_leaf v.cells x
         ≡ has_leaf (cells_cut level (cells_met (rect_set rect.now) union.now.cells)) x) }
+    ensures local { IfOk result (λ v. IsLocal v.cells) }
+    ensures above { IfOk result (λ v. All (λ c. level_of c ≤ level) v.cells) }
 {
     let met = met_cells(alloc, union.cells(), rect)?;
     let cut = cut_cells(alloc, met.as_slice(), level)?;
@@ -130,8 +176,10 @@ fn kept_union(
     level: u8,
 ) -> Result<CellUnion, AllocError>
     requires { level ≤ GREATEST_LEVEL }
-    ensures { IfOk result (λ v. (x : ℕ) → has_leaf v.cells x
+    ensures leaves { IfOk result (λ v. (x : ℕ) → has_leaf v.cells x
         ≡ has_leaf (cells_met (rect_set rect.now) (cells_kept level union.now.cells)) x) }
+    ensures local { IfOk result (λ v. IsLocal v.cells) }
+    ensures above { IfOk result (λ v. All (λ c. level_of c ≤ level) v.cells) }
 {
     let kept = kept_cells(alloc, union.cells(), level)?;
     let met = met_cells(alloc, kept.as_slice(), rect)?;

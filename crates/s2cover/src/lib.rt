@@ -18,6 +18,7 @@ mod cut;
 mod descent;
 mod grid;
 mod looks;
+mod placing;
 mod rect;
 mod region;
 mod rounding;

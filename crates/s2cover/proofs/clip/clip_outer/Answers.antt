@@ -1,35 +1,41 @@
-use Rattle.std.proofs.Common.{◌&&◌}
+use Rattle.std.proofs.Common.{◌&&◌, ◌∙◌}
 use Rattle.s2union.specs.Union.{has_leaf}
 use Rattle.s2cover.specs.Coverings.{outer_set}
 use Rattle.s2cover.specs.Rectangles.{rect_set}
 use Rattle.s2cover.proofs.Faces.{many_same}
 use Rattle.s2cover.proofs.Clips.{cut_clip, leaves_ok, normal_ok}
+use Rattle.s2cover.proofs.Parts.{shared_outer}
 use Rattle.s2cover.proofs.clip.clip_outer.Goals as goal
 
 pub returns-in-Ok-clause-leaves : goal.returns-in-Ok-clause-leaves
 returns-in-Ok-clause-leaves c =
-    leaves_ok c.outer.result (outer_set (λ y. has_leaf c.in-Ok.whole.cells y && rect_set c.widened.result y)
-    c.args.level) (outer_set (λ y. has_leaf c.args.union.now.cells y && rect_set c.args.rect.now y) c.args.level)
-    (cut_clip c.args.level c.args.union.now.cells c.in-Ok.whole.cells (rect_set c.args.rect.now)
-    (rect_set c.widened.result) c.requires.level c.cells.ensures.local c.in-Ok.ensures
-    c.widened.ensures.leaves)
-    c.outer.ensures.leaves
+    leaves_ok c.clip_aligned.result (λ x. has_leaf c.in-Ok.whole.cells x && rect_set c.widened.result x)
+    (outer_set (λ y. has_leaf c.args.union.now.cells y && rect_set c.args.rect.now y) c.args.level)
+    (λ x. shared_outer (rect_set c.widened.result) c.args.level c.in-Ok.whole.cells c.widened.ensures.aligned c.in-Ok.ensures.local
+    c.in-Ok.ensures.above x
+    ∙ cut_clip c.args.level c.args.union.now.cells c.in-Ok.whole.cells (rect_set c.args.rect.now)
+    (rect_set c.widened.result) c.requires.level c.cells.ensures.local c.in-Ok.ensures.leaves
+    c.widened.ensures.leaves x)
+    c.clip_aligned.ensures.leaves
 
 pub returns-in-Ok-clause-normal : goal.returns-in-Ok-clause-normal
 returns-in-Ok-clause-normal c =
-    normal_ok c.outer.result (outer_set (λ y. has_leaf c.in-Ok.whole.cells y && rect_set c.widened.result y)
-    c.args.level) (outer_set (λ y. has_leaf c.args.union.now.cells y && rect_set c.args.rect.now y) c.args.level)
-    (cut_clip c.args.level c.args.union.now.cells c.in-Ok.whole.cells (rect_set c.args.rect.now)
-    (rect_set c.widened.result) c.requires.level c.cells.ensures.local c.in-Ok.ensures
-    c.widened.ensures.leaves)
-    c.outer.ensures.normal
+    normal_ok c.clip_aligned.result (λ x. has_leaf c.in-Ok.whole.cells x && rect_set c.widened.result x)
+    (outer_set (λ y. has_leaf c.args.union.now.cells y && rect_set c.args.rect.now y) c.args.level)
+    (λ x. shared_outer (rect_set c.widened.result) c.args.level c.in-Ok.whole.cells c.widened.ensures.aligned c.in-Ok.ensures.local
+    c.in-Ok.ensures.above x
+    ∙ cut_clip c.args.level c.args.union.now.cells c.in-Ok.whole.cells (rect_set c.args.rect.now)
+    (rect_set c.widened.result) c.requires.level c.cells.ensures.local c.in-Ok.ensures.leaves
+    c.widened.ensures.leaves x)
+    c.clip_aligned.ensures.normal
 
 pub returns-in-Ok-clause-many : goal.returns-in-Ok-clause-many
 returns-in-Ok-clause-many c =
-    many_same c.outer.result _ c.args.max
-    (outer_set (λ y. has_leaf c.in-Ok.whole.cells y && rect_set c.widened.result y) c.args.level)
+    many_same c.clip_aligned.result _ c.args.max (λ x. has_leaf c.in-Ok.whole.cells x && rect_set c.widened.result x)
     (outer_set (λ y. has_leaf c.args.union.now.cells y && rect_set c.args.rect.now y) c.args.level)
-    (cut_clip c.args.level c.args.union.now.cells c.in-Ok.whole.cells (rect_set c.args.rect.now)
-    (rect_set c.widened.result) c.requires.level c.cells.ensures.local c.in-Ok.ensures
-    c.widened.ensures.leaves)
-    c.outer.ensures.many
+    (λ x. shared_outer (rect_set c.widened.result) c.args.level c.in-Ok.whole.cells c.widened.ensures.aligned c.in-Ok.ensures.local
+    c.in-Ok.ensures.above x
+    ∙ cut_clip c.args.level c.args.union.now.cells c.in-Ok.whole.cells (rect_set c.args.rect.now)
+    (rect_set c.widened.result) c.requires.level c.cells.ensures.local c.in-Ok.ensures.leaves
+    c.widened.ensures.leaves x)
+    c.clip_aligned.ensures.many

@@ -1,0 +1,21 @@
+use Rattle.std.proofs.Common.{◌≡◌, All, ◌≤◌, ◌∙◌, ap}
+use Rattle.std.proofs.lemmas.List.Elements.{All-filter}
+use Rattle.s2cell.specs.Cell.{IsCell, level_of}
+use Rattle.s2union.specs.Union.{has_leaf}
+use Rattle.s2cover.specs.Cut.{meets, reaches, cells_kept, cells_met}
+use Rattle.s2cover.specs.Rectangles.{rect_set}
+use Rattle.s2cover.proofs.Parts.{normal_above, kept_above}
+use Rattle.s2cover.proofs.clip.kept_union.Goals as goal
+
+pub returns-clause-above : goal.returns-clause-above
+returns-clause-above c =
+    let S = rect_set c.args.rect.now in
+    let k = c.args.level in
+    let kept = cells_kept k c.args.union.now.cells in
+    let all : All IsCell kept = All-filter (reaches k) IsCell c.args.union.now.cells c.cells.ensures.local.cells in
+    let is : c.in_ok-met.met.items ≡ cells_met S kept = c.in_ok-met.ensures
+    ∙ ap (cells_met S) (c.as_slice.ensures.value ∙ c.in_ok-kept.ensures ∙ ap (cells_kept k) c.cells.ensures.value) in
+    normal_above k c.normalise.result.cells (cells_met S kept) c.normalise.ensures.local
+    (All-filter (meets S) IsCell kept all)
+    (All-filter (meets S) (λ c. level_of c ≤ k) kept (kept_above k c.args.union.now.cells))
+    (λ x. c.normalise.ensures.leaves x ∙ ap (λ v. has_leaf v x) is)
