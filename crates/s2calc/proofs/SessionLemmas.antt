@@ -27,7 +27,8 @@ none_stored bytes only h st = form_apart (only st.content st.spells)
 -- bytes whose session tells none stand for none
 pub unfit : (bytes : List ℕ) (s : Content) → Spells bytes s → ((h : History (List ℕ)) → Records s h → ⊥) →
     (h : History (List ℕ)) → Stored bytes h → ⊥
-unfit bytes s p f h st = f h (subst (λ (x : Content). Records x h) (one_spelled bytes st.content s st.spells p) st.tells)
+unfit bytes s p f h st = f h (subst (λ (x : Content). Records x h) (one_spelled bytes st.content s st.spells p)
+    st.tells)
 
 pub stored_by : (bytes : List ℕ) (s : Content) (h : History (List ℕ)) → Spells bytes s → Records s h → Stored bytes h
 stored_by bytes s h p t = record { content = s; spells = p; tells = t }

@@ -10,7 +10,8 @@ use Rattle.s2cover.specs.Coverings.{outer_set, inner_set}
 use Rattle.s2edit.specs.History.{History, Assigned, sets, numbers}
 use Rattle.s2edit.specs.Leads.{list_at}
 use Rattle.s2script.specs.declared.command.RegisterEdit.{RegisterEdit}
-use Rattle.s2script.specs.declared.command.RegisterEdit.TheVariants.{Add, Remove, Keep, Clear, Copy, Union, Intersect, Subtract}
+use Rattle.s2script.specs.declared.command.RegisterEdit.TheVariants.{Add, Remove, Keep, Clear, Copy}
+use Rattle.s2script.specs.declared.command.RegisterEdit.TheVariants.{Union, Intersect, Subtract}
 use Rattle.s2script.specs.declared.command.RegisterEdit.TheVariants.{Range, Outer, Inner, OuterOf, InnerOf}
 use Rattle.s2calc.specs.declared.refusal.Refusal.{Refusal}
 use Rattle.s2calc.specs.declared.refusal.Refusal.TheVariants.{TooMany, Memory, Nothing}
@@ -48,7 +49,8 @@ new_set table r (InnerOf s level rect) = inner_set (within rect (leaves_of table
 
 -- The register r holds the normal form of S, which has at most `limit` cells; the history records the change, list for
 -- list and set for set; and the reply is the numbers of cells taken out and put in.
-pub record RegisterBecomes (S : ℕ → Bool) (r : ℕ) (old : History (List ℕ)) (reply : Reply) (new : History (List ℕ)) : Type 0 where
+pub record RegisterBecomes (S : ℕ → Bool) (r : ℕ) (old : History (List ℕ)) (reply : Reply) (new : History (List ℕ)) :
+    Type 0 where
   pub list : List ℕ
   pub normal : IsNormalForm S list
   pub within : length list ≤ old.limit

@@ -16,8 +16,8 @@ pub record IsPlaceEntry (orientation digits entry : ℕ) : Type 0 where
   pub place : At 5 orientation digits (held entry / 32) (held entry % 32)
   pub next : entry % 64 ≡ 16 * orientation_after 5 orientation digits
 
--- the entry for an orientation, five bits of i and five bits of j: the five digits, and, in the six lowest bits, sixteen
--- times the orientation after them
+-- the entry for an orientation, five bits of i and five bits of j: the five digits, and, in the six lowest bits,
+-- sixteen times the orientation after them
 pub record IsLeafEntry (orientation i j entry : ℕ) : Type 0 where
   pub leaf : At 5 orientation (held entry) i j
   pub next : entry % 64 ≡ 16 * orientation_after 5 orientation (held entry)

@@ -18,8 +18,8 @@ pub fn place_step(orientation: u8, digit: u8) -> u8
 
 /// The entry for an orientation and five digits. `shift` is sixteen times the orientation.
 ///
-/// From bit 6 on, the entry has five bits of j and then five bits of i; the six bits below are the next `shift`. What is
-/// above bit 15 belongs to other orientations.
+/// From bit 6 on, the entry has five bits of j and then five bits of i; the six bits below are the next `shift`. What
+/// is above bit 15 belongs to other orientations.
 pub fn place_entry(shift: u32, digits: u32) -> u64
     requires shift { shift < 64 }
     requires orientation { shift % 16 ≡ 0 }

@@ -92,7 +92,8 @@ cells_aligned : (g : ℕ) (u : List ℕ) → All (λ c. g ≤ depth_of c) u → 
 cells_aligned g [] h x y e = refl
 cells_aligned g (c ∷ u) h x y e =
     let hg = h 0 c (omega arith) in
-    ap (λ b. b || has_leaf u x) (same_bool (covers c x) (covers c y) (cell_to g c x y hg e) (cell_to g c y x hg (sym e)))
+    ap (λ b. b || has_leaf u x) (same_bool (covers c x) (covers c y) (cell_to g c x y hg e)
+    (cell_to g c y x hg (sym e)))
     ∙ ap (λ b. covers c y || b) (cells_aligned g u (λ k d l. h (suc k) d (omega arith)) x y e)
 
 -- what a union and a set share

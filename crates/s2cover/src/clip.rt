@@ -1,7 +1,7 @@
 //! The coverings of a union clipped by a rectangle, without a walk along the sides of the rectangle.
 //!
-//! First the union's cells are cut to the level, and the rectangle is rounded to the grid of the level. Then the greatest
-//! cells of the rectangle are sought in each cell of the union: a cell inside the rectangle is taken at once.
+//! First the union's cells are cut to the level, and the rectangle is rounded to the grid of the level. Then the
+//! greatest cells of the rectangle are sought in each cell of the union: a cell inside the rectangle is taken at once.
 ghost use Rattle.std.specs.Prelude.{◌≡◌, ◌-◌, ◌<◌, ◌≤◌, ℕ, All, length, IfOk, IfErr};
 ghost use Rattle.std.specs.List.{flat_map};
 ghost use Rattle.s2cell.specs.Cell.{level_of};

@@ -55,7 +55,8 @@ pub(crate) fn visit<R: Region>(
     ensures room { IfOk result (λ full. full ≡ false → vec_len list.new ≤ max) }
     ensures many { IfErr result (λ fault. fault ≡ CoverFault.TooMany →
         (filled_in (blocks (is_outer kind) (R.holds region.now) (30 - level)) placed.now.cell ≡ false)
-        × (max < vec_len list.old + length (form_in (blocks (is_outer kind) (R.holds region.now) (30 - level)) (30 - level)
+        × (max < vec_len list.old + length (form_in (blocks (is_outer kind) (R.holds region.now) (30 - level))
+        (30 - level)
         placed.now.cell))) }
 {
     match region.part_of_placed(placed) {

@@ -8,7 +8,8 @@ use Rattle.s2union.proofs.Applied.{applied-between, Fits-between}
 use Rattle.s2edit.specs.History.{History, Assigned, changed, cells_lost, numbers}
 use Rattle.s2edit.specs.Diff.{Diff, inverse, change_between}
 use Rattle.s2edit.specs.Leads.{list_at}
-use Rattle.s2edit.specs.Chain.{table_after, tables_after, FitsTable, FitAlong, lists_of, IsLocalWithin, AllWithin, history}
+use Rattle.s2edit.specs.Chain.{table_after, tables_after, FitsTable, FitAlong, lists_of}
+use Rattle.s2edit.specs.Chain.{IsLocalWithin, AllWithin, history}
 use Rattle.s2edit.specs.Chain.{union_of}
 use Rattle.s2edit.proofs.Tables.{tables_after-take, FitAlong-take, AllWithin-at, within_after, tables_back, along_back}
 use Rattle.s2edit.proofs.Numbers.{out_lost, put_won}
@@ -85,7 +86,8 @@ module _ (limit depth : ℕ) (us us' : List Union) (scratch scratch' : Union) (p
       ≡ take depth (lists_of us ∷ tables_after (lists_of us) (map inverse past))
   past_tables =
       ap (tables_after (lists_of us')) turned
-      ∙ tables_after-take depth (lists_of us') (inverse (change_between r (list_at (lists_of us) r) v) ∷ map inverse past)
+      ∙ tables_after-take depth (lists_of us') (inverse (change_between r (list_at (lists_of us) r) v)
+      ∷ map inverse past)
       ∙ ap (λ (t : List (List ℕ)). take depth
       (tables_after t (inverse (change_between r (list_at (lists_of us) r) v) ∷ map inverse past))) change_table
       ∙ ap (take depth) (tables_back limit (lists_of us) (change_between r (list_at (lists_of us) r) v) a fits_it
@@ -118,7 +120,8 @@ module _ (limit depth : ℕ) (us us' : List Union) (scratch scratch' : Union) (p
   pub change_past : FitAlong limit (lists_of us') (map inverse past')
   change_past =
       subst (FitAlong limit (lists_of us')) (sym turned)
-      (FitAlong-take limit depth (lists_of us') (inverse (change_between r (list_at (lists_of us) r) v) ∷ map inverse past)
+      (FitAlong-take limit depth (lists_of us') (inverse (change_between r (list_at (lists_of us) r) v)
+      ∷ map inverse past)
       (subst (λ (t : List (List ℕ)). FitAlong limit t
       (inverse (change_between r (list_at (lists_of us) r) v) ∷ map inverse past)) (sym change_table)
       (along_back limit (lists_of us) (change_between r (list_at (lists_of us) r) v) a fits_it (map inverse past) f)))
@@ -139,7 +142,8 @@ module _ (limit depth : ℕ) (us us' : List Union) (scratch scratch' : Union) (p
       p.1 ≡ length (cells_without v (list_at (lists_of us) r)) → p ≡ numbers t (lists_of us')
   change_numbers t p h e k =
       let d : Diff = change_between r (list_at (lists_of us) r) v in
-      ap (λ (x : ℕ). (x, p.1)) (e ∙ out_lost limit (lists_of us) (change_between r (list_at (lists_of us) r) v) a fits_it)
+      ap (λ (x : ℕ). (x, p.1)) (e ∙ out_lost limit (lists_of us) (change_between r (list_at (lists_of us) r) v) a
+      fits_it)
       ∙ ap (λ (x : ℕ). (
         cells_lost (lists_of us)
             (table_after (lists_of us) (change_between r (list_at (lists_of us) r) v)),

@@ -65,7 +65,8 @@ good_change d t u a b count l =
     let new : List ℕ = list_at u d.register in
     let len : length u ≡ length t = ap length l.only ∙ length-set t d.register new in
     let w : IsLocalWithin SESSION_CELLS old = AllWithin-at SESSION_CELLS t d.register a l.in_range in
-    let v : IsLocalWithin SESSION_CELLS new = AllWithin-at SESSION_CELLS u d.register b (omega (arith, len, l.in_range)) in
+    let v : IsLocalWithin SESSION_CELLS new = AllWithin-at SESSION_CELLS u d.register b
+    (omega (arith, len, l.in_range)) in
     let out : d.out ≡ cells_without old new = ap (λ (x : Diff). x.out) l.change in
     let put : d.put ≡ cells_without new old = ap (λ (x : Diff). x.put) l.change in
     record {

@@ -18,7 +18,8 @@ pub cells_without-nothing : (us : List ℕ) → cells_without us [] ≡ us
 cells_without-nothing [] = refl
 cells_without-nothing (u ∷ us) = ap (λ vs. u ∷ vs) (cells_without-nothing us)
 
-pub between-nothing : (r : ℕ) (us vs : List ℕ) → us ≡ [] → record { register = r; out = []; put = vs } ≡ change_between r us vs
+pub between-nothing : (r : ℕ) (us vs : List ℕ) → us ≡ [] → record { register = r; out = []; put = vs }
+    ≡ change_between r us vs
 between-nothing r us vs e =
     ap (λ (put : List ℕ). record { register = r; out = []; put = put }) (sym (cells_without-nothing vs))
     ∙ ap (between_of r vs) (sym e)

@@ -110,7 +110,8 @@ both_true false b e f = absurd (false≢true e)
 
 pub walk_steps : (limit : ℕ) (t : List (List ℕ)) (ds : List Diff) (here next : List (List ℕ)) (d : Diff)
     (left : List Diff) (within few : Bool)
-    → Walks limit t ds here (d ∷ left) within → MakesChange limit here d next few → Walks limit t ds next left (within && few)
+    → Walks limit t ds here (d ∷ left) within → MakesChange limit here d next few
+    → Walks limit t ds next left (within && few)
 walk_steps limit t ds here next d left within few w s = record {
   fit = λ f. w.fit (s.fit, subst (λ (u : List (List ℕ)). FitAlong SESSION_CELLS u left) s.table f);
   back = λ f. subst (λ (u : List (List ℕ)). FitAlong SESSION_CELLS u left) (sym s.table) (w.back f).1;

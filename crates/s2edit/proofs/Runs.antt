@@ -21,7 +21,8 @@ tally_with-comm NoMemory Done t = refl
 tally_with-comm NoMemory Refused t = refl
 tally_with-comm NoMemory NoMemory t = refl
 
-pub tally_of-push : (os : List EditOutcome) (o : EditOutcome) → edit_tally_of (os ++ o ∷ []) ≡ tally_with o (edit_tally_of os)
+pub tally_of-push : (os : List EditOutcome) (o : EditOutcome) → edit_tally_of (os ++ o ∷ [])
+    ≡ tally_with o (edit_tally_of os)
 tally_of-push [] o = refl
 tally_of-push (p ∷ os) o = ap (tally_with p) (tally_of-push os o) ∙ tally_with-comm p o (edit_tally_of os)
 

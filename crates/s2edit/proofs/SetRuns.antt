@@ -105,7 +105,8 @@ local_first (Assign r u) es l = ((l.0, tt), l.1)
 local_first Undo es l = (tt, l)
 local_first Redo es l = (tt, l)
 
-pub record LiftedRun (h : History (List ℕ)) (es : List Edit) (os : List EditOutcome) (s : History (ℕ → Bool)) : Type 0 where
+pub record LiftedRun (h : History (List ℕ)) (es : List Edit) (os : List EditOutcome) (s : History (ℕ → Bool)) :
+    Type 0 where
   pub end : History (List ℕ)
   pub run : EditRun (λ u. u) h es os end
   pub is : s ≡ sets end

@@ -15,4 +15,5 @@ pub record LawOfChanges : Type 0 where
       IsDiff (change_between r u w).out (change_between r u w).put
   pub between_fits : (r : ℕ) (u w : List ℕ) → IsLocal u → IsLocal w → FitsList (change_between r u w) u
   pub between_gives : (r : ℕ) (u w : List ℕ) → IsLocal u → IsLocal w → apply (change_between r u w) u ≡ w
-  pub only_change : (d : Diff) (u w : List ℕ) → IsLocal u → FitsList d u → apply d u ≡ w → d ≡ change_between d.register u w
+  pub only_change : (d : Diff) (u w : List ℕ) → IsLocal u → FitsList d u → apply d u ≡ w
+      → d ≡ change_between d.register u w

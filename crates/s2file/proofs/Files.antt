@@ -21,7 +21,8 @@ same_leaves bytes S T f g x =
     f.leaves x ∙ ap (λ (ids : List ℕ). has_leaf ids x) (same_ids bytes f.ids g.ids f.is g.is) ∙ sym (g.leaves x)
 
 -- a file has no fault
-pub no_fault : (bytes : List ℕ) (S : ℕ → Bool) (fault : FileFault) → File bytes S → HasFault bytes fault → fault ≡ Memory
+pub no_fault : (bytes : List ℕ) (S : ℕ → Bool) (fault : FileFault) → File bytes S → HasFault bytes fault
+    → fault ≡ Memory
 no_fault bytes S Version f h = absurd (h.1 f.is.version)
 no_fault bytes S Count f h = absurd (omega (arith, f.is.count, f.is.most, h.1))
 no_fault bytes S Short f h = elim h [

@@ -8,7 +8,8 @@ use Rattle.s2script.specs.declared.command.Comparison.TheVariants.{Covers, Meets
 use Rattle.s2script.specs.declared.command.Question.{Question}
 use Rattle.s2script.specs.declared.command.Question.TheVariants.{Cell, At, Square, Show, Count, Has, Touches, Compares}
 use Rattle.s2script.specs.declared.command.Question.TheVariants.{Denorm, History}
-use Rattle.s2script.specs.declared.command.RegisterEdit.TheVariants.{Add, Remove, Keep, Clear, Copy, Union, Intersect, Subtract}
+use Rattle.s2script.specs.declared.command.RegisterEdit.TheVariants.{Add, Remove, Keep, Clear, Copy}
+use Rattle.s2script.specs.declared.command.RegisterEdit.TheVariants.{Union, Intersect, Subtract}
 use Rattle.s2script.specs.declared.command.RegisterEdit.TheVariants.{Range, Outer, Inner, OuterOf, InnerOf}
 use Rattle.s2script.specs.declared.command.Command.{Command}
 use Rattle.s2script.specs.declared.command.Command.TheVariants.{Edit, Load, Save, Dump, Restore, Undo, Redo, Ask}

@@ -145,7 +145,8 @@ seen_run passes start now next old new run s g p passed_by = record {
   ends = p.ends s.back s.ends s.packed passed_by;
   packed = subst IsPacked (sym (reverse_back run s.back)) ((p.exact s.back s.ends s.packed).0 passed_by);
   same = (λ h. g.same.0 (s.same.0 h), λ h. s.same.1 (g.same.1 h));
-  gives = λ h. ap (λ l. l ++ made_list next) (reverse_back run s.back) ∙ append_assoc (reverse s.back) run (made_list next)
+  gives = λ h. ap (λ l. l ++ made_list next) (reverse_back run s.back) ∙ append_assoc (reverse s.back) run
+      (made_list next)
       ∙ ap (λ zs. reverse s.back ++ zs) (sym (g.gives (s.same.0 h))) ∙ s.gives h;
 }
 

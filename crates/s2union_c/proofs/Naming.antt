@@ -88,7 +88,8 @@ naming_more text at count ids start end id n w names =
       count_is = omega arith;
     }
 
-pub naming_done : (text : List ℕ) (at count : ℕ) (ids : List ℕ) → Naming text at count ids → words_of_text (drop at text) ≡ []
+pub naming_done : (text : List ℕ) (at count : ℕ) (ids : List ℕ) → Naming text at count ids
+    → words_of_text (drop at text) ≡ []
     → AllZip NamesCell (words_of_text text) ids
 naming_done text at count ids n none =
     let all : n.done ≡ words_of_text text = sym (append_none n.done) ∙ ap (λ ws. n.done ++ ws) (sym none) ∙ n.all in
@@ -114,7 +115,8 @@ nameless_at text at count ids start end n w none =
 
 -- where all words name cells, the next one does, and there is room for its cell
 pub name_there : (text : List ℕ) (at count : ℕ) (ids : List ℕ) (start end : ℕ) (all : List ℕ) → Naming text at count ids
-    → IsNextWord text at start end → AllZip NamesCell (words_of_text text) all → (id : ℕ) × NamesCell (word_at text start end) id
+    → IsNextWord text at start end → AllZip NamesCell (words_of_text text) all
+    → (id : ℕ) × NamesCell (word_at text start end) id
 name_there text at count ids start end all n w zip =
     name_at n.done (word_at text start end) (words_of_text (drop end text)) all
     (subst (λ ws. AllZip NamesCell ws all) (sym (words_there text at count ids start end n w)) zip)
@@ -130,7 +132,8 @@ room_there text at count ids start end all n w zip =
     let len = length-append n.done (word_at text start end ∷ words_of_text (drop end text)) in
     omega arith
 
-pub same_count : (ws : List (List ℕ)) (a b : List ℕ) → AllZip NamesCell ws a → AllZip NamesCell ws b → length a ≡ length b
+pub same_count : (ws : List (List ℕ)) (a b : List ℕ) → AllZip NamesCell ws a → AllZip NamesCell ws b
+    → length a ≡ length b
 same_count ws a b x y = sym (zip_length ws a x) ∙ zip_length ws b y
 
 -- one more number after the front

@@ -77,7 +77,8 @@ next_at text from start len order h begins same ends =
     let taken : length (take len (drop start text)) ≡ len = length-take-le len (drop start text) (omega arith) in
     let width : (start + len) - start ≡ len = omega arith in
     let rest : drop len (drop start text) ≡ drop (start + len) text = drop-drop len start text in
-    let first : words_of_text (drop start text) ≡ take len (drop start text) ∷ words_of_text (drop len (drop start text)) =
+    let first : words_of_text (drop start text) ≡ take len (drop start text)
+    ∷ words_of_text (drop len (drop start text)) =
     words_at (drop start text) len ends (omega arith) in
     record {
       order = order;

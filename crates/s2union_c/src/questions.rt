@@ -90,7 +90,8 @@ pub extern "C" fn s2u_contains(xs: &[u64], ys: &[u64]) -> i32
 /// Whether two unions share a leaf.
 #[unsafe(no_mangle)]
 pub extern "C" fn s2u_intersects(xs: &[u64], ys: &[u64]) -> i32
-    ensures exact { IsLocal xs.now → IsLocal ys.now → IsAnswerTo result (ShareSome (has_leaf xs.now) (has_leaf ys.now)) }
+    ensures exact { IsLocal xs.now → IsLocal ys.now → IsAnswerTo result
+        (ShareSome (has_leaf xs.now) (has_leaf ys.now)) }
     ensures answer { IsAnswer result }
 {
     let (first, second) = (IdList { ids: xs }, IdList { ids: ys });

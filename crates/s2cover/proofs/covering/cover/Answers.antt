@@ -17,7 +17,8 @@ visit-requires-clause-above g c = let l = c.face-top.ensures.level in omega arit
 pub returns-in-Err-clause-many : goal.returns-in-Err-clause-many
 returns-in-Err-clause-many g c e u n =
     let S = blocks (is_outer c.args.kind) (g.R.Region.holds c.args.region.now) (30 - c.args.level) in
-    found_many (is_outer c.args.kind) (g.R.Region.holds c.args.region.now) c.args.level (c.loop-face.face + 1) u c.args.max
+    found_many (is_outer c.args.kind) (g.R.Region.holds c.args.region.now) c.args.level (c.loop-face.face + 1) u
+    c.args.max
     (let t = c.loop-face-test.true in omega arith)
     (found_stops S (30 - c.args.level) c.loop-face.face c.face-top.result.cell c.loop-face.list.items
     (vec_len c.loop-face.list) c.args.max

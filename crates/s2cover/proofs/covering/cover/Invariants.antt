@@ -4,5 +4,6 @@ use Rattle.s2cover.proofs.Formed.{Found}
 use Rattle.s2cover.proofs.covering.cover.Given as goal
 
 abbrev pub invariant-loop-face : goal.invariant-loop-face
-invariant-loop-face g l = Found (blocks (is_outer l.kind) (g.R.Region.holds l.region) (30 - l.level)) (30 - l.level) l.face
+invariant-loop-face g l = Found (blocks (is_outer l.kind) (g.R.Region.holds l.region) (30 - l.level)) (30 - l.level)
+    l.face
     l.list.items (vec_len l.list) l.max

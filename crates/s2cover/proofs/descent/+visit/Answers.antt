@@ -135,21 +135,24 @@ returns-in-Out-clause-many g t c =
 
 pub returns-in-In-clause-list : goal.returns-in-In-clause-list
 returns-in-In-clause-list g t c =
-    let n = in_whole (is_outer c.args.kind) (g.R.Region.holds c.args.region.now) (30 - c.args.level) c.args.placed.now.cell
+    let n = in_whole (is_outer c.args.kind) (g.R.Region.holds c.args.region.now) (30 - c.args.level)
+    c.args.placed.now.cell
     (let k = c.requires.above in omega arith) (c.in-In.ensures.inside.0 refl) in
     one_more c.take.result c.args.list.now.items c.take.new.list.items _ c.args.placed.now.cell
     (n.cells ∙ ap (λ z. z ∷ []) (id_of c.args.placed.now.cell c.requires.placed.cell)) c.take.ensures.list
 
 pub returns-in-In-clause-full : goal.returns-in-In-clause-full
 returns-in-In-clause-full g t c =
-    let n = in_whole (is_outer c.args.kind) (g.R.Region.holds c.args.region.now) (30 - c.args.level) c.args.placed.now.cell
+    let n = in_whole (is_outer c.args.kind) (g.R.Region.holds c.args.region.now) (30 - c.args.level)
+    c.args.placed.now.cell
     (let k = c.requires.above in omega arith) (c.in-In.ensures.inside.0 refl) in
     is_full c.take.result _ true _ n.holds c.take.ensures.list
 
 pub returns-then-whole-clause-list : goal.returns-then-whole-clause-list
 returns-then-whole-clause-list g t c =
     let n = cross_whole (is_outer c.args.kind) (g.R.Region.holds c.args.region.now) (30 - c.args.level)
-    c.args.placed.now.cell (sym c.has_crossing-whole.ensures ∙ c.if-whole.true) (let e = c.if-level.true in let v = c.level.ensures.value in
+    c.args.placed.now.cell (sym c.has_crossing-whole.ensures ∙ c.if-whole.true)
+    (let e = c.if-level.true in let v = c.level.ensures.value in
     omega arith) (λ h. let e = c.in-Cross.ensures.out.1 h in cc) in
     one_more c.take-then-whole.result c.args.list.now.items c.take-then-whole.new.list.items _
     c.args.placed.now.cell (n.cells ∙ ap (λ z. z ∷ []) (id_of c.args.placed.now.cell c.requires.placed.cell))
@@ -158,28 +161,32 @@ returns-then-whole-clause-list g t c =
 pub returns-then-whole-clause-full : goal.returns-then-whole-clause-full
 returns-then-whole-clause-full g t c =
     let n = cross_whole (is_outer c.args.kind) (g.R.Region.holds c.args.region.now) (30 - c.args.level)
-    c.args.placed.now.cell (sym c.has_crossing-whole.ensures ∙ c.if-whole.true) (let e = c.if-level.true in let v = c.level.ensures.value in
+    c.args.placed.now.cell (sym c.has_crossing-whole.ensures ∙ c.if-whole.true)
+    (let e = c.if-level.true in let v = c.level.ensures.value in
     omega arith) (λ h. let e = c.in-Cross.ensures.out.1 h in cc) in
     is_full c.take-then-whole.result _ true _ n.holds c.take-then-whole.ensures.list
 
 pub returns-else-whole-clause-list : goal.returns-else-whole-clause-list
 returns-else-whole-clause-list g t c =
     let n = cross_nothing (is_outer c.args.kind) (g.R.Region.holds c.args.region.now) (30 - c.args.level)
-    c.args.placed.now.cell (sym c.has_crossing-whole.ensures ∙ c.if-whole.false) (let e = c.if-level.true in let v = c.level.ensures.value in
+    c.args.placed.now.cell (sym c.has_crossing-whole.ensures ∙ c.if-whole.false)
+    (let e = c.if-level.true in let v = c.level.ensures.value in
     omega arith) (λ h. let e = c.in-Cross.ensures.inside.1 h in cc) in
     same_list c.settle-else-whole.result _ c.args.list.now.items _ n.cells c.settle-else-whole.ensures.ok
 
 pub returns-else-whole-clause-full : goal.returns-else-whole-clause-full
 returns-else-whole-clause-full g t c =
     let n = cross_nothing (is_outer c.args.kind) (g.R.Region.holds c.args.region.now) (30 - c.args.level)
-    c.args.placed.now.cell (sym c.has_crossing-whole.ensures ∙ c.if-whole.false) (let e = c.if-level.true in let v = c.level.ensures.value in
+    c.args.placed.now.cell (sym c.has_crossing-whole.ensures ∙ c.if-whole.false)
+    (let e = c.if-level.true in let v = c.level.ensures.value in
     omega arith) (λ h. let e = c.in-Cross.ensures.inside.1 h in cc) in
     is_full c.settle-else-whole.result _ false _ n.holds c.settle-else-whole.ensures.ok
 
 pub returns-else-whole-clause-many : goal.returns-else-whole-clause-many
 returns-else-whole-clause-many g t c =
     let n = cross_nothing (is_outer c.args.kind) (g.R.Region.holds c.args.region.now) (30 - c.args.level)
-    c.args.placed.now.cell (sym c.has_crossing-whole.ensures ∙ c.if-whole.false) (let e = c.if-level.true in let v = c.level.ensures.value in
+    c.args.placed.now.cell (sym c.has_crossing-whole.ensures ∙ c.if-whole.false)
+    (let e = c.if-level.true in let v = c.level.ensures.value in
     omega arith) (λ h. let e = c.in-Cross.ensures.inside.1 h in cc) in
     too_many c.settle-else-whole.result _ _ c.args.max (vec_len c.args.list.now) _ n.holds
     c.settle-else-whole.ensures.many
