@@ -330,7 +330,8 @@ fn is_cut(
     }
     let union = of(alloc, tokens)?;
     let list: Vec<CellId> = union.denormalized(min, modulus).collect(alloc)?;
-    Ok(is(&list, want))
+    let at_once = union.denormalized_list(alloc, min, modulus)?;
+    Ok(is(&list, want) && is(&at_once, want))
 }
 
 #[test]

@@ -56,8 +56,9 @@ pub extern "C" fn s2c_token(id: u64, text: &mut [u8]) -> usize
     requires room { 16 ≤ length text.old }
     ensures { take result text.new ≡ token_of id }
 {
-    let token = cell(id).token();
-    put_text(token.as_slice(), text)
+    let cell = cell(id);
+    cell.write_digits(&mut text[..16]);
+    cell.token_len()
 }
 
 /// The cell that a token stands for: answers whether there is one, and writes its identifier to `id`.

@@ -86,18 +86,11 @@ pub extern "C" fn s2c_denormalised(
         return false;
     };
     for _ in 1..times {
-        if union
-            .denormalized(min, modulus)
-            .collect::<Vec<CellId>>(alloc)
-            .is_err()
-        {
+        if union.denormalized_list(alloc, min, modulus).is_err() {
             return false;
         }
     }
-    match union
-        .denormalized(min, modulus)
-        .collect::<Vec<CellId>>(alloc)
-    {
+    match union.denormalized_list(alloc, min, modulus) {
         Ok(cells) => put_cells(cells.as_slice(), out, len),
         Err(_) => false,
     }

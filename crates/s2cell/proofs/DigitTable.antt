@@ -1,9 +1,9 @@
 -- The tables of digits, entry by entry.
-use Rattle.std.proofs.Common.{◌≡◌, ℕ, suc, zero, ◌+◌, ◌<◌, Bool, true, ◌&&◌, ◌==◌, List, [], ◌∷◌, length}
+use Rattle.std.proofs.Common.{◌≡◌, ℕ, suc, zero, ◌+◌, ◌-◌, ◌*◌, ◌/◌, ◌%◌, ◌^◌, ◌<◌, Bool, true, ◌&&◌, ◌==◌, List, [], ◌∷◌, length}
 use Rattle.std.proofs.Common.{get_or, refl, sym, ◌∙◌, ap, arith, eqb-true}
 use Rattle.std.proofs.lemmas.Bool.{and_parts}
 use Rattle.std.specs.Char.{digit_char, digit_value}
-use Rattle.s2cell.specs.declared.digits.TheConstants.{DIGIT_VALUES, HEX_DIGITS}
+use Rattle.s2cell.specs.declared.digits.TheConstants.{DIGIT_VALUES, HEX_PAIRS}
 
 -- each entry, the first being that of the number `i`, is what the function gives for its number
 abbrev entries_from : (ℕ → ℕ) → ℕ → List ℕ → Bool
@@ -31,8 +31,28 @@ values_ok = refl
 pub value_in_table : (c : ℕ) → c < 256 → get_or DIGIT_VALUES c 0 ≡ digit_value c
 value_in_table c h = entry_in digit_value DIGIT_VALUES values_ok c h
 
-digits_ok : entries_from digit_char 0 HEX_DIGITS ≡ true
-digits_ok = refl
+-- the digit at place `i` of the texts of all bytes
+pair_digit : ℕ → ℕ
+pair_digit i = digit_char (i / 2 / 16 ^ (1 - i % 2) % 16)
 
-pub digit_in_table : (v : ℕ) → v < 16 → get_or HEX_DIGITS v 0 ≡ digit_char v
-digit_in_table v h = entry_in digit_char HEX_DIGITS digits_ok v h
+pairs_ok : entries_from pair_digit 0 HEX_PAIRS ≡ true
+unfolding pair_digit
+pairs_ok = refl
+
+pub high_in_table : (b : ℕ) → b < 256 → get_or HEX_PAIRS (2 * b) 0 ≡ digit_char (b / 16)
+unfolding pair_digit
+high_in_table b h =
+    let half : 2 * b / 2 ≡ b = omega arith in
+    let even : 2 * b % 2 ≡ 0 = omega arith in
+    let below : b / 16 % 16 ≡ b / 16 = omega arith in
+    entry_in pair_digit HEX_PAIRS pairs_ok (2 * b) (omega arith)
+    ∙ rw (half, even) (ap digit_char below)
+
+pub low_in_table : (b : ℕ) → b < 256 → get_or HEX_PAIRS (2 * b + 1) 0 ≡ digit_char (b % 16)
+unfolding pair_digit
+low_in_table b h =
+    let half : (2 * b + 1) / 2 ≡ b = omega arith in
+    let odd : (2 * b + 1) % 2 ≡ 1 = omega arith in
+    let one : b / 1 % 16 ≡ b % 16 = omega arith in
+    entry_in pair_digit HEX_PAIRS pairs_ok (2 * b + 1) (omega arith)
+    ∙ rw (half, odd) (ap digit_char one)

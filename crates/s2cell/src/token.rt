@@ -5,7 +5,7 @@ ghost use Rattle.s2cell.specs.Text.{in_digits};
 ghost use Rattle.s2cell.specs.Token.{IsReading, IsToken, token_of};
 
 use crate::CellId;
-use crate::digits::{hex_digit, value_of_digit};
+use crate::digits::{hex_pair, value_of_digit};
 use arrayvec::ArrayVec;
 
 /// How many hexadecimal digits an identifier has.
@@ -62,8 +62,10 @@ impl CellId {
         ensures digits { digits.new ≡ in_digits 16 16 self }
         ensures token { take (length (token_of self)) digits.new ≡ token_of self }
     {
-        for k in 0..16u32 {
-            digits[k as usize] = hex_digit(((self.id >> (60 - 4 * k)) & 15) as u8);
+        for k in 0..8usize {
+            let (high, low) = hex_pair(((self.id >> (56 - 8 * k)) & 255) as u8);
+            digits[2 * k] = high;
+            digits[2 * k + 1] = low;
         }
     }
 }

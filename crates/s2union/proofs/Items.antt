@@ -1,18 +1,16 @@
 -- The items of a denormalised union, one after the other.
-use Rattle.std.proofs.Common.{zero, ◌≡◌, ℕ, suc, ◌+◌, ◌-◌, ◌*◌, ◌%◌, ◌^◌, ◌<◌, ◌≤◌, refl, sym}
+use Rattle.std.proofs.Common.{zero, ◌≡◌, ℕ, suc, ◌+◌, ◌-◌, ◌^◌, ◌<◌, ◌≤◌, refl, sym}
 use Rattle.std.proofs.Common.{◌∙◌, ap, arith, subst, List, [], ◌∷◌, ◌++◌, length, get_or, drop, take, All, lit<}
 use Rattle.std.proofs.Common.{append_assoc, add-one, Bool, true, false}
 use Rattle.std.specs.Bool.{◌==◌}
 use Rattle.std.proofs.lemmas.Bool.Decides.{nat_tests}
 use Rattle.std.proofs.Math.Seq.{drop-cons, drop-append_seam}
-use Rattle.std.proofs.lemmas.List.{get_or_append_left, length-append, take_more, append-nil, take_all}
+use Rattle.std.proofs.lemmas.List.{get_or_append_left, length-append, take_more, append-nil, take_all, drop_all}
 use Rattle.std.proofs.lemmas.List.Elements.{All-tail}
 use Rattle.std.proofs.lemmas.Option.{gets}
 use Rattle.std.proofs.Math.Nat.{pow-le-pow_right}
-use Rattle.std.proofs.lemmas.Nat.{one_shl}
 use Rattle.s2cell.specs.Cell.{IsCell, level_of, first_leaf, size_of}
 use Rattle.s2cell.specs.Descendant.{descendant_of}
-use Rattle.s2cell.proofs.Lowest.{four_pow}
 use Rattle.s2cell.proofs.CellLemmas.{cell_leaves, four_pos}
 use Rattle.s2cell.proofs.Calls.{size_at}
 use Rattle.s2union.specs.Union.{IsLocal}
@@ -109,15 +107,12 @@ some_from_test n r e t = grind (arith, nat_tests)
 -- where an iterator is at first
 pub underway : (cells : List ℕ) (least modulus own level count c : ℕ) → least ≤ 30 → 0 < modulus → modulus ≤ 3 →
     0 < length cells → c ≡ get_or cells 0 c
-    → own ≡ level_of c → level ≡ cut_level own least modulus → count ≡ 1 * 2 ^ (2 * (level - own)) % 2 ^ 64 →
+    → own ≡ level_of c → level ≡ cut_level own least modulus → count ≡ 4 ^ (level - own) →
     IsUnderway cells least modulus level 0 count
 underway [] least modulus own level count c a b d some e o f g = absurd (omega arith)
 underway (x ∷ u) least modulus own level count c a b d some e o f0 g0 =
     let f : level ≡ cut_level (level_of c) least modulus = rw (← o) f0 in
-    let g : count ≡ 1 * 2 ^ (2 * (level - level_of c)) % 2 ^ 64 = rw (← o) g0 in
-    let m = cut_level_most (level_of c) least modulus in
-    let n : count ≡ 4 ^ (level - level_of c) = g ∙ one_shl (2 * (level - level_of c)) 64 (omega arith)
-    ∙ sym (four_pow (level - level_of c)) in
+    let n : count ≡ 4 ^ (level - level_of c) = rw (← o) g0 in
     let pos : 0 < 4 ^ (level - level_of c) = four_pos (level - level_of c) in
     record {
       least_fits = a;
@@ -186,18 +181,16 @@ totalling_start cells least modulus = record {
 pub totalling_more : (cells : List ℕ) (least modulus i total own_level level count c : ℕ) → IsLocal cells →
     Totalling cells least modulus i total → i < length cells → c ≡ get_or cells i c → 0 < modulus
     → own_level ≡ level_of c → level ≡ cut_level own_level least modulus →
-    count ≡ 1 * 2 ^ (2 * (level - own_level)) % 2 ^ 64 → Totalling cells least modulus (i + 1) (total + count)
+    count ≡ 4 ^ (level - own_level) → Totalling cells least modulus (i + 1) (total + count)
 totalling_more cells least modulus i total own_level level count c local w h e some o t0 n0 =
     let t : level ≡ cut_level (level_of c) least modulus = rw (← o) t0 in
-    let n : count ≡ 1 * 2 ^ (2 * (level - level_of c)) % 2 ^ 64 = rw (← o) n0 in
+    let four : count ≡ 4 ^ (level - level_of c) = rw (← o) n0 in
     let packed = packed_from_local cells local in
     let same : get_or cells i 0 ≡ c = read_at cells i i c h refl e in
     let cc : IsCell c = subst IsCell same (local.cells i 0 h) in
     let deep = level_most c in
     let own = cut_level_own (level_of c) least modulus deep some in
     let most = cut_level_most (level_of c) least modulus in
-    let four : count ≡ 4 ^ (level - level_of c) = n ∙ one_shl (2 * (level - level_of c)) 64 (omega arith)
-    ∙ sym (four_pow (level - level_of c)) in
     let size : size_of c ≡ 4 ^ (30 - level_of c) = size_at c cc in
     let fits : 4 ^ (level - level_of c) ≤ 4 ^ (30 - level_of c) =
     pow-le-pow_right {n = 4} (lit< tt) {i = level - level_of c} {j = 30 - level_of c} (omega arith) in
@@ -238,7 +231,7 @@ totalling_at cells least modulus (suc i) local some h =
     let w = totalling_at cells least modulus i local some (omega arith) in
     let c = get_or cells i 0 in
     let level = cut_level (level_of c) least modulus in
-    let count = 1 * 2 ^ (2 * (level - level_of c)) % 2 ^ 64 in
+    let count = 4 ^ (level - level_of c) in
     let e : i + 1 ≡ suc i = omega arith in (
       w.0 + count,
       subst (λ x. Totalling cells least modulus x (w.0 + count)) e
@@ -254,3 +247,41 @@ length-denormalised-le least modulus cells local some =
     let most = w.1.most in
     let e = totalling_done cells least modulus (length cells) w.0 w.1 (omega arith) in
     omega arith
+
+-- the list of the items, taken from the cells one by one: what is written, and what the cells that are left give
+pub record Listing (cells : List ℕ) (least modulus i : ℕ) (list : List ℕ) : Type 0 where
+  pub rest : list ++ denormalised least modulus (drop i cells) ≡ denormalised least modulus cells
+
+pub listing_start : (cells : List ℕ) (least modulus : ℕ) → Listing cells least modulus 0 []
+listing_start cells least modulus = record { rest = refl }
+
+-- the next cell gives its items, which fit the room for all
+pub listing_more : (cells : List ℕ) (least modulus i own level c : ℕ) (list : List ℕ) →
+    Listing cells least modulus i list → i < length cells → c ≡ get_or cells i c
+    → own ≡ level_of c → level ≡ cut_level own least modulus →
+    Listing cells least modulus (i + 1) (list ++ cells_in level c)
+    × (length list + 4 ^ (level - level_of c) ≤ length (denormalised least modulus cells))
+listing_more cells least modulus i own level c list w h e o t0 =
+    let t : level ≡ cut_level (level_of c) least modulus = rw (← o) t0 in
+    let same : get_or cells i 0 ≡ c = read_at cells i i c h refl e in
+    let d : drop i cells ≡ c ∷ drop (i + 1) cells =
+    rw add-one (drop-cons cells i 0 h ∙ ap (λ x. x ∷ drop (suc i) cells) same) in
+    let next : denormalised least modulus (drop i cells) ≡ cells_in level c
+    ++ denormalised least modulus (drop (i + 1) cells) =
+    rw t (ap (denormalised least modulus) d ∙ denormalised-cons least modulus c (drop (i + 1) cells)) in
+    let all : (list ++ cells_in level c) ++ denormalised least modulus (drop (i + 1) cells)
+    ≡ denormalised least modulus cells =
+    append_assoc list (cells_in level c) (denormalised least modulus (drop (i + 1) cells))
+    ∙ ap (λ x. list ++ x) (sym next) ∙ w.rest in
+    let many = sym (ap length all) in
+    let both = length-append (list ++ cells_in level c) (denormalised least modulus (drop (i + 1) cells)) in
+    let own_part = length-append list (cells_in level c) in
+    let part = length-cells_in level c in
+    (record { rest = all }, omega arith)
+
+pub listing_done : (cells : List ℕ) (least modulus i : ℕ) (list : List ℕ) → Listing cells least modulus i list →
+    length cells ≤ i → list ≡ denormalised least modulus cells
+listing_done cells least modulus i list w h =
+    let none : denormalised least modulus (drop i cells) ≡ [] =
+    ap (denormalised least modulus) (drop_all i cells h) ∙ denormalised-nil least modulus in
+    sym (append-nil list) ∙ ap (λ x. list ++ x) (sym none) ∙ w.rest

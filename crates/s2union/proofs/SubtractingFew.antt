@@ -16,7 +16,7 @@ use Rattle.s2union.proofs.Picking.{Picked}
 use Rattle.s2union.proofs.Subtracting.{minus, Subtracting}
 use Rattle.s2union.proofs.Walking.{leaf_at, leaf_there, not_true}
 
-same_truth : (a b : Bool) → (a ≡ true → b ≡ true) → (b ≡ true → a ≡ true) → a ≡ b
+pub same_truth : (a b : Bool) → (a ≡ true → b ≡ true) → (b ≡ true → a ≡ true) → a ≡ b
 same_truth true b f g = sym (f refl)
 same_truth false true f g = g refl
 same_truth false false f g = refl
@@ -59,7 +59,7 @@ has_leaf-take u n lo x packed w behind next =
     absurd (omega arith))))
     (cases_lt x lo)
 
-and_group : (a b c : Bool) → ((a && b) && c) ≡ (a && (b && c))
+pub and_group : (a b c : Bool) → ((a && b) && c) ≡ (a && (b && c))
 and_group true b c = refl
 and_group false b c = refl
 

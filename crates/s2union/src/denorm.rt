@@ -1,11 +1,14 @@
 //! Unions cut to the levels that a caller wants.
 
-ghost use Rattle.std.specs.Prelude.{◌*◌, ◌≡◌, ◌≤◌, ◌<◌, length};
+ghost use Rattle.std.specs.Prelude.{◌*◌, ◌+◌, ◌++◌, ◌-◌, ◌^◌, ◌≡◌, ◌≤◌, ◌<◌, IfOk, length};
+ghost use Rattle.std.specs.Vec.{vec_len, vec_capacity};
+ghost use Rattle.s2cell.specs.Cell.{level_of};
 ghost use Rattle.s2union.specs.Union.{IsLocal};
-ghost use Rattle.s2union.specs.Denorm.{denormalised, IsDenormalised, IsCutLevel, cut_level};
+ghost use Rattle.s2union.specs.Denorm.{denormalised, IsDenormalised, IsCutLevel, cells_in, cut_level};
 
 use crate::union::CellUnion;
 use s2cell::{CellId, GREATEST_LEVEL, LEAVES};
+use std::alloc::{AllocError, Global};
 use std::marker::Model;
 
 /// The cells of a union, each cut to the level that is wanted: an iterator that borrows the union, holds a few numbers
@@ -45,7 +48,7 @@ impl<'a> Denorm<'a> {
         if !cells.is_empty() {
             let own = cells[0].level();
             level = level_to_cut(own, min, modulus);
-            count = 1 << (2 * (level - own) as u32);
+            count = count_descendants(own, level);
         }
         Denorm {
             cells,
@@ -95,6 +98,15 @@ fn level_to_cut(level: u8, min: u8, modulus: u8) -> u8
     (min + steps * modulus).min(GREATEST_LEVEL)
 }
 
+/// How many cells of a level a cell of another level has: 4 for each level between them.
+fn count_descendants(own: u8, level: u8) -> u64
+    requires own { own ≤ level }
+    requires level { level ≤ GREATEST_LEVEL }
+    ensures { result ≡ 4 ^ (level - own) }
+{
+    1 << (2 * (level - own) as u32)
+}
+
 impl CellUnion {
     /// The cells, each cut into cells of the least level that is at least its own, is at least `min`, and differs from
     /// `min` by a multiple of `modulus`; into its leaves if there is no such level. The items ascend, and have the
@@ -109,6 +121,23 @@ impl CellUnion {
         ensures most { length result ≤ LEAVES }
     {
         Denorm::over(self.cells(), min, modulus)
+    }
+
+    /// The cells that `denormalized` gives, as a list: quicker than the iterator if most cells are cut. Takes memory for
+    /// just as many cells, and fails only if it is out of memory.
+    pub fn denormalized_list(
+        &self,
+        alloc: Global,
+        min: u8,
+        modulus: u8,
+    ) -> Result<Vec<CellId>, AllocError>
+        requires min { min ≤ GREATEST_LEVEL }
+        requires some { 0 < modulus }
+        requires modulus { modulus ≤ 3 }
+        ensures items { IfOk result (λ list. list.items ≡ denormalised min modulus self.now.cells) }
+        ensures meaning { IfOk result (λ list. IsDenormalised min modulus self.now.cells list.items) }
+    {
+        list_items(alloc, self.cells(), min, modulus)
     }
 
     /// How many cells `denormalized` gives, computed without going through them, under the same conditions.
@@ -134,7 +163,43 @@ fn count_items(cells: &[CellId], min: u8, modulus: u8) -> u64
     for cell in cells {
         let own = cell.level();
         let level = level_to_cut(own, min, modulus);
-        total += 1u64 << (2 * (level - own) as u32);
+        total += count_descendants(own, level);
     }
     total
+}
+
+/// The cells that the cells of a local list are cut into.
+fn list_items(
+    alloc: Global,
+    cells: &[CellId],
+    min: u8,
+    modulus: u8,
+) -> Result<Vec<CellId>, AllocError>
+    requires local { IsLocal cells.now }
+    requires min { min ≤ GREATEST_LEVEL }
+    requires some { 0 < modulus }
+    requires modulus { modulus ≤ 3 }
+    ensures items { IfOk result (λ list. list.items ≡ denormalised min modulus cells.now) }
+    ensures meaning { IfOk result (λ list. IsDenormalised min modulus cells.now list.items) }
+{
+    let mut list = Vec::with_capacity(alloc, count_items(cells, min, modulus) as usize)?;
+    for cell in cells {
+        let level = level_to_cut(cell.level(), min, modulus);
+        push_descendants(&mut list, *cell, level);
+    }
+    Ok(list)
+}
+
+/// Appends the cells of a level inside a cell to a list that has room for them.
+fn push_descendants(list: &mut Vec<CellId>, cell: CellId, level: u8)
+    requires own { level_of cell ≤ level }
+    requires deepest { level ≤ GREATEST_LEVEL }
+    requires room { vec_len list.old + 4 ^ (level - level_of cell) ≤ vec_capacity list.old }
+    ensures items { list.new.items ≡ list.old.items ++ cells_in level cell }
+    ensures room { vec_capacity list.new ≡ vec_capacity list.old }
+{
+    let count = count_descendants(cell.level(), level);
+    for number in 0..count {
+        list.push_reserved(cell.descendant(level, number));
+    }
 }

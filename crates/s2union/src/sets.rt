@@ -15,6 +15,7 @@ use crate::gallop::gallop;
 use crate::merging::add_reserved;
 use crate::runs::{add_run, extend, extend_up_to};
 use crate::search::find_from;
+use crate::share_few::share_few;
 use crate::subtract_few::subtract_few;
 use crate::union::CellUnion;
 use s2cell::{CellId, LEAVES};
@@ -168,9 +169,26 @@ fn join_few(list: &mut Vec<CellId>, xs: &[CellId], ys: &[CellId])
     add_run(list, &xs[done..]);
 }
 
-/// Puts the leaves that `xs` and `ys` share into an empty list. Copies the cells of one list that lie in a cell of the
-/// other as one run, and passes over those before the next cell of the other by a search.
+/// Puts the leaves that `xs` and `ys` share into an empty list.
 fn share(list: &mut Vec<CellId>, xs: &[CellId], ys: &[CellId]) -> Result<(), AllocError>
+    requires empty { list.old.items ≡ [] }
+    requires x_local { IsLocal xs.now }
+    requires y_local { IsLocal ys.now }
+    ensures local { OnOk result (IsLocal list.new.items) }
+    ensures leaves { OnOk result ((x : ℕ) → has_leaf list.new.items x ≡ (has_leaf xs.now x && has_leaf ys.now x)) }
+{
+    if xs.len() <= ys.len() / MUCH_LONGER {
+        share_few(list, xs, ys)
+    } else if ys.len() <= xs.len() / MUCH_LONGER {
+        share_few(list, ys, xs)
+    } else {
+        share_evenly(list, xs, ys)
+    }
+}
+
+/// The same, by a walk along both lists. Copies the cells of one list that lie in a cell of the other as one run, and
+/// passes over those before the next cell of the other by a search.
+fn share_evenly(list: &mut Vec<CellId>, xs: &[CellId], ys: &[CellId]) -> Result<(), AllocError>
     requires empty { list.old.items ≡ [] }
     requires x_local { IsLocal xs.now }
     requires y_local { IsLocal ys.now }

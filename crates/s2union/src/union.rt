@@ -24,7 +24,7 @@ use std::marker::Model;
 ///   `cells_at` (overlap.rt), `cursor` (cursor.rt)
 /// - set operations: `union`, `intersection`, `difference`, `difference_up_to` (sets.rt)
 /// - changes: `can_apply`, `apply_into`, `copy_from` (apply.rt)
-/// - cut to levels: `denormalized`, `denormalized_len` (denorm.rt)
+/// - cut to levels: `denormalized`, `denormalized_list`, `denormalized_len` (denorm.rt)
 #[derive(Drop)]
 pub struct CellUnion {
     pub(crate) cells: Vec<CellId>,

@@ -162,10 +162,7 @@ fn put_denormalised(
         *len = need as usize;
         return NO_ROOM;
     }
-    match union
-        .denormalized(min, modulus)
-        .collect::<Vec<CellId>>(alloc)
-    {
+    match union.denormalized_list(alloc, min, modulus) {
         Ok(cells) => put_cells(cells.as_slice(), out, len),
         Err(_) => NO_MEMORY,
     }

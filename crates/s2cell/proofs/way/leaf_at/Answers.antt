@@ -1,5 +1,5 @@
 use Rattle.std.proofs.Common.{arith, ◌+◌, ◌*◌, ◌/◌, ◌∙◌, ap}
-use Rattle.s2cell.proofs.Walk.{DownToLeaf, to_leaf_begin, to_leaf_ten, to_leaf_small, to_leaf_end, fives_small}
+use Rattle.s2cell.proofs.Walk.{to_leaf_begin, to_leaf_ten, to_leaf_small, to_leaf_end, fives_small}
 use Rattle.s2cell.specs.Entries.{fives}
 use Rattle.s2cell.proofs.way.leaf_at.Goals as goal
 

@@ -1,4 +1,4 @@
-use Rattle.std.proofs.Common.{refl}
+use Rattle.std.proofs.Common.{arith}
 use Rattle.s2union.proofs.Items.{totalling_start, totalling_more}
 use Rattle.s2union.proofs.denorm.count_items.Goals as goal
 
@@ -8,6 +8,15 @@ loop-cell-init c = totalling_start c.args.cells.now c.args.min c.args.modulus
 pub loop-cell-preserved : goal.loop-cell-preserved
 loop-cell-preserved c =
     totalling_more c.args.cells.now c.args.min c.args.modulus c.loop-cell.cell-index c.loop-cell.total
-    c.level-own.result c.level_to_cut-level.result _ c.cell-item.result
+    c.level-own.result c.level_to_cut-level.result c.count_descendants-total.result c.cell-item.result
     c.requires.local c.loop-cell.invariant c.loop-cell-test.true c.cell-item.is c.requires.some
-    c.level-own.ensures.value c.level_to_cut-level.ensures.value refl
+    c.level-own.ensures.value c.level_to_cut-level.ensures.value c.count_descendants-total.ensures
+
+pub overflow_add-total : goal.overflow_add-total
+overflow_add-total c =
+    let more = totalling_more c.args.cells.now c.args.min c.args.modulus c.loop-cell.cell-index c.loop-cell.total
+    c.level-own.result c.level_to_cut-level.result c.count_descendants-total.result c.cell-item.result
+    c.requires.local c.loop-cell.invariant c.loop-cell-test.true c.cell-item.is c.requires.some
+    c.level-own.ensures.value c.level_to_cut-level.ensures.value c.count_descendants-total.ensures in
+    let most = more.most in
+    omega arith

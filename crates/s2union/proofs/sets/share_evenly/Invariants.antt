@@ -1,6 +1,6 @@
 use Rattle.std.proofs.Common.{◌≤◌, ◌+◌, ◌-◌, length}
 use Rattle.s2union.proofs.Shared.{Sharing, both}
-use Rattle.s2union.proofs.sets.share.Given as goal
+use Rattle.s2union.proofs.sets.share_evenly.Given as goal
 
 abbrev pub invariant-loop-i : goal.invariant-loop-i
 invariant-loop-i l = record {

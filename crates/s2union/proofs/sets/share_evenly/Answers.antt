@@ -4,7 +4,7 @@ use Rattle.s2union.proofs.Checking.{packed_from_local}
 use Rattle.s2union.proofs.Picking.{picked_local}
 use Rattle.s2union.proofs.Shared.{both, ended_in, ended_up_to, held_else, share_x, share_y, skip_x, skip_y}
 use Rattle.s2union.proofs.Shared.{sharing_done, sharing_swap}
-use Rattle.s2union.proofs.sets.share.Goals as goal
+use Rattle.s2union.proofs.sets.share_evenly.Goals as goal
 
 pub find_from-i-requires-clause-packed : goal.find_from-i-requires-clause-packed
 find_from-i-requires-clause-packed c = packed_from_local c.args.xs.now c.requires.x_local

@@ -1,0 +1,180 @@
+-- The leaves that a short list of cells shares with a much longer one.
+use Rattle.std.proofs.Common.{◌≡◌, ℕ, [], ◌∷◌, ◌++◌, ◌+◌, ◌-◌, ◌<◌, ◌≤◌, refl, sym, ◌∙◌, ap, arith}
+use Rattle.std.proofs.Common.{true, ◌&&◌, ltb, List, length, take, drop, get_or, inl}
+use Rattle.std.proofs.Math.Logic.{⊎_elim}
+use Rattle.std.proofs.lemmas.Bool.{and_parts, cases_lt}
+use Rattle.std.proofs.lemmas.Bool.Decides.{nat_tests}
+use Rattle.std.proofs.lemmas.List.{append-nil, get_or-take, length-take-le, take_all}
+use Rattle.std.proofs.lemmas.Option.{gets}
+use Rattle.s2cell.specs.Cell.{IsCell, IsInside, size_of, first_leaf}
+use Rattle.s2cell.proofs.CellLemmas.{cell_leaves}
+use Rattle.s2cell.proofs.Leaves.{before, after, within, around, meeting, inside_from_within, within_from_inside}
+use Rattle.s2union.specs.Union.{has_leaf, IsLocal}
+use Rattle.s2union.specs.Packed.{IsPlace, Behind, EndsAfter}
+use Rattle.s2union.specs.Sets.{IsShared}
+use Rattle.s2union.proofs.Checking.{packed_from_local}
+use Rattle.s2union.proofs.Finding.{starts_later}
+use Rattle.s2union.proofs.Packing.{read_at}
+use Rattle.s2union.proofs.Picking.{Picked}
+use Rattle.s2union.proofs.Shared.{Sharing, both, share_y, sharing_push, sharing_skip}
+use Rattle.s2union.proofs.SubtractingFew.{and_group, has_leaf-take, same_truth}
+use Rattle.s2union.proofs.Walking.{leaf_at, leaf_there}
+
+-- before the first cell
+pub shared_none : (xs ys : List ℕ) → IsShared xs ys [] 0
+shared_none xs ys = record {
+  chain = λ i j d h l. absurd (omega arith);
+  greatest = λ k d h. absurd (omega arith);
+  leaves = λ x. refl;
+}
+
+pub shared_picked : (xs ys list : List ℕ) (n : ℕ) → IsShared xs ys list n → Picked (both xs ys) list
+shared_picked xs ys list n s = record { chain = s.chain; greatest = s.greatest }
+
+-- after the last cell
+pub shared_all : (xs ys list : List ℕ) (n : ℕ) → IsShared xs ys list n → length xs ≤ n → (x : ℕ) →
+    has_leaf list x ≡ both xs ys x
+shared_all xs ys list n s h x = s.leaves x ∙ ap (λ v. has_leaf v x && has_leaf ys x) (take_all n xs h)
+
+-- a walk along both lists begins at a cell of `xs`
+sharing_start : (xs ys list : List ℕ) (i at : ℕ) → IsLocal xs → i < length xs →
+    IsPlace ys (first_leaf (get_or xs i 0)) at → IsShared xs ys list i → Sharing (both xs ys) xs ys list i at
+sharing_start xs ys list i at local h place s =
+    let packed = packed_from_local xs local in
+    let lo = first_leaf (get_or xs i 0) in
+    let behind : Behind xs i lo = λ k l. packed.chain k i 0 l h in
+    record {
+      lo = lo;
+      same = λ x. refl;
+      walk = record {
+        behind_x = behind;
+        behind_y = place.behind;
+        leaves = λ x. s.leaves x
+            ∙ ap (λ v. v && has_leaf ys x)
+            (has_leaf-take xs i lo x packed (omega arith) behind (λ _. omega arith))
+            ∙ and_group (ltb x lo) (has_leaf xs x) (has_leaf ys x);
+      };
+      from = inl (λ _. omega arith);
+      picked = shared_picked xs ys list i s;
+    }
+
+-- and stops at another
+sharing_stop : (xs ys list : List ℕ) (n j end : ℕ) → IsLocal xs → IsLocal ys → Sharing (both xs ys) xs ys list n j →
+    n ≤ length xs → Behind ys j end → (n < length xs → end ≤ first_leaf (get_or xs n 0)) → IsShared xs ys list n
+sharing_stop xs ys list n j end lx ly s in_x behind next =
+    let px = packed_from_local xs lx in
+    let py = packed_from_local ys ly in
+    let lo = s.lo in
+    let len : length (take n xs) ≡ n = length-take-le n xs in_x in
+    record {
+      chain = s.picked.chain;
+      greatest = s.picked.greatest;
+      leaves = λ x. s.walk.leaves x ∙ same_truth (ltb x lo && both xs ys x) (has_leaf (take n xs) x && has_leaf ys x)
+          (λ t.
+          let a = and_parts (ltb x lo) (both xs ys x) t in
+          let b = and_parts (has_leaf xs x) (has_leaf ys x) a.1 in
+          let low : x < lo = (let l = a.0 in grind (arith, nat_tests)) in
+          let p = leaf_at xs x b.0 in
+          let q = leaf_at ys x b.1 in
+          let pb = p.below in
+          let pl = p.low in
+          let qb = q.below in
+          let ql = q.low in
+          let qh = q.high in
+          let e : has_leaf (take n xs) x ≡ true =
+          ⊎_elim
+          (λ (m : p.at < n).
+          let e : get_or xs p.at 0 ≡ get_or (take n xs) p.at 0 = sym (get_or-take n xs p.at 0 (omega arith)) in
+          leaf_there (take n xs) p.at x (omega arith) (rw e at p.low) (rw e at p.high))
+          (λ (m : n ≤ p.at).
+          let first = next (omega arith) in
+          let later = starts_later xs n p.at px m pb in
+          ⊎_elim
+          (λ (k : q.at < j). let z = behind q.at k in absurd (omega arith))
+          (λ (k : j ≤ q.at).
+          let y_later = starts_later ys j q.at py k qb in
+          ⊎_elim
+          (λ (f : n < length xs → lo ≤ first_leaf (get_or xs n 0)). let z = f (omega arith) in absurd (omega arith))
+          (λ (f : j < length ys → lo ≤ first_leaf (get_or ys j 0)). let z = f (omega arith) in absurd (omega arith))
+          s.from)
+          (cases_lt q.at j))
+          (cases_lt p.at n) in
+          let f = b.1 in
+          rw (e, f) refl)
+          (λ t.
+          let b = and_parts (has_leaf (take n xs) x) (has_leaf ys x) t in
+          let p = leaf_at (take n xs) x b.0 in
+          let pb = p.below in
+          let e : get_or (take n xs) p.at 0 ≡ get_or xs p.at 0 = get_or-take n xs p.at 0 (omega arith) in
+          let low : first_leaf (get_or xs p.at 0) ≤ x = rw e at p.low in
+          let high : x < first_leaf (get_or xs p.at 0) + size_of (get_or xs p.at 0) = rw e at p.high in
+          let z = s.walk.behind_x p.at (omega arith) in
+          let l : ltb x lo ≡ true = grind (arith, nat_tests) in
+          let h : has_leaf xs x ≡ true = leaf_there xs p.at x (omega arith) low high in
+          let f = b.1 in
+          rw (l, h, f) refl);
+    }
+
+-- a cell of `xs` lies in the next of `ys`
+pub shared_held : (xs ys list new : List ℕ) (i at x : ℕ) → IsLocal xs → IsLocal ys → IsShared xs ys list i →
+    i < length xs → at < length ys → x ≡ get_or xs i x → IsInside x (get_or ys at 0) →
+    IsPlace ys (first_leaf (get_or xs i 0)) at → new ≡ list ++ x ∷ [] → IsShared xs ys new (i + 1)
+shared_held xs ys list new i at x lx ly s h g rx inside place e =
+    let ex : get_or xs i 0 ≡ x = read_at xs i i x h refl rx in
+    let cx : IsCell x = rw ex at (lx.cells i 0 h) in
+    let start = sharing_start xs ys list i at lx h place s in
+    let push = sharing_push (both xs ys) xs ys list i at x lx ly start h g ex
+    (within_from_inside x (get_or ys at 0) cx inside) in
+    rw e (sharing_stop xs ys (list ++ x ∷ []) (i + 1) at (first_leaf (get_or xs i 0)) lx ly push (omega arith)
+    place.behind (λ k. starts_later xs i (i + 1) (packed_from_local xs lx) (omega arith) k))
+
+read_there : (u : List ℕ) (i : ℕ) → i < length u → get_or u i 0 ≡ get_or u i (get_or u i 0)
+read_there u i h = grind (arith, gets)
+
+-- the cells of `ys` up to a place lie in a cell of `xs`
+pub shared_run : (xs ys list new : List ℕ) (i at next x : ℕ) → IsLocal xs → IsLocal ys → IsShared xs ys list i →
+    i < length xs → x ≡ get_or xs i x → IsPlace ys (first_leaf (get_or xs i 0)) at →
+    (at < length ys → IsInside x (get_or ys at 0) → ⊥) → at ≤ next → next ≤ length ys →
+    Behind ys next (first_leaf x + size_of x) → EndsAfter ys next (first_leaf x + size_of x) →
+    new ≡ list ++ take (next - at) (drop at ys) → IsShared xs ys new (i + 1)
+shared_run xs ys list new i at next x lx ly s h rx place not_held le in_y behind after_it e =
+    let ex : get_or xs i 0 ≡ x = read_at xs i i x h refl rx in
+    let fx = ap first_leaf ex in
+    let sx = ap size_of ex in
+    let cx : IsCell x = rw ex at (lx.cells i 0 h) in
+    let packed = packed_from_local xs lx in
+    let start = sharing_start xs ys list i at lx h place s in
+    let ended : i + 1 < length xs → first_leaf x + size_of x ≤ first_leaf (get_or xs (i + 1) 0) =
+    (λ k. let c : first_leaf (get_or xs i 0) + size_of (get_or xs i 0) ≤ first_leaf (get_or xs (i + 1) 0) =
+    packed.chain i (i + 1) 0 (omega arith) k in omega arith) in
+    ⊎_elim
+    (λ (m : at < next).
+    let y = get_or ys at 0 in
+    let low = place.next (omega arith) in
+    let high = behind at m in
+    let inside : IsInside y x = elim (meeting x y cx (ly.cells at 0 (omega arith))) [
+      | before k ↦ (let sy = (cell_leaves y (ly.cells at 0 (omega arith))).some in absurd (omega arith))
+      | after k ↦ absurd (omega arith)
+      | within k ↦ absurd (not_held (omega arith) (inside_from_within x y k))
+      | around k ↦ inside_from_within y x k
+    ] in
+    sharing_stop xs ys new (i + 1) next (first_leaf x + size_of x) lx ly
+    (share_y (both xs ys) xs ys list new i at next x y lx ly start h (omega arith) rx
+    (read_there ys at (omega arith)) inside m in_y behind after_it e) (omega arith) behind ended)
+    (λ (m : next ≤ at).
+    let same : next ≡ at = omega arith in
+    let none : next - at ≡ 0 = omega arith in
+    let rest : new ≡ list = e ∙ ap (λ k. list ++ take k (drop at ys)) none ∙ append-nil list in
+    let skip = sharing_skip (both xs ys) xs ys list i at lx ly start h (λ g.
+    let y = get_or ys at 0 in
+    let low = place.next g in
+    let end : first_leaf x + size_of x < first_leaf y + size_of y = rw same at (after_it (omega arith)) in
+    elim (meeting x y cx (ly.cells at 0 g)) [
+      | before k ↦ omega arith
+      | after k ↦ absurd (omega arith)
+      | within k ↦ absurd (not_held g (inside_from_within x y k))
+      | around k ↦ (let kh = k.high in absurd (omega arith))
+    ]) in
+    rw rest (sharing_stop xs ys list (i + 1) at (first_leaf x + size_of x) lx ly skip (omega arith)
+    (rw same at behind) ended))
+    (cases_lt at next)

@@ -1,0 +1,46 @@
+use Rattle.std.proofs.Common.{◌+◌, subst, sym, arith}
+use Rattle.s2union.proofs.Items.{Listing, denormalised_is, listing_start, listing_more, listing_done}
+use Rattle.s2union.proofs.denorm.list_items.Goals as goal
+
+pub loop-cell-init : goal.loop-cell-init
+loop-cell-init c =
+    let fresh = c.in_ok-list.ensures in
+    let most = fresh.capacity in
+    let all = c.count_items.ensures in
+    record {
+      listed = subst (λ x. Listing c.args.cells.now c.args.min c.args.modulus 0 x) (sym fresh.items)
+          (listing_start c.args.cells.now c.args.min c.args.modulus);
+      room = omega arith;
+    }
+
+pub push_descendants-requires-clause-room : goal.push_descendants-requires-clause-room
+push_descendants-requires-clause-room c =
+    let next = listing_more c.args.cells.now c.args.min c.args.modulus c.loop-cell.cell-index c.level.result
+    c.level_to_cut-level.result c.cell-item.result c.loop-cell.list.items c.loop-cell.invariant.listed
+    c.loop-cell-test.true c.cell-item.is c.level.ensures.value c.level_to_cut-level.ensures.value in
+    let fits = next.1 in
+    let room = c.loop-cell.invariant.room in
+    omega arith
+
+pub loop-cell-preserved : goal.loop-cell-preserved
+loop-cell-preserved c =
+    let next = listing_more c.args.cells.now c.args.min c.args.modulus c.loop-cell.cell-index c.level.result
+    c.level_to_cut-level.result c.cell-item.result c.loop-cell.list.items c.loop-cell.invariant.listed
+    c.loop-cell-test.true c.cell-item.is c.level.ensures.value c.level_to_cut-level.ensures.value in
+    let pushed = c.push_descendants.ensures in
+    let same = pushed.room in
+    let room = c.loop-cell.invariant.room in
+    record {
+      listed = subst (λ x. Listing c.args.cells.now c.args.min c.args.modulus (c.loop-cell.cell-index + 1) x)
+          (sym pushed.items) next.0;
+      room = omega arith;
+    }
+
+pub returns-clause-items : goal.returns-clause-items
+returns-clause-items c = listing_done c.args.cells.now c.args.min c.args.modulus c.loop-cell.cell-index
+    c.loop-cell.list.items c.loop-cell.invariant.listed (omega (arith, c.loop-cell-test.false))
+
+pub returns-clause-meaning : goal.returns-clause-meaning
+returns-clause-meaning c =
+    rw (returns-clause-items c) (denormalised_is c.args.min c.args.modulus c.args.cells.now c.requires.local.cells
+    c.requires.some)
