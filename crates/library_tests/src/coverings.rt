@@ -158,8 +158,9 @@ fn agree_clipped(
     requires { level ≤ 30 }
 {
     let clip = Clip { union, rect: *rect };
-    let found = clip_outer(alloc, union, rect, level, 100);
-    let held = clip_inner(alloc, union, rect, level, 100);
+    let mut looks = Looks::default();
+    let found = clip_outer(alloc, union, rect, level, 100, &mut looks);
+    let held = clip_inner(alloc, union, rect, level, 100, &mut looks);
     Ok(
         are_same(found, outer(alloc, &clip, level, 100))?
             && are_same(held, inner(alloc, &clip, level, 100))?,
@@ -195,9 +196,25 @@ fn clips_agree_with_regions(rt: HostRuntime) -> Result<(), Fail> {
 #[test]
 fn covers_a_clip_with_long_sides(rt: HostRuntime) -> Result<(), Fail> {
     let face = of(rt.alloc(), "1")?;
+    let mut looks = Looks::default();
     let row = rect(&rt, 0, 0, LAST, 5, 5);
-    assert!(rt; has(clip_inner(rt.alloc(), &face, &row, 29, 9), "")?);
+    let made = clip_inner(rt.alloc(), &face, &row, 29, 9, &mut looks);
+    assert!(rt; has(made, "")? && looks.count == 0);
     let most = rect(&rt, 0, 1, LAST, 0, LAST);
-    assert!(rt; has(clip_outer(rt.alloc(), &face, &most, 29, 9), "1")?);
+    let made = clip_outer(rt.alloc(), &face, &most, 29, 9, &mut looks);
+    assert!(rt; has(made, "1")? && looks.count == 2);
+    Ok(())
+}
+
+#[test]
+fn counts_the_looks_of_a_clip(rt: HostRuntime) -> Result<(), Fail> {
+    let mut looks = Looks::default();
+    let faces = of(rt.alloc(), "1 3")?;
+    let strip = rect(&rt, 0, 0, 2, 0, 0);
+    let made = clip_outer(rt.alloc(), &faces, &strip, 29, 9, &mut looks);
+    assert!(rt; has(made, FIRST_AND_LAST)? && looks.count == 2 + 1 + 4 * 29);
+    let edge = rect(&rt, 0, 0, LAST, 0, 0);
+    let refused = clip_outer(rt.alloc(), &faces, &edge, 30, 10000, &mut looks).err();
+    assert!(rt; refused == Some(CoverFault::TooMany) && looks.count <= 4 + 4 * 30 * 10001);
     Ok(())
 }

@@ -238,7 +238,11 @@ fn outer_of(
     let union = editor.register(register);
     match rect {
         None => covered(union_outer(alloc, union, level.number(), editor.limit())),
-        Some(rect) => covered(clip_outer(alloc, union, &rect, level.number(), editor.limit())),
+        Some(rect) => {
+            let mut looks = Looks { count: 0 };
+            let limit = editor.limit();
+            covered(clip_outer(alloc, union, &rect, level.number(), limit, &mut looks))
+        }
     }
 }
 
@@ -255,6 +259,10 @@ fn inner_of(
     let union = editor.register(register);
     match rect {
         None => covered(union_inner(alloc, union, level.number(), editor.limit())),
-        Some(rect) => covered(clip_inner(alloc, union, &rect, level.number(), editor.limit())),
+        Some(rect) => {
+            let mut looks = Looks { count: 0 };
+            let limit = editor.limit();
+            covered(clip_inner(alloc, union, &rect, level.number(), limit, &mut looks))
+        }
     }
 }

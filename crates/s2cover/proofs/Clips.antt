@@ -1,11 +1,13 @@
 -- The coverings of a clipped union, by its cells cut to the level and the rectangle rounded to it.
 use Rattle.std.proofs.Common.{◌≡◌, ℕ, suc, zero, ◌+◌, ◌-◌, ◌*◌, ◌/◌, ◌^◌, ◌<◌, ◌≤◌, Bool, true}
-use Rattle.std.proofs.Common.{false, Result, IfOk, ◌&&◌, ◌||◌, nat_lt, List, [], ◌∷◌, All, Contains, refl, sym, ◌∙◌}
-use Rattle.std.proofs.Common.{ap, arith, ⊎_elim}
+use Rattle.std.proofs.Common.{false, Result, IfOk, ◌&&◌, ◌||◌, nat_lt, List, [], ◌∷◌, length, All, Contains, refl}
+use Rattle.std.proofs.Common.{sym, ◌∙◌, ap, arith, ⊎_elim}
 use Rattle.std.specs.List.{filter}
+use Rattle.std.proofs.lemmas.List.{length-map}
 use Rattle.std.proofs.lemmas.Bool.{cases_lt, cases_Bool, and_right, and_parts, and_from, both_ways, true_from_ne_false}
 use Rattle.std.proofs.lemmas.List.Elements.{All-contains, All-filter}
 use Rattle.std.proofs.lemmas.List.Folds.{Any-from_list_any}
+use Rattle.std.proofs.lemmas.List.Sums.{length-filter, count_by-le-length}
 use Rattle.std.proofs.lemmas.Result.{IfOk-weaker}
 use Rattle.s2cell.specs.Cell.{IsCell, level_of, first_leaf, size_of, covers}
 use Rattle.s2cell.proofs.Family.{deeper_inside}
@@ -13,7 +15,7 @@ use Rattle.s2cell.proofs.Leaves.{covers_from, covers_there, inside_from_within}
 use Rattle.s2union.specs.Union.{has_leaf, IsLocal, IsNormalForm, Union}
 use Rattle.s2union.proofs.Normal.{leaf_to, normal_form_same}
 use Rattle.s2cover.specs.Coverings.{filled, outer_set, inner_set, IsInOuter, IsInInner}
-use Rattle.s2cover.specs.Cut.{meets, cells_cut, cells_kept, cells_met}
+use Rattle.s2cover.specs.Cut.{meets, reaches, cut_at, cells_cut, cells_kept, cells_met}
 use Rattle.s2cell.specs.declared.TheConstants.{LEAVES}
 use Rattle.s2cover.proofs.Runs.{touched_none, touched_from_none}
 use Rattle.s2cover.proofs.Squares.{same_bool}
@@ -98,6 +100,25 @@ met_none S c h = sym (touched_from_none S (first_leaf c) (size_of c) (λ x a b. 
 pub met_some : (S : ℕ → Bool) (c : ℕ) → (((x : ℕ) → covers c x ≡ true → S x ≡ false) → ⊥) → true ≡ meets S c
 met_some S c h = sym (true_from_ne_false (meets S c)
     (λ f. h (λ x v. let r = covers_from c x v in touched_none S (first_leaf c) (size_of c) f x r.0 r.1)))
+
+-- ---- how many cells are left
+
+filter_few : (p : ℕ → Bool) (u : List ℕ) → length (filter p u) ≤ length u
+filter_few p u = let a = length-filter p u in let b = count_by-le-length p u in omega arith
+
+pub kept_few : (k : ℕ) (u : List ℕ) → length (cells_kept k u) ≤ length u
+kept_few k u = filter_few (reaches k) u
+
+-- a look for each cell that is kept
+pub kept_looks : (k : ℕ) (u v : List ℕ) (before looks : ℕ) → before ≡ 0 → v ≡ cells_kept k u →
+    looks ≤ before + length v → looks ≤ length u
+kept_looks k u v before looks none e h = let a = kept_few k u in let b = ap length e in omega arith
+
+pub met_few : (S : ℕ → Bool) (u : List ℕ) → length (cells_met S u) ≤ length u
+met_few S u = filter_few (meets S) u
+
+pub cut_few : (S : ℕ → Bool) (k : ℕ) (u : List ℕ) → length (cells_cut k (cells_met S u)) ≤ length u
+cut_few S k u = let a = length-map (cells_met S u) (cut_at k) in let b = met_few S u in omega arith
 
 -- ---- the inner covering of a clipped union
 

@@ -2,7 +2,7 @@
 use Rattle.std.proofs.Common.{◌≡◌, ℕ, suc, zero, ◌+◌, ◌-◌, ◌*◌, ◌/◌, ◌^◌, ◌<◌, ◌≤◌, Bool, true}
 use Rattle.std.proofs.Common.{false, cond, ◌&&◌, ◌||◌, nat_lt, List, [], ◌∷◌, ◌++◌, length, get_or, take}
 use Rattle.std.proofs.Common.{All, AllPairs, Contains, refl, sym, ◌∙◌, ap, arith, subst, ⊎_elim, append-nil}
-use Rattle.std.specs.List.{flat_map, filter}
+use Rattle.std.specs.List.{flat_map}
 use Rattle.std.proofs.lemmas.Bool.{and_right, and_parts, and_from, cases_lt, leb-true, lt-ltb, cases_Bool}
 use Rattle.std.proofs.lemmas.List.Elements.{All-append, All-contains, Contains-get_or}
 use Rattle.std.proofs.lemmas.List.Folds.{list_any-append, length-flat_map-take}
@@ -13,7 +13,7 @@ use Rattle.s2cell.proofs.Calls.{IsCell-parent_of}
 use Rattle.s2cell.proofs.Family.{deeper_inside, parent_level, parent_around}
 use Rattle.s2cell.proofs.Leaves.{covers_from, inside_from_within}
 use Rattle.s2cell.proofs.Squares.{first_leaf_covered}
-use Rattle.s2union.specs.Union.{has_leaf, between, LiesIn, IsGreatestIn, IsLocal, IsNormalForm}
+use Rattle.s2union.specs.Union.{has_leaf, IsGreatestIn, IsLocal, IsNormalForm}
 use Rattle.s2union.specs.Packed.{EndsBefore}
 use Rattle.s2union.proofs.Normal.{leaf_from, leaf_to, member_greatest, one_normal_form}
 use Rattle.s2union.proofs.Checking.{packed_from_local}
@@ -21,7 +21,7 @@ use Rattle.s2union.proofs.Picking.{picked_normal}
 use Rattle.s2cover.specs.Coverings.{filled, touched, outer_set, inner_set}
 use Rattle.s2cell.specs.declared.TheConstants.{LEAVES}
 use Rattle.s2cell.proofs.CellLemmas.{cell_leaves, four_pos}
-use Rattle.s2cover.specs.Cut.{reaches, cut_at, cells_cut, cells_kept}
+use Rattle.s2cover.specs.Cut.{reaches, cells_cut, cells_kept}
 use Rattle.s2cover.specs.Descent.{form_in, form, joined, cell_at, depth_of, IsAligned}
 use Rattle.s2cover.proofs.Runs.{block_in, is_touched, touched_from_none, filled_from, not_filled}
 use Rattle.s2cover.proofs.Forms.{child_run}

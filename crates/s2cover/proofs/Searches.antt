@@ -271,3 +271,18 @@ kid S g c k p i w hp e =
     let above = w.above in
     let at = child_at c p i (omega arith) hp in
     record { depth = rw e at.depth; place = rw e at.place }
+
+-- ---- a search in each cell of a list
+
+-- after the searches in `n` cells, each at most `t` levels above the grain, with `cells` cells in all
+pub record Added (before looks n cells t : ℕ) : Type 0 where
+  pub upper : looks ≤ before + n + 4 * t * cells
+  pub lower : before + cells ≤ looks
+
+pub added_next : (before looks next n cells more s t : ℕ) → s ≤ t → Added before looks n cells t →
+    next ≤ looks + 1 + 4 * s * more → looks + more ≤ next → Added before next (n + 1) (cells + more) t
+added_next before looks next n cells more s t h c up low =
+    let a = c.upper in
+    let b = c.lower in
+    let less = mul-le-mul_right {m = 4 * s} {n = 4 * t} more (omega arith) in
+    record { upper = omega arith; lower = omega arith }

@@ -2,7 +2,7 @@
 //!
 //! First the union's cells are cut to the level, and the rectangle is rounded to the grid of the level. Then the
 //! greatest cells of the rectangle are sought in each cell of the union: a cell inside the rectangle is taken at once.
-ghost use Rattle.std.specs.Prelude.{◌≡◌, ◌-◌, ◌<◌, ◌≤◌, ℕ, All, length, IfOk, IfErr};
+ghost use Rattle.std.specs.Prelude.{◌≡◌, ◌+◌, ◌-◌, ◌*◌, ◌^◌, ◌<◌, ◌≤◌, ℕ, All, length, IfOk, IfErr, OnErr};
 ghost use Rattle.std.specs.List.{flat_map};
 ghost use Rattle.s2cell.specs.Cell.{level_of};
 ghost use Rattle.s2union.specs.Union.{has_leaf, IsLocal, IsNormalForm};
@@ -13,16 +13,20 @@ ghost use Rattle.s2cover.specs.Rectangles.{clipped, rect_set};
 
 use crate::MOST_CELLS;
 use crate::cut::{cut_cells, kept_cells};
-use crate::looks::{Looks, seek};
+use crate::looks::{Looks, look, seek};
 use crate::placing::placed;
 use crate::rect::FaceRect;
-use crate::region::{CoverFault, Part, Region};
+use crate::region::{CoverFault, Part};
 use s2cell::{CellId, GREATEST_LEVEL};
 use s2union::{CellUnion, normalise};
 use std::alloc::{AllocError, Global};
 
 /// The outer covering of what a union and a rectangle share: the answer of `outer` for a `Clip`. The time
 /// depends on the number of cells of the union and of the answer, not on the size of the rectangle.
+///
+/// `looks` says how many quadrants were looked at, also after a refusal: at least one for each cell of the answer, and
+/// at most `2 * m + 4 * level * n` for a union of m cells and an answer of n cells, or
+/// `2 * m + 4 * level * (max + 1)` after a refusal.
 ///
 /// Takes memory for as many cells as the union has in the rectangle. `TooMany` is answered as by `outer`.
 pub fn clip_outer(
@@ -31,6 +35,7 @@ pub fn clip_outer(
     rect: &FaceRect,
     level: u8,
     max: usize,
+    looks: &mut Looks,
 ) -> Result<CellUnion, CoverFault>
     requires level { level ≤ GREATEST_LEVEL }
     requires max { max ≤ MOST_CELLS }
@@ -39,17 +44,21 @@ pub fn clip_outer(
     ensures normal { IfOk result (λ u. IsNormalForm (outer_set (clipped union.now.cells rect.now) level) u.cells) }
     ensures within { IfOk result (λ u. length u.cells ≤ max) }
     ensures many { IfErr result (TooManyMeans (outer_set (clipped union.now.cells rect.now) level) max) }
+    ensures least { IfOk result (λ u. length u.cells ≤ looks.new.count) }
+    ensures most { IfOk result (λ u. looks.new.count ≤ 2 * length union.now.cells + 4 * level * length u.cells) }
+    ensures stopped { OnErr result (looks.new.count ≤ 2 * length union.now.cells + 4 * level * (max + 1)) }
 {
+    looks.count = 0;
     let _ = union.cells();
-    match cut_union(alloc, union, rect, level) {
-        Ok(whole) => clip_aligned(alloc, &whole, &rect.widened(level), level, max),
+    match cut_union(alloc, union, rect, level, looks) {
+        Ok(whole) => clip_aligned(alloc, &whole, &rect.widened(level), level, max, looks),
         Err(_) => Err(CoverFault::Memory),
     }
 }
 
 /// The inner covering of what a union and a rectangle share: the answer of `inner` for a `Clip`. The time
 /// depends on the number of cells of the union and of the answer. If no cell of the level lies in the rectangle,
-/// nothing is looked at.
+/// nothing is looked at. `looks` is bounded as for `clip_outer`.
 ///
 /// Takes memory for as many cells as the union has down to the level. `TooMany` is answered as by `outer`.
 pub fn clip_inner(
@@ -58,6 +67,7 @@ pub fn clip_inner(
     rect: &FaceRect,
     level: u8,
     max: usize,
+    looks: &mut Looks,
 ) -> Result<CellUnion, CoverFault>
     requires level { level ≤ GREATEST_LEVEL }
     requires max { max ≤ MOST_CELLS }
@@ -66,9 +76,13 @@ pub fn clip_inner(
     ensures normal { IfOk result (λ u. IsNormalForm (inner_set (clipped union.now.cells rect.now) level) u.cells) }
     ensures within { IfOk result (λ u. length u.cells ≤ max) }
     ensures many { IfErr result (TooManyMeans (inner_set (clipped union.now.cells rect.now) level) max) }
+    ensures least { IfOk result (λ u. length u.cells ≤ looks.new.count) }
+    ensures most { IfOk result (λ u. looks.new.count ≤ 2 * length union.now.cells + 4 * level * length u.cells) }
+    ensures stopped { OnErr result (looks.new.count ≤ 2 * length union.now.cells + 4 * level * (max + 1)) }
 {
+    looks.count = 0;
     match rect.narrowed(level) {
-        Some(narrow) => inner_part(alloc, union, narrow, level, max),
+        Some(narrow) => inner_part(alloc, union, narrow, level, max, looks),
         None => Ok(CellUnion::from_normalized(Vec::new(alloc))),
     }
 }
@@ -80,19 +94,24 @@ fn inner_part(
     rect: FaceRect,
     level: u8,
     max: usize,
+    looks: &mut Looks,
 ) -> Result<CellUnion, CoverFault>
     requires level { level ≤ GREATEST_LEVEL }
     requires max { max ≤ MOST_CELLS }
     requires aligned { IsAligned (rect_set rect) (30 - level) }
+    requires looks { looks.old.count ≡ 0 }
     ensures leaves { IfOk result (λ u. HasLeavesOf (inner_set (clipped union.now.cells rect) level) u.cells) }
     ensures local { IfOk result (λ u. IsLocal u.cells) }
     ensures normal { IfOk result (λ u. IsNormalForm (inner_set (clipped union.now.cells rect) level) u.cells) }
     ensures within { IfOk result (λ u. length u.cells ≤ max) }
     ensures many { IfErr result (TooManyMeans (inner_set (clipped union.now.cells rect) level) max) }
+    ensures least { IfOk result (λ u. length u.cells ≤ looks.new.count) }
+    ensures most { IfOk result (λ u. looks.new.count ≤ 2 * length union.now.cells + 4 * level * length u.cells) }
+    ensures stopped { OnErr result (looks.new.count ≤ 2 * length union.now.cells + 4 * level * (max + 1)) }
 {
     let _ = union.cells();
-    match kept_union(alloc, union, &rect, level) {
-        Ok(whole) => clip_aligned(alloc, &whole, &rect, level, max),
+    match kept_union(alloc, union, &rect, level, looks) {
+        Ok(whole) => clip_aligned(alloc, &whole, &rect, level, max, looks),
         Err(_) => Err(CoverFault::Memory),
     }
 }
@@ -104,18 +123,25 @@ fn clip_aligned(
     rect: &FaceRect,
     level: u8,
     max: usize,
+    looks: &mut Looks,
 ) -> Result<CellUnion, CoverFault>
     requires level { level ≤ GREATEST_LEVEL }
     requires max { max ≤ MOST_CELLS }
     requires above { All (λ c. level_of c ≤ level) union.now.cells }
     requires aligned { IsAligned (rect_set rect.now) (30 - level) }
+    requires looks { looks.old.count + length union.now.cells + 4 * level * (max + 1) < 2 ^ 64 }
     ensures leaves { IfOk result (λ u. HasLeavesOf (clipped union.now.cells rect.now) u.cells) }
     ensures local { IfOk result (λ u. IsLocal u.cells) }
     ensures normal { IfOk result (λ u. IsNormalForm (clipped union.now.cells rect.now) u.cells) }
     ensures within { IfOk result (λ u. length u.cells ≤ max) }
     ensures many { IfErr result (TooManyMeans (clipped union.now.cells rect.now) max) }
+    ensures least { IfOk result (λ u. looks.old.count + length u.cells ≤ looks.new.count) }
+    ensures most { IfOk result (λ u. looks.new.count ≤ looks.old.count + length union.now.cells
+        + 4 * level * length u.cells) }
+    ensures stopped { OnErr result (looks.new.count ≤ looks.old.count + length union.now.cells
+        + 4 * level * (max + 1)) }
 {
-    match cells_within(alloc, union.cells(), rect, level, max) {
+    match cells_within(alloc, union.cells(), rect, level, max, looks) {
         Ok(list) => Ok(CellUnion::from_normalized(list)),
         Err(fault) => Err(fault),
     }
@@ -129,20 +155,25 @@ fn cells_within(
     rect: &FaceRect,
     level: u8,
     max: usize,
+    looks: &mut Looks,
 ) -> Result<Vec<CellId>, CoverFault>
     requires level { level ≤ GREATEST_LEVEL }
     requires max { max ≤ MOST_CELLS }
     requires above { All (λ c. level_of c ≤ level) cells.now }
     requires aligned { IsAligned (rect_set rect.now) (30 - level) }
+    requires looks { looks.old.count + length cells.now + 4 * level * (max + 1) < 2 ^ 64 }
     ensures list { IfOk result (λ list. list.items ≡ flat_map (form_in (rect_set rect.now) (30 - level)) cells.now) }
     ensures within { IfOk result (λ list. length list.items ≤ max) }
     ensures many { IfErr result (λ fault. fault ≡ CoverFault.TooMany →
         max < length (flat_map (form_in (rect_set rect.now) (30 - level)) cells.now)) }
+    ensures least { IfOk result (λ list. looks.old.count + length list.items ≤ looks.new.count) }
+    ensures most { IfOk result (λ list. looks.new.count ≤ looks.old.count + length cells.now
+        + 4 * level * length list.items) }
+    ensures stopped { OnErr result (looks.new.count ≤ looks.old.count + length cells.now + 4 * level * (max + 1)) }
 {
     let mut list = Vec::new(alloc);
     for cell in cells {
-        let mut looks = Looks { count: 0 };
-        match seek(rect, level, &placed(*cell), max, &mut looks, &mut list) {
+        match seek(rect, level, &placed(*cell), max, looks, &mut list) {
             Ok(()) => {}
             Err(fault) => return Err(fault),
         }
@@ -156,14 +187,18 @@ fn cut_union(
     union: &CellUnion,
     rect: &FaceRect,
     level: u8,
+    looks: &mut Looks,
 ) -> Result<CellUnion, AllocError>
-    requires { level ≤ GREATEST_LEVEL }
+    requires level { level ≤ GREATEST_LEVEL }
+    requires looks { looks.old.count ≡ 0 }
     ensures leaves { IfOk result (λ v. (x : ℕ) → has_leaf v.cells x
         ≡ has_leaf (cells_cut level (cells_met (rect_set rect.now) union.now.cells)) x) }
     ensures local { IfOk result (λ v. IsLocal v.cells) }
     ensures above { IfOk result (λ v. All (λ c. level_of c ≤ level) v.cells) }
+    ensures few { IfOk result (λ v. length v.cells ≤ length union.now.cells) }
+    ensures most { looks.new.count ≤ length union.now.cells }
 {
-    let met = met_cells(alloc, union.cells(), rect)?;
+    let met = met_cells(alloc, union.cells(), rect, looks)?;
     let cut = cut_cells(alloc, met.as_slice(), level)?;
     Ok(normalise(cut))
 }
@@ -174,25 +209,36 @@ fn kept_union(
     union: &CellUnion,
     rect: &FaceRect,
     level: u8,
+    looks: &mut Looks,
 ) -> Result<CellUnion, AllocError>
-    requires { level ≤ GREATEST_LEVEL }
+    requires level { level ≤ GREATEST_LEVEL }
+    requires looks { looks.old.count ≡ 0 }
     ensures leaves { IfOk result (λ v. (x : ℕ) → has_leaf v.cells x
         ≡ has_leaf (cells_met (rect_set rect.now) (cells_kept level union.now.cells)) x) }
     ensures local { IfOk result (λ v. IsLocal v.cells) }
     ensures above { IfOk result (λ v. All (λ c. level_of c ≤ level) v.cells) }
+    ensures few { IfOk result (λ v. length v.cells ≤ length union.now.cells) }
+    ensures most { looks.new.count ≤ length union.now.cells }
 {
     let kept = kept_cells(alloc, union.cells(), level)?;
-    let met = met_cells(alloc, kept.as_slice(), rect)?;
+    let met = met_cells(alloc, kept.as_slice(), rect, looks)?;
     Ok(normalise(met))
 }
 
 /// The cells that have a leaf in the rectangle.
-fn met_cells(alloc: Global, cells: &[CellId], rect: &FaceRect) -> Result<Vec<CellId>, AllocError>
-    ensures { IfOk result (λ list. list.items ≡ cells_met (rect_set rect.now) cells.now) }
+fn met_cells(
+    alloc: Global,
+    cells: &[CellId],
+    rect: &FaceRect,
+    looks: &mut Looks,
+) -> Result<Vec<CellId>, AllocError>
+    requires looks { looks.old.count + length cells.now < 2 ^ 64 }
+    ensures list { IfOk result (λ list. list.items ≡ cells_met (rect_set rect.now) cells.now) }
+    ensures most { looks.new.count ≤ looks.old.count + length cells.now }
 {
     let mut list = Vec::new(alloc);
     for cell in cells {
-        if meets_rect(*cell, rect) {
+        if meets_rect(*cell, rect, looks) {
             list.push(*cell)?;
         }
     }
@@ -200,10 +246,12 @@ fn met_cells(alloc: Global, cells: &[CellId], rect: &FaceRect) -> Result<Vec<Cel
 }
 
 /// Whether a leaf of the cell is in the rectangle.
-fn meets_rect(cell: CellId, rect: &FaceRect) -> bool
-    ensures { result ≡ meets (rect_set rect.now) cell }
+fn meets_rect(cell: CellId, rect: &FaceRect, looks: &mut Looks) -> bool
+    requires looks { looks.old.count + 1 < 2 ^ 64 }
+    ensures value { result ≡ meets (rect_set rect.now) cell }
+    ensures count { looks.new.count ≡ looks.old.count + 1 }
 {
-    match rect.part(cell) {
+    match look(rect, cell.square(), looks) {
         Part::Out => false,
         Part::In => true,
         Part::Cross => true,

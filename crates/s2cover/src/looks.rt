@@ -21,7 +21,7 @@ pub struct Looks {
 }
 
 /// The one question: whether the cell with this square lies outside the rectangle, inside it or across. It is counted.
-fn look(rect: &FaceRect, square: Square, looks: &mut Looks) -> Part
+pub(crate) fn look(rect: &FaceRect, square: Square, looks: &mut Looks) -> Part
     requires size { 0 < square.size }
     requires i { square.i + square.size ≤ SIDE }
     requires j { square.j + square.size ≤ SIDE }

@@ -1,4 +1,4 @@
-use Rattle.std.proofs.Common.{◌≡◌, ◌-◌, ◌*◌, ◌/◌, ◌%◌, ◌^◌, ap, refl, ◌∙◌}
+use Rattle.std.proofs.Common.{◌-◌, ◌*◌, ◌/◌, ◌%◌, ◌^◌, ap, refl, ◌∙◌}
 use Rattle.s2cell.specs.Cell.{IsCell, level_of, place_of}
 use Rattle.s2cover.proofs.Parents.{shifted}
 use Rattle.s2cover.proofs.placing.number.Goals as goal
