@@ -87,20 +87,6 @@ impl CellUnion {
         subtract(&mut cells, self.cells(), other.cells(), limit)?;
         Ok(CellUnion { cells })
     }
-
-    /// All leaves from the first of `x` to the last of `y`, across faces too. Takes a few steps for each cell of the
-    /// result. Refuses only if it is out of memory. S2 has `InitFromMinMax` for leaves.
-    pub fn from_range(alloc: Global, x: CellId, y: CellId) -> Result<CellUnion, AllocError>
-        requires { first_leaf x < first_leaf y + size_of y }
-        ensures local { IfOk result (λ u. IsLocal u.cells) }
-        ensures leaves { IfOk result (λ u. (n : ℕ) →
-            has_leaf u.cells n ≡ between (first_leaf x) (first_leaf y + size_of y) n) }
-        ensures normal { IfOk result (λ u. IsNormalForm (between (first_leaf x) (first_leaf y + size_of y)) u.cells) }
-    {
-        let mut cells = Vec::new(alloc);
-        fill_gap(&mut cells, x.first_leaf(), y.end_leaf())?;
-        Ok(CellUnion { cells })
-    }
 }
 
 /// Puts the leaves of `xs` and of `ys` into an empty list.
