@@ -7,7 +7,7 @@ ghost use Rattle.s2union.specs.Union.{has_leaf};
 ghost use Rattle.s2union.specs.Packed.{IsPacked, Continues};
 
 use crate::fault::UnionFault;
-use crate::merging::add_reserved;
+use crate::normalising::add_reserved;
 use s2cell::CellId;
 use std::alloc::AllocError;
 

@@ -12,7 +12,7 @@ ghost use Rattle.s2union.specs.Packed.{Behind, FillsGap, IsPacked};
 use crate::fault::UnionFault;
 use crate::few::MUCH_LONGER;
 use crate::gallop::gallop;
-use crate::merging::add_reserved;
+use crate::normalising::add_reserved;
 use crate::runs::{add_run, extend, extend_up_to};
 use crate::search::find_from;
 use crate::subtract_few::subtract_few;

@@ -4,7 +4,7 @@ ghost use Rattle.s2cell.specs.Cell.{IsCell};
 ghost use Rattle.s2union.specs.Tail.{Follows, Passes};
 ghost use Rattle.s2union.specs.Packed.{IsPacked};
 
-use crate::merging::parent_of_family;
+use crate::normalising::parent_of_family;
 use s2cell::CellId;
 
 /// The last three of the cells that were passed, or fewer if there were fewer. The next cell can share leaves or make a

@@ -2,7 +2,7 @@ use Rattle.std.proofs.Common.{◌≡◌, ◌-◌, arith, get_or, refl, sym, ◌�
 use Rattle.std.proofs.lemmas.Bool.{false≢true}
 use Rattle.s2union.proofs.Placing.{leaving_step, leaving_done}
 use Rattle.s2union.proofs.Packing.{read_at}
-use Rattle.s2union.proofs.merging.outside.Goals as goal
+use Rattle.s2union.proofs.normalising.outside.Goals as goal
 
 pub loop-kept-preserved : goal.loop-kept-preserved
 loop-kept-preserved c =

@@ -1,5 +1,5 @@
 use Rattle.s2union.proofs.Placing.{Leaving}
-use Rattle.s2union.proofs.merging.outside.Given as goal
+use Rattle.s2union.proofs.normalising.outside.Given as goal
 
 abbrev pub invariant-loop-kept : goal.invariant-loop-kept
 invariant-loop-kept l = Leaving l.front l.fn.cell l.kept

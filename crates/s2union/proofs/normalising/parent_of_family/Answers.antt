@@ -3,7 +3,7 @@ use Rattle.std.proofs.lemmas.Bool.{false≢true}
 use Rattle.s2cell.specs.Cell.{level_of, parent_of}
 use Rattle.s2union.specs.Packed.{IsFamily}
 use Rattle.s2union.proofs.Packing.{family_deep, family_parent, family_step}
-use Rattle.s2union.proofs.merging.parent_of_family.Goals as goal
+use Rattle.s2union.proofs.normalising.parent_of_family.Goals as goal
 
 pub returns-then-id-leaf_count : goal.returns-then-id-leaf_count
 returns-then-id-leaf_count c p f =

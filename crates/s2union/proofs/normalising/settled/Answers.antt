@@ -2,7 +2,7 @@ use Rattle.std.proofs.Common.{rules}
 use Rattle.s2cell.specs.Cell.{IsCell, level_of, place_of}
 use Rattle.s2union.proofs.Packing.{packed_take}
 use Rattle.s2union.proofs.Placing.{starts_kept}
-use Rattle.s2union.proofs.merging.settled.Goals as goal
+use Rattle.s2union.proofs.normalising.settled.Goals as goal
 
 pub merged-kept-requires-clause-packed : goal.merged-kept-requires-clause-packed
 merged-kept-requires-clause-packed c = packed_take c.outside-kept.result c.args.front.now (search rules)
