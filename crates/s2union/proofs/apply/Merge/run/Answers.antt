@@ -3,7 +3,7 @@ use Rattle.s2union.specs.Merge.{Left, Keeps}
 use Rattle.s2union.proofs.Finding.{ascends}
 use Rattle.s2union.proofs.Following.{part_packed}
 use Rattle.s2union.proofs.MergeSteps.{keep_found, rest_after}
-use Rattle.s2union.proofs.merge.Merge.run.Goals as goal
+use Rattle.s2union.proofs.apply.Merge.run.Goals as goal
 
 pub returns-clause-keeps : goal.returns-clause-keeps
 returns-clause-keeps c =

@@ -2,7 +2,7 @@ use Rattle.std.proofs.Common.{[], ◌∷◌, sym, subst, drop, get_or}
 use Rattle.s2union.specs.Merge.{Left, Goes, CanApply}
 use Rattle.s2union.proofs.MergeSteps.{put_turn, keep_turn, take_turn, put_misfit, out_misfit, behind_first}
 use Rattle.s2union.proofs.MergeSteps.{behind_first_ascends, rest_packed}
-use Rattle.s2union.proofs.merge.Merge.turn.Goals as goal
+use Rattle.s2union.proofs.apply.Merge.turn.Goals as goal
 
 pub returns-in-Less : goal.returns-in-Less
 returns-in-Less c =

@@ -1,7 +1,7 @@
 use Rattle.std.proofs.lemmas.Bool.{false≢true}
 use Rattle.std.proofs.Common.{sym, ◌∙◌, refl, subst, arith}
 use Rattle.s2union.proofs.Passing.{Passing, passing_more, passing_fails, passing_rest}
-use Rattle.s2union.proofs.tail.Tail.pass.Goals as goal
+use Rattle.s2union.proofs.apply.Tail.pass.Goals as goal
 
 pub returns-then-not-takes : goal.returns-then-not-takes
 returns-then-not-takes c = record {

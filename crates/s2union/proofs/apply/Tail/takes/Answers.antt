@@ -1,5 +1,5 @@
 use Rattle.std.proofs.lemmas.Bool.{false≢true}
-use Rattle.s2union.proofs.tail.Tail.takes.Goals as goal
+use Rattle.s2union.proofs.apply.Tail.takes.Goals as goal
 
 pub returns-in-Some-parent_of_family-clause-exact : goal.returns-in-Some-parent_of_family-clause-exact
 returns-in-Some-parent_of_family-clause-exact c = (
