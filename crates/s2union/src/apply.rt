@@ -12,9 +12,9 @@ ghost use Rattle.s2union.specs.Merge.{IsTurn, IsHead, IsFrontOf, Keeps};
 ghost use Rattle.s2union.specs.Packed.{IsPacked};
 ghost use Rattle.s2union.specs.Tail.{Follows, Passes};
 
-use crate::gallop::gallop;
 use crate::normalising::parent_of_family;
 use crate::runs::extend_reserved;
+use crate::search::gallop;
 use crate::union::CellUnion;
 use s2cell::CellId;
 use std::alloc::{AllocError, Global};

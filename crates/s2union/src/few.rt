@@ -11,9 +11,8 @@ ghost use Rattle.s2union.specs.Packed.{IsPacked, IsPlace, Behind, EndsAfter};
 ghost use Rattle.s2union.specs.Search.{Brackets};
 ghost use Rattle.s2union.specs.Looks.{FewForUnion};
 
-use crate::gallop::{pass, quarter};
-use crate::looks::{Counted, Found, look};
-use crate::search::{holds, holds_at, meets, meets_at, told, without_last};
+use crate::questions::{Counted, holds, holds_at, meets, meets_at, told};
+use crate::search::{Found, look, pass, quarter, without_last};
 use s2cell::{CellId, LEAVES};
 
 /// A list counts as short if the other is at least this many times as long. A search in the other takes no more steps

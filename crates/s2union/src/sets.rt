@@ -11,10 +11,9 @@ ghost use Rattle.s2union.specs.Packed.{Behind, FillsGap, IsPacked};
 
 use crate::fault::UnionFault;
 use crate::few::MUCH_LONGER;
-use crate::gallop::gallop;
 use crate::normalising::add_reserved;
 use crate::runs::{add_run, extend, extend_up_to};
-use crate::search::find_from;
+use crate::search::{find_from, gallop};
 use crate::subtract_few::subtract_few;
 use crate::union::CellUnion;
 use s2cell::{CellId, LEAVES};

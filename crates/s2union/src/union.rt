@@ -36,8 +36,8 @@ use std::{fmt, slice, vec};
 ///   `try_clone`; elsewhere: `with_room` (apply.rt)
 /// - its list, here: `cells`, `iter`, `len`, `room`, `is_empty`, `leaf_count`, `into_cells`, `==`, `Hash`, `Debug`,
 ///   `for cell in`
-/// - questions: `contains_cell`, `intersects_cell`, `contains`, `intersects`, each with a `_counted` form (search.rt),
-///   `cells_at` (overlap.rt), `cursor` (cursor.rt)
+/// - questions: `contains_cell`, `intersects_cell`, `contains`, `intersects`, each with a `_counted` form, and `cells_at`
+///   (questions.rt), `cursor` (cursor.rt)
 /// - set operations: `union`, `intersection`, `difference`, `difference_up_to` (sets.rt)
 /// - changes: `can_apply`, `apply_into`, `copy_from` (apply.rt)
 /// - cut to levels: `denormalized`, `denormalized_len` (denorm.rt)

@@ -3,7 +3,7 @@ use Rattle.s2cell.specs.Cell.{first_leaf}
 use Rattle.s2union.specs.Packed.{Behind}
 use Rattle.s2union.proofs.Shared.{Sharing, both}
 use Rattle.s2union.proofs.Looking.{Tries}
-use Rattle.s2union.proofs.search.meets_evenly.Given as goal
+use Rattle.s2union.proofs.questions.meets_evenly.Given as goal
 
 -- what went by shares nothing, and the first i of xs end by the next of ys
 abbrev pub invariant-loop-j : goal.invariant-loop-j

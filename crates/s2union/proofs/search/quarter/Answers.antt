@@ -1,6 +1,6 @@
 use Rattle.std.proofs.Common.{◌/◌, arith}
 use Rattle.s2union.proofs.Galloping.{seeking_quarter}
-use Rattle.s2union.proofs.gallop.quarter.Goals as goal
+use Rattle.s2union.proofs.search.quarter.Goals as goal
 
 pub returns-clause-brackets : goal.returns-clause-brackets
 returns-clause-brackets c =

@@ -1,6 +1,6 @@
 use Rattle.std.proofs.Common.{◌≡◌, ◌≤◌, ◌+◌, ◌-◌}
 use Rattle.s2union.specs.Search.{Brackets}
-use Rattle.s2union.proofs.gallop.pass.Given as goal
+use Rattle.s2union.proofs.search.pass.Given as goal
 
 abbrev pub invariant-loop-at : goal.invariant-loop-at
 invariant-loop-at l = record {

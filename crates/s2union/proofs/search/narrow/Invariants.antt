@@ -1,7 +1,7 @@
 use Rattle.std.proofs.Common.{ℕ, ◌≤◌, ◌-◌, ◌^◌}
 use Rattle.s2union.proofs.Galloping.{Seeking}
 use Rattle.s2union.proofs.Looking.{Left}
-use Rattle.s2union.proofs.gallop.narrow.Given as goal
+use Rattle.s2union.proofs.search.narrow.Given as goal
 
 abbrev pub invariant-loop-size : goal.invariant-loop-size
 invariant-loop-size l = record {

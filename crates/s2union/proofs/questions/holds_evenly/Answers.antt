@@ -6,7 +6,7 @@ use Rattle.s2union.proofs.Checking.{packed_from_local}
 use Rattle.s2union.proofs.Comparing.{covering_on, covering_run, covering_fails, covering_ends, covering_done}
 use Rattle.s2union.proofs.Shared.{ended_in}
 use Rattle.s2union.proofs.Looking.{no_turn, turns_more, turns_last, turns_all}
-use Rattle.s2union.proofs.search.holds_evenly.Goals as goal
+use Rattle.s2union.proofs.questions.holds_evenly.Goals as goal
 
 pub find_from_counted-i-requires-clause-packed : goal.find_from_counted-i-requires-clause-packed
 find_from_counted-i-requires-clause-packed c = packed_from_local c.args.xs.now c.requires.x_local

@@ -1,7 +1,7 @@
 use Rattle.std.proofs.Common.{arith}
 use Rattle.s2union.proofs.Galloping.{seeking_all}
 use Rattle.s2union.proofs.Looking.{left_all, left_quarter}
-use Rattle.s2union.proofs.gallop.narrow.Goals as goal
+use Rattle.s2union.proofs.search.narrow.Goals as goal
 
 pub loop-size-init : goal.loop-size-init
 loop-size-init c = record {

@@ -1,7 +1,7 @@
 use Rattle.std.proofs.Common.{◌+◌, ◌-◌, get_or, arith}
 use Rattle.s2union.proofs.Galloping.{is_below, not_below, small, leap_on, leap_ends}
 use Rattle.s2union.proofs.Looking.{leaps_few, leaps_more, last_leap}
-use Rattle.s2union.proofs.gallop.gallop_counted.Goals as goal
+use Rattle.s2union.proofs.search.gallop_counted.Goals as goal
 
 pub is_below-requires-clause-count : goal.is_below-requires-clause-count
 is_below-requires-clause-count c =

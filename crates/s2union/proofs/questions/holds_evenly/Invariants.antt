@@ -1,7 +1,7 @@
 use Rattle.std.proofs.Common.{◌-◌, length}
 use Rattle.s2union.proofs.Comparing.{Covering}
 use Rattle.s2union.proofs.Looking.{Turns}
-use Rattle.s2union.proofs.search.holds_evenly.Given as goal
+use Rattle.s2union.proofs.questions.holds_evenly.Given as goal
 
 abbrev pub invariant-loop-j : goal.invariant-loop-j
 invariant-loop-j l = record {

@@ -1,5 +1,5 @@
 use Rattle.std.proofs.Common.{◌≤◌, ◌<◌, ◌+◌, ◌-◌, ◌*◌, ◌^◌, ℕ, length, get_or}
-use Rattle.s2union.proofs.gallop.gallop_counted.Given as goal
+use Rattle.s2union.proofs.search.gallop_counted.Given as goal
 
 abbrev pub invariant-loop-leap : goal.invariant-loop-leap
 invariant-loop-leap l = record {

@@ -1,6 +1,6 @@
 use Rattle.std.proofs.Common.{arith}
 use Rattle.s2union.proofs.Checking.{packed_from_local}
-use Rattle.s2union.proofs.search.meets.Goals as goal
+use Rattle.s2union.proofs.questions.meets.Goals as goal
 
 pub find_counted-found-requires-clause-packed : goal.find_counted-found-requires-clause-packed
 find_counted-found-requires-clause-packed c = packed_from_local c.args.cells.now c.requires

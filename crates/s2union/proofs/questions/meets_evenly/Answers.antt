@@ -7,7 +7,7 @@ use Rattle.s2union.proofs.Comparing.{none_shared, none_shared_swap, some_shared}
 use Rattle.s2union.proofs.Finding.{starts_later}
 use Rattle.s2union.proofs.Shared.{both, ended_up_to, skip_x, skip_y}
 use Rattle.s2union.proofs.Looking.{no_try, tries_more, tries_last, tries_all}
-use Rattle.s2union.proofs.search.meets_evenly.Goals as goal
+use Rattle.s2union.proofs.questions.meets_evenly.Goals as goal
 
 pub find_from_counted-i-requires-clause-packed : goal.find_from_counted-i-requires-clause-packed
 find_from_counted-i-requires-clause-packed c = packed_from_local c.args.xs.now c.requires.x_local
