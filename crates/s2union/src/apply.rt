@@ -1,7 +1,7 @@
 //! Changes of a union's list: cells are taken out of it and others put in.
 //!
-//! [`Merge`] walks along the list and the two lists of a change, and gives the changed list run by run and cell by cell.
-//! [`Tail`] tells from the last three cells of what it gave whether the next cell may come after them.
+//! [`Merge`] walks along the list and the two lists of a change, and gives the changed list by runs and single cells.
+//! [`Tail`] tells from the last three cells that it gave whether the next one may come after them.
 ghost use Rattle.std.specs.Prelude.{◌≡◌, ◌≤◌, ◌+◌, ◌++◌, ◌↔◌, [], length, IfOk, IsTrue, Some, None};
 ghost use Rattle.std.specs.List.Sorted.{IsStrictlyIncreasing};
 ghost use Rattle.std.specs.Vec.{vec_len, vec_capacity};
@@ -13,8 +13,8 @@ ghost use Rattle.s2union.specs.Packed.{IsPacked};
 ghost use Rattle.s2union.specs.Tail.{Follows, Passes};
 
 use crate::normalising::parent_of_family;
-use crate::runs::extend_reserved;
 use crate::search::gallop;
+use crate::sets::extend_reserved;
 use crate::union::CellUnion;
 use s2cell::CellId;
 use std::alloc::{AllocError, Global};

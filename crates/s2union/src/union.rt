@@ -14,7 +14,7 @@ ghost use Rattle.s2union.specs.Count.{count_below};
 ghost use Rattle.std.specs.Hash as fed;
 
 use crate::normalising::normalise;
-use crate::sets::fill_gap;
+use crate::subtract::fill_gap;
 use s2cell::{CellId, LEAVES};
 use std::alloc::{AllocError, Global};
 use std::hash::{Hash, Hasher};
@@ -36,8 +36,8 @@ use std::{fmt, slice, vec};
 ///   `try_clone`; elsewhere: `with_room` (apply.rt)
 /// - its list, here: `cells`, `iter`, `len`, `room`, `is_empty`, `leaf_count`, `into_cells`, `==`, `Hash`, `Debug`,
 ///   `for cell in`
-/// - questions: `contains_cell`, `intersects_cell`, `contains`, `intersects`, each with a `_counted` form, and `cells_at`
-///   (questions.rt), `cursor` (cursor.rt)
+/// - questions: `contains_cell`, `intersects_cell`, `contains`, `intersects`, each with a `_counted` form, and
+///   `cells_at` (questions.rt), `cursor` (cursor.rt)
 /// - set operations: `union`, `intersection`, `difference`, `difference_up_to` (sets.rt)
 /// - changes: `can_apply`, `apply_into`, `copy_from` (apply.rt)
 /// - cut to levels: `denormalized`, `denormalized_len` (denorm.rt)

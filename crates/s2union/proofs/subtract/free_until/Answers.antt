@@ -3,7 +3,7 @@ use Rattle.s2cell.specs.Cell.{first_leaf}
 use Rattle.s2union.proofs.Packing.{read_at}
 use Rattle.s2union.proofs.Checking.{packed_from_local}
 use Rattle.s2union.proofs.Finding.{ended_to}
-use Rattle.s2union.proofs.sets.free_until.Goals as goal
+use Rattle.s2union.proofs.subtract.free_until.Goals as goal
 
 pub find_from-requires-clause-packed : goal.find_from-requires-clause-packed
 find_from-requires-clause-packed c = packed_from_local c.args.xs.now c.requires.x_local

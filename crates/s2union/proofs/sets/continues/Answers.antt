@@ -4,7 +4,7 @@ use Rattle.std.specs.Cmp.Lexicographic.{told_text}
 use Rattle.std.proofs.lemmas.Bool.{false≢true}
 use Rattle.std.proofs.lemmas.Bool.Decides.{nat_tests}
 use Rattle.s2union.proofs.Following.{continues_from, continues_to, continues_not}
-use Rattle.s2union.proofs.runs.continues.Goals as goal
+use Rattle.s2union.proofs.sets.continues.Goals as goal
 
 decided : (r : Bool) (us vs : List ℕ) → MatchBool r (us ≡ vs) (us ≢ vs) → (r ≡ true → us ≡ vs) × (us ≡ vs → r ≡ true)
 decided true us vs e = (λ _. e, λ _. refl)

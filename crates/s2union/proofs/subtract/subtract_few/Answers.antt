@@ -3,7 +3,7 @@ use Rattle.s2union.proofs.Checking.{packed_from_local}
 use Rattle.s2union.proofs.Picking.{picked_local}
 use Rattle.s2union.proofs.Subtracting.{minus}
 use Rattle.s2union.proofs.SubtractingFew.{left_none, left_all, left_picked}
-use Rattle.s2union.proofs.subtract_few.subtract_few.Goals as goal
+use Rattle.s2union.proofs.subtract.subtract_few.Goals as goal
 
 pub loop-i-init : goal.loop-i-init
 loop-i-init c = record {

@@ -1,5 +1,5 @@
 use Rattle.std.proofs.Common.{◌≡◌, ◌+◌, ◌-◌, ◌≤◌, get_or, length, arith, refl, ap}
-use Rattle.std.proofs.lemmas.Result.{err_from_is_err_and}
+use Rattle.std.proofs.lemmas.Result.{err_from_is_err_and, on_ok_weaker, IfErr-weaker}
 use Rattle.s2cell.specs.Cell.{first_leaf, size_of}
 use Rattle.s2union.proofs.Packing.{read_at}
 use Rattle.s2union.proofs.Checking.{packed_from_local}
@@ -7,8 +7,8 @@ use Rattle.s2union.proofs.Picking.{picked_local}
 use Rattle.s2union.proofs.Shortest.{picked_length}
 use Rattle.s2union.proofs.Subtracting.{minus, subtracting_from, subtracting_on_x, subtracting_on_y, subtracting_run}
 use Rattle.s2union.proofs.Subtracting.{subtracting_taken, subtracting_free, subtract_done}
-use Rattle.s2union.proofs.sets.subtract_evenly.Goals as goal
-use Rattle.s2union.proofs.sets.subtract_evenly.Goals.{then-loop-i-test+else-len-limit, else-loop-i-test}
+use Rattle.s2union.proofs.subtract.subtract_evenly.Goals as goal
+use Rattle.s2union.proofs.subtract.subtract_evenly.Goals.{then-loop-i-test+else-len-limit, else-loop-i-test}
 
 pub find_from-j-requires-clause-packed : goal.find_from-j-requires-clause-packed
 find_from-j-requires-clause-packed c = packed_from_local c.args.ys.now c.requires.y_local
@@ -192,22 +192,22 @@ returns-in_err-extend_up_to-in-None-clause-many c =
     let most = picked_length (minus c.args.xs.now c.args.ys.now) _ u taken.picked normal in
     omega arith)
 
-pub returns-then-len-limit-2-clause-leaves : goal.returns-then-len-limit-2-clause-leaves
-returns-then-len-limit-2-clause-leaves c =
+pub returns-clause-leaves : goal.returns-clause-leaves
+returns-clause-leaves c = on_ok_weaker c.check_limit.result (λ few.
     let done : length c.args.xs.now ≤ c.loop-i.i =
     elim c.loop-i-test.branch [
       | then-loop-i-test+else-len-limit w ↦ absurd (omega arith)
       | else-loop-i-test w ↦ omega arith
     ] in
     subtract_done c.args.xs.now c.args.ys.now c.loop-i.list.items c.loop-i.i c.loop-i.j c.loop-i.lo
-    c.loop-i.invariant.so_far.walk done
+    c.loop-i.invariant.so_far.walk done) c.check_limit.ensures.within
 
-pub returns-then-len-limit-2-clause-local : goal.returns-then-len-limit-2-clause-local
-returns-then-len-limit-2-clause-local c = picked_local (minus c.args.xs.now c.args.ys.now) c.loop-i.list.items
-    c.loop-i.invariant.so_far.picked (returns-then-len-limit-2-clause-leaves c)
+pub returns-clause-local : goal.returns-clause-local
+returns-clause-local c = on_ok_weaker c.check_limit.result (picked_local (minus c.args.xs.now c.args.ys.now)
+    c.loop-i.list.items c.loop-i.invariant.so_far.picked) (returns-clause-leaves c)
 
-pub returns-else-len-limit-2-clause-many : goal.returns-else-len-limit-2-clause-many
-returns-else-len-limit-2-clause-many c is u normal =
+pub returns-clause-many : goal.returns-clause-many
+returns-clause-many c = IfErr-weaker c.check_limit.result _ _ (λ fault more is u normal.
     let most = picked_length (minus c.args.xs.now c.args.ys.now) c.loop-i.list.items u
     c.loop-i.invariant.so_far.picked normal in
-    omega arith
+    omega arith) c.check_limit.ensures.many

@@ -1,6 +1,6 @@
 use Rattle.std.proofs.Common.{◌-◌, ◌≤◌, length}
 use Rattle.s2union.specs.Sets.{IsLeft}
-use Rattle.s2union.proofs.subtract_few.subtract_few.Given as goal
+use Rattle.s2union.proofs.subtract.subtract_few.Given as goal
 
 abbrev pub invariant-loop-i : goal.invariant-loop-i
 invariant-loop-i l = record {

@@ -2,7 +2,7 @@ use Rattle.std.proofs.Common.{◌+◌, ◌-◌, ◌≤◌, length, get_or}
 use Rattle.s2cell.specs.Cell.{first_leaf}
 use Rattle.s2cell.specs.declared.TheConstants.{LEAVES}
 use Rattle.s2union.proofs.SubtractingFew.{Leaving}
-use Rattle.s2union.proofs.subtract_few.subtract_one.Given as goal
+use Rattle.s2union.proofs.subtract.subtract_one.Given as goal
 
 abbrev pub invariant-loop-lo : goal.invariant-loop-lo
 invariant-loop-lo l = record {

@@ -1,11 +1,12 @@
 use Rattle.std.proofs.Common.{◌≡◌, ◌≤◌, get_or, arith, refl, ap}
+use Rattle.std.proofs.lemmas.Result.{on_ok_weaker, IfErr-weaker}
 use Rattle.s2cell.specs.Cell.{first_leaf, size_of}
 use Rattle.s2union.proofs.Packing.{read_at}
 use Rattle.s2union.proofs.Shortest.{picked_length}
 use Rattle.s2union.proofs.Subtracting.{minus, subtracting_taken, subtracting_free}
 use Rattle.s2union.proofs.SubtractingFew.{leaving_start, leaving_taken, leaving_free, leaving_done}
-use Rattle.s2union.proofs.subtract_few.subtract_one.Goals as goal
-use Rattle.s2union.proofs.subtract_few.subtract_one.Goals.{then-loop-lo-test+else-len-limit, else-loop-lo-test}
+use Rattle.s2union.proofs.subtract.subtract_one.Goals as goal
+use Rattle.s2union.proofs.subtract.subtract_one.Goals.{then-loop-lo-test+else-len-limit, else-loop-lo-test}
 
 pub loop-lo-init : goal.loop-lo-init
 loop-lo-init c =
@@ -75,8 +76,8 @@ loop-lo-preserved c =
           c.end_leaf-end.result c.end_leaf-end.result free refl;
     }
 
-pub returns-then-len-limit-2-clause-left : goal.returns-then-len-limit-2-clause-left
-returns-then-len-limit-2-clause-left c =
+pub returns-clause-left : goal.returns-clause-left
+returns-clause-left c = on_ok_weaker c.check_limit.result (λ few.
     let past : c.end_leaf-end.result ≤ c.loop-lo.lo =
     elim c.loop-lo-test.branch [
       | then-loop-lo-test+else-len-limit w ↦ absurd (omega arith)
@@ -88,10 +89,11 @@ returns-then-len-limit-2-clause-left c =
     let sx = ap size_of ex in
     let last = c.end_leaf-end.ensures.value in
     leaving_done c.args.xs.now c.args.ys.now c.loop-lo.list.items c.args.i c.loop-lo.j c.loop-lo.lo
-    c.end_leaf-end.result c.requires.x_local c.requires.there (omega arith) c.loop-lo.invariant.so_far past
+    c.end_leaf-end.result c.requires.x_local c.requires.there (omega arith) c.loop-lo.invariant.so_far past)
+    c.check_limit.ensures.within
 
-pub returns-else-len-limit-2-clause-many : goal.returns-else-len-limit-2-clause-many
-returns-else-len-limit-2-clause-many c is u normal =
+pub returns-clause-many : goal.returns-clause-many
+returns-clause-many c = IfErr-weaker c.check_limit.result _ _ (λ fault more is u normal.
     let most = picked_length (minus c.args.xs.now c.args.ys.now) c.loop-lo.list.items u
     c.loop-lo.invariant.so_far.picked normal in
-    omega arith
+    omega arith) c.check_limit.ensures.many

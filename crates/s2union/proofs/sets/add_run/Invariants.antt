@@ -1,7 +1,7 @@
 use Rattle.std.proofs.Common.{length, ◌-◌, ◌≤◌, ◌≡◌, ◌+◌}
 use Rattle.std.specs.Vec.{vec_len, vec_capacity}
 use Rattle.s2union.proofs.Joining.{Adding}
-use Rattle.s2union.proofs.runs.add_run.Given as goal
+use Rattle.s2union.proofs.sets.add_run.Given as goal
 
 abbrev pub invariant-loop-i : goal.invariant-loop-i
 invariant-loop-i l = record {

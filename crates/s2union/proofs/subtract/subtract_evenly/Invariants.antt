@@ -1,6 +1,6 @@
 use Rattle.std.proofs.Common.{◌+◌, ◌-◌, ◌≤◌, length}
 use Rattle.s2union.proofs.Subtracting.{Subtracting}
-use Rattle.s2union.proofs.sets.subtract_evenly.Given as goal
+use Rattle.s2union.proofs.subtract.subtract_evenly.Given as goal
 use Rattle.s2cell.specs.declared.TheConstants.{LEAVES}
 
 abbrev pub invariant-loop-i : goal.invariant-loop-i
