@@ -41,13 +41,13 @@ fn compact(cells: &mut Vec<CellId>)
     let mut n = 0;
     for i in 0..cells.len() {
         let cell = cells[i];
-        n = placed(cells, n, cell);
+        n = place(cells, n, cell);
     }
     cells.truncate(n);
 }
 
 /// Adds a cell after the first `n` cells, which are packed, and answers how many packed cells there are then.
-fn placed(cells: &mut Vec<CellId>, n: usize, cell: CellId) -> usize
+fn place(cells: &mut Vec<CellId>, n: usize, cell: CellId) -> usize
     requires room { n < vec_len cells.old }
     requires packed { IsPacked (take n cells.old.items) }
     requires starts { All (λ c. 2 * first_leaf c < cell) (take n cells.old.items) }
@@ -60,7 +60,7 @@ fn placed(cells: &mut Vec<CellId>, n: usize, cell: CellId) -> usize
     ensures len { vec_len cells.new ≡ vec_len cells.old }
     ensures room { vec_capacity cells.new ≡ vec_capacity cells.old }
 {
-    match settled(&cells.as_slice()[..n], cell) {
+    match new_end(&cells.as_slice()[..n], cell) {
         Some((kept, last)) => {
             cells[kept] = last;
             kept + 1
@@ -114,7 +114,7 @@ pub(crate) fn add_reserved(list: &mut Vec<CellId>, cell: CellId)
     ensures few { vec_len list.new ≤ vec_len list.old + 1 }
     ensures room { vec_capacity list.new ≡ vec_capacity list.old }
 {
-    if let Some((kept, last)) = settled(list.as_slice(), cell) {
+    if let Some((kept, last)) = new_end(list.as_slice(), cell) {
         list.truncate(kept);
         list.push_reserved(last);
     }
@@ -122,7 +122,7 @@ pub(crate) fn add_reserved(list: &mut Vec<CellId>, cell: CellId)
 
 /// What the front becomes when a cell is added: how many of its cells stay, and the cell that follows them. None if the
 /// last cell of the front contains the new one.
-fn settled(front: &[CellId], cell: CellId) -> Option<(usize, CellId)>
+fn new_end(front: &[CellId], cell: CellId) -> Option<(usize, CellId)>
     requires packed { IsPacked front.now }
     requires starts { All (λ c. 2 * first_leaf c < cell) front.now }
     ensures cases { MatchOption result ((x : ℕ) → has_leaf front.now x ≡ (has_leaf front.now x || covers cell x))
@@ -135,7 +135,7 @@ fn settled(front: &[CellId], cell: CellId) -> Option<(usize, CellId)>
     }
     let _ = cell.id();
     let kept = outside(front, cell);
-    let (kept, last) = merged(&front[..kept], cell);
+    let (kept, last) = merge_families(&front[..kept], cell);
     Some((kept, last))
 }
 
@@ -157,8 +157,8 @@ fn outside(front: &[CellId], cell: CellId) -> usize
     kept
 }
 
-/// The same for a cell after the whole front, for which only families are merged.
-fn merged(front: &[CellId], cell: CellId) -> (usize, CellId)
+/// What the front becomes when a cell after all of it is added: only families are merged.
+fn merge_families(front: &[CellId], cell: CellId) -> (usize, CellId)
     requires packed { IsPacked front.now }
     requires after { All (λ c. EndsBefore c cell) front.now }
     requires is_cell { IsCell cell }

@@ -94,7 +94,7 @@ impl CellUnion {
     {
         let cells = self.cells();
         let start = find(cells, cell.first_leaf());
-        let end = begun(cells, cell.end_leaf());
+        let end = count_before(cells, cell.end_leaf());
         prove!(start <= end);
         &cells[start..end]
     }
@@ -151,7 +151,7 @@ pub(crate) fn meets_at(cells: &[CellId], at: usize, cell: CellId, looks: &mut u6
 }
 
 /// How many cells begin before the leaf `end`.
-fn begun(cells: &[CellId], end: u64) -> usize
+fn count_before(cells: &[CellId], end: u64) -> usize
     requires packed { IsPacked cells.now }
     requires leaf { end ≤ LEAVES }
     ensures within { result ≤ length cells.now }
@@ -195,17 +195,17 @@ fn holds_evenly(xs: &[CellId], ys: &[CellId]) -> Counted
         let y = look(ys, j, &mut more);
         i = find_from_counted(xs, i, y.first_leaf(), &mut more);
         if i >= xs.len() {
-            return told(false, looks, more);
+            return answer_with(false, looks, more);
         }
         let x = look(xs, i, &mut more);
         if !x.contains(y) {
-            return told(false, looks, more);
+            return answer_with(false, looks, more);
         }
         j = find_from_counted(ys, j + 1, x.end_leaf(), &mut more);
         i += 1;
         looks = looks.saturating_add(more);
     }
-    told(true, looks, 0)
+    answer_with(true, looks, 0)
 }
 
 /// Whether `xs` and `ys` share a leaf.
@@ -239,20 +239,20 @@ fn meets_evenly(xs: &[CellId], ys: &[CellId]) -> Counted
         let y = look(ys, j, &mut more);
         i = find_from_counted(xs, i, y.first_leaf(), &mut more);
         if i >= xs.len() {
-            return told(false, looks, more);
+            return answer_with(false, looks, more);
         }
         let x = look(xs, i, &mut more);
         if x.first_leaf() < y.end_leaf() {
-            return told(true, looks, more);
+            return answer_with(true, looks, more);
         }
         j = find_from_counted(ys, j + 1, x.first_leaf(), &mut more);
         looks = looks.saturating_add(more);
     }
-    told(false, looks, 0)
+    answer_with(false, looks, 0)
 }
 
 /// An answer with its looks, and `more`.
-pub(crate) fn told(answer: bool, looks: u64, more: u64) -> Counted
+pub(crate) fn answer_with(answer: bool, looks: u64, more: u64) -> Counted
     ensures answer { result.answer ≡ answer }
     ensures looks { result.looks ≡ min (looks + more) (2 ^ 64 - 1) }
 {

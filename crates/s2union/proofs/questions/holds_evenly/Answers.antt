@@ -22,7 +22,7 @@ loop-j-init c = record { covering = search rules; turns = no_turn }
 pub returns-then-i-xs-clause-answer : goal.returns-then-i-xs-clause-answer
 returns-then-i-xs-clause-answer c =
     let is = is_at c.args.ys.now c.loop-j.j c.look-y.result c.loop-j-test.true c.look-y.ensures.cell in
-    rw c.told.ensures.answer (
+    rw c.answer_with.ensures.answer (
       λ e. absurd (false≢true e),
       λ w. absurd (covering_ends c.args.xs.now c.args.ys.now c.find_from_counted-i.result c.loop-j.j
           c.requires.x_local c.requires.y_local
@@ -35,10 +35,10 @@ returns-then-i-xs-clause-answer c =
 pub returns-then-i-xs-clause-looks : goal.returns-then-i-xs-clause-looks
 returns-then-i-xs-clause-looks c =
     let f = c.find_from_counted-i.ensures in
-    let told = c.told.ensures.looks in
+    let told = c.answer_with.ensures.looks in
     turns_last _ _ c.loop-j.looks c.loop-j.i c.loop-j.j c.look-y.new.looks c.find_from_counted-i.new.looks
     c.find_from_counted-i.result
-    c.told.result.looks
+    c.answer_with.result.looks
     c.loop-j.invariant.turns c.loop-j.invariant.covering.in_x c.loop-j-test.true f.from f.within (omega arith)
     f.looks (omega arith)
 
@@ -52,7 +52,7 @@ returns-then-not-contains-clause-answer c =
     let ex : get_or xs i 0 ≡ c.look-x.result = sym c.look-x.ensures.cell in
     let is = is_at c.args.ys.now c.loop-j.j c.look-y.result c.loop-j-test.true c.look-y.ensures.cell in
     let b = c.first_leaf.ensures.value in
-    rw c.told-then-not-contains.ensures.answer (
+    rw c.answer_with-then-not-contains.ensures.answer (
       λ e. absurd (false≢true e),
       λ w. absurd (covering_fails xs c.args.ys.now i c.loop-j.j c.look-y.result c.requires.x_local c.requires.y_local
           (covering_on c.args.xs.now c.args.ys.now c.loop-j.i c.loop-j.j c.find_from_counted-i.result c.look-y.result
@@ -67,11 +67,11 @@ returns-then-not-contains-clause-answer c =
 pub returns-then-not-contains-clause-looks : goal.returns-then-not-contains-clause-looks
 returns-then-not-contains-clause-looks c =
     let f = c.find_from_counted-i.ensures in
-    let told = c.told-then-not-contains.ensures.looks in
+    let told = c.answer_with-then-not-contains.ensures.looks in
     let more = c.look-x.ensures.count in
     turns_last _ _ c.loop-j.looks c.loop-j.i c.loop-j.j c.look-y.new.looks c.find_from_counted-i.new.looks
     c.find_from_counted-i.result
-    c.told-then-not-contains.result.looks
+    c.answer_with-then-not-contains.result.looks
     c.loop-j.invariant.turns c.loop-j.invariant.covering.in_x c.loop-j-test.true f.from f.within (omega arith)
     f.looks (omega arith)
 
@@ -117,7 +117,7 @@ loop-j-preserved c =
     }
 
 pub returns-clause-answer : goal.returns-clause-answer
-returns-clause-answer c = rw c.told-2.ensures.answer (
+returns-clause-answer c = rw c.answer_with-2.ensures.answer (
   λ e. covering_done c.args.xs.now c.args.ys.now c.loop-j.i c.loop-j.j c.loop-j.invariant.covering
       (omega arith),
   λ w. refl,
@@ -125,7 +125,7 @@ returns-clause-answer c = rw c.told-2.ensures.answer (
 
 pub returns-clause-looks : goal.returns-clause-looks
 returns-clause-looks c =
-    let told = c.told-2.ensures.looks in
+    let told = c.answer_with-2.ensures.looks in
     let v = c.loop-j.invariant.covering in
-    turns_all _ _ c.loop-j.looks c.loop-j.i c.loop-j.j c.told-2.result.looks c.loop-j.invariant.turns v.in_x v.in_y
-    (omega arith)
+    turns_all _ _ c.loop-j.looks c.loop-j.i c.loop-j.j c.answer_with-2.result.looks c.loop-j.invariant.turns v.in_x
+    v.in_y (omega arith)

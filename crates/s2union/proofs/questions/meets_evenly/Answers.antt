@@ -88,7 +88,7 @@ pub returns-then-i-xs-clause-answer : goal.returns-then-i-xs-clause-answer
 returns-then-i-xs-clause-answer c =
     let f = c.find_from_counted-i.ensures in
     let is = is_at c.args.ys.now c.loop-j.j c.look-y.result c.loop-j-test.true c.look-y.ensures.cell in
-    rw c.told.ensures.answer (
+    rw c.answer_with.ensures.answer (
       λ e. absurd (false≢true e),
       λ s. absurd (none_shared c.args.xs.now c.args.ys.now c.find_from_counted-i.result c.loop-j.j
           (skip_x (both c.args.xs.now c.args.ys.now) c.args.xs.now c.args.ys.now [] c.loop-j.i c.loop-j.j
@@ -102,11 +102,11 @@ returns-then-i-xs-clause-answer c =
 pub returns-then-i-xs-clause-looks : goal.returns-then-i-xs-clause-looks
 returns-then-i-xs-clause-looks c =
     let f = c.find_from_counted-i.ensures in
-    let told = c.told.ensures.looks in
+    let told = c.answer_with.ensures.looks in
     tries_last c.args.xs.now c.args.ys.now c.loop-j.looks c.loop-j.i c.loop-j.j c.look-y.new.looks
     c.find_from_counted-i.new.looks
     c.find_from_counted-i.result
-    c.told.result.looks c.loop-j.invariant.tries c.loop-j.invariant.in_x c.loop-j-test.true f.from f.within
+    c.answer_with.result.looks c.loop-j.invariant.tries c.loop-j.invariant.in_x c.loop-j-test.true f.from f.within
     (omega arith) f.looks
     (omega arith)
 
@@ -123,7 +123,7 @@ returns-then-first_leaf-end_leaf-clause-answer c =
     let fy = c.first_leaf.ensures.value in
     let ey = c.end_leaf.ensures.value in
     let gx = c.first_leaf-in-loop-j.ensures.value in
-    rw c.told-then-first_leaf-end_leaf.ensures.answer (
+    rw c.answer_with-then-first_leaf-end_leaf.ensures.answer (
       λ _. some_shared xs c.args.ys.now i c.loop-j.j c.look-x.result c.look-y.result c.requires.x_local
           c.requires.y_local (omega arith)
           c.loop-j-test.true
@@ -134,17 +134,17 @@ returns-then-first_leaf-end_leaf-clause-answer c =
 pub returns-then-first_leaf-end_leaf-clause-looks : goal.returns-then-first_leaf-end_leaf-clause-looks
 returns-then-first_leaf-end_leaf-clause-looks c =
     let f = c.find_from_counted-i.ensures in
-    let told = c.told-then-first_leaf-end_leaf.ensures.looks in
+    let told = c.answer_with-then-first_leaf-end_leaf.ensures.looks in
     let more = c.look-x.ensures.count in
     tries_last c.args.xs.now c.args.ys.now c.loop-j.looks c.loop-j.i c.loop-j.j c.look-y.new.looks
     c.find_from_counted-i.new.looks
     c.find_from_counted-i.result
-    c.told-then-first_leaf-end_leaf.result.looks c.loop-j.invariant.tries c.loop-j.invariant.in_x
+    c.answer_with-then-first_leaf-end_leaf.result.looks c.loop-j.invariant.tries c.loop-j.invariant.in_x
     c.loop-j-test.true f.from
     f.within (omega arith) f.looks (omega arith)
 
 pub returns-clause-answer : goal.returns-clause-answer
-returns-clause-answer c = rw c.told-2.ensures.answer (
+returns-clause-answer c = rw c.answer_with-2.ensures.answer (
   λ e. absurd (false≢true e),
   λ s. absurd (none_shared_swap c.args.xs.now c.args.ys.now c.loop-j.i c.loop-j.j
       c.loop-j.invariant.sharing (omega arith) s),
@@ -152,7 +152,7 @@ returns-clause-answer c = rw c.told-2.ensures.answer (
 
 pub returns-clause-looks : goal.returns-clause-looks
 returns-clause-looks c =
-    let told = c.told-2.ensures.looks in
+    let told = c.answer_with-2.ensures.looks in
     let v = c.loop-j.invariant in
-    tries_all c.args.xs.now c.args.ys.now c.loop-j.looks c.loop-j.i c.loop-j.j c.told-2.result.looks v.tries v.in_x
-    v.in_y (omega arith)
+    tries_all c.args.xs.now c.args.ys.now c.loop-j.looks c.loop-j.i c.loop-j.j c.answer_with-2.result.looks v.tries
+    v.in_x v.in_y (omega arith)

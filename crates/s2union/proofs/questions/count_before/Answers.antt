@@ -2,9 +2,9 @@ use Rattle.std.proofs.Common.{◌≡◌, get_or, arith, refl, ap}
 use Rattle.s2cell.specs.Cell.{first_leaf}
 use Rattle.s2union.proofs.Packing.{read_at}
 use Rattle.s2union.proofs.Overlapping.{begun_behind, begun_more, rest_behind, rest_from}
-use Rattle.s2union.proofs.questions.begun.Goals as goal
-use Rattle.s2union.proofs.questions.begun.Goals.{else-ended-cells-via-then-ended-cells+else-first_leaf-end}
-use Rattle.s2union.proofs.questions.begun.Goals.{else-ended-cells-via-else-ended-cells}
+use Rattle.s2union.proofs.questions.count_before.Goals as goal
+use Rattle.s2union.proofs.questions.count_before.Goals.{else-ended-cells-via-then-ended-cells+else-first_leaf-end}
+use Rattle.s2union.proofs.questions.count_before.Goals.{else-ended-cells-via-else-ended-cells}
 
 pub returns-then-first_leaf-end-clause-begun : goal.returns-then-first_leaf-end-clause-begun
 returns-then-first_leaf-end-clause-begun c k h =
