@@ -8,7 +8,7 @@ use Rattle.std.specs.List.Sorted.{IsStrictlyIncreasing}
 use Rattle.s2cell.specs.Cell.{IsCell}
 use Rattle.s2union.specs.Packed.{IsPacked}
 use Rattle.s2union.specs.Tail.{Follows, IsTail}
-use Rattle.s2union.specs.declared.tail.Tail.{Tail}
+use Rattle.s2union.specs.declared.apply.Tail.{Tail}
 use Rattle.s2union.specs.Apply.{applied, Fits}
 use Rattle.s2union.specs.Merge.{Left, CanApply, Goes, made_list}
 use Rattle.s2union.proofs.Packing.{packed_take}

@@ -7,7 +7,7 @@ use Rattle.std.proofs.lemmas.List.{append-nil, take-append-drop, take_all, take_
 use Rattle.s2cell.specs.Cell.{IsCell}
 use Rattle.s2union.specs.Packed.{IsPacked, Continues}
 use Rattle.s2union.specs.Tail.{Follows, IsTail, Passes}
-use Rattle.s2union.specs.declared.tail.Tail.{Tail}
+use Rattle.s2union.specs.declared.apply.Tail.{Tail}
 use Rattle.s2union.specs.Apply.{applied, Fits}
 use Rattle.s2union.specs.Merge.{Left, CanApply, Keeps, made_list}
 use Rattle.s2union.proofs.Packing.{packed_take, read_at}

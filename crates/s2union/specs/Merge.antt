@@ -6,8 +6,8 @@ use Rattle.std.specs.declared.cmp.Ordering.{Ordering}
 use Rattle.std.specs.declared.cmp.Ordering.TheVariants.{Less, Equal, Greater}
 use Rattle.s2union.specs.Apply.{has, applied}
 use Rattle.s2union.specs.Packed.{IsPacked}
-use Rattle.s2union.specs.declared.merge.Turn.{Turn}
-use Rattle.s2union.specs.declared.merge.Turn.TheVariants.{Write, Skip, Misfit, End}
+use Rattle.s2union.specs.declared.apply.Turn.{Turn}
+use Rattle.s2union.specs.declared.apply.Turn.TheVariants.{Write, Skip, Misfit, End}
 
 -- what is left of the three lists: the cells to take out, the cells to put in, and the cells of the list
 pub record Left : Type 0 where

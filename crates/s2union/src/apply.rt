@@ -1,16 +1,25 @@
-//! Taking cells out of a union's list and putting others in.
-ghost use Rattle.std.specs.Prelude.{◌≡◌, ◌≤◌, ◌+◌, ◌++◌, ◌↔◌, [], length, IfOk, IsTrue};
+//! Changes of a union's list: cells are taken out of it and others put in.
+//!
+//! [`Merge`] walks along the list and the two lists of a change, and gives the changed list by runs and single cells.
+//! [`Tail`] tells from the last three cells that it gave whether the next one may come after them.
+ghost use Rattle.std.specs.Prelude.{◌≡◌, ◌≤◌, ◌+◌, ◌++◌, ◌↔◌, [], length, IfOk, IsTrue, Some, None};
 ghost use Rattle.std.specs.List.Sorted.{IsStrictlyIncreasing};
 ghost use Rattle.std.specs.Vec.{vec_len, vec_capacity};
+ghost use Rattle.s2cell.specs.Cell.{IsCell};
 ghost use Rattle.s2union.specs.Union.{IsLocal};
 ghost use Rattle.s2union.specs.Apply.{applied, Fits};
+ghost use Rattle.s2union.specs.Merge.{IsTurn, IsHead, IsFrontOf, Keeps};
+ghost use Rattle.s2union.specs.Packed.{IsPacked};
+ghost use Rattle.s2union.specs.Tail.{Follows, Passes};
 
-use crate::merge::{Merge, Turn};
-use crate::runs::extend_reserved;
-use crate::tail::Tail;
+use crate::normalising::parent_of_family;
+use crate::search::gallop;
+use crate::sets::extend_reserved;
 use crate::union::CellUnion;
 use s2cell::CellId;
 use std::alloc::{AllocError, Global};
+use std::cmp::Ordering;
+use std::marker::Model;
 
 impl CellUnion {
     /// An empty union with room for `n` cells, which [`apply_into`](CellUnion::apply_into) and
@@ -122,5 +131,200 @@ fn fits_cells<'a>(cells: &'a [CellId], out: &'a [CellId], put: &'a [CellId]) -> 
             Turn::Misfit => return false,
             Turn::End => return true,
         }
+    }
+}
+
+/// What is left of a list, of the cells to take out of it, and of those to put in.
+#[derive(Drop)]
+pub(crate) struct Merge<'a> {
+    cells: &'a [CellId],
+    out: &'a [CellId],
+    put: &'a [CellId],
+}
+
+impl<'a> Model for Merge<'a> {
+    ghost use Rattle.s2union.specs.Merge.{Left, Ascend};
+
+    ghost Value = { Left };
+
+    ghost view = { λ m. record { out = m.out.now; put = m.put.now; cells = m.cells.now } };
+
+    ghost invariant = { λ m. Ascend (record { out = m.out.now; put = m.put.now; cells = m.cells.now }) };
+}
+
+/// One step of the walk.
+#[derive(Drop)]
+pub(crate) enum Turn {
+    /// The next cell of the changed list.
+    Write(CellId),
+    /// A cell that is taken out.
+    Skip,
+    /// The change does not fit the list.
+    Misfit,
+    /// The walk is at its end.
+    End,
+}
+
+impl<'a> Merge<'a> {
+    /// The walk from the beginning.
+    pub(crate) fn new(cells: &'a [CellId], out: &'a [CellId], put: &'a [CellId]) -> Merge<'a>
+        requires cells_packed { IsPacked cells.now }
+        requires out_ascends { IsStrictlyIncreasing out.now }
+        requires put_ascends { IsStrictlyIncreasing put.now }
+        ensures { result ≡ record { out = out.now; put = put.now; cells = cells.now } }
+    {
+        Merge { cells, out, put }
+    }
+
+    /// The cells of the list before the next one that is taken out or put in, which stay. The walk goes on after them.
+    pub(crate) fn run(&mut self) -> &'a [CellId]
+        ensures keeps { Keeps result.now self.old self.new }
+        ensures packed { IsPacked result.now }
+    {
+        let next = first_id(self.out).min(first_id(self.put));
+        let len = gallop(self.cells, 0, next);
+        let cells = self.cells;
+        self.cells = &cells[len..];
+        &cells[..len]
+    }
+
+    /// The step if no cell of the list is left.
+    fn turn_behind(&mut self) -> Turn
+        requires { self.old.cells ≡ [] }
+        ensures { IsTurn result self.old self.new }
+    {
+        if let Some((&put, rest)) = self.put.split_first() {
+            self.put = rest;
+            return Turn::Write(put);
+        }
+        if !self.out.is_empty() {
+            return Turn::Misfit;
+        }
+        Turn::End
+    }
+
+    /// Takes one step.
+    pub(crate) fn turn(&mut self) -> Turn
+        ensures { IsTurn result self.old self.new }
+    {
+        let Some((&cell, cells)) = self.cells.split_first() else {
+            return self.turn_behind();
+        };
+        match head_order(self.put, cell) {
+            Ordering::Less => {
+                let put = self.put[0];
+                self.put = &self.put[1..];
+                Turn::Write(put)
+            }
+            Ordering::Equal => Turn::Misfit,
+            Ordering::Greater => match head_order(self.out, cell) {
+                Ordering::Less => Turn::Misfit,
+                Ordering::Equal => {
+                    self.out = &self.out[1..];
+                    self.cells = cells;
+                    Turn::Skip
+                }
+                Ordering::Greater => {
+                    self.cells = cells;
+                    Turn::Write(cell)
+                }
+            },
+        }
+    }
+}
+
+/// How the first cell of a list compares to the cell; an empty list compares as greater.
+fn head_order(list: &[CellId], cell: CellId) -> Ordering
+    ensures { IsHead result list.now cell }
+{
+    match list.first() {
+        Some(first) => first.cmp(&cell),
+        None => Ordering::Greater,
+    }
+}
+
+/// The identifier of the first cell of a list, or a number above every cell if the list is empty.
+fn first_id(list: &[CellId]) -> u64
+    ensures { IsFrontOf result list.now }
+{
+    match list.first() {
+        Some(first) => first.id(),
+        None => u64::MAX,
+    }
+}
+
+/// The last three of the cells that were passed, or fewer if there were fewer. The next cell can share leaves or make a
+/// family only with these.
+#[derive(Drop)]
+pub(crate) struct Tail {
+    last: Option<CellId>,
+    second: Option<CellId>,
+    third: Option<CellId>,
+}
+
+impl Tail {
+    /// The tail before any cell was passed.
+    pub(crate) fn new() -> Tail
+        ensures { result ≡ record { last = None; second = None; third = None } }
+    {
+        Tail {
+            last: None,
+            second: None,
+            third: None,
+        }
+    }
+
+    /// Whether the cell may come next.
+    pub(crate) fn takes(&self, cell: CellId) -> bool
+        ensures exact { IsTrue result ↔ Follows self.now cell }
+        ensures is_cell { IsCell cell }
+    {
+        let _ = cell.id();
+        let Some(last) = self.last else {
+            return true;
+        };
+        if cell.range_min() <= last.range_max() {
+            return false;
+        }
+        let Some(second) = self.second else {
+            return true;
+        };
+        let Some(third) = self.third else {
+            return true;
+        };
+        match parent_of_family(third, second, last, cell) {
+            Some(_) => false,
+            None => true,
+        }
+    }
+
+    /// Whether the cells of a run of a list may come next, one after another; if so, they are passed. Only the first
+    /// three of them can share leaves or make a family with those before; the others follow each other as in the list.
+    pub(crate) fn pass(&mut self, run: &[CellId]) -> bool
+        requires packed { IsPacked run.now }
+        ensures { Passes (IsTrue result) self.old self.new run.now }
+    {
+        for k in 0..run.len().min(3) {
+            let cell = run[k];
+            if !self.takes(cell) {
+                return false;
+            }
+            self.push(cell);
+        }
+        if run.len() > 3 {
+            self.push(run[run.len() - 3]);
+            self.push(run[run.len() - 2]);
+            self.push(run[run.len() - 1]);
+        }
+        true
+    }
+
+    /// Passes the cell.
+    pub(crate) fn push(&mut self, cell: CellId)
+        ensures { self.new ≡ record { last = Some cell; second = self.old.last; third = self.old.second } }
+    {
+        self.third = self.second;
+        self.second = self.last;
+        self.last = Some(cell);
     }
 }

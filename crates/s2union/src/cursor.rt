@@ -4,7 +4,8 @@ ghost use Rattle.s2cell.specs.Cell.{covers, first_leaf};
 ghost use Rattle.s2union.specs.Union.{has_leaf, IsWithin, ShareSome};
 ghost use Rattle.s2union.specs.Packed.{IsPacked, Behind, EndsAfter};
 
-use crate::search::{find, find_from, holds_at, meets_at};
+use crate::questions::{holds_at, meets_at};
+use crate::search::{find, find_from};
 use crate::union::CellUnion;
 use s2cell::{CellId, LEAVES};
 use std::marker::Model;

@@ -11,9 +11,8 @@ ghost use Rattle.s2union.specs.Packed.{IsPacked, IsPlace, Behind, EndsAfter};
 ghost use Rattle.s2union.specs.Search.{Brackets};
 ghost use Rattle.s2union.specs.Looks.{FewForUnion};
 
-use crate::gallop::{pass, quarter};
-use crate::looks::{Counted, Found, look};
-use crate::search::{holds, holds_at, meets, meets_at, told, without_last};
+use crate::questions::{Counted, answer_with, holds, holds_at, meets, meets_at};
+use crate::search::{Found, look, pass, quarter, without_last};
 use s2cell::{CellId, LEAVES};
 
 /// A list counts as short if the other is at least this many times as long. A search in the other takes no more steps
@@ -65,19 +64,19 @@ pub(crate) fn holds_few(xs: &[CellId], ys: &[CellId]) -> Counted
         let found = holds(xs, look(ys, j, &mut more));
         looks = looks.saturating_add(more + found.looks);
         if !found.answer {
-            return told(false, looks, 0);
+            return answer_with(false, looks, 0);
         }
         j += 1;
     }
     while j < ys.len() {
         let mut more = 0;
         if !holds_four(xs, ys, j, &mut more) {
-            return told(false, looks, more);
+            return answer_with(false, looks, more);
         }
         looks = looks.saturating_add(more);
         j += 4;
     }
-    told(true, looks, 0)
+    answer_with(true, looks, 0)
 }
 
 /// Whether `xs` and `ys`, which is much shorter, share a leaf.
@@ -96,19 +95,19 @@ pub(crate) fn meets_few(xs: &[CellId], ys: &[CellId]) -> Counted
         let found = meets(xs, look(ys, j, &mut more));
         looks = looks.saturating_add(more + found.looks);
         if found.answer {
-            return told(true, looks, 0);
+            return answer_with(true, looks, 0);
         }
         j += 1;
     }
     while j < ys.len() {
         let mut more = 0;
         if meets_four(xs, ys, j, &mut more) {
-            return told(true, looks, more);
+            return answer_with(true, looks, more);
         }
         looks = looks.saturating_add(more);
         j += 4;
     }
-    told(false, looks, 0)
+    answer_with(false, looks, 0)
 }
 
 /// Whether a local list has all leaves of four cells of `few`, from the place `at` on.

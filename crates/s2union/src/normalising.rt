@@ -1,16 +1,20 @@
-//! Normalizing a list, and testing whether it is normalized.
-
-ghost use Rattle.std.specs.Prelude.{◌≡◌, ◌≤◌, ◌<◌, ◌+◌, ◌↔◌, ℕ, IsTrue, take, All, ◌||◌, slice_index_or};
-ghost use Rattle.std.specs.Prelude.{◌*◌, ◌++◌, ◌∷◌, []};
+//! Normalizing a list, testing whether it is normalized, and the step of both: how one more cell is appended to packed
+//! cells.
+//!
+//! Packed cells are in order and share no leaf, and no four in a row are a family, the children of one cell. A cell
+//! that comes after them in order of identifiers lies in the last of them, or contains some at the end, or lies after
+//! all of them. If it completes a family, the parent replaces the family, and may complete a family in turn. So the end
+//! of the list is a stack, and each cell is pushed once and popped at most once.
+ghost use Rattle.std.specs.Prelude.{◌≡◌, ◌≤◌, ◌<◌, ◌+◌, ◌↔◌, ◌||◌, ◌*◌, ◌++◌, ◌∷◌, ◌-◌, ℕ, IsTrue, take, All};
+ghost use Rattle.std.specs.Prelude.{slice_index_or, [], MatchOption, length, slice_index, IfSome};
 ghost use Rattle.std.specs.Vec.{vec_len, vec_capacity};
 ghost use Rattle.std.specs.List.Sorted.{IsNonDecreasing};
-ghost use Rattle.s2cell.specs.Cell.{covers, first_leaf};
+ghost use Rattle.s2cell.specs.Cell.{covers, first_leaf, IsCell, level_of, IsInside};
 ghost use Rattle.s2union.specs.Union.{IsLocal, IsNormalForm, IsShortest, has_leaf};
-ghost use Rattle.s2union.specs.Packed.{IsPacked};
+ghost use Rattle.s2union.specs.Packed.{IsPacked, EndsBefore, IsFamily, Merges};
 
-use crate::merging::{parent_of_family, settled};
 use crate::union::CellUnion;
-use s2cell::CellId;
+use s2cell::{CellId, GREATEST_LEVEL};
 
 /// The union of the leaves of these cells, which may be in any order and contain one another. Works in the list's own
 /// place and keeps its room, takes no memory and can't fail. A sort and one pass: `n log n` steps, and little more than
@@ -37,13 +41,13 @@ fn compact(cells: &mut Vec<CellId>)
     let mut n = 0;
     for i in 0..cells.len() {
         let cell = cells[i];
-        n = placed(cells, n, cell);
+        n = place(cells, n, cell);
     }
     cells.truncate(n);
 }
 
 /// Adds a cell after the first `n` cells, which are packed, and answers how many packed cells there are then.
-fn placed(cells: &mut Vec<CellId>, n: usize, cell: CellId) -> usize
+fn place(cells: &mut Vec<CellId>, n: usize, cell: CellId) -> usize
     requires room { n < vec_len cells.old }
     requires packed { IsPacked (take n cells.old.items) }
     requires starts { All (λ c. 2 * first_leaf c < cell) (take n cells.old.items) }
@@ -56,7 +60,7 @@ fn placed(cells: &mut Vec<CellId>, n: usize, cell: CellId) -> usize
     ensures len { vec_len cells.new ≡ vec_len cells.old }
     ensures room { vec_capacity cells.new ≡ vec_capacity cells.old }
 {
-    match settled(&cells.as_slice()[..n], cell) {
+    match new_end(&cells.as_slice()[..n], cell) {
         Some((kept, last)) => {
             cells[kept] = last;
             kept + 1
@@ -97,4 +101,107 @@ fn fits_behind(front: &[CellId], cell: CellId) -> bool
         Some(_) => false,
         None => true,
     }
+}
+
+/// Adds the leaves of a cell to packed cells that have room for one more.
+pub(crate) fn add_reserved(list: &mut Vec<CellId>, cell: CellId)
+    requires packed { IsPacked list.old.items }
+    requires starts { All (λ c. 2 * first_leaf c < cell) list.old.items }
+    requires room { vec_len list.old < vec_capacity list.old }
+    ensures packed { IsPacked list.new.items }
+    ensures starts { All (λ c. 2 * first_leaf c < cell) list.new.items }
+    ensures leaves { (x : ℕ) → has_leaf list.new.items x ≡ (has_leaf list.old.items x || covers cell x) }
+    ensures few { vec_len list.new ≤ vec_len list.old + 1 }
+    ensures room { vec_capacity list.new ≡ vec_capacity list.old }
+{
+    if let Some((kept, last)) = new_end(list.as_slice(), cell) {
+        list.truncate(kept);
+        list.push_reserved(last);
+    }
+}
+
+/// What the front becomes when a cell is added: how many of its cells stay, and the cell that follows them. None if the
+/// last cell of the front contains the new one.
+fn new_end(front: &[CellId], cell: CellId) -> Option<(usize, CellId)>
+    requires packed { IsPacked front.now }
+    requires starts { All (λ c. 2 * first_leaf c < cell) front.now }
+    ensures cases { MatchOption result ((x : ℕ) → has_leaf front.now x ≡ (has_leaf front.now x || covers cell x))
+        (λ r. Merges front.now cell r.0 r.1) }
+    ensures starts { IfSome result (λ r. All (λ c. 2 * first_leaf c < cell) (take r.0 front.now ++ r.1 ∷ [])) }
+{
+    let n = front.len();
+    if n > 0 && front[n - 1].contains(cell) {
+        return None;
+    }
+    let _ = cell.id();
+    let kept = outside(front, cell);
+    let (kept, last) = merge_families(&front[..kept], cell);
+    Some((kept, last))
+}
+
+/// How many cells of the front lie outside the cell; these come first.
+fn outside(front: &[CellId], cell: CellId) -> usize
+    requires packed { IsPacked front.now }
+    requires starts { All (λ c. 2 * first_leaf c < cell) front.now }
+    requires is_cell { IsCell cell }
+    requires not_held { 0 < length front.now → IsInside cell (slice_index front.now (length front.now - 1)) → ⊥ }
+    ensures within { result ≤ length front.now }
+    ensures after { All (λ c. EndsBefore c cell) (take result front.now) }
+    ensures leaves { (x : ℕ) → (has_leaf (take result front.now) x || covers cell x)
+        ≡ (has_leaf front.now x || covers cell x) }
+{
+    let mut kept = front.len();
+    while kept > 0 && cell.contains(front[kept - 1]) {
+        kept -= 1;
+    }
+    kept
+}
+
+/// What the front becomes when a cell after all of it is added: only families are merged.
+fn merge_families(front: &[CellId], cell: CellId) -> (usize, CellId)
+    requires packed { IsPacked front.now }
+    requires after { All (λ c. EndsBefore c cell) front.now }
+    requires is_cell { IsCell cell }
+    ensures { Merges front.now cell result.0 result.1 }
+{
+    let mut kept = front.len();
+    let mut last = cell;
+    while kept >= 3 {
+        match parent_of_family(front[kept - 3], front[kept - 2], front[kept - 1], last) {
+            Some(parent) => {
+                last = parent;
+                kept -= 3;
+            }
+            None => break,
+        }
+    }
+    (kept, last)
+}
+
+/// The cell whose children these four are, in order.
+pub(crate) fn parent_of_family(a: CellId, b: CellId, c: CellId, d: CellId) -> Option<CellId>
+    ensures { MatchOption result ((p : ℕ) → IsFamily a b c d p → ⊥) (λ p. IsFamily a b c d p) }
+{
+    if c.id() + 2 * d.leaf_count() != d.id() {
+        return None;
+    }
+    let level = d.level();
+    if level == 0 {
+        return None;
+    }
+    let parent = d.parent(level - 1);
+    if is_family(parent, a, b, c, d) {
+        Some(parent)
+    } else {
+        None
+    }
+}
+
+/// Whether these four are the children of `parent`, in order.
+fn is_family(parent: CellId, a: CellId, b: CellId, c: CellId, d: CellId) -> bool
+    requires { level_of parent < GREATEST_LEVEL }
+    ensures { IsTrue result ↔ IsFamily a b c d parent }
+{
+    let _ = parent.id();
+    a == parent.child(0) && b == parent.child(1) && c == parent.child(2) && d == parent.child(3)
 }

@@ -1,133 +1,28 @@
-//! Whether a union has the leaves of a cell or of another union.
-
-ghost use Rattle.std.specs.Prelude.{ℕ, ◌≡◌, ◌≤◌, ◌<◌, ◌+◌, ◌-◌, ◌*◌, ◌^◌, ◌↔◌, IsTrue, min, length};
-ghost use Rattle.s2cell.specs.Cell.{IsCell, covers, first_leaf};
-ghost use Rattle.s2union.specs.Union.{IsLocal, has_leaf, IsWithin, ShareSome};
+//! The searches that all calls on ordered lists share, and the one function by which they look at a cell.
+ghost use Rattle.std.specs.Prelude.{◌≡◌, ◌≤◌, ◌<◌, ◌+◌, ◌-◌, ◌*◌, ◌^◌, ◌↔◌, ◌/◌, ◌⊎◌, ℕ, IsTrue, length, slice_index};
+ghost use Rattle.std.specs.List.Sorted.{IsStrictlyIncreasing};
 ghost use Rattle.s2union.specs.Packed.{IsPacked, Behind, EndsAt, EndsAfter};
 ghost use Rattle.s2union.specs.Search.{Brackets};
-ghost use Rattle.s2union.specs.Looks.{FewForCell, FewForUnion};
 
-use crate::few::{MUCH_LONGER, holds_few, meets_few};
-use crate::gallop::{gallop_counted, narrow};
-use crate::looks::{Counted, Found, look};
-use crate::union::CellUnion;
 use s2cell::{CellId, LEAVES};
 
-impl CellUnion {
-    /// Whether it has all leaves of the cell. Logarithmic in the number of its cells. S2 calls it `Contains`.
-    pub fn contains_cell(&self, cell: CellId) -> bool
-        ensures { IsTrue result ↔ IsWithin (covers cell) (has_leaf self.now.cells) }
-    {
-        self.contains_cell_counted(cell).answer
-    }
-
-    /// The same, with the number of cells that it looks at: at most `3 k + 5` if it has at most `2^k` cells.
-    pub fn contains_cell_counted(&self, cell: CellId) -> Counted
-        ensures answer { IsTrue result.answer ↔ IsWithin (covers cell) (has_leaf self.now.cells) }
-        ensures looks { FewForCell (length self.now.cells) result.looks }
-    {
-        holds(self.cells(), cell)
-    }
-
-    /// Whether it has a leaf of the cell. Logarithmic in the number of its cells. S2 calls it `Intersects`.
-    pub fn intersects_cell(&self, cell: CellId) -> bool
-        ensures { IsTrue result ↔ ShareSome (covers cell) (has_leaf self.now.cells) }
-    {
-        self.intersects_cell_counted(cell).answer
-    }
-
-    /// The same, with the number of cells that it looks at: at most `3 k + 5` if it has at most `2^k` cells.
-    pub fn intersects_cell_counted(&self, cell: CellId) -> Counted
-        ensures answer { IsTrue result.answer ↔ ShareSome (covers cell) (has_leaf self.now.cells) }
-        ensures looks { FewForCell (length self.now.cells) result.looks }
-    {
-        meets(self.cells(), cell)
-    }
-
-    /// Whether it has all leaves of the other union; stops by the third cell after the first that it lacks. Searches in
-    /// the longer list for each cell of the shorter one: `m (1 + log (n / m))` steps, if the shorter list has `m` cells
-    /// and the longer one `n`. S2 calls it `Contains`.
-    pub fn contains(&self, other: &CellUnion) -> bool
-        ensures { IsTrue result ↔ IsWithin (has_leaf other.now.cells) (has_leaf self.now.cells) }
-    {
-        self.contains_counted(other).answer
-    }
-
-    /// The same, with the number of cells of both lists that it looks at: at most `42 m (1 + k) + 42` if the shorter
-    /// list has `m` cells and the longer one at most `(m + 1) 2^k`. A count too large for a `u64` is answered as the
-    /// greatest `u64`.
-    pub fn contains_counted(&self, other: &CellUnion) -> Counted
-        ensures answer { IsTrue result.answer ↔ IsWithin (has_leaf other.now.cells) (has_leaf self.now.cells) }
-        ensures looks { FewForUnion (length self.now.cells) (length other.now.cells) result.looks }
-    {
-        holds_all(self.cells(), other.cells())
-    }
-
-    /// Whether the two share a leaf; stops by the third cell after the first with a shared leaf. As many steps as
-    /// `contains`. S2 calls it `Intersects`.
-    pub fn intersects(&self, other: &CellUnion) -> bool
-        ensures { IsTrue result ↔ ShareSome (has_leaf self.now.cells) (has_leaf other.now.cells) }
-    {
-        self.intersects_counted(other).answer
-    }
-
-    /// The same, with the number of cells of both lists that it looks at, bounded as for `contains_counted`.
-    pub fn intersects_counted(&self, other: &CellUnion) -> Counted
-        ensures answer { IsTrue result.answer ↔ ShareSome (has_leaf self.now.cells) (has_leaf other.now.cells) }
-        ensures looks { FewForUnion (length self.now.cells) (length other.now.cells) result.looks }
-    {
-        meets_any(self.cells(), other.cells())
-    }
+/// A place in a list, and how many cells were looked at to find it.
+#[derive(Clone, Copy)]
+pub(crate) struct Found {
+    pub(crate) at: usize,
+    pub(crate) looks: u64,
 }
 
-/// Whether a local list has all leaves of the cell.
-pub(crate) fn holds(cells: &[CellId], cell: CellId) -> Counted
-    requires { IsLocal cells.now }
-    ensures answer { IsTrue result.answer ↔ IsWithin (covers cell) (has_leaf cells.now) }
-    ensures looks { FewForCell (length cells.now) result.looks }
+/// The cell at a place. A search sees cells only through this call, which is counted.
+#[inline(always)]
+pub(crate) fn look(cells: &[CellId], at: usize, looks: &mut u64) -> CellId
+    requires there { at < length cells.now }
+    requires count { looks.old + 1 < 2 ^ 64 }
+    ensures cell { result ≡ slice_index cells.now at }
+    ensures count { looks.new ≡ looks.old + 1 }
 {
-    let found = find_counted(cells, cell.first_leaf());
-    let mut looks = found.looks;
-    let answer = holds_at(cells, found.at, cell, &mut looks);
-    Counted { answer, looks }
-}
-
-/// The same once it is known how many of its cells end by the first leaf of the cell.
-pub(crate) fn holds_at(cells: &[CellId], at: usize, cell: CellId, looks: &mut u64) -> bool
-    requires local { IsLocal cells.now }
-    requires is_cell { IsCell cell }
-    requires behind { Behind cells.now at (first_leaf cell) }
-    requires next { EndsAfter cells.now at (first_leaf cell) }
-    requires before { looks.old ≤ 1000 }
-    ensures answer { IsTrue result ↔ IsWithin (covers cell) (has_leaf cells.now) }
-    ensures looks { looks.new ≤ looks.old + 1 }
-{
-    at < cells.len() && look(cells, at, looks).contains(cell)
-}
-
-/// Whether a local list has a leaf of the cell.
-pub(crate) fn meets(cells: &[CellId], cell: CellId) -> Counted
-    requires { IsLocal cells.now }
-    ensures answer { IsTrue result.answer ↔ ShareSome (covers cell) (has_leaf cells.now) }
-    ensures looks { FewForCell (length cells.now) result.looks }
-{
-    let found = find_counted(cells, cell.first_leaf());
-    let mut looks = found.looks;
-    let answer = meets_at(cells, found.at, cell, &mut looks);
-    Counted { answer, looks }
-}
-
-/// The same once it is known how many of its cells end by the first leaf of the cell.
-pub(crate) fn meets_at(cells: &[CellId], at: usize, cell: CellId, looks: &mut u64) -> bool
-    requires local { IsLocal cells.now }
-    requires is_cell { IsCell cell }
-    requires behind { Behind cells.now at (first_leaf cell) }
-    requires next { EndsAfter cells.now at (first_leaf cell) }
-    requires before { looks.old ≤ 1000 }
-    ensures answer { IsTrue result ↔ ShareSome (covers cell) (has_leaf cells.now) }
-    ensures looks { looks.new ≤ looks.old + 1 }
-{
-    at < cells.len() && look(cells, at, looks).first_leaf() < cell.end_leaf()
+    *looks += 1;
+    cells[at]
 }
 
 /// How many cells end by the leaf `lo`; these come first. Logarithmic.
@@ -142,7 +37,7 @@ pub(crate) fn find(cells: &[CellId], lo: u64) -> usize
 }
 
 /// The same, counted.
-fn find_counted(cells: &[CellId], lo: u64) -> Found
+pub(crate) fn find_counted(cells: &[CellId], lo: u64) -> Found
     requires packed { IsPacked cells.now }
     requires leaf { lo ≤ LEAVES }
     ensures within { result.at ≤ length cells.now }
@@ -173,7 +68,7 @@ pub(crate) fn find_from(cells: &[CellId], from: usize, lo: u64) -> usize
 /// The same, counted. Looks at the next two cells one by one, since in lists of similar length it is mostly one of
 /// these.
 #[inline(always)]
-fn find_from_counted(cells: &[CellId], from: usize, lo: u64, looks: &mut u64) -> usize
+pub(crate) fn find_from_counted(cells: &[CellId], from: usize, lo: u64, looks: &mut u64) -> usize
     requires packed { IsPacked cells.now }
     requires leaf { lo ≤ LEAVES }
     requires within { from ≤ length cells.now }
@@ -250,98 +145,119 @@ pub(crate) fn without_last(cells: &[CellId], from: usize, begun: Found, lo: u64)
     }
 }
 
-/// Whether `xs` has all leaves of `ys`.
-fn holds_all(xs: &[CellId], ys: &[CellId]) -> Counted
-    requires x_local { IsLocal xs.now }
-    requires y_local { IsLocal ys.now }
-    ensures answer { IsTrue result.answer ↔ IsWithin (has_leaf ys.now) (has_leaf xs.now) }
-    ensures looks { FewForUnion (length xs.now) (length ys.now) result.looks }
+/// How many cells of an ascending list have an identifier below `mark`, given that the first `from` have.
+pub(crate) fn gallop(cells: &[CellId], from: usize, mark: u64) -> usize
+    requires ascends { IsStrictlyIncreasing cells.now }
+    requires within { from ≤ length cells.now }
+    requires below { (k : ℕ) → k < from → slice_index cells.now k < mark }
+    ensures from { from ≤ result }
+    ensures place { Brackets cells.now mark result result }
 {
-    if ys.len() <= xs.len() / MUCH_LONGER {
-        holds_few(xs, ys)
-    } else {
-        holds_evenly(xs, ys)
-    }
+    gallop_counted(cells, from, mark).at
 }
 
-/// The same, by a walk along both lists.
-fn holds_evenly(xs: &[CellId], ys: &[CellId]) -> Counted
-    requires x_local { IsLocal xs.now }
-    requires y_local { IsLocal ys.now }
-    ensures answer { IsTrue result.answer ↔ IsWithin (has_leaf ys.now) (has_leaf xs.now) }
-    ensures looks { FewForUnion (length xs.now) (length ys.now) result.looks }
+/// The same, counted.
+///
+/// Starts at `from` and leaps ahead, each leap eight times as long as the one before, and then searches what the last
+/// leap passed over. So the number of looks is logarithmic in how far it gets, however long the list is.
+fn gallop_counted(cells: &[CellId], from: usize, mark: u64) -> Found
+    requires ascends { IsStrictlyIncreasing cells.now }
+    requires within { from ≤ length cells.now }
+    requires below { (k : ℕ) → k < from → slice_index cells.now k < mark }
+    ensures from { from ≤ result.at }
+    ensures place { Brackets cells.now mark result.at result.at }
+    ensures looks { (k : ℕ) → result.at - from < 2 ^ k → result.looks ≤ 4 * k + 13 }
 {
-    let mut looks: u64 = 0;
-    let mut i = 0;
-    let mut j = 0;
-    while j < ys.len() {
-        let mut more = 0;
-        let y = look(ys, j, &mut more);
-        i = find_from_counted(xs, i, y.first_leaf(), &mut more);
-        if i >= xs.len() {
-            return told(false, looks, more);
+    let mut low = from;
+    let mut leap = 1;
+    let mut looks = 0;
+    while leap <= cells.len() - low {
+        if is_below(cells, low + (leap - 1), mark, &mut looks) == 0 {
+            return narrow(cells, low, low + (leap - 1), mark, looks);
         }
-        let x = look(xs, i, &mut more);
-        if !x.contains(y) {
-            return told(false, looks, more);
-        }
-        j = find_from_counted(ys, j + 1, x.end_leaf(), &mut more);
-        i += 1;
-        looks = looks.saturating_add(more);
+        low += leap;
+        leap = leap.saturating_mul(8);
     }
-    told(true, looks, 0)
+    narrow(cells, low, cells.len(), mark, looks)
 }
 
-/// Whether `xs` and `ys` share a leaf.
-fn meets_any(xs: &[CellId], ys: &[CellId]) -> Counted
-    requires x_local { IsLocal xs.now }
-    requires y_local { IsLocal ys.now }
-    ensures answer { IsTrue result.answer ↔ ShareSome (has_leaf xs.now) (has_leaf ys.now) }
-    ensures looks { FewForUnion (length xs.now) (length ys.now) result.looks }
+/// How many cells of an ascending list have an identifier below `mark`, given that the first `low` have and those from
+/// `high` on do not; its looks are added to those before.
+fn narrow(cells: &[CellId], low: usize, high: usize, mark: u64, before: u64) -> Found
+    requires ascends { IsStrictlyIncreasing cells.now }
+    requires brackets { Brackets cells.now mark low high }
+    requires before { before ≤ 1000 }
+    ensures from { low ≤ result.at }
+    ensures place { Brackets cells.now mark result.at result.at }
+    ensures looks { (k : ℕ) → high - low ≤ 2 ^ k → result.looks ≤ before + 3 * k + 3 }
 {
-    if ys.len() <= xs.len() / MUCH_LONGER {
-        meets_few(xs, ys)
-    } else if xs.len() <= ys.len() / MUCH_LONGER {
-        meets_few(ys, xs)
-    } else {
-        meets_evenly(xs, ys)
+    let mut base = low;
+    let mut size = high - low;
+    let mut looks = before;
+    while size >= 4 {
+        base = quarter(cells, base, size, mark, &mut looks);
+        size -= 3 * (size / 4);
     }
+    let at = pass(cells, base, size, mark, &mut looks);
+    Found { at, looks }
 }
 
-/// The same, by a walk along both lists.
-fn meets_evenly(xs: &[CellId], ys: &[CellId]) -> Counted
-    requires x_local { IsLocal xs.now }
-    requires y_local { IsLocal ys.now }
-    ensures answer { IsTrue result.answer ↔ ShareSome (has_leaf xs.now) (has_leaf ys.now) }
-    ensures looks { FewForUnion (length xs.now) (length ys.now) result.looks }
+/// Where the quarter begins that has the place of `mark`, which is one of the next `size` places from `base` on, or
+/// their end. It compares three cells at once and sums the results, since a branch on each would be mispredicted half
+/// the time.
+#[inline(always)]
+pub(crate) fn quarter(
+    cells: &[CellId],
+    base: usize,
+    size: usize,
+    mark: u64,
+    looks: &mut u64,
+) -> usize
+    requires ascends { IsStrictlyIncreasing cells.now }
+    requires some { 4 ≤ size }
+    requires brackets { Brackets cells.now mark base (base + size) }
+    requires count { looks.old ≤ 2000 }
+    ensures from { base ≤ result }
+    ensures brackets { Brackets cells.now mark result (result + (size - 3 * (size / 4))) }
+    ensures count { looks.new ≡ looks.old + 3 }
 {
-    let mut looks: u64 = 0;
-    let mut i = 0;
-    let mut j = 0;
-    while j < ys.len() {
-        let mut more = 0;
-        let y = look(ys, j, &mut more);
-        i = find_from_counted(xs, i, y.first_leaf(), &mut more);
-        if i >= xs.len() {
-            return told(false, looks, more);
-        }
-        let x = look(xs, i, &mut more);
-        if x.first_leaf() < y.end_leaf() {
-            return told(true, looks, more);
-        }
-        j = find_from_counted(ys, j + 1, x.first_leaf(), &mut more);
-        looks = looks.saturating_add(more);
-    }
-    told(false, looks, 0)
+    let quarter = size / 4;
+    let first = is_below(cells, base + (quarter - 1), mark, looks);
+    let second = is_below(cells, base + (2 * quarter - 1), mark, looks);
+    let third = is_below(cells, base + (3 * quarter - 1), mark, looks);
+    base + quarter * (first + second + third)
 }
 
-/// An answer with its looks, and `more`.
-pub(crate) fn told(answer: bool, looks: u64, more: u64) -> Counted
-    ensures answer { result.answer ≡ answer }
-    ensures looks { result.looks ≡ min (looks + more) (2 ^ 64 - 1) }
+/// The place of `mark`, which is one of the next `size` places from `base` on, or their end. Passes cell by cell.
+#[inline(always)]
+pub(crate) fn pass(cells: &[CellId], base: usize, size: usize, mark: u64, looks: &mut u64) -> usize
+    requires ascends { IsStrictlyIncreasing cells.now }
+    requires brackets { Brackets cells.now mark base (base + size) }
+    requires few { size ≤ 3 }
+    requires count { looks.old ≤ 2000 }
+    ensures from { base ≤ result }
+    ensures place { Brackets cells.now mark result result }
+    ensures count { looks.new ≤ looks.old + 3 }
 {
-    Counted {
-        answer,
-        looks: looks.saturating_add(more),
+    let mut at = base;
+    let end = base + size;
+    while at < end {
+        if is_below(cells, at, mark, looks) == 0 {
+            return at;
+        }
+        at += 1;
     }
+    at
+}
+
+/// 1 if the identifier of the cell at the place `at` is below `mark`, else 0.
+#[inline(always)]
+fn is_below(cells: &[CellId], at: usize, mark: u64, looks: &mut u64) -> usize
+    requires there { at < length cells.now }
+    requires count { looks.old + 1 < 2 ^ 64 }
+    ensures below { ((result ≡ 1) × (slice_index cells.now at < mark))
+        ⊎ ((result ≡ 0) × (mark ≤ slice_index cells.now at)) }
+    ensures count { looks.new ≡ looks.old + 1 }
+{
+    (look(cells, at, looks).id() < mark) as usize
 }

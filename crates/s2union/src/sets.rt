@@ -1,25 +1,22 @@
-//! The set operations, each a pass over two sorted lists side by side.
-
-ghost use Rattle.std.specs.Prelude.{All, MatchOption, slice_index, ◌≡◌, ◌≤◌, ◌<◌, ◌+◌, ℕ, length, ◌||◌, []};
-ghost use Rattle.std.specs.Prelude.{IfErr, IfOk, List, OnOk, ◌&&◌, not};
+//! The set operations, and how a union and an intersection are made: by a walk along both lists, or by a search for
+//! each cell of the shorter one. Runs of cells are copied whole. How a difference is made is in subtract.rt.
+ghost use Rattle.std.specs.Prelude.{◌≡◌, ◌≤◌, ◌<◌, ◌+◌, ◌||◌, ◌&&◌, ◌*◌, ◌++◌, ◌↔◌, All, slice_index, ℕ, length, []};
+ghost use Rattle.std.specs.Prelude.{IfErr, IfOk, List, OnOk, not, IsTrue};
 ghost use Rattle.std.specs.Vec.{vec_len, vec_capacity};
-ghost use Rattle.std.specs.List.Sorted.{IsStrictlyIncreasing};
-ghost use Rattle.s2cell.specs.Cell.{IsCell, first_leaf, size_of};
-ghost use Rattle.s2union.specs.Union.{IsLocal, IsNormalForm, has_leaf, between};
+ghost use Rattle.s2cell.specs.Cell.{first_leaf};
+ghost use Rattle.s2union.specs.Union.{IsLocal, IsNormalForm, has_leaf};
 ghost use Rattle.s2union.specs.Sets.{either, shared, without};
-ghost use Rattle.s2union.specs.Packed.{Behind, FillsGap, IsPacked};
+ghost use Rattle.s2union.specs.Packed.{IsPacked, Continues};
 
 use crate::fault::UnionFault;
 use crate::few::MUCH_LONGER;
-use crate::gallop::gallop;
-use crate::merging::add_reserved;
-use crate::runs::{add_run, extend, extend_up_to};
-use crate::search::find_from;
-use crate::share_few::share_few;
-use crate::subtract_few::subtract_few;
+use crate::normalising::add_reserved;
+use crate::search::gallop;
+use crate::share::share;
+use crate::subtract::subtract;
 use crate::union::CellUnion;
-use s2cell::{CellId, LEAVES};
-use std::alloc::{AllocError, Global};
+use s2cell::CellId;
+use std::alloc::AllocError;
 
 impl CellUnion {
     /// The leaves of either. One pass over both lists; if one is much shorter, a search for each of its cells, and
@@ -86,20 +83,6 @@ impl CellUnion {
     {
         let mut cells = Vec::new(*self.cells.allocator());
         subtract(&mut cells, self.cells(), other.cells(), limit)?;
-        Ok(CellUnion { cells })
-    }
-
-    /// All leaves from the first of `x` to the last of `y`, across faces too. Takes a few steps for each cell of the
-    /// result. Refuses only if it is out of memory. S2 has `InitFromMinMax` for leaves.
-    pub fn from_range(alloc: Global, x: CellId, y: CellId) -> Result<CellUnion, AllocError>
-        requires { first_leaf x < first_leaf y + size_of y }
-        ensures local { IfOk result (λ u. IsLocal u.cells) }
-        ensures leaves { IfOk result (λ u. (n : ℕ) →
-            has_leaf u.cells n ≡ between (first_leaf x) (first_leaf y + size_of y) n) }
-        ensures normal { IfOk result (λ u. IsNormalForm (between (first_leaf x) (first_leaf y + size_of y)) u.cells) }
-    {
-        let mut cells = Vec::new(alloc);
-        fill_gap(&mut cells, x.first_leaf(), y.end_leaf())?;
         Ok(CellUnion { cells })
     }
 }
@@ -169,182 +152,59 @@ fn join_few(list: &mut Vec<CellId>, xs: &[CellId], ys: &[CellId])
     add_run(list, &xs[done..]);
 }
 
-/// Puts the leaves that `xs` and `ys` share into an empty list.
-fn share(list: &mut Vec<CellId>, xs: &[CellId], ys: &[CellId]) -> Result<(), AllocError>
-    requires empty { list.old.items ≡ [] }
-    requires x_local { IsLocal xs.now }
-    requires y_local { IsLocal ys.now }
-    ensures local { OnOk result (IsLocal list.new.items) }
-    ensures leaves { OnOk result ((x : ℕ) → has_leaf list.new.items x ≡ (has_leaf xs.now x && has_leaf ys.now x)) }
-{
-    if xs.len() <= ys.len() / MUCH_LONGER {
-        share_few(list, xs, ys)
-    } else if ys.len() <= xs.len() / MUCH_LONGER {
-        share_few(list, ys, xs)
-    } else {
-        share_evenly(list, xs, ys)
-    }
-}
-
-/// The same, by a walk along both lists. Copies the cells of one list that lie in a cell of the other as one run, and
-/// passes over those before the next cell of the other by a search.
-fn share_evenly(list: &mut Vec<CellId>, xs: &[CellId], ys: &[CellId]) -> Result<(), AllocError>
-    requires empty { list.old.items ≡ [] }
-    requires x_local { IsLocal xs.now }
-    requires y_local { IsLocal ys.now }
-    ensures local { OnOk result (IsLocal list.new.items) }
-    ensures leaves { OnOk result ((x : ℕ) → has_leaf list.new.items x ≡ (has_leaf xs.now x && has_leaf ys.now x)) }
+/// Adds the leaves of packed cells to a list of packed cells that begin before them. The list has room for all.
+///
+/// Once the last three cells of the list are the last three taken from `cells`, the rest is copied whole: a family that
+/// the copy completed would be a family in `cells` too.
+fn add_run(list: &mut Vec<CellId>, cells: &[CellId])
+    requires packed { IsPacked list.old.items }
+    requires run { IsPacked cells.now }
+    requires starts { 0 < length cells.now → All (λ c. 2 * first_leaf c < slice_index cells.now 0) list.old.items }
+    requires room { vec_len list.old + length cells.now ≤ vec_capacity list.old }
+    ensures packed { IsPacked list.new.items }
+    ensures leaves { (x : ℕ) → has_leaf list.new.items x ≡ (has_leaf list.old.items x || has_leaf cells.now x) }
+    ensures starts { (n : ℕ) → All (λ c. 2 * first_leaf c < n) list.old.items → All (λ c. c < n) cells.now →
+        All (λ c. 2 * first_leaf c < n) list.new.items }
+    ensures few { vec_len list.new ≤ vec_len list.old + length cells.now }
+    ensures room { vec_capacity list.old ≤ vec_capacity list.new }
 {
     let mut i = 0;
-    let mut j = 0;
-    while i < xs.len() && j < ys.len() {
-        let x = xs[i];
-        let y = ys[j];
-        if x.end_leaf() <= y.first_leaf() {
-            i = find_from(xs, i + 1, y.first_leaf());
-        } else if y.end_leaf() <= x.first_leaf() {
-            j = find_from(ys, j + 1, x.first_leaf());
-        } else if y.contains(x) {
-            let next = find_from(xs, i + 1, y.end_leaf());
-            extend(list, &xs[i..next])?;
-            i = next;
-            j += 1;
-        } else {
-            let next = find_from(ys, j + 1, x.end_leaf());
-            extend(list, &ys[j..next])?;
-            j = next;
-            i += 1;
-        }
+    while i < cells.len() && !continues(list.as_slice(), cells, i) {
+        add_reserved(list, cells[i]);
+        i += 1;
     }
-    Ok(())
+    extend_reserved(list, &cells[i..]);
 }
 
-/// Puts the leaves of `xs` that `ys` doesn't have into an empty list. Stops once it has made more than `limit` cells:
-/// each is in the normal form, so that has more too.
-fn subtract(
-    list: &mut Vec<CellId>,
-    xs: &[CellId],
-    ys: &[CellId],
-    limit: usize,
-) -> Result<(), UnionFault>
-    requires empty { list.old.items ≡ [] }
-    requires x_local { IsLocal xs.now }
-    requires y_local { IsLocal ys.now }
-    ensures local { OnOk result (IsLocal list.new.items) }
-    ensures leaves { OnOk result ((x : ℕ) → has_leaf list.new.items x
-        ≡ (has_leaf xs.now x && not (has_leaf ys.now x))) }
-    ensures within { OnOk result (length list.new.items ≤ limit) }
-    ensures many { IfErr result (λ fault. fault ≡ UnionFault.TooMany → (u : List ℕ) →
-        IsNormalForm (without (has_leaf xs.now) (has_leaf ys.now)) u → limit < length u) }
+/// Whether the last three cells of the list, or all if it has fewer, are the cells of `cells` just before the place
+/// `i`.
+fn continues(list: &[CellId], cells: &[CellId], i: usize) -> bool
+    requires { i ≤ length cells.now }
+    ensures { IsTrue result ↔ Continues list.now cells.now i }
 {
-    if xs.len() <= ys.len() / MUCH_LONGER {
-        subtract_few(list, xs, ys, limit)
-    } else {
-        subtract_evenly(list, xs, ys, limit)
+    let n = list.len().min(3);
+    n <= i && list[list.len() - n..] == cells[i - n..i]
+}
+
+/// Appends cells to a list that has room for them.
+pub(crate) fn extend_reserved(list: &mut Vec<CellId>, cells: &[CellId])
+    requires { vec_len list.old + length cells.now ≤ vec_capacity list.old }
+    ensures items { list.new.items ≡ list.old.items ++ cells.now }
+    ensures room { vec_capacity list.old ≤ vec_capacity list.new }
+{
+    if list.extend_from_slice(cells).is_err() {
+        unreachable!();
     }
 }
 
-/// The same, by a walk along both lists. Copies the cells of `xs` before the next cell of `ys` as one run. Passes by a
-/// search over the cells of `ys` before the next cell of `xs`, and over those of `xs` in a cell of `ys`.
-fn subtract_evenly(
-    list: &mut Vec<CellId>,
-    xs: &[CellId],
-    ys: &[CellId],
-    limit: usize,
-) -> Result<(), UnionFault>
-    requires empty { list.old.items ≡ [] }
-    requires x_local { IsLocal xs.now }
-    requires y_local { IsLocal ys.now }
-    ensures local { OnOk result (IsLocal list.new.items) }
-    ensures leaves { OnOk result ((x : ℕ) → has_leaf list.new.items x
-        ≡ (has_leaf xs.now x && not (has_leaf ys.now x))) }
-    ensures within { OnOk result (length list.new.items ≤ limit) }
-    ensures many { IfErr result (λ fault. fault ≡ UnionFault.TooMany → (u : List ℕ) →
-        IsNormalForm (without (has_leaf xs.now) (has_leaf ys.now)) u → limit < length u) }
+/// Appends cells to a list, which takes memory if it needs to. Pushes a single cell, which is faster than a copy.
+pub(crate) fn extend(list: &mut Vec<CellId>, cells: &[CellId]) -> Result<(), AllocError>
+    ensures { OnOk result (list.new.items ≡ list.old.items ++ cells.now) }
 {
-    let mut lo = 0;
-    let mut i = 0;
-    let mut j = 0;
-    while i < xs.len() && list.len() <= limit {
-        let x = xs[i];
-        let start = x.first_leaf().max(lo);
-        let end = x.end_leaf();
-        j = find_from(ys, j, start);
-        match cell_before(ys, j, end) {
-            Some(y) => {
-                fill_gap(list, start, y.first_leaf())?;
-                lo = y.end_leaf().max(start);
-                j += 1;
-                if end <= lo {
-                    i = find_from(xs, i, lo);
-                }
-            }
-            None => {
-                if start == x.first_leaf() {
-                    let next = free_until(xs, i, ys, j);
-                    extend_up_to(list, &xs[i..next], limit)?;
-                    lo = xs[next - 1].end_leaf();
-                    i = next;
-                } else {
-                    fill_gap(list, start, end)?;
-                    lo = end.max(start);
-                    i += 1;
-                }
-            }
-        }
-    }
-    if list.len() <= limit {
+    if cells.len() == 1 {
+        list.push(cells[0])?;
         Ok(())
     } else {
-        Err(UnionFault::TooMany)
+        list.extend_from_slice(cells)
     }
-}
-
-/// How many cells of `xs` end before the next cell of `ys`. The cell at the place `i` is one of them.
-fn free_until(xs: &[CellId], i: usize, ys: &[CellId], j: usize) -> usize
-    requires x_local { IsLocal xs.now }
-    requires y_cells { All IsCell ys.now }
-    requires there { i < length xs.now }
-    requires free { j < length ys.now → first_leaf (slice_index xs.now i) + size_of (slice_index xs.now i)
-        ≤ first_leaf (slice_index ys.now j) }
-    ensures more { i < result }
-    ensures within { result ≤ length xs.now }
-    ensures free { j < length ys.now → Behind xs.now result (first_leaf (slice_index ys.now j)) }
-{
-    if j < ys.len() {
-        find_from(xs, i + 1, ys[j].first_leaf())
-    } else {
-        xs.len()
-    }
-}
-
-/// The cell at the place `at`, if there is one that begins before the leaf `end`.
-pub(crate) fn cell_before(cells: &[CellId], at: usize, end: u64) -> Option<CellId>
-    ensures { MatchOption result (at < length cells.now → end ≤ first_leaf (slice_index cells.now at))
-        (λ c. (at < length cells.now) × (slice_index cells.now at ≡ c) × (first_leaf c < end)) }
-{
-    if at >= cells.len() {
-        return None;
-    }
-    let cell = cells[at];
-    if cell.first_leaf() < end {
-        Some(cell)
-    } else {
-        None
-    }
-}
-
-/// Adds the normal form of the leaves from `lo` to before `hi`: the largest cell that begins at `lo` and fits, then the
-/// largest that begins after it, and so on.
-pub(crate) fn fill_gap(list: &mut Vec<CellId>, lo: u64, hi: u64) -> Result<(), AllocError>
-    requires { hi ≤ LEAVES }
-    ensures { OnOk result (FillsGap list.old.items list.new.items lo hi) }
-{
-    let mut first = lo;
-    while first < hi {
-        let cell = CellId::tile(first, hi);
-        list.push(cell)?;
-        first = cell.end_leaf();
-    }
-    Ok(())
 }

@@ -1,13 +1,25 @@
-//! The type of a normalized union, and its own properties.
-
-ghost use Rattle.std.specs.Prelude.{◌≡◌, ◌≤◌, ◌↔◌, IsTrue, length, [], IfOk};
-ghost use Rattle.std.specs.Vec.{vec_capacity};
-ghost use Rattle.s2union.specs.Union.{IsLocal, IsNormalForm, has_leaf};
+//! The type of a normalized union: how one is made, its list of cells, and the traits that Rust's own collections have.
+ghost use Rattle.std.specs.Prelude.{◌≡◌, ◌≤◌, ◌↔◌, ◌<◌, ◌^◌, ◌+◌, IsTrue, length, [], IfOk, ℕ, nat_eq, vec_capacity};
+ghost use Rattle.std.specs.Cmp.{on_equiv, on_per, partial_equiv_from_equiv};
+ghost use Rattle.std.specs.Cmp.Lexicographic.{nat_list_eq_equiv, pointwise};
+ghost use Rattle.std.specs.Global.{Global};
+ghost use Rattle.std.specs.Iterator.Runs.{EveryRun, ItemsAre, ItemsMapTo};
+ghost use Rattle.std.specs.Slice.Iter.{iter_rest, iter_steps};
+ghost use Rattle.std.specs.Vec.Iter.{into_iter_items, into_iter_len, into_iter_steps};
+ghost use Rattle.std.specs.Cmp.Rules.{hashing};
+ghost use Rattle.std.proofs.Common.{rules};
+ghost use Rattle.s2cell.specs.Cell.{first_leaf, size_of};
+ghost use Rattle.s2union.specs.Union.{IsLocal, IsNormalForm, has_leaf, between};
 ghost use Rattle.s2union.specs.Count.{count_below};
+ghost use Rattle.std.specs.Hash as fed;
 
+use crate::normalising::normalise;
+use crate::subtract::fill_gap;
 use s2cell::{CellId, LEAVES};
 use std::alloc::{AllocError, Global};
+use std::hash::{Hash, Hasher};
 use std::marker::Model;
+use std::{fmt, slice, vec};
 
 /// A set of leaves, as the one normalized list of cells that covers it.
 ///
@@ -15,13 +27,17 @@ use std::marker::Model;
 /// 0, the faces, have no parent and are never merged. Unions of the same leaves have the same cells, whatever they were
 /// made from. S2 calls it `S2CellUnion`.
 ///
+/// There is no `Default` and no `FromIterator` without an allocator: [`empty`](CellUnion::empty) and
+/// [`from_cells`](CellUnion::from_cells) take their place.
+///
 /// Its methods, and the files that have them:
 ///
-/// - made, here: `empty`, `from_normalized`, `try_clone`, `into_cells`; elsewhere: `from_cells` (collection.rt, as
-///   `normalise` in normalising.rt), `from_range` (sets.rt), `with_room` (apply.rt)
-/// - its list, here: `cells`, `len`, `is_empty`, `leaf_count`, `room`; `iter`, `==`, `Hash`, `Debug` (collection.rt)
-/// - questions: `contains_cell`, `intersects_cell`, `contains`, `intersects`, each with a `_counted` form (search.rt),
-///   `cells_at` (overlap.rt), `cursor` (cursor.rt)
+/// - made, here: `empty`, `from_normalized`, `from_cells` (which is `normalise` of normalising.rt), `from_range`,
+///   `try_clone`; elsewhere: `with_room` (apply.rt)
+/// - its list, here: `cells`, `iter`, `len`, `room`, `is_empty`, `leaf_count`, `into_cells`, `==`, `Hash`, `Debug`,
+///   `for cell in`
+/// - questions: `contains_cell`, `intersects_cell`, `contains`, `intersects`, each with a `_counted` form, and
+///   `cells_at` (questions.rt), `cursor` (cursor.rt)
 /// - set operations: `union`, `intersection`, `difference`, `difference_up_to` (sets.rt)
 /// - changes: `can_apply`, `apply_into`, `copy_from` (apply.rt)
 /// - cut to levels: `denormalized`, `denormalized_list`, `denormalized_len` (denorm.rt)
@@ -62,6 +78,39 @@ impl CellUnion {
         CellUnion { cells }
     }
 
+    /// The union of the cells of a list, in any order. Cells may overlap, and a cell may come more than once.
+    ///
+    /// The list is used for the result, and no memory is taken. S2: `S2CellUnion(cell_ids)`.
+    pub fn from_cells(cells: Vec<CellId>) -> CellUnion
+        ensures local { IsLocal result.cells }
+        ensures normal { IsNormalForm (has_leaf cells.items) result.cells }
+        ensures room { result.room ≡ vec_capacity cells }
+    {
+        normalise(cells)
+    }
+
+    /// All leaves from the first of `x` to the last of `y`, across faces too. Takes a few steps for each cell of the
+    /// result. Refuses only if it is out of memory. S2 has `InitFromMinMax` for leaves.
+    pub fn from_range(alloc: Global, x: CellId, y: CellId) -> Result<CellUnion, AllocError>
+        requires { first_leaf x < first_leaf y + size_of y }
+        ensures local { IfOk result (λ u. IsLocal u.cells) }
+        ensures leaves { IfOk result (λ u. (n : ℕ) →
+            has_leaf u.cells n ≡ between (first_leaf x) (first_leaf y + size_of y) n) }
+        ensures normal { IfOk result (λ u. IsNormalForm (between (first_leaf x) (first_leaf y + size_of y)) u.cells) }
+    {
+        let mut cells = Vec::new(alloc);
+        fill_gap(&mut cells, x.first_leaf(), y.end_leaf())?;
+        Ok(CellUnion { cells })
+    }
+
+    /// A second union with the same cells. Fails only if there is no memory.
+    pub fn try_clone(&self) -> Result<CellUnion, AllocError>
+        ensures { IfOk result (λ u. u.cells ≡ self.now.cells) }
+    {
+        let cells = Vec::from_slice(*self.cells.allocator(), self.cells())?;
+        Ok(CellUnion { cells })
+    }
+
     /// The cells, ascending: the normal form of the leaves.
     pub fn cells(&self) -> &[CellId]
         ensures value { result.now ≡ self.now.cells }
@@ -69,6 +118,15 @@ impl CellUnion {
         ensures normal { IsNormalForm (has_leaf self.now.cells) self.now.cells }
     {
         self.cells.as_slice()
+    }
+
+    /// The cells, ascending. S2: `begin` and `end`.
+    pub fn iter(&self) -> slice::Iter<'_, CellId>
+        ensures cells { iter_rest result ≡ self.now.cells }
+        ensures few { length (iter_rest result) < 2 ^ 64 }
+        ensures items { EveryRun (iter_steps {A = ℕ}) (λ p. ItemsMapTo p (λ x. x.now) (iter_rest p.from)) }
+    {
+        self.cells().iter()
     }
 
     /// How many cells it has.
@@ -100,14 +158,6 @@ impl CellUnion {
         count(self.cells())
     }
 
-    /// A second union with the same cells. Fails only if there is no memory.
-    pub fn try_clone(&self) -> Result<CellUnion, AllocError>
-        ensures { IfOk result (λ u. u.cells ≡ self.now.cells) }
-    {
-        let cells = Vec::from_slice(*self.cells.allocator(), self.cells())?;
-        Ok(CellUnion { cells })
-    }
-
     /// The list itself, with its room.
     pub fn into_cells(self) -> Vec<CellId>
         ensures value { result.items ≡ self.cells }
@@ -130,4 +180,62 @@ fn count(cells: &[CellId]) -> u64
         total += cell.leaf_count();
     }
     total
+}
+
+impl<'a> IntoIterator for &'a CellUnion {
+    type Item = &'a CellId;
+
+    type IntoIter = slice::Iter<'a, CellId>;
+
+    ghost into_iter_gives = { λ u it. (iter_rest it ≡ u.now.cells) × (length (iter_rest it) < 2 ^ 64)
+        × EveryRun (iter_steps {A = ℕ}) (λ p. ItemsMapTo p (λ x. x.now) (iter_rest p.from)) };
+
+    fn into_iter(self) -> slice::Iter<'a, CellId> {
+        self.iter()
+    }
+}
+
+impl IntoIterator for CellUnion {
+    type Item = CellId;
+
+    type IntoIter = vec::IntoIter<CellId>;
+
+    ghost into_iter_gives = { λ u it. (into_iter_items it ≡ u.cells) × (into_iter_len it < 2 ^ 64)
+        × EveryRun (into_iter_steps {X = ℕ} {Z = Global}) (λ p. ItemsAre p (into_iter_items p.from)) };
+
+    fn into_iter(self) -> vec::IntoIter<CellId> {
+        self.into_cells().into_iter()
+    }
+}
+
+/// Unions are equal exactly if their lists are, and so exactly if they have the same leaves: each set of leaves has one
+/// list. S2: `==`.
+impl PartialEq for CellUnion {
+    ghost eq = { λ u v. pointwise nat_eq u.cells v.cells };
+
+    ghost laws = { on_per (λ u. u.cells) (partial_equiv_from_equiv nat_list_eq_equiv) };
+
+    fn eq(&self, other: &CellUnion) -> bool {
+        self.cells() == other.cells()
+    }
+}
+
+impl Eq for CellUnion {
+    ghost laws = { on_equiv (λ u. u.cells) nat_list_eq_equiv };
+}
+
+impl Hash for CellUnion {
+    ghost hash_input = { λ u. fed.slice fed.u64 u.cells };
+
+    ghost respects_eq = { Prim.search (hashing, rules) };
+
+    fn hash<H: Hasher>(&self, state: &mut H) {
+        self.cells().hash(state);
+    }
+}
+
+impl fmt::Debug for CellUnion {
+    fn fmt<W: fmt::Write>(&self, f: &mut fmt::Formatter<W>) -> fmt::Result {
+        f.debug_list().entries(self.cells()).finish()
+    }
 }

@@ -13,7 +13,7 @@ returns-then-not-found-clause-looks c =
     let few = c.loop-j.invariant.few in
     let l = c.holds-found.ensures.looks 64 (omega arith) in
     let in_y = c.loop-j.invariant.in_y in
-    let told = c.told.ensures.looks in
+    let told = c.answer_with.ensures.looks in
     few_looks _ _ _ c.requires.few (omega arith)
 
 pub loop-j-preserved : goal.loop-j-preserved
@@ -33,11 +33,11 @@ returns-then-not-holds_four-clause-looks c =
     let few = c.loop-j-2.invariant.few in
     let in_y = c.loop-j-2.invariant.in_y in
     let fours = c.loop-j-2.invariant.fours in
-    let told = c.told-then-not-holds_four.ensures.looks in
+    let told = c.answer_with-then-not-holds_four.ensures.looks in
     few_looks _ _ _ c.requires.few (omega arith)
 
 pub returns-clause-answer : goal.returns-clause-answer
-returns-clause-answer c = rw c.told-2.ensures.answer (
+returns-clause-answer c = rw c.answer_with-2.ensures.answer (
   λ e. within_each c.args.xs.now c.args.ys.now (λ k h. c.loop-j-2.invariant.inside k (omega arith)),
   λ w. refl,
 )
@@ -46,5 +46,5 @@ pub returns-clause-looks : goal.returns-clause-looks
 returns-clause-looks c =
     let few = c.loop-j-2.invariant.few in
     let in_y = c.loop-j-2.invariant.in_y in
-    let told = c.told-2.ensures.looks in
+    let told = c.answer_with-2.ensures.looks in
     few_looks _ _ _ c.requires.few (omega arith)

@@ -14,7 +14,7 @@ returns-then-found-clause-looks c =
     let few = c.loop-j.invariant.few in
     let l = c.meets-found.ensures.looks 64 (omega arith) in
     let in_y = c.loop-j.invariant.in_y in
-    let told = c.told.ensures.looks in
+    let told = c.answer_with.ensures.looks in
     few_looks _ _ _ c.requires.few (omega arith)
 
 pub loop-j-preserved : goal.loop-j-preserved
@@ -32,14 +32,17 @@ loop-j-preserved c =
 pub returns-then-meets_four-clause-answer : goal.returns-then-meets_four-clause-answer
 returns-then-meets_four-clause-answer c =
     let (k, from, to, s) = c.meets_four.ensures.answer.0 c.if-meets_four.true in
-    rw c.told-then-meets_four.ensures.answer (λ _. one_of_each c.args.xs.now c.args.ys.now k (omega arith) s, λ _. refl)
+    rw c.answer_with-then-meets_four.ensures.answer (
+      λ _. one_of_each c.args.xs.now c.args.ys.now k (omega arith) s,
+      λ _. refl,
+    )
 
 pub returns-then-meets_four-clause-looks : goal.returns-then-meets_four-clause-looks
 returns-then-meets_four-clause-looks c =
     let few = c.loop-j-2.invariant.few in
     let in_y = c.loop-j-2.invariant.in_y in
     let fours = c.loop-j-2.invariant.fours in
-    let told = c.told-then-meets_four.ensures.looks in
+    let told = c.answer_with-then-meets_four.ensures.looks in
     few_looks _ _ _ c.requires.few (omega arith)
 
 pub loop-j-2-preserved : goal.loop-j-2-preserved
@@ -59,7 +62,7 @@ loop-j-2-preserved c =
     }
 
 pub returns-clause-answer : goal.returns-clause-answer
-returns-clause-answer c = rw c.told-2.ensures.answer (
+returns-clause-answer c = rw c.answer_with-2.ensures.answer (
   λ e. absurd (false≢true e),
   λ s. absurd (none_of_each c.args.xs.now c.args.ys.now (λ k h. c.loop-j-2.invariant.apart k (omega arith)) s),
 )
@@ -68,5 +71,5 @@ pub returns-clause-looks : goal.returns-clause-looks
 returns-clause-looks c =
     let few = c.loop-j-2.invariant.few in
     let in_y = c.loop-j-2.invariant.in_y in
-    let told = c.told-2.ensures.looks in
+    let told = c.answer_with-2.ensures.looks in
     few_looks _ _ _ c.requires.few (omega arith)

@@ -10,8 +10,8 @@ pub find-start-requires-clause-packed : goal.find-start-requires-clause-packed
 find-start-requires-clause-packed c = rw c.cells-cells.ensures.value
     (packed_from_local c.args.self.now.cells c.cells-cells.ensures.local)
 
-pub begun-end-requires-clause-packed : goal.begun-end-requires-clause-packed
-begun-end-requires-clause-packed c = rw c.cells-cells.ensures.value
+pub count_before-end-requires-clause-packed : goal.count_before-end-requires-clause-packed
+count_before-end-requires-clause-packed c = rw c.cells-cells.ensures.value
     (packed_from_local c.args.self.now.cells c.cells-cells.ensures.local)
 
 pub prove-unreachable-requires : goal.prove-unreachable-requires
@@ -21,16 +21,16 @@ prove-unreachable-requires c =
     let packed : IsPacked c.cells-cells.result.now =
     rw c.cells-cells.ensures.value (packed_from_local c.args.self.now.cells c.cells-cells.ensures.local) in
     let run : Between c.cells-cells.result.now (first_leaf c.args.cell)
-    (first_leaf c.args.cell + size_of c.args.cell) c.find-start.result c.begun-end.result =
+    (first_leaf c.args.cell + size_of c.args.cell) c.find-start.result c.count_before-end.result =
     record {
-      within = c.begun-end.ensures.within;
+      within = c.count_before-end.ensures.within;
       behind = rw v at c.find-start.ensures.behind;
       next = rw v at c.find-start.ensures.next;
-      begun = rw w at c.begun-end.ensures.begun;
-      rest = rw w at c.begun-end.ensures.rest;
+      begun = rw w at c.count_before-end.ensures.begun;
+      rest = rw w at c.count_before-end.ensures.rest;
     } in
     let o = in_order c.cells-cells.result.now (first_leaf c.args.cell)
-    (first_leaf c.args.cell + size_of c.args.cell) c.find-start.result c.begun-end.result packed
+    (first_leaf c.args.cell + size_of c.args.cell) c.find-start.result c.count_before-end.result packed
     c.find-start.ensures.within (let s = c.end_leaf.ensures.some in omega arith) run in
     let n = c.if-prove.true in
     absurd (omega arith)
@@ -42,15 +42,15 @@ returns-clause-leaves c x h =
     let packed : IsPacked c.cells-cells.result.now =
     rw c.cells-cells.ensures.value (packed_from_local c.args.self.now.cells c.cells-cells.ensures.local) in
     let run : Between c.cells-cells.result.now (first_leaf c.args.cell)
-    (first_leaf c.args.cell + size_of c.args.cell) c.find-start.result c.begun-end.result =
+    (first_leaf c.args.cell + size_of c.args.cell) c.find-start.result c.count_before-end.result =
     record {
-      within = c.begun-end.ensures.within;
+      within = c.count_before-end.ensures.within;
       behind = rw v at c.find-start.ensures.behind;
       next = rw v at c.find-start.ensures.next;
-      begun = rw w at c.begun-end.ensures.begun;
-      rest = rw w at c.begun-end.ensures.rest;
+      begun = rw w at c.count_before-end.ensures.begun;
+      rest = rw w at c.count_before-end.ensures.rest;
     } in
-    run_leaves c.cells-cells.result.now c.args.cell c.find-start.result c.begun-end.result packed run x h
+    run_leaves c.cells-cells.result.now c.args.cell c.find-start.result c.count_before-end.result packed run x h
     ∙ ap (λ u. has_leaf u x) c.cells-cells.ensures.value
 
 pub returns-clause-sharing : goal.returns-clause-sharing
@@ -60,19 +60,19 @@ returns-clause-sharing c =
     let packed : IsPacked c.cells-cells.result.now =
     rw c.cells-cells.ensures.value (packed_from_local c.args.self.now.cells c.cells-cells.ensures.local) in
     let run : Between c.cells-cells.result.now (first_leaf c.args.cell)
-    (first_leaf c.args.cell + size_of c.args.cell) c.find-start.result c.begun-end.result =
+    (first_leaf c.args.cell + size_of c.args.cell) c.find-start.result c.count_before-end.result =
     record {
-      within = c.begun-end.ensures.within;
+      within = c.count_before-end.ensures.within;
       behind = rw v at c.find-start.ensures.behind;
       next = rw v at c.find-start.ensures.next;
-      begun = rw w at c.begun-end.ensures.begun;
-      rest = rw w at c.begun-end.ensures.rest;
+      begun = rw w at c.count_before-end.ensures.begun;
+      rest = rw w at c.count_before-end.ensures.rest;
     } in
-    run_shares c.cells-cells.result.now c.args.cell c.find-start.result c.begun-end.result packed
+    run_shares c.cells-cells.result.now c.args.cell c.find-start.result c.count_before-end.result packed
     c.first_leaf.ensures.own run
 
 pub returns-clause-cells : goal.returns-clause-cells
 returns-clause-cells c =
-    run_cells c.cells-cells.result.now c.find-start.result c.begun-end.result
+    run_cells c.cells-cells.result.now c.find-start.result c.count_before-end.result
     (rw c.cells-cells.ensures.value (packed_from_local c.args.self.now.cells c.cells-cells.ensures.local))
-    c.begun-end.ensures.within
+    c.count_before-end.ensures.within

@@ -1,0 +1,35 @@
+use Rattle.std.proofs.Common.{◌-◌, length, subst, take, drop, arith}
+use Rattle.s2union.specs.Merge.{Left, Keeps}
+use Rattle.s2union.proofs.Finding.{ascends}
+use Rattle.s2union.proofs.Following.{part_packed}
+use Rattle.s2union.proofs.MergeSteps.{keep_found, rest_after}
+use Rattle.s2union.proofs.apply.Merge.run.Goals as goal
+
+pub returns-clause-keeps : goal.returns-clause-keeps
+returns-clause-keeps c =
+    let s = c.self.inside in
+    let len = c.gallop-len.result in
+    rw (rest_after s.cells.now len) (subst (λ (o : Left).
+    Keeps (take len s.cells.now) o (record { out = s.out.now; put = s.put.now; cells = drop len s.cells.now }))
+    c.self.view_is
+    (keep_found len c.min-next.result c.first_id.result c.first_id-2.result s.out.now s.put.now s.cells.now
+    c.self.invariant c.first_id.ensures c.first_id-2.ensures (omega arith) c.gallop-len.ensures.place))
+
+pub gallop-len-requires-clause-ascends : goal.gallop-len-requires-clause-ascends
+gallop-len-requires-clause-ascends c = ascends c.self.inside.cells.now c.self.invariant.cells
+
+pub returns-clause-packed : goal.returns-clause-packed
+returns-clause-packed c = part_packed c.self.inside.cells.now 0 c.gallop-len.result c.self.invariant.cells
+    (let w = c.gallop-len.ensures.place.within in omega arith)
+
+pub invariant_of-self : goal.invariant_of-self
+invariant_of-self c =
+    let i = c.self.invariant in
+    let u = c.self.inside.cells.now in
+    let len = c.gallop-len.result in
+    record {
+      out = i.out;
+      put = i.put;
+      cells = part_packed u len (length u - len) i.cells
+          (let w = c.gallop-len.ensures.place.within in omega arith);
+    }

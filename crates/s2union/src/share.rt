@@ -1,0 +1,121 @@
+//! How an intersection is made: by a walk along both lists, or by a search for each cell of one if it is much shorter.
+ghost use Rattle.std.specs.Prelude.{ℕ, ◌≡◌, ◌<◌, ◌+◌, ◌↔◌, ◌&&◌, [], IsTrue, length, slice_index, OnOk};
+ghost use Rattle.s2cell.specs.Cell.{IsInside, first_leaf};
+ghost use Rattle.s2union.specs.Union.{IsLocal, has_leaf};
+ghost use Rattle.s2union.specs.Sets.{IsShared};
+ghost use Rattle.s2union.specs.Packed.{IsPlace};
+
+use crate::few::{MUCH_LONGER, find_four};
+use crate::search::{find, find_from};
+use crate::sets::extend;
+use s2cell::CellId;
+use std::alloc::AllocError;
+
+/// Puts the leaves that `xs` and `ys` share into an empty list.
+pub(crate) fn share(list: &mut Vec<CellId>, xs: &[CellId], ys: &[CellId]) -> Result<(), AllocError>
+    requires empty { list.old.items ≡ [] }
+    requires x_local { IsLocal xs.now }
+    requires y_local { IsLocal ys.now }
+    ensures local { OnOk result (IsLocal list.new.items) }
+    ensures leaves { OnOk result ((x : ℕ) → has_leaf list.new.items x ≡ (has_leaf xs.now x && has_leaf ys.now x)) }
+{
+    if xs.len() <= ys.len() / MUCH_LONGER {
+        share_few(list, xs, ys)
+    } else if ys.len() <= xs.len() / MUCH_LONGER {
+        share_few(list, ys, xs)
+    } else {
+        share_evenly(list, xs, ys)
+    }
+}
+
+/// The same, by a walk along both lists. Copies the cells of one list that lie in a cell of the other as one run, and
+/// passes over those before the next cell of the other by a search.
+fn share_evenly(list: &mut Vec<CellId>, xs: &[CellId], ys: &[CellId]) -> Result<(), AllocError>
+    requires empty { list.old.items ≡ [] }
+    requires x_local { IsLocal xs.now }
+    requires y_local { IsLocal ys.now }
+    ensures local { OnOk result (IsLocal list.new.items) }
+    ensures leaves { OnOk result ((x : ℕ) → has_leaf list.new.items x ≡ (has_leaf xs.now x && has_leaf ys.now x)) }
+{
+    let mut i = 0;
+    let mut j = 0;
+    while i < xs.len() && j < ys.len() {
+        let x = xs[i];
+        let y = ys[j];
+        if x.end_leaf() <= y.first_leaf() {
+            i = find_from(xs, i + 1, y.first_leaf());
+        } else if y.end_leaf() <= x.first_leaf() {
+            j = find_from(ys, j + 1, x.first_leaf());
+        } else if y.contains(x) {
+            let next = find_from(xs, i + 1, y.end_leaf());
+            extend(list, &xs[i..next])?;
+            i = next;
+            j += 1;
+        } else {
+            let next = find_from(ys, j + 1, x.end_leaf());
+            extend(list, &ys[j..next])?;
+            j = next;
+            i += 1;
+        }
+    }
+    Ok(())
+}
+
+/// The same, if `xs` is much shorter. Searches in the whole of `ys` for each cell of `xs`, for four at once, and copies
+/// the cells of `ys` in it as one run.
+fn share_few(list: &mut Vec<CellId>, xs: &[CellId], ys: &[CellId]) -> Result<(), AllocError>
+    requires empty { list.old.items ≡ [] }
+    requires x_local { IsLocal xs.now }
+    requires y_local { IsLocal ys.now }
+    ensures local { OnOk result (IsLocal list.new.items) }
+    ensures leaves { OnOk result ((x : ℕ) → has_leaf list.new.items x ≡ (has_leaf xs.now x && has_leaf ys.now x)) }
+{
+    let mut i = 0;
+    while xs.len() - i >= 4 {
+        let places = find_four(ys, xs, i);
+        share_one(list, xs, i, ys, places.first)?;
+        share_one(list, xs, i + 1, ys, places.second)?;
+        share_one(list, xs, i + 2, ys, places.third)?;
+        share_one(list, xs, i + 3, ys, places.fourth)?;
+        i += 4;
+    }
+    while i < xs.len() {
+        let at = find(ys, xs[i].first_leaf());
+        share_one(list, xs, i, ys, at)?;
+        i += 1;
+    }
+    Ok(())
+}
+
+/// Adds the leaves of the cell of `xs` at the place `i` that `ys` has, once it is known how many cells of `ys` end by its
+/// first leaf.
+fn share_one(
+    list: &mut Vec<CellId>,
+    xs: &[CellId],
+    i: usize,
+    ys: &[CellId],
+    at: usize,
+) -> Result<(), AllocError>
+    requires x_local { IsLocal xs.now }
+    requires y_local { IsLocal ys.now }
+    requires there { i < length xs.now }
+    requires place { IsPlace ys.now (first_leaf (slice_index xs.now i)) at }
+    requires shared { IsShared xs.now ys.now list.old.items i }
+    ensures shared { OnOk result (IsShared xs.now ys.now list.new.items (i + 1)) }
+{
+    let x = xs[i];
+    if is_held_at(ys, at, x) {
+        list.push(x)?;
+    } else {
+        let next = find_from(ys, at, x.end_leaf());
+        extend(list, &ys[at..next])?;
+    }
+    Ok(())
+}
+
+/// Whether there is a cell at the place `at` that contains the other.
+fn is_held_at(cells: &[CellId], at: usize, cell: CellId) -> bool
+    ensures { IsTrue result ↔ ((at < length cells.now) × IsInside cell (slice_index cells.now at)) }
+{
+    at < cells.len() && cells[at].contains(cell)
+}

@@ -1,0 +1,244 @@
+//! How a difference is made: by a walk along both lists, or by a search for each cell of the first if it is much
+//! shorter. The gaps between cells are filled with the largest cells that fit.
+ghost use Rattle.std.specs.Prelude.{◌≡◌, ◌≤◌, ◌<◌, ◌+◌, ◌&&◌, ◌++◌, All, MatchOption, slice_index, ℕ, length, []};
+ghost use Rattle.std.specs.Prelude.{IfErr, List, OnOk, not};
+ghost use Rattle.std.specs.Vec.{vec_len};
+ghost use Rattle.s2cell.specs.Cell.{IsCell, first_leaf, size_of};
+ghost use Rattle.s2union.specs.Union.{IsLocal, IsNormalForm, has_leaf};
+ghost use Rattle.s2union.specs.Sets.{without, IsLeft};
+ghost use Rattle.s2union.specs.Packed.{Behind, FillsGap, IsPlace};
+
+use crate::fault::UnionFault;
+use crate::few::{MUCH_LONGER, find_four};
+use crate::search::{find, find_from};
+use crate::sets::extend;
+use s2cell::{CellId, LEAVES};
+use std::alloc::AllocError;
+
+/// Puts the leaves of `xs` that `ys` doesn't have into an empty list. Stops once it has made more than `limit` cells:
+/// each is in the normal form, so that has more too.
+pub(crate) fn subtract(
+    list: &mut Vec<CellId>,
+    xs: &[CellId],
+    ys: &[CellId],
+    limit: usize,
+) -> Result<(), UnionFault>
+    requires empty { list.old.items ≡ [] }
+    requires x_local { IsLocal xs.now }
+    requires y_local { IsLocal ys.now }
+    ensures local { OnOk result (IsLocal list.new.items) }
+    ensures leaves { OnOk result ((x : ℕ) → has_leaf list.new.items x
+        ≡ (has_leaf xs.now x && not (has_leaf ys.now x))) }
+    ensures within { OnOk result (length list.new.items ≤ limit) }
+    ensures many { IfErr result (λ fault. fault ≡ UnionFault.TooMany → (u : List ℕ) →
+        IsNormalForm (without (has_leaf xs.now) (has_leaf ys.now)) u → limit < length u) }
+{
+    if xs.len() <= ys.len() / MUCH_LONGER {
+        subtract_few(list, xs, ys, limit)
+    } else {
+        subtract_evenly(list, xs, ys, limit)
+    }
+}
+
+/// The same, by a walk along both lists. Copies the cells of `xs` before the next cell of `ys` as one run. Passes by a
+/// search over the cells of `ys` before the next cell of `xs`, and over those of `xs` in a cell of `ys`.
+fn subtract_evenly(
+    list: &mut Vec<CellId>,
+    xs: &[CellId],
+    ys: &[CellId],
+    limit: usize,
+) -> Result<(), UnionFault>
+    requires empty { list.old.items ≡ [] }
+    requires x_local { IsLocal xs.now }
+    requires y_local { IsLocal ys.now }
+    ensures local { OnOk result (IsLocal list.new.items) }
+    ensures leaves { OnOk result ((x : ℕ) → has_leaf list.new.items x
+        ≡ (has_leaf xs.now x && not (has_leaf ys.now x))) }
+    ensures within { OnOk result (length list.new.items ≤ limit) }
+    ensures many { IfErr result (λ fault. fault ≡ UnionFault.TooMany → (u : List ℕ) →
+        IsNormalForm (without (has_leaf xs.now) (has_leaf ys.now)) u → limit < length u) }
+{
+    let mut lo = 0;
+    let mut i = 0;
+    let mut j = 0;
+    while i < xs.len() && list.len() <= limit {
+        let x = xs[i];
+        let start = x.first_leaf().max(lo);
+        let end = x.end_leaf();
+        j = find_from(ys, j, start);
+        match cell_before(ys, j, end) {
+            Some(y) => {
+                fill_gap(list, start, y.first_leaf())?;
+                lo = y.end_leaf().max(start);
+                j += 1;
+                if end <= lo {
+                    i = find_from(xs, i, lo);
+                }
+            }
+            None => {
+                if start == x.first_leaf() {
+                    let next = free_until(xs, i, ys, j);
+                    extend_up_to(list, &xs[i..next], limit)?;
+                    lo = xs[next - 1].end_leaf();
+                    i = next;
+                } else {
+                    fill_gap(list, start, end)?;
+                    lo = end.max(start);
+                    i += 1;
+                }
+            }
+        }
+    }
+    check_limit(list.as_slice(), limit)
+}
+
+/// How many cells of `xs` end before the next cell of `ys`. The cell at the place `i` is one of them.
+fn free_until(xs: &[CellId], i: usize, ys: &[CellId], j: usize) -> usize
+    requires x_local { IsLocal xs.now }
+    requires y_cells { All IsCell ys.now }
+    requires there { i < length xs.now }
+    requires free { j < length ys.now → first_leaf (slice_index xs.now i) + size_of (slice_index xs.now i)
+        ≤ first_leaf (slice_index ys.now j) }
+    ensures more { i < result }
+    ensures within { result ≤ length xs.now }
+    ensures free { j < length ys.now → Behind xs.now result (first_leaf (slice_index ys.now j)) }
+{
+    if j < ys.len() {
+        find_from(xs, i + 1, ys[j].first_leaf())
+    } else {
+        xs.len()
+    }
+}
+
+/// Puts the leaves of `xs` that `ys` doesn't have into an empty list. Searches in the whole of `ys` for each cell of
+/// `xs`, for four at once, and goes through the cells of `ys` in it. Stops once it has made more than `limit` cells:
+/// each is in the normal form, so that has more too.
+fn subtract_few(
+    list: &mut Vec<CellId>,
+    xs: &[CellId],
+    ys: &[CellId],
+    limit: usize,
+) -> Result<(), UnionFault>
+    requires empty { list.old.items ≡ [] }
+    requires x_local { IsLocal xs.now }
+    requires y_local { IsLocal ys.now }
+    ensures local { OnOk result (IsLocal list.new.items) }
+    ensures leaves { OnOk result ((x : ℕ) → has_leaf list.new.items x
+        ≡ (has_leaf xs.now x && not (has_leaf ys.now x))) }
+    ensures within { OnOk result (length list.new.items ≤ limit) }
+    ensures many { IfErr result (λ fault. fault ≡ UnionFault.TooMany → (u : List ℕ) →
+        IsNormalForm (without (has_leaf xs.now) (has_leaf ys.now)) u → limit < length u) }
+{
+    let mut i = 0;
+    while xs.len() - i >= 4 {
+        let places = find_four(ys, xs, i);
+        subtract_one(list, xs, i, ys, places.first, limit)?;
+        subtract_one(list, xs, i + 1, ys, places.second, limit)?;
+        subtract_one(list, xs, i + 2, ys, places.third, limit)?;
+        subtract_one(list, xs, i + 3, ys, places.fourth, limit)?;
+        i += 4;
+    }
+    while i < xs.len() {
+        let at = find(ys, xs[i].first_leaf());
+        subtract_one(list, xs, i, ys, at, limit)?;
+        i += 1;
+    }
+    Ok(())
+}
+
+/// Adds the leaves of the cell of `xs` at the place `i` that `ys` doesn't have, once it is known how many cells of `ys`
+/// end by its first leaf.
+fn subtract_one(
+    list: &mut Vec<CellId>,
+    xs: &[CellId],
+    i: usize,
+    ys: &[CellId],
+    at: usize,
+    limit: usize,
+) -> Result<(), UnionFault>
+    requires x_local { IsLocal xs.now }
+    requires y_local { IsLocal ys.now }
+    requires there { i < length xs.now }
+    requires place { IsPlace ys.now (first_leaf (slice_index xs.now i)) at }
+    requires left { IsLeft xs.now ys.now list.old.items i }
+    ensures left { OnOk result (IsLeft xs.now ys.now list.new.items (i + 1)) }
+    ensures within { OnOk result (length list.new.items ≤ limit) }
+    ensures many { IfErr result (λ fault. fault ≡ UnionFault.TooMany → (u : List ℕ) →
+        IsNormalForm (without (has_leaf xs.now) (has_leaf ys.now)) u → limit < length u) }
+{
+    let x = xs[i];
+    let end = x.end_leaf();
+    let mut lo = x.first_leaf();
+    let mut j = at;
+    while lo < end && list.len() <= limit {
+        match cell_before(ys, j, end) {
+            Some(y) => {
+                fill_gap(list, lo, y.first_leaf())?;
+                lo = y.end_leaf().max(lo);
+                j += 1;
+            }
+            None => {
+                fill_gap(list, lo, end)?;
+                lo = end;
+            }
+        }
+    }
+    check_limit(list.as_slice(), limit)
+}
+
+/// The cell at the place `at`, if there is one that begins before the leaf `end`.
+fn cell_before(cells: &[CellId], at: usize, end: u64) -> Option<CellId>
+    ensures { MatchOption result (at < length cells.now → end ≤ first_leaf (slice_index cells.now at))
+        (λ c. (at < length cells.now) × (slice_index cells.now at ≡ c) × (first_leaf c < end)) }
+{
+    if at >= cells.len() {
+        return None;
+    }
+    let cell = cells[at];
+    if cell.first_leaf() < end {
+        Some(cell)
+    } else {
+        None
+    }
+}
+
+/// Adds the normal form of the leaves from `lo` to before `hi`: the largest cell that begins at `lo` and fits, then the
+/// largest that begins after it, and so on.
+pub(crate) fn fill_gap(list: &mut Vec<CellId>, lo: u64, hi: u64) -> Result<(), AllocError>
+    requires { hi ≤ LEAVES }
+    ensures { OnOk result (FillsGap list.old.items list.new.items lo hi) }
+{
+    let mut first = lo;
+    while first < hi {
+        let cell = CellId::tile(first, hi);
+        list.push(cell)?;
+        first = cell.end_leaf();
+    }
+    Ok(())
+}
+
+/// Appends cells to a list if it then has at most `limit` cells. Otherwise copies nothing.
+fn extend_up_to(list: &mut Vec<CellId>, cells: &[CellId], limit: usize) -> Result<(), UnionFault>
+    requires { vec_len list.old ≤ limit }
+    ensures items { OnOk result (list.new.items ≡ list.old.items ++ cells.now) }
+    ensures many { IfErr result (λ fault. fault ≡ UnionFault.TooMany →
+        limit < length (list.old.items ++ cells.now)) }
+{
+    if cells.len() > limit - list.len() {
+        return Err(UnionFault::TooMany);
+    }
+    extend(list, cells)?;
+    Ok(())
+}
+
+/// Refuses a list of more than `limit` cells.
+fn check_limit(list: &[CellId], limit: usize) -> Result<(), UnionFault>
+    ensures within { OnOk result (length list.now ≤ limit) }
+    ensures many { IfErr result (λ _. limit < length list.now) }
+{
+    if list.len() <= limit {
+        Ok(())
+    } else {
+        Err(UnionFault::TooMany)
+    }
+}
