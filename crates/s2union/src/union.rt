@@ -3,6 +3,7 @@ ghost use Rattle.std.specs.Prelude.{◌≡◌, ◌≤◌, ◌↔◌, ◌<◌, �
 ghost use Rattle.std.specs.Cmp.{on_equiv, on_per, partial_equiv_from_equiv};
 ghost use Rattle.std.specs.Cmp.Lexicographic.{nat_list_eq_equiv, pointwise};
 ghost use Rattle.std.specs.Global.{Global};
+ghost use Rattle.std.specs.Hash as fed;
 ghost use Rattle.std.specs.Iterator.Runs.{EveryRun, ItemsAre, ItemsMapTo};
 ghost use Rattle.std.specs.Slice.Iter.{iter_rest, iter_steps};
 ghost use Rattle.std.specs.Vec.Iter.{into_iter_items, into_iter_len, into_iter_steps};
@@ -11,7 +12,6 @@ ghost use Rattle.std.proofs.Common.{rules};
 ghost use Rattle.s2cell.specs.Cell.{first_leaf, size_of};
 ghost use Rattle.s2union.specs.Union.{IsLocal, IsNormalForm, has_leaf, between};
 ghost use Rattle.s2union.specs.Count.{count_below};
-ghost use Rattle.std.specs.Hash as fed;
 
 use crate::normalising::normalise;
 use crate::subtract::fill_gap;
