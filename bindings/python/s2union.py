@@ -343,13 +343,13 @@ class _Held:
     """The bytes of a buffer, held in place until they are released."""
 
     def __init__(self, data):
+        self._held = False
         if isinstance(data, str):
             raise TypeError("bytes are wanted, not str")
         view = memoryview(data)
         if not view.c_contiguous:
             raise TypeError("a buffer of bytes has no gaps")
         self._buffer = _Buffer()
-        self._held = False
         _c.pythonapi.PyObject_GetBuffer(_c.py_object(view), _c.byref(self._buffer), 0)
         self._held = True
         self.at, self.size = self._buffer.buf, self._buffer.len

@@ -8,6 +8,7 @@ import pickle
 import tempfile
 import unittest
 from array import array
+from unittest import mock
 
 import model
 import s2union
@@ -236,6 +237,13 @@ class TheModule(unittest.TestCase):
                 file = UnionFile(memoryview(mapped)[1:])
                 self.assertEqual((file.union(), a[0] in file), (a, True))
                 del file
+
+    def test_refused_buffers_are_dropped_without_a_complaint(self):
+        with mock.patch("sys.unraisablehook") as complain:
+            for wrong in ("text", 3, memoryview(b"abcd")[::2]):
+                self.assertRaises(TypeError, Union.from_bytes, wrong)
+                self.assertRaises(TypeError, UnionFile, wrong)
+        complain.assert_not_called()
 
     @unittest.skipUnless(numpy, "numpy is not installed")
     def test_numpy(self):

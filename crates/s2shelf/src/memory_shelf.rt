@@ -1,10 +1,11 @@
 //! A shelf in memory.
 ghost use Rattle.std.specs.Prelude.{◌≡◌, ◌≤◌, ◌-◌, ◌≢◌, ◌↔◌, ℕ, List, None, IsErrOf, OnErr, MatchResult};
 ghost use Rattle.std.specs.Prelude.{is_ok, option_map, if◌then◌else◌};
-ghost use Rattle.s2shelf.specs.Shelf.{one_more, KeepsFiles, SameFiles, Finds, PutsFile, FailsToGet, FailsToPut};
+ghost use Rattle.s2shelf.specs.Shelf.{one_more, KeepsFiles, SameFiles, Finds, FindsBeginning, PutsFile, FailsToGet};
+ghost use Rattle.s2shelf.specs.Shelf.{FailsToPut};
 ghost use Rattle.s2shelf.specs.MemoryShelf.{files_of, failing_of};
 
-use crate::shelf::{Shelf, ShelfFault};
+use crate::shelf::{Shelf, ShelfFault, beginning_of};
 use std::alloc::Global;
 use std::collections::BTreeMap;
 
@@ -75,6 +76,21 @@ impl Shelf for MemoryShelf {
         match self.named.get(name) {
             None => Ok(None),
             Some(bytes) => Ok(Some(bytes.clone()?)),
+        }
+    }
+
+    /// The first bytes of a copy of the file. Answers `Device` exactly if this is the call that was made to fail.
+    fn get_beginning(&mut self, name: &str, most: usize) -> Result<Option<Vec<u8>>, ShelfFault>
+        ensures answer { MatchResult result
+            (λ beginning. FindsBeginning (files_of self.old) name.now most (option_map (λ v. v.items) beginning)
+            (files_of self.new))
+            (λ fault. FailsToGet (files_of self.old) (files_of self.new) fault) }
+        ensures turn { IsErrOf result ShelfFault.Device ↔ (failing_of self.old ≡ 1) }
+        ensures failing { failing_of self.new ≡ failing_of self.old - 1 }
+    {
+        match self.get(name) {
+            Ok(content) => Ok(beginning_of(content, most)),
+            Err(fault) => Err(fault),
         }
     }
 

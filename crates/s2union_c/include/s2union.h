@@ -138,9 +138,9 @@ int32_t s2u_contains_cell(const uint64_t* ids, size_t n, uint64_t cell);   /* 1,
 int32_t s2u_intersects_cell(const uint64_t* ids, size_t n, uint64_t cell); /* the same: whether they share a leaf */
 /* The cells of the union that share a leaf with the cell: ids[*first .. *first + *count). log n steps. */
 int32_t s2u_cells_at(const uint64_t* ids, size_t n, uint64_t cell, size_t* first, size_t* count);
-/* answers[k] is 1 or 0 for cells[k], k below m. S2U_NO_CELL: one is not a cell, and *bad is the first such k.
- * S2U_ROOM: room is less than m, and *bad is m. After a refusal answers is not touched. A search begins at the place of
- * the one before, so cells in order are quickest; cells whose places are far apart are searched four at once. */
+/* answers[k] is 1 or 0 for cells[k], k below m. S2U_NO_CELL: one is not a cell, and *bad is the first such k; else *bad
+ * is m. S2U_ROOM: room is less than m. After a refusal answers is not touched. A search begins at the place of the one
+ * before, so cells in order are quickest; cells whose places are far apart are searched four at once. */
 int32_t s2u_contains_cells(const uint64_t* ids, size_t n, const uint64_t* cells, size_t m, uint8_t* answers,
                            size_t room, size_t* bad);
 int32_t s2u_intersects_cells(const uint64_t* ids, size_t n, const uint64_t* cells, size_t m, uint8_t* answers,

@@ -50,6 +50,7 @@ pub extern "C" fn s2u_outer(
         IsRect r → level ≤ 30 → MadeOne result (IsNormalForm (outer_set (rect_set r) level)) out.old out.new
         len.new ⊎ (Refused result too_many out.old out.new len.new
         × ((u : List ℕ) → IsNormalForm (outer_set (rect_set r) level) u → min most MOST_CELLS < length u)) }
+    ensures most { len.new ≤ min most MOST_CELLS }
     ensures argument { let r : Rect = record {
       face = bounds.now.face;
       i0 = bounds.now.i0;
@@ -94,6 +95,7 @@ pub extern "C" fn s2u_inner(
         IsRect r → level ≤ 30 → MadeOne result (IsNormalForm (inner_set (rect_set r) level)) out.old out.new
         len.new ⊎ (Refused result too_many out.old out.new len.new
         × ((u : List ℕ) → IsNormalForm (inner_set (rect_set r) level) u → min most MOST_CELLS < length u)) }
+    ensures most { len.new ≤ min most MOST_CELLS }
     ensures argument { let r : Rect = record {
       face = bounds.now.face;
       i0 = bounds.now.i0;
@@ -133,6 +135,7 @@ pub extern "C" fn s2u_outer_of(
         ⊎ (Refused result too_many out.old out.new len.new
         × ((u : List ℕ) → IsNormalForm (outer_set (has_leaf ids.now) level) u →
         min most MOST_CELLS < length u)) }
+    ensures most { len.new ≤ min most MOST_CELLS }
     ensures no_union { (IsLocal ids.now → ⊥) → Refused result no_union out.old out.new len.new }
     ensures argument { IsLocal ids.now → 30 < level → Refused result bad_argument out.old out.new len.new }
 {
@@ -168,6 +171,7 @@ pub extern "C" fn s2u_inner_of(
         ⊎ (Refused result too_many out.old out.new len.new
         × ((u : List ℕ) → IsNormalForm (inner_set (has_leaf ids.now) level) u →
         min most MOST_CELLS < length u)) }
+    ensures most { len.new ≤ min most MOST_CELLS }
     ensures no_union { (IsLocal ids.now → ⊥) → Refused result no_union out.old out.new len.new }
     ensures argument { IsLocal ids.now → 30 < level → Refused result bad_argument out.old out.new len.new }
 {

@@ -33,7 +33,8 @@ pub extern "C" fn s2u_contains_cells(
     answers: &mut [u8],
     bad: &mut usize,
 ) -> i32
-    ensures made { All IsCell cells.now → length cells.now ≤ length answers.old → result ≡ made }
+    ensures made { All IsCell cells.now → length cells.now ≤ length answers.old
+        → (result ≡ made) × (bad.new ≡ length cells.now) }
     ensures exact { IsLocal ids.now → All IsCell cells.now → length cells.now ≤ length answers.old
         → (k : ℕ) → k < length cells.now
         → IsBit (slice_index answers.new k) (IsWithin (covers (slice_index cells.now k)) (has_leaf ids.now)) }
@@ -65,7 +66,8 @@ pub extern "C" fn s2u_intersects_cells(
     answers: &mut [u8],
     bad: &mut usize,
 ) -> i32
-    ensures made { All IsCell cells.now → length cells.now ≤ length answers.old → result ≡ made }
+    ensures made { All IsCell cells.now → length cells.now ≤ length answers.old
+        → (result ≡ made) × (bad.new ≡ length cells.now) }
     ensures exact { IsLocal ids.now → All IsCell cells.now → length cells.now ≤ length answers.old
         → (k : ℕ) → k < length cells.now
         → IsBit (slice_index answers.new k) (ShareSome (covers (slice_index cells.now k)) (has_leaf ids.now)) }
