@@ -51,8 +51,8 @@ pub(crate) fn value_of_digit(byte: u8) -> u8
     DIGIT_VALUES[byte as usize]
 }
 
-/// The two digits of a byte, the one for the higher half first; from 10 on, letters in lower case. A table of pairs takes
-/// half as many steps as one of digits.
+/// The two digits of a byte, the one for the higher half first; from 10 on, letters in lower case. A table of pairs
+/// takes half as many steps as one of digits.
 pub(crate) fn hex_pair(byte: u8) -> (u8, u8)
     ensures high { result.0 ≡ digit_char (byte / 16) }
     ensures low { result.1 ≡ digit_char (byte % 16) }

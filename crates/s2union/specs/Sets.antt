@@ -22,8 +22,8 @@ pub record IsLeft (xs ys list : List ℕ) (n : ℕ) : Type 0 where
   pub greatest : All (IsGreatestIn (without (has_leaf xs) (has_leaf ys))) list
   pub leaves : (x : ℕ) → has_leaf list x ≡ (has_leaf (take n xs) x && not (has_leaf ys x))
 
--- `list` is what the first `n` cells of `xs` share with `ys`: each of its cells ends before the next, and is greatest in
--- what all of `xs` shares with it
+-- `list` is what the first `n` cells of `xs` share with `ys`: each of its cells ends before the next, and is greatest
+-- in what all of `xs` shares with it
 pub record IsShared (xs ys list : List ℕ) (n : ℕ) : Type 0 where
   pub chain : AllPairs EndsBefore list
   pub greatest : All (IsGreatestIn (shared (has_leaf xs) (has_leaf ys))) list

@@ -123,8 +123,8 @@ impl CellUnion {
         Denorm::over(self.cells(), min, modulus)
     }
 
-    /// The cells that `denormalized` gives, as a list: quicker than the iterator if most cells are cut. Takes memory for
-    /// just as many cells, and fails only if it is out of memory.
+    /// The cells that `denormalized` gives, as a list: quicker than the iterator if most cells are cut. Takes memory
+    /// for just as many cells, and fails only if it is out of memory.
     pub fn denormalized_list(
         &self,
         alloc: Global,

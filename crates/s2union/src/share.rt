@@ -87,8 +87,8 @@ fn share_few(list: &mut Vec<CellId>, xs: &[CellId], ys: &[CellId]) -> Result<(),
     Ok(())
 }
 
-/// Adds the leaves of the cell of `xs` at the place `i` that `ys` has, once it is known how many cells of `ys` end by its
-/// first leaf.
+/// Adds the leaves of the cell of `xs` at the place `i` that `ys` has, once it is known how many cells of `ys` end by
+/// its first leaf.
 fn share_one(
     list: &mut Vec<CellId>,
     xs: &[CellId],
