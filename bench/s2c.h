@@ -49,4 +49,8 @@ bool s2c_outer(const Bounds* bounds, uint8_t level, uint64_t* out, size_t room, 
 bool s2c_inner(const Bounds* bounds, uint8_t level, uint64_t* out, size_t room, size_t* len);
 bool s2c_region_outer(const Bounds* bounds, uint8_t level, uint64_t* out, size_t room, size_t* len);
 bool s2c_region_inner(const Bounds* bounds, uint8_t level, uint64_t* out, size_t room, size_t* len);
+bool s2c_clip_outer(const uint64_t* ids, size_t n, const Bounds* bounds, uint8_t level, uint32_t times, uint64_t* out,
+                    size_t room, size_t* len);
+bool s2c_clip_inner(const uint64_t* ids, size_t n, const Bounds* bounds, uint8_t level, uint32_t times, uint64_t* out,
+                    size_t room, size_t* len);
 }
