@@ -336,8 +336,8 @@ static void coverings(Table& table) {
   const u64 outer_sum = 0x34e7e225fe88cd2f, inner_sum = 0xb844960511bf68f7;
   row({"outer_large", 0, outer_sum}, true, covering_by_descent, s2c_outer);
   row({"inner_large", 0, inner_sum}, false, covering_by_descent, s2c_inner);
-  row({"outer_large_any_region", 0, outer_sum}, true, covering_by_coverer, s2c_region_outer);
-  row({"inner_large_any_region", 0, inner_sum}, false, covering_by_coverer, s2c_region_inner);
+  row({"outer_large_any_region", 0, outer_sum}, true, rectangle_by_coverer, s2c_region_outer);
+  row({"inner_large_any_region", 0, inner_sum}, false, rectangle_by_coverer, s2c_region_inner);
 
   Random random(11);
   std::vector<Bounds> small(10000);
@@ -365,6 +365,27 @@ static void coverings(Table& table) {
                }
              }, [&] { return b.value(); }},
             [&] { return cells; });
+}
+
+static void clipped_coverings(Table& table) {
+  const int level = 20;
+  Bounds bounds = {1, 100000000, 500000000, 200000000, 600000000};
+  S2CellUnion cells = normalised(Random(10).cells(N, 14, level));
+  List ids = ids_of(cells);
+  Room room(300000);
+  S2CellUnion made;
+  auto row = [&](Row it, bool outer, auto proved) {
+    table.row(it,
+              {[&](uint32_t) { made = covering_by_coverer(ClippedRegion(&cells, bounds), level, outer); },
+               [&] { return sum_of(made); }},
+              {[&](uint32_t times) {
+                 must(proved(ids.data(), ids.size(), &bounds, level, times, room.at(), room.size(), room.len()), it.name);
+               },
+               [&] { return sum_of(room.made()); }, 2},
+              [&] { return made.num_cells(); });
+  };
+  row({"outer_clipped", 0, 0x9ca6eabf3cadbabe}, true, s2c_clip_outer);
+  row({"inner_clipped", 0, 0x2cd6df40491cb689}, false, s2c_clip_inner);
 }
 
 static void ranges(Table& table) {
@@ -412,6 +433,7 @@ int main(int argc, char** argv) {
   denormalising(table, unions);
   files(table);
   coverings(table);
+  clipped_coverings(table);
   ranges(table);
   if (table.all_equal()) return 0;
   fprintf(stderr, "some checksums differ\n");

@@ -54,13 +54,39 @@ class RectangleRegion final : public S2Region {
   Bounds bounds_;
 };
 
-inline S2CellUnion covering_by_coverer(const Bounds& r, int level, bool outer) {
+// What a union and a rectangle share. Its questions are those of S2's own S2RegionIntersection; the bounds are the
+// rectangle's face, since S2 would go through the whole union for them.
+class ClippedRegion final : public S2Region {
+ public:
+  ClippedRegion(const S2CellUnion* cells, const Bounds& bounds) : cells_(cells), bounds_(bounds) {}
+
+  S2Region* Clone() const override { return new ClippedRegion(cells_, bounds_); }
+  S2Cap GetCapBound() const override { return S2Cap::Full(); }
+  S2LatLngRect GetRectBound() const override { return S2LatLngRect::Full(); }
+  void GetCellUnionBound(std::vector<S2CellId>* cells) const override { *cells = {S2CellId::FromFace(bounds_.face)}; }
+  bool Contains(const S2Cell& cell) const override {
+    return part_of(bounds_, cell.id()) == Part::In && cells_->Contains(cell.id());
+  }
+  bool MayIntersect(const S2Cell& cell) const override {
+    return part_of(bounds_, cell.id()) != Part::Out && cells_->Intersects(cell.id());
+  }
+  bool Contains(const S2Point& point) const override { return Contains(S2Cell(point)); }
+
+ private:
+  const S2CellUnion* cells_;
+  Bounds bounds_;
+};
+
+inline S2CellUnion covering_by_coverer(const S2Region& region, int level, bool outer) {
   S2RegionCoverer::Options options;
   options.set_max_cells(INT_MAX);
   options.set_max_level(level);
   S2RegionCoverer coverer(options);
-  RectangleRegion region(r);
   S2CellUnion cells = outer ? coverer.GetCovering(region) : coverer.GetInteriorCovering(region);
   cells.Normalize();
   return cells;
+}
+
+inline S2CellUnion rectangle_by_coverer(const Bounds& r, int level, bool outer) {
+  return covering_by_coverer(RectangleRegion(r), level, outer);
 }

@@ -204,7 +204,7 @@ static void coverings(Random& random) {
     must(proved(&r, level, room.at(), room.size(), room.len()), name);
     same_cells(room, ids_of(peer), about);
   };
-  S2CellUnion outer = covering_by_coverer(r, level, true), inner = covering_by_descent(r, level, false);
+  S2CellUnion outer = rectangle_by_coverer(r, level, true), inner = covering_by_descent(r, level, false);
   ask("outer", s2c_outer, outer);
   ask("inner", s2c_inner, inner);
   ask("region_outer", s2c_region_outer, outer);
