@@ -379,7 +379,8 @@ static void clipped_coverings(Table& table) {
               {[&](uint32_t) { made = covering_by_coverer(ClippedRegion(&cells, bounds), level, outer); },
                [&] { return sum_of(made); }},
               {[&](uint32_t times) {
-                 must(proved(ids.data(), ids.size(), &bounds, level, times, room.at(), room.size(), room.len()), it.name);
+                 must(proved(ids.data(), ids.size(), &bounds, level, times, room.at(), room.size(), room.len()),
+                      it.name);
                },
                [&] { return sum_of(room.made()); }, 2},
               [&] { return made.num_cells(); });

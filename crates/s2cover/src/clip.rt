@@ -2,7 +2,8 @@
 //!
 //! First the union's cells are cut to the level, and the rectangle is rounded to the grid of the level. Then the
 //! greatest cells of the rectangle are sought in each cell of the union: a cell inside the rectangle is taken at once.
-ghost use Rattle.std.specs.Prelude.{◌≡◌, ◌+◌, ◌-◌, ◌*◌, ◌^◌, ◌<◌, ◌≤◌, ℕ, All, length, IfOk, IfErr, OnErr};
+ghost use Rattle.std.specs.Prelude.{◌≡◌, ◌+◌, ◌-◌, ◌*◌, ◌^◌, ◌<◌, ◌≤◌, ℕ, All};
+ghost use Rattle.std.specs.Prelude.{length, IfOk, IfErr, OnErr};
 ghost use Rattle.std.specs.List.{flat_map};
 ghost use Rattle.s2cell.specs.Cell.{level_of};
 ghost use Rattle.s2union.specs.Union.{has_leaf, IsLocal, IsNormalForm};

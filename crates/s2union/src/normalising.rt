@@ -5,7 +5,8 @@
 //! that comes after them in order of identifiers lies in the last of them, or contains some at the end, or lies after
 //! all of them. If it completes a family, the parent replaces the family, and may complete a family in turn. So the end
 //! of the list is a stack, and each cell is pushed once and popped at most once.
-ghost use Rattle.std.specs.Prelude.{◌≡◌, ◌≤◌, ◌<◌, ◌+◌, ◌↔◌, ◌||◌, ◌*◌, ◌++◌, ◌∷◌, ◌-◌, ℕ, IsTrue, take, All};
+ghost use Rattle.std.specs.Prelude.{◌≡◌, ◌≤◌, ◌<◌, ◌+◌, ◌↔◌, ◌||◌, ◌*◌, ◌++◌};
+ghost use Rattle.std.specs.Prelude.{◌∷◌, ◌-◌, ℕ, IsTrue, take, All};
 ghost use Rattle.std.specs.Prelude.{slice_index_or, [], MatchOption, length, slice_index, IfSome};
 ghost use Rattle.std.specs.Vec.{vec_len, vec_capacity};
 ghost use Rattle.std.specs.List.Sorted.{IsNonDecreasing};

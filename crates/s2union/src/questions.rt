@@ -1,5 +1,6 @@
 //! Whether a union has the leaves of a cell or of another union, and which of its cells share a leaf with a cell.
-ghost use Rattle.std.specs.Prelude.{◌≡◌, ◌≤◌, ◌<◌, ◌+◌, ◌-◌, ◌^◌, ◌↔◌, ℕ, IsTrue, min, length, slice_index, All, true};
+ghost use Rattle.std.specs.Prelude.{◌≡◌, ◌≤◌, ◌<◌, ◌+◌, ◌-◌, ◌^◌, ◌↔◌, ℕ, IsTrue};
+ghost use Rattle.std.specs.Prelude.{min, length, slice_index, All, true};
 ghost use Rattle.s2cell.specs.Cell.{IsCell, covers, first_leaf};
 ghost use Rattle.s2union.specs.Union.{IsLocal, has_leaf, IsWithin, ShareSome};
 ghost use Rattle.s2union.specs.Packed.{IsPacked, Behind, EndsAfter};

@@ -1,5 +1,6 @@
 //! The searches that all calls on ordered lists share, and the one function by which they look at a cell.
-ghost use Rattle.std.specs.Prelude.{◌≡◌, ◌≤◌, ◌<◌, ◌+◌, ◌-◌, ◌*◌, ◌^◌, ◌↔◌, ◌/◌, ◌⊎◌, ℕ, IsTrue, length, slice_index};
+ghost use Rattle.std.specs.Prelude.{◌≡◌, ◌≤◌, ◌<◌, ◌+◌, ◌-◌, ◌*◌, ◌^◌, ◌↔◌};
+ghost use Rattle.std.specs.Prelude.{◌/◌, ◌⊎◌, ℕ, IsTrue, length, slice_index};
 ghost use Rattle.std.specs.List.Sorted.{IsStrictlyIncreasing};
 ghost use Rattle.s2union.specs.Packed.{IsPacked, Behind, EndsAt, EndsAfter};
 ghost use Rattle.s2union.specs.Search.{Brackets};

@@ -1,6 +1,7 @@
 //! The set operations, and how a union and an intersection are made: by a walk along both lists, or by a search for
 //! each cell of the shorter one. Runs of cells are copied whole. How a difference is made is in subtract.rt.
-ghost use Rattle.std.specs.Prelude.{◌≡◌, ◌≤◌, ◌<◌, ◌+◌, ◌||◌, ◌&&◌, ◌*◌, ◌++◌, ◌↔◌, All, slice_index, ℕ, length, []};
+ghost use Rattle.std.specs.Prelude.{◌≡◌, ◌≤◌, ◌<◌, ◌+◌, ◌||◌, ◌&&◌, ◌*◌, ◌++◌};
+ghost use Rattle.std.specs.Prelude.{◌↔◌, All, slice_index, ℕ, length, []};
 ghost use Rattle.std.specs.Prelude.{IfErr, IfOk, List, OnOk, not, IsTrue};
 ghost use Rattle.std.specs.Vec.{vec_len, vec_capacity};
 ghost use Rattle.s2cell.specs.Cell.{first_leaf};

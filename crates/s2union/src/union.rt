@@ -1,5 +1,6 @@
 //! The type of a normalized union: how one is made, its list of cells, and the traits that Rust's own collections have.
-ghost use Rattle.std.specs.Prelude.{◌≡◌, ◌≤◌, ◌↔◌, ◌<◌, ◌^◌, ◌+◌, IsTrue, length, [], IfOk, ℕ, nat_eq, vec_capacity};
+ghost use Rattle.std.specs.Prelude.{◌≡◌, ◌≤◌, ◌↔◌, ◌<◌, ◌^◌, ◌+◌, IsTrue, length, []};
+ghost use Rattle.std.specs.Prelude.{IfOk, ℕ, nat_eq, vec_capacity};
 ghost use Rattle.std.specs.Cmp.{on_equiv, on_per, partial_equiv_from_equiv};
 ghost use Rattle.std.specs.Cmp.Lexicographic.{nat_list_eq_equiv, pointwise};
 ghost use Rattle.std.specs.Global.{Global};
