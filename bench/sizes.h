@@ -36,6 +36,12 @@ class Sizes {
         both_ways(place, shorter);
       }
     }
+    for (bool inside : {true, false}) {
+      List shorter;
+      u64 first = (4 * (kMost / 2) + (inside ? 0 : 2)) << 20;
+      for (u64 k = 0; k < 10000; k++) shorter.push_back(cell_at(24, first + 2 * k));
+      both_ways(inside ? "10000_in_one_cell" : "10000_in_one_gap", shorter);
+    }
   }
 
  private:

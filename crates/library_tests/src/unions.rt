@@ -243,6 +243,41 @@ fn looks_of_a_union_in_itself(alloc: Global) -> Result<u64, AllocError> {
     Ok(rest.contains_counted(&rest).looks)
 }
 
+/// How many leaves each of the spaced cells has.
+const SIZE: u64 = 1 << 40;
+
+/// 10,000 cells, every fourth of their level.
+fn spaced_cells(alloc: Global) -> Result<CellUnion, AllocError> {
+    let mut cells = Vec::new(alloc);
+    for k in 0..10000 {
+        cells.push(CellId::tile(4 * k * SIZE, (4 * k + 1) * SIZE))?;
+    }
+    Ok(normalise(cells))
+}
+
+/// A hundred leaves, every second one from `first` on.
+fn leaves_from(alloc: Global, first: u64) -> Result<CellUnion, AllocError> {
+    let mut leaves = Vec::new(alloc);
+    for k in 0..100 {
+        leaves.push(CellId::tile(first + 2 * k, first + 2 * k + 1))?;
+    }
+    Ok(normalise(leaves))
+}
+
+#[test]
+fn cells_in_one_gap_or_one_cell_cost_one_search(rt: HostRuntime) -> Result<(), AllocError> {
+    let spaced = spaced_cells(rt.alloc())?;
+    let held = leaves_from(rt.alloc(), 20000 * SIZE)?;
+    let apart = leaves_from(rt.alloc(), 20001 * SIZE)?;
+    let whole = spaced.contains_counted(&held);
+    assert!(rt; whole.answer && whole.looks < 100, "{}", whole.looks);
+    let none = spaced.intersects_counted(&apart);
+    assert!(rt; !none.answer && none.looks < 100, "{}", none.looks);
+    assert_eq!(rt; spaced.intersection(&held)?, held);
+    assert!(rt; has(spaced.intersection(&apart), "")?);
+    Ok(())
+}
+
 /// The first cell of the table for which a cursor gives a different answer.
 fn first_other_question(union: &CellUnion) -> Option<&'static str> {
     let mut cursor = union.cursor();

@@ -5,12 +5,14 @@ use Rattle.std.proofs.Math.Logic.{⊎_elim}
 use Rattle.std.proofs.Math.Nat.{mul-le-mul_right}
 use Rattle.std.proofs.lemmas.Bool.{cases_lt, false≢true}
 use Rattle.std.proofs.lemmas.Nat.{pow_below}
-use Rattle.s2cell.specs.Cell.{covers}
-use Rattle.s2cell.proofs.Leaves.{covers_there, covers_from}
-use Rattle.s2union.specs.Union.{has_leaf, IsWithin, ShareSome}
+use Rattle.s2cell.specs.Cell.{IsInside, covers, first_leaf, size_of}
+use Rattle.s2cell.proofs.Leaves.{covers_there, covers_from, inside_from_within, within_from_inside}
+use Rattle.s2union.specs.Union.{has_leaf, IsLocal, IsWithin, ShareSome}
+use Rattle.s2union.specs.Packed.{IsPacked, Behind}
 use Rattle.s2union.specs.Search.{Brackets}
 use Rattle.s2union.specs.Looks.{FewForUnion}
-use Rattle.s2union.proofs.Looking.{quarter_left}
+use Rattle.s2union.proofs.Finding.{shared_none, starts_later}
+use Rattle.s2union.proofs.Looking.{Sought, above, quarter_left}
 use Rattle.s2union.proofs.Walking.{leaf_there, leaf_at}
 
 -- what holds at four places in a row
@@ -59,14 +61,6 @@ one_of_four false false false false P at p q r s = (
       (λ y. false≢true (r.1 y)) (λ y. false≢true (s.1 y)) h l x),
 )
 
--- what holds at one more place
-pub last_place : (P : ℕ → Type 0) (j k : ℕ) → ((n : ℕ) → n < j → P n) → P j → k < j + 1 → P k
-last_place P j k before last h =
-    ⊎_elim
-    (λ (a : k < j). before k a)
-    (λ (a : j ≤ k). let e : k ≡ j = omega arith in rw e last)
-    (cases_lt k j)
-
 -- ---- looks
 
 -- a whole list
@@ -109,8 +103,15 @@ pub left_four : (size looks more : ℕ) → 4 ≤ size → LeftFour size looks �
     LeftFour (size - 3 * (size / 4)) more
 left_four size looks more h l e = left_four_less size looks more l.power h l.fits l.paid e
 
--- 200 looks for each cell of the shorter list
-pub few_looks : (n m looks : ℕ) → 64 * m ≤ n → looks ≤ 200 * m → FewForUnion n m looks
+-- a search that ends near looks at few cells
+pub sought_near : (before after far : ℕ) → Sought before after far → after ≤ before + 16 + 4 * far
+sought_near before after far sought =
+    let a = above far in
+    let s = sought far (omega arith) in
+    omega arith
+
+-- 250 looks for each cell of the shorter list
+pub few_looks : (n m looks : ℕ) → 64 * m ≤ n → looks ≤ 250 * m → FewForUnion n m looks
 few_looks n m looks few most k h =
     ⊎_elim
     (λ (a : 0 < m).
@@ -160,3 +161,38 @@ one_of_each xs ys k h (x, v, a) = let r = covers_from (get_or ys k 0) x v in (x,
 
 pub share_swap : (xs ys : List ℕ) → ShareSome (has_leaf xs) (has_leaf ys) → ShareSome (has_leaf ys) (has_leaf xs)
 share_swap xs ys (x, a, b) = (x, b, a)
+
+-- ---- cells that cost no search
+
+-- one cell
+pub one_place : (P : ℕ → Type 0) (at : ℕ) → P at → (k : ℕ) → at ≤ k → k < at + 1 → P k
+one_place P at p k h l = let e : k ≡ at = omega arith in rw e p
+
+-- cells up to a place and those after it
+pub more_places : (P : ℕ → Type 0) (from at to : ℕ) → ((k : ℕ) → from ≤ k → k < at → P k) →
+    ((k : ℕ) → at ≤ k → k < to → P k) → (k : ℕ) → from ≤ k → k < to → P k
+more_places P from at to before after k h l =
+    ⊎_elim
+    (λ (a : k < at). before k h a)
+    (λ (a : at ≤ k). after k a l)
+    (cases_lt k at)
+
+-- a run of cells that begins in a cell and ends by its end lies in it
+pub run_held : (u : List ℕ) (from next x : ℕ) → IsPacked u → from < length u → IsInside (get_or u from 0) x →
+    next ≤ length u → Behind u next (first_leaf x + size_of x) → (k : ℕ) → from ≤ k → k < next →
+    IsInside (get_or u k 0) x
+run_held u from next x p there inside within ended k h l =
+    let w = (within_from_inside (get_or u from 0) x (p.cells from 0 there) inside).low in
+    let s = starts_later u from k p h (omega arith) in
+    let e = ended k l in
+    inside_from_within (get_or u k 0) x (record { low = omega arith; high = omega arith })
+
+-- cells that end before the next cell of a list begins share nothing with it
+pub run_missed : (u v : List ℕ) (from at next : ℕ) → IsLocal v → IsPacked u → from ≤ next → next ≤ length u →
+    Behind v at (first_leaf (get_or u from 0)) →
+    ((k : ℕ) → from + 1 ≤ k → k < next → at < length v →
+    first_leaf (get_or u k 0) + size_of (get_or u k 0) ≤ first_leaf (get_or v at 0)) →
+    (k : ℕ) → from + 1 ≤ k → k < next → ShareSome (covers (get_or u k 0)) (has_leaf v) → ⊥
+run_missed u v from at next lv p le within behind free k h l =
+    let s = starts_later u from k p (omega arith) (omega arith) in
+    shared_none v at (get_or u k 0) lv (λ i b. let z = behind i b in omega arith) (free k h l)

@@ -78,7 +78,7 @@ abbrev pub Sought : ℕ → ℕ → ℕ → Type 0
 Sought before after far = (k : ℕ) → far < 2 ^ k → after ≤ before + 4 * k + 16
 
 -- a power of two is above its exponent
-above : (k : ℕ) → k + 1 ≤ 2 ^ k
+pub above : (k : ℕ) → k + 1 ≤ 2 ^ k
 above zero = let e : 2 ^ zero ≡ 1 = refl in omega arith
 above (suc k) = let h = above k in let e = pow-suc 2 k in omega arith
 

@@ -1,11 +1,12 @@
 -- The leaves that a short list of cells shares with a much longer one.
-use Rattle.std.proofs.Common.{◌≡◌, ℕ, [], ◌∷◌, ◌++◌, ◌+◌, ◌-◌, ◌<◌, ◌≤◌, refl}
+use Rattle.std.proofs.Common.{◌≡◌, ℕ, zero, suc, [], ◌∷◌, ◌++◌, ◌+◌, ◌-◌, ◌<◌, ◌≤◌, refl}
 use Rattle.std.proofs.Common.{sym, ◌∙◌, ap, arith}
 use Rattle.std.proofs.Common.{true, ◌&&◌, ltb, List, length, take, drop, get_or, inl}
 use Rattle.std.proofs.Math.Logic.{⊎_elim}
 use Rattle.std.proofs.lemmas.Bool.{and_parts, cases_lt}
 use Rattle.std.proofs.lemmas.Bool.Decides.{nat_tests}
-use Rattle.std.proofs.lemmas.List.{append-nil, get_or-take, length-take-le, take_all}
+use Rattle.std.proofs.Math.Seq.{take-suc}
+use Rattle.std.proofs.lemmas.List.{append_assoc, append-nil, get_or-drop, get_or-take, length-drop, length-take-le, take_all}
 use Rattle.std.proofs.lemmas.Option.{gets}
 use Rattle.s2cell.specs.Cell.{IsCell, IsInside, size_of, first_leaf}
 use Rattle.s2cell.proofs.CellLemmas.{cell_leaves}
@@ -179,3 +180,96 @@ shared_run xs ys list new i at next x lx ly s h rx place not_held le in_y behind
     rw rest (sharing_stop xs ys list (i + 1) at (first_leaf x + size_of x) lx ly skip (omega arith)
     (rw same at behind) ended))
     (cases_lt at next)
+
+-- cells of `xs` that end before the next cell of `ys` begins share nothing with it
+pub shared_passed : (xs ys list : List ℕ) (i at next lo : ℕ) → IsLocal xs → IsLocal ys → IsShared xs ys list i →
+    i ≤ next → next ≤ length xs → Behind ys at lo → ((k : ℕ) → i ≤ k → k < next → lo ≤ first_leaf (get_or xs k 0)) →
+    ((k : ℕ) → i ≤ k → k < next → at < length ys →
+    first_leaf (get_or xs k 0) + size_of (get_or xs k 0) ≤ first_leaf (get_or ys at 0)) → IsShared xs ys list next
+shared_passed xs ys list i at next lo lx ly s le in_x behind after_it before_it =
+    let len : length (take i xs) ≡ i = length-take-le i xs (omega arith) in
+    let more : length (take next xs) ≡ next = length-take-le next xs in_x in
+    record {
+      chain = s.chain;
+      greatest = s.greatest;
+      leaves = λ x. s.leaves x
+          ∙ same_truth (has_leaf (take i xs) x && has_leaf ys x) (has_leaf (take next xs) x && has_leaf ys x)
+          (λ t.
+          let b = and_parts (has_leaf (take i xs) x) (has_leaf ys x) t in
+          let p = leaf_at (take i xs) x b.0 in
+          let pb = p.below in
+          let e : get_or (take i xs) p.at 0 ≡ get_or (take next xs) p.at 0 =
+          get_or-take i xs p.at 0 (omega arith) ∙ sym (get_or-take next xs p.at 0 (omega arith)) in
+          let h : has_leaf (take next xs) x ≡ true =
+          leaf_there (take next xs) p.at x (omega arith) (rw e at p.low) (rw e at p.high) in
+          let f = b.1 in
+          rw (h, f) refl)
+          (λ t.
+          let b = and_parts (has_leaf (take next xs) x) (has_leaf ys x) t in
+          let p = leaf_at (take next xs) x b.0 in
+          let q = leaf_at ys x b.1 in
+          let pb = p.below in
+          let qb = q.below in
+          let ql = q.low in
+          let qh = q.high in
+          let own : get_or (take next xs) p.at 0 ≡ get_or xs p.at 0 = get_or-take next xs p.at 0 (omega arith) in
+          let low : first_leaf (get_or xs p.at 0) ≤ x = rw own at p.low in
+          let high : x < first_leaf (get_or xs p.at 0) + size_of (get_or xs p.at 0) = rw own at p.high in
+          let h : has_leaf (take i xs) x ≡ true =
+          ⊎_elim
+          (λ (m : p.at < i).
+          let e : get_or xs p.at 0 ≡ get_or (take i xs) p.at 0 = sym (get_or-take i xs p.at 0 (omega arith)) in
+          leaf_there (take i xs) p.at x (omega arith) (rw e at low) (rw e at high))
+          (λ (m : i ≤ p.at).
+          let from = after_it p.at m (omega arith) in
+          ⊎_elim
+          (λ (k : q.at < at). let z = behind q.at k in absurd (omega arith))
+          (λ (k : at ≤ q.at).
+          let later = starts_later ys at q.at (packed_from_local ys ly) k qb in
+          let z = before_it p.at m (omega arith) (omega arith) in
+          absurd (omega arith))
+          (cases_lt q.at at))
+          (cases_lt p.at i) in
+          let f = b.1 in
+          rw (h, f) refl);
+    }
+
+shared_held_more : (n : ℕ) (xs ys list : List ℕ) (from at lo : ℕ) → IsLocal xs → IsLocal ys → Behind ys at lo →
+    ((k : ℕ) → from ≤ k → k < from + n → lo ≤ first_leaf (get_or xs k 0)) →
+    ((k : ℕ) → from ≤ k → k < from + n → (at < length ys) × IsInside (get_or xs k 0) (get_or ys at 0)) →
+    from + n ≤ length xs → IsShared xs ys list from → IsShared xs ys (list ++ take n (drop from xs)) (from + n)
+shared_held_more zero xs ys list from at lo lx ly behind later held in_x s =
+    let e : from + zero ≡ from = omega arith in
+    rw (append-nil list, e) s
+shared_held_more (suc n) xs ys list from at lo lx ly behind later held in_x s =
+    let x = get_or xs (from + n) 0 in
+    let before = shared_held_more n xs ys list from at lo lx ly behind (λ k h l. later k h (omega arith))
+    (λ k h l. held k h (omega arith)) (omega arith) s in
+    let h = held (from + n) (omega arith) (omega arith) in
+    let l = later (from + n) (omega arith) (omega arith) in
+    let cx : IsCell x = lx.cells (from + n) 0 (omega arith) in
+    let sx = (cell_leaves x cx).some in
+    let high = (within_from_inside x (get_or ys at 0) cx h.1).high in
+    let place : IsPlace ys (first_leaf x) at = record {
+      within = omega arith;
+      behind = λ k b. let z = behind k b in omega arith;
+      next = λ _. omega arith;
+    } in
+    let one : take (suc n) (drop from xs) ≡ take n (drop from xs) ++ x ∷ [] =
+    take-suc (drop from xs) n 0 (let e = length-drop from xs in omega arith)
+    ∙ ap (λ y. take n (drop from xs) ++ y ∷ []) (get_or-drop from xs n 0) in
+    let all : list ++ take (suc n) (drop from xs) ≡ (list ++ take n (drop from xs)) ++ x ∷ [] =
+    ap (λ r. list ++ r) one ∙ sym (append_assoc list (take n (drop from xs)) (x ∷ [])) in
+    let e : from + suc n ≡ from + n + 1 = omega arith in
+    rw e (shared_held xs ys (list ++ take n (drop from xs)) (list ++ take (suc n) (drop from xs)) (from + n) at x lx ly
+    before (omega arith) h.0 (read_there xs (from + n) (omega arith)) h.1 place all)
+
+-- cells of `xs` that lie in the next cell of `ys` are shared as they are
+pub shared_held_run : (xs ys list new : List ℕ) (from next at lo : ℕ) → IsLocal xs → IsLocal ys → from ≤ next →
+    next ≤ length xs → Behind ys at lo → ((k : ℕ) → from ≤ k → k < next → lo ≤ first_leaf (get_or xs k 0)) →
+    ((k : ℕ) → from ≤ k → k < next → (at < length ys) × IsInside (get_or xs k 0) (get_or ys at 0)) →
+    new ≡ list ++ take (next - from) (drop from xs) → IsShared xs ys list from → IsShared xs ys new next
+shared_held_run xs ys list new from next at lo lx ly le in_x behind later held is s =
+    let e : from + (next - from) ≡ next = omega arith in
+    rw is (rw e at (shared_held_more (next - from) xs ys list from at lo lx ly behind
+    (λ k h l. later k h (omega arith)) (λ k h l. held k h (omega arith)) (omega arith) s))

@@ -1,6 +1,7 @@
 -- The sets of leaves that the set operations make.
-use Rattle.std.specs.Prelude.{◌≡◌, ℕ, Bool, ◌||◌, ◌&&◌, not, List, take, All, AllPairs}
-use Rattle.s2union.specs.Union.{has_leaf, IsGreatestIn}
+use Rattle.std.specs.Prelude.{◌≡◌, ◌≤◌, ◌<◌, ℕ, Bool, ◌||◌, ◌&&◌, not, List, take, All, AllPairs, slice_index}
+use Rattle.s2cell.specs.Cell.{covers}
+use Rattle.s2union.specs.Union.{has_leaf, IsGreatestIn, IsWithin, ShareSome}
 use Rattle.s2union.specs.Packed.{EndsBefore}
 
 -- the leaves of `S` or of `T`
@@ -28,3 +29,13 @@ pub record IsShared (xs ys list : List ℕ) (n : ℕ) : Type 0 where
   pub chain : AllPairs EndsBefore list
   pub greatest : All (IsGreatestIn (shared (has_leaf xs) (has_leaf ys))) list
   pub leaves : (x : ℕ) → has_leaf list x ≡ (has_leaf (take n xs) x && has_leaf ys x)
+
+-- `cells` has the leaves of each cell of `few` from the place `from` on, up to the place `to`
+abbrev pub HoldsBetween : List ℕ → List ℕ → ℕ → ℕ → Type 0
+HoldsBetween cells few from to = (k : ℕ) → from ≤ k → k < to →
+    IsWithin (covers (slice_index few k)) (has_leaf cells)
+
+-- `cells` shares no leaf with a cell of `few` from the place `from` on, up to the place `to`
+abbrev pub MissesBetween : List ℕ → List ℕ → ℕ → ℕ → Type 0
+MissesBetween cells few from to = (k : ℕ) → from ≤ k → k < to →
+    ShareSome (covers (slice_index few k)) (has_leaf cells) → ⊥

@@ -4,16 +4,17 @@
 //! The searches for four cells don't wait for each other, so while one waits for memory, the others go on. A walk that
 //! starts each search where the one before ended makes fewer looks, but each has to wait for the one before.
 ghost use Rattle.std.specs.Prelude.{◌≡◌, ◌≤◌, ◌<◌, ◌+◌, ◌-◌, ◌*◌, ◌%◌, ◌↔◌};
-ghost use Rattle.std.specs.Prelude.{ℕ, IsTrue, length, slice_index};
-ghost use Rattle.s2cell.specs.Cell.{covers, first_leaf};
+ghost use Rattle.std.specs.Prelude.{ℕ, All, IsTrue, IfSome, MatchOption, length, slice_index};
+ghost use Rattle.s2cell.specs.Cell.{IsCell, IsInside, first_leaf};
 ghost use Rattle.s2union.specs.Union.{IsLocal, has_leaf, IsWithin, ShareSome};
-ghost use Rattle.s2union.specs.Packed.{IsPacked, IsPlace, Behind, EndsAfter};
+ghost use Rattle.s2union.specs.Packed.{IsPacked, IsPlace, EndsBefore};
 ghost use Rattle.s2union.specs.Search.{Brackets};
+ghost use Rattle.s2union.specs.Sets.{HoldsBetween, MissesBetween};
 ghost use Rattle.s2union.specs.Looks.{FewForUnion};
 
-use crate::questions::{Counted, answer_with, holds, holds_at, meets, meets_at};
-use crate::search::{Found, look, pass, quarter, without_last};
-use s2cell::{CellId, LEAVES};
+use crate::questions::{Counted, answer_with, holds_at, meets_at};
+use crate::search::{Found, find_counted, find_from_counted, look, pass, quarter, without_last};
+use s2cell::CellId;
 
 /// A list counts as short if the other is at least this many times as long. A search in the other takes no more steps
 /// than that, so the searches for all cells of the short one take no more than a pass.
@@ -38,16 +39,6 @@ pub(crate) struct Places {
     pub(crate) fourth: usize,
 }
 
-/// How many of `n` cells are asked about alone, before the others by fours: at least the first, since it may decide.
-fn alone(n: usize) -> usize
-    ensures most { result ≤ n }
-    ensures fours { (n - result) % 4 ≡ 0 }
-    ensures first { 0 < n → 0 < result }
-    ensures few { result ≤ 4 }
-{
-    n - n.saturating_sub(1) / 4 * 4
-}
-
 /// Whether `xs` has all leaves of `ys`, which is much shorter.
 pub(crate) fn holds_few(xs: &[CellId], ys: &[CellId]) -> Counted
     requires x_local { IsLocal xs.now }
@@ -58,23 +49,13 @@ pub(crate) fn holds_few(xs: &[CellId], ys: &[CellId]) -> Counted
 {
     let mut looks: u64 = 0;
     let mut j = 0;
-    let alone = alone(ys.len());
-    while j < alone {
-        let mut more = 0;
-        let found = holds(xs, look(ys, j, &mut more));
-        looks = looks.saturating_add(more + found.looks);
-        if !found.answer {
-            return answer_with(false, looks, 0);
-        }
-        j += 1;
-    }
     while j < ys.len() {
         let mut more = 0;
-        if !holds_four(xs, ys, j, &mut more) {
-            return answer_with(false, looks, more);
+        match holds_next(xs, ys, j, &mut more) {
+            Some(next) => j = next,
+            None => return answer_with(false, looks, more),
         }
         looks = looks.saturating_add(more);
-        j += 4;
     }
     answer_with(true, looks, 0)
 }
@@ -89,137 +70,204 @@ pub(crate) fn meets_few(xs: &[CellId], ys: &[CellId]) -> Counted
 {
     let mut looks: u64 = 0;
     let mut j = 0;
-    let alone = alone(ys.len());
-    while j < alone {
-        let mut more = 0;
-        let found = meets(xs, look(ys, j, &mut more));
-        looks = looks.saturating_add(more + found.looks);
-        if found.answer {
-            return answer_with(true, looks, 0);
-        }
-        j += 1;
-    }
     while j < ys.len() {
         let mut more = 0;
-        if meets_four(xs, ys, j, &mut more) {
-            return answer_with(true, looks, more);
+        match meets_next(xs, ys, j, &mut more) {
+            Some(next) => j = next,
+            None => return answer_with(true, looks, more),
         }
         looks = looks.saturating_add(more);
-        j += 4;
     }
     answer_with(false, looks, 0)
 }
 
-/// Whether a local list has all leaves of four cells of `few`, from the place `at` on.
-fn holds_four(cells: &[CellId], few: &[CellId], at: usize, looks: &mut u64) -> bool
-    requires local { IsLocal cells.now }
-    requires there { at + 4 ≤ length few.now }
-    requires before { looks.old ≡ 0 }
-    ensures answer { IsTrue result ↔ ((k : ℕ) → at ≤ k → k < at + 4 →
-        IsWithin (covers (slice_index few.now k)) (has_leaf cells.now)) }
-    ensures looks { looks.new ≤ 800 }
+/// Whether the next cells are asked about by four, from the place `at` of `n` on. The first is asked about alone, since
+/// it may decide.
+pub(crate) fn by_four(at: usize, n: usize) -> bool
+    requires { at < n }
+    ensures rest { IsTrue result → at + 4 ≤ n }
+    ensures first { IsTrue result → 0 < at }
 {
-    let parts = parts_of_four(cells, few, at, looks);
-    let first = holds_in(cells, parts.first, parts.size, look(few, at, looks), looks);
-    let second = holds_in(
-        cells,
-        parts.second,
-        parts.size,
-        look(few, at + 1, looks),
-        looks,
-    );
-    let third = holds_in(
-        cells,
-        parts.third,
-        parts.size,
-        look(few, at + 2, looks),
-        looks,
-    );
-    let fourth = holds_in(
-        cells,
-        parts.fourth,
-        parts.size,
-        look(few, at + 3, looks),
-        looks,
-    );
-    first & second & third & fourth
+    at > 0 && n - at >= 4
 }
 
-/// Whether a local list has a leaf of one of four cells of `few`, from the place `at` on.
-fn meets_four(cells: &[CellId], few: &[CellId], at: usize, looks: &mut u64) -> bool
+/// How many cells of `few` are known to be held by a local list, once the next are asked about, from the place `at` on:
+/// one or four, and those after them that lie in the same cell of the list as the last of these. None if one of them
+/// isn't held.
+fn holds_next(cells: &[CellId], few: &[CellId], at: usize, looks: &mut u64) -> Option<usize>
     requires local { IsLocal cells.now }
-    requires there { at + 4 ≤ length few.now }
+    requires few_packed { IsPacked few.now }
+    requires there { at < length few.now }
     requires before { looks.old ≡ 0 }
-    ensures answer { IsTrue result ↔ ((k : ℕ) × (at ≤ k) × (k < at + 4) ×
-        ShareSome (covers (slice_index few.now k)) (has_leaf cells.now)) }
-    ensures looks { looks.new ≤ 800 }
+    ensures answer { MatchOption result (IsWithin (has_leaf few.now) (has_leaf cells.now) → ⊥)
+        (λ next. HoldsBetween cells.now few.now at next) }
+    ensures within { IfSome result (λ next. (at < next) × (next ≤ length few.now)) }
+    ensures most { looks.new ≤ 250 * (length few.now - at) }
+    ensures looks { IfSome result (λ next. looks.new ≤ 250 * (next - at)) }
 {
-    let parts = parts_of_four(cells, few, at, looks);
-    let first = meets_in(cells, parts.first, parts.size, look(few, at, looks), looks);
-    let second = meets_in(
-        cells,
-        parts.second,
-        parts.size,
-        look(few, at + 1, looks),
-        looks,
-    );
-    let third = meets_in(
-        cells,
-        parts.third,
-        parts.size,
-        look(few, at + 2, looks),
-        looks,
-    );
-    let fourth = meets_in(
-        cells,
-        parts.fourth,
-        parts.size,
-        look(few, at + 3, looks),
-        looks,
-    );
-    first | second | third | fourth
+    if by_four(at, few.len()) {
+        return holds_four(cells, few, at, looks);
+    }
+    let cell = look(few, at, looks);
+    let found = find_counted(cells, cell.first_leaf());
+    *looks += found.looks;
+    if holds_at(cells, found.at, cell, looks) {
+        Some(pass_held(few, at + 1, cells, found.at, looks))
+    } else {
+        None
+    }
 }
 
-/// Whether a local list has all leaves of the cell, whose place is one of the next `size` places from `base` on, or
+/// The same, once it is known that four cells are left.
+fn holds_four(cells: &[CellId], few: &[CellId], at: usize, looks: &mut u64) -> Option<usize>
+    requires local { IsLocal cells.now }
+    requires few_packed { IsPacked few.now }
+    requires there { at + 4 ≤ length few.now }
+    requires before { looks.old ≡ 0 }
+    ensures answer { MatchOption result (IsWithin (has_leaf few.now) (has_leaf cells.now) → ⊥)
+        (λ next. HoldsBetween cells.now few.now at next) }
+    ensures within { IfSome result (λ next. (at < next) × (next ≤ length few.now)) }
+    ensures most { looks.new ≤ 250 * (length few.now - at) }
+    ensures looks { IfSome result (λ next. looks.new ≤ 250 * (next - at)) }
+{
+    let places = find_four(cells, few, at, looks);
+    let first = holds_at(cells, places.first, look(few, at, looks), looks);
+    let second = holds_at(cells, places.second, look(few, at + 1, looks), looks);
+    let third = holds_at(cells, places.third, look(few, at + 2, looks), looks);
+    let fourth = holds_at(cells, places.fourth, look(few, at + 3, looks), looks);
+    if first & second & third & fourth {
+        Some(pass_held(few, at + 4, cells, places.fourth, looks))
+    } else {
+        None
+    }
+}
+
+/// How many cells of `few` are known to share no leaf with a local list, once the next are asked about, from the place
+/// `at` on: one or four, and those after them that end before the next cell of the list begins. None if one of them
+/// shares a leaf.
+fn meets_next(cells: &[CellId], few: &[CellId], at: usize, looks: &mut u64) -> Option<usize>
+    requires local { IsLocal cells.now }
+    requires few_packed { IsPacked few.now }
+    requires there { at < length few.now }
+    requires before { looks.old ≡ 0 }
+    ensures answer { MatchOption result (ShareSome (has_leaf cells.now) (has_leaf few.now))
+        (λ next. MissesBetween cells.now few.now at next) }
+    ensures within { IfSome result (λ next. (at < next) × (next ≤ length few.now)) }
+    ensures most { looks.new ≤ 250 * (length few.now - at) }
+    ensures looks { IfSome result (λ next. looks.new ≤ 250 * (next - at)) }
+{
+    if by_four(at, few.len()) {
+        return meets_four(cells, few, at, looks);
+    }
+    let cell = look(few, at, looks);
+    let found = find_counted(cells, cell.first_leaf());
+    *looks += found.looks;
+    if meets_at(cells, found.at, cell, looks) {
+        None
+    } else {
+        Some(pass_free(few, at + 1, cells, found.at, looks))
+    }
+}
+
+/// The same, once it is known that four cells are left.
+fn meets_four(cells: &[CellId], few: &[CellId], at: usize, looks: &mut u64) -> Option<usize>
+    requires local { IsLocal cells.now }
+    requires few_packed { IsPacked few.now }
+    requires there { at + 4 ≤ length few.now }
+    requires before { looks.old ≡ 0 }
+    ensures answer { MatchOption result (ShareSome (has_leaf cells.now) (has_leaf few.now))
+        (λ next. MissesBetween cells.now few.now at next) }
+    ensures within { IfSome result (λ next. (at < next) × (next ≤ length few.now)) }
+    ensures most { looks.new ≤ 250 * (length few.now - at) }
+    ensures looks { IfSome result (λ next. looks.new ≤ 250 * (next - at)) }
+{
+    let places = find_four(cells, few, at, looks);
+    let first = meets_at(cells, places.first, look(few, at, looks), looks);
+    let second = meets_at(cells, places.second, look(few, at + 1, looks), looks);
+    let third = meets_at(cells, places.third, look(few, at + 2, looks), looks);
+    let fourth = meets_at(cells, places.fourth, look(few, at + 3, looks), looks);
+    if first | second | third | fourth {
+        None
+    } else {
+        Some(pass_free(few, at + 4, cells, places.fourth, looks))
+    }
+}
+
+/// Passes over the cells of `few`, from the place `from` on, that end before the cell at the place `at` of the list
+/// begins; over all of them if there is no such cell. So cells of `few` in a gap of the list cost one search.
+pub(crate) fn pass_free(
+    few: &[CellId],
+    from: usize,
+    cells: &[CellId],
+    at: usize,
+    looks: &mut u64,
+) -> usize
+    requires few_packed { IsPacked few.now }
+    requires cells { All IsCell cells.now }
+    requires there { from ≤ length few.now }
+    requires before { looks.old ≤ 900 }
+    ensures from { from ≤ result }
+    ensures within { result ≤ length few.now }
+    ensures free { (k : ℕ) → from ≤ k → k < result → at < length cells.now
+        → EndsBefore (slice_index few.now k) (slice_index cells.now at) }
+    ensures looks { looks.new ≤ looks.old + 20 + 4 * (result - from) }
+{
+    if from >= few.len() {
+        return from;
+    }
+    if at >= cells.len() {
+        return few.len();
+    }
+    let begin = look(cells, at, looks).first_leaf();
+    if look(few, from, looks).end_leaf() > begin {
+        return from;
+    }
+    if look(few, few.len() - 1, looks).end_leaf() <= begin {
+        return few.len();
+    }
+    find_from_counted(few, from + 1, begin, looks)
+}
+
+/// Passes over the cells of `few`, from the place `from` on, that lie in the cell at the place `at` of the list, if the
+/// first of them does. So cells of `few` in a large cell of the list cost one search.
+pub(crate) fn pass_held(
+    few: &[CellId],
+    from: usize,
+    cells: &[CellId],
+    at: usize,
+    looks: &mut u64,
+) -> usize
+    requires few_packed { IsPacked few.now }
+    requires cells { All IsCell cells.now }
+    requires there { from ≤ length few.now }
+    requires before { looks.old ≤ 900 }
+    ensures from { from ≤ result }
+    ensures within { result ≤ length few.now }
+    ensures held { (k : ℕ) → from ≤ k → k < result
+        → (at < length cells.now) × IsInside (slice_index few.now k) (slice_index cells.now at) }
+    ensures looks { looks.new ≤ looks.old + 20 + 4 * (result - from) }
+{
+    if from >= few.len() || at >= cells.len() {
+        return from;
+    }
+    let cell = look(cells, at, looks);
+    if !cell.contains(look(few, from, looks)) {
+        return from;
+    }
+    find_from_counted(few, from + 1, cell.end_leaf(), looks)
+}
+
+/// How many cells end by the first leaf of the cell; its place is one of the next `size` places from `base` on, or
 /// their end.
-fn holds_in(cells: &[CellId], base: usize, size: usize, cell: CellId, looks: &mut u64) -> bool
-    requires local { IsLocal cells.now }
-    requires few { size ≤ 3 }
-    requires brackets { Brackets cells.now (2 * first_leaf cell) base (base + size) }
-    requires before { looks.old ≤ 900 }
-    ensures answer { IsTrue result ↔ IsWithin (covers cell) (has_leaf cells.now) }
-    ensures looks { looks.new ≤ looks.old + 5 }
-{
-    let at = settle(cells, base, size, cell.first_leaf(), looks);
-    holds_at(cells, at, cell, looks)
-}
-
-/// Whether a local list has a leaf of the cell, whose place is one of the next `size` places from `base` on, or their
-/// end.
-fn meets_in(cells: &[CellId], base: usize, size: usize, cell: CellId, looks: &mut u64) -> bool
-    requires local { IsLocal cells.now }
-    requires few { size ≤ 3 }
-    requires brackets { Brackets cells.now (2 * first_leaf cell) base (base + size) }
-    requires before { looks.old ≤ 900 }
-    ensures answer { IsTrue result ↔ ShareSome (covers cell) (has_leaf cells.now) }
-    ensures looks { looks.new ≤ looks.old + 5 }
-{
-    let at = settle(cells, base, size, cell.first_leaf(), looks);
-    meets_at(cells, at, cell, looks)
-}
-
-/// How many cells end by the leaf `lo`; its place is one of the next `size` places from `base` on, or their end.
-fn settle(cells: &[CellId], base: usize, size: usize, lo: u64, looks: &mut u64) -> usize
+fn settle(cells: &[CellId], base: usize, size: usize, cell: CellId, looks: &mut u64) -> usize
     requires packed { IsPacked cells.now }
-    requires leaf { lo ≤ LEAVES }
     requires few { size ≤ 3 }
-    requires brackets { Brackets cells.now (2 * lo) base (base + size) }
+    requires brackets { Brackets cells.now (2 * first_leaf cell) base (base + size) }
     requires before { looks.old ≤ 900 }
-    ensures within { result ≤ length cells.now }
-    ensures behind { Behind cells.now result lo }
-    ensures next { EndsAfter cells.now result lo }
+    ensures place { IsPlace cells.now (first_leaf cell) result }
     ensures looks { looks.new ≤ looks.old + 4 }
 {
+    let lo = cell.first_leaf();
     let at = pass(cells, base, size, 2 * lo, looks);
     let found = without_last(cells, 0, Found { at, looks: *looks }, lo);
     *looks = found.looks;
@@ -228,44 +276,23 @@ fn settle(cells: &[CellId], base: usize, size: usize, lo: u64, looks: &mut u64) 
 
 /// How many cells end by the first leaf of each of four cells of `few`, from the place `at` on. The four searches take
 /// turns.
-pub(crate) fn find_four(cells: &[CellId], few: &[CellId], at: usize) -> Places
+pub(crate) fn find_four(cells: &[CellId], few: &[CellId], at: usize, looks: &mut u64) -> Places
     requires packed { IsPacked cells.now }
     requires there { at + 4 ≤ length few.now }
+    requires before { looks.old ≡ 0 }
     ensures first { IsPlace cells.now (first_leaf (slice_index few.now at)) result.first }
     ensures second { IsPlace cells.now (first_leaf (slice_index few.now (at + 1))) result.second }
     ensures third { IsPlace cells.now (first_leaf (slice_index few.now (at + 2))) result.third }
     ensures fourth { IsPlace cells.now (first_leaf (slice_index few.now (at + 3))) result.fourth }
+    ensures looks { looks.new ≤ 792 }
 {
-    let mut looks = 0;
-    let parts = parts_of_four(cells, few, at, &mut looks);
+    let parts = parts_of_four(cells, few, at, looks);
     let size = parts.size;
-    let first = settle(cells, parts.first, size, few[at].first_leaf(), &mut looks);
-    let second = settle(
-        cells,
-        parts.second,
-        size,
-        few[at + 1].first_leaf(),
-        &mut looks,
-    );
-    let third = settle(
-        cells,
-        parts.third,
-        size,
-        few[at + 2].first_leaf(),
-        &mut looks,
-    );
-    let fourth = settle(
-        cells,
-        parts.fourth,
-        size,
-        few[at + 3].first_leaf(),
-        &mut looks,
-    );
     Places {
-        first,
-        second,
-        third,
-        fourth,
+        first: settle(cells, parts.first, size, look(few, at, looks), looks),
+        second: settle(cells, parts.second, size, look(few, at + 1, looks), looks),
+        third: settle(cells, parts.third, size, look(few, at + 2, looks), looks),
+        fourth: settle(cells, parts.fourth, size, look(few, at + 3, looks), looks),
     }
 }
 

@@ -1,11 +1,11 @@
 //! How an intersection is made: by a walk along both lists, or by a search for each cell of one if it is much shorter.
-ghost use Rattle.std.specs.Prelude.{ℕ, ◌≡◌, ◌<◌, ◌+◌, ◌↔◌, ◌&&◌, [], IsTrue, length, slice_index, OnOk};
+ghost use Rattle.std.specs.Prelude.{ℕ, ◌≡◌, ◌≤◌, ◌<◌, ◌+◌, ◌-◌, ◌↔◌, ◌&&◌, [], IsTrue, length, slice_index, IfOk, OnOk};
 ghost use Rattle.s2cell.specs.Cell.{IsInside, first_leaf};
 ghost use Rattle.s2union.specs.Union.{IsLocal, has_leaf};
 ghost use Rattle.s2union.specs.Sets.{IsShared};
-ghost use Rattle.s2union.specs.Packed.{IsPlace};
+ghost use Rattle.s2union.specs.Packed.{Behind, IsPlace};
 
-use crate::few::{MUCH_LONGER, find_four};
+use crate::few::{MUCH_LONGER, by_four, find_four, pass_free, pass_held};
 use crate::search::{find, find_from};
 use crate::sets::extend;
 use s2cell::CellId;
@@ -62,7 +62,7 @@ fn share_evenly(list: &mut Vec<CellId>, xs: &[CellId], ys: &[CellId]) -> Result<
 }
 
 /// The same, if `xs` is much shorter. Searches in the whole of `ys` for each cell of `xs`, for four at once, and copies
-/// the cells of `ys` in it as one run.
+/// the cells of `ys` in it as one run. Cells of `xs` in one gap of `ys`, or in one large cell of it, cost one search.
 fn share_few(list: &mut Vec<CellId>, xs: &[CellId], ys: &[CellId]) -> Result<(), AllocError>
     requires empty { list.old.items ≡ [] }
     requires x_local { IsLocal xs.now }
@@ -71,20 +71,62 @@ fn share_few(list: &mut Vec<CellId>, xs: &[CellId], ys: &[CellId]) -> Result<(),
     ensures leaves { OnOk result ((x : ℕ) → has_leaf list.new.items x ≡ (has_leaf xs.now x && has_leaf ys.now x)) }
 {
     let mut i = 0;
-    while xs.len() - i >= 4 {
-        let places = find_four(ys, xs, i);
-        share_one(list, xs, i, ys, places.first)?;
-        share_one(list, xs, i + 1, ys, places.second)?;
-        share_one(list, xs, i + 2, ys, places.third)?;
-        share_one(list, xs, i + 3, ys, places.fourth)?;
-        i += 4;
-    }
     while i < xs.len() {
-        let at = find(ys, xs[i].first_leaf());
-        share_one(list, xs, i, ys, at)?;
-        i += 1;
+        i = if by_four(i, xs.len()) {
+            share_four(list, xs, i, ys)?
+        } else {
+            let at = find(ys, xs[i].first_leaf());
+            share_one(list, xs, i, ys, at)?;
+            share_near(list, xs, i + 1, ys, at)?
+        };
     }
     Ok(())
+}
+
+/// Adds the leaves that four cells of `xs` share with `ys`, from the place `i` on, and those of the cells after them
+/// that cost no search. Answers how many cells of `xs` are done then.
+fn share_four(
+    list: &mut Vec<CellId>,
+    xs: &[CellId],
+    i: usize,
+    ys: &[CellId],
+) -> Result<usize, AllocError>
+    requires x_local { IsLocal xs.now }
+    requires y_local { IsLocal ys.now }
+    requires there { i + 4 ≤ length xs.now }
+    requires shared { IsShared xs.now ys.now list.old.items i }
+    ensures within { IfOk result (λ next. (i < next) × (next ≤ length xs.now)) }
+    ensures shared { IfOk result (λ next. IsShared xs.now ys.now list.new.items next) }
+{
+    let places = find_four(ys, xs, i, &mut 0);
+    share_one(list, xs, i, ys, places.first)?;
+    share_one(list, xs, i + 1, ys, places.second)?;
+    share_one(list, xs, i + 2, ys, places.third)?;
+    share_one(list, xs, i + 3, ys, places.fourth)?;
+    share_near(list, xs, i + 4, ys, places.fourth)
+}
+
+/// Adds the leaves of the next cells of `xs`, from the place `i` on, that end before the cell of `ys` at the place `at`
+/// begins, or lie in it. Answers how many cells of `xs` are done then.
+fn share_near(
+    list: &mut Vec<CellId>,
+    xs: &[CellId],
+    i: usize,
+    ys: &[CellId],
+    at: usize,
+) -> Result<usize, AllocError>
+    requires x_local { IsLocal xs.now }
+    requires y_local { IsLocal ys.now }
+    requires there { (0 < i) × (i ≤ length xs.now) }
+    requires behind { Behind ys.now at (first_leaf (slice_index xs.now (i - 1))) }
+    requires shared { IsShared xs.now ys.now list.old.items i }
+    ensures within { IfOk result (λ next. (i ≤ next) × (next ≤ length xs.now)) }
+    ensures shared { IfOk result (λ next. IsShared xs.now ys.now list.new.items next) }
+{
+    let free = pass_free(xs, i, ys, at, &mut 0);
+    let next = pass_held(xs, free, ys, at, &mut 0);
+    extend(list, &xs[free..next])?;
+    Ok(next)
 }
 
 /// Adds the leaves of the cell of `xs` at the place `i` that `ys` has, once it is known how many cells of `ys` end by

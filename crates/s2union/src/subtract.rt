@@ -132,7 +132,7 @@ fn subtract_few(
 {
     let mut i = 0;
     while xs.len() - i >= 4 {
-        let places = find_four(ys, xs, i);
+        let places = find_four(ys, xs, i, &mut 0);
         subtract_one(list, xs, i, ys, places.first, limit)?;
         subtract_one(list, xs, i + 1, ys, places.second, limit)?;
         subtract_one(list, xs, i + 2, ys, places.third, limit)?;

@@ -1,18 +1,29 @@
-use Rattle.std.proofs.Common.{get_or}
+use Rattle.std.proofs.Common.{◌+◌, get_or, refl}
 use Rattle.s2cell.specs.Cell.{covers}
 use Rattle.s2union.specs.Union.{has_leaf, IsWithin}
+use Rattle.s2union.proofs.AskingFew.{all_of_four, more_places}
 use Rattle.s2union.proofs.Checking.{packed_from_local}
-use Rattle.s2union.proofs.AskingFew.{all_of_four}
+use Rattle.s2union.proofs.Finding.{within_from_place}
 use Rattle.s2union.proofs.few.holds_four.Goals as goal
 
-pub parts_of_four-parts-requires-clause-packed : goal.parts_of_four-parts-requires-clause-packed
-parts_of_four-parts-requires-clause-packed c = packed_from_local c.args.cells.now c.requires.local
+pub find_four-places-requires-clause-packed : goal.find_four-places-requires-clause-packed
+find_four-places-requires-clause-packed c = packed_from_local c.args.cells.now c.requires.local
 
-pub returns-clause-answer : goal.returns-clause-answer
-returns-clause-answer c =
-    all_of_four c.holds_in-first.result c.holds_in-second.result c.holds_in-third.result c.holds_in-fourth.result
-    (λ k. IsWithin (covers (get_or c.args.few.now k 0)) (has_leaf c.args.cells.now)) c.args.at
-    (rw c.look.ensures.cell at c.holds_in-first.ensures.answer)
-    (rw c.look-2.ensures.cell at c.holds_in-second.ensures.answer)
-    (rw c.look-3.ensures.cell at c.holds_in-third.ensures.answer)
-    (rw c.look-4.ensures.cell at c.holds_in-fourth.ensures.answer)
+pub returns-then-first-second-clause-answer : goal.returns-then-first-second-clause-answer
+returns-then-first-second-clause-answer c =
+    let cells = c.args.cells.now in
+    let few = c.args.few.now in
+    let at = c.find_four-places.result.fourth in
+    let four =
+    all_of_four c.holds_at-first.result c.holds_at-second.result c.holds_at-third.result c.holds_at-fourth.result
+    (λ k. IsWithin (covers (get_or few k 0)) (has_leaf cells)) c.args.at
+    (rw c.look.ensures.cell at c.holds_at-first.ensures.answer)
+    (rw c.look-2.ensures.cell at c.holds_at-second.ensures.answer)
+    (rw c.look-3.ensures.cell at c.holds_at-third.ensures.answer)
+    (rw c.look-4.ensures.cell at c.holds_at-fourth.ensures.answer) in
+    more_places (λ k. IsWithin (covers (get_or few k 0)) (has_leaf cells)) c.args.at (c.args.at + 4)
+    c.pass_held.result
+    (four.0 c.if-first-second.true)
+    (λ k h l.
+    let held = c.pass_held.ensures.held k h l in
+    within_from_place cells at (get_or few k 0) (get_or cells at 0) held.0 refl held.1)

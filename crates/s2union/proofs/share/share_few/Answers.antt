@@ -2,7 +2,7 @@ use Rattle.std.proofs.Common.{arith}
 use Rattle.s2union.proofs.Checking.{packed_from_local}
 use Rattle.s2union.proofs.Picking.{picked_local}
 use Rattle.s2union.proofs.Shared.{both}
-use Rattle.s2union.proofs.SharingFew.{shared_none, shared_all, shared_picked}
+use Rattle.s2union.proofs.SharingFew.{shared_all, shared_none, shared_picked}
 use Rattle.s2union.proofs.share.share_few.Goals as goal
 
 pub loop-i-init : goal.loop-i-init
@@ -11,17 +11,14 @@ loop-i-init c = record {
   shared = rw c.requires.empty (shared_none c.args.xs.now c.args.ys.now);
 }
 
-pub find_four-places-requires-clause-packed : goal.find_four-places-requires-clause-packed
-find_four-places-requires-clause-packed c = packed_from_local c.args.ys.now c.requires.y_local
-
 pub find-at-requires-clause-packed : goal.find-at-requires-clause-packed
 find-at-requires-clause-packed c = packed_from_local c.args.ys.now c.requires.y_local
 
 pub returns-clause-leaves : goal.returns-clause-leaves
-returns-clause-leaves c = shared_all c.args.xs.now c.args.ys.now c.loop-i-2.list.items c.loop-i-2.i
-    c.loop-i-2.invariant.shared (omega arith)
+returns-clause-leaves c = shared_all c.args.xs.now c.args.ys.now c.loop-i.list.items c.loop-i.i
+    c.loop-i.invariant.shared (omega arith)
 
 pub returns-clause-local : goal.returns-clause-local
-returns-clause-local c = picked_local (both c.args.xs.now c.args.ys.now) c.loop-i-2.list.items
-    (shared_picked c.args.xs.now c.args.ys.now c.loop-i-2.list.items c.loop-i-2.i c.loop-i-2.invariant.shared)
+returns-clause-local c = picked_local (both c.args.xs.now c.args.ys.now) c.loop-i.list.items
+    (shared_picked c.args.xs.now c.args.ys.now c.loop-i.list.items c.loop-i.i c.loop-i.invariant.shared)
     (returns-clause-leaves c)

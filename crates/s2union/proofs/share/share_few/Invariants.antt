@@ -10,12 +10,3 @@ invariant-loop-i l = record {
 
 abbrev pub decreases-loop-i : goal.decreases-loop-i
 decreases-loop-i l = length l.xs - l.i
-
-abbrev pub invariant-loop-i-2 : goal.invariant-loop-i-2
-invariant-loop-i-2 l = record {
-  in_x : l.i ≤ length l.xs;
-  shared : IsShared l.xs l.ys l.list.items l.i;
-}
-
-abbrev pub decreases-loop-i-2 : goal.decreases-loop-i-2
-decreases-loop-i-2 l = length l.xs - l.i
