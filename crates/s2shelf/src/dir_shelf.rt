@@ -51,7 +51,7 @@ impl<R: Files + AllocGlobal> DirShelf<R> {
 }
 
 /// Counts a failure of the device.
-fn failed(failures: &mut u64) -> ShelfFault
+fn count_failure(failures: &mut u64) -> ShelfFault
     ensures count { failures.new ≡ one_more failures.old }
     ensures fault { result ≡ ShelfFault.Device }
 {
@@ -73,7 +73,7 @@ fn read_answer(
         Err(error) => match error.kind() {
             ErrorKind::NotFound => Ok(None),
             ErrorKind::OutOfMemory => Err(ShelfFault::Memory),
-            _ => Err(failed(failures)),
+            _ => Err(count_failure(failures)),
         },
     }
 }
@@ -129,7 +129,7 @@ impl<R: Files + AllocGlobal> Shelf for DirShelf<R> {
         let path = self.path_of(name)?;
         match write_whole(&self.rt, path.as_str(), bytes) {
             Ok(()) => Ok(()),
-            Err(_) => Err(failed(&mut self.failures)),
+            Err(_) => Err(count_failure(&mut self.failures)),
         }
     }
 }
