@@ -22,7 +22,7 @@ pub fn picture(alloc: Global, cells: &[CellId], curve: bool) -> Result<Vec<u8>, 
     // Each rectangle is the square of its cell.
     ensures squares { IfOk result (λ p. (c : ℕ) → IsCell c → IsDrawnExactly (seen c)) }
 {
-    let list = drawn(alloc, cells)?;
+    let list = cells_to_draw(alloc, cells)?;
     let mut text = Vec::from_slice(alloc, HEAD.as_bytes())?;
     put_note(&mut text, cells)?;
     put_rectangles(&mut text, list.as_slice())?;
@@ -32,20 +32,20 @@ pub fn picture(alloc: Global, cells: &[CellId], curve: bool) -> Result<Vec<u8>, 
 }
 
 /// The cells that are drawn.
-fn drawn(alloc: Global, cells: &[CellId]) -> Result<Vec<CellId>, AllocError>
+fn cells_to_draw(alloc: Global, cells: &[CellId]) -> Result<Vec<CellId>, AllocError>
     ensures cells { IfOk result (λ list. list.items ≡ drawn cells.now) }
     ensures levels { IfOk result (λ list. All (λ c. level_of c ≤ 9) list.items) }
 {
     let mut list = Vec::with_capacity(alloc, cells.len())?;
     for cell in cells {
-        list.push(seen(*cell))?;
+        list.push(cell_to_draw(*cell))?;
     }
     list.dedup();
     Ok(list)
 }
 
 /// The cell, or its ancestor of the deepest level that is drawn.
-fn seen(cell: CellId) -> CellId
+fn cell_to_draw(cell: CellId) -> CellId
     ensures value { result ≡ seen cell }
     ensures level { level_of result ≤ 9 }
 {

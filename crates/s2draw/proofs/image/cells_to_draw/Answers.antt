@@ -2,7 +2,7 @@ use Rattle.std.proofs.Common.{◌≤◌, refl, rules}
 use Rattle.std.proofs.lemmas.List.{take_all}
 use Rattle.std.proofs.lemmas.List.Filters.{dedup_is, All-dedup}
 use Rattle.s2cell.specs.Cell.{level_of}
-use Rattle.s2draw.proofs.image.drawn.Goals as goal
+use Rattle.s2draw.proofs.image.cells_to_draw.Goals as goal
 
 pub returns-clause-cells : goal.returns-clause-cells
 returns-clause-cells c = rw (

@@ -2,7 +2,7 @@ use Rattle.std.proofs.Common.{◌≡◌, ◌≤◌, take, map}
 use Rattle.std.specs.List.{All}
 use Rattle.s2cell.specs.Cell.{level_of}
 use Rattle.s2draw.specs.Rectangles.{seen}
-use Rattle.s2draw.proofs.image.drawn.Given as goal
+use Rattle.s2draw.proofs.image.cells_to_draw.Given as goal
 
 -- the cells so far, as they are seen
 abbrev pub invariant-loop-cell : goal.invariant-loop-cell
