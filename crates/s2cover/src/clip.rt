@@ -15,7 +15,7 @@ ghost use Rattle.s2cover.specs.Rectangles.{clipped, rect_set};
 use crate::MOST_CELLS;
 use crate::cut::{cut_cells, kept_cells};
 use crate::looks::{Looks, look, seek};
-use crate::placing::placed;
+use crate::placing::placed_cell;
 use crate::rect::FaceRect;
 use crate::region::{CoverFault, Part};
 use s2cell::{CellId, GREATEST_LEVEL};
@@ -52,7 +52,7 @@ pub fn clip_outer(
     looks.count = 0;
     let _ = union.cells();
     match cut_union(alloc, union, rect, level, looks) {
-        Ok(whole) => clip_aligned(alloc, &whole, &rect.widened(level), level, max, looks),
+        Ok(whole) => clip_aligned(alloc, &whole, &rect.round_outward(level), level, max, looks),
         Err(_) => Err(CoverFault::Memory),
     }
 }
@@ -82,7 +82,7 @@ pub fn clip_inner(
     ensures stopped { OnErr result (looks.new.count ≤ 2 * length union.now.cells + 4 * level * (max + 1)) }
 {
     looks.count = 0;
-    match rect.narrowed(level) {
+    match rect.round_inward(level) {
         Some(narrow) => inner_part(alloc, union, narrow, level, max, looks),
         None => Ok(CellUnion::from_normalized(Vec::new(alloc))),
     }
@@ -174,7 +174,7 @@ fn cells_within(
 {
     let mut list = Vec::new(alloc);
     for cell in cells {
-        match seek(rect, level, &placed(*cell), max, looks, &mut list) {
+        match seek(rect, level, &placed_cell(*cell), max, looks, &mut list) {
             Ok(()) => {}
             Err(fault) => return Err(fault),
         }

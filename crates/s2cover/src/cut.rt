@@ -28,7 +28,7 @@ pub fn union_outer(
     ensures many { IfErr result (TooManyMeans (outer_set (has_leaf union.now.cells) level) max) }
 {
     match cut_cells(alloc, union.cells(), level) {
-        Ok(cells) => bounded(normalise(cells), max),
+        Ok(cells) => union_up_to(normalise(cells), max),
         Err(_) => Err(CoverFault::Memory),
     }
 }
@@ -51,13 +51,13 @@ pub fn union_inner(
     ensures many { IfErr result (TooManyMeans (inner_set (has_leaf union.now.cells) level) max) }
 {
     match kept_cells(alloc, union.cells(), level) {
-        Ok(cells) => bounded(normalise(cells), max),
+        Ok(cells) => union_up_to(normalise(cells), max),
         Err(_) => Err(CoverFault::Memory),
     }
 }
 
 /// The union, if it has at most `max` cells.
-fn bounded(union: CellUnion, max: usize) -> Result<CellUnion, CoverFault>
+fn union_up_to(union: CellUnion, max: usize) -> Result<CellUnion, CoverFault>
     ensures same { IfOk result (λ u. u.cells ≡ union.cells) }
     ensures within { IfOk result (λ u. length u.cells ≤ max) }
     ensures many { IfErr result (λ fault. max < length union.cells) }

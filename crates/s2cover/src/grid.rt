@@ -37,7 +37,7 @@ pub fn rect_outer(
     ensures stopped { OnErr result (looks.new.count ≤ 1 + 4 * level * (max + 1)) }
 {
     looks.count = 0;
-    cover_aligned(alloc, &rect.widened(level), level, max, looks)
+    cover_aligned(alloc, &rect.round_outward(level), level, max, looks)
 }
 
 /// The inner covering of a rectangle: the answer of `inner`, in time proportional to the number of its cells.
@@ -63,7 +63,7 @@ pub fn rect_inner(
     ensures stopped { OnErr result (looks.new.count ≤ 1 + 4 * level * (max + 1)) }
 {
     looks.count = 0;
-    match rect.narrowed(level) {
+    match rect.round_inward(level) {
         Some(narrow) => cover_aligned(alloc, &narrow, level, max, looks),
         None => Ok(CellUnion::from_normalized(Vec::new(alloc))),
     }

@@ -6,7 +6,7 @@ ghost use Rattle.s2cell.specs.Square.{IsPlacedCell};
 use s2cell::{CellId, PlacedCell};
 
 /// A cell with its square, by a walk down from its face.
-pub(crate) fn placed(cell: CellId) -> PlacedCell
+pub(crate) fn placed_cell(cell: CellId) -> PlacedCell
     ensures placed { IsPlacedCell result }
     ensures cell { result.cell ≡ cell }
 {
@@ -15,7 +15,7 @@ pub(crate) fn placed(cell: CellId) -> PlacedCell
     if level == 0 {
         PlacedCell::face(cell.face())
     } else {
-        placed(cell.parent(level - 1)).child(number(cell))
+        placed_cell(cell.parent(level - 1)).child(number(cell))
     }
 }
 

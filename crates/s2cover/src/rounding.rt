@@ -10,7 +10,7 @@ use s2cell::{GREATEST_LEVEL, SIDE};
 
 impl FaceRect {
     /// The rectangle rounded outward: the leaves of all cells of the level that share a leaf with it.
-    pub(crate) fn widened(&self, level: u8) -> FaceRect
+    pub(crate) fn round_outward(&self, level: u8) -> FaceRect
         requires { level ≤ GREATEST_LEVEL }
         ensures leaves { (x : ℕ) → rect_set result x ≡ outer_set (rect_set self.now) level x }
         ensures aligned { IsAligned (rect_set result) (30 - level) }
@@ -27,7 +27,7 @@ impl FaceRect {
 
     /// The rectangle rounded inward: the leaves of all cells of the level that lie inside it. None if there is no such
     /// cell.
-    pub(crate) fn narrowed(&self, level: u8) -> Option<FaceRect>
+    pub(crate) fn round_inward(&self, level: u8) -> Option<FaceRect>
         requires { level ≤ GREATEST_LEVEL }
         ensures leaves { IfSome result (λ r. (x : ℕ) → rect_set r x ≡ inner_set (rect_set self.now) level x) }
         ensures aligned { IfSome result (λ r. IsAligned (rect_set r) (30 - level)) }

@@ -8,14 +8,15 @@ use Rattle.s2cover.proofs.clip.cells_within.Goals as goal
 pub loop-cell-preserved : goal.loop-cell-preserved
 loop-cell-preserved c =
     let f = form_in (rect_set c.args.rect.now) (30 - c.args.level) in
-    let cell = c.placed.result.cell in
+    let cell = c.placed_cell.result.cell in
     let old_len = c.loop-cell.list.ok.0 in
     let new_len = c.seek.new.list.ok.0 in
     let both = ap length c.in-Ok.ensures.list ∙ length-append c.loop-cell.list.items (f cell) in
     let len : vec_len c.seek.new.list ≡ vec_len c.loop-cell.list + length (f cell) = omega arith in (
       gathered_next f c.args.cells.now c.loop-cell.cell-index cell _ c.loop-cell.list.items c.seek.new.list.items
           (vec_len c.loop-cell.list) (vec_len c.seek.new.list) c.args.max c.loop-cell-test.true
-          (c.placed.ensures.cell ∙ c.cell-item.is) c.loop-cell.invariant.0 c.in-Ok.ensures.list c.in-Ok.ensures.room,
+          (c.placed_cell.ensures.cell ∙ c.cell-item.is) c.loop-cell.invariant.0 c.in-Ok.ensures.list
+          c.in-Ok.ensures.room,
       rw len (added_next c.args.looks.now.count c.loop-cell.looks.count c.seek.new.looks.count c.loop-cell.cell-index
           (vec_len c.loop-cell.list) (length (f cell)) (depth_of cell - (30 - c.args.level)) c.args.level (omega arith)
           c.loop-cell.invariant.1 c.in-Ok.ensures.most c.in-Ok.ensures.least),
@@ -24,5 +25,6 @@ loop-cell-preserved c =
 pub returns-in-Err-clause-many : goal.returns-in-Err-clause-many
 returns-in-Err-clause-many c e =
     gathered_many (form_in (rect_set c.args.rect.now) (30 - c.args.level)) c.args.cells.now c.loop-cell.cell-index
-    c.placed.result.cell _ c.loop-cell.list.items (vec_len c.loop-cell.list) c.args.max c.loop-cell-test.true
-    (c.placed.ensures.cell ∙ c.cell-item.is) c.loop-cell.invariant.0 c.loop-cell.list.ok.0 (c.in-Err.ensures.many e)
+    c.placed_cell.result.cell _ c.loop-cell.list.items (vec_len c.loop-cell.list) c.args.max c.loop-cell-test.true
+    (c.placed_cell.ensures.cell ∙ c.cell-item.is) c.loop-cell.invariant.0 c.loop-cell.list.ok.0
+    (c.in-Err.ensures.many e)

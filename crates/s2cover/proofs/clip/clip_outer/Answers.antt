@@ -9,36 +9,40 @@ use Rattle.s2cover.proofs.clip.clip_outer.Goals as goal
 
 pub returns-in-Ok-clause-leaves : goal.returns-in-Ok-clause-leaves
 returns-in-Ok-clause-leaves c =
-    leaves_ok c.clip_aligned.result (λ x. has_leaf c.in-Ok.whole.cells x && rect_set c.widened.result x)
+    leaves_ok c.clip_aligned.result (λ x. has_leaf c.in-Ok.whole.cells x && rect_set c.round_outward.result x)
     (outer_set (λ y. has_leaf c.args.union.now.cells y && rect_set c.args.rect.now y) c.args.level)
-    (λ x. shared_outer (rect_set c.widened.result) c.args.level c.in-Ok.whole.cells c.widened.ensures.aligned
+    (λ x. shared_outer (rect_set c.round_outward.result) c.args.level c.in-Ok.whole.cells
+    c.round_outward.ensures.aligned
     c.in-Ok.ensures.local
     c.in-Ok.ensures.above x
     ∙ cut_clip c.args.level c.args.union.now.cells c.in-Ok.whole.cells (rect_set c.args.rect.now)
-    (rect_set c.widened.result) c.requires.level c.cells.ensures.local c.in-Ok.ensures.leaves
-    c.widened.ensures.leaves x)
+    (rect_set c.round_outward.result) c.requires.level c.cells.ensures.local c.in-Ok.ensures.leaves
+    c.round_outward.ensures.leaves x)
     c.clip_aligned.ensures.leaves
 
 pub returns-in-Ok-clause-normal : goal.returns-in-Ok-clause-normal
 returns-in-Ok-clause-normal c =
-    normal_ok c.clip_aligned.result (λ x. has_leaf c.in-Ok.whole.cells x && rect_set c.widened.result x)
+    normal_ok c.clip_aligned.result (λ x. has_leaf c.in-Ok.whole.cells x && rect_set c.round_outward.result x)
     (outer_set (λ y. has_leaf c.args.union.now.cells y && rect_set c.args.rect.now y) c.args.level)
-    (λ x. shared_outer (rect_set c.widened.result) c.args.level c.in-Ok.whole.cells c.widened.ensures.aligned
+    (λ x. shared_outer (rect_set c.round_outward.result) c.args.level c.in-Ok.whole.cells
+    c.round_outward.ensures.aligned
     c.in-Ok.ensures.local
     c.in-Ok.ensures.above x
     ∙ cut_clip c.args.level c.args.union.now.cells c.in-Ok.whole.cells (rect_set c.args.rect.now)
-    (rect_set c.widened.result) c.requires.level c.cells.ensures.local c.in-Ok.ensures.leaves
-    c.widened.ensures.leaves x)
+    (rect_set c.round_outward.result) c.requires.level c.cells.ensures.local c.in-Ok.ensures.leaves
+    c.round_outward.ensures.leaves x)
     c.clip_aligned.ensures.normal
 
 pub returns-in-Ok-clause-many : goal.returns-in-Ok-clause-many
 returns-in-Ok-clause-many c =
-    many_same c.clip_aligned.result _ c.args.max (λ x. has_leaf c.in-Ok.whole.cells x && rect_set c.widened.result x)
+    many_same c.clip_aligned.result _ c.args.max
+    (λ x. has_leaf c.in-Ok.whole.cells x && rect_set c.round_outward.result x)
     (outer_set (λ y. has_leaf c.args.union.now.cells y && rect_set c.args.rect.now y) c.args.level)
-    (λ x. shared_outer (rect_set c.widened.result) c.args.level c.in-Ok.whole.cells c.widened.ensures.aligned
+    (λ x. shared_outer (rect_set c.round_outward.result) c.args.level c.in-Ok.whole.cells
+    c.round_outward.ensures.aligned
     c.in-Ok.ensures.local
     c.in-Ok.ensures.above x
     ∙ cut_clip c.args.level c.args.union.now.cells c.in-Ok.whole.cells (rect_set c.args.rect.now)
-    (rect_set c.widened.result) c.requires.level c.cells.ensures.local c.in-Ok.ensures.leaves
-    c.widened.ensures.leaves x)
+    (rect_set c.round_outward.result) c.requires.level c.cells.ensures.local c.in-Ok.ensures.leaves
+    c.round_outward.ensures.leaves x)
     c.clip_aligned.ensures.many

@@ -7,31 +7,31 @@ use Rattle.s2cover.proofs.cut.union_outer.Goals as goal
 
 pub returns-in-Ok-clause-leaves : goal.returns-in-Ok-clause-leaves
 returns-in-Ok-clause-leaves c =
-    same_ok c.bounded.result c.normalise.result.cells (λ v. (x : ℕ) →
+    same_ok c.union_up_to.result c.normalise.result.cells (λ v. (x : ℕ) →
     has_leaf v x ≡ outer_set (has_leaf c.args.union.now.cells) c.args.level x)
     (cut_leaves c.args.level c.args.union.now.cells _ c.normalise.result.cells c.requires.level
     c.cells.ensures.local (c.in-Ok.ensures ∙ ap (cells_cut c.args.level) c.cells.ensures.value)
     c.normalise.ensures.leaves)
-    c.bounded.ensures.same
+    c.union_up_to.ensures.same
 
 pub returns-in-Ok-clause-local : goal.returns-in-Ok-clause-local
-returns-in-Ok-clause-local c = same_ok c.bounded.result c.normalise.result.cells IsLocal c.normalise.ensures.local
-    c.bounded.ensures.same
+returns-in-Ok-clause-local c = same_ok c.union_up_to.result c.normalise.result.cells IsLocal c.normalise.ensures.local
+    c.union_up_to.ensures.same
 
 pub returns-in-Ok-clause-normal : goal.returns-in-Ok-clause-normal
 returns-in-Ok-clause-normal c =
-    same_ok c.bounded.result c.normalise.result.cells
+    same_ok c.union_up_to.result c.normalise.result.cells
     (IsNormalForm (outer_set (has_leaf c.args.union.now.cells) c.args.level))
     (cut_normal c.args.level c.args.union.now.cells _ c.normalise.result.cells c.requires.level
     c.cells.ensures.local (c.in-Ok.ensures ∙ ap (cells_cut c.args.level) c.cells.ensures.value)
     c.normalise.ensures.normal)
-    c.bounded.ensures.same
+    c.union_up_to.ensures.same
 
 pub returns-in-Ok-clause-many : goal.returns-in-Ok-clause-many
 returns-in-Ok-clause-many c =
-    many_err c.bounded.result _ c.normalise.result.cells c.args.max
+    many_err c.union_up_to.result _ c.normalise.result.cells c.args.max
     (outer_set (has_leaf c.args.union.now.cells) c.args.level)
     (cut_normal c.args.level c.args.union.now.cells _ c.normalise.result.cells c.requires.level
     c.cells.ensures.local (c.in-Ok.ensures ∙ ap (cells_cut c.args.level) c.cells.ensures.value)
     c.normalise.ensures.normal)
-    c.bounded.ensures.many
+    c.union_up_to.ensures.many

@@ -1,7 +1,7 @@
 use Rattle.std.proofs.Common.{◌≡◌, ◌-◌, ◌<◌, ap, arith, ◌∙◌}
 use Rattle.s2cell.specs.Cell.{IsCell, level_of, place_of, child_of, parent_of}
 use Rattle.s2cover.proofs.Parents.{same_face, child_back}
-use Rattle.s2cover.proofs.placing.+placed.Goals as goal
+use Rattle.s2cover.proofs.placing.+placed_cell.Goals as goal
 
 pub returns-then-level-eq0-clause-cell : goal.returns-then-level-eq0-clause-cell
 returns-then-level-eq0-clause-cell t c =
@@ -17,7 +17,7 @@ returns-else-level-eq0-clause-cell t c =
     let e = c.level-level.ensures.value in
     let below : 0 < level_of c.args.cell = (let z = c.if-level-eq0.false in omega arith) in
     c.child.ensures.cell
-    ∙ ap (λ z. child_of z c.number.result) (c.placed.ensures.cell ∙ c.parent.ensures.value
+    ∙ ap (λ z. child_of z c.number.result) (c.placed_cell.ensures.cell ∙ c.parent.ensures.value
     ∙ ap (λ z. parent_of c.args.cell (z - 1)) e)
     ∙ ap (λ z. child_of (parent_of c.args.cell (level_of c.args.cell - 1)) z) c.number.ensures.value
     ∙ child_back c.args.cell i below

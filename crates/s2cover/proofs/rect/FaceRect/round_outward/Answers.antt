@@ -3,7 +3,7 @@ use Rattle.s2cover.specs.Coverings.{outer_set}
 use Rattle.s2cover.specs.Rectangles.{Rect, rect_set}
 use Rattle.s2cover.proofs.Rounded.{widened_outer, widened_aligned, widened_rect}
 use Rattle.s2cover.proofs.Squares.{Rounded}
-use Rattle.s2cover.proofs.rect.FaceRect.widened.Goals as goal
+use Rattle.s2cover.proofs.rect.FaceRect.round_outward.Goals as goal
 
 pub invariant_of-result : goal.invariant_of-result
 invariant_of-result c =

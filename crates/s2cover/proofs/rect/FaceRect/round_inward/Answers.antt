@@ -4,9 +4,9 @@ use Rattle.s2cover.specs.Coverings.{inner_set}
 use Rattle.s2cover.specs.Rectangles.{Rect, rect_set}
 use Rattle.s2cover.proofs.Rounded.{narrowed_inner, narrowed_aligned, narrowed_empty}
 use Rattle.s2cover.proofs.Squares.{Narrowed}
-use Rattle.s2cover.proofs.rect.FaceRect.narrowed.Goals as goal
-use Rattle.s2cover.proofs.rect.FaceRect.narrowed.Goals.{else-i0-i_end-via-then-i0-i_end+else-j0-j_end}
-use Rattle.s2cover.proofs.rect.FaceRect.narrowed.Goals.{else-i0-i_end-via-else-i0-i_end}
+use Rattle.s2cover.proofs.rect.FaceRect.round_inward.Goals as goal
+use Rattle.s2cover.proofs.rect.FaceRect.round_inward.Goals.{else-i0-i_end-via-then-i0-i_end+else-j0-j_end}
+use Rattle.s2cover.proofs.rect.FaceRect.round_inward.Goals.{else-i0-i_end-via-else-i0-i_end}
 
 pub returns-then-j0-j_end-clause-leaves : goal.returns-then-j0-j_end-clause-leaves
 returns-then-j0-j_end-clause-leaves c =
