@@ -4,7 +4,7 @@ ghost use Rattle.s2file.specs.Session.{moved_of, IsMoved};
 ghost use Rattle.s2edit.specs.Diff.{FitsList};
 ghost use Rattle.s2edit.specs.Session.{diff};
 
-use crate::lacking::lacking;
+use crate::lacking::unshared_cells;
 use crate::register::Register;
 use s2cell::CellId;
 use s2file::Move;
@@ -48,7 +48,7 @@ impl Change {
     ) -> Result<Change, AllocError>
         ensures { IfOk result (λ c. c ≡ change_between register old.now.cells new.now.cells) }
     {
-        let (out, put) = lacking(alloc, old.cells(), new.cells())?;
+        let (out, put) = unshared_cells(alloc, old.cells(), new.cells())?;
         Ok(Change { register, out, put })
     }
 

@@ -7,7 +7,7 @@ ghost use Rattle.s2edit.specs.Diff.{IsDiff};
 ghost use Rattle.s2edit.specs.Followed.{joined, both_out, CanFollowOn};
 ghost use Rattle.s2edit.specs.Following.{FailsToFollow};
 
-use crate::lacking::lacking;
+use crate::lacking::unshared_cells;
 use crate::session::RestoreFault;
 use s2cell::CellId;
 use s2union::CellUnion;
@@ -125,15 +125,19 @@ fn changes_in_turn(
     ensures answer { MatchResult result (λ _. CanFollowOn out.now put.now more_out.now more_put.now)
         (λ fault. FailsToFollow fault (CanFollowOn out.now put.now more_out.now more_put.now)) }
 {
-    let (kept_out, new_put) = lacking(alloc, out, more_put)?;
-    let (kept_put, new_out) = lacking(alloc, put, more_out)?;
-    let outs = joined(alloc, &kept_out, &new_out)?.ok_or(RestoreFault::Fit)?;
-    let puts = joined(alloc, &kept_put, &new_put)?.ok_or(RestoreFault::Fit)?;
+    let (kept_out, new_put) = unshared_cells(alloc, out, more_put)?;
+    let (kept_put, new_out) = unshared_cells(alloc, put, more_out)?;
+    let outs = join_if_apart(alloc, &kept_out, &new_out)?.ok_or(RestoreFault::Fit)?;
+    let puts = join_if_apart(alloc, &kept_put, &new_put)?.ok_or(RestoreFault::Fit)?;
     Ok((outs, puts))
 }
 
 /// The cells of two lists in one ascending list, if no cell is in both.
-fn joined(alloc: Global, us: &[CellId], vs: &[CellId]) -> Result<Option<Vec<CellId>>, AllocError>
+fn join_if_apart(
+    alloc: Global,
+    us: &[CellId],
+    vs: &[CellId],
+) -> Result<Option<Vec<CellId>>, AllocError>
     requires us_ascends { IsStrictlyIncreasing us.now }
     requires vs_ascends { IsStrictlyIncreasing vs.now }
     ensures list { IfOk result (λ found. IfSome found (λ list. list.items ≡ joined us.now vs.now)) }

@@ -12,7 +12,7 @@ use std::cmp::Ordering;
 ///
 /// Skips what both lists begin with and what both end with. For the rest it walks along both lists twice, the first
 /// time to count.
-pub(crate) fn lacking(
+pub(crate) fn unshared_cells(
     alloc: Global,
     old: &[CellId],
     new: &[CellId],
@@ -26,7 +26,7 @@ pub(crate) fn lacking(
     let old = &old[front..];
     let new = &new[front..];
     let back = same_back(old, new);
-    differing(alloc, &old[..old.len() - back], &new[..new.len() - back])
+    unshared_by_walks(alloc, &old[..old.len() - back], &new[..new.len() - back])
 }
 
 /// How many cells at the front of both lists are the same.
@@ -86,8 +86,8 @@ fn count_lacking(us: &[CellId], others: &[CellId]) -> usize
     count + (us.len() - i)
 }
 
-/// The same as `lacking`, by walks along both lists.
-fn differing(
+/// The same as `unshared_cells`, by walks along both lists.
+fn unshared_by_walks(
     alloc: Global,
     old: &[CellId],
     new: &[CellId],

@@ -3,8 +3,8 @@ use Rattle.std.proofs.Common.{◌∙◌, arith, subst, drop, take, ◌-◌}
 use Rattle.std.proofs.lemmas.Grind.{get_or_default_zero}
 use Rattle.std.proofs.lemmas.Bool.Decides.{nat_tests}
 use Rattle.s2edit.proofs.Joining.{Joins, joins_start, first_turn, second_turn, one_in_both, rest_joined, rest_apart}
-use Rattle.s2edit.proofs.followed.joined.Goals as goal
-use Rattle.s2edit.proofs.followed.joined.Goals.{then-loop-i-test+else-j-vs, else-loop-i-test}
+use Rattle.s2edit.proofs.followed.join_if_apart.Goals as goal
+use Rattle.s2edit.proofs.followed.join_if_apart.Goals.{then-loop-i-test+else-j-vs, else-loop-i-test}
 
 pub loop-i-init : goal.loop-i-init
 loop-i-init c = record {

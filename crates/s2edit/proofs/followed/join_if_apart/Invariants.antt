@@ -1,6 +1,6 @@
 use Rattle.std.proofs.Common.{◌≤◌, ◌+◌, ◌-◌, length, drop}
 use Rattle.s2edit.proofs.Joining.{Joins}
-use Rattle.s2edit.proofs.followed.joined.Given as goal
+use Rattle.s2edit.proofs.followed.join_if_apart.Given as goal
 
 -- what is joined, and what is left to join
 abbrev pub invariant-loop-i : goal.invariant-loop-i

@@ -4,8 +4,8 @@ use Rattle.std.proofs.lemmas.Grind.{get_or_default_zero}
 use Rattle.std.proofs.lemmas.Bool.Decides.{nat_tests}
 use Rattle.s2edit.proofs.Sizes.{fewer_without, lacking_counts}
 use Rattle.s2edit.proofs.Differing.{below_turn, same_turn, lacking_turn, lacking_rest}
-use Rattle.s2edit.proofs.lacking.differing.Goals as goal
-use Rattle.s2edit.proofs.lacking.differing.Goals.{then-loop-i-test+else-j-new, else-loop-i-test}
+use Rattle.s2edit.proofs.lacking.unshared_by_walks.Goals as goal
+use Rattle.s2edit.proofs.lacking.unshared_by_walks.Goals.{then-loop-i-test+else-j-new, else-loop-i-test}
 
 pub overflow_sub-shared : goal.overflow_sub-shared
 overflow_sub-shared c = omega (arith, c.count_lacking-lost.ensures, fewer_without c.args.old.now c.args.«new».now)
