@@ -44,19 +44,19 @@ pub(crate) fn command_of<'a>(name: &'a [u8], words: Words<'a>) -> Result<Command
 {
     if name == b"add".as_slice() {
         let (register, cells) = register_and_cells(words)?;
-        Ok(edited(register, RegisterEdit::Add(cells)))
+        Ok(edit_of(register, RegisterEdit::Add(cells)))
     } else if name == b"remove".as_slice() {
         let (register, cells) = register_and_cells(words)?;
-        Ok(edited(register, RegisterEdit::Remove(cells)))
+        Ok(edit_of(register, RegisterEdit::Remove(cells)))
     } else if name == b"keep".as_slice() {
         let (register, cells) = register_and_cells(words)?;
-        Ok(edited(register, RegisterEdit::Keep(cells)))
+        Ok(edit_of(register, RegisterEdit::Keep(cells)))
     } else if name == b"clear".as_slice() {
         let register = one_register(words)?;
-        Ok(edited(register, RegisterEdit::Clear))
+        Ok(edit_of(register, RegisterEdit::Clear))
     } else if name == b"range".as_slice() {
         let (register, span) = register_and_span(words)?;
-        Ok(edited(register, RegisterEdit::Range(span)))
+        Ok(edit_of(register, RegisterEdit::Range(span)))
     } else {
         combination_of(name, words)
     }
@@ -69,16 +69,16 @@ fn combination_of<'a>(name: &'a [u8], words: Words<'a>) -> Result<Command<'a>, M
 {
     if name == b"copy".as_slice() {
         let (register, other) = two_registers(words)?;
-        Ok(edited(register, RegisterEdit::Copy(other)))
+        Ok(edit_of(register, RegisterEdit::Copy(other)))
     } else if name == b"union".as_slice() {
         let (register, other) = two_registers(words)?;
-        Ok(edited(register, RegisterEdit::Union(other)))
+        Ok(edit_of(register, RegisterEdit::Union(other)))
     } else if name == b"intersect".as_slice() {
         let (register, other) = two_registers(words)?;
-        Ok(edited(register, RegisterEdit::Intersect(other)))
+        Ok(edit_of(register, RegisterEdit::Intersect(other)))
     } else if name == b"subtract".as_slice() {
         let (register, other) = two_registers(words)?;
-        Ok(edited(register, RegisterEdit::Subtract(other)))
+        Ok(edit_of(register, RegisterEdit::Subtract(other)))
     } else {
         covering_of(name, words)
     }
@@ -91,16 +91,16 @@ fn covering_of<'a>(name: &'a [u8], words: Words<'a>) -> Result<Command<'a>, Misf
 {
     if name == b"outer".as_slice() {
         let (register, level, rect) = register_level_rect(words)?;
-        Ok(edited(register, RegisterEdit::Outer { level, rect }))
+        Ok(edit_of(register, RegisterEdit::Outer { level, rect }))
     } else if name == b"inner".as_slice() {
         let (register, level, rect) = register_level_rect(words)?;
-        Ok(edited(register, RegisterEdit::Inner { level, rect }))
+        Ok(edit_of(register, RegisterEdit::Inner { level, rect }))
     } else if name == b"outerof".as_slice() {
         let (register, other, level, rect) = registers_level_rect(words)?;
-        Ok(edited(register, RegisterEdit::OuterOf { other, level, rect }))
+        Ok(edit_of(register, RegisterEdit::OuterOf { other, level, rect }))
     } else if name == b"innerof".as_slice() {
         let (register, other, level, rect) = registers_level_rect(words)?;
-        Ok(edited(register, RegisterEdit::InnerOf { other, level, rect }))
+        Ok(edit_of(register, RegisterEdit::InnerOf { other, level, rect }))
     } else {
         file_or_move_of(name, words)
     }
@@ -193,7 +193,7 @@ fn fact_of<'a>(name: &'a [u8], mut words: Words<'a>) -> Result<Question, Misfit<
 }
 
 /// An edit of a register, as a command.
-fn edited<'a>(register: Register, edit: RegisterEdit<'a>) -> Command<'a>
+fn edit_of<'a>(register: Register, edit: RegisterEdit<'a>) -> Command<'a>
     ensures { result ≡ EditOf register edit.entry }
 {
     Command::Edit { register, edit }
