@@ -83,7 +83,7 @@ pub(crate) fn write_answer<W: Write>(
         Answer::Count { cells, leaves } => {
             emit(writer, count_line(*cells as u64, *leaves).as_slice())
         }
-        Answer::YesOrNo(yes) => emit(writer, told(*yes)),
+        Answer::YesOrNo(yes) => emit(writer, yes_or_no_line(*yes)),
         Answer::Listing(register) => write_cells(writer, editor.register(*register).cells()),
         Answer::Cut {
             register,
@@ -96,14 +96,14 @@ pub(crate) fn write_answer<W: Write>(
                 history_line(*undos as u64, *redos as u64).as_slice(),
             )
         }
-        Answer::Done => emit(writer, done()),
+        Answer::Done => emit(writer, done_line()),
         Answer::Refused(refusal) => emit(writer, error_line(*refusal).as_slice()),
     }
 }
 
 /// The line `yes` or `no`.
 #[tactic(auto, unfolding(crate::specs::Texts::yes_line, crate::specs::Texts::no_line))]
-fn told(yes: bool) -> &'static [u8]
+fn yes_or_no_line(yes: bool) -> &'static [u8]
     ensures { result.now ≡ told yes }
 {
     if yes { b"yes\n" } else { b"no\n" }
@@ -111,7 +111,7 @@ fn told(yes: bool) -> &'static [u8]
 
 /// The line of a command that is done, if there are no numbers to report.
 #[tactic(auto, unfolding(crate::specs::Texts::done_line))]
-fn done() -> &'static [u8]
+fn done_line() -> &'static [u8]
     ensures { result.now ≡ done_line }
 {
     b"ok\n"

@@ -55,7 +55,7 @@ impl<W> AnswerBuffer<W> {
     }
 
     /// How many bytes are waiting.
-    pub fn waiting(&self) -> usize
+    pub fn waiting_len(&self) -> usize
         ensures count { result ≡ length self.now.waiting }
         ensures few { length self.now.waiting ≤ MOST_WAITING }
     {

@@ -80,14 +80,14 @@ fn make(
 {
     let union = editor.register(register);
     match edit {
-        RegisterEdit::Add(cells) => in_memory(added(alloc, union, cells)),
-        RegisterEdit::Remove(cells) => removed(alloc, union, cells, editor.limit()),
-        RegisterEdit::Keep(cells) => in_memory(kept(alloc, union, cells)),
+        RegisterEdit::Add(cells) => in_memory(union_with_cells(alloc, union, cells)),
+        RegisterEdit::Remove(cells) => difference_with_cells(alloc, union, cells, editor.limit()),
+        RegisterEdit::Keep(cells) => in_memory(intersection_with_cells(alloc, union, cells)),
         RegisterEdit::Clear => Ok(nothing(alloc)),
-        RegisterEdit::Copy(other) => in_memory(copied(editor.register(other))),
+        RegisterEdit::Copy(other) => in_memory(copy_of(editor.register(other))),
         RegisterEdit::Union(other) => in_memory(union.union(editor.register(other))),
         RegisterEdit::Intersect(other) => in_memory(union.intersection(editor.register(other))),
-        RegisterEdit::Subtract(other) => subtracted(union, editor.register(other), editor.limit()),
+        RegisterEdit::Subtract(other) => difference(union, editor.register(other), editor.limit()),
         RegisterEdit::Range(span) => {
             let (first, last) = span.ends();
             in_memory(CellUnion::from_range(alloc, first, last))
@@ -112,7 +112,7 @@ fn in_memory(made: Result<CellUnion, AllocError>) -> Result<CellUnion, Refusal>
 
 /// A covering, or the refusal that says why there is none.
 #[tactic(auto, using(crate::proofs::CoveringLemmas::outer_too_long, crate::proofs::CoveringLemmas::inner_too_long))]
-fn covered(made: Result<CellUnion, CoverFault>) -> Result<CellUnion, Refusal>
+fn covering_or_refusal(made: Result<CellUnion, CoverFault>) -> Result<CellUnion, Refusal>
     ensures outer { (R : ℕ → Bool) (level limit : ℕ) → IfOk made (λ u. IsNormalForm (outer_set R level) u.cells) →
         IfErr made (λ fault. fault ≡ CoverFault.TooMany → (u : List ℕ) → IsNormalForm (outer_set R level) u →
         limit < length u) → Makes (outer_set R level) limit result }
@@ -128,7 +128,7 @@ fn covered(made: Result<CellUnion, CoverFault>) -> Result<CellUnion, Refusal>
 }
 
 /// The union of the cells.
-fn gathered(alloc: Global, mut cells: Cells<'_>) -> Result<CellUnion, AllocError>
+fn union_of(alloc: Global, mut cells: Cells<'_>) -> Result<CellUnion, AllocError>
     ensures { IfOk result (λ u. (x : ℕ) → has_leaf u.cells x ≡ has_leaf cells.entry x) }
 {
     let mut list = Vec::new(alloc);
@@ -139,14 +139,18 @@ fn gathered(alloc: Global, mut cells: Cells<'_>) -> Result<CellUnion, AllocError
 }
 
 /// The union with the cells added.
-fn added(alloc: Global, union: &CellUnion, cells: Cells<'_>) -> Result<CellUnion, AllocError>
+fn union_with_cells(
+    alloc: Global,
+    union: &CellUnion,
+    cells: Cells<'_>,
+) -> Result<CellUnion, AllocError>
     ensures { IfOk result (λ u. IsNormalForm (either (has_leaf union.now.cells) (has_leaf cells.entry)) u.cells) }
 {
-    union.union(&gathered(alloc, cells)?)
+    union.union(&union_of(alloc, cells)?)
 }
 
 /// The union without the leaves of the cells.
-fn removed(
+fn difference_with_cells(
     alloc: Global,
     union: &CellUnion,
     cells: Cells<'_>,
@@ -154,15 +158,15 @@ fn removed(
 ) -> Result<CellUnion, Refusal>
     ensures { Makes (without (has_leaf union.now.cells) (has_leaf cells.entry)) limit result }
 {
-    match gathered(alloc, cells) {
-        Ok(taken) => subtracted(union, &taken, limit),
+    match union_of(alloc, cells) {
+        Ok(taken) => difference(union, &taken, limit),
         Err(_) => Err(Refusal::Memory),
     }
 }
 
 /// The union without the leaves of another.
 #[tactic(auto, using(crate::proofs::CoveringLemmas::rest_too_long))]
-fn subtracted(union: &CellUnion, taken: &CellUnion, limit: usize) -> Result<CellUnion, Refusal>
+fn difference(union: &CellUnion, taken: &CellUnion, limit: usize) -> Result<CellUnion, Refusal>
     ensures { Makes (without (has_leaf union.now.cells) (has_leaf taken.now.cells)) limit result }
 {
     let _ = union.cells();
@@ -174,10 +178,14 @@ fn subtracted(union: &CellUnion, taken: &CellUnion, limit: usize) -> Result<Cell
 }
 
 /// The leaves that the union shares with the cells.
-fn kept(alloc: Global, union: &CellUnion, cells: Cells<'_>) -> Result<CellUnion, AllocError>
+fn intersection_with_cells(
+    alloc: Global,
+    union: &CellUnion,
+    cells: Cells<'_>,
+) -> Result<CellUnion, AllocError>
     ensures { IfOk result (λ u. IsNormalForm (shared (has_leaf union.now.cells) (has_leaf cells.entry)) u.cells) }
 {
-    union.intersection(&gathered(alloc, cells)?)
+    union.intersection(&union_of(alloc, cells)?)
 }
 
 /// The union that has no leaf.
@@ -190,7 +198,7 @@ fn nothing(alloc: Global) -> CellUnion
 }
 
 /// A copy of the union.
-fn copied(union: &CellUnion) -> Result<CellUnion, AllocError>
+fn copy_of(union: &CellUnion) -> Result<CellUnion, AllocError>
     ensures { IfOk result (λ u. IsNormalForm (has_leaf union.now.cells) u.cells) }
 {
     let _ = union.cells();
@@ -208,7 +216,7 @@ fn outer_rect(
 {
     let mut looks = Looks { count: 0 };
     let limit = editor.limit();
-    covered(rect_outer(alloc, rect, level.number(), limit, &mut looks))
+    covering_or_refusal(rect_outer(alloc, rect, level.number(), limit, &mut looks))
 }
 
 /// The inner covering of a rectangle.
@@ -222,7 +230,7 @@ fn inner_rect(
 {
     let mut looks = Looks { count: 0 };
     let limit = editor.limit();
-    covered(rect_inner(alloc, rect, level.number(), limit, &mut looks))
+    covering_or_refusal(rect_inner(alloc, rect, level.number(), limit, &mut looks))
 }
 
 /// The outer covering of a register, within a rectangle if there is one.
@@ -237,11 +245,11 @@ fn outer_of(
 {
     let union = editor.register(register);
     match rect {
-        None => covered(union_outer(alloc, union, level.number(), editor.limit())),
+        None => covering_or_refusal(union_outer(alloc, union, level.number(), editor.limit())),
         Some(rect) => {
             let mut looks = Looks { count: 0 };
             let limit = editor.limit();
-            covered(clip_outer(alloc, union, &rect, level.number(), limit, &mut looks))
+            covering_or_refusal(clip_outer(alloc, union, &rect, level.number(), limit, &mut looks))
         }
     }
 }
@@ -258,11 +266,11 @@ fn inner_of(
 {
     let union = editor.register(register);
     match rect {
-        None => covered(union_inner(alloc, union, level.number(), editor.limit())),
+        None => covering_or_refusal(union_inner(alloc, union, level.number(), editor.limit())),
         Some(rect) => {
             let mut looks = Looks { count: 0 };
             let limit = editor.limit();
-            covered(clip_inner(alloc, union, &rect, level.number(), limit, &mut looks))
+            covering_or_refusal(clip_inner(alloc, union, &rect, level.number(), limit, &mut looks))
         }
     }
 }

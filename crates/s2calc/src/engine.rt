@@ -196,7 +196,7 @@ pub fn run_promptly<R: Read, W: Write, S: Shelf>(
     ensures before { EachList (λ u. IsNormalForm (has_leaf u) u) editor.old }
     ensures after { EachList (λ u. IsNormalForm (has_leaf u) u) editor.new }
 {
-    let _ = (editor.limit(), writer.waiting());
+    let _ = (editor.limit(), writer.waiting_len());
     let mut input = input_buffer(alloc)?;
     let result = run_over::<R, AnswerBuffer<W>, S, Promptly, NoNotes>(
         alloc,
@@ -207,7 +207,7 @@ pub fn run_promptly<R: Read, W: Write, S: Shelf>(
         shelf,
         &mut NoNotes,
     );
-    let _ = (editor.limit(), writer.waiting());
+    let _ = (editor.limit(), writer.waiting_len());
     result
 }
 
@@ -238,12 +238,12 @@ pub fn run_explained<R: Read, W: Write, S: Shelf, N: Write>(
     ensures before { EachList (λ u. IsNormalForm (has_leaf u) u) editor.old }
     ensures after { EachList (λ u. IsNormalForm (has_leaf u) u) editor.new }
 {
-    let _ = (editor.limit(), writer.waiting());
+    let _ = (editor.limit(), writer.waiting_len());
     let mut input = input_buffer(alloc)?;
     let result = run_over::<R, AnswerBuffer<W>, S, Promptly, NoteWriter<N>>(
         alloc, &mut input, editor, reader, writer, shelf, notes,
     );
-    let _ = (editor.limit(), writer.waiting());
+    let _ = (editor.limit(), writer.waiting_len());
     result
 }
 
@@ -317,14 +317,17 @@ fn finish<W: Write, S: Shelf, F: Flushing<W>, N: Notes>(
     ensures sent { MatchResult result (λ _. F.is_sent writer.new) (λ fault. fault ≡ RunFault.Output) }
 {
     if progress.kept.as_slice().is_empty() {
-        return flushed::<W, F>(progress.tally, writer);
+        return flush_at_the_end::<W, F>(progress.tally, writer);
     }
     answer_kept::<W, S, F, N>(alloc, editor, &mut progress, writer, shelf, notes)?;
-    flushed::<W, F>(progress.tally, writer)
+    flush_at_the_end::<W, F>(progress.tally, writer)
 }
 
 /// Flushes the writer, and answers how many lines were answered.
-fn flushed<W: Write, F: Flushing<W>>(tally: Tally, writer: &mut W) -> Result<Tally, RunFault>
+fn flush_at_the_end<W: Write, F: Flushing<W>>(
+    tally: Tally,
+    writer: &mut W,
+) -> Result<Tally, RunFault>
     ensures kept { Keeps (W.contents writer.old) (W.contents writer.new) }
     ensures result { MatchResult result (λ told. told ≡ tally) (λ fault. fault ≡ RunFault.Output) }
     ensures sent { OnOk result (F.is_sent writer.new) }

@@ -9,9 +9,9 @@ pub returns-then-is_empty-clause-closes : goal.returns-then-is_empty-clause-clos
 returns-then-is_empty-clause-closes g c =
     let none : c.args.progress.kept ≡ [] = grind (arith, common_steps) in
     λ start script replies s.
-    MatchResult-weaker c.flushed.result c.flushed.ensures.result
-    (λ told t. Ended-none start script replies _ _ s told _ _ none c.flushed.ensures.kept t)
-    (λ fault f. (f, inr (inl (EndsUnflushed-none start script replies _ _ s _ _ none c.flushed.ensures.kept))))
+    MatchResult-weaker c.flush_at_the_end.result c.flush_at_the_end.ensures.result
+    (λ told t. Ended-none start script replies _ _ s told _ _ none c.flush_at_the_end.ensures.kept t)
+    (λ fault f. (f, inr (inl (EndsUnflushed-none start script replies _ _ s _ _ none c.flush_at_the_end.ensures.kept))))
 
 pub returns-in_err-answer_kept-clause-closes : goal.returns-in_err-answer_kept-clause-closes
 returns-in_err-answer_kept-clause-closes g c =
@@ -31,9 +31,9 @@ returns-clause-closes g c =
     let some : 0 < length c.args.progress.kept = grind (arith, common_steps) in
     let done = c.in_ok-answer_kept.ensures.answers in
     λ start script replies s.
-    MatchResult-weaker c.flushed-2.result c.flushed-2.ensures.result
-    (λ told t. Ended-line start script replies _ _ s _ some _ _ _ _ done c.flushed-2.ensures.kept told t)
+    MatchResult-weaker c.flush_at_the_end-2.result c.flush_at_the_end-2.ensures.result
+    (λ told t. Ended-line start script replies _ _ s _ some _ _ _ _ done c.flush_at_the_end-2.ensures.kept told t)
     (λ fault f. (
       f,
-      inr (inl (EndsUnflushed-line start script replies _ _ s _ some _ _ _ _ done c.flushed-2.ensures.kept)),
+      inr (inl (EndsUnflushed-line start script replies _ _ s _ some _ _ _ _ done c.flush_at_the_end-2.ensures.kept)),
     ))

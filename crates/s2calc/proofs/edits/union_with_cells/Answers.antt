@@ -3,12 +3,12 @@ use Rattle.std.proofs.lemmas.Result.{IfOk-weaker}
 use Rattle.s2union.specs.Union.{has_leaf}
 use Rattle.s2union.specs.Sets.{either}
 use Rattle.s2union.proofs.Normal.{normal_form_same}
-use Rattle.s2calc.proofs.edits.added.Goals as goal
+use Rattle.s2calc.proofs.edits.union_with_cells.Goals as goal
 
 pub returns : goal.returns
 returns c =
     IfOk-weaker c.union-2.result _ _ (λ u normal.
-    normal_form_same (either (has_leaf c.args.union.now.cells) (has_leaf c.in_ok-gathered.field-0.cells)) _
+    normal_form_same (either (has_leaf c.args.union.now.cells) (has_leaf c.in_ok-union_of.field-0.cells)) _
     u.cells
-    (λ x. ap (λ b. has_leaf c.args.union.now.cells x || b) (c.in_ok-gathered.ensures x)) normal)
+    (λ x. ap (λ b. has_leaf c.args.union.now.cells x || b) (c.in_ok-union_of.ensures x)) normal)
     c.union-2.ensures.normal

@@ -1,5 +1,5 @@
 use Rattle.std.proofs.Common.{◌≡◌, ◌++◌, length}
-use Rattle.s2calc.proofs.edits.gathered.Given as goal
+use Rattle.s2calc.proofs.edits.union_of.Given as goal
 
 -- the cells so far and those that are left are all
 abbrev pub invariant-loop-cell : goal.invariant-loop-cell

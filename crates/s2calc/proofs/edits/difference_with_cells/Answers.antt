@@ -2,11 +2,11 @@ use Rattle.std.proofs.Common.{◌&&◌, not, ap}
 use Rattle.s2union.specs.Union.{has_leaf}
 use Rattle.s2union.specs.Sets.{without}
 use Rattle.s2calc.proofs.CoveringLemmas.{makes_same}
-use Rattle.s2calc.proofs.edits.removed.Goals as goal
+use Rattle.s2calc.proofs.edits.difference_with_cells.Goals as goal
 
 pub returns-in-Ok : goal.returns-in-Ok
 returns-in-Ok c =
     makes_same (without (has_leaf c.args.union.now.cells) (has_leaf c.in-Ok.taken.cells)) _ c.args.limit
-    c.subtracted.result
+    c.difference.result
     (λ x. ap (λ b. has_leaf c.args.union.now.cells x && not b) (c.in-Ok.ensures x))
-    c.subtracted.ensures
+    c.difference.ensures
