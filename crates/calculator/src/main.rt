@@ -18,14 +18,14 @@ fn main(rt: HostRuntime) -> ExitCode {
         Ok(words) => words,
         Err(error) => {
             return match error.kind() {
-                ErrorKind::OutOfMemory => ended(&rt, &Err(RunFault::Memory)),
+                ErrorKind::OutOfMemory => report_end(&rt, &Err(RunFault::Memory)),
                 _ => unreadable(&rt),
             };
         }
     };
     let words: Vec<String> = match words.collect(rt.alloc()) {
         Ok(words) => words,
-        Err(_) => return ended(&rt, &Err(RunFault::Memory)),
+        Err(_) => return report_end(&rt, &Err(RunFault::Memory)),
     };
     match job(rt.alloc(), words) {
         Ok(
@@ -50,17 +50,17 @@ fn run_script(rt: &HostRuntime, limit: usize, depth: usize, dir: &str, explain: 
     requires depth { (1 ≤ depth) × (depth ≤ MOST_STATES) }
 {
     let Ok(mut editor) = Editor::open(rt.alloc(), limit, depth) else {
-        return ended(rt, &Err(RunFault::Memory));
+        return report_end(rt, &Err(RunFault::Memory));
     };
     let Ok(mut shelf) = DirShelf::at(rt, dir) else {
-        return ended(rt, &Err(RunFault::Memory));
+        return report_end(rt, &Err(RunFault::Memory));
     };
     let Ok(mut writer) = AnswerBuffer::new(rt.alloc(), io::writer(rt)) else {
-        return ended(rt, &Err(RunFault::Memory));
+        return report_end(rt, &Err(RunFault::Memory));
     };
     let result = if explain {
         let Ok(mut notes) = NoteWriter::new(rt.alloc(), rt.stderr()) else {
-            return ended(rt, &Err(RunFault::Memory));
+            return report_end(rt, &Err(RunFault::Memory));
         };
         run_explained(
             rt.alloc(),
@@ -79,20 +79,20 @@ fn run_script(rt: &HostRuntime, limit: usize, depth: usize, dir: &str, explain: 
             &mut shelf,
         )
     };
-    ended(rt, &result)
+    report_end(rt, &result)
 }
 
 /// Answers one `cell CELL`.
 fn answer_cell(rt: &HostRuntime, word: &str) -> ExitCode {
-    answered(rt, cell_answer(word.as_bytes(), &mut io::writer(rt)))
+    report_answer(rt, cell_answer(word.as_bytes(), &mut io::writer(rt)))
 }
 
 /// Answers one `check FILE`.
 fn answer_check(rt: &HostRuntime, dir: &str, name: &str) -> ExitCode {
     let Ok(mut shelf) = DirShelf::at(rt, dir) else {
-        return ended(rt, &Err(RunFault::Memory));
+        return report_end(rt, &Err(RunFault::Memory));
     };
-    answered(
+    report_answer(
         rt,
         check_answer(rt.alloc(), &mut shelf, name, &mut io::writer(rt)),
     )
@@ -101,9 +101,9 @@ fn answer_check(rt: &HostRuntime, dir: &str, name: &str) -> ExitCode {
 /// Answers one `draw FILE`.
 fn answer_draw(rt: &HostRuntime, dir: &str, name: &str, curve: bool) -> ExitCode {
     let Ok(mut shelf) = DirShelf::at(rt, dir) else {
-        return ended(rt, &Err(RunFault::Memory));
+        return report_end(rt, &Err(RunFault::Memory));
     };
-    answered(
+    report_answer(
         rt,
         draw_answer(rt.alloc(), &mut shelf, name, curve, &mut io::writer(rt)),
     )
@@ -111,23 +111,23 @@ fn answer_draw(rt: &HostRuntime, dir: &str, name: &str, curve: bool) -> ExitCode
 
 /// Answers one `draw --cells CELL..`.
 fn answer_draw_cells(rt: &HostRuntime, words: &[String], curve: bool) -> ExitCode {
-    answered(
+    report_answer(
         rt,
         draw_cells_answer(rt.alloc(), words, curve, &mut io::writer(rt)),
     )
 }
 
-/// The exit status after one answer; a failure is shown on standard error.
-fn answered(rt: &impl Eprint, outcome: Result<bool, RunFault>) -> ExitCode {
+/// Shows a failed answer on standard error, and gives the exit status after it.
+fn report_answer(rt: &impl Eprint, outcome: Result<bool, RunFault>) -> ExitCode {
     match outcome {
         Ok(true) => ExitCode::SUCCESS,
         Ok(false) => ExitCode::from(1),
-        Err(fault) => ended(rt, &Err(fault)),
+        Err(fault) => report_end(rt, &Err(fault)),
     }
 }
 
-/// The exit status after a run; a failure is shown on standard error.
-fn ended(rt: &impl Eprint, outcome: &Result<Tally, RunFault>) -> ExitCode {
+/// Shows a failed run on standard error, and gives the exit status after it.
+fn report_end(rt: &impl Eprint, outcome: &Result<Tally, RunFault>) -> ExitCode {
     let _ = match outcome {
         Ok(_) => Ok(()),
         Err(RunFault::Input) => rt.eprintln("s2calc: input"),
@@ -140,30 +140,30 @@ fn ended(rt: &impl Eprint, outcome: &Result<Tally, RunFault>) -> ExitCode {
 /// Shows the help that was asked for, or what is wrong with the words.
 fn not_asked(rt: &(impl Eprint + Print), error: &clap::Error) -> ExitCode {
     if error.kind() == clap::error::ErrorKind::OutOfMemory {
-        return ended(rt, &Err(RunFault::Memory));
+        return report_end(rt, &Err(RunFault::Memory));
     }
     if error.use_stderr() {
-        let status = misused(rt);
+        let status = report_misuse(rt);
         let _ = error.print(rt);
         return status;
     }
     match error.print(rt) {
         Ok(()) => ExitCode::SUCCESS,
-        Err(_) => ended(rt, &Err(RunFault::Output)),
+        Err(_) => report_end(rt, &Err(RunFault::Output)),
     }
 }
 
 /// What is wrong with words that aren't UTF-8, in clap's words.
 fn unreadable(rt: &impl Eprint) -> ExitCode {
-    let status = misused(rt);
+    let status = report_misuse(rt);
     let _ = rt.eprintln(
         "error: invalid UTF-8 was detected in one or more arguments\n\nFor more information, try '--help'.",
     );
     status
 }
 
-/// The first line for words that make no sense.
-fn misused(rt: &impl Eprint) -> ExitCode {
+/// Writes the first line for words that make no sense, and gives the exit status.
+fn report_misuse(rt: &impl Eprint) -> ExitCode {
     let _ = rt.eprintln("s2calc: usage");
     ExitCode::from(2)
 }
