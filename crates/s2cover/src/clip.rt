@@ -174,10 +174,7 @@ fn cells_within(
 {
     let mut list = Vec::new(alloc);
     for cell in cells {
-        match seek(rect, level, &placed_cell(*cell), max, looks, &mut list) {
-            Ok(()) => {}
-            Err(fault) => return Err(fault),
-        }
+        seek(rect, level, &placed_cell(*cell), max, looks, &mut list)?;
     }
     Ok(list)
 }

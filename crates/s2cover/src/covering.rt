@@ -88,10 +88,7 @@ fn cover<R: Region>(
     let mut list = Vec::new(alloc);
     for face in 0..6u8 {
         let top = PlacedCell::face(face);
-        match visit(region, kind, level, &top, 0, max, &mut list) {
-            Ok(_) => {}
-            Err(fault) => return Err(fault),
-        }
+        visit(region, kind, level, &top, 0, max, &mut list)?;
         if list.len() > max {
             return Err(CoverFault::TooMany);
         }

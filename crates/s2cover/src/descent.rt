@@ -75,10 +75,8 @@ pub(crate) fn visit<R: Region>(
             let mut full = true;
             for digit in 0..4u8 {
                 let held = if full { loose + digit as usize } else { 0 };
-                match visit(region, kind, level, &child(placed, digit), held, max, list) {
-                    Ok(inside) => full = full && inside,
-                    Err(fault) => return Err(fault),
-                }
+                let inside = visit(region, kind, level, &child(placed, digit), held, max, list)?;
+                full = full && inside;
                 if !full && list.len() > max {
                     return Err(CoverFault::TooMany);
                 }

@@ -72,10 +72,7 @@ pub(crate) fn seek(
         Part::In => take(placed.cell, max, list),
         Part::Cross => {
             for digit in 0..4u8 {
-                match seek(rect, level, &placed.child(digit), max, looks, list) {
-                    Ok(()) => {}
-                    Err(fault) => return Err(fault),
-                }
+                seek(rect, level, &placed.child(digit), max, looks, list)?;
             }
             Ok(())
         }

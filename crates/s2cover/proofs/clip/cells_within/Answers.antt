@@ -1,4 +1,5 @@
 use Rattle.std.proofs.Common.{arith, ◌≡◌, ◌+◌, ◌-◌, length, length-append, vec_len, ◌∙◌, ap}
+use Rattle.std.proofs.lemmas.Result.{err_from_is_err_and}
 use Rattle.s2cover.specs.Descent.{depth_of, form_in}
 use Rattle.s2cover.specs.Rectangles.{rect_set}
 use Rattle.s2cover.proofs.Parts.{gathered_next, gathered_many}
@@ -11,20 +12,22 @@ loop-cell-preserved c =
     let cell = c.placed_cell.result.cell in
     let old_len = c.loop-cell.list.ok.0 in
     let new_len = c.seek.new.list.ok.0 in
-    let both = ap length c.in-Ok.ensures.list ∙ length-append c.loop-cell.list.items (f cell) in
+    let both = ap length c.in_ok-seek.ensures.list ∙ length-append c.loop-cell.list.items (f cell) in
     let len : vec_len c.seek.new.list ≡ vec_len c.loop-cell.list + length (f cell) = omega arith in (
       gathered_next f c.args.cells.now c.loop-cell.cell-index cell _ c.loop-cell.list.items c.seek.new.list.items
           (vec_len c.loop-cell.list) (vec_len c.seek.new.list) c.args.max c.loop-cell-test.true
-          (c.placed_cell.ensures.cell ∙ c.cell-item.is) c.loop-cell.invariant.0 c.in-Ok.ensures.list
-          c.in-Ok.ensures.room,
+          (c.placed_cell.ensures.cell ∙ c.cell-item.is) c.loop-cell.invariant.0 c.in_ok-seek.ensures.list
+          c.in_ok-seek.ensures.room,
       rw len (added_next c.args.looks.now.count c.loop-cell.looks.count c.seek.new.looks.count c.loop-cell.cell-index
           (vec_len c.loop-cell.list) (length (f cell)) (depth_of cell - (30 - c.args.level)) c.args.level (omega arith)
-          c.loop-cell.invariant.1 c.in-Ok.ensures.most c.in-Ok.ensures.least),
+          c.loop-cell.invariant.1 c.in_ok-seek.ensures.most c.in_ok-seek.ensures.least),
     )
 
-pub returns-in-Err-clause-many : goal.returns-in-Err-clause-many
-returns-in-Err-clause-many c e =
-    gathered_many (form_in (rect_set c.args.rect.now) (30 - c.args.level)) c.args.cells.now c.loop-cell.cell-index
-    c.placed_cell.result.cell _ c.loop-cell.list.items (vec_len c.loop-cell.list) c.args.max c.loop-cell-test.true
+pub returns-in_err-seek-clause-many : goal.returns-in_err-seek-clause-many
+returns-in_err-seek-clause-many c =
+    let p = err_from_is_err_and c.from_residual.result c.from_residual.ensures.1 in
+    rw (p.1, p.2) (λ e. gathered_many (form_in (rect_set c.args.rect.now) (30 - c.args.level)) c.args.cells.now
+    c.loop-cell.cell-index c.placed_cell.result.cell _ c.loop-cell.list.items (vec_len c.loop-cell.list) c.args.max
+    c.loop-cell-test.true
     (c.placed_cell.ensures.cell ∙ c.cell-item.is) c.loop-cell.invariant.0 c.loop-cell.list.ok.0
-    (c.in-Err.ensures.many e)
+    (c.in_err-seek.ensures.many e))

@@ -1,4 +1,5 @@
 use Rattle.std.proofs.Common.{arith, ◌≡◌, ◌+◌, ◌-◌, vec_len, ◌∙◌}
+use Rattle.std.proofs.lemmas.Result.{err_from_is_err_and}
 use Rattle.s2union.proofs.Normal.{local_from_normal}
 use Rattle.s2cover.specs.Descent.{blocks, covering_set, form_faces, is_outer}
 use Rattle.s2cover.proofs.Formed.{found_none, found_next, found_many, found_stops, found_long, covering_normal}
@@ -14,16 +15,17 @@ loop-face-init g c =
 pub visit-requires-clause-above : goal.visit-requires-clause-above
 visit-requires-clause-above g c = let l = c.face-top.ensures.level in omega arith
 
-pub returns-in-Err-clause-many : goal.returns-in-Err-clause-many
-returns-in-Err-clause-many g c e u n =
+pub returns-in_err-visit-clause-many : goal.returns-in_err-visit-clause-many
+returns-in_err-visit-clause-many g c =
+    let p = err_from_is_err_and c.from_residual.result c.from_residual.ensures.1 in
     let S = blocks (is_outer c.args.kind) (g.R.Region.holds c.args.region.now) (30 - c.args.level) in
-    found_many (is_outer c.args.kind) (g.R.Region.holds c.args.region.now) c.args.level (c.loop-face.face + 1) u
-    c.args.max
+    rw (p.1, p.2) (λ e u n. found_many (is_outer c.args.kind) (g.R.Region.holds c.args.region.now) c.args.level
+    (c.loop-face.face + 1) u c.args.max
     (let t = c.loop-face-test.true in omega arith)
     (found_stops S (30 - c.args.level) c.loop-face.face c.face-top.result.cell c.loop-face.list.items
     (vec_len c.loop-face.list) c.args.max
     c.face-top.ensures.level c.face-top.ensures.face c.loop-face.list.ok.0 c.loop-face.invariant
-    (c.in-Err.ensures.many e).1) n
+    (c.in_err-visit.ensures.many e).1) n)
 
 pub returns-then-len-max-clause-many : goal.returns-then-len-max-clause-many
 returns-then-len-max-clause-many g c e u n =
@@ -31,7 +33,7 @@ returns-then-len-max-clause-many g c e u n =
     c.face-top.result.cell c.loop-face.list.items c.visit.new.list.items (vec_len c.loop-face.list)
     (vec_len c.visit.new.list) c.args.max u
     c.loop-face-test.true c.face-top.ensures.level c.face-top.ensures.face c.visit.new.list.ok.0
-    c.loop-face.invariant c.in-Ok.ensures.list (let m = c.if-len-max.true in let l = c.len.ensures in
+    c.loop-face.invariant c.in_ok-visit.ensures.list (let m = c.if-len-max.true in let l = c.len.ensures in
     omega arith) n
 
 pub loop-face-preserved : goal.loop-face-preserved
@@ -39,7 +41,7 @@ loop-face-preserved g c =
     let S = blocks (is_outer c.args.kind) (g.R.Region.holds c.args.region.now) (30 - c.args.level) in
     found_next S (30 - c.args.level) c.loop-face.face c.face-top.result.cell c.loop-face.list.items
     c.visit.new.list.items (vec_len c.loop-face.list) (vec_len c.visit.new.list) c.args.max
-    c.face-top.ensures.level c.face-top.ensures.face c.loop-face.invariant c.in-Ok.ensures.list
+    c.face-top.ensures.level c.face-top.ensures.face c.loop-face.invariant c.in_ok-visit.ensures.list
     (let f = c.if-len-max.false in let l = c.len.ensures in omega arith)
 
 pub from_normalized-requires : goal.from_normalized-requires

@@ -1,6 +1,7 @@
 use Rattle.std.proofs.Common.{rules, arith, ◌≡◌, ◌-◌, ◌<◌, ◌≤◌, true, false, [], ◌∷◌, length, vec_len, refl}
 use Rattle.std.proofs.Common.{◌∙◌, ap, sym, inl, inr}
 use Rattle.std.proofs.lemmas.Bool.{both_ways}
+use Rattle.std.proofs.lemmas.Result.{err_from_is_err_and}
 use Rattle.s2cell.specs.Cell.{level_of, place_of}
 use Rattle.s2cover.specs.Descent.{blocks, depth_of, is_outer}
 use Rattle.s2cover.proofs.Visits.{in_whole, out_nothing, cross_whole, cross_nothing, same_list, one_more, is_full}
@@ -46,21 +47,22 @@ visit-requires g t c κs within =
     let room = held.room in
     search rules
 
-pub returns-in-Err-clause-many : goal.returns-in-Err-clause-many
-returns-in-Err-clause-many g t c =
-    λ e.
+pub returns-in_err-inside-in-Cross-2-clause-many : goal.returns-in_err-inside-in-Cross-2-clause-many
+returns-in_err-inside-in-Cross-2-clause-many g t c =
+    let p = err_from_is_err_and c.from_residual.result c.from_residual.ensures.1 in
+    rw (p.1, p.2) (λ e.
     let S = blocks (is_outer c.args.kind) (g.R.Region.holds c.args.region.now) (30 - c.args.level) in
     let grain = 30 - c.args.level in
     let d = depth_of c.args.placed.now.cell in
     let m = place_of c.args.placed.now.cell in
     let s = child_stops S grain d m c.loop-digit.digit (depth_of c.child.result.cell)
     (place_of c.child.result.cell) c.args.max (vec_len c.loop-digit.list) c.child.ensures.depth
-    c.child.ensures.place (c.in-Err.ensures.many e) in
+    c.child.ensures.place (c.in_err-inside-in-Cross-2.ensures.many e) in
     many_child S grain d m c.loop-digit.digit c.args.list.now.items c.loop-digit.list.items
     (vec_len c.args.list.now) (vec_len c.loop-digit.list) c.args.max c.loop-digit.full
     (let n = c.if-level.false in let v = c.level.ensures.value in let k = c.requires.above in
     let l = c.requires.level in omega arith) c.loop-digit-test.true c.args.list.now.ok.0 c.loop-digit.list.ok.0
-    c.loop-digit.invariant.list c.loop-digit.invariant.whole s.0 s.1
+    c.loop-digit.invariant.list c.loop-digit.invariant.whole s.0 s.1)
 
 pub returns-then-len-max-clause-many : goal.returns-then-len-max-clause-many
 returns-then-len-max-clause-many g t c =
@@ -70,9 +72,9 @@ returns-then-len-max-clause-many g t c =
     let d = depth_of c.args.placed.now.cell in
     let m = place_of c.args.placed.now.cell in
     let kid = child_from S grain d m c.loop-digit.digit c.loop-digit.list.items c.visit.new.list.items
-    c.in-Ok.inside (depth_of c.child.result.cell) (place_of c.child.result.cell) c.child.ensures.depth
-    c.child.ensures.place c.in-Ok.ensures.list c.in-Ok.ensures.full in
-    let both : Both c.loop-digit.full c.in-Ok.inside c.if-full-2.full =
+    c.in_ok-inside-in-Cross-2.inside (depth_of c.child.result.cell) (place_of c.child.result.cell) c.child.ensures.depth
+    c.child.ensures.place c.in_ok-inside-in-Cross-2.ensures.list c.in_ok-inside-in-Cross-2.ensures.full in
+    let both : Both c.loop-digit.full c.in_ok-inside-in-Cross-2.inside c.if-full-2.full =
     elim c.if-full-2.branch [
       | then-full-2 w ↦ inl (w.if-full-2.true, w.full-is)
       | else-full-2 w ↦ inr
@@ -82,8 +84,8 @@ returns-then-len-max-clause-many g t c =
     c.visit.new.list.items c.loop-digit.invariant.list kid.list in
     let below : grain < d = (let n = c.if-level.false in let v = c.level.ensures.value in
     let k = c.requires.above in let l = c.requires.level in omega arith) in
-    let whole = whole_next S d m c.loop-digit.digit c.loop-digit.full c.in-Ok.inside c.if-full-2.full (omega arith)
-    c.loop-digit-test.true c.loop-digit.invariant.whole kid.full both in
+    let whole = whole_next S d m c.loop-digit.digit c.loop-digit.full c.in_ok-inside-in-Cross-2.inside
+    c.if-full-2.full (omega arith) c.loop-digit-test.true c.loop-digit.invariant.whole kid.full both in
     let len : vec_len c.visit.new.list ≡ length c.visit.new.list.items = c.visit.new.list.ok.0 in
     many_next S grain d m c.loop-digit.digit c.args.list.now.items c.visit.new.list.items (vec_len c.args.list.now)
     c.args.max c.if-full-2.full below c.loop-digit-test.true c.args.list.now.ok.0 list whole (search rules)
@@ -96,9 +98,9 @@ loop-digit-preserved g t c =
     let d = depth_of c.args.placed.now.cell in
     let m = place_of c.args.placed.now.cell in
     let kid = child_from S grain d m c.loop-digit.digit c.loop-digit.list.items c.visit.new.list.items
-    c.in-Ok.inside (depth_of c.child.result.cell) (place_of c.child.result.cell) c.child.ensures.depth
-    c.child.ensures.place c.in-Ok.ensures.list c.in-Ok.ensures.full in
-    let both : Both c.loop-digit.full c.in-Ok.inside c.if-full-2.full =
+    c.in_ok-inside-in-Cross-2.inside (depth_of c.child.result.cell) (place_of c.child.result.cell) c.child.ensures.depth
+    c.child.ensures.place c.in_ok-inside-in-Cross-2.ensures.list c.in_ok-inside-in-Cross-2.ensures.full in
+    let both : Both c.loop-digit.full c.in_ok-inside-in-Cross-2.inside c.if-full-2.full =
     elim c.if-full-2.branch [
       | then-full-2 w ↦ inl (w.if-full-2.true, w.full-is)
       | else-full-2 w ↦ inr
@@ -106,7 +108,7 @@ loop-digit-preserved g t c =
     ] in
     visited_next S grain d m c.loop-digit.digit c.args.list.now.items c.loop-digit.list.items
     c.visit.new.list.items (vec_len c.args.list.now) (vec_len c.loop-digit.list) (vec_len c.visit.new.list)
-    c.loop-digit.full c.in-Ok.inside c.if-full-2.full c.args.loose c.args.max c.len-before.result
+    c.loop-digit.full c.in_ok-inside-in-Cross-2.inside c.if-full-2.full c.args.loose c.args.max c.len-before.result
     (let n = c.if-level.false in let v = c.level.ensures.value in let k = c.requires.above in
     let l = c.requires.level in omega arith) c.loop-digit-test.true c.loop-digit.list.ok.0 c.visit.new.list.ok.0
     c.loop-digit.invariant kid both

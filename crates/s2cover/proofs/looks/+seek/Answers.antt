@@ -1,5 +1,6 @@
 use Rattle.std.proofs.Common.{rules, arith, ◌+◌, ◌-◌, ◌*◌, ◌^◌, ◌<◌, ◌≤◌, [], ◌∷◌, ◌++◌, length}
 use Rattle.std.proofs.Common.{vec_len, refl, sym, ◌∙◌, ap, append-nil}
+use Rattle.std.proofs.lemmas.Result.{err_from_is_err_and}
 use Rattle.s2cover.specs.Rectangles.{rect_set}
 use Rattle.s2cell.specs.Cell.{level_of, place_of}
 use Rattle.s2cover.specs.Descent.{depth_of}
@@ -46,8 +47,9 @@ seek-requires t c =
     * (c.args.max - vec_len c.loop-digit.list + 1) < 2 ^ 64 = omega (arith, c.requires.looks) in
     search rules
 
-pub returns-in-Err-clause-many : goal.returns-in-Err-clause-many
-returns-in-Err-clause-many t c e =
+pub returns-in_err-seek-in-Cross-clause-many : goal.returns-in_err-seek-in-Cross-clause-many
+returns-in_err-seek-in-Cross-clause-many t c =
+    let p = err_from_is_err_and c.from_residual.result c.from_residual.ensures.1 in
     let S = rect_set c.args.rect.now in
     let grain = 30 - c.args.level in
     let cross = crossed S grain c.args.placed.now.cell c.requires.aligned (let k = c.requires.above in omega arith)
@@ -55,14 +57,17 @@ returns-in-Err-clause-many t c e =
     (λ h. let e = (c.in-Cross.ensures.inside c.args.placed.now.cell c.requires.placed.square).1 h in cc) in
     let child = kid S grain c.args.placed.now.cell c.child.result.cell c.loop-digit.digit c.requires.placed.cell
     cross c.loop-digit-test.true c.child.ensures.cell in
-    sought_many S grain (depth_of c.args.placed.now.cell) (place_of c.args.placed.now.cell) c.loop-digit.digit
-    c.args.list.now.items c.loop-digit.list.items (vec_len c.args.list.now) (vec_len c.loop-digit.list)
-    c.args.looks.now.count c.loop-digit.looks.count c.args.max (depth_of c.child.result.cell)
+    rw (p.1, p.2) (λ e. sought_many S grain (depth_of c.args.placed.now.cell) (place_of c.args.placed.now.cell)
+    c.loop-digit.digit c.args.list.now.items c.loop-digit.list.items (vec_len c.args.list.now)
+    (vec_len c.loop-digit.list) c.args.looks.now.count c.loop-digit.looks.count
+    c.args.max (depth_of c.child.result.cell)
     (place_of c.child.result.cell) c.loop-digit-test.true cross.above child.depth child.place
-    c.args.list.now.ok.0 c.loop-digit.list.ok.0 cross.part c.loop-digit.invariant (c.in-Err.ensures.many e)
+    c.args.list.now.ok.0 c.loop-digit.list.ok.0 cross.part c.loop-digit.invariant
+    (c.in_err-seek-in-Cross.ensures.many e))
 
-pub returns-in-Err-clause-stopped : goal.returns-in-Err-clause-stopped
-returns-in-Err-clause-stopped t c =
+pub returns-in_err-seek-in-Cross-clause-stopped : goal.returns-in_err-seek-in-Cross-clause-stopped
+returns-in_err-seek-in-Cross-clause-stopped t c =
+    let p = err_from_is_err_and c.from_residual.result c.from_residual.ensures.1 in
     let S = rect_set c.args.rect.now in
     let grain = 30 - c.args.level in
     let cross = crossed S grain c.args.placed.now.cell c.requires.aligned (let k = c.requires.above in omega arith)
@@ -70,11 +75,12 @@ returns-in-Err-clause-stopped t c =
     (λ h. let e = (c.in-Cross.ensures.inside c.args.placed.now.cell c.requires.placed.square).1 h in cc) in
     let child = kid S grain c.args.placed.now.cell c.child.result.cell c.loop-digit.digit c.requires.placed.cell
     cross c.loop-digit-test.true c.child.ensures.cell in
-    sought_stop S grain (depth_of c.args.placed.now.cell) (place_of c.args.placed.now.cell) c.loop-digit.digit
-    c.args.list.now.items c.loop-digit.list.items (vec_len c.args.list.now) (vec_len c.loop-digit.list)
-    c.args.looks.now.count c.loop-digit.looks.count _ c.args.max (depth_of c.child.result.cell)
+    rw p.1 (sought_stop S grain (depth_of c.args.placed.now.cell) (place_of c.args.placed.now.cell)
+    c.loop-digit.digit c.args.list.now.items c.loop-digit.list.items (vec_len c.args.list.now)
+    (vec_len c.loop-digit.list) c.args.looks.now.count c.loop-digit.looks.count _
+    c.args.max (depth_of c.child.result.cell)
     c.loop-digit-test.true cross.above child.depth c.args.list.now.ok.0 c.loop-digit.list.ok.0
-    c.loop-digit.invariant c.in-Err.ensures.stopped
+    c.loop-digit.invariant c.in_err-seek-in-Cross.ensures.stopped)
 
 pub loop-digit-preserved : goal.loop-digit-preserved
 loop-digit-preserved t c =
@@ -89,7 +95,8 @@ loop-digit-preserved t c =
     c.args.list.now.items c.loop-digit.list.items c.seek.new.list.items (vec_len c.loop-digit.list)
     (vec_len c.seek.new.list) c.args.looks.now.count c.loop-digit.looks.count _ c.args.max
     (depth_of c.child.result.cell) (place_of c.child.result.cell) child.depth child.place c.loop-digit.invariant
-    c.in-Ok.ensures.list c.in-Ok.ensures.room c.in-Ok.ensures.most c.in-Ok.ensures.least
+    c.in_ok-seek-in-Cross.ensures.list c.in_ok-seek-in-Cross.ensures.room
+    c.in_ok-seek-in-Cross.ensures.most c.in_ok-seek-in-Cross.ensures.least
 
 pub returns-in-Out-clause-list : goal.returns-in-Out-clause-list
 returns-in-Out-clause-list t c =
