@@ -38,13 +38,13 @@ fn pack(ids: &mut [u64]) -> usize
     let mut n = 0;
     for i in 0..ids.len() {
         let cell = cell_of(ids[i]);
-        n = placed(ids, n, cell);
+        n = place_after(ids, n, cell);
     }
     n
 }
 
 /// Puts a cell after the first `n` numbers, which are packed cells, and answers how many they are then.
-fn placed(ids: &mut [u64], n: usize, cell: CellId) -> usize
+fn place_after(ids: &mut [u64], n: usize, cell: CellId) -> usize
     requires room { n < length ids.old }
     requires packed { IsPacked (take n ids.old) }
     requires starts { All (λ c. 2 * first_leaf c < cell) (take n ids.old) }
@@ -55,7 +55,7 @@ fn placed(ids: &mut [u64], n: usize, cell: CellId) -> usize
     ensures rest { (k d : ℕ) → n < k → slice_index_or ids.new k d ≡ slice_index_or ids.old k d }
     ensures len { length ids.new ≡ length ids.old }
 {
-    match settled(&ids[..n], cell) {
+    match new_end(&ids[..n], cell) {
         Some((kept, last)) => {
             ids[kept] = last.id();
             kept + 1
@@ -66,7 +66,7 @@ fn placed(ids: &mut [u64], n: usize, cell: CellId) -> usize
 
 /// What packed cells become if a cell is added: how many of them stay, and the cell that follows these. None if the
 /// last of them contains the cell.
-fn settled(front: &[u64], cell: CellId) -> Option<(usize, CellId)>
+fn new_end(front: &[u64], cell: CellId) -> Option<(usize, CellId)>
     requires packed { IsPacked front.now }
     requires starts { All (λ c. 2 * first_leaf c < cell) front.now }
     ensures held { IfNone result ((x : ℕ) → has_leaf front.now x ≡ (has_leaf front.now x || covers cell x)) }
@@ -79,7 +79,7 @@ fn settled(front: &[u64], cell: CellId) -> Option<(usize, CellId)>
     }
     let _ = cell.id();
     let kept = outside(front, cell);
-    let (kept, last) = merged(&front[..kept], cell);
+    let (kept, last) = merge_families(&front[..kept], cell);
     Some((kept, last))
 }
 
@@ -102,7 +102,7 @@ fn outside(front: &[u64], cell: CellId) -> usize
 }
 
 /// What packed cells become if a cell after all of them is added: only families are merged.
-fn merged(front: &[u64], cell: CellId) -> (usize, CellId)
+fn merge_families(front: &[u64], cell: CellId) -> (usize, CellId)
     requires packed { IsPacked front.now }
     requires after { All (λ c. EndsBefore c cell) front.now }
     requires is_cell { IsCell cell }

@@ -13,10 +13,10 @@ cell_of-cell-requires c =
 
 pub loop-i-preserved : goal.loop-i-preserved
 loop-i-preserved c =
-    let p = c.placed-n.ensures in
+    let p = c.place_after-n.ensures in
     let same = c.loop-i.invariant.same_length in
     let below : c.loop-i.i < length c.args.ids.now = omega (arith, c.loop-i-test.true) in
     let read = reads_as c.loop-i.ids c.loop-i.i c.cell_of-cell.result (omega arith) c.cell_of-cell.ensures in
-    compacting_step c.args.ids.now c.loop-i.ids c.placed-n.new.ids c.loop-i.n c.loop-i.i c.placed-n.result _
+    compacting_step c.args.ids.now c.loop-i.ids c.place_after-n.new.ids c.loop-i.n c.loop-i.i c.place_after-n.result _
     c.requires.order
     c.loop-i.invariant below read p.within p.packed p.starts p.leaves p.rest p.len

@@ -1,8 +1,8 @@
 use Rattle.std.proofs.Common.{◌-◌, arith}
 use Rattle.s2union.proofs.Packing.{step_from_reads, none_from_reads, merging_done}
 use Rattle.s2search.proofs.Reading.{reads}
-use Rattle.s2search.proofs.normalising.merged.Goals as goal
-use Rattle.s2search.proofs.normalising.merged.Goals.{else-loop-kept-test, then-loop-kept-test+in-None}
+use Rattle.s2search.proofs.normalising.merge_families.Goals as goal
+use Rattle.s2search.proofs.normalising.merge_families.Goals.{else-loop-kept-test, then-loop-kept-test+in-None}
 
 pub loop-kept-preserved : goal.loop-kept-preserved
 loop-kept-preserved c =

@@ -1,5 +1,5 @@
 use Rattle.s2union.proofs.Packing.{Merging}
-use Rattle.s2search.proofs.normalising.merged.Given as goal
+use Rattle.s2search.proofs.normalising.merge_families.Given as goal
 
 abbrev pub invariant-loop-kept : goal.invariant-loop-kept
 invariant-loop-kept l = Merging l.front l.fn.cell l.kept l.last
