@@ -59,7 +59,7 @@ pub extern "C" fn s2u_decode(alloc: Global, bytes: &[u8], out: &mut [u64], len: 
         → Refused result wrong_cell out.old out.new len.new }
 {
     *len = 0;
-    let ids = match framed(bytes) {
+    let ids = match bytes_after_head(bytes) {
         Ok(numbers) => FileIds { bytes: numbers },
         Err(status) => return status,
     };
@@ -80,7 +80,7 @@ pub extern "C" fn s2u_file_check(bytes: &[u8]) -> i32
     ensures fault { (IsFramed bytes.now → ⊥) → IsFrameFault bytes.now result }
     ensures wrong { IsFramed bytes.now → (All IsCell (file_ids bytes.now) → ⊥) → result ≡ wrong_cell }
 {
-    match framed(bytes) {
+    match bytes_after_head(bytes) {
         Ok(numbers) => {
             let ids = FileIds { bytes: numbers };
             match first_wrong(&ids) {
@@ -99,7 +99,7 @@ pub extern "C" fn s2u_file_count(bytes: &[u8], count: &mut u64) -> i32
     ensures fault { (IsFramed bytes.now → ⊥) → IsFrameFault bytes.now result × (count.new ≡ 0) }
 {
     *count = 0;
-    match framed(bytes) {
+    match bytes_after_head(bytes) {
         Ok(numbers) => {
             *count = FileIds { bytes: numbers }.len() as u64;
             MADE
@@ -117,7 +117,7 @@ pub extern "C" fn s2u_file_leaf_count(bytes: &[u8], leaves: &mut u64) -> i32
     ensures fault { (IsFramed bytes.now → ⊥) → IsFrameFault bytes.now result × (leaves.new ≡ 0) }
 {
     *leaves = 0;
-    match framed(bytes) {
+    match bytes_after_head(bytes) {
         Ok(numbers) => {
             *leaves = s2search::leaf_count(&FileIds { bytes: numbers });
             MADE
@@ -135,7 +135,7 @@ pub extern "C" fn s2u_file_cell(bytes: &[u8], k: u64, id: &mut u64) -> i32
     ensures fault { (IsFramed bytes.now → ⊥) → IsFrameFault bytes.now result × (id.new ≡ 0) }
 {
     *id = 0;
-    match framed(bytes) {
+    match bytes_after_head(bytes) {
         Ok(numbers) => {
             let ids = FileIds { bytes: numbers };
             if k >= ids.len() as u64 {
@@ -157,7 +157,7 @@ pub extern "C" fn s2u_file_contains_cell(bytes: &[u8], cell: u64) -> i32
     ensures no_cell { IsFramed bytes.now → (IsCell cell → ⊥) → result ≡ no_cell }
     ensures fault { (IsFramed bytes.now → ⊥) → IsFrameFault bytes.now result }
 {
-    match framed(bytes) {
+    match bytes_after_head(bytes) {
         Ok(numbers) => match CellId::from_id(cell) {
             Some(part) => answer(s2search::contains_cell(&FileIds { bytes: numbers }, part)),
             None => NO_CELL,
@@ -175,7 +175,7 @@ pub extern "C" fn s2u_file_intersects_cell(bytes: &[u8], cell: u64) -> i32
     ensures no_cell { IsFramed bytes.now → (IsCell cell → ⊥) → result ≡ no_cell }
     ensures fault { (IsFramed bytes.now → ⊥) → IsFrameFault bytes.now result }
 {
-    match framed(bytes) {
+    match bytes_after_head(bytes) {
         Ok(numbers) => match CellId::from_id(cell) {
             Some(part) => answer(s2search::intersects_cell(&FileIds { bytes: numbers }, part)),
             None => NO_CELL,
@@ -193,11 +193,11 @@ pub extern "C" fn s2u_file_contains(xs: &[u8], ys: &[u8]) -> i32
     ensures first { (IsFramed xs.now → ⊥) → IsFrameFault xs.now result }
     ensures second { IsFramed xs.now → (IsFramed ys.now → ⊥) → IsFrameFault ys.now result }
 {
-    let whole = match framed(xs) {
+    let whole = match bytes_after_head(xs) {
         Ok(numbers) => FileIds { bytes: numbers },
         Err(status) => return status,
     };
-    let part = match framed(ys) {
+    let part = match bytes_after_head(ys) {
         Ok(numbers) => FileIds { bytes: numbers },
         Err(status) => return status,
     };
@@ -213,11 +213,11 @@ pub extern "C" fn s2u_file_intersects(xs: &[u8], ys: &[u8]) -> i32
     ensures first { (IsFramed xs.now → ⊥) → IsFrameFault xs.now result }
     ensures second { IsFramed xs.now → (IsFramed ys.now → ⊥) → IsFrameFault ys.now result }
 {
-    let first = match framed(xs) {
+    let first = match bytes_after_head(xs) {
         Ok(numbers) => FileIds { bytes: numbers },
         Err(status) => return status,
     };
-    let second = match framed(ys) {
+    let second = match bytes_after_head(ys) {
         Ok(numbers) => FileIds { bytes: numbers },
         Err(status) => return status,
     };
@@ -239,7 +239,7 @@ pub extern "C" fn s2u_file_ancestors(
     ensures fault { (IsFramed bytes.now → ⊥) → IsFrameFault bytes.now result × (len.new ≡ 0) × (out.new ≡ out.old) }
 {
     *len = 0;
-    let ids = match framed(bytes) {
+    let ids = match bytes_after_head(bytes) {
         Ok(numbers) => FileIds { bytes: numbers },
         Err(status) => return status,
     };
@@ -253,7 +253,7 @@ pub extern "C" fn s2u_file_ancestors(
 }
 
 /// The bytes after the head of a file, if there are as many as the head says.
-fn framed(bytes: &[u8]) -> Result<&[u8], i32>
+fn bytes_after_head(bytes: &[u8]) -> Result<&[u8], i32>
     ensures { MatchResult result (λ numbers. IsFramed bytes.now × (numbers.now ≡ drop 9 bytes.now))
         (λ status. IsFrameFault bytes.now status) }
 {
