@@ -23,7 +23,7 @@ fn the_answers_of_whole_lines_are_out_when_a_read_fails(rt: HostRuntime) -> Resu
         )?;
         assert_eq!(rt; left.ended, Err(RunFault::Input), "pieces of {size}");
         assert_eq!(rt;
-            left.writer.written(),
+            left.writer.contents(),
             b"cell 1 0/ level 0 face 0 leaves 0 1152921504606846975\n".as_slice(),
             "pieces of {size}"
         );
@@ -91,8 +91,8 @@ fn reads_fail_in_turn(
         let mut wanted = run_well(rt.alloc(), whole)?;
         assert_eq!(rt; left.ended, Err(RunFault::Input), "call {call}");
         assert_eq!(rt;
-            left.writer.written(),
-            wanted.writer.written(),
+            left.writer.contents(),
+            wanted.writer.contents(),
             "call {call}"
         );
         assert!(rt; left.stands_as(&mut wanted), "call {call}");
@@ -189,7 +189,7 @@ fn writes_go_wrong_in_turn(
 {
     let script = script_of(rt.alloc(), &LINES)?;
     let whole = run_well(rt.alloc(), &script)?;
-    let answers = whole.writer.written();
+    let answers = whole.writer.contents();
     let ends = ends_of_answers(rt.alloc())?;
     let mut flushes = 0usize;
     let mut is_all_out = false;
@@ -208,7 +208,7 @@ fn writes_go_wrong_in_turn(
             return Ok(flushes);
         }
         assert_eq!(rt; left.ended, Err(RunFault::Output), "call {call}");
-        let out = left.writer.written();
+        let out = left.writer.contents();
         assert!(rt; answers.starts_with(out), "call {call}");
         let mut done = lines_answered(&ends, out.len());
         if left.writer.flush_failed() {
@@ -242,7 +242,7 @@ fn ends_of_answers(alloc: Global) -> Result<Vec<usize>, Fail> {
     let mut ends = Vec::new(alloc);
     for count in 1..=LINES.len() {
         let left = run_well(alloc, &script_of(alloc, &LINES[..count])?)?;
-        ends.push(left.writer.written().len())?;
+        ends.push(left.writer.contents().len())?;
     }
     Ok(ends)
 }
@@ -287,17 +287,17 @@ fn each_call_of_the_shelf_fails_in_turn(rt: HostRuntime) -> Result<(), Fail> {
         let before = run_well(rt.alloc(), &others)?;
         others.extend_from_slice(&script_of(rt.alloc(), &LINES[at + 1..])?)?;
         let mut without = run_well(rt.alloc(), &others)?;
-        let answers = left.writer.written();
+        let answers = left.writer.contents();
         let rest = answers
-            .strip_prefix(before.writer.written())
+            .strip_prefix(before.writer.contents())
             .ok_or("other answers before")?;
         let rest = rest
             .strip_prefix(b"error file\n")
             .ok_or("another answer to the line")?;
         let wanted = without
             .writer
-            .written()
-            .strip_prefix(before.writer.written())
+            .contents()
+            .strip_prefix(before.writer.contents())
             .ok_or("another beginning")?;
         assert_eq!(rt; rest, wanted, "call {call}");
         assert!(rt; left.stands_as(&mut without), "call {call}");

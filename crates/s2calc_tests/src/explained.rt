@@ -89,8 +89,8 @@ fn left_by(alloc: Global, size: usize, notes: Narrow) -> Result<Left, Fail>
     let has_stopped = notes.has_stopped();
     Ok(Left {
         tally,
-        answers: Vec::from_slice(alloc, writer.into_writer().written())?,
-        notes: Vec::from_slice(alloc, notes.into_writer().written())?,
+        answers: Vec::from_slice(alloc, writer.into_writer().contents())?,
+        notes: Vec::from_slice(alloc, notes.into_writer().contents())?,
         has_stopped,
     })
 }

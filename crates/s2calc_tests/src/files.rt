@@ -82,7 +82,7 @@ fn is_answered<S: Shelf>(
     let mut writer = Narrow::new(rt.alloc(), 512, 3, None)?;
     let ended = run(rt.alloc(), &mut editor, &mut reader, &mut writer, shelf);
     assert!(rt; ended.is_ok());
-    assert_eq!(rt; writer.written(), answers.as_bytes(), "{script}");
+    assert_eq!(rt; writer.contents(), answers.as_bytes(), "{script}");
     Ok(())
 }
 
@@ -96,7 +96,7 @@ fn is_checked<S: Shelf>(
     let mut writer = Narrow::new(rt.alloc(), 256, 5, None)?;
     let told = check_answer(rt.alloc(), shelf, name, &mut writer);
     assert_eq!(rt; told, Ok(answer.starts_with("cells ")), "{name}");
-    assert_eq!(rt; writer.written(), answer.as_bytes(), "{name}");
+    assert_eq!(rt; writer.contents(), answer.as_bytes(), "{name}");
     Ok(())
 }
 

@@ -36,7 +36,7 @@ fn files_are_drawn_in_normal_form(rt: HostRuntime) -> Result<(), Fail> {
         let told = draw_answer(rt.alloc(), &mut shelf, "f", curve, &mut writer);
         assert_eq!(rt; told, Ok(true));
         let wanted = picture_of(&rt, &[1 << 60, 3 << 60], curve)?;
-        assert_eq!(rt; writer.written(), wanted.as_slice());
+        assert_eq!(rt; writer.contents(), wanted.as_slice());
     }
     Ok(())
 }
@@ -53,7 +53,7 @@ fn files_that_are_not_drawn(rt: HostRuntime) -> Result<(), Fail> {
         let mut writer = Narrow::new(rt.alloc(), 64, 5, None)?;
         let told = draw_answer(rt.alloc(), &mut shelf, name, false, &mut writer);
         assert_eq!(rt; told, Ok(false));
-        assert_eq!(rt; writer.written(), answer.as_bytes());
+        assert_eq!(rt; writer.contents(), answer.as_bytes());
     }
     Ok(())
 }
@@ -72,7 +72,7 @@ fn is_drawn(
     let mut writer = Narrow::new(rt.alloc(), 8192, 1000, None)?;
     let told = draw_cells_answer(rt.alloc(), given.as_slice(), curve, &mut writer);
     assert_eq!(rt; told, Ok(wanted.starts_with(b"<svg")), "{words:?}");
-    assert_eq!(rt; writer.written(), wanted, "{words:?}");
+    assert_eq!(rt; writer.contents(), wanted, "{words:?}");
     // The flush is the second call.
     let mut writer = Narrow::new(rt.alloc(), 8192, 8192, Some((2, Mishap::Fails)))?;
     let told = draw_cells_answer(rt.alloc(), given.as_slice(), curve, &mut writer);

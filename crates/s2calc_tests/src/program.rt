@@ -11,7 +11,7 @@ fn a_cell_is_answered(rt: HostRuntime) -> Result<(), Fail> {
     assert_eq!(rt; cell_answer(b"0C00", &mut writer), Ok(true));
     assert_eq!(rt; cell_answer(b"X", &mut writer), Ok(false));
     assert_eq!(rt;
-        writer.written(),
+        writer.contents(),
         b"cell 0c 0/1 level 1 face 0 leaves 288230376151711744 576460752303423487\nerror cell\n".as_slice()
     );
     // The flush is the second call.
@@ -34,7 +34,7 @@ fn statuses(rt: HostRuntime) {
 }
 
 /// What the arguments of the program ask for, or the kind of error in them.
-fn asked(rt: &(impl Abort + AllocGlobal), words: &[&str]) -> Result<Result<Job, ErrorKind>, Fail> {
+fn job_of(rt: &(impl Abort + AllocGlobal), words: &[&str]) -> Result<Result<Job, ErrorKind>, Fail> {
     let mut given = Vec::new(rt.alloc());
     given.push(String::from_str(rt.alloc(), "s2calc")?)?;
     for word in words {
@@ -99,7 +99,7 @@ fn words_that_ask_for_a_run(rt: HostRuntime) -> Result<(), Fail> {
             dir: String::from_str(rt.alloc(), dir)?,
             explain,
         };
-        assert_eq!(rt; asked(&rt, words)?, Ok(wanted), "{words:?}");
+        assert_eq!(rt; job_of(&rt, words)?, Ok(wanted), "{words:?}");
     }
     Ok(())
 }
@@ -110,12 +110,12 @@ fn words_that_ask_for_a_cell_or_a_file(rt: HostRuntime) -> Result<(), Fail> {
         let wanted = Job::Cell {
             word: String::from_str(rt.alloc(), word)?,
         };
-        assert_eq!(rt; asked(&rt, &["cell", word])?, Ok(wanted));
+        assert_eq!(rt; job_of(&rt, &["cell", word])?, Ok(wanted));
     }
     let wanted = Job::Cell {
         word: String::from_str(rt.alloc(), "--help")?,
     };
-    assert_eq!(rt; asked(&rt, &["cell", "--", "--help"])?, Ok(wanted));
+    assert_eq!(rt; job_of(&rt, &["cell", "--", "--help"])?, Ok(wanted));
     for (words, dir, name) in [
         (["check", "f"].as_slice(), ".", "f"),
         (&["check", "-x"], ".", "-x"),
@@ -127,7 +127,7 @@ fn words_that_ask_for_a_cell_or_a_file(rt: HostRuntime) -> Result<(), Fail> {
             dir: String::from_str(rt.alloc(), dir)?,
             name: String::from_str(rt.alloc(), name)?,
         };
-        assert_eq!(rt; asked(&rt, words)?, Ok(wanted), "{words:?}");
+        assert_eq!(rt; job_of(&rt, words)?, Ok(wanted), "{words:?}");
     }
     Ok(())
 }
@@ -154,7 +154,7 @@ fn words_that_ask_for_a_picture(rt: HostRuntime) -> Result<(), Fail> {
             name: String::from_str(rt.alloc(), name)?,
             curve,
         };
-        assert_eq!(rt; asked(&rt, words)?, Ok(wanted), "{words:?}");
+        assert_eq!(rt; job_of(&rt, words)?, Ok(wanted), "{words:?}");
     }
     for (words, cells, curve) in [
         (["draw", "--cells", "1"].as_slice(), ["1"].as_slice(), false),
@@ -170,7 +170,7 @@ fn words_that_ask_for_a_picture(rt: HostRuntime) -> Result<(), Fail> {
             words: texts(&rt, cells)?,
             curve,
         };
-        assert_eq!(rt; asked(&rt, words)?, Ok(wanted), "{words:?}");
+        assert_eq!(rt; job_of(&rt, words)?, Ok(wanted), "{words:?}");
     }
     Ok(())
 }
@@ -243,7 +243,7 @@ fn words_that_ask_for_nothing(rt: HostRuntime) -> Result<(), Fail> {
         (&["cell", "--help"], ErrorKind::DisplayHelp),
         (&["cell", "-h"], ErrorKind::DisplayHelp),
     ] {
-        assert_eq!(rt; asked(&rt, words)?, Err(kind), "{words:?}");
+        assert_eq!(rt; job_of(&rt, words)?, Err(kind), "{words:?}");
     }
     Ok(())
 }

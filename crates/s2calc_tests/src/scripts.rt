@@ -251,7 +251,7 @@ fn is_answered(
             &mut writer,
             &mut shelf,
         );
-        assert_eq!(rt; writer.written(), answers.as_bytes(), "pieces of {size}");
+        assert_eq!(rt; writer.contents(), answers.as_bytes(), "pieces of {size}");
         assert_eq!(rt; ended, Ok(tally_of(answers)), "pieces of {size}");
     }
     Ok(())

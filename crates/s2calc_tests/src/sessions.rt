@@ -32,7 +32,7 @@ fn is_answered(
     let mut writer = Narrow::new(rt.alloc(), 512, 3, None)?;
     let ended = run(rt.alloc(), &mut editor, &mut reader, &mut writer, shelf);
     assert!(rt; ended.is_ok());
-    assert_eq!(rt; writer.written(), answers.as_bytes(), "{script}");
+    assert_eq!(rt; writer.contents(), answers.as_bytes(), "{script}");
     Ok(())
 }
 
