@@ -52,11 +52,11 @@ pub fn verdict(alloc: Global, more: u64) -> &'static str {
     if whole.fault.is_none() && is_refused_later(alloc, more) {
         return "nothing refused";
     }
-    judged(alloc, &whole)
+    verdict_on(alloc, &whole)
 }
 
 /// What is wrong with what a run left in which one allocation was refused, or which of the two permitted ends it had.
-fn judged(alloc: Global, left: &Left) -> &'static str {
+fn verdict_on(alloc: Global, left: &Left) -> &'static str {
     let answers = left.answers.as_slice();
     match left.fault {
         Some(RunFault::Memory) if !left.has_read && answers.is_empty() => "refused at the start",
@@ -173,7 +173,7 @@ fn is_unchanged(alloc: Global, answers: &[u8]) -> bool {
 
 #[cfg(test)]
 mod tests {
-    use super::{LINES, Left, MEMORY, judged, run_lines};
+    use super::{LINES, Left, MEMORY, run_lines, verdict_on};
     use s2calc::RunFault;
     use std::alloc::Global;
     use std::test::Fail;
@@ -208,7 +208,7 @@ mod tests {
     fn one_refused_edit_or_file_is_permitted(rt: HostRuntime) -> Result<(), Fail> {
         for command in ["add ", "load ", "innerof ", "save ", "dump ", "restore "] {
             let left = refused_at(rt.alloc(), first_of(command)?)?;
-            assert_eq!(rt; judged(rt.alloc(), &left), "refused in an answer");
+            assert_eq!(rt; verdict_on(rt.alloc(), &left), "refused in an answer");
         }
         Ok(())
     }
@@ -217,7 +217,7 @@ mod tests {
     fn another_command_never_runs_out_of_memory(rt: HostRuntime) -> Result<(), Fail> {
         for command in ["undo", "redo", "show ", "has ", "history", "denorm "] {
             let left = refused_at(rt.alloc(), first_of(command)?)?;
-            assert_eq!(rt; judged(rt.alloc(), &left), "wrong: other answers");
+            assert_eq!(rt; verdict_on(rt.alloc(), &left), "wrong: other answers");
         }
         Ok(())
     }
@@ -226,9 +226,9 @@ mod tests {
     fn a_refusal_changes_no_other_answer(rt: HostRuntime) -> Result<(), Fail> {
         let mut left = refused_at(rt.alloc(), first_of("add ")?)?;
         let _ = left.answers.pop();
-        assert_eq!(rt; judged(rt.alloc(), &left), "wrong: other answers");
+        assert_eq!(rt; verdict_on(rt.alloc(), &left), "wrong: other answers");
         let whole = run_lines(rt.alloc(), LINES.len(), None).ok_or("no memory")?;
-        assert_eq!(rt; judged(rt.alloc(), &whole), "no answer changed");
+        assert_eq!(rt; verdict_on(rt.alloc(), &whole), "no answer changed");
         Ok(())
     }
 
@@ -236,14 +236,14 @@ mod tests {
     fn a_run_out_of_memory_has_read_and_written_nothing(rt: HostRuntime) -> Result<(), Fail> {
         let mut left = run_lines(rt.alloc(), 0, None).ok_or("no memory")?;
         left.fault = Some(RunFault::Memory);
-        assert_eq!(rt; judged(rt.alloc(), &left), "refused at the start");
+        assert_eq!(rt; verdict_on(rt.alloc(), &left), "refused at the start");
         left.has_read = true;
-        assert_eq!(rt; judged(rt.alloc(), &left), "wrong: another end");
+        assert_eq!(rt; verdict_on(rt.alloc(), &left), "wrong: another end");
         left.has_read = false;
         left.answers.push(b'x')?;
-        assert_eq!(rt; judged(rt.alloc(), &left), "wrong: another end");
+        assert_eq!(rt; verdict_on(rt.alloc(), &left), "wrong: another end");
         left.fault = Some(RunFault::Output);
-        assert_eq!(rt; judged(rt.alloc(), &left), "wrong: another end");
+        assert_eq!(rt; verdict_on(rt.alloc(), &left), "wrong: another end");
         Ok(())
     }
 }
