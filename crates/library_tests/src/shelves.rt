@@ -38,7 +38,7 @@ fn files<S: Shelf>(shelf: &mut S) -> Option<usize> {
 }
 
 /// The file that these calls leave.
-fn left<S: Shelf>(shelf: &mut S) -> Option<usize> {
+fn final_file<S: Shelf>(shelf: &mut S) -> Option<usize> {
     let calls = [
         Call::GetBeginning("f", usize::MAX, Ok(Some(b"new"))),
         Call::Get("f", Ok(Some(b"new"))),
@@ -68,7 +68,7 @@ fn third_fails<S: Shelf>(shelf: &mut S) -> Option<usize> {
 fn memory_keeps_files_and_fails_at_the_call_it_was_told(rt: HostRuntime) {
     let mut shelf = MemoryShelf::new(rt.alloc());
     assert_eq!(rt; files(&mut shelf), None);
-    assert_eq!(rt; left(&mut shelf), None);
+    assert_eq!(rt; final_file(&mut shelf), None);
     shelf.fail_at(1);
     assert_eq!(rt; first_fails(&mut shelf), None);
     shelf.fail_at(3);
@@ -117,7 +117,7 @@ fn a_folder_keeps_files_and_its_faults_are_told_apart(rt: HostRuntime) -> Result
     assert_eq!(rt; files(&mut shelf), None);
     assert_eq!(rt; folder_for_a_file(&mut shelf), None);
     assert_eq!(rt; first_wrong_in_a_file(&rt)?, None);
-    assert_eq!(rt; left(&mut shelf), None);
+    assert_eq!(rt; final_file(&mut shelf), None);
     fs::remove_dir_all(&rt, FOLDER)?;
     Ok(())
 }
