@@ -1,5 +1,6 @@
 //! How an intersection is made: by a walk along both lists, or by a search for each cell of one if it is much shorter.
-ghost use Rattle.std.specs.Prelude.{ℕ, ◌≡◌, ◌≤◌, ◌<◌, ◌+◌, ◌-◌, ◌↔◌, ◌&&◌, [], IsTrue, length, slice_index, IfOk, OnOk};
+ghost use Rattle.std.specs.Prelude.{ℕ, ◌≡◌, ◌≤◌, ◌<◌, ◌+◌, ◌-◌, ◌↔◌, ◌&&◌};
+ghost use Rattle.std.specs.Prelude.{[], IsTrue, length, slice_index, IfOk, OnOk};
 ghost use Rattle.s2cell.specs.Cell.{IsInside, first_leaf};
 ghost use Rattle.s2union.specs.Union.{IsLocal, has_leaf};
 ghost use Rattle.s2union.specs.Sets.{IsShared};
