@@ -255,8 +255,9 @@ fn spaced_cells(alloc: Global) -> Result<CellUnion, AllocError> {
     Ok(normalise(cells))
 }
 
-/// A hundred leaves, every second one from `first` on.
-fn leaves_from(alloc: Global, first: u64) -> Result<CellUnion, AllocError> {
+/// The first hundred leaves in even places of the n-th cell of that size.
+fn leaves_of(alloc: Global, n: u16) -> Result<CellUnion, AllocError> {
+    let first = u64::from(n) * SIZE;
     let mut leaves = Vec::new(alloc);
     for k in 0..100 {
         leaves.push(CellId::tile(first + 2 * k, first + 2 * k + 1))?;
@@ -267,8 +268,8 @@ fn leaves_from(alloc: Global, first: u64) -> Result<CellUnion, AllocError> {
 #[test]
 fn cells_in_one_gap_or_one_cell_cost_one_search(rt: HostRuntime) -> Result<(), AllocError> {
     let spaced = spaced_cells(rt.alloc())?;
-    let held = leaves_from(rt.alloc(), 20000 * SIZE)?;
-    let apart = leaves_from(rt.alloc(), 20001 * SIZE)?;
+    let held = leaves_of(rt.alloc(), 20000)?;
+    let apart = leaves_of(rt.alloc(), 20001)?;
     let whole = spaced.contains_counted(&held);
     assert!(rt; whole.answer && whole.looks < 100, "{}", whole.looks);
     let none = spaced.intersects_counted(&apart);
