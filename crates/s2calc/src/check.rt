@@ -41,8 +41,6 @@ fn check<S: Shelf>(alloc: Global, shelf: &mut S, name: &str) -> Result<(u64, u64
 fn check_file<S: Shelf>(alloc: Global, shelf: &mut S, name: &str) -> Result<(u64, u64), Refusal>
     ensures { ChecksFile name.now (S.files shelf.old) (check_reply result) (S.files shelf.new) }
 {
-    match fetch_union(alloc, shelf, name) {
-        Ok(union) => Ok((union.len() as u64, union.leaf_count())),
-        Err(refusal) => Err(refusal),
-    }
+    let union = fetch_union(alloc, shelf, name)?;
+    Ok((union.len() as u64, union.leaf_count()))
 }

@@ -74,10 +74,8 @@ fn draw_file<S: Shelf>(
         (λ p. DrawsFile name.now curve (S.files shelf.old) (Says p.items) (S.files shelf.new))
         (λ refusal. DrawsFile name.now curve (S.files shelf.old) (Refuses refusal) (S.files shelf.new)) }
 {
-    match fetch_union(alloc, shelf, name) {
-        Ok(union) => draw_cells(alloc, union.cells(), curve),
-        Err(refusal) => Err(refusal),
-    }
+    let union = fetch_union(alloc, shelf, name)?;
+    draw_cells(alloc, union.cells(), curve)
 }
 
 /// The picture of the cells that the words name, or why there is none.
@@ -88,20 +86,15 @@ fn draw_words(alloc: Global, words: &[String], curve: bool) -> Result<Vec<u8>, R
     if !all_name_cells(words) {
         return Err(Refusal::Words(s2script::Refusal::Cell));
     }
-    match cells_named(alloc, words) {
-        Ok(cells) => draw_cells(alloc, cells.as_slice(), curve),
-        Err(_) => Err(Refusal::Memory),
-    }
+    let cells = cells_named(alloc, words)?;
+    draw_cells(alloc, cells.as_slice(), curve)
 }
 
 /// The picture of cells, if there is memory for it.
 fn draw_cells(alloc: Global, cells: &[CellId], curve: bool) -> Result<Vec<u8>, Refusal>
     ensures { MatchResult result (λ p. p.items ≡ picture curve cells.now) (λ refusal. refusal ≡ Refusal.Memory) }
 {
-    match picture(alloc, cells, curve) {
-        Ok(picture) => Ok(picture),
-        Err(_) => Err(Refusal::Memory),
-    }
+    Ok(picture(alloc, cells, curve)?)
 }
 
 /// Whether each of the words names a cell.

@@ -104,10 +104,7 @@ fn in_memory(made: Result<CellUnion, AllocError>) -> Result<CellUnion, Refusal>
     ensures makes { (S : ℕ → Bool) (limit : ℕ) → IfOk made (λ u. IsNormalForm S u.cells) → Makes S limit result }
     ensures same { IfOk made (λ u. result ≡ Ok u) }
 {
-    match made {
-        Ok(union) => Ok(union),
-        Err(_) => Err(Refusal::Memory),
-    }
+    Ok(made?)
 }
 
 /// A covering, or the refusal that says why there is none.
@@ -158,10 +155,8 @@ fn difference_with_cells(
 ) -> Result<CellUnion, Refusal>
     ensures { Makes (without (has_leaf union.now.cells) (has_leaf cells.entry)) limit result }
 {
-    match union_of(alloc, cells) {
-        Ok(taken) => difference(union, &taken, limit),
-        Err(_) => Err(Refusal::Memory),
-    }
+    let taken = union_of(alloc, cells)?;
+    difference(union, &taken, limit)
 }
 
 /// The union without the leaves of another.

@@ -252,10 +252,7 @@ fn input_buffer(alloc: Global) -> Result<Vec<u8>, RunFault>
     ensures some { IfOk result (λ input. 0 < length input.items) }
     ensures fault { IfErr result (λ fault. fault ≡ RunFault.Memory) }
 {
-    match vec![in alloc; 0u8; READ_SIZE] {
-        Ok(input) => Ok(input),
-        Err(_) => Err(RunFault::Memory),
-    }
+    Ok(vec![in alloc; 0u8; READ_SIZE]?)
 }
 
 /// The run, over a buffer for the reader.

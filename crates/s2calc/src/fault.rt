@@ -1,4 +1,8 @@
 //! What ends a run.
+ghost use Rattle.std.specs.Prelude.{◌≡◌};
+ghost use Rattle.s2calc.specs.declared.fault.RunFault.TheVariants.{Memory};
+
+use std::alloc::AllocError;
 use thiserror::Error;
 
 /// What ends a run before its script does.
@@ -13,4 +17,12 @@ pub enum RunFault {
     /// There was no memory for the buffers.
     #[error("out of memory")]
     Memory,
+}
+
+impl From<AllocError> for RunFault {
+    ghost from_gives = { λ _ fault. fault ≡ Memory };
+
+    fn from(_error: AllocError) -> RunFault {
+        RunFault::Memory
+    }
 }

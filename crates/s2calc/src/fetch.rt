@@ -41,10 +41,8 @@ pub(crate) fn fetch_union<S: Shelf>(
         × IsNormalForm (has_leaf union.cells) union.cells)
         (λ refusal. FetchesUnion name.now (S.files shelf.old) (Err refusal) (S.files shelf.new)) }
 {
-    match fetch(shelf, name, BYTES_OF_A_UNION) {
-        Ok(bytes) => read(alloc, bytes.as_slice()),
-        Err(refusal) => Err(refusal),
-    }
+    let bytes = fetch(shelf, name, BYTES_OF_A_UNION)?;
+    read(alloc, bytes.as_slice())
 }
 
 /// The union that the bytes of a file stand for, or why there is none.

@@ -51,10 +51,8 @@ pub fn clip_outer(
 {
     looks.count = 0;
     let _ = union.cells();
-    match cut_union(alloc, union, rect, level, looks) {
-        Ok(whole) => clip_aligned(alloc, &whole, &rect.round_outward(level), level, max, looks),
-        Err(_) => Err(CoverFault::Memory),
-    }
+    let whole = cut_union(alloc, union, rect, level, looks)?;
+    clip_aligned(alloc, &whole, &rect.round_outward(level), level, max, looks)
 }
 
 /// The inner covering of what a union and a rectangle share: the answer of `inner` for a `Clip`. The time
@@ -111,10 +109,8 @@ fn inner_part(
     ensures stopped { OnErr result (looks.new.count ≤ 2 * length union.now.cells + 4 * level * (max + 1)) }
 {
     let _ = union.cells();
-    match kept_union(alloc, union, &rect, level, looks) {
-        Ok(whole) => clip_aligned(alloc, &whole, &rect, level, max, looks),
-        Err(_) => Err(CoverFault::Memory),
-    }
+    let whole = kept_union(alloc, union, &rect, level, looks)?;
+    clip_aligned(alloc, &whole, &rect, level, max, looks)
 }
 
 /// The greatest cells of what a union and a rectangle share, if both are made of whole cells of the level.
@@ -142,10 +138,8 @@ fn clip_aligned(
     ensures stopped { OnErr result (looks.new.count ≤ looks.old.count + length union.now.cells
         + 4 * level * (max + 1)) }
 {
-    match cells_within(alloc, union.cells(), rect, level, max, looks) {
-        Ok(list) => Ok(CellUnion::from_normalized(list)),
-        Err(fault) => Err(fault),
-    }
+    let list = cells_within(alloc, union.cells(), rect, level, max, looks)?;
+    Ok(CellUnion::from_normalized(list))
 }
 
 /// The greatest cells of a rectangle on the grid of the level that lie in these cells. The search stops at cell number

@@ -27,10 +27,8 @@ pub fn union_outer(
     ensures within { IfOk result (λ u. length u.cells ≤ max) }
     ensures many { IfErr result (TooManyMeans (outer_set (has_leaf union.now.cells) level) max) }
 {
-    match cut_cells(alloc, union.cells(), level) {
-        Ok(cells) => union_up_to(normalise(cells), max),
-        Err(_) => Err(CoverFault::Memory),
-    }
+    let cells = cut_cells(alloc, union.cells(), level)?;
+    union_up_to(normalise(cells), max)
 }
 
 /// The inner covering of a union: the answer of `inner`, in one pass over the union's cells.
@@ -50,10 +48,8 @@ pub fn union_inner(
     ensures within { IfOk result (λ u. length u.cells ≤ max) }
     ensures many { IfErr result (TooManyMeans (inner_set (has_leaf union.now.cells) level) max) }
 {
-    match kept_cells(alloc, union.cells(), level) {
-        Ok(cells) => union_up_to(normalise(cells), max),
-        Err(_) => Err(CoverFault::Memory),
-    }
+    let cells = kept_cells(alloc, union.cells(), level)?;
+    union_up_to(normalise(cells), max)
 }
 
 /// The union, if it has at most `max` cells.

@@ -109,10 +109,8 @@ fn take(cell: CellId, list: &mut Vec<CellId>) -> Result<bool, CoverFault>
     ensures list { IfOk result (λ full. (full ≡ true) × (list.new.items ≡ list.old.items ++ cell ∷ [])) }
     ensures many { IfErr result (λ fault. fault ≡ CoverFault.Memory) }
 {
-    match list.push(cell) {
-        Ok(()) => Ok(true),
-        Err(_) => Err(CoverFault::Memory),
-    }
+    list.push(cell)?;
+    Ok(true)
 }
 
 /// Adds nothing; no cell of the list can merge any more.

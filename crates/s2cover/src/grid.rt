@@ -91,15 +91,13 @@ fn cover_aligned(
     ensures stopped { OnErr result (looks.new.count ≤ 1 + 4 * level * (max + 1)) }
 {
     let mut list = Vec::new(alloc);
-    match seek(
+    seek(
         rect,
         level,
         &PlacedCell::face(rect.face),
         max,
         looks,
         &mut list,
-    ) {
-        Ok(()) => Ok(CellUnion::from_normalized(list)),
-        Err(fault) => Err(fault),
-    }
+    )?;
+    Ok(CellUnion::from_normalized(list))
 }

@@ -89,8 +89,6 @@ fn take(cell: CellId, max: usize, list: &mut Vec<CellId>) -> Result<(), CoverFau
     if list.len() == max {
         return Err(CoverFault::TooMany);
     }
-    match list.push(cell) {
-        Ok(()) => Ok(()),
-        Err(_) => Err(CoverFault::Memory),
-    }
+    list.push(cell)?;
+    Ok(())
 }

@@ -3,8 +3,10 @@ ghost use Rattle.std.specs.Prelude.{◌≡◌, ◌↔◌, ℕ, Bool};
 ghost use Rattle.s2cell.specs.Square.{IsPlacedCell};
 ghost use Rattle.s2union.specs.Union.{LiesIn};
 ghost use Rattle.s2cover.specs.Coverings.{LiesOutside};
+ghost use Rattle.s2cover.specs.declared.region.CoverFault.TheVariants.{Memory};
 
 use s2cell::{CellId, PlacedCell};
+use std::alloc::{AllocError, AllocFailed};
 use thiserror::Error;
 
 /// How a cell lies relative to a region.
@@ -27,6 +29,22 @@ pub enum CoverFault {
     /// An allocation for the list failed.
     #[error("out of memory")]
     Memory,
+}
+
+impl From<AllocError> for CoverFault {
+    ghost from_gives = { λ _ fault. fault ≡ Memory };
+
+    fn from(_error: AllocError) -> CoverFault {
+        CoverFault::Memory
+    }
+}
+
+impl<T: Drop> From<AllocFailed<T>> for CoverFault {
+    ghost from_gives = { λ _ fault. fault ≡ Memory };
+
+    fn from(_error: AllocFailed<T>) -> CoverFault {
+        CoverFault::Memory
+    }
 }
 
 /// A set of leaves that can say how a cell lies relative to it. `holds` is the set, as a test of leaves.

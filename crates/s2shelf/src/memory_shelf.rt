@@ -88,10 +88,8 @@ impl Shelf for MemoryShelf {
         ensures turn { IsErrOf result ShelfFault.Device ↔ (failing_of self.old ≡ 1) }
         ensures failing { failing_of self.new ≡ failing_of self.old - 1 }
     {
-        match self.get(name) {
-            Ok(content) => Ok(beginning_of(content, most)),
-            Err(fault) => Err(fault),
-        }
+        let content = self.get(name)?;
+        Ok(beginning_of(content, most))
     }
 
     /// Copies name and bytes first, so that a fault changes no file. Answers `Device` exactly if this is the call that

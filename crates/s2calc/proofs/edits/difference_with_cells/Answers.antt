@@ -4,9 +4,9 @@ use Rattle.s2union.specs.Sets.{without}
 use Rattle.s2calc.proofs.CoveringLemmas.{makes_same}
 use Rattle.s2calc.proofs.edits.difference_with_cells.Goals as goal
 
-pub returns-in-Ok : goal.returns-in-Ok
-returns-in-Ok c =
-    makes_same (without (has_leaf c.args.union.now.cells) (has_leaf c.in-Ok.taken.cells)) _ c.args.limit
+pub returns : goal.returns
+returns c =
+    makes_same (without (has_leaf c.args.union.now.cells) (has_leaf c.in_ok-taken.taken.cells)) _ c.args.limit
     c.difference.result
-    (λ x. ap (λ b. has_leaf c.args.union.now.cells x && not b) (c.in-Ok.ensures x))
+    (λ x. ap (λ b. has_leaf c.args.union.now.cells x && not b) (c.in_ok-taken.ensures x))
     c.difference.ensures

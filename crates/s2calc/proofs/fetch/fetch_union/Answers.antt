@@ -7,10 +7,10 @@ use Rattle.s2calc.specs.Fetch.{Reads}
 use Rattle.s2calc.proofs.FetchLemmas.{reads_whole, refuses_whole}
 use Rattle.s2calc.proofs.fetch.fetch_union.Goals as goal
 
-pub returns-in-Ok : goal.returns-in-Ok
-returns-in-Ok g c =
-    let bytes = c.in-Ok.bytes.items in
-    let (content, fetched, begins) = c.in-Ok.ensures in
+pub returns : goal.returns
+returns g c =
+    let bytes = c.in_ok-bytes.bytes.items in
+    let (content, fetched, begins) = c.in_ok-bytes.ensures in
     let same : c.as_slice.result.now ≡ bytes = search rules in
     let longer : MOST_SIZE < BYTES_OF_A_UNION = omega arith in
     MatchResult-weaker c.read.result c.read.ensures

@@ -1,4 +1,5 @@
 use Rattle.std.proofs.Common.{◌≡◌, ◌-◌, ◌<◌, List, ℕ, length, ◌∙◌, ap, sym, subst}
+use Rattle.std.proofs.lemmas.Result.{err_from_is_err_and}
 use Rattle.std.specs.List.{flat_map}
 use Rattle.s2union.specs.Union.{has_leaf, IsLocal, IsNormalForm}
 use Rattle.s2union.proofs.Normal.{local_from_normal}
@@ -13,34 +14,35 @@ from_normalized-requires c =
     let f = form_in S (30 - c.args.level) in
     let p = parts_normal S c.args.level c.args.union.now.cells c.requires.aligned c.cells.ensures.local
     c.requires.above in
-    let is : c.in-Ok.list.items ≡ flat_map f c.args.union.now.cells = c.in-Ok.ensures.list
+    let is : c.in_ok-list.list.items ≡ flat_map f c.args.union.now.cells = c.in_ok-list.ensures.list
     ∙ ap (flat_map f) c.cells.ensures.value in
     subst IsLocal (sym is) (local_from_normal (clipped c.args.union.now.cells c.args.rect.now)
     (flat_map f c.args.union.now.cells) p.normal)
 
-pub returns-in-Ok-clause-leaves : goal.returns-in-Ok-clause-leaves
-returns-in-Ok-clause-leaves c x =
+pub returns-clause-leaves : goal.returns-clause-leaves
+returns-clause-leaves c x =
     let S = rect_set c.args.rect.now in
     let f = form_in S (30 - c.args.level) in
     let p = parts_normal S c.args.level c.args.union.now.cells c.requires.aligned c.cells.ensures.local
     c.requires.above in
-    ap (λ v. has_leaf v x) (c.from_normalized.ensures.value ∙ c.in-Ok.ensures.list
+    ap (λ v. has_leaf v x) (c.from_normalized.ensures.value ∙ c.in_ok-list.ensures.list
     ∙ ap (flat_map f) c.cells.ensures.value) ∙ p.leaves x
 
-pub returns-in-Ok-clause-normal : goal.returns-in-Ok-clause-normal
-returns-in-Ok-clause-normal c =
+pub returns-clause-normal : goal.returns-clause-normal
+returns-clause-normal c =
     let S = rect_set c.args.rect.now in
     let f = form_in S (30 - c.args.level) in
     let p = parts_normal S c.args.level c.args.union.now.cells c.requires.aligned c.cells.ensures.local
     c.requires.above in
     let is : c.from_normalized.result.cells ≡ flat_map f c.args.union.now.cells = c.from_normalized.ensures.value
-    ∙ c.in-Ok.ensures.list ∙ ap (flat_map f) c.cells.ensures.value in
+    ∙ c.in_ok-list.ensures.list ∙ ap (flat_map f) c.cells.ensures.value in
     subst (IsNormalForm (clipped c.args.union.now.cells c.args.rect.now)) (sym is) p.normal
 
-pub returns-in-Err-clause-many : goal.returns-in-Err-clause-many
-returns-in-Err-clause-many c e w n =
+pub returns-in_err-list-clause-many : goal.returns-in_err-list-clause-many
+returns-in_err-list-clause-many c =
+    let p = err_from_is_err_and c.from_residual.result c.from_residual.ensures.1 in
     let S = rect_set c.args.rect.now in
     let f = form_in S (30 - c.args.level) in
-    parts_many S c.args.level c.args.union.now.cells w c.args.max c.requires.aligned c.cells.ensures.local
-    c.requires.above (subst (λ (v : List ℕ). c.args.max < length (flat_map f v)) c.cells.ensures.value
-    (c.in-Err.ensures.many e)) n
+    rw (p.1, p.2) (λ e w n. parts_many S c.args.level c.args.union.now.cells w c.args.max c.requires.aligned
+    c.cells.ensures.local c.requires.above (subst (λ (v : List ℕ). c.args.max < length (flat_map f v)) c.cells.ensures.value
+    (c.in_err-list.ensures.many e)) n)

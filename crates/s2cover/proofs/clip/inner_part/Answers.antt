@@ -7,32 +7,32 @@ use Rattle.s2cover.proofs.Clips.{kept_clip, leaves_ok, normal_ok}
 use Rattle.s2cover.proofs.Parts.{shared_inner}
 use Rattle.s2cover.proofs.clip.inner_part.Goals as goal
 
-pub returns-in-Ok-clause-leaves : goal.returns-in-Ok-clause-leaves
-returns-in-Ok-clause-leaves c =
-    leaves_ok c.clip_aligned.result (λ x. has_leaf c.in-Ok.whole.cells x && rect_set c.args.rect x)
+pub returns-clause-leaves : goal.returns-clause-leaves
+returns-clause-leaves c =
+    leaves_ok c.clip_aligned.result (λ x. has_leaf c.in_ok-whole.whole.cells x && rect_set c.args.rect x)
     (inner_set (λ y. has_leaf c.args.union.now.cells y && rect_set c.args.rect y) c.args.level)
-    (λ x. shared_inner (rect_set c.args.rect) c.args.level c.in-Ok.whole.cells c.requires.aligned c.in-Ok.ensures.local
-    c.in-Ok.ensures.above x
-    ∙ kept_clip c.args.level c.args.union.now.cells c.in-Ok.whole.cells (rect_set c.args.rect) c.requires.level
-    c.cells.ensures.local c.in-Ok.ensures.leaves x)
+    (λ x. shared_inner (rect_set c.args.rect) c.args.level c.in_ok-whole.whole.cells c.requires.aligned
+    c.in_ok-whole.ensures.local c.in_ok-whole.ensures.above x
+    ∙ kept_clip c.args.level c.args.union.now.cells c.in_ok-whole.whole.cells (rect_set c.args.rect) c.requires.level
+    c.cells.ensures.local c.in_ok-whole.ensures.leaves x)
     c.clip_aligned.ensures.leaves
 
-pub returns-in-Ok-clause-normal : goal.returns-in-Ok-clause-normal
-returns-in-Ok-clause-normal c =
-    normal_ok c.clip_aligned.result (λ x. has_leaf c.in-Ok.whole.cells x && rect_set c.args.rect x)
+pub returns-clause-normal : goal.returns-clause-normal
+returns-clause-normal c =
+    normal_ok c.clip_aligned.result (λ x. has_leaf c.in_ok-whole.whole.cells x && rect_set c.args.rect x)
     (inner_set (λ y. has_leaf c.args.union.now.cells y && rect_set c.args.rect y) c.args.level)
-    (λ x. shared_inner (rect_set c.args.rect) c.args.level c.in-Ok.whole.cells c.requires.aligned c.in-Ok.ensures.local
-    c.in-Ok.ensures.above x
-    ∙ kept_clip c.args.level c.args.union.now.cells c.in-Ok.whole.cells (rect_set c.args.rect) c.requires.level
-    c.cells.ensures.local c.in-Ok.ensures.leaves x)
+    (λ x. shared_inner (rect_set c.args.rect) c.args.level c.in_ok-whole.whole.cells c.requires.aligned
+    c.in_ok-whole.ensures.local c.in_ok-whole.ensures.above x
+    ∙ kept_clip c.args.level c.args.union.now.cells c.in_ok-whole.whole.cells (rect_set c.args.rect) c.requires.level
+    c.cells.ensures.local c.in_ok-whole.ensures.leaves x)
     c.clip_aligned.ensures.normal
 
-pub returns-in-Ok-clause-many : goal.returns-in-Ok-clause-many
-returns-in-Ok-clause-many c =
-    many_same c.clip_aligned.result _ c.args.max (λ x. has_leaf c.in-Ok.whole.cells x && rect_set c.args.rect x)
+pub returns-clause-many : goal.returns-clause-many
+returns-clause-many c =
+    many_same c.clip_aligned.result _ c.args.max (λ x. has_leaf c.in_ok-whole.whole.cells x && rect_set c.args.rect x)
     (inner_set (λ y. has_leaf c.args.union.now.cells y && rect_set c.args.rect y) c.args.level)
-    (λ x. shared_inner (rect_set c.args.rect) c.args.level c.in-Ok.whole.cells c.requires.aligned c.in-Ok.ensures.local
-    c.in-Ok.ensures.above x
-    ∙ kept_clip c.args.level c.args.union.now.cells c.in-Ok.whole.cells (rect_set c.args.rect) c.requires.level
-    c.cells.ensures.local c.in-Ok.ensures.leaves x)
+    (λ x. shared_inner (rect_set c.args.rect) c.args.level c.in_ok-whole.whole.cells c.requires.aligned
+    c.in_ok-whole.ensures.local c.in_ok-whole.ensures.above x
+    ∙ kept_clip c.args.level c.args.union.now.cells c.in_ok-whole.whole.cells (rect_set c.args.rect) c.requires.level
+    c.cells.ensures.local c.in_ok-whole.ensures.leaves x)
     c.clip_aligned.ensures.many

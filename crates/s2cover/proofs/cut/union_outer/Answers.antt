@@ -5,33 +5,33 @@ use Rattle.s2cover.specs.Coverings.{outer_set}
 use Rattle.s2cover.proofs.OwnCells.{cut_normal, cut_leaves, same_ok, many_err}
 use Rattle.s2cover.proofs.cut.union_outer.Goals as goal
 
-pub returns-in-Ok-clause-leaves : goal.returns-in-Ok-clause-leaves
-returns-in-Ok-clause-leaves c =
+pub returns-clause-leaves : goal.returns-clause-leaves
+returns-clause-leaves c =
     same_ok c.union_up_to.result c.normalise.result.cells (λ v. (x : ℕ) →
     has_leaf v x ≡ outer_set (has_leaf c.args.union.now.cells) c.args.level x)
     (cut_leaves c.args.level c.args.union.now.cells _ c.normalise.result.cells c.requires.level
-    c.cells.ensures.local (c.in-Ok.ensures ∙ ap (cells_cut c.args.level) c.cells.ensures.value)
+    c.cells.ensures.local (c.in_ok-cells.ensures ∙ ap (cells_cut c.args.level) c.cells.ensures.value)
     c.normalise.ensures.leaves)
     c.union_up_to.ensures.same
 
-pub returns-in-Ok-clause-local : goal.returns-in-Ok-clause-local
-returns-in-Ok-clause-local c = same_ok c.union_up_to.result c.normalise.result.cells IsLocal c.normalise.ensures.local
+pub returns-clause-local : goal.returns-clause-local
+returns-clause-local c = same_ok c.union_up_to.result c.normalise.result.cells IsLocal c.normalise.ensures.local
     c.union_up_to.ensures.same
 
-pub returns-in-Ok-clause-normal : goal.returns-in-Ok-clause-normal
-returns-in-Ok-clause-normal c =
+pub returns-clause-normal : goal.returns-clause-normal
+returns-clause-normal c =
     same_ok c.union_up_to.result c.normalise.result.cells
     (IsNormalForm (outer_set (has_leaf c.args.union.now.cells) c.args.level))
     (cut_normal c.args.level c.args.union.now.cells _ c.normalise.result.cells c.requires.level
-    c.cells.ensures.local (c.in-Ok.ensures ∙ ap (cells_cut c.args.level) c.cells.ensures.value)
+    c.cells.ensures.local (c.in_ok-cells.ensures ∙ ap (cells_cut c.args.level) c.cells.ensures.value)
     c.normalise.ensures.normal)
     c.union_up_to.ensures.same
 
-pub returns-in-Ok-clause-many : goal.returns-in-Ok-clause-many
-returns-in-Ok-clause-many c =
+pub returns-clause-many : goal.returns-clause-many
+returns-clause-many c =
     many_err c.union_up_to.result _ c.normalise.result.cells c.args.max
     (outer_set (has_leaf c.args.union.now.cells) c.args.level)
     (cut_normal c.args.level c.args.union.now.cells _ c.normalise.result.cells c.requires.level
-    c.cells.ensures.local (c.in-Ok.ensures ∙ ap (cells_cut c.args.level) c.cells.ensures.value)
+    c.cells.ensures.local (c.in_ok-cells.ensures ∙ ap (cells_cut c.args.level) c.cells.ensures.value)
     c.normalise.ensures.normal)
     c.union_up_to.ensures.many
