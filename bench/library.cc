@@ -35,8 +35,8 @@ static void sets(Table& table, const List& xs, const List& ys) {
   row("difference", &S2CellUnion::Difference, s2u_difference);
 }
 
-// What a call takes beside the operation alone, in milliseconds. `s2c` reads its lists once and then operates so many
-// times: what one time more takes is the operation's own.
+// What a call takes beside the operation alone, in milliseconds. `s2c` reads its lists once and then repeats the
+// operation `times` times: what one more repetition takes is the operation's own.
 static void own_times(const List& xs, const List& ys, int rounds) {
   struct Pair {
     const char* name;

@@ -1,4 +1,4 @@
-//! The library for callers in C: one function for each family of work, on numbers and slices.
+//! The library that the benchmark calls from C++: one function for each kind of work, on numbers and slices.
 //!
 //! A cell is its identifier, a union is the ascending list of its cells, and a text or a file is its bytes. In C a
 //! slice is a pointer and a length. A result of many numbers goes into a slice of the caller, and its length into

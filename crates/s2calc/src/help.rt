@@ -7,7 +7,7 @@ pub(crate) const ABOUT: &str =
 /// What follows the help of the program.
 pub(crate) const AFTER: &str =
     "Exit status: 0 if all went well, 1 if a line was refused, 2 if the usage was wrong or a stream failed,
-3 if there was no memory.
+3 if memory ran out at the start.
 
 Example:
   $ printf 'add a 04 0c 14 1c\\nshow a\\n' | s2calc run

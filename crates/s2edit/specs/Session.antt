@@ -42,7 +42,7 @@ pub record Records (s : Content) (h : History (List ℕ)) : Type 0 where
   pub lists : EachList (IsLocalWithin SESSION_CELLS) h
   pub few : length h.past + length h.future ≤ SESSION_CHANGES
 
--- `Text(h)`: the bytes are the session file of the history
+-- the bytes are the session file of the history
 pub record Text (h : History (List ℕ)) (bytes : List ℕ) : Type 0 where
   pub content : Content
   pub tells : Records content h

@@ -19,7 +19,7 @@ pub enum FileFault {
     #[error("bytes are missing")]
     Short,
     /// Bytes follow the last identifier.
-    #[error("bytes behind the last identifier")]
+    #[error("bytes after the last identifier")]
     Trailing,
     /// A number is not the identifier of a cell.
     #[error("no identifier of a cell")]

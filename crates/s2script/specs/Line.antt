@@ -24,6 +24,7 @@ read_within line = if is_comment line then Ok None else asked_by (words (without
 unfoldable pub reading_of : List ℕ → Result (Option Command) Misfit
 reading_of line = if nat_lt LONGEST_LINE (length line) then Err LongLine else read_within line
 
+-- what a line says, by its reading
 abbrev pub parsed_of : Result (Option Command) Misfit → Parsed
 parsed_of (Ok None) = Nothing
 parsed_of (Ok (Some command)) = Does command
@@ -33,6 +34,7 @@ parsed_of (Err misfit) = Fails (refusal_of misfit)
 unfoldable pub line_of : List ℕ → Parsed
 line_of line = parsed_of (reading_of line)
 
+-- where a line does not fit, by its reading
 abbrev pub misfit_in : Result (Option Command) Misfit → Option Misfit
 misfit_in (Ok command) = None
 misfit_in (Err misfit) = Some misfit

@@ -29,13 +29,13 @@ text (3/021).
   show, count r                            its cells; their number, and that of its leaves
   denorm r MIN MOD                         its cells, cut to levels
   has, touches r CELL                      yes or no: all leaves of the cell, or one of them
-  covers, meets r s                        yes or no: the same of another register
+  covers, meets r s                        yes or no: the same for another register
   cell CELL; at FACE I J; square CELL      what is known of a cell, of a leaf by its place, of a cell's square
   load, save r NAME                        reads and writes a file in S2's own encoding
   undo, redo, history                      goes back and forth; counts what can be undone and redone
   dump, restore NAME                       writes all registers and their history, and goes on from there
 
-A line that can't be carried out is answered 'error NAME' and changes nothing.";
+A line that can't be carried out is answered 'error NAME' and changes no register.";
 
 /// What the command with this name asks for, by the words after it: an edit of a register by cells, or another command.
 #[tactic(auto, unfolding(crate::specs::Table::command_of))]

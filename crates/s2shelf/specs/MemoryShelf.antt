@@ -8,7 +8,7 @@ use Rattle.s2shelf.specs.Shelf.{Files}
 abbrev pub file_named : MemoryShelf → List ℕ → Option (List ℕ)
 file_named shelf name = option_map (λ bytes. bytes.items) (get_by_text shelf.named name)
 
--- what is known of the shelf: it tells every file, so what was found needs no record
+-- what is known of the shelf: it exposes every file, so what was found needs no record
 abbrev pub files_of : MemoryShelf → Files
 files_of shelf = record { tells = true; at = file_named shelf; found = None; failures = shelf.failures }
 

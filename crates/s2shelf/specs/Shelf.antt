@@ -21,7 +21,7 @@ pub record Files : Type 0 where
 abbrev pub one_more : ℕ → ℕ
 one_more n = (n + 1) % 2 ^ 64
 
--- every file stays as it was, as far as the shelf tells
+-- every file stays as it was, if the shelf exposes its contents
 pub record KeepsFiles (old new : Files) : Type 0 where
   pub tells : new.tells ≡ old.tells
   pub at : old.tells ≡ true → (name : List ℕ) → new.at name ≡ old.at name

@@ -23,7 +23,7 @@ abbrev pub insert_cells : List ℕ → List ℕ → List ℕ
 insert_cells [] u = u
 insert_cells (x ∷ xs) u = insert_cells xs (insert_cell x u)
 
--- `Apply(u)`: the ascending list of the cells of `u`, without those of `out`, and of the cells of `put`
+-- the ascending list of the cells of `u`, without those of `out`, and of the cells of `put`
 abbrev pub applied : List ℕ → List ℕ → List ℕ → List ℕ
 applied out put u = insert_cells put (cells_without u out)
 

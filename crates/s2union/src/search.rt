@@ -1,4 +1,5 @@
-//! The searches that all calls on ordered lists share, and the one function by which they look at a cell.
+//! The searches that all calls on ordered lists share, and the one function by which they look at a cell. A cell ends
+//! by a leaf if all its leaves come before that leaf.
 ghost use Rattle.std.specs.Prelude.{◌≡◌, ◌≤◌, ◌<◌, ◌+◌, ◌-◌, ◌*◌, ◌^◌, ◌↔◌};
 ghost use Rattle.std.specs.Prelude.{◌/◌, ◌⊎◌, ℕ, IsTrue, length, slice_index};
 ghost use Rattle.std.specs.List.Sorted.{IsStrictlyIncreasing};

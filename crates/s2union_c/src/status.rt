@@ -8,7 +8,7 @@ pub(crate) const MADE: i32 = 0;
 /// The result is longer than the room.
 pub(crate) const NO_ROOM: i32 = -1;
 
-/// The system refused memory.
+/// Out of memory.
 pub(crate) const NO_MEMORY: i32 = -2;
 
 /// A number or a text does not stand for a cell.
