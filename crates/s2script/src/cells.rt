@@ -45,10 +45,7 @@ impl<'a> Cells<'a> {
     pub fn next(&mut self) -> Option<CellId>
         ensures { MatchOption result ((self.old ≡ []) × (self.new ≡ [])) (λ cell. self.old ≡ cell ∷ self.new) }
     {
-        match self.words.next() {
-            Some(word) => cell_in(word),
-            None => None,
-        }
+        cell_in(self.words.next()?)
     }
 }
 

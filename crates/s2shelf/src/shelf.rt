@@ -29,13 +29,9 @@ impl From<AllocError> for ShelfFault {
 pub(crate) fn beginning_of(content: Option<Vec<u8>>, most: usize) -> Option<Vec<u8>>
     ensures { option_map (λ v. v.items) result ≡ option_map (take most) (option_map (λ v. v.items) content) }
 {
-    match content {
-        None => None,
-        Some(mut bytes) => {
-            bytes.truncate(most);
-            Some(bytes)
-        }
-    }
+    let mut bytes = content?;
+    bytes.truncate(most);
+    Some(bytes)
 }
 
 /// Files by their names.
