@@ -128,6 +128,13 @@ def _refuse(status, what=""):
     raise ValueError(f"{text}: {what}" if what else text)
 
 
+def _answer(status):
+    """The answer to a question of yes (1) or no (0). A refusal is neither, so it must not become a bool."""
+    if status < 0:
+        _refuse(status)
+    return status == 1
+
+
 def _number(value, most, what):
     """An int from 0 to `most`, from anything that has an `__index__`, such as numpy's integers."""
     if isinstance(value, bool):
@@ -181,7 +188,7 @@ def version():
 
 def is_cell(cell):
     """Whether the number is the identifier of a cell."""
-    return bool(_is_cell(_number(cell, 2**64 - 1, "a cell")))
+    return _answer(_is_cell(_number(cell, 2**64 - 1, "a cell")))
 
 
 def level(cell):
@@ -247,12 +254,12 @@ def common_ancestor(a, b):
 
 def contains(whole, part):
     """Whether one cell contains another."""
-    return bool(_cell_contains(_cell(whole), _cell(part)))
+    return _answer(_cell_contains(_cell(whole), _cell(part)))
 
 
 def intersects(a, b):
     """Whether two cells share a leaf."""
-    return bool(_cell_intersects(_cell(a), _cell(b)))
+    return _answer(_cell_intersects(_cell(a), _cell(b)))
 
 
 def from_face_ij(face, i, j):
@@ -376,8 +383,8 @@ _c.pythonapi.PyBuffer_Release.restype = None
 class UnionFile:
     """A union file that answers questions in place, as in a mapped file or a row of a table: nothing is copied.
 
-    The bytes are checked once to be the file that `Union.to_bytes` writes for some union, unless `checked` is true; if
-    they are not, the answers mean nothing.
+    The bytes are checked once to be the file that `Union.to_bytes` writes for some union, unless `checked` is true. If
+    they are not, or no longer, a question raises ValueError or its answer means nothing.
 
     >>> file = UnionFile(Union.from_tokens(["04", "0c"]).to_bytes())
     >>> len(file), from_token("04") in file, from_token("14") in file
@@ -417,29 +424,31 @@ class UnionFile:
 
     def __contains__(self, cell):
         """Whether all leaves of a cell are in the union."""
-        return bool(_file_contains_cell(*self._place, _cell(cell)))
+        return _answer(_file_contains_cell(*self._place, _cell(cell)))
 
     def intersects_cell(self, cell):
         """Whether the union has a leaf of a cell."""
-        return bool(_file_intersects_cell(*self._place, _cell(cell)))
+        return _answer(_file_intersects_cell(*self._place, _cell(cell)))
 
     def leaf_count(self):
         """How many leaves the union has."""
         leaves = _u64()
-        _file_leaf_count(*self._place, _c.byref(leaves))
+        status = _file_leaf_count(*self._place, _c.byref(leaves))
+        if status != _OK:
+            _refuse(status)
         return leaves.value
 
     def contains(self, other):
         """Whether the union has all leaves of the union in another file."""
         if not isinstance(other, UnionFile):
             raise TypeError(f"a UnionFile is wanted, not {type(other).__name__}")
-        return bool(_file_contains(*self._place, *other._place))
+        return _answer(_file_contains(*self._place, *other._place))
 
     def intersects(self, other):
         """Whether the unions of two files share a leaf."""
         if not isinstance(other, UnionFile):
             raise TypeError(f"a UnionFile is wanted, not {type(other).__name__}")
-        return bool(_file_intersects(*self._place, *other._place))
+        return _answer(_file_intersects(*self._place, *other._place))
 
     def ancestors(self):
         """The cells of the union and all their ancestors, as Union.ancestors. ValueError if they are no union."""
@@ -602,11 +611,11 @@ class Union:
 
     def __contains__(self, cell):
         """Whether all leaves of a cell are in the union."""
-        return bool(_contains_cell(*self._place(self._cells), _cell(cell)))
+        return _answer(_contains_cell(*self._place(self._cells), _cell(cell)))
 
     def intersects_cell(self, cell):
         """Whether the union has a leaf of a cell."""
-        return bool(_intersects_cell(*self._place(self._cells), _cell(cell)))
+        return _answer(_intersects_cell(*self._place(self._cells), _cell(cell)))
 
     def cells_at(self, cell):
         """The cells of the union that share a leaf with a cell."""
@@ -659,7 +668,7 @@ class Union:
     def __ge__(self, other):
         if not isinstance(other, Union):
             return NotImplemented
-        return bool(_contains(*self._place(self._cells), *self._place(other._cells)))
+        return _answer(_contains(*self._place(self._cells), *self._place(other._cells)))
 
     def __le__(self, other):
         return other.__ge__(self) if isinstance(other, Union) else NotImplemented
@@ -674,7 +683,7 @@ class Union:
         """Whether two unions share a leaf."""
         if not isinstance(other, Union):
             raise TypeError(f"a Union is wanted, not {type(other).__name__}")
-        return bool(_intersects(*self._place(self._cells), *self._place(other._cells)))
+        return _answer(_intersects(*self._place(self._cells), *self._place(other._cells)))
 
     def isdisjoint(self, other):
         """Whether two unions share no leaf."""

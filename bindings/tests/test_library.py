@@ -245,6 +245,20 @@ class TheModule(unittest.TestCase):
                 self.assertRaises(TypeError, UnionFile, wrong)
         complain.assert_not_called()
 
+    def test_a_file_that_is_damaged_after_it_was_opened(self):
+        data = bytearray(Union.from_tokens("04").to_bytes())
+        whole, damaged = UnionFile(bytes(data)), UnionFile(data)
+        data[0] = 2
+        questions = [damaged.leaf_count, damaged.ancestors, damaged.union]
+        for text in ("04", "14"):
+            cell = s2union.from_token(text)
+            questions += [lambda cell=cell: cell in damaged, lambda cell=cell: damaged.intersects_cell(cell)]
+        for a, b in ((whole, damaged), (damaged, whole)):
+            questions += [lambda a=a, b=b: a.contains(b), lambda a=a, b=b: a.intersects(b)]
+        for question in questions:
+            with self.assertRaisesRegex(ValueError, "unknown version"):
+                question()
+
     @unittest.skipUnless(numpy, "numpy is not installed")
     def test_numpy(self):
         ids = numpy.array([s2union.from_token(text) for text in ("14", "04", "0c", "04")], numpy.uint64)
