@@ -19,6 +19,7 @@ $S2UNION_LIBRARY, beside this module, in the folder above it, and in the system'
 """
 
 import ctypes as _c
+import operator as _operator
 import os as _os
 from array import array as _array
 
@@ -414,12 +415,18 @@ class UnionFile:
         return self._size
 
     def __getitem__(self, place):
-        place = place.__index__()
-        if place < 0:
-            place += self._size
-        found = _u64()
-        if place < 0 or _file_cell(*self._place, place, _c.byref(found)) != _OK:
+        if isinstance(place, slice):
+            return [self._cell_at(k) for k in range(*place.indices(self._size))]
+        place = _operator.index(place)
+        if not -self._size <= place < self._size:
             raise IndexError("there is no such cell")
+        return self._cell_at(place % self._size)
+
+    def _cell_at(self, place):
+        found = _u64()
+        status = _file_cell(*self._place, place, _c.byref(found))
+        if status != _OK:
+            _refuse(status)
         return found.value
 
     def __contains__(self, cell):

@@ -245,11 +245,24 @@ class TheModule(unittest.TestCase):
                 self.assertRaises(TypeError, UnionFile, wrong)
         complain.assert_not_called()
 
+    def test_a_file_as_a_collection(self):
+        a = Union.from_tokens("04 0c 1c 24 31")
+        file, none = UnionFile(a.to_bytes()), UnionFile(Union().to_bytes())
+        self.assertEqual((list(file), list(none), none[:]), (list(a), [], []))
+        for place in (0, 4, -1, -5, slice(None), slice(1, 3), slice(None, None, -2), slice(-2, 2**70), slice(9, 3)):
+            self.assertEqual(file[place], a[place])
+        for place in (5, -6, 2**64, 2**64 + 1, -2**64, 2**100):
+            self.assertRaises(IndexError, lambda: file[place])
+            self.assertRaises(IndexError, lambda: none[place])
+        for place in ("x", None, 1.0, (0, 1), slice("x"), slice(0, 1, "x")):
+            self.assertRaises(TypeError, lambda: file[place])
+        self.assertRaises(ValueError, lambda: file[::0])
+
     def test_a_file_that_is_damaged_after_it_was_opened(self):
         data = bytearray(Union.from_tokens("04").to_bytes())
         whole, damaged = UnionFile(bytes(data)), UnionFile(data)
         data[0] = 2
-        questions = [damaged.leaf_count, damaged.ancestors, damaged.union]
+        questions = [damaged.leaf_count, damaged.ancestors, damaged.union, lambda: damaged[0], lambda: list(damaged)]
         for text in ("04", "14"):
             cell = s2union.from_token(text)
             questions += [lambda cell=cell: cell in damaged, lambda cell=cell: damaged.intersects_cell(cell)]
@@ -268,6 +281,7 @@ class TheModule(unittest.TestCase):
         self.assertFalse(view.flags.writeable)
         self.assertEqual(Union(ids[::2]), Union(list(ids[::2])))
         self.assertTrue(ids[0] in a)
+        self.assertEqual(UnionFile(a.to_bytes())[numpy.int64(1)], a[1])
         for kind in (numpy.int64, numpy.float64, numpy.uint32, ">u8"):
             self.assertRaises(TypeError, Union, ids.astype(kind))
         self.assertRaises(TypeError, Union, ids.reshape(2, 2))
