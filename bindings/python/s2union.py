@@ -360,7 +360,14 @@ class _Held:
         self._buffer = _Buffer()
         _c.pythonapi.PyObject_GetBuffer(_c.py_object(view), _c.byref(self._buffer), 0)
         self._held = True
+        self._is_read_only = view.readonly
         self.at, self.size = self._buffer.buf, self._buffer.len
+
+    def unchanging(self):
+        """The bytes and their size for a call that reads them twice. Bytes that can be written are copied: if another
+        thread wrote them between the two times, the second would find what the first has ruled out."""
+        bytes_or_place = self.at if self._is_read_only else _c.string_at(self.at, self.size)
+        return bytes_or_place, self.size
 
     def release(self):
         if self._held:
@@ -385,7 +392,8 @@ class UnionFile:
     """A union file that answers questions in place, as in a mapped file or a row of a table: nothing is copied.
 
     The bytes are checked once to be the file that `Union.to_bytes` writes for some union, unless `checked` is true. If
-    they are not, or no longer, a question raises ValueError or its answer means nothing.
+    they are not, or no longer, a question raises ValueError or its answer means nothing. No thread and no process may
+    write them during a call.
 
     >>> file = UnionFile(Union.from_tokens(["04", "0c"]).to_bytes())
     >>> len(file), from_token("04") in file, from_token("14") in file
@@ -459,11 +467,11 @@ class UnionFile:
 
     def ancestors(self):
         """The cells of the union and all their ancestors, as Union.ancestors. ValueError if they are no union."""
-        return list(_listed(_file_ancestors, 2 * self._size, *self._place))
+        return list(_listed(_file_ancestors, 2 * self._size, *self._bytes.unchanging()))
 
     def union(self):
         """The union itself, copied."""
-        return Union._made(_listed(_decode, self._size, *self._place))
+        return Union._made(_listed(_decode, self._size, *self._bytes.unchanging()))
 
 
 class Union:
@@ -534,7 +542,7 @@ class Union:
     def from_bytes(cls, data):
         """The union in a union file, whose cells may be in any order."""
         with _Held(data) as held:
-            return cls._made(_listed(_decode, max(held.size - 9, 0) // 8, held.at, held.size))
+            return cls._made(_listed(_decode, max(held.size - 9, 0) // 8, *held.unchanging()))
 
     @classmethod
     def covering(cls, face, i0, i1, j0, j1, level, inner=False, most=_MOST_COVERING):

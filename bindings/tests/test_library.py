@@ -272,6 +272,22 @@ class TheModule(unittest.TestCase):
             with self.assertRaisesRegex(ValueError, "unknown version"):
                 question()
 
+    def test_bytes_that_are_written_during_a_call(self):
+        a = Union.from_tokens("04 0c 1c")
+        for name, ask, want in (("_decode", Union.from_bytes, a),
+                                ("_decode", lambda data: UnionFile(data).union(), a),
+                                ("_file_ancestors", lambda data: UnionFile(data).ancestors(), a.ancestors())):
+            data, call = bytearray(a.to_bytes()), getattr(s2union, name)
+
+            def call_after_a_write(*arguments):
+                data[9:] = bytes(len(data) - 9)
+                return call(*arguments)
+
+            with mock.patch.object(s2union, name, call_after_a_write):
+                self.assertEqual(ask(data), want)
+            self.assertRaises(ValueError, ask, data)
+        self.assertRaises(ValueError, Union.from_bytes, bytearray())
+
     @unittest.skipUnless(numpy, "numpy is not installed")
     def test_numpy(self):
         ids = numpy.array([s2union.from_token(text) for text in ("14", "04", "0c", "04")], numpy.uint64)
