@@ -21,6 +21,7 @@ $S2UNION_LIBRARY, beside this module, in the folder above it, and in the system'
 import ctypes as _c
 import operator as _operator
 import os as _os
+import re as _re
 from array import array as _array
 
 __all__ = ["Union", "UnionFile", "version", "is_cell", "level", "face", "parent", "child", "range_min", "range_max",
@@ -31,6 +32,7 @@ _OK, _ROOM, _MEMORY, _NO_CELL, _NO_UNION, _ARGUMENT, _MANY = 0, -1, -2, -3, -4, 
 _TEXTS = {_NO_CELL: "not a cell", _NO_UNION: "not a normalized list of cells", _ARGUMENT: "argument out of range",
           _MANY: "too many cells", -10: "union file: bytes are missing", -11: "union file: unknown version",
           -12: "union file: bytes after the last cell", -13: "union file: a number that is not a cell"}
+_SEPARATOR = _re.compile(rb"[ \t\n\r,]")  # of words, for the library; bytes.split would end words at form feeds too
 _MOST_RANGE = 184
 _MOST_COVERING = 1_000_000
 
@@ -526,7 +528,7 @@ class Union:
         ids = _room(len(text) // 2 + 1)
         status = _from_tokens(text, len(text), *ids.buffer_info(), _c.byref(length))
         if status != _OK:
-            word = text[length.value:length.value + 32].replace(b",", b" ").split()[0]
+            word = _SEPARATOR.split(text[length.value:length.value + 32])[0]
             _refuse(status, f"{word!r} at place {length.value}")
         del ids[length.value:]
         self = object.__new__(cls)

@@ -221,6 +221,14 @@ class TheModule(unittest.TestCase):
             self.assertEqual(pickle.loads(pickle.dumps(a, protocol)), a)
         self.assertEqual((copy.copy(a), copy.deepcopy(a), Union(a), bytes(a)), (a, a, a, a.to_bytes()))
 
+    def test_a_refused_word_ends_only_where_the_library_ends_it(self):
+        others = set(range(128)) - set(b" \t\n\r,")
+        for word in [b"\f", b"\v"] + [shape % byte for byte in others for shape in (b"%cx", b"x%cy", b"x%c")]:
+            for text, place in ((word, 0), (b"04 " + word + b",0c", 3), (b"04\n" + word + b"\t", 3)):
+                with self.assertRaises(ValueError) as refusal:
+                    Union.from_tokens(text)
+                self.assertEqual(str(refusal.exception), f"not a cell: {word!r} at place {place}")
+
     def test_buffers(self):
         a = Union.from_tokens("04 0c 14")
         self.assertEqual(Union(a.ids), a)
