@@ -1,6 +1,7 @@
 """Every call of the library, through the Python module, against the plain model; and the module itself."""
 
 import copy
+import ctypes
 import doctest
 import mmap
 import operator as operators
@@ -238,6 +239,10 @@ class TheModule(unittest.TestCase):
         for wrong in (b"12345678", array("q", [1]), array("d", [1.0]), array("I", [1]), square):
             self.assertRaises(TypeError, Union, wrong)
         self.assertEqual(Union(memoryview(array("Q", [1, 0, 3, 0]))[::2]), Union([1, 3]))
+        for kind in (ctypes.c_uint64, ctypes.c_size_t, ctypes.c_uint64.__ctype_le__):
+            self.assertEqual((Union((kind * 2)(3, 1)), Union((kind * 0)())), (Union([1, 3]), Union()))
+        for kind in (ctypes.c_uint64.__ctype_be__, ctypes.c_int64, ctypes.c_uint32, ctypes.c_double):
+            self.assertRaises(TypeError, Union, (kind * 1)(1))
         with tempfile.TemporaryFile() as stored:
             stored.write(b"x" + a.to_bytes())
             stored.flush()
@@ -304,6 +309,10 @@ class TheModule(unittest.TestCase):
         self.assertEqual((view.dtype, view.tolist()), (numpy.uint64, list(a)))
         self.assertFalse(view.flags.writeable)
         self.assertEqual(Union(ids[::2]), Union(list(ids[::2])))
+        unaligned = numpy.frombuffer(b"x" + ids.tobytes(), numpy.uint64, offset=1)
+        column = numpy.array([(0, cell) for cell in ids], [("byte", "u1"), ("cell", "<u8")])["cell"]
+        for cells in (unaligned, unaligned[::-1], column, ids.astype("<u8")):
+            self.assertEqual((Union(cells), Union(cells[:0])), (a, Union()))
         self.assertTrue(ids[0] in a)
         self.assertEqual(UnionFile(a.to_bytes())[numpy.int64(1)], a[1])
         for kind in (numpy.int64, numpy.float64, numpy.uint32, ">u8"):
