@@ -233,9 +233,9 @@ fn inclusion_and_shared_leaves(rt: HostRuntime) -> Result<(), AllocError> {
     Ok(())
 }
 
-/// Four looks for each of 90 cells: at the cell, twice at the one that contains it, and at the next one, which the last
-/// cell doesn't have.
-const LOOKS: u64 = 4 * 90 - 1;
+/// Two looks at the first cells, and four for each of 90 cells: at the cell, twice at the one that contains it, and at
+/// the next one, which the last cell doesn't have.
+const LOOKS: u64 = 2 + 4 * 90 - 1;
 
 /// How many looks it takes to see that a union of 90 cells contains itself.
 fn looks_of_a_union_in_itself(alloc: Global) -> Result<u64, AllocError> {

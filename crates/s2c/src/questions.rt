@@ -117,10 +117,18 @@ pub extern "C" fn s2c_contains(
         return false;
     };
     for _ in 1..times {
-        *answer = whole.contains(&part);
+        *answer = holds(&whole, &part);
     }
-    *answer = whole.contains(&part);
+    *answer = holds(&whole, &part);
     true
+}
+
+/// Whether a union has all leaves of another. Not inlined, so that each round asks the whole question.
+#[inline(never)]
+fn holds(whole: &CellUnion, part: &CellUnion) -> bool
+    ensures { IsTrue result ↔ IsWithin (has_leaf part.now.cells) (has_leaf whole.now.cells) }
+{
+    whole.contains(part)
 }
 
 /// Whether two unions share a leaf: answers whether the question was answered.
@@ -139,8 +147,16 @@ pub extern "C" fn s2c_intersects(
         return false;
     };
     for _ in 1..times {
-        *answer = y.intersects(&x);
+        *answer = meets(&x, &y);
     }
-    *answer = x.intersects(&y);
+    *answer = meets(&x, &y);
     true
+}
+
+/// Whether two unions share a leaf. Not inlined either.
+#[inline(never)]
+fn meets(x: &CellUnion, y: &CellUnion) -> bool
+    ensures { IsTrue result ↔ ShareSome (has_leaf x.now.cells) (has_leaf y.now.cells) }
+{
+    x.intersects(y)
 }

@@ -134,7 +134,7 @@ spent_all a b looks turns far last s ht hf hl k h =
 
 -- the last turn, if it is one more than the shorter list has cells, got one cell on at most
 pub spent_last : (a b looks turns far z c x last : ℕ) → Spent looks turns far → z ≡ 1 → Sought z c x →
-    last ≤ looks + c + 1
+    last ≤ looks + c + 3
     → turns ≤ min a b → far + x ≤ a + b
     → (turns + 1 ≤ min a b) ⊎ (x ≤ 1) → FewForUnion a b last
 spent_last a b looks turns far z c x last s ez sc hl ht hf (inl more) =
@@ -180,14 +180,14 @@ turns_more looks i j z a b c next_i next_j all t hi hj ez sa eb sc ea =
 pub turns_last : (m n looks i j z c next_i last : ℕ) → Turns looks i j → i ≤ m → j < n → i ≤ next_i → next_i ≤ m →
     z ≡ 1
     → Sought z c (next_i - i)
-    → last ≤ looks + c + 1 → FewForUnion m n last
+    → last ≤ looks + c + 3 → FewForUnion m n last
 turns_last m n looks i j z c next_i last t hi hj on ho ez sc el =
     let x = t.by_x in
     let y = t.by_y in
     spent_last m n looks t.turns (i + j) z c (next_i - i) last t.spent ez sc el (omega arith) (omega arith)
     (⊎_elim (λ (h : i < m). inl (omega arith)) (λ (h : m ≤ i). inr (omega arith)) (cases_lt i m))
 
-pub turns_all : (m n looks i j last : ℕ) → Turns looks i j → i ≤ m → j ≤ n → last ≤ looks → FewForUnion m n last
+pub turns_all : (m n looks i j last : ℕ) → Turns looks i j → i ≤ m → j ≤ n → last ≤ looks + 2 → FewForUnion m n last
 turns_all m n looks i j last t hi hj el =
     let x = t.by_x in
     let y = t.by_y in
@@ -259,8 +259,8 @@ tries_last xs ys looks i j z c next_i last t hi hj on ho ez sc el =
     let x = t.by_x in
     let y = t.by_y in
     let few = tries_few xs ys looks i j t in
-    spent_last (length xs) (length ys) looks t.turns (i + j) z c (next_i - i) last t.spent ez sc el (omega arith)
-    (omega arith)
+    spent_last (length xs) (length ys) looks t.turns (i + j) z c (next_i - i) last t.spent ez sc (omega arith)
+    (omega arith) (omega arith)
     (⊎_elim
     (λ (h : t.turns < length xs). inl (omega arith))
     (λ (h : length xs ≤ t.turns).

@@ -40,6 +40,7 @@ pub(crate) struct Places {
 }
 
 /// Whether `xs` has all leaves of `ys`, which is much shorter.
+#[inline(never)]
 pub(crate) fn holds_few(xs: &[CellId], ys: &[CellId]) -> Counted
     requires x_local { IsLocal xs.now }
     requires y_local { IsLocal ys.now }
@@ -61,6 +62,7 @@ pub(crate) fn holds_few(xs: &[CellId], ys: &[CellId]) -> Counted
 }
 
 /// Whether `xs` and `ys`, which is much shorter, share a leaf.
+#[inline(never)]
 pub(crate) fn meets_few(xs: &[CellId], ys: &[CellId]) -> Counted
     requires x_local { IsLocal xs.now }
     requires y_local { IsLocal ys.now }

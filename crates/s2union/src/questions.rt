@@ -175,16 +175,38 @@ fn holds_all(xs: &[CellId], ys: &[CellId]) -> Counted
     ensures looks { FewForUnion (length xs.now) (length ys.now) result.looks }
 {
     if ys.len() <= xs.len() / MUCH_LONGER {
-        holds_few(xs, ys)
-    } else {
-        holds_evenly(xs, ys)
+        return holds_few(xs, ys);
     }
+    let mut looks = 0;
+    if begins_before(ys, xs, &mut looks) {
+        return answer_with(false, 0, looks);
+    }
+    holds_evenly(xs, ys, looks)
 }
 
-/// The same, by a walk along both lists.
-fn holds_evenly(xs: &[CellId], ys: &[CellId]) -> Counted
+/// Whether the first cell of `ys` begins before the first cell of `xs`, so that `xs` lacks a leaf of it. This mostly
+/// decides whether a short list has the leaves of a long one.
+fn begins_before(ys: &[CellId], xs: &[CellId], looks: &mut u64) -> bool
     requires x_local { IsLocal xs.now }
     requires y_local { IsLocal ys.now }
+    requires before { looks.old ≡ 0 }
+    ensures lacks { IsTrue result → IsWithin (has_leaf ys.now) (has_leaf xs.now) → ⊥ }
+    ensures looks { looks.new ≤ 2 }
+{
+    if ys.is_empty() || xs.is_empty() {
+        return false;
+    }
+    let y = look(ys, 0, looks);
+    let x = look(xs, 0, looks);
+    y.first_leaf() < x.first_leaf()
+}
+
+/// Whether `xs` has all leaves of `ys`, by a walk along both lists. Its looks are added to those before.
+#[inline(never)]
+fn holds_evenly(xs: &[CellId], ys: &[CellId], before: u64) -> Counted
+    requires x_local { IsLocal xs.now }
+    requires y_local { IsLocal ys.now }
+    requires before { before ≤ 2 }
     ensures answer { IsTrue result.answer ↔ IsWithin (has_leaf ys.now) (has_leaf xs.now) }
     ensures looks { FewForUnion (length xs.now) (length ys.now) result.looks }
 {
@@ -196,17 +218,17 @@ fn holds_evenly(xs: &[CellId], ys: &[CellId]) -> Counted
         let y = look(ys, j, &mut more);
         i = find_from_counted(xs, i, y.first_leaf(), &mut more);
         if i >= xs.len() {
-            return answer_with(false, looks, more);
+            return answer_with(false, looks, more + before);
         }
         let x = look(xs, i, &mut more);
         if !x.contains(y) {
-            return answer_with(false, looks, more);
+            return answer_with(false, looks, more + before);
         }
         j = find_from_counted(ys, j + 1, x.end_leaf(), &mut more);
         i += 1;
         looks = looks.saturating_add(more);
     }
-    answer_with(true, looks, 0)
+    answer_with(true, looks, before)
 }
 
 /// Whether `xs` and `ys` share a leaf.
@@ -226,6 +248,7 @@ fn meets_any(xs: &[CellId], ys: &[CellId]) -> Counted
 }
 
 /// The same, by a walk along both lists.
+#[inline(never)]
 fn meets_evenly(xs: &[CellId], ys: &[CellId]) -> Counted
     requires x_local { IsLocal xs.now }
     requires y_local { IsLocal ys.now }

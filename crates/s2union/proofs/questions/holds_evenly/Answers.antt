@@ -19,6 +19,9 @@ find_from_counted-i-requires-clause-behind c =
 pub loop-j-init : goal.loop-j-init
 loop-j-init c = record { covering = search rules; turns = no_turn }
 
+pub overflow_add-more : goal.overflow_add-more
+overflow_add-more c = let l = c.find_from_counted-i.ensures.looks 64 (omega arith) in omega arith
+
 pub returns-then-i-xs-clause-answer : goal.returns-then-i-xs-clause-answer
 returns-then-i-xs-clause-answer c =
     let is = is_at c.args.ys.now c.loop-j.j c.look-y.result c.loop-j-test.true c.look-y.ensures.cell in
@@ -44,6 +47,9 @@ returns-then-i-xs-clause-looks c =
 
 pub look-x-requires-clause-count : goal.look-x-requires-clause-count
 look-x-requires-clause-count c = let l = c.find_from_counted-i.ensures.looks 64 (omega arith) in omega arith
+
+pub overflow_add-more-then-not-contains : goal.overflow_add-more-then-not-contains
+overflow_add-more-then-not-contains c = let l = c.find_from_counted-i.ensures.looks 64 (omega arith) in omega arith
 
 pub returns-then-not-contains-clause-answer : goal.returns-then-not-contains-clause-answer
 returns-then-not-contains-clause-answer c =
