@@ -20,6 +20,7 @@ use s2cell::CellId;
 use std::alloc::{AllocError, Global};
 use std::cmp::Ordering;
 use std::marker::Model;
+use std::mem;
 
 impl CellUnion {
     /// An empty union with room for `n` cells, which [`apply_into`](CellUnion::apply_into) and
@@ -101,9 +102,21 @@ fn push_all(list: &mut Vec<CellId>, cells: &[CellId])
     ensures items { list.new.items ≡ list.old.items ++ cells.now }
     ensures capacity { vec_capacity list.new ≡ vec_capacity list.old }
 {
+    let none = Vec::new(*list.allocator());
+    *list = with_cells(mem::replace(list, none), cells);
+}
+
+/// A list with cells after it, for which it has room, in the room that it has. It is handed over and back, since the
+/// loop is several times as fast if the list's length is its own and not behind a reference.
+fn with_cells(mut list: Vec<CellId>, cells: &[CellId]) -> Vec<CellId>
+    requires { vec_len list + length cells.now ≤ vec_capacity list }
+    ensures items { result.items ≡ list.items ++ cells.now }
+    ensures capacity { vec_capacity result ≡ vec_capacity list }
+{
     for k in 0..cells.len() {
         list.push_reserved(cells[k]);
     }
+    list
 }
 
 /// Whether the change fits the cells: the walk finds no misfit, and the cells that it gives are packed. Skips runs of

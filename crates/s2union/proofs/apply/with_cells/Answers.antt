@@ -1,14 +1,14 @@
 use Rattle.std.proofs.Common.{◌≡◌, ◌∙◌, ◌++◌, ◌∷◌, [], List, ℕ, ap, sym, arith, refl, take, get_or}
 use Rattle.std.proofs.lemmas.List.{append_assoc, take_more, take_all}
 use Rattle.s2union.proofs.Packing.{read_at}
-use Rattle.s2union.proofs.apply.push_all.Goals as goal
+use Rattle.s2union.proofs.apply.with_cells.Goals as goal
 
 pub loop-k-preserved : goal.loop-k-preserved
 loop-k-preserved c =
     let v = c.loop-k.invariant in
     let k = c.loop-k.k in
     let u = c.args.cells.now in
-    let old = c.args.list.now.items in
+    let old = c.args.list.items in
     let x = c.index-cells-k.result in
     let e : get_or u k 0 ≡ x = read_at u k k x (omega arith) refl c.index-cells-k.is in
     let p = c.push_reserved.ensures in
@@ -24,4 +24,4 @@ loop-k-preserved c =
 
 pub returns-clause-items : goal.returns-clause-items
 returns-clause-items c = c.loop-k.invariant.items
-    ∙ ap (λ l. c.args.list.now.items ++ l) (take_all c.loop-k.k c.args.cells.now (omega arith))
+    ∙ ap (λ l. c.args.list.items ++ l) (take_all c.loop-k.k c.args.cells.now (omega arith))
