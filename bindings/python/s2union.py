@@ -613,8 +613,7 @@ class Union:
 
     @property
     def __array_interface__(self):
-        address, length = self._cells.buffer_info()
-        return {"shape": (length,), "typestr": "<u8", "data": (address, True), "version": 3}
+        return {"shape": (len(self),), "typestr": "<u8", "data": self.ids, "version": 3}
 
     # ---- as a set of leaves
 

@@ -3,12 +3,14 @@
 import copy
 import ctypes
 import doctest
+import gc
 import mmap
 import operator as operators
 import pickle
 import tempfile
 import unittest
 from array import array
+from types import SimpleNamespace
 from unittest import mock
 
 import model
@@ -300,6 +302,32 @@ class TheModule(unittest.TestCase):
                 self.assertEqual(ask(data), want)
             self.assertRaises(ValueError, ask, data)
         self.assertRaises(ValueError, Union.from_bytes, bytearray())
+
+    def test_the_array_interface_holds_the_cells(self):
+        for cells in ([], [FACE], [1, 3, 9]):
+            interface = Union(cells).__array_interface__  # the union itself is gone
+            shown = interface.pop("data")
+            self.assertEqual(interface, {"shape": (len(cells),), "typestr": "<u8", "version": 3})
+            self.assertEqual((shown.readonly, list(shown)), (True, cells))
+
+    @unittest.skipUnless(numpy, "numpy is not installed")
+    def test_numpy_shows_the_cells_and_keeps_them(self):
+        for cells in ([], [FACE], list(range(1, 40001, 4))):
+            a = Union(cells)
+            view, interface = numpy.asarray(a), a.__array_interface__
+            self.assertTrue(numpy.shares_memory(view, numpy.asarray(a.ids)) or not cells)
+            del a
+            held = numpy.asarray(SimpleNamespace(__array_interface__=interface))
+            del interface
+            gc.collect()
+            others = [Union(range(3, 40003, 4)) for _ in range(9)]  # takes memory that was given back
+            for found in (view, held):
+                self.assertEqual((found.dtype, found.shape, found.tolist()), (numpy.uint64, (len(cells),), cells))
+                self.assertFalse(found.flags.writeable)
+                self.assertRaises(ValueError, found.setflags, write=True)
+                self.assertRaises(ValueError, found.fill, 7)
+                self.assertEqual(Union(found), Union(cells))
+            del others
 
     @unittest.skipUnless(numpy, "numpy is not installed")
     def test_numpy(self):
