@@ -485,22 +485,31 @@ class Union:
 
     __slots__ = ("_cells", "_hash")
 
-    def __init__(self, cells=()):
-        self._normalise(_ids_of(cells))
+    def __new__(cls, cells=()):
+        return cls._normalised(_ids_of(cells))
 
-    def _normalise(self, ids):
+    def __init__(self, cells=()):
+        """Does nothing: `__new__` makes the union, and a second call must not change it."""
+
+    @classmethod
+    def _normalised(cls, ids):
+        """The union of an array of cells, which it normalizes and keeps."""
         length = _size()
-        status = _normalise(*self._place(ids), _c.byref(length))
+        status = _normalise(*cls._place(ids), _c.byref(length))
         if status == _NO_CELL:
             raise ValueError(f"not a cell at place {length.value}: {ids[length.value]:#x}")
         if status != _OK:
             _refuse(status)
         del ids[length.value:]
-        self._keep(ids)
+        return cls._made(ids)
 
-    def _keep(self, ids):
+    @classmethod
+    def _made(cls, ids):
+        """The union whose normalized list is an array, which it keeps."""
+        self = object.__new__(cls)
         object.__setattr__(self, "_cells", ids)
         object.__setattr__(self, "_hash", None)
+        return self
 
     def __setattr__(self, name, value):
         raise AttributeError("a Union is immutable")
@@ -511,12 +520,6 @@ class Union:
     @staticmethod
     def _place(ids):
         return ids.buffer_info()
-
-    @classmethod
-    def _made(cls, ids):
-        self = object.__new__(cls)
-        self._keep(ids)
-        return self
 
     @classmethod
     def from_tokens(cls, tokens):
@@ -531,9 +534,7 @@ class Union:
             word = _SEPARATOR.split(text[length.value:length.value + 32])[0]
             _refuse(status, f"{word!r} at place {length.value}")
         del ids[length.value:]
-        self = object.__new__(cls)
-        self._normalise(ids)
-        return self
+        return cls._normalised(ids)
 
     @classmethod
     def from_range(cls, first, last):

@@ -224,6 +224,38 @@ class TheModule(unittest.TestCase):
             self.assertEqual(pickle.loads(pickle.dumps(a, protocol)), a)
         self.assertEqual((copy.copy(a), copy.deepcopy(a), Union(a), bytes(a)), (a, a, a, a.to_bytes()))
 
+    def test_a_union_never_changes(self):
+        a, b = Union.from_tokens("04 0c"), Union.from_tokens("14")
+        known = {a: "a"}
+        for again in (a.__init__, lambda cells=(): Union.__init__(a, cells)):
+            for cells in (b, [FACE], [2], "text"):
+                again(cells)
+            again()
+        self.assertEqual((a.tokens(), known[a], hash(a)), (["04", "0c"], "a", hash(Union(list(a)))))
+        for name in ("_cells", "_hash", "other"):
+            self.assertRaises(AttributeError, setattr, a, name, None)
+            self.assertRaises(AttributeError, delattr, a, name)
+        self.assertEqual(Union.__new__(Union), Union())
+        self.assertRaises(TypeError, Union, [FACE], [FACE])
+        self.assertRaises(TypeError, Union, cell=[FACE])
+
+    def test_subclasses(self):
+        class Named(Union):
+            def __init__(self, cells=()):
+                super().__init__(cells)
+                object.__setattr__(self, "name", f"of {len(self)}")
+
+        a = Named(cell for cell in Union.from_tokens("04 0c"))
+        self.assertEqual((a.tokens(), a.name, Named().name), (["04", "0c"], "of 2", "of 0"))
+        self.assertEqual((a, hash(a), pickle.loads(pickle.dumps(a))), (Union(a), hash(Union(a)), Union(a)))
+        self.assertIs(copy.copy(a), a)
+        self.assertIs(copy.deepcopy(a), a)
+        cell = s2union.from_token("04")
+        made = (Named.from_tokens("04"), Named.from_tokens(["04"]), Named.from_range(cell, cell), a - Union([a[1]]),
+                Named.from_bytes(Union([cell]).to_bytes()))
+        for found in made:
+            self.assertEqual((type(found), found.tokens()), (Named, ["04"]))
+
     def test_a_refused_word_ends_only_where_the_library_ends_it(self):
         others = set(range(128)) - set(b" \t\n\r,")
         for word in [b"\f", b"\v"] + [shape % byte for byte in others for shape in (b"%cx", b"x%cy", b"x%c")]:
