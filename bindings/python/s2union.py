@@ -342,6 +342,12 @@ def _listed(call, room, *arguments):
     return out
 
 
+_python = _c.PyDLL(None)  # the module's own: other modules share ctypes.pythonapi, and the types set in it
+_python.PyObject_GetBuffer.argtypes = (_c.py_object, _c.c_void_p, _c.c_int)
+_python.PyBuffer_Release.argtypes = (_c.c_void_p,)
+_python.PyBuffer_Release.restype = None
+
+
 class _Buffer(_c.Structure):
     """CPython's Py_buffer."""
     _fields_ = [("buf", _c.c_void_p), ("obj", _c.py_object), ("len", _c.c_ssize_t), ("itemsize", _c.c_ssize_t),
@@ -360,7 +366,7 @@ class _Held:
         if not view.c_contiguous:
             raise TypeError("a buffer of bytes has no gaps")
         self._buffer = _Buffer()
-        _c.pythonapi.PyObject_GetBuffer(_c.py_object(view), _c.byref(self._buffer), 0)
+        _python.PyObject_GetBuffer(_c.py_object(view), _c.byref(self._buffer), 0)
         self._held = True
         self._is_read_only = view.readonly
         self.at, self.size = self._buffer.buf, self._buffer.len
@@ -374,7 +380,7 @@ class _Held:
     def release(self):
         if self._held:
             self._held = False
-            _c.pythonapi.PyBuffer_Release(_c.byref(self._buffer))
+            _python.PyBuffer_Release(_c.byref(self._buffer))
 
     def __enter__(self):
         return self
@@ -383,11 +389,6 @@ class _Held:
         self.release()
 
     __del__ = release
-
-
-_c.pythonapi.PyObject_GetBuffer.argtypes = (_c.py_object, _c.c_void_p, _c.c_int)
-_c.pythonapi.PyBuffer_Release.argtypes = (_c.c_void_p,)
-_c.pythonapi.PyBuffer_Release.restype = None
 
 
 class UnionFile:

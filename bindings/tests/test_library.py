@@ -285,6 +285,10 @@ class TheModule(unittest.TestCase):
                 self.assertEqual((file.union(), a[0] in file), (a, True))
                 del file
 
+    def test_functions_that_all_modules_share_are_left_as_they_are(self):
+        for function in (ctypes.pythonapi.PyObject_GetBuffer, ctypes.pythonapi.PyBuffer_Release):
+            self.assertEqual((function.argtypes, function.restype), (None, ctypes.c_int))
+
     def test_refused_buffers_are_dropped_without_a_complaint(self):
         with mock.patch("sys.unraisablehook") as complain:
             for wrong in ("text", 3, memoryview(b"abcd")[::2]):
