@@ -21,8 +21,8 @@
  *   otherwise  *len is 0 and out is not touched. (s2u_from_tokens reports in *len where the wrong word is.)
  * Only s2u_normalise works in the list that it is given, and it never needs more room. So `room` 0 (and out NULL) asks
  * for the length, which costs as much as the call itself. It is never necessary to ask: each call has a bound, given as
- * a macro S2U_MOST_.. if it is worth one. Nothing that a call makes belongs to the library: there is nothing to free,
- * and no handle.
+ * a macro S2U_MOST_.. if it is worth one, which is computed in 64 bits even from an int. Nothing that a call makes
+ * belongs to the library: there is nothing to free, and no handle.
  *
  * THREADS. The library has no state. Every call is reentrant; any number of calls may run at once in any threads, also
  * on the same lists as long as no call writes them. Calls marked [pure] take no memory, cannot run out of it, and may
@@ -119,7 +119,7 @@ int32_t s2u_from_debug(const char* text, size_t n, uint64_t* id);
 
 /* The tokens of the cells of a list, one blank between two: at most S2U_MOST_TOKENS(n) bytes. S2U_ROOM, S2U_NO_CELL,
  * S2U_MANY (2^64 bytes or more, which takes 10^18 cells). Two passes. */
-#define S2U_MOST_TOKENS(n) (17 * (n))
+#define S2U_MOST_TOKENS(n) (UINT64_C(17) * (n))
 int32_t s2u_tokens(const uint64_t* ids, size_t n, char* text, size_t room, size_t* len);
 /* The cells that a text names, in its order and each time that it names one: words with blanks, tabs, line ends or
  * commas between them, each a token or a debug text. At most S2U_MOST_NAMED(n) cells. S2U_ROOM. S2U_NO_CELL: a word
@@ -133,7 +133,8 @@ int32_t s2u_from_tokens(const char* text, size_t n, uint64_t* out, size_t room, 
  * one, the answer means nothing (0 or 1, places in the list, any count of leaves); the call is as safe as any other. */
 
 int32_t s2u_is_union(const uint64_t* ids, size_t n);                       /* 1 or 0. n steps */
-uint64_t s2u_leaf_count(const uint64_t* ids, size_t n);                    /* at most 6 * 4^30: an int64_t. n steps */
+/* How many leaves the union has: of a union at most 6 * 4^30, which an int64_t holds. n steps. */
+uint64_t s2u_leaf_count(const uint64_t* ids, size_t n);
 int32_t s2u_contains_cell(const uint64_t* ids, size_t n, uint64_t cell);   /* 1, 0 or S2U_NO_CELL. log n steps */
 int32_t s2u_intersects_cell(const uint64_t* ids, size_t n, uint64_t cell); /* the same: whether they share a leaf */
 /* The cells of the union that share a leaf with the cell: ids[*first .. *first + *count). log n steps. */
@@ -165,7 +166,7 @@ int32_t s2u_union(const uint64_t* xs, size_t nx, const uint64_t* ys, size_t ny, 
 int32_t s2u_intersection(const uint64_t* xs, size_t nx, const uint64_t* ys, size_t ny, uint64_t* out,
                          size_t room, size_t* len);
 /* At most S2U_MOST_DIFFERENCE cells (a leaf taken out of a face leaves 90); nearly always less than nx + ny. */
-#define S2U_MOST_DIFFERENCE(nx, ny) ((nx) + 90 * (ny))
+#define S2U_MOST_DIFFERENCE(nx, ny) ((nx) + UINT64_C(90) * (ny))
 int32_t s2u_difference(const uint64_t* xs, size_t nx, const uint64_t* ys, size_t ny, uint64_t* out,
                        size_t room, size_t* len);
 
@@ -184,7 +185,7 @@ int32_t s2u_denormalised(const uint64_t* ids, size_t n, uint32_t min, uint32_t m
 /* The cells of a union and all their ancestors, ascending, each once. Two unions share a leaf exactly if a cell of one
  * is among the cells and ancestors of the other: the law of every inverted index over cells, proved. S2U_ROOM,
  * S2U_MEMORY, S2U_NO_UNION. At most S2U_MOST_ANCESTORS(n); up to 24 bytes for each. */
-#define S2U_MOST_ANCESTORS(n) (31 * (n))
+#define S2U_MOST_ANCESTORS(n) (UINT64_C(31) * (n))
 int32_t s2u_ancestors(const uint64_t* ids, size_t n, uint64_t* out, size_t room, size_t* len);
 
 /* ---- coverings at one level -----------------------------------------------------------------------------------------
@@ -208,7 +209,7 @@ int32_t s2u_inner_of(const uint64_t* ids, size_t n, uint32_t level, size_t most,
  * may be compared, hashed and used as keys. Any number of cells (S2's decoders take 1,000,000 unless told
  * otherwise). */
 
-#define S2U_FILE_SIZE(n) (9 + 8 * (n))        /* exactly */
+#define S2U_FILE_SIZE(n) (9 + UINT64_C(8) * (n)) /* exactly */
 #define S2U_MOST_IN_FILE(bytes) ((bytes) < 9 ? 0 : ((bytes) - 9) / 8)
 
 /* S2U_ROOM, S2U_MEMORY, S2U_NO_UNION. */
