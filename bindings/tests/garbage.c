@@ -44,6 +44,13 @@ int main(void) {
     status = s2u_difference(xs, nx, ys, ny, out, room, &len);
     CHECK(status == S2U_OK ? s2u_is_union(out, len) && len <= room
                            : status == S2U_NO_UNION || (status == S2U_ROOM && len > room));
+    CHECK(len <= S2U_MOST_DIFFERENCE(nx, ny));
+    uint64_t last = garbage();
+    status = s2u_range(cell, last, out, room, &len);
+    CHECK(status == S2U_OK     ? s2u_is_union(out, len) && len <= room
+          : status == S2U_ROOM ? len > room
+                               : len == 0 && (status == S2U_ARGUMENT || !s2u_is_cell(cell) || !s2u_is_cell(last)));
+    CHECK(len <= S2U_MOST_RANGE);
     status = s2u_ancestors(xs, nx, out, room, &len);
     CHECK(s2u_is_union(xs, nx)
               ? len >= nx && len <= S2U_MOST_ANCESTORS(nx) && status == (len > room ? S2U_ROOM : S2U_OK)

@@ -129,6 +129,18 @@ static void rooms(void) {
   CHECK(s2u_denormalised(&face, 1, 30, 1, want, 16, &len) == S2U_ROOM && len == (size_t)1 << 60);
 }
 
+/* Results as long as their bounds, or nearly so. */
+static void longest_results(void) {
+  uint64_t leaf = s2u_range_min(face), last = s2u_range_max(11 * face), out[S2U_MOST_RANGE];
+  size_t len = 0;
+  CHECK(s2u_range(s2u_next(leaf), s2u_prev(last), out, S2U_MOST_RANGE, &len) == S2U_OK && len == S2U_MOST_RANGE);
+  CHECK(s2u_difference(&face, 1, &leaf, 1, out, S2U_MOST_RANGE, &len) == S2U_OK && len == 90);
+  CHECK(len + 1 == S2U_MOST_DIFFERENCE(1, 1));
+  CHECK(s2u_ancestors(&last, 1, out, S2U_MOST_RANGE, &len) == S2U_OK && len == S2U_MOST_ANCESTORS(1));
+  CHECK(s2u_tokens(&last, 1, (char*)out, sizeof out, &len) == S2U_OK && len + 1 == S2U_MOST_TOKENS(1));
+  CHECK(s2u_encode(&last, 1, (uint8_t*)out, sizeof out, &len) == S2U_OK && len == S2U_FILE_SIZE(1));
+}
+
 /* Texts of lists: every room, the place of the first word that names no cell, and what separates words. */
 static void lists_as_texts(void) {
   uint64_t cells[] = {siblings[1], face, 0x0123456789abcde1u}, bad[] = {face, 2};
@@ -191,6 +203,7 @@ int main(void) {
   lists_that_are_no_union();
   many_questions();
   rooms();
+  longest_results();
   lists_as_texts();
   nothing_at_all();
   return report();
