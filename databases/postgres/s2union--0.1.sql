@@ -411,8 +411,8 @@ RETURNS internal
 AS 'MODULE_PATHNAME'
 LANGUAGE C IMMUTABLE STRICT PARALLEL SAFE;
 
-CREATE FUNCTION s2union_gin_consistent(internal, smallint, s2union, integer, internal, internal, internal, internal)
-RETURNS boolean
+CREATE FUNCTION s2union_gin_consistent(internal, smallint, s2union, integer, internal, internal, internal)
+RETURNS "char"
 AS 'MODULE_PATHNAME'
 LANGUAGE C IMMUTABLE STRICT PARALLEL SAFE;
 
@@ -429,6 +429,6 @@ DEFAULT FOR TYPE s2union USING gin AS
     FUNCTION 1 btint8cmp(bigint, bigint),
     FUNCTION 2 s2union_gin_value(s2union, internal),
     FUNCTION 3 s2union_gin_query(s2union, internal, smallint, internal, internal, internal, internal),
-    FUNCTION 4 s2union_gin_consistent(internal, smallint, s2union, integer, internal, internal, internal, internal),
     FUNCTION 5 s2union_gin_partial(bigint, bigint, smallint, internal),
+    FUNCTION 6 s2union_gin_consistent(internal, smallint, s2union, integer, internal, internal, internal),
     STORAGE bigint;

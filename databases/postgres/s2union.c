@@ -325,15 +325,15 @@ Datum s2union_cells(PG_FUNCTION_ARGS) {
 }
 
 /* The cells of a union and all their ancestors; *n is how many. */
-static uint64_t* ancestors_of(const S2Union* u, size_t* n) {
-  size_t room = 2 * count_of(u) + 31;
+static uint64_t* ancestors_of(const uint64_t* list, size_t length, size_t* n) {
+  size_t room = 2 * length + 31;
   uint64_t* cells = palloc_extended(room * sizeof *cells, MCXT_ALLOC_HUGE);
-  int32_t status = s2u_ancestors(LIST(u), cells, room, n);
+  int32_t status = s2u_ancestors(list, length, cells, room, n);
   if (status == S2U_ROOM) {
     room = *n;
     pfree(cells);
     cells = palloc_extended(room * sizeof *cells, MCXT_ALLOC_HUGE);
-    status = s2u_ancestors(LIST(u), cells, room, n);
+    status = s2u_ancestors(list, length, cells, room, n);
   }
   must_be_ok(status);
   return cells;
@@ -341,8 +341,9 @@ static uint64_t* ancestors_of(const S2Union* u, size_t* n) {
 
 PG_FUNCTION_INFO_V1(s2union_ancestors);
 Datum s2union_ancestors(PG_FUNCTION_ARGS) {
+  S2Union* u = ARGUMENT(0);
   size_t n = 0;
-  uint64_t* cells = ancestors_of(ARGUMENT(0), &n);
+  uint64_t* cells = ancestors_of(LIST(u), &n);
   PG_RETURN_ARRAYTYPE_P(array_of(cells, n));
 }
 
@@ -508,7 +509,8 @@ Datum s2union_agg_final(PG_FUNCTION_ARGS) {
 /* ---- GIN: the keys of a union are its cells ----
  *
  * A cell of the column shares a leaf with a cell of the question if it is that cell or one of its ancestors (these are
- * looked up), or if it lies in that cell (that is a range of keys). */
+ * looked up), or if it lies in that cell (that is a range of keys). A row that contains a question contains its first
+ * cell, so only that one and its ancestors are looked up, however many cells the question has. */
 
 enum { OVERLAPS = 1, CONTAINS = 2, WITHIN = 3 };
 
@@ -525,51 +527,76 @@ Datum s2union_gin_value(PG_FUNCTION_ARGS) {
   PG_RETURN_POINTER(keys);
 }
 
+/* What goes with each key of a question. PostgreSQL compares a key that has nothing with all keys before it. */
+typedef struct Sought {
+  int64 last;  /* the end of a range */
+  int32 place; /* in that of the first key: where the last search of s2union_gin_consistent ended */
+} Sought;
+
+static Sought** sought_by(size_t n) {
+  Sought* each = palloc_extended(Max(n, 1) * sizeof *each, MCXT_ALLOC_HUGE | MCXT_ALLOC_ZERO);
+  Sought** sought = palloc_extended(Max(n, 1) * sizeof *sought, MCXT_ALLOC_HUGE);
+  for (size_t k = 0; k < n; k++) sought[k] = &each[k];
+  return sought;
+}
+
 /* The keys of a question: the cells and their ancestors, then the ranges of the cells. */
 PG_FUNCTION_INFO_V1(s2union_gin_query);
 Datum s2union_gin_query(PG_FUNCTION_ARGS) {
   S2Union* u = ARGUMENT(0);
   StrategyNumber strategy = PG_GETARG_UINT16(2);
   int32* mode = (int32*)PG_GETARG_POINTER(6);
-  size_t above = 0, ranges = strategy == CONTAINS ? 0 : count_of(u);
-  uint64_t* cells = strategy == WITHIN ? NULL : ancestors_of(u, &above);
+  size_t above = 0, looked_up = strategy == CONTAINS ? Min(count_of(u), 1) : count_of(u);
+  size_t ranges = strategy == CONTAINS ? 0 : count_of(u);
+  uint64_t* cells = strategy == WITHIN ? NULL : ancestors_of(u->cells, looked_up, &above);
   size_t n = above + ranges;
   if (n > PG_INT32_MAX) must_be_ok(S2U_MANY);
   Datum* keys = palloc(Max(n, 1) * sizeof(Datum));
   bool* partial = palloc0(Max(n, 1) * sizeof(bool));
-  Pointer* last = palloc0(Max(n, 1) * sizeof(Pointer));
+  Sought** sought = sought_by(n);
   for (size_t k = 0; k < above; k++) keys[k] = key_of(cells[k]);
   for (size_t k = 0; k < ranges; k++) {
-    int64* end = palloc(sizeof *end);
-    *end = (int64)s2u_range_max(u->cells[k]);
     keys[above + k] = key_of(s2u_range_min(u->cells[k]));
     partial[above + k] = true;
-    last[above + k] = (Pointer)end;
+    sought[above + k]->last = (int64)s2u_range_max(u->cells[k]);
   }
   if (strategy == CONTAINS && n == 0) *mode = GIN_SEARCH_MODE_ALL;
   if (strategy == WITHIN) *mode = GIN_SEARCH_MODE_INCLUDE_EMPTY;
   *(int32*)PG_GETARG_POINTER(1) = (int32)n;
   *(bool**)PG_GETARG_POINTER(3) = partial;
-  *(Pointer**)PG_GETARG_POINTER(4) = last;
+  *(Sought***)PG_GETARG_POINTER(4) = sought;
   PG_RETURN_POINTER(keys);
 }
 
 /* Whether a key is past the end of the range. */
 PG_FUNCTION_INFO_V1(s2union_gin_partial);
 Datum s2union_gin_partial(PG_FUNCTION_ARGS) {
-  int64 last = *(int64*)PG_GETARG_POINTER(3);
+  int64 last = ((Sought*)PG_GETARG_POINTER(3))->last;
   PG_RETURN_INT32(PG_GETARG_INT64(1) > last ? 1 : 0);
 }
 
+/* The place of a key that may be found, from a place on and then from the first on; n if there is none. */
+static int32 place_from(int32 from, const GinTernaryValue* found, int32 n) {
+  for (int32 k = from; k < n; k++)
+    if (found[k] != GIN_FALSE) return k;
+  for (int32 k = 0; k < from; k++)
+    if (found[k] != GIN_FALSE) return k;
+  return n;
+}
+
+/* Whether a row may match, by the keys that are found in it. Before the first row PostgreSQL asks this for almost each
+ * of the keys, and each time there is one more that is not found. So a search begins where the last one ended, and all
+ * these searches together take n steps. */
 PG_FUNCTION_INFO_V1(s2union_gin_consistent);
 Datum s2union_gin_consistent(PG_FUNCTION_ARGS) {
-  const bool* found = (const bool*)PG_GETARG_POINTER(0);
+  const GinTernaryValue* found = (const GinTernaryValue*)PG_GETARG_POINTER(0);
   StrategyNumber strategy = PG_GETARG_UINT16(1);
   int32 n = PG_GETARG_INT32(3);
-  bool* recheck = (bool*)PG_GETARG_POINTER(5);
-  *recheck = strategy != OVERLAPS; /* a found cell shares a leaf; anything more is checked in the row */
-  if (strategy == WITHIN || n == 0) PG_RETURN_BOOL(true);
-  for (int32 k = 0; k < n; k++)
-    if (found[k]) PG_RETURN_BOOL(true);
-  PG_RETURN_BOOL(false);
+  Sought** sought = (Sought**)PG_GETARG_POINTER(4);
+  if (strategy == WITHIN || n == 0) PG_RETURN_GIN_TERNARY_VALUE(GIN_MAYBE);
+  int32 place = place_from(sought[0]->place, found, n);
+  if (place == n) PG_RETURN_GIN_TERNARY_VALUE(GIN_FALSE);
+  sought[0]->place = place;
+  /* A found cell shares a leaf; anything more is checked in the row. */
+  PG_RETURN_GIN_TERNARY_VALUE(strategy == OVERLAPS ? found[place] : GIN_MAYBE);
 }

@@ -2,7 +2,8 @@
  *   - puts a guard after each block, and ends the session if one has been written over when the call ends,
  *   - hides the guard from the address sanitizer or from valgrind, so that a read of it is caught too,
  *   - refuses the allocation that s2_refuse(n) names: as the server does, or by telling the library that there is none,
- *   - counts what a call leaves: s2_left(), the blocks of the call and the copies of its arguments that nobody freed.
+ *   - counts what a call leaves: s2_left(), the blocks of the call and the copies of its arguments that nobody freed,
+ *   - tells what a GIN index asks for and is told: s2_keys(region, strategy), s2_keys_found(strategy, found, place).
  * The build has rewritten each 'Datum NAME(PG_FUNCTION_ARGS)' of s2union.c to GUARDED(NAME). */
 #include "postgres.h"
 
@@ -132,3 +133,36 @@ Datum s2_left(PG_FUNCTION_ARGS) { PG_RETURN_INT32(left); }
 #undef PG_DETOAST_DATUM
 #define PG_DETOAST_DATUM(datum) detoasted(datum)
 #include "rewritten.c"
+
+/* s2_keys(region, strategy): how many keys a question has, how many of them are ranges, how many come with something
+ * that PostgreSQL doesn't compare, and the mode of the search. */
+PG_FUNCTION_INFO_V1(s2_keys);
+Datum s2_keys(PG_FUNCTION_ARGS) {
+  int32 n = 0, mode = GIN_SEARCH_MODE_DEFAULT, ranges = 0, sought = 0;
+  bool* partial = NULL;
+  Pointer* extra = NULL;
+  DirectFunctionCall7(s2union_gin_query, PG_GETARG_DATUM(0), PointerGetDatum(&n), PG_GETARG_DATUM(1),
+                      PointerGetDatum(&partial), PointerGetDatum(&extra), PointerGetDatum(NULL),
+                      PointerGetDatum(&mode));
+  for (int32 k = 0; k < n; k++) {
+    ranges += partial[k];
+    sought += extra[k] != NULL;
+  }
+  PG_RETURN_TEXT_P(cstring_to_text(psprintf("%d %d %d %d", n, ranges, sought, mode)));
+}
+
+/* s2_keys_found(strategy, found, place): whether a row matches, if 't', 'f' and 'm' in found say which keys are found
+ * in it, which are not, and which may be; and where the search for them ends that begins at the place. */
+PG_FUNCTION_INFO_V1(s2_keys_found);
+Datum s2_keys_found(PG_FUNCTION_ARGS) {
+  static const char letters[] = "ftm"; /* GIN_FALSE, GIN_TRUE, GIN_MAYBE */
+  const char* found = text_to_cstring(PG_GETARG_TEXT_PP(1));
+  int32 n = strlen(found);
+  GinTernaryValue* values = palloc(n);
+  Sought** sought = sought_by(n);
+  for (int32 k = 0; k < n; k++) values[k] = strchr(letters, found[k]) - letters;
+  sought[0]->place = PG_GETARG_INT32(2);
+  Datum answer = DirectFunctionCall7(s2union_gin_consistent, PointerGetDatum(values), PG_GETARG_DATUM(0), (Datum)0,
+                                     Int32GetDatum(n), PointerGetDatum(sought), (Datum)0, (Datum)0);
+  PG_RETURN_TEXT_P(cstring_to_text(psprintf("%c %d", letters[(int)DatumGetGinTernaryValue(answer)], sought[0]->place)));
+}

@@ -301,6 +301,36 @@ class WhatIsRefused(Tests):
         self.assertGreater(sum(answers for answers, _, _ in wanted), 10 * FLIPPED)
 
 
+# By a scan and by an index, in how many questions the answers differ, how many rows match, and in how many lines of the
+# last plan the index stands.
+DIFFER = """
+CREATE OR REPLACE FUNCTION differ(name text, by text, OUT different int, OUT matches bigint, OUT plans int)
+LANGUAGE plpgsql AS $$
+DECLARE q s2union; query text; line text; a int[]; b int[];
+BEGIN
+    different := 0; matches := 0; plans := 0;
+    query := format('SELECT array_agg(id ORDER BY id) FROM regions WHERE region OPERATOR(%s) $1', name);
+    FOR q IN SELECT region FROM questions ORDER BY id LOOP
+        PERFORM set_config('enable_seqscan', 'on', true), set_config('enable_bitmapscan', 'off', true),
+            set_config('enable_indexscan', 'off', true);
+        EXECUTE query INTO a USING q;
+        PERFORM set_config('enable_seqscan', 'off', true), set_config('enable_bitmapscan', 'on', true),
+            set_config('enable_indexscan', 'on', true);
+        EXECUTE query INTO b USING q;
+        IF a IS DISTINCT FROM b THEN different := different + 1; END IF;
+        matches := matches + coalesce(array_length(a, 1), 0);
+    END LOOP;
+    FOR line IN EXECUTE format('EXPLAIN SELECT * FROM regions WHERE region OPERATOR(%s) %L', name, q) LOOP
+        IF line LIKE '%' || by || '%' THEN plans := plans + 1; END IF;
+    END LOOP;
+END $$;
+"""
+GIN = """
+SELECT name, (differ(name, by)).* FROM (VALUES ('&&', 'regions_gin'), ('@>', 'regions_gin'), ('<@', 'regions_gin'))
+    v(name, by);
+"""
+
+
 class Indexes(Tests):
     def test_questions_by_index_and_by_scan(self):
         regions, questions = [], []
@@ -325,28 +355,7 @@ class Indexes(Tests):
             CREATE INDEX regions_btree ON regions (region);
             CREATE INDEX regions_hash ON regions USING hash (region);
             ANALYZE regions;
-            CREATE OR REPLACE FUNCTION differ(name text, by text, OUT different int, OUT matches bigint, OUT plans int)
-            LANGUAGE plpgsql AS $$
-            DECLARE q s2union; query text; line text; a int[]; b int[];
-            BEGIN
-                different := 0; matches := 0; plans := 0;
-                query := format('SELECT array_agg(id ORDER BY id) FROM regions WHERE region OPERATOR(%s) $1', name);
-                FOR q IN SELECT region FROM questions ORDER BY id LOOP
-                    PERFORM set_config('enable_seqscan', 'on', true), set_config('enable_bitmapscan', 'off', true),
-                        set_config('enable_indexscan', 'off', true);
-                    EXECUTE query INTO a USING q;
-                    PERFORM set_config('enable_seqscan', 'off', true), set_config('enable_bitmapscan', 'on', true),
-                        set_config('enable_indexscan', 'on', true);
-                    EXECUTE query INTO b USING q;
-                    IF a IS DISTINCT FROM b THEN different := different + 1; END IF;
-                    matches := matches + coalesce(array_length(a, 1), 0);
-                END LOOP;
-                FOR line IN EXECUTE format('EXPLAIN SELECT * FROM regions WHERE region OPERATOR(%s) %L', name, q) LOOP
-                    IF line LIKE '%' || by || '%' THEN plans := plans + 1; END IF;
-                END LOOP;
-            END $$;
-            SELECT name, (differ(name, by)).* FROM (VALUES ('&&', 'regions_gin'), ('@>', 'regions_gin'),
-                ('<@', 'regions_gin')) v(name, by);
+        """ + DIFFER + GIN + """
             DROP INDEX regions_gin;
             CREATE EXTENSION IF NOT EXISTS amcheck;
             SELECT 'checked', 0, 1, 1 FROM bt_index_check('regions_btree', true);
@@ -368,6 +377,45 @@ class Indexes(Tests):
             self.assertGreater(int(found), 0, name)
         by_scan = psql("SELECT count(*) FROM questions q JOIN regions r ON r.region && q.region WHERE q.id < 100")
         self.assertEqual(int(by_scan[0]), wanted["&&"])
+
+    def test_questions_of_many_cells(self):
+        """With so little memory that the index answers some pages as a whole, and with rows that wait in its list."""
+        rows = """
+            SELECT k, CASE WHEN k % 50 = 0 THEN '' WHEN k % 51 = 0 THEN NULL
+                WHEN k % 100 = 1 THEN s2_outer(0, 0, 16777215, 0, 16777215, 6) - s2_leaf(0, k * 1000, k * 1001)::s2union
+                ELSE s2_outer(0, k * 7919 % 16000000, k * 7919 % 16000000 + k * 97 % 1048576,
+                    k * 104729 % 16000000, k * 104729 % 16000000 + k * 89 % 1048576, 10) END
+            FROM generate_series({}, {}) AS k
+        """
+        scattered = f"""
+            SELECT n, s2_union_agg(s2_parent(s2_leaf(0, (8000000 + k * 7919 % side)::int,
+                (8000000 + k * k * 31 % side)::int), level)::s2union) AS region
+            FROM (VALUES (0, 100, 30), (1, 100000, 25), (2, 1000000, 20), (3, 8000000, 18)) v(n, side, level),
+                generate_series(0::bigint, {ROUNDS - 1}) AS k WHERE k < {{}} GROUP BY n
+        """
+        said = psql(f"""
+            SET client_min_messages = error;
+            SET work_mem = '64kB';
+            DROP TABLE IF EXISTS regions, questions;
+            CREATE TABLE regions(id int, region s2union, half_a_page char(4000) DEFAULT '');
+            ALTER TABLE regions ALTER half_a_page SET STORAGE plain;
+            INSERT INTO regions (id, region) {rows.format(0, 2999)};
+            CREATE INDEX regions_gin ON regions USING gin (region);
+            ANALYZE regions;
+            INSERT INTO regions (id, region) {rows.format(3000, 3099)};
+            CREATE TABLE questions(id int, region s2union);
+            INSERT INTO questions VALUES (0, ''), (1, NULL), (2, '1');
+            INSERT INTO questions SELECT 3 + n, region FROM ({scattered.format(ROUNDS)}) s;
+            INSERT INTO questions SELECT 7 + n, '1'::s2union - region FROM ({scattered.format(20)}) s;
+            {DIFFER} {GIN}
+            SELECT max(s2_count(region)) FROM questions WHERE id < 7;
+        """)
+        for line in said[:3]:
+            name, different, found, plans = line.split("|")
+            self.assertEqual(different, "0", name)
+            self.assertNotEqual(plans, "0", name)
+            self.assertGreater(int(found), 12, name)
+        self.assertGreater(int(said[3]), ROUNDS // 2)
 
 
 class Aggregates(Tests):
@@ -446,6 +494,9 @@ class Guarded(Tests):
             SET client_min_messages = error;
             CREATE OR REPLACE FUNCTION s2_refuse(bigint) RETURNS bigint LANGUAGE C AS '$libdir/s2union';
             CREATE OR REPLACE FUNCTION s2_left() RETURNS integer LANGUAGE C AS '$libdir/s2union';
+            CREATE OR REPLACE FUNCTION s2_keys(s2union, integer) RETURNS text LANGUAGE C AS '$libdir/s2union';
+            CREATE OR REPLACE FUNCTION s2_keys_found(integer, text, integer) RETURNS text LANGUAGE C
+                AS '$libdir/s2union';
             DROP TABLE IF EXISTS parts;
             CREATE TABLE parts(id int, part s2union);
             INSERT INTO parts VALUES (1, '04 0c'), (2, '1c'), (3, NULL), (4, ''),
@@ -524,6 +575,28 @@ class Guarded(Tests):
         ]
         said = psql("".join(f"{query};\nSELECT s2_left();\n" for query, _ in calls))
         self.assertEqual([(query, int(left)) for (query, _), left in zip(calls, said[1::2])], calls)
+
+
+    def test_keys_of_a_question(self):
+        many = "SELECT s2_union_agg(s2_leaf(0, 2 * (k % 100), 2 * (k / 100))::s2union) FROM generate_series(0, 9999) k"
+        psql(f"SET client_min_messages = error; DROP TABLE IF EXISTS many; CREATE TABLE many(region) AS {many};")
+        self.all_are([
+            ("s2_keys('', 1)", "0 0 0 0"), ("s2_keys('', 2)", "0 0 0 2"), ("s2_keys('', 3)", "0 0 0 1"),
+            ("s2_keys('04 1c', 1)", "5 2 5 0"), ("s2_keys('04 1c', 2)", "2 0 2 0"), ("s2_keys('04 1c', 3)", "2 2 2 1"),
+            ("(SELECT s2_keys(region, 2) FROM many)", "31 0 31 0"),
+            ("(SELECT s2_keys(region, 3) FROM many)", "10000 10000 10000 1"),
+            ("(SELECT s2_keys(region, 1) = format('%1$s 10000 %1$s 0', 10000 + cardinality(s2_ancestors(region))) "
+             "FROM many)", "true"),
+        ])
+
+    def test_keys_that_are_found(self):
+        """A search for a key that is found begins where the last one ended."""
+        self.all_are([(f"s2_keys_found({asked})", answer) for asked, answer in (
+            ("1, 'ffffff', 3", "f 3"), ("1, 'fffmff', 0", "m 3"), ("1, 'mmmmmm', 3", "m 3"), ("1, 'mmmffm', 3", "m 5"),
+            ("1, 'fmffff', 3", "m 1"), ("1, 'tfffff', 5", "t 0"), ("1, 'fffftf', 4", "t 4"), ("1, 't', 0", "t 0"),
+            ("1, 'f', 0", "f 0"), ("2, 'ft', 0", "m 1"), ("2, 'ff', 0", "f 0"), ("2, 'mf', 1", "m 0"),
+            ("3, 'ff', 0", "m 0"), ("3, 't', 0", "m 0"),
+        )])
 
 
 class MemoryLimits(Tests):
