@@ -134,6 +134,8 @@ static const S2Union* asked_argument(FunctionCallInfo fcinfo, int k) {
 
 /* ---- text: tokens or debug texts with blanks or commas between them; tokens come out ---- */
 
+#define MOST_TEXT (MaxAllocSize - 1) /* without the NUL that ends it */
+
 static int32_t cell_of_text(const char* text, size_t n, uint64_t* cell) {
   return memchr(text, '/', n) ? s2u_from_debug(text, n, cell) : s2u_from_token(text, n, cell);
 }
@@ -141,14 +143,16 @@ static int32_t cell_of_text(const char* text, size_t n, uint64_t* cell) {
 PG_FUNCTION_INFO_V1(s2union_in);
 Datum s2union_in(PG_FUNCTION_ARGS) {
   const char* text = PG_GETARG_CSTRING(0);
-  size_t length = strlen(text), room = S2U_MOST_NAMED(length), n = 0;
+  size_t length = strlen(text), room = Min(S2U_MOST_NAMED(length), MOST_CELLS), n = 0;
   S2Union* u = new_value(room);
-  if (s2u_from_tokens(text, length, u->cells, room, &n) != S2U_OK) {
+  int32_t status = s2u_from_tokens(text, length, u->cells, room, &n);
+  if (status == S2U_NO_CELL) {
     const char* word = text + n;
     ereport(ERROR, errcode(ERRCODE_INVALID_TEXT_REPRESENTATION),
             errmsg("invalid input syntax for type %s: \"%s\" names no cell", "s2union",
                    pnstrdup(word, pg_mbcliplen(word, strcspn(word, " ,\t\r\n"), 40))));
   }
+  must_be_ok(status == S2U_ROOM ? S2U_MANY : status);
   must_be_ok(s2u_normalise(u->cells, n, &n));
   return finished(u, n);
 }
@@ -156,9 +160,10 @@ Datum s2union_in(PG_FUNCTION_ARGS) {
 PG_FUNCTION_INFO_V1(s2union_out);
 Datum s2union_out(PG_FUNCTION_ARGS) {
   S2Union* u = ARGUMENT(0);
-  size_t room = S2U_MOST_TOKENS(count_of(u)), length = 0;
+  size_t room = Min(S2U_MOST_TOKENS(count_of(u)), MOST_TEXT), length = 0;
   char* text = palloc(room + 1);
-  must_be_ok(s2u_tokens(LIST(u), text, room, &length));
+  int32_t status = s2u_tokens(LIST(u), text, room, &length);
+  must_be_ok(status == S2U_ROOM ? S2U_MANY : status);
   text[length] = '\0';
   PG_RETURN_CSTRING(text);
 }

@@ -3,6 +3,7 @@
  *   - hides the guard from the address sanitizer or from valgrind, so that a read of it is caught too,
  *   - refuses the allocation that s2_refuse(n) names: as the server does, or by telling the library that there is none,
  *   - counts what a call leaves: s2_left(), the blocks of the call and the copies of its arguments that nobody freed,
+ *   - takes as the most bytes of a value or a text those that s2_limit(n) names,
  *   - tells what a GIN index asks for and is told: s2_keys(region, strategy), s2_keys_found(strategy, found, place).
  * The build has rewritten each 'Datum NAME(PG_FUNCTION_ARGS)' of s2union.c to GUARDED(NAME). */
 #include "postgres.h"
@@ -122,6 +123,17 @@ Datum s2_refuse(PG_FUNCTION_ARGS) {
 PG_FUNCTION_INFO_V1(s2_left);
 Datum s2_left(PG_FUNCTION_ARGS) { PG_RETURN_INT32(left); }
 
+static Size most_bytes = MaxAllocSize;
+
+/* s2_limit(n): no value and no text has more than n bytes. */
+PG_FUNCTION_INFO_V1(s2_limit);
+Datum s2_limit(PG_FUNCTION_ARGS) {
+  most_bytes = PG_GETARG_INT64(0);
+  PG_RETURN_VOID();
+}
+
+#undef MaxAllocSize
+#define MaxAllocSize most_bytes
 #define palloc(n) taken(CurrentMemoryContext, n, 0)
 #define palloc0(n) taken(CurrentMemoryContext, n, MCXT_ALLOC_ZERO)
 #define palloc_extended(n, flags) taken(CurrentMemoryContext, n, flags)

@@ -494,6 +494,7 @@ class Guarded(Tests):
             SET client_min_messages = error;
             CREATE OR REPLACE FUNCTION s2_refuse(bigint) RETURNS bigint LANGUAGE C AS '$libdir/s2union';
             CREATE OR REPLACE FUNCTION s2_left() RETURNS integer LANGUAGE C AS '$libdir/s2union';
+            CREATE OR REPLACE FUNCTION s2_limit(bigint) RETURNS void LANGUAGE C AS '$libdir/s2union';
             CREATE OR REPLACE FUNCTION s2_keys(s2union, integer) RETURNS text LANGUAGE C AS '$libdir/s2union';
             CREATE OR REPLACE FUNCTION s2_keys_found(integer, text, integer) RETURNS text LANGUAGE C
                 AS '$libdir/s2union';
@@ -502,6 +503,13 @@ class Guarded(Tests):
             INSERT INTO parts VALUES (1, '04 0c'), (2, '1c'), (3, NULL), (4, ''),
                 (5, '1'::s2union - '0000000000000001'), (6, s2_outer(0, 5, 400000, 7, 400000, 20)),
                 (7, s2_inner(0, 5, 400000, 7, 400000, 20));
+            CREATE OR REPLACE FUNCTION state_of(query text) RETURNS text LANGUAGE plpgsql AS $$
+            BEGIN
+                EXECUTE query;
+                RETURN 'no error';
+            EXCEPTION WHEN OTHERS THEN
+                RETURN SQLSTATE;
+            END $$;
             CREATE OR REPLACE FUNCTION indexed(method text) RETURNS bigint LANGUAGE plpgsql AS $$
             DECLARE found bigint;
             BEGIN
@@ -576,6 +584,20 @@ class Guarded(Tests):
         said = psql("".join(f"{query};\nSELECT s2_left();\n" for query, _ in calls))
         self.assertEqual([(query, int(left)) for (query, _), left in zip(calls, said[1::2])], calls)
 
+
+    def test_limits_of_a_value(self):
+        """Ten cells, or 87 bytes of text: 1 GB is more than a test should take."""
+        limit = "DO $$ BEGIN PERFORM s2_limit(88); END $$;"
+        cells = [model.identifier(2, 5 * k) for k in range(11)]
+        leaves = [model.identifier(30, 5 * k) for k in range(6)]
+        ten, eleven, six = u(cells[:10]), u(cells), u(leaves)
+        self.all_are([
+            (f"s2_count({ten})", "10"), (f"{ten}", tokens(cells[:10])), (f"s2_count('{' ' * 200}{ten[1:]})", "10"),
+            (f"{u(leaves[:5])}", tokens(leaves[:5])), (f"s2_count({six})", "6"),
+            (eleven, "error: s2union: too many cells"), (six, "error: s2union: too many cells"),
+            (f"state_of($s$SELECT {eleven}$s$)", "54000"), (f"state_of($s$SELECT ({six})::text$s$)", "54000"),
+            ("state_of($s$SELECT '1 X'::s2union$s$)", "22P02"),
+        ], limit)
 
     def test_keys_of_a_question(self):
         many = "SELECT s2_union_agg(s2_leaf(0, 2 * (k % 100), 2 * (k / 100))::s2union) FROM generate_series(0, 9999) k"
