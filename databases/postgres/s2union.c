@@ -129,6 +129,11 @@ static const S2Union* asked_argument(FunctionCallInfo fcinfo, int k) {
   return kept[k];
 }
 
+/* Frees a copy of argument k that isn't kept, since an index or a join asks many questions in one context. */
+static void free_asked(FunctionCallInfo fcinfo, const S2Union* u, int k) {
+  if (!is_constant(fcinfo->flinfo, k)) PG_FREE_IF_COPY((S2Union*)u, k);
+}
+
 #define ASKED(k) asked_argument(fcinfo, k)
 #define LIST(u) (u)->cells, count_of(u)
 
@@ -294,16 +299,25 @@ static Datum answer(int32_t status) {
 
 typedef int32_t question(const uint64_t* xs, size_t nx, const uint64_t* ys, size_t ny);
 
-static Datum of_two_asked(question* ask, const S2Union* x, const S2Union* y) { return answer(ask(LIST(x), LIST(y))); }
+/* A question about argument a and argument b. */
+static Datum of_two_asked(FunctionCallInfo fcinfo, question* ask, int a, int b) {
+  const S2Union *x = ASKED(a), *y = ASKED(b);
+  Datum yes = answer(ask(LIST(x), LIST(y)));
+  free_asked(fcinfo, x, a);
+  free_asked(fcinfo, y, b);
+  return yes;
+}
 
-FUNCTION(s2union_contains, of_two_asked(s2u_contains, ASKED(0), ASKED(1)))
-FUNCTION(s2union_within, of_two_asked(s2u_contains, ASKED(1), ASKED(0)))
-FUNCTION(s2union_intersects, of_two_asked(s2u_intersects, ASKED(0), ASKED(1)))
+FUNCTION(s2union_contains, of_two_asked(fcinfo, s2u_contains, 0, 1))
+FUNCTION(s2union_within, of_two_asked(fcinfo, s2u_contains, 1, 0))
+FUNCTION(s2union_intersects, of_two_asked(fcinfo, s2u_intersects, 0, 1))
 
 PG_FUNCTION_INFO_V1(s2union_contains_cell);
 Datum s2union_contains_cell(PG_FUNCTION_ARGS) {
   const S2Union* x = ASKED(0);
-  return answer(s2u_contains_cell(LIST(x), (uint64_t)PG_GETARG_INT64(1)));
+  Datum yes = answer(s2u_contains_cell(LIST(x), (uint64_t)PG_GETARG_INT64(1)));
+  free_asked(fcinfo, x, 0);
+  return yes;
 }
 
 FUNCTION(s2union_count, Int64GetDatum((int64)count_of(ARGUMENT(0))))

@@ -570,10 +570,14 @@ class Guarded(Tests):
 
     def test_what_a_call_leaves(self):
         """Blocks that are still there when a call ends: the result, and what the end of the statement frees. A sort or
-        an index calls the order and the hash many times before that, so these must leave nothing."""
+        an index calls the order and the hash many times before that, and a join the questions, so these must leave
+        nothing, except one block with the places of the constants that are kept."""
         large = "SELECT {} FROM parts x, parts y WHERE x.id = 6 AND y.id = 7"
         calls = [(large.format(f"x.part {name} y.part"), 0) for name in ("=", "<>", "<", "<=", ">", ">=")]
+        calls += [(large.format(f"x.part {name} y.part"), 0) for name in ("@>", "<@", "&&")]
         calls += [
+            (large.format("x.part @> s2_cell('04')"), 0), (large.format("x.part @> '04'"), 1),
+            (large.format("'04' <@ x.part"), 1),
             (large.format("s2union_cmp(x.part, y.part)"), 0), (large.format("s2union_hash(x.part)"), 0),
             (large.format("s2union_hash_extended(x.part, 1)"), 0), (large.format("s2_count(x.part)"), 1),
             ("SELECT pg_column_size('1'::s2union - '0000000000000001')", 1),
