@@ -71,6 +71,35 @@ static void lists_that_are_no_union(void) {
   CHECK(s2u_denormalised(unordered, 2, 1, 1, out, 4, &len) == S2U_NO_UNION && len == 0);
 }
 
+/* Files with a whole frame around numbers that are no union: refused by calls that make something, answered by
+ * questions; and with a damaged frame: refused by all. */
+static void damaged_files(void) {
+  static const uint64_t zero = 0;
+  const struct {
+    const uint64_t* ids;
+    int32_t decoded, checked;
+  } damaged[] = {{unordered, S2U_OK, 0}, {siblings + 3, S2U_FILE_CELL, S2U_FILE_CELL}};
+  for (size_t k = 0; k < 2; k++) {
+    uint8_t file[25] = {1, 2};
+    uint64_t out[31], found = 77;
+    size_t len = 77;
+    memcpy(file + 9, damaged[k].ids, 8), memcpy(file + 17, k ? &zero : damaged[k].ids + 1, 8);
+    CHECK(s2u_file_check(file, 25) == damaged[k].checked);
+    CHECK(s2u_decode(file, 25, out, 31, &len) == damaged[k].decoded && len == (k ? 0 : 2));
+    CHECK(s2u_file_ancestors(file, 25, out, 31, &len) == S2U_NO_UNION && len == 0);
+    CHECK(s2u_file_count(file, 25, &found) == S2U_OK && found == 2);
+    CHECK(s2u_file_leaf_count(file, 25, &found) == S2U_OK && s2u_file_cell(file, 25, 1, &found) == S2U_OK);
+    CHECK(found == (k ? 0 : unordered[1]));
+    for (int cut = 0; cut < 2; cut++) {
+      size_t n = (size_t)(25 - cut);
+      int32_t least = cut ? S2U_FILE_SHORT : 0, most = cut ? S2U_FILE_SHORT : 1;
+      int32_t answers[] = {s2u_file_contains_cell(file, n, face), s2u_file_intersects_cell(file, n, face),
+                           s2u_file_contains(file, n, file, 25), s2u_file_intersects(file, 25, file, n)};
+      for (size_t a = 0; a < 4; a++) CHECK(answers[a] >= least && answers[a] <= most);
+    }
+  }
+}
+
 /* Questions of many cells at once. */
 static void many_questions(void) {
   uint64_t asked[] = {siblings[0], face, siblings[1], 0, 2};
@@ -201,6 +230,7 @@ int main(void) {
   numbers_that_are_no_cell();
   arguments_out_of_range();
   lists_that_are_no_union();
+  damaged_files();
   many_questions();
   rooms();
   longest_results();

@@ -6,10 +6,13 @@
  *
  * WHAT A CALL PROMISES. Every call is proved, in Rattle, to meet its contract for every input that the types allow: any
  * number, any list, any bytes. No call aborts, raises, jumps, prints, sets a locale, uses floating point, or reads or
- * writes a byte outside the lists that it is given. The caller must ensure only three things:
- *   1. a pointer and its length describe memory that the call may use; a pointer may be NULL if its length is 0;
+ * writes a byte outside the lists that it is given. The caller must ensure only four things:
+ *   1. a pointer and its length describe memory that the call may use; a pointer may be NULL if its length is 0, and a
+ *      pointer to one value (len, id, rect, ..) never;
  *   2. lists that a call writes (out, len, text, ..) overlap no other argument;
- *   3. lists of uint64_t are aligned to 8 bytes. Bytes and texts need no alignment.
+ *   3. lists of uint64_t are aligned to 8 bytes, and single values as C aligns them. Bytes and texts need no alignment;
+ *   4. during the call no one else writes what it reads, or reads or writes what it writes: no other thread, no process
+ *      that shares the memory, no signal handler.
  *
  * RESULTS. int32_t results are statuses: 0 or more is an answer, below 0 a refusal. Treat an unknown number below 0 as
  * a refusal; later versions may add statuses. Calls that answer a cell answer 0 if there is none (0 is no cell).
