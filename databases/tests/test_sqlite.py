@@ -309,6 +309,22 @@ class WhatIsRefused(Tests):
         self.refused("s2: a level", "* FROM s2_cells('1', 1, 1.5)")
         self.refused("s2: argument", "* FROM s2_cells('1', 1, 4)")
 
+    def test_the_page_lists_the_errors(self):
+        with open(os.path.join(os.path.dirname(os.path.abspath(__file__)), "../../docs/SQLITE.md")) as file:
+            page = file.read()
+        reasons = set()
+        for expression in (
+            "s2_count(1.5)", "s2_level(1.5)", "s2_parent('1', 1.5)", "s2_level(0)", "s2_leaf(6, 0, 0)",
+            "s2_outer(0, 0, 1073741823, 5, 5, 30)", "s2_count(x'01')", "s2_count(x'02')",
+            "s2_count(x'01000000000000000000')", "s2_count(x'0101000000000000000000000000000000')",
+        ):
+            with self.assertRaises(sqlite3.OperationalError) as refusal:
+                self.ask(expression)
+            reasons.add(str(refusal.exception))
+            others = str(refusal.exception).replace("s2: union file:", "..")
+            self.assertTrue(f"`{refusal.exception}`" in page or f"`{others}`" in page, str(refusal.exception))
+        self.assertEqual(len(reasons), 10)
+
     def test_no_cells(self):
         for name, letters, values in calls():
             for k, letter in enumerate(letters):
