@@ -72,42 +72,41 @@ impl CellUnion {
         ensures cells { into.new.cells ≡ applied out.now put.now self.now.cells }
         ensures room { into.new.room ≡ into.old.room }
     {
-        apply_cells(self.cells(), out, put, &mut into.cells);
+        let none = Vec::new(*into.cells.allocator());
+        let room = mem::replace(&mut into.cells, none);
+        into.cells = applied_in(room, self.cells(), out, put);
     }
 }
 
-/// Writes the cells without `out` and with `put` into a list that has room for them.
-fn apply_cells(cells: &[CellId], out: &[CellId], put: &[CellId], into: &mut Vec<CellId>)
+/// The cells without `out` and with `put`, in the room of a list whose own cells are dropped.
+///
+/// The list is handed over and back: the copy of a run is several times as fast if the length of the list is the
+/// function's own and not behind a reference.
+fn applied_in(
+    mut list: Vec<CellId>,
+    cells: &[CellId],
+    out: &[CellId],
+    put: &[CellId],
+) -> Vec<CellId>
     requires local { IsLocal cells.now }
     requires fits { Fits out.now put.now cells.now }
-    requires room { length (applied out.now put.now cells.now) ≤ vec_capacity into.old }
-    ensures items { into.new.items ≡ applied out.now put.now cells.now }
-    ensures capacity { vec_capacity into.new ≡ vec_capacity into.old }
+    requires room { length (applied out.now put.now cells.now) ≤ vec_capacity list }
+    ensures items { result.items ≡ applied out.now put.now cells.now }
+    ensures capacity { vec_capacity result ≡ vec_capacity list }
 {
-    into.clear();
+    list.clear();
     let mut merge = Merge::new(cells, out, put);
     loop {
-        push_all(into, merge.run());
+        list = with_cells(list, merge.run());
         match merge.turn() {
-            Turn::Write(cell) => into.push_reserved(cell),
+            Turn::Write(cell) => list.push_reserved(cell),
             Turn::Skip => {}
-            Turn::Misfit | Turn::End => return,
+            Turn::Misfit | Turn::End => return list,
         }
     }
 }
 
-/// Appends cells to a list that has room for them, and leaves its room as it is.
-fn push_all(list: &mut Vec<CellId>, cells: &[CellId])
-    requires { vec_len list.old + length cells.now ≤ vec_capacity list.old }
-    ensures items { list.new.items ≡ list.old.items ++ cells.now }
-    ensures capacity { vec_capacity list.new ≡ vec_capacity list.old }
-{
-    let none = Vec::new(*list.allocator());
-    *list = with_cells(mem::replace(list, none), cells);
-}
-
-/// A list with cells after it, for which it has room, in the room that it has. It is handed over and back, since the
-/// loop is several times as fast if the list's length is its own and not behind a reference.
+/// A list with cells after it, for which it has room, in the room that it has.
 fn with_cells(mut list: Vec<CellId>, cells: &[CellId]) -> Vec<CellId>
     requires { vec_len list + length cells.now ≤ vec_capacity list }
     ensures items { result.items ≡ list.items ++ cells.now }

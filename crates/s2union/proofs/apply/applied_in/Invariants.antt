@@ -2,14 +2,14 @@ use Rattle.std.proofs.Common.{◌≡◌, ◌++◌, ◌+◌, length}
 use Rattle.std.specs.Vec.{vec_capacity}
 use Rattle.s2union.specs.Apply.{applied}
 use Rattle.s2union.specs.Merge.{CanApply, made_list}
-use Rattle.s2union.proofs.apply.apply_cells.Given as goal
+use Rattle.s2union.proofs.apply.applied_in.Given as goal
 
 -- what is written, and what is left to write, are the whole list
 abbrev pub invariant-loop-cell : goal.invariant-loop-cell
 invariant-loop-cell l = record {
-  whole : l.into.items ++ made_list l.merge ≡ applied l.out l.put l.cells;
+  whole : l.list.items ++ made_list l.merge ≡ applied l.out l.put l.cells;
   left : CanApply l.merge;
-  room : vec_capacity l.into ≡ vec_capacity l.initial.into;
+  room : vec_capacity l.list ≡ vec_capacity l.initial.list;
 }
 
 abbrev pub decreases-loop-cell : goal.decreases-loop-cell
