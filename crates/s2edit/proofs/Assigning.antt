@@ -48,10 +48,10 @@ module _ (limit : ℕ) (t : List (List ℕ)) (r : ℕ) (v : List ℕ) (a : AllWi
   }
 
   -- if a copy of the new list takes the register's place, the change is made
-  pub taken_over : (us us' : List Union) (copy scratch' : Union) → lists_of us ≡ t → copy.cells ≡ v →
-      us' ≡ slice_set us r copy → slice_get us r ≡ Some scratch' →
-      Rewrites us us' copy scratch' (change_between r (list_at (lists_of us) r) v)
-  taken_over us us' copy scratch' e f g h = record {
+  pub taken_over : (us us' : List Union) (copy spare' : Union) → lists_of us ≡ t → copy.cells ≡ v →
+      us' ≡ slice_set us r copy → slice_get us r ≡ Some spare' →
+      Rewrites us us' copy spare' (change_between r (list_at (lists_of us) r) v)
+  taken_over us us' copy spare' e f g h = record {
     registers = g ∙ ap (λ (x : List ℕ). slice_set us r (union_of x copy.room))
         (f ∙ sym between_leads ∙ ap (λ (k : List (List ℕ)).
         applied (cells_without (list_at k r) v) (cells_without v (list_at k r)) (list_at k r)) (sym e));
@@ -59,22 +59,22 @@ module _ (limit : ℕ) (t : List (List ℕ)) (r : ℕ) (v : List ℕ) (a : AllWi
   }
 
 -- what an assignment leaves
-pub record Changes (depth : ℕ) (us us' : List Union) (scratch scratch' : Union) (past past' future' : List Diff)
+pub record Changes (depth : ℕ) (us us' : List Union) (spare spare' : Union) (past past' future' : List Diff)
     (r : ℕ) (v : List ℕ) : Type 0 where
-  pub rewrites : Rewrites us us' scratch scratch' (change_between r (list_at (lists_of us) r) v)
+  pub rewrites : Rewrites us us' spare spare' (change_between r (list_at (lists_of us) r) v)
   pub onto : past' ≡ take depth (change_between r (list_at (lists_of us) r) v ∷ past)
   pub cleared : future' ≡ []
 
-module _ (limit depth : ℕ) (us us' : List Union) (scratch scratch' : Union) (past past' future' : List Diff)
+module _ (limit depth : ℕ) (us us' : List Union) (spare spare' : Union) (past past' future' : List Diff)
     (r : ℕ) (v : List ℕ)
     (a : AllWithin limit (lists_of us)) (f : FitAlong limit (lists_of us) (map inverse past))
     (l : r < length (lists_of us)) (w : IsLocalWithin limit v) (n : v ≢ list_at (lists_of us) r)
-    (m : Changes depth us us' scratch scratch' past past' future' r v) where
+    (m : Changes depth us us' spare spare' past past' future' r v) where
   change_is : Diff
   change_is = change_between r (list_at (lists_of us) r) v
 
   change_table : lists_of us' ≡ table_after (lists_of us) (change_between r (list_at (lists_of us) r) v)
-  change_table = table_is limit us us' scratch scratch' (change_between r (list_at (lists_of us) r) v) m.rewrites
+  change_table = table_is limit us us' spare spare' (change_between r (list_at (lists_of us) r) v) m.rewrites
 
   turned : map inverse past' ≡ take depth (inverse (change_between r (list_at (lists_of us) r) v) ∷ map inverse past)
   turned = ap (map inverse) m.onto ∙ sym (take-map inverse depth (change_between r (list_at (lists_of us) r) v ∷ past))

@@ -16,7 +16,7 @@ use Rattle.s2edit.specs.History.{AllLists}
 use Rattle.s2edit.specs.Diff.{Diff}
 use Rattle.s2edit.specs.Leads.{list_at}
 use Rattle.s2edit.specs.Chain.{list_after, table_after, FitsTable, FitAlong, AllWithin, AllRoomy}
-use Rattle.s2edit.specs.Following.{FailsToFollow, MakesChanges, MakesChange, HaveRoom, KeepRoom}
+use Rattle.s2edit.specs.Following.{FailsToFollow, MakesChange, HaveRoom, KeepRoom}
 use Rattle.s2edit.specs.declared.session.RestoreFault.{RestoreFault}
 use Rattle.s2edit.specs.declared.session.RestoreFault.TheVariants.{Fit, TooDeep, TooMany, Memory}
 use Rattle.s2edit.proofs.Numbers.{cells_lost-self}
@@ -55,8 +55,8 @@ module _ (t t' : List (List ℕ)) (i r : ℕ) (out put old new : List ℕ) (coun
     new_list : length (applied out put (list_at t r)) ≡ length new
     new_list = ap length (ap (applied out put) old_there ∙ sym new_is)
 
-    fits_table : (n : ℕ) → length new ≤ n → FitsTable n t (record { register = r; out = out; put = put })
-    fits_table n few = record {
+    fits_table : length new ≤ SESSION_CELLS → FitsTable SESSION_CELLS t (record { register = r; out = out; put = put })
+    fits_table few = record {
       in_range = omega (arith, i_is, i_in, count);
       fits = subst (Fits out put) (sym old_there) f;
       few = omega (arith, few, new_list);
@@ -65,78 +65,37 @@ module _ (t t' : List (List ℕ)) (i r : ℕ) (out put old new : List ℕ) (coun
           (subst (Fits out put) (sym old_there) f) some;
     }
 
-    pub step_few : (limit : ℕ) → length new ≤ SESSION_CELLS → length new ≤ limit →
-        MakesChange limit t (record { register = r; out = out; put = put }) t' true
-    step_few limit most few = record {
-      fit = fits_table SESSION_CELLS most;
-      few = λ _. fits_table limit few;
-      many = λ _. refl;
-      table = stepped;
-    }
-
-    pub step_many : (limit : ℕ) → length new ≤ SESSION_CELLS → limit < length new →
-        MakesChange limit t (record { register = r; out = out; put = put }) t' false
-    step_many limit most many = record {
-      fit = fits_table SESSION_CELLS most;
-      few = λ h. absurd (false≢true h);
-      many = λ g. absurd (omega (arith, many, g.few, new_list));
-      table = stepped;
-    }
+    pub step_made : length new ≤ SESSION_CELLS → MakesChange t (record { register = r; out = out; put = put }) t'
+    step_made few = record { fit = fits_table few; table = stepped }
 
     pub step_long : SESSION_CELLS < length new →
         FitsTable SESSION_CELLS t (record { register = r; out = out; put = put }) → ⊥
     step_long long g = absurd (omega (arith, long, g.few, new_list))
 
 -- a walk: the changes that are left can be made from here exactly where all can from the start
-pub record Walks (limit : ℕ) (t : List (List ℕ)) (ds : List Diff) (here : List (List ℕ)) (left : List Diff)
-    (within : Bool) : Type 0 where
+pub record Walks (t : List (List ℕ)) (ds : List Diff) (here : List (List ℕ)) (left : List Diff) : Type 0 where
   pub fit : FitAlong SESSION_CELLS here left → FitAlong SESSION_CELLS t ds
   pub back : FitAlong SESSION_CELLS t ds → FitAlong SESSION_CELLS here left
-  pub few : within ≡ true → FitAlong limit here left → FitAlong limit t ds
-  pub many : FitAlong limit t ds → (within ≡ true) × FitAlong limit here left
   pub lists : AllWithin SESSION_CELLS here
 
-pub walk_starts : (limit : ℕ) (t : List (List ℕ)) (ds : List Diff) → AllWithin SESSION_CELLS t →
-    Walks limit t ds t ds true
-walk_starts limit t ds a = record { fit = λ f. f; back = λ f. f; few = λ _ f. f; many = λ f. (refl, f); lists = a }
+pub walk_starts : (t : List (List ℕ)) (ds : List Diff) → AllWithin SESSION_CELLS t → Walks t ds t ds
+walk_starts t ds a = record { fit = λ f. f; back = λ f. f; lists = a }
 
-both_parts : (a b : Bool) → (a && b) ≡ true → (a ≡ true) × (b ≡ true)
-both_parts true b e = (refl, e)
-both_parts false b e = absurd (false≢true e)
-
-both_true : (a b : Bool) → a ≡ true → b ≡ true → (a && b) ≡ true
-both_true true b e f = f
-both_true false b e f = absurd (false≢true e)
-
-pub walk_steps : (limit : ℕ) (t : List (List ℕ)) (ds : List Diff) (here next : List (List ℕ)) (d : Diff)
-    (left : List Diff) (within few : Bool)
-    → Walks limit t ds here (d ∷ left) within → MakesChange limit here d next few
-    → Walks limit t ds next left (within && few)
-walk_steps limit t ds here next d left within few w s = record {
+pub walk_steps : (t : List (List ℕ)) (ds : List Diff) (here next : List (List ℕ)) (d : Diff) (left : List Diff)
+    → Walks t ds here (d ∷ left) → MakesChange here d next → Walks t ds next left
+walk_steps t ds here next d left w s = record {
   fit = λ f. w.fit (s.fit, subst (λ (u : List (List ℕ)). FitAlong SESSION_CELLS u left) s.table f);
   back = λ f. subst (λ (u : List (List ℕ)). FitAlong SESSION_CELLS u left) (sym s.table) (w.back f).1;
-  few = λ e f. let p = both_parts within few e in
-      w.few p.0 (s.few p.1, subst (λ (u : List (List ℕ)). FitAlong limit u left) s.table f);
-  many = λ f. let m = w.many f in (
-    both_true within few m.0 (s.many m.1.0),
-    subst (λ (u : List (List ℕ)). FitAlong limit u left) (sym s.table) m.1.1,
-  );
   lists = subst (AllWithin SESSION_CELLS) (sym s.table) (within_after SESSION_CELLS here d w.lists s.fit);
 }
 
-pub walk_fails : (limit : ℕ) (t : List (List ℕ)) (ds : List Diff) (here : List (List ℕ)) (d : Diff)
-    (left : List Diff) (within : Bool)
-    → Walks limit t ds here (d ∷ left) within → (FitsTable SESSION_CELLS here d → ⊥) → FitAlong SESSION_CELLS t ds → ⊥
-walk_fails limit t ds here d left within w none f = none (w.back f).0
+pub walk_fails : (t : List (List ℕ)) (ds : List Diff) (here : List (List ℕ)) (d : Diff) (left : List Diff)
+    → Walks t ds here (d ∷ left) → (FitsTable SESSION_CELLS here d → ⊥) → FitAlong SESSION_CELLS t ds → ⊥
+walk_fails t ds here d left w none f = none (w.back f).0
 
-pub walk_ends : (limit : ℕ) (t : List (List ℕ)) (ds : List Diff) (here : List (List ℕ)) (left : List Diff)
-    (within : Bool)
-    → Walks limit t ds here left within → left ≡ [] → MakesChanges limit t ds within
-walk_ends limit t ds here left within w e = record {
-  fit = w.fit (subst (FitAlong SESSION_CELLS here) (sym e) tt);
-  few = λ h. w.few h (subst (FitAlong limit here) (sym e) tt);
-  many = λ f. (w.many f).0;
-}
+pub walk_ends : (t : List (List ℕ)) (ds : List Diff) (here : List (List ℕ)) (left : List Diff)
+    → Walks t ds here left → left ≡ [] → FitAlong SESSION_CELLS t ds
+walk_ends t ds here left w e = w.fit (subst (FitAlong SESSION_CELLS here) (sym e) tt)
 
 -- copies keep room
 pub keep_room : (limit : ℕ) (us vs : List Union) → KeepRoom us vs → AllRoomy limit us → AllRoomy limit vs
@@ -181,9 +140,8 @@ fails TooMany P Q f n = n
 fails Memory P Q f n = tt
 
 -- as many registers as before
-pub steps_count : (limit : ℕ) (t t' : List (List ℕ)) (d : Diff) (few : Bool) (n : ℕ) → MakesChange limit t d t' few →
-    length t ≡ n → length t' ≡ n
-steps_count limit t t' d few n s e = ap length s.table ∙ length-set t d.register (list_after t d) ∙ e
+pub steps_count : (t t' : List (List ℕ)) (d : Diff) (n : ℕ) → MakesChange t d t' → length t ≡ n → length t' ≡ n
+steps_count t t' d n s e = ap length s.table ∙ length-set t d.register (list_after t d) ∙ e
 
 -- room for lists that keep to the limit
 pub have_room : (limit : ℕ) (t : List (List ℕ)) (us : List Union) → length t ≡ length us →
@@ -250,19 +208,18 @@ copied_more (x ∷ t) (y ∷ s) (suc i) n l =
 -- a walk along moves, seen as changes one by one
 module _ (whole : List Move → List Diff) (one : Move → Diff) (cons : (m : Move) (ms : List Move) →
     whole (m ∷ ms) ≡ one m ∷ whole ms)
-    (limit : ℕ) (t : List (List ℕ)) (moves : List Move) (here : List (List ℕ)) (i : ℕ) (m : Move) (d : Diff)
-    (within : Bool)
+    (t : List (List ℕ)) (moves : List Move) (here : List (List ℕ)) (i : ℕ) (m : Move) (d : Diff)
     (l : i < length moves) (is : m ≡ get_or moves i m) (same : d ≡ one m)
-    (w : Walks limit t (whole moves) here (whole (drop i moves)) within) where
-  pub walk_left : Walks limit t (whole moves) here (d ∷ whole (drop (i + 1) moves)) within
+    (w : Walks t (whole moves) here (whole (drop i moves))) where
+  pub walk_left : Walks t (whole moves) here (d ∷ whole (drop (i + 1) moves))
   walk_left =
-      subst (λ (ds : List Diff). Walks limit t (whole moves) here ds within)
+      subst (λ (ds : List Diff). Walks t (whole moves) here ds)
       (ap whole (drop_next moves i m l is) ∙ cons m (drop (i + 1) moves)
       ∙ ap (λ (x : Diff). x ∷ whole (drop (i + 1) moves)) (sym same)) w
 
-  pub walk_on : (next : List (List ℕ)) (few : Bool) → MakesChange limit here d next few →
-      Walks limit t (whole moves) next (whole (drop (i + 1) moves)) (within && few)
-  walk_on next few s = walk_steps limit t (whole moves) here next d (whole (drop (i + 1) moves)) within few walk_left s
+  pub walk_on : (next : List (List ℕ)) → MakesChange here d next → Walks t (whole moves) next
+      (whole (drop (i + 1) moves))
+  walk_on next s = walk_steps t (whole moves) here next d (whole (drop (i + 1) moves)) walk_left s
 
   pub walk_needs : FitAlong SESSION_CELLS t (whole moves) → FitsTable SESSION_CELLS here d
   walk_needs g = (walk_left.back g).0

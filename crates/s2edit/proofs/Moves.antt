@@ -16,44 +16,44 @@ first_and_rest : {X : Type 0} (xs : List X) (x : X) → Some x ≡ slice_get xs 
 first_and_rest [] x h = absurd (cc)
 first_and_rest (y ∷ xs) x h = let e : x ≡ y = cc in ap (λ z. z ∷ xs) (sym e)
 
--- what a rewriting of one register leaves: the change d is made, and its register's old place becomes the scratch
-pub record Rewrites (us us' : List Union) (scratch scratch' : Union) (d : Diff) : Type 0 where
-  pub registers : us' ≡ slice_set us d.register (record { cells = list_after (lists_of us) d; room = scratch.room })
-  pub was_there : slice_get us d.register ≡ Some scratch'
+-- what a rewriting of one register leaves: the change d is made, and its register's old place becomes the spare
+pub record Rewrites (us us' : List Union) (spare spare' : Union) (d : Diff) : Type 0 where
+  pub registers : us' ≡ slice_set us d.register (record { cells = list_after (lists_of us) d; room = spare.room })
+  pub was_there : slice_get us d.register ≡ Some spare'
 
-module _ (limit : ℕ) (us us' : List Union) (scratch scratch' : Union) (d : Diff)
-    (m : Rewrites us us' scratch scratch' d) where
+module _ (limit : ℕ) (us us' : List Union) (spare spare' : Union) (d : Diff)
+    (m : Rewrites us us' spare spare' d) where
   pub table_is : lists_of us' ≡ table_after (lists_of us) d
   table_is = ap lists_of m.registers ∙ lists_of-set us d.register
-      (record { cells = list_after (lists_of us) d; room = scratch.room })
+      (record { cells = list_after (lists_of us) d; room = spare.room })
 
   pub rewritten_count : length us' ≡ length us
   rewritten_count = ap length m.registers ∙ length-set us d.register
-      (record { cells = list_after (lists_of us) d; room = scratch.room })
+      (record { cells = list_after (lists_of us) d; room = spare.room })
 
-  pub rewritten_roomy : AllRoomy limit us → limit ≤ scratch.room → AllRoomy limit us' × (limit ≤ scratch'.room)
+  pub rewritten_roomy : AllRoomy limit us → limit ≤ spare.room → AllRoomy limit us' × (limit ≤ spare'.room)
   rewritten_roomy a s = (
     subst (AllRoomy limit) (sym m.registers)
-        (AllRoomy-set limit us d.register (record { cells = list_after (lists_of us) d; room = scratch.room }) a s),
-    AllRoomy-get limit us d.register scratch' a m.was_there,
+        (AllRoomy-set limit us d.register (record { cells = list_after (lists_of us) d; room = spare.room }) a s),
+    AllRoomy-get limit us d.register spare' a m.was_there,
   )
 
 -- what a move across one change leaves. The chain that it comes from begins with d, and the other one then begins
 -- with its inverse
-pub record Moves (us us' : List Union) (scratch scratch' : Union) (d : Diff) (from from' to to' : List Diff) :
+pub record Moves (us us' : List Union) (spare spare' : Union) (d : Diff) (from from' to to' : List Diff) :
     Type 0 where
-  pub rewrites : Rewrites us us' scratch scratch' d
+  pub rewrites : Rewrites us us' spare spare' d
   pub first : from ≡ d ∷ from'
   pub onto : to' ≡ inverse d ∷ to
 
-module _ (limit : ℕ) (us us' : List Union) (scratch scratch' : Union) (d : Diff) (from from' to to' : List Diff)
+module _ (limit : ℕ) (us us' : List Union) (spare spare' : Union) (d : Diff) (from from' to to' : List Diff)
     (a : AllWithin limit (lists_of us)) (f : FitAlong limit (lists_of us) from) (g : FitAlong limit (lists_of us) to)
-    (m : Moves us us' scratch scratch' d from from' to to') where
+    (m : Moves us us' spare spare' d from from' to to') where
   whole_fits : FitsTable limit (lists_of us) d × FitAlong limit (table_after (lists_of us) d) from'
   whole_fits = subst (FitAlong limit (lists_of us)) m.first f
 
   t_is : lists_of us' ≡ table_after (lists_of us) d
-  t_is = table_is limit us us' scratch scratch' d m.rewrites
+  t_is = table_is limit us us' spare spare' d m.rewrites
 
   pub moved_within : AllWithin limit (lists_of us')
   moved_within = subst (AllWithin limit) (sym t_is) (within_after limit (lists_of us) d a whole_fits.0)
@@ -78,14 +78,14 @@ module _ (limit : ℕ) (us us' : List Union) (scratch scratch' : Union) (d : Dif
       ∙ ap (λ (t : List (List ℕ)). tables_after t (inverse d ∷ to)) t_is
       ∙ tables_back limit (lists_of us) d a whole_fits.0 to
 
-pub rewrites_from : (us us' : List Union) (scratch scratch' : Union) (d : Diff) (o p : List ℕ) → o ≡ d.out → p ≡ d.put →
-    us' ≡ slice_set us d.register (union_of (applied o p (list_at (lists_of us) d.register)) scratch.room) →
-    slice_get us d.register ≡ Some scratch' → Rewrites us us' scratch scratch' d
-rewrites_from us us' scratch scratch' d o p e f g h = record {
+pub rewrites_from : (us us' : List Union) (spare spare' : Union) (d : Diff) (o p : List ℕ) → o ≡ d.out → p ≡ d.put →
+    us' ≡ slice_set us d.register (union_of (applied o p (list_at (lists_of us) d.register)) spare.room) →
+    slice_get us d.register ≡ Some spare' → Rewrites us us' spare spare' d
+rewrites_from us us' spare spare' d o p e f g h = record {
   registers = g ∙ ap (λ (x : List ℕ). slice_set us d.register
-      (union_of (applied x p (list_at (lists_of us) d.register)) scratch.room)) e
+      (union_of (applied x p (list_at (lists_of us) d.register)) spare.room)) e
       ∙ ap (λ (x : List ℕ). slice_set us d.register
-      (union_of (applied d.out x (list_at (lists_of us) d.register)) scratch.room)) f;
+      (union_of (applied d.out x (list_at (lists_of us) d.register)) spare.room)) f;
   was_there = h;
 }
 
@@ -107,12 +107,12 @@ module _ (depth : ℕ) (from from' to to' : List Diff) (c : Diff) (m : Shifts de
   still_bound = omega (arith, m.bound, ap length from_is, ap length to_is)
 
 -- what undo leaves
-module _ (limit depth : ℕ) (us us' : List Union) (scratch scratch' : Union) (c : Diff)
+module _ (limit depth : ℕ) (us us' : List Union) (spare spare' : Union) (c : Diff)
     (past past' future future' : List Diff)
     (a : AllWithin limit (lists_of us)) (f : FitAlong limit (lists_of us) (map inverse past))
     (g : FitAlong limit (lists_of us) future)
-    (s : Shifts depth past past' future future' c) (r : Rewrites us us' scratch scratch' (inverse c)) where
-  undo_moves : Moves us us' scratch scratch' (inverse c) (map inverse past) (map inverse past') future future'
+    (s : Shifts depth past past' future future' c) (r : Rewrites us us' spare spare' (inverse c)) where
+  undo_moves : Moves us us' spare spare' (inverse c) (map inverse past) (map inverse past') future future'
   undo_moves = record {
     rewrites = r;
     first = ap (map inverse) (from_is depth past past' future future' c s);
@@ -128,22 +128,22 @@ module _ (limit depth : ℕ) (us us' : List Union) (scratch scratch' : Union) (c
         now = lists_of us';
         future = ts;
       })
-      (tables_to limit us us' scratch scratch' (inverse c) (map inverse past) (map inverse past') future future' a
+      (tables_to limit us us' spare spare' (inverse c) (map inverse past) (map inverse past') future future' a
       f g undo_moves)
       ∙ sym (ap (undone_to (history limit depth us past future))
-      (tables_from limit us us' scratch scratch' (inverse c) (map inverse past) (map inverse past') future
+      (tables_from limit us us' spare spare' (inverse c) (map inverse past) (map inverse past') future
       future' a f g undo_moves))
 
   pub undo_within : AllWithin limit (lists_of us')
-  undo_within = moved_within limit us us' scratch scratch' (inverse c) (map inverse past) (map inverse past')
+  undo_within = moved_within limit us us' spare spare' (inverse c) (map inverse past) (map inverse past')
       future future' a f g undo_moves
 
   pub undo_past : FitAlong limit (lists_of us') (map inverse past')
-  undo_past = moved_from limit us us' scratch scratch' (inverse c) (map inverse past) (map inverse past') future
+  undo_past = moved_from limit us us' spare spare' (inverse c) (map inverse past) (map inverse past') future
       future' a f g undo_moves
 
   pub undo_future : FitAlong limit (lists_of us') future'
-  undo_future = moved_to limit us us' scratch scratch' (inverse c) (map inverse past) (map inverse past') future
+  undo_future = moved_to limit us us' spare spare' (inverse c) (map inverse past) (map inverse past') future
       future' a f g undo_moves
 
   undo_fits : FitsTable limit (lists_of us) (inverse c)
@@ -154,7 +154,7 @@ module _ (limit depth : ℕ) (us us' : List Union) (scratch scratch' : Union) (c
       p ≡ numbers t (lists_of us')
   undo_numbers t p h e k =
       let n : lists_of us' ≡ table_after (lists_of us) (inverse c) =
-      table_is limit us us' scratch scratch' (inverse c) r in
+      table_is limit us us' spare spare' (inverse c) r in
       ap (λ (x : ℕ). (x, p.1)) (e ∙ out_lost limit (lists_of us) (inverse c) a undo_fits)
       ∙ ap (λ (x : ℕ). (cells_lost (lists_of us) (table_after (lists_of us) (inverse c)), x))
       (k ∙ put_won limit (lists_of us) (inverse c) a undo_fits)
@@ -162,12 +162,12 @@ module _ (limit depth : ℕ) (us us' : List Union) (scratch scratch' : Union) (c
       ∙ ap (λ (v : List (List ℕ)). numbers v (lists_of us')) h
 
 -- what redo leaves
-module _ (limit depth : ℕ) (us us' : List Union) (scratch scratch' : Union) (c : Diff)
+module _ (limit depth : ℕ) (us us' : List Union) (spare spare' : Union) (c : Diff)
     (past past' future future' : List Diff)
     (a : AllWithin limit (lists_of us)) (f : FitAlong limit (lists_of us) (map inverse past))
     (g : FitAlong limit (lists_of us) future)
-    (s : Shifts depth future future' past past' c) (r : Rewrites us us' scratch scratch' c) where
-  redo_moves : Moves us us' scratch scratch' c future future' (map inverse past) (map inverse past')
+    (s : Shifts depth future future' past past' c) (r : Rewrites us us' spare spare' c) where
+  redo_moves : Moves us us' spare spare' c future future' (map inverse past) (map inverse past')
   redo_moves = record {
     rewrites = r;
     first = from_is depth future future' past past' c s;
@@ -183,21 +183,21 @@ module _ (limit depth : ℕ) (us us' : List Union) (scratch scratch' : Union) (c
         now = lists_of us';
         future = tables_after (lists_of us') future';
       })
-      (tables_to limit us us' scratch scratch' c future future' (map inverse past) (map inverse past') a g f redo_moves)
+      (tables_to limit us us' spare spare' c future future' (map inverse past) (map inverse past') a g f redo_moves)
       ∙ sym (ap (redone_to (history limit depth us past future))
-      (tables_from limit us us' scratch scratch' c future future' (map inverse past) (map inverse past') a g f
+      (tables_from limit us us' spare spare' c future future' (map inverse past) (map inverse past') a g f
       redo_moves))
 
   pub redo_within : AllWithin limit (lists_of us')
-  redo_within = moved_within limit us us' scratch scratch' c future future' (map inverse past) (map inverse past')
+  redo_within = moved_within limit us us' spare spare' c future future' (map inverse past) (map inverse past')
       a g f redo_moves
 
   pub redo_future : FitAlong limit (lists_of us') future'
-  redo_future = moved_from limit us us' scratch scratch' c future future' (map inverse past) (map inverse past') a
+  redo_future = moved_from limit us us' spare spare' c future future' (map inverse past) (map inverse past') a
       g f redo_moves
 
   pub redo_past : FitAlong limit (lists_of us') (map inverse past')
-  redo_past = moved_to limit us us' scratch scratch' c future future' (map inverse past) (map inverse past') a g f
+  redo_past = moved_to limit us us' spare spare' c future future' (map inverse past) (map inverse past') a g f
       redo_moves
 
   redo_fits : FitsTable limit (lists_of us) c
@@ -206,7 +206,7 @@ module _ (limit depth : ℕ) (us us' : List Union) (scratch scratch' : Union) (c
   pub redo_numbers : (t : List (List ℕ)) (p : ℕ × ℕ) → lists_of us ≡ t → p.0 ≡ length c.out → p.1 ≡ length c.put →
       p ≡ numbers t (lists_of us')
   redo_numbers t p h e k =
-      let n : lists_of us' ≡ table_after (lists_of us) c = table_is limit us us' scratch scratch' c r in
+      let n : lists_of us' ≡ table_after (lists_of us) c = table_is limit us us' spare spare' c r in
       ap (λ (x : ℕ). (x, p.1)) (e ∙ out_lost limit (lists_of us) c a redo_fits)
       ∙ ap (λ (x : ℕ). (cells_lost (lists_of us) (table_after (lists_of us) c), x))
       (k ∙ put_won limit (lists_of us) c a redo_fits)

@@ -11,7 +11,7 @@ use Rattle.s2file.specs.declared.TheConstants.{SESSION_CHANGES}
 abbrev pub history_of : Inside → History (List ℕ)
 history_of e = history e.limit e.depth e.registers.items e.past.items e.future.items
 
--- Each register and the scratch list have room for a whole list, each ring has room for all states that may be kept,
+-- Each register and the spare list have room for a whole list, each ring has room for all states that may be kept,
 -- and the changes of each side can be made one after another, starting from the present table.
 pub record IsEditor (e : Inside) : Type 0 where
   pub limit_bound : e.limit ≤ MOST_CELLS
@@ -24,4 +24,4 @@ pub record IsEditor (e : Inside) : Type 0 where
   pub past_fits : FitAlong e.limit (lists_of e.registers.items) (map inverse e.past.items)
   pub future_fits : FitAlong e.limit (lists_of e.registers.items) e.future.items
   pub registers_roomy : AllRoomy e.limit e.registers.items
-  pub scratch_roomy : e.limit ≤ e.scratch.room
+  pub spare_roomy : e.limit ≤ e.spare.room

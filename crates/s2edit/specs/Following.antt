@@ -20,11 +20,9 @@ pub record MakesChanges (limit : ℕ) (t : List (List ℕ)) (ds : List Diff) (wi
   pub few : within ≡ true → FitAlong limit t ds
   pub many : FitAlong limit t ds → within ≡ true
 
--- the change was made, and `within` tells whether the new list keeps to the limit
-pub record MakesChange (limit : ℕ) (t : List (List ℕ)) (d : Diff) (t' : List (List ℕ)) (within : Bool) : Type 0 where
+-- the change can be made in the table `t`, and leads to the table `t'`
+pub record MakesChange (t : List (List ℕ)) (d : Diff) (t' : List (List ℕ)) : Type 0 where
   pub fit : FitsTable SESSION_CELLS t d
-  pub few : within ≡ true → FitsTable limit t d
-  pub many : FitsTable limit t d → within ≡ true
   pub table : t' ≡ table_after t d
 
 -- each union has room for the list at its place

@@ -38,7 +38,7 @@ pub struct Editor {
     pub(crate) limit: usize,
     pub(crate) depth: usize,
     pub(crate) registers: Vec<CellUnion>,
-    pub(crate) scratch: CellUnion,
+    pub(crate) spare: CellUnion,
     pub(crate) past: HeapCircularBuffer<Change>,
     pub(crate) future: HeapCircularBuffer<Change>,
 }
@@ -72,13 +72,13 @@ impl Editor {
         let past = HeapCircularBuffer::with_capacity(alloc, depth)?;
         let future = HeapCircularBuffer::with_capacity(alloc, depth)?;
         let registers = empty_registers(alloc, limit)?;
-        let scratch = CellUnion::with_room(alloc, limit)?;
+        let spare = CellUnion::with_room(alloc, limit)?;
         Ok(Editor {
             alloc,
             limit,
             depth,
             registers,
-            scratch,
+            spare,
             past,
             future,
         })
@@ -123,11 +123,11 @@ impl Editor {
         if are_same(old.cells(), union.cells()) {
             return Ok((0, 0));
         }
-        self.scratch.copy_from(&union);
+        self.spare.copy_from(&union);
         let Ok(change) = Change::leading_to(self.alloc, register, old, union) else {
             return Err(EditFault::Memory);
         };
-        exchange(&mut self.registers, &mut self.scratch, register);
+        exchange(&mut self.registers, &mut self.spare, register);
         let numbers = (change.out.len(), change.put.len());
         self.past.push_front(change);
         self.future.clear();
@@ -148,7 +148,7 @@ impl Editor {
         let change = self.past.pop_front()?;
         rewrite(
             &mut self.registers,
-            &mut self.scratch,
+            &mut self.spare,
             change.register,
             &change.put,
             &change.out,
@@ -171,7 +171,7 @@ impl Editor {
         let change = self.future.pop_front()?;
         rewrite(
             &mut self.registers,
-            &mut self.scratch,
+            &mut self.spare,
             change.register,
             &change.out,
             &change.put,
@@ -251,11 +251,11 @@ fn are_same(cells: &[CellId], others: &[CellId]) -> bool
     cells == others
 }
 
-/// Takes cells out of a register's list and puts others in: writes the new list into the scratch list, and exchanges
+/// Takes cells out of a register's list and puts others in: writes the new list into the spare list, and exchanges
 /// the two.
 fn rewrite(
     registers: &mut Vec<CellUnion>,
-    scratch: &mut CellUnion,
+    spare: &mut CellUnion,
     register: Register,
     out: &[CellId],
     put: &[CellId],
@@ -263,20 +263,20 @@ fn rewrite(
     requires in_range { register < vec_len registers.old }
     requires fits { Fits out.now put.now (list_at (lists_of registers.old.items) register) }
     requires room { length (applied out.now put.now (list_at (lists_of registers.old.items) register))
-        ≤ scratch.old.room }
+        ≤ spare.old.room }
     ensures registers { registers.new.items ≡ slice_set registers.old.items register
-        (union_of (applied out.now put.now (list_at (lists_of registers.old.items) register)) scratch.old.room) }
-    ensures scratch { slice_get registers.old.items register ≡ Some scratch.new }
+        (union_of (applied out.now put.now (list_at (lists_of registers.old.items) register)) spare.old.room) }
+    ensures spare { slice_get registers.old.items register ≡ Some spare.new }
 {
-    registers[register.index()].apply_into(out, put, scratch);
-    exchange(registers, scratch, register);
+    registers[register.index()].apply_into(out, put, spare);
+    exchange(registers, spare, register);
 }
 
-/// Exchanges a register's list with the scratch list.
-fn exchange(registers: &mut Vec<CellUnion>, scratch: &mut CellUnion, register: Register)
+/// Exchanges a register's list with the spare list.
+fn exchange(registers: &mut Vec<CellUnion>, spare: &mut CellUnion, register: Register)
     requires in_range { register < vec_len registers.old }
-    ensures registers { registers.new.items ≡ slice_set registers.old.items register scratch.old }
-    ensures scratch { slice_get registers.old.items register ≡ Some scratch.new }
+    ensures registers { registers.new.items ≡ slice_set registers.old.items register spare.old }
+    ensures spare { slice_get registers.old.items register ≡ Some spare.new }
 {
-    mem::swap(&mut registers[register.index()], scratch);
+    mem::swap(&mut registers[register.index()], spare);
 }

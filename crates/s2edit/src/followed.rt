@@ -16,7 +16,7 @@ use std::cmp::Ordering;
 use std::marker::Model;
 
 /// How many cells can be copied in the time that checking one cell of a change takes.
-const COPIES_A_CHECK: usize = 32;
+const COPIES_A_CHECK: usize = 128;
 
 /// A list that is followed along changes: the list at some earlier point, and the change that leads from there to the
 /// present list.

@@ -191,7 +191,7 @@ fn fit_ahead(
         FailsToFollow fault (FitAlong SESSION_CELLS (lists_of registers.now) (map diff (map moved_of moves.now)))) }
 {
     let parts = parts_of(alloc, registers, moves)?;
-    let _within = follow_ahead(alloc, parts, moves, limit)?;
+    follow_ahead(alloc, parts, moves)?;
     let most = longest_ahead(alloc, registers, moves)?;
     if most > SESSION_CELLS {
         return Err(RestoreFault::Fit);
@@ -215,7 +215,7 @@ fn fit_back(
         (map inverse (map diff (map moved_of moves.now))))) }
 {
     let parts = parts_of(alloc, registers, moves)?;
-    let _within = follow_back(alloc, parts, moves, limit)?;
+    follow_back(alloc, parts, moves)?;
     let most = longest_back(alloc, registers, moves)?;
     if most > SESSION_CELLS {
         return Err(RestoreFault::Fit);
@@ -223,94 +223,60 @@ fn fit_back(
     Ok(most <= limit)
 }
 
-/// Whether each list that the changes make, one after another from this table, keeps to the limit. Refused as `Fit` if
-/// a change can't be made, or makes a list of more than `SESSION_CELLS` cells.
-fn follow_ahead(
-    alloc: Global,
-    mut table: Vec<Followed>,
-    moves: &[Move],
-    limit: usize,
-) -> Result<bool, RestoreFault>
+/// Makes the changes one after another in a table of lists; refused as `Fit` if one can't be made, or makes a list of
+/// more than `SESSION_CELLS` cells.
+fn follow_ahead(alloc: Global, mut table: Vec<Followed>, moves: &[Move]) -> Result<(), RestoreFault>
     requires count { length table.items ≡ REGISTERS }
     requires within { AllWithin SESSION_CELLS table.items }
     requires each { AllByRecursion IsMoved (map moved_of moves.now) }
-    ensures { MatchResult result (λ within. MakesChanges limit table.items
-        (map diff (map moved_of moves.now)) within) (λ fault.
-        FailsToFollow fault (FitAlong SESSION_CELLS table.items (map diff (map moved_of moves.now)))) }
+    ensures { MatchResult result (λ _. FitAlong SESSION_CELLS table.items (map diff (map moved_of moves.now)))
+        (λ fault. FailsToFollow fault (FitAlong SESSION_CELLS table.items (map diff (map moved_of moves.now)))) }
 {
-    let mut within = true;
     for change in moves {
-        let few = step(
-            alloc,
-            &mut table,
-            change.register,
-            &change.out,
-            &change.put,
-            limit,
-        )?;
-        within = both(within, few);
+        step(alloc, &mut table, change.register, &change.out, &change.put)?;
     }
-    Ok(within)
+    Ok(())
 }
 
 /// The same for the inverse changes.
-fn follow_back(
-    alloc: Global,
-    mut table: Vec<Followed>,
-    moves: &[Move],
-    limit: usize,
-) -> Result<bool, RestoreFault>
+fn follow_back(alloc: Global, mut table: Vec<Followed>, moves: &[Move]) -> Result<(), RestoreFault>
     requires count { length table.items ≡ REGISTERS }
     requires within { AllWithin SESSION_CELLS table.items }
     requires each { AllByRecursion IsMoved (map moved_of moves.now) }
-    ensures { MatchResult result (λ within. MakesChanges limit table.items
-        (map inverse (map diff (map moved_of moves.now))) within)
+    ensures { MatchResult result
+        (λ _. FitAlong SESSION_CELLS table.items (map inverse (map diff (map moved_of moves.now))))
         (λ fault. FailsToFollow fault (FitAlong SESSION_CELLS table.items
         (map inverse (map diff (map moved_of moves.now))))) }
 {
-    let mut within = true;
     for change in moves {
-        let few = step(
-            alloc,
-            &mut table,
-            change.register,
-            &change.put,
-            &change.out,
-            limit,
-        )?;
-        within = both(within, few);
+        step(alloc, &mut table, change.register, &change.put, &change.out)?;
     }
-    Ok(within)
+    Ok(())
 }
 
-/// Makes a change in a table of registers, and answers whether the new list keeps to the limit.
+/// Makes a change in a table of lists.
 fn step(
     alloc: Global,
     table: &mut Vec<Followed>,
     register: u8,
     out: &[CellId],
     put: &[CellId],
-    limit: usize,
-) -> Result<bool, RestoreFault>
+) -> Result<(), RestoreFault>
     requires count { length table.old.items ≡ REGISTERS }
     requires within { AllWithin SESSION_CELLS table.old.items }
     requires change { IsMoved (record { register = register; out = out.now; put = put.now }) }
-    ensures { MatchResult result (λ few. MakesChange limit table.old.items
-        (record { register = register; out = out.now; put = put.now }) table.new.items few)
+    ensures { MatchResult result (λ _. MakesChange table.old.items
+        (record { register = register; out = out.now; put = put.now }) table.new.items)
         (λ fault. FailsToFollow fault (FitsTable SESSION_CELLS table.old.items
         (record { register = register; out = out.now; put = put.now }))) }
 {
     let place = Register::at(register);
     let list = &mut table[place.index()];
     list.follow(alloc, out, put)?;
-    let len = list.len();
-    if len > SESSION_CELLS {
+    if list.len() > SESSION_CELLS {
         return Err(RestoreFault::Fit);
     }
-    if len > limit {
-        return Ok(false);
-    }
-    Ok(true)
+    Ok(())
 }
 
 /// Whether both hold.

@@ -18,17 +18,17 @@ follow_back-requires-clause-within c =
     c.in_ok-parts.parts.items (length c.args.registers.now) c.in_ok-parts.ensures
     (registers_count c.args.registers.now) c.requires.within)
 
-pub returns-in_err-_within : goal.returns-in_err-_within
-returns-in_err-_within c =
+pub returns-in_err-follow_back : goal.returns-in_err-follow_back
+returns-in_err-follow_back c =
     let ds : List Diff = (map inverse (map diff (map moved_of c.args.moves.now))) in
-    let p = err_from_is_err_and c.from_residual-in_err-_within.result c.from_residual-in_err-_within.ensures.1 in
-    rw (p.1, p.2) (fails c.in_err-_within.field-0.0 (FitAlong SESSION_CELLS c.in_ok-parts.parts.items ds)
+    let p = err_from_is_err_and c.from_residual-in_err-follow_back.result c.from_residual-in_err-follow_back.ensures.1 in
+    rw (p.1, p.2) (fails c.in_err-follow_back.field-0.0 (FitAlong SESSION_CELLS c.in_ok-parts.parts.items ds)
     (FitAlong SESSION_CELLS (lists_of c.args.registers.now) ds)
     ((parts_need (map moved_of c.args.moves.now) (lists_of c.args.registers.now)
     c.in_ok-parts.parts.items (length c.args.registers.now) c.in_ok-parts.ensures
     (registers_count c.args.registers.now) c.requires.within ds
     (near_back (map moved_of c.args.moves.now) c.requires.each)))
-    c.in_err-_within.ensures)
+    c.in_err-follow_back.ensures)
 
 pub returns-then-most-gt-SESSION_CELLS : goal.returns-then-most-gt-SESSION_CELLS
 returns-then-most-gt-SESSION_CELLS c =
@@ -45,6 +45,6 @@ returns c =
     (registers_count c.args.registers.now) c.requires.within (map inverse (map diff (map moved_of c.args.moves.now)))
     (near_back (map moved_of c.args.moves.now) c.requires.each)
     c.args.limit c.in_ok-most.most (leb c.in_ok-most.most c.args.limit)
-    c.in_ok-_within.ensures.fit c.in_ok-most.ensures
+    c.in_ok-follow_back.ensures c.in_ok-most.ensures
     (omega (arith, c.if-most-gt-SESSION_CELLS.false)) (leb-true c.in_ok-most.most c.args.limit)
     (le-leb c.in_ok-most.most c.args.limit)

@@ -17,7 +17,7 @@ loop-change-init c =
     let t : List (List ℕ) = c.args.table.items in
     let ds : List Diff = map inverse (map diff (map moved_of c.args.moves.now)) in
     record {
-      walks = walk_starts c.args.limit t ds c.requires.within;
+      walks = walk_starts t ds c.requires.within;
       each = c.requires.each;
       count = c.requires.count;
     }
@@ -39,20 +39,20 @@ loop-change-preserved c =
     let same : d ≡ inverse (diff (moved_of m)) =
     same_diff d (inverse (diff (moved_of m))) refl c.deref.ensures.value c.deref-in-loop-change.ensures.value in
     record {
-      walks = rw c.both-within.ensures (walk_on (λ (ms : List Move). map inverse (map diff (map moved_of ms)))
-          (λ (m : Move). inverse (diff (moved_of m))) (λ m ms. refl) c.args.limit c.args.table.items
+      walks = walk_on (λ (ms : List Move). map inverse (map diff (map moved_of ms)))
+          (λ (m : Move). inverse (diff (moved_of m))) (λ m ms. refl) c.args.table.items
           c.args.moves.now
-          c.loop-change.table.items c.loop-change.change-index m d c.loop-change.within c.loop-change-test.true
+          c.loop-change.table.items c.loop-change.change-index m d c.loop-change-test.true
           c.change-item.is same c.loop-change.invariant.walks
-          c.step.new.table.items c.in_ok-few.few c.in_ok-few.ensures);
+          c.step.new.table.items c.in_ok-step.ensures;
       each = (each_next c.args.moves.now c.loop-change.change-index m c.loop-change-test.true c.change-item.is
           c.loop-change.invariant.each).1;
-      count = steps_count c.args.limit c.loop-change.table.items c.step.new.table.items d c.in_ok-few.few REGISTERS
-          c.in_ok-few.ensures c.loop-change.invariant.count;
+      count = steps_count c.loop-change.table.items c.step.new.table.items d REGISTERS
+          c.in_ok-step.ensures c.loop-change.invariant.count;
     }
 
-pub returns-in_err-few : goal.returns-in_err-few
-returns-in_err-few c =
+pub returns-in_err-step : goal.returns-in_err-step
+returns-in_err-step c =
     let m = c.change-item.result in
     let d : Diff = record {
       register = m.register;
@@ -62,18 +62,18 @@ returns-in_err-few c =
     let same : d ≡ inverse (diff (moved_of m)) =
     same_diff d (inverse (diff (moved_of m))) refl c.deref.ensures.value c.deref-in-loop-change.ensures.value in
     let p = err_from_is_err_and c.from_residual.result c.from_residual.ensures.1 in
-    rw (p.1, p.2) (fails c.in_err-few.field-0.0 (FitsTable SESSION_CELLS c.loop-change.table.items d)
+    rw (p.1, p.2) (fails c.in_err-step.field-0.0 (FitsTable SESSION_CELLS c.loop-change.table.items d)
     (FitAlong SESSION_CELLS c.args.table.items (map inverse (map diff (map moved_of c.args.moves.now))))
     (walk_needs (λ (ms : List Move). map inverse (map diff (map moved_of ms)))
-    (λ (m : Move). inverse (diff (moved_of m))) (λ m ms. refl) c.args.limit c.args.table.items
+    (λ (m : Move). inverse (diff (moved_of m))) (λ m ms. refl) c.args.table.items
     c.args.moves.now
-    c.loop-change.table.items c.loop-change.change-index m d c.loop-change.within c.loop-change-test.true
+    c.loop-change.table.items c.loop-change.change-index m d c.loop-change-test.true
     c.change-item.is same c.loop-change.invariant.walks)
-    c.in_err-few.ensures)
+    c.in_err-step.ensures)
 
 pub returns : goal.returns
 returns c =
-    walk_ends c.args.limit c.args.table.items _ c.loop-change.table.items _ c.loop-change.within
+    walk_ends c.args.table.items _ c.loop-change.table.items _
     c.loop-change.invariant.walks
     (ap (λ (ms : List Move). map inverse (map diff (map moved_of ms)))
     (drop_all c.loop-change.change-index c.args.moves.now (omega (arith, c.loop-change-test.false))))

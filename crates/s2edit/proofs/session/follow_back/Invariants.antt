@@ -9,8 +9,8 @@ use Rattle.s2edit.proofs.session.follow_back.Given as goal
 
 abbrev pub invariant-loop-change : goal.invariant-loop-change
 invariant-loop-change l = record {
-  walks : Walks l.limit l.initial.table.items (map inverse (map diff (map moved_of l.moves))) l.table.items
-      (map inverse (map diff (map moved_of (drop l.change-index l.moves)))) l.within;
+  walks : Walks l.initial.table.items (map inverse (map diff (map moved_of l.moves))) l.table.items
+      (map inverse (map diff (map moved_of (drop l.change-index l.moves))));
   each : AllByRecursion IsMoved (map moved_of (drop l.change-index l.moves));
   count : length l.table.items ≡ REGISTERS;
 }

@@ -1,25 +1,13 @@
 use Rattle.std.proofs.Common.{◌∙◌, slice_set, refl, arith}
-use Rattle.s2edit.proofs.Following.{step_few, step_many}
+use Rattle.s2edit.proofs.Following.{step_made}
 use Rattle.s2edit.proofs.session.step.Goals as goal
-
-pub returns-then-len-limit : goal.returns-then-len-limit
-returns-then-len-limit c =
-    step_many c.args.table.now.items (slice_set c.args.table.now.items c.index.result c.follow.new.self)
-    c.index.result c.args.register c.args.out.now c.args.put.now
-    c.index_mut-list.result.now c.follow.new.self c.requires.count c.requires.within (c.index.ensures.value
-    ∙ c.at-place.ensures) c.index.ensures.within
-    c.index_mut-list.ensures.value c.requires.change.some c.in_ok-follow.ensures.answer
-    c.in_ok-follow.ensures.after refl
-    c.args.limit (omega (arith, c.len-len.ensures, c.if-len-gt-SESSION_CELLS.false))
-    (omega (arith, c.len-len.ensures, c.if-len-limit.true))
 
 pub returns : goal.returns
 returns c =
-    step_few c.args.table.now.items (slice_set c.args.table.now.items c.index.result c.follow.new.self)
+    step_made c.args.table.now.items (slice_set c.args.table.now.items c.index.result c.follow.new.self)
     c.index.result c.args.register c.args.out.now c.args.put.now
     c.index_mut-list.result.now c.follow.new.self c.requires.count c.requires.within (c.index.ensures.value
     ∙ c.at-place.ensures) c.index.ensures.within
     c.index_mut-list.ensures.value c.requires.change.some c.in_ok-follow.ensures.answer
     c.in_ok-follow.ensures.after refl
-    c.args.limit (omega (arith, c.len-len.ensures, c.if-len-gt-SESSION_CELLS.false))
-    (omega (arith, c.len-len.ensures, c.if-len-limit.false))
+    (omega (arith, c.len.ensures, c.if-len-gt-SESSION_CELLS.false))

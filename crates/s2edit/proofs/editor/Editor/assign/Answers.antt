@@ -100,13 +100,13 @@ differs : (c : goal.After-clear) → c.args.union.cells ≡ list_at (lists_of c.
 differs c e = c.if-are_same.ensures (c.cells.ensures.value ∙ sym (old_is c) ∙ sym e ∙ sym c.cells-2.ensures.value)
 
 changes : (c : goal.After-clear) → Changes c.self.inside.depth c.self.inside.registers.items
-    c.exchange.new.registers.items c.copy_from.new.self c.exchange.new.scratch c.self.inside.past.items
+    c.exchange.new.registers.items c.copy_from.new.self c.exchange.new.spare c.self.inside.past.items
     c.push_front.new.self.items c.clear.new.self.items c.args.register c.args.union.cells
 changes c = record {
   rewrites = taken_over c.self.inside.limit (lists_of c.self.inside.registers.items) c.args.register
       c.args.union.cells c.self.invariant.registers_within (in_table c) (own c)
-      c.self.inside.registers.items c.exchange.new.registers.items c.copy_from.new.self c.exchange.new.scratch refl
-      c.copy_from.ensures.cells c.exchange.ensures.registers c.exchange.ensures.scratch;
+      c.self.inside.registers.items c.exchange.new.registers.items c.copy_from.new.self c.exchange.new.spare refl
+      c.copy_from.ensures.cells c.exchange.ensures.registers c.exchange.ensures.spare;
   onto = ap (λ (b : Buffer Diff). b.items) c.push_front.ensures.items
       ∙ ap (λ (n : ℕ). take n (c.in-Ok.change ∷ c.self.inside.past.items)) c.self.invariant.past_room
       ∙ ap (λ (d : Diff). take c.self.inside.depth (d ∷ c.self.inside.past.items)) (sym c.change.view_is ∙ change_is c);
@@ -155,7 +155,7 @@ invariant_of-self-2 c =
     let d : Diff = change_between c.args.register (list_at (lists_of c.self.inside.registers.items) c.args.register)
     c.args.union.cells in
     let w = rewritten_roomy c.self.inside.limit _ _ _ _ d (changes c).rewrites i.registers_roomy
-    (omega (arith, c.copy_from.ensures.room, i.scratch_roomy)) in
+    (omega (arith, c.copy_from.ensures.room, i.spare_roomy)) in
     record {
       limit_bound = i.limit_bound;
       depth_most = i.depth_most;
@@ -175,5 +175,5 @@ invariant_of-self-2 c =
           c.args.union.cells c.self.invariant.registers_within c.self.invariant.past_fits (in_table c) (own c)
           (differs c) (changes c);
       registers_roomy = w.0;
-      scratch_roomy = w.1;
+      spare_roomy = w.1;
     }

@@ -28,12 +28,12 @@ shifts c = record {
 }
 
 rewrites : (c : goal.Joined-push_front) → Rewrites c.self.inside.registers.items c.rewrite.new.registers.items
-    c.self.inside.scratch c.rewrite.new.scratch (change c)
+    c.self.inside.spare c.rewrite.new.spare (change c)
 unfolding change
 rewrites c =
-    rewrites_from c.self.inside.registers.items c.rewrite.new.registers.items c.self.inside.scratch
-    c.rewrite.new.scratch (change c) _ _
-    c.deref.ensures.value c.deref-2.ensures.value c.rewrite.ensures.registers c.rewrite.ensures.scratch
+    rewrites_from c.self.inside.registers.items c.rewrite.new.registers.items c.self.inside.spare
+    c.rewrite.new.spare (change c) _ _
+    c.deref.ensures.value c.deref-2.ensures.value c.rewrite.ensures.registers c.rewrite.ensures.spare
 
 pub returns-clause-after : goal.returns-clause-after
 returns-clause-after c = redo_leaves c.self.inside.limit c.self.inside.depth _ _ _ _ (change c) _ _ _ _
@@ -55,7 +55,7 @@ returns-clause-numbers c =
 pub invariant_of-self-2 : goal.invariant_of-self-2
 invariant_of-self-2 c =
     let i = c.self.invariant in
-    let w = rewritten_roomy c.self.inside.limit _ _ _ _ (change c) (rewrites c) i.registers_roomy i.scratch_roomy in
+    let w = rewritten_roomy c.self.inside.limit _ _ _ _ (change c) (rewrites c) i.registers_roomy i.spare_roomy in
     record {
       limit_bound = i.limit_bound;
       depth_most = i.depth_most;
@@ -73,5 +73,5 @@ invariant_of-self-2 c =
           c.self.invariant.registers_within c.self.invariant.past_fits c.self.invariant.future_fits (shifts c)
           (rewrites c);
       registers_roomy = w.0;
-      scratch_roomy = w.1;
+      spare_roomy = w.1;
     }

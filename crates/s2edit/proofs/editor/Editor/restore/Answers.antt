@@ -229,5 +229,5 @@ invariant_of-self c =
       future_fits = t.future;
       registers_roomy = keep_room e.limit e.registers.items c.take_all.new.unions.items c.take_all.ensures.rooms
           i.registers_roomy;
-      scratch_roomy = i.scratch_roomy;
+      spare_roomy = i.spare_roomy;
     }

@@ -28,12 +28,12 @@ shifts c = record {
 }
 
 rewrites : (c : goal.Joined-push_front) → Rewrites c.self.inside.registers.items c.rewrite.new.registers.items
-    c.self.inside.scratch c.rewrite.new.scratch (inverse (change c))
+    c.self.inside.spare c.rewrite.new.spare (inverse (change c))
 unfolding change
 rewrites c =
-    rewrites_from c.self.inside.registers.items c.rewrite.new.registers.items c.self.inside.scratch
-    c.rewrite.new.scratch (inverse (change c)) _ _
-    c.deref.ensures.value c.deref-2.ensures.value c.rewrite.ensures.registers c.rewrite.ensures.scratch
+    rewrites_from c.self.inside.registers.items c.rewrite.new.registers.items c.self.inside.spare
+    c.rewrite.new.spare (inverse (change c)) _ _
+    c.deref.ensures.value c.deref-2.ensures.value c.rewrite.ensures.registers c.rewrite.ensures.spare
 
 pub returns-clause-after : goal.returns-clause-after
 returns-clause-after c = undo_leaves c.self.inside.limit c.self.inside.depth _ _ _ _ (change c) _ _ _ _
@@ -56,7 +56,7 @@ pub invariant_of-self-2 : goal.invariant_of-self-2
 invariant_of-self-2 c =
     let i = c.self.invariant in
     let w = rewritten_roomy c.self.inside.limit _ _ _ _ (inverse (change c)) (rewrites c) i.registers_roomy
-    i.scratch_roomy in
+    i.spare_roomy in
     record {
       limit_bound = i.limit_bound;
       depth_most = i.depth_most;
@@ -74,5 +74,5 @@ invariant_of-self-2 c =
           c.self.invariant.registers_within c.self.invariant.past_fits c.self.invariant.future_fits (shifts c)
           (rewrites c);
       registers_roomy = w.0;
-      scratch_roomy = w.1;
+      spare_roomy = w.1;
     }
