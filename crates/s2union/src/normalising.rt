@@ -183,7 +183,11 @@ fn merge_families(front: &[CellId], cell: CellId) -> (usize, CellId)
 pub(crate) fn parent_of_family(a: CellId, b: CellId, c: CellId, d: CellId) -> Option<CellId>
     ensures { MatchOption result ((p : ℕ) → IsFamily a b c d p → ⊥) (λ p. IsFamily a b c d p) }
 {
-    if c.id() + 2 * d.leaf_count() != d.id() {
+    let step = 2 * d.leaf_count();
+    if c.id() + step != d.id() {
+        return None;
+    }
+    if b.id() + step != c.id() {
         return None;
     }
     let level = d.level();

@@ -2,16 +2,25 @@ use Rattle.std.proofs.Common.{◌≡◌, ◌-◌, arith, ap, sym, ◌∙◌, sub
 use Rattle.std.proofs.lemmas.Bool.{false≢true}
 use Rattle.s2cell.specs.Cell.{level_of, parent_of}
 use Rattle.s2union.specs.Packed.{IsFamily}
-use Rattle.s2union.proofs.Packing.{family_deep, family_parent, family_step}
+use Rattle.s2union.proofs.Packing.{family_deep, family_parent, family_step, family_step_before}
 use Rattle.s2union.proofs.normalising.parent_of_family.Goals as goal
 
-pub returns-then-id-leaf_count : goal.returns-then-id-leaf_count
-returns-then-id-leaf_count c p f =
+pub returns-then-id-step : goal.returns-then-id-step
+returns-then-id-step c p f =
     let s = family_step c.args.a c.args.b c.args.c c.args.d p f in
     let i = c.id.ensures.value in
-    let l = c.leaf_count.ensures.value in
+    let l = c.leaf_count-step.ensures.value in
     let j = c.id-2.ensures.value in
-    let t = c.if-id-leaf_count.true in
+    let t = c.if-id-step.true in
+    absurd (omega arith)
+
+pub returns-then-id-step-2 : goal.returns-then-id-step-2
+returns-then-id-step-2 c p f =
+    let s = family_step_before c.args.a c.args.b c.args.c c.args.d p f in
+    let i = c.id-3.ensures.value in
+    let l = c.leaf_count-step.ensures.value in
+    let j = c.id-4.ensures.value in
+    let t = c.if-id-step-2.true in
     absurd (omega arith)
 
 pub returns-then-level-eq0 : goal.returns-then-level-eq0
