@@ -19,7 +19,7 @@ fn main(rt: HostRuntime) -> ExitCode {
         Err(error) => {
             return match error.kind() {
                 ErrorKind::OutOfMemory => report_end(&rt, &Err(RunFault::Memory)),
-                _ => unreadable(&rt),
+                _ => report_invalid_utf8(&rt),
             };
         }
     };
@@ -40,7 +40,7 @@ fn main(rt: HostRuntime) -> ExitCode {
         Ok(Job::Check { dir, name }) => answer_check(&rt, &dir, &name),
         Ok(Job::Draw { dir, name, curve }) => answer_draw(&rt, &dir, &name, curve),
         Ok(Job::DrawCells { words, curve }) => answer_draw_cells(&rt, words.as_slice(), curve),
-        Err(error) => not_asked(&rt, &error),
+        Err(error) => report_clap_error(&rt, &error),
     }
 }
 
@@ -138,7 +138,7 @@ fn report_end(rt: &impl Eprint, outcome: &Result<Tally, RunFault>) -> ExitCode {
 }
 
 /// Shows the help that was asked for, or what is wrong with the words.
-fn not_asked(rt: &(impl Eprint + Print), error: &clap::Error) -> ExitCode {
+fn report_clap_error(rt: &(impl Eprint + Print), error: &clap::Error) -> ExitCode {
     if error.kind() == clap::error::ErrorKind::OutOfMemory {
         return report_end(rt, &Err(RunFault::Memory));
     }
@@ -154,7 +154,7 @@ fn not_asked(rt: &(impl Eprint + Print), error: &clap::Error) -> ExitCode {
 }
 
 /// What is wrong with words that aren't UTF-8, in clap's words.
-fn unreadable(rt: &impl Eprint) -> ExitCode {
+fn report_invalid_utf8(rt: &impl Eprint) -> ExitCode {
     let status = report_misuse(rt);
     let _ = rt.eprintln(
         "error: invalid UTF-8 was detected in one or more arguments\n\nFor more information, try '--help'.",

@@ -145,14 +145,14 @@ undos_go_back old new ls replies u few s = goes_back _ old new replies (undos_le
 -- ---- changes, and then undos
 
 -- after n changes the earlier tables are n places further back
-record Behind (old mid : History (List ℕ)) (places further : ℕ) : Type 0 where
+record FurtherBack (old mid : History (List ℕ)) (places further : ℕ) : Type 0 where
   kept : places + further ≤ length mid.past
   table : table_at (tables mid) (places + further) ≡ table_at (tables old) further
 
-one_behind : (old mid : History (List ℕ)) (r : ℕ) (u : List ℕ) (k : ℕ) → mid ≡ changed old r u →
+one_further_back : (old mid : History (List ℕ)) (r : ℕ) (u : List ℕ) (k : ℕ) → mid ≡ changed old r u →
     suc k ≤ old.depth → k ≤ length old.past
     → (mid.depth ≡ old.depth) × (suc k ≤ length mid.past) × (table_at (tables mid) (suc k) ≡ table_at (tables old) k)
-one_behind old mid r u k e deep few =
+one_further_back old mid r u k e deep few =
     let past : mid.past ≡ take old.depth (tables old) = ap (λ (h : History (List ℕ)). h.past) e in
     let size = ap length past ∙ length-take old.depth (tables old) in (
       ap (λ (h : History (List ℕ)). h.depth) e,
@@ -160,10 +160,10 @@ one_behind old mid r u k e deep few =
       ap (λ (ts : List (List (List ℕ))). table_at ts k) past ∙ get_or-take old.depth (tables old) k [] (omega arith),
     )
 
-changes_behind : (old mid : World) (ls : List (List ℕ)) (replies : List Reply) (further : ℕ) →
+changes_further_back : (old mid : World) (ls : List (List ℕ)) (replies : List Reply) (further : ℕ) →
     AllChange old ls replies mid → length ls + further ≤ old.state.depth → further ≤ length old.state.past
-    → Behind old.state mid.state (length ls) further
-changes_behind old mid [] [] further c deep few =
+    → FurtherBack old.state mid.state (length ls) further
+changes_further_back old mid [] [] further c deep few =
     let same : mid.state ≡ old.state = ap (λ (w : World). w.state) c in
     let none : 0 + further ≡ further = omega arith in
     record {
@@ -171,13 +171,13 @@ changes_behind old mid [] [] further c deep few =
       table = ap (λ (k : ℕ). table_at (tables mid.state) k) none
           ∙ ap (λ (h : History (List ℕ)). table_at (tables h) further) same;
     }
-changes_behind old mid [] (reply ∷ replies) further c deep few = absurd c
-changes_behind old mid (line ∷ ls) [] further c deep few = absurd c
-changes_behind old mid (line ∷ ls) (reply ∷ replies) further (next, one, c) deep few =
-    let b = one_behind old.state next.state one.register one.list further one.state (omega arith) few in
+changes_further_back old mid [] (reply ∷ replies) further c deep few = absurd c
+changes_further_back old mid (line ∷ ls) [] further c deep few = absurd c
+changes_further_back old mid (line ∷ ls) (reply ∷ replies) further (next, one, c) deep few =
+    let b = one_further_back old.state next.state one.register one.list further one.state (omega arith) few in
     let depths = b.0 in
     let long = b.1 in
-    let more = changes_behind next mid ls replies (suc further) c (omega arith) b.1 in
+    let more = changes_further_back next mid ls replies (suc further) c (omega arith) b.1 in
     let kept = more.kept in
     let place : length (line ∷ ls) + further ≡ length ls + suc further = omega arith in
     record { kept = omega arith; table = ap (λ (k : ℕ). table_at (tables mid.state) k) place ∙ more.table ∙ b.2 }
@@ -187,7 +187,7 @@ given_back : (old mid new : World) (edits undos : List (List ℕ)) (replies answ
     → length undos ≤ old.state.depth → further ≤ length old.state.past → Steps mid undos answers new →
     GoesBack (table_at (tables old.state) further) mid answers new
 given_back old mid new edits undos replies answers further c u e deep few s =
-    let b = changes_behind old mid edits replies further c (omega arith) few in
+    let b = changes_further_back old mid edits replies further c (omega arith) few in
     let kept = b.kept in
     let back = undos_go_back mid new undos answers u (omega arith) s in
     let place : table_at (tables mid.state) (length undos) ≡ table_at (tables old.state) further =

@@ -19,7 +19,7 @@ ghost use Rattle.s2calc.specs.Explained.{Point, point, RunsExplained};
 use crate::answer_buffer::AnswerBuffer;
 use crate::execute::{Outcome, asks_for_file, execute};
 use crate::fault::RunFault;
-use crate::flushing::{AtTheEnd, Flushing, Promptly, beside_file};
+use crate::flushing::{AtTheEnd, Flushing, Promptly, around_file_command};
 use crate::limits::{MOST_WAITING, READ_SIZE};
 use crate::notes::{NoNotes, NoteWriter, Notes};
 use crate::progress::Progress;
@@ -114,11 +114,11 @@ fn answer_kept<W: Write, S: Shelf, F: Flushing<W>, N: Notes>(
 {
     let said = parse(progress.kept.as_slice());
     let has_file = asks_for_file(&said);
-    beside_file::<W, F>(has_file, writer)?;
+    around_file_command::<W, F>(has_file, writer)?;
     let outcome = execute::<W, S, F>(alloc, editor, said, writer, shelf)?;
     progress.count(outcome);
     notes.note(progress.lines, progress.kept.as_slice(), outcome);
-    beside_file::<W, F>(has_file, writer)
+    around_file_command::<W, F>(has_file, writer)
 }
 
 /// Runs a script: its lines come from the reader, its answers go to the writer, and its files are on the shelf.

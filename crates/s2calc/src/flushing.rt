@@ -55,16 +55,16 @@ impl<W: Write> Flushing<AnswerBuffer<W>> for Promptly {
     ghost may_fail = { Unit {0} };
 
     fn in_between(writer: &mut AnswerBuffer<W>) -> Result<(), RunFault> {
-        handed_over(writer)
+        flush_buffer(writer)
     }
 
     fn at_the_end(writer: &mut AnswerBuffer<W>) -> Result<(), RunFault> {
-        handed_over(writer)
+        flush_buffer(writer)
     }
 }
 
 /// Flushes the buffer.
-fn handed_over<W: Write>(writer: &mut AnswerBuffer<W>) -> Result<(), RunFault>
+fn flush_buffer<W: Write>(writer: &mut AnswerBuffer<W>) -> Result<(), RunFault>
     ensures kept { Keeps (written_to W.contents writer.old) (written_to W.contents writer.new) }
     ensures sent { OnOk result (writer.new.waiting ≡ []) }
     ensures fault { IfErr result (λ fault. fault ≡ RunFault.Output) }
@@ -76,7 +76,7 @@ fn handed_over<W: Write>(writer: &mut AnswerBuffer<W>) -> Result<(), RunFault>
 }
 
 /// What happens before and after a line, if it asks for a command with a file.
-pub(crate) fn beside_file<W: Write, F: Flushing<W>>(
+pub(crate) fn around_file_command<W: Write, F: Flushing<W>>(
     has_file: bool,
     writer: &mut W,
 ) -> Result<(), RunFault>

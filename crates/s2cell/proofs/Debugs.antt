@@ -192,7 +192,7 @@ pub debug_read_whole : (text rest : List ℕ) (i place id : ℕ) → drop 2 text
     length rest ≤ 30 → length rest ≤ i → i ≤ length rest
     → DebugRead rest (digit_value (get_or text 0 0)) i place → get_or text 1 0 ≡ 47
     → id ≡ (2 * place + 1) * 2 ^ (2 * (30 - length rest)) % 2 ^ 64 → IsDebug text id
-debug_read_whole text rest i place id behind two most low high r slash e =
+debug_read_whole text rest i place id after two most low high r slash e =
     let face = digit_value (get_or text 0 0) in
     let same : i ≡ length rest = omega arith in
     let all : take i rest ≡ rest = take_all i rest low in
@@ -216,14 +216,14 @@ debug_read_whole text rest i place id behind two most low high r slash e =
     let first : digit_value (get_or text 0 0) + 48 ≡ get_or text 0 0 =
     digit_value_digit (get_or text 0 0) (digit_from_value (get_or text 0 0) (let f = r.face_small in
     omega arith)) in
-    let len : length rest ≡ length text - 2 = ap length (sym behind) ∙ length-drop 2 text in
+    let len : length rest ≡ length text - 2 = ap length (sym after) ∙ length-drop 2 text in
     record {
       cell = (length rest, place, at);
       length_is = omega arith;
       face = omega arith;
       slash = slash;
-      digits = rw behind digits;
-      value = rw (behind, own, level) (sym (ap (λ x. x % 4 ^ length rest) read
+      digits = rw after digits;
+      value = rw (after, own, level) (sym (ap (λ x. x % 4 ^ length rest) read
           ∙ mod-mul-add face (4 ^ length rest) (digits_value 4 rest) tail));
     }
 

@@ -43,12 +43,12 @@ fn ten_bits(x: u32, shift: u32) -> u32
     (x >> shift) & 1023
 }
 
-/// The five digits of a leaf that are followed by `behind` more digits.
-fn five_digits(leaf: u64, behind: u32) -> u32
-    requires { behind < 32 }
-    ensures { result ≡ leaf / 4 ^ behind % 1024 }
+/// The five digits of a leaf that are followed by `after` more digits.
+fn five_digits(leaf: u64, after: u32) -> u32
+    requires { after < 32 }
+    ensures { result ≡ leaf / 4 ^ after % 1024 }
 {
-    ((leaf >> (2 * behind)) & 1023) as u32
+    ((leaf >> (2 * after)) & 1023) as u32
 }
 
 /// What an entry has above its six lowest bits: five digits, or five bits of each coordinate.

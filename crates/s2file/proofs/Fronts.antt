@@ -106,8 +106,8 @@ pub move_front : (bytes : List ℕ) (m : Moved) (r : List ℕ) → bytes ≡ mov
     bytes ≡ m.register ∷ (list_text m.out ++ (list_text m.put ++ r))
 move_front bytes m r e = e ∙ ap (λ (l : List ℕ). m.register ∷ l) (append_assoc (list_text m.out) (list_text m.put) r)
 
-pub behind_byte : (x y : ℕ) (xs ys : List ℕ) → x ∷ xs ≡ y ∷ ys → (x ≡ y) × (xs ≡ ys)
-behind_byte x y xs ys e = (cc, cc)
+pub after_byte : (x y : ℕ) (xs ys : List ℕ) → x ∷ xs ≡ y ∷ ys → (x ≡ y) × (xs ≡ ys)
+after_byte x y xs ys e = (cc, cc)
 
 same_moved : (m n : Moved) → m.register ≡ n.register → m.out ≡ n.out → m.put ≡ n.put → m ≡ n
 same_moved m n e f g =
@@ -120,7 +120,7 @@ pub same_move : (bytes : List ℕ) (m n : Moved) (r q : List ℕ) → bytes ≡ 
     bytes ≡ move_text n ++ q → AreCells m.out → AreCells m.put →
     AreCells n.out → AreCells n.put → (m ≡ n) × (r ≡ q)
 same_move bytes m n r q e f mo mp po pp =
-    let b = behind_byte _ _ _ _ (sym (move_front bytes m r e) ∙ move_front bytes n q f) in
+    let b = after_byte _ _ _ _ (sym (move_front bytes m r e) ∙ move_front bytes n q f) in
     let out = one_list (list_text m.out ++ (list_text m.put ++ r)) m.out n.out (list_text m.put ++ r)
     (list_text n.put ++ q) (record { is = refl; ok = mo }) (record { is = b.1; ok = po }) in
     let put = one_list (list_text m.put ++ r) m.put n.put r q (record { is = refl; ok = mp })
@@ -151,9 +151,9 @@ one_registers bytes a b r q f g =
     (sym f.is ∙ g.is)
 
 -- the three parts of a session, from the front
-pub record Parts (bytes : List ℕ) (s : Content) (behind last rest : List ℕ) : Type 0 where
-  pub registers : Begins registers_text AreRegisters bytes s.registers behind
-  pub past : Begins moves_text AreMoves behind s.past last
+pub record Parts (bytes : List ℕ) (s : Content) (after last rest : List ℕ) : Type 0 where
+  pub registers : Begins registers_text AreRegisters bytes s.registers after
+  pub past : Begins moves_text AreMoves after s.past last
   pub future : Begins moves_text AreMoves last s.future rest
 
 pub parts_of : (bytes : List ℕ) (s : Content) → IsContent s → bytes ≡ parts_text s →

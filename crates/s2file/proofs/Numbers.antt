@@ -43,10 +43,10 @@ drop-number_texts (x ∷ xs) (suc i) h =
     let text = number_text x in
     let rest = flat_map number_text xs in
     let step : 8 * suc i ≡ 8 + 8 * i = omega arith in
-    let behind : drop (8 * suc i) (text ++ rest) ≡ drop (8 * i) rest =
+    let after : drop (8 * suc i) (text ++ rest) ≡ drop (8 * i) rest =
     ap (λ (k : ℕ). drop k (text ++ rest)) step ∙ sym (drop-drop (8 * i) 8 (text ++ rest))
     ∙ ap (drop (8 * i)) (drop_at text rest 8 (length-number_text x)) in
-    (more.0, behind ∙ more.1)
+    (more.0, after ∙ more.1)
 
 pub length-number_texts : (ids : List ℕ) → length (flat_map number_text ids) ≡ 8 * length ids
 length-number_texts [] = refl

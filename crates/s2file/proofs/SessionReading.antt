@@ -25,7 +25,7 @@ use Rattle.s2file.specs.SessionParts.{registers_text, SpellsCells}
 use Rattle.s2file.proofs.Numbers.{first_number-number_text, length-number_text, first_number-append}
 use Rattle.s2file.proofs.Numbers.{length-number_texts}
 use Rattle.s2file.proofs.Fronts.{IsOneWay, one_number, one_cell, one_list, one_move, one_row, one_register, no_more}
-use Rattle.s2file.proofs.Fronts.{same_move, behind_byte, register_cells, change_cells, list_count, move_front}
+use Rattle.s2file.proofs.Fronts.{same_move, after_byte, register_cells, change_cells, list_count, move_front}
 
 pub refuses : (fault : SessionFault) (P Q : Type 0) → (P → Q) → Refuses fault P → Refuses fault Q
 refuses Form P Q f h = f h
@@ -77,19 +77,19 @@ number_short bytes l n rest f =
     absurd (omega (arith, ap length f.is, length-append (number_text n) rest, length-number_text n))
 
 -- the cells of a list
-module _ (bytes behind : List ℕ) (count : ℕ) (n : Begins number_text IsNumber bytes count behind) where
-  pub list_begins : (numbers rest ids : List ℕ) → count ≤ SESSION_CELLS → 8 * count ≤ length behind →
-      numbers ≡ take (8 * count) behind → rest ≡ drop (8 * count) behind
+module _ (bytes after : List ℕ) (count : ℕ) (n : Begins number_text IsNumber bytes count after) where
+  pub list_begins : (numbers rest ids : List ℕ) → count ≤ SESSION_CELLS → 8 * count ≤ length after →
+      numbers ≡ take (8 * count) after → rest ≡ drop (8 * count) after
       → SpellsCells numbers ids → Begins list_text AreCells bytes ids rest
   list_begins numbers rest ids most enough f r s =
-      let whole : behind ≡ flat_map number_text ids ++ rest =
-      sym (take-append-drop (8 * count) behind) ∙ ap (λ (x : List ℕ). x ++ drop (8 * count) behind) (sym f ∙ s.is)
+      let whole : after ≡ flat_map number_text ids ++ rest =
+      sym (take-append-drop (8 * count) after) ∙ ap (λ (x : List ℕ). x ++ drop (8 * count) after) (sym f ∙ s.is)
       ∙ ap (λ (x : List ℕ). flat_map number_text ids ++ x) (sym r) in
       let len : length ids ≡ count = omega (
         arith,
         ap length f,
         ap length s.is,
-        length-take (8 * count) behind,
+        length-take (8 * count) after,
         length-number_texts ids,
       ) in
       record {
@@ -100,23 +100,23 @@ module _ (bytes behind : List ℕ) (count : ℕ) (n : Begins number_text IsNumbe
       }
 
   counted : (ids rest : List ℕ) → Begins list_text AreCells bytes ids rest → (count ≡ length ids)
-      × (behind ≡ flat_map number_text ids ++ rest)
-  counted ids rest f = one_number bytes count (length ids) behind (flat_map number_text ids ++ rest) n
+      × (after ≡ flat_map number_text ids ++ rest)
+  counted ids rest f = one_number bytes count (length ids) after (flat_map number_text ids ++ rest) n
       (list_count bytes ids rest f)
 
   pub list_counts_many : SESSION_CELLS < count → BeginsNone list_text AreCells bytes
   list_counts_many many ids rest f = absurd (omega (arith, (counted ids rest f).0, f.ok.few))
 
-  pub list_ends : length behind < 8 * count → BeginsNone list_text AreCells bytes
+  pub list_ends : length after < 8 * count → BeginsNone list_text AreCells bytes
   list_ends short ids rest f =
       let c = counted ids rest f in
       absurd (omega (arith, c.0, ap length c.1, length-append (flat_map number_text ids) rest, length-number_texts ids))
 
-  pub list_wrong : (numbers : List ℕ) → numbers ≡ take (8 * count) behind →
+  pub list_wrong : (numbers : List ℕ) → numbers ≡ take (8 * count) after →
       ((ids : List ℕ) → SpellsCells numbers ids → ⊥) → BeginsNone list_text AreCells bytes
   list_wrong numbers f none ids rest g =
       let c = counted ids rest g in
-      let e : take (8 * count) behind ≡ flat_map number_text ids =
+      let e : take (8 * count) after ≡ flat_map number_text ids =
       ap (take (8 * count)) c.1 ∙ take_at (flat_map number_text ids) rest (8 * count)
       (omega (arith, c.0, length-number_texts ids)) in
       none ids (record { is = f ∙ e; valid = g.ok.valid })

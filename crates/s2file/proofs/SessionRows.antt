@@ -13,28 +13,28 @@ use Rattle.s2file.specs.SessionParts.{Begins, BeginsNone, IsNumber, AreCells, Ar
 use Rattle.s2file.specs.SessionParts.{registers_text, row_text}
 use Rattle.s2file.specs.declared.TheConstants.{SESSION_REGISTERS, SESSION_CHANGES}
 use Rattle.s2file.proofs.Fronts.{IsOneWay, one_number, one_list, one_move, one_moves, one_registers, one_register}
-use Rattle.s2file.proofs.Fronts.{no_more, same_move, behind_byte, change_cells, move_front, moves_count, Parts}
+use Rattle.s2file.proofs.Fronts.{no_more, same_move, after_byte, change_cells, move_front, moves_count, Parts}
 use Rattle.s2file.proofs.Fronts.{parts_of, one_session}
 use Rattle.s2file.proofs.SessionReading.{row_more}
 
 -- a change
 module _ (bytes lists : List ℕ) (r : ℕ) (e : bytes ≡ r ∷ lists) where
-  parts_behind : (m : Moved) (rest : List ℕ) → Begins move_text IsMoved bytes m rest → (r ≡ m.register)
+  parts_after : (m : Moved) (rest : List ℕ) → Begins move_text IsMoved bytes m rest → (r ≡ m.register)
       × (lists ≡ list_text m.out ++ (list_text m.put ++ rest))
-  parts_behind m rest g = behind_byte _ _ _ _ (sym e ∙ move_front bytes m rest g.is)
+  parts_after m rest g = after_byte _ _ _ _ (sym e ∙ move_front bytes m rest g.is)
 
   pub move_without_out : BeginsNone list_text AreCells lists → BeginsNone move_text IsMoved bytes
   move_without_out none m rest g =
-      none m.out (list_text m.put ++ rest) (record { is = (parts_behind m rest g).1; ok = change_cells m.out g.ok.out })
+      none m.out (list_text m.put ++ rest) (record { is = (parts_after m rest g).1; ok = change_cells m.out g.ok.out })
 
-  module _ (out behind : List ℕ) (o : Begins list_text AreCells lists out behind) where
-    pub move_without_put : BeginsNone list_text AreCells behind → BeginsNone move_text IsMoved bytes
+  module _ (out after : List ℕ) (o : Begins list_text AreCells lists out after) where
+    pub move_without_put : BeginsNone list_text AreCells after → BeginsNone move_text IsMoved bytes
     move_without_put none m rest g =
-        let same = one_list lists out m.out behind (list_text m.put ++ rest) o
-        (record { is = (parts_behind m rest g).1; ok = change_cells m.out g.ok.out }) in
+        let same = one_list lists out m.out after (list_text m.put ++ rest) o
+        (record { is = (parts_after m rest g).1; ok = change_cells m.out g.ok.out }) in
         none m.put rest (record { is = same.1; ok = change_cells m.put g.ok.put })
 
-    module _ (put rest : List ℕ) (p : Begins list_text AreCells behind put rest) where
+    module _ (put rest : List ℕ) (p : Begins list_text AreCells after put rest) where
       moved : Moved
       moved = record { register = r; out = out; put = put }
 
@@ -104,21 +104,21 @@ row_none bytes xs mid count r few none ms rest f =
     (sym r.is ∙ f.is) none
 
 -- changes after their count
-module _ (bytes behind : List ℕ) (count : ℕ) (n : Begins number_text IsNumber bytes count behind) where
+module _ (bytes after : List ℕ) (count : ℕ) (n : Begins number_text IsNumber bytes count after) where
   counted : (ms : List Moved) (rest : List ℕ) → Begins moves_text AreMoves bytes ms rest → (count ≡ length ms)
-      × (behind ≡ flat_map move_text ms ++ rest)
-  counted ms rest f = one_number bytes count (length ms) behind (flat_map move_text ms ++ rest) n
+      × (after ≡ flat_map move_text ms ++ rest)
+  counted ms rest f = one_number bytes count (length ms) after (flat_map move_text ms ++ rest) n
       (moves_count bytes ms rest f)
 
   pub moves_count_many : SESSION_CHANGES < count → BeginsNone moves_text AreMoves bytes
   moves_count_many many ms rest f = absurd (omega (arith, many, (counted ms rest f).0, f.ok.few))
 
-  pub moves_none : BeginsNone row_text (IsRow count) behind → BeginsNone moves_text AreMoves bytes
+  pub moves_none : BeginsNone row_text (IsRow count) after → BeginsNone moves_text AreMoves bytes
   moves_none none ms rest f =
       let c = counted ms rest f in
       none ms rest (record { is = c.1; ok = record { len = sym c.0; each = f.ok.each } })
 
-  pub moves_begin : (ms : List Moved) (rest : List ℕ) → Begins row_text (IsRow count) behind ms rest →
+  pub moves_begin : (ms : List Moved) (rest : List ℕ) → Begins row_text (IsRow count) after ms rest →
       count ≤ SESSION_CHANGES
       → Begins moves_text AreMoves bytes ms rest
   moves_begin ms rest r few = record {
@@ -132,46 +132,46 @@ pub moves_uncounted : (bytes : List ℕ) → BeginsNone number_text IsNumber byt
 moves_uncounted bytes none ms rest f = none (length ms) (flat_map move_text ms ++ rest) (moves_count bytes ms rest f)
 
 -- a session file
-behind_two : (a b c d : ℕ) (xs ys : List ℕ) → a ∷ b ∷ xs ≡ c ∷ d ∷ ys → xs ≡ ys
-behind_two a b c d xs ys e = (behind_byte b d xs ys (behind_byte a c (b ∷ xs) (d ∷ ys) e).1).1
+after_two : (a b c d : ℕ) (xs ys : List ℕ) → a ∷ b ∷ xs ≡ c ∷ d ∷ ys → xs ≡ ys
+after_two a b c d xs ys e = (after_byte b d xs ys (after_byte a c (b ∷ xs) (d ∷ ys) e).1).1
 
 module _ (bytes parts : List ℕ) (e : bytes ≡ 0x73 ∷ 1 ∷ parts) where
   whole : (s : Content) → IsSessionFile bytes s →
       Parts parts s (moves_text s.past ++ moves_text s.future) (moves_text s.future) []
-  whole s f = parts_of parts s f.content (behind_two 0x73 1 0x73 1 parts (parts_text s) (sym e ∙ f.text))
+  whole s f = parts_of parts s f.content (after_two 0x73 1 0x73 1 parts (parts_text s) (sym e ∙ f.text))
 
   pub file_without_registers : BeginsNone registers_text AreRegisters parts → (s : Content) → IsSessionFile bytes s → ⊥
   file_without_registers none s f = none s.registers (moves_text s.past ++ moves_text s.future) (whole s f).registers
 
-  module _ (registers : List (List ℕ)) (behind : List ℕ)
-      (r : Begins registers_text AreRegisters parts registers behind) where
-    pub file_without_past : BeginsNone moves_text AreMoves behind → (s : Content) → IsSessionFile bytes s → ⊥
+  module _ (registers : List (List ℕ)) (after : List ℕ)
+      (r : Begins registers_text AreRegisters parts registers after) where
+    pub file_without_past : BeginsNone moves_text AreMoves after → (s : Content) → IsSessionFile bytes s → ⊥
     file_without_past none s f =
-        let same = one_registers parts registers s.registers behind (moves_text s.past ++ moves_text s.future) r
+        let same = one_registers parts registers s.registers after (moves_text s.past ++ moves_text s.future) r
         (whole s f).registers in
         none s.past (moves_text s.future)
         (subst (λ (l : List ℕ). Begins moves_text AreMoves l s.past (moves_text s.future)) (sym same.1)
         (whole s f).past)
 
-    module _ (past : List Moved) (last : List ℕ) (p : Begins moves_text AreMoves behind past last) where
+    module _ (past : List Moved) (last : List ℕ) (p : Begins moves_text AreMoves after past last) where
       pub file_without_future : BeginsNone moves_text AreMoves last → (s : Content) → IsSessionFile bytes s → ⊥
       file_without_future none s f =
-          let same = one_registers parts registers s.registers behind (moves_text s.past ++ moves_text s.future) r
+          let same = one_registers parts registers s.registers after (moves_text s.past ++ moves_text s.future) r
           (whole s f).registers in
-          let sides = one_moves behind past s.past last (moves_text s.future) p
+          let sides = one_moves after past s.past last (moves_text s.future) p
           (subst (λ (l : List ℕ). Begins moves_text AreMoves l s.past (moves_text s.future)) (sym same.1)
           (whole s f).past) in
           none s.future [] (subst (λ (l : List ℕ). Begins moves_text AreMoves l s.future []) (sym sides.1)
           (whole s f).future)
 
       module _ (future : List Moved) (rest : List ℕ) (q : Begins moves_text AreMoves last future rest) where
-        read : Parts parts (record { registers = registers; past = past; future = future }) behind last rest
+        read : Parts parts (record { registers = registers; past = past; future = future }) after last rest
         read = record { registers = r; past = p; future = q }
 
         same_session : (s : Content) → IsSessionFile bytes s →
             (record { registers = registers; past = past; future = future } ≡ s) × (rest ≡ [])
         same_session s f =
-            one_session parts (record { registers = registers; past = past; future = future }) s behind last rest
+            one_session parts (record { registers = registers; past = past; future = future }) s after last rest
             (moves_text s.past ++ moves_text s.future) (moves_text s.future) [] read (whole s f)
 
         pub file_with_more : rest ≢ [] → (s : Content) → IsSessionFile bytes s → ⊥

@@ -21,8 +21,8 @@ text_is_file ids cells most =
       most = most;
       length_is = omega (arith, length-append count texts, length-number_text (length ids), length-number_texts ids);
       numbers = λ i h. let piece = drop-number_texts ids i h in
-          let behind : drop 8 (count ++ texts) ≡ texts = drop_at count texts 8 (length-number_text (length ids)) in
-          sym (ap (λ (l : List ℕ). first_number (drop (8 * i) l)) behind ∙ ap first_number piece.1
+          let after : drop 8 (count ++ texts) ≡ texts = drop_at count texts 8 (length-number_text (length ids)) in
+          sym (ap (λ (l : List ℕ). first_number (drop (8 * i) l)) after ∙ ap first_number piece.1
           ∙ first_number-number_text (slice_index ids i) piece.0
           (fits_u64 (slice_index ids i) (All-get_or IsCell ids i 0 h cells)));
       cells = cells;

@@ -88,9 +88,9 @@ pub(crate) fn registers_at(
     let mut registers = Vec::new(alloc);
     let mut rest = bytes;
     for _i in 0..SESSION_REGISTERS {
-        let (union, behind) = register_at(alloc, rest)?;
+        let (union, after) = register_at(alloc, rest)?;
         registers.push(union)?;
-        rest = behind;
+        rest = after;
     }
     Ok((registers, rest))
 }
@@ -103,8 +103,8 @@ fn move_at(alloc: Global, bytes: &[u8]) -> Result<(Move, &[u8]), SessionFault>
     let Some((&register, lists)) = bytes.split_first() else {
         return Err(SessionFault::Form);
     };
-    let (out, behind) = cells_at(alloc, lists)?;
-    let (put, rest) = cells_at(alloc, behind)?;
+    let (out, after) = cells_at(alloc, lists)?;
+    let (put, rest) = cells_at(alloc, after)?;
     if !is_change(register, &out, &put) {
         return Err(SessionFault::Form);
     }
@@ -139,11 +139,11 @@ pub(crate) fn moves_at(alloc: Global, bytes: &[u8]) -> Result<(Vec<Move>, &[u8])
     ensures { MatchResult result (λ x. Begins moves_text AreMoves bytes.now (map moved_of x.0.items) x.1.now)
         (λ fault. Refuses fault (BeginsNone moves_text AreMoves bytes.now)) }
 {
-    let (count, behind) = number_at(bytes)?;
+    let (count, after) = number_at(bytes)?;
     if count > SESSION_CHANGES as u64 {
         return Err(SessionFault::Form);
     }
-    let (moves, rest) = row_at(alloc, behind, count as usize)?;
+    let (moves, rest) = row_at(alloc, after, count as usize)?;
     Ok((moves, rest))
 }
 
@@ -155,9 +155,9 @@ fn row_at(alloc: Global, bytes: &[u8], count: usize) -> Result<(Vec<Move>, &[u8]
     let mut moves = Vec::new(alloc);
     let mut rest = bytes;
     for _i in 0..count {
-        let (change, behind) = move_at(alloc, rest)?;
+        let (change, after) = move_at(alloc, rest)?;
         moves.push(change)?;
-        rest = behind;
+        rest = after;
     }
     Ok((moves, rest))
 }

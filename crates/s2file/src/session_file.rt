@@ -114,11 +114,11 @@ fn session_of_parts(alloc: Global, bytes: &[u8]) -> Result<Session, SessionFault
     ensures { MatchResult result (λ session. IsSessionFile bytes.now (content_of session))
         (λ fault. Refuses fault ((s : Content) → IsSessionFile bytes.now s → ⊥)) }
 {
-    let Some(parts) = behind_head(bytes) else {
+    let Some(parts) = after_head(bytes) else {
         return Err(SessionFault::Form);
     };
-    let (registers, behind) = registers_at(alloc, parts)?;
-    let (past, last) = moves_at(alloc, behind)?;
+    let (registers, after) = registers_at(alloc, parts)?;
+    let (past, last) = moves_at(alloc, after)?;
     let (future, rest) = moves_at(alloc, last)?;
     if !rest.is_empty() {
         return Err(SessionFault::Form);
@@ -134,12 +134,12 @@ fn session_of_parts(alloc: Global, bytes: &[u8]) -> Result<Session, SessionFault
 }
 
 /// The bytes after the two that a session file begins with.
-fn behind_head(bytes: &[u8]) -> Option<&[u8]>
+fn after_head(bytes: &[u8]) -> Option<&[u8]>
     ensures { MatchOption result ((rest : List ℕ) → bytes.now ≡ 0x73 ∷ 1 ∷ rest → ⊥)
         (λ rest. bytes.now ≡ 0x73 ∷ 1 ∷ rest.now) }
 {
-    let (&first, behind) = bytes.split_first()?;
-    let (&second, parts) = behind.split_first()?;
+    let (&first, after) = bytes.split_first()?;
+    let (&second, parts) = after.split_first()?;
     if first != FIRST {
         return None;
     }

@@ -8,7 +8,7 @@ use Rattle.s2cell.proofs.CellLemmas.{cell_leaves, trailing_even}
 use Rattle.s2script.specs.Named.{cell_named}
 use Rattle.s2script.proofs.NamedLemmas.{token_some, token_none}
 
--- in either case, and with zeros behind it
+-- in either case, and with zeros after it
 pub token_0C00 : cell_named (codes "0C00") ≡ Some 0x0c00_0000_0000_0000
 unfolding cell_named
 token_0C00 =

@@ -12,13 +12,13 @@ use Rattle.s2script.specs.Misfits.{refusal_of}
 use Rattle.s2script.specs.Table.{command_of}
 
 -- the command of a line's words, by the first word; none if there are no words
-abbrev pub asked_by : List (List ℕ) → Result (Option Command) Misfit
-asked_by [] = Ok None
-asked_by (name ∷ ws) = command_of name ws gives λ command. Some command
+abbrev pub command_in : List (List ℕ) → Result (Option Command) Misfit
+command_in [] = Ok None
+command_in (name ∷ ws) = command_of name ws gives λ command. Some command
 
 -- the command of a line that is not too long; none for a comment
 abbrev pub read_within : List ℕ → Result (Option Command) Misfit
-read_within line = if is_comment line then Ok None else asked_by (words (without_cr line))
+read_within line = if is_comment line then Ok None else command_in (words (without_cr line))
 
 -- the command that a line asks for, if it asks for one, or where the line does not fit
 unfoldable pub reading_of : List ℕ → Result (Option Command) Misfit

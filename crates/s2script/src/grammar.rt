@@ -2,7 +2,7 @@
 ghost use Rattle.std.specs.Prelude.{◌≡◌, MatchOption};
 ghost use Rattle.s2script.specs.Words.{is_comment, without_cr};
 ghost use Rattle.s2script.specs.Misfits.{refusal_of};
-ghost use Rattle.s2script.specs.Line.{line_of, misfit_of, reading_of, read_within, asked_by};
+ghost use Rattle.s2script.specs.Line.{line_of, misfit_of, reading_of, read_within, command_in};
 ghost use Rattle.s2script.specs.declared.refusal.Refusal.{Refusal};
 ghost use Rattle.s2script.specs.declared.command.Parsed.TheVariants.{Fails};
 
@@ -58,7 +58,7 @@ fn read_within(line: &[u8]) -> Result<Option<Command<'_>>, Misfit<'_>>
     if is_comment(line) {
         Ok(None)
     } else {
-        asked_by(Words::of(without_cr(line)))
+        command_in(Words::of(without_cr(line)))
     }
 }
 
@@ -83,8 +83,8 @@ fn without_cr(line: &[u8]) -> &[u8]
 }
 
 /// The command of a line's words, by the first word. None if there are no words.
-fn asked_by(mut words: Words<'_>) -> Result<Option<Command<'_>>, Misfit<'_>>
-    ensures { result ≡ asked_by words.entry }
+fn command_in(mut words: Words<'_>) -> Result<Option<Command<'_>>, Misfit<'_>>
+    ensures { result ≡ command_in words.entry }
 {
     let Some(name) = words.next() else {
         return Ok(None);

@@ -7,9 +7,9 @@ pub returns-clause-answers : goal.returns-clause-answers
 returns-clause-answers g c =
     let done = c.in_ok-outcome.ensures.executes in
     let said_is = c.parse-said.ensures ∙ ap line_of c.as_slice.ensures in
-    AnswersKept-flushed _ _ _ _ _ said_is _ _ _ _ c.beside_file-2.result c.asks_for_file-has_file.ensures
-    c.beside_file-2.ensures.fault
-    (Answered-between _ _ _ _ _ said_is _ _ _ _ done.reply _ done.step c.beside_file.ensures.kept done.writes.1
-    c.beside_file-2.ensures.kept c.count.ensures.kept
+    AnswersKept-flushed _ _ _ _ _ said_is _ _ _ _ c.around_file_command-2.result c.asks_for_file-has_file.ensures
+    c.around_file_command-2.ensures.fault
+    (Answered-between _ _ _ _ _ said_is _ _ _ _ done.reply _ done.step c.around_file_command.ensures.kept done.writes.1
+    c.around_file_command-2.ensures.kept c.count.ensures.kept
     (λ replies e. c.count.ensures.tally done.reply replies done.writes.0 e) c.count.ensures.lines
     (c.as_slice-2.ensures ∙ c.count.ensures.kept) (c.note.ensures done.reply done.writes.0))

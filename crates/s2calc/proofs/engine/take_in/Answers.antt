@@ -14,9 +14,9 @@ cut_at chunk seen rest at e h =
     e ∙ ap (λ s. seen ++ s) (sym (take-append-drop at rest) ∙ ap (λ s. take at rest ++ s) h.here)
     ∙ sym (append_assoc seen (take at rest) (10 ∷ drop (at + 1) rest))
 
-cut_behind : (chunk seen rest : List ℕ) (at : ℕ) → chunk ≡ seen ++ rest → EndsLineAt rest at →
+cut_after : (chunk seen rest : List ℕ) (at : ℕ) → chunk ≡ seen ++ rest → EndsLineAt rest at →
     chunk ≡ ((seen ++ take at rest) ++ 10 ∷ []) ++ take (length rest - (at + 1)) (drop (at + 1) rest)
-cut_behind chunk seen rest at e h =
+cut_after chunk seen rest at e h =
     cut_at chunk seen rest at e h ∙ sym (append_assoc (seen ++ take at rest) (10 ∷ []) (drop (at + 1) rest))
     ∙ ap (λ s. ((seen ++ take at rest) ++ 10 ∷ []) ++ s) (sym (take_rest rest (at + 1)))
 
@@ -50,7 +50,7 @@ loop-at-preserved g c =
     let ends = c.in-Some.ensures.some in
     let done = c.in_ok-answer_kept.ensures.answers in (
       (i.0 ++ take c.in-Some.at rest) ++ 10 ∷ [],
-      cut_behind _ i.0 rest c.in-Some.at i.1 ends,
+      cut_after _ i.0 rest c.in-Some.at i.1 ends,
       λ start script replies s.
           StandsAfter-line start script replies i.0 (take c.in-Some.at rest) _ _ _ _ _ _ _ _ _
           (i.2 start script replies s) ends.before c.keep.ensures refl refl done c.clear.ensures refl refl,

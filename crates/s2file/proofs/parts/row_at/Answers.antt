@@ -14,7 +14,7 @@ loop-i-init c = rw c.new-moves.ensures.items (record { row = record { is = refl;
 pub loop-i-preserved : goal.loop-i-preserved
 loop-i-preserved c = rw c.in_ok-push.ensures.items (record {
   row = row_push_view moved_of move_text IsMoved c.args.bytes.now c.loop-i.moves.items c.in_ok-change.change
-      c.loop-i.rest.now c.in_ok-change.behind.now c.loop-i.invariant.row c.in_ok-change.ensures;
+      c.loop-i.rest.now c.in_ok-change.after.now c.loop-i.invariant.row c.in_ok-change.ensures;
   count = length_push c.loop-i.moves.items c.in_ok-change.change ∙ ap (λ (n : ℕ). n + 1) c.loop-i.invariant.count;
 })
 

@@ -17,10 +17,10 @@ pub returns-in_err-past : goal.returns-in_err-past
 unfolding lists
 returns-in_err-past c =
     let p = err_from_is_err_and c.from_residual-in_err-past.result c.from_residual-in_err-past.ensures.1 in
-    rw (p.1, p.2) (refuses c.in_err-past.field-0.0 (BeginsNone moves_text AreMoves c.in_ok-registers.behind.now)
+    rw (p.1, p.2) (refuses c.in_err-past.field-0.0 (BeginsNone moves_text AreMoves c.in_ok-registers.after.now)
     ((s : Content) → IsSessionFile c.args.bytes.now s → ⊥)
     (file_without_past c.args.bytes.now c.in-Some.parts.now c.in-Some.ensures
-    (lists c.in_ok-registers.registers.items) c.in_ok-registers.behind.now c.in_ok-registers.ensures)
+    (lists c.in_ok-registers.registers.items) c.in_ok-registers.after.now c.in_ok-registers.ensures)
     c.in_err-past.ensures)
 
 pub returns-in_err-future : goal.returns-in_err-future
@@ -30,14 +30,14 @@ returns-in_err-future c =
     rw (p.1, p.2) (refuses c.in_err-future.field-0.0 (BeginsNone moves_text AreMoves c.in_ok-past.last.now)
     ((s : Content) → IsSessionFile c.args.bytes.now s → ⊥)
     (file_without_future c.args.bytes.now c.in-Some.parts.now c.in-Some.ensures
-    (lists c.in_ok-registers.registers.items) c.in_ok-registers.behind.now c.in_ok-registers.ensures
+    (lists c.in_ok-registers.registers.items) c.in_ok-registers.after.now c.in_ok-registers.ensures
     (map moved_of c.in_ok-past.past.items) c.in_ok-past.last.now c.in_ok-past.ensures) c.in_err-future.ensures)
 
 pub returns-then-not-is_empty : goal.returns-then-not-is_empty
 unfolding lists
 returns-then-not-is_empty c =
     file_with_more c.args.bytes.now c.in-Some.parts.now c.in-Some.ensures (lists c.in_ok-registers.registers.items)
-    c.in_ok-registers.behind.now c.in_ok-registers.ensures
+    c.in_ok-registers.after.now c.in_ok-registers.ensures
     (map moved_of c.in_ok-past.past.items) c.in_ok-past.last.now c.in_ok-past.ensures
     (map moved_of c.in_ok-future.future.items) c.in_ok-future.rest.now c.in_ok-future.ensures
     (λ e. grind (arith, common_steps, c.is_empty.ensures, c.if-not-is_empty.true))
@@ -46,7 +46,7 @@ pub returns-then-len-gt-SESSION_CHANGES : goal.returns-then-len-gt-SESSION_CHANG
 unfolding lists
 returns-then-len-gt-SESSION_CHANGES c =
     file_of_many c.args.bytes.now c.in-Some.parts.now c.in-Some.ensures (lists c.in_ok-registers.registers.items)
-    c.in_ok-registers.behind.now c.in_ok-registers.ensures
+    c.in_ok-registers.after.now c.in_ok-registers.ensures
     (map moved_of c.in_ok-past.past.items) c.in_ok-past.last.now c.in_ok-past.ensures
     (map moved_of c.in_ok-future.future.items) c.in_ok-future.rest.now c.in_ok-future.ensures
     (omega (arith, length-map c.in_ok-past.past.items moved_of, length-map c.in_ok-future.future.items moved_of))

@@ -18,17 +18,17 @@ returns-then-place-gt5 c = λ n d.
           omega (arith, large, is, same, face)
       | then-place-gt5-via-else-place-gt5+then-digits-gt30 w ↦
           let long = w.if-digits-gt30.true in
-          let behind = take_rest c.args.text.now 2 in
-          let more : 30 < length (drop 2 c.args.text.now) = rw behind at long in
+          let after = take_rest c.args.text.now 2 in
+          let more : 30 < length (drop 2 c.args.text.now) = rw after at long in
           omega (arith, more, short.1)
     ]
 
 pub returns-then-digit-gt3 : goal.returns-then-digit-gt3
 returns-then-digit-gt3 c = λ n d.
-    let behind = take_rest c.args.text.now 2 in
+    let after = take_rest c.args.text.now 2 in
     let low = digit_below 4 (drop 2 c.args.text.now) c.loop-byte.byte-index 0 d.digits
-    (rw behind at c.loop-byte-test.true) in
-    let is = rw behind at c.value_of_digit-digit.ensures in
+    (rw after at c.loop-byte-test.true) in
+    let is = rw after at c.value_of_digit-digit.ensures in
     let large = c.if-digit-gt3.true in
     omega (arith, low, is, large)
 
