@@ -6,7 +6,8 @@ use Rattle.std.proofs.Math.Logic.{⊎_elim}
 use Rattle.std.proofs.lemmas.Bool.{and_parts, cases_lt}
 use Rattle.std.proofs.lemmas.Bool.Decides.{nat_tests}
 use Rattle.std.proofs.Math.Seq.{take-suc}
-use Rattle.std.proofs.lemmas.List.{append_assoc, append-nil, get_or-drop, get_or-take, length-drop, length-take-le, take_all}
+use Rattle.std.proofs.lemmas.List.{append_assoc, append-nil, get_or-drop, get_or-take, length-drop, length-take-le}
+use Rattle.std.proofs.lemmas.List.{take_all}
 use Rattle.std.proofs.lemmas.Option.{gets}
 use Rattle.s2cell.specs.Cell.{IsCell, IsInside, size_of, first_leaf}
 use Rattle.s2cell.proofs.CellLemmas.{cell_leaves}

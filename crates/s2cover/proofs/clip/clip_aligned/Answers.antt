@@ -44,5 +44,5 @@ returns-in_err-list-clause-many c =
     let S = rect_set c.args.rect.now in
     let f = form_in S (30 - c.args.level) in
     rw (p.1, p.2) (λ e w n. parts_many S c.args.level c.args.union.now.cells w c.args.max c.requires.aligned
-    c.cells.ensures.local c.requires.above (subst (λ (v : List ℕ). c.args.max < length (flat_map f v)) c.cells.ensures.value
-    (c.in_err-list.ensures.many e)) n)
+    c.cells.ensures.local c.requires.above
+    (subst (λ (v : List ℕ). c.args.max < length (flat_map f v)) c.cells.ensures.value (c.in_err-list.ensures.many e)) n)

@@ -21,7 +21,8 @@ follow_ahead-requires-clause-within c =
 pub returns-in_err-follow_ahead : goal.returns-in_err-follow_ahead
 returns-in_err-follow_ahead c =
     let ds : List Diff = (map diff (map moved_of c.args.moves.now)) in
-    let p = err_from_is_err_and c.from_residual-in_err-follow_ahead.result c.from_residual-in_err-follow_ahead.ensures.1 in
+    let p = err_from_is_err_and c.from_residual-in_err-follow_ahead.result
+    c.from_residual-in_err-follow_ahead.ensures.1 in
     rw (p.1, p.2) (fails c.in_err-follow_ahead.field-0.0 (FitAlong SESSION_CELLS c.in_ok-parts.parts.items ds)
     (FitAlong SESSION_CELLS (lists_of c.args.registers.now) ds)
     ((parts_need (map moved_of c.args.moves.now) (lists_of c.args.registers.now)

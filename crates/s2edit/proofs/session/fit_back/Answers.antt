@@ -21,7 +21,8 @@ follow_back-requires-clause-within c =
 pub returns-in_err-follow_back : goal.returns-in_err-follow_back
 returns-in_err-follow_back c =
     let ds : List Diff = (map inverse (map diff (map moved_of c.args.moves.now))) in
-    let p = err_from_is_err_and c.from_residual-in_err-follow_back.result c.from_residual-in_err-follow_back.ensures.1 in
+    let p = err_from_is_err_and c.from_residual-in_err-follow_back.result
+    c.from_residual-in_err-follow_back.ensures.1 in
     rw (p.1, p.2) (fails c.in_err-follow_back.field-0.0 (FitAlong SESSION_CELLS c.in_ok-parts.parts.items ds)
     (FitAlong SESSION_CELLS (lists_of c.args.registers.now) ds)
     ((parts_need (map moved_of c.args.moves.now) (lists_of c.args.registers.now)

@@ -24,8 +24,8 @@ loop-j-preserved c =
     let sum = c.saturating_add-looks.ensures in
     record {
       in_y = within.1;
-      missed = more_places (λ k. ShareSome (covers (get_or c.args.ys.now k 0)) (has_leaf c.args.xs.now) → ⊥) 0 c.loop-j.j
-          c.in-Some.next c.loop-j.invariant.missed c.in-Some.ensures.answer;
+      missed = more_places (λ k. ShareSome (covers (get_or c.args.ys.now k 0)) (has_leaf c.args.xs.now) → ⊥) 0
+          c.loop-j.j c.in-Some.next c.loop-j.invariant.missed c.in-Some.ensures.answer;
       few = omega arith;
     }
 
