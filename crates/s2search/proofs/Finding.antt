@@ -7,7 +7,7 @@ use Rattle.std.proofs.Math.Nat.{mul-le-mul_right}
 use Rattle.std.proofs.lemmas.Bool.{cases_lt, false≢true}
 use Rattle.s2cell.specs.Cell.{first_leaf, size_of}
 use Rattle.s2cell.proofs.CellLemmas.{cell_leaves}
-use Rattle.s2union.specs.Packed.{Behind, IsPacked}
+use Rattle.s2union.specs.Packed.{FirstEndBy, IsPacked}
 use Rattle.s2union.specs.Search.{Brackets}
 use Rattle.s2union.proofs.Finding.{ends_later}
 use Rattle.s2search.specs.Search.{IsFrom}
@@ -18,17 +18,17 @@ later b a lo test e = ⊎_elim (λ (h : lo < a). h) (λ (h : a ≤ lo). absurd (
     (cases_lt lo a)
 
 -- all cells up to one that ends by the leaf end by it
-pub behind_up : (u : List ℕ) (lo k : ℕ) → IsPacked u → k < length u
-    → first_leaf (get_or u k 0) + size_of (get_or u k 0) ≤ lo → Behind u (k + 1) lo
-behind_up u lo k p h e j l = let a = ends_later u j k p (omega arith) h in omega arith
+pub ended_up : (u : List ℕ) (lo k : ℕ) → IsPacked u → k < length u
+    → first_leaf (get_or u k 0) + size_of (get_or u k 0) ≤ lo → FirstEndBy u (k + 1) lo
+ended_up u lo k p h e j l = let a = ends_later u j k p (omega arith) h in omega arith
 
 pub from_up : (u : List ℕ) (lo start end k : ℕ) → IsPacked u → IsFrom u lo start end → k < length u
     → first_leaf (get_or u k 0) + size_of (get_or u k 0) ≤ lo → IsFrom u lo (k + 1) end
-from_up u lo start end k p f h e = record { behind = behind_up u lo k p h e; next = f.next }
+from_up u lo start end k p f h e = record { ended = ended_up u lo k p h e; next = f.next }
 
 pub from_down : (u : List ℕ) (lo start end k : ℕ) → IsFrom u lo start end
     → lo < first_leaf (get_or u k 0) + size_of (get_or u k 0) → IsFrom u lo start k
-from_down u lo start end k f e = record { behind = f.behind; next = λ _. e }
+from_down u lo start end k f e = record { ended = f.ended; next = λ _. e }
 
 -- where the places have met, the leaf is found
 pub from_met : (u : List ℕ) (lo first last : ℕ) → IsFrom u lo first last → first ≤ last → last ≤ first →
@@ -42,7 +42,7 @@ from_brackets u lo base high start p b e =
     let w = b.within in
     let o = b.order in
     record {
-      behind = λ k h.
+      ended = λ k h.
           let c : first_leaf (get_or u k 0) + size_of (get_or u k 0) ≤ first_leaf (get_or u (base - 1) 0) =
           p.chain k (base - 1) 0 (omega arith) (omega arith) in
           let m = (cell_leaves (get_or u (base - 1) 0) (p.cells (base - 1) 0 (omega arith))).middle in

@@ -6,14 +6,14 @@ use Rattle.s2cell.specs.Cell.{IsCell, covers, first_leaf, size_of}
 use Rattle.s2cell.proofs.CellLemmas.{cell_leaves}
 use Rattle.s2cell.proofs.Leaves.{covers_there, covers_from}
 use Rattle.s2union.specs.Union.{ShareSome}
-use Rattle.s2union.specs.Packed.{Behind, EndsBefore, IsPacked}
+use Rattle.s2union.specs.Packed.{FirstEndBy, EndsBefore, IsPacked}
 use Rattle.s2union.proofs.Finding.{ends_later}
 use Rattle.s2search.specs.Search.{IsRunAt}
 
 -- the cells from the first that ends after `lo` to the last that begins before `hi`
 pub record Between (u : List ℕ) (lo hi start end : ℕ) : Type 0 where
   pub within : end ≤ length u
-  pub behind : Behind u start lo
+  pub ended : FirstEndBy u start lo
   pub next : start < length u → lo < first_leaf (get_or u start 0) + size_of (get_or u start 0)
   pub begun : (k : ℕ) → k < end → first_leaf (get_or u k 0) < hi
   pub rest : (k : ℕ) → end ≤ k → k < length u → hi ≤ first_leaf (get_or u k 0)
@@ -24,7 +24,7 @@ in_order u lo hi start end p w h b =
     ⊎_elim
     (λ (l : end < start).
     let s = (cell_leaves (get_or u end 0) (p.cells end 0 (omega arith))).some in
-    let a = b.behind end l in
+    let a = b.ended end l in
     let r = b.rest end (omega arith) (omega arith) in
     absurd (omega arith))
     (λ (l : start ≤ end). l)
@@ -66,23 +66,23 @@ run_at u c start end count p own w e b =
         let r1 = r.1 in
         let s0 = s.0 in
         let s1 = s.1 in (
-          ⊎_elim (λ (g : k < start). let a = b.behind k g in absurd (omega arith)) (λ (g : start ≤ k). g)
+          ⊎_elim (λ (g : k < start). let a = b.ended k g in absurd (omega arith)) (λ (g : start ≤ k). g)
               (cases_lt k start),
           ⊎_elim (λ (g : k < end). omega arith) (λ (g : end ≤ k). let a = b.rest k g l in absurd (omega arith))
               (cases_lt k end),
         )
 
 -- where the cells that begin before `hi` end, from how many end by it
-pub between_from : (u : List ℕ) (lo hi start ended end : ℕ) → IsPacked u → ended ≤ length u → Behind u start lo
+pub between_from : (u : List ℕ) (lo hi start ended end : ℕ) → IsPacked u → ended ≤ length u → FirstEndBy u start lo
     → (start < length u → lo < first_leaf (get_or u start 0) + size_of (get_or u start 0))
-    → Behind u ended hi → (ended < length u → hi < first_leaf (get_or u ended 0) + size_of (get_or u ended 0))
+    → FirstEndBy u ended hi → (ended < length u → hi < first_leaf (get_or u ended 0) + size_of (get_or u ended 0))
     → ((ended < length u) × (first_leaf (get_or u ended 0) < hi) × (end ≡ ended + 1))
     ⊎ (((ended < length u) → hi ≤ first_leaf (get_or u ended 0)) × (end ≡ ended))
     → Between u lo hi start end
-between_from u lo hi start ended end p w behind next ends later (inl (l, f, e)) =
+between_from u lo hi start ended end p w before next ends later (inl (l, f, e)) =
     record {
       within = omega arith;
-      behind = behind;
+      ended = before;
       next = next;
       begun = λ k h.
           ⊎_elim
@@ -95,10 +95,10 @@ between_from u lo hi start ended end p w behind next ends later (inl (l, f, e)) 
           let n = later l in
           omega arith;
     }
-between_from u lo hi start ended end p w behind next ends later (inr (f, e)) =
+between_from u lo hi start ended end p w before next ends later (inr (f, e)) =
     record {
       within = omega arith;
-      behind = behind;
+      ended = before;
       next = next;
       begun = λ k h. let s = (cell_leaves (get_or u k 0) (p.cells k 0 (omega arith))).some in let a =
           ends k (omega arith) in omega arith;

@@ -2,11 +2,11 @@
 use Rattle.std.specs.Prelude.{ℕ, ◌+◌, ◌<◌, ◌≤◌, ◌↔◌, List, length, slice_index}
 use Rattle.s2cell.specs.Cell.{IsCell, first_leaf, size_of, covers}
 use Rattle.s2union.specs.Union.{ShareSome}
-use Rattle.s2union.specs.Packed.{Behind}
+use Rattle.s2union.specs.Packed.{FirstEndBy}
 
 -- the first cell that ends after the leaf `lo`, if there is one, is at a place from `start` to `end`
 pub record IsFrom (u : List ℕ) (lo start end : ℕ) : Type 0 where
-  pub behind : Behind u start lo
+  pub ended : FirstEndBy u start lo
   pub next : end < length u → lo < first_leaf (slice_index u end) + size_of (slice_index u end)
 
 -- the cells of `u` that share a leaf with `cell` are the `count` cells from the place `first` on

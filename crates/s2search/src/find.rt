@@ -1,7 +1,7 @@
 //! The place of a leaf among cells in order.
 ghost use Rattle.std.specs.Prelude.{◌≡◌, ◌+◌, ◌<◌, ◌≤◌, ◌↔◌, IsTrue, length, slice_index};
 ghost use Rattle.s2cell.specs.Cell.{IsCell, first_leaf, size_of};
-ghost use Rattle.s2union.specs.Packed.{IsPacked, Behind};
+ghost use Rattle.s2union.specs.Packed.{IsPacked, FirstEndBy};
 ghost use Rattle.s2search.specs.Search.{IsFrom};
 
 use crate::cells::Cells;
@@ -12,7 +12,7 @@ pub const LAST_STEP: usize = 15;
 /// How many cells end by the leaf `lo`; these come first.
 pub(crate) fn find<C: Cells>(cells: &C, lo: u64) -> usize
     ensures within { result ≤ length (C.ids cells.now) }
-    ensures behind { IsPacked (C.ids cells.now) → Behind (C.ids cells.now) result lo }
+    ensures ended { IsPacked (C.ids cells.now) → FirstEndBy (C.ids cells.now) result lo }
     ensures next { IsPacked (C.ids cells.now) → result < length (C.ids cells.now)
         → lo < first_leaf (slice_index (C.ids cells.now) result) + size_of (slice_index (C.ids cells.now) result) }
 {
@@ -25,9 +25,10 @@ pub(crate) fn find<C: Cells>(cells: &C, lo: u64) -> usize
 pub(crate) fn find_from<C: Cells>(cells: &C, start: usize, lo: u64) -> usize
     requires { start ≤ length (C.ids cells.now) }
     ensures within { result ≤ length (C.ids cells.now) }
-    ensures behind { IsPacked (C.ids cells.now) → Behind (C.ids cells.now) start lo
-        → Behind (C.ids cells.now) result lo }
-    ensures next { IsPacked (C.ids cells.now) → Behind (C.ids cells.now) start lo → result < length (C.ids cells.now)
+    ensures ended { IsPacked (C.ids cells.now) → FirstEndBy (C.ids cells.now) start lo
+        → FirstEndBy (C.ids cells.now) result lo }
+    ensures next { IsPacked (C.ids cells.now) → FirstEndBy (C.ids cells.now) start lo
+        → result < length (C.ids cells.now)
         → lo < first_leaf (slice_index (C.ids cells.now) result) + size_of (slice_index (C.ids cells.now) result) }
 {
     let len = cells.len();
@@ -48,8 +49,8 @@ pub(crate) fn find_between<C: Cells>(cells: &C, start: usize, end: usize, lo: u6
     requires order { start ≤ end }
     requires within { end ≤ length (C.ids cells.now) }
     ensures within { result ≤ length (C.ids cells.now) }
-    ensures behind { IsPacked (C.ids cells.now) → IsFrom (C.ids cells.now) lo start end
-        → Behind (C.ids cells.now) result lo }
+    ensures ended { IsPacked (C.ids cells.now) → IsFrom (C.ids cells.now) lo start end
+        → FirstEndBy (C.ids cells.now) result lo }
     ensures next { IsPacked (C.ids cells.now) → IsFrom (C.ids cells.now) lo start end
         → result < length (C.ids cells.now)
         → lo < first_leaf (slice_index (C.ids cells.now) result) + size_of (slice_index (C.ids cells.now) result) }
@@ -71,7 +72,7 @@ pub(crate) fn find_between<C: Cells>(cells: &C, start: usize, end: usize, lo: u6
 /// begins with the same middles as the one before, which are in the cache.
 pub(crate) fn find_near<C: Cells>(cells: &C, near: usize, lo: u64) -> usize
     ensures within { result ≤ length (C.ids cells.now) }
-    ensures behind { IsPacked (C.ids cells.now) → Behind (C.ids cells.now) result lo }
+    ensures ended { IsPacked (C.ids cells.now) → FirstEndBy (C.ids cells.now) result lo }
     ensures next { IsPacked (C.ids cells.now) → result < length (C.ids cells.now)
         → lo < first_leaf (slice_index (C.ids cells.now) result) + size_of (slice_index (C.ids cells.now) result) }
 {

@@ -8,7 +8,7 @@ use Rattle.std.proofs.lemmas.Nat.{pow_below}
 use Rattle.s2cell.specs.Cell.{IsInside, covers, first_leaf, size_of}
 use Rattle.s2cell.proofs.Leaves.{covers_there, covers_from, inside_from_within, within_from_inside}
 use Rattle.s2union.specs.Union.{has_leaf, IsLocal, IsWithin, ShareSome}
-use Rattle.s2union.specs.Packed.{IsPacked, Behind}
+use Rattle.s2union.specs.Packed.{IsPacked, FirstEndBy}
 use Rattle.s2union.specs.Search.{Brackets}
 use Rattle.s2union.specs.Looks.{FewForUnion}
 use Rattle.s2union.proofs.Finding.{shared_none, starts_later}
@@ -179,7 +179,7 @@ more_places P from at to before after k h l =
 
 -- a run of cells that begins in a cell and ends by its end lies in it
 pub run_held : (u : List ℕ) (from next x : ℕ) → IsPacked u → from < length u → IsInside (get_or u from 0) x →
-    next ≤ length u → Behind u next (first_leaf x + size_of x) → (k : ℕ) → from ≤ k → k < next →
+    next ≤ length u → FirstEndBy u next (first_leaf x + size_of x) → (k : ℕ) → from ≤ k → k < next →
     IsInside (get_or u k 0) x
 run_held u from next x p there inside within ended k h l =
     let w = (within_from_inside (get_or u from 0) x (p.cells from 0 there) inside).low in
@@ -189,10 +189,10 @@ run_held u from next x p there inside within ended k h l =
 
 -- cells that end before the next cell of a list begins share nothing with it
 pub run_missed : (u v : List ℕ) (from at next : ℕ) → IsLocal v → IsPacked u → from ≤ next → next ≤ length u →
-    Behind v at (first_leaf (get_or u from 0)) →
+    FirstEndBy v at (first_leaf (get_or u from 0)) →
     ((k : ℕ) → from + 1 ≤ k → k < next → at < length v →
     first_leaf (get_or u k 0) + size_of (get_or u k 0) ≤ first_leaf (get_or v at 0)) →
     (k : ℕ) → from + 1 ≤ k → k < next → ShareSome (covers (get_or u k 0)) (has_leaf v) → ⊥
-run_missed u v from at next lv p le within behind free k h l =
+run_missed u v from at next lv p le within ended free k h l =
     let s = starts_later u from k p (omega arith) (omega arith) in
-    shared_none v at (get_or u k 0) lv (λ i b. let z = behind i b in omega arith) (free k h l)
+    shared_none v at (get_or u k 0) lv (λ i b. let z = ended i b in omega arith) (free k h l)

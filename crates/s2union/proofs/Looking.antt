@@ -222,7 +222,7 @@ pub tries_more : (xs ys : List ℕ) (looks i j z a b c next_i next_j all : ℕ) 
     → (next_j < length ys → first_leaf (get_or xs next_i 0) < first_leaf (get_or ys next_j 0)
     + size_of (get_or ys next_j 0))
     → Tries xs ys all next_i next_j
-tries_more xs ys looks i j z a b c next_i next_j all t hj on there hn ez sa eb sc ea behind before =
+tries_more xs ys looks i j z a b c next_i next_j all t hj on there hn ez sa eb sc ea ended before =
     let x = t.by_x in
     let y = t.by_y in
     record {

@@ -212,19 +212,19 @@ end_misfit [] put us e n f = n refl
 end_misfit (o ∷ os) put us e n f = out_is_missing os put us o (subst (AllAbove o) (sym e) tt) f
 
 -- the list after its first cell, as a slice of it
-pub behind_first : (xs : List ℕ) → take (length xs - 1) (drop 1 xs) ≡ drop 1 xs
-behind_first [] = refl
-behind_first (x ∷ xs) = take_all (length (x ∷ xs) - 1) xs (omega arith)
+pub after_first : (xs : List ℕ) → take (length xs - 1) (drop 1 xs) ≡ drop 1 xs
+after_first [] = refl
+after_first (x ∷ xs) = take_all (length (x ∷ xs) - 1) xs (omega arith)
 
 -- and it ascends too
 pub rest_ascends : (xs ys : List ℕ) (x : ℕ) → xs ≡ x ∷ ys → IsStrictlyIncreasing xs → IsStrictlyIncreasing ys
 rest_ascends xs ys x e a = let whole : IsAscending (x ∷ ys) = subst IsAscending e (ascends_from xs a) in
     increasing_from ys whole.1
 
-pub behind_first_ascends : (xs : List ℕ) → IsStrictlyIncreasing xs →
+pub after_first_ascends : (xs : List ℕ) → IsStrictlyIncreasing xs →
     IsStrictlyIncreasing (take (length xs - 1) (drop 1 xs))
-behind_first_ascends [] a = a
-behind_first_ascends (x ∷ xs) a = rw behind_first (rest_ascends (x ∷ xs) xs x refl a)
+after_first_ascends [] a = a
+after_first_ascends (x ∷ xs) a = rw after_first (rest_ascends (x ∷ xs) xs x refl a)
 
 -- packed cells without the first
 pub rest_packed : (xs ys : List ℕ) (x : ℕ) → xs ≡ x ∷ ys → IsPacked xs → IsPacked ys

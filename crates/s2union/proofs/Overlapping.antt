@@ -9,26 +9,26 @@ use Rattle.s2cell.specs.Cell.{IsCell, size_of, first_leaf, covers}
 use Rattle.s2cell.proofs.CellLemmas.{cell_leaves}
 use Rattle.s2cell.proofs.Leaves.{covers_there, covers_from}
 use Rattle.s2union.specs.Union.{has_leaf, ShareSome}
-use Rattle.s2union.specs.Packed.{IsPacked, Behind}
+use Rattle.s2union.specs.Packed.{IsPacked, FirstEndBy}
 use Rattle.s2union.proofs.Walking.{leaf_at, leaf_there, not_true}
 use Rattle.s2union.proofs.Finding.{starts_later}
 
 -- a cell that ends by a leaf begins before it
-pub begun_behind : (u : List ℕ) (n lo k : ℕ) → IsPacked u → n ≤ length u → Behind u n lo → k < n →
+pub begun_before : (u : List ℕ) (n lo k : ℕ) → IsPacked u → n ≤ length u → FirstEndBy u n lo → k < n →
     first_leaf (get_or u k 0) < lo
-begun_behind u n lo k p w b h = let s = (cell_leaves (get_or u k 0) (p.cells k 0 (omega arith))).some in let e =
+begun_before u n lo k p w b h = let s = (cell_leaves (get_or u k 0) (p.cells k 0 (omega arith))).some in let e =
     b k h in omega arith
 
-pub begun_more : (u : List ℕ) (n lo k : ℕ) → IsPacked u → n ≤ length u → Behind u n lo →
+pub begun_more : (u : List ℕ) (n lo k : ℕ) → IsPacked u → n ≤ length u → FirstEndBy u n lo →
     first_leaf (get_or u n 0) < lo → k < n + 1 → first_leaf (get_or u k 0) < lo
 begun_more u n lo k p w b f h =
-    ⊎_elim (λ (l : k < n). begun_behind u n lo k p w b l) (λ (l : n ≤ k). let e : n ≡ k = omega arith in
+    ⊎_elim (λ (l : k < n). begun_before u n lo k p w b l) (λ (l : n ≤ k). let e : n ≡ k = omega arith in
     let g = ap (λ i. first_leaf (get_or u i 0)) e in omega arith) (cases_lt k n)
 
-pub rest_behind : (u : List ℕ) (n lo k : ℕ) → IsPacked u →
+pub rest_begins_later : (u : List ℕ) (n lo k : ℕ) → IsPacked u →
     lo < first_leaf (get_or u n 0) + size_of (get_or u n 0) → n + 1 ≤ k → k < length u →
     lo ≤ first_leaf (get_or u k 0)
-rest_behind u n lo k p f h l = let c : first_leaf (get_or u n 0) + size_of (get_or u n 0)
+rest_begins_later u n lo k p f h l = let c : first_leaf (get_or u n 0) + size_of (get_or u n 0)
     ≤ first_leaf (get_or u k 0) = p.chain n k 0 (omega arith) l in omega arith
 
 pub rest_from : (u : List ℕ) (n lo k : ℕ) → IsPacked u → lo ≤ first_leaf (get_or u n 0) → n ≤ k → k < length u →
@@ -38,7 +38,7 @@ rest_from u n lo k p f h l = let s = starts_later u n k p h l in omega arith
 -- the cells from the first that ends after `lo` to the last that begins before `hi`
 pub record Between (u : List ℕ) (lo hi start end : ℕ) : Type 0 where
   pub within : end ≤ length u
-  pub behind : Behind u start lo
+  pub ended : FirstEndBy u start lo
   pub next : start < length u → lo < first_leaf (get_or u start 0) + size_of (get_or u start 0)
   pub begun : (k : ℕ) → k < end → first_leaf (get_or u k 0) < hi
   pub rest : (k : ℕ) → end ≤ k → k < length u → hi ≤ first_leaf (get_or u k 0)
@@ -49,7 +49,7 @@ in_order u lo hi start end p w h b =
     ⊎_elim
     (λ (l : end < start).
     let s = (cell_leaves (get_or u end 0) (p.cells end 0 (omega arith))).some in
-    let a = b.behind end l in
+    let a = b.ended end l in
     let r = b.rest end (omega arith) (omega arith) in
     absurd (omega arith))
     (λ (l : start ≤ end). l)
@@ -105,7 +105,7 @@ run_leaves u c start end p b x h =
     let l = leaf_at u x t in
     let lo = l.low in
     let hi = l.high in
-    let after : start ≤ l.at = ⊎_elim (λ (a : l.at < start). let z = b.behind l.at a in absurd (omega arith))
+    let after : start ≤ l.at = ⊎_elim (λ (a : l.at < start). let z = b.ended l.at a in absurd (omega arith))
     (λ (a : start ≤ l.at). a) (cases_lt l.at start) in
     let before : l.at < end = ⊎_elim (λ (a : l.at < end). a) (λ (a : end ≤ l.at). let z = b.rest l.at a l.below in
     absurd (omega arith)) (cases_lt l.at end) in

@@ -13,7 +13,7 @@ use Rattle.s2cell.specs.Cell.{IsCell, IsInside, size_of, first_leaf}
 use Rattle.s2cell.proofs.CellLemmas.{cell_leaves}
 use Rattle.s2cell.proofs.Leaves.{before, after, within, around, meeting, inside_from_within, within_from_inside}
 use Rattle.s2union.specs.Union.{has_leaf, IsLocal}
-use Rattle.s2union.specs.Packed.{IsPlace, Behind, EndsAfter}
+use Rattle.s2union.specs.Packed.{IsPlace, FirstEndBy, EndsAfter}
 use Rattle.s2union.specs.Sets.{IsShared}
 use Rattle.s2union.proofs.Checking.{packed_from_local}
 use Rattle.s2union.proofs.Finding.{starts_later}
@@ -45,16 +45,16 @@ sharing_start : (xs ys list : List ℕ) (i at : ℕ) → IsLocal xs → i < leng
 sharing_start xs ys list i at local h place s =
     let packed = packed_from_local xs local in
     let lo = first_leaf (get_or xs i 0) in
-    let behind : Behind xs i lo = λ k l. packed.chain k i 0 l h in
+    let ended : FirstEndBy xs i lo = λ k l. packed.chain k i 0 l h in
     record {
       lo = lo;
       same = λ x. refl;
       walk = record {
-        behind_x = behind;
-        behind_y = place.behind;
+        ended_x = ended;
+        ended_y = place.ended;
         leaves = λ x. s.leaves x
             ∙ ap (λ v. v && has_leaf ys x)
-            (has_leaf-take xs i lo x packed (omega arith) behind (λ _. omega arith))
+            (has_leaf-take xs i lo x packed (omega arith) ended (λ _. omega arith))
             ∙ and_group (ltb x lo) (has_leaf xs x) (has_leaf ys x);
       };
       from = inl (λ _. omega arith);
@@ -63,8 +63,8 @@ sharing_start xs ys list i at local h place s =
 
 -- and stops at another
 sharing_stop : (xs ys list : List ℕ) (n j end : ℕ) → IsLocal xs → IsLocal ys → Sharing (both xs ys) xs ys list n j →
-    n ≤ length xs → Behind ys j end → (n < length xs → end ≤ first_leaf (get_or xs n 0)) → IsShared xs ys list n
-sharing_stop xs ys list n j end lx ly s in_x behind next =
+    n ≤ length xs → FirstEndBy ys j end → (n < length xs → end ≤ first_leaf (get_or xs n 0)) → IsShared xs ys list n
+sharing_stop xs ys list n j end lx ly s in_x ended next =
     let px = packed_from_local xs lx in
     let py = packed_from_local ys ly in
     let lo = s.lo in
@@ -93,7 +93,7 @@ sharing_stop xs ys list n j end lx ly s in_x behind next =
           let first = next (omega arith) in
           let later = starts_later xs n p.at px m pb in
           ⊎_elim
-          (λ (k : q.at < j). let z = behind q.at k in absurd (omega arith))
+          (λ (k : q.at < j). let z = ended q.at k in absurd (omega arith))
           (λ (k : j ≤ q.at).
           let y_later = starts_later ys j q.at py k qb in
           ⊎_elim
@@ -111,7 +111,7 @@ sharing_stop xs ys list n j end lx ly s in_x behind next =
           let e : get_or (take n xs) p.at 0 ≡ get_or xs p.at 0 = get_or-take n xs p.at 0 (omega arith) in
           let low : first_leaf (get_or xs p.at 0) ≤ x = rw e at p.low in
           let high : x < first_leaf (get_or xs p.at 0) + size_of (get_or xs p.at 0) = rw e at p.high in
-          let z = s.walk.behind_x p.at (omega arith) in
+          let z = s.walk.ended_x p.at (omega arith) in
           let l : ltb x lo ≡ true = grind (arith, nat_tests) in
           let h : has_leaf xs x ≡ true = leaf_there xs p.at x (omega arith) low high in
           let f = b.1 in
@@ -129,7 +129,7 @@ shared_held xs ys list new i at x lx ly s h g rx inside place e =
     let push = sharing_push (both xs ys) xs ys list i at x lx ly start h g ex
     (within_from_inside x (get_or ys at 0) cx inside) in
     rw e (sharing_stop xs ys (list ++ x ∷ []) (i + 1) at (first_leaf (get_or xs i 0)) lx ly push (omega arith)
-    place.behind (λ k. starts_later xs i (i + 1) (packed_from_local xs lx) (omega arith) k))
+    place.ended (λ k. starts_later xs i (i + 1) (packed_from_local xs lx) (omega arith) k))
 
 read_there : (u : List ℕ) (i : ℕ) → i < length u → get_or u i 0 ≡ get_or u i (get_or u i 0)
 read_there u i h = grind (arith, gets)
@@ -138,9 +138,9 @@ read_there u i h = grind (arith, gets)
 pub shared_run : (xs ys list new : List ℕ) (i at next x : ℕ) → IsLocal xs → IsLocal ys → IsShared xs ys list i →
     i < length xs → x ≡ get_or xs i x → IsPlace ys (first_leaf (get_or xs i 0)) at →
     (at < length ys → IsInside x (get_or ys at 0) → ⊥) → at ≤ next → next ≤ length ys →
-    Behind ys next (first_leaf x + size_of x) → EndsAfter ys next (first_leaf x + size_of x) →
+    FirstEndBy ys next (first_leaf x + size_of x) → EndsAfter ys next (first_leaf x + size_of x) →
     new ≡ list ++ take (next - at) (drop at ys) → IsShared xs ys new (i + 1)
-shared_run xs ys list new i at next x lx ly s h rx place not_held le in_y behind after_it e =
+shared_run xs ys list new i at next x lx ly s h rx place not_held le in_y ended_y after_it e =
     let ex : get_or xs i 0 ≡ x = read_at xs i i x h refl rx in
     let fx = ap first_leaf ex in
     let sx = ap size_of ex in
@@ -154,7 +154,7 @@ shared_run xs ys list new i at next x lx ly s h rx place not_held le in_y behind
     (λ (m : at < next).
     let y = get_or ys at 0 in
     let low = place.next (omega arith) in
-    let high = behind at m in
+    let high = ended_y at m in
     let inside : IsInside y x = elim (meeting x y cx (ly.cells at 0 (omega arith))) [
       | before k ↦ (let sy = (cell_leaves y (ly.cells at 0 (omega arith))).some in absurd (omega arith))
       | after k ↦ absurd (omega arith)
@@ -163,7 +163,7 @@ shared_run xs ys list new i at next x lx ly s h rx place not_held le in_y behind
     ] in
     sharing_stop xs ys new (i + 1) next (first_leaf x + size_of x) lx ly
     (share_y (both xs ys) xs ys list new i at next x y lx ly start h (omega arith) rx
-    (read_there ys at (omega arith)) inside m in_y behind after_it e) (omega arith) behind ended)
+    (read_there ys at (omega arith)) inside m in_y ended_y after_it e) (omega arith) ended_y ended)
     (λ (m : next ≤ at).
     let same : next ≡ at = omega arith in
     let none : next - at ≡ 0 = omega arith in
@@ -179,15 +179,15 @@ shared_run xs ys list new i at next x lx ly s h rx place not_held le in_y behind
       | around k ↦ (let kh = k.high in absurd (omega arith))
     ]) in
     rw rest (sharing_stop xs ys list (i + 1) at (first_leaf x + size_of x) lx ly skip (omega arith)
-    (rw same at behind) ended))
+    (rw same at ended_y) ended))
     (cases_lt at next)
 
 -- cells of `xs` that end before the next cell of `ys` begins share nothing with it
 pub shared_passed : (xs ys list : List ℕ) (i at next lo : ℕ) → IsLocal xs → IsLocal ys → IsShared xs ys list i →
-    i ≤ next → next ≤ length xs → Behind ys at lo → ((k : ℕ) → i ≤ k → k < next → lo ≤ first_leaf (get_or xs k 0)) →
+    i ≤ next → next ≤ length xs → FirstEndBy ys at lo → ((k : ℕ) → i ≤ k → k < next → lo ≤ first_leaf (get_or xs k 0)) →
     ((k : ℕ) → i ≤ k → k < next → at < length ys →
     first_leaf (get_or xs k 0) + size_of (get_or xs k 0) ≤ first_leaf (get_or ys at 0)) → IsShared xs ys list next
-shared_passed xs ys list i at next lo lx ly s le in_x behind after_it before_it =
+shared_passed xs ys list i at next lo lx ly s le in_x ended after_it before_it =
     let len : length (take i xs) ≡ i = length-take-le i xs (omega arith) in
     let more : length (take next xs) ≡ next = length-take-le next xs in_x in
     record {
@@ -224,7 +224,7 @@ shared_passed xs ys list i at next lo lx ly s le in_x behind after_it before_it 
           (λ (m : i ≤ p.at).
           let from = after_it p.at m (omega arith) in
           ⊎_elim
-          (λ (k : q.at < at). let z = behind q.at k in absurd (omega arith))
+          (λ (k : q.at < at). let z = ended q.at k in absurd (omega arith))
           (λ (k : at ≤ q.at).
           let later = starts_later ys at q.at (packed_from_local ys ly) k qb in
           let z = before_it p.at m (omega arith) (omega arith) in
@@ -235,16 +235,16 @@ shared_passed xs ys list i at next lo lx ly s le in_x behind after_it before_it 
           rw (h, f) refl);
     }
 
-shared_held_more : (n : ℕ) (xs ys list : List ℕ) (from at lo : ℕ) → IsLocal xs → IsLocal ys → Behind ys at lo →
+shared_held_more : (n : ℕ) (xs ys list : List ℕ) (from at lo : ℕ) → IsLocal xs → IsLocal ys → FirstEndBy ys at lo →
     ((k : ℕ) → from ≤ k → k < from + n → lo ≤ first_leaf (get_or xs k 0)) →
     ((k : ℕ) → from ≤ k → k < from + n → (at < length ys) × IsInside (get_or xs k 0) (get_or ys at 0)) →
     from + n ≤ length xs → IsShared xs ys list from → IsShared xs ys (list ++ take n (drop from xs)) (from + n)
-shared_held_more zero xs ys list from at lo lx ly behind later held in_x s =
+shared_held_more zero xs ys list from at lo lx ly ended later held in_x s =
     let e : from + zero ≡ from = omega arith in
     rw (append-nil list, e) s
-shared_held_more (suc n) xs ys list from at lo lx ly behind later held in_x s =
+shared_held_more (suc n) xs ys list from at lo lx ly ended later held in_x s =
     let x = get_or xs (from + n) 0 in
-    let before = shared_held_more n xs ys list from at lo lx ly behind (λ k h l. later k h (omega arith))
+    let before = shared_held_more n xs ys list from at lo lx ly ended (λ k h l. later k h (omega arith))
     (λ k h l. held k h (omega arith)) (omega arith) s in
     let h = held (from + n) (omega arith) (omega arith) in
     let l = later (from + n) (omega arith) (omega arith) in
@@ -253,7 +253,7 @@ shared_held_more (suc n) xs ys list from at lo lx ly behind later held in_x s =
     let high = (within_from_inside x (get_or ys at 0) cx h.1).high in
     let place : IsPlace ys (first_leaf x) at = record {
       within = omega arith;
-      behind = λ k b. let z = behind k b in omega arith;
+      ended = λ k b. let z = ended k b in omega arith;
       next = λ _. omega arith;
     } in
     let one : take (suc n) (drop from xs) ≡ take n (drop from xs) ++ x ∷ [] =
@@ -267,10 +267,10 @@ shared_held_more (suc n) xs ys list from at lo lx ly behind later held in_x s =
 
 -- cells of `xs` that lie in the next cell of `ys` are shared as they are
 pub shared_held_run : (xs ys list new : List ℕ) (from next at lo : ℕ) → IsLocal xs → IsLocal ys → from ≤ next →
-    next ≤ length xs → Behind ys at lo → ((k : ℕ) → from ≤ k → k < next → lo ≤ first_leaf (get_or xs k 0)) →
+    next ≤ length xs → FirstEndBy ys at lo → ((k : ℕ) → from ≤ k → k < next → lo ≤ first_leaf (get_or xs k 0)) →
     ((k : ℕ) → from ≤ k → k < next → (at < length ys) × IsInside (get_or xs k 0) (get_or ys at 0)) →
     new ≡ list ++ take (next - from) (drop from xs) → IsShared xs ys list from → IsShared xs ys new next
-shared_held_run xs ys list new from next at lo lx ly le in_x behind later held is s =
+shared_held_run xs ys list new from next at lo lx ly le in_x ended later held is s =
     let e : from + (next - from) ≡ next = omega arith in
-    rw is (rw e at (shared_held_more (next - from) xs ys list from at lo lx ly behind
+    rw is (rw e at (shared_held_more (next - from) xs ys list from at lo lx ly ended
     (λ k h l. later k h (omega arith)) (λ k h l. held k h (omega arith)) (omega arith) s))

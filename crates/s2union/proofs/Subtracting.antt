@@ -10,10 +10,10 @@ use Rattle.s2cell.proofs.CellLemmas.{cell_leaves}
 use Rattle.s2cell.proofs.Calls.{shallow}
 use Rattle.s2cell.proofs.Leaves.{Within, covers_there, covers_from, inside_from_within}
 use Rattle.s2union.specs.Union.{has_leaf, between, LiesIn, IsLocal}
-use Rattle.s2union.specs.Packed.{IsPacked, Behind, FillsGap}
+use Rattle.s2union.specs.Packed.{IsPacked, FirstEndBy, FillsGap}
 use Rattle.s2union.proofs.Normal.{holder, family, all_held, member_greatest, greatest_apart}
 use Rattle.s2union.proofs.Checking.{packed_from_local, member_at}
-use Rattle.s2union.proofs.Walking.{Walk, walk_more, walk_below, behind_more, behind_later, gap, leaf_there, leaf_at}
+use Rattle.s2union.proofs.Walking.{Walk, walk_more, walk_below, ended_more, ended_later, gap, leaf_there, leaf_at}
 use Rattle.s2union.proofs.Walking.{not_true, and_false}
 use Rattle.std.proofs.lemmas.List.{append-nil}
 use Rattle.s2union.proofs.Picking.{Picked, IsGap, picked_fill, picked_push, greatest_below, fill_leaves, between_ends}
@@ -45,19 +45,19 @@ pub subtract_free : (xs ys list new : List ℕ) (i j lo start end next : ℕ) �
 subtract_free xs ys list new i j lo start end next px py w h free es ee en leaves =
     walk_more (minus xs ys) xs ys list new i j lo (i + 1) j next start end w (omega arith) (omega arith)
     (omega arith) leaves
-    (behind_more xs i lo next w.behind_x (omega arith) (omega arith))
-    (behind_later ys j lo next w.behind_y (omega arith))
+    (ended_more xs i lo next w.ended_x (omega arith) (omega arith))
+    (ended_later ys j lo next w.ended_y (omega arith))
     (λ x a b.
     ⊎_elim
     (λ (g : x < start).
     let f : between start end x ≡ false = grind (arith, nat_tests) in
-    let t : has_leaf xs x ≡ false = gap xs i lo (first_leaf (get_or xs i 0)) x px w.behind_x (λ _. omega arith) a
+    let t : has_leaf xs x ≡ false = gap xs i lo (first_leaf (get_or xs i 0)) x px w.ended_x (λ _. omega arith) a
     (omega arith) in
     f ∙ ap (λ v. v && not (has_leaf ys x)) (sym t))
     (λ (g : start ≤ x).
     let f : between start end x ≡ true = grind (arith, nat_tests) in
     let t : has_leaf xs x ≡ true = leaf_there xs i x h (omega arith) (omega arith) in
-    let n : has_leaf ys x ≡ false = gap ys j lo end x py w.behind_y free a (omega arith) in
+    let n : has_leaf ys x ≡ false = gap ys j lo end x py w.ended_y free a (omega arith) in
     f ∙ sym (ap (λ v. v && not (has_leaf ys x)) t ∙ ap not n))
     (cases_lt x start))
 
@@ -72,13 +72,13 @@ pub subtract_taken : (xs ys list new : List ℕ) (i j lo start end next : ℕ) �
 subtract_taken xs ys list new i j lo start end next px py w h g before es ee en leaves =
     walk_more (minus xs ys) xs ys list new i j lo i (j + 1) next start end w (omega arith) (omega arith)
     (omega arith) leaves
-    (behind_later xs i lo next w.behind_x (omega arith))
-    (behind_more ys j lo next w.behind_y (omega arith) (omega arith))
+    (ended_later xs i lo next w.ended_x (omega arith))
+    (ended_more ys j lo next w.ended_y (omega arith) (omega arith))
     (λ x a b.
     ⊎_elim
     (λ (m : x < start).
     let f : between start end x ≡ false = grind (arith, nat_tests) in
-    let t : has_leaf xs x ≡ false = gap xs i lo (first_leaf (get_or xs i 0)) x px w.behind_x (λ _. omega arith) a
+    let t : has_leaf xs x ≡ false = gap xs i lo (first_leaf (get_or xs i 0)) x px w.ended_x (λ _. omega arith) a
     (omega arith) in
     f ∙ ap (λ v. v && not (has_leaf ys x)) (sym t))
     (λ (m : start ≤ x).
@@ -86,7 +86,7 @@ subtract_taken xs ys list new i j lo start end next px py w h g before es ee en 
     (λ (q : x < end).
     let f : between start end x ≡ true = grind (arith, nat_tests) in
     let t : has_leaf xs x ≡ true = leaf_there xs i x h (omega arith) (omega arith) in
-    let n : has_leaf ys x ≡ false = gap ys j lo end x py w.behind_y (λ _. omega arith) a q in
+    let n : has_leaf ys x ≡ false = gap ys j lo end x py w.ended_y (λ _. omega arith) a q in
     f ∙ sym (ap (λ v. v && not (has_leaf ys x)) t ∙ ap not n))
     (λ (q : end ≤ x).
     let f : between start end x ≡ false = grind (arith, nat_tests) in
@@ -106,7 +106,7 @@ subtract_done xs ys list i j lo w h x =
     let n : has_leaf xs x ≡ false = not_true (has_leaf xs x) (λ l.
     let p = leaf_at xs x l in
     let hi = p.high in
-    let e = w.behind_x p.at (let b = p.below in omega arith) in
+    let e = w.ended_x p.at (let b = p.below in omega arith) in
     omega arith) in
     w.leaves x ∙ ap (λ v. v && minus xs ys x) t ∙ ap (λ v. v && not (has_leaf ys x)) (sym n))
     (cases_lt x lo)
@@ -195,8 +195,8 @@ difference_within xs ys i p x local h cp lies hx low high =
       | family q cq lq f ↦ absurd (local.unmerged q cq lq f)
     ]
 
-difference_gap : (xs ys : List ℕ) (i j lo start end : ℕ) → IsLocal xs → IsLocal ys → Behind xs i lo →
-    Behind ys j lo → i < length xs → Edge xs ys i lo
+difference_gap : (xs ys : List ℕ) (i j lo start end : ℕ) → IsLocal xs → IsLocal ys → FirstEndBy xs i lo →
+    FirstEndBy ys j lo → i < length xs → Edge xs ys i lo
     → start ≡ max (first_leaf (get_or xs i 0)) lo → GapEnd xs ys i j end → IsGap (minus xs ys) start end
 difference_gap xs ys i j lo start end lx ly bx by h edge es ee =
     let px = packed_from_local xs lx in
@@ -279,7 +279,7 @@ subtracting_taken xs ys list new i j lo start end next x y lx ly s h g ex ey bef
       in_y = omega arith;
       picked = picked_fill (minus xs ys) list new start end s.picked
           (walk_below (minus xs ys) xs ys list i j lo start s.walk (omega arith))
-          (λ _. difference_gap xs ys i j lo start end lx ly s.walk.behind_x s.walk.behind_y h s.edge (omega arith)
+          (λ _. difference_gap xs ys i j lo start end lx ly s.walk.ended_x s.walk.ended_y h s.edge (omega arith)
           (inr (g, omega arith, omega arith))) f;
       walk = subtract_taken xs ys list new i j lo start end next (packed_from_local xs lx)
           (packed_from_local ys ly) s.walk h g (omega arith) (omega arith) (omega arith) (omega arith)
@@ -301,7 +301,7 @@ subtracting_free xs ys list new i j lo start end next x lx ly s h ex free es ee 
       in_y = s.in_y;
       picked = picked_fill (minus xs ys) list new start end s.picked
           (walk_below (minus xs ys) xs ys list i j lo start s.walk (omega arith))
-          (λ _. difference_gap xs ys i j lo start end lx ly s.walk.behind_x s.walk.behind_y h s.edge (omega arith)
+          (λ _. difference_gap xs ys i j lo start end lx ly s.walk.ended_x s.walk.ended_y h s.edge (omega arith)
           (inl (omega arith, free))) f;
       walk = subtract_free xs ys list new i j lo start end next (packed_from_local xs lx) (packed_from_local ys ly)
           s.walk h free (omega arith) (omega arith) (omega arith)
@@ -322,10 +322,10 @@ subtracting_from xs ys list i j lo start x lx s h ex es =
       walk = walk_more (minus xs ys) xs ys list list i j lo i j start lo lo s.walk (omega arith) (omega arith)
           (omega arith)
           (λ n. or_false (has_leaf list n) ∙ ap (λ v. has_leaf list n || v) (sym (none_between lo n)))
-          (behind_later xs i lo start s.walk.behind_x (omega arith))
-          (behind_later ys j lo start s.walk.behind_y (omega arith))
+          (ended_later xs i lo start s.walk.ended_x (omega arith))
+          (ended_later ys j lo start s.walk.ended_y (omega arith))
           (λ n a b.
-          let t : has_leaf xs n ≡ false = gap xs i lo (first_leaf (get_or xs i 0)) n px s.walk.behind_x
+          let t : has_leaf xs n ≡ false = gap xs i lo (first_leaf (get_or xs i 0)) n px s.walk.ended_x
           (λ _. omega arith) a (omega arith) in
           none_between lo n ∙ ap (λ v. v && not (has_leaf ys n)) (sym t));
       edge = λ l. ⊎_elim
@@ -336,24 +336,24 @@ subtracting_from xs ys list i j lo start x lx s h ex es =
 
 -- a further place in ys
 pub subtracting_on_y : (xs ys list : List ℕ) (i j lo next : ℕ) → Subtracting xs ys list i j lo → next ≤ length ys →
-    Behind ys next lo → Subtracting xs ys list i next lo
+    FirstEndBy ys next lo → Subtracting xs ys list i next lo
 subtracting_on_y xs ys list i j lo next s in_y b =
     record {
       in_x = s.in_x;
       in_y = in_y;
       picked = s.picked;
-      walk = record { behind_x = s.walk.behind_x; behind_y = b; leaves = s.walk.leaves };
+      walk = record { ended_x = s.walk.ended_x; ended_y = b; leaves = s.walk.leaves };
       edge = s.edge;
     }
 
 -- a further place in xs, which no cell that goes on from before `lo` is passed for
 pub subtracting_on_x : (xs ys list : List ℕ) (i j lo next : ℕ) → IsLocal xs → Subtracting xs ys list i j lo →
-    i ≤ next → next ≤ length xs → Behind xs next lo → Subtracting xs ys list next j lo
+    i ≤ next → next ≤ length xs → FirstEndBy xs next lo → Subtracting xs ys list next j lo
 subtracting_on_x xs ys list i j lo next lx s le in_x b = record {
   in_x = in_x;
   in_y = s.in_y;
   picked = s.picked;
-  walk = record { behind_x = b; behind_y = s.walk.behind_y; leaves = s.walk.leaves };
+  walk = record { ended_x = b; ended_y = s.walk.ended_y; leaves = s.walk.leaves };
   edge = λ l. ⊎_elim
       (λ (a : lo ≤ first_leaf (get_or xs i 0)). let f = starts_later xs i next (packed_from_local xs lx) le l in
       inl (omega arith))
@@ -375,7 +375,7 @@ subtracting_push xs ys list i j lo lx ly s h le free =
     let inside : (n : ℕ) → start ≤ n → n < end → minus xs ys n ≡ true =
     (λ n a b.
     let t : has_leaf xs n ≡ true = leaf_there xs i n h a b in
-    let f : has_leaf ys n ≡ false = gap ys j lo end n py s.walk.behind_y free (omega arith) b in
+    let f : has_leaf ys n ≡ false = gap ys j lo end n py s.walk.ended_y free (omega arith) b in
     ap (λ v. v && not (has_leaf ys n)) t ∙ ap not f) in
     record {
       in_x = omega arith;
@@ -392,7 +392,7 @@ subtracting_push xs ys list i j lo lx ly s h le free =
 -- so do all up to a place
 pub subtracting_run : (xs ys list new : List ℕ) (i j lo next end : ℕ) → IsLocal xs → IsLocal ys →
     Subtracting xs ys list i j lo → lo ≤ first_leaf (get_or xs i 0)
-    → i < next → next ≤ length xs → (j < length ys → Behind xs next (first_leaf (get_or ys j 0)))
+    → i < next → next ≤ length xs → (j < length ys → FirstEndBy xs next (first_leaf (get_or ys j 0)))
     → end ≡ first_leaf (get_or xs (next - 1) 0) + size_of (get_or xs (next - 1) 0) →
     new ≡ list ++ take (next - i) (drop i xs) → Subtracting xs ys new next j end
 subtracting_run xs ys list new i j lo next end lx ly s first le in_x free ee is =

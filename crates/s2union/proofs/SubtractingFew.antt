@@ -8,7 +8,7 @@ use Rattle.std.proofs.lemmas.List.{get_or-take, length-take-le, take_all}
 use Rattle.s2cell.specs.Cell.{size_of, first_leaf}
 use Rattle.s2cell.proofs.CellLemmas.{cell_leaves}
 use Rattle.s2union.specs.Union.{has_leaf, IsLocal}
-use Rattle.s2union.specs.Packed.{IsPacked, IsPlace, Behind}
+use Rattle.s2union.specs.Packed.{IsPacked, IsPlace, FirstEndBy}
 use Rattle.s2union.specs.Sets.{IsLeft}
 use Rattle.s2union.proofs.Checking.{packed_from_local}
 use Rattle.s2union.proofs.Finding.{ended_to, starts_later}
@@ -22,9 +22,9 @@ same_truth false true f g = g refl
 same_truth false false f g = refl
 
 -- the leaves of the first cells are those before a leaf that comes between them and the others
-pub has_leaf-take : (u : List ℕ) (n lo x : ℕ) → IsPacked u → n ≤ length u → Behind u n lo →
+pub has_leaf-take : (u : List ℕ) (n lo x : ℕ) → IsPacked u → n ≤ length u → FirstEndBy u n lo →
     (n < length u → lo ≤ first_leaf (get_or u n 0)) → has_leaf (take n u) x ≡ (ltb x lo && has_leaf u x)
-has_leaf-take u n lo x packed w behind next =
+has_leaf-take u n lo x packed w ended next =
     let len : length (take n u) ≡ n = length-take-le n u w in
     ⊎_elim
     (λ (a : x < lo).
@@ -55,7 +55,7 @@ has_leaf-take u n lo x packed w behind next =
     let b = l.below in
     let e : get_or (take n u) l.at 0 ≡ get_or u l.at 0 = get_or-take n u l.at 0 (omega arith) in
     let high : x < first_leaf (get_or u l.at 0) + size_of (get_or u l.at 0) = rw e at l.high in
-    let z = behind l.at (omega arith) in
+    let z = ended l.at (omega arith) in
     absurd (omega arith))))
     (cases_lt x lo)
 
@@ -92,7 +92,7 @@ pub leaving_start : (xs ys list : List ℕ) (i at lo end : ℕ) → IsLocal xs �
 leaving_start xs ys list i at lo end local h el ee place left =
     let packed = packed_from_local xs local in
     let some = (cell_leaves (get_or xs i 0) (local.cells i 0 h)).some in
-    let behind : Behind xs i lo =
+    let ended : FirstEndBy xs i lo =
     λ k l. let c : first_leaf (get_or xs k 0) + size_of (get_or xs k 0) ≤ first_leaf (get_or xs i 0) =
     packed.chain k i 0 l h in omega arith in
     record {
@@ -102,11 +102,11 @@ leaving_start xs ys list i at lo end local h el ee place left =
         in_y = place.within;
         picked = left_picked xs ys list i left;
         walk = record {
-          behind_x = behind;
-          behind_y = rw el place.behind;
+          ended_x = ended;
+          ended_y = rw el place.ended;
           leaves = λ x. left.leaves x
               ∙ ap (λ v. v && not (has_leaf ys x))
-              (has_leaf-take xs i lo x packed (omega arith) behind (λ _. omega arith))
+              (has_leaf-take xs i lo x packed (omega arith) ended (λ _. omega arith))
               ∙ and_group (ltb x lo) (has_leaf xs x) (not (has_leaf ys x));
         };
         edge = λ _. inl (omega arith);
@@ -163,7 +163,7 @@ pub leaving_done : (xs ys list : List ℕ) (i j lo end : ℕ) → IsLocal xs →
     IsLeft xs ys list (i + 1)
 leaving_done xs ys list i j lo end local h ee l past =
     let packed = packed_from_local xs local in
-    let behind : Behind xs (i + 1) end = ended_to xs i end packed h (omega arith) in
+    let ended : FirstEndBy xs (i + 1) end = ended_to xs i end packed h (omega arith) in
     let next : i + 1 < length xs → end ≤ first_leaf (get_or xs (i + 1) 0) =
     λ g. let c : first_leaf (get_or xs i 0) + size_of (get_or xs i 0) ≤ first_leaf (get_or xs (i + 1) 0) =
     packed.chain i (i + 1) 0 (omega arith) g in omega arith in
@@ -172,5 +172,5 @@ leaving_done xs ys list i j lo end local h ee l past =
       greatest = l.picked.greatest;
       leaves = λ x. l.done past x ∙ sym (and_group (ltb x end) (has_leaf xs x) (not (has_leaf ys x)))
           ∙ ap (λ v. v && not (has_leaf ys x))
-          (sym (has_leaf-take xs (i + 1) end x packed (omega arith) behind next));
+          (sym (has_leaf-take xs (i + 1) end x packed (omega arith) ended next));
     }

@@ -201,7 +201,7 @@ impl<'a> Merge<'a> {
     }
 
     /// The step if no cell of the list is left.
-    fn turn_behind(&mut self) -> Turn
+    fn turn_after_cells(&mut self) -> Turn
         requires { self.old.cells ≡ [] }
         ensures { IsTurn result self.old self.new }
     {
@@ -220,7 +220,7 @@ impl<'a> Merge<'a> {
         ensures { IsTurn result self.old self.new }
     {
         let Some((&cell, cells)) = self.cells.split_first() else {
-            return self.turn_behind();
+            return self.turn_after_cells();
         };
         match head_order(self.put, cell) {
             Ordering::Less => {

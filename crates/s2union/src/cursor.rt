@@ -2,7 +2,7 @@
 ghost use Rattle.std.specs.Prelude.{◌≡◌, ◌≤◌, ◌*◌, ◌^◌, ◌↔◌, IsTrue, length};
 ghost use Rattle.s2cell.specs.Cell.{covers, first_leaf};
 ghost use Rattle.s2union.specs.Union.{has_leaf, IsWithin, ShareSome};
-ghost use Rattle.s2union.specs.Packed.{IsPacked, Behind, EndsAfter};
+ghost use Rattle.s2union.specs.Packed.{IsPacked, FirstEndBy, EndsAfter};
 
 use crate::questions::{holds_at, meets_at};
 use crate::search::{find, find_from};
@@ -75,7 +75,7 @@ fn find_near(cells: &[CellId], near: usize, lo: u64) -> usize
     requires leaf { lo ≤ LEAVES }
     requires within { near ≤ length cells.now }
     ensures within { result ≤ length cells.now }
-    ensures behind { Behind cells.now result lo }
+    ensures ended { FirstEndBy cells.now result lo }
     ensures next { EndsAfter cells.now result lo }
 {
     if near > 0 && cells[near - 1].end_leaf() <= lo {

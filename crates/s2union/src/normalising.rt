@@ -78,7 +78,7 @@ pub fn is_normalized(cells: &[CellId]) -> bool
     ensures normal { IsTrue result ↔ IsNormalForm (has_leaf cells.now) cells.now }
 {
     for i in 0..cells.len() {
-        if !fits_behind(&cells[..i], cells[i]) {
+        if !fits_after(&cells[..i], cells[i]) {
             return false;
         }
     }
@@ -86,7 +86,7 @@ pub fn is_normalized(cells: &[CellId]) -> bool
 }
 
 /// Whether packed cells are still packed with this cell appended.
-fn fits_behind(front: &[CellId], cell: CellId) -> bool
+fn fits_after(front: &[CellId], cell: CellId) -> bool
     requires packed { IsPacked front.now }
     ensures { IsTrue result ↔ IsPacked (front.now ++ cell ∷ []) }
 {

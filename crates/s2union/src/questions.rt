@@ -3,7 +3,7 @@ ghost use Rattle.std.specs.Prelude.{◌≡◌, ◌≤◌, ◌<◌, ◌+◌, ◌-
 ghost use Rattle.std.specs.Prelude.{min, length, slice_index, All, true};
 ghost use Rattle.s2cell.specs.Cell.{IsCell, covers, first_leaf};
 ghost use Rattle.s2union.specs.Union.{IsLocal, has_leaf, IsWithin, ShareSome};
-ghost use Rattle.s2union.specs.Packed.{IsPacked, Behind, EndsAfter};
+ghost use Rattle.s2union.specs.Packed.{IsPacked, FirstEndBy, EndsAfter};
 ghost use Rattle.s2union.specs.Looks.{FewForCell, FewForUnion};
 
 use crate::few::{MUCH_LONGER, holds_few, meets_few};
@@ -117,7 +117,7 @@ pub(crate) fn holds(cells: &[CellId], cell: CellId) -> Counted
 pub(crate) fn holds_at(cells: &[CellId], at: usize, cell: CellId, looks: &mut u64) -> bool
     requires local { IsLocal cells.now }
     requires is_cell { IsCell cell }
-    requires behind { Behind cells.now at (first_leaf cell) }
+    requires ended { FirstEndBy cells.now at (first_leaf cell) }
     requires next { EndsAfter cells.now at (first_leaf cell) }
     requires before { looks.old ≤ 1000 }
     ensures answer { IsTrue result ↔ IsWithin (covers cell) (has_leaf cells.now) }
@@ -142,7 +142,7 @@ pub(crate) fn meets(cells: &[CellId], cell: CellId) -> Counted
 pub(crate) fn meets_at(cells: &[CellId], at: usize, cell: CellId, looks: &mut u64) -> bool
     requires local { IsLocal cells.now }
     requires is_cell { IsCell cell }
-    requires behind { Behind cells.now at (first_leaf cell) }
+    requires ended { FirstEndBy cells.now at (first_leaf cell) }
     requires next { EndsAfter cells.now at (first_leaf cell) }
     requires before { looks.old ≤ 1000 }
     ensures answer { IsTrue result ↔ ShareSome (covers cell) (has_leaf cells.now) }

@@ -3,7 +3,7 @@
 ghost use Rattle.std.specs.Prelude.{◌≡◌, ◌≤◌, ◌<◌, ◌+◌, ◌-◌, ◌*◌, ◌^◌, ◌↔◌};
 ghost use Rattle.std.specs.Prelude.{◌/◌, ◌⊎◌, ℕ, IsTrue, length, slice_index};
 ghost use Rattle.std.specs.List.Sorted.{IsStrictlyIncreasing};
-ghost use Rattle.s2union.specs.Packed.{IsPacked, Behind, EndsAt, EndsAfter};
+ghost use Rattle.s2union.specs.Packed.{IsPacked, FirstEndBy, EndsAt, EndsAfter};
 ghost use Rattle.s2union.specs.Search.{Brackets};
 
 use s2cell::{CellId, LEAVES};
@@ -32,7 +32,7 @@ pub(crate) fn find(cells: &[CellId], lo: u64) -> usize
     requires packed { IsPacked cells.now }
     requires leaf { lo ≤ LEAVES }
     ensures within { result ≤ length cells.now }
-    ensures behind { Behind cells.now result lo }
+    ensures ended { FirstEndBy cells.now result lo }
     ensures next { EndsAfter cells.now result lo }
 {
     find_counted(cells, lo).at
@@ -43,7 +43,7 @@ pub(crate) fn find_counted(cells: &[CellId], lo: u64) -> Found
     requires packed { IsPacked cells.now }
     requires leaf { lo ≤ LEAVES }
     ensures within { result.at ≤ length cells.now }
-    ensures behind { Behind cells.now result.at lo }
+    ensures ended { FirstEndBy cells.now result.at lo }
     ensures next { EndsAfter cells.now result.at lo }
     ensures looks { (k : ℕ) → length cells.now ≤ 2 ^ k → result.looks ≤ 3 * k + 4 }
 {
@@ -57,10 +57,10 @@ pub(crate) fn find_from(cells: &[CellId], from: usize, lo: u64) -> usize
     requires packed { IsPacked cells.now }
     requires leaf { lo ≤ LEAVES }
     requires within { from ≤ length cells.now }
-    requires behind { Behind cells.now from lo }
+    requires ended { FirstEndBy cells.now from lo }
     ensures from { from ≤ result }
     ensures within { result ≤ length cells.now }
-    ensures behind { Behind cells.now result lo }
+    ensures ended { FirstEndBy cells.now result lo }
     ensures next { EndsAfter cells.now result lo }
 {
     let mut looks = 0;
@@ -74,11 +74,11 @@ pub(crate) fn find_from_counted(cells: &[CellId], from: usize, lo: u64, looks: &
     requires packed { IsPacked cells.now }
     requires leaf { lo ≤ LEAVES }
     requires within { from ≤ length cells.now }
-    requires behind { Behind cells.now from lo }
+    requires ended { FirstEndBy cells.now from lo }
     requires before { looks.old ≤ 1000 }
     ensures from { from ≤ result }
     ensures within { result ≤ length cells.now }
-    ensures behind { Behind cells.now result lo }
+    ensures ended { FirstEndBy cells.now result lo }
     ensures next { EndsAfter cells.now result lo }
     ensures looks { (k : ℕ) → result - from < 2 ^ k → looks.new ≤ looks.old + 4 * k + 16 }
 {
@@ -108,10 +108,10 @@ fn leap_from(cells: &[CellId], from: usize, lo: u64) -> Found
     requires packed { IsPacked cells.now }
     requires leaf { lo ≤ LEAVES }
     requires within { from ≤ length cells.now }
-    requires behind { Behind cells.now from lo }
+    requires ended { FirstEndBy cells.now from lo }
     ensures from { from ≤ result.at }
     ensures within { result.at ≤ length cells.now }
-    ensures behind { Behind cells.now result.at lo }
+    ensures ended { FirstEndBy cells.now result.at lo }
     ensures next { EndsAfter cells.now result.at lo }
     ensures looks { (k : ℕ) → result.at + 1 - from < 2 ^ k → result.looks ≤ 4 * k + 14 }
 {
@@ -123,12 +123,12 @@ fn leap_from(cells: &[CellId], from: usize, lo: u64) -> Found
 pub(crate) fn without_last(cells: &[CellId], from: usize, begun: Found, lo: u64) -> Found
     requires packed { IsPacked cells.now }
     requires from { from ≤ begun.at }
-    requires behind { Behind cells.now from lo }
+    requires ended { FirstEndBy cells.now from lo }
     requires place { Brackets cells.now (2 * lo) begun.at begun.at }
     requires before { begun.looks ≤ 1000 }
     ensures from { from ≤ result.at }
     ensures within { result.at ≤ length cells.now }
-    ensures behind { Behind cells.now result.at lo }
+    ensures ended { FirstEndBy cells.now result.at lo }
     ensures next { EndsAfter cells.now result.at lo }
     ensures near { begun.at ≤ result.at + 1 }
     ensures looks { result.looks ≤ begun.looks + 1 }

@@ -4,7 +4,7 @@ ghost use Rattle.std.specs.Prelude.{[], IsTrue, length, slice_index, IfOk, OnOk}
 ghost use Rattle.s2cell.specs.Cell.{IsInside, first_leaf};
 ghost use Rattle.s2union.specs.Union.{IsLocal, has_leaf};
 ghost use Rattle.s2union.specs.Sets.{IsShared};
-ghost use Rattle.s2union.specs.Packed.{Behind, IsPlace};
+ghost use Rattle.s2union.specs.Packed.{FirstEndBy, IsPlace};
 
 use crate::few::{MUCH_LONGER, by_four, find_four, pass_free, pass_held};
 use crate::search::{find, find_from};
@@ -119,7 +119,7 @@ fn share_near(
     requires x_local { IsLocal xs.now }
     requires y_local { IsLocal ys.now }
     requires there { (0 < i) × (i ≤ length xs.now) }
-    requires behind { Behind ys.now at (first_leaf (slice_index xs.now (i - 1))) }
+    requires ended { FirstEndBy ys.now at (first_leaf (slice_index xs.now (i - 1))) }
     requires shared { IsShared xs.now ys.now list.old.items i }
     ensures within { IfOk result (λ next. (i ≤ next) × (next ≤ length xs.now)) }
     ensures shared { IfOk result (λ next. IsShared xs.now ys.now list.new.items next) }

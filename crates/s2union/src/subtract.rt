@@ -7,7 +7,7 @@ ghost use Rattle.std.specs.Vec.{vec_len};
 ghost use Rattle.s2cell.specs.Cell.{IsCell, first_leaf, size_of};
 ghost use Rattle.s2union.specs.Union.{IsLocal, IsNormalForm, has_leaf};
 ghost use Rattle.s2union.specs.Sets.{without, IsLeft};
-ghost use Rattle.s2union.specs.Packed.{Behind, FillsGap, IsPlace};
+ghost use Rattle.s2union.specs.Packed.{FirstEndBy, FillsGap, IsPlace};
 
 use crate::fault::UnionFault;
 use crate::few::{MUCH_LONGER, find_four};
@@ -102,7 +102,7 @@ fn free_until(xs: &[CellId], i: usize, ys: &[CellId], j: usize) -> usize
         ≤ first_leaf (slice_index ys.now j) }
     ensures more { i < result }
     ensures within { result ≤ length xs.now }
-    ensures free { j < length ys.now → Behind xs.now result (first_leaf (slice_index ys.now j)) }
+    ensures free { j < length ys.now → FirstEndBy xs.now result (first_leaf (slice_index ys.now j)) }
 {
     if j < ys.len() {
         find_from(xs, i + 1, ys[j].first_leaf())

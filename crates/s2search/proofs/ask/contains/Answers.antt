@@ -3,7 +3,7 @@ use Rattle.std.proofs.Math.Logic.{⊎_elim}
 use Rattle.std.proofs.lemmas.Bool.{cases_lt, false≢true}
 use Rattle.s2union.specs.Union.{has_leaf}
 use Rattle.s2union.proofs.Checking.{packed_from_local}
-use Rattle.s2search.proofs.Asking.{held_there, behind_on, part_within, all_within}
+use Rattle.s2search.proofs.Asking.{held_there, ended_on, part_within, all_within}
 use Rattle.s2search.proofs.ask.contains.Goals as goal
 
 pub returns-in_default : goal.returns-in_default
@@ -21,10 +21,10 @@ returns-then-not-holds_at g c lx ly =
     let p = packed_from_local xs lx in
     let e : c.in-Some.cell ≡ get_or ys c.loop-k.k 0 = c.in-Some.ensures.1 ∙ c.id.ensures in
     let v = c.first_leaf.ensures.value in
-    let b = rw v at (c.find_from-at.ensures.behind p
-    (rw (v, e) (c.loop-k.invariant.behind lx ly c.loop-k.k (omega arith) h))) in
+    let b = rw v at (c.find_from-at.ensures.ended p
+    (rw (v, e) (c.loop-k.invariant.ended lx ly c.loop-k.k (omega arith) h))) in
     let a = rw v at (c.find_from-at.ensures.next p
-    (rw (v, e) (c.loop-k.invariant.behind lx ly c.loop-k.k (omega arith) h))) in
+    (rw (v, e) (c.loop-k.invariant.ended lx ly c.loop-k.k (omega arith) h))) in
     let there = held_there xs c.find_from-at.result c.in-Some.cell lx c.first_leaf.ensures.own b a in (
       λ t. absurd (false≢true t),
       λ w. absurd (false≢true
@@ -42,21 +42,21 @@ loop-k-preserved g c =
     let v = c.first_leaf.ensures.value in
     record {
       within = c.find_from-at.ensures.within;
-      behind = λ lx ly j a l.
+      ended = λ lx ly j a l.
           let p = packed_from_local xs lx in
-          behind_on xs ys c.find_from-at.result c.loop-k.k j ly (omega arith) l
-          (rw (v, e) at (c.find_from-at.ensures.behind p
-          (rw (v, e) (c.loop-k.invariant.behind lx ly c.loop-k.k (omega arith) h))));
+          ended_on xs ys c.find_from-at.result c.loop-k.k j ly (omega arith) l
+          (rw (v, e) at (c.find_from-at.ensures.ended p
+          (rw (v, e) (c.loop-k.invariant.ended lx ly c.loop-k.k (omega arith) h))));
       held = λ lx ly j a.
           let p = packed_from_local xs lx in
           ⊎_elim
           (λ (f : j < c.loop-k.k). c.loop-k.invariant.held lx ly j f)
           (λ (f : c.loop-k.k ≤ j).
           let i : j ≡ c.loop-k.k = omega arith in
-          let b = rw v at (c.find_from-at.ensures.behind p
-          (rw (v, e) (c.loop-k.invariant.behind lx ly c.loop-k.k (omega arith) h))) in
+          let b = rw v at (c.find_from-at.ensures.ended p
+          (rw (v, e) (c.loop-k.invariant.ended lx ly c.loop-k.k (omega arith) h))) in
           let d = rw v at (c.find_from-at.ensures.next p
-          (rw (v, e) (c.loop-k.invariant.behind lx ly c.loop-k.k (omega arith) h))) in
+          (rw (v, e) (c.loop-k.invariant.ended lx ly c.loop-k.k (omega arith) h))) in
           let there = held_there xs c.find_from-at.result c.in-Some.cell lx c.first_leaf.ensures.own b d in
           rw i (rw e at (there.0 ((c.holds_at.ensures lx.cells).0 c.if-not-holds_at.false))))
           (cases_lt j c.loop-k.k);

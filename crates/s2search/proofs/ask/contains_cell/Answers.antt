@@ -8,5 +8,5 @@ returns g c local =
     let v = c.first_leaf.ensures.value in
     let p = packed_from_local u local in
     both (c.holds_at.ensures local.cells)
-    (held_there u c.find.result c.args.cell local c.first_leaf.ensures.own (rw v at (c.find.ensures.behind p))
+    (held_there u c.find.result c.args.cell local c.first_leaf.ensures.own (rw v at (c.find.ensures.ended p))
     (rw v at (c.find.ensures.next p)))

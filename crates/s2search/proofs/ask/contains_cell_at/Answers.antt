@@ -7,4 +7,4 @@ pub returns : goal.returns
 returns g c local place =
     let own : IsCell c.args.cell = search rules in
     both (c.holds_at.ensures local.cells)
-    (held_there (g.C.Cells.ids c.args.cells.now) c.args.at c.args.cell local own place.behind place.next)
+    (held_there (g.C.Cells.ids c.args.cells.now) c.args.at c.args.cell local own place.ended place.next)

@@ -8,5 +8,5 @@ returns g c local =
     let v = c.first_leaf.ensures.value in
     let p = packed_from_local u local in
     both (rw c.end_leaf.ensures.value at (c.begins_at.ensures local.cells))
-    (begun_there u c.find.result c.args.cell local c.first_leaf.ensures.own (rw v at (c.find.ensures.behind p))
+    (begun_there u c.find.result c.args.cell local c.first_leaf.ensures.own (rw v at (c.find.ensures.ended p))
     (rw v at (c.find.ensures.next p)))

@@ -8,6 +8,6 @@ returns g c local =
     let p = packed_from_local u local in
     record {
       within = c.find_near.ensures.within;
-      behind = rw v at (c.find_near.ensures.behind p);
+      ended = rw v at (c.find_near.ensures.ended p);
       next = rw v at (c.find_near.ensures.next p);
     }

@@ -1,7 +1,7 @@
 use Rattle.std.proofs.Common.{arith, refl, sym, ◌∙◌}
 use Rattle.std.proofs.lemmas.Bool.{false≢true}
 use Rattle.s2cell.specs.Cell.{IsCell, level_of, place_of}
-use Rattle.s2union.proofs.Checking.{fits, last_before, not_before, none_behind, pushed_after, pushed_unmerged}
+use Rattle.s2union.proofs.Checking.{fits, last_before, not_before, no_family_with, pushed_after, pushed_unmerged}
 use Rattle.s2search.proofs.copying.goes_on.Goals as goal
 use Rattle.s2search.proofs.copying.goes_on.Goals.{else-n-gt0-via-then-n-gt0+else-le, else-n-gt0-via-else-n-gt0}
 
@@ -41,7 +41,7 @@ returns c =
                 w.range_min.ensures.value w.le.ensures w.if-le.false
             | else-n-gt0-via-else-n-gt0 w ↦ λ h. absurd (omega arith)
           ])
-          (none_behind c.args.front.now c.args.cell _ _ _ (omega arith) c.index-front-n-2.is c.index-front-n-3.is
+          (no_family_with c.args.front.now c.args.cell _ _ _ (omega arith) c.index-front-n-2.is c.index-front-n-3.is
           c.index-front-n-4.is (λ p f. false≢true (sym c.if-ends_family.false ∙ is.1 (p, f)))),
       λ _. refl,
     )

@@ -36,8 +36,8 @@ loop-first-preserved g c =
           (rw c.id.ensures at (later _ _ _ test c.if-ends_by.false));
     }
 
-pub returns-clause-behind : goal.returns-clause-behind
-returns-clause-behind g c p f = (c.loop-first.invariant.found p f).behind
+pub returns-clause-ended : goal.returns-clause-ended
+returns-clause-ended g c p f = (c.loop-first.invariant.found p f).ended
 
 pub returns-clause-next : goal.returns-clause-next
 returns-clause-next g c p f h =

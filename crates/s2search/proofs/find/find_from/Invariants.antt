@@ -1,12 +1,12 @@
 use Rattle.std.proofs.Common.{◌-◌, ◌≤◌, length}
-use Rattle.s2union.specs.Packed.{IsPacked, Behind}
+use Rattle.s2union.specs.Packed.{IsPacked, FirstEndBy}
 use Rattle.s2search.proofs.find.find_from.Given as goal
 
 abbrev pub invariant-loop-step : goal.invariant-loop-step
 invariant-loop-step g l = record {
   within : l.base ≤ length (g.C.Cells.ids l.cells);
-  behind : IsPacked (g.C.Cells.ids l.cells) → Behind (g.C.Cells.ids l.cells) l.start l.lo →
-      Behind (g.C.Cells.ids l.cells) l.base l.lo;
+  ended : IsPacked (g.C.Cells.ids l.cells) → FirstEndBy (g.C.Cells.ids l.cells) l.start l.lo →
+      FirstEndBy (g.C.Cells.ids l.cells) l.base l.lo;
 }
 
 abbrev pub decreases-loop-step : goal.decreases-loop-step

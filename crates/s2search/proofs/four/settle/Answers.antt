@@ -8,6 +8,6 @@ returns g c packed brackets =
     brackets (omega arith) in
     record {
       within = c.find_between.ensures.within;
-      behind = c.find_between.ensures.behind packed from;
+      ended = c.find_between.ensures.ended packed from;
       next = c.find_between.ensures.next packed from;
     }

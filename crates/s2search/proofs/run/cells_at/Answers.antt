@@ -46,5 +46,5 @@ returns-clause-run g c local =
     run_at u c.args.cell c.find-first.result end c.saturating_sub.result p c.first_leaf.ensures.own
     c.find-first.ensures.within c.saturating_sub.ensures
     (between_from u lo hi c.find-first.result ended end p c.find-end.ensures.within
-    (rw v at (c.find-first.ensures.behind p)) (rw v at (c.find-first.ensures.next p))
-    (rw w at (c.find-end.ensures.behind p)) (rw w at (c.find-end.ensures.next p)) stop)
+    (rw v at (c.find-first.ensures.ended p)) (rw v at (c.find-first.ensures.next p))
+    (rw w at (c.find-end.ensures.ended p)) (rw w at (c.find-end.ensures.next p)) stop)

@@ -1,12 +1,12 @@
 use Rattle.std.proofs.Common.{◌≡◌, ◌+◌, ◌-◌, get_or, arith, refl, ap, subst}
 use Rattle.s2cell.specs.Cell.{first_leaf, size_of}
-use Rattle.s2union.specs.Packed.{Behind}
+use Rattle.s2union.specs.Packed.{FirstEndBy}
 use Rattle.s2union.proofs.Packing.{read_at}
 use Rattle.s2union.proofs.Finding.{ended_to}
 use Rattle.s2union.proofs.cursor.find_near.Goals as goal
 
-pub find_from-requires-clause-behind : goal.find_from-requires-clause-behind
-find_from-requires-clause-behind c =
+pub find_from-requires-clause-ended : goal.find_from-requires-clause-ended
+find_from-requires-clause-ended c =
     let u = c.args.cells.now in
     let k = c.args.near - 1 in
     let w = c.requires.within in
@@ -16,4 +16,4 @@ find_from-requires-clause-behind c =
     let s = ap size_of e in
     let v = c.end_leaf.ensures.value in
     let same : k + 1 ≡ c.args.near = omega arith in
-    subst (λ n. Behind u n c.args.lo) same (ended_to u k c.args.lo c.requires.packed (omega arith) (omega arith))
+    subst (λ n. FirstEndBy u n c.args.lo) same (ended_to u k c.args.lo c.requires.packed (omega arith) (omega arith))

@@ -38,4 +38,4 @@ returns-else-first-second-clause-answer c =
     (λ k h l shared. false≢true (sym c.if-first-second.false ∙ four.1 (k, h, l, shared)))
     (λ k h l. run_missed few cells (c.args.at + 3) c.find_four-places.result.fourth c.pass_free.result
     c.requires.local c.requires.few_packed (omega arith) c.pass_free.ensures.within
-    c.find_four-places.ensures.fourth.behind (λ n a b. c.pass_free.ensures.free n (omega arith) b) k (omega arith) l)
+    c.find_four-places.ensures.fourth.ended (λ n a b. c.pass_free.ensures.free n (omega arith) b) k (omega arith) l)

@@ -2,7 +2,7 @@ use Rattle.std.proofs.Common.{◌+◌, ◌∙◌, get_or, arith, sym}
 use Rattle.std.proofs.lemmas.Bool.{false≢true}
 use Rattle.s2cell.specs.Cell.{covers, first_leaf}
 use Rattle.s2union.specs.Union.{has_leaf, ShareSome}
-use Rattle.s2union.specs.Packed.{Behind}
+use Rattle.s2union.specs.Packed.{FirstEndBy}
 use Rattle.s2union.proofs.AskingFew.{more_places, one_place, run_missed}
 use Rattle.s2union.proofs.Checking.{packed_from_local}
 use Rattle.s2union.proofs.few.meets_next.Goals as goal
@@ -28,15 +28,15 @@ returns-else-meets_at-clause-answer c =
     let few = c.args.few.now in
     let first = c.first_leaf.ensures.value in
     let from = c.pass_free.ensures.from in
-    let behind : Behind cells c.find_counted-found.result.at (first_leaf (get_or few c.args.at 0)) =
-    rw (← c.look-cell.ensures.cell, ← first) c.find_counted-found.ensures.behind in
+    let ended : FirstEndBy cells c.find_counted-found.result.at (first_leaf (get_or few c.args.at 0)) =
+    rw (← c.look-cell.ensures.cell, ← first) c.find_counted-found.ensures.ended in
     more_places (λ k. ShareSome (covers (get_or few k 0)) (has_leaf cells) → ⊥) c.args.at (c.args.at + 1)
     c.pass_free.result
     (one_place (λ k. ShareSome (covers (get_or few k 0)) (has_leaf cells) → ⊥) c.args.at
     (λ shared. false≢true (sym c.if-meets_at.false
     ∙ c.meets_at.ensures.answer.1 (rw (← c.look-cell.ensures.cell) at shared))))
     (run_missed few cells c.args.at c.find_counted-found.result.at c.pass_free.result c.requires.local
-    c.requires.few_packed (omega arith) c.pass_free.ensures.within behind c.pass_free.ensures.free)
+    c.requires.few_packed (omega arith) c.pass_free.ensures.within ended c.pass_free.ensures.free)
 
 pub returns-else-meets_at-clause-most : goal.returns-else-meets_at-clause-most
 returns-else-meets_at-clause-most c =

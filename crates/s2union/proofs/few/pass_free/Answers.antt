@@ -4,8 +4,8 @@ use Rattle.s2union.proofs.AskingFew.{sought_near}
 use Rattle.s2union.proofs.Finding.{ended_to, ends_later}
 use Rattle.s2union.proofs.few.pass_free.Goals as goal
 
-pub find_from_counted-requires-clause-behind : goal.find_from_counted-requires-clause-behind
-find_from_counted-requires-clause-behind c =
+pub find_from_counted-requires-clause-ended : goal.find_from_counted-requires-clause-ended
+find_from_counted-requires-clause-ended c =
     let few = c.args.few.now in
     let e : get_or few c.args.from 0 ≡ c.look-2.result = sym c.look-2.ensures.cell in
     let first = ap first_leaf e in

@@ -5,8 +5,8 @@ use Rattle.s2union.proofs.AskingFew.{run_held, sought_near}
 use Rattle.s2union.proofs.Finding.{ended_to}
 use Rattle.s2union.proofs.few.pass_held.Goals as goal
 
-pub find_from_counted-requires-clause-behind : goal.find_from_counted-requires-clause-behind
-find_from_counted-requires-clause-behind c =
+pub find_from_counted-requires-clause-ended : goal.find_from_counted-requires-clause-ended
+find_from_counted-requires-clause-ended c =
     let few = c.args.few.now in
     let p = c.requires.few_packed in
     let e : get_or few c.args.from 0 ≡ c.look.result = sym c.look.ensures.cell in
@@ -26,7 +26,7 @@ returns-clause-held c k h l =
     let end = c.end_leaf.ensures.value in (
       omega arith,
       rw (← c.look-cell.ensures.cell) (run_held few c.args.from c.find_from_counted.result c.look-cell.result
-          c.requires.few_packed (omega arith) inside f.within (rw (← end) f.behind) k h l),
+          c.requires.few_packed (omega arith) inside f.within (rw (← end) f.ended) k h l),
     )
 
 pub returns-clause-looks : goal.returns-clause-looks

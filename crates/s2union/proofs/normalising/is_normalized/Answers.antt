@@ -7,18 +7,18 @@ use Rattle.s2union.proofs.PackedLocal.{local_from_packed}
 use Rattle.s2union.proofs.Checking.{unpacked_prefix}
 use Rattle.s2union.proofs.normalising.is_normalized.Goals as goal
 
-pub returns-then-not-fits_behind-clause-local : goal.returns-then-not-fits_behind-clause-local
-returns-then-not-fits_behind-clause-local c = (
+pub returns-then-not-fits_after-clause-local : goal.returns-then-not-fits_after-clause-local
+returns-then-not-fits_after-clause-local c = (
   λ e. absurd (false≢true e),
   λ l. absurd (unpacked_prefix c.args.cells.now c.loop-i.i c.index-cells-i.result c.loop-i-test.true c.index-cells-i.is
-      (λ p. false≢true (sym c.if-not-fits_behind.true ∙ c.fits_behind.ensures.1 p)) l),
+      (λ p. false≢true (sym c.if-not-fits_after.true ∙ c.fits_after.ensures.1 p)) l),
 )
 
-pub returns-then-not-fits_behind-clause-normal : goal.returns-then-not-fits_behind-clause-normal
-returns-then-not-fits_behind-clause-normal c = (
+pub returns-then-not-fits_after-clause-normal : goal.returns-then-not-fits_after-clause-normal
+returns-then-not-fits_after-clause-normal c = (
   λ e. absurd (false≢true e),
   λ n. absurd (unpacked_prefix c.args.cells.now c.loop-i.i c.index-cells-i.result c.loop-i-test.true c.index-cells-i.is
-      (λ p. false≢true (sym c.if-not-fits_behind.true ∙ c.fits_behind.ensures.1 p))
+      (λ p. false≢true (sym c.if-not-fits_after.true ∙ c.fits_after.ensures.1 p))
       (local_from_normal (has_leaf c.args.cells.now) c.args.cells.now n)),
 )
 

@@ -5,8 +5,8 @@ use Rattle.s2union.proofs.questions.holds.Goals as goal
 pub find_counted-found-requires-clause-packed : goal.find_counted-found-requires-clause-packed
 find_counted-found-requires-clause-packed c = packed_from_local c.args.cells.now c.requires
 
-pub holds_at-answer-requires-clause-behind : goal.holds_at-answer-requires-clause-behind
-holds_at-answer-requires-clause-behind c = rw (← c.first_leaf.ensures.value) c.find_counted-found.ensures.behind
+pub holds_at-answer-requires-clause-ended : goal.holds_at-answer-requires-clause-ended
+holds_at-answer-requires-clause-ended c = rw (← c.first_leaf.ensures.value) c.find_counted-found.ensures.ended
 
 pub holds_at-answer-requires-clause-next : goal.holds_at-answer-requires-clause-next
 holds_at-answer-requires-clause-next c = rw (← c.first_leaf.ensures.value) c.find_counted-found.ensures.next

@@ -13,7 +13,7 @@ returns-then-at-cells-clause-answer c =
     let e : get_or u at 0 ≡ c.look.result = sym c.look.ensures.cell in (
       λ t. within_from_place u at c.args.cell c.look.result c.if-at-cells.true e (c.contains.ensures.value.0 t),
       λ lies.
-          let h = held_at u at c.args.cell r.local r.is_cell r.behind r.next lies in
+          let h = held_at u at c.args.cell r.local r.is_cell r.ended r.next lies in
           c.contains.ensures.value.1 (rw e at (inside_from_within c.args.cell (get_or u at 0) h.within)),
     )
 
@@ -23,7 +23,7 @@ returns-else-at-cells-clause-answer c =
       λ t. let f : nat_lt c.args.at (length c.args.cells.now) ≡ false = grind (arith, nat_tests) in
           absurd (false≢true (sym f ∙ t)),
       λ lies.
-          let h = held_at c.args.cells.now c.args.at c.args.cell r.local r.is_cell r.behind r.next lies in
+          let h = held_at c.args.cells.now c.args.at c.args.cell r.local r.is_cell r.ended r.next lies in
           let t = h.there in
           absurd (omega arith),
     )

@@ -11,10 +11,10 @@ use Rattle.s2union.proofs.questions.holds_evenly.Goals as goal
 pub find_from_counted-i-requires-clause-packed : goal.find_from_counted-i-requires-clause-packed
 find_from_counted-i-requires-clause-packed c = packed_from_local c.args.xs.now c.requires.x_local
 
-pub find_from_counted-i-requires-clause-behind : goal.find_from_counted-i-requires-clause-behind
-find_from_counted-i-requires-clause-behind c =
+pub find_from_counted-i-requires-clause-ended : goal.find_from_counted-i-requires-clause-ended
+find_from_counted-i-requires-clause-ended c =
     let e : get_or c.args.ys.now c.loop-j.j 0 ≡ c.look-y.result = sym c.look-y.ensures.cell in
-    rw (c.first_leaf.ensures.value, ← e) (c.loop-j.invariant.covering.behind c.loop-j-test.true)
+    rw (c.first_leaf.ensures.value, ← e) (c.loop-j.invariant.covering.ended c.loop-j-test.true)
 
 pub loop-j-init : goal.loop-j-init
 loop-j-init c = record { covering = search rules; turns = no_turn }
@@ -31,7 +31,7 @@ returns-then-i-xs-clause-answer c =
           c.requires.x_local c.requires.y_local
           (covering_on c.args.xs.now c.args.ys.now c.loop-j.i c.loop-j.j c.find_from_counted-i.result c.look-y.result
           c.loop-j.invariant.covering c.loop-j-test.true is
-          c.find_from_counted-i.ensures.within (rw (← c.first_leaf.ensures.value) c.find_from_counted-i.ensures.behind))
+          c.find_from_counted-i.ensures.within (rw (← c.first_leaf.ensures.value) c.find_from_counted-i.ensures.ended))
           c.loop-j-test.true (omega arith) w),
     )
 
@@ -64,7 +64,7 @@ returns-then-not-contains-clause-answer c =
           (covering_on c.args.xs.now c.args.ys.now c.loop-j.i c.loop-j.j c.find_from_counted-i.result c.look-y.result
           c.loop-j.invariant.covering c.loop-j-test.true is
           c.find_from_counted-i.ensures.within (rw (← c.first_leaf.ensures.value)
-          c.find_from_counted-i.ensures.behind)) c.loop-j-test.true
+          c.find_from_counted-i.ensures.ended)) c.loop-j-test.true
           is (λ h. let n = c.find_from_counted-i.ensures.next h in omega arith)
           (λ h i. let j : IsInside c.look-y.result c.look-x.result = rw ex at i in false≢true
           (sym c.if-not-contains.true ∙ c.contains.ensures.value.1 j)) w),
@@ -88,8 +88,8 @@ pub find_from_counted-j-requires-clause-before : goal.find_from_counted-j-requir
 find_from_counted-j-requires-clause-before c = let l = c.find_from_counted-i.ensures.looks 64 (omega arith) in
     omega arith
 
-pub find_from_counted-j-requires-clause-behind : goal.find_from_counted-j-requires-clause-behind
-find_from_counted-j-requires-clause-behind c =
+pub find_from_counted-j-requires-clause-ended : goal.find_from_counted-j-requires-clause-ended
+find_from_counted-j-requires-clause-ended c =
     let is = is_at c.args.ys.now c.loop-j.j c.look-y.result c.loop-j-test.true c.look-y.ensures.cell in
     rw c.end_leaf.ensures.value (ended_in c.args.ys.now c.loop-j.j c.look-x.result c.look-y.result
     c.requires.y_local c.loop-j-test.true is
@@ -109,10 +109,10 @@ loop-j-preserved c =
           (covering_on c.args.xs.now c.args.ys.now c.loop-j.i c.loop-j.j c.find_from_counted-i.result c.look-y.result
           c.loop-j.invariant.covering c.loop-j-test.true is_y
           c.find_from_counted-i.ensures.within (rw (← c.first_leaf.ensures.value)
-          c.find_from_counted-i.ensures.behind)) (omega arith)
+          c.find_from_counted-i.ensures.ended)) (omega arith)
           c.loop-j-test.true
           is_x is_y (c.contains.ensures.value.0 c.if-not-contains.false)
-          (let f = e.from in omega arith) e.within (rw (← c.end_leaf.ensures.value) e.behind)
+          (let f = e.from in omega arith) e.within (rw (← c.end_leaf.ensures.value) e.ended)
           (rw (← c.end_leaf.ensures.value) e.next);
       turns = turns_more c.loop-j.looks c.loop-j.i c.loop-j.j c.look-y.new.looks c.find_from_counted-i.new.looks
           c.look-x.new.looks

@@ -5,8 +5,8 @@ use Rattle.s2union.proofs.questions.meets.Goals as goal
 pub find_counted-found-requires-clause-packed : goal.find_counted-found-requires-clause-packed
 find_counted-found-requires-clause-packed c = packed_from_local c.args.cells.now c.requires
 
-pub meets_at-answer-requires-clause-behind : goal.meets_at-answer-requires-clause-behind
-meets_at-answer-requires-clause-behind c = rw (← c.first_leaf.ensures.value) c.find_counted-found.ensures.behind
+pub meets_at-answer-requires-clause-ended : goal.meets_at-answer-requires-clause-ended
+meets_at-answer-requires-clause-ended c = rw (← c.first_leaf.ensures.value) c.find_counted-found.ensures.ended
 
 pub meets_at-answer-requires-clause-next : goal.meets_at-answer-requires-clause-next
 meets_at-answer-requires-clause-next c = rw (← c.first_leaf.ensures.value) c.find_counted-found.ensures.next

@@ -24,7 +24,7 @@ returns-then-at-cells-clause-answer c =
       λ s.
           ⊎_elim
           (λ (h : a < b). let g : nat_lt a b ≡ true = grind (arith, nat_tests) in g)
-          (λ (h : b ≤ a). absurd (shared_none u at c.args.cell q.local q.behind (λ _. omega arith) s))
+          (λ (h : b ≤ a). absurd (shared_none u at c.args.cell q.local q.ended (λ _. omega arith) s))
           (cases_lt a b),
     )
 
@@ -33,5 +33,5 @@ returns-else-at-cells-clause-answer c =
     let q = c.requires in (
       λ t. let f : nat_lt c.args.at (length c.args.cells.now) ≡ false = grind (arith, nat_tests) in
           absurd (false≢true (sym f ∙ t)),
-      λ s. absurd (shared_none c.args.cells.now c.args.at c.args.cell q.local q.behind (λ h. absurd (omega arith)) s),
+      λ s. absurd (shared_none c.args.cells.now c.args.at c.args.cell q.local q.ended (λ h. absurd (omega arith)) s),
     )

@@ -12,10 +12,10 @@ use Rattle.s2union.proofs.questions.meets_evenly.Goals as goal
 pub find_from_counted-i-requires-clause-packed : goal.find_from_counted-i-requires-clause-packed
 find_from_counted-i-requires-clause-packed c = packed_from_local c.args.xs.now c.requires.x_local
 
-pub find_from_counted-i-requires-clause-behind : goal.find_from_counted-i-requires-clause-behind
-find_from_counted-i-requires-clause-behind c =
+pub find_from_counted-i-requires-clause-ended : goal.find_from_counted-i-requires-clause-ended
+find_from_counted-i-requires-clause-ended c =
     let e : get_or c.args.ys.now c.loop-j.j 0 ≡ c.look-y.result = sym c.look-y.ensures.cell in
-    rw (c.first_leaf.ensures.value, ← e) (c.loop-j.invariant.behind c.loop-j-test.true)
+    rw (c.first_leaf.ensures.value, ← e) (c.loop-j.invariant.ended c.loop-j-test.true)
 
 pub find_from_counted-j-requires-clause-packed : goal.find_from_counted-j-requires-clause-packed
 find_from_counted-j-requires-clause-packed c = packed_from_local c.args.ys.now c.requires.y_local
@@ -27,8 +27,8 @@ pub find_from_counted-j-requires-clause-before : goal.find_from_counted-j-requir
 find_from_counted-j-requires-clause-before c = let l = c.find_from_counted-i.ensures.looks 64 (omega arith) in
     omega arith
 
-pub find_from_counted-j-requires-clause-behind : goal.find_from_counted-j-requires-clause-behind
-find_from_counted-j-requires-clause-behind c =
+pub find_from_counted-j-requires-clause-ended : goal.find_from_counted-j-requires-clause-ended
+find_from_counted-j-requires-clause-ended c =
     let a = c.end_leaf.ensures.value in
     let is = is_at c.args.ys.now c.loop-j.j c.look-y.result c.loop-j-test.true c.look-y.ensures.cell in
     ended_up_to c.args.ys.now c.loop-j.j c.look-y.result _ c.requires.y_local c.loop-j-test.true is (omega arith)
@@ -37,7 +37,7 @@ pub loop-j-init : goal.loop-j-init
 loop-j-init c = record {
   in_x = search rules;
   in_y = search rules;
-  behind = search rules;
+  ended = search rules;
   sharing = search rules;
   tries = no_try c.args.xs.now c.args.ys.now;
 }
@@ -62,8 +62,8 @@ loop-j-preserved c =
     record {
       in_x = f.within;
       in_y = e.within;
-      behind = λ l k m.
-          let b = f.behind k m in
+      ended = λ l k m.
+          let b = f.ended k m in
           let s = starts_later ys c.loop-j.j c.find_from_counted-j.result (packed_from_local ys c.requires.y_local)
           (let g = e.from in omega arith) l in
           omega arith;
@@ -73,8 +73,8 @@ loop-j-preserved c =
           (skip_x (both xs ys) xs ys [] c.loop-j.i c.loop-j.j c.find_from_counted-i.result c.look-y.result
           c.requires.x_local
           c.requires.y_local
-          c.loop-j.invariant.sharing c.loop-j-test.true is_y f.from f.within (rw (← first) f.behind))
-          (omega arith) is_x (let g = e.from in omega arith) e.within (rw (← begin) e.behind);
+          c.loop-j.invariant.sharing c.loop-j-test.true is_y f.from f.within (rw (← first) f.ended))
+          (omega arith) is_x (let g = e.from in omega arith) e.within (rw (← begin) e.ended);
       tries = tries_more xs ys c.loop-j.looks c.loop-j.i c.loop-j.j c.look-y.new.looks
           c.find_from_counted-i.new.looks c.look-x.new.looks
           c.find_from_counted-j.new.looks c.find_from_counted-i.result c.find_from_counted-j.result _
@@ -95,7 +95,7 @@ returns-then-i-xs-clause-answer c =
           c.find_from_counted-i.result
           c.look-y.result
           c.requires.x_local c.requires.y_local c.loop-j.invariant.sharing
-          c.loop-j-test.true is f.from f.within (rw (← c.first_leaf.ensures.value) f.behind))
+          c.loop-j-test.true is f.from f.within (rw (← c.first_leaf.ensures.value) f.ended))
           (omega arith) s),
     )
 

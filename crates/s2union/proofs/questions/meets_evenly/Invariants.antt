@@ -1,6 +1,6 @@
 use Rattle.std.proofs.Common.{◌<◌, ◌≤◌, ◌-◌, length, get_or, []}
 use Rattle.s2cell.specs.Cell.{first_leaf}
-use Rattle.s2union.specs.Packed.{Behind}
+use Rattle.s2union.specs.Packed.{FirstEndBy}
 use Rattle.s2union.proofs.Shared.{Sharing, both}
 use Rattle.s2union.proofs.Looking.{Tries}
 use Rattle.s2union.proofs.questions.meets_evenly.Given as goal
@@ -10,7 +10,7 @@ abbrev pub invariant-loop-j : goal.invariant-loop-j
 invariant-loop-j l = record {
   in_x : l.i ≤ length l.xs;
   in_y : l.j ≤ length l.ys;
-  behind : l.j < length l.ys → Behind l.xs l.i (first_leaf (get_or l.ys l.j 0));
+  ended : l.j < length l.ys → FirstEndBy l.xs l.i (first_leaf (get_or l.ys l.j 0));
   sharing : Sharing (both l.xs l.ys) l.xs l.ys [] l.i l.j;
   tries : Tries l.xs l.ys l.looks l.i l.j;
 }

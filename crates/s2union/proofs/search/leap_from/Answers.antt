@@ -8,7 +8,7 @@ gallop_counted-begun-requires-clause-ascends c = ascends c.args.cells.now c.requ
 pub gallop_counted-begun-requires-clause-below : goal.gallop_counted-begun-requires-clause-below
 gallop_counted-begun-requires-clause-below c k h =
     middle_before c.args.cells.now c.args.lo c.args.from k c.requires.packed
-    c.requires.within c.requires.behind h
+    c.requires.within c.requires.ended h
 
 pub without_last-requires-clause-before : goal.without_last-requires-clause-before
 without_last-requires-clause-before c =

@@ -9,8 +9,8 @@ use Rattle.s2union.proofs.share.share_evenly.Goals as goal
 pub find_from-i-requires-clause-packed : goal.find_from-i-requires-clause-packed
 find_from-i-requires-clause-packed c = packed_from_local c.args.xs.now c.requires.x_local
 
-pub find_from-i-requires-clause-behind : goal.find_from-i-requires-clause-behind
-find_from-i-requires-clause-behind c =
+pub find_from-i-requires-clause-ended : goal.find_from-i-requires-clause-ended
+find_from-i-requires-clause-ended c =
     let a = c.end_leaf.ensures.value in
     ended_up_to c.args.xs.now c.loop-i.i c.index-xs-i.result _ c.requires.x_local c.loop-i-test.true
     c.index-xs-i.is (omega arith)
@@ -26,14 +26,14 @@ loop-i-preserved-then-end_leaf-first_leaf c =
       sharing = skip_x (both c.args.xs.now c.args.ys.now) c.args.xs.now c.args.ys.now c.loop-i.list.items
           c.loop-i.i c.loop-i.j c.find_from-i.result c.index-ys-j.result
           c.requires.x_local c.requires.y_local v.sharing c.if-j-ys.true c.index-ys-j.is (let f = e.from in
-          omega arith) e.within (rw (← b) e.behind);
+          omega arith) e.within (rw (← b) e.ended);
     }
 
 pub find_from-j-requires-clause-packed : goal.find_from-j-requires-clause-packed
 find_from-j-requires-clause-packed c = packed_from_local c.args.ys.now c.requires.y_local
 
-pub find_from-j-requires-clause-behind : goal.find_from-j-requires-clause-behind
-find_from-j-requires-clause-behind c =
+pub find_from-j-requires-clause-ended : goal.find_from-j-requires-clause-ended
+find_from-j-requires-clause-ended c =
     let a = c.end_leaf-else-end_leaf-first_leaf.ensures.value in
     ended_up_to c.args.ys.now c.loop-i.j c.index-ys-j.result _ c.requires.y_local c.if-j-ys.true c.index-ys-j.is
     (omega arith)
@@ -49,14 +49,14 @@ loop-i-preserved-then-end_leaf-first_leaf-2 c =
       sharing = skip_y (both c.args.xs.now c.args.ys.now) c.args.xs.now c.args.ys.now c.loop-i.list.items
           c.loop-i.i c.loop-i.j c.find_from-j.result c.index-xs-i.result
           c.requires.x_local c.requires.y_local v.sharing c.loop-i-test.true c.index-xs-i.is (let f = e.from in
-          omega arith) e.within (rw (← b) e.behind);
+          omega arith) e.within (rw (← b) e.ended);
     }
 
 pub find_from-next-requires-clause-packed : goal.find_from-next-requires-clause-packed
 find_from-next-requires-clause-packed c = packed_from_local c.args.xs.now c.requires.x_local
 
-pub find_from-next-requires-clause-behind : goal.find_from-next-requires-clause-behind
-find_from-next-requires-clause-behind c =
+pub find_from-next-requires-clause-ended : goal.find_from-next-requires-clause-ended
+find_from-next-requires-clause-ended c =
     rw c.end_leaf-then-contains.ensures.value (ended_in c.args.xs.now c.loop-i.i c.index-ys-j.result
     c.index-xs-i.result c.requires.x_local c.loop-i-test.true c.index-xs-i.is
     (c.contains.ensures.value.0 c.if-contains.true))
@@ -73,14 +73,14 @@ loop-i-preserved-then-contains c =
           c.extend.new.list.items c.loop-i.i c.loop-i.j next c.index-xs-i.result c.index-ys-j.result
           c.requires.x_local c.requires.y_local c.loop-i.invariant.sharing c.loop-i-test.true c.if-j-ys.true
           c.index-xs-i.is c.index-ys-j.is (c.contains.ensures.value.0 c.if-contains.true)
-          (let f = e.from in omega arith) e.within (rw (← b) e.behind) (rw (← b) e.next) c.in_ok-extend.ensures;
+          (let f = e.from in omega arith) e.within (rw (← b) e.ended) (rw (← b) e.next) c.in_ok-extend.ensures;
     }
 
 pub find_from-next-requires-else-contains-clause-packed : goal.find_from-next-requires-else-contains-clause-packed
 find_from-next-requires-else-contains-clause-packed c = packed_from_local c.args.ys.now c.requires.y_local
 
-pub find_from-next-requires-else-contains-clause-behind : goal.find_from-next-requires-else-contains-clause-behind
-find_from-next-requires-else-contains-clause-behind c =
+pub find_from-next-requires-else-contains-clause-ended : goal.find_from-next-requires-else-contains-clause-ended
+find_from-next-requires-else-contains-clause-ended c =
     let a = c.end_leaf.ensures.value in
     let b = c.first_leaf.ensures.value in
     let d = c.end_leaf-else-end_leaf-first_leaf.ensures.value in
@@ -112,7 +112,7 @@ loop-i-preserved c =
           c.extend-else-contains.new.list.items c.loop-i.i c.loop-i.j next c.index-xs-i.result c.index-ys-j.result
           c.requires.x_local c.requires.y_local c.loop-i.invariant.sharing c.loop-i-test.true c.if-j-ys.true
           c.index-xs-i.is c.index-ys-j.is inside
-          (let h = f.from in omega arith) f.within (rw (← g) f.behind) (rw (← g) f.next) c.in_ok-extend-2.ensures;
+          (let h = f.from in omega arith) f.within (rw (← g) f.ended) (rw (← g) f.next) c.in_ok-extend-2.ensures;
     }
 
 pub returns-else-j-ys-clause-leaves : goal.returns-else-j-ys-clause-leaves

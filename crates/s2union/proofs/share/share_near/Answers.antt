@@ -25,8 +25,8 @@ returns-clause-shared c =
     let on = next.from in
     let in_x = next.within in
     let passed = shared_passed xs ys c.args.list.now.items i c.args.at c.pass_free-free.result lo
-    c.requires.x_local c.requires.y_local c.requires.shared from free.within c.requires.behind
+    c.requires.x_local c.requires.y_local c.requires.shared from free.within c.requires.ended
     (λ k h l. starts_later xs (i - 1) k packed (omega arith) (omega arith)) free.free in
     shared_held_run xs ys c.args.list.now.items _ c.pass_free-free.result c.pass_held-next.result c.args.at lo
-    c.requires.x_local c.requires.y_local on in_x c.requires.behind
+    c.requires.x_local c.requires.y_local on in_x c.requires.ended
     (λ k h l. starts_later xs (i - 1) k packed (omega arith) (omega arith)) next.held c.in_ok-extend.ensures passed

@@ -25,5 +25,5 @@ returns-in_ok-extend c =
           c.find_from-next.result c.index-xs-i.result c.requires.x_local c.requires.y_local c.requires.shared
           c.requires.there c.index-xs-i.is c.requires.place
           (λ g inside. false≢true (sym c.if-is_held_at.false ∙ c.is_held_at.ensures.1 (g, inside)))
-          f.from f.within (rw (← end) f.behind) (rw (← end) f.next) c.in_ok-extend.ensures;
+          f.from f.within (rw (← end) f.ended) (rw (← end) f.next) c.in_ok-extend.ensures;
     }

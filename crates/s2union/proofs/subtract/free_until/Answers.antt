@@ -8,8 +8,8 @@ use Rattle.s2union.proofs.subtract.free_until.Goals as goal
 pub find_from-requires-clause-packed : goal.find_from-requires-clause-packed
 find_from-requires-clause-packed c = packed_from_local c.args.xs.now c.requires.x_local
 
-pub find_from-requires-clause-behind : goal.find_from-requires-clause-behind
-find_from-requires-clause-behind c =
+pub find_from-requires-clause-ended : goal.find_from-requires-clause-ended
+find_from-requires-clause-ended c =
     let y : get_or c.args.ys.now c.args.j 0 ≡ c.index-ys-j.result =
     read_at c.args.ys.now c.args.j c.args.j c.index-ys-j.result c.if-j-ys.true refl c.index-ys-j.is in
     let fy = ap first_leaf y in

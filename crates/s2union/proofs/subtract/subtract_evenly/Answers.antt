@@ -16,8 +16,8 @@ find_from-j-requires-clause-packed c = packed_from_local c.args.ys.now c.require
 pub find_from-i-requires-clause-packed : goal.find_from-i-requires-clause-packed
 find_from-i-requires-clause-packed c = packed_from_local c.args.xs.now c.requires.x_local
 
-pub find_from-i-requires-clause-behind : goal.find_from-i-requires-clause-behind
-find_from-i-requires-clause-behind c =
+pub find_from-i-requires-clause-ended : goal.find_from-i-requires-clause-ended
+find_from-i-requires-clause-ended c =
     let v = c.loop-i.invariant in
     let f = c.find_from-j.ensures in
     let most = c.first_leaf.ensures.most in
@@ -31,7 +31,7 @@ find_from-i-requires-clause-behind c =
     (subtracting_from c.args.xs.now c.args.ys.now c.loop-i.list.items c.loop-i.i c.loop-i.j c.loop-i.lo
     c.max-start.result
     c.index-xs-i.result c.requires.x_local v.so_far c.loop-i-test.true ex (omega arith))
-    f.within f.behind in
+    f.within f.ended in
     let (below, ey, before) = c.in-Some.ensures in
     let end = c.end_leaf.ensures.most in
     let taken = subtracting_taken c.args.xs.now c.args.ys.now c.loop-i.list.items c.fill_gap.new.list.items c.loop-i.i
@@ -40,7 +40,7 @@ find_from-i-requires-clause-behind c =
     (omega arith) (omega arith)
     c.first_leaf-in-Some.ensures.value (omega arith)
     c.in_ok-fill_gap-in-Some.ensures in
-    taken.walk.behind_x
+    taken.walk.ended_x
 
 pub loop-i-preserved-then-end-lo : goal.loop-i-preserved-then-end-lo
 loop-i-preserved-then-end-lo c =
@@ -57,7 +57,7 @@ loop-i-preserved-then-end-lo c =
     (subtracting_from c.args.xs.now c.args.ys.now c.loop-i.list.items c.loop-i.i c.loop-i.j c.loop-i.lo
     c.max-start.result
     c.index-xs-i.result c.requires.x_local v.so_far c.loop-i-test.true ex (omega arith))
-    f.within f.behind in
+    f.within f.ended in
     let (below, ey, before) = c.in-Some.ensures in
     let end = c.end_leaf.ensures.most in
     let taken = subtracting_taken c.args.xs.now c.args.ys.now c.loop-i.list.items c.fill_gap.new.list.items c.loop-i.i
@@ -71,7 +71,7 @@ loop-i-preserved-then-end-lo c =
       leaf = omega arith;
       so_far = subtracting_on_x c.args.xs.now c.args.ys.now c.fill_gap.new.list.items c.loop-i.i
           (c.find_from-j.result + 1)
-          c.max-lo.result c.find_from-i.result c.requires.x_local taken g.from g.within g.behind;
+          c.max-lo.result c.find_from-i.result c.requires.x_local taken g.from g.within g.ended;
     }
 
 pub loop-i-preserved-else-end-lo : goal.loop-i-preserved-else-end-lo
@@ -89,7 +89,7 @@ loop-i-preserved-else-end-lo c =
     (subtracting_from c.args.xs.now c.args.ys.now c.loop-i.list.items c.loop-i.i c.loop-i.j c.loop-i.lo
     c.max-start.result
     c.index-xs-i.result c.requires.x_local v.so_far c.loop-i-test.true ex (omega arith))
-    f.within f.behind in
+    f.within f.ended in
     let (below, ey, before) = c.in-Some.ensures in
     let end = c.end_leaf.ensures.most in
     let taken = subtracting_taken c.args.xs.now c.args.ys.now c.loop-i.list.items c.fill_gap.new.list.items c.loop-i.i
@@ -115,7 +115,7 @@ loop-i-preserved-then-start-first_leaf c =
     (subtracting_from c.args.xs.now c.args.ys.now c.loop-i.list.items c.loop-i.i c.loop-i.j c.loop-i.lo
     c.max-start.result
     c.index-xs-i.result c.requires.x_local v.so_far c.loop-i-test.true ex (omega arith))
-    f.within f.behind in
+    f.within f.ended in
     let g = c.free_until-next.ensures in
     let k = c.free_until-next.result - 1 in
     let fx = ap first_leaf ex in
@@ -150,7 +150,7 @@ loop-i-preserved c =
     (subtracting_from c.args.xs.now c.args.ys.now c.loop-i.list.items c.loop-i.i c.loop-i.j c.loop-i.lo
     c.max-start.result
     c.index-xs-i.result c.requires.x_local v.so_far c.loop-i-test.true ex (omega arith))
-    f.within f.behind in
+    f.within f.ended in
     record {
       leaf = omega arith;
       so_far = subtracting_free c.args.xs.now c.args.ys.now c.loop-i.list.items
@@ -180,7 +180,7 @@ returns-in_err-extend_up_to-in-None-clause-many c =
     (subtracting_from c.args.xs.now c.args.ys.now c.loop-i.list.items c.loop-i.i c.loop-i.j c.loop-i.lo
     c.max-start.result
     c.index-xs-i.result c.requires.x_local v.so_far c.loop-i-test.true ex (omega arith))
-    f.within f.behind in
+    f.within f.ended in
     let g = c.free_until-next.ensures in
     let fx = ap first_leaf ex in
     let first = c.first_leaf-in-None.ensures.value in

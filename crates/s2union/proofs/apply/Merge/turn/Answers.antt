@@ -1,13 +1,13 @@
 use Rattle.std.proofs.Common.{[], ◌∷◌, sym, subst, drop, get_or}
 use Rattle.s2union.specs.Merge.{Left, Goes, CanApply}
-use Rattle.s2union.proofs.MergeSteps.{put_turn, keep_turn, take_turn, put_misfit, out_misfit, behind_first}
-use Rattle.s2union.proofs.MergeSteps.{behind_first_ascends, rest_packed}
+use Rattle.s2union.proofs.MergeSteps.{put_turn, keep_turn, take_turn, put_misfit, out_misfit, after_first}
+use Rattle.s2union.proofs.MergeSteps.{after_first_ascends, rest_packed}
 use Rattle.s2union.proofs.apply.Merge.turn.Goals as goal
 
 pub returns-in-Less : goal.returns-in-Less
 returns-in-Less c =
     let s = c.self.inside in
-    rw behind_first (subst (λ (o : Left). Goes (get_or s.put.now 0 c.index-self-0.result ∷ []) o
+    rw after_first (subst (λ (o : Left). Goes (get_or s.put.now 0 c.index-self-0.result ∷ []) o
     (record { out = s.out.now; put = drop 1 s.put.now; cells = s.cells.now })) c.self.view_is
     (put_turn s.out.now s.put.now s.cells.now c.in-Some.cells.now _ c.index-self-0.result c.in-Some.ensures.cases.0
     c.self.invariant c.in-Less.ensures))
@@ -27,7 +27,7 @@ returns-in-Less-head_order c f =
 pub returns-in-Equal-head_order : goal.returns-in-Equal-head_order
 returns-in-Equal-head_order c =
     let s = c.self.inside in
-    rw behind_first (subst (λ (o : Left). Goes [] o
+    rw after_first (subst (λ (o : Left). Goes [] o
     (record { out = drop 1 s.out.now; put = s.put.now; cells = c.in-Some.cells.now })) c.self.view_is
     (take_turn s.out.now s.put.now s.cells.now c.in-Some.cells.now _ c.in-Some.ensures.cases.0 c.self.invariant
     c.in-Greater.ensures c.in-Equal-head_order.ensures))
@@ -45,7 +45,7 @@ invariant_of-self-in-Equal-head_order c =
     let s = c.self.inside in
     let i = c.self.invariant in
     record {
-      out = behind_first_ascends s.out.now i.out;
+      out = after_first_ascends s.out.now i.out;
       put = i.put;
       cells = rest_packed s.cells.now c.in-Some.cells.now _ c.in-Some.ensures.cases.0 i.cells;
     }

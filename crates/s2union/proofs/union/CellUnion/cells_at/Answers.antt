@@ -24,7 +24,7 @@ prove-unreachable-requires c =
     (first_leaf c.args.cell + size_of c.args.cell) c.find-start.result c.count_before-end.result =
     record {
       within = c.count_before-end.ensures.within;
-      behind = rw v at c.find-start.ensures.behind;
+      ended = rw v at c.find-start.ensures.ended;
       next = rw v at c.find-start.ensures.next;
       begun = rw w at c.count_before-end.ensures.begun;
       rest = rw w at c.count_before-end.ensures.rest;
@@ -45,7 +45,7 @@ returns-clause-leaves c x h =
     (first_leaf c.args.cell + size_of c.args.cell) c.find-start.result c.count_before-end.result =
     record {
       within = c.count_before-end.ensures.within;
-      behind = rw v at c.find-start.ensures.behind;
+      ended = rw v at c.find-start.ensures.ended;
       next = rw v at c.find-start.ensures.next;
       begun = rw w at c.count_before-end.ensures.begun;
       rest = rw w at c.count_before-end.ensures.rest;
@@ -63,7 +63,7 @@ returns-clause-sharing c =
     (first_leaf c.args.cell + size_of c.args.cell) c.find-start.result c.count_before-end.result =
     record {
       within = c.count_before-end.ensures.within;
-      behind = rw v at c.find-start.ensures.behind;
+      ended = rw v at c.find-start.ensures.ended;
       next = rw v at c.find-start.ensures.next;
       begun = rw w at c.count_before-end.ensures.begun;
       rest = rw w at c.count_before-end.ensures.rest;
