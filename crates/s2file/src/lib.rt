@@ -20,7 +20,7 @@ pub mod union_file;
 pub use crate::fault::FileFault;
 pub use crate::session::{Move, Session, SessionFault};
 pub use crate::session_file::{decode_session, encode_parts, encode_session};
-pub use crate::union_file::{MOST_CELLS, MOST_SIZE, decode, encode};
+pub use crate::union_file::{HEAD_SIZE, MOST_CELLS, MOST_SIZE, VERSION, decode, encode};
 
 /// How many registers a session file has.
 pub const SESSION_REGISTERS: usize = 26;

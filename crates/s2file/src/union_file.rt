@@ -11,10 +11,10 @@ use s2union::{CellUnion, normalise};
 use std::alloc::{AllocError, Global};
 
 /// The byte that a file begins with.
-pub(crate) const VERSION: u8 = 1;
+pub const VERSION: u8 = 1;
 
 /// How many bytes come before the identifiers: the version and the count.
-const HEAD_SIZE: usize = 9;
+pub const HEAD_SIZE: usize = 9;
 
 /// The size of a number, in bytes.
 pub(crate) const NUMBER_SIZE: usize = 8;

@@ -19,15 +19,10 @@ use crate::status::{
     WRONG_CELL, answer,
 };
 use s2cell::{CellId, LEAVES};
+use s2file::{HEAD_SIZE, VERSION};
 use s2search::{Cells, FileIds, IdList, ancestors, first_wrong, is_union, number};
 use s2union::normalise;
 use std::alloc::Global;
-
-/// The byte that a file begins with.
-const VERSION: u8 = 1;
-
-/// How many bytes are before the identifiers: the version and the count.
-const HEAD_SIZE: usize = 9;
 
 /// The file of a union, of `9 + 8 n` bytes for n cells.
 #[unsafe(no_mangle)]
