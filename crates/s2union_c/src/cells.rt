@@ -146,6 +146,7 @@ pub extern "C" fn s2u_next(id: u64) -> u64
 /// The cell of its level before it along the curve, across faces. 0 before the first, and if the number is not a cell.
 #[unsafe(no_mangle)]
 pub extern "C" fn s2u_prev(id: u64) -> u64
+    ensures cell { IsCell id → (IsFirst id → ⊥) → IsCell result }
     ensures previous { IsCell id → (IsFirst id → ⊥) → IsNext result id }
     ensures none { (IsCell id → IsFirst id) → result ≡ 0 }
 {
@@ -195,6 +196,7 @@ pub extern "C" fn s2u_cell_intersects(a: u64, b: u64) -> i32
 /// The leaf at a place on a face. 0 if there is no such face or place.
 #[unsafe(no_mangle)]
 pub extern "C" fn s2u_from_face_ij(face: u32, i: u32, j: u32) -> u64
+    ensures cell { face < 6 → i < SIDE → j < SIDE → IsCell result }
     ensures leaf { face < 6 → i < SIDE → j < SIDE → level_of result ≡ 30 }
     ensures place { face < 6 → i < SIDE → j < SIDE → IsPlaceOf (first_leaf result) face i j }
     ensures none { (6 ≤ face) ⊎ ((SIDE ≤ i) ⊎ (SIDE ≤ j)) → result ≡ 0 }
@@ -227,7 +229,7 @@ pub extern "C" fn s2u_square_of(id: u64, square: &mut FaceSquare) -> i32
 
 /// The identifier of a cell, or 0.
 fn id_or_zero(found: Option<CellId>) -> u64
-    ensures some { MatchOption found (result ≡ 0) (λ cell. result ≡ cell) }
+    ensures some { MatchOption found (result ≡ 0) (λ cell. (result ≡ cell) × IsCell result) }
 {
     match found {
         Some(cell) => cell.id(),
