@@ -28,6 +28,7 @@ pub extern "C" fn s2c_from_face_ij(face: u8, i: u32, j: u32) -> u64
     requires face { face < 6 }
     requires i { i < 2 ^ 30 }
     requires j { j < 2 ^ 30 }
+    ensures cell { IsCell result }
     ensures leaf { level_of result ≡ 30 }
     ensures place { IsPlaceOf (first_leaf result) face i j }
 {

@@ -32,6 +32,20 @@ fn the_answers_of_whole_lines_are_out_when_a_read_fails(rt: HostRuntime) -> Resu
 }
 
 #[test]
+fn a_read_that_fails_in_a_run_with_notes(rt: HostRuntime) -> Result<(), Fail> {
+    let left = run_over(
+        rt.alloc(),
+        Flushing::PromptlyWithNotes,
+        Pieces::of(b"cell X\ncell 3", 4, Some(5)),
+        Narrow::new(rt.alloc(), 512, 5, None)?,
+        full_shelf(rt.alloc())?,
+    )?;
+    assert_eq!(rt; left.ended, Err(RunFault::Input));
+    assert_eq!(rt; left.writer.contents(), b"error cell\n".as_slice());
+    Ok(())
+}
+
+#[test]
 fn each_read_fails_in_turn(rt: HostRuntime) -> Result<(), Fail> {
     let script = script_of(rt.alloc(), &LINES)?;
     reads_fail_in_turn(&rt, Flushing::AtTheEnd, &script, 3)?;

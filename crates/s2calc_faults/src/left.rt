@@ -1,5 +1,5 @@
 //! What a run leaves: registers, history, files and answers.
-use s2calc::{AnswerBuffer, RunFault, Tally, run, run_promptly};
+use s2calc::{AnswerBuffer, NoteWriter, RunFault, Tally, run, run_explained, run_promptly};
 use s2calc_tests::{FILES, Narrow, Pieces};
 use s2edit::{Change, Editor, REGISTERS, Register};
 use s2shelf::{MemoryShelf, Shelf};
@@ -9,11 +9,12 @@ use std::test::Fail;
 /// The names of the files that the script reads or writes.
 const NAMES: [&str; 6] = ["f", "g", "h", "s", "w", "missing"];
 
-/// When a run flushes its writer.
+/// When a run flushes its writer, and whether it says why lines are refused.
 #[derive(Clone, Copy)]
 pub enum Flushing {
     AtTheEnd,
     Promptly,
+    PromptlyWithNotes,
 }
 
 /// What a run left.
@@ -62,6 +63,19 @@ pub fn run_over(
         Flushing::Promptly => {
             let mut buffer = AnswerBuffer::new(alloc, writer)?;
             let ended = run_promptly(alloc, &mut editor, &mut reader, &mut buffer, &mut shelf);
+            (ended, buffer.into_writer())
+        }
+        Flushing::PromptlyWithNotes => {
+            let mut buffer = AnswerBuffer::new(alloc, writer)?;
+            let mut notes = NoteWriter::new(alloc, Narrow::new(alloc, 8192, 512, None)?)?;
+            let ended = run_explained(
+                alloc,
+                &mut editor,
+                &mut reader,
+                &mut buffer,
+                &mut shelf,
+                &mut notes,
+            );
             (ended, buffer.into_writer())
         }
     };
