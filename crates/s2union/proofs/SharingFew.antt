@@ -184,7 +184,8 @@ shared_run xs ys list new i at next x lx ly s h rx place not_held le in_y ended_
 
 -- cells of `xs` that end before the next cell of `ys` begins share nothing with it
 pub shared_passed : (xs ys list : List ℕ) (i at next lo : ℕ) → IsLocal xs → IsLocal ys → IsShared xs ys list i →
-    i ≤ next → next ≤ length xs → FirstEndBy ys at lo → ((k : ℕ) → i ≤ k → k < next → lo ≤ first_leaf (get_or xs k 0)) →
+    i ≤ next → next ≤ length xs → FirstEndBy ys at lo →
+    ((k : ℕ) → i ≤ k → k < next → lo ≤ first_leaf (get_or xs k 0)) →
     ((k : ℕ) → i ≤ k → k < next → at < length ys →
     first_leaf (get_or xs k 0) + size_of (get_or xs k 0) ≤ first_leaf (get_or ys at 0)) → IsShared xs ys list next
 shared_passed xs ys list i at next lo lx ly s le in_x ended after_it before_it =
