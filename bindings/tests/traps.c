@@ -206,6 +206,14 @@ static void lists_as_texts(void) {
   CHECK(s2u_from_tokens(NULL, 0, NULL, 0, &len) == S2U_OK && len == 0 && s2u_tokens(NULL, 0, NULL, 0, &len) == S2U_OK);
 }
 
+/* If no cell of a union shares a leaf with a cell, its place is how many come before it. */
+static void places_of_cells_that_a_union_lacks(void) {
+  const uint64_t first_and_third[] = {0x0400000000000000u, 0x1400000000000000u};
+  size_t first = 77, count = 77;
+  CHECK(s2u_cells_at(first_and_third, 2, 0x0c00000000000000u, &first, &count) == S2U_OK && first == 1 && count == 0);
+  CHECK(s2u_cells_at(first_and_third, 2, 0x1c00000000000000u, &first, &count) == S2U_OK && first == 2 && count == 0);
+}
+
 static void nothing_at_all(void) {
   size_t len = 77, first = 77, count = 77;
   uint64_t id = 77;
@@ -235,6 +243,7 @@ int main(void) {
   rooms();
   longest_results();
   lists_as_texts();
+  places_of_cells_that_a_union_lacks();
   nothing_at_all();
   return report();
 }

@@ -140,7 +140,8 @@ int32_t s2u_is_union(const uint64_t* ids, size_t n);                       /* 1 
 uint64_t s2u_leaf_count(const uint64_t* ids, size_t n);
 int32_t s2u_contains_cell(const uint64_t* ids, size_t n, uint64_t cell);   /* 1, 0 or S2U_NO_CELL. log n steps */
 int32_t s2u_intersects_cell(const uint64_t* ids, size_t n, uint64_t cell); /* the same: whether they share a leaf */
-/* The cells of the union that share a leaf with the cell: ids[*first .. *first + *count). log n steps. */
+/* The cells of the union that share a leaf with the cell: ids[*first .. *first + *count). If there are none, *first is
+ * how many cells come before the cell. log n steps. */
 int32_t s2u_cells_at(const uint64_t* ids, size_t n, uint64_t cell, size_t* first, size_t* count);
 /* answers[k] is 1 or 0 for cells[k], k below m. S2U_NO_CELL: one is not a cell, and *bad is the first such k; else *bad
  * is m. S2U_ROOM: room is less than m. After a refusal answers is not touched. A search begins at the place of the one

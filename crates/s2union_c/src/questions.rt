@@ -1,9 +1,10 @@
 //! Questions about a union where it lies: without a copy, and without taking memory. They don't check that the list is
 //! a union, which would cost more than the question. If it isn't one, the answer means nothing.
 ghost use Rattle.std.specs.Prelude.{◌≡◌, ◌+◌, ◌≤◌, length};
-ghost use Rattle.s2cell.specs.Cell.{IsCell, covers};
+ghost use Rattle.s2cell.specs.Cell.{IsCell, covers, first_leaf};
 ghost use Rattle.s2union.specs.Union.{IsLocal, IsWithin, ShareSome, has_leaf};
 ghost use Rattle.s2union.specs.Count.{count_below};
+ghost use Rattle.s2union.specs.Packed.{IsPlace};
 ghost use Rattle.s2search.specs.Search.{IsRunAt};
 ghost use Rattle.s2union_c.specs.Status.{IsAnswerTo, IsAnswer, made, no_cell};
 ghost use Rattle.s2union_c.specs.Order.{order};
@@ -55,11 +56,13 @@ pub extern "C" fn s2u_intersects_cell(ids: &[u64], cell: u64) -> i32
     }
 }
 
-/// The cells of a union that share a leaf with a cell: the place of the first, and how many there are. Logarithmic.
+/// The cells of a union that share a leaf with a cell: the place of the first, or the one where it would stand if there
+/// are none, and how many there are. Logarithmic.
 #[unsafe(no_mangle)]
 pub extern "C" fn s2u_cells_at(ids: &[u64], cell: u64, first: &mut usize, count: &mut usize) -> i32
     ensures made { IsCell cell → result ≡ made }
     ensures within { first.new + count.new ≤ length ids.now }
+    ensures place { IsLocal ids.now → IsCell cell → IsPlace ids.now (first_leaf cell) first.new }
     ensures run { IsLocal ids.now → IsCell cell → IsRunAt ids.now cell first.new count.new }
     ensures no_cell { (IsCell cell → ⊥) → (result ≡ no_cell) × (first.new ≡ 0) × (count.new ≡ 0) }
 {

@@ -9,6 +9,16 @@ use Rattle.s2search.proofs.run.cells_at.Goals.{then-end-len+then-begins_at, else
 use Rattle.s2search.proofs.run.cells_at.Goals.{else-end-len-via-then-end-len+else-begins_at}
 use Rattle.s2search.proofs.run.cells_at.Goals.{else-end-len-via-else-end-len}
 
+pub returns-clause-place : goal.returns-clause-place
+returns-clause-place g c local =
+    let p = packed_from_local (g.C.Cells.ids c.args.cells.now) local in
+    let v = c.first_leaf.ensures.value in
+    record {
+      within = c.find-first.ensures.within;
+      ended = rw v at (c.find-first.ensures.ended p);
+      next = rw v at (c.find-first.ensures.next p);
+    }
+
 pub returns-clause-run : goal.returns-clause-run
 returns-clause-run g c local =
     let u = g.C.Cells.ids c.args.cells.now in
