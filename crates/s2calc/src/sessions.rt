@@ -100,7 +100,7 @@ fn session_in(alloc: Global, bytes: Vec<u8>) -> Result<Session, Refusal>
 }
 
 /// Takes over the session that the bytes encode, or says why it can't.
-#[tactic(auto, using(crate::proofs::SessionLemmas::taken, crate::proofs::SessionLemmas::too_deep, crate::proofs::SessionLemmas::too_many))]
+#[tactic(auto, using(crate::proofs::SessionLemmas::taken))]
 fn take_over(editor: &mut Editor, session: Session) -> Result<(), Refusal>
     requires { IsContent (content_of session) }
     ensures answer { (bytes : List ℕ) → Spells bytes (content_of session) → MatchResult result
