@@ -1,8 +1,8 @@
 //! Answers that are out before the next read, and before and after a command with a file.
 use crate::log::{LoggedShelf, LoggedWriter};
+use crate::pieces::Pieces;
 use crate::typist::{Screen, Typist};
 use s2calc::{AnswerBuffer, RunFault, Tally, run, run_promptly};
-use s2calc_tests::Pieces;
 use s2edit::Editor;
 use s2shelf::MemoryShelf;
 use std::alloc::Global;

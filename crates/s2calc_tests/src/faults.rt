@@ -1,9 +1,11 @@
 //! Readers, writers and shelves that fail.
 ghost use Rattle.std.specs.Prelude.{◌<◌};
 
+use crate::every_command::LINES;
 use crate::left::{Flushing, full_shelf, run_over, run_well, script_of};
+use crate::narrow::{Mishap, Narrow};
+use crate::pieces::Pieces;
 use s2calc::{RunFault, Tally};
-use s2calc_tests::{LINES, Mishap, Narrow, Pieces};
 use std::alloc::Global;
 use std::process::Abort;
 use std::test::Fail;

@@ -1,6 +1,8 @@
 //! What a run leaves: registers, history, files and answers.
+use crate::every_command::FILES;
+use crate::narrow::Narrow;
+use crate::pieces::Pieces;
 use s2calc::{AnswerBuffer, NoteWriter, RunFault, Tally, run, run_explained, run_promptly};
-use s2calc_tests::{FILES, Narrow, Pieces};
 use s2edit::{Change, Editor, REGISTERS, Register};
 use s2shelf::{MemoryShelf, Shelf};
 use std::alloc::Global;
