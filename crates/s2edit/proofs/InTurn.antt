@@ -1,5 +1,5 @@
 -- Two changes of a list in turn are one change: what it takes out and puts in, and that it fits as they do.
-use Rattle.std.proofs.Common.{◌≡◌, ℕ, ◌+◌, Bool, true, false, not, ◌||◌, ◌&&◌, List, [], length, refl, sym, ap}
+use Rattle.std.proofs.Common.{◌≡◌, ℕ, ◌+◌, Bool, true, false, not, ◌||◌, ◌&&◌, List, [], length, sym, ap}
 use Rattle.std.proofs.Common.{◌∙◌, subst, arith}
 use Rattle.std.proofs.lemmas.Grind.{common_steps}
 use Rattle.std.specs.List.Sorted.{IsStrictlyIncreasing}
@@ -10,7 +10,7 @@ use Rattle.s2union.proofs.CellLists.{IsAscending-cells_without, IsAscending-inse
 use Rattle.s2union.proofs.CellLists.{ascends_from, increasing_from}
 use Rattle.s2union.proofs.Applied.{local_ascends}
 use Rattle.s2edit.specs.Diff.{IsDiff}
-use Rattle.s2edit.specs.Followed.{both_out, CanFollowOn}
+use Rattle.s2edit.specs.Followed.{both_out, CanFollowOn, LeadsOn}
 use Rattle.s2edit.proofs.DiffLemmas.{cells_without-nothing}
 use Rattle.s2edit.proofs.Sizes.{length-insert_cells}
 
@@ -198,14 +198,13 @@ without_ascends us vs ws e a =
     subst IsStrictlyIncreasing (sym e) (increasing_from (cells_without us vs)
     (IsAscending-cells_without us vs (ascends_from us a)))
 
--- the same of lists as the code has them: what leads to l from u, and then the change of n and q
-module _ (o p u n q o' p' l : List ℕ) (local : IsLocal u) (f : Fits o p u) (d : IsDiff n q) (o_is : o' ≡ o)
-    (p_is : p' ≡ p) (l_is : applied o p u ≡ l) where
-  pub second_needs : Fits n q l → CanFollowOn o' p' n q
+-- the same of lists as the code has them: the change of o and p, and then that of n and q
+module _ (o p u n q o' p' : List ℕ) (local : IsLocal u) (f : Fits o p u) (d : IsDiff n q) (o_is : o' ≡ o)
+    (p_is : p' ≡ p) where
+  pub second_needs : Fits n q (applied o p u) → CanFollowOn o' p' n q
   second_needs g =
       subst (λ (x : List ℕ). CanFollowOn x p' n q) (sym o_is)
-      (subst (λ (x : List ℕ). CanFollowOn o x n q) (sym p_is)
-      (follow_on o p u n q local f d (subst (Fits n q) (sym l_is) g)))
+      (subst (λ (x : List ℕ). CanFollowOn o x n q) (sym p_is) (follow_on o p u n q local f d g))
 
   module _ (can' : CanFollowOn o' p' n q) (outs puts : List ℕ) (outs_are : outs ≡ both_out o' p' n q)
       (puts_are : puts ≡ both_out p' o' q n) where
@@ -226,24 +225,21 @@ module _ (o p u n q o' p' l : List ℕ) (local : IsLocal u) (f : Fits o p u) (d 
     puts_increase xs e = subst IsStrictlyIncreasing (sym (e ∙ puts_same))
         (increasing_from (both_out p o q n) (puts_ascend o p u n q local f d can))
 
-    module _ (xs ys us : List ℕ) (xs_are : xs ≡ outs) (ys_are : ys ≡ puts) (us_are : us ≡ u) where
-      pub one_needs : Fits n q l → Fits xs ys us
+    module _ (xs ys : List ℕ) (xs_are : xs ≡ outs) (ys_are : ys ≡ puts) where
+      pub one_needs : Fits n q (applied o p u) → Fits xs ys u
       one_needs g =
-          subst (λ (w : List ℕ). Fits w ys us) (sym (xs_are ∙ outs_same))
-          (subst (λ (w : List ℕ). Fits (both_out o p n q) w us) (sym (ys_are ∙ puts_same))
-          (subst (Fits (both_out o p n q) (both_out p o q n)) (sym us_are)
-          (fits_as_one o p u n q local f d (subst (Fits n q) (sym l_is) g))))
+          subst (λ (w : List ℕ). Fits w ys u) (sym (xs_are ∙ outs_same))
+          (subst (λ (w : List ℕ). Fits (both_out o p n q) w u) (sym (ys_are ∙ puts_same))
+          (fits_as_one o p u n q local f d g))
 
-      as_one : Fits xs ys us → Fits (both_out o p n q) (both_out p o q n) u
-      as_one g =
-          subst (Fits (both_out o p n q) (both_out p o q n)) us_are
-          (subst (λ (w : List ℕ). Fits (both_out o p n q) w us) (ys_are ∙ puts_same)
-          (subst (λ (w : List ℕ). Fits w ys us) (xs_are ∙ outs_same) g))
-
-      pub second_fits : Fits xs ys us → Fits n q l
-      second_fits g = subst (Fits n q) l_is (fits_second o p u n q local f d can (as_one g))
-
-      pub both_made : Fits xs ys us → applied outs puts u ≡ applied n q l
-      both_made g =
-          same_applied outs puts u (both_out o p n q) (both_out p o q n) u outs_same puts_same refl
-          ∙ in_turn o p u n q local f d can (as_one g) ∙ ap (applied n q) l_is
+      pub leads_near : Fits xs ys u → LeadsOn u o p n q outs puts
+      leads_near g =
+          let whole : Fits (both_out o p n q) (both_out p o q n) u =
+          subst (λ (w : List ℕ). Fits (both_out o p n q) w u) (ys_are ∙ puts_same)
+          (subst (λ (w : List ℕ). Fits w ys u) (xs_are ∙ outs_same) g) in
+          subst (λ (w : List ℕ). LeadsOn u o p n q w puts) (sym outs_same)
+          (subst (LeadsOn u o p n q (both_out o p n q)) (sym puts_same) (record {
+            fits = fits_second o p u n q local f d can whole;
+            whole = whole;
+            made = in_turn o p u n q local f d can whole;
+          }))

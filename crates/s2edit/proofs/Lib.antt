@@ -22,3 +22,4 @@ pub mod Saving
 pub mod Spelling
 pub mod PartLemmas
 pub mod PartTables
+pub mod Apart

@@ -35,10 +35,10 @@ member_had (y ∷ ys) c h = by_bool (eqb y c)
     (λ n. let m = member_had ys c (grind (arith, common_steps, n, h)) in (suc m.0, omega (arith, m.1), m.2))
 
 -- a cell has leaves, and those around it too
-leaf_there : (c : ℕ) → IsCell c → covers c (first_leaf c) ≡ true
+pub leaf_there : (c : ℕ) → IsCell c → covers c (first_leaf c) ≡ true
 leaf_there c g = let some = (cell_leaves c g).some in covers_there c (first_leaf c) (omega arith) (omega arith)
 
-leaf_around : (c x : ℕ) → IsCell c → covers c x ≡ true → covers (around c) x ≡ true
+pub leaf_around : (c x : ℕ) → IsCell c → covers c x ≡ true → covers (around c) x ≡ true
 leaf_around c x g h = inside_from_within c (around c) (parent_around c (level_of c - 1) g (omega arith)) x h
 
 -- two cells of a local list that share a leaf are one
@@ -47,7 +47,7 @@ pub one_cell : (u : List ℕ) (a b x : ℕ) → IsLocal u → has u a ≡ true �
 one_cell u a b x l ha hb va vb = greatest_apart (has_leaf u) a b x (member_greatest u l a (member_had u a ha))
     (member_greatest u l b (member_had u b hb)) va vb
 
-is_cell : (u : List ℕ) (c : ℕ) → IsLocal u → has u c ≡ true → IsCell c
+pub is_cell : (u : List ℕ) (c : ℕ) → IsLocal u → has u c ≡ true → IsCell c
 is_cell u c l h = All-contains IsCell u c l.cells (member_had u c h)
 
 -- no four cells of a local list are a family
@@ -74,6 +74,14 @@ local_from u asc cells one family =
           absurd (omega arith);
       unmerged = λ p g d all. family p g d (λ i h. has_member u (child_of p i) (all i h));
     }
+
+-- an ascending list of some cells of a local list
+pub local_within : (u w : List ℕ) → IsLocal u → IsAscending w → ((c : ℕ) → has w c ≡ true → has u c ≡ true) →
+    IsLocal w
+local_within u w l asc inside = local_from w asc
+    (λ c h. is_cell u c l (inside c h))
+    (λ a b x ha hb va vb. one_cell u a b x l (inside a ha) (inside b hb) va vb)
+    (λ p g d all. no_family u p l g d (λ i h. inside (child_of p i) (all i h)))
 
 module _ (S : ℕ → Bool) (u s n q : List ℕ) (part : IsPart S u s) (out : IsWatched S n) (put : IsWatched S q) where
   -- a cell of the list that a change names is in the part
@@ -104,11 +112,9 @@ module _ (S : ℕ → Bool) (u s n q : List ℕ) (part : IsPart S u s) (out : Is
         put_ascends = f.put_ascends;
         out_is_there = λ c h. named_there c (out c h).0 (out c h).1 (f.out_is_there c h);
         put_is_new = new;
-        local = local_from (applied n q s)
+        local = local_within (applied n q u) (applied n q s) f.local
             (IsAscending-applied n q s (ascends_from q f.put_ascends) (local_ascends s part.part_local) new)
-            (λ c h. is_cell (applied n q u) c f.local (within c h))
-            (λ a b x ha hb va vb. one_cell (applied n q u) a b x f.local (within a ha) (within b hb) va vb)
-            (λ p g d all. no_family (applied n q u) p f.local g d (λ i h. within (child_of p i) (all i h)));
+            within;
       }
 
   -- a cell of the list that a change makes is a new one, or one of before

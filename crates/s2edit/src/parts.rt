@@ -69,7 +69,7 @@ fn push_around(list: &mut Vec<CellId>, cells: &[CellId]) -> Result<(), AllocErro
 }
 
 /// The parent of a cell, or the cell itself if it is a face.
-fn around(cell: CellId) -> CellId
+pub(crate) fn around(cell: CellId) -> CellId
     ensures { result ≡ around cell }
 {
     cell.parent(cell.level().saturating_sub(1))

@@ -6,19 +6,22 @@ pub overflow_sub-result : goal.overflow_sub-result
 overflow_sub-result c =
     omega (
       arith,
-      length_without c.self.inside.out.items c.self.inside.put.items
+      length_without c.self.inside.out.cells c.self.inside.put.cells
           c.self.inside.start.cells c.self.invariant.local c.self.invariant.fits,
       ap length c.cells.ensures.value,
+      ap length c.cells-2.ensures.value,
     )
 
 pub returns : goal.returns
 returns c =
     omega (
       arith,
-      length_applied c.self.inside.out.items c.self.inside.put.items c.self.inside.start.cells
+      length_applied c.self.inside.out.cells c.self.inside.put.cells c.self.inside.start.cells
           c.self.invariant.local c.self.invariant.fits,
-      length_without c.self.inside.out.items c.self.inside.put.items c.self.inside.start.cells
+      length_without c.self.inside.out.cells c.self.inside.put.cells c.self.inside.start.cells
           c.self.invariant.local c.self.invariant.fits,
       ap length c.cells.ensures.value,
+      ap length c.cells-2.ensures.value,
+      ap length c.cells-3.ensures.value,
       ap length c.self.view_is,
     )
