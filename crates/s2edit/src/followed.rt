@@ -94,8 +94,8 @@ impl Followed {
         Ok(())
     }
 
-    /// Counts what the gathered cells are about to cost, and rebuilds the list if they have then cost more than that. No
-    /// cell is gathered then.
+    /// Counts what the gathered cells are about to cost, and rebuilds the list if they have then cost more than that.
+    /// No cell is gathered then.
     fn settle(&mut self, alloc: Global, copies_a_cell: usize) -> Result<(), AllocError>
         ensures { OnOk result (self.new ≡ self.old) }
     {
@@ -139,8 +139,8 @@ fn lie_apart(cells: &[CellId], union: &CellUnion) -> bool
     true
 }
 
-/// What leads from the start to the list after a change that lies apart from the gathered one, if it can be made. Checks
-/// only its own cells.
+/// What leads from the start to the list after a change that lies apart from the gathered one, if it can be made.
+/// Checks only its own cells.
 fn joined_apart(
     alloc: Global,
     start: &CellUnion,
