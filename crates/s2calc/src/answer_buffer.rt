@@ -1,6 +1,8 @@
 //! A writer that buffers answers.
-ghost use Rattle.std.specs.Prelude.{◌≡◌, ◌+◌, ◌≤◌, [], ◌++◌, length, drop, OnOk, IfOk, vec_len, vec_capacity};
-ghost use Rattle.std.specs.Io.KnownBytes.{Keeps};
+ghost use Rattle.std.specs.Prelude.{◌≡◌, ◌+◌, ◌<◌, ◌≤◌, [], ◌++◌, length, drop, OnOk, OnErr, IfOk};
+ghost use Rattle.std.specs.Prelude.{vec_len, vec_capacity};
+ghost use Rattle.std.specs.Io.{WritesAtMost};
+ghost use Rattle.std.specs.Io.KnownBytes.{Keeps, WriteAppends};
 ghost use Rattle.s2calc.specs.Buffered.{written_to};
 
 use crate::limits::MOST_WAITING;
@@ -64,10 +66,11 @@ impl<W> AnswerBuffer<W> {
 }
 
 impl<W: Write> AnswerBuffer<W> {
-    /// Passes on what is waiting.
+    /// Passes on what is waiting. If that fails, some of it still waits.
     fn hand_over(&mut self) -> io::Result<()>
         ensures kept { Keeps (written_to W.contents self.old) (written_to W.contents self.new) }
         ensures ok { OnOk result (self.new.waiting ≡ []) }
+        ensures err { OnErr result (0 < length self.new.waiting) }
     {
         let (written, ended) = write_out(&mut self.writer, self.waiting.as_slice());
         drop_front(&mut self.waiting, written);
@@ -78,7 +81,14 @@ impl<W: Write> AnswerBuffer<W> {
 impl<W: Write> Write for AnswerBuffer<W> {
     ghost contents = { written_to W.contents };
 
-    fn write(&mut self, bytes: &[u8]) -> io::Result<usize> {
+    /// Takes at least one byte, if there are any. Fails only if 64 KiB are waiting and can't be passed on.
+    fn write(&mut self, bytes: &[u8]) -> io::Result<usize>
+        ensures bound { WritesAtMost result bytes.now }
+        ensures appends { WriteAppends (written_to W.contents self.old) (written_to W.contents self.new) result
+            bytes.now }
+        ensures some { 0 < length bytes.now → IfOk result (λ count. 0 < count) }
+        ensures full { OnErr result (MOST_WAITING ≤ length self.old.waiting) }
+    {
         if self.waiting.len() >= MOST_WAITING {
             self.hand_over()?;
         }
