@@ -1,0 +1,115 @@
+"""The program answers what README.md and docs/ show; and the script s2calc at the top runs it."""
+import os
+import re
+import shutil
+import subprocess
+import tempfile
+import unittest
+
+from model import REASONS
+from process import PROGRAM, TOP, ran
+
+
+class Launcher(unittest.TestCase):
+    """The script s2calc at the top, over the program that was built."""
+
+    def setUp(self):
+        self.room = tempfile.mkdtemp()
+        self.addCleanup(shutil.rmtree, self.room)
+        self.link = os.path.join(self.room, "calculator")
+        os.symlink(os.path.join(TOP, "s2calc"), self.link)
+
+    def test_through_a_symbolic_link_and_from_another_folder(self):
+        done = subprocess.run([self.link, "cell", "1"], cwd=self.room, capture_output=True, timeout=60)
+        self.assertEqual((done.returncode, done.stderr), (0, b""))
+        self.assertEqual(done.stdout, b"cell 1 0/ level 0 face 0 leaves 0 1152921504606846975\n")
+
+
+class Documents(unittest.TestCase):
+    """The program answers what README.md and docs/ show."""
+
+    def setUp(self):
+        folder = os.path.join(TOP, "docs")
+        pages = sorted(name for name in os.listdir(folder) if name.endswith(".md"))
+        files = [os.path.join(TOP, "README.md")] + [os.path.join(folder, name) for name in pages]
+        self.texts = {}
+        for file in files:
+            with open(file, encoding="utf-8") as it:
+                self.texts[os.path.relpath(file, TOP)] = it.read()
+
+    def test_transcripts(self):
+        shown = 0
+        for file, text in self.texts.items():
+            runs = re.findall(r"```text\n\$ \./s2calc run <<'SCRIPT'\n(.*?)SCRIPT\n(.*?)```", text, re.S)
+            for script, answers in runs:
+                with self.subTest(file=file), tempfile.TemporaryDirectory() as folder:
+                    self.assertEqual(ran("run", script=script.encode(), cwd=folder)[1].decode(), answers)
+                    shown += 1
+        self.assertGreater(shown, 0)
+
+    def test_notes_on_refused_lines(self):
+        shown = re.findall(
+            r"```text\n\$ \./s2calc run --explain 2>&1 >/dev/null <<'SCRIPT'\n(.*?)SCRIPT\n(.*?)```",
+            self.texts["docs/SCRIPT.md"], re.S
+        )
+        for script, notes in shown:
+            with tempfile.TemporaryDirectory() as folder:
+                self.assertEqual(ran("run", "--explain", script=script.encode(), cwd=folder)[2].decode(), notes)
+        self.assertEqual(len(shown), 1)
+
+    def test_the_reason_of_each_refusal(self):
+        section = self.texts["docs/SCRIPT.md"].split("### Why")[1].split("\n## ")[0]
+        told = dict(re.findall(r"^\| `([a-z-]+)` \| `(.*?)` \|$", section, re.M))
+        self.assertEqual(told, {**REASONS, "memory": "out of memory"})
+
+    def test_help_pictures_and_usage_faults(self):
+        shown = 0
+        for words, text in re.findall(r"```text\n\$ \./s2calc ([^<\n]*)\n(.*?)```", self.texts["docs/SCRIPT.md"], re.S):
+            words, _, rest = words.partition(" | ")
+            status, out, error = ran(*words.split())
+            with self.subTest(words=words):
+                if rest:
+                    out = subprocess.run(rest, shell=True, input=out, stdout=subprocess.PIPE, check=True).stdout
+                self.assertEqual((out + error).decode(), text)
+                self.assertEqual(status, 2 if error else 0)
+                shown += 1
+        self.assertEqual(shown, 5)
+
+    def test_each_command_has_an_example(self):
+        text = self.texts["docs/SCRIPT.md"]
+        tables = text[text.index("## Edits"):text.index("## Refusals")]
+        firsts = re.findall(r"^\| (`.*?) \|", tables, re.M)
+        commands = {form.split()[0] for first in firsts for form in re.findall(r"`(.*?)`", first)}
+        scripts = "".join(re.findall(r"<<'SCRIPT'\n(.*?)SCRIPT\n", text, re.S))
+        with open(os.path.join(TOP, "crates/s2script/src/table.rt"), encoding="utf-8") as it:
+            self.assertEqual(commands, set(re.findall(r'name == b"(\w+)"', it.read())))
+        self.assertEqual(commands - {line.split()[0] for line in scripts.splitlines() if line.split()}, set())
+
+    def test_the_first_command(self):
+        shown = re.compile(r"printf '(.*?)\\n' \| \./s2calc run .*?The first prints `(.*?)`", re.S)
+        script, answer = shown.search(self.texts["README.md"]).groups()
+        self.assertEqual(ran("run", script=script.encode())[1].decode(), answer + "\n")
+
+    def test_a_script_in_parts(self):
+        """The calculator as a filter: cut after each region, by hand and by GNU parallel if it is installed."""
+        text = self.texts["docs/SCALE.md"]
+        lines = re.search(r"^    add a .*\n((?:    .*\n)*?    clear b\n)", text, re.M).group(1).replace("    ", "")
+        command = re.search(r"^    (parallel .*) --block 10M (.*)$", text, re.M)
+        regions = "".join(f"add a {k % 6}/{k:011b} {k % 5}/3{k:010b}\n{lines}" for k in range(1024)).encode()
+        status, answers, error = ran("run", script=regions)
+        self.assertEqual((status, error, answers.count(b"end\n")), (0, b"", 1024))
+        parts = re.findall(rb"(?:.*?clear b\n){1,100}", regions, re.S)
+        self.assertEqual(b"".join(ran("run", script=part)[1] for part in parts), answers)
+        if shutil.which("parallel"):
+            with tempfile.TemporaryDirectory() as folder:
+                os.symlink(PROGRAM, os.path.join(folder, "s2calc"))
+                with open(os.path.join(folder, "regions"), "wb") as it:
+                    it.write(regions)
+                subprocess.run(f"{command[1]} --block 10k {command[2]}", shell=True, cwd=folder, check=True, timeout=60)
+                with open(os.path.join(folder, "answers"), "rb") as it:
+                    self.assertEqual(it.read(), answers)
+
+    def test_the_example_in_rust_is_the_one_that_is_compiled(self):
+        example = re.search(r"```rust\n(.*?)```", self.texts["README.md"], re.S).group(1)
+        with open(os.path.join(TOP, "crates/s2calc_tests/src/example.rt"), encoding="utf-8") as it:
+            self.assertIn(example, it.read())

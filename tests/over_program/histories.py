@@ -1,0 +1,50 @@
+"""Undo and redo at the greatest depth, and at exactly the limit of a register."""
+import unittest
+
+from model import REGISTERS
+from process import ran
+
+
+class Histories(unittest.TestCase):
+    """Undo and redo at the greatest depth, and at exactly the limit of a register."""
+
+    def test_ten_thousand_changes(self):
+        changes = b"add z 1\nclear z\n" * 5000
+        script = changes + b"undo\n" * 10001 + b"redo\n" * 10001 + b"history\n"
+        status, out, error = ran("run", "--depth", "10000", script=script)
+        there = back = b"ok 0 1\nok 1 0\n" * 5000
+        nothing = b"error nothing\n"
+        self.assertEqual((status, error), (1, b""))
+        self.assertEqual(out, there + back + nothing + there + nothing + b"undo 10000 redo 0\n")
+
+    def test_ten_thousand_changes_of_registers_in_turn(self):
+        registers = len(REGISTERS)
+        letters = [REGISTERS[n % registers] for n in range(10000)]
+        faces = "".join(f"range {r} {'1 1' if n // registers % 2 == 0 else '3 3'}\n" for n, r in enumerate(letters))
+        first = b"ok 0 1\n" * registers
+        later = b"ok 1 1\n" * (10000 - registers)
+        shows = b"show p\nshow q\n"
+        counts = b"".join(b"count %c\n" % letter for letter in REGISTERS.encode())
+        script = faces.encode() + shows + b"undo\n" * 10001 + counts
+        script += b"redo\n" * 10001 + shows + b"range z 5 5\nhistory\n"
+        status, out, error = ran("run", "--limit", "4", "--depth", "10000", script=script)
+        shown = b"1\nend\n3\nend\n"
+        undone = later + b"ok 1 0\n" * registers + b"error nothing\n" + b"cells 0 leaves 0\n" * registers
+        redone = first + later + b"error nothing\n"
+        self.assertEqual((status, error), (1, b""))
+        self.assertEqual(out, first + later + shown + undone + redone + shown + b"ok 1 1\nundo 10000 redo 0\n")
+
+    def test_lists_of_exactly_the_limit_come_back(self):
+        adds = b"add a 04\nadd a 24\nadd a 44\nadd a 64\nadd a 84\n"
+        out = ran("run", "--limit", "4", script=adds + b"undo\nundo\nredo\nredo\nshow a\n")[1]
+        answers = b"ok 0 1\n" * 4 + b"error too-many\n" + b"ok 1 0\n" * 2 + b"ok 0 1\n" * 2
+        self.assertEqual(out, answers + b"04\n24\n44\n64\nend\n")
+
+    def test_only_an_edit_with_effect_touches_the_history(self):
+        rows = [
+            (b"add a 1", b"ok 0 1"), (b"add a 04", b"ok 0 0"), (b"history", b"undo 1 redo 0"), (b"undo", b"ok 1 0"),
+            (b"add a 3 5", b"error too-many"), (b"redo", b"ok 0 1"), (b"undo", b"ok 1 0"), (b"clear a", b"ok 0 0"),
+            (b"redo", b"ok 0 1"), (b"undo", b"ok 1 0"), (b"add a 3", b"ok 0 1"), (b"redo", b"error nothing"),
+        ]
+        out = ran("run", "--limit", "1", script=b"".join(line + b"\n" for line, _ in rows))[1]
+        self.assertEqual(out, b"".join(answer + b"\n" for _, answer in rows))

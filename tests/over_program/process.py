@@ -1,0 +1,19 @@
+"""A run of the program, which is the one that the gate or tools/prove has built unless tests/program names another."""
+import os
+import subprocess
+
+TOP = os.path.dirname(os.path.dirname(os.path.dirname(os.path.realpath(__file__))))
+PROGRAM = os.environ.get("S2CALC", os.path.join(TOP, "crates/calculator/out/calculator"))
+FACE = b"ok 0 1\n"
+
+
+def ran(*words, script=b"", **how):
+    """The status, standard output and standard error of a run of the program."""
+    how.setdefault("input", script)
+    how.setdefault("stdout", subprocess.PIPE)
+    done = subprocess.run([PROGRAM, *words], stderr=subprocess.PIPE, timeout=60, **how)
+    return done.returncode, done.stdout, done.stderr
+
+
+def first_line(text):
+    return text.split(b"\n")[0]

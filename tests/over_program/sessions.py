@@ -1,0 +1,139 @@
+"""Session files that were not made by the program, and a run that is killed between dump and restore."""
+import os
+import shutil
+import subprocess
+import tempfile
+import unittest
+
+from model import REGISTERS
+from process import PROGRAM, ran
+
+
+def number(n):
+    return n.to_bytes(8, "little")
+
+
+def cells(*tokens):
+    """The text of a list: how many cells, and their identifiers."""
+    return number(len(tokens)) + b"".join(number(int(token.ljust(16, "0"), 16)) for token in tokens)
+
+
+def change(letter, out, put):
+    return bytes([REGISTERS.index(letter)]) + cells(*out) + cells(*put)
+
+
+def session(registers=(), past=(), future=()):
+    """A session file: lists by their letters, and the changes of both sides."""
+    lists = b"".join(cells(*dict(registers).get(letter, ())) for letter in REGISTERS)
+    return b"\x73\x01" + lists + number(len(past)) + b"".join(past) + number(len(future)) + b"".join(future)
+
+
+class Sessions(unittest.TestCase):
+    """Session files that were not made by the program, and a run that is killed between dump and restore."""
+
+    def setUp(self):
+        self.folder = tempfile.mkdtemp()
+        self.addCleanup(shutil.rmtree, self.folder)
+
+    def write(self, name, text):
+        with open(os.path.join(self.folder, name), "wb") as it:
+            it.write(text)
+
+    def answers(self, script, *words):
+        status, out, error = ran("run", "--dir", self.folder, *words, script=script)
+        self.assertEqual(error, b"")
+        return out
+
+    def refuses(self, text, name, *words):
+        """Whether a session is refused with this name, and what was there before is still there."""
+        self.write("s", text)
+        out = self.answers(b"add b 3\nadd b 5\nundo\nrestore s\nhistory\nshow b\n", *words)
+        self.assertEqual(out, b"ok 0 1\nok 0 1\nok 1 0\nerror " + name + b"\nundo 1 redo 1\n3\nend\n")
+
+    def test_the_example_as_its_bytes(self):
+        answers = self.answers(b"add a 1\nremove a 04\nundo\ndump s\n")
+        self.assertEqual(answers, b"ok 0 1\nok 1 3\nok 3 1\nok\n")
+        with open(os.path.join(self.folder, "s"), "rb") as it:
+            text = session({"a": ["1"]}, [change("a", [], ["1"])], [change("a", ["1"], ["0c", "14", "1c"])])
+            self.assertEqual(it.read(), text)
+
+    def test_a_list_on_the_way_exceeds_the_limit(self):
+        three = ["04", "24", "44"]
+        there_and_back = [change("a", [], three), change("a", three, [])]
+        for sides in [{"past": there_and_back}, {"future": there_and_back}]:
+            with self.subTest(sides=sides):
+                self.refuses(session(**sides), b"too-many", "--limit", "2")
+                self.assertEqual(self.answers(b"restore s\n", "--limit", "3"), b"ok\n")
+
+    def test_ten_thousand_changes_and_one_more(self):
+        changes = [change("z", [], ["1"]), change("z", ["1"], [])] * 5000
+        self.write("most", session(past=changes))
+        restored = b"restore most\nhistory\n" + b"undo\n" * 10001
+        answers = b"ok\nundo 10000 redo 0\n" + b"ok 0 1\nok 1 0\n" * 5000 + b"error nothing\n"
+        self.assertEqual(self.answers(restored, "--depth", "10000"), answers)
+        self.refuses(session(past=changes), b"too-deep", "--depth", "9999")
+        self.refuses(session({"z": ["1"]}, changes + [change("z", [], ["1"])]), b"session", "--depth", "10000")
+        self.refuses(session(past=changes, future=[change("z", [], ["1"])]), b"session", "--depth", "10000")
+
+    def test_counts_that_no_file_holds(self):
+        empty = session()
+        greatest = number(2 ** 64 - 1)
+        for place in range(2, len(empty), 8):
+            with self.subTest(place=place):
+                self.refuses(empty[:place] + greatest + empty[place + 8 :], b"session")
+        one = session(past=[change("a", ["1"], [])])
+        for place in [len(one) - 32, len(one) - 16]:
+            with self.subTest(place=place):
+                self.refuses(one[:place] + greatest + one[place + 8 :], b"session")
+
+    def test_registers_that_are_none(self):
+        for register in [len(REGISTERS), 255]:
+            with self.subTest(register=register):
+                self.refuses(session({"a": ["1"]}, [bytes([register]) + cells() + cells("1")]), b"session")
+
+    def test_changes_that_cannot_be_made(self):
+        three = ["0c", "14", "1c"]
+        wrong = {
+            "put what is not there": session({}, [change("a", [], ["1"])]),
+            "take what is not there": session({}, [], [change("a", ["1"], [])]),
+            "put what is there": session({"a": ["1"]}, [], [change("a", [], ["1"])]),
+            "a fourth sibling": session({"a": three}, [], [change("a", [], ["04"])]),
+            "a cell inside another": session({"a": ["1"]}, [], [change("a", [], ["04"])]),
+            "taken out twice": session({"a": ["1", "3"]}, [], [change("a", ["1"], []), change("a", ["1"], [])]),
+            "put in twice": session({}, [], [change("a", [], ["1"]), change("a", [], ["1"])]),
+            "nothing": session({}, [], [change("a", [], [])]),
+            "the same out and in": session({"a": ["1"]}, [], [change("a", ["1"], ["1"])]),
+            "not normalised": session({"a": ["04"] + three}),
+            "one fits and one does not": session({"a": ["1"]}, [change("b", [], ["1"]), change("a", [], ["1"])]),
+        }
+        for what, text in wrong.items():
+            with self.subTest(what=what):
+                self.refuses(text, b"session")
+
+    def test_killed_between_dump_and_restore(self):
+        words = [PROGRAM, "run", "--dir", self.folder]
+        program = subprocess.Popen(words, stdin=subprocess.PIPE, stdout=subprocess.PIPE, stderr=subprocess.PIPE)
+        program.stdin.write(b"add a 1\nremove a 04\nundo\ndump s\nadd a 3\n")
+        program.stdin.flush()
+        for answer in [b"ok 0 1\n", b"ok 1 3\n", b"ok 3 1\n", b"ok\n", b"ok 0 1\n"]:
+            self.assertEqual(program.stdout.readline(), answer)
+        program.kill()
+        program.communicate()
+        self.assertEqual(os.listdir(self.folder), ["s"])
+        script = b"restore s\nhistory\nredo\nshow a\nundo\nundo\nundo\n"
+        answers = b"ok\nundo 1 redo 1\nok 1 3\n0c\n14\n1c\nend\nok 3 1\nok 1 0\nerror nothing\n"
+        self.assertEqual(self.answers(script), answers)
+
+    def test_many_changes_of_a_long_list(self):
+        tokens = ["%010x" % (4 * n + 1) for n in range(20000)]
+        changes = [change("a", [], [tokens[2 * (n * 7919 % 10000)]]) for n in range(10000)]
+        self.write("s", session({"a": tokens}, changes))
+        most = ["--limit", "20000", "--depth", "10000"]
+        out = self.answers(b"restore s\nhistory\n" + b"undo\n" * 10000 + b"count a\n", *most)
+        answers = b"ok\nundo 10000 redo 0\n" + b"ok 1 0\n" * 10000 + b"cells 10000 leaves "
+        self.assertEqual(out[: len(answers)], answers)
+        self.write("s", session({"a": tokens[::2]}, [], changes))
+        self.assertEqual(self.answers(b"restore s\n", *most), b"error session\n")
+        self.write("s", session({"a": tokens[1::2]}, [], changes))
+        self.assertEqual(self.answers(b"restore s\n", *most), b"ok\n")
+        self.assertEqual(self.answers(b"restore s\n", "--limit", "19999", "--depth", "10000"), b"error too-many\n")

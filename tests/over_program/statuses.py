@@ -1,0 +1,91 @@
+"""Statuses, usage faults, help, and limits of memory."""
+import os
+import resource
+import struct
+import tempfile
+import unittest
+
+from process import FACE, first_line, ran
+
+
+class Statuses(unittest.TestCase):
+    def test_no_line_was_refused(self):
+        described = b"cell 1 0/ level 0 face 0 leaves 0 1152921504606846975\n"
+        self.assertEqual(ran("run", script=b"cell 1\n"), (0, described, b""))
+        self.assertEqual(ran("cell", "3/021")[0], 0)
+
+    def test_a_line_was_refused(self):
+        self.assertEqual(ran("run", script=b"cell X\nadd a 1\n"), (1, b"error cell\n" + FACE, b""))
+        self.assertEqual(ran("cell", "X"), (1, b"error cell\n", b""))
+        self.assertEqual(ran("check", "absent"), (1, b"error missing\n", b""))
+        self.assertEqual(ran("draw", "absent"), (1, b"error missing\n", b""))
+        self.assertEqual(ran("draw", "--cells", "1", "X", "3"), (1, b"error cell\n", b""))
+
+    def test_usage(self):
+        wrong = [[], ["walk"], ["run", "--limit", "0"], ["run", "--limit", "1000001"], ["run", "--depth", "0"]]
+        wrong += [["run", "--depth", "10001"], ["run", "--dir", ""], ["run", "x"], ["run", "--limit"]]
+        wrong += [["cell"], ["cell", "1", "3"], ["check"]]
+        wrong += [["draw"], ["draw", "--curve"], ["draw", "--cells"], ["draw", "f", "g"], ["draw", "f", "--cells", "1"]]
+        wrong += [["draw", "--dir", "d", "--cells", "1"], ["draw", "--curves", "f"]]
+        for words in wrong:
+            with self.subTest(words=words):
+                status, out, error = ran(*words)
+                self.assertEqual((status, out, first_line(error)), (2, b"", b"s2calc: usage"))
+
+    def test_greatest_options(self):
+        self.assertEqual(ran("run", "--limit", "1000000", "--depth", "10000", script=b"add z 1\n"), (0, FACE, b""))
+
+    def test_a_line_of_4097_bytes_and_one_that_ends_with_the_script(self):
+        script = b"x" * 4097 + b"\ncount a\r"
+        self.assertEqual(ran("run", script=script), (1, b"error line\ncells 0 leaves 0\n", b""))
+
+    def test_an_empty_script(self):
+        self.assertEqual(ran("run"), (0, b"", b""))
+
+    def test_help(self):
+        for words in (["--help"], ["-h"], ["help"]):
+            status, out, error = ran(*words)
+            self.assertEqual((status, error), (0, b""))
+            self.assertIn(b"Usage: s2calc <COMMAND>", out)
+        for command in ("run", "cell", "check", "draw"):
+            self.assertIn(f"Usage: s2calc {command}".encode(), ran(command, "--help")[1])
+            self.assertEqual(ran("help", command), ran(command, "--help"))
+
+    def test_version(self):
+        for words in (["--version"], ["-V"]):
+            self.assertEqual(ran(*words), (0, b"s2calc 1.0.0\n", b""))
+
+    def test_usage_faults_name_the_word(self):
+        for words, said in (
+            (["run", "--depth", "10001"], b"invalid value '10001' for '--depth <N>': 10001 is not in 1..=10000"),
+            (["run", "--colour"], b"unexpected argument '--colour'"),
+            (["walk"], b"unrecognized subcommand 'walk'"),
+            (["check"], b"<FILE>"),
+            (["check", b"\xff"], b"invalid UTF-8 was detected in one or more arguments"),
+            (["draw"], b"<FILE|--cells <CELL>...>"),
+            (["draw", "f", "--cells", "1"], b"'[FILE]' cannot be used with '--cells <CELL>...'"),
+            (["draw", "--dir", "d", "--cells", "1"], b"'--dir <PATH>' cannot be used with '--cells <CELL>...'"),
+        ):
+            with self.subTest(words=words):
+                self.assertIn(said, ran(*words)[2])
+
+    def test_out_of_memory(self):
+        def little_memory():
+            resource.setrlimit(resource.RLIMIT_AS, (64 << 20, 64 << 20))
+
+        status, out, error = ran("run", "--limit", "1000000", script=b"add a 1\n", preexec_fn=little_memory)
+        self.assertEqual((status, out, first_line(error)), (3, b"", b"s2calc: memory"))
+
+    def test_a_difference_of_too_many_cells_takes_memory_for_the_limit_alone(self):
+        def some_memory():
+            resource.setrlimit(resource.RLIMIT_AS, (320 << 20, 320 << 20))
+
+        # A million leaves all over the faces: what is left has tens of millions of cells.
+        spread = range(1, 2 * 6 * 4**30, 2 * (6 * 4**30 // 10**6) + 2)
+        script = b"add a 1 3 5 7 9 b\nload b spread\nsubtract a b\ncount a\n"
+        answers = b"ok 0 6\nok 0 %d\nerror too-many\ncells 6 leaves %d\n" % (len(spread), 6 * 4**30)
+        with tempfile.TemporaryDirectory() as folder:
+            with open(os.path.join(folder, "spread"), "wb") as file:
+                file.write(struct.pack("<BQ%dQ" % len(spread), 1, len(spread), *spread))
+            words = ["run", "--limit", "1000000", "--dir", folder]
+            self.assertEqual(ran(*words, script=script, preexec_fn=some_memory), (1, answers, b""))
