@@ -6,16 +6,54 @@ import subprocess
 import tempfile
 import unittest
 
-from process import FACE, PROGRAM, ran
+from process import FACE, PROGRAM, ran, ran_in_pieces
+from sessions import change, session
 
 
 class Explanations(unittest.TestCase):
-    """Why lines are refused, on standard error."""
-
     SCRIPT = b"cell zz\n\nadd a 1\n" + b"undo\n" * 1000
     ANSWERS = b"error cell\n" + FACE + b"ok 1 0\n" + b"error nothing\n" * 999
     FIRST = b"line 1: error cell: 'zz' is not a cell (a token or a debug text)\n"
     NOTES = FIRST + b"".join(b"line %d: error nothing: there is nothing to undo or redo\n" % n for n in range(5, 1004))
+
+    # A line for each refusal that needs no failure, lines without an answer, and answered lines.
+    EACH = {
+        b"# a comment": (),
+        b"add a zz": (b"error cell", b"'zz' is not a cell (a token or a debug text)"),
+        b"": (),
+        b"add a 1": (b"ok 0 1",),
+        b"load a none": (b"error missing", b"there is no file of that name"),
+        b"load a bad": (b"error format", b"the file is not a union file"),
+        b"restore bad": (b"error session", b"the file is not a session file"),
+        b"add b 3 5": (b"error too-many", b"there would be more cells than are allowed"),
+        b"redo": (b"error nothing", b"there is nothing to undo or redo"),
+        b"save a .x": (
+            b"error name",
+            b"'.x' is not a file name (1 to 64 letters, digits, '.', '_' or '-', the first no '.' and no '-')",
+        ),
+        b"add a '\\\x01": (b"error cell", b"'\\'\\\\\\x01' is not a cell (a token or a debug text)"),
+        b"count a b": (b"error syntax", b"'b' is a word too many"),
+        b"add\r": (b"error syntax", b"a register (a to z) is missing"),
+        b"restore deep": (b"error too-deep", b"the session has more states than the depth"),
+        b"undo": (b"ok 1 0",),
+        b"undo ": (b"error nothing", b"there is nothing to undo or redo"),
+    }
+
+    def test_each_refusal_has_its_note(self):
+        script = b"".join(line + b"\n" for line in self.EACH)
+        answers = b"".join(said[0] + b"\n" for said in self.EACH.values() if said)
+        notes = b"".join(
+            b"line %d: %s: %s\n" % (number, *said) for number, said in enumerate(self.EACH.values(), 1) if len(said) > 1
+        )
+        with tempfile.TemporaryDirectory() as folder:
+            with open(os.path.join(folder, "bad"), "wb") as file:
+                file.write(b"\x02")
+            with open(os.path.join(folder, "deep"), "wb") as file:
+                file.write(session(past=[change("a", [], ["1"]), change("a", ["1"], [])]))
+            words = ["run", "--explain", "--limit", "1", "--depth", "1", "--dir", folder]
+            self.assertEqual(ran(*words, script=script), (1, answers, notes))
+            for size in (1, 7):
+                self.assertEqual(ran_in_pieces(script, size, *words[1:]), (1, answers, notes))
 
     def explained(self, script, **how):
         """The status, the answers and what standard error got, which is a pipe unless another is given."""
@@ -65,14 +103,15 @@ class Explanations(unittest.TestCase):
         self.assertEqual((status, answers), (1, self.ANSWERS))
 
     def test_standard_error_fills_up(self):
-        def small_files():
-            signal.signal(signal.SIGXFSZ, signal.SIG_IGN)
-            resource.setrlimit(resource.RLIMIT_FSIZE, (1000, 1000))
+        for size in [*range(0, 200, 13), 1000, 10000]:
+            def small_files():
+                signal.signal(signal.SIGXFSZ, signal.SIG_IGN)
+                resource.setrlimit(resource.RLIMIT_FSIZE, (size, size))
 
-        with tempfile.TemporaryFile() as file:
-            status, answers, _ = self.explained(self.SCRIPT, stderr=file, preexec_fn=small_files)
-            file.seek(0)
-            self.assertEqual((status, answers, file.read()), (1, self.ANSWERS, self.NOTES[:1000]))
+            with self.subTest(size=size), tempfile.TemporaryFile() as file:
+                status, answers, _ = self.explained(self.SCRIPT, stderr=file, preexec_fn=small_files)
+                file.seek(0)
+                self.assertEqual((status, answers, file.read()), (1, self.ANSWERS, self.NOTES[:size]))
 
     def test_the_reader_of_the_notes_goes_away(self):
         reader, writer = os.pipe()

@@ -1,6 +1,8 @@
 """A run of the program, which is the one that the gate or tools/prove has built unless tests/program names another."""
 import os
+import socket
 import subprocess
+import threading
 
 TOP = os.path.dirname(os.path.dirname(os.path.dirname(os.path.realpath(__file__))))
 PROGRAM = os.environ.get("S2CALC", os.path.join(TOP, "crates/calculator/out/calculator"))
@@ -12,6 +14,23 @@ def ran(*words, script=b"", **how):
     how.setdefault("input", script)
     how.setdefault("stdout", subprocess.PIPE)
     done = subprocess.run([PROGRAM, *words], stderr=subprocess.PIPE, timeout=60, **how)
+    return done.returncode, done.stdout, done.stderr
+
+
+def ran_in_pieces(script, size, *options):
+    """The status, standard output and standard error of a `run` that reads a number of bytes at a time."""
+    ours, its = socket.socketpair(socket.AF_UNIX, socket.SOCK_SEQPACKET)
+
+    def send():
+        with ours:
+            for start in range(0, len(script), size):
+                ours.send(script[start : start + size])
+
+    sender = threading.Thread(target=send)
+    sender.start()
+    with its:
+        done = subprocess.run([PROGRAM, "run", *options], stdin=its, capture_output=True, timeout=60)
+    sender.join()
     return done.returncode, done.stdout, done.stderr
 
 

@@ -28,9 +28,11 @@ def session(registers=(), past=(), future=()):
     return b"\x73\x01" + lists + number(len(past)) + b"".join(past) + number(len(future)) + b"".join(future)
 
 
-class Sessions(unittest.TestCase):
-    """Session files that were not made by the program, and a run that is killed between dump and restore."""
+# After face 0 was added to register a, one of its children removed, and this undone.
+EXAMPLE = session({"a": ["1"]}, [change("a", [], ["1"])], [change("a", ["1"], ["0c", "14", "1c"])])
 
+
+class Sessions(unittest.TestCase):
     def setUp(self):
         self.folder = tempfile.mkdtemp()
         self.addCleanup(shutil.rmtree, self.folder)
@@ -45,17 +47,72 @@ class Sessions(unittest.TestCase):
         return out
 
     def refuses(self, text, name, *words):
-        """Whether a session is refused with this name, and what was there before is still there."""
+        """A session is refused with this name, and what was there before is still there."""
         self.write("s", text)
         out = self.answers(b"add b 3\nadd b 5\nundo\nrestore s\nhistory\nshow b\n", *words)
         self.assertEqual(out, b"ok 0 1\nok 0 1\nok 1 0\nerror " + name + b"\nundo 1 redo 1\n3\nend\n")
 
-    def test_the_example_as_its_bytes(self):
-        answers = self.answers(b"add a 1\nremove a 04\nundo\ndump s\n")
-        self.assertEqual(answers, b"ok 0 1\nok 1 3\nok 3 1\nok\n")
+    def dumped(self, script, answers, *words):
+        """The file that a script writes, whose answers are given and then `ok` and how far undo and redo reach."""
+        self.assertEqual(self.answers(script + b"dump s\nhistory\n", *words), answers)
         with open(os.path.join(self.folder, "s"), "rb") as it:
-            text = session({"a": ["1"]}, [change("a", [], ["1"])], [change("a", ["1"], ["0c", "14", "1c"])])
-            self.assertEqual(it.read(), text)
+            return it.read()
+
+    def test_an_untouched_editor_as_its_bytes(self):
+        text = self.dumped(b"", b"ok\nundo 0 redo 0\n")
+        self.assertEqual((text, len(text)), (b"\x73\x01" + bytes(224), 226))
+
+    def test_a_change_as_its_bytes(self):
+        text = self.dumped(b"add a 1\n", b"ok 0 1\nok\nundo 1 redo 0\n")
+        self.assertEqual((text, len(text)), (session({"a": ["1"]}, [change("a", [], ["1"])]), 259))
+
+    def test_the_example_as_its_bytes(self):
+        text = self.dumped(b"add a 1\nremove a 04\nundo\n", b"ok 0 1\nok 1 3\nok 3 1\nok\nundo 1 redo 1\n")
+        self.assertEqual((text, len(text)), (EXAMPLE, 308))
+
+    def test_undo_and_redo_go_on_in_another_run(self):
+        self.write("s", EXAMPLE)
+        answers = self.answers(b"restore s\nhistory\nredo\nshow a\nundo\nundo\nundo\n")
+        self.assertEqual(answers, b"ok\nundo 1 redo 1\nok 1 3\n0c\n14\n1c\nend\nok 3 1\nok 1 0\nerror nothing\n")
+        # What was there before is gone, and an edit drops the future.
+        answers = self.answers(b"add b 5\nrestore s\nshow b\nadd b 7\nredo\nhistory\nundo\nundo\nundo\n")
+        wanted = b"ok 0 1\nok\nend\nok 0 1\nerror nothing\nundo 2 redo 0\nok 1 0\nok 1 0\nerror nothing\n"
+        self.assertEqual(answers, wanted)
+
+    def test_what_was_restored_is_dumped_alike(self):
+        self.write("e", EXAMPLE)
+        text = self.dumped(b"restore e\n", b"ok\nok\nundo 1 redo 1\n", "--limit", "3", "--depth", "2")
+        self.assertEqual(text, EXAMPLE)
+
+    def test_depth_and_limit_are_kept_to(self):
+        self.write("s", EXAMPLE)
+        # The depth is checked first.
+        for words, name in ((["--depth", "1"], b"too-deep"), (["--limit", "2"], b"too-many"),
+                            (["--limit", "2", "--depth", "1"], b"too-deep")):
+            answers = b"ok 0 1\nerror " + name + b"\n3\nend\nundo 1 redo 0\n"
+            self.assertEqual(self.answers(b"add a 3\nrestore s\nshow a\nhistory\n", *words), answers)
+
+    def test_texts_of_another_form(self):
+        for text in (EXAMPLE[:-1], EXAMPLE + b"\0", b"", b"\x73\x01", b"\x01" + number(1)):
+            with self.subTest(text=text):
+                self.refuses(text, b"session")
+
+    def test_absent_misnamed_and_not_a_file(self):
+        os.mkdir(os.path.join(self.folder, "folder"))
+        refused = {
+            b"restore absent": b"missing", b"restore .s": b"name", b"restore": b"syntax", b"restore s s": b"syntax",
+            b"dump": b"syntax", b"dump s s": b"syntax", b"dump ../s": b"name", b"restore folder": b"file",
+            b"dump folder": b"file",
+        }
+        script = b"add a 3\n" + b"".join(line + b"\n" for line in refused) + b"show a\nhistory\n"
+        answers = b"ok 0 1\n" + b"".join(b"error %s\n" % name for name in refused.values())
+        self.assertEqual(self.answers(script), answers + b"3\nend\nundo 1 redo 0\n")
+        self.assertEqual(os.listdir(self.folder), ["folder"])
+
+    def test_a_union_file_is_a_session_of_one_register(self):
+        self.write("s", b"\x01" + cells("0c", "04", "04"))
+        answers = self.answers(b"add b 5\nrestore s\nshow a\nshow b\nhistory\n")
+        self.assertEqual(answers, b"ok 0 1\nok\n04\n0c\nend\nend\nundo 0 redo 0\n")
 
     def test_a_list_on_the_way_exceeds_the_limit(self):
         three = ["04", "24", "44"]

@@ -22,15 +22,64 @@ class Statuses(unittest.TestCase):
         self.assertEqual(ran("draw", "--cells", "1", "X", "3"), (1, b"error cell\n", b""))
 
     def test_usage(self):
-        wrong = [[], ["walk"], ["run", "--limit", "0"], ["run", "--limit", "1000001"], ["run", "--depth", "0"]]
-        wrong += [["run", "--depth", "10001"], ["run", "--dir", ""], ["run", "x"], ["run", "--limit"]]
-        wrong += [["cell"], ["cell", "1", "3"], ["check"]]
-        wrong += [["draw"], ["draw", "--curve"], ["draw", "--cells"], ["draw", "f", "g"], ["draw", "f", "--cells", "1"]]
-        wrong += [["draw", "--dir", "d", "--cells", "1"], ["draw", "--curves", "f"]]
-        for words in wrong:
-            with self.subTest(words=words):
-                status, out, error = ran(*words)
-                self.assertEqual((status, out, first_line(error)), (2, b"", b"s2calc: usage"))
+        said = {
+            b"invalid value": ["run --limit 0", "run --limit 1000001", "run --limit 12345678901234567890123",
+                               "run --limit x", "run --limit=", "run --depth 0", "run --depth 10001"],
+            b"a value is required": ["run --limit", "run --dir", "run --dir=", "check --dir", "draw --cells"],
+            b"cannot be used": ["run --limit 5 --limit 5", "draw f --cells 1", "draw --cells 1 -- f",
+                                "draw --dir d --cells 1"],
+            b"unexpected argument": ["run --limit -5", "run --lim 5", "--limit 5 run", "run --colour", "run run", "run x",
+                                     "-- run", "cell 1 2", "check f g", "check --limit f", "draw f g", "draw -f",
+                                     "draw --curves f"],
+            b"unrecognized subcommand": ["ru", "RUN", "walk", "", "help foo"],
+            b"requires a subcommand": ["--"],
+            b"required arguments": ["cell", "cell --", "check", "draw", "draw --curve"],
+        }
+        for reason, lines in said.items():
+            for line in lines:
+                with self.subTest(line=line):
+                    status, out, error = ran(*line.split(" "))
+                    self.assertEqual((status, out, first_line(error)), (2, b"", b"s2calc: usage"))
+                    self.assertIn(reason, error)
+        self.assertEqual(ran()[:2], (2, b""))
+        self.assertEqual(ran("run", "--limit", " 5")[:2], (2, b""))
+
+    def test_options_of_a_run(self):
+        for line, limit, depth, folder, is_explained in (
+            ("run", 10000, 100, ".", False),
+            ("run --limit 5 --depth=7 --dir x", 5, 7, "x", False),
+            ("run --limit 1000000 --depth 10000 --dir -x", 1000000, 10000, "-x", False),
+            ("run --dir x --limit=1 --explain --depth 1", 1, 1, "x", True),
+            ("run --limit +5 --depth 007 --dir --limit", 5, 7, "--limit", False),
+            ("run --dir --explain", 10000, 100, "--explain", False),
+        ):
+            with self.subTest(line=line), tempfile.TemporaryDirectory() as room:
+                os.makedirs(os.path.join(room, folder), exist_ok=True)
+                # As many leaves in a row as a register may have, and one more; more states than are kept.
+                rows = [f"outer b 30 0 0 {length - 1} 0 0\n" for length in (limit, limit + 1)]
+                script = "".join(rows) + "add a 1\nclear a\n" * depth + "history\nsave c f\n"
+                status, out, notes = ran(*line.split(), script=script.encode(), cwd=room)
+                lines = out.decode().split("\n")
+                self.assertEqual((status, lines[:2], lines[-3:]),
+                                 (1, [f"ok 0 {limit}", "error too-many"], [f"undo {depth} redo 0", "ok", ""]))
+                self.assertEqual(os.listdir(os.path.join(room, folder)), ["f"])
+                self.assertEqual(bool(notes), is_explained)
+
+    def test_words_that_name_a_cell_or_a_file(self):
+        refused = (1, b"error cell\n", b"")
+        for word in ("-1", "", " 3/021 ", "--x", "-hello"):
+            self.assertEqual(ran("cell", word), refused)
+        self.assertEqual(ran("cell", "--", "--help"), refused)
+        self.assertEqual(ran("draw", "--cells=X"), refused)
+        with tempfile.TemporaryDirectory() as room:
+            os.mkdir(os.path.join(room, "-d"))
+            with open(os.path.join(room, "-d", "f"), "wb") as file:
+                file.write(b"\x01" + bytes(8))
+            for words in (["check", "f", "--dir", "-d"], ["check", "--dir", "-d", "--", "f"]):
+                self.assertEqual(ran(*words, cwd=room), (0, b"cells 0 leaves 0\n", b""))
+            self.assertEqual(ran("draw", "--dir", "-d", "--", "f", cwd=room)[0], 0)
+            for words in (["check", "-x"], ["check", ""], ["check", "--dir", "-d", "--", "-f"], ["draw", ""]):
+                self.assertEqual(ran(*words, cwd=room), (1, b"error name\n", b""))
 
     def test_greatest_options(self):
         self.assertEqual(ran("run", "--limit", "1000000", "--depth", "10000", script=b"add z 1\n"), (0, FACE, b""))
@@ -50,6 +99,7 @@ class Statuses(unittest.TestCase):
         for command in ("run", "cell", "check", "draw"):
             self.assertIn(f"Usage: s2calc {command}".encode(), ran(command, "--help")[1])
             self.assertEqual(ran("help", command), ran(command, "--help"))
+            self.assertEqual(ran(command, "-h"), ran(command, "--help"))
 
     def test_version(self):
         for words in (["--version"], ["-V"]):

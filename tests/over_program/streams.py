@@ -25,6 +25,8 @@ class Streams(unittest.TestCase):
         with open("/dev/full", "wb") as full:
             self.failed_output(ran("run", script=b"add a 1\n", stdout=full))
             self.failed_output(ran("cell", "1", stdout=full))
+            self.failed_output(ran("cell", "X", stdout=full))
+            self.failed_output(ran("check", "absent", stdout=full))
             self.failed_output(ran("draw", "--cells", "1", stdout=full))
             self.failed_output(ran("--help", stdout=full))
 

@@ -5,7 +5,7 @@ use crate::every_command::LINES;
 use crate::left::{Flushing, full_shelf, run_over, run_well, script_of};
 use crate::narrow::{Mishap, Narrow};
 use crate::pieces::Pieces;
-use s2calc::{RunFault, Tally};
+use s2calc::{RunFault, Tally, cell_answer};
 use std::alloc::Global;
 use std::process::Abort;
 use std::test::Fail;
@@ -181,6 +181,14 @@ fn an_empty_script_is_flushed_once(rt: HostRuntime) -> Result<(), Fail> {
         )?;
         assert_eq!(rt; left.ended, ended, "call {call}");
     }
+    Ok(())
+}
+
+#[test]
+fn a_flush_fails_after_the_answer_to_a_cell(rt: HostRuntime) -> Result<(), Fail> {
+    let mut writer = Narrow::new(rt.alloc(), 256, 256, Some((2, Mishap::Fails)))?;
+    assert_eq!(rt; cell_answer(b"X", &mut writer), Err(RunFault::Output));
+    assert_eq!(rt; writer.contents(), b"error cell\n".as_slice());
     Ok(())
 }
 
