@@ -1,9 +1,8 @@
 """The script with every command, and what a run of it may do in which some call failed. peer/model.py says what all
 other lines do."""
-import ast
 import copy
 import os
-import re
+import struct
 import sys
 
 TOP = os.path.dirname(os.path.dirname(os.path.abspath(__file__)))
@@ -35,21 +34,19 @@ for name in ("cell_of", "normal_form", "covering", "read_session"):
 
 
 def every_command():
-    """The lines of the script with every command, others with larger registers, and the files that they find."""
-    with open(os.path.join(TOP, "crates/s2calc_tests/src/every_command.rt"), encoding="utf-8") as it:
-        text = it.read()
-
-    def literals(part):
-        return [ast.literal_eval("b" + literal) for literal in re.findall(r'"(?:[^"\\]|\\.)*"', part)]
-
-    lines, files = text.split("pub const LINES")[1].split("pub const FILES")
-    larger = [b"outer %c 30 %d 0 0 0 999" % (letter, letter % 6) for letter in b"tuvwxyz"]
-    larger += [b"dump s", b"copy a z", b"undo", b"clear y", b"union z x", b"restore s", b"save z z", b"load b z"]
-    files = literals(files)
-    return literals(lines) + larger, {name.decode(): content for name, content in zip(files[::2], files[1::2])}
+    """The lines of every_command.txt, in which `\\r`, `\\t` and `\\x20` are escapes, and others with larger registers."""
+    with open(os.path.join(TOP, "faults/every_command.txt"), encoding="ascii") as it:
+        lines = [line.encode().decode("unicode_escape").encode() for line in it.read().splitlines()]
+    lines += [b"outer %c 30 %d 0 0 0 999" % (letter, letter % 6) for letter in b"tuvwxyz"]
+    return lines + [b"dump s", b"copy a z", b"undo", b"clear y", b"union z x", b"restore s", b"save z z", b"load b z"]
 
 
-LINES, FILES = every_command()
+# Every command, with edits that merge, undos and redos between them, and each refusal except those for a long line and
+# for a failing call.
+LINES = every_command()
+
+# The files that the script finds: one with the identifiers of 0c, 04 and 04, and one of another version.
+FILES = {"f": b"\x01" + struct.pack("<4Q", 3, 0x0C << 56, 0x04 << 56, 0x04 << 56), "w": b"\x02" + bytes(8)}
 
 
 def arguments(folder):

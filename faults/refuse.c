@@ -1,34 +1,97 @@
-/* Refuses one request for memory of a program: LD_PRELOAD=refuse.so REFUSED=N program. Calls of malloc, calloc and
- * realloc are counted from 1; 0 refuses none. With COUNTED=FILE, their number is written to that file at the end. */
+/* Makes calls of a program fail: LD_PRELOAD=refuse.so REFUSED='CALL FIRST LAST ERROR' program.
+ * The calls from FIRST to LAST of the kind CALL, counted from 1, fail with the number ERROR; a `write` whose ERROR is 0
+ * takes nothing. CALL is `memory` (malloc, calloc and realloc), `read`, `write`, `open`, `statx`, `close` or `lseek`.
+ * With PIECE=N, a read of standard input and a write to standard output transfer at most N bytes. With CALLS=FILE, the
+ * program's calls are written to that file at its end, one a line: their kinds, files (-1: none) and answers. */
 #define _GNU_SOURCE
+#include <errno.h>
+#include <fcntl.h>
+#include <limits.h>
+#include <stdarg.h>
 #include <stdio.h>
 #include <stdlib.h>
+#include <string.h>
+#include <sys/stat.h>
+#include <sys/syscall.h>
+#include <unistd.h>
+
+enum kind { MEMORY, READ, WRITE, OPEN, STATX, CLOSE, LSEEK, KINDS };
+static const char *const names[KINDS] = {"memory", "read", "write", "open", "statx", "close", "lseek"};
+
+static struct { enum kind kind; int file; long answer; } calls[1 << 16];
+static long total, counted[KINDS];
+static char refused[16];
+static long first, last, error, piece;
 
 /* glibc's own functions by their other names. */
 extern void *__libc_malloc(size_t), *__libc_calloc(size_t, size_t), *__libc_realloc(void *, size_t);
 
-static long refused = -1, counted;
-
-static int is_refused(void) {
-  if (refused < 0) {
-    const char *number = getenv("REFUSED");
-    refused = number ? atol(number) : 0;
-  }
-  return ++counted == refused;
+static void begin(void) {
+  const char *words = getenv("REFUSED"), *number = getenv("PIECE");
+  if (words && *words && sscanf(words, "%15s %ld %ld %ld", refused, &first, &last, &error) != 4) abort();
+  piece = number ? atol(number) : LONG_MAX;
 }
 
-void *malloc(size_t size) { return is_refused() ? NULL : __libc_malloc(size); }
+/* Counts a call, and tells whether it is to fail. */
+static int is_refused(enum kind kind, int file) {
+  if (piece == 0) begin();
+  if (total == sizeof calls / sizeof *calls) abort();
+  long number = ++counted[kind];
+  calls[total].kind = kind;
+  calls[total].file = file;
+  calls[total++].answer = -1;
+  int is = number >= first && number <= last && strcmp(refused, names[kind]) == 0;
+  if (is) errno = (int)error;
+  return is;
+}
 
-void *calloc(size_t count, size_t size) { return is_refused() ? NULL : __libc_calloc(count, size); }
+/* Notes what the last call answered. */
+static long told(long answer) { return calls[total - 1].answer = answer; }
 
-void *realloc(void *old, size_t size) { return is_refused() ? NULL : __libc_realloc(old, size); }
+static void *given(void *memory) {
+  told(memory != NULL);
+  return memory;
+}
+
+void *malloc(size_t size) { return is_refused(MEMORY, -1) ? NULL : given(__libc_malloc(size)); }
+
+void *calloc(size_t count, size_t size) { return is_refused(MEMORY, -1) ? NULL : given(__libc_calloc(count, size)); }
+
+void *realloc(void *old, size_t size) { return is_refused(MEMORY, -1) ? NULL : given(__libc_realloc(old, size)); }
+
+static size_t least(size_t size) { return size > (size_t)piece ? (size_t)piece : size; }
+
+ssize_t read(int file, void *to, size_t size) {
+  if (is_refused(READ, file)) return -1;
+  return told(syscall(SYS_read, file, to, file == 0 ? least(size) : size));
+}
+
+ssize_t write(int file, const void *from, size_t size) {
+  if (is_refused(WRITE, file)) return error ? -1 : told(0);
+  return told(syscall(SYS_write, file, from, file == 1 ? least(size) : size));
+}
+
+int open(const char *path, int flags, ...) {
+  va_list more;
+  va_start(more, flags);
+  int mode = flags & O_CREAT ? va_arg(more, int) : 0;
+  va_end(more);
+  return is_refused(OPEN, -1) ? -1 : (int)told(syscall(SYS_openat, AT_FDCWD, path, flags, mode));
+}
+
+int statx(int folder, const char *restrict path, int flags, unsigned mask, struct statx *restrict to) {
+  return is_refused(STATX, -1) ? -1 : (int)told(syscall(SYS_statx, folder, path, flags, mask, to));
+}
+
+int close(int file) { return is_refused(CLOSE, file) ? -1 : (int)told(syscall(SYS_close, file)); }
+
+off_t lseek(int file, off_t by, int from) { return is_refused(LSEEK, file) ? -1 : told(syscall(SYS_lseek, file, by, from)); }
 
 __attribute__((destructor)) static void tell(void) {
-  const char *name = getenv("COUNTED");
-  long number = counted;
-  FILE *file = name ? fopen(name, "w") : NULL;
-  if (file) {
-    fprintf(file, "%ld\n", number);
-    fclose(file);
-  }
+  const char *name = getenv("CALLS");
+  long number = total;
+  FILE *log = name ? fopen(name, "w") : NULL;
+  if (!log) return;
+  for (long k = 0; k < number; k++) fprintf(log, "%s %d %ld\n", names[calls[k].kind], calls[k].file, calls[k].answer);
+  fclose(log);
 }

@@ -54,13 +54,15 @@ class Streams(unittest.TestCase):
         self.failed_input(ran("run", input=None, stdin=folder))
 
     def test_answers_of_whole_lines_are_out_after_a_read_that_failed(self):
-        ours, its = socket.socketpair()
-        with its:
-            ours.sendall(b"cell X\ncell X")
-            its.sendall(b"not read")
-            ours.close()  # With bytes unread there, which resets the connection once its own bytes are read here.
-            status, out, error = ran("run", input=None, stdin=its)
-        self.assertEqual((status, out, first_line(error)), (2, b"error cell\n", b"s2calc: input"))
+        note = b"line 1: error cell: 'X' is not a cell (a token or a debug text)\n"
+        for words, notes in ((["run"], b""), (["run", "--explain"], note)):
+            ours, its = socket.socketpair()
+            with its:
+                ours.sendall(b"cell X\ncell X")
+                its.sendall(b"not read")
+                ours.close()  # With bytes unread there, which resets the connection once its own bytes are read here.
+                status, out, error = ran(*words, input=None, stdin=its)
+            self.assertEqual((status, out, error), (2, b"error cell\n", notes + b"s2calc: input\n"))
 
     def test_answers_of_whole_lines_come_before_the_next_read(self):
         ours, its = socket.socketpair()
