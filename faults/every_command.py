@@ -34,7 +34,7 @@ for name in ("cell_of", "normal_form", "covering", "read_session"):
 
 
 def every_command():
-    """The lines of every_command.txt, in which `\\r`, `\\t` and `\\x20` are escapes, and others with larger registers."""
+    """The lines of every_command.txt, in which a backslash begins an escape, and others with larger registers."""
     with open(os.path.join(TOP, "faults/every_command.txt"), encoding="ascii") as it:
         lines = [line.encode().decode("unicode_escape").encode() for line in it.read().splitlines()]
     lines += [b"outer %c 30 %d 0 0 0 999" % (letter, letter % 6) for letter in b"tuvwxyz"]
