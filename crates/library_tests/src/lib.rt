@@ -1,8 +1,8 @@
 //! Tests of the libraries with worked examples, and a region of its own, `Even`, that they cover.
 //!
 //! Modules: `cells`, `neighbours`, `curve` and `placed` (of `s2cell`), `unions` (of `s2union`), `coverings` (of
-//! `s2cover`), `files` (of `s2file`), `shelves` (of `s2shelf`), `edits` (of `s2edit`), `misfits` (of `s2script`). Sets
-//! of cells are named by their tokens (`tokens`).
+//! `s2cover`), `files` (of `s2file`), `shelves` (of `s2shelf`), `edits` (of `s2edit`). Sets of cells are named by
+//! their tokens (`tokens`).
 #![tactic(auto)]
 
 mod even;
@@ -19,8 +19,6 @@ mod curve;
 mod edits;
 #[cfg(test)]
 mod files;
-#[cfg(test)]
-mod misfits;
 #[cfg(test)]
 mod neighbours;
 #[cfg(test)]
