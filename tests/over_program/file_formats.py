@@ -2,6 +2,7 @@
 
 What each text stands for is read by the plain model (peer/model.py). None is too deep or has too many cells."""
 import os
+import shutil
 import tempfile
 import unittest
 
@@ -9,7 +10,7 @@ from model import MOST_CHANGES, MOST_IN_A_FILE, file_text, read_file, read_sessi
 from process import ran
 from sessions import cells, change, number, session
 
-BATCH = 20_000
+BATCH = 4_000
 THREE = ["0c", "14", "1c"]
 EMPTY = session()
 TWO_CELLS = b"\x01" + cells("04", "0c")
@@ -81,25 +82,30 @@ def read_from(folder, name):
 
 
 def write_to(folder, name, text):
-    with open(os.path.join(folder, name), "wb") as it:
+    """A file that is there is overwritten in place: to make another of each would cost most of the time."""
+    with open(os.open(os.path.join(folder, name), os.O_WRONLY | os.O_CREAT), "wb") as it:
         it.write(text)
+        it.truncate()
 
 
 class FileFormats(unittest.TestCase):
     """Union files and session files: refused bytes, all beginnings, and all texts that differ in one byte."""
 
+    def setUp(self):
+        self.folder = tempfile.mkdtemp()
+        self.addCleanup(shutil.rmtree, self.folder)
+
     def written(self, texts, reads, writes, refusal):
         """What the program writes of each text after it has read it, or None for those that it refuses."""
-        with tempfile.TemporaryDirectory() as folder:
-            for n, text in enumerate(texts):
-                write_to(folder, f"{n}", text)
-            said = answers(folder, [f"{reads} {n}" for n in range(len(texts))])
-            self.assertEqual(len(said), len(texts))
-            self.assertLessEqual({answer for answer in said if not answer.startswith(b"ok")}, {refusal})
-            taken = {n for n, answer in enumerate(said) if answer != refusal}
-            said = answers(folder, [line for n in taken for line in (f"{reads} {n}", f"{writes} again{n}")])
-            self.assertEqual(len(said), 2 * len(taken))
-            return [read_from(folder, f"again{n}") if n in taken else None for n in range(len(texts))]
+        for n, text in enumerate(texts):
+            write_to(self.folder, f"{n}", text)
+        said = answers(self.folder, [f"{reads} {n}" for n in range(len(texts))])
+        self.assertEqual(len(said), len(texts))
+        self.assertLessEqual({answer for answer in said if not answer.startswith(b"ok")}, {refusal})
+        taken = {n for n, answer in enumerate(said) if answer != refusal}
+        said = answers(self.folder, [line for n in taken for line in (f"{reads} {n}", f"{writes} again{n}")])
+        self.assertEqual(said[1::2], [b"ok"] * len(taken))
+        return [read_from(self.folder, f"again{n}") if n in taken else None for n in range(len(texts))]
 
     def compare(self, texts, again, *how):
         """The program accepts the texts that the model accepts, and writes of them what the model writes. It answers
@@ -146,9 +152,8 @@ class FileFormats(unittest.TestCase):
 
     def test_the_oldest_change_first_and_of_those_undone_the_nearest(self):
         to_face, to_three = change("a", [], ["1"]), change("a", ["1"], THREE)
-        with tempfile.TemporaryDirectory() as folder:
-            answers(folder, "add a 1,remove a 04,dump 0,undo,dump 1,undo,dump 2".split(","))
-            found = [read_from(folder, name) for name in "012"]
+        answers(self.folder, "add a 1,remove a 04,dump 0,undo,dump 1,undo,dump 2".split(","))
+        found = [read_from(self.folder, name) for name in "012"]
         past = session({"a": THREE}, [to_face, to_three])
         future = session({}, [], [to_face, to_three])
         self.assertEqual(found, [past, MOVED_ON, future])
