@@ -100,6 +100,7 @@ class Way:
             yield b"error memory\n", self.copy()
         if disk and command in READERS:
             yield b"error file\n", self.copy()
+            yield b"error missing\n", self.copy()
         if command in WRITERS:
             yield b"error memory\n", self.copy()
         if disk and command in WRITERS:

@@ -89,6 +89,23 @@ class UnionFiles(unittest.TestCase):
         self.answers("add a 3\nsave a f\nload a f\n", "ok 0 1\nerror file\nerror missing\n")
         self.checks("f", "error missing")
 
+    def test_a_device_is_not_opened_and_a_link_is_followed(self):
+        os.symlink("/dev/zero", self.path("zero"))
+        os.mkfifo(self.path("fifo"))
+        os.symlink("file", self.path("link"))
+        for name in ("zero", "fifo"):
+            lines = f"add a 3\nload a {name}\nrestore {name}\nsave a {name}\ndump {name}\nshow a\n"
+            self.answers(lines, "ok 0 1\n" + "error file\n" * 4 + "3\nend\n")
+            self.checks(name, "error file")
+        self.answers("add a 3\nload b link\nsave a link\nload b file\n", "ok 0 1\nerror missing\nok\nok 0 1\n")
+        self.assertTrue(os.path.islink(self.path("link")))
+
+    def test_a_file_in_the_place_of_the_folder(self):
+        self.folder = self.path("f")
+        open(self.folder, "wb").close()
+        self.answers("load a g\nrestore g\nsave a g\ndump g\n", "error file\n" * 4)
+        self.checks("g", "error file")
+
     def test_a_file_longer_than_any_union_is_not_read_whole(self):
         # 3 GB without a block on the disk.
         self.write("long", b"")
