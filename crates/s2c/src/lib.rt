@@ -15,6 +15,4 @@ mod files;
 mod lists;
 mod questions;
 mod sets;
-#[cfg(test)]
-mod tests;
 mod unions;
