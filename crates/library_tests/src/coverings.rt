@@ -1,9 +1,7 @@
 //! Coverings of a region of one's own, and how many cells the search for a covering looks at.
 use crate::even::Even;
 use crate::tokens::{is, of};
-use s2cover::{
-    CoverFault, FaceRect, Looks, clip_inner, clip_outer, inner, outer, rect_inner, rect_outer,
-};
+use s2cover::{CoverFault, FaceRect, Looks, clip_outer, inner, outer};
 use s2union::CellUnion;
 use std::process::Abort;
 use std::test::Fail;
@@ -26,36 +24,6 @@ fn has(made: Result<CellUnion, CoverFault>, tokens: &str) -> Result<bool, CoverF
 fn covers_the_even_leaves(rt: HostRuntime) -> Result<(), Fail> {
     assert!(rt; has(outer(rt.alloc(), &Even, 3, 9), "1 3 5 7 9 b")?);
     assert!(rt; has(inner(rt.alloc(), &Even, 3, 9), "")?);
-    Ok(())
-}
-
-#[test]
-fn counts_the_looks(rt: HostRuntime) -> Result<(), Fail> {
-    let mut looks = Looks::default();
-    let edge = rect(&rt, 0, 0, LAST, 0, 0);
-    let made = rect_inner(rt.alloc(), &edge, 29, 10000, &mut looks);
-    assert!(rt; has(made, "")? && looks.count <= 1);
-    let refused = rect_outer(rt.alloc(), &edge, 30, 10000, &mut looks).err();
-    assert!(rt; refused == Some(CoverFault::TooMany) && looks.count <= 1200121);
-    let strip = rect(&rt, 0, 0, 2, 0, 0);
-    let made = rect_outer(rt.alloc(), &strip, 29, 10000, &mut looks);
-    assert!(rt; has(made, FIRST_AND_LAST)? && 2 <= looks.count && looks.count <= 233);
-    let whole = rect(&rt, 0, 0, LAST, 0, LAST);
-    let made = rect_outer(rt.alloc(), &whole, 30, 10000, &mut looks);
-    assert!(rt; has(made, "1")? && 1 <= looks.count && looks.count <= 121);
-    Ok(())
-}
-
-#[test]
-fn covers_a_clip_with_long_sides(rt: HostRuntime) -> Result<(), Fail> {
-    let face = of(rt.alloc(), "1")?;
-    let mut looks = Looks::default();
-    let row = rect(&rt, 0, 0, LAST, 5, 5);
-    let made = clip_inner(rt.alloc(), &face, &row, 29, 9, &mut looks);
-    assert!(rt; has(made, "")? && looks.count == 0);
-    let most = rect(&rt, 0, 1, LAST, 0, LAST);
-    let made = clip_outer(rt.alloc(), &face, &most, 29, 9, &mut looks);
-    assert!(rt; has(made, "1")? && looks.count == 2);
     Ok(())
 }
 

@@ -1,8 +1,8 @@
-//! Unions as collections, copies, limits and cursors, and how many cells a question looks at. `bindings/check` asks the
-//! other calls, through the library for C.
+//! Unions as collections, and how many cells a question looks at. `bindings/check` and `tests/program` ask the other
+//! calls, through the library for C and by scripts.
 use crate::tokens::{cells, is, of};
 use s2cell::CellId;
-use s2union::{CellUnion, UnionFault, normalise};
+use s2union::{CellUnion, normalise};
 use std::alloc::{AllocError, Global};
 
 /// The first leaf of face 0.
@@ -27,49 +27,6 @@ fn a_union_is_a_collection(rt: HostRuntime) -> Result<(), AllocError> {
     assert_eq!(rt; last, CellId::from_token(b"24"));
     let list: Vec<CellId> = union.into_iter().collect(rt.alloc())?;
     assert!(rt; is(&list, "1 24"));
-    Ok(())
-}
-
-/// The first set and limit of the table whose difference, or its refusal, is different.
-fn first_other_difference(alloc: Global) -> Result<Option<(&'static str, usize)>, AllocError> {
-    for (a, b, limit, less) in [
-        ("", "1", 0, Some("")),
-        ("1", "1", 0, Some("")),
-        ("1", "", 0, None),
-        ("1", "", 1, Some("1")),
-        ("1", "04", 2, None),
-        ("1", "04", 3, Some("0c 14 1c")),
-        ("1 3 5", "7", 2, None),
-        ("1 3 5", "7", 3, Some("1 3 5")),
-        ("04 0c 14 3 5", "0c", 3, None),
-        ("04 0c 14 3 5", "0c", 4, Some("04 14 3 5")),
-    ] {
-        let made = of(alloc, a)?.difference_up_to(&of(alloc, b)?, limit);
-        let is_as_said = match (made, less) {
-            (Ok(rest), Some(tokens)) => is(rest.cells(), tokens),
-            (Err(fault), None) => fault == UnionFault::TooMany,
-            _ => false,
-        };
-        if !is_as_said {
-            return Ok(Some((a, limit)));
-        }
-    }
-    Ok(None)
-}
-
-#[test]
-fn a_difference_of_more_cells_than_the_limit(rt: HostRuntime) -> Result<(), AllocError> {
-    assert_eq!(rt; first_other_difference(rt.alloc())?, None);
-    Ok(())
-}
-
-#[test]
-fn copies(rt: HostRuntime) -> Result<(), AllocError> {
-    let union = without_a_leaf(rt.alloc())?;
-    assert_eq!(rt; union.try_clone()?, union);
-    let mut copy = CellUnion::with_room(rt.alloc(), union.len())?;
-    copy.copy_from(&union);
-    assert_eq!(rt; copy, union);
     Ok(())
 }
 
@@ -121,25 +78,5 @@ fn cells_in_one_gap_or_one_cell_cost_one_search(rt: HostRuntime) -> Result<(), A
     assert!(rt; !none.answer && none.looks < 100, "{}", none.looks);
     assert_eq!(rt; spaced.intersection(&held)?, held);
     assert!(rt; spaced.intersection(&apart)?.is_empty());
-    Ok(())
-}
-
-#[test]
-fn questions_in_any_order(rt: HostRuntime) -> Result<(), AllocError> {
-    let rest = without_a_leaf(rt.alloc())?;
-    let mut cursor = rest.cursor();
-    for (token, contains, intersects) in [
-        (LEAF, false, false),
-        ("0000000000000003", true, true),
-        ("1c", true, true),
-        ("1", false, true),
-        ("04", false, true),
-        ("24", false, false),
-        ("0c", true, true),
-    ] {
-        let cell = CellId::from_token(token.as_bytes()).expect(&rt, "a cell");
-        assert!(rt; cursor.contains_cell(cell) == contains, "{token}");
-        assert!(rt; cursor.intersects_cell(cell) == intersects, "{token}");
-    }
     Ok(())
 }
