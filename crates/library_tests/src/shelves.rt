@@ -8,7 +8,7 @@ fn memory_keeps_files_and_fails_at_the_call_it_was_told(rt: HostRuntime) -> Resu
     let mut shelf = MemoryShelf::new(rt.alloc());
     shelf.put("f", b"old")?;
     shelf.put("f", b"new")?;
-    assert!(rt; shelf.get("f")?.as_deref() == Some(b"new".as_slice()));
+    assert!(rt; shelf.get(rt.alloc(), "f")?.as_deref() == Some(b"new".as_slice()));
     shelf.fail_at(1);
     assert!(rt; shelf.put("f", b"newest") == Err(ShelfFault::Device));
     assert!(rt; shelf.get_beginning("f", 2)?.as_deref() == Some(b"ne".as_slice()));

@@ -1,28 +1,22 @@
 -- The bytes of a state, and what comes of them.
-use Rattle.std.proofs.Common.{◌≡◌, ◌≢◌, ℕ, ◌+◌, ◌≤◌, inl, inr, List, length, Ok, refl}
-use Rattle.std.proofs.Common.{sym, ap, ◌∙◌, subst, arith}
-use Rattle.s2file.specs.Session.{Content, Spells}
-use Rattle.s2file.specs.declared.session.SessionFault.TheVariants.{Form, Memory as NoMemory}
+use Rattle.std.proofs.Common.{◌≡◌, ◌≢◌, ℕ, ◌+◌, ◌≤◌, inl, inr, List, [], length, Option, None, Some, refl}
+use Rattle.std.proofs.Common.{Result, Ok, Err, sym, ap, ◌∙◌, subst, arith}
+use Rattle.std.specs.Prelude.{IfSome, MatchResult}
+use Rattle.s2file.specs.Session.{Content, IsContent, Spells, session_text}
 use Rattle.s2file.proofs.Spelled.{one_spelled}
 use Rattle.s2edit.specs.History.{History, EachList}
 use Rattle.s2edit.specs.Session.{Records, Stored, Restored, IsTooDeep, IsTooMany}
 use Rattle.s2edit.proofs.Spelling.{one_history}
-use Rattle.s2shelf.specs.Shelf.{Files, SameFiles}
+use Rattle.s2shelf.specs.Shelf.{Files, SameFiles, Opens, FailsToGet}
+use Rattle.s2shelf.specs.declared.shelf.ShelfFault.TheVariants.{Device}
+use Rattle.s2shelf.proofs.Opened.{opened_keeps, same_and_fails}
 use Rattle.s2calc.specs.declared.refusal.Refusal.{Refusal}
-use Rattle.s2calc.specs.declared.refusal.Refusal.TheVariants.{File as NoFile}
+use Rattle.s2calc.specs.declared.refusal.Refusal.TheVariants.{File as NoFile, Memory, Session}
 use Rattle.s2calc.specs.Fetch.{Fetches}
 use Rattle.s2calc.specs.Sessions.{TakesOver, AreTooDeep, AreTooMany, RefusesBytes, FetchesNoState}
 use Rattle.s2calc.proofs.FetchLemmas.{TellSame, IsSettled, turned, same_bytes, bytes_or_none, same_fetch_refusal}
 
 -- ---- a session that bytes spell
-
-form_apart : Form ≡ NoMemory → ⊥
-form_apart e = cc
-
--- bytes that spell none stand for no history
-pub none_stored : (bytes : List ℕ) → ((s : Content) → Spells bytes s → Form ≡ NoMemory) → (h : History (List ℕ)) →
-    Stored bytes h → ⊥
-none_stored bytes only h st = form_apart (only st.content st.spells)
 
 -- bytes whose session tells none stand for none
 pub unfit : (bytes : List ℕ) (s : Content) → Spells bytes s → ((h : History (List ℕ)) → Records s h → ⊥) →
@@ -54,6 +48,50 @@ too_many bytes s old p d = record {
   kept = d.kept;
   many = d.many;
 }
+
+-- ---- a session that is read from an opened file, of which reads will give the bytes `ahead`, if these are known
+
+-- no bytes spell no session
+nothing_spelled : (s : Content) → Spells [] s → ⊥
+nothing_spelled s (inl f) = let text = f.text in cc
+nothing_spelled s (inr f) = absurd (omega (arith, f.file.is.version))
+
+-- a session that was read is that of a file that was found
+pub session_found : (old new : Files) (name : List ℕ) (ahead : Option (List ℕ)) (s : Content) →
+    Opens old name (Some ahead) new → IsContent s → IfSome ahead (λ bytes. Spells bytes s)
+    → (bytes : List ℕ) × Fetches name old (Ok bytes) new × Spells bytes s
+session_found old new name None s opens is spells =
+    (session_text s, opens (session_text s) tt, inl (record { content = is; text = refl }))
+session_found old new name (Some bytes) s opens is spells = (bytes, opens bytes refl, spells)
+
+-- no session was read, since the bytes spell none
+pub none_found : (old new : Files) (name : List ℕ) (ahead : Option (List ℕ)) (state : History (List ℕ)) →
+    Opens old name (Some ahead) new → IfSome ahead (λ bytes. (s : Content) → Spells bytes s → ⊥) →
+    FetchesNoState name old state Session new
+none_found old new name None state opens none =
+    inr ([], opens [] tt, inl (refl, λ h stored. nothing_spelled stored.content stored.spells))
+none_found old new name (Some bytes) state opens none =
+    inr (bytes, opens bytes refl, inl (refl, λ h stored. none stored.content stored.spells))
+
+-- no session was read, since there was no memory
+pub none_for_memory : (old new : Files) (name : List ℕ) (ahead : Option (List ℕ)) (state : History (List ℕ)) →
+    Opens old name (Some ahead) new → FetchesNoState name old state Memory new
+none_for_memory old new name ahead state opens = inl (inr (inr (refl, opened_keeps old new name ahead opens)))
+
+-- no session was read, since the device failed, which was counted afterwards
+pub none_for_device : (old middle new : Files) (name : List ℕ) (ahead : Option (List ℕ)) (state : History (List ℕ)) →
+    Opens old name (Some ahead) middle → FailsToGet middle new Device → FetchesNoState name old state NoFile new
+none_for_device old middle new name ahead state opens fails =
+    inl (inr (inl (refl, same_and_fails old middle new (opened_keeps old middle name ahead opens) fails)))
+
+-- the session of bytes that were found is taken over, or the bytes are refused
+pub found_and_taken : {T : Type 0} (r : Result T Refusal) (a c : Files) (name bytes : List ℕ)
+    (old new : History (List ℕ)) → Fetches name a (Ok bytes) c
+    → MatchResult r (λ _. TakesOver bytes old new) (λ refusal. RefusesBytes bytes old refusal)
+    → MatchResult r (λ _. (xs : List ℕ) × Fetches name a (Ok xs) c × TakesOver xs old new)
+    (λ refusal. FetchesNoState name a old refusal c)
+found_and_taken (Ok done) a c name bytes old new fetched taken = (bytes, fetched, taken)
+found_and_taken (Err refusal) a c name bytes old new fetched refuses = inr (bytes, fetched, refuses)
 
 -- ---- bytes stand for one history
 

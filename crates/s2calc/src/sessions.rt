@@ -1,7 +1,8 @@
 //! The registers and both sides of their history as a file.
-ghost use Rattle.std.specs.Prelude.{◌≡◌, List, ℕ, Ok, OnErr, MatchResult};
+ghost use Rattle.std.specs.Prelude.{◌≡◌, List, ℕ, Some, Ok, Err, IfOk, OnErr, MatchResult};
 ghost use Rattle.s2file.specs.Session.{content_of, IsContent, Spells};
 ghost use Rattle.s2edit.specs.History.{History};
+ghost use Rattle.s2shelf.specs.Shelf.{Opens};
 ghost use Rattle.s2calc.specs.Answer.{reply_of};
 ghost use Rattle.s2calc.specs.Fetch.{Fetches};
 ghost use Rattle.s2calc.specs.Sessions.{TakesOver, RefusesBytes, FetchesNoState};
@@ -11,7 +12,7 @@ ghost use Rattle.s2calc.specs.World.{world};
 use crate::answer::Answer;
 use crate::refusal::Refusal;
 use s2edit::{Editor, RestoreFault};
-use s2file::{Session, SessionFault, decode_session};
+use s2file::{ReadFault, Session, read_session};
 use s2script::Name;
 use s2shelf::{Shelf, ShelfFault};
 use std::alloc::Global;
@@ -52,8 +53,7 @@ pub(crate) fn restore<S: Shelf>(
     }
 }
 
-/// Takes over the session in the file under a name, or says why it can't. Reads the whole file, since no length is too
-/// long.
+/// Takes over the session in the file under a name, or says why it can't. The file is closed before that.
 fn take_over_file<S: Shelf>(
     alloc: Global,
     editor: &mut Editor,
@@ -66,36 +66,43 @@ fn take_over_file<S: Shelf>(
         (λ refusal. FetchesNoState name.now (S.files shelf.old) editor.old refusal (S.files shelf.new)) }
     ensures err { OnErr result (editor.new ≡ editor.old) }
 {
-    let bytes = fetch_whole(shelf, name)?;
-    let session = session_in(alloc, bytes)?;
+    let session = fetch_session(alloc, shelf, name)?;
     take_over(editor, session)
 }
 
-/// The whole content under a name, or why there is none. Asks the shelf once.
-fn fetch_whole<S: Shelf>(shelf: &mut S, name: &str) -> Result<Vec<u8>, Refusal>
-    ensures { MatchResult result
-        (λ bytes. Fetches name.now (S.files shelf.old) (Ok bytes.items) (S.files shelf.new))
-        (λ refusal. Fetches name.now (S.files shelf.old) (Err refusal) (S.files shelf.new)) }
+/// The session in the file under a name, or why there is none. Asks the shelf once, and holds nothing of the file but
+/// what is read of it at a time.
+fn fetch_session<S: Shelf>(alloc: Global, shelf: &mut S, name: &str) -> Result<Session, Refusal>
+    ensures content { IfOk result (λ session. IsContent (content_of session)) }
+    ensures answer { MatchResult result
+        (λ session. (bytes : List ℕ) × Fetches name.now (S.files shelf.old) (Ok bytes) (S.files shelf.new)
+        × Spells bytes (content_of session))
+        (λ refusal. (state : History (List ℕ)) →
+        FetchesNoState name.now (S.files shelf.old) state refusal (S.files shelf.new)) }
 {
-    match shelf.get(name) {
-        Ok(Some(bytes)) => Ok(bytes),
-        Ok(None) => Err(Refusal::Missing),
-        Err(ShelfFault::Device) => Err(Refusal::File),
-        Err(ShelfFault::Memory) => Err(Refusal::Memory),
+    let mut file = open_file(shelf, name)?;
+    match read_session(alloc, &mut file) {
+        Ok(session) => Ok(session),
+        Err(ReadFault::Form) => Err(Refusal::Session),
+        Err(ReadFault::Memory) => Err(Refusal::Memory),
+        Err(ReadFault::Device) => {
+            shelf.count_failure();
+            Err(Refusal::File)
+        }
     }
 }
 
-/// The session that the bytes encode, or why there is none. Drops the bytes.
-#[tactic(auto, using(crate::proofs::SessionLemmas::none_stored))]
-fn session_in(alloc: Global, bytes: Vec<u8>) -> Result<Session, Refusal>
+/// The file under a name, opened for reading, or why there is none. Asks the shelf once.
+fn open_file<S: Shelf>(shelf: &mut S, name: &str) -> Result<S::Opened, Refusal>
     ensures { MatchResult result
-        (λ session. Spells bytes.items (content_of session) × IsContent (content_of session))
-        (λ refusal. (state : History (List ℕ)) → RefusesBytes bytes.items state refusal) }
+        (λ file. Opens (S.files shelf.old) name.now (Some (S.Opened.remaining file)) (S.files shelf.new))
+        (λ refusal. Fetches name.now (S.files shelf.old) (Err refusal) (S.files shelf.new)) }
 {
-    match decode_session(alloc, bytes.as_slice()) {
-        Ok(session) => Ok(session),
-        Err(SessionFault::Form) => Err(Refusal::Session),
-        Err(SessionFault::Memory) => Err(Refusal::Memory),
+    match shelf.open(name) {
+        Ok(Some(file)) => Ok(file),
+        Ok(None) => Err(Refusal::Missing),
+        Err(ShelfFault::Device) => Err(Refusal::File),
+        Err(ShelfFault::Memory) => Err(Refusal::Memory),
     }
 }
 

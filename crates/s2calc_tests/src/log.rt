@@ -4,7 +4,7 @@ ghost use Rattle.std.specs.Prelude.{◌≡◌, IfErr};
 use s2shelf::{Shelf, ShelfFault};
 use std::cell::RefCell;
 use std::io;
-use std::io::{ErrorKind, Write};
+use std::io::{Empty, ErrorKind, Write};
 
 /// A writer that logs the bytes that it takes, and a bar for each flush.
 #[derive(Drop)]
@@ -33,11 +33,13 @@ impl Write for LoggedWriter<'_> {
 #[derive(Drop)]
 pub struct LoggedShelf<'a> {
     pub log: &'a RefCell<Vec<u8>>,
+    /// How many failures were counted.
+    pub failures: u64,
 }
 
 impl LoggedShelf<'_> {
     /// Logs a call.
-    fn note(&mut self, call: &str, name: &str) -> Result<(), ShelfFault>
+    fn note(&self, call: &str, name: &str) -> Result<(), ShelfFault>
         ensures { IfErr result (λ fault. fault ≡ ShelfFault.Memory) }
     {
         match self.log.try_borrow_mut() {
@@ -55,9 +57,20 @@ impl LoggedShelf<'_> {
 impl Shelf for LoggedShelf<'_> {
     ghost use Rattle.std.specs.Prelude.{None, false};
 
-    ghost files = { λ _. record { tells = false; at = λ _. None; found = None; failures = 0 } };
+    ghost files = { λ shelf. record { tells = false; at = λ _. None; found = None; failures = shelf.failures } };
 
-    fn get(&mut self, name: &str) -> Result<Option<Vec<u8>>, ShelfFault> {
+    type Opened = Empty;
+
+    fn open(&mut self, name: &str) -> Result<Option<Empty>, ShelfFault> {
+        self.note("OPEN ", name)?;
+        Ok(None)
+    }
+
+    fn count_failure(&mut self) {
+        self.failures = self.failures.wrapping_add(1);
+    }
+
+    fn get_beginning(&mut self, name: &str, _most: usize) -> Result<Option<Vec<u8>>, ShelfFault> {
         self.note("GET ", name)?;
         Ok(None)
     }

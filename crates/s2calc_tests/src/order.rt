@@ -29,7 +29,7 @@ error missing
 ok 0 1
 |PUT s
 ok
-|||GET s
+|||OPEN s
 error missing
 ||";
 
@@ -37,7 +37,7 @@ error missing
 const AT_THE_END: &str = "PUT f
 GET g
 PUT s
-GET s
+OPEN s
 ok 0 1
 undo 1 redo 0
 ok
@@ -62,7 +62,10 @@ fn does(alloc: Global, flushing: Flushing, done: &str) -> Result<bool, Fail> {
     let mut editor = Editor::open(alloc, 10, 10)?;
     let mut reader = FILES;
     let mut writer = AnswerBuffer::new(alloc, LoggedWriter { log: &log })?;
-    let mut shelf = LoggedShelf { log: &log };
+    let mut shelf = LoggedShelf {
+        log: &log,
+        failures: 0,
+    };
     let ended = match flushing {
         Flushing::Promptly => {
             run_promptly(alloc, &mut editor, &mut reader, &mut writer, &mut shelf)

@@ -5,7 +5,7 @@ use Rattle.std.proofs.Common.{drop-cons}
 use Rattle.std.proofs.lemmas.Bool.{or_cases, or_left, or_right, false≢true}
 use Rattle.std.specs.List.Sorted.{IsStrictlyIncreasing}
 use Rattle.s2union.specs.Apply.{has}
-use Rattle.s2union.proofs.CellLists.{AllAbove, IsAscending, has-below, AllAbove-trans, ascends_from}
+use Rattle.s2union.proofs.CellLists.{IsAscending, has-below, AllAbove-trans, ascends_from}
 use Rattle.s2file.specs.Session.{AreApart}
 
 IsAscending-drop : (xs : List ℕ) (k : ℕ) → IsAscending xs → IsAscending (drop k xs)

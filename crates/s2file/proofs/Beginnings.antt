@@ -54,7 +54,7 @@ fault-longer xs ys Memory h n f = absurd (n refl)
 -- ---- beginnings
 
 -- all there is, or that many bytes of it
-all_or_more : (bytes : List ℕ) (n : ℕ) → (take n bytes ≡ bytes) ⊎ (length (take n bytes) ≡ n)
+pub all_or_more : (bytes : List ℕ) (n : ℕ) → (take n bytes ≡ bytes) ⊎ (length (take n bytes) ≡ n)
 all_or_more bytes n = ⊎_elim (λ h. inl (take_all n bytes h.1))
     (λ h. inr (length-take-le n bytes (omega (arith, h.1)))) (leb_tells (length bytes) n)
 

@@ -1,18 +1,16 @@
 -- What is at the front of bytes is there in only one way.
-use Rattle.std.proofs.Common.{◌≡◌, ℕ, ◌+◌, ◌*◌, ◌<◌, ◌≤◌, ◌^◌, List, [], ◌∷◌, ◌++◌, length, take}
-use Rattle.std.proofs.Common.{drop, get_or, All, flat_map, refl, sym, ap, ◌∙◌, subst, append_assoc, arith}
-use Rattle.std.proofs.lemmas.List.{length-append, drop_at, append-nil, length-take}
+use Rattle.std.proofs.Common.{◌≡◌, ℕ, ◌<◌, List, [], ◌∷◌, ◌++◌, length}
+use Rattle.std.proofs.Common.{drop, flat_map, refl, sym, ap, ◌∙◌, subst, append_assoc, arith}
+use Rattle.std.proofs.lemmas.List.{drop_at, append-nil}
 use Rattle.std.proofs.lemmas.List.Elements.{recursion_from_All}
 use Rattle.std.specs.List.{AllByRecursion}
-use Rattle.std.specs.Int.{w64, to_le_bytes, from_le_bytes}
-use Rattle.std.proofs.lemmas.Nat.{le_bytes_8}
 use Rattle.s2cell.specs.Cell.{IsCell}
 use Rattle.s2cell.proofs.Calls.{fits_u64}
 use Rattle.s2file.specs.File.{first_number, number_text}
 use Rattle.s2file.specs.Session.{Moved, Content, list_text, move_text, moves_text, parts_text, IsRegisterList}
 use Rattle.s2file.specs.Session.{IsChangeList, IsMoved, IsContent}
 use Rattle.s2file.specs.SessionParts.{Begins, IsNumber, AreCells, AreMoves, AreRegisters, registers_text}
-use Rattle.s2file.proofs.Numbers.{first_number-number_text, length-number_text, first_number-append}
+use Rattle.s2file.proofs.Numbers.{first_number-number_text, length-number_text}
 
 -- two values at the front of the same bytes are one, and the same bytes follow
 abbrev pub IsOneWay : {A : Type 0} → (A → List ℕ) → (A → Type 0) → Type 0

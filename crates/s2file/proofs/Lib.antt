@@ -9,3 +9,8 @@ pub mod SessionReading
 pub mod SessionRows
 pub mod Spelled
 pub mod Apart
+pub mod Pieces
+pub mod Taking
+pub mod TakingCells
+pub mod TakingRows
+pub mod TakingSession

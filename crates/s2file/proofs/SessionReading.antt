@@ -1,39 +1,31 @@
 -- The parts of a session file while they are read.
-use Rattle.std.proofs.Common.{◌≡◌, ◌↔◌, Bool, true, false, IsTrue, ℕ, zero, suc, ◌+◌, ◌*◌, ◌<◌, ◌≤◌}
-use Rattle.std.proofs.Common.{◌^◌, List, [], ◌∷◌, ◌++◌, length, map, take, drop, get_or, All, flat_map, inl, inr, refl}
+use Rattle.std.proofs.Common.{◌≡◌, ◌↔◌, Bool, true, false, IsTrue, ℕ, suc, ◌+◌, ◌*◌, ◌<◌, ◌≤◌}
+use Rattle.std.proofs.Common.{◌^◌, List, [], ◌∷◌, ◌++◌, length, take, drop, get_or, All, flat_map, inl, inr}
 use Rattle.std.proofs.Common.{sym, ap, ◌∙◌, subst, append_assoc, arith}
-use Rattle.std.proofs.lemmas.List.{length-append, length-take, get_or-take, get_or_past, get_or_append_left, take_at}
+use Rattle.std.proofs.lemmas.List.{length-append, length-take, get_or-take, get_or_past, get_or_append_left}
 use Rattle.std.proofs.lemmas.List.{take-append-drop, append-nil}
 use Rattle.std.proofs.lemmas.Bool.{cases_lt, true≢false, false≢true}
-use Rattle.std.proofs.lemmas.List.Elements.{All-push, recursion_from_All, All-from_recursion}
+use Rattle.std.proofs.lemmas.List.Elements.{All-push}
 use Rattle.std.proofs.lemmas.Grind.{flat_map-append}
 use Rattle.std.proofs.lemmas.Nat.{le_bytes_8}
-use Rattle.std.specs.List.{AllByRecursion}
-use Rattle.std.specs.Int.{w64, to_le_bytes, from_le_bytes}
-use Rattle.std.specs.List.Sorted.{IsStrictlyIncreasing}
 use Rattle.s2cell.specs.Cell.{IsCell}
-use Rattle.s2cell.proofs.Calls.{fits_u64}
 use Rattle.s2union.specs.Union.{IsLocal}
 use Rattle.s2file.specs.declared.TheConstants.{SESSION_CELLS}
-use Rattle.s2file.specs.declared.session.SessionFault.{SessionFault}
-use Rattle.s2file.specs.declared.session.SessionFault.TheVariants.{Form, Memory}
+use Rattle.s2file.specs.declared.session.ReadFault.{ReadFault}
+use Rattle.s2file.specs.declared.session.ReadFault.TheVariants.{Form, Device, Memory}
 use Rattle.s2file.specs.File.{first_number, number_text}
-use Rattle.s2file.specs.Session.{Moved, list_text, move_text, moves_text, IsRegisterList, IsChangeList, IsMoved}
-use Rattle.s2file.specs.Session.{AreApart}
-use Rattle.s2file.specs.SessionParts.{Begins, BeginsNone, Refuses, IsNumber, AreCells, AreMoves, AreRegisters}
-use Rattle.s2file.specs.SessionParts.{registers_text, SpellsCells}
-use Rattle.s2file.proofs.Numbers.{first_number-number_text, length-number_text, first_number-append}
+use Rattle.s2file.specs.Session.{list_text, IsRegisterList}
+use Rattle.s2file.specs.SessionParts.{Begins, BeginsNone, Refuses, IsNumber, AreCells}
+use Rattle.s2file.specs.SessionParts.{identifiers_text, AreCounted, SpellsMore, SpellsWrong}
+use Rattle.s2file.proofs.Numbers.{length-number_text, first_number-append}
 use Rattle.s2file.proofs.Numbers.{length-number_texts}
-use Rattle.s2file.proofs.Fronts.{IsOneWay, one_number, one_cell, one_list, one_move, one_row, one_register, no_more}
-use Rattle.s2file.proofs.Fronts.{same_move, after_byte, register_cells, change_cells, list_count, move_front}
+use Rattle.s2file.proofs.Fronts.{one_number, one_list}
+use Rattle.s2file.proofs.Fronts.{register_cells, list_count}
 
-pub refuses : (fault : SessionFault) (P Q : Type 0) → (P → Q) → Refuses fault P → Refuses fault Q
+pub refuses : (fault : ReadFault) (P Q : Type 0) → (P → Q) → Refuses fault P → Refuses fault Q
 refuses Form P Q f h = f h
+refuses Device P Q f h = tt
 refuses Memory P Q f h = tt
-
-pub memory_refuses : (fault : SessionFault) (P : Type 0) → fault ≡ Memory → Refuses fault P
-memory_refuses Memory P h = tt
-memory_refuses Form P h = absurd (cc)
 
 -- a test that fails
 pub not_test : (b : Bool) (P : Type 0) → IsTrue b ↔ P → b ≡ false → P → ⊥
@@ -78,27 +70,6 @@ number_short bytes l n rest f =
 
 -- the cells of a list
 module _ (bytes after : List ℕ) (count : ℕ) (n : Begins number_text IsNumber bytes count after) where
-  pub list_begins : (numbers rest ids : List ℕ) → count ≤ SESSION_CELLS → 8 * count ≤ length after →
-      numbers ≡ take (8 * count) after → rest ≡ drop (8 * count) after
-      → SpellsCells numbers ids → Begins list_text AreCells bytes ids rest
-  list_begins numbers rest ids most enough f r s =
-      let whole : after ≡ flat_map number_text ids ++ rest =
-      sym (take-append-drop (8 * count) after) ∙ ap (λ (x : List ℕ). x ++ drop (8 * count) after) (sym f ∙ s.is)
-      ∙ ap (λ (x : List ℕ). flat_map number_text ids ++ x) (sym r) in
-      let len : length ids ≡ count = omega (
-        arith,
-        ap length f,
-        ap length s.is,
-        length-take (8 * count) after,
-        length-number_texts ids,
-      ) in
-      record {
-        is = n.is ∙ ap (λ (x : List ℕ). number_text count ++ x) whole
-            ∙ ap (λ (k : ℕ). number_text k ++ (flat_map number_text ids ++ rest)) (sym len)
-            ∙ sym (append_assoc (number_text (length ids)) (flat_map number_text ids) rest);
-        ok = record { valid = s.valid; few = omega (arith, len, most) };
-      }
-
   counted : (ids rest : List ℕ) → Begins list_text AreCells bytes ids rest → (count ≡ length ids)
       × (after ≡ flat_map number_text ids ++ rest)
   counted ids rest f = one_number bytes count (length ids) after (flat_map number_text ids ++ rest) n
@@ -107,19 +78,10 @@ module _ (bytes after : List ℕ) (count : ℕ) (n : Begins number_text IsNumber
   pub list_counts_many : SESSION_CELLS < count → BeginsNone list_text AreCells bytes
   list_counts_many many ids rest f = absurd (omega (arith, (counted ids rest f).0, f.ok.few))
 
-  pub list_ends : length after < 8 * count → BeginsNone list_text AreCells bytes
-  list_ends short ids rest f =
+  pub list_lacks : BeginsNone identifiers_text (AreCounted count) after → BeginsNone list_text AreCells bytes
+  list_lacks none ids rest f =
       let c = counted ids rest f in
-      absurd (omega (arith, c.0, ap length c.1, length-append (flat_map number_text ids) rest, length-number_texts ids))
-
-  pub list_wrong : (numbers : List ℕ) → numbers ≡ take (8 * count) after →
-      ((ids : List ℕ) → SpellsCells numbers ids → ⊥) → BeginsNone list_text AreCells bytes
-  list_wrong numbers f none ids rest g =
-      let c = counted ids rest g in
-      let e : take (8 * count) after ≡ flat_map number_text ids =
-      ap (take (8 * count)) c.1 ∙ take_at (flat_map number_text ids) rest (8 * count)
-      (omega (arith, c.0, length-number_texts ids)) in
-      none ids (record { is = f ∙ e; valid = g.ok.valid })
+      none ids rest (record { is = c.1; ok = record { len = sym c.0; valid = f.ok.valid } })
 
 pub list_uncounted : (bytes : List ℕ) → BeginsNone number_text IsNumber bytes → BeginsNone list_text AreCells bytes
 list_uncounted bytes none ids rest f = none (length ids) (flat_map number_text ids ++ rest)
@@ -173,43 +135,51 @@ chunk_bytes numbers cells rest chunk more s e b i =
         let z : length (x ∷ xs) + i ≡ suc (length xs + i) = omega arith in
         ap (λ (k : ℕ). get_or (x ∷ (xs ++ ys)) k 0) z ∙ get_or_append_right xs ys i
 
-pub spells_wrong : (numbers cells rest chunk more : List ℕ) (count : ℕ) → length numbers ≡ 8 * count →
-    SpellsSome numbers cells rest → rest ≡ chunk ++ more → length chunk ≡ 8
-    → (IsCell (first_number chunk) → ⊥) → (ids : List ℕ) → SpellsCells numbers ids → ⊥
-spells_wrong numbers cells rest chunk more count len s e l wrong ids t =
-    no_more number_text IsCell one_cell cells ids rest [] (recursion_from_All IsCell cells s.valid)
-    (recursion_from_All IsCell ids t.valid)
-    (omega (
-      arith,
-      ap length s.is,
-      ap length t.is,
-      ap length e,
-      length-append (flat_map number_text cells) rest,
-      length-append chunk more,
-      length-number_texts cells,
-      length-number_texts ids,
-    ))
-    (sym s.is ∙ t.is ∙ sym (append-nil (flat_map number_text ids)))
-    (λ n more' f. wrong (subst IsCell (sym (ap first_number (sym e) ∙ ap first_number f.is
-    ∙ first_number-number_text n more' (fits_u64 n f.ok)) ∙ first_number-append chunk more l) f.ok))
+-- the cells that were added so far
+pub record SpellsPart (numbers old new rest : List ℕ) : Type 0 where
+  pub good : List ℕ
+  pub added : new ≡ old ++ good
+  pub spells : SpellsSome numbers good rest
 
-pub spells_all : (numbers cells rest : List ℕ) (count : ℕ) → length numbers ≡ 8 * count →
-    SpellsSome numbers cells rest → length rest < 8 → SpellsCells numbers cells
-spells_all numbers cells [] count len s short =
-    record { is = s.is ∙ append-nil (flat_map number_text cells); valid = s.valid }
-spells_all numbers cells (x ∷ rest) count len s short =
+pub part_more : (numbers old new rest chunk more : List ℕ) (n : ℕ) → SpellsPart numbers old new rest →
+    rest ≡ chunk ++ more → length chunk ≡ 8
+    → ((i : ℕ) → get_or numbers i 0 < 256) → n ≡ first_number chunk → IsCell n →
+    SpellsPart numbers old (new ++ n ∷ []) more
+part_more numbers old new rest chunk more n s e l b is cell = record {
+  good = s.good ++ n ∷ [];
+  added = ap (λ (xs : List ℕ). xs ++ n ∷ []) s.added ∙ append_assoc old s.good (n ∷ []);
+  spells = spells_more numbers s.good rest chunk more n s.spells e l
+      (chunk_bytes numbers s.good rest chunk more s.spells e b) is cell;
+}
+
+pub part_wrong : (numbers old new rest chunk more : List ℕ) → SpellsPart numbers old new rest →
+    rest ≡ chunk ++ more → length chunk ≡ 8
+    → (IsCell (first_number chunk) → ⊥) → SpellsWrong numbers
+part_wrong numbers old new rest chunk more s e l wrong = record {
+  good = s.good;
+  rest = rest;
+  is = s.spells.is;
+  valid = s.spells.valid;
+  whole = omega (arith, ap length e, length-append chunk more, l);
+  wrong = λ cell. wrong (subst IsCell (ap first_number e ∙ first_number-append chunk more l) cell);
+}
+
+pub part_all : (numbers old new rest : List ℕ) (count : ℕ) → length numbers ≡ 8 * count →
+    SpellsPart numbers old new rest → length rest < 8 → SpellsMore numbers old new
+part_all numbers old new [] count len s short = record {
+  more = s.good;
+  added = s.added;
+  spells = record { is = s.spells.is ∙ append-nil (flat_map number_text s.good); valid = s.spells.valid };
+}
+part_all numbers old new (x ∷ rest) count len s short =
     absurd (omega (
       arith,
-      ap length s.is,
-      length-append (flat_map number_text cells) (x ∷ rest),
-      length-number_texts cells,
+      ap length s.spells.is,
+      length-append (flat_map number_text s.good) (x ∷ rest),
+      length-number_texts s.good,
     ))
 
 -- the list of a register
-pub register_begins : (bytes cells rest : List ℕ) → Begins list_text AreCells bytes cells rest → IsLocal cells →
-    Begins list_text IsRegisterList bytes cells rest
-register_begins bytes cells rest f local = record { is = f.is; ok = record { local = local; few = f.ok.few } }
-
 pub register_cells_at : (bytes : List ℕ) → BeginsNone list_text AreCells bytes →
     BeginsNone list_text IsRegisterList bytes
 register_cells_at bytes none cells rest f = none cells rest (record { is = f.is; ok = register_cells cells f.ok })

@@ -1,21 +1,17 @@
 -- Changes, rows of registers and of changes, and whole sessions while they are read.
-use Rattle.std.proofs.Common.{◌≡◌, ◌≢◌, ℕ, zero, suc, ◌+◌, ◌*◌, ◌<◌, ◌≤◌, List, [], ◌∷◌, ◌++◌}
-use Rattle.std.proofs.Common.{length, map, take, drop, get_or, All, flat_map, inl, inr, refl, sym, ap, ◌∙◌, subst}
+use Rattle.std.proofs.Common.{◌≡◌, ◌≢◌, ℕ, ◌+◌, ◌<◌, List, [], ◌∷◌, ◌++◌}
+use Rattle.std.proofs.Common.{length, flat_map, sym, ap, ◌∙◌, subst}
 use Rattle.std.proofs.Common.{append_assoc, arith}
-use Rattle.std.proofs.lemmas.List.{append-nil, map-append}
-use Rattle.std.proofs.lemmas.Grind.{flat_map-append}
 use Rattle.std.specs.List.{AllByRecursion}
-use Rattle.std.specs.List.Sorted.{IsStrictlyIncreasing}
 use Rattle.s2file.specs.File.{number_text}
-use Rattle.s2file.specs.Session.{Moved, Content, list_text, move_text, moves_text, parts_text, session_text}
-use Rattle.s2file.specs.Session.{IsRegisterList, IsChangeList, IsMoved, IsContent, AreApart, IsSessionFile}
+use Rattle.s2file.specs.Session.{Moved, Content, list_text, move_text, moves_text, parts_text}
+use Rattle.s2file.specs.Session.{IsRegisterList, IsMoved, IsContent, IsSessionFile}
 use Rattle.s2file.specs.SessionParts.{Begins, BeginsNone, IsNumber, AreCells, AreMoves, AreRegisters, IsRow}
 use Rattle.s2file.specs.SessionParts.{registers_text, row_text}
 use Rattle.s2file.specs.declared.TheConstants.{SESSION_REGISTERS, SESSION_CHANGES}
-use Rattle.s2file.proofs.Fronts.{IsOneWay, one_number, one_list, one_move, one_moves, one_registers, one_register}
+use Rattle.s2file.proofs.Fronts.{one_number, one_list, one_move, one_moves, one_registers, one_register}
 use Rattle.s2file.proofs.Fronts.{no_more, same_move, after_byte, change_cells, move_front, moves_count, Parts}
 use Rattle.s2file.proofs.Fronts.{parts_of, one_session}
-use Rattle.s2file.proofs.SessionReading.{row_more}
 
 -- a change
 module _ (bytes lists : List ℕ) (r : ℕ) (e : bytes ≡ r ∷ lists) where
@@ -49,45 +45,11 @@ module _ (bytes lists : List ℕ) (r : ℕ) (e : bytes ≡ r ∷ lists) where
           p.ok (change_cells m.out g.ok.out) (change_cells m.put g.ok.put) in
           wrong (subst IsMoved (sym same.0) g.ok)
 
-      pub move_begins : r < 26 → 0 < length out + length put → IsStrictlyIncreasing out →
-          IsStrictlyIncreasing put → AreApart out put
-          → Begins move_text IsMoved bytes (record { register = r; out = out; put = put }) rest
-      move_begins in_range some oa pa apart = record {
-        is = move_is;
-        ok = record {
-          register = in_range;
-          out = record { valid = o.ok.valid; ascending = oa; few = o.ok.few };
-          put = record { valid = p.ok.valid; ascending = pa; few = p.ok.few };
-          apart = apart;
-          some = some;
-        };
-      }
-
--- values one after another: these are the first, and the rest is still to be read
+-- values one after another: these are the first, and the rest is left
 pub record RowSoFar {A : Type 0} (text : A → List ℕ) (Ok : A → Type 0) (bytes : List ℕ) (xs : List A)
     (rest : List ℕ) : Type 0 where
   pub is : bytes ≡ flat_map text xs ++ rest
   pub each : AllByRecursion Ok xs
-
-all_push : {A : Type 0} (Ok : A → Type 0) (xs : List A) (x : A) → AllByRecursion Ok xs → Ok x →
-    AllByRecursion Ok (xs ++ x ∷ [])
-all_push Ok [] x a ok = (ok, tt)
-all_push Ok (y ∷ xs) x a ok = (a.0, all_push Ok xs x a.1 ok)
-
-pub row_push : {A : Type 0} (text : A → List ℕ) (Ok : A → Type 0) (bytes : List ℕ) (xs : List A) (x : A)
-    (mid rest : List ℕ)
-    → RowSoFar text Ok bytes xs mid → Begins text Ok mid x rest → RowSoFar text Ok bytes (xs ++ x ∷ []) rest
-row_push text Ok bytes xs x mid rest r b =
-    record { is = row_more text xs x bytes mid rest r.is b.is; each = all_push Ok xs x r.each b.ok }
-
--- the same of values under a view
-pub row_push_view : {T A : Type 0} (f : T → A) (text : A → List ℕ) (Ok : A → Type 0) (bytes : List ℕ) (ts : List T)
-    (t : T) (mid rest : List ℕ)
-    → RowSoFar text Ok bytes (map f ts) mid → Begins text Ok mid (f t) rest →
-    RowSoFar text Ok bytes (map f (ts ++ t ∷ [])) rest
-row_push_view {A = A} f text Ok bytes ts t mid rest r b =
-    subst (λ (xs : List A). RowSoFar text Ok bytes xs rest) (sym (map-append f ts (t ∷ [])))
-    (row_push text Ok bytes (map f ts) (f t) mid rest r b)
 
 pub registers_none : (bytes : List ℕ) (xs : List (List ℕ)) (mid : List ℕ) →
     RowSoFar list_text IsRegisterList bytes xs mid → length xs < SESSION_REGISTERS
@@ -117,16 +79,6 @@ module _ (bytes after : List ℕ) (count : ℕ) (n : Begins number_text IsNumber
   moves_none none ms rest f =
       let c = counted ms rest f in
       none ms rest (record { is = c.1; ok = record { len = sym c.0; each = f.ok.each } })
-
-  pub moves_begin : (ms : List Moved) (rest : List ℕ) → Begins row_text (IsRow count) after ms rest →
-      count ≤ SESSION_CHANGES
-      → Begins moves_text AreMoves bytes ms rest
-  moves_begin ms rest r few = record {
-    is = n.is ∙ ap (λ (l : List ℕ). number_text count ++ l) r.is
-        ∙ ap (λ (k : ℕ). number_text k ++ (flat_map move_text ms ++ rest)) (sym r.ok.len)
-        ∙ sym (append_assoc (number_text (length ms)) (flat_map move_text ms) rest);
-    ok = record { few = omega (arith, r.ok.len, few); each = r.ok.each };
-  }
 
 pub moves_uncounted : (bytes : List ℕ) → BeginsNone number_text IsNumber bytes → BeginsNone moves_text AreMoves bytes
 moves_uncounted bytes none ms rest f = none (length ms) (flat_map move_text ms ++ rest) (moves_count bytes ms rest f)
@@ -181,18 +133,3 @@ module _ (bytes parts : List ℕ) (e : bytes ≡ 0x73 ∷ 1 ∷ parts) where
         file_of_many many s f =
             let c = subst IsContent (sym (same_session s f).0) f.content in
             absurd (omega (arith, many, c.few))
-
-        pub file_read : rest ≡ [] → length past + length future ≤ SESSION_CHANGES →
-            IsSessionFile bytes (record { registers = registers; past = past; future = future })
-        file_read none few = record {
-          content = record {
-            count = r.ok.count;
-            registers = r.ok.each;
-            past = p.ok.each;
-            future = q.ok.each;
-            few = few;
-          };
-          text = e ∙ ap (λ (l : List ℕ). 0x73 ∷ 1 ∷ l) (r.is ∙ ap (λ (l : List ℕ). registers_text registers ++ l)
-              (p.is ∙ ap (λ (l : List ℕ). moves_text past ++ l)
-              (q.is ∙ ap (λ (l : List ℕ). moves_text future ++ l) none ∙ append-nil (moves_text future))));
-        }

@@ -1,20 +1,15 @@
 -- What a session file and a union file spell.
-use Rattle.std.proofs.Common.{◌≡◌, ◌≢◌, ℕ, zero, suc, ◌+◌, ◌-◌, ◌≤◌, Bool, List, [], ◌∷◌, ◌++◌}
+use Rattle.std.proofs.Common.{◌≡◌, ℕ, zero, suc, ◌≤◌, List, [], ◌∷◌, ◌++◌}
 use Rattle.std.proofs.Common.{length, replicate, slice_index, Result, Ok, Err, Vec, Global, inl, inr, refl, sym, ap}
 use Rattle.std.proofs.Common.{◌∙◌, subst, arith}
-use Rattle.std.specs.Prelude.{MatchResult, IfOk}
+use Rattle.std.specs.Prelude.{IfOk}
 use Rattle.std.specs.declared.alloc.AllocError.{AllocError}
 use Rattle.std.specs.List.{AllByRecursion}
 use Rattle.s2union.specs.Union.{has_leaf, IsLocal}
 use Rattle.s2union.proofs.Normal.{same_from_leaves}
 use Rattle.s2union.proofs.Shortest.{shortest}
-use Rattle.s2file.specs.File.{File}
-use Rattle.s2file.specs.Session.{Content, content_of, content_of_list, session_text, moves_text, IsRegisterList}
+use Rattle.s2file.specs.Session.{Content, content_of_list, session_text, moves_text, IsRegisterList}
 use Rattle.s2file.specs.Session.{IsContent, IsSessionFile, IsUnionFile, Spells}
-use Rattle.s2file.specs.SessionParts.{Refuses}
-use Rattle.s2file.specs.declared.session.Session.{Session}
-use Rattle.s2file.specs.declared.session.SessionFault.{SessionFault}
-use Rattle.s2file.specs.declared.session.SessionFault.TheVariants.{Form, Memory}
 use Rattle.s2file.proofs.Files.{same_leaves}
 use Rattle.s2file.proofs.Fronts.{parts_of, one_session}
 
@@ -36,7 +31,7 @@ union_same bytes s t f g =
     (same_leaves bytes (has_leaf f.cells) (has_leaf g.cells) f.file g.file) in
     f.content ∙ ap content_of_list cells ∙ sym g.content
 
-first_of_file : (bytes : List ℕ) (s : Content) → IsSessionFile bytes s → slice_index bytes 0 ≡ 0x73
+pub first_of_file : (bytes : List ℕ) (s : Content) → IsSessionFile bytes s → slice_index bytes 0 ≡ 0x73
 first_of_file bytes s f = ap (λ (l : List ℕ). slice_index l 0) f.text
 
 apart : (bytes : List ℕ) (s t : Content) → IsSessionFile bytes s → IsUnionFile bytes t → ⊥
@@ -47,39 +42,6 @@ one_spelled bytes s t (inl f) (inl g) = file_same bytes s t f g
 one_spelled bytes s t (inl f) (inr g) = absurd (apart bytes s t f g)
 one_spelled bytes s t (inr f) (inl g) = absurd (apart bytes t s g f)
 one_spelled bytes s t (inr f) (inr g) = union_same bytes s t f g
-
--- answers that are right for the bytes, which begin with 1 or don't
-pub exact_union : (bytes : List ℕ) (r : Result Session SessionFault) → slice_index bytes 0 ≡ 1
-    → MatchResult r (λ u. IsUnionFile bytes (content_of u))
-    (λ fault. Refuses fault ((s : Content) → IsUnionFile bytes s → ⊥))
-    → (s : Content) → Spells bytes s → MatchResult r (λ u. content_of u ≡ s) (λ fault. fault ≡ Memory)
-exact_union bytes (Ok u) one h s sp = one_spelled bytes (content_of u) s (inr h) sp
-exact_union bytes (Err Memory) one h s sp = refl
-exact_union bytes (Err Form) one h s (inl f) = absurd (omega (arith, one, first_of_file bytes s f))
-exact_union bytes (Err Form) one h s (inr g) = absurd (h s g)
-
-pub exact_file : (bytes : List ℕ) (r : Result Session SessionFault) → slice_index bytes 0 ≢ 1
-    → MatchResult r (λ u. IsSessionFile bytes (content_of u))
-    (λ fault. Refuses fault ((s : Content) → IsSessionFile bytes s → ⊥))
-    → (s : Content) → Spells bytes s → MatchResult r (λ u. content_of u ≡ s) (λ fault. fault ≡ Memory)
-exact_file bytes (Ok u) one h s sp = one_spelled bytes (content_of u) s (inl h) sp
-exact_file bytes (Err Memory) one h s sp = refl
-exact_file bytes (Err Form) one h s (inl f) = absurd (h s f)
-exact_file bytes (Err Form) one h s (inr g) = absurd (one g.file.is.version)
-
-pub found_union : (bytes : List ℕ) (r : Result Session SessionFault)
-    → MatchResult r (λ u. IsUnionFile bytes (content_of u))
-    (λ fault. Refuses fault ((s : Content) → IsUnionFile bytes s → ⊥)) →
-    IfOk r (λ u. Spells bytes (content_of u))
-found_union bytes (Ok u) h = inr h
-found_union bytes (Err fault) h = tt
-
-pub found_file : (bytes : List ℕ) (r : Result Session SessionFault)
-    → MatchResult r (λ u. IsSessionFile bytes (content_of u))
-    (λ fault. Refuses fault ((s : Content) → IsSessionFile bytes s → ⊥)) →
-    IfOk r (λ u. Spells bytes (content_of u))
-found_file bytes (Ok u) h = inl h
-found_file bytes (Err fault) h = tt
 
 -- a text spells the session that it is of
 pub text_spells : (r : Result (Vec ℕ Global) AllocError) (s : Content) →
@@ -112,12 +74,3 @@ union_content bytes s f =
       future = tt;
       few = omega arith;
     })
-
-pub spelled_content : (bytes : List ℕ) (s : Content) → Spells bytes s → IsContent s
-spelled_content bytes s (inl f) = f.content
-spelled_content bytes s (inr f) = union_content bytes s f
-
-pub ok_content : (bytes : List ℕ) (r : Result Session SessionFault) → IfOk r (λ u. Spells bytes (content_of u)) →
-    IfOk r (λ u. IsContent (content_of u))
-ok_content bytes (Ok u) h = spelled_content bytes (content_of u) h
-ok_content bytes (Err fault) h = tt

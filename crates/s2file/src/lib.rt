@@ -6,8 +6,8 @@
 //! first.
 //!
 //! A session file holds the lists of 26 registers and both sides of their history as changes. Bytes spell at most one
-//! session. `encode_session` writes a session file; `decode_session` reads one, and reads a union file as a session
-//! with one register.
+//! session. `encode_session` writes a session file; `read_session` reads one from any reader, a piece at a time, and
+//! reads a union file as a session with one register. `decode_session` does the same with bytes in memory.
 #![tactic(auto)]
 
 pub mod fault;
@@ -15,11 +15,12 @@ pub mod laws;
 mod parts;
 pub mod session;
 pub mod session_file;
+mod source;
 pub mod union_file;
 
 pub use crate::fault::FileFault;
-pub use crate::session::{Move, Session, SessionFault};
-pub use crate::session_file::{decode_session, encode_parts, encode_session};
+pub use crate::session::{Move, ReadFault, Session, SessionFault};
+pub use crate::session_file::{decode_session, encode_parts, encode_session, read_session};
 pub use crate::union_file::{HEAD_SIZE, MOST_CELLS, MOST_SIZE, VERSION, decode, encode};
 
 /// How many registers a session file has.

@@ -1,114 +1,185 @@
-//! The parts of a session file, each read from the front of the bytes that are left.
-ghost use Rattle.std.specs.Prelude.{◌≡◌, ◌*◌, ◌+◌, ◌<◌, ◌≤◌, ◌^◌, ℕ, List, length, map, All, flat_map};
-ghost use Rattle.std.specs.Prelude.{MatchResult, MatchBool};
+//! The parts of a session file, each taken from the front of the bytes that are left.
+ghost use Rattle.std.specs.Prelude.{◌≡◌, ◌*◌, ◌+◌, ◌<◌, ◌≤◌, ◌^◌, ℕ, List, length, map, All, flat_map, drop};
+ghost use Rattle.std.specs.Prelude.{MatchResult, MatchBool, OnOk, vec_len};
+ghost use Rattle.std.specs.Vec.{vec_capacity};
 ghost use Rattle.std.specs.List.Sorted.{IsStrictlyIncreasing};
 ghost use Rattle.s2cell.specs.Cell.{IsCell};
 ghost use Rattle.s2union.specs.Union.{Union};
 ghost use Rattle.s2file.specs.File.{number_text};
 ghost use Rattle.s2file.specs.Session.{list_text, move_text, moves_text, moved_of, AreApart, IsMoved, IsRegisterList};
-ghost use Rattle.s2file.specs.SessionParts.{Begins, BeginsNone, Refuses, AreCells, AreMoves, AreRegisters, IsRow};
-ghost use Rattle.s2file.specs.SessionParts.{registers_text, row_text, IsNumber, SpellsCells};
+ghost use Rattle.s2file.specs.SessionParts.{Begins, Reads, Refuses, AreCells, AreCounted, AreMoves, AreRegisters};
+ghost use Rattle.s2file.specs.SessionParts.{IsRow};
+ghost use Rattle.s2file.specs.SessionParts.{registers_text, row_text, byte_text, identifiers_text, IsByte, IsNumber};
+ghost use Rattle.s2file.specs.SessionParts.{SpellsMore, SpellsWrong};
+ghost use Rattle.s2file.specs.Source.{ahead};
 
-use crate::session::{Move, SessionFault};
+use crate::session::{Move, ReadFault};
+use crate::source::Buffer;
 use crate::union_file::{NUMBER_SIZE, number};
 use crate::{SESSION_CELLS, SESSION_CHANGES, SESSION_REGISTERS};
 use s2cell::CellId;
 use s2union::{CellUnion, is_normalized};
-use std::alloc::Global;
+use std::alloc::{AllocError, Global};
 use std::cmp::Ordering;
+use std::io::Read;
 
-/// The number at the front, and the bytes after it.
-fn number_at(bytes: &[u8]) -> Result<(u64, &[u8]), SessionFault>
-    ensures { MatchResult result (λ x. Begins number_text IsNumber bytes.now x.0 x.1.now)
-        (λ fault. Refuses fault (BeginsNone number_text IsNumber bytes.now)) }
+/// The next byte.
+pub(crate) fn byte_at<R: Read>(buffer: &mut Buffer, reader: &mut R) -> Result<u8, ReadFault>
+    ensures { Reads byte_text IsByte (λ byte. byte) (ahead buffer.old (R.remaining reader.old))
+        (ahead buffer.new (R.remaining reader.new)) result }
 {
-    if bytes.len() < NUMBER_SIZE {
-        return Err(SessionFault::Form);
+    if !buffer.has(reader, 1)? {
+        return Err(ReadFault::Form);
     }
-    let (front, rest) = bytes.split_at(NUMBER_SIZE);
-    Ok((number(front), rest))
+    let byte = buffer.as_slice()[0];
+    buffer.consume(1);
+    Ok(byte)
 }
 
-/// The cells of a list at the front, in any order, and the bytes after it. Asks for memory only when the bytes that are
-/// left are known to have that many identifiers.
-fn cells_at(alloc: Global, bytes: &[u8]) -> Result<(Vec<CellId>, &[u8]), SessionFault>
-    ensures { MatchResult result (λ x. Begins list_text AreCells bytes.now x.0.items x.1.now)
-        (λ fault. Refuses fault (BeginsNone list_text AreCells bytes.now)) }
+/// The next number.
+fn number_at<R: Read>(buffer: &mut Buffer, reader: &mut R) -> Result<u64, ReadFault>
+    ensures { Reads number_text IsNumber (λ number. number) (ahead buffer.old (R.remaining reader.old))
+        (ahead buffer.new (R.remaining reader.new)) result }
 {
-    let (count, rest) = number_at(bytes)?;
+    if !buffer.has(reader, NUMBER_SIZE)? {
+        return Err(ReadFault::Form);
+    }
+    let value = number_spelled(buffer.as_slice());
+    buffer.consume(NUMBER_SIZE);
+    Ok(value)
+}
+
+/// The number in the first eight bytes, which are its text.
+fn number_spelled(bytes: &[u8]) -> u64
+    requires { 8 ≤ length bytes.now }
+    ensures { Begins number_text IsNumber bytes.now result (drop 8 bytes.now) }
+{
+    number(bytes)
+}
+
+/// The cells of the next list, in any order.
+fn cells_at<R: Read>(
+    alloc: Global,
+    buffer: &mut Buffer,
+    reader: &mut R,
+) -> Result<Vec<CellId>, ReadFault>
+    ensures { Reads list_text AreCells (λ cells. cells.items)
+        (ahead buffer.old (R.remaining reader.old)) (ahead buffer.new (R.remaining reader.new)) result }
+{
+    let count = number_at(buffer, reader)?;
     if count > SESSION_CELLS as u64 {
-        return Err(SessionFault::Form);
+        return Err(ReadFault::Form);
     }
-    let size = NUMBER_SIZE * count as usize;
-    if rest.len() < size {
-        return Err(SessionFault::Form);
-    }
-    let (numbers, rest) = rest.split_at(size);
-    let cells = cells_spelled(alloc, numbers, count as usize)?;
-    Ok((cells, rest))
+    let cells = cells_counted(alloc, count as usize, buffer, reader)?;
+    Ok(cells)
 }
 
-/// The cells whose identifiers are the bytes, one after another.
-fn cells_spelled(alloc: Global, numbers: &[u8], count: usize) -> Result<Vec<CellId>, SessionFault>
-    requires { length numbers.now ≡ 8 * count }
-    ensures { MatchResult result (λ cells. SpellsCells numbers.now cells.items)
-        (λ fault. Refuses fault ((ids : List ℕ) → SpellsCells numbers.now ids → ⊥)) }
+/// The next cells, as many as were counted. Asks for memory only for identifiers that were read.
+fn cells_counted<R: Read>(
+    alloc: Global,
+    count: usize,
+    buffer: &mut Buffer,
+    reader: &mut R,
+) -> Result<Vec<CellId>, ReadFault>
+    ensures { Reads identifiers_text (AreCounted count) (λ cells. cells.items)
+        (ahead buffer.old (R.remaining reader.old)) (ahead buffer.new (R.remaining reader.new)) result }
 {
-    let mut cells = Vec::with_capacity(alloc, count)?;
-    for chunk in numbers.chunks_exact(NUMBER_SIZE) {
-        match CellId::from_id(number(chunk)) {
-            Some(cell) => cells.push_reserved(cell),
-            None => return Err(SessionFault::Form),
+    let mut cells = Vec::new(alloc);
+    'pieces: while cells.len() < count {
+        if !buffer.has(reader, NUMBER_SIZE)? {
+            return Err(ReadFault::Form);
         }
+        let bytes = buffer.as_slice();
+        let left = count - cells.len();
+        let here = (bytes.len() / NUMBER_SIZE).min(left);
+        let size = NUMBER_SIZE * here;
+        push_cells(&mut cells, &bytes[..size], here, left)?;
+        buffer.consume(size);
     }
     Ok(cells)
 }
 
-/// The union of a register at the front, and the bytes after it.
-fn register_at(alloc: Global, bytes: &[u8]) -> Result<(CellUnion, &[u8]), SessionFault>
-    ensures { MatchResult result (λ x. Begins list_text IsRegisterList bytes.now x.0.cells x.1.now)
-        (λ fault. Refuses fault (BeginsNone list_text IsRegisterList bytes.now)) }
+/// Adds the cells whose identifiers are the bytes, one after another. `left` cells of the list are still to come, with
+/// these.
+fn push_cells(
+    cells: &mut Vec<CellId>,
+    numbers: &[u8],
+    count: usize,
+    left: usize,
+) -> Result<(), ReadFault>
+    requires whole { length numbers.now ≡ 8 * count }
+    requires more { count ≤ left }
+    ensures { MatchResult result (λ _. SpellsMore numbers.now cells.old.items cells.new.items)
+        (λ fault. Refuses fault (SpellsWrong numbers.now)) }
 {
-    let (cells, rest) = cells_at(alloc, bytes)?;
-    if !is_normalized(&cells) {
-        return Err(SessionFault::Form);
+    make_room(cells, count, left)?;
+    for chunk in numbers.chunks_exact(NUMBER_SIZE) {
+        match CellId::from_id(number(chunk)) {
+            Some(cell) => cells.push_reserved(cell),
+            None => return Err(ReadFault::Form),
+        }
     }
-    Ok((CellUnion::from_normalized(cells), rest))
+    Ok(())
 }
 
-/// The unions of all registers at the front, and the bytes after them.
-pub(crate) fn registers_at(
+/// Makes room for `count` more cells of the `left` that are still to come. If room is missing, makes the list twice as
+/// long, but never longer than it is to be in the end.
+fn make_room(cells: &mut Vec<CellId>, count: usize, left: usize) -> Result<(), AllocError>
+    requires { count ≤ left }
+    ensures items { cells.new.items ≡ cells.old.items }
+    ensures len { vec_len cells.new ≡ vec_len cells.old }
+    ensures ok { OnOk result (vec_len cells.new + count ≤ vec_capacity cells.new) }
+{
+    if cells.capacity() - cells.len() < count {
+        cells.reserve_exact(cells.len().max(count).min(left))?;
+    }
+    Ok(())
+}
+
+/// The union of the next register.
+fn register_at<R: Read>(
     alloc: Global,
-    bytes: &[u8],
-) -> Result<(Vec<CellUnion>, &[u8]), SessionFault>
-    ensures { MatchResult result (λ x. Begins registers_text AreRegisters bytes.now
-        (map (λ (u : Union). u.cells) x.0.items) x.1.now)
-        (λ fault. Refuses fault (BeginsNone registers_text AreRegisters bytes.now)) }
+    buffer: &mut Buffer,
+    reader: &mut R,
+) -> Result<CellUnion, ReadFault>
+    ensures { Reads list_text IsRegisterList (λ union. union.cells) (ahead buffer.old (R.remaining reader.old))
+        (ahead buffer.new (R.remaining reader.new)) result }
+{
+    let cells = cells_at(alloc, buffer, reader)?;
+    if !is_normalized(&cells) {
+        return Err(ReadFault::Form);
+    }
+    Ok(CellUnion::from_normalized(cells))
+}
+
+/// The unions of all registers.
+pub(crate) fn registers_at<R: Read>(
+    alloc: Global,
+    buffer: &mut Buffer,
+    reader: &mut R,
+) -> Result<Vec<CellUnion>, ReadFault>
+    ensures { Reads registers_text AreRegisters (λ unions. map (λ (u : Union). u.cells) unions.items)
+        (ahead buffer.old (R.remaining reader.old)) (ahead buffer.new (R.remaining reader.new)) result }
 {
     let mut registers = Vec::new(alloc);
-    let mut rest = bytes;
     for _i in 0..SESSION_REGISTERS {
-        let (union, after) = register_at(alloc, rest)?;
-        registers.push(union)?;
-        rest = after;
+        registers.push(register_at(alloc, buffer, reader)?)?;
     }
-    Ok((registers, rest))
+    Ok(registers)
 }
 
-/// The change at the front, and the bytes after it.
-fn move_at(alloc: Global, bytes: &[u8]) -> Result<(Move, &[u8]), SessionFault>
-    ensures { MatchResult result (λ x. Begins move_text IsMoved bytes.now (moved_of x.0) x.1.now)
-        (λ fault. Refuses fault (BeginsNone move_text IsMoved bytes.now)) }
+/// The next change.
+fn move_at<R: Read>(alloc: Global, buffer: &mut Buffer, reader: &mut R) -> Result<Move, ReadFault>
+    ensures { Reads move_text IsMoved moved_of (ahead buffer.old (R.remaining reader.old))
+        (ahead buffer.new (R.remaining reader.new)) result }
 {
-    let Some((&register, lists)) = bytes.split_first() else {
-        return Err(SessionFault::Form);
-    };
-    let (out, after) = cells_at(alloc, lists)?;
-    let (put, rest) = cells_at(alloc, after)?;
+    let register = byte_at(buffer, reader)?;
+    let out = cells_at(alloc, buffer, reader)?;
+    let put = cells_at(alloc, buffer, reader)?;
     if !is_change(register, &out, &put) {
-        return Err(SessionFault::Form);
+        return Err(ReadFault::Form);
     }
-    Ok((Move { register, out, put }, rest))
+    Ok(Move { register, out, put })
 }
 
 /// Whether a register and two lists of cells are a change: the register exists, and the lists ascend, share no cell and
@@ -134,32 +205,38 @@ fn is_change(register: u8, out: &[CellId], put: &[CellId]) -> bool
     are_apart(out, put)
 }
 
-/// The changes at the front, after their count, and the bytes after them.
-pub(crate) fn moves_at(alloc: Global, bytes: &[u8]) -> Result<(Vec<Move>, &[u8]), SessionFault>
-    ensures { MatchResult result (λ x. Begins moves_text AreMoves bytes.now (map moved_of x.0.items) x.1.now)
-        (λ fault. Refuses fault (BeginsNone moves_text AreMoves bytes.now)) }
+/// The next changes, after their count.
+pub(crate) fn moves_at<R: Read>(
+    alloc: Global,
+    buffer: &mut Buffer,
+    reader: &mut R,
+) -> Result<Vec<Move>, ReadFault>
+    ensures { Reads moves_text AreMoves (λ moves. map moved_of moves.items)
+        (ahead buffer.old (R.remaining reader.old)) (ahead buffer.new (R.remaining reader.new)) result }
 {
-    let (count, after) = number_at(bytes)?;
+    let count = number_at(buffer, reader)?;
     if count > SESSION_CHANGES as u64 {
-        return Err(SessionFault::Form);
+        return Err(ReadFault::Form);
     }
-    let (moves, rest) = row_at(alloc, after, count as usize)?;
-    Ok((moves, rest))
+    let moves = row_at(alloc, count as usize, buffer, reader)?;
+    Ok(moves)
 }
 
-/// The changes at the front, as many as were counted, and the bytes after them.
-fn row_at(alloc: Global, bytes: &[u8], count: usize) -> Result<(Vec<Move>, &[u8]), SessionFault>
-    ensures { MatchResult result (λ x. Begins row_text (IsRow count) bytes.now (map moved_of x.0.items) x.1.now)
-        (λ fault. Refuses fault (BeginsNone row_text (IsRow count) bytes.now)) }
+/// The next changes, as many as were counted.
+fn row_at<R: Read>(
+    alloc: Global,
+    count: usize,
+    buffer: &mut Buffer,
+    reader: &mut R,
+) -> Result<Vec<Move>, ReadFault>
+    ensures { Reads row_text (IsRow count) (λ moves. map moved_of moves.items)
+        (ahead buffer.old (R.remaining reader.old)) (ahead buffer.new (R.remaining reader.new)) result }
 {
     let mut moves = Vec::new(alloc);
-    let mut rest = bytes;
     for _i in 0..count {
-        let (change, after) = move_at(alloc, rest)?;
-        moves.push(change)?;
-        rest = after;
+        moves.push(move_at(alloc, buffer, reader)?)?;
     }
-    Ok((moves, rest))
+    Ok(moves)
 }
 
 /// Whether each cell is above the one before it.

@@ -1,5 +1,6 @@
 //! What a session file holds, as values.
 ghost use Rattle.std.specs.Prelude.{◌≡◌};
+ghost use Rattle.s2file.specs.declared.session.ReadFault.{ReadFault};
 ghost use Rattle.s2file.specs.declared.session.SessionFault.TheVariants.{Memory};
 
 use s2cell::CellId;
@@ -28,6 +29,35 @@ pub struct Session {
     pub past: Vec<Move>,
     /// The changes that were undone and may be redone, the nearest to now first.
     pub future: Vec<Move>,
+}
+
+/// Why no session was read.
+#[derive(Clone, Copy, Debug, PartialEq, Eq, Error)]
+pub enum ReadFault {
+    /// What was read is neither a session file nor a union file.
+    #[error("the bytes are no session file")]
+    Form,
+    /// A read failed.
+    #[error("a read failed")]
+    Device,
+    #[error("out of memory")]
+    Memory,
+}
+
+impl From<AllocError> for ReadFault {
+    ghost from_gives = { λ _ fault. fault ≡ ReadFault.Memory };
+
+    fn from(_error: AllocError) -> ReadFault {
+        ReadFault::Memory
+    }
+}
+
+impl<T: Drop> From<AllocFailed<T>> for ReadFault {
+    ghost from_gives = { λ _ fault. fault ≡ ReadFault.Memory };
+
+    fn from(_error: AllocFailed<T>) -> ReadFault {
+        ReadFault::Memory
+    }
 }
 
 /// Why bytes were not read as a session.

@@ -1,20 +1,25 @@
 //! The session file: registers and both sides of their history as bytes.
-ghost use Rattle.std.specs.Prelude.{◌≡◌, ◌≢◌, ℕ, List, [], ◌∷◌, ◌++◌, map, replicate, slice_index, MatchBool};
-ghost use Rattle.std.specs.Prelude.{MatchOption, MatchResult, IfOk, OnOk};
+ghost use Rattle.std.specs.Prelude.{◌≡◌, ◌≢◌, ℕ, List, [], ◌∷◌, ◌++◌, map, replicate};
+ghost use Rattle.std.specs.Prelude.{MatchResult, IfOk, IfSome, OnOk};
+ghost use Rattle.std.specs.Io.KnownBytes.{Consumes};
 ghost use Rattle.s2union.specs.Union.{Union};
 ghost use Rattle.s2file.specs.Session.{Content, content_of, content_of_parts, content_of_list, list_text, move_text};
 ghost use Rattle.s2file.specs.Session.{moves_text, moved_of, session_text, IsContent, IsSessionFile, IsUnionFile};
 ghost use Rattle.s2file.specs.Session.{Spells};
 ghost use Rattle.s2file.specs.SessionParts.{Refuses, registers_text};
+ghost use Rattle.s2file.specs.Source.{ahead};
+ghost use Rattle.s2file.specs.Reading.{Finds, RefusesToRead};
 
 use crate::fault::FileFault;
-use crate::parts::{moves_at, registers_at};
-use crate::session::{Move, Session, SessionFault};
-use crate::union_file::{NUMBER_SIZE, VERSION, decode, put_number};
+use crate::parts::{byte_at, moves_at, registers_at};
+use crate::session::{Move, ReadFault, Session, SessionFault};
+use crate::source::{Buffer, fault_of_read};
+use crate::union_file::{MOST_SIZE, NUMBER_SIZE, VERSION, decode, put_number};
 use crate::{SESSION_CHANGES, SESSION_REGISTERS};
 use s2cell::CellId;
 use s2union::CellUnion;
 use std::alloc::{AllocError, Global};
+use std::io::Read;
 
 /// The bytes that a session file begins with.
 const FIRST: u8 = 0x73;
@@ -32,33 +37,64 @@ const SECOND: u8 = 1;
 /// changes. Whether the changes can be made one after another is not checked. If the first byte is 1, the bytes are a
 /// union file.
 ///
-/// Answers `Form` for all other bytes. One pass over the bytes. Never asks for more memory than the bytes after a count
-/// can fill.
+/// Answers `Form` for all other bytes. One pass over the bytes, as `read_session` makes it.
 pub fn decode_session(alloc: Global, bytes: &[u8]) -> Result<Session, SessionFault>
     ensures found { IfOk result (λ session. Spells bytes.now (content_of session)) }
     ensures content { IfOk result (λ session. IsContent (content_of session)) }
     ensures only { (s : Content) → Spells bytes.now s →
         MatchResult result (λ session. content_of session ≡ s) (λ fault. fault ≡ SessionFault.Memory) }
 {
-    if has_version(bytes) {
-        session_of_union(alloc, bytes)
-    } else {
-        session_of_parts(alloc, bytes)
+    let mut rest = bytes;
+    match read_session(alloc, &mut rest) {
+        Ok(session) => Ok(session),
+        Err(ReadFault::Form) => Err(SessionFault::Form),
+        // To read bytes in memory never fails.
+        Err(ReadFault::Device | ReadFault::Memory) => Err(SessionFault::Memory),
     }
 }
 
-/// Whether the first byte is that of a union file.
-fn has_version(bytes: &[u8]) -> bool
-    ensures { MatchBool result (slice_index bytes.now 0 ≡ 1) (slice_index bytes.now 0 ≢ 1) }
+/// Reads a session: a session file or a union file, as `decode_session` describes them.
+///
+/// Answers `Form` if what was read is neither, `Memory` if an allocation failed or a read found no memory, and `Device`
+/// if a read failed otherwise. A read that was interrupted is tried again. Reads pieces of 64 KiB: a session file to its
+/// end and one piece more at most, and of a union file at most one byte more than the longest has (`MOST_SIZE`). Never
+/// asks for more memory than a piece and about twice what the bytes that were read can fill.
+pub fn read_session<R: Read>(alloc: Global, reader: &mut R) -> Result<Session, ReadFault>
+    ensures content { IfOk result (λ session. IsContent (content_of session)) }
+    ensures answer { MatchResult result
+        (λ session. IfSome (R.remaining reader.old) (λ bytes. Spells bytes (content_of session)))
+        (λ fault. RefusesToRead fault (R.remaining reader.old)) }
 {
-    match bytes.first() {
-        Some(&version) => version == VERSION,
-        None => false,
+    let mut buffer = Buffer::new(alloc)?;
+    if !buffer.has(reader, 1)? {
+        return Err(ReadFault::Form);
+    }
+    if buffer.as_slice()[0] == VERSION {
+        session_of_union(alloc, &buffer, reader)
+    } else {
+        session_of_parts(alloc, &mut buffer, reader)
     }
 }
 
-/// The session of a union file.
-fn session_of_union(alloc: Global, bytes: &[u8]) -> Result<Session, SessionFault>
+/// The session of a union file. One byte more than the longest file has tells that the bytes are none.
+fn session_of_union<R: Read>(
+    alloc: Global,
+    buffer: &Buffer,
+    reader: &mut R,
+) -> Result<Session, ReadFault>
+    ensures { Finds IsUnionFile (ahead buffer.now (R.remaining reader.old)) result }
+{
+    let mut bytes = Vec::new(alloc);
+    bytes.extend_from_slice(buffer.as_slice())?;
+    let most = MOST_SIZE + 1 - bytes.len();
+    match Read::take(&mut *reader, most as u64).read_to_end(&mut bytes) {
+        Ok(_) => session_of_bytes(alloc, &bytes),
+        Err(error) => Err(fault_of_read(&error)),
+    }
+}
+
+/// The session of a union file that is wholly in memory.
+fn session_of_bytes(alloc: Global, bytes: &[u8]) -> Result<Session, ReadFault>
     ensures { MatchResult result (λ session. IsUnionFile bytes.now (content_of session))
         (λ fault. Refuses fault ((s : Content) → IsUnionFile bytes.now s → ⊥)) }
 {
@@ -69,19 +105,19 @@ fn session_of_union(alloc: Global, bytes: &[u8]) -> Result<Session, SessionFault
 }
 
 /// The fault of a session when its union file is refused.
-fn fault_of(fault: FileFault) -> SessionFault
+fn fault_of(fault: FileFault) -> ReadFault
     ensures { Refuses result (fault ≢ FileFault.Memory) }
 {
     match fault {
-        FileFault::Memory => SessionFault::Memory,
-        _ => SessionFault::Form,
+        FileFault::Memory => ReadFault::Memory,
+        _ => ReadFault::Form,
     }
 }
 
 /// The session whose register a has the union, and nothing else.
-fn session_with(alloc: Global, union: CellUnion) -> Result<Session, SessionFault>
+fn session_with(alloc: Global, union: CellUnion) -> Result<Session, ReadFault>
     ensures { MatchResult result (λ session. content_of session ≡ content_of_list union.cells)
-        (λ fault. fault ≡ SessionFault.Memory) }
+        (λ fault. fault ≡ ReadFault.Memory) }
 {
     let mut registers = Vec::new(alloc);
     registers.push(union)?;
@@ -94,14 +130,10 @@ fn session_with(alloc: Global, union: CellUnion) -> Result<Session, SessionFault
 }
 
 /// Adds empty unions.
-fn add_empty(
-    alloc: Global,
-    registers: &mut Vec<CellUnion>,
-    count: usize,
-) -> Result<(), SessionFault>
+fn add_empty(alloc: Global, registers: &mut Vec<CellUnion>, count: usize) -> Result<(), ReadFault>
     ensures { MatchResult result (λ _. map (λ (u : Union). u.cells) registers.new.items
         ≡ map (λ (u : Union). u.cells) registers.old.items ++ replicate count [])
-        (λ fault. fault ≡ SessionFault.Memory) }
+        (λ fault. fault ≡ ReadFault.Memory) }
 {
     for _i in 0..count {
         registers.push(CellUnion::empty(alloc))?;
@@ -110,21 +142,22 @@ fn add_empty(
 }
 
 /// The session of a session file.
-fn session_of_parts(alloc: Global, bytes: &[u8]) -> Result<Session, SessionFault>
-    ensures { MatchResult result (λ session. IsSessionFile bytes.now (content_of session))
-        (λ fault. Refuses fault ((s : Content) → IsSessionFile bytes.now s → ⊥)) }
+fn session_of_parts<R: Read>(
+    alloc: Global,
+    buffer: &mut Buffer,
+    reader: &mut R,
+) -> Result<Session, ReadFault>
+    ensures { Finds IsSessionFile (ahead buffer.old (R.remaining reader.old)) result }
 {
-    let Some(parts) = after_head(bytes) else {
-        return Err(SessionFault::Form);
-    };
-    let (registers, after) = registers_at(alloc, parts)?;
-    let (past, last) = moves_at(alloc, after)?;
-    let (future, rest) = moves_at(alloc, last)?;
-    if !rest.is_empty() {
-        return Err(SessionFault::Form);
+    take_head(buffer, reader)?;
+    let registers = registers_at(alloc, buffer, reader)?;
+    let past = moves_at(alloc, buffer, reader)?;
+    let future = moves_at(alloc, buffer, reader)?;
+    if buffer.has(reader, 1)? {
+        return Err(ReadFault::Form);
     }
     if past.len() + future.len() > SESSION_CHANGES {
-        return Err(SessionFault::Form);
+        return Err(ReadFault::Form);
     }
     Ok(Session {
         registers,
@@ -133,20 +166,20 @@ fn session_of_parts(alloc: Global, bytes: &[u8]) -> Result<Session, SessionFault
     })
 }
 
-/// The bytes after the two that a session file begins with.
-fn after_head(bytes: &[u8]) -> Option<&[u8]>
-    ensures { MatchOption result ((rest : List ℕ) → bytes.now ≡ 0x73 ∷ 1 ∷ rest → ⊥)
-        (λ rest. bytes.now ≡ 0x73 ∷ 1 ∷ rest.now) }
+/// Takes the two bytes that a session file begins with.
+fn take_head<R: Read>(buffer: &mut Buffer, reader: &mut R) -> Result<(), ReadFault>
+    ensures { MatchResult result (λ _. Consumes (ahead buffer.old (R.remaining reader.old))
+        (ahead buffer.new (R.remaining reader.new)) (0x73 ∷ 1 ∷ []))
+        (λ fault. Refuses fault (IfSome (ahead buffer.old (R.remaining reader.old))
+        (λ bytes. (rest : List ℕ) → bytes ≡ 0x73 ∷ 1 ∷ rest → ⊥))) }
 {
-    let (&first, after) = bytes.split_first()?;
-    let (&second, parts) = after.split_first()?;
-    if first != FIRST {
-        return None;
+    if byte_at(buffer, reader)? != FIRST {
+        return Err(ReadFault::Form);
     }
-    if second != SECOND {
-        return None;
+    if byte_at(buffer, reader)? != SECOND {
+        return Err(ReadFault::Form);
     }
-    Some(parts)
+    Ok(())
 }
 
 /// The session file of a session. `decode_session` reads it back, if the session is one that a file may hold.

@@ -1,6 +1,6 @@
 -- What is known of named files, and what a call on them may do.
-use Rattle.std.specs.Prelude.{◌≡◌, ◌≢◌, ℕ, ◌+◌, ◌%◌, ◌^◌, Bool, true, List, ◌∷◌, take, Option, Some}
-use Rattle.std.specs.Prelude.{option_map}
+use Rattle.std.specs.Prelude.{◌≡◌, ◌≢◌, ℕ, ◌+◌, ◌%◌, ◌^◌, Bool, true, List, ◌∷◌, take, Option, None, Some}
+use Rattle.std.specs.Prelude.{option_map, IfSome}
 use Rattle.s2shelf.specs.declared.shelf.ShelfFault.{ShelfFault}
 use Rattle.s2shelf.specs.declared.shelf.ShelfFault.TheVariants.{Device, Memory}
 
@@ -10,7 +10,7 @@ pub record Found : Type 0 where
   pub content : Option (List ℕ)
 
 -- what is known of a shelf: whether its contents are known, and the file of each name; what was found each time it was
--- asked for a file, newest first, or None if that isn't known; and how many calls answered `Device`
+-- asked for a file, newest first, or None if that isn't known; and how many failures of the device were counted
 pub record Files : Type 0 where
   pub tells : Bool
   pub at : List ℕ → Option (List ℕ)
@@ -59,6 +59,16 @@ pub record FindsBeginning (old : Files) (name : List ℕ) (most : ℕ) (beginnin
   pub content : Option (List ℕ)
   pub finds : Finds old name content new
   pub is : beginning ≡ option_map (take most) content
+
+-- reads of an opened file give this content, if it is known what they will give
+abbrev pub MayHold : Option (List ℕ) → List ℕ → Type 0
+MayHold ahead content = IfSome ahead (λ bytes. content ≡ bytes)
+
+-- the shelf was asked for that name, once: it has no such file; or it opened one, and found the content that reads of
+-- it give (if it is not known what they give, any content counts as found); no file changes
+abbrev pub Opens : Files → List ℕ → Option (Option (List ℕ)) → Files → Type 0
+Opens old name None new = Finds old name None new
+Opens old name (Some ahead) new = (content : List ℕ) → MayHold ahead content → Finds old name (Some content) new
 
 -- a file was not read: no content changes, and the count rises only if the fault is `Device`
 abbrev pub FailsToGet : Files → Files → ShelfFault → Type 0

@@ -59,17 +59,14 @@ fn count_failure(failures: &mut u64) -> ShelfFault
     ShelfFault::Device
 }
 
-/// What the answer of the system to a read means.
-fn read_answer(
-    answer: io::Result<Vec<u8>>,
-    failures: &mut u64,
-) -> Result<Option<Vec<u8>>, ShelfFault>
+/// What the answer of the system to a call that reads means.
+fn read_answer<T: Drop>(answer: io::Result<T>, failures: &mut u64) -> Result<Option<T>, ShelfFault>
     ensures { MatchResult result (λ _. failures.new ≡ failures.old) (λ fault.
         ((fault ≡ ShelfFault.Device) × (failures.new ≡ one_more failures.old))
         ⊎ ((fault ≡ ShelfFault.Memory) × (failures.new ≡ failures.old))) }
 {
     match answer {
-        Ok(bytes) => Ok(Some(bytes)),
+        Ok(found) => Ok(Some(found)),
         Err(error) => match error.kind() {
             ErrorKind::NotFound => Ok(None),
             ErrorKind::OutOfMemory => Err(ShelfFault::Memory),
@@ -87,17 +84,16 @@ fn check_regular<R: Files>(rt: &R, path: &str) -> io::Result<()> {
     }
 }
 
-/// All bytes of a regular file.
-fn read_whole<R: Files + AllocGlobal>(rt: &R, path: &str) -> io::Result<Vec<u8>> {
+/// A regular file, opened for reading.
+fn open_regular<R: Files>(rt: &R, path: &str) -> io::Result<R::File> {
     check_regular(rt, path)?;
-    fs::read(rt, path)
+    File::open(rt, path)
 }
 
 /// The first `most` bytes of a regular file. Nothing is read after them.
 fn read_beginning<R: Files + AllocGlobal>(rt: &R, path: &str, most: usize) -> io::Result<Vec<u8>> {
-    check_regular(rt, path)?;
     let mut bytes = Vec::new(rt.alloc());
-    let mut file = File::open(rt, path)?.take(most as u64);
+    let mut file = open_regular(rt, path)?.take(most as u64);
     file.read_to_end(&mut bytes)?;
     Ok(bytes)
 }
@@ -113,9 +109,16 @@ fn write_whole<R: Files>(rt: &R, path: &str, bytes: &[u8]) -> io::Result<()> {
 impl<R: Files + AllocGlobal> Shelf for DirShelf<R> {
     ghost files = { folder_files };
 
-    fn get(&mut self, name: &str) -> Result<Option<Vec<u8>>, ShelfFault> {
+    type Opened = R::File;
+
+    fn open(&mut self, name: &str) -> Result<Option<R::File>, ShelfFault> {
         let path = self.path_of(name)?;
-        read_answer(read_whole(&self.rt, path.as_str()), &mut self.failures)
+        let answer = open_regular(&self.rt, path.as_str());
+        read_answer(answer, &mut self.failures)
+    }
+
+    fn count_failure(&mut self) {
+        count_failure(&mut self.failures);
     }
 
     fn get_beginning(&mut self, name: &str, most: usize) -> Result<Option<Vec<u8>>, ShelfFault> {

@@ -1,13 +1,14 @@
 //! A shelf in memory.
 ghost use Rattle.std.specs.Prelude.{◌≡◌, ◌≤◌, ◌-◌, ◌≢◌, ◌↔◌, ℕ, List, None, IsErrOf, OnErr, MatchResult};
 ghost use Rattle.std.specs.Prelude.{is_ok, option_map, if◌then◌else◌};
-ghost use Rattle.s2shelf.specs.Shelf.{one_more, KeepsFiles, SameFiles, Finds, FindsBeginning, PutsFile, FailsToGet};
-ghost use Rattle.s2shelf.specs.Shelf.{FailsToPut};
+ghost use Rattle.s2shelf.specs.Shelf.{one_more, KeepsFiles, SameFiles, Finds, FindsBeginning, Opens, PutsFile};
+ghost use Rattle.s2shelf.specs.Shelf.{FailsToGet, FailsToPut};
 ghost use Rattle.s2shelf.specs.MemoryShelf.{files_of, failing_of};
 
 use crate::shelf::{Shelf, ShelfFault, beginning_of};
 use std::alloc::Global;
 use std::collections::BTreeMap;
+use std::io::{Cursor, Read};
 
 /// A shelf in memory, which exposes its contents and can be made to fail.
 #[derive(Drop)]
@@ -61,11 +62,10 @@ fn take_turn(failing: &mut u64, failures: &mut u64) -> Result<(), ShelfFault>
     Ok(())
 }
 
-impl Shelf for MemoryShelf {
-    ghost files = { files_of };
-
-    /// A copy of the file. Answers `Device` exactly if this is the call that was made to fail.
-    fn get(&mut self, name: &str) -> Result<Option<Vec<u8>>, ShelfFault>
+impl MemoryShelf {
+    /// A copy of the file of that name. Counts as a call, and answers `Device` exactly if this is the call that was
+    /// made to fail.
+    fn copy_of(&mut self, name: &str) -> Result<Option<Vec<u8>>, ShelfFault>
         ensures answer { MatchResult result
             (λ content. Finds (files_of self.old) name.now (option_map (λ v. v.items) content) (files_of self.new))
             (λ fault. FailsToGet (files_of self.old) (files_of self.new) fault) }
@@ -78,6 +78,33 @@ impl Shelf for MemoryShelf {
             Some(bytes) => Ok(Some(bytes.clone()?)),
         }
     }
+}
+
+impl Shelf for MemoryShelf {
+    ghost files = { files_of };
+
+    type Opened = Cursor<Vec<u8>>;
+
+    /// A reader of a copy of the file. Answers `Device` exactly if this is the call that was made to fail.
+    fn open(&mut self, name: &str) -> Result<Option<Cursor<Vec<u8>>>, ShelfFault>
+        ensures answer { MatchResult result
+            (λ opened. Opens (files_of self.old) name.now
+            (option_map ⟦<Cursor<Vec<u8>> as Read>⟧.remaining opened) (files_of self.new))
+            (λ fault. FailsToGet (files_of self.old) (files_of self.new) fault) }
+        ensures turn { IsErrOf result ShelfFault.Device ↔ (failing_of self.old ≡ 1) }
+        ensures failing { failing_of self.new ≡ failing_of self.old - 1 }
+    {
+        let copy = self.copy_of(name)?;
+        Ok(copy.map(Cursor::new))
+    }
+
+    /// Does not count as a call.
+    fn count_failure(&mut self)
+        ensures count { FailsToGet (files_of self.old) (files_of self.new) ShelfFault.Device }
+        ensures failing { failing_of self.new ≡ failing_of self.old }
+    {
+        self.failures = self.failures.wrapping_add(1);
+    }
 
     /// The first bytes of a copy of the file. Answers `Device` exactly if this is the call that was made to fail.
     fn get_beginning(&mut self, name: &str, most: usize) -> Result<Option<Vec<u8>>, ShelfFault>
@@ -88,7 +115,7 @@ impl Shelf for MemoryShelf {
         ensures turn { IsErrOf result ShelfFault.Device ↔ (failing_of self.old ≡ 1) }
         ensures failing { failing_of self.new ≡ failing_of self.old - 1 }
     {
-        let content = self.get(name)?;
+        let content = self.copy_of(name)?;
         Ok(beginning_of(content, most))
     }
 

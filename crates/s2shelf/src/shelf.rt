@@ -1,9 +1,10 @@
 //! Named files that may fail.
-ghost use Rattle.std.specs.Prelude.{◌≡◌, MatchResult, option_map, take};
-ghost use Rattle.s2shelf.specs.Shelf.{Files, Finds, FindsBeginning, PutsFile, FailsToGet, FailsToPut};
-ghost use Rattle.s2shelf.specs.declared.shelf.ShelfFault.TheVariants.{Memory};
+ghost use Rattle.std.specs.Prelude.{◌≡◌, IfOk, MatchResult, option_map, take};
+ghost use Rattle.s2shelf.specs.Shelf.{Files, Finds, FindsBeginning, MayHold, Opens, PutsFile, FailsToGet, FailsToPut};
+ghost use Rattle.s2shelf.specs.declared.shelf.ShelfFault.TheVariants.{Device, Memory};
 
-use std::alloc::AllocError;
+use std::alloc::{AllocError, Global};
+use std::io::{ErrorKind, Read};
 use thiserror::Error;
 
 /// Why a file was not read or not written.
@@ -34,21 +35,70 @@ pub(crate) fn beginning_of(content: Option<Vec<u8>>, most: usize) -> Option<Vec<
     Some(bytes)
 }
 
+/// All bytes that reads of an opened file give. Closes it.
+fn read_whole<R: Read + Drop>(alloc: Global, mut file: R) -> Result<Vec<u8>, ShelfFault>
+    ensures { IfOk result (λ bytes. MayHold (R.remaining file) bytes.items) }
+{
+    let mut bytes = Vec::new(alloc);
+    match file.read_to_end(&mut bytes) {
+        Ok(_) => Ok(bytes),
+        Err(error) => Err(fault_of(error.kind())),
+    }
+}
+
+/// What a failed read means.
+fn fault_of(kind: ErrorKind) -> ShelfFault {
+    match kind {
+        ErrorKind::OutOfMemory => ShelfFault::Memory,
+        _ => ShelfFault::Device,
+    }
+}
+
 /// Files by their names.
 ///
 /// A contract sees a shelf as `Files`: whether it exposes its contents, those contents, what was found by asking, and
-/// how many calls answered `Device` (a u64, which starts again at 0 after its greatest value). A shelf about which
-/// nothing is known doesn't expose its contents, and what was found is None. Code for any shelf can't know that: only
-/// the clauses of `get` and `get_beginning` show that a content was found, so the code has to call one of the two.
+/// how many failures of the device were counted (a u64, which starts again at 0 after its greatest value): each call
+/// that answers `Device` is one, and each call of `count_failure`. A shelf about which nothing is known doesn't expose
+/// its contents, and what was found is None. Code for any shelf can't know that: only the clauses of `open`, `get` and
+/// `get_beginning` show that a content was found, so the code has to call one of the three.
 pub trait Shelf {
     ghost files: { Self → Files };
 
-    /// The file of that name, or None if there is none. No content changes; the count rises by one
-    /// exactly when the answer is `Device`.
-    fn get(&mut self, name: &str) -> Result<Option<Vec<u8>>, ShelfFault>
+    /// A file of the shelf that was opened for reading. Dropping it closes it.
+    type Opened: Read + Drop;
+
+    /// Opens the file of that name for reading from its beginning, or answers None if there is none. The content that
+    /// is found is what reads of the file give. No content changes; the count rises by one exactly when the answer is
+    /// `Device`. A read may fail later, which the shelf doesn't see: whoever reads calls `count_failure`.
+    fn open(&mut self, name: &str) -> Result<Option<Self::Opened>, ShelfFault>
+        ensures { MatchResult result
+            (λ opened. Opens (files self.old) name.now (option_map Self.Opened.remaining opened) (files self.new))
+            (λ fault. FailsToGet (files self.old) (files self.new) fault) };
+
+    /// Counts a failure of the device that came while an opened file was read. No content changes, and the count rises
+    /// by one.
+    fn count_failure(&mut self)
+        ensures { FailsToGet (files self.old) (files self.new) Device };
+
+    /// All bytes of the file of that name, allocated from `alloc`, or None if there is none. No content changes; the
+    /// count rises by one exactly when the answer is `Device`. A failed read is `Device`, unless it says out of memory.
+    fn get(&mut self, alloc: Global, name: &str) -> Result<Option<Vec<u8>>, ShelfFault>
         ensures { MatchResult result
             (λ content. Finds (files self.old) name.now (option_map (λ v. v.items) content) (files self.new))
-            (λ fault. FailsToGet (files self.old) (files self.new) fault) };
+            (λ fault. FailsToGet (files self.old) (files self.new) fault) }
+    {
+        let Some(file) = self.open(name)? else {
+            return Ok(None);
+        };
+        match read_whole(alloc, file) {
+            Ok(bytes) => Ok(Some(bytes)),
+            Err(ShelfFault::Memory) => Err(ShelfFault::Memory),
+            Err(ShelfFault::Device) => {
+                self.count_failure();
+                Err(ShelfFault::Device)
+            }
+        }
+    }
 
     /// The first `most` bytes of the file of that name, the whole file if it has no more, or None if there is none.
     /// Otherwise like `get`.
@@ -56,10 +106,7 @@ pub trait Shelf {
         ensures { MatchResult result
             (λ beginning. FindsBeginning (files self.old) name.now most (option_map (λ v. v.items) beginning)
             (files self.new))
-            (λ fault. FailsToGet (files self.old) (files self.new) fault) }
-    {
-        Ok(beginning_of(self.get(name)?, most))
-    }
+            (λ fault. FailsToGet (files self.old) (files self.new) fault) };
 
     /// Overwrites the file of that name, so that it holds exactly these bytes; no other file changes. After `Device`
     /// the content of that one file is not known, and the count has risen by one.

@@ -1,12 +1,14 @@
-use Rattle.std.proofs.Common.{arith}
-use Rattle.s2file.proofs.SessionReading.{number_begins, number_short}
+use Rattle.std.proofs.lemmas.Bool.{MatchBool-at_false}
+use Rattle.s2file.specs.Source.{held}
+use Rattle.s2file.proofs.TakingCells.{number_taken, number_lacks}
 use Rattle.s2file.proofs.parts.number_at.Goals as goal
 
-pub returns-then-bytes-lt-NUMBER_SIZE : goal.returns-then-bytes-lt-NUMBER_SIZE
-returns-then-bytes-lt-NUMBER_SIZE c = number_short c.args.bytes.now (omega arith)
+pub returns-then-not-branch : goal.returns-then-not-branch
+returns-then-not-branch g c =
+    let few = MatchBool-at_false _ _ c.if-not-branch.true c.in_ok-has.ensures.has in
+    number_lacks _ _ (held c.has.new.self) c.in_ok-has.ensures.kept few.1 few.0
 
 pub returns : goal.returns
-returns c =
-    rw c.number.ensures (number_begins c.args.bytes.now c.split_at.result.0.now c.split_at.result.1.now
-    c.split_at.ensures.front c.split_at.ensures.back
-    c.if-bytes-lt-NUMBER_SIZE.false (λ i. omega (arith, c.type_inv.bytes i)))
+returns g c =
+    number_taken _ (g.R.Read.remaining c.has.new.reader) (held c.has.new.self) _ _ _ c.in_ok-has.ensures.kept
+    c.as_slice.ensures c.consume.ensures c.number_spelled-value.ensures

@@ -1,11 +1,12 @@
 use Rattle.std.proofs.Common.{ℕ, List, subst}
 use Rattle.s2union.specs.Union.{IsLocal}
-use Rattle.s2file.proofs.SessionReading.{register_unmerged, not_test}
+use Rattle.s2file.proofs.SessionReading.{not_test}
+use Rattle.s2file.proofs.TakingRows.{register_wrong}
 use Rattle.s2file.proofs.parts.register_at.Goals as goal
 
 pub returns-then-not-is_normalized : goal.returns-then-not-is_normalized
-returns-then-not-is_normalized c =
-    register_unmerged c.args.bytes.now c.in_ok-cells.cells.items c.in_ok-cells.rest.now c.in_ok-cells.ensures
+returns-then-not-is_normalized g c =
+    register_wrong _ _ c.in_ok-cells.cells.items c.in_ok-cells.ensures
     (subst (λ (l : List ℕ). IsLocal l → ⊥) c.deref.ensures.value
     (not_test c.is_normalized.result (IsLocal c.deref.result.now) c.is_normalized.ensures.local
     c.if-not-is_normalized.true))

@@ -1,11 +1,14 @@
-use Rattle.std.proofs.Common.{◌≡◌, ℕ, List, length, map}
+use Rattle.std.proofs.Common.{◌≡◌, length, map}
+use Rattle.std.specs.List.{AllByRecursion}
 use Rattle.s2union.specs.Union.{Union}
-use Rattle.s2file.specs.Session.{list_text, IsRegisterList}
-use Rattle.s2file.proofs.SessionRows.{RowSoFar}
+use Rattle.s2file.specs.Session.{IsRegisterList}
+use Rattle.s2file.specs.SessionParts.{Takes, registers_text}
+use Rattle.s2file.specs.Source.{ahead}
 use Rattle.s2file.proofs.parts.registers_at.Given as goal
 
 abbrev pub invariant-loop-i : goal.invariant-loop-i
-invariant-loop-i l = record {
-  row : RowSoFar list_text IsRegisterList l.bytes (map (λ (u : Union). u.cells) l.registers.items) l.rest;
+invariant-loop-i g l = record {
+  taken : Takes registers_text (AllByRecursion IsRegisterList) (ahead l.fn.buffer (g.R.Read.remaining l.fn.reader))
+      (map (λ (u : Union). u.cells) l.registers.items) (ahead l.buffer (g.R.Read.remaining l.reader));
   count : length l.registers.items ≡ l._i;
 }

@@ -1,14 +1,15 @@
-use Rattle.s2file.proofs.Spelled.{exact_union, exact_file, found_union, ok_content}
+use Rattle.std.proofs.Common.{Some, subst}
+use Rattle.s2file.specs.Session.{content_of}
+use Rattle.s2file.specs.Reading.{RefusesToRead}
+use Rattle.s2file.specs.declared.session.ReadFault.{ReadFault}
+use Rattle.s2file.proofs.Spelled.{one_spelled}
 use Rattle.s2file.proofs.session_file.decode_session.Goals as goal
 
-pub returns-then-has_version-clause-content : goal.returns-then-has_version-clause-content
-returns-then-has_version-clause-content c = ok_content c.args.bytes.now c.session_of_union.result
-    (found_union c.args.bytes.now c.session_of_union.result c.session_of_union.ensures)
+pub returns-in-Ok-clause-only : goal.returns-in-Ok-clause-only
+returns-in-Ok-clause-only c s spells =
+    one_spelled c.args.bytes.now (content_of c.in-Ok.session) s c.in-Ok.ensures.answer spells
 
-pub returns-then-has_version-clause-only : goal.returns-then-has_version-clause-only
-returns-then-has_version-clause-only c = exact_union c.args.bytes.now c.session_of_union.result
-    c.if-has_version.ensures c.session_of_union.ensures
-
-pub returns-else-has_version-clause-only : goal.returns-else-has_version-clause-only
-returns-else-has_version-clause-only c = exact_file c.args.bytes.now c.session_of_parts.result
-    c.if-has_version.ensures c.session_of_parts.ensures
+pub returns-in-Err-Form-clause-only : goal.returns-in-Err-Form-clause-only
+returns-in-Err-Form-clause-only c s spells =
+    absurd (subst (λ (fault : ReadFault). RefusesToRead fault (Some c.args.bytes.now)) c.in-Err-Form.field-0-is
+    c.in-Err-Form.ensures.answer s spells)

@@ -1,13 +1,11 @@
-use Rattle.std.proofs.Common.{◌≡◌, ℕ, List, [], length, map, arith}
-use Rattle.std.proofs.lemmas.Grind.{common_steps}
+use Rattle.std.proofs.Common.{ℕ, List, map, arith}
+use Rattle.std.proofs.lemmas.Bool.{MatchBool-at_true}
 use Rattle.std.proofs.lemmas.List.{length-map}
 use Rattle.std.proofs.lemmas.Result.{err_from_is_err_and}
 use Rattle.s2union.specs.Union.{Union}
-use Rattle.s2file.specs.Session.{Content, Moved, moves_text, moved_of, IsSessionFile}
-use Rattle.s2file.specs.SessionParts.{BeginsNone, AreMoves}
-use Rattle.s2file.specs.declared.session.Move.{Move}
-use Rattle.s2file.proofs.SessionReading.{refuses}
-use Rattle.s2file.proofs.SessionRows.{file_without_past, file_without_future, file_with_more, file_of_many}
+use Rattle.s2file.specs.Session.{moved_of}
+use Rattle.s2file.specs.Source.{held}
+use Rattle.s2file.proofs.TakingSession.{no_past, no_future, more_than_parts, too_many_changes, some_left}
 use Rattle.s2file.proofs.session_file.session_of_parts.Goals as goal
 
 lists : List Union → List (List ℕ)
@@ -15,38 +13,32 @@ lists us = map (λ (u : Union). u.cells) us
 
 pub returns-in_err-past : goal.returns-in_err-past
 unfolding lists
-returns-in_err-past c =
+returns-in_err-past g c =
     let p = err_from_is_err_and c.from_residual-in_err-past.result c.from_residual-in_err-past.ensures.1 in
-    rw (p.1, p.2) (refuses c.in_err-past.field-0.0 (BeginsNone moves_text AreMoves c.in_ok-registers.after.now)
-    ((s : Content) → IsSessionFile c.args.bytes.now s → ⊥)
-    (file_without_past c.args.bytes.now c.in-Some.parts.now c.in-Some.ensures
-    (lists c.in_ok-registers.registers.items) c.in_ok-registers.after.now c.in_ok-registers.ensures)
-    c.in_err-past.ensures)
+    rw (p.1, p.2) (no_past _ _ c.in_ok-take_head.ensures _ (lists c.in_ok-registers.registers.items)
+    c.in_ok-registers.ensures c.in_err-past.field-0.0 c.in_err-past.ensures)
 
 pub returns-in_err-future : goal.returns-in_err-future
 unfolding lists
-returns-in_err-future c =
+returns-in_err-future g c =
     let p = err_from_is_err_and c.from_residual-in_err-future.result c.from_residual-in_err-future.ensures.1 in
-    rw (p.1, p.2) (refuses c.in_err-future.field-0.0 (BeginsNone moves_text AreMoves c.in_ok-past.last.now)
-    ((s : Content) → IsSessionFile c.args.bytes.now s → ⊥)
-    (file_without_future c.args.bytes.now c.in-Some.parts.now c.in-Some.ensures
-    (lists c.in_ok-registers.registers.items) c.in_ok-registers.after.now c.in_ok-registers.ensures
-    (map moved_of c.in_ok-past.past.items) c.in_ok-past.last.now c.in_ok-past.ensures) c.in_err-future.ensures)
+    rw (p.1, p.2) (no_future _ _ c.in_ok-take_head.ensures _ (lists c.in_ok-registers.registers.items)
+    c.in_ok-registers.ensures _ (map moved_of c.in_ok-past.past.items) c.in_ok-past.ensures
+    c.in_err-future.field-0.0 c.in_err-future.ensures)
 
-pub returns-then-not-is_empty : goal.returns-then-not-is_empty
+pub returns-then-branch : goal.returns-then-branch
 unfolding lists
-returns-then-not-is_empty c =
-    file_with_more c.args.bytes.now c.in-Some.parts.now c.in-Some.ensures (lists c.in_ok-registers.registers.items)
-    c.in_ok-registers.after.now c.in_ok-registers.ensures
-    (map moved_of c.in_ok-past.past.items) c.in_ok-past.last.now c.in_ok-past.ensures
-    (map moved_of c.in_ok-future.future.items) c.in_ok-future.rest.now c.in_ok-future.ensures
-    (λ e. grind (arith, common_steps, c.is_empty.ensures, c.if-not-is_empty.true))
+returns-then-branch g c =
+    let some = MatchBool-at_true _ _ c.if-branch.true c.in_ok-has.ensures.has in
+    more_than_parts _ _ c.in_ok-take_head.ensures _ (lists c.in_ok-registers.registers.items)
+    c.in_ok-registers.ensures _ (map moved_of c.in_ok-past.past.items) c.in_ok-past.ensures _
+    (map moved_of c.in_ok-future.future.items) c.in_ok-future.ensures
+    (some_left _ _ (held c.has.new.self) c.in_ok-has.ensures.kept some)
 
 pub returns-then-len-gt-SESSION_CHANGES : goal.returns-then-len-gt-SESSION_CHANGES
 unfolding lists
-returns-then-len-gt-SESSION_CHANGES c =
-    file_of_many c.args.bytes.now c.in-Some.parts.now c.in-Some.ensures (lists c.in_ok-registers.registers.items)
-    c.in_ok-registers.after.now c.in_ok-registers.ensures
-    (map moved_of c.in_ok-past.past.items) c.in_ok-past.last.now c.in_ok-past.ensures
-    (map moved_of c.in_ok-future.future.items) c.in_ok-future.rest.now c.in_ok-future.ensures
+returns-then-len-gt-SESSION_CHANGES g c =
+    too_many_changes _ _ c.in_ok-take_head.ensures _ (lists c.in_ok-registers.registers.items)
+    c.in_ok-registers.ensures _ (map moved_of c.in_ok-past.past.items) c.in_ok-past.ensures _
+    (map moved_of c.in_ok-future.future.items) c.in_ok-future.ensures
     (omega (arith, length-map c.in_ok-past.past.items moved_of, length-map c.in_ok-future.future.items moved_of))

@@ -1,9 +1,9 @@
-use Rattle.std.proofs.Common.{rules, ◌≡◌, ◌<◌, ℕ, length, get_or, ap, ◌∙◌, arith, subst}
+use Rattle.std.proofs.Common.{rules, ◌≡◌, ℕ, length, ap, ◌∙◌, arith, subst}
 use Rattle.std.proofs.lemmas.List.{length-append, length_push}
 use Rattle.s2cell.specs.Cell.{IsCell}
 use Rattle.s2file.specs.File.{first_number}
-use Rattle.s2file.proofs.SessionReading.{spells_more, spells_wrong, spells_all, chunk_bytes}
-use Rattle.s2file.proofs.parts.cells_spelled.Goals as goal
+use Rattle.s2file.proofs.SessionReading.{part_more, part_wrong, part_all}
+use Rattle.s2file.proofs.parts.push_cells.Goals as goal
 
 pub loop-chunk-preserved : goal.loop-chunk-preserved
 loop-chunk-preserved c =
@@ -13,9 +13,8 @@ loop-chunk-preserved c =
     let n : c.in-Some-from_id.cell ≡ first_number c.in-Some.chunk.now = c.in-Some-from_id.ensures.1
     ∙ c.number.ensures in
     record {
-      spells = rw c.push_reserved.ensures.items (spells_more c.args.numbers.now _ _ _ _ _ so_far.spells step.1.0 size
-          (chunk_bytes c.args.numbers.now _ _ _ _ so_far.spells step.1.0
-          (λ i. omega (arith, c.type_inv.numbers i))) n (search rules));
+      part = rw c.push_reserved.ensures.items (part_more c.args.numbers.now _ _ _ _ _ _ so_far.part step.1.0 size
+          (λ i. omega (arith, c.type_inv.numbers i)) n (search rules));
       size = step.0 ∙ so_far.size;
       room = omega (
         arith,
@@ -32,11 +31,11 @@ pub returns-in-None-from_id : goal.returns-in-None-from_id
 returns-in-None-from_id c =
     let step = c.in-Some.ensures.steps in
     let so_far = c.loop-chunk.invariant in
-    spells_wrong c.args.numbers.now _ _ _ _ c.args.count c.requires so_far.spells step.1.0 (step.1.1 ∙ so_far.size)
+    part_wrong c.args.numbers.now _ _ _ _ _ so_far.part step.1.0 (step.1.1 ∙ so_far.size)
     (subst (λ (n : ℕ). IsCell n → ⊥) c.number.ensures c.in-None-from_id.ensures)
 
 pub returns : goal.returns
 returns c =
     let so_far = c.loop-chunk.invariant in
-    spells_all c.args.numbers.now _ _ c.args.count c.requires so_far.spells
+    part_all c.args.numbers.now _ _ _ c.args.count c.requires.whole so_far.part
     (omega (arith, so_far.size, c.in-None.ensures.steps.1))

@@ -1,0 +1,63 @@
+-- The bytes that a buffer holds, and those that are ahead of it.
+use Rattle.std.proofs.Common.{◌≡◌, ℕ, ◌+◌, ◌-◌, ◌≤◌, List, ◌++◌, length, take, drop, slice_range}
+use Rattle.std.proofs.Common.{Option, Some, None, refl, sym, ap, ◌∙◌, arith, append_assoc}
+use Rattle.std.proofs.lemmas.List.{append-nil, take_at, drop_at, take-append-le, drop-append-le, drop-take}
+use Rattle.std.proofs.lemmas.List.{drop-drop, length-take-le, length-drop}
+use Rattle.std.specs.Io.KnownBytes.{Consumes, Keeps, prepend_known}
+use borrow.Rule.Slice.PartMut.{put_mid, post_of}
+use lib.Seq.{take-add}
+
+-- a write past the bytes that are held
+pub grown : (all xs ys : List ℕ) (start end k n : ℕ) → xs ≡ all → start ≤ end → end ≤ length all → n ≤ length ys
+    → slice_range (put_mid end k xs ys) start (end + n) ≡ slice_range all start end ++ take n ys
+grown all xs ys start end k n same_list ordered within fits =
+    let inside : end ≤ length xs = omega (arith, ap length same_list) in
+    let front = length-take-le end xs inside in
+    let held = drop start (take end xs) in
+    let len : length held ≡ end - start = omega (arith, length-drop start (take end xs)) in
+    let sum : end + n - start ≡ (end - start) + n = omega arith in
+    let parts : end ≡ start + (end - start) = omega arith in
+    let same : held ≡ take (end - start) (drop start xs) =
+    ap (λ j. drop start (take j xs)) parts ∙ drop-take start (end - start) xs in
+    let after = ys ++ post_of end k xs in
+    ap (take (end + n - start)) (drop-append-le start (take end xs) after (omega arith))
+    ∙ ap (λ j. take j (held ++ after)) sum ∙ take-add (end - start) n (held ++ after)
+    ∙ (rw (
+      take_at held after _ len,
+      drop_at held after _ len,
+      take-append-le n ys (post_of end k xs) fits,
+      same,
+    ) refl)
+    ∙ ap (λ (l : List ℕ). slice_range l start end ++ take n ys) same_list
+
+pub unchanged : (all xs ys : List ℕ) (start end k : ℕ) → xs ≡ all → start ≤ end → end ≤ length all
+    → slice_range (put_mid end k xs ys) start end ≡ slice_range all start end
+unchanged all xs ys start end k same_list ordered within =
+    let none : end ≡ end + 0 = omega arith in
+    ap (slice_range (put_mid end k xs ys) start) none
+    ∙ grown all xs ys start end k 0 same_list ordered within (omega arith) ∙ append-nil _
+
+-- a step of the start
+pub consumed : (xs : List ℕ) (start end count : ℕ) → start + count ≤ end
+    → slice_range xs (start + count) end ≡ drop count (slice_range xs start end)
+consumed xs start end count inside =
+    let parts : end - start ≡ count + (end - (start + count)) = omega arith in
+    sym (ap (λ j. drop count (take j (drop start xs))) parts ∙ drop-take count _ (drop start xs)
+    ∙ ap (take (end - (start + count))) (drop-drop count start xs))
+
+-- what is read comes after what is held
+pub Keeps-read : (a b c : Option (List ℕ)) (old new more : List ℕ) → Keeps a (prepend_known old b) →
+    Consumes b c more → new ≡ old ++ more → Keeps a (prepend_known new c)
+Keeps-read None b c old new more k r e = tt
+Keeps-read (Some x) None c old new more k r e = absurd k
+Keeps-read (Some x) (Some y) None old new more k r e = absurd r
+Keeps-read (Some x) (Some y) (Some z) old new more k r e =
+    ap (λ (l : List ℕ). l ++ z) e ∙ append_assoc old more z ∙ ap (λ (l : List ℕ). old ++ l) (sym r) ∙ k
+
+pub Keeps-same : (a b c : Option (List ℕ)) (old new : List ℕ) → Keeps a (prepend_known old b) → Keeps b c →
+    new ≡ old → Keeps a (prepend_known new c)
+Keeps-same None b c old new k r e = tt
+Keeps-same (Some x) None c old new k r e = absurd k
+Keeps-same (Some x) (Some y) None old new k r e = absurd r
+Keeps-same (Some x) (Some y) (Some z) old new k r e =
+    ap (λ (l : List ℕ). l ++ z) e ∙ ap (λ (l : List ℕ). old ++ l) r ∙ k

@@ -1,0 +1,95 @@
+-- What is taken from the bytes that are left, and what these lack.
+use Rattle.std.proofs.Common.{◌≡◌, ℕ, List, [], ◌∷◌, ◌++◌, Option, Some, None, IfSome}
+use Rattle.std.proofs.Common.{flat_map, map, sym, ap, ◌∙◌, subst, append_assoc}
+use Rattle.std.proofs.lemmas.List.{append-nil, map-append}
+use Rattle.std.proofs.lemmas.Grind.{flat_map-append}
+use Rattle.std.proofs.KnownBytes.{Consumes-nil, Consumes-trans}
+use Rattle.std.specs.Io.KnownBytes.{Consumes, IsAtEnd, Keeps, prepend_known}
+use Rattle.std.specs.List.{AllByRecursion}
+use Rattle.s2file.specs.SessionParts.{Refuses, Takes}
+use Rattle.s2file.specs.declared.session.ReadFault.{ReadFault}
+use Rattle.s2file.proofs.SessionReading.{refuses}
+
+-- ---- what holds of the bytes that were left, from what holds of those that are
+
+pub known_later : (old mid : Option (List ℕ)) (front : List ℕ) (P Q : List ℕ → Type 0) → Consumes old mid front →
+    ((rest : List ℕ) → P rest → Q (front ++ rest)) → IfSome mid P → IfSome old Q
+known_later None mid front P Q c f h = tt
+known_later (Some x) None front P Q c f h = absurd c
+known_later (Some x) (Some y) front P Q c f h = subst Q (sym c) (f y h)
+
+pub known_front : (old mid : Option (List ℕ)) (front : List ℕ) (Q : List ℕ → Type 0) → Consumes old mid front →
+    ((rest : List ℕ) → Q (front ++ rest)) → IfSome old Q
+known_front None mid front Q c f = tt
+known_front (Some x) None front Q c f = absurd c
+known_front (Some x) (Some y) front Q c f = subst Q (sym c) (f y)
+
+pub known_weaker : (old : Option (List ℕ)) (P Q : List ℕ → Type 0) → ((bytes : List ℕ) → P bytes → Q bytes) →
+    IfSome old P → IfSome old Q
+known_weaker None P Q f h = tt
+known_weaker (Some x) P Q f h = f x h
+
+pub refuses_later : (fault : ReadFault) (old mid : Option (List ℕ)) (front : List ℕ) (P Q : List ℕ → Type 0) →
+    Consumes old mid front → ((rest : List ℕ) → P rest → Q (front ++ rest)) → Refuses fault (IfSome mid P) →
+    Refuses fault (IfSome old Q)
+refuses_later fault old mid front P Q c f h =
+    refuses fault (IfSome mid P) (IfSome old Q) (known_later old mid front P Q c f) h
+
+pub refuses_weaker : (fault : ReadFault) (old : Option (List ℕ)) (P Q : List ℕ → Type 0) →
+    ((bytes : List ℕ) → P bytes → Q bytes) → Refuses fault (IfSome old P) → Refuses fault (IfSome old Q)
+refuses_weaker fault old P Q f h = refuses fault (IfSome old P) (IfSome old Q) (known_weaker old P Q f) h
+
+-- ---- the bytes that are held, and those that come
+
+-- the front of those that are held is taken
+pub front_taken : (old coming : Option (List ℕ)) (held front rest : List ℕ) → Keeps old (prepend_known held coming) →
+    held ≡ front ++ rest → Consumes old (prepend_known rest coming) front
+front_taken None coming held front rest k e = tt
+front_taken (Some x) None held front rest k e = absurd k
+front_taken (Some x) (Some y) held front rest k e =
+    sym k ∙ ap (λ (l : List ℕ). l ++ y) e ∙ append_assoc front rest y
+
+-- those that are held are the front
+pub held_front : (old coming : Option (List ℕ)) (held : List ℕ) (Q : List ℕ → Type 0) →
+    Keeps old (prepend_known held coming) → ((rest : List ℕ) → Q (held ++ rest)) → IfSome old Q
+held_front None coming held Q k f = tt
+held_front (Some x) None held Q k f = absurd k
+held_front (Some x) (Some y) held Q k f = subst Q k (f y)
+
+-- at the end they are all
+pub held_all : (old coming : Option (List ℕ)) (held : List ℕ) (Q : List ℕ → Type 0) →
+    Keeps old (prepend_known held coming) → IsAtEnd coming → Q held → IfSome old Q
+held_all None coming held Q k end q = tt
+held_all (Some x) None held Q k end q = absurd k
+held_all (Some x) (Some y) held Q k end q =
+    subst Q (sym (append-nil held) ∙ ap (λ (l : List ℕ). held ++ l) (sym end) ∙ k) q
+
+-- ---- values one after another
+
+module _ {A : Type 0} (text : A → List ℕ) (Ok : A → Type 0) where
+  pub none_taken : (old : Option (List ℕ)) → Takes (flat_map text) (AllByRecursion Ok) old [] old
+  none_taken old = record { is = Consumes-nil old; ok = tt }
+
+  all_push : (xs : List A) (x : A) → AllByRecursion Ok xs → Ok x → AllByRecursion Ok (xs ++ x ∷ [])
+  all_push [] x a ok = (ok, tt)
+  all_push (y ∷ xs) x a ok = (a.0, all_push xs x a.1 ok)
+
+  pub one_more_taken : (old mid new : Option (List ℕ)) (xs : List A) (x : A) →
+      Takes (flat_map text) (AllByRecursion Ok) old xs mid → Takes text Ok mid x new
+      → Takes (flat_map text) (AllByRecursion Ok) old (xs ++ x ∷ []) new
+  one_more_taken old mid new xs x row one = record {
+    is = subst (λ (l : List ℕ). Consumes old new l)
+        (ap (λ (l : List ℕ). flat_map text xs ++ l) (sym (append-nil (text x)))
+        ∙ sym (flat_map-append text xs (x ∷ [])))
+        (Consumes-trans old mid new (flat_map text xs) (text x) row.is one.is);
+    ok = all_push xs x row.ok one.ok;
+  }
+
+-- the same of values under a view
+pub one_more_viewed : {T A : Type 0} (f : T → A) (text : A → List ℕ) (Ok : A → Type 0) (old mid new : Option (List ℕ))
+    (ts : List T) (t : T)
+    → Takes (flat_map text) (AllByRecursion Ok) old (map f ts) mid → Takes text Ok mid (f t) new
+    → Takes (flat_map text) (AllByRecursion Ok) old (map f (ts ++ t ∷ [])) new
+one_more_viewed {A = A} f text Ok old mid new ts t row one =
+    subst (λ (xs : List A). Takes (flat_map text) (AllByRecursion Ok) old xs new) (sym (map-append f ts (t ∷ [])))
+    (one_more_taken text Ok old mid new (map f ts) (f t) row one)

@@ -1,0 +1,15 @@
+use Rattle.std.proofs.Common.{◌-◌, ◌≤◌, All, length}
+use Rattle.s2cell.specs.Cell.{IsCell}
+use Rattle.s2file.specs.Source.{ahead}
+use Rattle.s2file.specs.SessionParts.{Takes, identifiers_text}
+use Rattle.s2file.proofs.parts.cells_counted.Given as goal
+
+abbrev pub invariant-pieces : goal.invariant-pieces
+invariant-pieces g l = record {
+  taken : Takes identifiers_text (All IsCell) (ahead l.fn.buffer (g.R.Read.remaining l.fn.reader)) l.cells.items
+      (ahead l.buffer (g.R.Read.remaining l.reader));
+  few : length l.cells.items ≤ l.count;
+}
+
+abbrev pub decreases-pieces : goal.decreases-pieces
+decreases-pieces g l = l.count - length l.cells.items
