@@ -22,4 +22,10 @@ pub mod Saving
 pub mod Spelling
 pub mod PartLemmas
 pub mod PartTables
+pub mod Registers
 pub mod Apart
+pub mod Layering
+pub mod Turns
+pub mod Ordering
+pub mod Stacking
+pub mod Watching

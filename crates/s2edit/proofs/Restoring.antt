@@ -5,18 +5,19 @@ use Rattle.std.proofs.lemmas.List.{length-map, length-set, length-reverse}
 use Rattle.std.specs.List.{AllByRecursion}
 use Rattle.s2union.specs.Union.{Union}
 use Rattle.std.proofs.lemmas.Bool.{false≢true, true≢false}
-use Rattle.s2file.specs.Session.{Moved, Content, moved_of, IsContent, IsRegisterList}
+use Rattle.s2file.specs.Session.{Moved, Content, moved_of, IsContent, IsMoved, IsRegisterList}
 use Rattle.s2file.specs.declared.session.Move.{Move}
 use Rattle.s2file.specs.declared.TheConstants.{SESSION_CELLS}
 use Rattle.s2edit.specs.History.{History, AllLists, AllTables}
 use Rattle.s2edit.specs.Diff.{Diff, inverse}
 use Rattle.s2edit.specs.Leads.{list_at}
 use Rattle.s2edit.specs.Chain.{list_after, table_after, tables_after, FitAlong, lists_of, AllWithin, history}
-use Rattle.s2edit.specs.Session.{diff, Records, Restored, IsTooDeep, IsTooMany, RefusesSession}
+use Rattle.s2edit.specs.Session.{diff, moved, Records, Restored, IsTooDeep, IsTooMany, RefusesSession}
 use Rattle.s2edit.specs.Following.{FailsToFollow, MakesChanges}
 use Rattle.s2edit.specs.declared.session.RestoreFault.{RestoreFault}
 use Rattle.s2edit.specs.declared.session.RestoreFault.TheVariants.{Fit, TooDeep, TooMany, Memory}
 use Rattle.s2edit.proofs.Tables.{list_at-table_after, length-tables_after}
+use Rattle.s2edit.proofs.Following.{swapped}
 use Rattle.s2edit.proofs.Leading.{AllLists-within, AllTables-within}
 use Rattle.s2edit.proofs.Contents.{turned}
 use Rattle.s2edit.proofs.Telling.{CanFollow, history_told, can_follow, tells_it}
@@ -148,20 +149,55 @@ not_three true false r e a b c = false≢true b
 not_three false f r e a b c = false≢true a
 
 -- the sides as they are followed
-pub back_side : (X : List (List ℕ) → List Diff → Type 0) (us us' : List Union) (ms ms' past : List Move) →
-    us' ≡ us → ms' ≡ ms → ms ≡ reverse past
-    → X (lists_of us') (map inverse (map diff (map moved_of ms'))) →
-    X (lists_of us) (map inverse (map diff (reverse (map moved_of past))))
-back_side X us us' ms ms' past e f g x =
-    subst (λ (ns : List Moved). X (lists_of us) (map inverse (map diff ns))) (ap (map moved_of) f ∙ turned past ms g)
-    (subst (λ (vs : List Union). X (lists_of vs) (map inverse (map diff (map moved_of ms')))) e x)
-
 pub ahead_side : (X : List (List ℕ) → List Diff → Type 0) (us us' : List Union) (ms ms' : List Move) → us' ≡ us →
     ms' ≡ ms
     → X (lists_of us') (map diff (map moved_of ms')) → X (lists_of us) (map diff (map moved_of ms))
 ahead_side X us us' ms ms' e f x =
     subst (λ (ns : List Move). X (lists_of us) (map diff (map moved_of ns))) f
     (subst (λ (vs : List Union). X (lists_of vs) (map diff (map moved_of ms'))) e x)
+
+pub back_side : (X : List (List ℕ) → List Diff → Type 0) (us us' : List Union) (ms ms' back past : List Move) →
+    us' ≡ us → ms' ≡ ms → back ≡ reverse past
+    → map diff (map moved_of ms) ≡ map inverse (map diff (map moved_of back))
+    → X (lists_of us') (map diff (map moved_of ms')) →
+    X (lists_of us) (map inverse (map diff (reverse (map moved_of past))))
+back_side X us us' ms ms' back past e f g h x =
+    subst (X (lists_of us)) (h ∙ ap (λ (ns : List Moved). map inverse (map diff ns)) (turned past back g))
+    (ahead_side X us us' ms ms' e f x)
+
+-- changes of which what they take out and put in was exchanged
+moved_diffs : (ms : List Moved) → map moved (map diff ms) ≡ ms
+moved_diffs [] = refl
+moved_diffs (m ∷ ms) = ap (λ (ns : List Moved). m ∷ ns) (moved_diffs ms)
+
+inverse_twice : (ds : List Diff) → map inverse (map inverse ds) ≡ ds
+inverse_twice [] = refl
+inverse_twice (d ∷ ds) = ap (λ (es : List Diff). d ∷ es) (inverse_twice ds)
+
+all_swapped : (ms : List Moved) → AllByRecursion IsMoved ms →
+    AllByRecursion IsMoved (map moved (map inverse (map diff ms)))
+all_swapped [] a = tt
+all_swapped (m ∷ ms) a = (swapped m a.0, all_swapped ms a.1)
+
+pub inverted_moved : (ms ms' : List Moved) → map diff ms' ≡ map inverse (map diff ms) → AllByRecursion IsMoved ms →
+    AllByRecursion IsMoved ms'
+inverted_moved ms ms' e a = subst (AllByRecursion IsMoved) (ap (map moved) (sym e) ∙ moved_diffs ms')
+    (all_swapped ms a)
+
+-- and exchanged again
+pub inverted_twice : (past back once twice : List Move) → back ≡ reverse past
+    → map diff (map moved_of once) ≡ map inverse (map diff (map moved_of back))
+    → map diff (map moved_of twice) ≡ map inverse (map diff (map moved_of once))
+    → map moved_of twice ≡ reverse (map moved_of past)
+inverted_twice past back once twice e f g =
+    sym (moved_diffs (map moved_of twice))
+    ∙ ap (map moved) (g ∙ ap (map inverse) f ∙ inverse_twice (map diff (map moved_of back)))
+    ∙ moved_diffs (map moved_of back) ∙ turned past back e
+
+pub inverted_count : (past twice : List Move) → map moved_of twice ≡ reverse (map moved_of past) →
+    length twice ≡ length (map moved_of past)
+inverted_count past twice e =
+    sym (length-map twice moved_of) ∙ ap length e ∙ length-reverse (map moved_of past)
 
 -- what a session that passed every test leaves
 module _ (limit depth : ℕ) (us us' : List Union) (past' future' : List Diff) (s : Content) (content : IsContent s)

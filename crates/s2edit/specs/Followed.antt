@@ -1,10 +1,8 @@
 -- A register's list that is followed along changes: the list that it had at some point, and the change since then.
-use Rattle.std.specs.Prelude.{◌≡◌, ℕ, true, false, List}
-use Rattle.s2cell.specs.Cell.{covers}
-use Rattle.s2union.specs.Union.{has_leaf, IsLocal}
-use Rattle.s2union.specs.Apply.{has, cells_without, insert_cells, applied, Fits}
+use Rattle.std.specs.Prelude.{◌≡◌, ℕ, List}
+use Rattle.s2union.specs.Union.{IsLocal}
+use Rattle.s2union.specs.Apply.{cells_without, insert_cells, applied, Fits}
 use Rattle.s2file.specs.Session.{AreApart}
-use Rattle.s2edit.specs.Part.{around}
 use Rattle.s2edit.specs.declared.followed.Followed.TheInside.{Inside}
 
 -- the present list, to which the change leads from the start list
@@ -29,15 +27,6 @@ both_out out put more_out more_put = joined (cells_without out more_put) (cells_
 pub record CanFollowOn (out put more_out more_put : List ℕ) : Type 0 where
   pub outs : AreApart (cells_without out more_put) (cells_without more_out put)
   pub puts : AreApart (cells_without put more_out) (cells_without more_put out)
-
--- no leaf around a cell of the list `cells` is one of the list `u`
-abbrev pub LieApart : List ℕ → List ℕ → Type 0
-LieApart cells u = (c x : ℕ) → has cells c ≡ true → covers (around c) x ≡ true → has_leaf u x ≡ false
-
--- no leaf around a cell that a change names is one of the list `u`
-pub record LiesApart (out put u : List ℕ) : Type 0 where
-  pub outs : LieApart out u
-  pub puts : LieApart put u
 
 -- After the change of `out` and `put` was made in `u`, that of `more_out` and `more_put` can be made, and together they
 -- are the change of `outs` and `puts`.

@@ -3,7 +3,7 @@ use Rattle.std.specs.Prelude.{◌≡◌, ℕ, ◌≤◌, Bool, true, List, [], �
 use Rattle.s2union.specs.Union.{Union}
 use Rattle.s2file.specs.declared.TheConstants.{SESSION_CELLS}
 use Rattle.s2edit.specs.Diff.{Diff}
-use Rattle.s2edit.specs.Chain.{FitsTable, FitAlong, table_after}
+use Rattle.s2edit.specs.Chain.{FitAlong}
 use Rattle.s2edit.specs.declared.session.RestoreFault.{RestoreFault}
 use Rattle.s2edit.specs.declared.session.RestoreFault.TheVariants.{Fit, TooDeep, TooMany, Memory}
 
@@ -19,11 +19,6 @@ pub record MakesChanges (limit : ℕ) (t : List (List ℕ)) (ds : List Diff) (wi
   pub fit : FitAlong SESSION_CELLS t ds
   pub few : within ≡ true → FitAlong limit t ds
   pub many : FitAlong limit t ds → within ≡ true
-
--- the change can be made in the table `t`, and leads to the table `t'`
-pub record MakesChange (t : List (List ℕ)) (d : Diff) (t' : List (List ℕ)) : Type 0 where
-  pub fit : FitsTable SESSION_CELLS t d
-  pub table : t' ≡ table_after t d
 
 -- each union has room for the list at its place
 abbrev pub HaveRoom : List (List ℕ) → List Union → Type 0

@@ -11,3 +11,4 @@ pub mod Following
 pub mod Followed
 pub mod SessionLaws
 pub mod Part
+pub mod Layers

@@ -1,13 +1,12 @@
 -- The parts of the registers' lists that changes can concern, and how long the lists get.
-use Rattle.std.specs.Prelude.{◌≡◌, ℕ, ◌+◌, ◌-◌, ◌^◌, ◌<◌, ◌≤◌, ◌==◌}
+use Rattle.std.specs.Prelude.{◌≡◌, ℕ, ◌+◌, ◌-◌, ◌^◌, ◌≤◌, ◌==◌}
 use Rattle.std.specs.Prelude.{if◌then◌else◌, Bool, true, List, [], ◌∷◌, ◌++◌}
 use Rattle.std.specs.Prelude.{length, map, min, max, slice_set, slice_index_or}
 use Rattle.s2cell.specs.Cell.{IsCell, level_of, covers, parent_of}
-use Rattle.s2union.specs.Union.{has_leaf, IsLocal, LiesIn}
+use Rattle.s2union.specs.Union.{IsLocal, LiesIn}
 use Rattle.s2union.specs.Apply.{has}
 use Rattle.s2file.specs.Session.{Moved}
 use Rattle.s2edit.specs.Diff.{Diff}
-use Rattle.s2edit.specs.Leads.{list_at}
 
 -- the parent of a cell, or the cell itself if it is a face
 abbrev pub around : ℕ → ℕ
@@ -33,11 +32,6 @@ around_both m = map around m.out ++ map around m.put
 abbrev pub around_all : ℕ → List Moved → List ℕ
 around_all r [] = []
 around_all r (m ∷ ms) = if m.register == r then around_both m ++ around_all r ms else around_all r ms
-
--- `s` has n lists: parts of the first n lists of `t`, with all cells that changes of these registers can concern
-pub record HasParts (n : ℕ) (ms : List Moved) (t s : List (List ℕ)) : Type 0 where
-  pub count : length s ≡ n
-  pub parts : (r : ℕ) → r < n → IsPart (has_leaf (around_all r ms)) (list_at t r) (list_at s r)
 
 -- how many cells the list of a register has after a change, in the saturating arithmetic of `usize`
 abbrev pub resized : List ℕ → Diff → ℕ

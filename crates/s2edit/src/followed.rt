@@ -1,14 +1,13 @@
 //! A register's list that is followed along changes.
-ghost use Rattle.std.specs.Prelude.{◌≡◌, ◌≤◌, ◌↔◌, length, OnOk, IfOk, IfSome, IsTrue, MatchOption, MatchResult};
+ghost use Rattle.std.specs.Prelude.{◌≡◌, ◌≤◌, length, OnOk, IfOk, IfSome, MatchOption, MatchResult};
 ghost use Rattle.std.specs.List.Sorted.{IsStrictlyIncreasing};
 ghost use Rattle.s2union.specs.Apply.{applied, Fits};
 ghost use Rattle.s2file.specs.Session.{AreApart};
 ghost use Rattle.s2edit.specs.Diff.{IsDiff};
-ghost use Rattle.s2edit.specs.Followed.{joined, both_out, CanFollowOn, LieApart, LiesApart, LeadsOn};
+ghost use Rattle.s2edit.specs.Followed.{joined, both_out, CanFollowOn, LeadsOn};
 ghost use Rattle.s2edit.specs.Following.{FailsToFollow};
 
 use crate::lacking::unshared_cells;
-use crate::parts::around;
 use crate::session::RestoreFault;
 use s2cell::CellId;
 use s2union::CellUnion;
@@ -18,9 +17,6 @@ use std::marker::Model;
 
 /// How many cells can be copied in the time that checking one cell of a change takes.
 const COPIES_A_CHECK: usize = 128;
-
-/// How many cells can be copied in the time that one cell takes when two changes are joined.
-const COPIES_A_JOIN: usize = 12;
 
 /// A list that is followed along changes: the list at some earlier point, and the change that leads from there to the
 /// present list.
@@ -67,8 +63,6 @@ impl Followed {
     }
 
     /// Makes a change; refused as `Fit` if it can't be made.
-    ///
-    /// If the change lies apart from those gathered, only its own cells are checked.
     pub(crate) fn follow(
         &mut self,
         alloc: Global,
@@ -80,14 +74,7 @@ impl Followed {
         ensures answer { MatchResult result (λ _. Fits out.now put.now self.old)
             (λ fault. FailsToFollow fault (Fits out.now put.now self.old)) }
     {
-        self.settle(alloc, COPIES_A_JOIN)?;
-        if lies_apart(out, put, &self.out) && lies_apart(out, put, &self.put) {
-            let (outs, puts) = joined_apart(alloc, &self.start, &self.out, &self.put, out, put)?;
-            self.out = outs;
-            self.put = puts;
-            return Ok(());
-        }
-        self.settle(alloc, COPIES_A_CHECK)?;
+        self.settle(alloc)?;
         let (outs, puts) = joined_near(alloc, &self.start, &self.out, &self.put, out, put)?;
         self.out = outs;
         self.put = puts;
@@ -96,13 +83,13 @@ impl Followed {
 
     /// Counts what the gathered cells are about to cost, and rebuilds the list if they have then cost more than that.
     /// No cell is gathered then.
-    fn settle(&mut self, alloc: Global, copies_a_cell: usize) -> Result<(), AllocError>
+    fn settle(&mut self, alloc: Global) -> Result<(), AllocError>
         ensures { OnOk result (self.new ≡ self.old) }
     {
         let gathered = self.out.len().saturating_add(self.put.len());
         self.cost = self
             .cost
-            .saturating_add(gathered.saturating_mul(copies_a_cell));
+            .saturating_add(gathered.saturating_mul(COPIES_A_CHECK));
         let len = self.len();
         if self.cost <= len {
             return Ok(());
@@ -119,63 +106,7 @@ impl Followed {
     }
 }
 
-/// Whether no leaf around a cell that a change names is one of the union's.
-fn lies_apart(out: &[CellId], put: &[CellId], union: &CellUnion) -> bool
-    ensures { IsTrue result ↔ LiesApart out.now put.now union.now.cells }
-{
-    union.is_empty() || lie_apart(out, union) && lie_apart(put, union)
-}
-
-/// Whether no leaf around a cell of a list is one of the union's.
-fn lie_apart(cells: &[CellId], union: &CellUnion) -> bool
-    ensures { IsTrue result ↔ LieApart cells.now union.now.cells }
-{
-    let mut cursor = union.cursor();
-    for cell in cells {
-        if cursor.intersects_cell(around(*cell)) {
-            return false;
-        }
-    }
-    true
-}
-
-/// What leads from the start to the list after a change that lies apart from the gathered one, if it can be made.
-/// Checks only its own cells.
-fn joined_apart(
-    alloc: Global,
-    start: &CellUnion,
-    gathered_out: &CellUnion,
-    gathered_put: &CellUnion,
-    out: &[CellId],
-    put: &[CellId],
-) -> Result<(CellUnion, CellUnion), RestoreFault>
-    requires gathered { Fits gathered_out.now.cells gathered_put.now.cells start.now.cells }
-    requires change { IsDiff out.now put.now }
-    requires outs_apart { LiesApart out.now put.now gathered_out.now.cells }
-    requires puts_apart { LiesApart out.now put.now gathered_put.now.cells }
-    ensures { MatchResult result
-        (λ lists. LeadsOn start.now.cells gathered_out.now.cells gathered_put.now.cells out.now put.now lists.0.cells
-        lists.1.cells)
-        (λ fault. FailsToFollow fault
-        (Fits out.now put.now (applied gathered_out.now.cells gathered_put.now.cells start.now.cells))) }
-{
-    let _ = start.cells();
-    if !start.can_apply(out, put) {
-        return Err(RestoreFault::Fit);
-    }
-    let Some(outs) = join_if_apart(alloc, gathered_out.cells(), out)? else {
-        return Err(RestoreFault::Fit);
-    };
-    let Some(puts) = join_if_apart(alloc, gathered_put.cells(), put)? else {
-        return Err(RestoreFault::Fit);
-    };
-    Ok((
-        CellUnion::from_normalized(outs),
-        CellUnion::from_normalized(puts),
-    ))
-}
-
-/// The same for any change. Checks the gathered cells too.
+/// What leads from the start to the list after one more change, if it can be made. Checks the gathered cells too.
 fn joined_near(
     alloc: Global,
     start: &CellUnion,

@@ -3,7 +3,6 @@ ghost use Rattle.std.specs.Prelude.{◌≡◌, ◌<◌, length, map, slice_set, 
 ghost use Rattle.std.specs.Prelude.{◌+◌, ◌-◌, ◌^◌, min, slice_index_or};
 ghost use Rattle.std.specs.List.{AllByRecursion};
 ghost use Rattle.s2file.specs.Session.{moved_of, IsMoved};
-ghost use Rattle.s2edit.specs.Diff.{inverse};
 ghost use Rattle.s2edit.specs.Chain.{lists_of};
 ghost use Rattle.s2edit.specs.Part.{longest};
 ghost use Rattle.s2edit.specs.Session.{diff};
@@ -16,7 +15,7 @@ use std::alloc::{AllocError, Global};
 
 /// The greatest number of cells that a register's list has after one of the changes, if they can be made one after
 /// another. 0 if there are no changes.
-pub(crate) fn longest_ahead(
+pub(crate) fn longest(
     alloc: Global,
     registers: &[CellUnion],
     moves: &[Move],
@@ -34,31 +33,6 @@ pub(crate) fn longest_ahead(
             change.register,
             change.out.len(),
             change.put.len(),
-        );
-        most = length.max(most);
-    }
-    Ok(most)
-}
-
-/// The same for the inverse changes.
-pub(crate) fn longest_back(
-    alloc: Global,
-    registers: &[CellUnion],
-    moves: &[Move],
-) -> Result<usize, AllocError>
-    requires count { length registers.now ≡ REGISTERS }
-    requires each { AllByRecursion IsMoved (map moved_of moves.now) }
-    ensures { IfOk result (λ most. most ≡ longest (map length (lists_of registers.now))
-        (map inverse (map diff (map moved_of moves.now)))) }
-{
-    let mut lengths = lengths_of(alloc, registers)?;
-    let mut most = 0;
-    for change in moves {
-        let length = resize(
-            &mut lengths,
-            change.register,
-            change.put.len(),
-            change.out.len(),
         );
         most = length.max(most);
     }

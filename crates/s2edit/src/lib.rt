@@ -12,6 +12,7 @@ mod edits;
 mod followed;
 mod lacking;
 pub mod laws;
+mod layers;
 mod lengths;
 mod parts;
 mod register;

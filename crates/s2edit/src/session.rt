@@ -6,22 +6,22 @@ ghost use Rattle.circular_buffer.specs.Buffer.{buffer};
 ghost use Rattle.s2file.specs.Session.{content_of, moved_of, IsContent, IsMoved};
 ghost use Rattle.s2edit.specs.History.{AllLists};
 ghost use Rattle.s2edit.specs.Diff.{inverse};
-ghost use Rattle.s2edit.specs.Chain.{lists_of, AllWithin, FitsTable, FitAlong};
+ghost use Rattle.s2edit.specs.Chain.{lists_of, AllWithin, FitAlong};
+ghost use Rattle.s2edit.specs.Layers.{of_register, AreChanges, FitInTurn};
 ghost use Rattle.s2edit.specs.Session.{moved, diff, Records, Text, Restored, RefusesSession};
-ghost use Rattle.s2edit.specs.Following.{FailsToFollow, MakesChanges, MakesChange, HaveRoom, KeepRoom};
+ghost use Rattle.s2edit.specs.Following.{FailsToFollow, MakesChanges, HaveRoom, KeepRoom};
 ghost use Rattle.s2edit.specs.declared.session.RestoreFault.TheVariants.{Memory};
 
 use crate::REGISTERS;
 use crate::change::Change;
 use crate::editor::Editor;
 use crate::followed::Followed;
-use crate::lengths::{longest_ahead, longest_back};
-use crate::parts::parts_of;
-use crate::register::Register;
+use crate::layers::layers_of;
+use crate::lengths::longest;
+use crate::parts::{around_moves, part_of};
 use circular_buffer::HeapCircularBuffer;
-use s2cell::CellId;
 use s2file::{Move, SESSION_CELLS, Session, encode_parts};
-use s2union::CellUnion;
+use s2union::{CellUnion, normalise};
 use std::alloc::{AllocError, Global};
 use std::mem;
 
@@ -102,8 +102,10 @@ impl Editor {
             future,
         } = session;
         past.reverse();
-        let past_within = fit_back(self.alloc, &registers, &past, self.limit)?;
-        let future_within = fit_ahead(self.alloc, &registers, &future, self.limit)?;
+        invert(&mut past);
+        let past_within = fit(self.alloc, &registers, &past, self.limit)?;
+        invert(&mut past);
+        let future_within = fit(self.alloc, &registers, &future, self.limit)?;
         if past.len() + future.len() > self.depth {
             return Err(RestoreFault::TooDeep);
         }
@@ -172,12 +174,20 @@ fn fill(ring: &mut HeapCircularBuffer<Change>, mut moves: Vec<Move>)
     }
 }
 
+/// Exchanges what each change takes out and puts in.
+fn invert(moves: &mut Vec<Move>)
+    ensures { map diff (map moved_of moves.new.items) ≡ map inverse (map diff (map moved_of moves.old.items)) }
+{
+    for change in moves.iter_mut() {
+        mem::swap(&mut change.out, &mut change.put);
+    }
+}
+
 /// Whether each list that the changes make, one after another from these registers, keeps to the limit. Refused as
 /// `Fit` if a change can't be made, or makes a list of more than `SESSION_CELLS` cells.
 ///
-/// Makes the changes only in the parts of the lists that they can concern, which are often short, and counts how long
-/// the whole lists get.
-fn fit_ahead(
+/// Follows the changes of each register by themselves, and counts how long the lists get.
+fn fit(
     alloc: Global,
     registers: &[CellUnion],
     moves: &[Move],
@@ -190,91 +200,46 @@ fn fit_ahead(
         (map diff (map moved_of moves.now)) within) (λ fault.
         FailsToFollow fault (FitAlong SESSION_CELLS (lists_of registers.now) (map diff (map moved_of moves.now)))) }
 {
-    let parts = parts_of(alloc, registers, moves)?;
-    follow_ahead(alloc, parts, moves)?;
-    let most = longest_ahead(alloc, registers, moves)?;
+    for register in 0..registers.len() {
+        follow(alloc, &registers[register], moves, register)?;
+    }
+    let most = longest(alloc, registers, moves)?;
     if most > SESSION_CELLS {
         return Err(RestoreFault::Fit);
     }
     Ok(most <= limit)
 }
 
-/// The same for the inverse changes.
-fn fit_back(
+/// Follows the changes of one register from its union. Refused as `Fit` if one can't be made.
+///
+/// Makes them in the part of the list that they can concern, which is often short, and in layers, which are often few.
+fn follow(
     alloc: Global,
-    registers: &[CellUnion],
+    union: &CellUnion,
     moves: &[Move],
-    limit: usize,
-) -> Result<bool, RestoreFault>
-    requires count { length registers.now ≡ REGISTERS }
-    requires within { AllWithin SESSION_CELLS (lists_of registers.now) }
-    requires each { AllByRecursion IsMoved (map moved_of moves.now) }
-    ensures { MatchResult result (λ within. MakesChanges limit (lists_of registers.now)
-        (map inverse (map diff (map moved_of moves.now))) within)
-        (λ fault. FailsToFollow fault (FitAlong SESSION_CELLS (lists_of registers.now)
-        (map inverse (map diff (map moved_of moves.now))))) }
-{
-    let parts = parts_of(alloc, registers, moves)?;
-    follow_back(alloc, parts, moves)?;
-    let most = longest_back(alloc, registers, moves)?;
-    if most > SESSION_CELLS {
-        return Err(RestoreFault::Fit);
-    }
-    Ok(most <= limit)
-}
-
-/// Makes the changes one after another in a table of lists; refused as `Fit` if one can't be made, or makes a list of
-/// more than `SESSION_CELLS` cells.
-fn follow_ahead(alloc: Global, mut table: Vec<Followed>, moves: &[Move]) -> Result<(), RestoreFault>
-    requires count { length table.items ≡ REGISTERS }
-    requires within { AllWithin SESSION_CELLS table.items }
-    requires each { AllByRecursion IsMoved (map moved_of moves.now) }
-    ensures { MatchResult result (λ _. FitAlong SESSION_CELLS table.items (map diff (map moved_of moves.now)))
-        (λ fault. FailsToFollow fault (FitAlong SESSION_CELLS table.items (map diff (map moved_of moves.now)))) }
-{
-    for change in moves {
-        step(alloc, &mut table, change.register, &change.out, &change.put)?;
-    }
-    Ok(())
-}
-
-/// The same for the inverse changes.
-fn follow_back(alloc: Global, mut table: Vec<Followed>, moves: &[Move]) -> Result<(), RestoreFault>
-    requires count { length table.items ≡ REGISTERS }
-    requires within { AllWithin SESSION_CELLS table.items }
+    register: usize,
+) -> Result<(), RestoreFault>
     requires each { AllByRecursion IsMoved (map moved_of moves.now) }
     ensures { MatchResult result
-        (λ _. FitAlong SESSION_CELLS table.items (map inverse (map diff (map moved_of moves.now))))
-        (λ fault. FailsToFollow fault (FitAlong SESSION_CELLS table.items
-        (map inverse (map diff (map moved_of moves.now))))) }
+        (λ _. FitInTurn union.now.cells (map diff (of_register register (map moved_of moves.now))))
+        (λ fault. FailsToFollow fault
+        (FitInTurn union.now.cells (map diff (of_register register (map moved_of moves.now))))) }
 {
-    for change in moves {
-        step(alloc, &mut table, change.register, &change.put, &change.out)?;
-    }
-    Ok(())
+    let watched = normalise(around_moves(alloc, moves, register)?);
+    let layers = layers_of(alloc, moves, register, &watched)?;
+    let part = part_of(union, &watched)?;
+    follow_layers(alloc, part, &layers)
 }
 
-/// Makes a change in a table of lists.
-fn step(
-    alloc: Global,
-    table: &mut Vec<Followed>,
-    register: u8,
-    out: &[CellId],
-    put: &[CellId],
-) -> Result<(), RestoreFault>
-    requires count { length table.old.items ≡ REGISTERS }
-    requires within { AllWithin SESSION_CELLS table.old.items }
-    requires change { IsMoved (record { register = register; out = out.now; put = put.now }) }
-    ensures { MatchResult result (λ _. MakesChange table.old.items
-        (record { register = register; out = out.now; put = put.now }) table.new.items)
-        (λ fault. FailsToFollow fault (FitsTable SESSION_CELLS table.old.items
-        (record { register = register; out = out.now; put = put.now }))) }
+/// Makes changes one after another in a union. Refused as `Fit` if one can't be made.
+fn follow_layers(alloc: Global, start: CellUnion, layers: &[Move]) -> Result<(), RestoreFault>
+    requires { AreChanges (map diff (map moved_of layers.now)) }
+    ensures { MatchResult result (λ _. FitInTurn start.cells (map diff (map moved_of layers.now)))
+        (λ fault. FailsToFollow fault (FitInTurn start.cells (map diff (map moved_of layers.now)))) }
 {
-    let place = Register::at(register);
-    let list = &mut table[place.index()];
-    list.follow(alloc, out, put)?;
-    if list.len() > SESSION_CELLS {
-        return Err(RestoreFault::Fit);
+    let mut list = Followed::from(alloc, start);
+    for layer in layers {
+        list.follow(alloc, &layer.out, &layer.put)?;
     }
     Ok(())
 }

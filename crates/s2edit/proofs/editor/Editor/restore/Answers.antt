@@ -16,28 +16,24 @@ use Rattle.s2edit.proofs.Contents.{turned, all_reverse}
 use Rattle.s2edit.proofs.Following.{have_room, keep_room, keep_count}
 use Rattle.s2edit.proofs.Restoring.{registers_within, follows, too_deep, too_many, past_fails, future_fails, not_three}
 use Rattle.s2edit.proofs.Restoring.{three, back_side, ahead_side, left_within, left_past, left_future, left_bound}
-use Rattle.s2edit.proofs.Restoring.{left_restored}
+use Rattle.s2edit.proofs.Restoring.{left_restored, inverted_moved, inverted_twice, inverted_count}
 use Rattle.s2edit.proofs.editor.Editor.restore.Goals as goal
 
-pub fit_back-requires : goal.fit_back-requires
-fit_back-requires c =
-    let s = c.args.session in
-    rw (c.deref.ensures.value, c.deref-2.ensures.value) (record {
-      count = sym (length-map s.registers.items (λ (u : Union). u.cells)) ∙ c.requires.count;
-      within = registers_within (lists_of s.registers.items) c.requires.registers;
-      each = subst (AllByRecursion IsMoved)
-          (sym (turned s.past.items c.reverse.new.self.items c.reverse.ensures.items))
-          (all_reverse IsMoved (map moved_of s.past.items) c.requires.past);
-    })
+pub fit-requires-clause-within : goal.fit-requires-clause-within
+fit-requires-clause-within c =
+    rw c.deref.ensures.value (registers_within (lists_of c.args.session.registers.items) c.requires.registers)
 
-pub fit_ahead-requires : goal.fit_ahead-requires
-fit_ahead-requires c =
+pub fit-requires-clause-each : goal.fit-requires-clause-each
+fit-requires-clause-each c =
     let s = c.args.session in
-    rw (c.deref-3.ensures.value, c.deref-4.ensures.value) (record {
-      count = sym (length-map s.registers.items (λ (u : Union). u.cells)) ∙ c.requires.count;
-      within = registers_within (lists_of s.registers.items) c.requires.registers;
-      each = c.requires.future;
-    })
+    rw c.deref-2.ensures.value (inverted_moved (map moved_of c.reverse.new.self.items)
+    (map moved_of c.invert.new.moves.items) c.invert.ensures (subst (AllByRecursion IsMoved)
+    (sym (turned s.past.items c.reverse.new.self.items c.reverse.ensures.items))
+    (all_reverse IsMoved (map moved_of s.past.items) c.requires.past)))
+
+pub fit-requires-2-clause-within : goal.fit-requires-2-clause-within
+fit-requires-2-clause-within c =
+    rw c.deref-3.ensures.value (registers_within (lists_of c.args.session.registers.items) c.requires.registers)
 
 pub returns-in_err-past_within-clause-answer : goal.returns-in_err-past_within-clause-answer
 returns-in_err-past_within-clause-answer c =
@@ -46,8 +42,9 @@ returns-in_err-past_within-clause-answer c =
     let p = err_from_is_err_and c.from_residual.result c.from_residual.ensures.1 in
     rw (p.1, p.2) (past_fails (content_of s) c.args.self.now fault
     (back_side (λ (t : List (List ℕ)) (ds : List Diff). FailsToFollow fault (FitAlong SESSION_CELLS t ds))
-    s.registers.items c.deref.result.now c.reverse.new.self.items c.deref-2.result.now s.past.items
-    c.deref.ensures.value c.deref-2.ensures.value c.reverse.ensures.items c.in_err-past_within.ensures))
+    s.registers.items c.deref.result.now c.invert.new.moves.items c.deref-2.result.now c.reverse.new.self.items
+    s.past.items c.deref.ensures.value c.deref-2.ensures.value c.reverse.ensures.items c.invert.ensures
+    c.in_err-past_within.ensures))
 
 pub returns-in_err-future_within-clause-answer : goal.returns-in_err-future_within-clause-answer
 returns-in_err-future_within-clause-answer c =
@@ -66,23 +63,24 @@ returns-then-len-self-clause-answer c =
     let e = c.self.inside in
     let a = back_side (λ (t : List (List ℕ)) (ds : List Diff).
     MakesChanges e.limit t ds c.in_ok-past_within.past_within) s.registers.items c.deref.result.now
-    c.reverse.new.self.items c.deref-2.result.now s.past.items
-    c.deref.ensures.value c.deref-2.ensures.value c.reverse.ensures.items c.in_ok-past_within.ensures in
+    c.invert.new.moves.items c.deref-2.result.now c.reverse.new.self.items s.past.items
+    c.deref.ensures.value c.deref-2.ensures.value c.reverse.ensures.items c.invert.ensures
+    c.in_ok-past_within.ensures in
     let b = ahead_side (λ (t : List (List ℕ)) (ds : List Diff).
     MakesChanges e.limit t ds c.in_ok-future_within.future_within) s.registers.items c.deref-3.result.now
     s.future.items c.deref-4.result.now
     c.deref-3.ensures.value c.deref-4.ensures.value c.in_ok-future_within.ensures in
+    let past_is = inverted_twice s.past.items c.reverse.new.self.items c.invert.new.moves.items
+    c.invert-2.new.moves.items c.reverse.ensures.items c.invert.ensures c.invert-2.ensures in
     let deep : e.depth < length (map moved_of s.past.items) + length (map moved_of s.future.items) =
     omega (
       arith,
       c.if-len-self.true,
       c.len.ensures,
       c.len-2.ensures,
-      c.reverse.ensures.len,
-      s.past.ok,
+      inverted_count s.past.items c.invert-2.new.moves.items past_is,
       s.future.ok,
-      c.reverse.new.self.ok,
-      length-map s.past.items moved_of,
+      c.invert-2.new.moves.ok,
       length-map s.future.items moved_of,
     ) in
     subst (IsTooDeep (content_of s)) c.self.view_is
@@ -97,22 +95,23 @@ returns-then-not-both-clause-answer c =
     let p = c.in_ok-past_within.past_within in
     let f = c.in_ok-future_within.future_within in
     let a = back_side (λ (t : List (List ℕ)) (ds : List Diff). MakesChanges e.limit t ds p) s.registers.items
-    c.deref.result.now c.reverse.new.self.items c.deref-2.result.now s.past.items
-    c.deref.ensures.value c.deref-2.ensures.value c.reverse.ensures.items c.in_ok-past_within.ensures in
+    c.deref.result.now c.invert.new.moves.items c.deref-2.result.now c.reverse.new.self.items s.past.items
+    c.deref.ensures.value c.deref-2.ensures.value c.reverse.ensures.items c.invert.ensures
+    c.in_ok-past_within.ensures in
     let b = ahead_side (λ (t : List (List ℕ)) (ds : List Diff). MakesChanges e.limit t ds f) s.registers.items
     c.deref-3.result.now s.future.items c.deref-4.result.now
     c.deref-3.ensures.value c.deref-4.ensures.value c.in_ok-future_within.ensures in
+    let past_is = inverted_twice s.past.items c.reverse.new.self.items c.invert.new.moves.items
+    c.invert-2.new.moves.items c.reverse.ensures.items c.invert.ensures c.invert-2.ensures in
     let kept : length (map moved_of s.past.items) + length (map moved_of s.future.items) ≤ e.depth =
     omega (
       arith,
       c.if-len-self.false,
       c.len.ensures,
       c.len-2.ensures,
-      c.reverse.ensures.len,
-      s.past.ok,
+      inverted_count s.past.items c.invert-2.new.moves.items past_is,
       s.future.ok,
-      c.reverse.new.self.ok,
-      length-map s.past.items moved_of,
+      c.invert-2.new.moves.ok,
       length-map s.future.items moved_of,
     ) in
     let failed = sym (c.both.ensures ∙ ap (λ (x : Bool). x && c.are_within.result) c.both-changes_within.ensures)
@@ -141,7 +140,8 @@ take_all-requires c =
 pub fill-requires-clause-each : goal.fill-requires-clause-each
 fill-requires-clause-each c =
     let s = c.args.session in
-    subst (AllByRecursion IsMoved) (sym (turned s.past.items c.reverse.new.self.items c.reverse.ensures.items))
+    subst (AllByRecursion IsMoved) (sym (inverted_twice s.past.items c.reverse.new.self.items
+    c.invert.new.moves.items c.invert-2.new.moves.items c.reverse.ensures.items c.invert.ensures c.invert-2.ensures))
     (all_reverse IsMoved (map moved_of s.past.items) c.requires.past)
 
 -- what is known once everything was taken over
@@ -166,42 +166,42 @@ taken c =
     let past' = c.fill.new.ring.items in
     let future' = c.fill-2.new.ring.items in
     let a = back_side (λ (t : List (List ℕ)) (ds : List Diff). MakesChanges e.limit t ds p) s.registers.items
-    c.deref.result.now c.reverse.new.self.items c.deref-2.result.now s.past.items
-    c.deref.ensures.value c.deref-2.ensures.value c.reverse.ensures.items c.in_ok-past_within.ensures in
+    c.deref.result.now c.invert.new.moves.items c.deref-2.result.now c.reverse.new.self.items s.past.items
+    c.deref.ensures.value c.deref-2.ensures.value c.reverse.ensures.items c.invert.ensures
+    c.in_ok-past_within.ensures in
     let b = ahead_side (λ (t : List (List ℕ)) (ds : List Diff). MakesChanges e.limit t ds f) s.registers.items
     c.deref-3.result.now s.future.items c.deref-4.result.now
     c.deref-3.ensures.value c.deref-4.ensures.value c.in_ok-future_within.ensures in
+    let past_is = inverted_twice s.past.items c.reverse.new.self.items c.invert.new.moves.items
+    c.invert-2.new.moves.items c.reverse.ensures.items c.invert.ensures c.invert-2.ensures in
     let kept : length (map moved_of s.past.items) + length (map moved_of s.future.items) ≤ e.depth =
     omega (
       arith,
       c.if-len-self.false,
       c.len.ensures,
       c.len-2.ensures,
-      c.reverse.ensures.len,
-      s.past.ok,
+      inverted_count s.past.items c.invert-2.new.moves.items past_is,
       s.future.ok,
-      c.reverse.new.self.ok,
-      length-map s.past.items moved_of,
+      c.invert-2.new.moves.ok,
       length-map s.future.items moved_of,
     ) in
     let passed = sym (c.both.ensures ∙ ap (λ (x : Bool). x && r) c.both-changes_within.ensures) ∙ c.if-not-both.false in
     let few = λ (h : r ≡ true). subst (λ (us : List Union). AllLists (λ u. length u ≤ e.limit) (lists_of us))
     c.deref-5.ensures.value (c.are_within.ensures.0 h) in
     let lists = c.take_all.ensures.lists in
-    let past_is = ap (λ (b : Buffer Diff). b.items) c.fill.ensures
-    ∙ ap (map diff) (turned s.past.items c.reverse.new.self.items c.reverse.ensures.items) in
+    let past_filled = ap (λ (b : Buffer Diff). b.items) c.fill.ensures ∙ ap (map diff) past_is in
     let future_is = ap (λ (b : Buffer Diff). b.items) c.fill-2.ensures in
     record {
       within = left_within e.limit e.depth e.registers.items us' past' future' (content_of s) c.requires lists
-          past_is future_is p f r passed a b few kept;
-      past = left_past e.limit e.depth e.registers.items us' past' future' (content_of s) c.requires lists past_is
+          past_filled future_is p f r passed a b few kept;
+      past = left_past e.limit e.depth e.registers.items us' past' future' (content_of s) c.requires lists past_filled
           future_is p f r passed a b few kept;
       future = left_future e.limit e.depth e.registers.items us' past' future' (content_of s) c.requires lists
-          past_is future_is p f r passed a b few kept;
+          past_filled future_is p f r passed a b few kept;
       bound = left_bound e.limit e.depth e.registers.items us' past' future' (content_of s) c.requires lists
-          past_is future_is p f r passed a b few kept;
+          past_filled future_is p f r passed a b few kept;
       restored = left_restored e.limit e.depth e.registers.items us' past' future' (content_of s) c.requires lists
-          past_is future_is p f r passed a b few kept;
+          past_filled future_is p f r passed a b few kept;
     }
 
 pub returns-clause-answer : goal.returns-clause-answer
