@@ -1,18 +1,22 @@
 -- The leaves around the cells that changes name, and parts of lists that have all cells that share a leaf with them.
 use Rattle.std.proofs.Common.{◌≡◌, ℕ, Bool, true, ◌||◌, ◌&&◌, eqb, List, [], ◌∷◌, map, refl, sym, ap, ◌∙◌, subst}
-use Rattle.std.proofs.Common.{arith}
+use Rattle.std.proofs.Common.{arith, ⊎_elim}
+use Rattle.std.proofs.lemmas.Bool.{false≢true}
 use Rattle.std.proofs.lemmas.Grind.{common_steps}
 use Rattle.std.proofs.lemmas.List.Elements.{All-contains}
 use Rattle.std.proofs.lemmas.List.Folds.{list_any-append}
-use Rattle.s2cell.specs.Cell.{IsCell, covers}
-use Rattle.s2cell.proofs.Leaves.{covers_there}
-use Rattle.s2union.specs.Union.{has_leaf, IsLocal}
-use Rattle.s2union.proofs.Normal.{leaf_from, leaf_to}
-use Rattle.s2union.specs.Apply.{has, Fits}
-use Rattle.s2file.specs.Session.{Moved, IsChangeList}
+use Rattle.s2cell.specs.Cell.{IsCell, IsInside, first_leaf, covers}
+use Rattle.s2cell.proofs.Leaves.{covers_there, nested_from_shared}
+use Rattle.s2union.specs.Union.{has_leaf, IsLocal, LiesIn}
+use Rattle.s2union.proofs.Normal.{leaf_from, leaf_to, member_greatest, greatest_apart}
+use Rattle.s2union.proofs.Picking.{greatest_below}
+use Rattle.s2union.proofs.CellLists.{IsAscending-cells_without, has-cells_without, increasing_from}
+use Rattle.s2union.proofs.Applied.{local_ascends}
+use Rattle.s2union.specs.Apply.{has, cells_without, Fits}
+use Rattle.s2file.specs.Session.{Moved, AreApart, IsChangeList}
 use Rattle.s2edit.specs.Part.{around, around_both, around_all, IsWatched, IsPart}
 use Rattle.s2edit.proofs.InTurn.{length_without}
-use Rattle.s2edit.proofs.PartLemmas.{by_bool, has_member, member_had, one_cell}
+use Rattle.s2edit.proofs.PartLemmas.{by_bool, has_member, member_had, leaf_there, is_cell, local_within, one_cell}
 
 -- the leaves around a cell of a list
 pub has_around : (xs : List ℕ) (c x : ℕ) → has xs c ≡ true → covers (around c) x ≡ true →
@@ -39,6 +43,56 @@ leaf_all r x m ms = by_bool (eqb m.register r)
     (λ n. rw n refl)
 
 -- ---- a part that was made
+
+-- the intersection `s` of two unions
+module _ (u w s : List ℕ) (lu : IsLocal u) (lw : IsLocal w) (ls : IsLocal s)
+    (leaves : (x : ℕ) → has_leaf s x ≡ (has_leaf u x && has_leaf w x)) where
+  -- a cell of one of them that lies in the leaves that they share
+  is_shared : (v : List ℕ) (c d x : ℕ) → IsLocal v → ((y : ℕ) → has_leaf s y ≡ true → has_leaf v y ≡ true)
+      → has s c ≡ true → has v d ≡ true → covers c x ≡ true → covers d x ≡ true → LiesIn (has_leaf s) d → c ≡ d
+  is_shared v c d x lv within hc hd vc vd lies = greatest_apart (has_leaf s) c d x
+      (member_greatest s ls c (member_had s c hc)) (greatest_below (has_leaf s) v d lv (member_had v d hd) within lies)
+      vc vd
+
+  in_both : (x : ℕ) → has_leaf s x ≡ true → (has_leaf u x ≡ true) × (has_leaf w x ≡ true)
+  in_both x h = (grind (arith, common_steps, leaves x, h), grind (arith, common_steps, leaves x, h))
+
+  -- a cell that was cut is one of `w`
+  pub uncut : AreApart s w → (c : ℕ) → has s c ≡ true → has u c ≡ true
+  uncut apart c h =
+      let x = first_leaf c in
+      let v = leaf_there c (is_cell s c ls h) in
+      let both = in_both x (leaf_to s c x (member_had s c h) v) in
+      let a = leaf_from u x both.0 in
+      let b = leaf_from w x both.1 in
+      let ha = has_member u a.cell a.member in
+      let hb = has_member w b.cell b.member in
+      let va = covers_there a.cell x a.low a.high in
+      let vb = covers_there b.cell x b.low b.high in
+      ⊎_elim
+      (λ (i : IsInside b.cell a.cell).
+      let one : c ≡ b.cell = is_shared w c b.cell x lw (λ y t. (in_both y t).1) h hb v vb
+      (λ y t. leaves y ∙ both_true (leaf_to u a.cell y a.member (i y t)) (leaf_to w b.cell y b.member t)) in
+      absurd (false≢true (sym (apart c h) ∙ subst (λ (k : ℕ). has w k ≡ true) (sym one) hb)))
+      (λ (i : IsInside a.cell b.cell).
+      let one : c ≡ a.cell = is_shared u c a.cell x lu (λ y t. (in_both y t).0) h ha v va
+      (λ y t. leaves y ∙ both_true (leaf_to u a.cell y a.member t) (leaf_to w b.cell y b.member (i y t))) in
+      subst (λ (k : ℕ). has u k ≡ true) (sym one) ha)
+      (nested_from_shared a.cell b.cell (is_cell u a.cell lu ha) (is_cell w b.cell lw hb) (x, va, vb))
+    where
+      both_true : {p q : Bool} → p ≡ true → q ≡ true → (p && q) ≡ true
+      both_true e f = grind (arith, common_steps, e, f)
+
+-- some cells of a list can be taken out of it
+pub fits_out : (u s : List ℕ) → IsLocal u → IsLocal s → ((c : ℕ) → has s c ≡ true → has u c ≡ true) → Fits s [] u
+fits_out u s lu ls inside = record {
+  out_ascends = ls.ascending;
+  put_ascends = increasing_from [] tt;
+  out_is_there = inside;
+  put_is_new = λ x h. absurd (cc);
+  local = local_within u (cells_without u s) lu (IsAscending-cells_without u s (local_ascends u lu))
+      (λ c h. grind (arith, common_steps, has-cells_without u s c, h));
+}
 
 pub part_from : (S : ℕ → Bool) (u s : List ℕ) → IsLocal u → IsLocal s
     → ((x : ℕ) → has_leaf s x ≡ (has_leaf u x && S x)) → Fits s [] u → IsPart S u s

@@ -155,7 +155,7 @@ LieBeside watched xs ys = (c i : ℕ) → has xs c ≡ true → i < length watch
     covers (get_or watched i 0) (first_leaf c) ≡ true → NoneIn (get_or watched i 0) ys
 
 -- two watched cells that share a leaf are one
-one_place : (watched : List ℕ) (i j x : ℕ) → IsLocal watched → i < length watched → j < length watched →
+pub one_place : (watched : List ℕ) (i j x : ℕ) → IsLocal watched → i < length watched → j < length watched →
     covers (get_or watched i 0) x ≡ true → covers (get_or watched j 0) x ≡ true → i ≡ j
 one_place watched i j x l a b v w =
     ⊎_elim (λ (e : i ≡ j). e)

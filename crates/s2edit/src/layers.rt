@@ -3,8 +3,8 @@
 //! Changes that lie apart from each other can be made in any order, and as one. So each change goes into the lowest
 //! layer that is above every layer with a cell near one of its own, and a layer is one change. The layers in turn do
 //! what the changes do in turn, and there are often few of them.
-ghost use Rattle.std.specs.Prelude.{◌≡◌, ◌≤◌, ◌<◌, ◌++◌, ◌∷◌, ℕ, [], List, length, map, max, true, slice_index};
-ghost use Rattle.std.specs.Prelude.{IfOk, OnOk};
+ghost use Rattle.std.specs.Prelude.{◌≡◌, ◌≤◌, ◌<◌, ◌+◌, ◌++◌, ◌∷◌, ℕ, [], List, length, map, max, true, slice_index};
+ghost use Rattle.std.specs.Prelude.{IfOk, OnOk, take};
 ghost use Rattle.std.specs.List.{AllByRecursion};
 ghost use Rattle.s2cell.specs.Cell.{covers, first_leaf};
 ghost use Rattle.s2union.specs.Union.{has_leaf, IsLocal};
@@ -126,38 +126,51 @@ fn raise(heights: &mut Vec<usize>, places: &[usize], height: usize)
 }
 
 /// The places of the watched cells in which the cells lie that a change names.
+///
+/// Takes the cells that go out and those that are put in by turns, since these often lie in one watched cell.
 fn places_of(alloc: Global, watched: &[CellId], change: &Move) -> Result<Vec<usize>, AllocError>
     requires local { IsLocal watched.now }
     ensures { IfOk result (λ places. ArePlaces watched.now (moved_of change.now) places.items) }
 {
     let mut places = Vec::with_capacity(alloc, change.out.len() + change.put.len())?;
-    push_places(&mut places, watched, &change.out)?;
-    push_places(&mut places, watched, &change.put)?;
+    let mut place = 0;
+    for turn in 0..change.out.len().max(change.put.len()) {
+        place = push_place(&mut places, watched, &change.out, turn, place)?;
+        place = push_place(&mut places, watched, &change.put, turn, place)?;
+    }
     Ok(places)
 }
 
-/// Adds the places of the watched cells in which the cells lie.
-fn push_places(
+/// Adds the place of the watched cell in which the cell of that turn lies, if the list has one. Answers the last place.
+fn push_place(
     places: &mut Vec<usize>,
     watched: &[CellId],
     cells: &[CellId],
-) -> Result<(), AllocError>
+    turn: usize,
+    last: usize,
+) -> Result<usize, AllocError>
     requires local { IsLocal watched.now }
-    ensures each { OnOk result (HavePlaces watched.now cells.now places.new.items) }
+    ensures each { OnOk result (HavePlaces watched.now (take turn cells.now) places.old.items →
+        HavePlaces watched.now (take (turn + 1) cells.now) places.new.items) }
     ensures kept { OnOk result ((p : ℕ) → has places.old.items p ≡ true → has places.new.items p ≡ true) }
 {
-    for cell in cells {
-        places.push(place_of(watched, *cell))?;
+    if turn >= cells.len() {
+        return Ok(last);
     }
-    Ok(())
+    let place = place_of(watched, cells[turn], last);
+    places.push(place)?;
+    Ok(place)
 }
 
-/// The place of the watched cell in which a cell lies, if it lies in one.
-fn place_of(watched: &[CellId], cell: CellId) -> usize
+/// The place of the watched cell in which a cell lies, if it lies in one. Looks at the place `likely` first.
+fn place_of(watched: &[CellId], cell: CellId, likely: usize) -> usize
     requires local { IsLocal watched.now }
     ensures { (i : ℕ) → i < length watched.now → covers (slice_index watched.now i) (first_leaf cell) ≡ true →
         result ≡ i }
 {
+    if likely < watched.len() && watched[likely].contains(cell) {
+        return likely;
+    }
     let leaf = cell.first_leaf();
     watched.partition_point(|near: &CellId| near.end_leaf() <= leaf)
 }

@@ -1,7 +1,8 @@
 //! The part of a register's list that changes can concern.
-ghost use Rattle.std.specs.Prelude.{◌≡◌, ◌++◌, length, map, IfOk, OnOk};
+ghost use Rattle.std.specs.Prelude.{◌≡◌, ◌++◌, length, map, IfOk, MatchBool, OnOk};
+ghost use Rattle.std.specs.List.Sorted.{IsStrictlyIncreasing};
 ghost use Rattle.s2union.specs.Union.{has_leaf};
-ghost use Rattle.s2file.specs.Session.{moved_of};
+ghost use Rattle.s2file.specs.Session.{moved_of, AreApart};
 ghost use Rattle.s2edit.specs.Chain.{lists_of};
 ghost use Rattle.s2edit.specs.Part.{around, around_all, IsPart};
 
@@ -10,6 +11,7 @@ use s2cell::CellId;
 use s2file::Move;
 use s2union::{CellUnion, normalise};
 use std::alloc::{AllocError, Global};
+use std::cmp::Ordering;
 
 /// The cells of a union that share a leaf with the watched cells, or all its cells if one of them is larger than a
 /// watched cell in it. If the watched cells are those around the cells that changes name, the changes can be made in
@@ -19,10 +21,32 @@ pub(crate) fn part_of(union: &CellUnion, watched: &CellUnion) -> Result<CellUnio
 {
     let _ = union.cells();
     let part = union.intersection(watched)?;
+    // A cell that was cut is a watched cell.
+    if are_apart(part.cells(), watched.cells()) {
+        return Ok(part);
+    }
     if union.can_apply(part.cells(), &[]) {
         return Ok(part);
     }
     union.try_clone()
+}
+
+/// Whether no cell is in both lists, by one walk along them.
+fn are_apart(us: &[CellId], vs: &[CellId]) -> bool
+    requires us_ascends { IsStrictlyIncreasing us.now }
+    requires vs_ascends { IsStrictlyIncreasing vs.now }
+    ensures { MatchBool result (AreApart us.now vs.now) (AreApart us.now vs.now → ⊥) }
+{
+    let mut i = 0;
+    let mut j = 0;
+    while i < us.len() && j < vs.len() {
+        match us[i].cmp(&vs[j]) {
+            Ordering::Less => i += 1,
+            Ordering::Equal => return false,
+            Ordering::Greater => j += 1,
+        }
+    }
+    true
 }
 
 /// The parents of the cells that changes of the register name.
