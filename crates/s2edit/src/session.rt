@@ -88,8 +88,9 @@ impl Editor {
     /// `TooDeep`, more changes than the editor keeps; with `TooMany`, a list of more cells than a register may have,
     /// even if only an undo or a redo would bring it back. Any call may answer `Memory` instead.
     ///
-    /// Looks only at the cells of each list that are near cells that changes name, and copies only these. The cost of a
-    /// change is in proportion to the cells that it takes out and puts in, and those of the changes gathered before it.
+    /// Looks only at the cells of each list that are near cells that changes name, and copies only these. Sorts the
+    /// cells that the changes of a register name, and searches the list once for each. If the changes meet each other,
+    /// n of them that name one cell each take at most some n * sqrt(m) steps in a list that has m cells near these.
     pub fn restore(&mut self, session: Session) -> Result<(), RestoreFault>
         requires { IsContent (content_of session) }
         ensures answer { MatchResult result (λ _. Restored (content_of session) self.old self.new)
