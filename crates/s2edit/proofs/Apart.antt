@@ -1,29 +1,22 @@
 -- A change that lies apart from one made before it fits after that change exactly if it fits before.
-use Rattle.std.proofs.Common.{◌≡◌, ℕ, Bool, true, false, not, ◌||◌, List, [], ◌∷◌}
-use Rattle.std.proofs.Common.{refl, sym, ap, ◌∙◌, subst, arith}
+use Rattle.std.proofs.Common.{◌≡◌, ℕ, ◌+◌, ◌<◌, Bool, true, false, not, ◌||◌, eqb, List, [], ◌∷◌, length, drop}
+use Rattle.std.proofs.Common.{get_or, refl, sym, ap, ◌∙◌, subst, arith}
 use Rattle.std.proofs.lemmas.Grind.{common_steps}
 use Rattle.std.proofs.lemmas.Bool.{false≢true}
 use Rattle.s2cell.specs.Cell.{IsCell, first_leaf, covers}
-use Rattle.s2union.specs.Union.{has_leaf, IsLocal}
+use Rattle.s2union.specs.Union.{has_leaf, IsLocal, ShareSome}
 use Rattle.s2union.specs.Apply.{has, cells_without, applied, Fits}
 use Rattle.s2union.proofs.Normal.{leaf_to}
 use Rattle.s2union.proofs.CellLists.{has-cells_without, has-applied, IsAscending-cells_without, ascends_from}
 use Rattle.s2union.proofs.Applied.{local_ascends}
+use Rattle.s2file.specs.Session.{AreApart}
 use Rattle.s2edit.specs.Diff.{IsDiff}
 use Rattle.s2edit.specs.Part.{around, IsWatched, IsPart}
-use Rattle.s2edit.specs.Followed.{joined, both_out, LeadsOn}
+use Rattle.s2edit.specs.Followed.{joined, both_out, LieApart, LiesApart, LeadsOn}
+use Rattle.s2edit.proofs.Following.{drop_next}
 use Rattle.s2edit.proofs.InTurn.{length_applied, length_without, follow_on, in_turn, fits_as_one}
 use Rattle.s2edit.proofs.PartLemmas.{by_bool, member_had, is_cell, leaf_there, leaf_around, local_within, fits_part}
 use Rattle.s2edit.proofs.PartLemmas.{fits_whole}
-
--- no leaf around a cell of the list `cells` is one of the list `u`
-abbrev pub LieApart : List ℕ → List ℕ → Type 0
-LieApart cells u = (c x : ℕ) → has cells c ≡ true → covers (around c) x ≡ true → has_leaf u x ≡ false
-
--- no leaf around a cell that a change names is one of the list `u`
-pub record LiesApart (out put u : List ℕ) : Type 0 where
-  pub outs : LieApart out u
-  pub puts : LieApart put u
 
 -- what is taken out of a local list, and what is put in, are local
 pub out_local : (out put u : List ℕ) → IsLocal u → Fits out put u → IsLocal out
@@ -48,6 +41,22 @@ not_in cells o c a g h = by_bool (has o c)
     absurd (false≢true (sym (a c (first_leaf c) h (leaf_around c (first_leaf c) g v))
     ∙ leaf_to o c (first_leaf c) (member_had o c e) v)))
     (λ e. e)
+
+-- the cells of a list, one by one
+module _ (cells u : List ℕ) (i c w : ℕ) (l : i < length cells) (is : c ≡ get_or cells i c) (w_is : w ≡ around c) where
+  pub lie_on : (ShareSome (covers w) (has_leaf u) → ⊥) → LieApart (drop (i + 1) cells) u → LieApart (drop i cells) u
+  lie_on none rest = rw (drop_next cells i c l is) (λ y x h v. by_bool (eqb c y)
+      (λ e. by_bool (has_leaf u x)
+      (λ t. let same : c ≡ y = grind (arith, common_steps, e) in
+      absurd (none (x, rw (w_is, same) v, t)))
+      (λ t. t))
+      (λ e. rest y x (grind (arith, common_steps, e, h)) v))
+
+  pub lie_rest : LieApart (drop i cells) u → LieApart (drop (i + 1) cells) u
+  lie_rest a y x h v =
+      let there : has (drop i cells) y ≡ true =
+      rw (drop_next cells i c l is) (grind (arith, common_steps, h)) in
+      a y x there v
 
 -- that two lists share no cell, said of the other list
 turned : (us vs : List ℕ) → ((x : ℕ) → has us x ≡ true → has vs x ≡ false) → (x : ℕ) → has vs x ≡ true →
@@ -122,6 +131,12 @@ module _ (u o p n q : List ℕ) (local : IsLocal u) (f : Fits o p u) (outs_apart
       (fits_part (spared o p) (applied o p u) (cells_without u o) n q part_now wn wq g)
 
   module _ (g : Fits n q u) where
+    pub outs_unshared : (o' : List ℕ) → o' ≡ o → AreApart o' n
+    outs_unshared o' e = rw e (turned n o (λ c h. not_in n o c outs_apart.outs ((cells_of u local g).0 c h) h))
+
+    pub puts_unshared : (p' : List ℕ) → p' ≡ p → AreApart p' q
+    puts_unshared p' e = rw e (turned q p (λ c h. not_in q p c puts_apart.puts ((cells_of u local g).1 c h) h))
+
     same_out : joined o n ≡ both_out o p n q
     same_out =
         sym (ap (λ (l : List ℕ). joined l (cells_without n p)) (without_none o q

@@ -1,16 +1,17 @@
 -- Two changes of a list in turn are one change: what it takes out and puts in, and that it fits as they do.
 use Rattle.std.proofs.Common.{◌≡◌, ℕ, ◌+◌, Bool, true, false, not, ◌||◌, ◌&&◌, List, [], length, sym, ap}
-use Rattle.std.proofs.Common.{◌∙◌, subst, arith}
+use Rattle.std.proofs.Common.{◌∙◌, subst, arith, None}
 use Rattle.std.proofs.lemmas.Grind.{common_steps}
 use Rattle.std.specs.List.Sorted.{IsStrictlyIncreasing}
-use Rattle.s2union.specs.Union.{IsLocal}
+use Rattle.s2union.specs.Union.{Union, IsLocal}
 use Rattle.s2union.specs.Apply.{has, cells_without, insert_cells, applied, Fits}
 use Rattle.s2union.proofs.CellLists.{IsAscending, same_cells, has-cells_without, has-insert_cells, has-applied}
 use Rattle.s2union.proofs.CellLists.{IsAscending-cells_without, IsAscending-insert_cells, IsAscending-applied}
 use Rattle.s2union.proofs.CellLists.{ascends_from, increasing_from}
 use Rattle.s2union.proofs.Applied.{local_ascends}
 use Rattle.s2edit.specs.Diff.{IsDiff}
-use Rattle.s2edit.specs.Followed.{both_out, CanFollowOn, LeadsOn}
+use Rattle.s2edit.specs.Followed.{latest, both_out, IsFollowed, CanFollowOn, LeadsOn}
+use Rattle.s2edit.specs.declared.followed.Followed.TheInside.{Inside}
 use Rattle.s2edit.proofs.DiffLemmas.{cells_without-nothing}
 use Rattle.s2edit.proofs.Sizes.{length-insert_cells}
 
@@ -28,6 +29,19 @@ nothing_fits out put us e f a =
       put_is_new = λ x h. absurd (cc);
       local = subst IsLocal (sym (cells_without-nothing us)) a;
     }))
+
+-- a union whose list was taken out has no list of its own and no change
+pub whole_left : (f : Inside) (emptied emptied' : Union) → IsLocal f.union.now.cells → f.own ≡ None →
+    f.out ≡ emptied → f.put ≡ emptied' → emptied.cells ≡ [] → emptied'.cells ≡ [] → IsFollowed f
+whole_left f emptied emptied' local own out put e e' =
+    let here : IsLocal (latest f.union.now f.own) =
+    subst IsLocal (sym (ap (latest f.union.now) own)) local in
+    record {
+      whole = local;
+      local = here;
+      fits = nothing_fits f.out.cells f.put.cells (latest f.union.now f.own)
+          (ap (λ (u : Union). u.cells) out ∙ e) (ap (λ (u : Union). u.cells) put ∙ e') here;
+    }
 
 pub same_applied : (out put us out' put' us' : List ℕ) → out ≡ out' → put ≡ put' → us ≡ us' →
     applied out put us ≡ applied out' put' us'

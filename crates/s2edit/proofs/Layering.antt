@@ -12,11 +12,11 @@ use Rattle.s2union.proofs.CellLists.{ascends_from, increasing_from}
 use Rattle.s2union.proofs.Applied.{local_ascends}
 use Rattle.s2edit.specs.Diff.{Diff, IsDiff, apply, FitsList}
 use Rattle.s2edit.specs.Part.{IsWatched, IsPart}
-use Rattle.s2edit.specs.Followed.{joined, LeadsOn}
+use Rattle.s2edit.specs.Followed.{joined, LieApart, LiesApart, LeadsOn}
 use Rattle.s2edit.specs.Layers.{FitInTurn, list_after_all, AreChanges, LeadAlike}
 use Rattle.s2edit.proofs.InTurn.{nothing_applied, nothing_fits}
 use Rattle.s2edit.proofs.PartLemmas.{by_bool, member_had, is_cell, local_within, fits_whole}
-use Rattle.s2edit.proofs.Apart.{LieApart, LiesApart, not_in, spared, fits_after, fits_before, leads_apart}
+use Rattle.s2edit.proofs.Apart.{not_in, spared, fits_after, fits_before, leads_apart}
 
 -- two changes of which neither names a cell whose surroundings share a leaf with a cell of the other
 pub record AreSeparate (b d : Diff) : Type 0 where
@@ -64,21 +64,22 @@ pub alike_self : (ds : List Diff) → LeadAlike ds ds
 alike_self ds = alike_each ds ds (λ u local. at_self u ds)
 
 -- changes in turn, and then more of them
-fit_parts : (u : List ℕ) (ds fs : List Diff) → FitInTurn u (ds ++ fs) →
+pub fit_parts : (u : List ℕ) (ds fs : List Diff) → FitInTurn u (ds ++ fs) →
     FitInTurn u ds × FitInTurn (list_after_all u ds) fs
 fit_parts u [] fs f = (tt, f)
 fit_parts u (d ∷ ds) fs f = let rest = fit_parts (apply d u) ds fs f.1 in ((f.0, rest.0), rest.1)
 
-fit_both : (u : List ℕ) (ds fs : List Diff) → FitInTurn u ds → FitInTurn (list_after_all u ds) fs →
+pub fit_both : (u : List ℕ) (ds fs : List Diff) → FitInTurn u ds → FitInTurn (list_after_all u ds) fs →
     FitInTurn u (ds ++ fs)
 fit_both u [] fs f g = g
 fit_both u (d ∷ ds) fs f g = (f.0, fit_both (apply d u) ds fs f.1 g)
 
-after_both : (u : List ℕ) (ds fs : List Diff) → list_after_all u (ds ++ fs) ≡ list_after_all (list_after_all u ds) fs
+pub after_both : (u : List ℕ) (ds fs : List Diff) →
+    list_after_all u (ds ++ fs) ≡ list_after_all (list_after_all u ds) fs
 after_both u [] fs = refl
 after_both u (d ∷ ds) fs = after_both (apply d u) ds fs
 
-local_after : (u : List ℕ) (ds : List Diff) → IsLocal u → FitInTurn u ds → IsLocal (list_after_all u ds)
+pub local_after : (u : List ℕ) (ds : List Diff) → IsLocal u → FitInTurn u ds → IsLocal (list_after_all u ds)
 local_after u [] local f = local
 local_after u (d ∷ ds) local f = local_after (apply d u) ds f.0.local f.1
 

@@ -29,3 +29,4 @@ pub mod Turns
 pub mod Ordering
 pub mod Stacking
 pub mod Watching
+pub mod InPlace

@@ -24,7 +24,7 @@ use Rattle.s2file.specs.Session.{Moved, IsMoved, moved_of}
 use Rattle.s2edit.specs.Diff.{Diff, IsDiff}
 use Rattle.s2edit.specs.Session.{diff}
 use Rattle.s2edit.specs.Part.{around}
-use Rattle.s2edit.proofs.Apart.{LieApart}
+use Rattle.s2edit.specs.Followed.{LieApart}
 use Rattle.s2edit.specs.Layers.{ordered, ordered_diff, AreChanges, LeadAlike, AllNearWatched, IsNearWatched}
 use Rattle.s2edit.specs.Layers.{HavePlaces, ArePlaces, NoneIn, layer_at, IsStacked}
 use Rattle.s2edit.proofs.Following.{same_diff}

@@ -1,14 +1,17 @@
 -- Changes can be made in turn in a list exactly when they can in the part of it that they can concern.
-use Rattle.std.proofs.Common.{◌≡◌, ℕ, Bool, true, eqb, List, [], ◌∷◌, map}
-use Rattle.std.proofs.Common.{◌∙◌, arith}
+use Rattle.std.proofs.Common.{◌≡◌, ℕ, zero, suc, ◌+◌, Bool, true, eqb, List, [], ◌∷◌, ◌++◌, map, take, drop}
+use Rattle.std.proofs.Common.{refl, sym, ap, ◌∙◌, subst, arith}
 use Rattle.std.proofs.lemmas.Grind.{common_steps}
+use Rattle.std.proofs.lemmas.List.{map-append, take-append-drop, drop-drop}
 use Rattle.std.specs.List.{AllByRecursion}
 use Rattle.s2union.specs.Union.{has_leaf}
-use Rattle.s2file.specs.Session.{Moved, IsMoved}
+use Rattle.s2file.specs.Session.{Moved, IsMoved, moved_of}
+use Rattle.s2file.specs.declared.session.Move.{Move}
 use Rattle.s2edit.specs.Diff.{Diff, apply}
-use Rattle.s2edit.specs.Layers.{FitInTurn, LeadAlike, of_register}
+use Rattle.s2edit.specs.Layers.{FitInTurn, list_after_all, LeadAlike, of_register}
 use Rattle.s2edit.specs.Part.{around_all, IsWatched, IsPart}
 use Rattle.s2edit.specs.Session.{diff}
+use Rattle.s2edit.proofs.Layering.{fit_parts, fit_both, after_both}
 use Rattle.s2edit.proofs.PartLemmas.{by_bool, fits_part, fits_whole, part_after}
 use Rattle.s2edit.proofs.PartTables.{watched_in, leaf_both, leaf_all}
 
@@ -68,7 +71,83 @@ module _ (r : ℕ) (ms : List Moved) (each : AllByRecursion IsMoved ms) (watched
   layers_need f = alike.there s p.part_local
       (turn_part (has_leaf watched) u s (map diff (of_register r ms)) p all_watched f)
 
--- the changes that are left can be made from here exactly if all can from the start
+-- the changes that are left can be made from here exactly if all can from the start, and they lead to the same list
 pub record GoesOn (u : List ℕ) (ds : List Diff) (here : List ℕ) (left : List Diff) : Type 0 where
   pub fit : FitInTurn here left → FitInTurn u ds
   pub back : FitInTurn u ds → FitInTurn here left
+  pub same : list_after_all here left ≡ list_after_all u ds
+
+-- the first of the changes that are left were made
+pub goes_over : (u : List ℕ) (ds : List Diff) (here there : List ℕ) (firsts rest : List Diff) →
+    GoesOn u ds here (firsts ++ rest) → FitInTurn here firsts → there ≡ list_after_all here firsts →
+    GoesOn u ds there rest
+goes_over u ds here there firsts rest g f e = record {
+  fit = λ h. g.fit (fit_both here firsts rest f (subst (λ (v : List ℕ). FitInTurn v rest) e h));
+  back = λ h. subst (λ (v : List ℕ). FitInTurn v rest) (sym e) (fit_parts here firsts rest (g.back h)).1;
+  same = ap (λ (v : List ℕ). list_after_all v rest) e ∙ sym (after_both here firsts rest) ∙ g.same;
+}
+
+-- the changes of a register, of changes in two parts
+of_register-append : (r : ℕ) (ms ns : List Moved) → of_register r (ms ++ ns) ≡ of_register r ms ++ of_register r ns
+of_register-append r [] ns = refl
+of_register-append r (m ∷ ms) ns = by_bool (eqb m.register r)
+    (λ e. rw e (ap (λ (l : List Moved). m ∷ l) (of_register-append r ms ns)))
+    (λ n. rw n (of_register-append r ms ns))
+
+pub diffs_in_parts : (r : ℕ) (ms ns : List Moved) →
+    map diff (of_register r (ms ++ ns)) ≡ map diff (of_register r ms) ++ map diff (of_register r ns)
+diffs_in_parts r ms ns = ap (map diff) (of_register-append r ms ns) ∙ map-append diff (of_register r ms)
+    (of_register r ns)
+
+-- some of the changes of a session
+each_after : (ms : List Move) (i : ℕ) → AllByRecursion IsMoved (map moved_of ms) →
+    AllByRecursion IsMoved (map moved_of (drop i ms))
+each_after [] zero a = a
+each_after [] (suc i) a = a
+each_after (m ∷ ms) zero a = a
+each_after (m ∷ ms) (suc i) a = each_after ms i a.1
+
+each_before : (ms : List Move) (i : ℕ) → AllByRecursion IsMoved (map moved_of ms) →
+    AllByRecursion IsMoved (map moved_of (take i ms))
+each_before [] zero a = a
+each_before [] (suc i) a = a
+each_before (m ∷ ms) zero a = tt
+each_before (m ∷ ms) (suc i) a = (a.0, each_before ms i a.1)
+
+pub each_between : (ms : List Move) (i n : ℕ) → AllByRecursion IsMoved (map moved_of ms) →
+    AllByRecursion IsMoved (map moved_of (take n (drop i ms)))
+each_between ms i n a = each_before (drop i ms) n (each_after ms i a)
+
+-- a batch of the changes of a session: those from the place `i` to the place `i + k`, which are `n`
+module _ (u : List ℕ) (r : ℕ) (ms : List Move) (here : List ℕ) (i k n : ℕ) (count : n ≡ k)
+    (g : GoesOn u (map diff (of_register r (map moved_of ms))) here
+    (map diff (of_register r (map moved_of (drop i ms))))) where
+  parts : drop i ms ≡ take n (drop i ms) ++ drop (i + k) ms
+  parts = sym (take-append-drop n (drop i ms)) ∙ ap (λ (l : List Move). take n (drop i ms) ++ l)
+      (drop-drop n i ms ∙ ap (λ (j : ℕ). drop j ms) (omega (arith, count)))
+
+  in_parts : map diff (of_register r (map moved_of (drop i ms)))
+      ≡ map diff (of_register r (map moved_of (take n (drop i ms))))
+      ++ map diff (of_register r (map moved_of (drop (i + k) ms)))
+  in_parts = ap (λ (l : List Move). map diff (of_register r (map moved_of l))) parts
+      ∙ ap (λ (l : List Moved). map diff (of_register r l))
+      (map-append moved_of (take n (drop i ms)) (drop (i + k) ms))
+      ∙ diffs_in_parts r (map moved_of (take n (drop i ms))) (map moved_of (drop (i + k) ms))
+
+  goes_parts : GoesOn u (map diff (of_register r (map moved_of ms))) here
+      (map diff (of_register r (map moved_of (take n (drop i ms))))
+      ++ map diff (of_register r (map moved_of (drop (i + k) ms))))
+  goes_parts = subst (GoesOn u (map diff (of_register r (map moved_of ms))) here) in_parts g
+
+  pub batch_goes : (there : List ℕ) → FitInTurn here (map diff (of_register r (map moved_of (take n (drop i ms))))) →
+      there ≡ list_after_all here (map diff (of_register r (map moved_of (take n (drop i ms))))) →
+      GoesOn u (map diff (of_register r (map moved_of ms))) there
+      (map diff (of_register r (map moved_of (drop (i + k) ms))))
+  batch_goes there f e = goes_over u (map diff (of_register r (map moved_of ms))) here there
+      (map diff (of_register r (map moved_of (take n (drop i ms)))))
+      (map diff (of_register r (map moved_of (drop (i + k) ms)))) goes_parts f e
+
+  pub batch_needs : FitInTurn u (map diff (of_register r (map moved_of ms))) →
+      FitInTurn here (map diff (of_register r (map moved_of (take n (drop i ms)))))
+  batch_needs f = (fit_parts here (map diff (of_register r (map moved_of (take n (drop i ms)))))
+      (map diff (of_register r (map moved_of (drop (i + k) ms)))) (goes_parts.back f)).0

@@ -9,7 +9,9 @@
 mod change;
 mod editor;
 mod edits;
+mod fitting;
 mod followed;
+mod in_place;
 mod lacking;
 pub mod laws;
 mod layers;

@@ -4,31 +4,38 @@ ghost use Rattle.std.specs.List.Sorted.{IsStrictlyIncreasing};
 ghost use Rattle.s2union.specs.Union.{has_leaf};
 ghost use Rattle.s2file.specs.Session.{moved_of, AreApart};
 ghost use Rattle.s2edit.specs.Chain.{lists_of};
+ghost use Rattle.s2edit.specs.Followed.{latest};
 ghost use Rattle.s2edit.specs.Part.{around, around_all, IsPart};
 
-use crate::followed::Followed;
 use s2cell::CellId;
 use s2file::Move;
 use s2union::{CellUnion, normalise};
 use std::alloc::{AllocError, Global};
 use std::cmp::Ordering;
 
-/// The cells of a union that share a leaf with the watched cells, or all its cells if one of them is larger than a
-/// watched cell in it. If the watched cells are those around the cells that changes name, the changes can be made in
-/// this part exactly if they can in the union: they can take out, overlap or form a family with no other cell.
-pub(crate) fn part_of(union: &CellUnion, watched: &CellUnion) -> Result<CellUnion, AllocError>
-    ensures { IfOk result (λ part. IsPart (has_leaf watched.now.cells) union.now.cells part.cells) }
+/// The cells of a union that share a leaf with the watched cells; none to say all its cells, if these are most of them,
+/// or if one of them is larger than a watched cell in it. If the watched cells are those around the cells that changes
+/// name, the changes can be made in this part exactly if they can in the union: they can take out, overlap or form a
+/// family with no other cell.
+pub(crate) fn part_of(
+    union: &CellUnion,
+    watched: &CellUnion,
+) -> Result<Option<CellUnion>, AllocError>
+    ensures { IfOk result (λ part. IsPart (has_leaf watched.now.cells) union.now.cells (latest union.now part)) }
 {
     let _ = union.cells();
     let part = union.intersection(watched)?;
+    if part.len() > union.len() / 2 {
+        return Ok(None);
+    }
     // A cell that was cut is a watched cell.
     if are_apart(part.cells(), watched.cells()) {
-        return Ok(part);
+        return Ok(Some(part));
     }
     if union.can_apply(part.cells(), &[]) {
-        return Ok(part);
+        return Ok(Some(part));
     }
-    union.try_clone()
+    Ok(None)
 }
 
 /// Whether no cell is in both lists, by one walk along them.

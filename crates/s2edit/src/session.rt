@@ -7,7 +7,6 @@ ghost use Rattle.s2file.specs.Session.{content_of, moved_of, IsContent, IsMoved}
 ghost use Rattle.s2edit.specs.History.{AllLists};
 ghost use Rattle.s2edit.specs.Diff.{inverse};
 ghost use Rattle.s2edit.specs.Chain.{lists_of, AllWithin, FitAlong};
-ghost use Rattle.s2edit.specs.Layers.{of_register, AreChanges, FitInTurn};
 ghost use Rattle.s2edit.specs.Session.{moved, diff, Records, Text, Restored, RefusesSession};
 ghost use Rattle.s2edit.specs.Following.{FailsToFollow, MakesChanges, HaveRoom, KeepRoom};
 ghost use Rattle.s2edit.specs.declared.session.RestoreFault.TheVariants.{Memory};
@@ -15,13 +14,11 @@ ghost use Rattle.s2edit.specs.declared.session.RestoreFault.TheVariants.{Memory}
 use crate::REGISTERS;
 use crate::change::Change;
 use crate::editor::Editor;
-use crate::followed::Followed;
-use crate::layers::layers_of;
+use crate::fitting::follow;
 use crate::lengths::longest;
-use crate::parts::{around_moves, part_of};
 use circular_buffer::HeapCircularBuffer;
 use s2file::{Move, SESSION_CELLS, Session, encode_parts};
-use s2union::{CellUnion, normalise};
+use s2union::CellUnion;
 use std::alloc::{AllocError, Global};
 use std::mem;
 
@@ -209,40 +206,6 @@ fn fit(
         return Err(RestoreFault::Fit);
     }
     Ok(most <= limit)
-}
-
-/// Follows the changes of one register from its union. Refused as `Fit` if one can't be made.
-///
-/// Makes them in the part of the list that they can concern, which is often short, and in layers, which are often few.
-fn follow(
-    alloc: Global,
-    union: &CellUnion,
-    moves: &[Move],
-    register: usize,
-) -> Result<(), RestoreFault>
-    requires each { AllByRecursion IsMoved (map moved_of moves.now) }
-    ensures { MatchResult result
-        (λ _. FitInTurn union.now.cells (map diff (of_register register (map moved_of moves.now))))
-        (λ fault. FailsToFollow fault
-        (FitInTurn union.now.cells (map diff (of_register register (map moved_of moves.now))))) }
-{
-    let watched = normalise(around_moves(alloc, moves, register)?);
-    let layers = layers_of(alloc, moves, register, &watched)?;
-    let part = part_of(union, &watched)?;
-    follow_layers(alloc, part, &layers)
-}
-
-/// Makes changes one after another in a union. Refused as `Fit` if one can't be made.
-fn follow_layers(alloc: Global, start: CellUnion, layers: &[Move]) -> Result<(), RestoreFault>
-    requires { AreChanges (map diff (map moved_of layers.now)) }
-    ensures { MatchResult result (λ _. FitInTurn start.cells (map diff (map moved_of layers.now)))
-        (λ fault. FailsToFollow fault (FitInTurn start.cells (map diff (map moved_of layers.now)))) }
-{
-    let mut list = Followed::from(alloc, start);
-    for layer in layers {
-        list.follow(alloc, &layer.out, &layer.put)?;
-    }
-    Ok(())
 }
 
 /// Whether both hold.

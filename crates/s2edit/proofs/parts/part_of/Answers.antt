@@ -19,4 +19,5 @@ returns-then-are_apart c =
     let ls = c.in_ok-part.ensures.local in
     let leaves = c.in_ok-part.ensures.leaves in
     let apart : AreApart s w = rw (sym c.cells-2.ensures.value, sym c.cells-3.ensures.value) c.if-are_apart.ensures in
-    part_from (has_leaf w) u s lu ls leaves (fits_out u s lu ls (uncut u w s lu c.cells-3.ensures.local ls leaves apart))
+    part_from (has_leaf w) u s lu ls leaves
+    (fits_out u s lu ls (uncut u w s lu c.cells-3.ensures.local ls leaves apart))

@@ -1,4 +1,5 @@
-use Rattle.std.proofs.Common.{length, ap, arith}
+use Rattle.std.proofs.Common.{length, ap, ◌∙◌, arith}
+use Rattle.s2edit.specs.Followed.{latest}
 use Rattle.s2edit.proofs.InTurn.{length_without, length_applied}
 use Rattle.s2edit.proofs.followed.Followed.len.Goals as goal
 
@@ -7,8 +8,8 @@ overflow_sub-result c =
     omega (
       arith,
       length_without c.self.inside.out.cells c.self.inside.put.cells
-          c.self.inside.start.cells c.self.invariant.local c.self.invariant.fits,
-      ap length c.cells.ensures.value,
+          (latest c.self.inside.union.now c.self.inside.own) c.self.invariant.local c.self.invariant.fits,
+      ap length (c.cells.ensures.value ∙ c.latest-start.ensures),
       ap length c.cells-2.ensures.value,
     )
 
@@ -16,11 +17,11 @@ pub returns : goal.returns
 returns c =
     omega (
       arith,
-      length_applied c.self.inside.out.cells c.self.inside.put.cells c.self.inside.start.cells
+      length_applied c.self.inside.out.cells c.self.inside.put.cells (latest c.self.inside.union.now c.self.inside.own)
           c.self.invariant.local c.self.invariant.fits,
-      length_without c.self.inside.out.cells c.self.inside.put.cells c.self.inside.start.cells
+      length_without c.self.inside.out.cells c.self.inside.put.cells (latest c.self.inside.union.now c.self.inside.own)
           c.self.invariant.local c.self.invariant.fits,
-      ap length c.cells.ensures.value,
+      ap length (c.cells.ensures.value ∙ c.latest-start.ensures),
       ap length c.cells-2.ensures.value,
       ap length c.cells-3.ensures.value,
       ap length c.self.view_is,

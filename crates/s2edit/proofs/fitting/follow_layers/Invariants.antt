@@ -3,11 +3,11 @@ use Rattle.s2file.specs.Session.{moved_of}
 use Rattle.s2edit.specs.Layers.{AreChanges}
 use Rattle.s2edit.specs.Session.{diff}
 use Rattle.s2edit.proofs.Turns.{GoesOn}
-use Rattle.s2edit.proofs.session.follow_layers.Given as goal
+use Rattle.s2edit.proofs.fitting.follow_layers.Given as goal
 
 abbrev pub invariant-loop-layer : goal.invariant-loop-layer
 invariant-loop-layer l = record {
-  goes : GoesOn l.fn.start.cells (map diff (map moved_of l.layers)) l.list
+  goes : GoesOn l.initial.list (map diff (map moved_of l.layers)) l.list
       (map diff (map moved_of (drop l.layer-index l.layers)));
   each : AreChanges (map diff (map moved_of (drop l.layer-index l.layers)));
 }
