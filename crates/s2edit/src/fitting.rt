@@ -18,11 +18,14 @@ use s2file::Move;
 use s2union::{CellUnion, normalise};
 use std::alloc::Global;
 
-/// How many times the cells of a batch a union has.
-const UNION_TO_BATCH: usize = 16;
+/// How many times as many cells as the changes name a list has, if they are followed together.
+const LIST_TO_FEW: usize = 8;
 
-/// How many cells the changes of a batch may name if the union is small.
-const SMALL_BATCH: usize = 4096;
+/// The same for a batch of changes.
+const LIST_TO_BATCH: usize = 32;
+
+/// So many cells are few beside any list.
+const FEW: usize = 4096;
 
 /// Follows the changes of one register from its union. Refused as `Fit` if one can't be made.
 pub(crate) fn follow(
@@ -37,11 +40,11 @@ pub(crate) fn follow(
         (λ fault. FailsToFollow fault
         (FitInTurn union.now.cells (map diff (of_register register (map moved_of moves.now))))) }
 {
-    let most = (union.len() / UNION_TO_BATCH).max(SMALL_BATCH);
-    if count_naming(moves, register, most) == moves.len() {
+    let few = (union.len() / LIST_TO_FEW).max(FEW);
+    if count_naming(moves, register, few) == moves.len() {
         return follow_few(alloc, union, moves, register);
     }
-    follow_many(alloc, union, moves, register, most)
+    follow_many(alloc, union, moves, register)
 }
 
 /// How many of the changes, from the first on, together name at most so many cells of the register.
@@ -84,13 +87,12 @@ fn follow_few(
     follow_layers(alloc, &mut list, &layers)
 }
 
-/// Follows changes in batches that each name at most so many cells, or are one change.
+/// Follows changes in batches that each name few cells, or are one change.
 fn follow_many(
     alloc: Global,
     union: &CellUnion,
     moves: &[Move],
     register: usize,
-    most: usize,
 ) -> Result<(), RestoreFault>
     requires each { AllByRecursion IsMoved (map moved_of moves.now) }
     ensures { MatchResult result
@@ -101,7 +103,8 @@ fn follow_many(
     let mut list = Followed::from(alloc, union, None);
     let mut done = 0;
     while done < moves.len() {
-        let next = done + count_naming(&moves[done..], register, most).max(1);
+        let few = (list.len() / LIST_TO_BATCH).max(FEW);
+        let next = done + count_naming(&moves[done..], register, few).max(1);
         follow_batch(alloc, &mut list, &moves[done..next], register)?;
         done = next;
     }

@@ -7,7 +7,11 @@ use s2cell::CellId;
 use s2union::CellUnion;
 use std::alloc::AllocError;
 
-/// The list with a change made in it, in the list's own room, which grows only by the cells that are put in.
+/// How many times as long as what is added to its room a list is, if that is more than it needs.
+const LIST_TO_GROWTH: usize = 8;
+
+/// The list with a change made in it, in the list's own room. If that is too small for the cells that are put in, it
+/// grows by as many cells, and by an eighth of the list at least.
 ///
 /// Walks along the whole list.
 pub(crate) fn applied_in_place(
@@ -56,7 +60,9 @@ fn put_in(cells: &mut Vec<CellId>, put: &[CellId]) -> Result<(), AllocError>
 {
     let mut left = cells.len();
     let mut more = put.len();
-    cells.reserve_exact(more)?;
+    if cells.capacity() - cells.len() < more {
+        cells.reserve_exact(more.max(cells.len() / LIST_TO_GROWTH))?;
+    }
     cells.extend_from_slice(put)?;
     while more > 0 {
         if left > 0 && cells[left - 1] > put[more - 1] {

@@ -13,10 +13,9 @@ use s2union::{CellUnion, normalise};
 use std::alloc::{AllocError, Global};
 use std::cmp::Ordering;
 
-/// The cells of a union that share a leaf with the watched cells; none to say all its cells, if these are most of them,
-/// or if one of them is larger than a watched cell in it. If the watched cells are those around the cells that changes
-/// name, the changes can be made in this part exactly if they can in the union: they can take out, overlap or form a
-/// family with no other cell.
+/// The cells of a union that share a leaf with the watched cells; none to say all its cells, if one of them is larger
+/// than a watched cell in it. If the watched cells are those around the cells that changes name, the changes can be made
+/// in this part exactly if they can in the union: they can take out, overlap or form a family with no other cell.
 pub(crate) fn part_of(
     union: &CellUnion,
     watched: &CellUnion,
@@ -25,9 +24,6 @@ pub(crate) fn part_of(
 {
     let _ = union.cells();
     let part = union.intersection(watched)?;
-    if part.len() > union.len() / 2 {
-        return Ok(None);
-    }
     // A cell that was cut is a watched cell.
     if are_apart(part.cells(), watched.cells()) {
         return Ok(Some(part));
