@@ -1,5 +1,6 @@
 """Session files that were not made by the program, and a run that is killed between dump and restore."""
 import os
+import random
 import shutil
 import subprocess
 import tempfile
@@ -26,6 +27,16 @@ def session(registers=(), past=(), future=()):
     """A session file: lists by their letters, and the changes of both sides."""
     lists = b"".join(cells(*dict(registers).get(letter, ())) for letter in REGISTERS)
     return b"\x73\x01" + lists + number(len(past)) + b"".join(past) + number(len(future)) + b"".join(future)
+
+
+def most_resident_after(program, line, answer):
+    """The most bytes that a program has held in memory once it has answered a line, which it answers by these bytes."""
+    program.stdin.write(line)
+    program.stdin.flush()
+    if program.stdout.read(len(answer)) != answer:
+        raise AssertionError(line)
+    with open(f"/proc/{program.pid}/status") as it:
+        return next(int(entry.split()[1]) for entry in it if entry.startswith("VmHWM:")) * 1024
 
 
 # After face 0 was added to register a, one of its children removed, and this undone.
@@ -194,3 +205,40 @@ class Sessions(unittest.TestCase):
         self.write("s", session({"a": tokens[1::2]}, [], changes))
         self.assertEqual(self.answers(b"restore s\n", *most), b"ok\n")
         self.assertEqual(self.answers(b"restore s\n", "--limit", "19999", "--depth", "10000"), b"error too-many\n")
+
+    def test_large_and_small_changes(self):
+        draw = random.Random(3)
+        tokens = ["%010x" % (4 * n + 1) for n in range(20000)]
+        held, changes = set(), []
+        for _ in range(60):
+            moved = sorted(draw.sample(tokens, draw.choice([1, 10, 100, 3000])))
+            changes.append(change("a", *([it for it in moved if (it in held) == there] for there in (True, False))))
+            held ^= set(moved)
+        done = session({"a": sorted(held)}, changes)
+        self.write("done", done)
+        self.write("undone", session({}, [], changes))
+        most = ["--limit", "20000"]
+        self.assertEqual(self.dumped(b"restore done\n", b"ok\nok\nundo 60 redo 0\n", *most), done)
+        script = b"restore undone\n" + b"redo\n" * 60 + b"dump redone\nrestore done\n" + b"undo\n" * 60 + b"dump s\n"
+        out = self.answers(script, *most)
+        self.assertNotIn(b"error", out)
+        for name, text in (("redone", done), ("s", session({}, [], changes))):
+            with open(os.path.join(self.folder, name), "rb") as it:
+                self.assertEqual(it.read(), text, name)
+        here = sorted(held)[0]
+        absent = sorted(set(tokens) - held)[0]
+        for wrong in (change("a", [absent], []), change("a", [], [here]), change("a", sorted(held) + ["5"], [])):
+            self.refuses(session({}, [], changes + [wrong]), b"session", *most)
+            self.refuses(session({"a": sorted(held)}, changes, [wrong]), b"session", *most)
+
+    def test_no_session_is_held_more_than_twice(self):
+        these, others = (["%010x" % (4 * n + face) for n in range(50000)] for face in (1, 2 ** 37 + 1))
+        there, back = change("a", these, others), change("a", others, these)
+        text = session({"a": these}, [there, back], [there, back])
+        self.write("s", text)
+        words = [PROGRAM, "run", "--dir", self.folder, "--limit", "50000"]
+        with subprocess.Popen(words, stdin=subprocess.PIPE, stdout=subprocess.PIPE) as program:
+            before = most_resident_after(program, b"history\n", b"undo 0 redo 0\n")
+            after = most_resident_after(program, b"restore s\n", b"ok\n")
+            program.stdin.close()
+        self.assertLess(after - before, 2 * len(text))
