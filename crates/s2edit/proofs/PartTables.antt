@@ -1,8 +1,10 @@
 -- The leaves around the cells that changes name, and parts of lists that have all cells that share a leaf with them.
-use Rattle.std.proofs.Common.{◌≡◌, ℕ, Bool, true, ◌||◌, ◌&&◌, eqb, List, [], ◌∷◌, map, refl, sym, ap, ◌∙◌, subst}
-use Rattle.std.proofs.Common.{arith, ⊎_elim}
+use Rattle.std.proofs.Common.{◌≡◌, ℕ, ◌+◌, Bool, true, ◌||◌, ◌&&◌, eqb, List, [], ◌∷◌, ◌++◌, map, take, drop}
+use Rattle.std.proofs.Common.{refl, sym, ap, ◌∙◌, subst, arith, ⊎_elim}
+use Rattle.std.proofs.Math.Seq.{take-add}
 use Rattle.std.proofs.lemmas.Bool.{false≢true}
 use Rattle.std.proofs.lemmas.Grind.{common_steps}
+use Rattle.std.proofs.lemmas.List.{map-append}
 use Rattle.std.proofs.lemmas.List.Elements.{All-contains}
 use Rattle.std.proofs.lemmas.List.Folds.{list_any-append}
 use Rattle.s2cell.specs.Cell.{IsCell, IsInside, first_leaf, covers}
@@ -41,6 +43,41 @@ pub leaf_all : (r x : ℕ) (m : Moved) (ms : List Moved) → has_leaf (around_al
 leaf_all r x m ms = by_bool (eqb m.register r)
     (λ e. rw e (list_any-append (λ c. covers c x) (around_both m) (around_all r ms)))
     (λ n. rw n refl)
+
+-- the leaves of two lists
+leaf_append : (us vs : List ℕ) (x : ℕ) → has_leaf (us ++ vs) x ≡ (has_leaf us x || has_leaf vs x)
+leaf_append us vs x = list_any-append (λ c. covers c x) us vs
+
+leaf_append_both : (us vs ws : List ℕ) (x : ℕ) → has_leaf (us ++ vs ++ ws) x
+    ≡ (has_leaf us x || has_leaf vs x || has_leaf ws x)
+leaf_append_both us vs ws x = leaf_append (us ++ vs) ws x ∙ ap (λ b. b || has_leaf ws x) (leaf_append us vs x)
+
+-- the leaves around the first cells of a list, with one more of them
+leaf_more : (xs : List ℕ) (n x : ℕ) → has_leaf (map around (take (n + 1) xs)) x
+    ≡ (has_leaf (map around (take n xs)) x || has_leaf (map around (take 1 (drop n xs))) x)
+leaf_more xs n x =
+    let first = take n xs in
+    let next = take 1 (drop n xs) in
+    ap (λ (ys : List ℕ). has_leaf (map around ys) x) (take-add n 1 xs)
+    ∙ ap (λ (ys : List ℕ). has_leaf ys x) (map-append around first next)
+    ∙ leaf_append (map around first) (map around next) x
+
+-- the same for two lists, taken by turns
+pub leaf_turn : (before old mid new xs ys : List ℕ) (n x : ℕ)
+    → has_leaf old x ≡ has_leaf (before ++ map around (take n xs) ++ map around (take n ys)) x
+    → has_leaf mid x ≡ has_leaf (old ++ map around (take 1 (drop n xs))) x
+    → has_leaf new x ≡ has_leaf (mid ++ map around (take 1 (drop n ys))) x
+    → has_leaf new x ≡ has_leaf (before ++ map around (take (n + 1) xs) ++ map around (take (n + 1) ys)) x
+leaf_turn before old mid new xs ys n x e f g = grind (
+  arith,
+  common_steps,
+  e ∙ leaf_append_both before (map around (take n xs)) (map around (take n ys)) x,
+  f ∙ leaf_append old (map around (take 1 (drop n xs))) x,
+  g ∙ leaf_append mid (map around (take 1 (drop n ys))) x,
+  leaf_append_both before (map around (take (n + 1) xs)) (map around (take (n + 1) ys)) x,
+  leaf_more xs n x,
+  leaf_more ys n x,
+)
 
 -- ---- a part that was made
 

@@ -1,5 +1,5 @@
 //! The part of a register's list that changes can concern.
-ghost use Rattle.std.specs.Prelude.{◌≡◌, ◌++◌, length, map, IfOk, MatchBool, OnOk};
+ghost use Rattle.std.specs.Prelude.{◌≡◌, ◌++◌, ℕ, length, map, take, drop, IfOk, MatchBool, OnOk};
 ghost use Rattle.std.specs.List.Sorted.{IsStrictlyIncreasing};
 ghost use Rattle.s2union.specs.Union.{has_leaf};
 ghost use Rattle.s2file.specs.Session.{moved_of, AreApart};
@@ -52,30 +52,49 @@ fn are_apart(us: &[CellId], vs: &[CellId]) -> bool
     true
 }
 
-/// The parents of the cells that changes of the register name.
+/// The parents of the cells that changes of the register name, most of them once.
 pub(crate) fn around_moves(
     alloc: Global,
     moves: &[Move],
     register: usize,
 ) -> Result<Vec<CellId>, AllocError>
-    ensures { IfOk result (λ cells. cells.items ≡ around_all register (map moved_of moves.now)) }
+    ensures { IfOk result (λ cells. (x : ℕ) → has_leaf cells.items x
+        ≡ has_leaf (around_all register (map moved_of moves.now)) x) }
 {
     let mut cells = Vec::new(alloc);
     for change in moves {
         if change.register as usize == register {
-            push_around(&mut cells, &change.out)?;
-            push_around(&mut cells, &change.put)?;
+            push_around(&mut cells, &change.out, &change.put)?;
         }
     }
     Ok(cells)
 }
 
-/// Appends the parents of cells to a list.
-fn push_around(list: &mut Vec<CellId>, cells: &[CellId]) -> Result<(), AllocError>
-    ensures { OnOk result (list.new.items ≡ list.old.items ++ map around cells.now) }
+/// Appends the parents of the cells of two lists.
+///
+/// Takes the cells of the lists by turns, since those of one turn often have one parent.
+fn push_around(list: &mut Vec<CellId>, out: &[CellId], put: &[CellId]) -> Result<(), AllocError>
+    ensures { OnOk result ((x : ℕ) → has_leaf list.new.items x
+        ≡ has_leaf (list.old.items ++ map around out.now ++ map around put.now) x) }
 {
-    for cell in cells {
-        list.push(around(*cell))?;
+    for turn in 0..out.len().max(put.len()) {
+        push_parent(list, out, turn)?;
+        push_parent(list, put, turn)?;
+    }
+    Ok(())
+}
+
+/// Appends the parent of the cell of that turn, if `cells` has one, unless it is the last of the list already.
+fn push_parent(list: &mut Vec<CellId>, cells: &[CellId], turn: usize) -> Result<(), AllocError>
+    ensures { OnOk result ((x : ℕ) → has_leaf list.new.items x
+        ≡ has_leaf (list.old.items ++ map around (take 1 (drop turn cells.now))) x) }
+{
+    if turn >= cells.len() {
+        return Ok(());
+    }
+    let near = around(cells[turn]);
+    if list.is_empty() || list[list.len() - 1] != near {
+        list.push(near)?;
     }
     Ok(())
 }

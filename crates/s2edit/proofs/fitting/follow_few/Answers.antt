@@ -1,6 +1,5 @@
-use Rattle.std.proofs.Common.{ℕ, List, map, sym, ap, ◌∙◌, subst}
+use Rattle.std.proofs.Common.{ℕ, List, map, sym, ◌∙◌, subst}
 use Rattle.std.proofs.lemmas.Result.{MatchResult-weaker}
-use Rattle.s2union.specs.Union.{has_leaf}
 use Rattle.s2file.specs.Session.{moved_of}
 use Rattle.s2file.specs.declared.session.Move.{Move}
 use Rattle.s2edit.specs.Diff.{Diff}
@@ -16,8 +15,7 @@ returns c =
     let ds : List Diff = map diff (of_register c.args.register (map moved_of c.args.moves.now)) in
     let es : List Diff = map diff (map moved_of c.deref.result.now) in
     let part = latest c.args.union.now c.in_ok-part.part in
-    let leaves = λ (x : ℕ). c.normalise-watched.ensures.leaves x
-    ∙ ap (λ (l : List ℕ). has_leaf l x) c.in_ok-around_moves.ensures in
+    let leaves = λ (x : ℕ). c.normalise-watched.ensures.leaves x ∙ c.in_ok-around_moves.ensures x in
     let alike = subst (λ (ms : List Move). LeadAlike ds (map diff (map moved_of ms))) (sym c.deref.ensures.value)
     c.in_ok-layers.ensures.alike in
     MatchResult-weaker c.follow_layers.result c.follow_layers.ensures.answer

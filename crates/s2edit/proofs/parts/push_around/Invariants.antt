@@ -1,6 +1,8 @@
-use Rattle.std.proofs.Common.{◌≡◌, ◌++◌, map, take}
+use Rattle.std.proofs.Common.{◌≡◌, ◌++◌, ℕ, map, take}
+use Rattle.s2union.specs.Union.{has_leaf}
 use Rattle.s2edit.specs.Part.{around}
 use Rattle.s2edit.proofs.parts.push_around.Given as goal
 
-abbrev pub invariant-loop-cell : goal.invariant-loop-cell
-invariant-loop-cell l = l.list.items ≡ l.initial.list.items ++ map around (take l.cell-index l.cells)
+abbrev pub invariant-loop-turn : goal.invariant-loop-turn
+invariant-loop-turn l = (x : ℕ) → has_leaf l.list.items x
+    ≡ has_leaf (l.initial.list.items ++ map around (take l.turn l.out) ++ map around (take l.turn l.put)) x
