@@ -231,7 +231,7 @@ class Sessions(unittest.TestCase):
             self.refuses(session({}, [], changes + [wrong]), b"session", *most)
             self.refuses(session({"a": sorted(held)}, changes, [wrong]), b"session", *most)
 
-    def test_no_session_is_held_more_than_twice(self):
+    def test_a_session_of_large_changes_is_held_twice_at_most(self):
         these, others = (["%010x" % (4 * n + face) for n in range(50000)] for face in (1, 2 ** 37 + 1))
         there, back = change("a", these, others), change("a", others, these)
         text = session({"a": these}, [there, back], [there, back])
