@@ -27,6 +27,7 @@ pub mod Apart
 pub mod Layering
 pub mod Turns
 pub mod Ordering
+pub mod Placing
 pub mod Stacking
 pub mod Watching
 pub mod InPlace

@@ -1,7 +1,7 @@
 -- Watched cells, and how many layers there are up to the highest that has cells in each of them.
-use Rattle.std.proofs.Common.{◌≡◌, ◌≢◌, ◌⊎◌, inl, inr, ℕ, ◌+◌, ◌<◌, ◌≤◌, true, false, ◌||◌, leb, max, List, [], ◌∷◌}
+use Rattle.std.proofs.Common.{◌≡◌, ◌≢◌, ◌⊎◌, inl, inr, ℕ, ◌+◌, ◌<◌, ◌≤◌, true, false, ◌||◌, max, List, [], ◌∷◌}
 use Rattle.std.proofs.Common.{◌++◌, zero, suc, length, map, take, get_or, slice_set, Bool, eqb}
-use Rattle.std.proofs.Common.{refl, sym, ap, ◌∙◌, subst, arith, leb-true}
+use Rattle.std.proofs.Common.{refl, sym, ap, ◌∙◌, subst, arith}
 use Rattle.std.proofs.Math.Logic.{⊎_elim}
 use Rattle.std.proofs.lemmas.Bool.{cases_lt, cases_order}
 use Rattle.std.proofs.lemmas.Grind.{common_steps, get_or-set_at}
@@ -12,13 +12,11 @@ use Rattle.std.proofs.lemmas.List.{length_push, length-map, take_more, take_all}
 use Rattle.std.proofs.lemmas.List.{length-set, get_or-set_other, map-append, map-set, get_or-map, get_or_append_left}
 use Rattle.std.specs.List.{AllByRecursion}
 use Rattle.std.proofs.lemmas.Option.{gets}
-use Rattle.std.specs.List.Sorted.{IsNonDecreasingBy, IsPartitionPoint}
-use Rattle.s2cell.specs.Cell.{first_leaf, size_of, covers}
-use Rattle.s2cell.proofs.Leaves.{covers_from, covers_there}
+use Rattle.s2cell.specs.Cell.{first_leaf, covers}
+use Rattle.s2cell.proofs.Leaves.{covers_there}
 use Rattle.s2union.specs.Union.{has_leaf, IsLocal}
 use Rattle.s2union.proofs.Normal.{leaf_from}
 use Rattle.s2union.specs.Apply.{has}
-use Rattle.s2union.proofs.Checking.{packed_from_local}
 use Rattle.s2file.specs.declared.session.Move.{Move}
 use Rattle.s2file.specs.Session.{Moved, IsMoved, moved_of}
 use Rattle.s2edit.specs.Diff.{Diff, IsDiff}
@@ -31,40 +29,6 @@ use Rattle.s2edit.proofs.Following.{same_diff}
 use Rattle.s2edit.proofs.PartLemmas.{by_bool, has_member, leaf_there, leaf_around}
 use Rattle.s2edit.proofs.Layering.{AreSeparate, NamesCells, both_changes, alike_empty, alike_placed, both_is_change}
 use Rattle.s2edit.proofs.Ordering.{insert_append, has_ordered, has_append}
-
--- where the leaves of a cell end
-abbrev pub end_of : ℕ → ℕ
-end_of c = first_leaf c + size_of c
-
--- cells of a local list end in turn
-pub ends_rise : (u : List ℕ) → IsLocal u → IsNonDecreasingBy end_of u
-ends_rise u l i j d le lt =
-    let p = packed_from_local u l in
-    ⊎_elim
-    (λ (a : i < j). let c : end_of (get_or u i d) ≤ first_leaf (get_or u j d) = p.chain i j d a lt in omega arith)
-    (λ (a : j ≤ i). let e : i ≡ j = omega arith in
-    let f = ap (λ (k : ℕ). end_of (get_or u k d)) e in omega arith)
-    (cases_lt i j)
-
--- the cell that covers a leaf is the first that ends after it
-pub place_is : (u : List ℕ) (x place i : ℕ) → IsLocal u
-    → IsPartitionPoint (λ (c : ℕ). leb (end_of c) x ≡ true) (λ (c : ℕ). leb (end_of c) x ≡ false) u place
-    → i < length u → covers (get_or u i 0) x ≡ true → place ≡ i
-place_is u x place i l point h v =
-    let p = packed_from_local u l in
-    let r = covers_from (get_or u i 0) x v in
-    let low = r.0 in
-    let high = r.1 in
-    ⊎_elim (λ (e : place ≡ i). e)
-    (⊎_elim
-    (λ (a : place < i).
-    let past : leb (end_of (get_or u place 0)) x ≡ false = point.1 place 0 (omega arith) (omega arith) in
-    let c : end_of (get_or u place 0) ≤ first_leaf (get_or u i 0) = p.chain place i 0 a h in
-    absurd (grind (arith, past, c, low)))
-    (λ (a : i < place).
-    let m : end_of (get_or u i 0) ≤ x = leb-true (end_of (get_or u i 0)) x (point.0 i 0 (omega arith) a) in
-    absurd (omega arith)))
-    (cases_order place i)
 
 -- what holds of each of the first `n` numbers
 abbrev pub AtFirst : (ℕ → Type 0) → List ℕ → ℕ → Type 0

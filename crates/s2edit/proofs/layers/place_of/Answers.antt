@@ -1,9 +1,10 @@
-use Rattle.std.proofs.Common.{◌≡◌, ℕ, true, get_or, ◌∙◌, refl, subst, leb, rules}
+use Rattle.std.proofs.Common.{◌≡◌, ℕ, true, get_or, ◌∙◌, refl, subst}
 use Rattle.std.proofs.lemmas.Grind.{get_or_default_zero}
-use Rattle.std.proofs.lemmas.List.Sorted.{IsPartitionPoint-from_clause, IsPartitionedBy-leb}
 use Rattle.s2cell.specs.Cell.{first_leaf, covers}
+use Rattle.s2union.specs.Packed.{IsPlace}
 use Rattle.s2edit.proofs.PartLemmas.{leaf_there}
-use Rattle.s2edit.proofs.Stacking.{end_of, ends_rise, place_is, one_place}
+use Rattle.s2edit.proofs.Placing.{place_is}
+use Rattle.s2edit.proofs.Stacking.{one_place}
 use Rattle.s2edit.proofs.layers.place_of.Goals as goal
 
 pub returns-then-contains : goal.returns-then-contains
@@ -21,8 +22,7 @@ returns-then-contains c i h v =
 pub returns : goal.returns
 returns c i h v =
     let u = c.args.watched.now in
-    let x = first_leaf c.args.cell in
-    let parted = IsPartitionedBy-leb end_of u x (ends_rise u c.requires.local) in
-    let point = IsPartitionPoint-from_clause (λ e. leb (end_of e) x) u c.partition_point.result
-    c.partition_point.ensures.partitioned parted (λ a r q k. search rules) in
-    place_is u x c.partition_point.result i c.requires.local point h v
+    let place = c.places_before.result in
+    let is : IsPlace u (first_leaf c.args.cell) place =
+    subst (λ (x : ℕ). IsPlace u x place) c.first_leaf.ensures.value c.places_before.ensures in
+    place_is u (first_leaf c.args.cell) place i c.requires.local is h v
