@@ -14,8 +14,8 @@ use std::alloc::{AllocError, Global};
 use std::cmp::Ordering;
 
 /// The cells of a union that share a leaf with the watched cells; none to say all its cells, if one of them is larger
-/// than a watched cell in it. If the watched cells are those around the cells that changes name, the changes can be made
-/// in this part exactly if they can in the union: they can take out, overlap or form a family with no other cell.
+/// than a watched cell in it. If the watched cells are those around the cells that changes name, the changes can be
+/// made in this part exactly if they can in the union: they can take out, overlap or form a family with no other cell.
 pub(crate) fn part_of(
     union: &CellUnion,
     watched: &CellUnion,
