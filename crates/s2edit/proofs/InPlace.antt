@@ -24,7 +24,7 @@ pub record TakesOut (old out now : List ℕ) (i kept next : ℕ) : Type 0 where
   pub within : kept ≤ i
   pub there : (x : ℕ) → has (drop next out) x ≡ true → has (drop i old) x ≡ true
 
--- where there is nothing to take out
+-- if there is nothing to take out
 pub none_out : (us os : List ℕ) → length os ≡ 0 → us ≡ cells_without us os
 none_out us [] e = sym (cells_without-nothing us)
 none_out us (o ∷ os) e = absurd (omega arith)
@@ -148,7 +148,7 @@ insert_last p (u ∷ us) a =
     cond-false (ltb p u) (p ∷ u ∷ us) (u ∷ insert_cell p us) (le-ltb p u a.0)
     ∙ ap (λ (l : List ℕ). u ∷ l) (insert_last p us a.1)
 
--- and stays there where smaller ones are inserted
+-- and stays there if smaller ones are inserted
 cond_append : (b : Bool) (xs ys zs : List ℕ) → cond b (xs ++ zs) (ys ++ zs) ≡ cond b xs ys ++ zs
 cond_append true xs ys zs = refl
 cond_append false xs ys zs = refl
@@ -173,10 +173,10 @@ pub record PutsIn (old put now : List ℕ) (left more : ℕ) : Type 0 where
   pub left_within : left ≤ length old
   pub more_within : more ≤ length put
 
--- a cell that is written behind those that are left
-behind : (xs now : List ℕ) (k x : ℕ) → k < length now →
+-- a cell that is written after those that are left
+after_those : (xs now : List ℕ) (k x : ℕ) → k < length now →
     xs ++ drop k (slice_set now k x) ≡ (xs ++ x ∷ []) ++ drop (k + 1) now
-behind xs now k x l =
+after_those xs now k x l =
     ap (λ (ys : List ℕ). xs ++ ys) (drop-set now k x l) ∙ sym (append_assoc xs (x ∷ []) (drop (k + 1) now))
 
 -- lists that begin with the same cells
@@ -202,7 +202,7 @@ module _ (old put now : List ℕ) (up : IsStrictlyIncreasing old) (put_up : IsSt
       subst (λ (n : ℕ). get_or put j 0 ≤ get_or put n 0) t (omega arith)) in
       let next : here + more + 1 ≡ here + 1 + more = omega arith in
       record {
-        whole = behind (insert_cells (take more put) (take here old)) now (here + more) x k
+        whole = after_those (insert_cells (take more put) (take here old)) now (here + more) x k
             ∙ ap (λ (xs : List ℕ). xs ++ drop (here + more + 1) now)
             (sym (inserts_under (get_or put last 0) x (take more put) (take here old) below under))
             ∙ ap (λ (y : ℕ). insert_cells (take more put) (take here old ++ y ∷ []) ++ drop (here + more + 1) now) is
@@ -232,7 +232,7 @@ module _ (old put now : List ℕ) (up : IsStrictlyIncreasing old) (put_up : IsSt
       omega arith) in
       let next : left + last + 1 ≡ left + (last + 1) = omega arith in
       record {
-        whole = behind (insert_cells (take last put) (take left old)) now (left + last) x k
+        whole = after_those (insert_cells (take last put) (take left old)) now (left + last) x k
             ∙ ap (λ (xs : List ℕ). xs ++ drop (left + last + 1) now)
             (sym (insert_last x (insert_cells (take last put) (take left old))
             (none_above_inserts x (take last put) (take left old) others firsts)))

@@ -12,11 +12,11 @@ use Rattle.s2union.specs.Packed.{EndsAt, EndsAfter, FirstEndBy, IsPlace}
 use Rattle.s2union.proofs.Checking.{packed_from_local}
 use Rattle.s2union.proofs.Galloping.{Seeking, Look, seeking_quarter}
 
--- where the leaves of a cell end
+-- the leaf by which a cell ends
 abbrev pub end_of : ℕ → ℕ
 end_of c = first_leaf c + size_of c
 
--- where the leaves of each cell of a list end
+-- the leaf by which each cell of a list ends
 abbrev pub ends : List ℕ → List ℕ
 ends u = map end_of u
 

@@ -18,10 +18,10 @@ use s2file::Move;
 use s2union::{CellUnion, normalise};
 use std::alloc::Global;
 
-/// How many times as many cells as the changes name a list has, if they are followed together.
+/// Changes are followed together if they name at most one in so many of the list's cells.
 const LIST_TO_FEW: usize = 8;
 
-/// The same for a batch of changes.
+/// A batch of changes names at most one in so many of the list's cells.
 const LIST_TO_BATCH: usize = 32;
 
 /// So many cells are few beside any list.

@@ -7,8 +7,8 @@ use s2cell::CellId;
 use s2union::CellUnion;
 use std::alloc::AllocError;
 
-/// How many times as long as what is added to its room a list is, if that is more than it needs.
-const LIST_TO_GROWTH: usize = 8;
+/// An eighth of a list is added to its room, if no more is needed.
+const LIST_TO_ADDED_ROOM: usize = 8;
 
 /// The list with a change made in it, in the list's own room. If that is too small for the cells that are put in, it
 /// grows by as many cells, and by an eighth of the list at least.
@@ -61,7 +61,7 @@ fn put_in(cells: &mut Vec<CellId>, put: &[CellId]) -> Result<(), AllocError>
     let mut left = cells.len();
     let mut more = put.len();
     if cells.capacity() - cells.len() < more {
-        cells.reserve_exact(more.max(cells.len() / LIST_TO_GROWTH))?;
+        cells.reserve_exact(more.max(cells.len() / LIST_TO_ADDED_ROOM))?;
     }
     cells.extend_from_slice(put)?;
     while more > 0 {
