@@ -4,8 +4,8 @@
 ghost use Rattle.std.specs.Prelude.{◌≤◌};
 
 use s2calc::{
-    AnswerBuffer, Job, NoteWriter, RunFault, Tally, cell_answer, check_answer, draw_answer,
-    draw_cells_answer, job, run_explained, run_promptly, status,
+    AnswerBuffer, Job, NoteWriter, RunFault, Stop, Tally, answer_status, cell_answer, check_answer,
+    draw_answer, draw_cells_answer, job, run_explained, run_promptly, status,
 };
 use s2edit::{Editor, MOST_CELLS, MOST_STATES};
 use s2shelf::DirShelf;
@@ -18,14 +18,14 @@ fn main(rt: HostRuntime) -> ExitCode {
         Ok(words) => words,
         Err(error) => {
             return match error.kind() {
-                ErrorKind::OutOfMemory => report_end(&rt, &Err(RunFault::Memory)),
-                _ => report_invalid_utf8(&rt),
+                ErrorKind::OutOfMemory => report_stop(&rt, &Stop::Memory),
+                _ => report_stop(&rt, &Stop::invalid_utf8(rt.alloc())),
             };
         }
     };
     let words: Vec<String> = match words.collect(rt.alloc()) {
         Ok(words) => words,
-        Err(_) => return report_end(&rt, &Err(RunFault::Memory)),
+        Err(_) => return report_stop(&rt, &Stop::Memory),
     };
     match job(rt.alloc(), words) {
         Ok(
@@ -40,7 +40,7 @@ fn main(rt: HostRuntime) -> ExitCode {
         Ok(Job::Check { dir, name }) => answer_check(&rt, &dir, &name),
         Ok(Job::Draw { dir, name, curve }) => answer_draw(&rt, &dir, &name, curve),
         Ok(Job::DrawCells { words, curve }) => answer_draw_cells(&rt, words.as_slice(), curve),
-        Err(error) => report_clap_error(&rt, &error),
+        Err(stop) => report_stop(&rt, &stop),
     }
 }
 
@@ -119,51 +119,42 @@ fn answer_draw_cells(rt: &HostRuntime, words: &[String], curve: bool) -> ExitCod
 
 /// Shows a failed answer on standard error, and gives the exit status after it.
 fn report_answer(rt: &impl Eprint, outcome: Result<bool, RunFault>) -> ExitCode {
-    match outcome {
-        Ok(true) => ExitCode::SUCCESS,
-        Ok(false) => ExitCode::from(1),
-        Err(fault) => report_end(rt, &Err(fault)),
+    if let Err(fault) = outcome {
+        report_fault(rt, fault);
     }
+    ExitCode::from(answer_status(&outcome))
 }
 
 /// Shows a failed run on standard error, and gives the exit status after it.
 fn report_end(rt: &impl Eprint, outcome: &Result<Tally, RunFault>) -> ExitCode {
-    let _ = match outcome {
-        Ok(_) => Ok(()),
-        Err(RunFault::Input) => rt.eprintln("s2calc: input"),
-        Err(RunFault::Output) => rt.eprintln("s2calc: output"),
-        Err(RunFault::Memory) => rt.eprintln("s2calc: memory"),
-    };
+    if let Err(fault) = outcome {
+        report_fault(rt, *fault);
+    }
     ExitCode::from(status(outcome))
 }
 
-/// Shows the help that was asked for, or what is wrong with the words.
-fn report_clap_error(rt: &(impl Eprint + Print), error: &clap::Error) -> ExitCode {
-    if error.kind() == clap::error::ErrorKind::OutOfMemory {
-        return report_end(rt, &Err(RunFault::Memory));
-    }
-    if error.use_stderr() {
-        let status = report_misuse(rt);
-        let _ = error.print(rt);
-        return status;
-    }
-    match error.print(rt) {
-        Ok(()) => ExitCode::SUCCESS,
-        Err(_) => report_end(rt, &Err(RunFault::Output)),
-    }
+/// Shows on standard error what failed.
+fn report_fault(rt: &impl Eprint, fault: RunFault) {
+    let _ = match fault {
+        RunFault::Input => rt.eprintln("s2calc: input"),
+        RunFault::Output => rt.eprintln("s2calc: output"),
+        RunFault::Memory => rt.eprintln("s2calc: memory"),
+    };
 }
 
-/// What is wrong with words that aren't UTF-8, in clap's words.
-fn report_invalid_utf8(rt: &impl Eprint) -> ExitCode {
-    let status = report_misuse(rt);
-    let _ = rt.eprintln(
-        "error: invalid UTF-8 was detected in one or more arguments\n\nFor more information, try '--help'.",
-    );
-    status
-}
-
-/// Writes the first line for words that make no sense, and gives the exit status.
-fn report_misuse(rt: &impl Eprint) -> ExitCode {
-    let _ = rt.eprintln("s2calc: usage");
-    ExitCode::from(2)
+/// Shows the help that was asked for, or what is wrong with the words, and gives the exit status after it.
+fn report_stop(rt: &(impl Eprint + Print), stop: &Stop) -> ExitCode {
+    match stop {
+        Stop::Help(text) => {
+            if rt.print(text).is_err() {
+                return report_end(rt, &Err(RunFault::Output));
+            }
+        }
+        Stop::Usage(text) => {
+            let _ = rt.eprintln("s2calc: usage");
+            let _ = rt.eprint(text);
+        }
+        Stop::Memory => report_fault(rt, RunFault::Memory),
+    }
+    ExitCode::from(stop.status())
 }

@@ -1,5 +1,5 @@
 -- What the program's own calls answer.
-use Rattle.std.specs.Prelude.{◌≡◌, ◌≤◌, ℕ, zero, suc, Bool, not, List, Option, None, Some, Result, Ok, Err, MatchResult}
+use Rattle.std.specs.Prelude.{◌≡◌, ◌≢◌, ◌⊎◌, ◌≤◌, ℕ, zero, suc, Bool, true, false, not, List, Option, None, Some, Result, Ok, Err, MatchResult}
 use Rattle.std.specs.Io.KnownBytes.{Appends}
 use Rattle.s2script.specs.declared.refusal.Refusal.TheVariants.{Cell as NoCell}
 use Rattle.s2calc.specs.declared.refusal.Refusal.TheVariants.{Words}
@@ -10,6 +10,10 @@ use Rattle.s2calc.specs.declared.fault.RunFault.{RunFault}
 use Rattle.s2calc.specs.declared.fault.RunFault.TheVariants.{Input, Output, Memory}
 use Rattle.s2calc.specs.declared.task.Job.{Job}
 use Rattle.s2calc.specs.declared.task.Job.TheVariants.{Run, Cell, Check, Draw, DrawCells}
+use Rattle.s2calc.specs.declared.task.Stop.{Stop}
+use Rattle.s2calc.specs.declared.task.Stop.TheVariants.{Help, Usage, Memory as NoMemory}
+use Rattle.clap.specs.declared.error.kind.ErrorKind.{ErrorKind}
+use Rattle.clap.specs.declared.error.kind.ErrorKind.TheVariants.{DisplayHelp, DisplayVersion}
 use Rattle.s2calc.specs.Output.{AppendsUnflushed}
 use Rattle.s2calc.specs.Replies.{Reply, Says, Refuses, text_of, is_refusal}
 use Rattle.s2calc.specs.Texts.{cell_line}
@@ -41,6 +45,24 @@ status_of (Ok tally) = status_of_refused tally.refused
 status_of (Err Input) = 2
 status_of (Err Output) = 2
 status_of (Err Memory) = 3
+
+-- the exit status after an answer: 0 if it is no refusal, 1 if it is one, else that of a run with this fault
+abbrev pub status_of_answer : Result Bool RunFault → ℕ
+status_of_answer (Ok true) = 0
+status_of_answer (Ok false) = 1
+status_of_answer (Err fault) = status_of (Err fault)
+
+-- the exit status of a program that was asked for no job
+abbrev pub status_of_stop : Stop → ℕ
+status_of_stop (Help text) = 0
+status_of_stop (Usage text) = 2
+status_of_stop NoMemory = 3
+
+-- what clap's error of this kind stops the program with, where there is memory for its text
+abbrev pub IsStopOf : ErrorKind → Stop → Type 0
+IsStopOf kind (Help text) = (kind ≡ DisplayHelp) ⊎ (kind ≡ DisplayVersion)
+IsStopOf kind (Usage text) = (kind ≢ DisplayHelp) × (kind ≢ DisplayVersion)
+IsStopOf kind NoMemory = Unit {0}
 
 -- the limit and the depth of a run are in range
 abbrev pub IsInRange : Job → Type 0

@@ -1,9 +1,10 @@
 //! The command line.
 ghost use Rattle.std.specs.Prelude.{◌≤◌, ◌↔◌, IsTrue, IfOk, IfSome};
-ghost use Rattle.s2calc.specs.Program.{IsInRange};
+ghost use Rattle.clap.specs.Values.{kind_of};
+ghost use Rattle.s2calc.specs.Program.{IsInRange, IsStopOf};
 
 use crate::help::{ABOUT, AFTER, PICTURE};
-use crate::task::Job;
+use crate::task::{Job, Stop};
 use clap::builder::ValueParser;
 use clap::error::ErrorKind;
 use clap::{Arg, ArgAction, ArgGroup, ArgMatches, Command, Error, value_parser};
@@ -13,9 +14,18 @@ use std::alloc::{AllocError, Global};
 
 /// What the words of the command line ask for. The first word is the name of the program.
 ///
-/// An error is a mistake in the words, or a request for help or the version. Its `Display` is the text to show, and its
-/// kind says which it is. The kind `OutOfMemory` may come in place of any answer.
-pub fn job(alloc: Global, words: Vec<String>) -> Result<Job, Error>
+/// `Stop::Memory` may come in place of any answer.
+pub fn job(alloc: Global, words: Vec<String>) -> Result<Job, Stop>
+    ensures { IfOk result IsInRange }
+{
+    match parse(alloc, words) {
+        Ok(job) => Ok(job),
+        Err(error) => Err(stop_of(alloc, &error)),
+    }
+}
+
+/// The same, with clap's own error.
+fn parse(alloc: Global, words: Vec<String>) -> Result<Job, Error>
     ensures { IfOk result IsInRange }
 {
     let mut command = command(alloc)?;
@@ -23,6 +33,20 @@ pub fn job(alloc: Global, words: Vec<String>) -> Result<Job, Error>
     match job_of(alloc, &matches)? {
         Some(job) => Ok(job),
         None => Err(command.error(ErrorKind::MissingSubcommand, "a command is missing")?),
+    }
+}
+
+/// What clap's error stops the program with.
+fn stop_of(alloc: Global, error: &Error) -> Stop
+    ensures { IsStopOf (kind_of error.now) result }
+{
+    if error.kind() == ErrorKind::OutOfMemory {
+        return Stop::Memory;
+    }
+    match format!(in alloc; "{error}") {
+        Ok(text) if error.use_stderr() => Stop::Usage(text),
+        Ok(text) => Stop::Help(text),
+        Err(_) => Stop::Memory,
     }
 }
 

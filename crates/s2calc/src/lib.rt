@@ -42,6 +42,6 @@ pub use draw::{draw_answer, draw_cells_answer};
 pub use engine::{Tally, run, run_explained, run_promptly};
 pub use fault::RunFault;
 pub use notes::NoteWriter;
-pub use program::{cell_answer, status};
+pub use program::{answer_status, cell_answer, status};
 pub use refusal::Refusal;
-pub use task::Job;
+pub use task::{Job, Stop};

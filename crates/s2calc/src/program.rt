@@ -3,7 +3,7 @@ ghost use Rattle.std.specs.Prelude.{◌≡◌, OnOk, OnErr, IfOk, IfErr, not};
 ghost use Rattle.std.specs.Io.KnownBytes.{Appends};
 ghost use Rattle.s2calc.specs.Output.{AppendsUnflushed};
 ghost use Rattle.s2calc.specs.Replies.{Says, Refuses, text_of, is_refusal};
-ghost use Rattle.s2calc.specs.Program.{ShowsReply, cell_reply, status_of};
+ghost use Rattle.s2calc.specs.Program.{ShowsReply, cell_reply, status_of, status_of_answer};
 
 use crate::answer::{cell_line, error_line};
 use crate::engine::Tally;
@@ -65,5 +65,16 @@ pub fn status(outcome: &Result<Tally, RunFault>) -> u8
         Ok(_) => 1,
         Err(RunFault::Input | RunFault::Output) => 2,
         Err(RunFault::Memory) => 3,
+    }
+}
+
+/// The exit status after one answer: 0 for true, 1 for false, that of a run where it failed.
+pub fn answer_status(outcome: &Result<bool, RunFault>) -> u8
+    ensures { result ≡ status_of_answer outcome.now }
+{
+    match outcome {
+        Ok(true) => 0,
+        Ok(false) => 1,
+        Err(fault) => status(&Err(*fault)),
     }
 }

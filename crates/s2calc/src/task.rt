@@ -1,4 +1,8 @@
-//! What the program is asked for.
+//! What the program is asked for, and why it may be asked for nothing.
+ghost use Rattle.std.specs.Prelude.{◌≡◌};
+ghost use Rattle.s2calc.specs.Program.{status_of_stop};
+
+use std::alloc::Global;
 
 /// What the program is asked for.
 #[derive(Debug, PartialEq, Eq, Drop)]
@@ -32,3 +36,39 @@ pub enum Job {
         curve: bool,
     },
 }
+
+/// Why the words of the command line ask for no job. Help and usage are told in clap's words.
+#[derive(Debug, PartialEq, Eq, Drop)]
+pub enum Stop {
+    /// The help or the version was asked for: its text.
+    Help(String),
+    /// The words make no sense: what is wrong with them.
+    Usage(String),
+    /// There was no memory to read them.
+    Memory,
+}
+
+impl Stop {
+    /// The exit status: 0 after the help or the version, 2 for words that make no sense, 3 without memory.
+    pub fn status(&self) -> u8
+        ensures { result ≡ status_of_stop self.now }
+    {
+        match self {
+            Stop::Help(_) => 0,
+            Stop::Usage(_) => 2,
+            Stop::Memory => 3,
+        }
+    }
+
+    /// Words that are not UTF-8, told as clap tells it.
+    pub fn invalid_utf8(alloc: Global) -> Stop {
+        match String::from_str(alloc, INVALID_UTF8) {
+            Ok(text) => Stop::Usage(text),
+            Err(_) => Stop::Memory,
+        }
+    }
+}
+
+/// What is wrong with words that aren't UTF-8.
+const INVALID_UTF8: &str =
+    "error: invalid UTF-8 was detected in one or more arguments\n\nFor more information, try '--help'.\n";
