@@ -1,6 +1,6 @@
 -- One digit of the curve: the quadrant that it picks, and how it turns the orientation.
-use Rattle.std.proofs.Common.{◌≡◌, ℕ, suc, zero, ◌+◌, ◌*◌, ◌/◌, ◌%◌, ◌<◌, refl, arith, bit_xor, List, []}
-use Rattle.std.proofs.Common.{◌∷◌, slice_index, get_or, lit<}
+use Rattle.std.proofs.Common.{◌≡◌, ℕ, suc, zero, ◌+◌, ◌*◌, ◌<◌, refl, arith, bit_xor, List, []}
+use Rattle.std.proofs.Common.{◌∷◌, slice_index}
 use Rattle.std.proofs.lemmas.Nat.{xor_lt}
 use Rattle.s2cell.specs.Curve.{quadrant, quadrants, turn}
 
@@ -65,38 +65,3 @@ digit_of_below = sixteen_cases (λ o q. digit_of o q < 4)
     (four_cases (λ q. digit_of 1 q < 4) (omega arith) (omega arith) (omega arith) (omega arith))
     (four_cases (λ q. digit_of 2 q < 4) (omega arith) (omega arith) (omega arith) (omega arith))
     (four_cases (λ q. digit_of 3 q < 4) (omega arith) (omega arith) (omega arith) (omega arith))
-
--- ---- the table of one level
-
--- the entry at the orientation `o` and the digit `p`: the quadrant and the next orientation
-pub record IsPlaceStep (o p e : ℕ) : Type 0 where
-  pub picked : e / 4 ≡ quadrant o p
-  pub turned : e % 4 ≡ bit_xor o (turn p)
-  pub entry : e < 16
-
-unfoldable pub place_steps : List ℕ
-place_steps = 1 ∷ 0 ∷ 15 ∷ 14 ∷ 4 ∷ 9 ∷ 10 ∷ 7 ∷ 12 ∷ 13 ∷ 2 ∷ 3 ∷ 11 ∷ 6 ∷ 5 ∷ 8 ∷ []
-
-pub place_step_is : (o p : ℕ) → o < 4 → p < 4 → IsPlaceStep o p (get_or place_steps (4 * p + o) 0)
-unfolding place_steps quadrant quadrants turn
-place_step_is = sixteen_cases (λ o p. IsPlaceStep o p (get_or place_steps (4 * p + o) 0))
-    (four_cases (λ p. IsPlaceStep 0 p (get_or place_steps (4 * p + 0) 0))
-    (record { picked = refl; turned = refl; entry = lit< tt })
-    (record { picked = refl; turned = refl; entry = lit< tt })
-    (record { picked = refl; turned = refl; entry = lit< tt })
-    (record { picked = refl; turned = refl; entry = lit< tt }))
-    (four_cases (λ p. IsPlaceStep 1 p (get_or place_steps (4 * p + 1) 0))
-    (record { picked = refl; turned = refl; entry = lit< tt })
-    (record { picked = refl; turned = refl; entry = lit< tt })
-    (record { picked = refl; turned = refl; entry = lit< tt })
-    (record { picked = refl; turned = refl; entry = lit< tt }))
-    (four_cases (λ p. IsPlaceStep 2 p (get_or place_steps (4 * p + 2) 0))
-    (record { picked = refl; turned = refl; entry = lit< tt })
-    (record { picked = refl; turned = refl; entry = lit< tt })
-    (record { picked = refl; turned = refl; entry = lit< tt })
-    (record { picked = refl; turned = refl; entry = lit< tt }))
-    (four_cases (λ p. IsPlaceStep 3 p (get_or place_steps (4 * p + 3) 0))
-    (record { picked = refl; turned = refl; entry = lit< tt })
-    (record { picked = refl; turned = refl; entry = lit< tt })
-    (record { picked = refl; turned = refl; entry = lit< tt })
-    (record { picked = refl; turned = refl; entry = lit< tt }))

@@ -5,6 +5,7 @@ use Rattle.std.proofs.Math.Nat.{div-one}
 use Rattle.std.proofs.lemmas.Nat.{pow-add, mod_below}
 use Rattle.s2cell.specs.Cell.{IsCell, IsCellAt, level_of, place_of, face_of, child_of}
 use Rattle.s2cell.specs.Curve.{At, orientation_after, quadrant, turn, i_within, j_within}
+use Rattle.s2cell.specs.Entries.{IsPlaceEntry, held}
 use Rattle.s2cell.specs.Square.{IsSquareOf, IsPlaced, orientation_of}
 use Rattle.s2cell.proofs.CellLemmas.{four_pos, level_of_cell, place_of_cell}
 use Rattle.s2cell.proofs.Calls.{IsCellAt-child_of, IsCell-child_of}
@@ -158,21 +159,35 @@ placed_face f id o c e = record {
 pub placed_orientation : (c face i j size o : ℕ) → IsPlaced c face i j size o → o < 4
 placed_orientation c face i j size o p = subst (λ z. z < 4) (sym p.orientation_is) (orientation_small c)
 
+-- what an entry says of one level
+record OneLevel (o p e : ℕ) : Type 0 where
+  pub picked : held e ≡ quadrant o p
+  pub turned : e % 256 / 16 ≡ bit_xor o (turn p)
+
+one_level : (o p e : ℕ) → IsPlaceEntry 1 o p e → OneLevel o p e
+unfolding At orientation_after
+one_level o p e entry =
+    let (hn, hx, hy, q, rest) = entry.place in
+    let own = div-one p in
+    let next : e % 256 ≡ 16 * bit_xor o (turn p) = entry.next ∙ ap (λ z. 16 * bit_xor o (turn z)) own in
+    let at : 2 * (held e / 2 / 1) + held e % 2 / 1 ≡ quadrant o p = q ∙ ap (quadrant o) own in
+    record { picked = omega arith; turned = omega arith }
+
 -- by an entry of the table of one level
-pub placed_child : (c face i j size o p d e a b u : ℕ) → IsPlaced c face i j size o → level_of c < 30 → p < 4
-    → d ≡ child_of c p → e / 4 ≡ quadrant o p → e % 4 ≡ bit_xor o (turn p) → e < 16 → a ≡ e / 8 → b ≡ e / 4 % 2 →
-    u ≡ e % 4
-    → IsPlaced d face (i + size / 2 * a) (j + size / 2 * b) (size / 2) u
-placed_child c face i j size o p d e a b u w h hp ed eq et he ea eb eu =
+pub placed_child : (c face i j size o p d s t e q u : ℕ) → IsPlaced c face i j size o → level_of c < 30 → p < 4
+    → d ≡ child_of c p → s ≡ o → t ≡ p → IsPlaceEntry 1 (16 * s / 16) t e → q ≡ held e → u ≡ e % 256 / 16
+    → IsPlaced d face (i + size / 2 * (q / 2)) (j + size / 2 * (q % 2)) (size / 2) u
+placed_child c face i j size o p d s t e q u w h hp ed es et entry eq eu =
     let own = orientation_of c in
-    let turned : u ≡ orientation_of d = eu ∙ et ∙ ap (λ z. bit_xor z (turn p)) w.orientation_is
+    let shift : 16 * s / 16 ≡ o = omega arith in
+    let one = one_level o p e (rw (shift, et) at entry) in
+    let turned : u ≡ orientation_of d = eu ∙ one.turned ∙ ap (λ z. bit_xor z (turn p)) w.orientation_is
     ∙ sym (orientation_of_child c p w.cell h hp) ∙ ap orientation_of (sym ed) in
-    let picked : e / 4 ≡ quadrant own p = eq ∙ ap (λ z. quadrant z p) w.orientation_is in
-    let one : a ≡ e / 4 / 2 = omega arith in
-    let first : i + size / 2 * a ≡ i + quadrant own p / 2 * (size / 2) =
-    ap (λ z. i + size / 2 * z) (one ∙ ap (λ z. z / 2) picked) ∙ omega arith in
-    let second : j + size / 2 * b ≡ j + quadrant own p % 2 * (size / 2) =
-    ap (λ z. j + size / 2 * z) (eb ∙ ap (λ z. z % 2) picked) ∙ omega arith in
+    let picked : q ≡ quadrant own p = eq ∙ one.picked ∙ ap (λ z. quadrant z p) w.orientation_is in
+    let first : i + size / 2 * (q / 2) ≡ i + quadrant own p / 2 * (size / 2) =
+    ap (λ z. i + size / 2 * (z / 2)) picked ∙ omega arith in
+    let second : j + size / 2 * (q % 2) ≡ j + quadrant own p % 2 * (size / 2) =
+    ap (λ z. j + size / 2 * (z % 2)) picked ∙ omega arith in
     record {
       cell = IsCell-child_of c p d w.cell h hp ed;
       square = rw (ed, first, second) (square_of_child c p face i j size w.cell h hp w.square);

@@ -1,13 +1,14 @@
 -- The way down the curve, as the code goes it: what each step adds to the way so far.
 use Rattle.std.proofs.Common.{◌≡◌, ℕ, suc, zero, ◌+◌, ◌-◌, ◌*◌, ◌/◌, ◌%◌}
 use Rattle.std.proofs.Common.{◌^◌, ◌<◌, ◌≤◌, refl, sym}
-use Rattle.std.proofs.Common.{◌∙◌, ap, arith, subst, bit_xor}
+use Rattle.std.proofs.Common.{◌∙◌, ap, arith, subst, bit_xor, ⊎_elim}
 use Rattle.std.proofs.Math.Nat.{div-div-eq-div-mul, div-eq_of_lt, div-one, pow-le-pow_right}
 use Rattle.std.proofs.lemmas.Nat.{pow-add, div-add-mod'}
+use Rattle.std.proofs.lemmas.Bool.{cases_lt}
 use Rattle.s2cell.specs.Curve.{At, orientation_after, quadrant, turn}
-use Rattle.s2cell.specs.Entries.{IsPlaceEntry, IsLeafEntry, fives, held}
+use Rattle.s2cell.specs.Entries.{IsPlaceEntry, IsLeafEntry, fours, held}
 use Rattle.s2cell.proofs.Quadrants.{turn_keeps}
-use Rattle.s2cell.proofs.Levels.{at_bounds, at_step, at_join, orientation_join}
+use Rattle.s2cell.proofs.Levels.{at_bounds, at_step, at_join, orientation_join, orientation_below}
 
 -- the way of `k` levels to the cell of a leaf, and the orientation `t` there
 pub record Way (k o n x y t : ℕ) : Type 0 where
@@ -55,16 +56,18 @@ way_one o p a b t ho hp ha hb q et =
       below = subst (λ z. z < 4) (sym et) (turn_keeps o p ho hp);
     }
 
--- five levels by an entry of the first table
-way_by_place : (o n e : ℕ) → IsPlaceEntry o n e → Way 5 o n (held e / 32) (held e % 32) (e % 64 / 16)
-way_by_place o n e entry =
+-- `k` levels by an entry, from digits to bits
+way_by_place : (k o n e : ℕ) → o < 4 → IsPlaceEntry k o n e → Way k o n (held e / 2 ^ k) (held e % 2 ^ k) (e % 256 / 16)
+way_by_place k o n e ho entry =
     let h = entry.next in
+    let b = orientation_below k o n ho (at_bounds k o n (held e / 2 ^ k) (held e % 2 ^ k) entry.place).leaf in
     record { at = entry.place; orientation = omega arith; below = omega arith }
 
--- five levels by an entry of the second table
-way_by_leaf : (o x y e : ℕ) → IsLeafEntry o x y e → Way 5 o (held e) x y (e % 64 / 16)
-way_by_leaf o x y e entry =
+-- `k` levels by an entry, from bits to digits
+way_by_leaf : (k o x y e : ℕ) → o < 4 → IsLeafEntry k o x y e → Way k o (held e) x y (e % 256 / 16)
+way_by_leaf k o x y e ho entry =
     let h = entry.next in
+    let b = orientation_below k o (held e) ho (at_bounds k o (held e) x y entry.leaf).leaf in
     record { at = entry.leaf; orientation = omega arith; below = omega arith }
 
 -- the leading bits of a coordinate, with `b` bits more
@@ -95,37 +98,9 @@ to_leaf_more k b o n i j t m u r h w below eu =
     (way_join k b o n (i / 2 ^ (30 - k)) (j / 2 ^ (30 - k)) t m (i / 2 ^ s % 2 ^ b) (j / 2 ^ s % 2 ^ b) r w below)
     refl (sym eu) (rw e (bits_more i b s)) (rw e (bits_more j b s))
 
--- five levels more by an entry
-to_leaf_five : (k o n i j t x y e : ℕ) → k + 5 ≤ 30 → WayToLeaf k o n i j t → x ≡ i / 2 ^ (30 - (k + 5)) % 32
-    → y ≡ j / 2 ^ (30 - (k + 5)) % 32 → IsLeafEntry t x y e
-    → WayToLeaf (k + 5) o (1024 * n + held e) i j (e % 64 / 16)
-to_leaf_five k o n i j t x y e h w ex ey entry =
-    to_leaf_more k 5 o n i j t (held e) (1024 * n + held e) (e % 64 / 16) h w
-    (rw (← ex, ← ey) (way_by_leaf t x y e entry)) (omega arith)
-
--- ten bits of two numbers whose fives are side by side
-record Pair (p u v : ℕ) : Type 0 where
-  pub first : p / 32 ≡ u
-  pub second : p % 32 ≡ v
-
-pair_at : (b x y p : ℕ) → b < 3 → p ≡ (32 * fives x + fives y) / 2 ^ (20 - 10 * b) % 1024 →
-    Pair p (x / 2 ^ (20 - 10 * b) % 32) (y / 2 ^ (20 - 10 * b) % 32)
-unfolding fives
-pair_at zero x y p h e = record { first = omega arith; second = omega arith }
-pair_at (suc zero) x y p h e = record { first = omega arith; second = omega arith }
-pair_at (suc (suc zero)) x y p h e = record { first = omega arith; second = omega arith }
-pair_at (suc (suc (suc b))) x y p h e = absurd (omega arith)
-
--- five bits, counted without the lowest five
-above_five : (b x : ℕ) → b < 3 → x / 32 / 2 ^ (20 - 10 * b) % 32 ≡ x / 2 ^ (30 - (10 * b + 5)) % 32
-above_five zero x h = omega arith
-above_five (suc zero) x h = omega arith
-above_five (suc (suc zero)) x h = omega arith
-above_five (suc (suc (suc b))) x h = absurd (omega arith)
-
--- ten levels for each of `b` blocks, with the orientation as a shift
-pub record DownToLeaf (b o n i j s : ℕ) : Type 0 where
-  pub way : WayToLeaf (10 * b) o n i j (s / 16)
+-- the way to the leaf, with the orientation as a shift
+pub record DownToLeaf (k o n i j s : ℕ) : Type 0 where
+  pub way : WayToLeaf k o n i j (s / 16)
   pub shift : s < 64
   pub whole : s % 16 ≡ 0
 
@@ -138,28 +113,77 @@ to_leaf_begin o i j s ho hi hj es =
       whole = omega arith;
     }
 
--- ten levels more by two entries
-pub to_leaf_ten : (b o n i j s odd even p q d r e z u v : ℕ) → b < 3 → DownToLeaf b o n i j s
-    → odd ≡ 32 * fives (i / 32) + fives (j / 32) → even ≡ 32 * fives i + fives j
-    → p ≡ odd / 2 ^ (20 - 10 * b) % 1024 → q ≡ even / 2 ^ (20 - 10 * b) % 1024
-    → IsLeafEntry (s / 16) (p / 32) (p % 32) d → r ≡ d % 64 → IsLeafEntry (r / 16) (q / 32) (q % 32) e → z ≡ e % 64
-    → u ≡ held d → v ≡ held e → DownToLeaf (b + 1) o (1024 * (1024 * n + u) + v) i j z
-to_leaf_ten b o n i j s odd even p q d r e z u v hb w eo ee ep eq upper er lower ez eu ev =
-    let first = pair_at b (i / 32) (j / 32) p hb (rw eo at ep) in
-    let second = pair_at b i j q hb (rw ee at eq) in
-    let one = to_leaf_five (10 * b) o n i j (s / 16) (p / 32) (p % 32) d (omega arith) w.way
-    (first.first ∙ above_five b i hb) (first.second ∙ above_five b j hb) upper in
-    let low : 30 - (10 * b + 5 + 5) ≡ 20 - 10 * b = omega arith in
-    let two = to_leaf_five (10 * b + 5) o (1024 * n + held d) i j (d % 64 / 16) (q / 32) (q % 32) e (omega arith) one
-    (rw low second.first) (rw low second.second) (rw er at lower) in
-    let ek : 10 * b + 5 + 5 ≡ 10 * (b + 1) = omega arith in
-    let h = lower.next in
+-- `b` levels more by an entry
+to_leaf_by : (k b o n i j s x y e u z : ℕ) → k + b ≤ 30 → DownToLeaf k o n i j s
+    → x ≡ i / 2 ^ (30 - (k + b)) % 2 ^ b → y ≡ j / 2 ^ (30 - (k + b)) % 2 ^ b → IsLeafEntry b (s / 16) x y e
+    → u ≡ n * 4 ^ b + held e → z ≡ e % 256 → DownToLeaf (k + b) o u i j z
+to_leaf_by k b o n i j s x y e u z h w ex ey entry eu ez =
+    let below = way_by_leaf b (s / 16) x y e w.way.below entry in
+    let r = below.below in
+    let g = entry.next in
     record {
-      way = rw (eu, ev, ez) (subst
-          (λ k. WayToLeaf k o (1024 * (1024 * n + held d) + held e) i j (e % 64 / 16)) ek two);
+      way = rw ez (to_leaf_more k b o n i j (s / 16) (held e) u (e % 256 / 16) h w.way (rw (← ex, ← ey) below) eu);
       shift = omega arith;
       whole = omega arith;
     }
+
+-- one level more, by the bits of its quadrant
+pub to_leaf_one : (k o n i j s q e u z : ℕ) → k < 2 → DownToLeaf k o n i j s
+    → q ≡ 2 * (i / 2 ^ (29 - k) % 2) + j / 2 ^ (29 - k) % 2 → IsLeafEntry 1 (s / 16) (q / 2) (q % 2) e
+    → u ≡ 4 * n + held e → z ≡ e % 256 → DownToLeaf (k + 1) o u i j z
+to_leaf_one k o n i j s q e u z hk w eq entry eu ez =
+    let level : 30 - (k + 1) ≡ 29 - k = omega arith in
+    to_leaf_by k 1 o n i j s (q / 2) (q % 2) e u z (omega arith) w (rw level (omega arith)) (rw level (omega arith))
+    entry (omega arith) ez
+
+-- eight bits of two numbers whose fours are side by side
+record Pair (p u v : ℕ) : Type 0 where
+  pub first : p / 16 ≡ u
+  pub second : p % 16 ≡ v
+
+pair_at : (c x y p : ℕ) → c < 4 → p ≡ (16 * fours x + fours y) / 2 ^ (24 - 8 * c) % 256 →
+    Pair p (x / 2 ^ (24 - 8 * c) % 16) (y / 2 ^ (24 - 8 * c) % 16)
+unfolding fours
+pair_at zero x y p h e = record { first = omega arith; second = omega arith }
+pair_at (suc zero) x y p h e = record { first = omega arith; second = omega arith }
+pair_at (suc (suc zero)) x y p h e = record { first = omega arith; second = omega arith }
+pair_at (suc (suc (suc zero))) x y p h e = record { first = omega arith; second = omega arith }
+pair_at (suc (suc (suc (suc c)))) x y p h e = absurd (omega arith)
+
+-- four bits, counted without the lowest four
+above_four : (x s : ℕ) → x / 16 / 2 ^ s ≡ x / 2 ^ (s + 4)
+above_four x s = div-div-eq-div-mul x 16 (2 ^ s) ∙ ap (λ z. x / z) (let e = pow-add 2 s 4 in omega arith)
+
+-- four bits of each coordinate, from the one number or the other
+pair_for : (b i j odd even q : ℕ) → b < 7 → odd ≡ 16 * fours (i / 16) + fours (j / 16) → even ≡ 16 * fours i + fours j
+    → (b % 2 ≡ 0 → q ≡ even / 2 ^ (24 - 4 * b) % 256) → (b % 2 ≡ 1 → q ≡ odd / 2 ^ (20 - 4 * b) % 256)
+    → Pair q (i / 2 ^ (24 - 4 * b) % 16) (j / 2 ^ (24 - 4 * b) % 16)
+pair_for b i j odd even q hb eo ee at_even at_odd =
+    ⊎_elim
+    (λ lower.
+    let c : 24 - 8 * (b / 2) ≡ 24 - 4 * b = omega arith in
+    let e : q ≡ even / 2 ^ (24 - 4 * b) % 256 = at_even (omega arith) in
+    rw c at (pair_at (b / 2) i j q (omega arith) (rw (← c, ee) at e)))
+    (λ upper.
+    let c : 24 - 8 * ((b + 1) / 2) ≡ 20 - 4 * b = omega arith in
+    let e : q ≡ odd / 2 ^ (20 - 4 * b) % 256 = at_odd (omega arith) in
+    let more : 20 - 4 * b + 4 ≡ 24 - 4 * b = omega arith in
+    let p = pair_at ((b + 1) / 2) (i / 16) (j / 16) q (omega arith) (rw (← c, eo) at e) in
+    rw (c, above_four i (20 - 4 * b), above_four j (20 - 4 * b), more) at p)
+    (cases_lt (b % 2) 1)
+
+-- four levels more by an entry
+pub to_leaf_four : (b o n i j s odd even q e u z : ℕ) → b < 7 → DownToLeaf (4 * b + 2) o n i j s
+    → odd ≡ 16 * fours (i / 16) + fours (j / 16) → even ≡ 16 * fours i + fours j
+    → (b % 2 ≡ 0 → q ≡ even / 2 ^ (24 - 4 * b) % 256) → (b % 2 ≡ 1 → q ≡ odd / 2 ^ (20 - 4 * b) % 256)
+    → IsLeafEntry 4 (s / 16) (q / 16) (q % 16) e → u ≡ 256 * n + held e → z ≡ e % 256
+    → DownToLeaf (4 * (b + 1) + 2) o u i j z
+to_leaf_four b o n i j s odd even q e u z hb w eo ee at_even at_odd entry eu ez =
+    let p = pair_for b i j odd even q hb eo ee at_even at_odd in
+    let low : 30 - (4 * b + 2 + 4) ≡ 24 - 4 * b = omega arith in
+    let more : 4 * b + 2 + 4 ≡ 4 * (b + 1) + 2 = omega arith in
+    subst (λ k. DownToLeaf k o u i j z) more (to_leaf_by (4 * b + 2) 4 o n i j s (q / 16) (q % 16) e u z (omega arith) w
+    (rw low p.first) (rw low p.second) entry (omega arith) ez)
 
 -- the leaf's number stays small
 pub to_leaf_small : (k a o n i j t : ℕ) → k ≤ a → WayToLeaf k o n i j t → n < 4 ^ a
@@ -192,13 +216,6 @@ to_place_more k b o n x y t u v r x' y' h w below ex ey =
     (way_join k b o (n / 4 ^ (30 - k)) x y t (n / 4 ^ s % 4 ^ b) u v r w below)
     refl (rw e (digits_more n b s)) (sym ex) (sym ey)
 
--- five levels more by an entry
-to_place_five : (k o n x y t d e : ℕ) → k + 5 ≤ 30 → WayToPlace k o n x y t → d ≡ n / 4 ^ (30 - (k + 5)) % 1024
-    → IsPlaceEntry t d e → WayToPlace (k + 5) o n (32 * x + held e / 32) (32 * y + held e % 32) (e % 64 / 16)
-to_place_five k o n x y t d e h w ed entry =
-    to_place_more k 5 o n x y t (held e / 32) (held e % 32) (e % 64 / 16) (32 * x + held e / 32)
-    (32 * y + held e % 32) h w (rw (← ed) (way_by_place t d e entry)) (omega arith) (omega arith)
-
 -- the coordinates stay small
 pub to_place_small : (k a o n x y t : ℕ) → k ≤ a → WayToPlace k o n x y t → (x < 2 ^ a) × (y < 2 ^ a)
 to_place_small k a o n x y t h w =
@@ -212,91 +229,115 @@ pub to_place_end : (k o n x y t : ℕ) → k ≡ 30 → WayToPlace k o n x y t �
 to_place_end k o n x y t e w = rw (div-one n) at
     (let v : WayToPlace 30 o n x y t = subst (λ z. WayToPlace z o n x y t) e w in v.at)
 
--- ---- the place in two numbers
-
-pub fives_small : (x : ℕ) → fives x < 2 ^ 25
-unfolding fives
-fives_small x = omega arith
-
--- ten bits more
-fives_more : (x r : ℕ) → x < 2 ^ 20 → r < 1024 → fives (1024 * x + r) ≡ 1024 * fives x + r % 32
-unfolding fives
-fives_more x r hx hr = omega arith
-
-fives_above : (x r : ℕ) → x < 2 ^ 20 → r < 1024 → fives ((1024 * x + r) / 32) ≡ 1024 * fives (x / 32) + r / 32
-unfolding fives
-fives_above x r hx hr = omega arith
-
--- both coordinates, each by fives, in two numbers
-unfoldable pub first_of : ℕ → ℕ → ℕ
-first_of odd even = 32 * fives (odd / 32) + fives (even / 32)
-
-unfoldable pub second_of : ℕ → ℕ → ℕ
-second_of odd even = 32 * fives odd + fives even
-
--- ten levels for each of `b` blocks, with the orientation as a shift
-pub record DownToPlace (b o n odd even s : ℕ) : Type 0 where
-  pub way : WayToPlace (10 * b) o n (first_of odd even) (second_of odd even) (s / 16)
-  pub odd_below : odd < 1024 ^ b
-  pub even_below : even < 1024 ^ b
+-- the way to the place, with the orientation as a shift
+pub record DownToPlace (k o n x y s : ℕ) : Type 0 where
+  pub way : WayToPlace k o n x y (s / 16)
   pub shift : s < 64
   pub whole : s % 16 ≡ 0
 
 pub to_place_begin : (o n s : ℕ) → o < 4 → n < 4 ^ 30 → s ≡ 16 * o → DownToPlace 0 o n 0 0 s
-unfolding first_of second_of fives
 to_place_begin o n s ho hn es =
     let e : o ≡ s / 16 = omega arith in
     record {
       way = subst (λ t. WayToPlace 0 o n 0 0 t) e (to_place_start o n ho hn);
-      odd_below = omega arith;
-      even_below = omega arith;
       shift = omega arith;
       whole = omega arith;
     }
 
--- the two numbers have room for ten bits more
-pub room : (b x : ℕ) → b < 3 → x < 1024 ^ b → x < 2 ^ 20
-room b x hb hx =
-    let most : b ≤ 2 = omega arith in
-    let e : 1024 ^ b ≤ 1024 ^ 2 = pow-le-pow_right {n = 1024} (omega arith) most in
-    omega arith
+-- the coordinates after the single levels
+pub to_place_levels : (k o n x y s : ℕ) → k ≤ 2 → DownToPlace k o n x y s → (x < 4) × (y < 4)
+to_place_levels k o n x y s h w = to_place_small k 2 o n x y (s / 16) h w.way
 
-more_below : (b x r : ℕ) → x < 1024 ^ b → r < 1024 → 1024 * x + r < 1024 ^ (b + 1)
-more_below b x r hx hr = let e = pow-add 1024 b 1 in omega arith
-
--- ten levels more by two entries
-pub to_place_ten : (b o n odd even s p q d r e z u v : ℕ) → b < 3 → DownToPlace b o n odd even s
-    → p ≡ n / 4 ^ (25 - 10 * b) % 1024 → q ≡ n / 4 ^ (20 - 10 * b) % 1024
-    → IsPlaceEntry (s / 16) p d → r ≡ d % 64 → IsPlaceEntry (r / 16) q e → z ≡ e % 64 → u ≡ held d → v ≡ held e
-    → DownToPlace (b + 1) o n (1024 * odd + u) (1024 * even + v) z
-unfolding first_of second_of
-to_place_ten b o n odd even s p q d r e z u v hb w ep eq upper er lower ez eu ev =
-    let high : 30 - (10 * b + 5) ≡ 25 - 10 * b = omega arith in
-    let low : 30 - (10 * b + 5 + 5) ≡ 20 - 10 * b = omega arith in
-    let x = first_of odd even in
-    let y = second_of odd even in
-    let one = to_place_five (10 * b) o n x y (s / 16) p d (omega arith) w.way (rw high ep) upper in
-    let two = to_place_five (10 * b + 5) o n (32 * x + held d / 32) (32 * y + held d % 32) (d % 64 / 16) q e
-    (omega arith) one (rw low eq) (rw er at lower) in
-    let ek : 10 * b + 5 + 5 ≡ 10 * (b + 1) = omega arith in
-    let ho = room b odd hb w.odd_below in
-    let he = room b even hb w.even_below in
-    let hu : u < 1024 = omega arith in
-    let hv : v < 1024 = omega arith in
-    let oa = fives_above odd u ho hu in
-    let ea = fives_above even v he hv in
-    let om = fives_more odd u ho hu in
-    let em = fives_more even v he hv in
-    let ex : 32 * (32 * x + held d / 32) + held e / 32 ≡ first_of (1024 * odd + u) (1024 * even + v) = omega arith in
-    let ey : 32 * (32 * y + held d % 32) + held e % 32 ≡ second_of (1024 * odd + u) (1024 * even + v) = omega arith in
-    let h = lower.next in
+-- `b` levels more by an entry
+to_place_by : (k b o n x y s p e u v z : ℕ) → k + b ≤ 30 → DownToPlace k o n x y s →
+    p ≡ n / 4 ^ (30 - (k + b)) % 4 ^ b → IsPlaceEntry b (s / 16) p e → u ≡ x * 2 ^ b + held e / 2 ^ b →
+    v ≡ y * 2 ^ b + held e % 2 ^ b → z ≡ e % 256 → DownToPlace (k + b) o n u v z
+to_place_by k b o n x y s p e u v z h w ep entry eu ev ez =
+    let below = way_by_place b (s / 16) p e w.way.below entry in
+    let r = below.below in
+    let g = entry.next in
     record {
-      way = way_as (10 * b + 5 + 5) o (n / 4 ^ (30 - (10 * b + 5 + 5))) (32 * (32 * x + held d / 32) + held e / 32)
-          (32 * (32 * y + held d % 32) + held e % 32) (z / 16) (10 * (b + 1)) (n / 4 ^ (30 - 10 * (b + 1)))
-          (first_of (1024 * odd + u) (1024 * even + v)) (second_of (1024 * odd + u) (1024 * even + v))
-          (rw ez two) ek (ap (λ k. n / 4 ^ (30 - k)) ek) ex ey;
-      odd_below = more_below b odd u w.odd_below hu;
-      even_below = more_below b even v w.even_below hv;
+      way = rw ez (to_place_more k b o n x y (s / 16) (held e / 2 ^ b) (held e % 2 ^ b) (e % 256 / 16) u v h w.way
+          (rw ep at below) eu ev);
       shift = omega arith;
       whole = omega arith;
+    }
+
+-- one level more
+pub to_place_one : (k o n x y s p e u v z : ℕ) → k < 2 → DownToPlace k o n x y s → p ≡ n / 4 ^ (29 - k) % 4 →
+    IsPlaceEntry 1 (s / 16) p e → u ≡ 2 * x + held e / 2 → v ≡ 2 * y + held e % 2 → z ≡ e % 256 →
+    DownToPlace (k + 1) o n u v z
+to_place_one k o n x y s p e u v z hk w ep entry eu ev ez =
+    let level : 30 - (k + 1) ≡ 29 - k = omega arith in
+    to_place_by k 1 o n x y s p e u v z (omega arith) w (rw level ep) entry (omega arith) (omega arith) ez
+
+-- ---- the place in two numbers
+
+pub fours_small : (x : ℕ) → fours x ≤ 252645135
+unfolding fours
+fours_small x = omega arith
+
+-- eight bits more
+fours_more : (x r : ℕ) → x < 2 ^ 24 → r < 256 → fours (256 * x + r) ≡ 256 * fours x + r % 16
+unfolding fours
+fours_more x r hx hr = omega arith
+
+fours_above : (x r : ℕ) → x < 2 ^ 24 → r < 256 → fours ((256 * x + r) / 16) ≡ 256 * fours (x / 16) + r / 16
+unfolding fours
+fours_above x r hx hr = omega arith
+
+-- a coordinate, from every second four of its bits and the fours between them
+unfoldable pub between : ℕ → ℕ → ℕ
+between before last = 16 * fours before + fours last
+
+-- the way to the place after two levels and `b` times four
+pub record DownInTwo (b o n before last s : ℕ) : Type 0 where
+  pub down : DownToPlace (4 * b + 2) o n (between (before / 16) (last / 16)) (between before last) s
+  pub before_below : before < 256 ^ ((b + 1) / 2)
+  pub last_below : last < 256 ^ (b / 2 + 1)
+
+pub to_place_two : (o n x y s last : ℕ) → DownToPlace 2 o n x y s → last ≡ 16 * x + y → DownInTwo 0 o n 0 last s
+unfolding between fours
+to_place_two o n x y s last w e =
+    let small = to_place_levels 2 o n x y s (omega arith) w in
+    let hx = small.0 in
+    let hy = small.1 in
+    let ex : x ≡ between 0 (last / 16) = omega arith in
+    let ey : y ≡ between 0 last = omega arith in
+    record {
+      down = subst (λ a. DownToPlace 2 o n a (between 0 last) s) ex (subst (λ b. DownToPlace 2 o n x b s) ey w);
+      before_below = omega arith;
+      last_below = omega arith;
+    }
+
+-- the older number has room for eight bits more
+pub room : (b x : ℕ) → b < 7 → x < 256 ^ ((b + 1) / 2) → x < 2 ^ 24
+room b x hb hx =
+    let most : (b + 1) / 2 ≤ 3 = omega arith in
+    let e : 256 ^ ((b + 1) / 2) ≤ 256 ^ 3 = pow-le-pow_right {n = 256} (omega arith) most in
+    omega arith
+
+-- four levels more by an entry
+pub to_place_four : (b o n before last s p e u z : ℕ) → b < 7 → DownInTwo b o n before last s
+    → p ≡ n / 4 ^ (24 - 4 * b) % 256 → IsPlaceEntry 4 (s / 16) p e → u ≡ 256 * before + held e → z ≡ e % 256
+    → DownInTwo (b + 1) o n last u z
+unfolding between
+to_place_four b o n before last s p e u z hb w ep entry eu ez =
+    let low : 30 - (4 * b + 2 + 4) ≡ 24 - 4 * b = omega arith in
+    let levels : 4 * b + 2 + 4 ≡ 4 * (b + 1) + 2 = omega arith in
+    let hr = room b before hb w.before_below in
+    let hh : held e < 256 = omega arith in
+    let above = rw (← eu) at (fours_above before (held e) hr hh) in
+    let more = rw (← eu) at (fours_more before (held e) hr hh) in
+    let ex : between (last / 16) (u / 16) ≡ between (before / 16) (last / 16) * 16 + held e / 16 = omega arith in
+    let ey : between last u ≡ between before last * 16 + held e % 16 = omega arith in
+    let half : (b + 1 + 1) / 2 ≡ b / 2 + 1 = omega arith in
+    let size = pow-add 256 ((b + 1) / 2) 1 in
+    let hb' = w.before_below in
+    record {
+      down = subst (λ k. DownToPlace k o n (between (last / 16) (u / 16)) (between last u) z) levels
+          (to_place_by (4 * b + 2) 4 o n (between (before / 16) (last / 16)) (between before last) s p e
+          (between (last / 16) (u / 16)) (between last u) z (omega arith) w.down (rw low ep) entry ex ey ez);
+      before_below = rw half w.last_below;
+      last_below = omega arith;
     }

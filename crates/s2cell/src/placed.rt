@@ -51,17 +51,19 @@ impl PlacedCell {
         ensures level { level_of result.cell ≡ level_of self.cell + 1 }
         ensures placed { IsPlacedCell result }
     {
-        let step = tables::place_step(self.orientation, p);
+        let step = tables::place_step(16 * u32::from(self.orientation), u32::from(p));
+        let quadrant = tables::held_by(step);
+        let shift = tables::next_shift(step);
         let half = self.square.size / 2;
         PlacedCell {
             cell: self.cell.child(p),
             square: Square {
                 face: self.square.face,
-                i: self.square.i + half * u32::from(step >> 3),
-                j: self.square.j + half * u32::from((step >> 2) & 1),
+                i: self.square.i + half * (quadrant / 2),
+                j: self.square.j + half * (quadrant % 2),
                 size: half,
             },
-            orientation: step & 3,
+            orientation: (shift / 16) as u8,
         }
     }
 }

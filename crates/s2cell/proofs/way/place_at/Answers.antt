@@ -1,99 +1,141 @@
-use Rattle.std.proofs.Common.{arith, ◌≡◌, ◌+◌, ◌*◌, ◌/◌, ◌^◌, ◌<◌, ap}
-use Rattle.s2cell.proofs.Walk.{to_place_begin, to_place_ten, to_place_small, to_place_end, fives_small, room}
-use Rattle.s2cell.proofs.Walk.{first_of, second_of}
+use Rattle.std.proofs.Common.{arith, ◌≡◌, ◌+◌, ◌*◌, ◌/◌, ◌%◌, ◌^◌, ◌<◌, refl, ap}
+use Rattle.s2cell.proofs.Walk.{to_place_begin, to_place_one, to_place_two, to_place_four, to_place_small, to_place_end}
+use Rattle.s2cell.proofs.Walk.{to_place_levels, between, fours_small, room}
 use Rattle.s2cell.proofs.way.place_at.Goals as goal
-use Rattle.s2cell.proofs.way.place_at.Goals.{After-every_second_five-4}
+use Rattle.s2cell.proofs.way.place_at.Goals.{After-every_second_four-4}
 
-pub loop-block-init : goal.loop-block-init
-loop-block-init c = to_place_begin c.args.start c.args.leaf _ c.requires.start c.requires.leaf
+pub loop-level-init : goal.loop-level-init
+loop-level-init c = to_place_begin c.args.start c.args.leaf _ c.requires.start c.requires.leaf
     (ap (λ z. 16 * z) c.from-shift.ensures)
 
-pub overflow_mul-odd : goal.overflow_mul-odd
-overflow_mul-odd c =
-    let h = room c.loop-block.block c.loop-block.odd (omega arith) c.loop-block.invariant.odd_below in
+pub overflow_mul-i : goal.overflow_mul-i
+overflow_mul-i c =
+    let h = to_place_levels c.loop-level.level _ _ _ _ _ (omega arith) c.loop-level.invariant in
+    let i = h.0 in
     omega arith
 
-pub overflow_add-odd : goal.overflow_add-odd
-overflow_add-odd c =
-    let h = room c.loop-block.block c.loop-block.odd (omega arith) c.loop-block.invariant.odd_below in
+pub overflow_add-i : goal.overflow_add-i
+overflow_add-i c =
+    let h = to_place_levels c.loop-level.level _ _ _ _ _ (omega arith) c.loop-level.invariant in
+    let i = h.0 in
+    let e = c.held_by-quadrant.ensures in
+    omega arith
+
+pub overflow_mul-j : goal.overflow_mul-j
+overflow_mul-j c =
+    let h = to_place_levels c.loop-level.level _ _ _ _ _ (omega arith) c.loop-level.invariant in
+    let j = h.1 in
+    omega arith
+
+pub overflow_add-j : goal.overflow_add-j
+overflow_add-j c =
+    let h = to_place_levels c.loop-level.level _ _ _ _ _ (omega arith) c.loop-level.invariant in
+    let j = h.1 in
+    omega arith
+
+pub loop-level-preserved : goal.loop-level-preserved
+loop-level-preserved c =
+    let e = c.held_by-quadrant.ensures in
+    to_place_one c.loop-level.level c.args.start c.args.leaf c.loop-level.i c.loop-level.j c.loop-level.shift
+    (c.without_digits.result % 4) c.place_step-entry.result _ _ _
+    c.loop-level-test.true c.loop-level.invariant (ap (λ z. z % 4) c.without_digits.ensures)
+    c.place_step-entry.ensures.entry (ap (λ z. 2 * c.loop-level.i + z / 2) e) (ap (λ z. 2 * c.loop-level.j + z % 2) e)
+    c.next_shift-shift.ensures
+
+pub overflow_mul-last : goal.overflow_mul-last
+overflow_mul-last c =
+    let h = to_place_levels c.loop-level.level _ _ _ _ _ (omega arith) c.loop-level.invariant in
+    let i = h.0 in
+    omega arith
+
+pub overflow_add-last : goal.overflow_add-last
+overflow_add-last c =
+    let h = to_place_levels c.loop-level.level _ _ _ _ _ (omega arith) c.loop-level.invariant in
+    let i = h.0 in
+    let j = h.1 in
+    omega arith
+
+pub loop-step-init : goal.loop-step-init
+loop-step-init c =
+    let e : c.loop-level.level ≡ 2 = omega arith in
+    to_place_two c.args.start c.args.leaf c.loop-level.i c.loop-level.j c.loop-level.shift _
+    (rw e at c.loop-level.invariant) refl
+
+pub loop-step-preserved : goal.loop-step-preserved
+loop-step-preserved c =
+    to_place_four c.loop-step.step c.args.start c.args.leaf c.loop-step.before c.loop-step.last c.loop-step.shift
+    (c.without_digits-in-loop-step.result % 256) c.place_entry-entry.result _ _
+    c.loop-step-test.true c.loop-step.invariant (ap (λ z. z % 256) c.without_digits-in-loop-step.ensures)
+    c.place_entry-entry.ensures (ap (λ z. 256 * c.loop-step.before + z) c.held_by.ensures)
+    c.next_shift-shift-in-loop-step.ensures
+
+pub overflow_mul-longer : goal.overflow_mul-longer
+overflow_mul-longer c =
+    let h = room c.loop-step.step c.loop-step.before (omega arith) c.loop-step.invariant.before_below in
+    omega arith
+
+pub overflow_add-longer : goal.overflow_add-longer
+overflow_add-longer c =
+    let h = room c.loop-step.step c.loop-step.before (omega arith) c.loop-step.invariant.before_below in
     let e = c.held_by.ensures in
     omega arith
 
-pub overflow_mul-even : goal.overflow_mul-even
-overflow_mul-even c =
-    let h = room c.loop-block.block c.loop-block.even (omega arith) c.loop-block.invariant.even_below in
-    omega arith
-
-pub overflow_add-even : goal.overflow_add-even
-overflow_add-even c =
-    let h = room c.loop-block.block c.loop-block.even (omega arith) c.loop-block.invariant.even_below in
-    let e = c.held_by-in-loop-block.ensures in
-    omega arith
-
-pub loop-block-preserved : goal.loop-block-preserved
-loop-block-preserved c =
-    to_place_ten c.loop-block.block c.args.start c.args.leaf c.loop-block.odd c.loop-block.even c.loop-block.shift
-    c.five_digits.result c.five_digits-in-loop-block.result c.place_entry-upper.result c.next_shift.result
-    c.place_entry-lower.result _ _ _
-    c.loop-block-test.true c.loop-block.invariant c.five_digits.ensures c.five_digits-in-loop-block.ensures
-    c.place_entry-upper.ensures c.next_shift.ensures c.place_entry-lower.ensures c.next_shift-shift.ensures
-    c.held_by.ensures c.held_by-in-loop-block.ensures
-
 pub overflow_mul-result : goal.overflow_mul-result
 overflow_mul-result c =
-    let h = fives_small (c.loop-block.odd / 32) in
-    let e = c.every_second_five.ensures in
+    let h = fours_small (c.loop-step.before / 16) in
+    let e = c.every_second_four.ensures in
     omega arith
 
 pub overflow_add-result : goal.overflow_add-result
 overflow_add-result c =
-    let h = fives_small (c.loop-block.odd / 32) in
-    let e = c.every_second_five.ensures in
-    let g = fives_small (c.loop-block.even / 32) in
-    let f = c.every_second_five-2.ensures in
+    let h = fours_small (c.loop-step.before / 16) in
+    let e = c.every_second_four.ensures in
+    let g = fours_small (c.loop-step.last / 16) in
+    let f = c.every_second_four-2.ensures in
     omega arith
 
 pub overflow_mul-result-2 : goal.overflow_mul-result-2
 overflow_mul-result-2 c =
-    let h = fives_small c.loop-block.odd in
-    let e = c.every_second_five-3.ensures in
+    let h = fours_small c.loop-step.before in
+    let e = c.every_second_four-3.ensures in
     omega arith
 
 pub overflow_add-result-2 : goal.overflow_add-result-2
 overflow_add-result-2 c =
-    let h = fives_small c.loop-block.odd in
-    let e = c.every_second_five-3.ensures in
-    let g = fives_small c.loop-block.even in
-    let f = c.every_second_five-4.ensures in
+    let h = fours_small c.loop-step.before in
+    let e = c.every_second_four-3.ensures in
+    let g = fours_small c.loop-step.last in
+    let f = c.every_second_four-4.ensures in
     omega arith
 
 -- what is returned are the coordinates in the two numbers
-first : (c : After-every_second_five-4) →
-    32 * c.every_second_five.result + c.every_second_five-2.result ≡ first_of c.loop-block.odd c.loop-block.even
-unfolding first_of
+first : (c : After-every_second_four-4) →
+    16 * c.every_second_four.result + c.every_second_four-2.result
+    ≡ between (c.loop-step.before / 16) (c.loop-step.last / 16)
+unfolding between
 first c =
-    let e = c.every_second_five.ensures in
-    let f = c.every_second_five-2.ensures in
+    let e = c.every_second_four.ensures in
+    let f = c.every_second_four-2.ensures in
     omega arith
 
-second : (c : After-every_second_five-4) →
-    32 * c.every_second_five-3.result + c.every_second_five-4.result ≡ second_of c.loop-block.odd c.loop-block.even
-unfolding second_of
+second : (c : After-every_second_four-4) →
+    16 * c.every_second_four-3.result + c.every_second_four-4.result ≡ between c.loop-step.before c.loop-step.last
+unfolding between
 second c =
-    let e = c.every_second_five-3.ensures in
-    let f = c.every_second_five-4.ensures in
+    let e = c.every_second_four-3.ensures in
+    let f = c.every_second_four-4.ensures in
     omega arith
 
-below : (c : After-every_second_five-4) → (first_of c.loop-block.odd c.loop-block.even < 2 ^ 30)
-    × (second_of c.loop-block.odd c.loop-block.even < 2 ^ 30)
-below c = to_place_small (10 * c.loop-block.block) 30 c.args.start c.args.leaf
-    (first_of c.loop-block.odd c.loop-block.even) (second_of c.loop-block.odd c.loop-block.even)
-    (c.loop-block.shift / 16) (omega arith) c.loop-block.invariant.way
+below : (c : After-every_second_four-4) → (between (c.loop-step.before / 16) (c.loop-step.last / 16) < 2 ^ 30)
+    × (between c.loop-step.before c.loop-step.last < 2 ^ 30)
+below c = to_place_small (4 * c.loop-step.step + 2) 30 c.args.start c.args.leaf
+    (between (c.loop-step.before / 16) (c.loop-step.last / 16)) (between c.loop-step.before c.loop-step.last)
+    (c.loop-step.shift / 16) (omega arith) c.loop-step.invariant.down.way
 
 pub returns-clause-place : goal.returns-clause-place
-returns-clause-place c = rw (first c, second c) (to_place_end (10 * c.loop-block.block) c.args.start c.args.leaf
-    (first_of c.loop-block.odd c.loop-block.even) (second_of c.loop-block.odd c.loop-block.even)
-    (c.loop-block.shift / 16) (omega arith) c.loop-block.invariant.way)
+returns-clause-place c = rw (first c, second c) (to_place_end (4 * c.loop-step.step + 2) c.args.start c.args.leaf
+    (between (c.loop-step.before / 16) (c.loop-step.last / 16)) (between c.loop-step.before c.loop-step.last)
+    (c.loop-step.shift / 16) (omega arith) c.loop-step.invariant.down.way)
 
 pub returns-clause-i : goal.returns-clause-i
 returns-clause-i c = rw (first c) (below c).0

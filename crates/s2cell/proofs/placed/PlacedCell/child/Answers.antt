@@ -1,11 +1,13 @@
-use Rattle.std.proofs.Common.{◌/◌, ◌∙◌}
-use Rattle.std.proofs.lemmas.Nat.{and_mask}
+use Rattle.std.proofs.Common.{arith, ◌/◌, ap}
 use Rattle.s2cell.proofs.Quarters.{placed_orientation, placed_child}
 use Rattle.s2cell.proofs.Family.{level_of_child}
 use Rattle.s2cell.proofs.placed.PlacedCell.child.Goals as goal
 
-pub place_step-step-requires-clause-orientation : goal.place_step-step-requires-clause-orientation
-place_step-step-requires-clause-orientation c = placed_orientation _ _ _ _ _ _ c.requires.placed
+pub place_step-step-requires-clause-shift : goal.place_step-step-requires-clause-shift
+place_step-step-requires-clause-shift c =
+    let h = placed_orientation _ _ _ _ _ _ c.requires.placed in
+    let e = c.from.ensures in
+    omega arith
 
 pub returns-clause-level : goal.returns-clause-level
 returns-clause-level c = rw c.child.ensures (level_of_child c.args.self.cell c.args.p c.requires.placed.cell
@@ -14,8 +16,7 @@ returns-clause-level c = rw c.child.ensures (level_of_child c.args.self.cell c.a
 pub returns-clause-placed : goal.returns-clause-placed
 returns-clause-placed c =
     placed_child c.args.self.cell c.args.self.square.face c.args.self.square.i c.args.self.square.j
-    c.args.self.square.size c.args.self.orientation c.args.p c.child.result c.place_step-step.result
-    c.from.result c.from-2.result _
-    c.requires.placed c.requires.inner c.requires.place c.child.ensures c.place_step-step.ensures.picked
-    c.place_step-step.ensures.turned c.place_step-step.ensures.entry
-    c.from.ensures (c.from-2.ensures ∙ and_mask (c.place_step-step.result / 4) 1) (and_mask c.place_step-step.result 2)
+    c.args.self.square.size c.args.self.orientation c.args.p c.child.result c.from.result c.from-2.result
+    c.place_step-step.result c.held_by-quadrant.result _
+    c.requires.placed c.requires.inner c.requires.place c.child.ensures c.from.ensures c.from-2.ensures
+    c.place_step-step.ensures.entry c.held_by-quadrant.ensures (ap (λ z. z / 16) c.next_shift-shift.ensures)
