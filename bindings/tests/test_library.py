@@ -81,7 +81,7 @@ class AgainstTheModel(unittest.TestCase):
             self.assertEqual(s2union.common_ancestor(a, b), want)
 
     def test_squares_and_places(self):
-        """The model of the calculator follows the curve digit by digit, the library five levels at a time."""
+        """The model of the calculator follows the curve digit by digit, the library four levels at a time."""
         last = 2**30 - 1
         corners = [s2union.from_face_ij(face, i, j) for face in range(6) for i in (0, last) for j in (0, last)]
         leaves = [self.random.cell(30) for _ in range(10000)]
