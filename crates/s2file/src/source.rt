@@ -1,13 +1,14 @@
 //! The bytes of a reader, a piece at a time.
 ghost use Rattle.std.specs.Prelude.{◌≡◌, ◌≢◌, ℕ, ◌+◌, ◌<◌, ◌≤◌, List, [], ◌++◌, length, drop, vec_len};
-ghost use Rattle.std.specs.Prelude.{MatchBool, MatchResult, IfErr, IfOk, OnErr, OnOk};
+ghost use Rattle.std.specs.Prelude.{◌↔◌, MatchBool, MatchResult, IfErr, IfOk, OnErr, OnOk};
+ghost use Rattle.std.specs.IoError.{error_kind};
 ghost use Rattle.std.specs.Io.KnownBytes.{Consumes, IsAtEnd, Keeps};
 ghost use Rattle.s2file.specs.declared.session.ReadFault.{ReadFault};
 
 use crate::session::ReadFault;
 use std::alloc::Global;
 use std::io;
-use std::io::Read;
+use std::io::{ErrorKind, Read};
 
 /// How many bytes a read asks for at most.
 const PIECE: usize = 64 * 1024;
@@ -114,7 +115,7 @@ impl Buffer {
                         return Ok(true);
                     }
                 }
-                Err(error) if error.kind() == io::ErrorKind::Interrupted => {}
+                Err(error) if error.kind() == ErrorKind::Interrupted => {}
                 Err(error) => return Err(fault_of_read(&error)),
             }
         }
@@ -125,10 +126,11 @@ impl Buffer {
 
 /// The fault of a session when a read of it fails.
 pub(crate) fn fault_of_read(error: &io::Error) -> ReadFault
-    ensures { result ≢ ReadFault.Form }
+    ensures form { result ≢ ReadFault.Form }
+    ensures memory { (result ≡ ReadFault.Memory) ↔ (error_kind error.now ≡ ErrorKind.OutOfMemory) }
 {
     match error.kind() {
-        io::ErrorKind::OutOfMemory => ReadFault::Memory,
+        ErrorKind::OutOfMemory => ReadFault::Memory,
         _ => ReadFault::Device,
     }
 }

@@ -1,5 +1,6 @@
 //! A folder as a shelf.
-ghost use Rattle.std.specs.Prelude.{◌≡◌, ◌⊎◌, IfOk, MatchResult};
+ghost use Rattle.std.specs.Prelude.{◌≡◌, ◌≢◌, ◌⊎◌, IfErr, IfOk, IsOk, MatchResult, Some, None, Ok, Err};
+ghost use Rattle.std.specs.IoError.{error_kind};
 ghost use Rattle.s2shelf.specs.Shelf.{one_more};
 ghost use Rattle.std.specs.String.{string_bytes};
 ghost use Rattle.s2shelf.specs.DirShelf.{folder_files, folder_path, path_to};
@@ -61,7 +62,13 @@ fn count_failure(failures: &mut u64) -> ShelfFault
 
 /// What the answer of the system to a call that reads means.
 fn read_answer<T: Drop>(answer: io::Result<T>, failures: &mut u64) -> Result<Option<T>, ShelfFault>
-    ensures { MatchResult result (λ _. failures.new ≡ failures.old) (λ fault.
+    ensures found { IfOk answer (λ found. result ≡ Ok (Some found)) }
+    ensures missing { IfErr answer (λ error. error_kind error ≡ ErrorKind.NotFound → result ≡ Ok None) }
+    ensures memory { IfErr answer (λ error. error_kind error ≡ ErrorKind.OutOfMemory
+        → result ≡ Err ShelfFault.Memory) }
+    ensures device { IfErr answer (λ error. error_kind error ≢ ErrorKind.NotFound
+        → error_kind error ≢ ErrorKind.OutOfMemory → result ≡ Err ShelfFault.Device) }
+    ensures count { MatchResult result (λ _. failures.new ≡ failures.old) (λ fault.
         ((fault ≡ ShelfFault.Device) × (failures.new ≡ one_more failures.old))
         ⊎ ((fault ≡ ShelfFault.Memory) × (failures.new ≡ failures.old))) }
 {
@@ -72,6 +79,18 @@ fn read_answer<T: Drop>(answer: io::Result<T>, failures: &mut u64) -> Result<Opt
             ErrorKind::OutOfMemory => Err(ShelfFault::Memory),
             _ => Err(count_failure(failures)),
         },
+    }
+}
+
+/// What the answer of the system to a call that writes means. Each of its errors is a failure of the device, since the
+/// file may have lost its content.
+fn write_answer(answer: io::Result<()>, failures: &mut u64) -> Result<(), ShelfFault>
+    ensures written { IfOk answer (λ _. IsOk result × (failures.new ≡ failures.old)) }
+    ensures device { IfErr answer (λ _. (result ≡ Err ShelfFault.Device) × (failures.new ≡ one_more failures.old)) }
+{
+    match answer {
+        Ok(()) => Ok(()),
+        Err(_) => Err(count_failure(failures)),
     }
 }
 
@@ -130,9 +149,7 @@ impl<R: Files + AllocGlobal> Shelf for DirShelf<R> {
 
     fn put(&mut self, name: &str, bytes: &[u8]) -> Result<(), ShelfFault> {
         let path = self.path_of(name)?;
-        match write_whole(&self.rt, path.as_str(), bytes) {
-            Ok(()) => Ok(()),
-            Err(_) => Err(count_failure(&mut self.failures)),
-        }
+        let answer = write_whole(&self.rt, path.as_str(), bytes);
+        write_answer(answer, &mut self.failures)
     }
 }

@@ -1,5 +1,5 @@
 //! Named files that may fail.
-ghost use Rattle.std.specs.Prelude.{◌≡◌, IfOk, MatchResult, option_map, take};
+ghost use Rattle.std.specs.Prelude.{◌≡◌, ◌↔◌, IfOk, MatchResult, option_map, take};
 ghost use Rattle.s2shelf.specs.Shelf.{Files, Finds, FindsBeginning, MayHold, Opens, PutsFile, FailsToGet, FailsToPut};
 ghost use Rattle.s2shelf.specs.declared.shelf.ShelfFault.TheVariants.{Device, Memory};
 
@@ -47,7 +47,9 @@ fn read_whole<R: Read + Drop>(alloc: Global, mut file: R) -> Result<Vec<u8>, She
 }
 
 /// What a failed read means.
-fn fault_of(kind: ErrorKind) -> ShelfFault {
+fn fault_of(kind: ErrorKind) -> ShelfFault
+    ensures { (result ≡ ShelfFault.Memory) ↔ (kind ≡ ErrorKind.OutOfMemory) }
+{
     match kind {
         ErrorKind::OutOfMemory => ShelfFault::Memory,
         _ => ShelfFault::Device,
