@@ -2,7 +2,8 @@
  * The calls from FIRST to LAST of the kind CALL, counted from 1, fail with the number ERROR; a `write` whose ERROR is 0
  * takes nothing. CALL is `memory` (malloc, calloc and realloc), `read`, `write`, `open`, `statx`, `close` or `lseek`.
  * With PIECE=N, a read of standard input and a write to standard output transfer at most N bytes. With CALLS=FILE, the
- * program's calls are written to that file at its end, one a line: their kinds, files (-1: none) and answers. */
+ * program's calls are written to that file at its end, one a line: their kinds, files (-1: none) and answers. With
+ * SWAPPED=PATH, each file becomes a link to PATH just before it is opened. */
 #define _GNU_SOURCE
 #include <errno.h>
 #include <fcntl.h>
@@ -76,7 +77,10 @@ int open(const char *path, int flags, ...) {
   va_start(more, flags);
   int mode = flags & O_CREAT ? va_arg(more, int) : 0;
   va_end(more);
-  return is_refused(OPEN, -1) ? -1 : (int)told(syscall(SYS_openat, AT_FDCWD, path, flags, mode));
+  if (is_refused(OPEN, -1)) return -1;
+  const char *swapped = getenv("SWAPPED");
+  if (swapped && (unlink(path) || symlink(swapped, path))) abort();
+  return (int)told(syscall(SYS_openat, AT_FDCWD, path, flags, mode));
 }
 
 int statx(int folder, const char *restrict path, int flags, unsigned mask, struct statx *restrict to) {

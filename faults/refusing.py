@@ -28,16 +28,17 @@ class Refusing:
         source = os.path.join(TOP, "faults/refuse.c")
         subprocess.run(["cc", "-O2", "-shared", "-fPIC", "-o", self.library, source], check=True)
 
-    def run(self, refused="", piece=0, options=(), before=None, has_calls=True):
+    def run(self, refused="", piece=0, options=(), before=None, has_calls=True, script=SCRIPT, swapped=""):
         """A run in which the calls fail that REFUSED in refuse.c names. `piece` is the most bytes of a read of the
-        script and of a write of answers, if it isn't 0."""
+        script and of a write of answers, if it isn't 0. If `swapped` is a path, each file becomes a link to it."""
         with tempfile.TemporaryDirectory(dir=self.room) as place:
             folder, log = os.path.join(place, "folder"), os.path.join(place, "calls")
             fill(folder)
             how = {"LD_PRELOAD": self.library, "REFUSED": refused, "PIECE": str(piece or sys.maxsize)}
             how.update({"CALLS": log} if has_calls else {})
+            how.update({"SWAPPED": swapped} if swapped else {})
             words = [*arguments(folder), *options]
-            done = subprocess.run(words, input=SCRIPT, capture_output=True, timeout=60, env=how, preexec_fn=before)
+            done = subprocess.run(words, input=script, capture_output=True, timeout=60, env=how, preexec_fn=before)
             calls = []
             if has_calls:
                 with open(log, encoding="ascii") as it:

@@ -6,8 +6,8 @@ ghost use Rattle.std.specs.String.{string_bytes};
 ghost use Rattle.s2shelf.specs.DirShelf.{folder_files, folder_path, path_to};
 
 use crate::shelf::{Shelf, ShelfFault, beginning_of};
-use std::alloc::AllocError;
-use std::fs::File;
+use std::alloc::{AllocError, Global};
+use std::fs::{File, OpenFile};
 use std::io::{ErrorKind, Read};
 use std::rt::Files;
 use std::{fs, io};
@@ -15,9 +15,11 @@ use std::{fs, io};
 /// A folder of files. It doesn't expose its contents, which are what the system gives.
 ///
 /// The file NAME is at `PATH/NAME`, literally, and nothing else is touched. A file that the system doesn't find is
-/// absent, also if the folder is. Every other fault is `Device`: a file that may not be read, a full disk, or a `put`
-/// into an absent folder. A name of anything but a regular file, such as a folder, a FIFO or a device, is `Device` too,
-/// and is not opened. A symbolic link stands for what it leads to, also outside the folder.
+/// absent, also if the folder is. A call that reads answers `Memory` if the system is out of memory. Every other fault
+/// of the system, and each in a `put`, is `Device`: a file that may not be read, a full disk, or a `put` into an absent
+/// folder. A name of anything but a regular file, such as a folder, a FIFO or a device, is `Device` too, and is not
+/// opened. If it takes the place of a file just before the opening, it is not read, but a `put` may write to it, and
+/// opening a FIFO waits for its other end. A symbolic link stands for what it leads to, also outside the folder.
 #[derive(Drop)]
 pub struct DirShelf<R: Files + AllocGlobal> {
     rt: R,
@@ -94,35 +96,45 @@ fn write_answer(answer: io::Result<()>, failures: &mut u64) -> Result<(), ShelfF
     }
 }
 
-/// Refuses anything but a regular file, before it is opened: a FIFO would block, and a device has no end.
-fn check_regular<R: Files>(rt: &R, path: &str) -> io::Result<()> {
-    if fs::metadata(rt, path)?.is_file() {
+/// Refuses anything but a regular file.
+fn check_regular(found: &fs::Metadata) -> io::Result<()> {
+    if found.is_file() {
         Ok(())
     } else {
         Err(io::Error::from(ErrorKind::InvalidInput))
     }
 }
 
-/// A regular file, opened for reading.
+/// A regular file, opened for reading. It is looked at before it is opened, since opening a FIFO waits, and again
+/// afterwards, since something else may have taken its place.
 fn open_regular<R: Files>(rt: &R, path: &str) -> io::Result<R::File> {
-    check_regular(rt, path)?;
-    File::open(rt, path)
+    check_regular(&fs::metadata(rt, path)?)?;
+    let file = File::open(rt, path)?;
+    check_regular(&file.metadata()?)?;
+    Ok(file)
 }
 
-/// The first `most` bytes of a regular file. Nothing is read after them.
-fn read_beginning<R: Files + AllocGlobal>(rt: &R, path: &str, most: usize) -> io::Result<Vec<u8>> {
-    let mut bytes = Vec::new(rt.alloc());
-    let mut file = open_regular(rt, path)?.take(most as u64);
-    file.read_to_end(&mut bytes)?;
+/// The first `most` bytes that reads of an opened file give. Nothing is read after them. Closes it.
+fn read_beginning<F: Read + Drop>(alloc: Global, file: F, most: usize) -> io::Result<Vec<u8>>
+{
+    let mut bytes = Vec::new(alloc);
+    file.take(most as u64).read_to_end(&mut bytes)?;
     Ok(bytes)
+}
+
+/// The first `most` bytes of a regular file.
+fn read_regular<R: Files + AllocGlobal>(rt: &R, path: &str, most: usize) -> io::Result<Vec<u8>> {
+    read_beginning(rt.alloc(), open_regular(rt, path)?, most)
 }
 
 /// Overwrites a regular file, or creates one.
 fn write_whole<R: Files>(rt: &R, path: &str, bytes: &[u8]) -> io::Result<()> {
-    match check_regular(rt, path) {
-        Err(error) if error.kind() != ErrorKind::NotFound => Err(error),
-        _ => fs::write(rt, path, bytes),
+    match fs::metadata(rt, path) {
+        Ok(found) => check_regular(&found)?,
+        Err(error) if error.kind() == ErrorKind::NotFound => {}
+        Err(error) => return Err(error),
     }
+    fs::write(rt, path, bytes)
 }
 
 impl<R: Files + AllocGlobal> Shelf for DirShelf<R> {
@@ -142,7 +154,7 @@ impl<R: Files + AllocGlobal> Shelf for DirShelf<R> {
 
     fn get_beginning(&mut self, name: &str, most: usize) -> Result<Option<Vec<u8>>, ShelfFault> {
         let path = self.path_of(name)?;
-        let answer = read_beginning(&self.rt, path.as_str(), most);
+        let answer = read_regular(&self.rt, path.as_str(), most);
         let found = read_answer(answer, &mut self.failures)?;
         Ok(beginning_of(found, most))
     }
