@@ -1,4 +1,5 @@
 """Union files that are accepted, refused, absent or too long, and files that may not be touched."""
+import array
 import os
 import shutil
 import subprocess
@@ -105,6 +106,16 @@ class UnionFiles(unittest.TestCase):
         open(self.folder, "wb").close()
         self.answers("load a g\nrestore g\nsave a g\ndump g\n", "error file\n" * 4)
         self.checks("g", "error file")
+
+    def test_the_longest_union_file_and_one_byte_more(self):
+        content = b"\x01" + number(1_000_000) + array.array("Q", range(1, 4_000_000, 4)).tobytes()
+        self.write("f", content)
+        self.write("g", content + b"\0")
+        self.checks("f", "cells 1000000 leaves 1000000")
+        self.checks("g", "error format")
+        script = b"load a f\nload a g\nrestore g\n"
+        answers = b"ok 0 1000000\nerror format\nerror session\n"
+        self.assertEqual(ran("run", "--limit", "1000000", "--dir", self.folder, script=script), (1, answers, b""))
 
     def test_a_file_longer_than_any_union_is_not_read_whole(self):
         # 3 GB without a block on the disk.

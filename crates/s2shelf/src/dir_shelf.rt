@@ -1,7 +1,8 @@
 //! A folder as a shelf.
 ghost use Rattle.std.specs.Prelude.{◌≡◌, ◌≢◌, ◌⊎◌, IfErr, IfOk, IsOk, MatchResult, Some, None, Ok, Err};
+ghost use Rattle.std.specs.Prelude.{option_map, take};
 ghost use Rattle.std.specs.IoError.{error_kind};
-ghost use Rattle.s2shelf.specs.Shelf.{one_more};
+ghost use Rattle.s2shelf.specs.Shelf.{MayHold, one_more};
 ghost use Rattle.std.specs.String.{string_bytes};
 ghost use Rattle.s2shelf.specs.DirShelf.{folder_files, folder_path, path_to};
 
@@ -116,6 +117,7 @@ fn open_regular<R: Files>(rt: &R, path: &str) -> io::Result<R::File> {
 
 /// The first `most` bytes that reads of an opened file give. Nothing is read after them. Closes it.
 fn read_beginning<F: Read + Drop>(alloc: Global, file: F, most: usize) -> io::Result<Vec<u8>>
+    ensures { IfOk result (λ bytes. MayHold (option_map (take most) (F.remaining file)) bytes.items) }
 {
     let mut bytes = Vec::new(alloc);
     file.take(most as u64).read_to_end(&mut bytes)?;
