@@ -27,7 +27,8 @@ use std::alloc::{AllocError, Global};
 ///
 /// `looks` says how many quadrants were looked at, also after a refusal: at least one for each cell of the answer, and
 /// at most `2 * m + 4 * level * n` for a union of m cells and an answer of n cells, or
-/// `2 * m + 4 * level * (max + 1)` after a refusal.
+/// `2 * m + 4 * level * (max + 1)` after a refusal. After `TooMany` it is at least `max + 1`, one for each cell that was
+/// found.
 ///
 /// Takes memory for as many cells as the union has in the rectangle. `TooMany` is answered as by `outer`.
 pub fn clip_outer(
@@ -48,6 +49,7 @@ pub fn clip_outer(
     ensures least { IfOk result (λ u. length u.cells ≤ looks.new.count) }
     ensures most { IfOk result (λ u. looks.new.count ≤ 2 * length union.now.cells + 4 * level * length u.cells) }
     ensures stopped { OnErr result (looks.new.count ≤ 2 * length union.now.cells + 4 * level * (max + 1)) }
+    ensures refused { IfErr result (λ fault. fault ≡ CoverFault.TooMany → max < looks.new.count) }
 {
     looks.count = 0;
     let _ = union.cells();
@@ -78,6 +80,7 @@ pub fn clip_inner(
     ensures least { IfOk result (λ u. length u.cells ≤ looks.new.count) }
     ensures most { IfOk result (λ u. looks.new.count ≤ 2 * length union.now.cells + 4 * level * length u.cells) }
     ensures stopped { OnErr result (looks.new.count ≤ 2 * length union.now.cells + 4 * level * (max + 1)) }
+    ensures refused { IfErr result (λ fault. fault ≡ CoverFault.TooMany → max < looks.new.count) }
 {
     looks.count = 0;
     match rect.round_inward(level) {
@@ -107,6 +110,7 @@ fn inner_part(
     ensures least { IfOk result (λ u. length u.cells ≤ looks.new.count) }
     ensures most { IfOk result (λ u. looks.new.count ≤ 2 * length union.now.cells + 4 * level * length u.cells) }
     ensures stopped { OnErr result (looks.new.count ≤ 2 * length union.now.cells + 4 * level * (max + 1)) }
+    ensures refused { IfErr result (λ fault. fault ≡ CoverFault.TooMany → max < looks.new.count) }
 {
     let _ = union.cells();
     let whole = kept_union(alloc, union, &rect, level, looks)?;
@@ -137,6 +141,8 @@ fn clip_aligned(
         + 4 * level * length u.cells) }
     ensures stopped { OnErr result (looks.new.count ≤ looks.old.count + length union.now.cells
         + 4 * level * (max + 1)) }
+    ensures refused { IfErr result (λ fault. fault ≡ CoverFault.TooMany →
+        looks.old.count + max < looks.new.count) }
 {
     let list = cells_within(alloc, union.cells(), rect, level, max, looks)?;
     Ok(CellUnion::from_normalized(list))
@@ -165,6 +171,8 @@ fn cells_within(
     ensures most { IfOk result (λ list. looks.new.count ≤ looks.old.count + length cells.now
         + 4 * level * length list.items) }
     ensures stopped { OnErr result (looks.new.count ≤ looks.old.count + length cells.now + 4 * level * (max + 1)) }
+    ensures refused { IfErr result (λ fault. fault ≡ CoverFault.TooMany →
+        looks.old.count + max < looks.new.count) }
 {
     let mut list = Vec::new(alloc);
     for cell in cells {

@@ -1,5 +1,5 @@
 //! The coverings of a rectangle in time proportional to the answer.
-ghost use Rattle.std.specs.Prelude.{◌≡◌, ◌+◌, ◌-◌, ◌*◌, ◌≤◌, length, IfOk, IfErr, OnErr};
+ghost use Rattle.std.specs.Prelude.{◌≡◌, ◌+◌, ◌-◌, ◌*◌, ◌<◌, ◌≤◌, length, IfOk, IfErr, OnErr};
 ghost use Rattle.s2union.specs.Union.{has_leaf, IsLocal, IsNormalForm};
 ghost use Rattle.s2cover.specs.Coverings.{HasLeavesOf, TooManyMeans, inner_set, outer_set};
 ghost use Rattle.s2cover.specs.Descent.{IsAligned};
@@ -18,6 +18,7 @@ use std::alloc::Global;
 /// The rectangle is first rounded outward to the grid of the level, so every cell that lies inside it belongs to the
 /// answer. `looks` says how many quadrants were looked at, also after a refusal: at least one for each cell of the
 /// answer, and at most `1 + 4 * level * n` for an answer of n cells, or `1 + 4 * level * (max + 1)` after a refusal.
+/// After `TooMany` it is at least `max + 1`, one for each cell that was found.
 pub fn rect_outer(
     alloc: Global,
     rect: &FaceRect,
@@ -35,6 +36,7 @@ pub fn rect_outer(
     ensures least { IfOk result (λ u. length u.cells ≤ looks.new.count) }
     ensures most { IfOk result (λ u. looks.new.count ≤ 1 + 4 * level * length u.cells) }
     ensures stopped { OnErr result (looks.new.count ≤ 1 + 4 * level * (max + 1)) }
+    ensures refused { IfErr result (λ fault. fault ≡ CoverFault.TooMany → max < looks.new.count) }
 {
     looks.count = 0;
     cover_aligned(alloc, &rect.round_outward(level), level, max, looks)
@@ -61,6 +63,7 @@ pub fn rect_inner(
     ensures least { IfOk result (λ u. length u.cells ≤ looks.new.count) }
     ensures most { IfOk result (λ u. looks.new.count ≤ 1 + 4 * level * length u.cells) }
     ensures stopped { OnErr result (looks.new.count ≤ 1 + 4 * level * (max + 1)) }
+    ensures refused { IfErr result (λ fault. fault ≡ CoverFault.TooMany → max < looks.new.count) }
 {
     looks.count = 0;
     match rect.round_inward(level) {
@@ -89,6 +92,7 @@ fn cover_aligned(
     ensures least { IfOk result (λ u. length u.cells ≤ looks.new.count) }
     ensures most { IfOk result (λ u. looks.new.count ≤ 1 + 4 * level * length u.cells) }
     ensures stopped { OnErr result (looks.new.count ≤ 1 + 4 * level * (max + 1)) }
+    ensures refused { IfErr result (λ fault. fault ≡ CoverFault.TooMany → max < looks.new.count) }
 {
     let mut list = Vec::new(alloc);
     seek(

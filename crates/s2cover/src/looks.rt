@@ -66,6 +66,8 @@ pub(crate) fn seek(
         (form_in (rect_set rect.now) (30 - level) placed.now.cell) ≤ looks.new.count) }
     ensures stopped { OnErr result (looks.new.count ≤ looks.old.count + 1 + 4
         * (depth_of placed.now.cell - (30 - level)) * (max - vec_len list.old + 1)) }
+    ensures refused { IfErr result (λ fault. fault ≡ CoverFault.TooMany →
+        looks.old.count + max < looks.new.count + vec_len list.old) }
 {
     match look(rect, placed.square, looks) {
         Part::Out => Ok(()),
