@@ -1,0 +1,166 @@
+//! What the lines of a row say: its script, its options, the bytes of its files, and the answers that it must have.
+use std::alloc::{AllocError, Global};
+
+/// The number of decimal digits. What is greater than the greatest `u64` is that.
+pub fn number(digits: &str) -> u64 {
+    let mut number = 0u64;
+    for digit in digits.as_bytes() {
+        number = number
+            .saturating_mul(10)
+            .saturating_add(u64::from(digit.wrapping_sub(b'0')));
+    }
+    number
+}
+
+/// The number that a row has for an option, or the usual one.
+pub fn option(lines: &[&str], name: &str, usual: u64) -> u64 {
+    for line in lines {
+        if let Some(text) = line.strip_prefix("$ ") {
+            let (named, digits) = first_word(text);
+            if named == name {
+                return number(digits);
+            }
+        }
+    }
+    usual
+}
+
+/// The bytes of pairs of hexadecimal digits; other characters are passed over. Fails if memory runs out.
+pub fn bytes_of(alloc: Global, digits: &str) -> Result<Vec<u8>, AllocError> {
+    let mut bytes = Vec::new(alloc);
+    let mut high = None;
+    for byte in digits.as_bytes() {
+        if let Some(digit) = (*byte as char).to_digit(16) {
+            let digit = digit as u8;
+            match high {
+                None => high = Some(digit),
+                Some(first) => {
+                    bytes.push(digit.wrapping_add(16u8.wrapping_mul(first)))?;
+                    high = None;
+                }
+            }
+        }
+    }
+    Ok(bytes)
+}
+
+/// The script of a row. Fails if memory runs out.
+pub fn script_of(alloc: Global, lines: &[&str]) -> Result<Vec<u8>, AllocError> {
+    let mut script = Vec::new(alloc);
+    for line in lines {
+        let (kind, text) = first_word(line);
+        add_script(&mut script, kind, text)?;
+    }
+    Ok(script)
+}
+
+/// Adds what a line of a row says of the script.
+fn add_script(script: &mut Vec<u8>, kind: &str, text: &str) -> Result<(), AllocError> {
+    if kind == ">" {
+        add_text(script, text)?;
+        script.push(b'\n')?;
+        return Ok(());
+    }
+    if kind == "<" {
+        return add_text(script, text);
+    }
+    if kind == "*" {
+        return add_repeated(script, text);
+    }
+    if kind == "^" {
+        return add_long_line(script, text);
+    }
+    Ok(())
+}
+
+/// Adds a text, in which `\r` at the end is a carriage return.
+fn add_text(script: &mut Vec<u8>, text: &str) -> Result<(), AllocError> {
+    match text.strip_suffix("\\r") {
+        Some(rest) => {
+            script.extend_from_slice(rest.as_bytes())?;
+            script.push(b'\r')?;
+            Ok(())
+        }
+        None => script.extend_from_slice(text.as_bytes()),
+    }
+}
+
+/// Adds a line as often as `N TEXT` says.
+fn add_repeated(script: &mut Vec<u8>, text: &str) -> Result<(), AllocError> {
+    let (count, text) = first_word(text);
+    for _ in 0..number(count) {
+        add_text(script, text)?;
+        script.push(b'\n')?;
+    }
+    Ok(())
+}
+
+/// Adds the line that `FIRST COUNT LAST` says.
+fn add_long_line(script: &mut Vec<u8>, text: &str) -> Result<(), AllocError> {
+    let (first, rest) = first_word(text);
+    let (count, last) = first_word(rest);
+    add_end(script, first)?;
+    for _ in 0..number(count) {
+        script.push(b'x')?;
+    }
+    add_end(script, last)?;
+    script.push(b'\n')?;
+    Ok(())
+}
+
+/// Adds the beginning or the end of a long line.
+fn add_end(script: &mut Vec<u8>, text: &str) -> Result<(), AllocError> {
+    if text == "-" {
+        return Ok(());
+    }
+    add_text(script, text)
+}
+
+/// The answers that a row must have, each with a newline. Fails if memory runs out.
+pub fn wanted_of(alloc: Global, lines: &[&str]) -> Result<Vec<u8>, AllocError> {
+    let mut wanted = Vec::new(alloc);
+    for line in lines {
+        if is_answer(line) {
+            add_answer(&mut wanted, line)?;
+        }
+    }
+    Ok(wanted)
+}
+
+/// Whether a line of a row is an answer, or `= N TEXT`.
+fn is_answer(line: &str) -> bool {
+    match line.as_bytes() {
+        [] => false,
+        [
+            b'>' | b'<' | b'*' | b'^' | b'$' | b'@' | b'?' | b'#',
+            b' ',
+            ..
+        ] => false,
+        [b'#', b'#', b' ', ..] => false,
+        _ => true,
+    }
+}
+
+/// Adds an answer as often as it is wanted.
+fn add_answer(wanted: &mut Vec<u8>, line: &str) -> Result<(), AllocError> {
+    let Some(counted) = line.strip_prefix("= ") else {
+        return add_line(wanted, line);
+    };
+    let (count, text) = first_word(counted);
+    for _ in 0..number(count) {
+        add_line(wanted, text)?;
+    }
+    Ok(())
+}
+
+/// Adds a line to the answers found. Fails if memory runs out.
+pub fn add_line(found: &mut Vec<u8>, line: &str) -> Result<(), AllocError> {
+    found.extend_from_slice(line.as_bytes())?;
+    found.push(b'\n')?;
+    Ok(())
+}
+
+/// The first word of a text, and what follows the blank after it.
+fn first_word(text: &str) -> (&str, &str) {
+    text.split_once(" ").unwrap_or((text, ""))
+}
