@@ -25,9 +25,21 @@ pub fn option(lines: &[&str], name: &str, usual: u64) -> u64 {
     usual
 }
 
-/// The bytes of pairs of hexadecimal digits; other characters are passed over. Fails if memory runs out.
+/// The bytes of pairs of hexadecimal digits, in words. A word `DIGITS*N` stands for its bytes N times. Fails if memory
+/// runs out.
 pub fn bytes_of(alloc: Global, digits: &str) -> Result<Vec<u8>, AllocError> {
     let mut bytes = Vec::new(alloc);
+    for word in digits.split_whitespace() {
+        let (digits, count) = word.split_once("*").unwrap_or((word, "1"));
+        for _ in 0..number(count) {
+            add_bytes(&mut bytes, digits)?;
+        }
+    }
+    Ok(bytes)
+}
+
+/// Adds the bytes of one word.
+fn add_bytes(bytes: &mut Vec<u8>, digits: &str) -> Result<(), AllocError> {
     let mut high = None;
     for byte in digits.as_bytes() {
         if let Some(digit) = (*byte as char).to_digit(16) {
@@ -41,7 +53,7 @@ pub fn bytes_of(alloc: Global, digits: &str) -> Result<Vec<u8>, AllocError> {
             }
         }
     }
-    Ok(bytes)
+    Ok(())
 }
 
 /// The script of a row. Fails if memory runs out.
