@@ -10,8 +10,8 @@ pub trait Table {
     fn answers_of(&mut self, alloc: Global, lines: &[&str]) -> Result<Vec<u8>, AllocError>;
 }
 
-/// Has each row of standard input answered. Prints the title of each row with other answers than those that stand in it,
-/// and what was found; and at the end how many rows have theirs. Fails if a read, a write or an allocation fails.
+/// Has each row of standard input answered. Prints the title of each row with other answers than those that stand in
+/// it, and what was found; and at the end how many rows have theirs. Fails if a read, a write or an allocation fails.
 pub fn answer_rows(
     rt: &(impl Input + Print + AllocGlobal),
     table: &mut impl Table,

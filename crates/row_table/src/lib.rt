@@ -1,6 +1,6 @@
 //! Tables of worked rows, as text that programs read and answer.
 //!
-//! A table is a row after another. A row begins with its title, `## TITLE`. The lines after it are, by their beginnings:
+//! A table is a list of rows. A row begins with its title, `## TITLE`. The lines after it are, by their beginnings:
 //!
 //! | Line | What it is |
 //! |---|---|
