@@ -1,0 +1,84 @@
+//! Questions of `s2union` about two unions, and how many cells they look at.
+ghost use Rattle.std.specs.Prelude.{◌<◌, ◌≤◌};
+
+use crate::texts::{cut, numbers_of, union_of, yes_or_no};
+use row_table::add_line;
+use s2cell::{CellId, LEAVES};
+use s2union::{CellUnion, Counted, normalise};
+use std::alloc::{AllocError, Global};
+
+/// Makes a call, and adds its answer. False for the name of another call.
+pub fn answer(
+    alloc: Global,
+    name: &str,
+    words: &str,
+    found: &mut Vec<u8>,
+) -> Result<bool, AllocError> {
+    if name == "spaced" {
+        add_spaced(alloc, words, found)?;
+        return Ok(true);
+    }
+    let (one, other) = cut(words);
+    let one = union_of(alloc, one)?;
+    let other = union_of(alloc, other)?;
+    if name == "contains" {
+        add_line(found, yes_or_no(one.contains(&other)))?;
+    } else if name == "intersects" {
+        add_line(found, yes_or_no(one.intersects(&other)))?;
+    } else if name == "contains_counted" {
+        let counted = one.contains_counted(&other);
+        let (answer, looks) = (yes_or_no(counted.answer), counted.looks);
+        add_line(found, &format!(in alloc; "{answer} looks {looks}")?)?;
+    } else {
+        return Ok(false);
+    }
+    Ok(true)
+}
+
+/// How many leaves each of the spaced cells has.
+const SIZE: u64 = 1 << 40;
+
+/// 10,000 cells, every fourth of their level.
+fn spaced_cells(alloc: Global) -> Result<CellUnion, AllocError> {
+    let mut cells = Vec::new(alloc);
+    for k in 0..10000 {
+        cells.push(CellId::tile(4 * k * SIZE, (4 * k + 1) * SIZE))?;
+    }
+    Ok(normalise(cells))
+}
+
+/// The first hundred leaves in even places of the n-th cell of that size.
+fn leaves_of(alloc: Global, n: u64) -> Result<CellUnion, AllocError>
+    requires { n < 65536 }
+{
+    let first = n * SIZE;
+    let mut leaves = Vec::new(alloc);
+    for k in 0..100 {
+        leaves.push(CellId::tile(first + 2 * k, first + 2 * k + 1))?;
+    }
+    Ok(normalise(leaves))
+}
+
+/// Adds what the spaced cells answer of a hundred leaves of the n-th cell, which lie in one gap or in one cell: whether
+/// they contain them and intersect them, whether each took fewer than a hundred looks, and how many cells both share.
+fn add_spaced(alloc: Global, words: &str, found: &mut Vec<u8>) -> Result<(), AllocError> {
+    let [n, ..] = numbers_of(words);
+    if n >= 65536 {
+        return add_line(found, "out of range");
+    }
+    let spaced = spaced_cells(alloc)?;
+    let leaves = leaves_of(alloc, n)?;
+    add_few(alloc, found, spaced.contains_counted(&leaves))?;
+    add_few(alloc, found, spaced.intersects_counted(&leaves))?;
+    let shared = spaced.intersection(&leaves)?.len();
+    add_line(found, &format!(in alloc; "{shared}")?)
+}
+
+/// Adds an answer, and whether fewer than a hundred cells were looked at, or how many.
+fn add_few(alloc: Global, found: &mut Vec<u8>, counted: Counted) -> Result<(), AllocError> {
+    let (answer, looks) = (yes_or_no(counted.answer), counted.looks);
+    if looks < 100 {
+        return add_line(found, &format!(in alloc; "{answer} few looks")?);
+    }
+    add_line(found, &format!(in alloc; "{answer} looks {looks}")?)
+}
