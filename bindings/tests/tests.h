@@ -29,7 +29,7 @@ static int report(void) {
 /* Memory of n bytes; the byte after the last may not be read or written. */
 static inline void* at_the_edge(size_t size) {
   size_t page = (size_t)sysconf(_SC_PAGESIZE), whole = (size + page - 1) / page * page;
-  char* at = mmap(NULL, whole + page, PROT_READ | PROT_WRITE, MAP_PRIVATE | MAP_ANONYMOUS, -1, 0);
+  char* at = (char*)mmap(NULL, whole + page, PROT_READ | PROT_WRITE, MAP_PRIVATE | MAP_ANONYMOUS, -1, 0);
   if (at == MAP_FAILED || mprotect(at + whole, page, PROT_NONE)) abort();
   return at + whole - size;
 }

@@ -1,0 +1,465 @@
+/* s2union.hpp: the cell unions of S2, proved, for C++17 or later.
+ *
+ * s2union::CellUnion has the names and the meanings of S2's S2CellUnion, and is made of calls of s2union.h: the header
+ * has no arithmetic on cells of its own. Link libs2union. Its cells are uint64_t; nothing of S2 is needed. Where S2's
+ * headers are included, s2union::CellUnionOf<S2CellId> has S2's cells in place of numbers:
+ *
+ *     using CellUnion = s2union::CellUnionOf<S2CellId>;
+ *     CellUnion ours = theirs;               // from an S2CellUnion, normalized if it wasn't
+ *     S2CellUnion again(ours.Union(ours));   // and back, to S2's regions, indexes and areas
+ *
+ * WHAT DIFFERS. A CellUnion is always normalized: there is no FromVerbatim, and IsValid and IsNormalized are true. What
+ * S2 only requires, and looks at in debug builds, is always checked here, and refused if it isn't so. Decode makes its
+ * cells a union. There is no geometry: no Expand, areas, bounds or points. docs/FROM_S2.md has the whole table.
+ *
+ * REFUSALS. The last parameter of every call that can be refused is `int32_t* status`, and may be left out.
+ *   - Without it, a refusal is thrown: std::bad_alloc if memory ran out, and otherwise s2union::Error, which knows the
+ *     status. Where exceptions are switched off, the program is aborted, as it is by a vector that gets no memory.
+ *   - With it, nothing is thrown: *status is S2U_OK, or the status of s2union.h that says why not. After a refusal the
+ *     answer is false or empty, and what the call would have changed is as it was.
+ */
+#ifndef S2UNION_HPP
+#define S2UNION_HPP
+
+#include <s2union.h>
+
+#include <algorithm>
+#include <cstdlib>
+#include <new>
+#include <ostream>
+#include <stdexcept>
+#include <string>
+#include <type_traits>
+#include <utility>
+#include <vector>
+
+#if defined(__cpp_exceptions)
+#define S2UNION_THROWS 1
+#else
+#define S2UNION_THROWS 0
+#endif
+
+namespace s2union {
+
+/// A call that was refused, for another reason than memory.
+class Error : public std::runtime_error {
+ public:
+  explicit Error(int32_t status) : std::runtime_error(s2u_status_text(status)), status_(status) {}
+  /// The status of s2union.h, below 0.
+  int32_t status() const noexcept { return status_; }
+
+ private:
+  int32_t status_;
+};
+
+namespace internal {
+
+/// Tells the caller the status of a call: in `told`, or if that is null, by an exception. Whether it succeeded.
+inline bool succeeded(int32_t status, int32_t* told) {
+  if (told != nullptr) {
+    *told = status < 0 ? status : S2U_OK;
+  } else if (status < 0) {
+#if S2UNION_THROWS
+    if (status == S2U_MEMORY) throw std::bad_alloc();
+    throw Error(status);
+#else
+    std::abort();
+#endif
+  }
+  return status >= 0;
+}
+
+/// Gives a string or a vector this size: S2U_OK, or S2U_MEMORY.
+template <class List>
+int32_t resized(List* list, size_t size) {
+  if (size > list->max_size()) return S2U_MEMORY;
+#if S2UNION_THROWS
+  try {
+    list->resize(size);
+  } catch (const std::bad_alloc&) {
+    return S2U_MEMORY;
+  }
+#else
+  list->resize(size);
+#endif
+  return S2U_OK;
+}
+
+/// The list that another class of unions, such as S2CellUnion, keeps its cells in.
+template <class Theirs>
+using ListOf = std::decay_t<decltype(std::declval<const Theirs&>().cell_ids())>;
+
+template <class Id>
+uint64_t number_of(Id id) {
+  if constexpr (std::is_integral_v<Id>) {
+    return static_cast<uint64_t>(id);
+  } else {
+    return id.id();
+  }
+}
+
+template <class, class = void>
+constexpr bool is_encoder = false;
+template <class Out>
+constexpr bool is_encoder<Out, std::void_t<decltype(std::declval<Out&>().Ensure(1))>> = true;
+
+}  // namespace internal
+
+/// A set of leaves, as the one normalized list of cells that covers it. `Id` is uint64_t, or a class that has a cell's
+/// number alone, as S2CellId.
+template <class Id>
+class CellUnionOf {
+  static_assert(sizeof(Id) == sizeof(uint64_t) && std::is_trivially_copyable_v<Id> && std::is_standard_layout_v<Id>,
+                "a cell is 64 bits, and nothing else");
+
+ public:
+  /// The empty union.
+  CellUnionOf() = default;
+
+  /// The union of these cells, in any order, repeated, or inside one another. S2U_NO_CELL.
+  explicit CellUnionOf(std::vector<Id> cell_ids, int32_t* status = nullptr) { Init(std::move(cell_ids), status); }
+
+  /// The same from numbers, where a cell is not one.
+  template <class Number, class = std::enable_if_t<std::is_integral_v<Number> && !std::is_same_v<Number, Id>>>
+  explicit CellUnionOf(const std::vector<Number>& cell_ids, int32_t* status = nullptr) {
+    Init(cell_ids, status);
+  }
+
+  /// The union of the cells of another class, such as S2CellUnion; they need not be normalized.
+  template <class Theirs, class = internal::ListOf<Theirs>>
+  CellUnionOf(const Theirs& theirs, int32_t* status = nullptr) {
+    Take(theirs.cell_ids(), status);
+  }
+
+  /// The same union in another class, such as S2CellUnion.
+  template <class Theirs, class = decltype(Theirs::FromNormalized(std::declval<internal::ListOf<Theirs>>()))>
+  explicit operator Theirs() const {
+    internal::ListOf<Theirs> cells;
+    cells.reserve(size());
+    for (Id id : cell_ids_) cells.emplace_back(internal::number_of(id));
+    return Theirs::FromNormalized(std::move(cells));
+  }
+
+  /// All leaves.
+  static CellUnionOf WholeSphere(int32_t* status = nullptr) { return Range(kFirstFace, kLastFace, status); }
+
+  /// The union whose cells these are. S2U_NO_UNION if they are not normalized. n steps.
+  static CellUnionOf FromNormalized(std::vector<Id> cell_ids, int32_t* status = nullptr) {
+    CellUnionOf made;
+    if (internal::succeeded(IsNormalized(cell_ids) ? S2U_OK : S2U_NO_UNION, status)) {
+      made.cell_ids_ = std::move(cell_ids);
+    }
+    return made;
+  }
+
+  /// The leaves from the first to the last, both included. S2U_NO_CELL. S2U_ARGUMENT: one is no leaf, or the last comes
+  /// before the first.
+  static CellUnionOf FromMinMax(Id min_id, Id max_id, int32_t* status = nullptr) {
+    uint64_t first = internal::number_of(min_id), last = internal::number_of(max_id);
+    if (!internal::succeeded(LeafStatus(first), status) || !internal::succeeded(LeafStatus(last), status)) return {};
+    return Range(first, last, status);
+  }
+
+  /// The leaves from `begin` up to `end`, which is not one of them: a leaf, or S2CellId::End(30), after the last leaf.
+  /// Empty if both are the same. S2U_NO_CELL. S2U_ARGUMENT: one is no leaf and not the end, or `end` comes first.
+  static CellUnionOf FromBeginEnd(Id begin, Id end, int32_t* status = nullptr) {
+    uint64_t first = internal::number_of(begin), after = internal::number_of(end);
+    bool begins_at_end = first == kLeafEnd, ends_at_end = after == kLeafEnd;
+    if (!internal::succeeded(begins_at_end ? S2U_OK : LeafStatus(first), status) ||
+        !internal::succeeded(ends_at_end ? S2U_OK : LeafStatus(after), status) || first == after) {
+      return {};
+    }
+    uint64_t last = ends_at_end ? s2u_range_max(kLastFace) : s2u_prev(after);
+    if (!internal::succeeded(begins_at_end || last == 0 ? S2U_ARGUMENT : S2U_OK, status)) return {};
+    return Range(first, last, status);
+  }
+
+  void Init(std::vector<Id> cell_ids, int32_t* status = nullptr) {
+    int32_t found = Normalized(&cell_ids);
+    if (internal::succeeded(found, status)) cell_ids_ = std::move(cell_ids);
+  }
+  template <class Number, class = std::enable_if_t<std::is_integral_v<Number> && !std::is_same_v<Number, Id>>>
+  void Init(const std::vector<Number>& cell_ids, int32_t* status = nullptr) {
+    Take(cell_ids, status);
+  }
+  void InitFromMinMax(Id min_id, Id max_id, int32_t* status = nullptr) {
+    Become([&](int32_t* told) { return FromMinMax(min_id, max_id, told); }, status);
+  }
+  void InitFromBeginEnd(Id begin, Id end, int32_t* status = nullptr) {
+    Become([&](int32_t* told) { return FromBeginEnd(begin, end, told); }, status);
+  }
+
+  /// Makes the union empty, and gives its memory back.
+  void Clear() { std::vector<Id>().swap(cell_ids_); }
+  /// The cells themselves; the union is then empty.
+  std::vector<Id> Release() { return std::exchange(cell_ids_, {}); }
+  /// Gives memory back if there is room for more than `excess` further cells.
+  void Pack(size_t excess = 0) {
+    if (cell_ids_.capacity() - size() > excess) cell_ids_.shrink_to_fit();
+  }
+  void swap(CellUnionOf& other) noexcept { cell_ids_.swap(other.cell_ids_); }
+  friend void swap(CellUnionOf& x, CellUnionOf& y) noexcept { x.swap(y); }
+
+  // ---- the cells, in ascending order
+
+  int num_cells() const { return static_cast<int>(size()); }
+  Id cell_id(size_t place) const { return cell_ids_[place]; }
+  size_t size() const { return cell_ids_.size(); }
+  bool empty() const { return cell_ids_.empty(); }
+  Id operator[](size_t place) const { return cell_ids_[place]; }
+  typename std::vector<Id>::const_iterator begin() const { return cell_ids_.begin(); }
+  typename std::vector<Id>::const_iterator end() const { return cell_ids_.end(); }
+  const std::vector<Id>& cell_ids() const { return cell_ids_; }
+  /// The cells as the calls of s2union.h take them, which are questions about many cells at once and the like.
+  const uint64_t* ids() const { return Numbers(cell_ids_); }
+
+  /// Always true. See the static one for lists.
+  bool IsValid() const { return true; }
+  bool IsNormalized() const { return true; }
+  /// Does nothing. See the static one for lists.
+  void Normalize() {}
+
+  /// The cells, each cut to the least level that is at least its own and is `min_level` or above it by a multiple of
+  /// `level_mod`, which is 1 to 3; to leaves if there is none. A face has 4^30 leaves. S2U_ARGUMENT, S2U_MEMORY.
+  void Denormalize(int min_level, int level_mod, std::vector<Id>* output, int32_t* status = nullptr) const {
+    Denormalize(cell_ids_, min_level, level_mod, output, status);
+  }
+
+  // ---- as a set of leaves
+
+  /// Whether all leaves of the cell are in the union. S2U_NO_CELL. log n steps.
+  bool Contains(Id id, int32_t* status = nullptr) const {
+    int32_t found = s2u_contains_cell(ids(), size(), internal::number_of(id));
+    return internal::succeeded(found, status) && found == 1;
+  }
+  /// Whether the union has a leaf of the cell. S2U_NO_CELL. log n steps.
+  bool Intersects(Id id, int32_t* status = nullptr) const {
+    int32_t found = s2u_intersects_cell(ids(), size(), internal::number_of(id));
+    return internal::succeeded(found, status) && found == 1;
+  }
+  bool Contains(const CellUnionOf& y) const { return s2u_contains(ids(), size(), y.ids(), y.size()) == 1; }
+  bool Intersects(const CellUnionOf& y) const { return s2u_intersects(ids(), size(), y.ids(), y.size()) == 1; }
+
+  /// The leaves of both. S2U_MEMORY.
+  CellUnionOf Union(const CellUnionOf& y, int32_t* status = nullptr) const {
+    return Both(s2u_union, size() + y.size(), y, status);
+  }
+  /// The leaves that both have. S2U_MEMORY.
+  CellUnionOf Intersection(const CellUnionOf& y, int32_t* status = nullptr) const {
+    return Both(s2u_intersection, size() + y.size(), y, status);
+  }
+  /// The leaves of the cell that the union has. S2U_NO_CELL. log n steps, and one for each cell of the result.
+  CellUnionOf Intersection(Id id, int32_t* status = nullptr) const {
+    CellUnionOf made;
+    size_t first = 0, count = 0;
+    uint64_t number = internal::number_of(id);
+    int32_t found = s2u_cells_at(ids(), size(), number, &first, &count);
+    if (found == S2U_OK) found = internal::resized(&made.cell_ids_, count);
+    if (!internal::succeeded(found, status)) return made;
+    if (s2u_contains_cell(ids(), size(), number) == 1) {
+      made.cell_ids_[0] = id;  // in place of the one cell that has it
+    } else {
+      std::copy_n(begin() + static_cast<ptrdiff_t>(first), count, made.cell_ids_.begin());
+    }
+    return made;
+  }
+  /// The leaves that y doesn't have. S2U_MEMORY.
+  CellUnionOf Difference(const CellUnionOf& y, int32_t* status = nullptr) const {
+    return Both(s2u_difference, size() + y.size() + S2U_MOST_DIFFERENCE(0, 1), y, status);
+  }
+
+  /// How many leaves the union has, of 6 * 4^30.
+  uint64_t LeafCellsCovered() const { return s2u_leaf_count(ids(), size()); }
+
+  friend bool operator==(const CellUnionOf& x, const CellUnionOf& y) { return x.IsSame(y); }
+  friend bool operator!=(const CellUnionOf& x, const CellUnionOf& y) { return !x.IsSame(y); }
+
+  // ---- bytes and texts
+
+  /// Appends the union file to S2's Encoder, or to a std::string or a std::vector of bytes. S2U_MEMORY.
+  template <class Out>
+  void Encode(Out* out, int32_t* status = nullptr) const {
+    if constexpr (internal::is_encoder<Out>) {
+      std::string bytes;
+      int32_t told = Appended(&bytes);
+      if (!internal::succeeded(told, status)) return;
+      out->Ensure(bytes.size());
+      out->putn(bytes.data(), bytes.size());
+    } else {
+      internal::succeeded(Appended(out), status);
+    }
+  }
+
+  /// Becomes the union in a file, whose cells may be in any order. If it is refused, which is not thrown unless memory
+  /// ran out, the answer is false and the union as it was. S2U_FILE_*, S2U_MEMORY.
+  bool Decode(const void* bytes, size_t n, int32_t* status = nullptr) {
+    std::vector<Id> cells;
+    int32_t found = Listed(S2U_MOST_IN_FILE(n), &cells, [&](uint64_t* out, size_t room, size_t* len) {
+      return s2u_decode(static_cast<const uint8_t*>(bytes), n, out, room, len);
+    });
+    if (found == S2U_OK) cell_ids_ = std::move(cells);
+    if (status != nullptr || found == S2U_MEMORY) internal::succeeded(found, status);
+    return found == S2U_OK;
+  }
+
+  /// The same from S2's Decoder, which goes on after the file if that is taken, and otherwise stays where it is.
+  template <class Decoder, class = decltype(std::declval<Decoder&>().avail())>
+  bool Decode(Decoder* decoder, int32_t* status = nullptr) {
+    size_t size = decoder->avail();
+    if (size >= S2U_FILE_SIZE(0)) {
+      Decoder ahead = *decoder;
+      ahead.get8();
+      uint64_t cells = ahead.get64();
+      if (cells <= S2U_MOST_IN_FILE(size)) size = S2U_FILE_SIZE(cells);
+    }
+    bool is_taken = Decode(static_cast<const void*>(decoder->skip(0)), size, status);
+    if (is_taken) decoder->skip(static_cast<ptrdiff_t>(size));
+    return is_taken;
+  }
+
+  /// S2's text: the number of cells, and the tokens of at most 500.
+  std::string ToString() const {
+    constexpr size_t kMostShown = 500;
+    std::string text = "Size:" + std::to_string(size()) + " S2CellIds:";
+    for (size_t place = 0; place < size() && place < kMostShown; place++) {
+      char token[S2U_MOST_TOKEN];
+      size_t length = 0;
+      s2u_token(ids()[place], token, sizeof token, &length);
+      text.append(place == 0 ? "" : ",").append(token, length);
+    }
+    return size() > kMostShown ? text + ",..." : text;
+  }
+  friend std::ostream& operator<<(std::ostream& out, const CellUnionOf& x) { return out << x.ToString(); }
+
+  // ---- lists of cells, in memory of the caller's own
+
+  /// Whether these are the cells of a union. n steps.
+  static bool IsNormalized(const std::vector<Id>& cell_ids) {
+    return s2u_is_union(Numbers(cell_ids), cell_ids.size()) == 1;
+  }
+  /// Normalizes a list of cells in place. S2U_NO_CELL, and then it is as it was.
+  static void Normalize(std::vector<Id>* cell_ids, int32_t* status = nullptr) {
+    internal::succeeded(Normalized(cell_ids), status);
+  }
+  /// As the one of a union, which `in` must be. S2U_NO_UNION.
+  static void Denormalize(const std::vector<Id>& in, int min_level, int level_mod, std::vector<Id>* out,
+                          int32_t* status = nullptr) {
+    auto min = static_cast<uint32_t>(min_level), modulus = static_cast<uint32_t>(level_mod);
+    uint64_t length = 0;
+    int32_t found = s2u_denormalised_len(Numbers(in), in.size(), min, modulus, &length);
+    std::vector<Id> cells;
+    if (found == S2U_OK) {
+      found = Listed(length, &cells, [&](uint64_t* at, size_t room, size_t* len) {
+        return s2u_denormalised(Numbers(in), in.size(), min, modulus, at, room, len);
+      });
+    }
+    if (internal::succeeded(found, status)) *out = std::move(cells);
+  }
+  /// The leaves that two unions share. S2U_NO_UNION, S2U_MEMORY.
+  static void GetIntersection(const std::vector<Id>& x, const std::vector<Id>& y, std::vector<Id>* out,
+                              int32_t* status = nullptr) {
+    std::vector<Id> cells;
+    int32_t found = Listed(x.size() + y.size(), &cells, [&](uint64_t* at, size_t room, size_t* len) {
+      return s2u_intersection(Numbers(x), x.size(), Numbers(y), y.size(), at, room, len);
+    });
+    if (internal::succeeded(found, status)) *out = std::move(cells);
+  }
+
+ private:
+  static constexpr uint64_t kFirstFace = 0x1000000000000000, kLastFace = 0xb000000000000000;
+  static constexpr uint64_t kLeafEnd = 0xc000000000000001;  // S2CellId::End(30), which is no cell
+
+  // A cell and its number are the same 64 bits. A vector's memory is aligned for both.
+  static const uint64_t* Numbers(const std::vector<Id>& cells) {
+    const void* at = cells.data();
+    return static_cast<const uint64_t*>(at);
+  }
+  static uint64_t* Numbers(std::vector<Id>* cells) {
+    void* at = cells->data();
+    return static_cast<uint64_t*>(at);
+  }
+
+  static int32_t LeafStatus(uint64_t number) {
+    int32_t level = s2u_level(number);
+    return level < 0 || level == 30 ? level : S2U_ARGUMENT;
+  }
+
+  /// The list that a call makes: tries room that may suffice, and calls again with what is needed if it doesn't.
+  template <class Call>
+  static int32_t Listed(size_t room, std::vector<Id>* made, Call call) {
+    size_t length = 0;
+    int32_t found = internal::resized(made, room);
+    if (found == S2U_OK) found = call(Numbers(made), made->size(), &length);
+    if (found == S2U_ROOM) {
+      found = internal::resized(made, length);
+      if (found == S2U_OK) found = call(Numbers(made), made->size(), &length);
+    }
+    made->resize(found == S2U_OK ? length : 0);
+    return found;
+  }
+
+  static int32_t Normalized(std::vector<Id>* cells) {
+    size_t length = 0;
+    int32_t found = s2u_normalise(Numbers(cells), cells->size(), &length);
+    if (found == S2U_OK) cells->resize(length);
+    return found;
+  }
+
+  static CellUnionOf Range(uint64_t first, uint64_t last, int32_t* status) {
+    CellUnionOf made;
+    int32_t found = Listed(S2U_MOST_RANGE, &made.cell_ids_, [&](uint64_t* out, size_t room, size_t* len) {
+      return s2u_range(first, last, out, room, len);
+    });
+    internal::succeeded(found, status);
+    return made;
+  }
+
+  template <class Call>
+  CellUnionOf Both(Call call, size_t room, const CellUnionOf& y, int32_t* status) const {
+    CellUnionOf made;
+    int32_t found = Listed(room, &made.cell_ids_, [&](uint64_t* out, size_t most, size_t* len) {
+      return call(ids(), size(), y.ids(), y.size(), out, most, len);
+    });
+    internal::succeeded(found, status);
+    return made;
+  }
+
+  template <class Other>
+  void Take(const std::vector<Other>& cells, int32_t* status) {
+    std::vector<Id> own;
+    int32_t found = internal::resized(&own, cells.size());
+    if (!internal::succeeded(found, status)) return;
+    for (size_t place = 0; place < cells.size(); place++) own[place] = Id(internal::number_of(cells[place]));
+    Init(std::move(own), status);
+  }
+
+  /// Becomes what a call makes, unless it is refused.
+  template <class Call>
+  void Become(Call call, int32_t* status) {
+    int32_t told = S2U_OK;
+    CellUnionOf made = call(&told);
+    if (internal::succeeded(told, status)) swap(made);
+  }
+
+  bool IsSame(const CellUnionOf& y) const { return s2u_compare(ids(), size(), y.ids(), y.size()) == 0; }
+
+  template <class Bytes>
+  int32_t Appended(Bytes* out) const {
+    static_assert(sizeof(*out->data()) == 1, "a union file goes to a string or a vector of bytes");
+    size_t before = out->size(), length = 0;
+    int32_t found = internal::resized(out, before + S2U_FILE_SIZE(size()));
+    if (found != S2U_OK) return found;
+    auto* at = static_cast<uint8_t*>(static_cast<void*>(out->data())) + before;
+    found = s2u_encode(ids(), size(), at, S2U_FILE_SIZE(size()), &length);
+    if (found != S2U_OK) out->resize(before);
+    return found;
+  }
+
+  std::vector<Id> cell_ids_;
+};
+
+/// The union whose cells are their identifiers.
+using CellUnion = CellUnionOf<uint64_t>;
+
+}  // namespace s2union
+#endif

@@ -1,0 +1,292 @@
+/* The header for C++: what its unions answer, with numbers for cells and with a class for them, and how each refusal is
+ * told: by an exception, and by a status. Linked with libs2union_noheap.a, so that memory can run out. */
+#include "tests.h"
+#include <s2union.hpp>
+
+static bool has_memory = true;
+
+extern "C" s2u_block s2u_heap_take(size_t size, size_t align) {
+  static uint64_t nothing[2];
+  if (!has_memory) return {0, nothing};
+  return {1, malloc(size ? size : align)};
+}
+extern "C" s2u_block s2u_heap_grow(void* at, size_t, size_t size, size_t align) {
+  return {1, realloc(at, size ? size : align)};
+}
+extern "C" void s2u_heap_give_back(void* at) { free(at); }
+
+/// A cell as S2CellId is one: a class of 64 bits, not aligned, that is made from a number only where that is written.
+class __attribute__((packed)) Cell {
+ public:
+  Cell() : id_(0) {}
+  explicit Cell(uint64_t id) : id_(id) {}
+  uint64_t id() const { return id_; }
+  friend bool operator==(Cell x, Cell y) { return x.id_ == y.id_; }
+
+ private:
+  uint64_t id_;
+};
+
+/// A class of unions as S2CellUnion is one. Its cells need not be normalized.
+class Theirs {
+ public:
+  static Theirs FromNormalized(std::vector<Cell> cells) { return Theirs(std::move(cells)); }
+  explicit Theirs(std::vector<Cell> cells) : cells_(std::move(cells)) {}
+  const std::vector<Cell>& cell_ids() const { return cells_; }
+
+ private:
+  std::vector<Cell> cells_;
+};
+
+/// As S2's Encoder and Decoder, with the calls of these that the header makes.
+struct Encoder {
+  std::string bytes;
+  size_t ensured = 0;
+  void Ensure(size_t more) { ensured = bytes.size() + more; }
+  void putn(const void* from, size_t n) { bytes.append(static_cast<const char*>(from), n); }
+};
+class Decoder {
+ public:
+  explicit Decoder(const std::string& bytes) : at_(bytes.data()), end_(at_ + bytes.size()) {}
+  size_t avail() const { return static_cast<size_t>(end_ - at_); }
+  unsigned char get8() { return static_cast<unsigned char>(*skip(1)); }
+  uint64_t get64() {
+    uint64_t number;
+    memcpy(&number, skip(8), 8);
+    return number;
+  }
+  const char* skip(ptrdiff_t n) { return std::exchange(at_, at_ + n); }
+
+ private:
+  const char *at_, *end_;
+};
+
+/// That a call is refused with this status, and tells it in both ways. `call` takes the place for the status.
+template <class Call>
+static void refuses(int32_t want, Call call, const char* what) {
+  int32_t status = S2U_OK;
+  call(&status);
+  check(status == want, what);
+#if S2UNION_THROWS
+  int32_t thrown = S2U_OK;
+  try {
+    call(nullptr);
+  } catch (const s2union::Error& error) {
+    thrown = error.status();
+    check(strcmp(error.what(), s2u_status_text(want)) == 0, what);
+  } catch (const std::bad_alloc&) {
+    thrown = S2U_MEMORY;
+  }
+  check(thrown == want, what);
+#endif
+}
+#define REFUSES(want, call) refuses(want, [&](int32_t* status) { call; }, __FILE__ ": " #call)
+
+static const uint64_t kFace = 0x1000000000000000, kLeafEnd = 0xc000000000000001;
+
+template <class Id>
+static std::vector<Id> cells(std::initializer_list<uint64_t> numbers) {
+  std::vector<Id> made;
+  for (uint64_t number : numbers) made.push_back(Id(number));
+  return made;
+}
+
+template <class Id>
+static void unions() {
+  using Union = s2union::CellUnionOf<Id>;
+  const uint64_t first = s2u_child(kFace, 0), second = s2u_child(kFace, 1), last = s2u_child(kFace, 3);
+  const Union none, face(cells<Id>({kFace})), two(cells<Id>({second, first, s2u_child(first, 2), second}));
+
+  CHECK(none.empty() && none.size() == 0 && none.begin() == none.end() && none.LeafCellsCovered() == 0);
+  CHECK(two.cell_ids() == cells<Id>({first, second}) && two.num_cells() == 2 && two.size() == 2 && !two.empty());
+  CHECK(two.cell_id(0) == Id(first) && two[1] == Id(second) && two.ids()[1] == second);
+  CHECK(two.IsValid() && two.IsNormalized() && Union::WholeSphere().LeafCellsCovered() == 6 * (UINT64_C(1) << 60));
+  size_t seen = 0;
+  for (Id cell : two) seen += cell == two[seen];
+  CHECK(seen == 2);
+
+  CHECK(Union(std::vector<unsigned long long>{second, first}) == two);
+  CHECK(Union::FromNormalized(cells<Id>({first, second})) == two && Union::FromNormalized({}) == none);
+  CHECK(Union::FromMinMax(Id(s2u_range_min(first)), Id(s2u_range_max(second))) == two);
+  CHECK(Union::FromBeginEnd(Id(s2u_range_min(first)), Id(s2u_range_min(s2u_child(kFace, 2)))) == two);
+  CHECK(Union::FromBeginEnd(Id(1), Id(kLeafEnd)) == Union::WholeSphere());
+  CHECK(Union::FromBeginEnd(Id(kLeafEnd), Id(kLeafEnd)) == none && Union::FromBeginEnd(Id(7), Id(7)) == none);
+
+  CHECK(two.Contains(Id(s2u_child(first, 3))) && !two.Contains(Id(last)) && !two.Contains(Id(kFace)));
+  CHECK(two.Intersects(Id(kFace)) && !two.Intersects(Id(last)));
+  CHECK(face.Contains(two) && !two.Contains(face) && two.Contains(none) && two.Intersects(face));
+  CHECK(!two.Intersects(Union(cells<Id>({last}))) && !two.Intersects(none));
+
+  const Union rest = face.Difference(two), leaf(cells<Id>({s2u_range_min(first)}));
+  CHECK(rest == Union(cells<Id>({s2u_child(kFace, 2), last})) && rest.Union(two) == face && rest != two);
+  CHECK(face.Intersection(two) == two && rest.Intersection(two) == none);
+  CHECK(face.Difference(leaf).size() == 90 && face.Difference(leaf).Union(leaf) == face);
+  CHECK(two.Intersection(Id(kFace)) == two && two.Intersection(Id(last)) == none);
+  const uint64_t inside = s2u_child(first, 1);
+  CHECK(two.Intersection(Id(inside)) == Union(cells<Id>({inside})));
+
+  std::vector<Id> list;
+  two.Denormalize(2, 1, &list);
+  CHECK(list.size() == 8 && list[0] == Id(s2u_child(first, 0)) && !Union::IsNormalized(list));
+  Union::Normalize(&list);
+  CHECK(list == two.cell_ids() && Union::IsNormalized(list));
+  Union::GetIntersection(face.cell_ids(), two.cell_ids(), &list);
+  CHECK(list == two.cell_ids());
+  Union::Denormalize(face.cell_ids(), 3, 2, &list);
+  CHECK(list.size() == 64);
+
+  Union x = two, y;
+  swap(x, y);
+  CHECK(x == none && y == two);
+  x.swap(y);
+  x.Normalize();
+  x.Pack();
+  CHECK(x == two && x.Release() == two.cell_ids() && x.empty());
+  x.InitFromMinMax(Id(1), Id(1));
+  CHECK(x == Union(cells<Id>({1})));
+  x.InitFromBeginEnd(Id(1), Id(5));
+  CHECK(x == Union(cells<Id>({1, 3})));
+  x.Init(cells<Id>({second, first}));
+  CHECK(x == two);
+  x.Clear();
+  CHECK(x == none && x.cell_ids().capacity() == 0);
+
+  CHECK(none.ToString() == "Size:0 S2CellIds:" && two.ToString() == "Size:2 S2CellIds:04,0c");
+  CHECK(face.Difference(leaf).ToString().substr(0, 18) == "Size:90 S2CellIds:");
+  std::vector<Id> many;
+  for (uint64_t place = 0; place < 501; place++) many.push_back(Id(8 * place + 1));
+  const std::string cut = Union(many).ToString();
+  CHECK(std::count(cut.begin(), cut.end(), ',') == 500 && cut.substr(cut.size() - 4) == ",...");
+  many.pop_back();
+  const std::string whole = Union(many).ToString();
+  CHECK(std::count(whole.begin(), whole.end(), ',') == 499 && whole.back() != '.');
+
+  REFUSES(S2U_NO_CELL, Union(cells<Id>({first, 0}), status));
+  REFUSES(S2U_NO_CELL, Union(std::vector<long long>{-1}, status));
+  REFUSES(S2U_NO_CELL, two.Contains(Id(0), status));
+  REFUSES(S2U_NO_CELL, two.Intersects(Id(2), status));
+  REFUSES(S2U_NO_CELL, two.Intersection(Id(kLeafEnd), status));
+  REFUSES(S2U_NO_UNION, Union::FromNormalized(cells<Id>({second, first}), status));
+  REFUSES(S2U_NO_UNION, Union::GetIntersection(cells<Id>({second, first}), list, &list, status));
+  REFUSES(S2U_NO_UNION, Union::Denormalize(cells<Id>({second, first}), 3, 1, &list, status));
+  REFUSES(S2U_NO_CELL, Union::FromMinMax(Id(0), Id(1), status));
+  REFUSES(S2U_NO_CELL, Union::FromMinMax(Id(1), Id(kLeafEnd), status));
+  REFUSES(S2U_ARGUMENT, Union::FromMinMax(Id(3), Id(1), status));
+  REFUSES(S2U_ARGUMENT, Union::FromMinMax(Id(1), Id(kFace), status));
+  REFUSES(S2U_ARGUMENT, Union::FromBeginEnd(Id(3), Id(1), status));
+  REFUSES(S2U_ARGUMENT, Union::FromBeginEnd(Id(5), Id(3), status));
+  REFUSES(S2U_ARGUMENT, Union::FromBeginEnd(Id(kFace), Id(kLeafEnd), status));
+  REFUSES(S2U_ARGUMENT, Union::FromBeginEnd(Id(kLeafEnd), Id(1), status));
+  REFUSES(S2U_ARGUMENT, Union::FromBeginEnd(Id(kLeafEnd), Id(kLeafEnd - 2), status));
+  REFUSES(S2U_ARGUMENT, two.Denormalize(31, 1, &list, status));
+  REFUSES(S2U_ARGUMENT, two.Denormalize(-1, 1, &list, status));
+  REFUSES(S2U_ARGUMENT, two.Denormalize(0, 0, &list, status));
+  REFUSES(S2U_MEMORY, Union::WholeSphere().Denormalize(30, 1, &list, status));
+  CHECK(list.size() == 64);
+  x = two;
+  REFUSES(S2U_NO_CELL, x.Init(cells<Id>({1, 0}), status));
+  REFUSES(S2U_ARGUMENT, x.InitFromMinMax(Id(3), Id(1), status));
+  REFUSES(S2U_ARGUMENT, x.InitFromBeginEnd(Id(3), Id(1), status));
+  many = cells<Id>({3, 0, 1});
+  REFUSES(S2U_NO_CELL, Union::Normalize(&many, status));
+  CHECK(x == two && many == cells<Id>({3, 0, 1}));
+  int32_t status = S2U_ROOM;
+  CHECK(two.Contains(Id(first), &status) && status == S2U_OK);
+
+  std::string bytes;
+  two.Encode(&bytes);
+  has_memory = false;
+  REFUSES(S2U_MEMORY, two.Union(face, status));
+  REFUSES(S2U_MEMORY, two.Intersection(face, status));
+  REFUSES(S2U_MEMORY, two.Difference(rest, status));
+  REFUSES(S2U_MEMORY, Union::WholeSphere(status));
+  REFUSES(S2U_MEMORY, two.Encode(&bytes, status));
+  REFUSES(S2U_MEMORY, x.Decode(bytes.data(), bytes.size(), status));
+  has_memory = true;
+  CHECK(x == two && bytes.size() == 25);
+}
+
+template <class Id>
+static void files() {
+  using Union = s2union::CellUnionOf<Id>;
+  const Union two(cells<Id>({s2u_child(kFace, 0), s2u_child(kFace, 1)}));
+  std::string bytes = "before";
+  std::vector<unsigned char> same;
+  Encoder encoder;
+  two.Encode(&bytes);
+  two.Encode(&same);
+  two.Encode(&encoder);
+  CHECK(bytes.size() == 6 + S2U_FILE_SIZE(2) && bytes.substr(0, 6) == "before");
+  bytes.erase(0, 6);
+  CHECK(encoder.bytes == bytes && encoder.ensured == 25 && std::string(same.begin(), same.end()) == bytes);
+
+  Union x;
+  CHECK(x.Decode(bytes.data(), bytes.size()) && x == two);
+  int32_t status = S2U_OK;
+  x.Clear();
+  CHECK(!x.Decode(bytes.data(), bytes.size() - 1) && x.empty());
+  CHECK(!x.Decode(bytes.data(), bytes.size() - 1, &status) && status == S2U_FILE_SHORT);
+  CHECK(!x.Decode(nullptr, 0, &status) && status == S2U_FILE_SHORT);
+  CHECK(!x.Decode((bytes + "a").data(), bytes.size() + 1, &status) && status == S2U_FILE_TRAILING);
+  CHECK(x.Decode(bytes.data(), bytes.size(), &status) && status == S2U_OK && x == two);
+
+  const std::string both = bytes + bytes + "\1";
+  Decoder decoder(both);
+  for (int round = 0; round < 2; round++) {
+    x.Clear();
+    CHECK(x.Decode(&decoder) && x == two);
+  }
+  CHECK(decoder.avail() == 1 && !x.Decode(&decoder, &status) && status == S2U_FILE_SHORT && decoder.avail() == 1);
+  std::string lies = bytes;
+  for (size_t place = 1; place < 9; place++) lies[place] = static_cast<char>(0xff);
+  Decoder long_one(lies);
+  CHECK(!x.Decode(&long_one, &status) && status == S2U_FILE_SHORT && long_one.avail() == 25 && x == two);
+  lies = bytes;
+  lies[1] = 3;
+  Decoder short_one(lies);
+  CHECK(!x.Decode(&short_one, &status) && status == S2U_FILE_SHORT);
+}
+
+/// From another class and back, and between the header's own.
+static void conversions() {
+  using Union = s2union::CellUnionOf<Cell>;
+  const Theirs theirs(cells<Cell>({s2u_child(kFace, 1), s2u_child(kFace, 0), s2u_child(kFace, 1)}));
+  const Union ours = theirs;
+  CHECK(ours.ToString() == "Size:2 S2CellIds:04,0c" && ours == theirs && ours.Contains(theirs));
+  CHECK(ours.Union(theirs) == ours && ours.Intersection(theirs) == ours);
+  CHECK(Theirs(ours).cell_ids() == ours.cell_ids() && static_cast<Theirs>(Union()).cell_ids().empty());
+  const s2union::CellUnion numbers = ours;
+  CHECK(numbers.size() == 2 && numbers[0] == s2u_child(kFace, 0) && Union(numbers) == ours);
+  CHECK(Theirs(numbers).cell_ids() == ours.cell_ids());
+  const Theirs wrong(cells<Cell>({0}));
+  REFUSES(S2U_NO_CELL, Union(wrong, status));
+}
+
+/// Random unions: what the methods answer is what the calls of s2union.h do.
+static void random_unions() {
+  using s2union::CellUnion;
+  for (int round = 0; round < 300; round++) {
+    uint64_t xs[40], ys[40], out[4000];
+    size_t nx = random_union(xs, 40, 0, 6), ny = random_union(ys, draw() % 40, 0, 6), len = 0;
+    const CellUnion x(std::vector<uint64_t>(xs, xs + nx)), y(std::vector<uint64_t>(ys, ys + ny));
+    auto is_out = [&](const CellUnion& made) { return made.cell_ids() == std::vector<uint64_t>(out, out + len); };
+    CHECK(s2u_union(xs, nx, ys, ny, out, 4000, &len) == S2U_OK && is_out(x.Union(y)));
+    CHECK(s2u_intersection(xs, nx, ys, ny, out, 4000, &len) == S2U_OK && is_out(x.Intersection(y)));
+    CHECK(s2u_difference(xs, nx, ys, ny, out, 4000, &len) == S2U_OK && is_out(x.Difference(y)));
+    CHECK(s2u_contains(xs, nx, ys, ny) == x.Contains(y) && s2u_intersects(xs, nx, ys, ny) == x.Intersects(y));
+    uint64_t cell = random_cell(0, 8, 6);
+    CHECK(s2u_intersection(xs, nx, &cell, 1, out, 4000, &len) == S2U_OK && is_out(x.Intersection(cell)));
+    CHECK(s2u_contains_cell(xs, nx, cell) == x.Contains(cell));
+    CHECK(s2u_intersects_cell(xs, nx, cell) == x.Intersects(cell));
+  }
+}
+
+int main() {
+  unions<uint64_t>();
+  unions<Cell>();
+  files<uint64_t>();
+  files<Cell>();
+  conversions();
+  random_unions();
+  return report();
+}
