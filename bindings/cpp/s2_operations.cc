@@ -57,7 +57,9 @@ void S2CellUnion::Init(const std::vector<uint64>& cell_ids) { cell_ids_ = Proved
 
 void S2CellUnion::InitFromMinMax(S2CellId min_id, S2CellId max_id) {
   answers(true);
-  cell_ids_ = Proved::FromMinMax(min_id, max_id).Release();
+  Proved made = Proved::FromMinMax(min_id, max_id);
+  S2_CHECK_EQ(made, Proved::FromBeginEnd(min_id, max_id.next()));
+  cell_ids_ = made.Release();
 }
 
 void S2CellUnion::InitFromBeginEnd(S2CellId begin, S2CellId end) {
