@@ -5,9 +5,14 @@ import ctypes
 import doctest
 import gc
 import importlib.util
+import inspect
 import mmap
 import operator as operators
+import os
 import pickle
+import shutil
+import subprocess
+import sys
 import tempfile
 import unittest
 from array import array
@@ -24,6 +29,10 @@ try:
     import numpy
 except ImportError:
     numpy = None
+try:
+    import pandas
+except ImportError:
+    pandas = None
 
 
 def loaded(name, path):
@@ -426,6 +435,17 @@ class WorkedExamples(unittest.TestCase):
             self.assertRaises(ValueError, Union.covering, *wrong, 30)
 
 
+class Park(Union):
+    """A subclass that is made from other things than cells."""
+
+    def __new__(cls, name, tokens):
+        return cls.from_tokens(tokens)
+
+    def __init__(self, name, tokens):
+        super().__init__(name, tokens)
+        self.__dict__["name"] = name
+
+
 class TheModule(unittest.TestCase):
     def test_as_a_collection(self):
         a = Union.from_tokens("04 0c 14")
@@ -437,13 +457,161 @@ class TheModule(unittest.TestCase):
         self.assertEqual({a: 1}[Union(list(a))], 1)
         self.assertEqual(a.tokens(), ["04", "0c", "14"])
         with self.assertRaises(AttributeError):
-            a._cells = array("Q")
+            a._ids = b""
+
+    def test_texts_for_a_person(self):
+        few = Union(range(1, 4 * 8 + 1, 4))
+        self.assertEqual(repr(few), "<Union of 8 cells: " + " ".join(few.tokens()) + ">")
+        more = Union(range(1, 4 * 9 + 1, 4))
+        self.assertEqual(repr(more), "<Union of 9 cells: " + " ".join(few.tokens()) + " and 1 more>")
+        self.assertEqual(repr(Union()), "<Union of 0 cells: >")
+
+    def test_subsets_both_ways(self):
+        part, whole, other = Union.from_tokens("04"), Union.from_tokens("04 0c"), Union.from_tokens("14")
+        for a, b, is_subset in ((part, whole, True), (whole, part, False), (part, part, True), (part, other, False),
+                                (Union(), part, True), (part, Union(), False)):
+            self.assertEqual((a.issubset(b), b.issuperset(a)), (is_subset, is_subset))
+            self.assertEqual((a <= b, b >= a), (is_subset, is_subset))
+
+    def test_just_as_many_cells_as_are_allowed(self):
+        face = Union([FACE])
+        for level, count in ((1, 4), (3, 64)):
+            self.assertEqual(len(face.denormalised(level, most=count)), count)
+            self.assertEqual(len(face.denormalised(level, most=count + 1)), count)
+            with self.assertRaisesRegex(ValueError, f"too many cells: {count}$"):
+                face.denormalised(level, most=count - 1)
+        self.assertEqual(Union().denormalised(3, most=0), [])
+        for level in (30, 29, 25):
+            self.assertRaises(MemoryError, face.denormalised, level)
+
+    def test_many_unions(self):
+        faces = [Union([(2 * k + 1) * FACE]) for k in range(6)]
+        a, b, c = (Union.from_tokens(text) for text in ("04 0c", "0c 14", "04 0c 3"))
+        sphere = Union.from_range(faces[0][0], faces[5][0])
+        self.assertEqual((Union.of(faces), Union.of(iter(faces)), Union.of([])), (sphere, sphere, Union()))
+        self.assertEqual((Union.of([a, b, a]), a.union(b, c), a.union(b), a.union()), (a | b, a | b | c, a | b, a))
+        self.assertEqual((a.intersection(b, c), a.intersection(b), a.intersection()), (a & b & c, a & b, a))
+        self.assertEqual((a.difference(b, c), a.difference(b), a.difference()), (a - b - c, a - b, a))
+        self.assertEqual(a.symmetric_difference(b), a ^ b)
+        self.assertEqual(len({id(a.of([a, b])), id(a)}), 2)
+        for wrong in (None, 3, [FACE], {FACE}, "1"):
+            for call in (a.union, a.intersection, a.difference, a.symmetric_difference):
+                self.assertRaises(TypeError, call, wrong)
+            for call in (a.union, a.intersection, a.difference):
+                self.assertRaises(TypeError, call, b, wrong)
+            self.assertRaises(TypeError, Union.of, [a, wrong])
+        random = Random(20261125)
+        for _ in range(200):
+            lists = [random.cells() for _ in range(random.randrange(5))]
+            self.assertEqual(Union.of(map(Union, lists)), Union(sum(lists, [])))
+
+    def test_numbers_with_a_sign(self):
+        cells = [cell_of(text) for text in ("1", "7", "9", "b", "89c25", "bfffffffffffffff", LEAF)]
+        signed = [s2union.to_signed(cell) for cell in cells]
+        self.assertEqual([number < 0 for number in signed], [False, False, True, True, True, True, False])
+        self.assertEqual(signed, [cell - 2**64 if cell >= 2**63 else cell for cell in cells])
+        self.assertEqual([s2union.to_signed(number) for number in signed], signed)
+        a = Union(cells)
+        self.assertEqual((Union(signed), Union(array("q", signed)), Union(set(signed))), (a, a, a))
+        self.assertEqual(Union(a.ids.cast("B").cast("q")), a)
+        for cell, number in zip(cells, signed):
+            self.assertEqual((s2union.level(number), s2union.token(number)), (s2union.level(cell), s2union.token(cell)))
+            self.assertTrue(s2union.is_cell(number) and number in a and s2union.contains(number, cell))
+            self.assertEqual(s2union.range_min(number), s2union.range_min(cell))
+        for wrong in (-1, -2**63 - 1, -2**63, 2**64):
+            self.assertRaises(ValueError, s2union.level, wrong)
+            self.assertRaises(ValueError, s2union.to_signed, wrong)
+        self.assertFalse(s2union.is_cell(-1))
+
+    def test_texts_of_many_cells(self):
+        cells = [cell_of(text) for text in ("1c", "04", "04", LEAF, "b")]
+        words = ["1c", "04", "04", LEAF, "b"]
+        self.assertEqual((s2union.tokens(cells), s2union.tokens(iter(cells)), s2union.tokens([])), (words, words, []))
+        self.assertEqual(s2union.tokens(array("Q", cells)), words)
+        self.assertEqual(s2union.tokens(Union(cells)), Union(cells).tokens())
+        self.assertEqual((s2union.from_tokens("1c,04 04 " + LEAF + "\n5/"), s2union.from_tokens(words)), (cells, cells))
+        self.assertEqual((s2union.from_tokens(""), s2union.from_tokens([])), ([], []))
+        with self.assertRaisesRegex(ValueError, "not a cell at place 1: 0x2$"):
+            s2union.tokens([FACE, 2, 0])
+        self.assertRaises(ValueError, s2union.from_tokens, "04 x")
+
+    def test_answers_are_a_mask(self):
+        a, cells = Union.from_tokens("04 0c"), [cell_of(text) for text in ("04", "14", "01", "1")]
+        file = UnionFile(a.to_bytes())
+        for part in (cells, array("Q", cells), tuple(cells), Union(cells[:2])):
+            inside, shared = [cell in a for cell in part], [a.intersects_cell(cell) for cell in part]
+            for asked in (a, file):
+                answers = asked.contains_cells(part), asked.intersects_cells(part)
+                self.assertEqual(answers, (inside, shared))
+                self.assertEqual({type(answer) for answer in answers[0]}, {bool})
+        self.assertRaises(ValueError, file.contains_cells, [FACE, 0])
+        self.assertRaises(TypeError, file.contains_cells, ["x"])
+        self.assertEqual((file.contains_cells([]), file.intersects_cells(())), ([], []))
+
+    @unittest.skipUnless(numpy, "numpy is not installed")
+    def test_answers_are_a_mask_for_numpy(self):
+        class Column:
+            """As a column of pandas: made an array of numpy, and otherwise only iterable."""
+
+            def __init__(self, numbers):
+                self.numbers = numbers
+
+            def __array__(self):
+                return self.numbers
+
+            def __iter__(self):
+                return iter(self.numbers.tolist())
+
+        a, cells = Union.from_tokens("04 0c 9"), [cell_of(text) for text in ("04", "14", "01", "1", "94")]
+        signed = numpy.array(cells, numpy.uint64).view(numpy.int64)
+        self.assertLess(signed.min(), 0)
+        for asked in (a, UnionFile(a.to_bytes())):
+            for part in (signed, Column(signed), Column(signed.view(numpy.uint64)), Column(signed.astype(object))):
+                mask = asked.contains_cells(part)
+                self.assertEqual((type(mask), mask.dtype, mask.tolist()),
+                                 (numpy.ndarray, numpy.bool_, [True, False, True, False, True]))
+                self.assertEqual(signed[mask].tolist(), signed[[0, 2, 4]].tolist())
+            self.assertEqual(asked.contains_cells(signed[:0]).tolist(), [])
+        for part in (signed, list(signed), Column(signed), Column(signed.astype(object))):
+            self.assertEqual(Union(part), Union(cells))
+
+    @unittest.skipUnless(pandas, "pandas is not installed")
+    def test_pandas(self):
+        a, cells = Union.from_tokens("04 0c 9"), [cell_of(text) for text in ("04", "14", "01", "1", "94")]
+        frame = pandas.DataFrame({"leaf": [s2union.to_signed(cell) for cell in cells], "name": list("abcde")})
+        for column in (frame.leaf, frame.leaf.tolist(), frame.leaf.to_numpy(), frame.leaf.astype("Int64")):
+            self.assertEqual("".join(frame[a.contains_cells(column)].name), "ace")
+            self.assertEqual("".join(frame[a.intersects_cells(column)].name), "acde")
+        self.assertEqual((Union(frame.leaf), Union(pandas.Series(cells, dtype="uint64"))), (Union(cells), Union(cells)))
+
+    def test_ids_hand_out_nothing_that_can_be_changed(self):
+        a = Union.from_tokens("04 0c 14")
+        for view in (a.ids, a.ids[1:], a.__array_interface__["data"]):
+            self.assertTrue(view.readonly)
+            self.assertIs(type(view.obj), bytes)
+            with self.assertRaises(TypeError):
+                view[0] = 1
+
+    def test_files_are_copied_and_pickled(self):
+        a = Union.from_tokens("04 0c 14")
+        data = bytearray(a.to_bytes())
+        file = UnionFile(data)
+        made = [pickle.loads(pickle.dumps(file, protocol)) for protocol in range(pickle.HIGHEST_PROTOCOL + 1)]
+        made.append(copy.deepcopy(file))
+        self.assertIs(copy.copy(file), file)
+        data[0] = 2
+        self.assertRaises(ValueError, file.union)
+        for again in made:
+            self.assertEqual((type(again), again.union(), len(again)), (UnionFile, a, 3))
+        data[0], data[9:17] = 1, bytes(8)
+        self.assertRaises(ValueError, pickle.loads, pickle.dumps(UnionFile(data, checked=True)))
 
     def test_copies_and_pickles(self):
         a = Union.from_tokens("04 0c 14")
         for protocol in range(pickle.HIGHEST_PROTOCOL + 1):
             self.assertEqual(pickle.loads(pickle.dumps(a, protocol)), a)
         self.assertEqual((copy.copy(a), copy.deepcopy(a), Union(a), bytes(a)), (a, a, a, a.to_bytes()))
+        self.assertEqual(s2union._unpickled(a.to_bytes()), a)
 
     def test_a_union_never_changes(self):
         a, b = Union.from_tokens("04 0c"), Union.from_tokens("14")
@@ -453,7 +621,7 @@ class TheModule(unittest.TestCase):
                 again(cells)
             again()
         self.assertEqual((a.tokens(), known[a], hash(a)), (["04", "0c"], "a", hash(Union(list(a)))))
-        for name in ("_cells", "_hash", "other"):
+        for name in ("_ids", "_hash", "other"):
             self.assertRaises(AttributeError, setattr, a, name, None)
             self.assertRaises(AttributeError, delattr, a, name)
         self.assertEqual(Union.__new__(Union), Union())
@@ -468,14 +636,19 @@ class TheModule(unittest.TestCase):
 
         a = Named(cell for cell in Union.from_tokens("04 0c"))
         self.assertEqual((a.tokens(), a.name, Named().name), (["04", "0c"], "of 2", "of 0"))
-        self.assertEqual((a, hash(a), pickle.loads(pickle.dumps(a))), (Union(a), hash(Union(a)), Union(a)))
+        self.assertEqual((a, hash(a)), (Union(a), hash(Union(a))))
         self.assertIs(copy.copy(a), a)
         self.assertIs(copy.deepcopy(a), a)
         cell = s2union.from_token("04")
         made = (Named.from_tokens("04"), Named.from_tokens(["04"]), Named.from_range(cell, cell), a - Union([a[1]]),
                 Named.from_bytes(Union([cell]).to_bytes()))
-        for found in made:
+        for found in made + (a.of([Union([cell])]), a.intersection(Union([cell])), Named().union(Union([cell]))):
             self.assertEqual((type(found), found.tokens()), (Named, ["04"]))
+
+    def test_subclasses_are_pickled_as_they_are(self):
+        for protocol in range(pickle.HIGHEST_PROTOCOL + 1):
+            again = pickle.loads(pickle.dumps(Park("High Line", "89c259c"), protocol))
+            self.assertEqual((type(again), again.name, again.tokens()), (Park, "High Line", ["89c259c"]))
 
     def test_a_refused_word_ends_only_where_the_library_ends_it(self):
         others = set(range(128)) - set(b" \t\n\r,")
@@ -491,12 +664,12 @@ class TheModule(unittest.TestCase):
         self.assertEqual(Union(array("Q", a)), a)
         self.assertTrue(a.ids.readonly)
         square = memoryview(array("Q", [1, 2, 3, 4])).cast("B").cast("Q", (2, 2))
-        for wrong in (b"12345678", array("q", [1]), array("d", [1.0]), array("I", [1]), square):
+        for wrong in (b"12345678", array("d", [1.0]), array("I", [1]), square):
             self.assertRaises(TypeError, Union, wrong)
         self.assertEqual(Union(memoryview(array("Q", [1, 0, 3, 0]))[::2]), Union([1, 3]))
-        for kind in (ctypes.c_uint64, ctypes.c_size_t, ctypes.c_uint64.__ctype_le__):
+        for kind in (ctypes.c_uint64, ctypes.c_size_t, ctypes.c_uint64.__ctype_le__, ctypes.c_int64, ctypes.c_ssize_t):
             self.assertEqual((Union((kind * 2)(3, 1)), Union((kind * 0)())), (Union([1, 3]), Union()))
-        for kind in (ctypes.c_uint64.__ctype_be__, ctypes.c_int64, ctypes.c_uint32, ctypes.c_double):
+        for kind in (ctypes.c_uint64.__ctype_be__, ctypes.c_uint32, ctypes.c_int32, ctypes.c_double):
             self.assertRaises(TypeError, Union, (kind * 1)(1))
         with tempfile.TemporaryFile() as stored:
             stored.write(b"x" + a.to_bytes())
@@ -546,16 +719,16 @@ class TheModule(unittest.TestCase):
 
     def test_bytes_that_are_written_during_a_call(self):
         a = Union.from_tokens("04 0c 1c")
-        for name, ask, want in (("_decode", Union.from_bytes, a),
-                                ("_decode", lambda data: UnionFile(data).union(), a),
-                                ("_file_ancestors", lambda data: UnionFile(data).ancestors(), a.ancestors())):
-            data, call = bytearray(a.to_bytes()), getattr(s2union, name)
+        for name, ask, want in (("decode", Union.from_bytes, a),
+                                ("decode", lambda data: UnionFile(data).union(), a),
+                                ("file_ancestors", lambda data: UnionFile(data).ancestors(), a.ancestors())):
+            data, call = bytearray(a.to_bytes()), getattr(s2union._library, name)
 
             def call_after_a_write(*arguments):
                 data[9:] = bytes(len(data) - 9)
                 return call(*arguments)
 
-            with mock.patch.object(s2union, name, call_after_a_write):
+            with mock.patch.object(s2union._library, name, call_after_a_write):
                 self.assertEqual(ask(data), want)
             self.assertRaises(ValueError, ask, data)
         self.assertRaises(ValueError, Union.from_bytes, bytearray())
@@ -600,13 +773,17 @@ class TheModule(unittest.TestCase):
             self.assertEqual((Union(cells), Union(cells[:0])), (a, Union()))
         self.assertTrue(ids[0] in a)
         self.assertEqual(UnionFile(a.to_bytes())[numpy.int64(1)], a[1])
-        for kind in (numpy.int64, numpy.float64, numpy.uint32, ">u8"):
+        for kind in (numpy.float64, numpy.uint32, numpy.int32, ">u8", ">i8", numpy.bool_):
             self.assertRaises(TypeError, Union, ids.astype(kind))
         self.assertRaises(TypeError, Union, ids.reshape(2, 2))
 
     def test_wrong_types_and_numbers(self):
         a = Union([FACE])
-        for wrong in (None, "1", 1.0, b"1", [], object(), True):
+        class Index:
+            def __index__(self):
+                return 1.5
+
+        for wrong in (None, "1", 1.0, b"1", [], object(), True, Index(), *([numpy.bool_(True)] if numpy else [])):
             self.assertRaises(TypeError, s2union.level, wrong)
             self.assertRaises(TypeError, lambda: wrong in a)
         for wrong in (-1, 2**64, 2**100, 0):
@@ -627,7 +804,7 @@ class TheModule(unittest.TestCase):
         self.assertRaises(TypeError, UnionFile(a.to_bytes()).contains, a)
         self.assertRaises(ValueError, a.contains_cells, [FACE, 0])
         self.assertRaises(TypeError, a.contains_cells, ["x"])
-        self.assertEqual((list(a.contains_cells([])), a.contains_cells([]).format), ([], "?"))
+        self.assertEqual((a.contains_cells([]), a.intersects_cells([])), ([], []))
         self.assertRaises(ValueError, a.denormalised, 31)
         self.assertRaises(ValueError, a.denormalised, 0, 0)
         self.assertRaises(ValueError, a.denormalised, 0, 4)
@@ -636,6 +813,33 @@ class TheModule(unittest.TestCase):
 
     def test_version(self):
         self.assertEqual(s2union.version(), (0, 1, 0))
+        project = Path(__file__).resolve().parents[1] / "python" / "pyproject.toml"
+        self.assertIn('\nversion = "{}.{}.{}"\n'.format(*s2union.version()), project.read_text())
+
+    def test_each_parameter_and_answer_has_a_type(self):
+        offered = [getattr(s2union, name) for name in s2union.__all__]
+        members = [*vars(Union).values(), *vars(UnionFile).values()]
+        calls = [getattr(call, "fget", getattr(call, "__func__", call)) for call in offered + members]
+        calls = [call for call in calls if inspect.isfunction(call)]
+        self.assertGreater(len(calls), 80)
+        for call in calls:
+            signature = inspect.signature(call)
+            kinds = [given.annotation for name, given in signature.parameters.items() if name not in ("self", "cls")]
+            self.assertNotIn(inspect.Parameter.empty, kinds + [signature.return_annotation], call.__qualname__)
+        self.assertTrue((Path(s2union.__file__).parent / "py.typed").exists())
+
+    def test_a_library_that_is_not_found(self):
+        with tempfile.TemporaryDirectory() as folder:
+            shutil.copytree(Path(s2union.__file__).parent, Path(folder) / "s2union")
+            given = {"PATH": os.environ["PATH"], "PYTHONPATH": folder, "PYTHONDONTWRITEBYTECODE": "1"}
+            (Path(folder) / "other.so").write_bytes(b"")
+            for more, message in (({}, "libs2union.so.0 is not beside the module.*set S2UNION_LIBRARY"),
+                                  ({"S2UNION_LIBRARY": "/no/such"}, "S2UNION_LIBRARY is '/no/such'"),
+                                  ({"S2UNION_LIBRARY": folder + "/other.so"}, "can't load it .*other.so"),
+                                  ({"S2UNION_LIBRARY": "libc.so.6"}, "libc.so.6 has no call s2u_is_cell")):
+                said = subprocess.run([sys.executable, "-c", "import s2union"], env={**given, **more}, text=True,
+                                      cwd=folder, stderr=subprocess.PIPE).stderr
+                self.assertRegex(said, f"\nImportError: .*{message}")
 
 
 def load_tests(loader, tests, pattern):
