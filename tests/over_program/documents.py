@@ -24,6 +24,28 @@ class Launcher(unittest.TestCase):
         self.assertEqual((done.returncode, done.stderr), (0, b""))
         self.assertEqual(done.stdout, b"cell 1 0/ level 0 face 0 leaves 0 1152921504606846975\n")
 
+    def test_where_no_program_and_no_kit_are(self):
+        for name in ("s2calc", "README.md", "crates/s2calc/src/command_line.rt"):
+            copy = os.path.join(self.room, name)
+            os.makedirs(os.path.dirname(copy), exist_ok=True)
+            shutil.copy(os.path.join(TOP, name), copy)
+        with open(os.path.join(TOP, "README.md"), encoding="utf-8") as it:
+            readme = it.read()
+        kit = re.search(r"the kit `(rattle-kit-\w+ logic \w+)`", readme).group(1)
+        usage = re.search(r"^    \./s2calc run \[(?:.+\n)+", readme, re.M).group()
+        version = ran("--version")[1].decode()
+        whole = [version, usage, kit]
+        for words, status, answers in ((["--version"], 0, [version]), (["-V"], 0, [version]), (["--help"], 0, whole),
+                                       (["run", "-h"], 0, whole), (["draw", "--help"], 0, whole),
+                                       (["run"], 2, [kit]), (["cell", "1"], 2, [kit]), ([], 2, [kit])):
+            reader, writer = os.pipe()  # which stays open: nothing may wait for its end
+            with open(reader), open(writer):
+                done = subprocess.run([os.path.join(self.room, "s2calc"), *words], stdin=reader, stdout=subprocess.PIPE,
+                                      stderr=subprocess.STDOUT, env={"PATH": "/usr/bin:/bin"}, timeout=60, text=True)
+            self.assertEqual(done.returncode, status, words)
+            for answer in answers:
+                self.assertIn(answer, done.stdout)
+
 
 class Documents(unittest.TestCase):
     """The program answers what README.md and docs/ show."""
