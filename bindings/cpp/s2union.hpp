@@ -98,6 +98,12 @@ uint64_t number_of(Id id) {
   }
 }
 
+/// Whether a type has the number of a cell: an integer of 64 bits, also with a sign, or a class such as S2CellId.
+template <class Cell, class = void>
+constexpr bool is_cell = std::is_integral_v<Cell> && sizeof(Cell) == sizeof(uint64_t);
+template <class Cell>
+constexpr bool is_cell<Cell, std::void_t<decltype(uint64_t{std::declval<const Cell&>().id()})>> = true;
+
 template <class, class = void>
 constexpr bool is_encoder = false;
 template <class Out>
@@ -119,9 +125,9 @@ class CellUnionOf {
   /// The union of these cells, in any order, repeated, or inside one another. S2U_NO_CELL.
   explicit CellUnionOf(std::vector<Id> cell_ids, int32_t* status = nullptr) { Init(std::move(cell_ids), status); }
 
-  /// The same from numbers, where a cell is not one.
-  template <class Number, class = std::enable_if_t<std::is_integral_v<Number> && !std::is_same_v<Number, Id>>>
-  explicit CellUnionOf(const std::vector<Number>& cell_ids, int32_t* status = nullptr) {
+  /// The same from cells of another type: numbers where these are a class, or the other way round.
+  template <class Other, class = std::enable_if_t<internal::is_cell<Other> && !std::is_same_v<Other, Id>>>
+  explicit CellUnionOf(const std::vector<Other>& cell_ids, int32_t* status = nullptr) {
     Init(cell_ids, status);
   }
 
@@ -178,8 +184,8 @@ class CellUnionOf {
     int32_t found = Normalized(&cell_ids);
     if (internal::succeeded(found, status)) cell_ids_ = std::move(cell_ids);
   }
-  template <class Number, class = std::enable_if_t<std::is_integral_v<Number> && !std::is_same_v<Number, Id>>>
-  void Init(const std::vector<Number>& cell_ids, int32_t* status = nullptr) {
+  template <class Other, class = std::enable_if_t<internal::is_cell<Other> && !std::is_same_v<Other, Id>>>
+  void Init(const std::vector<Other>& cell_ids, int32_t* status = nullptr) {
     Take(cell_ids, status);
   }
   void InitFromMinMax(Id min_id, Id max_id, int32_t* status = nullptr) {

@@ -105,7 +105,9 @@ static void unions() {
   for (Id cell : two) seen += cell == two[seen];
   CHECK(seen == 2);
 
-  CHECK(Union(std::vector<unsigned long long>{second, first}) == two);
+  using Other = std::conditional_t<std::is_same_v<Id, Cell>, unsigned long long, Cell>;
+  CHECK(Union(cells<Other>({second, first})) == two && Union(cells<long long>({second, first})) == two);
+  static_assert(!std::is_constructible_v<Union, std::vector<int>> && !std::is_constructible_v<Union, std::string>);
   CHECK(Union::FromNormalized(cells<Id>({first, second})) == two && Union::FromNormalized({}) == none);
   CHECK(Union::FromMinMax(Id(s2u_range_min(first)), Id(s2u_range_max(second))) == two);
   CHECK(Union::FromBeginEnd(Id(s2u_range_min(first)), Id(s2u_range_min(s2u_child(kFace, 2)))) == two);
