@@ -27,8 +27,8 @@ use std::alloc::{AllocError, Global};
 ///
 /// `looks` says how many quadrants were looked at, also after a refusal: at least one for each cell of the answer, and
 /// at most `2 * m + 4 * level * n` for a union of m cells and an answer of n cells, or
-/// `2 * m + 4 * level * (max + 1)` after a refusal. After `TooMany` it is at least `max + 1`, one for each cell that was
-/// found.
+/// `2 * m + 4 * level * (max + 1)` after a refusal. After `TooMany` it is at least `max + 1`, one for each cell that
+/// was found.
 ///
 /// Takes memory for as many cells as the union has in the rectangle. `TooMany` is answered as by `outer`.
 pub fn clip_outer(
