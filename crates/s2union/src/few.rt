@@ -47,6 +47,7 @@ pub(crate) fn holds_few(xs: &[CellId], ys: &[CellId]) -> Counted
     requires few { 64 * length ys.now ≤ length xs.now }
     ensures answer { IsTrue result.answer ↔ IsWithin (has_leaf ys.now) (has_leaf xs.now) }
     ensures looks { FewForUnion (length xs.now) (length ys.now) result.looks }
+    ensures least { 0 < length ys.now → 2 ≤ result.looks }
 {
     let mut looks: u64 = 0;
     let mut j = 0;
@@ -69,6 +70,7 @@ pub(crate) fn meets_few(xs: &[CellId], ys: &[CellId]) -> Counted
     requires few { 64 * length ys.now ≤ length xs.now }
     ensures answer { IsTrue result.answer ↔ ShareSome (has_leaf xs.now) (has_leaf ys.now) }
     ensures looks { FewForUnion (length xs.now) (length ys.now) result.looks }
+    ensures least { 0 < length ys.now → 2 ≤ result.looks }
 {
     let mut looks: u64 = 0;
     let mut j = 0;
@@ -106,6 +108,7 @@ fn holds_next(cells: &[CellId], few: &[CellId], at: usize, looks: &mut u64) -> O
     ensures within { IfSome result (λ next. (at < next) × (next ≤ length few.now)) }
     ensures most { looks.new ≤ 250 * (length few.now - at) }
     ensures looks { IfSome result (λ next. looks.new ≤ 250 * (next - at)) }
+    ensures least { 0 < length cells.now → 2 ≤ looks.new }
 {
     if by_four(at, few.len()) {
         return holds_four(cells, few, at, looks);
@@ -131,6 +134,7 @@ fn holds_four(cells: &[CellId], few: &[CellId], at: usize, looks: &mut u64) -> O
     ensures within { IfSome result (λ next. (at < next) × (next ≤ length few.now)) }
     ensures most { looks.new ≤ 250 * (length few.now - at) }
     ensures looks { IfSome result (λ next. looks.new ≤ 250 * (next - at)) }
+    ensures least { 0 < length cells.now → 2 ≤ looks.new }
 {
     let places = find_four(cells, few, at, looks);
     let first = holds_at(cells, places.first, look(few, at, looks), looks);
@@ -157,6 +161,7 @@ fn meets_next(cells: &[CellId], few: &[CellId], at: usize, looks: &mut u64) -> O
     ensures within { IfSome result (λ next. (at < next) × (next ≤ length few.now)) }
     ensures most { looks.new ≤ 250 * (length few.now - at) }
     ensures looks { IfSome result (λ next. looks.new ≤ 250 * (next - at)) }
+    ensures least { 0 < length cells.now → 2 ≤ looks.new }
 {
     if by_four(at, few.len()) {
         return meets_four(cells, few, at, looks);
@@ -182,6 +187,7 @@ fn meets_four(cells: &[CellId], few: &[CellId], at: usize, looks: &mut u64) -> O
     ensures within { IfSome result (λ next. (at < next) × (next ≤ length few.now)) }
     ensures most { looks.new ≤ 250 * (length few.now - at) }
     ensures looks { IfSome result (λ next. looks.new ≤ 250 * (next - at)) }
+    ensures least { 0 < length cells.now → 2 ≤ looks.new }
 {
     let places = find_four(cells, few, at, looks);
     let first = meets_at(cells, places.first, look(few, at, looks), looks);
@@ -213,6 +219,7 @@ pub(crate) fn pass_free(
     ensures free { (k : ℕ) → from ≤ k → k < result → at < length cells.now
         → EndsBefore (slice_index few.now k) (slice_index cells.now at) }
     ensures looks { looks.new ≤ looks.old + 20 + 4 * (result - from) }
+    ensures least { looks.old ≤ looks.new }
 {
     if from >= few.len() {
         return from;
@@ -248,6 +255,7 @@ pub(crate) fn pass_held(
     ensures held { (k : ℕ) → from ≤ k → k < result
         → (at < length cells.now) × IsInside (slice_index few.now k) (slice_index cells.now at) }
     ensures looks { looks.new ≤ looks.old + 20 + 4 * (result - from) }
+    ensures least { looks.old ≤ looks.new }
 {
     if from >= few.len() || at >= cells.len() {
         return from;

@@ -28,10 +28,12 @@ impl CellUnion {
         self.contains_cell_counted(cell).answer
     }
 
-    /// The same, with the number of cells that it looks at: at most `3 k + 5` if it has at most `2^k` cells.
+    /// The same, with the number of cells that it looks at: at least 1 if it has a cell, and at most `3 k + 5` if it
+    /// has at most `2^k` cells.
     pub fn contains_cell_counted(&self, cell: CellId) -> Counted
         ensures answer { IsTrue result.answer ↔ IsWithin (covers cell) (has_leaf self.now.cells) }
         ensures looks { FewForCell (length self.now.cells) result.looks }
+        ensures least { 0 < length self.now.cells → 0 < result.looks }
     {
         holds(self.cells(), cell)
     }
@@ -43,10 +45,12 @@ impl CellUnion {
         self.intersects_cell_counted(cell).answer
     }
 
-    /// The same, with the number of cells that it looks at: at most `3 k + 5` if it has at most `2^k` cells.
+    /// The same, with the number of cells that it looks at: at least 1 if it has a cell, and at most `3 k + 5` if it
+    /// has at most `2^k` cells.
     pub fn intersects_cell_counted(&self, cell: CellId) -> Counted
         ensures answer { IsTrue result.answer ↔ ShareSome (covers cell) (has_leaf self.now.cells) }
         ensures looks { FewForCell (length self.now.cells) result.looks }
+        ensures least { 0 < length self.now.cells → 0 < result.looks }
     {
         meets(self.cells(), cell)
     }
@@ -60,12 +64,13 @@ impl CellUnion {
         self.contains_counted(other).answer
     }
 
-    /// The same, with the number of cells of both lists that it looks at: at most `42 m (1 + k) + 42` if the shorter
-    /// list has `m` cells and the longer one at most `(m + 1) 2^k`. A count too large for a `u64` is answered as the
-    /// greatest `u64`.
+    /// The same, with the number of cells of both lists that it looks at: at least 2 if neither list is empty, and at
+    /// most `42 m (1 + k) + 42` if the shorter list has `m` cells and the longer one at most `(m + 1) 2^k`. A count too
+    /// large for a `u64` is answered as the greatest `u64`.
     pub fn contains_counted(&self, other: &CellUnion) -> Counted
         ensures answer { IsTrue result.answer ↔ IsWithin (has_leaf other.now.cells) (has_leaf self.now.cells) }
         ensures looks { FewForUnion (length self.now.cells) (length other.now.cells) result.looks }
+        ensures least { 0 < length self.now.cells → 0 < length other.now.cells → 2 ≤ result.looks }
     {
         holds_all(self.cells(), other.cells())
     }
@@ -82,6 +87,7 @@ impl CellUnion {
     pub fn intersects_counted(&self, other: &CellUnion) -> Counted
         ensures answer { IsTrue result.answer ↔ ShareSome (has_leaf self.now.cells) (has_leaf other.now.cells) }
         ensures looks { FewForUnion (length self.now.cells) (length other.now.cells) result.looks }
+        ensures least { 0 < length self.now.cells → 0 < length other.now.cells → 2 ≤ result.looks }
     {
         meets_any(self.cells(), other.cells())
     }
@@ -106,6 +112,7 @@ pub(crate) fn holds(cells: &[CellId], cell: CellId) -> Counted
     requires { IsLocal cells.now }
     ensures answer { IsTrue result.answer ↔ IsWithin (covers cell) (has_leaf cells.now) }
     ensures looks { FewForCell (length cells.now) result.looks }
+    ensures least { 0 < length cells.now → 0 < result.looks }
 {
     let found = find_counted(cells, cell.first_leaf());
     let mut looks = found.looks;
@@ -122,6 +129,8 @@ pub(crate) fn holds_at(cells: &[CellId], at: usize, cell: CellId, looks: &mut u6
     requires before { looks.old ≤ 1000 }
     ensures answer { IsTrue result ↔ IsWithin (covers cell) (has_leaf cells.now) }
     ensures looks { looks.new ≤ looks.old + 1 }
+    ensures least { looks.old ≤ looks.new }
+    ensures some { at < length cells.now → looks.old < looks.new }
 {
     at < cells.len() && look(cells, at, looks).contains(cell)
 }
@@ -131,6 +140,7 @@ pub(crate) fn meets(cells: &[CellId], cell: CellId) -> Counted
     requires { IsLocal cells.now }
     ensures answer { IsTrue result.answer ↔ ShareSome (covers cell) (has_leaf cells.now) }
     ensures looks { FewForCell (length cells.now) result.looks }
+    ensures least { 0 < length cells.now → 0 < result.looks }
 {
     let found = find_counted(cells, cell.first_leaf());
     let mut looks = found.looks;
@@ -147,6 +157,8 @@ pub(crate) fn meets_at(cells: &[CellId], at: usize, cell: CellId, looks: &mut u6
     requires before { looks.old ≤ 1000 }
     ensures answer { IsTrue result ↔ ShareSome (covers cell) (has_leaf cells.now) }
     ensures looks { looks.new ≤ looks.old + 1 }
+    ensures least { looks.old ≤ looks.new }
+    ensures some { at < length cells.now → looks.old < looks.new }
 {
     at < cells.len() && look(cells, at, looks).first_leaf() < cell.end_leaf()
 }
@@ -173,6 +185,7 @@ fn holds_all(xs: &[CellId], ys: &[CellId]) -> Counted
     requires y_local { IsLocal ys.now }
     ensures answer { IsTrue result.answer ↔ IsWithin (has_leaf ys.now) (has_leaf xs.now) }
     ensures looks { FewForUnion (length xs.now) (length ys.now) result.looks }
+    ensures least { 0 < length xs.now → 0 < length ys.now → 2 ≤ result.looks }
 {
     if ys.len() <= xs.len() / MUCH_LONGER {
         return holds_few(xs, ys);
@@ -192,6 +205,7 @@ fn begins_before(ys: &[CellId], xs: &[CellId], looks: &mut u64) -> bool
     requires before { looks.old ≡ 0 }
     ensures lacks { IsTrue result → IsWithin (has_leaf ys.now) (has_leaf xs.now) → ⊥ }
     ensures looks { looks.new ≤ 2 }
+    ensures least { 0 < length xs.now → 0 < length ys.now → 2 ≤ looks.new }
 {
     if ys.is_empty() || xs.is_empty() {
         return false;
@@ -209,6 +223,7 @@ fn holds_evenly(xs: &[CellId], ys: &[CellId], before: u64) -> Counted
     requires before { before ≤ 2 }
     ensures answer { IsTrue result.answer ↔ IsWithin (has_leaf ys.now) (has_leaf xs.now) }
     ensures looks { FewForUnion (length xs.now) (length ys.now) result.looks }
+    ensures least { before ≤ result.looks }
 {
     let mut looks: u64 = 0;
     let mut i = 0;
@@ -237,6 +252,7 @@ fn meets_any(xs: &[CellId], ys: &[CellId]) -> Counted
     requires y_local { IsLocal ys.now }
     ensures answer { IsTrue result.answer ↔ ShareSome (has_leaf xs.now) (has_leaf ys.now) }
     ensures looks { FewForUnion (length xs.now) (length ys.now) result.looks }
+    ensures least { 0 < length xs.now → 0 < length ys.now → 2 ≤ result.looks }
 {
     if ys.len() <= xs.len() / MUCH_LONGER {
         meets_few(xs, ys)
@@ -254,6 +270,7 @@ fn meets_evenly(xs: &[CellId], ys: &[CellId]) -> Counted
     requires y_local { IsLocal ys.now }
     ensures answer { IsTrue result.answer ↔ ShareSome (has_leaf xs.now) (has_leaf ys.now) }
     ensures looks { FewForUnion (length xs.now) (length ys.now) result.looks }
+    ensures least { 0 < length xs.now → 0 < length ys.now → 2 ≤ result.looks }
 {
     let mut looks: u64 = 0;
     let mut i = 0;

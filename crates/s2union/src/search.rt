@@ -46,6 +46,7 @@ pub(crate) fn find_counted(cells: &[CellId], lo: u64) -> Found
     ensures ended { FirstEndBy cells.now result.at lo }
     ensures next { EndsAfter cells.now result.at lo }
     ensures looks { (k : ℕ) → length cells.now ≤ 2 ^ k → result.looks ≤ 3 * k + 4 }
+    ensures least { 0 < result.at → 0 < result.looks }
 {
     let begun = narrow(cells, 0, cells.len(), 2 * lo, 0);
     without_last(cells, 0, begun, lo)
@@ -81,6 +82,8 @@ pub(crate) fn find_from_counted(cells: &[CellId], from: usize, lo: u64, looks: &
     ensures ended { FirstEndBy cells.now result lo }
     ensures next { EndsAfter cells.now result lo }
     ensures looks { (k : ℕ) → result - from < 2 ^ k → looks.new ≤ looks.old + 4 * k + 16 }
+    ensures least { looks.old ≤ looks.new }
+    ensures some { from < result → looks.old < looks.new }
 {
     if !ends_by(cells, from, lo, looks) {
         return from;
@@ -99,6 +102,8 @@ fn ends_by(cells: &[CellId], at: usize, lo: u64, looks: &mut u64) -> bool
     requires before { looks.old ≤ 1001 }
     ensures answer { IsTrue result ↔ EndsAt cells.now at lo }
     ensures looks { looks.new ≤ looks.old + 1 }
+    ensures least { looks.old ≤ looks.new }
+    ensures some { IsTrue result → looks.old < looks.new }
 {
     at < cells.len() && look(cells, at, looks).end_leaf() <= lo
 }
@@ -132,6 +137,7 @@ pub(crate) fn without_last(cells: &[CellId], from: usize, begun: Found, lo: u64)
     ensures next { EndsAfter cells.now result.at lo }
     ensures near { begun.at ≤ result.at + 1 }
     ensures looks { result.looks ≤ begun.looks + 1 }
+    ensures least { from < result.at → 0 < result.looks }
 {
     let mut looks = begun.looks;
     if from < begun.at && lo < look(cells, begun.at - 1, &mut looks).end_leaf() {

@@ -1,4 +1,4 @@
-use Rattle.std.proofs.Common.{◌-◌, ◌*◌, ◌≤◌, length}
+use Rattle.std.proofs.Common.{◌-◌, ◌*◌, ◌<◌, ◌≤◌, length}
 use Rattle.s2union.specs.Sets.{HoldsBetween}
 use Rattle.s2union.proofs.few.holds_few.Given as goal
 
@@ -7,6 +7,7 @@ invariant-loop-j l = record {
   in_y : l.j ≤ length l.ys;
   held : HoldsBetween l.xs l.ys 0 l.j;
   few : l.looks ≤ 250 * l.j;
+  some : 0 < l.j → 2 ≤ l.looks;
 }
 
 abbrev pub decreases-loop-j : goal.decreases-loop-j

@@ -27,6 +27,9 @@ loop-j-preserved c =
       missed = more_places (λ k. ShareSome (covers (get_or c.args.ys.now k 0)) (has_leaf c.args.xs.now) → ⊥) 0
           c.loop-j.j c.in-Some.next c.loop-j.invariant.missed c.in-Some.ensures.answer;
       few = omega arith;
+      some = λ _.
+          let least = c.in-Some.ensures.least (let short = c.requires.few in omega arith) in
+          omega arith;
     }
 
 pub returns-clause-answer : goal.returns-clause-answer

@@ -1,5 +1,6 @@
-use Rattle.std.proofs.Common.{◌≡◌, get_or, arith, refl, sym, [], ap, rules}
-use Rattle.std.proofs.lemmas.Bool.{false≢true}
+use Rattle.std.proofs.Common.{◌≡◌, ◌+◌, ◌<◌, ◌≤◌, get_or, arith, refl, sym, [], ap, rules}
+use Rattle.std.proofs.Math.Logic.{⊎_elim}
+use Rattle.std.proofs.lemmas.Bool.{false≢true, cases_lt}
 use Rattle.s2cell.specs.Cell.{first_leaf, size_of}
 use Rattle.s2union.proofs.Packing.{is_at}
 use Rattle.s2union.proofs.Checking.{packed_from_local}
@@ -40,6 +41,7 @@ loop-j-init c = record {
   ended = search rules;
   sharing = search rules;
   tries = no_try c.args.xs.now c.args.ys.now;
+  some = search rules;
 }
 
 pub loop-j-preserved : goal.loop-j-preserved
@@ -82,6 +84,10 @@ loop-j-preserved c =
           c.loop-j-test.true f.from (omega arith)
           e.from (omega arith) f.looks (omega arith) e.looks (omega arith) (omega arith) (λ l. let n = e.next l in
           omega arith);
+      some = λ _.
+          let x = f.least in
+          let y = e.least in
+          omega arith;
     }
 
 pub returns-then-i-xs-clause-answer : goal.returns-then-i-xs-clause-answer
@@ -109,6 +115,15 @@ returns-then-i-xs-clause-looks c =
     c.answer_with.result.looks c.loop-j.invariant.tries c.loop-j.invariant.in_x c.loop-j-test.true f.from f.within
     (omega arith) f.looks
     (omega arith)
+
+pub returns-then-i-xs-clause-least : goal.returns-then-i-xs-clause-least
+returns-then-i-xs-clause-least c in_x in_y =
+    let f = c.find_from_counted-i.ensures in
+    let told = c.answer_with.ensures.looks in
+    let more = f.least in
+    ⊎_elim (λ (h : 0 < c.loop-j.i + c.loop-j.j). let before = c.loop-j.invariant.some h in omega arith)
+    (λ (h : c.loop-j.i + c.loop-j.j ≤ 0). let passed = f.some (omega arith) in omega arith)
+    (cases_lt 0 (c.loop-j.i + c.loop-j.j))
 
 pub returns-then-first_leaf-end_leaf-clause-answer : goal.returns-then-first_leaf-end_leaf-clause-answer
 returns-then-first_leaf-end_leaf-clause-answer c =

@@ -1,4 +1,4 @@
-use Rattle.std.proofs.Common.{◌<◌, ◌≤◌, ◌-◌, length, get_or, []}
+use Rattle.std.proofs.Common.{◌<◌, ◌≤◌, ◌+◌, ◌-◌, length, get_or, []}
 use Rattle.s2cell.specs.Cell.{first_leaf}
 use Rattle.s2union.specs.Packed.{FirstEndBy}
 use Rattle.s2union.proofs.Shared.{Sharing, both}
@@ -13,6 +13,7 @@ invariant-loop-j l = record {
   ended : l.j < length l.ys → FirstEndBy l.xs l.i (first_leaf (get_or l.ys l.j 0));
   sharing : Sharing (both l.xs l.ys) l.xs l.ys [] l.i l.j;
   tries : Tries l.xs l.ys l.looks l.i l.j;
+  some : 0 < l.i + l.j → 2 ≤ l.looks;
 }
 
 abbrev pub decreases-loop-j : goal.decreases-loop-j
