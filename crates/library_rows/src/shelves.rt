@@ -23,7 +23,7 @@ pub fn add_answer<S: Shelf>(
     let content = if call == "beginning" {
         shelf.get_beginning(name, number(rest) as usize)
     } else {
-        shelf.get(alloc, name)
+        shelf.get(name)
     };
     add_content(alloc, found, call, content)
 }

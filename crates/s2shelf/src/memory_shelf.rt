@@ -63,9 +63,9 @@ fn take_turn(failing: &mut u64, failures: &mut u64) -> Result<(), ShelfFault>
 }
 
 impl MemoryShelf {
-    /// A copy of the file of that name, allocated from `alloc`. Counts as a call, and answers `Device` exactly if this
-    /// is the call that was made to fail.
-    fn copy_of(&mut self, alloc: Global, name: &str) -> Result<Option<Vec<u8>>, ShelfFault>
+    /// A copy of the file of that name. Counts as a call, and answers `Device` exactly if this is the call that was
+    /// made to fail.
+    fn copy_of(&mut self, name: &str) -> Result<Option<Vec<u8>>, ShelfFault>
         ensures answer { MatchResult result
             (λ content. Finds (files_of self.old) name.now (option_map (λ v. v.items) content) (files_of self.new))
             (λ fault. FailsToGet (files_of self.old) (files_of self.new) fault) }
@@ -75,7 +75,7 @@ impl MemoryShelf {
         take_turn(&mut self.failing, &mut self.failures)?;
         match self.named.get(name) {
             None => Ok(None),
-            Some(bytes) => Ok(Some(Vec::from_slice(alloc, bytes)?)),
+            Some(bytes) => Ok(Some(bytes.clone()?)),
         }
     }
 }
@@ -94,7 +94,7 @@ impl Shelf for MemoryShelf {
         ensures turn { IsErrOf result ShelfFault.Device ↔ (failing_of self.old ≡ 1) }
         ensures failing { failing_of self.new ≡ failing_of self.old - 1 }
     {
-        let copy = self.copy_of(self.alloc, name)?;
+        let copy = self.copy_of(name)?;
         Ok(copy.map(Cursor::new))
     }
 
@@ -106,15 +106,19 @@ impl Shelf for MemoryShelf {
         self.failures = self.failures.wrapping_add(1);
     }
 
-    /// A copy of the file, allocated from `alloc`. Answers `Device` exactly if this is the call that was made to fail.
-    fn get(&mut self, alloc: Global, name: &str) -> Result<Option<Vec<u8>>, ShelfFault>
+    fn alloc(&self) -> Global {
+        self.alloc
+    }
+
+    /// A copy of the file. Answers `Device` exactly if this is the call that was made to fail.
+    fn get(&mut self, name: &str) -> Result<Option<Vec<u8>>, ShelfFault>
         ensures answer { MatchResult result
             (λ content. Finds (files_of self.old) name.now (option_map (λ v. v.items) content) (files_of self.new))
             (λ fault. FailsToGet (files_of self.old) (files_of self.new) fault) }
         ensures turn { IsErrOf result ShelfFault.Device ↔ (failing_of self.old ≡ 1) }
         ensures failing { failing_of self.new ≡ failing_of self.old - 1 }
     {
-        self.copy_of(alloc, name)
+        self.copy_of(name)
     }
 
     /// The first bytes of a copy of the file. Answers `Device` exactly if this is the call that was made to fail.
@@ -126,7 +130,7 @@ impl Shelf for MemoryShelf {
         ensures turn { IsErrOf result ShelfFault.Device ↔ (failing_of self.old ≡ 1) }
         ensures failing { failing_of self.new ≡ failing_of self.old - 1 }
     {
-        let content = self.copy_of(self.alloc, name)?;
+        let content = self.copy_of(name)?;
         Ok(beginning_of(content, most))
     }
 

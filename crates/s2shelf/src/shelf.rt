@@ -82,9 +82,12 @@ pub trait Shelf {
     fn count_failure(&mut self)
         ensures { FailsToGet (files self.old) (files self.new) Device };
 
-    /// All bytes of the file of that name, allocated from `alloc`, or None if there is none. No content changes; the
+    /// What the bytes that the shelf answers are allocated from.
+    fn alloc(&self) -> Global;
+
+    /// All bytes of the file of that name, or None if there is none. No content changes; the
     /// count rises by one exactly when the answer is `Device`. A failed read is `Device`, unless it says out of memory.
-    fn get(&mut self, alloc: Global, name: &str) -> Result<Option<Vec<u8>>, ShelfFault>
+    fn get(&mut self, name: &str) -> Result<Option<Vec<u8>>, ShelfFault>
         ensures { MatchResult result
             (λ content. Finds (files self.old) name.now (option_map (λ v. v.items) content) (files self.new))
             (λ fault. FailsToGet (files self.old) (files self.new) fault) }
@@ -92,7 +95,7 @@ pub trait Shelf {
         let Some(file) = self.open(name)? else {
             return Ok(None);
         };
-        match read_whole(alloc, file) {
+        match read_whole(self.alloc(), file) {
             Ok(bytes) => Ok(Some(bytes)),
             Err(ShelfFault::Memory) => Err(ShelfFault::Memory),
             Err(ShelfFault::Device) => {
