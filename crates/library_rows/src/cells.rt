@@ -1,7 +1,5 @@
 //! Calls of `s2cell`.
-ghost use Rattle.std.specs.Prelude.{◌<◌, ◌≤◌};
-
-use crate::texts::{add_token, cells_of, coordinate, numbers_of, small};
+use crate::texts::{add_token, cells_of, numbers_of};
 use row_table::add_line;
 use s2cell::{CellId, FACE_LEAVES, SIDE};
 use std::alloc::{AllocError, Global};

@@ -1,9 +1,9 @@
 //! Questions of `s2union` about two unions, and how many cells they look at.
-ghost use Rattle.std.specs.Prelude.{◌<◌, ◌≤◌};
+ghost use Rattle.std.specs.Prelude.{◌<◌};
 
 use crate::texts::{cut, numbers_of, union_of, yes_or_no};
 use row_table::add_line;
-use s2cell::{CellId, LEAVES};
+use s2cell::CellId;
 use s2union::{CellUnion, Counted, normalise};
 use std::alloc::{AllocError, Global};
 

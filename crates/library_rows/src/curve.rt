@@ -1,6 +1,4 @@
 //! The curve by bit steps, beside the calls that go by tables.
-ghost use Rattle.std.specs.Prelude.{◌<◌};
-
 use row_table::add_line;
 use s2cell::{CellId, FACE_LEAVES, SIDE};
 use std::alloc::{AllocError, Global};

@@ -1,6 +1,4 @@
 //! Calls of `s2shelf`, over a shelf in memory and over a folder.
-ghost use Rattle.std.specs.Prelude.{◌≤◌};
-
 use crate::files::add_decoded;
 use crate::texts::add_bytes;
 use row_table::{add_line, bytes_of, number};

@@ -1,6 +1,4 @@
 //! Calls of `s2union` on unions and lists of cells.
-ghost use Rattle.std.specs.Prelude.{◌<◌, ◌≤◌};
-
 use crate::texts::{add_cells, add_token, cells_of, cut, numbers_of, union_of, yes_or_no};
 use row_table::add_line;
 use s2cell::CellId;
