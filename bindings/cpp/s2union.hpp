@@ -199,7 +199,7 @@ class CellUnionOf {
   void Clear() { std::vector<Id>().swap(cell_ids_); }
   /// The cells themselves; the union is then empty.
   std::vector<Id> Release() { return std::exchange(cell_ids_, {}); }
-  /// Gives memory back if there is room for more than `excess` further cells.
+  /// Gives memory back, by the vector's own shrink_to_fit, if there is room for more than `excess` further cells.
   void Pack(size_t excess = 0) {
     if (cell_ids_.capacity() - size() > excess) cell_ids_.shrink_to_fit();
   }

@@ -73,6 +73,7 @@ static void refuses(int32_t want, Call call, const char* what) {
     call(nullptr);
   } catch (const s2union::Error& error) {
     thrown = error.status();
+    check(thrown != S2U_MEMORY, what);
     check(strcmp(error.what(), s2u_status_text(want)) == 0, what);
   } catch (const std::bad_alloc&) {
     thrown = S2U_MEMORY;
@@ -144,6 +145,13 @@ static void unions() {
   x.Normalize();
   x.Pack();
   CHECK(x == two && x.Release() == two.cell_ids() && x.empty());
+  x = face.Difference(leaf);
+  const size_t room = x.cell_ids().capacity();
+  x.Pack(room - x.size());
+  CHECK(room > x.size() && x.cell_ids().capacity() == room);
+  x.Pack();
+  CHECK(x == face.Difference(leaf));
+  CHECK(x.cell_ids().capacity() == x.size() || !S2UNION_THROWS);  // shrink_to_fit does nothing without exceptions
   x.InitFromMinMax(Id(1), Id(1));
   CHECK(x == Union(cells<Id>({1})));
   x.InitFromBeginEnd(Id(1), Id(5));
