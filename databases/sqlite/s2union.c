@@ -51,13 +51,14 @@ static void drop_cells(void* cells) { drop(block_of(cells)); }
 
 /* ---- values: each call answers a status, which is made an error at the end ---- */
 
-enum { NOT_A_UNION = -100, NOT_A_CELL = -101, NOT_A_NUMBER = -102 };
+enum { NOT_A_UNION = -100, NOT_A_CELL = -101, NOT_A_NUMBER = -102, NO_FRAME = -103 };
 
 static const char* reason(int32_t status) {
   switch (status) {
     case NOT_A_UNION: return "a union is a BLOB, or cells in an INTEGER or a TEXT";
     case NOT_A_CELL: return "a cell is an INTEGER or a TEXT";
     case NOT_A_NUMBER: return "a level, face or coordinate is an INTEGER";
+    case NO_FRAME: return "the frame of a window has to begin with UNBOUNDED PRECEDING";
     default: return s2u_status_text(status);
   }
 }
@@ -98,6 +99,52 @@ static int32_t number_of(sqlite3_value* v, uint32_t* number) {
   return *number == wide ? S2U_OK : S2U_ARGUMENT;
 }
 
+/* Cells that are gathered, and normalized when they have doubled. */
+typedef struct gathered { block* list; size_t settled; } gathered;
+enum { GATHERED = 100000, PIECE = 65536 };
+
+static int32_t settle(gathered* g) {
+  int32_t status = s2u_normalise(g->list->cells, g->list->n, &g->list->n);
+  g->settled = g->list->n;
+  return status;
+}
+
+static int32_t gather(gathered* g, const block* more) {
+  size_t n = g->list ? g->list->n : 0;
+  if (!g->list || n + more->n > g->list->room) {
+    block* wider = new_block(2 * (n + more->n), sizeof(uint64_t));
+    if (!wider) return S2U_MEMORY;
+    if (n > 0) memcpy(wider->cells, g->list->cells, n * sizeof(uint64_t));
+    drop(g->list);
+    g->list = wider;
+  }
+  memcpy(g->list->cells + n, more->cells, more->n * sizeof(uint64_t));
+  g->list->n = n + more->n;
+  return g->list->n > GATHERED && g->list->n > 2 * g->settled ? settle(g) : S2U_OK;
+}
+
+/* How much of a text is read at once: whole words, or the start of one that is too long for a cell. */
+static size_t piece_of(const char* text, size_t n) {
+  size_t end = PIECE;
+  if (n <= PIECE) return n;
+  while (end > 0 && !memchr(" ,\t\r\n", text[end], 5)) end--;
+  return end > 0 ? end : PIECE;
+}
+
+static int32_t list_of_text(const char* text, size_t n, block** list) {
+  gathered g = {.list = NULL};
+  block* piece = new_block(S2U_MOST_NAMED(n < PIECE ? n : PIECE), sizeof(uint64_t));
+  int32_t status = piece ? gather(&g, piece) : S2U_MEMORY;
+  for (size_t taken; n > 0 && status == S2U_OK; text += taken, n -= taken) {
+    taken = piece_of(text, n);
+    status = s2u_from_tokens(text, taken, piece->cells, piece->room, &piece->n);
+    if (status == S2U_OK) status = gather(&g, piece);
+  }
+  drop(piece);
+  *list = g.list;
+  return status == S2U_OK ? settle(&g) : status;
+}
+
 /* The union of a value as a list. The caller drops it, even after a refusal. */
 static int32_t list_of(sqlite3_value* v, block** list) {
   const uint8_t* bytes = NULL;
@@ -105,16 +152,13 @@ static int32_t list_of(sqlite3_value* v, block** list) {
   size_t n = 0, room = 1;
   int type = sqlite3_value_type(v);
   int32_t status = type == SQLITE_INTEGER ? S2U_OK : NOT_A_UNION;
-  if (type == SQLITE_TEXT && (status = text_of(v, &text, &n)) == S2U_OK) room = S2U_MOST_NAMED(n);
+  if (type == SQLITE_TEXT) return text_of(v, &text, &n) == S2U_OK ? list_of_text(text, n, list) : S2U_MEMORY;
   if (type == SQLITE_BLOB && (status = bytes_of(v, &bytes, &n)) == S2U_OK) room = S2U_MOST_IN_FILE(n);
   if (status != S2U_OK) return status;
   block* b = *list = new_block(room, sizeof(uint64_t));
   if (!b) return S2U_MEMORY;
-  if (type == SQLITE_BLOB) return s2u_decode(bytes, n, b->cells, room, &b->n);
   b->n = 1;
-  if (type == SQLITE_INTEGER) return cell_of(v, b->cells);
-  status = s2u_from_tokens(text, n, b->cells, room, &b->n);
-  return status == S2U_OK ? s2u_normalise(b->cells, b->n, &b->n) : status;
+  return type == SQLITE_BLOB ? s2u_decode(bytes, n, b->cells, room, &b->n) : cell_of(v, b->cells);
 }
 
 static int32_t file_of_list(const block* list, block** file) {
@@ -222,7 +266,6 @@ MAKER(make_outer, s2u_outer, RECT(a), a[5].number, S2U_MOST_COVERING)
 MAKER(make_inner, s2u_inner, RECT(a), a[5].number, S2U_MOST_COVERING)
 MAKER(make_outer_of, s2u_outer_of, LIST(a[0]), a[1].number, S2U_MOST_COVERING)
 MAKER(make_inner_of, s2u_inner_of, LIST(a[0]), a[1].number, S2U_MOST_COVERING)
-MAKER(make_cut, s2u_denormalised, LIST(a[0]), a[1].number, a[2].number)
 MAKER(make_ancestors, s2u_ancestors, LIST(a[0]))
 
 /* The list that a maker makes. The caller drops it, even after a refusal. */
@@ -233,6 +276,16 @@ static int32_t list_made(maker* make, const argument* a, size_t room, block** li
     if (!(*list = new_block(room, sizeof(uint64_t)))) return S2U_MEMORY;
     status = make(a, (*list)->cells, room, &(*list)->n);
   }
+  return status;
+}
+
+/* The leaves of exactly one of two unions. */
+static int32_t make_symmetric_difference(const argument* a, uint64_t* out, size_t room, size_t* n) {
+  block *whole = NULL, *both = NULL;
+  int32_t status = list_made(make_union, a, a[0].held->n + a[1].held->n, &whole);
+  if (status == S2U_OK) status = list_made(make_intersection, a, a[0].held->n + a[1].held->n, &both);
+  if (status == S2U_OK) status = s2u_difference(whole->cells, whole->n, both->cells, both->n, out, room, n);
+  drop(whole), drop(both);
   return status;
 }
 
@@ -264,9 +317,10 @@ CALL(makes) {
 }
 
 #define FILE_OF(a) (a).bytes, (a).n
-#define ASK(of, of_cell) a[1].cell ? of_cell(FILE_OF(a[0]), a[1].cell) : of(FILE_OF(a[0]), FILE_OF(a[1]))
-CALL(contains) { return answer_number(c, ASK(s2u_file_contains, s2u_file_contains_cell)); }
-CALL(intersects) { return answer_number(c, ASK(s2u_file_intersects, s2u_file_intersects_cell)); }
+#define ASK(x, y, of, of_cell) (y).cell ? of_cell(FILE_OF(x), (y).cell) : of(FILE_OF(x), FILE_OF(y))
+CALL(contains) { return answer_number(c, ASK(a[0], a[1], s2u_file_contains, s2u_file_contains_cell)); }
+CALL(within) { return answer_number(c, ASK(a[1], a[0], s2u_file_contains, s2u_file_contains_cell)); }
+CALL(intersects) { return answer_number(c, ASK(a[0], a[1], s2u_file_intersects, s2u_file_intersects_cell)); }
 
 static int32_t answer_count(sqlite3_context* c, const argument* a, int32_t (*of)(const uint8_t*, size_t, uint64_t*)) {
   uint64_t count = 0;
@@ -312,6 +366,7 @@ CALL(face) { return answer_number(c, s2u_face(a->cell)); }
 static const function functions[] = {
   {"s2_union", "ll", makes, .make = make_union}, {"s2_intersection", "ll", makes, .make = make_intersection},
   {"s2_difference", "ll", makes, .make = make_difference}, {"s2_range", "cc", makes, .make = make_range},
+  {"s2_symmetric_difference", "ll", makes, .make = make_symmetric_difference}, {"s2_within", "qf", within},
   {"s2_outer", "nnnnnn", makes, .make = make_outer}, {"s2_inner", "nnnnnn", makes, .make = make_inner},
   {"s2_outer", "ln", makes, .make = make_outer_of}, {"s2_inner", "ln", makes, .make = make_inner_of},
   {"s2_normalise", "l", normalise}, {"s2_is_union", "b", is_union}, {"s2_contains", "fq", contains},
@@ -335,65 +390,76 @@ static void dispatch(sqlite3_context* c, int arguments, sqlite3_value** v) {
   for (int k = 0; k < arguments; k++) drop(a[k].held);
 }
 
-/* ---- the aggregate: gathers cells, and normalizes them when they have doubled ---- */
+/* ---- aggregates, also over a window whose frame begins with the partition ---- */
 
-typedef struct gathered { block* list; size_t settled; } gathered;
-enum { GATHERED = 100000 };
+/* An aggregate takes each row's list into what it has of the rows before, of which there is at least one. */
+typedef struct aggregate { const char* name; int32_t (*take)(gathered* g, block* more); } aggregate;
 
-static int32_t settle(gathered* g) {
-  int32_t status = s2u_normalise(g->list->cells, g->list->n, &g->list->n);
-  g->settled = g->list->n;
+static int32_t take_union(gathered* g, block* more) { return gather(g, more); }
+
+static int32_t take_intersection(gathered* g, block* more) {
+  argument a[2] = {{.held = g->list}, {.held = more}};
+  block* both = NULL;
+  int32_t status = list_made(make_intersection, a, g->list->n + more->n, &both);
+  drop(status == S2U_OK ? g->list : both);
+  if (status == S2U_OK) g->list = both;
   return status;
 }
 
-static int32_t gather(gathered* g, const block* more) {
-  size_t n = g->list ? g->list->n : 0;
-  if (!g->list || n + more->n > g->list->room) {
-    block* wider = new_block(2 * (n + more->n), sizeof(uint64_t));
-    if (!wider) return S2U_MEMORY;
-    if (n > 0) memcpy(wider->cells, g->list->cells, n * sizeof(uint64_t));
-    drop(g->list);
-    g->list = wider;
-  }
-  memcpy(g->list->cells + n, more->cells, more->n * sizeof(uint64_t));
-  g->list->n = n + more->n;
-  return g->list->n > GATHERED && g->list->n > 2 * g->settled ? settle(g) : S2U_OK;
-}
+static const aggregate aggregates[] = {{"s2_union_agg", take_union}, {"s2_intersection_agg", take_intersection}};
 
-static void union_step(sqlite3_context* c, int arguments, sqlite3_value** v) {
+static void step(sqlite3_context* c, int arguments, sqlite3_value** v) {
+  const aggregate* aggregate = sqlite3_user_data(c);
   gathered* g = sqlite3_aggregate_context(c, sizeof *g);
   block* list = NULL;
   if (sqlite3_value_type(v[0]) == SQLITE_NULL) return;
   int32_t status = g ? list_of(v[0], &list) : S2U_MEMORY;
-  if (status == S2U_OK) status = gather(g, list);
+  if (status == S2U_OK) status = g->list ? aggregate->take(g, list) : gather(g, list);
   if (status != S2U_OK) refuse(c, status);
   drop(list);
 }
 
-static void union_final(sqlite3_context* c) {
+static void value(sqlite3_context* c) {
   gathered* g = sqlite3_aggregate_context(c, 0);
   if (!g || !g->list) return; /* no row, or only NULL: NULL, as sum() answers */
   int32_t status = settle(g);
   if (status == S2U_OK) status = answer_list(c, g->list);
   if (status != S2U_OK) refuse(c, status);
-  drop(g->list);
 }
+
+static void final(sqlite3_context* c) {
+  gathered* g = sqlite3_aggregate_context(c, 0);
+  value(c);
+  if (g) drop(g->list);
+}
+
+static void inverse(sqlite3_context* c, int arguments, sqlite3_value** v) { refuse(c, NO_FRAME); }
 
 /* ---- tables: s2_cells(x, level, modulus), s2_ancestors(x), s2_prepared(x) ---- */
 
 typedef struct kind {
   const char *name, *schema;
   int hidden, arguments; /* the first hidden column, which is the first argument, and how many arguments there may be */
-  maker* make;
+  enum { CELLS, ANCESTORS, PREPARED_VALUE } rows;
 } kind;
 
+/* Cells are cut as they are asked for: those that are ready, and those that wait to be cut, the last one first, before
+ * those that come next in the list. */
+enum { READY = 256, MOST_WAITING = 128 };
+
 typedef struct table { sqlite3_vtab base; const kind* kind; } table;
-typedef struct cursor { sqlite3_vtab_cursor base; block* block; size_t row, rows; } cursor;
+typedef struct cursor {
+  sqlite3_vtab_cursor base;
+  block* block;
+  size_t row, next, at, n, waiting;
+  uint32_t level, modulus;
+  uint64_t ready[READY], wait[MOST_WAITING];
+} cursor;
 
 static const kind kinds[] = {
-  {"s2_cells", "CREATE TABLE x(cell, range_min, range_max, x HIDDEN, level HIDDEN, modulus HIDDEN)", 3, 3, make_cut},
-  {"s2_ancestors", "CREATE TABLE x(cell, range_min, range_max, x HIDDEN)", 3, 1, make_ancestors},
-  {"s2_prepared", "CREATE TABLE x(value, x HIDDEN)", 1, 1, NULL},
+  {"s2_cells", "CREATE TABLE x(cell, range_min, range_max, x HIDDEN, level HIDDEN, modulus HIDDEN)", 3, 3, CELLS},
+  {"s2_ancestors", "CREATE TABLE x(cell, range_min, range_max, x HIDDEN)", 3, 1, ANCESTORS},
+  {"s2_prepared", "CREATE TABLE x(value, x HIDDEN)", 1, 1, PREPARED_VALUE},
 };
 
 static int connect(sqlite3* db, void* aux, int argc, const char* const* argv, sqlite3_vtab** made, char** error) {
@@ -408,7 +474,14 @@ static int connect(sqlite3* db, void* aux, int argc, const char* const* argv, sq
 
 static int disconnect(sqlite3_vtab* t) { return sqlite3_free(t), SQLITE_OK; }
 
-/* The plan's number is how many arguments are given. They come in order, and are constants in the loop. */
+/* Whether a statement uses a column; a bit of the mask stands for each. */
+static int uses(sqlite3_uint64 mask, int column) {
+  for (; column > 0; column--) mask /= 2;
+  return mask != mask / 2 * 2;
+}
+
+/* The plan's number is how many arguments are given. They come in order, and are constants in the loop. One that is not
+ * known before the loop is not among the constraints, but its column is used. */
 static int best_index(sqlite3_vtab* t, sqlite3_index_info* plan) {
   const kind* kind = ((table*)t)->kind;
   for (int a = 0; a < kind->arguments; a++) {
@@ -420,7 +493,9 @@ static int best_index(sqlite3_vtab* t, sqlite3_index_info* plan) {
       plan->aConstraintUsage[k].omit = 1;
     }
   }
-  plan->estimatedCost = plan->estimatedRows = kind->make ? 20 : 1;
+  for (int a = plan->idxNum; a < kind->arguments; a++)
+    if (uses(plan->colUsed, kind->hidden + a)) return SQLITE_CONSTRAINT;
+  plan->estimatedCost = plan->estimatedRows = kind->rows == PREPARED_VALUE ? 1 : 20;
   return plan->idxNum > 0 ? SQLITE_OK : SQLITE_CONSTRAINT;
 }
 
@@ -433,24 +508,60 @@ static int open(sqlite3_vtab* t, sqlite3_vtab_cursor** made) {
 
 static int close(sqlite3_vtab_cursor* u) { return drop(((cursor*)u)->block), sqlite3_free(u), SQLITE_OK; }
 
+static const kind* kind_of(const cursor* u) { return ((const table*)u->base.pVtab)->kind; }
+
+/* Cuts n cells, or a half of them and so on if they make more than there is room for. *some is how many it has cut. */
+static int32_t cut_some(cursor* u, const uint64_t* cells, size_t n, size_t* some) {
+  int32_t status = S2U_ROOM;
+  for (*some = n < READY ? n : READY; status == S2U_ROOM && *some > 0; *some /= 2) {
+    status = s2u_denormalised(cells, *some, u->level, u->modulus, u->ready, READY, &u->n);
+    if (status != S2U_ROOM) return status;
+  }
+  return u->n = 0, S2U_OK;
+}
+
+/* Cuts the next cells: the last that waits, or some of the list. One that makes more cells than there is room for gives
+ * way to its children, which are cut to the same cells. */
+static int32_t cut(cursor* u) {
+  int32_t status = S2U_OK;
+  size_t some;
+  for (u->at = u->n = 0; u->n == 0 && status == S2U_OK && (u->waiting > 0 || u->next < u->block->n);) {
+    int waits = u->waiting > 0;
+    const uint64_t* cells = waits ? &u->wait[u->waiting - 1] : &u->block->cells[u->next];
+    uint64_t first = *cells;
+    status = cut_some(u, cells, waits ? 1 : u->block->n - u->next, &some);
+    if (waits) u->waiting--;
+    else u->next += some > 0 ? some : 1;
+    for (uint32_t k = 4; k > 0 && some == 0; k--) u->wait[u->waiting++] = s2u_child(first, k - 1);
+  }
+  return status;
+}
+
 /* The rows of a call, with a level of 0 and a modulus of 1 if they aren't given. */
 static int32_t fill(cursor* u, const kind* kind, int arguments, sqlite3_value** v) {
   argument a[MOST_ARGUMENTS] = {[2].number = 1};
-  int32_t status = kind->make ? list_of(v[0], &a[0].held) : file_of(v[0], &u->block);
+  size_t none = 0;
+  u->n = 1;
+  if (kind->rows == PREPARED_VALUE) return file_of(v[0], &u->block);
+  int32_t status = list_of(v[0], &a[0].held);
   for (int k = 1; k < arguments && status == S2U_OK; k++) status = number_of(v[k], &a[k].number);
-  if (status == S2U_OK && kind->make) status = list_made(kind->make, a, a[0].held->n, &u->block);
-  if (status == S2U_OK) u->rows = kind->make ? u->block->n : 1;
-  drop(a[0].held);
-  return status;
+  if (status == S2U_OK) status = s2u_denormalised(NULL, 0, a[1].number, a[2].number, NULL, 0, &none);
+  u->level = a[1].number, u->modulus = a[2].number;
+  if (status != S2U_OK) return drop(a[0].held), status;
+  if (kind->rows == CELLS) return u->block = a[0].held, cut(u);
+  status = list_made(make_ancestors, a, a[0].held->n, &u->block);
+  if (status == S2U_OK) u->n = u->block->n;
+  return drop(a[0].held), status;
 }
 
 static int filter(sqlite3_vtab_cursor* base, int arguments, const char* text, int argc, sqlite3_value** v) {
   cursor* u = (cursor*)base;
   drop(u->block);
-  *u = (cursor){.base = u->base};
+  u->block = NULL;
+  u->row = u->next = u->at = u->n = u->waiting = 0;
   for (int k = 0; k < arguments; k++)
     if (sqlite3_value_type(v[k]) == SQLITE_NULL) return SQLITE_OK; /* no rows */
-  int32_t status = fill(u, ((table*)base->pVtab)->kind, arguments, v);
+  int32_t status = fill(u, kind_of(u), arguments, v);
   if (status == S2U_OK) return SQLITE_OK;
   if (status == S2U_MEMORY) return SQLITE_NOMEM;
   sqlite3_free(base->pVtab->zErrMsg);
@@ -458,16 +569,22 @@ static int filter(sqlite3_vtab_cursor* base, int arguments, const char* text, in
   return SQLITE_ERROR;
 }
 
-static int next(sqlite3_vtab_cursor* u) { return ((cursor*)u)->row++, SQLITE_OK; }
+/* Memory is the only thing that may be missing. */
+static int next(sqlite3_vtab_cursor* base) {
+  cursor* u = (cursor*)base;
+  u->row++, u->at++;
+  if (u->at < u->n || kind_of(u)->rows != CELLS) return SQLITE_OK;
+  return cut(u) == S2U_OK ? SQLITE_OK : SQLITE_NOMEM;
+}
 
-static int eof(sqlite3_vtab_cursor* u) { return ((cursor*)u)->row >= ((cursor*)u)->rows; }
+static int eof(sqlite3_vtab_cursor* u) { return ((cursor*)u)->at >= ((cursor*)u)->n; }
 
 static int column(sqlite3_vtab_cursor* base, sqlite3_context* c, int k) {
   cursor* u = (cursor*)base;
-  const kind* kind = ((table*)base->pVtab)->kind;
+  const kind* kind = kind_of(u);
   if (k >= kind->hidden) return SQLITE_OK; /* NULL */
-  if (kind->make) {
-    uint64_t cell = u->block->cells[u->row];
+  if (kind->rows != PREPARED_VALUE) {
+    uint64_t cell = (kind->rows == CELLS ? u->ready : u->block->cells)[u->at];
     answer_cell(c, k == 0 ? cell : k == 1 ? s2u_range_min(cell) : s2u_range_max(cell));
   } else {
     u->block->users++;
@@ -500,12 +617,25 @@ static int create(sqlite3* db, const function* f) {
 
 #define COUNT(list) (sizeof(list) / sizeof *(list))
 
-__attribute__((visibility("default")))
-int sqlite3_sunion_init(sqlite3* db, char** error, const sqlite3_api_routines* api) {
+static int create_aggregate(sqlite3* db, const aggregate* a) {
+  return sqlite3_create_window_function(db, a->name, 1, FLAGS, (void*)a, step, final, value, inverse, NULL);
+}
+
+#define EXPORTED __attribute__((visibility("default")))
+
+/* SQLite looks for this name first, whatever the file is called. */
+EXPORTED int sqlite3_extension_init(sqlite3* db, char** error, const sqlite3_api_routines* api) {
   int code = SQLITE_OK;
   SQLITE_EXTENSION_INIT2(api);
   for (const function* f = functions; code == SQLITE_OK && f < functions + COUNT(functions); f++) code = create(db, f);
   for (const kind* k = kinds; code == SQLITE_OK && k < kinds + COUNT(kinds); k++)
     code = sqlite3_create_module(db, k->name, &tables, (void*)k);
-  return code ? code : sqlite3_create_function(db, "s2_union_agg", 1, FLAGS, NULL, NULL, union_step, union_final);
+  for (const aggregate* a = aggregates; code == SQLITE_OK && a < aggregates + COUNT(aggregates); a++)
+    code = create_aggregate(db, a);
+  return code;
+}
+
+/* The name for a program that links several extensions statically. */
+EXPORTED int sqlite3_sunion_init(sqlite3* db, char** error, const sqlite3_api_routines* api) {
+  return sqlite3_extension_init(db, error, api);
 }

@@ -17,11 +17,12 @@ ROUNDS = int(os.environ.get("S2UNION_ROUNDS", "1500"))
 UNDER_A_SANITIZER = "libasan" in os.environ.get("LD_PRELOAD", "")
 EMPTY = model.file([])
 FUNCTIONS = {
-    "s2_union": "ll", "s2_intersection": "ll", "s2_difference": "ll", "s2_range": "cc", "s2_normalise": "l",
-    "s2_is_union": "b", "s2_contains": "lq", "s2_intersects": "lq", "s2_count": "l", "s2_leaves": "l", "s2_tokens": "l",
+    "s2_union": "ll", "s2_intersection": "ll", "s2_difference": "ll", "s2_symmetric_difference": "ll", "s2_range": "cc",
+    "s2_normalise": "l", "s2_is_union": "b", "s2_contains": "lq", "s2_within": "ql", "s2_intersects": "lq",
+    "s2_count": "l", "s2_leaves": "l", "s2_tokens": "l",
     "s2_cell": "c", "s2_token": "c", "s2_debug": "c", "s2_level": "c", "s2_face": "c", "s2_parent": "cn",
     "s2_child": "cn", "s2_range_min": "c", "s2_range_max": "c", "s2_common_ancestor": "cc", "s2_leaf": "nnn",
-    "s2_union_agg": "l",
+    "s2_union_agg": "l", "s2_intersection_agg": "l",
 }
 COVERINGS = ("s2_outer", "s2_inner")
 GOOD = {"l": "0c 14", "q": "0c", "c": "1c", "n": 1, "b": EMPTY}
@@ -89,10 +90,11 @@ class AgainstTheModel(Tests):
             xs = self.random.cells()
             ys = self.random.cells(near=xs)
             x, y = model.runs(xs), model.runs(ys)
-            rest = model.common(x, model.rest(y))
-            wanted = [model.normal(x + y), model.normal(model.common(x, y)), model.normal(rest), model.normal(x)]
+            rest, other = model.common(x, model.rest(y)), model.common(y, model.rest(x))
+            wanted = [model.normal(runs) for runs in (x + y, model.common(x, y), rest, rest + other, x)]
             said = self.db.execute(
-                "SELECT s2_union(?1, ?2), s2_intersection(?1, ?2), s2_difference(?1, ?2), s2_normalise(?1)",
+                """SELECT s2_union(?1, ?2), s2_intersection(?1, ?2), s2_difference(?1, ?2),
+                   s2_symmetric_difference(?1, ?2), s2_normalise(?1)""",
                 (self.random.form(xs), self.random.form(ys)),
             ).fetchone()
             self.assertEqual(list(said), [model.file(cells) for cells in wanted])
@@ -109,8 +111,9 @@ class AgainstTheModel(Tests):
             contains = [int(not model.common(model.runs(ys), model.rest(x))) for ys in rows]
             intersects = [int(bool(model.common(model.runs(ys), x))) for ys in rows]
             reverse = [int(not model.common(x, model.rest(model.runs(ys)))) for ys in rows]
-            wanted = list(zip(contains, intersects, reverse))
-            query = "SELECT s2_contains({0}, y), s2_intersects({0}, y), s2_contains(y, {0}) FROM {1} ORDER BY k"
+            wanted = list(zip(contains, intersects, reverse, contains, reverse))
+            query = """SELECT s2_contains({0}, y), s2_intersects({0}, y), s2_contains(y, {0}), s2_within(y, {0}),
+                s2_within({0}, y) FROM {1} ORDER BY k"""
             for value, source in (
                 ("x", "asked"), ("?1", "asked"), ("(SELECT ?1)", "asked"), ("(SELECT x FROM asked LIMIT 1)", "asked"),
                 ("p.value", "s2_prepared((SELECT x FROM asked WHERE k = 3)) AS p, asked"),
@@ -124,8 +127,9 @@ class AgainstTheModel(Tests):
             xs = self.random.cells()
             cell = self.random.near(self.random.choice(xs or [FACE]))
             one, x = [model.run(cell)], model.runs(xs)
-            wanted = (int(not model.common(one, model.rest(x))), int(bool(model.common(one, x))))
-            query = "SELECT s2_contains(?1, ?2), s2_intersects(?1, ?2)"
+            contains = int(not model.common(one, model.rest(x)))
+            wanted = (contains, int(bool(model.common(one, x))), contains)
+            query = "SELECT s2_contains(?1, ?2), s2_intersects(?1, ?2), s2_within(?2, ?1)"
             for value in (signed(cell), model.token(cell)):
                 self.assertEqual(self.db.execute(query, (self.random.form(xs), value)).fetchone(), wanted)
 
@@ -232,6 +236,48 @@ class AgainstTheModel(Tests):
         for query in ("s2_cells", "s2_ancestors", "s2_cells WHERE modulus = 1 AND x = '1'", "s2_prepared"):
             self.assertRaises(sqlite3.OperationalError, self.db.execute, f"SELECT * FROM {query}")
 
+    def test_long_listings(self):
+        """Cells that are cut to more than are ready at once, between cells that are not cut."""
+        for most in (1, 3, 300, 1000):
+            cells = [model.identifier(12, 5 * k) for k in range(most)]
+            cells += [model.identifier(7, 5), model.identifier(7, 7)]
+            cells += [model.identifier(14, 8 * 4**7 + 6 * k) for k in range(most)]
+            for level, modulus in ((0, 1), (12, 1), (13, 1), (11, 2), (13, 3)):
+                said = self.db.execute("SELECT cell, rowid FROM s2_cells(?, ?, ?)", (model.file(cells), level, modulus))
+                wanted = [signed(cell) for cell in model.cut(model.normal(model.runs(cells)), level, modulus)]
+                self.assertEqual(said.fetchall(), list(zip(wanted, range(len(wanted)))), (most, level, modulus))
+
+    def test_a_listing_makes_only_the_cells_that_are_asked_for(self):
+        said = self.peak("SELECT cell, range_min, range_max FROM s2_cells('1 3', 30) LIMIT 5")
+        self.assertEqual(said, [(2 * k + 1,) * 3 for k in range(5)])
+        said = self.peak("SELECT max(cell) FROM (SELECT cell FROM s2_cells('1', 30, 3) LIMIT 9000)")
+        self.assertEqual(said, [(17999,)])
+
+    def test_a_text_takes_the_memory_of_its_cells(self):
+        for text, wanted in ((" " * 4000000 + "04", "04"), ("0/0 " * 1000000, "04"), ("04,0c\n14\t1c " * 300000, "1")):
+            self.db.execute("CREATE TEMP TABLE texts AS SELECT ? AS text", (text,))
+            self.assertEqual(self.peak("SELECT s2_tokens(text) FROM texts", 2 * len(text)), [(wanted,)])
+            self.db.execute("DROP TABLE texts")
+
+    def test_texts_that_are_read_in_pieces(self):
+        cells = [model.identifier(28, 3 * k) for k in range(12000)]
+        for shift in range(0, 40, 3):
+            text = " " * shift + ",".join(self.random.text(cell) for cell in cells)
+            self.assertEqual(self.ask("s2_normalise(?)", text), model.file(cells))
+            self.refused("s2: not a cell", "s2_count(?)", text + " park")
+            self.refused("s2: not a cell", "s2_count(?)", text[:65500] + " 1/0123" + "0" * shift + "park " + text)
+        for word in ("0" * 65534, "0" * 65535, "0" * 65536, "0" * 200000, "1/" + "0" * 70000):
+            self.refused("s2: not a cell", "s2_count(?)", "04 " + word)
+            self.refused("s2: not a cell", "s2_count(?)", word + " 04")
+
+    def peak(self, query, most=300000):
+        """The rows of a query that takes at most so many bytes."""
+        sqlite.sqlite3_memory_highwater(1)
+        before = sqlite.sqlite3_memory_used()
+        rows = self.db.execute(query).fetchall()
+        self.assertLess(sqlite.sqlite3_memory_highwater(0) - before, most, query)
+        return rows
+
     def test_tables_in_joins(self):
         regions = [self.random.cells() for _ in range(50)]
         self.db.execute("CREATE TABLE regions(id INTEGER PRIMARY KEY, region BLOB)")
@@ -245,6 +291,35 @@ class AgainstTheModel(Tests):
         self.assertEqual(self.db.execute("SELECT count(*) FROM s2_cells(NULL)").fetchone(), (0,))
         self.assertEqual(self.db.execute("SELECT count(*) FROM s2_cells('1', NULL)").fetchone(), (0,))
         self.assertEqual(self.db.execute("SELECT count(*) FROM s2_prepared(NULL)").fetchone(), (0,))
+
+    def test_an_argument_that_another_table_has(self):
+        """An argument is known once its table is read, so the tables are read in that order, or there is no plan."""
+        self.db.execute("CREATE TABLE t(level, modulus, region)")
+        self.db.execute("INSERT INTO t VALUES(1, 1, '04'), (2, 2, '1')")
+        calls = {"s2_cells('1', t.level)": 20, "s2_cells('1', 1, t.modulus)": 8, "s2_cells(t.region)": 2,
+                 "s2_cells(t.region, t.level, t.modulus)": 17, "s2_ancestors(t.region)": 3, "s2_prepared(t.region)": 2}
+        for call, rows in calls.items():
+            for tables in (f"t, {call}", f"{call}, t", f"t CROSS JOIN {call}", f"t LEFT JOIN {call}"):
+                self.assertEqual(self.ask(f"count(*) FROM {tables}"), rows, tables)
+            for tables in (f"{call} CROSS JOIN t", f"{call} LEFT JOIN t ON true"):
+                with self.assertRaises(sqlite3.OperationalError, msg=tables):
+                    self.db.execute(f"SELECT count(*) FROM {tables}").fetchall()
+
+    def test_views_and_triggers_of_an_untrusted_schema(self):
+        self.db.executescript("""
+            PRAGMA trusted_schema = OFF;
+            CREATE TABLE parks(region, cells DEFAULT 0);
+            CREATE VIEW counts AS SELECT s2_count(region) AS n, s2_contains(region, '04') AS has FROM parks;
+            CREATE VIEW listed AS SELECT cell FROM parks, s2_cells(region);
+            CREATE VIEW whole AS
+                SELECT s2_tokens(s2_union_agg(region)), s2_tokens(s2_intersection_agg(region)) FROM parks;
+            CREATE TRIGGER counted AFTER INSERT ON parks BEGIN
+                UPDATE parks SET cells = (SELECT count(*) FROM s2_ancestors(NEW.region)) + s2_count(NEW.region);
+            END;
+            INSERT INTO parks VALUES('04 14', 0);
+        """)
+        self.assertEqual(self.db.execute("SELECT * FROM counts, whole").fetchall(), [(2, 1, "04 14", "04 14")])
+        self.assertEqual(self.db.execute("SELECT cells, (SELECT count(*) FROM listed) FROM parks").fetchall(), [(5, 2)])
 
     def test_ancestors(self):
         for _ in range(ROUNDS // 3):
@@ -271,7 +346,40 @@ class AgainstTheModel(Tests):
         said = self.db.execute("SELECT kind, s2_union_agg(region) FROM regions GROUP BY kind ORDER BY kind").fetchall()
         self.assertEqual(said, wanted + [(9, None), (10, EMPTY)])
         self.db.execute("INSERT INTO regions VALUES(0, 'x')")
-        self.refused("s2: not a cell", "s2_union_agg(region) FROM regions")
+        for name in ("s2_union_agg", "s2_intersection_agg"):
+            self.refused("s2: not a cell", f"{name}(region) FROM regions")
+
+    def test_aggregates_of_rows_that_are_alike(self):
+        self.db.execute("CREATE TABLE regions(kind, k, region)")
+        wanted, last = [], []
+        for kind in range(ROUNDS // 10):
+            rows = [self.random.cells()]
+            union, both = [], [(0, model.LEAVES)]
+            for k in range(self.random.randint(1, 6)):
+                rows.append(rows[0] + self.random.cells(near=rows[0]))
+                union, both = model.joined(union + model.runs(rows[-1])), model.common(both, model.runs(rows[-1]))
+                self.db.execute("INSERT INTO regions VALUES(?, ?, ?)", (kind, k, self.random.form(rows[-1])))
+                wanted.append((model.file(model.normal(union)), model.file(model.normal(both))))
+            self.db.execute("INSERT INTO regions VALUES(?, 99, NULL)", (kind,))
+            wanted.append(wanted[-1])
+            last.append(wanted[-1])
+        query = "SELECT s2_union_agg(region){0}, s2_intersection_agg(region){0} FROM regions"
+        so_far = query.format(" OVER (PARTITION BY kind ORDER BY k)") + " ORDER BY kind, k"
+        self.assertEqual(self.db.execute(so_far).fetchall(), wanted)
+        self.assertEqual(self.db.execute(query.format("") + " GROUP BY kind ORDER BY kind").fetchall(), last)
+        self.assertEqual(self.db.execute(query.format("") + " WHERE k > 99").fetchall(), [(None, None)])
+        self.assertEqual(self.db.execute(query.format("") + " WHERE k = 99").fetchall(), [(None, None)])
+        for frame in ("1 PRECEDING", "CURRENT ROW", "BETWEEN 1 FOLLOWING AND UNBOUNDED FOLLOWING"):
+            for name in ("s2_union_agg", "s2_intersection_agg"):
+                moving = f"{name}(region) OVER (ORDER BY kind, k ROWS {frame}) FROM regions"
+                self.refused("s2: the frame of a window has to begin with UNBOUNDED PRECEDING", moving)
+        others = self.db.execute("""
+            SELECT s2_union_agg(region) OVER w, (SELECT s2_union_agg(region) FROM regions AS o
+                WHERE o.kind = r.kind AND o.rowid <> r.rowid)
+            FROM regions AS r WINDOW w AS (PARTITION BY kind ROWS BETWEEN UNBOUNDED PRECEDING AND UNBOUNDED FOLLOWING
+                EXCLUDE CURRENT ROW)
+        """).fetchall()
+        self.assertTrue(all(said == wanted for said, wanted in others))
 
     def test_an_aggregate_of_many_cells(self):
         cells = [model.identifier(30, 3 * k) for k in range(150000)]
@@ -317,13 +425,14 @@ class WhatIsRefused(Tests):
             "s2_count(1.5)", "s2_level(1.5)", "s2_parent('1', 1.5)", "s2_level(0)", "s2_leaf(6, 0, 0)",
             "s2_outer(0, 0, 1073741823, 5, 5, 30)", "s2_count(x'01')", "s2_count(x'02')",
             "s2_count(x'01000000000000000000')", "s2_count(x'0101000000000000000000000000000000')",
+            "sum(length(u)) FROM (SELECT s2_union_agg('1') OVER (ROWS 1 PRECEDING) AS u FROM s2_cells('1 3 5'))",
         ):
             with self.assertRaises(sqlite3.OperationalError) as refusal:
                 self.ask(expression)
             reasons.add(str(refusal.exception))
             others = str(refusal.exception).replace("s2: union file:", "..")
             self.assertTrue(f"`{refusal.exception}`" in page or f"`{others}`" in page, str(refusal.exception))
-        self.assertEqual(len(reasons), 10)
+        self.assertEqual(len(reasons), 11)
 
     def test_no_cells(self):
         for name, letters, values in calls():
@@ -442,6 +551,9 @@ class WhatIsRefused(Tests):
             ("SELECT s2_normalise(?)", (tokens,)),
             ("SELECT count(*) FROM s2_prepared(?), parts WHERE s2_intersects(value, part)", (shuffled,)),
             ("SELECT sum(s2_contains(s2_union(?, part), part)) FROM parts", (shuffled,)),
+            ("SELECT s2_symmetric_difference(?, ?)", (big, shuffled)),
+            ("SELECT s2_intersection_agg(part) FROM parts", ()),
+            ("SELECT s2_count(s2_union_agg(part) OVER (ORDER BY id)) FROM parts", ()),
             ("SELECT s2_range('0000000000000001', 'afffffffffffffff')", ()), ("SELECT s2_count(zeroblob(1000000))", ()),
         )
         for query, values in queries:
