@@ -418,6 +418,8 @@ class WorkedExamples(unittest.TestCase):
         self.assertEqual((len(face.denormalised(9)), len(face.denormalised(10))), (4**9, 4**10))
         with self.assertRaisesRegex(ValueError, f"too many cells: {4**30}$"):
             face.denormalised(30, most=0)
+        self.assertEqual(len(face.denormalised(3, most=64)), 64)
+        self.assertRaisesRegex(ValueError, "too many cells: 64$", face.denormalised, 3, most=63)
 
     def test_coverings(self):
         for rectangle, level, inner, most, want in (
@@ -454,6 +456,13 @@ class TheModule(unittest.TestCase):
         self.assertEqual((a[1:], list(reversed(a))), (list(a)[1:], list(a)[::-1]))
         self.assertRaises(IndexError, lambda: a[3])
         self.assertEqual(repr(a), "<Union of 3 cells: 04 0c 14>")
+        tokens = [model.token(model.identifier(2, 5 * k)) for k in range(9)]
+        self.assertEqual(repr(Union.from_tokens(" ".join(tokens[:8]))), f"<Union of 8 cells: {' '.join(tokens[:8])}>")
+        shown = f"<Union of 9 cells: {' '.join(tokens[:8])} and 1 more>"
+        self.assertEqual(repr(Union.from_tokens(" ".join(tokens))), shown)
+        self.assertEqual((a.issubset(Union([FACE])), Union([FACE]).issubset(a)), (True, False))
+        self.assertEqual((a.issuperset(Union([FACE])), Union([FACE]).issuperset(a)), (False, True))
+        self.assertEqual((a.issubset(a), a.issuperset(a)), (True, True))
         self.assertEqual({a: 1}[Union(list(a))], 1)
         self.assertEqual(a.tokens(), ["04", "0c", "14"])
         with self.assertRaises(AttributeError):

@@ -1,20 +1,28 @@
 /* Unions of S2 cells in PostgreSQL, over libs2union. docs/POSTGRES.md says what each function does.
  *
- * Only the library knows about cells. This file has PostgreSQL's values, errors, memory and index classes. */
+ * Only the library knows about cells. This file has PostgreSQL's values, errors, memory and index classes; planner.c
+ * tells the planner what they cost and what they find. */
 #include "postgres.h"
 
 #include "access/gin.h"
+#include "access/gist.h"
 #include "access/stratnum.h"
 #include "catalog/pg_type.h"
 #include "common/hashfn.h"
 #include "fmgr.h"
 #include "libpq/pqformat.h"
+#include "miscadmin.h"
 #include "nodes/primnodes.h"
 #include "utils/array.h"
 #include "utils/builtins.h"
 #include "utils/memutils.h"
+#include "utils/sortsupport.h"
 
+#pragma GCC visibility push(hidden)
 #include <s2union.h>
+#pragma GCC visibility pop
+
+#include "value.h"
 
 PG_MODULE_MAGIC;
 
@@ -66,16 +74,9 @@ static void must_be_ok(int32_t status) {
   if (status < 0) ereport(ERROR, errcode(code_of(status)), errmsg("s2union: %s", s2u_status_text(status)));
 }
 
-/* ---- the value: the cells of a union, at a multiple of 8 so that questions can be answered in place ---- */
-
-typedef struct S2Union {
-  int32 length; /* a varlena's: SET_VARSIZE, VARSIZE */
-  uint32 form;
-  uint64_t cells[FLEXIBLE_ARRAY_MEMBER];
-} S2Union;
+/* ---- the value ---- */
 
 enum { FORM = 1 };
-#define HEAD offsetof(S2Union, cells)
 #define MOST_CELLS ((MaxAllocSize - HEAD) / sizeof(uint64_t))
 
 /* A value with room for this many cells, and none in it yet. */
@@ -93,19 +94,22 @@ static Datum finished(S2Union* u, size_t n) {
   return PointerGetDatum(u);
 }
 
-static size_t count_of(const S2Union* u) {
-  return (VARSIZE(u) - HEAD) / sizeof(uint64_t);
+/* A value of a list in normal form. */
+static S2Union* value_with(const uint64_t* cells, size_t n) {
+  S2Union* u = new_value(n);
+  if (n > 0) memcpy(u->cells, cells, n * sizeof(uint64_t));
+  finished(u, n);
+  return u;
 }
 
-/* A stored value. It is never trusted: one that is not a union is an error. */
-static S2Union* value_of(Datum datum) {
+S2Union* s2union_value(Datum datum) {
   S2Union* u = (S2Union*)PG_DETOAST_DATUM(datum);
   bool whole = VARSIZE(u) >= HEAD && (VARSIZE(u) - HEAD) % sizeof(uint64_t) == 0;
   if (!whole || u->form != FORM || !s2u_is_union(u->cells, count_of(u))) must_be_ok(S2U_NO_UNION);
   return u;
 }
 
-#define ARGUMENT(k) value_of(PG_GETARG_DATUM(k))
+#define ARGUMENT(k) s2union_value(PG_GETARG_DATUM(k))
 
 static bool is_constant(FmgrInfo* call, int k) {
   Node* node = call == NULL ? NULL : call->fn_expr;
@@ -115,62 +119,181 @@ static bool is_constant(FmgrInfo* call, int k) {
   return k < list_length(arguments) && IsA(list_nth(arguments, k), Const);
 }
 
+/* What a call keeps of an argument: its bytes as they came, which are a few if they are kept out of line, and the value
+ * once they have come again. A value of no more bytes than WORTH_KEEPING is checked as fast as it is compared. */
+typedef struct Kept {
+  Size size;
+  void* bytes;
+  S2Union* value;
+} Kept;
+
+enum { ARGUMENTS = 2, WORTH_KEEPING = 2000 };
+
+static Kept* kept_by(FmgrInfo* call, int k) {
+  if (call->fn_extra == NULL) call->fn_extra = MemoryContextAllocZero(call->fn_mcxt, ARGUMENTS * sizeof(Kept));
+  return (Kept*)call->fn_extra + k;
+}
+
+static void keep_bytes(FmgrInfo* call, Kept* kept, const void* bytes, Size size) {
+  if (kept->value) pfree(kept->value);
+  if (kept->bytes) pfree(kept->bytes);
+  *kept = (Kept){.size = 0};
+  kept->bytes = MemoryContextAllocExtended(call->fn_mcxt, size, MCXT_ALLOC_HUGE);
+  kept->size = size;
+  memcpy(kept->bytes, bytes, size);
+}
+
+static const S2Union* keep_value(FmgrInfo* call, Kept* kept, Datum datum) {
+  MemoryContext context = MemoryContextSwitchTo(call->fn_mcxt);
+  kept->value = s2union_value(PointerGetDatum(PG_DETOAST_DATUM_COPY(datum)));
+  MemoryContextSwitchTo(context);
+  return kept->value;
+}
+
+/* A value that may come again in the next call. The bytes of one that is kept out of line name it, and no other value
+ * gets this name until the server's counter has gone around. */
+static const S2Union* value_again(FmgrInfo* call, int k, Datum datum) {
+  const void* bytes = DatumGetPointer(datum);
+  Size size = VARSIZE_ANY(bytes);
+  if (call == NULL || (!VARATT_IS_EXTERNAL(bytes) && size <= WORTH_KEEPING)) return s2union_value(datum);
+  Kept* kept = kept_by(call, k);
+  bool again = kept->bytes && kept->size == size && memcmp(kept->bytes, bytes, size) == 0;
+  if (again) return kept->value ? kept->value : keep_value(call, kept, datum);
+  keep_bytes(call, kept, bytes, size);
+  return s2union_value(datum);
+}
+
 /* Argument k of a question. A constant of the query is read and checked once, and kept as long as the call's plan. */
 static const S2Union* asked_argument(FunctionCallInfo fcinfo, int k) {
   FmgrInfo* call = fcinfo->flinfo;
-  if (!is_constant(call, k)) return ARGUMENT(k);
-  if (call->fn_extra == NULL) call->fn_extra = MemoryContextAllocZero(call->fn_mcxt, 2 * sizeof(S2Union*));
-  S2Union** kept = call->fn_extra;
-  if (kept[k] == NULL) {
-    MemoryContext context = MemoryContextSwitchTo(call->fn_mcxt);
-    kept[k] = value_of(PointerGetDatum(PG_DETOAST_DATUM_COPY(PG_GETARG_DATUM(k))));
-    MemoryContextSwitchTo(context);
-  }
-  return kept[k];
+  if (call == NULL) return ARGUMENT(k);
+  if (!is_constant(call, k)) return value_again(call, k, PG_GETARG_DATUM(k));
+  Kept* kept = kept_by(call, k);
+  return kept->value ? kept->value : keep_value(call, kept, PG_GETARG_DATUM(k));
 }
 
 /* Frees a copy of argument k that isn't kept, since an index or a join asks many questions in one context. */
 static void free_asked(FunctionCallInfo fcinfo, const S2Union* u, int k) {
-  if (!is_constant(fcinfo->flinfo, k)) PG_FREE_IF_COPY((S2Union*)u, k);
+  FmgrInfo* call = fcinfo->flinfo;
+  bool kept = call && call->fn_extra && kept_by(call, k)->value == u;
+  if (!kept) PG_FREE_IF_COPY((S2Union*)u, k);
 }
 
 #define ASKED(k) asked_argument(fcinfo, k)
-#define LIST(u) (u)->cells, count_of(u)
 
-/* ---- text: tokens or debug texts with blanks or commas between them; tokens come out ---- */
+/* ---- cells that are gathered: normalized when they have doubled ---- */
 
+enum { GATHERED = 100000 };
+
+typedef struct Gathered {
+  uint64_t* cells;
+  size_t n, room, settled;
+} Gathered;
+
+static Gathered* new_gathered(MemoryContext context, size_t room) {
+  Gathered* g = MemoryContextAllocZero(context, sizeof *g);
+  g->room = Max(room, 1);
+  g->cells = MemoryContextAllocHuge(context, g->room * sizeof(uint64_t));
+  return g;
+}
+
+static void settle(Gathered* g) {
+  CHECK_FOR_INTERRUPTS();
+  must_be_ok(s2u_normalise(g->cells, g->n, &g->n));
+  g->settled = g->n;
+}
+
+static void gather(Gathered* g, const uint64_t* cells, size_t n) {
+  if (g->n + n > g->room) {
+    g->room = 2 * (g->n + n);
+    g->cells = repalloc_huge(g->cells, g->room * sizeof(uint64_t));
+  }
+  memcpy(g->cells + g->n, cells, n * sizeof(uint64_t));
+  g->n += n;
+  if (g->n > GATHERED && g->n > 2 * g->settled) settle(g);
+}
+
+static S2Union* value_of_gathered(Gathered* g) {
+  settle(g);
+  if (g->n > MOST_CELLS) must_be_ok(S2U_MANY);
+  return value_with(g->cells, g->n);
+}
+
+/* ---- text: tokens or debug texts with blanks or commas between them; tokens come out ----
+ *
+ * A text is read and written in pieces, since a session can be cancelled only between two calls of the library. */
+
+enum { PIECE = 65536 };
+#define BLANKS " ,\t\r\n"
 #define MOST_TEXT (MaxAllocSize - 1) /* without the NUL that ends it */
 
 static int32_t cell_of_text(const char* text, size_t n, uint64_t* cell) {
   return memchr(text, '/', n) ? s2u_from_debug(text, n, cell) : s2u_from_token(text, n, cell);
 }
 
+/* How much of a text is read at once: whole words, or the start of one that is too long for a cell. */
+static size_t piece_of(const char* text, size_t n) {
+  if (n <= PIECE) return n;
+  size_t end = PIECE;
+  while (end > 0 && !strchr(BLANKS, text[end])) end--;
+  return end > 0 ? end : PIECE;
+}
+
+static void refuse_word(const char* word) {
+  ereport(ERROR, errcode(ERRCODE_INVALID_TEXT_REPRESENTATION),
+          errmsg("invalid input syntax for type %s: \"%s\" names no cell", "s2union",
+                 pnstrdup(word, pg_mbcliplen(word, strcspn(word, BLANKS), 40))));
+}
+
 PG_FUNCTION_INFO_V1(s2union_in);
 Datum s2union_in(PG_FUNCTION_ARGS) {
   const char* text = PG_GETARG_CSTRING(0);
-  size_t length = strlen(text), room = Min(S2U_MOST_NAMED(length), MOST_CELLS), n = 0;
-  S2Union* u = new_value(room);
-  int32_t status = s2u_from_tokens(text, length, u->cells, room, &n);
-  if (status == S2U_NO_CELL) {
-    const char* word = text + n;
-    ereport(ERROR, errcode(ERRCODE_INVALID_TEXT_REPRESENTATION),
-            errmsg("invalid input syntax for type %s: \"%s\" names no cell", "s2union",
-                   pnstrdup(word, pg_mbcliplen(word, strcspn(word, " ,\t\r\n"), 40))));
+  size_t length = strlen(text), room = S2U_MOST_NAMED(Min(length, PIECE)), n = 0;
+  uint64_t* cells = palloc(Max(room, 1) * sizeof(uint64_t));
+  Gathered* g = new_gathered(CurrentMemoryContext, room);
+  for (size_t at = 0, piece; at < length; at += piece) {
+    CHECK_FOR_INTERRUPTS();
+    piece = piece_of(text + at, length - at);
+    int32_t status = s2u_from_tokens(text + at, piece, cells, room, &n);
+    if (status == S2U_NO_CELL) refuse_word(text + at + n);
+    must_be_ok(status);
+    gather(g, cells, n);
   }
-  must_be_ok(status == S2U_ROOM ? S2U_MANY : status);
-  must_be_ok(s2u_normalise(u->cells, n, &n));
-  return finished(u, n);
+  S2Union* u = value_of_gathered(g);
+  pfree(cells);
+  pfree(g->cells);
+  pfree(g);
+  return PointerGetDatum(u);
+}
+
+/* The tokens of a union after `before` bytes that the caller fills; a NUL ends them. */
+static char* tokens_of(const S2Union* u, size_t before, size_t* length) {
+  size_t count = count_of(u), room = Min(before + S2U_MOST_TOKENS(count), MOST_TEXT), n = 0;
+  char* text = palloc(room + 1);
+  *length = before;
+  for (size_t k = 0; k < count; k += PIECE) {
+    CHECK_FOR_INTERRUPTS();
+    if (k > 0 && *length < room) text[(*length)++] = ' ';
+    int32_t status = s2u_tokens(u->cells + k, Min(count - k, PIECE), text + *length, room - *length, &n);
+    must_be_ok(status == S2U_ROOM ? S2U_MANY : status);
+    *length += n;
+  }
+  text[*length] = '\0';
+  return text;
 }
 
 PG_FUNCTION_INFO_V1(s2union_out);
 Datum s2union_out(PG_FUNCTION_ARGS) {
-  S2Union* u = ARGUMENT(0);
-  size_t room = Min(S2U_MOST_TOKENS(count_of(u)), MOST_TEXT), length = 0;
-  char* text = palloc(room + 1);
-  int32_t status = s2u_tokens(LIST(u), text, room, &length);
-  must_be_ok(status == S2U_ROOM ? S2U_MANY : status);
-  text[length] = '\0';
-  PG_RETURN_CSTRING(text);
+  size_t length = 0;
+  PG_RETURN_CSTRING(tokens_of(ARGUMENT(0), 0, &length));
+}
+
+PG_FUNCTION_INFO_V1(s2union_tokens);
+Datum s2union_tokens(PG_FUNCTION_ARGS) {
+  size_t length = 0;
+  char* tokens = tokens_of(ARGUMENT(0), VARHDRSZ, &length);
+  SET_VARSIZE(tokens, length);
+  PG_RETURN_TEXT_P((text*)tokens);
 }
 
 /* ---- on the wire, and as bytea: the union's file ---- */
@@ -184,7 +307,7 @@ static Datum of_file(const void* bytes, size_t n) {
 
 static bytea* file_of(const uint64_t* cells, size_t n) {
   size_t length = 0;
-  if (n > MOST_CELLS - 2) must_be_ok(S2U_MANY);
+  if (S2U_FILE_SIZE(n) > MaxAllocSize - VARHDRSZ) must_be_ok(S2U_MANY);
   bytea* file = palloc(VARHDRSZ + S2U_FILE_SIZE(n));
   must_be_ok(s2u_encode(cells, n, (uint8_t*)VARDATA(file), S2U_FILE_SIZE(n), &length));
   SET_VARSIZE(file, VARHDRSZ + length);
@@ -204,10 +327,18 @@ Datum s2union_send(PG_FUNCTION_ARGS) {
   PG_RETURN_BYTEA_P(file_of(LIST(u)));
 }
 
+#define FILE_ARGUMENT(file) (const uint8_t*)VARDATA_ANY(file), VARSIZE_ANY_EXHDR(file)
+
 PG_FUNCTION_INFO_V1(s2union_from_bytea);
 Datum s2union_from_bytea(PG_FUNCTION_ARGS) {
   bytea* file = PG_GETARG_BYTEA_PP(0);
-  return of_file(VARDATA_ANY(file), VARSIZE_ANY_EXHDR(file));
+  return of_file(FILE_ARGUMENT(file));
+}
+
+PG_FUNCTION_INFO_V1(s2_is_union);
+Datum s2_is_union(PG_FUNCTION_ARGS) {
+  bytea* file = PG_GETARG_BYTEA_PP(0);
+  PG_RETURN_BOOL(s2u_file_check(FILE_ARGUMENT(file)) == 1);
 }
 
 /* ---- unions that are made ---- */
@@ -246,6 +377,17 @@ static Datum made(maker* make, const Job* j, size_t room) {
   return finished(u, n);
 }
 
+/* The leaves of exactly one of two unions. Their intersection lies in their union, so no cell is missed. */
+static int32_t make_symmetric_difference(const Job* j, uint64_t* out, size_t room, size_t* n) {
+  size_t most = Min(count_of(j->x) + count_of(j->y), MOST_CELLS);
+  S2Union* whole = (S2Union*)DatumGetPointer(made(make_union, j, most));
+  S2Union* both = (S2Union*)DatumGetPointer(made(make_intersection, j, most));
+  int32_t status = s2u_difference(LIST(whole), LIST(both), out, room, n);
+  pfree(whole);
+  pfree(both);
+  return status;
+}
+
 static Datum of_two_unions(FunctionCallInfo fcinfo, maker* make) {
   Job j = {.x = ARGUMENT(0), .y = ARGUMENT(1)};
   return made(make, &j, Min(count_of(j.x) + count_of(j.y), MOST_CELLS));
@@ -271,6 +413,7 @@ static Datum of_level(FunctionCallInfo fcinfo, maker* make) {
 FUNCTION(s2union_union, of_two_unions(fcinfo, make_union))
 FUNCTION(s2union_intersection, of_two_unions(fcinfo, make_intersection))
 FUNCTION(s2union_difference, of_two_unions(fcinfo, make_difference))
+FUNCTION(s2union_symmetric_difference, of_two_unions(fcinfo, make_symmetric_difference))
 FUNCTION(s2union_outer, of_rectangle(fcinfo, make_outer))
 FUNCTION(s2union_inner, of_rectangle(fcinfo, make_inner))
 FUNCTION(s2union_outer_of, of_level(fcinfo, make_outer_of))
@@ -282,12 +425,27 @@ Datum s2union_range(PG_FUNCTION_ARGS) {
   return made(make_range, &j, S2U_MOST_RANGE);
 }
 
+S2Union* s2union_of_cell(int64 number) {
+  uint64_t cell = (uint64_t)number;
+  return s2u_is_cell(cell) ? value_with(&cell, 1) : NULL;
+}
+
 PG_FUNCTION_INFO_V1(s2union_from_cell);
 Datum s2union_from_cell(PG_FUNCTION_ARGS) {
-  S2Union* u = new_value(1);
-  u->cells[0] = (uint64_t)PG_GETARG_INT64(0);
-  if (!s2u_is_cell(u->cells[0])) must_be_ok(S2U_NO_CELL);
-  return finished(u, 1);
+  S2Union* u = s2union_of_cell(PG_GETARG_INT64(0));
+  if (u == NULL) must_be_ok(S2U_NO_CELL);
+  return PointerGetDatum(u);
+}
+
+PG_FUNCTION_INFO_V1(s2union_from_cells);
+Datum s2union_from_cells(PG_FUNCTION_ARGS) {
+  ArrayType* cells = PG_GETARG_ARRAYTYPE_P(0);
+  size_t n = ArrayGetNItems(ARR_NDIM(cells), ARR_DIMS(cells));
+  if (array_contains_nulls(cells))
+    ereport(ERROR, errcode(ERRCODE_NULL_VALUE_NOT_ALLOWED), errmsg("s2union: a cell is NULL"));
+  S2Union* u = value_with((const uint64_t*)ARR_DATA_PTR(cells), n);
+  must_be_ok(s2u_normalise(u->cells, n, &n));
+  return finished(u, n);
 }
 
 /* ---- questions ---- */
@@ -312,13 +470,20 @@ FUNCTION(s2union_contains, of_two_asked(fcinfo, s2u_contains, 0, 1))
 FUNCTION(s2union_within, of_two_asked(fcinfo, s2u_contains, 1, 0))
 FUNCTION(s2union_intersects, of_two_asked(fcinfo, s2u_intersects, 0, 1))
 
-PG_FUNCTION_INFO_V1(s2union_contains_cell);
-Datum s2union_contains_cell(PG_FUNCTION_ARGS) {
-  const S2Union* x = ASKED(0);
-  Datum yes = answer(s2u_contains_cell(LIST(x), (uint64_t)PG_GETARG_INT64(1)));
-  free_asked(fcinfo, x, 0);
+typedef int32_t cell_question(const uint64_t* xs, size_t n, uint64_t cell);
+
+/* A question about the union in argument a and the cell in argument b. */
+static Datum of_asked_and_cell(FunctionCallInfo fcinfo, cell_question* ask, int a, int b) {
+  const S2Union* x = ASKED(a);
+  Datum yes = answer(ask(LIST(x), (uint64_t)PG_GETARG_INT64(b)));
+  free_asked(fcinfo, x, a);
   return yes;
 }
+
+FUNCTION(s2union_contains_cell, of_asked_and_cell(fcinfo, s2u_contains_cell, 0, 1))
+FUNCTION(s2union_cell_within, of_asked_and_cell(fcinfo, s2u_contains_cell, 1, 0))
+FUNCTION(s2union_intersects_cell, of_asked_and_cell(fcinfo, s2u_intersects_cell, 0, 1))
+FUNCTION(s2union_cell_intersects, of_asked_and_cell(fcinfo, s2u_intersects_cell, 1, 0))
 
 FUNCTION(s2union_count, Int64GetDatum((int64)count_of(ARGUMENT(0))))
 
@@ -330,40 +495,58 @@ Datum s2union_leaves(PG_FUNCTION_ARGS) {
 
 /* ---- cells ---- */
 
-static ArrayType* array_of(const uint64_t* cells, size_t n) {
-  Datum* elements = palloc_extended(Max(n, 1) * sizeof(Datum), MCXT_ALLOC_HUGE);
-  if (n > PG_INT32_MAX) must_be_ok(S2U_MANY);
-  for (size_t k = 0; k < n; k++) elements[k] = Int64GetDatum((int64)cells[k]);
-  return construct_array(elements, (int)n, INT8OID, sizeof(int64), FLOAT8PASSBYVAL, TYPALIGN_DOUBLE);
+/* An array of n cells. The caller fills in the cells; without any, an array has no dimension. */
+static ArrayType* new_array(uint64_t n) {
+  if (n > (MaxAllocSize - ARR_OVERHEAD_NONULLS(1)) / sizeof(int64)) must_be_ok(S2U_MANY);
+  size_t size = n == 0 ? sizeof(ArrayType) : ARR_OVERHEAD_NONULLS(1) + n * sizeof(int64);
+  ArrayType* array = palloc0(size);
+  SET_VARSIZE(array, size);
+  array->elemtype = INT8OID;
+  array->ndim = n == 0 ? 0 : 1;
+  if (n == 0) return array;
+  ARR_DIMS(array)[0] = (int)n;
+  ARR_LBOUND(array)[0] = 1;
+  return array;
+}
+
+static Datum array_of(const uint64_t* cells, size_t n) {
+  ArrayType* array = new_array(n);
+  if (n > 0) memcpy(ARR_DATA_PTR(array), cells, n * sizeof(int64));
+  PG_RETURN_ARRAYTYPE_P(array);
 }
 
 PG_FUNCTION_INFO_V1(s2union_cells);
 Datum s2union_cells(PG_FUNCTION_ARGS) {
   S2Union* u = ARGUMENT(0);
-  PG_RETURN_ARRAYTYPE_P(array_of(LIST(u)));
+  return array_of(LIST(u));
 }
 
-/* The cells of a union and all their ancestors; *n is how many. */
-static uint64_t* ancestors_of(const uint64_t* list, size_t length, size_t* n) {
-  size_t room = 2 * length + 31;
-  uint64_t* cells = palloc_extended(room * sizeof *cells, MCXT_ALLOC_HUGE);
-  int32_t status = s2u_ancestors(list, length, cells, room, n);
-  if (status == S2U_ROOM) {
-    room = *n;
-    pfree(cells);
-    cells = palloc_extended(room * sizeof *cells, MCXT_ALLOC_HUGE);
-    status = s2u_ancestors(list, length, cells, room, n);
-  }
-  must_be_ok(status);
-  return cells;
+PG_FUNCTION_INFO_V1(s2union_cells_cut);
+Datum s2union_cells_cut(PG_FUNCTION_ARGS) {
+  S2Union* u = ARGUMENT(0);
+  uint32_t level = (uint32_t)PG_GETARG_INT32(1), modulus = (uint32_t)PG_GETARG_INT32(2);
+  uint64_t count = 0;
+  size_t n = 0;
+  must_be_ok(s2u_denormalised_len(LIST(u), level, modulus, &count));
+  ArrayType* array = new_array(count);
+  if (count > 0) must_be_ok(s2u_denormalised(LIST(u), level, modulus, (uint64_t*)ARR_DATA_PTR(array), count, &n));
+  PG_RETURN_ARRAYTYPE_P(array);
 }
 
 PG_FUNCTION_INFO_V1(s2union_ancestors);
 Datum s2union_ancestors(PG_FUNCTION_ARGS) {
   S2Union* u = ARGUMENT(0);
-  size_t n = 0;
-  uint64_t* cells = ancestors_of(LIST(u), &n);
-  PG_RETURN_ARRAYTYPE_P(array_of(cells, n));
+  size_t room = 2 * count_of(u) + 31, n = 0;
+  uint64_t* cells = palloc_extended(room * sizeof *cells, MCXT_ALLOC_HUGE);
+  int32_t status = s2u_ancestors(LIST(u), cells, room, &n);
+  if (status == S2U_ROOM) {
+    room = n;
+    pfree(cells);
+    cells = palloc_extended(room * sizeof *cells, MCXT_ALLOC_HUGE);
+    status = s2u_ancestors(LIST(u), cells, room, &n);
+  }
+  must_be_ok(status);
+  return array_of(cells, n);
 }
 
 PG_FUNCTION_INFO_V1(s2_leaf);
@@ -382,32 +565,39 @@ Datum s2_cell(PG_FUNCTION_ARGS) {
   PG_RETURN_INT64((int64)cell);
 }
 
-PG_FUNCTION_INFO_V1(s2_token);
-Datum s2_token(PG_FUNCTION_ARGS) {
-  char token[S2U_MOST_TOKEN];
-  size_t n = 0;
-  must_be_ok(s2u_token((uint64_t)PG_GETARG_INT64(0), token, sizeof token, &n));
-  PG_RETURN_TEXT_P(cstring_to_text_with_len(token, (int)n));
-}
-
-/* A cell in SQL's bigint. */
-static uint64_t cell_of(FunctionCallInfo fcinfo) {
-  uint64_t cell = (uint64_t)PG_GETARG_INT64(0);
+/* Argument k, a cell in SQL's bigint. */
+static uint64_t cell_argument(FunctionCallInfo fcinfo, int k) {
+  uint64_t cell = (uint64_t)PG_GETARG_INT64(k);
   if (!s2u_is_cell(cell)) must_be_ok(S2U_NO_CELL);
   return cell;
 }
 
-FUNCTION(s2_level, Int32GetDatum(s2u_level(cell_of(fcinfo))))
-FUNCTION(s2_face, Int32GetDatum(s2u_face(cell_of(fcinfo))))
-FUNCTION(s2_range_min, Int64GetDatum((int64)s2u_range_min(cell_of(fcinfo))))
-FUNCTION(s2_range_max, Int64GetDatum((int64)s2u_range_max(cell_of(fcinfo))))
+#define CELL cell_argument(fcinfo, 0)
 
-PG_FUNCTION_INFO_V1(s2_parent);
-Datum s2_parent(PG_FUNCTION_ARGS) {
-  uint64_t parent = s2u_parent(cell_of(fcinfo), (uint32_t)PG_GETARG_INT32(1));
-  if (parent == 0) PG_RETURN_NULL(); /* there is none at this level */
-  PG_RETURN_INT64((int64)parent);
+typedef int32_t writer(uint64_t cell, char* text, size_t room, size_t* n);
+
+static Datum written(uint64_t cell, writer* write) {
+  char text[S2U_MOST_DEBUG];
+  size_t n = 0;
+  must_be_ok(write(cell, text, sizeof text, &n));
+  PG_RETURN_TEXT_P(cstring_to_text_with_len(text, (int)n));
 }
+
+/* A cell, or NULL: 0 is none. */
+static Datum cell_or_null(FunctionCallInfo fcinfo, uint64_t cell) {
+  if (cell == 0) PG_RETURN_NULL();
+  PG_RETURN_INT64((int64)cell);
+}
+
+FUNCTION(s2_token, written(CELL, s2u_token))
+FUNCTION(s2_debug, written(CELL, s2u_debug))
+FUNCTION(s2_level, Int32GetDatum(s2u_level(CELL)))
+FUNCTION(s2_face, Int32GetDatum(s2u_face(CELL)))
+FUNCTION(s2_range_min, Int64GetDatum((int64)s2u_range_min(CELL)))
+FUNCTION(s2_range_max, Int64GetDatum((int64)s2u_range_max(CELL)))
+FUNCTION(s2_parent, cell_or_null(fcinfo, s2u_parent(CELL, (uint32_t)PG_GETARG_INT32(1))))
+FUNCTION(s2_child, cell_or_null(fcinfo, s2u_child(CELL, (uint32_t)PG_GETARG_INT32(1))))
+FUNCTION(s2_common_ancestor, cell_or_null(fcinfo, s2u_common_ancestor(CELL, cell_argument(fcinfo, 1))))
 
 /* ---- order and hash: those of the lists, since each region has exactly one ---- */
 
@@ -439,39 +629,13 @@ static Datum hashed(FunctionCallInfo fcinfo, uint64 seed) {
 FUNCTION(s2union_hash, Int32GetDatum((int32)(uint32)DatumGetUInt64(hashed(fcinfo, 0))))
 FUNCTION(s2union_hash_extended, hashed(fcinfo, (uint64)PG_GETARG_INT64(1)))
 
-/* ---- the aggregate: gathers cells, and normalizes them when they have doubled ---- */
-
-enum { GATHERED = 100000 };
-
-typedef struct Gathered {
-  uint64_t* cells;
-  size_t n, room, settled;
-} Gathered;
-
-static void settle(Gathered* g) {
-  must_be_ok(s2u_normalise(g->cells, g->n, &g->n));
-  g->settled = g->n;
-}
+/* ---- the aggregate ---- */
 
 /* The state of argument 0, made in the aggregate's context if there is none yet. */
 static Gathered* state_of(FunctionCallInfo fcinfo) {
   MemoryContext context;
   if (!AggCheckCallContext(fcinfo, &context)) elog(ERROR, "s2union: called outside of an aggregate");
-  if (!PG_ARGISNULL(0)) return (Gathered*)PG_GETARG_POINTER(0);
-  Gathered* g = MemoryContextAllocZero(context, sizeof *g);
-  g->room = 64;
-  g->cells = MemoryContextAllocHuge(context, g->room * sizeof(uint64_t));
-  return g;
-}
-
-static void gather(Gathered* g, const uint64_t* cells, size_t n) {
-  if (g->n + n > g->room) {
-    g->room = 2 * (g->n + n);
-    g->cells = repalloc_huge(g->cells, g->room * sizeof(uint64_t));
-  }
-  memcpy(g->cells + g->n, cells, n * sizeof(uint64_t));
-  g->n += n;
-  if (g->n > GATHERED && g->n > 2 * g->settled) settle(g);
+  return PG_ARGISNULL(0) ? new_gathered(context, 64) : (Gathered*)PG_GETARG_POINTER(0);
 }
 
 /* The state unchanged, for a row or a state that is NULL. */
@@ -486,6 +650,15 @@ Datum s2union_agg_step(PG_FUNCTION_ARGS) {
   Gathered* g = state_of(fcinfo);
   S2Union* u = ARGUMENT(1);
   gather(g, LIST(u));
+  PG_RETURN_POINTER(g);
+}
+
+PG_FUNCTION_INFO_V1(s2union_agg_step_cell);
+Datum s2union_agg_step_cell(PG_FUNCTION_ARGS) {
+  if (PG_ARGISNULL(1)) return unchanged(fcinfo);
+  uint64_t cell = cell_argument(fcinfo, 1);
+  Gathered* g = state_of(fcinfo);
+  gather(g, &cell, 1);
   PG_RETURN_POINTER(g);
 }
 
@@ -507,31 +680,48 @@ Datum s2union_agg_serialise(PG_FUNCTION_ARGS) {
 PG_FUNCTION_INFO_V1(s2union_agg_deserialise);
 Datum s2union_agg_deserialise(PG_FUNCTION_ARGS) {
   bytea* file = PG_GETARG_BYTEA_PP(0);
-  size_t size = VARSIZE_ANY_EXHDR(file);
-  Gathered* g = palloc0(sizeof *g);
-  g->room = Max(S2U_MOST_IN_FILE(size), 1);
-  g->cells = palloc_extended(g->room * sizeof(uint64_t), MCXT_ALLOC_HUGE);
-  must_be_ok(s2u_decode((const uint8_t*)VARDATA_ANY(file), size, g->cells, g->room, &g->n));
+  Gathered* g = new_gathered(CurrentMemoryContext, S2U_MOST_IN_FILE(VARSIZE_ANY_EXHDR(file)));
+  must_be_ok(s2u_decode(FILE_ARGUMENT(file), g->cells, g->room, &g->n));
   PG_RETURN_POINTER(g);
 }
 
 PG_FUNCTION_INFO_V1(s2union_agg_final);
 Datum s2union_agg_final(PG_FUNCTION_ARGS) {
   if (PG_ARGISNULL(0)) PG_RETURN_NULL();
-  Gathered* g = state_of(fcinfo);
-  settle(g);
-  S2Union* u = new_value(g->n);
-  memcpy(u->cells, g->cells, g->n * sizeof(uint64_t));
-  return finished(u, g->n);
+  return PointerGetDatum(value_of_gathered(state_of(fcinfo)));
+}
+
+/* ---- a covering with few cells, for what must not grow with a value: an index's keys, the planner's sample ---- */
+
+S2Union* s2union_covering(const S2Union* u, size_t most) {
+  if (count_of(u) <= most) return value_with(LIST(u));
+  S2Union* covering = new_value(most);
+  size_t n = 0;
+  must_be_ok(s2u_outer_of(LIST(u), 0, most, covering->cells, most, &n));
+  for (uint32_t fits = 0, exceeds = 30; fits + 1 < exceeds;) {
+    uint32_t level = (fits + exceeds) / 2;
+    size_t finer = 0;
+    CHECK_FOR_INTERRUPTS();
+    int32_t status = s2u_outer_of(LIST(u), level, most, covering->cells, most, &finer);
+    if (status != S2U_MANY) must_be_ok(status);
+    *(status == S2U_MANY ? &exceeds : &fits) = level;
+    if (status != S2U_MANY) n = finer;
+  }
+  finished(covering, n);
+  return covering;
 }
 
 /* ---- GIN: the keys of a union are its cells ----
  *
- * A cell of the column shares a leaf with a cell of the question if it is that cell or one of its ancestors (these are
- * looked up), or if it lies in that cell (that is a range of keys). A row that contains a question contains its first
- * cell, so only that one and its ancestors are looked up, however many cells the question has. */
+ * A cell of the column shares a leaf with a cell of the question if it is an ancestor of that cell (these are looked
+ * up), or if it lies in that cell (that is a range of keys). A row that contains a question contains its first cell, so
+ * only that one and its ancestors are looked up, however many cells the question has.
+ *
+ * While rows wait in the index's pending list, PostgreSQL compares each of them with each key, and can't be cancelled.
+ * So a question that would have more keys than MOST_KEYS asks for those of its outer covering at the finest level at
+ * which that has no more, and the rows that are found are looked at. */
 
-enum { OVERLAPS = 1, CONTAINS = 2, WITHIN = 3 };
+enum { OVERLAPS = 1, CONTAINS = 2, WITHIN = 3, CONTAINS_CELL = 4, OVERLAPS_CELL = 5, MOST_KEYS = 256 };
 
 static Datum key_of(uint64_t cell) { return Int64GetDatum((int64)cell); }
 
@@ -548,43 +738,108 @@ Datum s2union_gin_value(PG_FUNCTION_ARGS) {
 
 /* What goes with each key of a question. PostgreSQL compares a key that has nothing with all keys before it. */
 typedef struct Sought {
-  int64 last;  /* the end of a range */
-  int32 place; /* in that of the first key: where the last search of s2union_gin_consistent ended */
+  int64 last; /* the end of a range */
+  bool exact; /* in that of the first key: a row with a key that is found matches */
 } Sought;
 
-static Sought** sought_by(size_t n) {
-  Sought* each = palloc_extended(Max(n, 1) * sizeof *each, MCXT_ALLOC_HUGE | MCXT_ALLOC_ZERO);
-  Sought** sought = palloc_extended(Max(n, 1) * sizeof *sought, MCXT_ALLOC_HUGE);
-  for (size_t k = 0; k < n; k++) sought[k] = &each[k];
-  return sought;
+/* The cells of a question, which are ranges, and these with all their ancestors. */
+typedef struct Asked {
+  size_t ranges, keys;
+  uint64_t range[MOST_KEYS], key[MOST_KEYS];
+} Asked;
+
+/* Whether a question's outer covering at this level has few enough keys; if so, these are in a. */
+static bool fits(const uint64_t* cells, size_t n, uint32_t level, bool with_ancestors, Asked* a) {
+  Asked b = {.ranges = 0};
+  CHECK_FOR_INTERRUPTS();
+  int32_t status = s2u_outer_of(cells, n, level, MOST_KEYS, b.range, MOST_KEYS, &b.ranges);
+  if (status == S2U_OK && with_ancestors) status = s2u_ancestors(b.range, b.ranges, b.key, MOST_KEYS, &b.keys);
+  if (status == S2U_MANY || status == S2U_ROOM) return false;
+  must_be_ok(status);
+  *a = b;
+  return true;
 }
 
-/* The keys of a question: the cells and their ancestors, then the ranges of the cells. */
+/* What a question asks an index for. Answers whether that is the question itself. */
+static bool asked_of(const uint64_t* cells, size_t n, bool with_ancestors, Asked* a) {
+  if (fits(cells, n, 30, with_ancestors, a)) return true;
+  fits(cells, n, 0, with_ancestors, a);
+  for (uint32_t least = 0, exceeds = 30; least + 1 < exceeds;) {
+    uint32_t level = (least + exceeds) / 2;
+    *(fits(cells, n, level, with_ancestors, a) ? &least : &exceeds) = level;
+  }
+  return false;
+}
+
+/* The keys of a question, as an index's function answers them. */
+typedef struct Keys {
+  size_t n;
+  Datum* keys;
+  bool* partial;
+  Sought** sought;
+} Keys;
+
+static Keys new_keys(size_t room) {
+  Sought* each = palloc0(room * sizeof *each);
+  Keys k = {0, palloc(room * sizeof(Datum)), palloc0(room), palloc(room * sizeof(Sought*))};
+  for (size_t at = 0; at < room; at++) k.sought[at] = &each[at];
+  return k;
+}
+
+static void look_up(Keys* k, uint64_t cell) {
+  k->keys[k->n++] = key_of(cell);
+}
+
+static void look_in(Keys* k, uint64_t cell) {
+  k->sought[k->n]->last = (int64)s2u_range_max(cell);
+  k->partial[k->n] = true;
+  look_up(k, s2u_range_min(cell));
+}
+
+/* The keys of a question: the ancestors of its cells, and the ranges of its cells. Both lists are in order. */
+static Keys keys_of(const Asked* a) {
+  Keys k = new_keys(Max(Max(a->keys, a->ranges), 1));
+  size_t r = 0;
+  for (size_t above = 0; above < a->keys; above++) {
+    if (r < a->ranges && a->key[above] == a->range[r]) r++;
+    else look_up(&k, a->key[above]);
+  }
+  for (r = 0; r < a->ranges; r++) look_in(&k, a->range[r]);
+  return k;
+}
+
+/* The same without ranges: a cell of the question and its ancestors. */
+static Keys keys_above(const Asked* a) {
+  Keys k = new_keys(Max(a->keys, 1));
+  for (size_t above = 0; above < a->keys; above++) look_up(&k, a->key[above]);
+  return k;
+}
+
+/* What is asked about, which may be asked again in the next call: a union, or a cell. */
+static const S2Union* question_again(FmgrInfo* call, Datum asked, StrategyNumber strategy) {
+  if (strategy != CONTAINS_CELL && strategy != OVERLAPS_CELL) return value_again(call, 0, asked);
+  const S2Union* u = s2union_of_cell(DatumGetInt64(asked));
+  if (u == NULL) must_be_ok(S2U_NO_CELL);
+  return u;
+}
+
 PG_FUNCTION_INFO_V1(s2union_gin_query);
 Datum s2union_gin_query(PG_FUNCTION_ARGS) {
-  S2Union* u = ARGUMENT(0);
   StrategyNumber strategy = PG_GETARG_UINT16(2);
+  const S2Union* u = question_again(fcinfo->flinfo, PG_GETARG_DATUM(0), strategy);
   int32* mode = (int32*)PG_GETARG_POINTER(6);
-  size_t above = 0, looked_up = strategy == CONTAINS ? Min(count_of(u), 1) : count_of(u);
-  size_t ranges = strategy == CONTAINS ? 0 : count_of(u);
-  uint64_t* cells = strategy == WITHIN ? NULL : ancestors_of(u->cells, looked_up, &above);
-  size_t n = above + ranges;
-  if (n > PG_INT32_MAX) must_be_ok(S2U_MANY);
-  Datum* keys = palloc(Max(n, 1) * sizeof(Datum));
-  bool* partial = palloc0(Max(n, 1) * sizeof(bool));
-  Sought** sought = sought_by(n);
-  for (size_t k = 0; k < above; k++) keys[k] = key_of(cells[k]);
-  for (size_t k = 0; k < ranges; k++) {
-    keys[above + k] = key_of(s2u_range_min(u->cells[k]));
-    partial[above + k] = true;
-    sought[above + k]->last = (int64)s2u_range_max(u->cells[k]);
-  }
-  if (strategy == CONTAINS && n == 0) *mode = GIN_SEARCH_MODE_ALL;
+  bool contains = strategy == CONTAINS || strategy == CONTAINS_CELL;
+  size_t count = contains ? Min(count_of(u), 1) : count_of(u);
+  Asked a;
+  bool all = asked_of(u->cells, count, strategy != WITHIN, &a) && count == count_of(u);
+  Keys k = contains ? keys_above(&a) : keys_of(&a);
+  k.sought[0]->exact = all && strategy != WITHIN;
+  if (contains && k.n == 0) *mode = GIN_SEARCH_MODE_ALL;
   if (strategy == WITHIN) *mode = GIN_SEARCH_MODE_INCLUDE_EMPTY;
-  *(int32*)PG_GETARG_POINTER(1) = (int32)n;
-  *(bool**)PG_GETARG_POINTER(3) = partial;
-  *(Sought***)PG_GETARG_POINTER(4) = sought;
-  PG_RETURN_POINTER(keys);
+  *(int32*)PG_GETARG_POINTER(1) = (int32)k.n;
+  *(bool**)PG_GETARG_POINTER(3) = k.partial;
+  *(Sought***)PG_GETARG_POINTER(4) = k.sought;
+  PG_RETURN_POINTER(k.keys);
 }
 
 /* Whether a key is past the end of the range. */
@@ -594,28 +849,138 @@ Datum s2union_gin_partial(PG_FUNCTION_ARGS) {
   PG_RETURN_INT32(PG_GETARG_INT64(1) > last ? 1 : 0);
 }
 
-/* The place of a key that may be found, from a place on and then from the first on; n if there is none. */
-static int32 place_from(int32 from, const GinTernaryValue* found, int32 n) {
-  for (int32 k = from; k < n; k++)
-    if (found[k] != GIN_FALSE) return k;
-  for (int32 k = 0; k < from; k++)
-    if (found[k] != GIN_FALSE) return k;
-  return n;
-}
-
-/* Whether a row may match, by the keys that are found in it. Before the first row PostgreSQL asks this for almost each
- * of the keys, and each time there is one more that is not found. So a search begins where the last one ended, and all
- * these searches together take n steps. */
+/* Whether a row may match, by the keys that are found in it. */
 PG_FUNCTION_INFO_V1(s2union_gin_consistent);
 Datum s2union_gin_consistent(PG_FUNCTION_ARGS) {
   const GinTernaryValue* found = (const GinTernaryValue*)PG_GETARG_POINTER(0);
   StrategyNumber strategy = PG_GETARG_UINT16(1);
-  int32 n = PG_GETARG_INT32(3);
+  int32 n = PG_GETARG_INT32(3), place = 0;
   Sought** sought = (Sought**)PG_GETARG_POINTER(4);
   if (strategy == WITHIN || n == 0) PG_RETURN_GIN_TERNARY_VALUE(GIN_MAYBE);
-  int32 place = place_from(sought[0]->place, found, n);
+  while (place < n && found[place] == GIN_FALSE) place++;
   if (place == n) PG_RETURN_GIN_TERNARY_VALUE(GIN_FALSE);
-  sought[0]->place = place;
-  /* A found cell shares a leaf; anything more is checked in the row. */
-  PG_RETURN_GIN_TERNARY_VALUE(strategy == OVERLAPS ? found[place] : GIN_MAYBE);
+  PG_RETURN_GIN_TERNARY_VALUE(sought[0]->exact ? found[place] : GIN_MAYBE);
+}
+
+/* ---- GiST: the key of a union is a covering of it with few cells ----
+ *
+ * It serves EXCLUDE. A row may be in a part of the index if the question shares a leaf with the covering of that part;
+ * each row that is found is looked at. Empty unions have no place there: <@, which finds them, is GIN's. */
+
+enum { MOST_CELLS_OF_KEY = 8 };
+
+/* Puts the cells of a key, which are few, after n others. Answers how many there are then. */
+static size_t with_cells(uint64_t* cells, size_t n, const S2Union* key) {
+  size_t more = Min(count_of(key), MOST_CELLS_OF_KEY);
+  memcpy(cells + n, key->cells, more * sizeof *cells);
+  return n + more;
+}
+
+/* A list, in any order, as the key of a part of the index. */
+static Datum key_over(uint64_t* cells, size_t n) {
+  must_be_ok(s2u_normalise(cells, n, &n));
+  return PointerGetDatum(s2union_covering(value_with(cells, n), MOST_CELLS_OF_KEY));
+}
+
+PG_FUNCTION_INFO_V1(s2union_gist_compress);
+Datum s2union_gist_compress(PG_FUNCTION_ARGS) {
+  GISTENTRY* entry = (GISTENTRY*)PG_GETARG_POINTER(0);
+  if (!entry->leafkey) PG_RETURN_POINTER(entry);
+  GISTENTRY* key = palloc(sizeof *key);
+  Datum covering = PointerGetDatum(s2union_covering(s2union_value(entry->key), MOST_CELLS_OF_KEY));
+  gistentryinit(*key, covering, entry->rel, entry->page, entry->offset, false);
+  PG_RETURN_POINTER(key);
+}
+
+PG_FUNCTION_INFO_V1(s2union_gist_consistent);
+Datum s2union_gist_consistent(PG_FUNCTION_ARGS) {
+  GISTENTRY* entry = (GISTENTRY*)PG_GETARG_POINTER(0);
+  StrategyNumber strategy = PG_GETARG_UINT16(2);
+  const S2Union *key = s2union_value(entry->key), *u = question_again(fcinfo->flinfo, PG_GETARG_DATUM(1), strategy);
+  bool contains = strategy == CONTAINS || strategy == CONTAINS_CELL;
+  *(bool*)PG_GETARG_POINTER(4) = true; /* each row is looked at */
+  return answer(contains ? s2u_contains(LIST(key), LIST(u)) : s2u_intersects(LIST(key), LIST(u)));
+}
+
+PG_FUNCTION_INFO_V1(s2union_gist_union);
+Datum s2union_gist_union(PG_FUNCTION_ARGS) {
+  GistEntryVector* entries = (GistEntryVector*)PG_GETARG_POINTER(0);
+  uint64_t* cells = palloc(entries->n * MOST_CELLS_OF_KEY * sizeof *cells);
+  size_t n = 0;
+  for (int k = 0; k < entries->n; k++) n = with_cells(cells, n, s2union_value(entries->vector[k].key));
+  Datum key = key_over(cells, n);
+  *(int*)PG_GETARG_POINTER(1) = VARSIZE(key);
+  return key;
+}
+
+/* How many leaves a part of the index grows by. */
+PG_FUNCTION_INFO_V1(s2union_gist_penalty);
+Datum s2union_gist_penalty(PG_FUNCTION_ARGS) {
+  const S2Union* key = s2union_value(((GISTENTRY*)PG_GETARG_POINTER(0))->key);
+  const S2Union* more = s2union_value(((GISTENTRY*)PG_GETARG_POINTER(1))->key);
+  uint64_t cells[2 * MOST_CELLS_OF_KEY];
+  size_t n = with_cells(cells, with_cells(cells, 0, key), more);
+  must_be_ok(s2u_normalise(cells, n, &n));
+  *(float*)PG_GETARG_POINTER(2) = (float)(s2u_leaf_count(cells, n) - s2u_leaf_count(LIST(key)));
+  PG_RETURN_POINTER(PG_GETARG_POINTER(2));
+}
+
+typedef struct Placed {
+  const S2Union* key;
+  OffsetNumber at;
+} Placed;
+
+static int by_place(const void* x, const void* y) {
+  const Placed *a = x, *b = y;
+  return s2u_compare(LIST(a->key), LIST(b->key));
+}
+
+/* One half of the entries that are split, in the order of their first cells. */
+static Datum half(const Placed* placed, int n, OffsetNumber* offsets, int* count) {
+  uint64_t* cells = palloc(n * MOST_CELLS_OF_KEY * sizeof *cells);
+  size_t m = 0;
+  for (int k = 0; k < n; k++) {
+    m = with_cells(cells, m, placed[k].key);
+    offsets[k] = placed[k].at;
+  }
+  *count = n;
+  return key_over(cells, m);
+}
+
+PG_FUNCTION_INFO_V1(s2union_gist_picksplit);
+Datum s2union_gist_picksplit(PG_FUNCTION_ARGS) {
+  GistEntryVector* entries = (GistEntryVector*)PG_GETARG_POINTER(0);
+  GIST_SPLITVEC* split = (GIST_SPLITVEC*)PG_GETARG_POINTER(1);
+  int n = entries->n - 1, left = n / 2; /* the entries begin at FirstOffsetNumber, 1 */
+  Placed* placed = palloc(n * sizeof *placed);
+  for (int k = 0; k < n; k++)
+    placed[k] = (Placed){s2union_value(entries->vector[k + 1].key), (OffsetNumber)(k + 1)};
+  qsort(placed, n, sizeof *placed, by_place);
+  split->spl_left = palloc(entries->n * sizeof(OffsetNumber));
+  split->spl_right = palloc(entries->n * sizeof(OffsetNumber));
+  split->spl_ldatum = half(placed, left, split->spl_left, &split->spl_nleft);
+  split->spl_rdatum = half(placed + left, n - left, split->spl_right, &split->spl_nright);
+  PG_RETURN_POINTER(split);
+}
+
+PG_FUNCTION_INFO_V1(s2union_gist_same);
+Datum s2union_gist_same(PG_FUNCTION_ARGS) {
+  const S2Union *x = ARGUMENT(0), *y = ARGUMENT(1);
+  *(bool*)PG_GETARG_POINTER(2) = s2u_compare(LIST(x), LIST(y)) == 0;
+  PG_RETURN_POINTER(PG_GETARG_POINTER(2));
+}
+
+/* An index is made in the order of its keys, so that each page has those of a part of the curve. */
+static int by_key(Datum x, Datum y, SortSupport sort) {
+  S2Union *a = s2union_value(x), *b = s2union_value(y);
+  int order = s2u_compare(LIST(a), LIST(b));
+  if ((Pointer)a != DatumGetPointer(x)) pfree(a);
+  if ((Pointer)b != DatumGetPointer(y)) pfree(b);
+  return order;
+}
+
+PG_FUNCTION_INFO_V1(s2union_gist_sortsupport);
+Datum s2union_gist_sortsupport(PG_FUNCTION_ARGS) {
+  ((SortSupport)PG_GETARG_POINTER(0))->comparator = by_key;
+  PG_RETURN_VOID();
 }

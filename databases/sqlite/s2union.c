@@ -480,15 +480,15 @@ static int uses(sqlite3_uint64 mask, int column) {
   return mask != mask / 2 * 2;
 }
 
-/* The plan's number is how many arguments are given. They come in order, and are constants in the loop. One that is not
- * known before the loop is not among the constraints, but its column is used. */
+/* The plan's number is how many arguments are given. They come in order, and are constants in the loop. One that is
+ * left out, or isn't known before the loop, is not among the constraints, but its column or a later one is used. */
 static int best_index(sqlite3_vtab* t, sqlite3_index_info* plan) {
   const kind* kind = ((table*)t)->kind;
   for (int a = 0; a < kind->arguments; a++) {
     for (int k = 0; k < plan->nConstraint; k++) {
       const struct sqlite3_index_constraint* given = &plan->aConstraint[k];
       if (given->iColumn != kind->hidden + a || given->op != SQLITE_INDEX_CONSTRAINT_EQ) continue;
-      if (!given->usable || plan->idxNum != a) return SQLITE_CONSTRAINT;
+      if (!given->usable) return SQLITE_CONSTRAINT;
       plan->aConstraintUsage[k].argvIndex = ++plan->idxNum;
       plan->aConstraintUsage[k].omit = 1;
     }

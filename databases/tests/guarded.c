@@ -4,20 +4,23 @@
  *   - refuses the allocation that s2_refuse(n) names: as the server does, or by telling the library that there is none,
  *   - counts what a call leaves: s2_left(), the blocks of the call and the copies of its arguments that nobody freed,
  *   - takes as the most bytes of a value or a text those that s2_limit(n) names,
- *   - tells what a GIN index asks for and is told: s2_keys(region, strategy), s2_keys_found(strategy, found, place).
+ *   - tells what a GIN index asks for and is told: s2_keys(asked, strategy), s2_keys_found(strategy, found, exact).
  * The build has rewritten each 'Datum NAME(PG_FUNCTION_ARGS)' of s2union.c to GUARDED(NAME). */
 #include "postgres.h"
 
 #include "access/gin.h"
+#include "access/gist.h"
 #include "access/stratnum.h"
 #include "catalog/pg_type.h"
 #include "common/hashfn.h"
 #include "fmgr.h"
 #include "libpq/pqformat.h"
+#include "miscadmin.h"
 #include "nodes/primnodes.h"
 #include "utils/array.h"
 #include "utils/builtins.h"
 #include "utils/memutils.h"
+#include "utils/sortsupport.h"
 
 #ifdef __SANITIZE_ADDRESS__
 #include <sanitizer/asan_interface.h>
@@ -39,6 +42,7 @@ typedef struct Block {
 
 static Block blocks[MOST];
 static int used, left;
+static bool called; /* in a call by SQL, not by the planner or by ANALYZE, which free what they are given */
 static int64 asked, refused = -1;
 
 static bool refuses(void) { return ++asked == refused; }
@@ -70,9 +74,11 @@ static void end_of_call(void) {
   for (int k = 0; k < used; k++) look(&blocks[k]);
   left = used;
   used = 0;
+  called = false;
 }
 
 static void* taken(MemoryContext context, Size n, int flags) {
+  if (!called) return MemoryContextAllocExtended(context, n, flags);
   if (refuses()) {
     if (flags & MCXT_ALLOC_NO_OOM) return NULL;
     ereport(ERROR, errcode(ERRCODE_OUT_OF_MEMORY), errmsg("out of memory"), errdetail("A test has refused it."));
@@ -82,6 +88,7 @@ static void* taken(MemoryContext context, Size n, int flags) {
 }
 
 static void* widened(void* at, Size n) {
+  if (!called) return repalloc_huge(at, n);
   if (refuses()) ereport(ERROR, errcode(ERRCODE_OUT_OF_MEMORY), errmsg("out of memory"));
   forget(at);
   return noted(repalloc_huge(at, n + GUARD), n, GUARD);
@@ -94,13 +101,14 @@ static void freed(void* at) {
 
 static struct varlena* detoasted(Datum datum) {
   struct varlena *stored = (struct varlena*)DatumGetPointer(datum), *whole = pg_detoast_datum(stored);
-  return whole == stored ? whole : noted(whole, VARSIZE(whole), 0);
+  return whole == stored || !called ? whole : noted(whole, VARSIZE(whole), 0);
 }
 
 #define GUARDED(name) \
   static Datum whole_##name(PG_FUNCTION_ARGS); \
   Datum name(PG_FUNCTION_ARGS) { \
     Datum answer = 0; \
+    called = true; \
     PG_TRY(); \
     { answer = whole_##name(fcinfo); } \
     PG_FINALLY(); \
@@ -146,8 +154,8 @@ Datum s2_limit(PG_FUNCTION_ARGS) {
 #define PG_DETOAST_DATUM(datum) detoasted(datum)
 #include "rewritten.c"
 
-/* s2_keys(region, strategy): how many keys a question has, how many of them are ranges, how many come with something
- * that PostgreSQL doesn't compare, and the mode of the search. */
+/* s2_keys(asked, strategy): how many keys a question has, how many of them are ranges, how many come with something
+ * that PostgreSQL doesn't compare, the mode of the search, and whether a row with a key that is found matches. */
 PG_FUNCTION_INFO_V1(s2_keys);
 Datum s2_keys(PG_FUNCTION_ARGS) {
   int32 n = 0, mode = GIN_SEARCH_MODE_DEFAULT, ranges = 0, sought = 0;
@@ -160,21 +168,21 @@ Datum s2_keys(PG_FUNCTION_ARGS) {
     ranges += partial[k];
     sought += extra[k] != NULL;
   }
-  PG_RETURN_TEXT_P(cstring_to_text(psprintf("%d %d %d %d", n, ranges, sought, mode)));
+  char exact = ((Sought**)extra)[0]->exact ? 't' : 'f';
+  PG_RETURN_TEXT_P(cstring_to_text(psprintf("%d %d %d %d %c", n, ranges, sought, mode, exact)));
 }
 
-/* s2_keys_found(strategy, found, place): whether a row matches, if 't', 'f' and 'm' in found say which keys are found
- * in it, which are not, and which may be; and where the search for them ends that begins at the place. */
+/* s2_keys_found(strategy, found, exact): whether a row matches, if 't', 'f' and 'm' in found say which keys are found
+ * in it, which are not, and which may be. */
 PG_FUNCTION_INFO_V1(s2_keys_found);
 Datum s2_keys_found(PG_FUNCTION_ARGS) {
   static const char letters[] = "ftm"; /* GIN_FALSE, GIN_TRUE, GIN_MAYBE */
   const char* found = text_to_cstring(PG_GETARG_TEXT_PP(1));
   int32 n = strlen(found);
   GinTernaryValue* values = palloc(n);
-  Sought** sought = sought_by(n);
+  Sought first = {.exact = PG_GETARG_BOOL(2)}, *sought = &first;
   for (int32 k = 0; k < n; k++) values[k] = strchr(letters, found[k]) - letters;
-  sought[0]->place = PG_GETARG_INT32(2);
   Datum answer = DirectFunctionCall7(s2union_gin_consistent, PointerGetDatum(values), PG_GETARG_DATUM(0), (Datum)0,
-                                     Int32GetDatum(n), PointerGetDatum(sought), (Datum)0, (Datum)0);
-  PG_RETURN_TEXT_P(cstring_to_text(psprintf("%c %d", letters[(int)DatumGetGinTernaryValue(answer)], sought[0]->place)));
+                                     Int32GetDatum(n), PointerGetDatum(&sought), (Datum)0, (Datum)0);
+  PG_RETURN_TEXT_P(cstring_to_text_with_len(&letters[(int)DatumGetGinTernaryValue(answer)], 1));
 }

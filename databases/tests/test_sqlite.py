@@ -266,7 +266,7 @@ class AgainstTheModel(Tests):
             self.assertEqual(self.ask("s2_normalise(?)", text), model.file(cells))
             self.refused("s2: not a cell", "s2_count(?)", text + " park")
             self.refused("s2: not a cell", "s2_count(?)", text[:65500] + " 1/0123" + "0" * shift + "park " + text)
-        for word in ("0" * 65534, "0" * 65535, "0" * 65536, "0" * 200000, "1/" + "0" * 70000):
+        for word in ("0" * 65534, "0" * 65535, "0" * 65536, "0" * 200000, "1/" + "0" * 70000, "1" * 70000):
             self.refused("s2: not a cell", "s2_count(?)", "04 " + word)
             self.refused("s2: not a cell", "s2_count(?)", word + " 04")
 
@@ -415,7 +415,9 @@ class WhatIsRefused(Tests):
             self.refused("s2: a union is", f"* FROM {table}(1.5)")
         self.refused("s2: a level", "* FROM s2_cells('1', '1')")
         self.refused("s2: a level", "* FROM s2_cells('1', 1, 1.5)")
-        self.refused("s2: argument", "* FROM s2_cells('1', 1, 4)")
+        for cells in ("1", ""):
+            self.refused("s2: argument", f"* FROM s2_cells('{cells}', 1, 4)")
+            self.refused("s2: argument", f"* FROM s2_cells('{cells}', 31)")
 
     def test_the_page_lists_the_errors(self):
         with open(os.path.join(os.path.dirname(os.path.abspath(__file__)), "../../docs/SQLITE.md")) as file:
