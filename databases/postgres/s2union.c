@@ -150,12 +150,17 @@ static const S2Union* keep_value(FmgrInfo* call, Kept* kept, Datum datum) {
   return kept->value;
 }
 
-/* A value that may come again in the next call. The bytes of one that is kept out of line name it, and no other value
- * gets this name until the server's counter has gone around. */
+/* Whether a value is worth keeping. The bytes of one that is kept out of line on disk name it, and no other value gets
+ * this name until the server's counter has gone around; others that aren't in place are somewhere in memory. */
+static bool is_worth_keeping(const void* bytes, Size size) {
+  return VARATT_IS_EXTERNAL(bytes) ? VARATT_IS_EXTERNAL_ONDISK(bytes) : size > WORTH_KEEPING;
+}
+
+/* A value that may come again in the next call. */
 static const S2Union* value_again(FmgrInfo* call, int k, Datum datum) {
   const void* bytes = DatumGetPointer(datum);
   Size size = VARSIZE_ANY(bytes);
-  if (call == NULL || (!VARATT_IS_EXTERNAL(bytes) && size <= WORTH_KEEPING)) return s2union_value(datum);
+  if (call == NULL || !is_worth_keeping(bytes, size)) return s2union_value(datum);
   Kept* kept = kept_by(call, k);
   bool again = kept->bytes && kept->size == size && memcmp(kept->bytes, bytes, size) == 0;
   if (again) return kept->value ? kept->value : keep_value(call, kept, datum);

@@ -725,15 +725,17 @@ class LargeQuestions(Tests):
     """While rows wait in the list of a GIN index, PostgreSQL compares each of them with each key of a question, and
     can't be cancelled. So a question has few keys. Elsewhere it is cancelled at once."""
 
-    def ends_in_time(self, query, timeout=1.0):
-        """It answers or is cancelled within twice its timeout."""
-        begun = time.monotonic()
-        command = ["psql", "-XAqt", "-d", DATABASE, "-c", f"SET statement_timeout = {int(timeout * 1000)}", "-c", query]
-        run = subprocess.run(command, stdout=subprocess.PIPE, stderr=subprocess.PIPE, text=True, check=False)
-        took = time.monotonic() - begun
-        self.assertTrue(run.returncode == 0 or "due to statement timeout" in run.stderr, run.stderr)
-        self.assertLess(took, 2 * timeout, query)
-        return run.returncode == 0
+    def ends_in_time(self, query):
+        """It answers or is cancelled within twice its timeout: at the third try, if the machine is busy."""
+        command = ["psql", "-XAqt", "-d", DATABASE, "-c", "SET statement_timeout = '1s'", "-c", query]
+        for _ in range(3):
+            begun = time.monotonic()
+            run = subprocess.run(command, stdout=subprocess.PIPE, stderr=subprocess.PIPE, text=True, check=False)
+            took = time.monotonic() - begun
+            self.assertTrue(run.returncode == 0 or "due to statement timeout" in run.stderr, run.stderr)
+            if took < 2:
+                return
+        self.fail(f"{took:.1f} s: {query}")
 
     @classmethod
     def setUpClass(cls):
@@ -766,6 +768,18 @@ class LargeQuestions(Tests):
             self.ends_in_time("SET enable_seqscan = off; SELECT count(*) FROM asked a JOIN waiting w "
                               f"ON w.region && a.region WHERE a.n = {n}")
 
+    def test_by_gist(self):
+        psql("""
+            SET client_min_messages = error;
+            DROP TABLE IF EXISTS placed;
+            CREATE TABLE placed AS TABLE waiting;
+            CREATE INDEX placed_gist ON placed USING gist (region);
+        """)
+        ask = "SET enable_seqscan = off; SELECT count(*) FROM placed p, asked a WHERE n = {} AND p.region {} a.region"
+        for n in (100, 10000, 300000):
+            for operator in ("&&", "@>"):
+                self.ends_in_time(ask.format(n, operator))
+
     def test_the_answers_are_those_of_a_scan(self):
         for n in (100, 10000):
             for operator in ("&&", "@>", "<@"):
@@ -775,8 +789,8 @@ class LargeQuestions(Tests):
                 self.assertEqual(scan, index, query)
 
     def test_texts_are_cancelled(self):
-        self.assertFalse(self.ends_in_time("SELECT sum(length(region::text)) FROM asked, generate_series(1, 9999)"))
-        self.assertFalse(self.ends_in_time("SELECT length(repeat('04 ', 90000000)::s2union::text)"))
+        self.ends_in_time("SELECT sum(length(region::text)) FROM asked, generate_series(1, 9999)")
+        self.ends_in_time("SELECT length(repeat('04 ', 60000000)::s2union::text)")
 
 
 class Aggregates(Tests):
@@ -1068,7 +1082,7 @@ class Guarded(Tests):
                         WHERE x.id = 6 AND y.id = 7 AND {call.format(f"CASE WHEN k > 0 THEN {other} END")} IS NOT NULL
                     ) u
                 """)
-                self.assertLess(int(grown), 500000, (call, other))
+                self.assertLess(int(grown), 100000, (call, other))
 
     def test_limits_of_a_value(self):
         """Ten cells, or 87 bytes of text: 1 GB is more than a test should take."""
