@@ -1076,8 +1076,8 @@ class Guarded(Tests):
             for call in ("x.part && {}", "x.part @> {}", "s2_intersects({}, s2_cell('04'))"):
                 (grown,) = psql(f"""
                     SELECT max(used) - min(used) FROM (
-                        SELECT CASE WHEN k IN (20, 9000) THEN
-                            (SELECT sum(used_bytes) FROM pg_backend_memory_contexts WHERE k > 0) END AS used
+                        SELECT CASE WHEN k IN (20, 9000) THEN (SELECT sum((m).used_bytes) FROM (
+                            SELECT pg_get_backend_memory_contexts() AS m WHERE k > 0) n) END AS used
                         FROM generate_series(1, 9000) AS k, parts x, parts y
                         WHERE x.id = 6 AND y.id = 7 AND {call.format(f"CASE WHEN k > 0 THEN {other} END")} IS NOT NULL
                     ) u
