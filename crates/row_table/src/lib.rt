@@ -6,12 +6,12 @@
 //! |---|---|
 //! | `> TEXT` | a line of the row's script |
 //! | `< TEXT` | the script's last line, which has no newline |
-//! | `* N TEXT` | the same line of the script, N times |
+//! | `* N TEXT ; TEXT` | these lines of the script, one or more, N times |
 //! | `^ FIRST COUNT LAST` | a line of the script: FIRST, COUNT times `x`, and LAST. `-` stands for nothing |
 //! | `$ NAME N` | an option, such as a limit |
 //! | `@ NAME HEX` | a file that is there before, by its bytes: `01 00*8` is a byte 1 and eight bytes 0 |
 //! | `? CALL` | a call, made after the script |
-//! | `= N TEXT` | an answer that is N lines with this text |
+//! | `= N TEXT ; TEXT` | an answer that is these lines N times |
 //! | `# TEXT` | a comment; so is a blank line |
 //! | any other | an answer |
 //!

@@ -1,6 +1,9 @@
 //! What the lines of a row say: its script, its options, the bytes of its files, and the answers that it must have.
 use std::alloc::{AllocError, Global};
 
+/// What is between lines that are repeated.
+const BETWEEN: &str = " ; ";
+
 /// The number of decimal digits. What is greater than the greatest `u64` is that.
 pub fn number(digits: &str) -> u64 {
     let mut number = 0u64;
@@ -97,12 +100,14 @@ fn add_text(script: &mut Vec<u8>, text: &str) -> Result<(), AllocError> {
     }
 }
 
-/// Adds a line as often as `N TEXT` says.
+/// Adds the lines of `N TEXT`, all of them N times.
 fn add_repeated(script: &mut Vec<u8>, text: &str) -> Result<(), AllocError> {
-    let (count, text) = first_word(text);
+    let (count, texts) = first_word(text);
     for _ in 0..number(count) {
-        add_text(script, text)?;
-        script.push(b'\n')?;
+        for line in texts.split(BETWEEN) {
+            add_text(script, line)?;
+            script.push(b'\n')?;
+        }
     }
     Ok(())
 }
@@ -158,9 +163,11 @@ fn add_answer(wanted: &mut Vec<u8>, line: &str) -> Result<(), AllocError> {
     let Some(counted) = line.strip_prefix("= ") else {
         return add_line(wanted, line);
     };
-    let (count, text) = first_word(counted);
+    let (count, texts) = first_word(counted);
     for _ in 0..number(count) {
-        add_line(wanted, text)?;
+        for line in texts.split(BETWEEN) {
+            add_line(wanted, line)?;
+        }
     }
     Ok(())
 }
