@@ -1,0 +1,82 @@
+//! A writer and a shelf that log their calls in one text, in the order in which they come.
+ghost use Rattle.std.specs.Prelude.{◌≡◌, IfErr};
+
+use s2shelf::{Shelf, ShelfFault};
+use std::cell::RefCell;
+use std::io;
+use std::io::{Empty, ErrorKind, Write};
+
+/// A writer that logs the bytes that it takes, and a bar for each flush.
+#[derive(Drop)]
+pub struct LoggedWriter<'a> {
+    pub log: &'a RefCell<Vec<u8>>,
+}
+
+impl Write for LoggedWriter<'_> {
+    fn write(&mut self, buf: &[u8]) -> io::Result<usize> {
+        match self.log.try_borrow_mut() {
+            Ok(mut log) => {
+                log.extend_from_slice(buf)?;
+                Ok(buf.len())
+            }
+            Err(_) => Err(io::Error::from(ErrorKind::ResourceBusy)),
+        }
+    }
+
+    fn flush(&mut self) -> io::Result<()> {
+        self.write(b"|")?;
+        Ok(())
+    }
+}
+
+/// A shelf that logs its calls. It has no files, and keeps none.
+#[derive(Drop)]
+pub struct LoggedShelf<'a> {
+    pub log: &'a RefCell<Vec<u8>>,
+    /// How many failures were counted.
+    pub failures: u64,
+}
+
+impl LoggedShelf<'_> {
+    /// Logs a call.
+    fn note(&self, call: &str, name: &str) -> Result<(), ShelfFault>
+        ensures { IfErr result (λ fault. fault ≡ ShelfFault.Memory) }
+    {
+        match self.log.try_borrow_mut() {
+            Ok(mut log) => {
+                log.extend_from_slice(call.as_bytes())?;
+                log.extend_from_slice(name.as_bytes())?;
+                log.extend_from_slice(b"\n")?;
+                Ok(())
+            }
+            Err(_) => Err(ShelfFault::Memory),
+        }
+    }
+}
+
+impl Shelf for LoggedShelf<'_> {
+    ghost use Rattle.std.specs.Prelude.{None, false};
+
+    ghost files = { λ shelf. record { tells = false; at = λ _. None; found = None; failures = shelf.failures } };
+
+    type Opened = Empty;
+
+    fn open(&mut self, name: &str) -> Result<Option<Empty>, ShelfFault> {
+        self.note("OPEN ", name)?;
+        Ok(None)
+    }
+
+    fn count_failure(&mut self) {
+        self.failures = self.failures.wrapping_add(1);
+    }
+
+    fn get_beginning(&mut self, name: &str, _most: usize) -> Result<Option<Vec<u8>>, ShelfFault> {
+        self.note("GET ", name)?;
+        Ok(None)
+    }
+
+    fn put(&mut self, name: &str, _bytes: &[u8]) -> Result<(), ShelfFault> {
+        self.note("PUT ", name)?;
+        Ok(())
+    }
+}

@@ -1,0 +1,51 @@
+//! A reader that cuts its bytes into pieces, and may fail.
+ghost use Rattle.std.specs.Prelude.{◌≡◌, ◌<◌, Some};
+
+use std::io;
+use std::io::{ErrorKind, Read};
+
+/// Gives its bytes in pieces of one size, and may fail at one call.
+#[derive(Drop)]
+pub struct Pieces<'a> {
+    rest: &'a [u8],
+    size: usize,
+    calls: u64,
+    fails_at: u64,
+    ghost takes_some: { 0 < size },
+}
+
+impl<'a> Pieces<'a> {
+    /// A reader of these bytes, with a number of bytes per call, at least one. The call with the given number fails; 0 is
+    /// none.
+    pub fn of(bytes: &'a [u8], size: usize, fails_at: u64) -> Pieces<'a>
+        ensures { result.rest.now ≡ bytes.now }
+    {
+        Pieces {
+            rest: bytes,
+            size: size.max(1),
+            calls: 0,
+            fails_at,
+        }
+    }
+
+    /// How many times it was called.
+    pub fn calls(&self) -> u64 {
+        self.calls
+    }
+}
+
+impl Read for Pieces<'_> {
+    ghost remaining = { λ p. Some p.rest.now };
+
+    /// Fails as a call that was interrupted, which may be tried again in other places.
+    fn read(&mut self, buf: &mut [u8]) -> io::Result<usize> {
+        self.calls = self.calls.saturating_add(1);
+        if self.fails_at == self.calls {
+            return Err(io::Error::from(ErrorKind::Interrupted));
+        }
+        let count = self.rest.len().min(buf.len()).min(self.size);
+        buf[..count].copy_from_slice(&self.rest[..count]);
+        self.rest = &self.rest[count..];
+        Ok(count)
+    }
+}
