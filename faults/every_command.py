@@ -10,7 +10,7 @@ sys.path.insert(0, os.path.join(TOP, "peer"))
 import model
 
 PROGRAM = os.path.join(TOP, "crates/calculator/out/calculator")
-LIMIT, DEPTH = 10_000, 100
+LIMIT, DEPTH = 10_000, 3  # the oldest states are dropped
 WRITERS, READERS = ("save", "dump"), ("load", "restore")
 EDITS = ("add", "remove", "keep", "clear", "copy", "union", "intersect", "subtract", "range")
 EDITS += ("outer", "inner", "outerof", "innerof")
@@ -45,6 +45,9 @@ def every_command():
 # for a failing call.
 LINES = every_command()
 
+# A line that is refused, whose bytes its note shows with four characters each.
+ESCAPED = b"add a " + b"\xff" * (model.LONGEST_LINE - 6)
+
 # The files that the script finds: one with the identifiers of 0c, 04 and 04, and one of another version.
 FILES = {"f": b"\x01" + struct.pack("<4Q", 3, 0x0C << 56, 0x04 << 56, 0x04 << 56), "w": b"\x02" + bytes(8)}
 
@@ -72,13 +75,15 @@ def files_of(folder):
 
 
 class Way:
-    """What the lines so far may have done: the model, where the next answer begins, and how many lines failed.
+    """What the lines so far may have done: the model, how many lines there were, the notes on refused ones, where the
+    next answer begins, and how many lines failed.
 
     `begun` has the bytes that a failed write of a file may have left a beginning of, by the name of the file.
     """
 
     def __init__(self):
         self.model, self.at, self.failed, self.begun = model.Calculator(LIMIT, DEPTH, dict(FILES)), 0, 0, {}
+        self.lines, self.notes = 0, b""
 
     def copy(self):
         other = copy.copy(self)
@@ -89,30 +94,43 @@ class Way:
     def carry_out(self, line):
         """The answer to the line if nothing fails."""
         try:
-            return "".join(answer + "\n" for answer in self.model.answer(line)).encode()
+            answers = "".join(answer + "\n" for answer in self.model.answer(line)).encode()
         except model.Refused as refusal:
-            return f"error {refusal}\n".encode()
+            return self.refuse(refusal)
+        self.lines += 1
+        return answers
+
+    def refuse(self, refusal):
+        """The answer to a line that is refused."""
+        self.lines += 1
+        self.notes += f"line {self.lines}: error {refusal}: {refusal.reason}\n".encode()
+        return f"error {refusal}\n".encode()
+
+    def refused(self, name, reason=None):
+        """The answer to a line that is refused and changes nothing, with the way that it leads."""
+        other = self.copy()
+        return other.refuse(model.Refused(name, reason)), other
 
     def failures(self, line, memory, disk):
         """The other answers that the line may have if memory or the disk fails, each with the way that it leads."""
         command = line.split()[0].decode() if line.split() else ""
         if memory and command in EDITS + READERS:
-            yield b"error memory\n", self.copy()
+            yield self.refused("memory", "out of memory")
         if disk and command in READERS:
-            yield b"error file\n", self.copy()
-            yield b"error missing\n", self.copy()
+            yield self.refused("file")
+            yield self.refused("missing")
         if command in WRITERS:
-            yield b"error memory\n", self.copy()
+            yield self.refused("memory", "out of memory")
         if disk and command in WRITERS:
             name = line.split()[-1].decode()
             done = self.copy()
             if done.carry_out(line) == b"ok\n":
                 made = done.model.files[name]
                 for left in (None, b"", made[:1], made):
-                    way = self.copy()
+                    answer, way = self.refused("file")
                     if left is not None:
                         way.model.files[name], way.begun[name] = left, made
-                    yield b"error file\n", way
+                    yield answer, way
 
     def leaves(self, files):
         """Whether these may be the files that are left."""
@@ -138,12 +156,18 @@ def without_failures():
 STEPS, ANSWERS = without_failures()
 
 
-def ways_through(count, answers, may_fail, memory=True, disk=True):
-    """The ways in which the first lines may have had these answers, with at most `may_fail` lines that failed, since
-    memory or the disk did."""
-    same = max(n for n in range(count + 1) if answers.startswith(ANSWERS[: STEPS[n].at]))
+def lines_answered(size):
+    """How many lines have their whole answer among the first bytes of the answers, with lines that have no answer."""
+    return max(count for count, step in enumerate(STEPS) if step.at <= size)
+
+
+def ways_through(lines, answers, may_fail, memory=True, disk=True):
+    """The ways in which these lines may have had these answers, with at most `may_fail` lines that failed, since memory
+    or the disk did."""
+    common = len(os.path.commonprefix([lines, LINES]))
+    same = max(n for n in range(common + 1) if answers.startswith(ANSWERS[: STEPS[n].at]))
     ways = [STEPS[same].copy()]
-    for line in LINES[same:count]:
+    for line in lines[same:]:
         after = []
         for way in ways:
             others = way.failures(line, memory, disk) if way.failed < may_fail else ()

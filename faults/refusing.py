@@ -1,14 +1,17 @@
 """Runs of the script with every command in which some calls of the program fail: refuse.c, which the loader puts in
-front of the C library, makes them fail."""
+front of the C library, makes them fail. The same run over a shelf in memory is a row of crates/script_rows."""
 import collections
 import os
 import subprocess
 import sys
 import tempfile
 
-from every_command import LINES, PROGRAM, STEPS, TOP, arguments, files_of, fill
+from every_command import DEPTH, FILES, LIMIT, LINES, PROGRAM, STEPS, TOP, arguments, files_of, fill
 
+ROWS = os.path.join(TOP, "crates/script_rows/out/script_rows")
 SCRIPT = b"".join(line + b"\n" for line in LINES)
+TITLE = "Every command."
+NAMES = sorted({name for step in STEPS for name in step.model.files})
 Call = collections.namedtuple("Call", "kind file answer")
 
 
@@ -32,18 +35,42 @@ class Refusing:
         """A run in which the calls fail that REFUSED in refuse.c names. `piece` is the most bytes of a read of the
         script and of a write of answers, if it isn't 0. If `swapped` is a path, each file becomes a link to it."""
         with tempfile.TemporaryDirectory(dir=self.room) as place:
-            folder, log = os.path.join(place, "folder"), os.path.join(place, "calls")
+            folder = os.path.join(place, "folder")
             fill(folder)
-            how = {"LD_PRELOAD": self.library, "REFUSED": refused, "PIECE": str(piece or sys.maxsize)}
-            how.update({"CALLS": log} if has_calls else {})
-            how.update({"SWAPPED": swapped} if swapped else {})
             words = [*arguments(folder), *options]
-            done = subprocess.run(words, input=script, capture_output=True, timeout=60, env=how, preexec_fn=before)
-            calls = []
-            if has_calls:
-                with open(log, encoding="ascii") as it:
-                    calls = [Call(kind, int(file), int(answer)) for kind, file, answer in map(str.split, it)]
+            done, calls = self.started(words, script, refused, piece, before, has_calls, swapped)
             return Ended(done.returncode, done.stdout, done.stderr, files_of(folder), calls)
+
+    def run_in_memory(self, refused="", has_calls=True):
+        """The same for a run over a shelf in memory, by script_rows. It is told as a run that ends with 3 and
+        `s2calc: memory` if `run` answers so, or if there is no memory for the row or the editor."""
+        done, calls = self.started([ROWS], row(), refused, has_calls=has_calls)
+        answers, is_begun, rest = done.stdout.partition(f"other answers: {TITLE}\n".encode())
+        if not is_begun and done.returncode == 1:
+            return Ended(3, answers, b"s2calc: memory\n", FILES, calls)
+        end, *contents = rest.decode().split("\n")[: 1 + len(NAMES)]
+        files = {name: bytes.fromhex(text) for name, text in zip(NAMES, contents) if text != "no file"}
+        status, error = (3, b"s2calc: memory\n") if end == "memory" else (int(not end.endswith(" 0")), b"")
+        return Ended(status or done.returncode, answers, error, files, calls)
+
+    def started(self, words, script, refused, piece=0, before=None, has_calls=True, swapped=""):
+        """How a program ended in which the calls fail that REFUSED in refuse.c names, and its calls."""
+        with tempfile.NamedTemporaryFile(dir=self.room, mode="r", encoding="ascii") as log:
+            how = {"LD_PRELOAD": self.library, "REFUSED": refused, "PIECE": str(piece or sys.maxsize)}
+            how.update({"CALLS": log.name} if has_calls else {})
+            how.update({"SWAPPED": swapped} if swapped else {})
+            done = subprocess.run(words, input=script, capture_output=True, timeout=60, env=how, preexec_fn=before)
+            calls = [Call(kind, int(file), int(answer)) for kind, file, answer in map(str.split, log)]
+            return done, calls
+
+
+def row():
+    """A row for script_rows with the script, the files, and calls for how the run ended and for each file."""
+    options = [f"$ limit {LIMIT}", f"$ depth {DEPTH}", "$ shown 1"]
+    files = [f"@ {name} {content.hex()}" for name, content in FILES.items()]
+    lines = ["> " + line.decode().replace("\r", "\\r") for line in LINES]
+    calls = ["? ended", *(f"? file {name}" for name in NAMES)]
+    return "\n".join([f"## {TITLE}", *options, *files, *lines, *calls, ""]).encode()
 
 
 def lines_in(size):
@@ -51,13 +78,8 @@ def lines_in(size):
     return SCRIPT[:size].count(b"\n")
 
 
-def lines_answered(size):
-    """How many lines have their whole answer among the first bytes of the answers, with lines that have no answer."""
-    return max(count for count, step in enumerate(STEPS) if step.at <= size)
-
-
-def has_program(name):
-    """Stops if there is no program."""
-    if not os.path.exists(PROGRAM):
-        raise SystemExit(f"{name}: the program is not built; tools/prove proves and builds it")
+def has_program(name, program=PROGRAM, built_by="tools/prove"):
+    """Stops if a program is not there."""
+    if not os.path.exists(program):
+        raise SystemExit(f"{name}: {os.path.basename(program)} is not built; {built_by} proves and builds it")
 

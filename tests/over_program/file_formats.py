@@ -17,20 +17,6 @@ TWO_CELLS = b"\x01" + cells("04", "0c")
 # Face 0 in register a, which came there in one change, and an undone change from it to three of its children.
 MOVED_ON = session({"a": ["1"]}, [change("a", [], ["1"])], [change("a", ["1"], THREE)])
 
-NO_UNIONS = {
-    "nothing": b"",
-    "another version": b"\x02",
-    "another version and a count": b"\x02" + number(0),
-    "a count of seven bytes": b"\x01" + bytes(7),
-    "2^64 - 1 cells": b"\x01" + number(2**64 - 1),
-    "1,000,001 cells": b"\x01" + number(MOST_IN_A_FILE + 1),
-    "a cell of seven bytes": (b"\x01" + cells("1"))[:-1],
-    "a byte after the last cell": b"\x01" + cells("1") + b"\0",
-    "zero is no cell": b"\x01" + cells("0"),
-    "a bit at an odd place is no cell": b"\x01" + cells("2"),
-    "there is no face 6": b"\x01" + cells("d"),
-}
-
 NO_SESSIONS = {
     "nothing": b"",
     "half of the head": b"\x73",
@@ -126,7 +112,6 @@ class FileFormats(unittest.TestCase):
         return self.compare(texts, session_again, "restore", "dump", b"error session")
 
     def test_refused_bytes(self):
-        self.assertEqual(self.compare_unions(list(NO_UNIONS.values())), {})
         self.assertEqual(self.compare_sessions(list(NO_SESSIONS.values())), {})
 
     def test_every_beginning(self):

@@ -1,4 +1,4 @@
-"""Union files that are accepted, refused, absent or too long, and files that may not be touched."""
+"""Union files that are absent or too long, and files that may not be touched."""
 import array
 import os
 import shutil
@@ -7,30 +7,9 @@ import tempfile
 import unittest
 
 from process import FACE, PROGRAM, ran
-from sessions import cells, number
+from sessions import number
 
 NOBODY = 65534
-
-
-def union_file(*tokens):
-    return b"\x01" + cells(*tokens)
-
-
-# Accepted files: what `load` answers for a register with one cell, the cells that the register then has, and what
-# `check` answers.
-ACCEPTED = [
-    (union_file(), "ok 1 0", "", "cells 0 leaves 0"),
-    (union_file("1"), "ok 1 1", "1\n", "cells 1 leaves 1152921504606846976"),
-    (union_file("0c", "04", "04"), "ok 1 2", "04\n0c\n", "cells 2 leaves 576460752303423488"),
-    (union_file("1c", "14", "0c", "04"), "ok 1 1", "1\n", "cells 1 leaves 1152921504606846976"),
-]
-
-# Cut off, of another version, with too great a count, with a byte after the last identifier, or with a number that is
-# not an identifier.
-REFUSED = [
-    b"", b"\x02", b"\x02" + cells(), union_file()[:-1], b"\x01" + number(2**64 - 1), b"\x01" + number(1000001),
-    union_file("1")[:-1], union_file("1") + b"\0", union_file("0"), union_file("2"), union_file("d"),
-]
 
 
 class UnionFiles(unittest.TestCase):
@@ -51,34 +30,6 @@ class UnionFiles(unittest.TestCase):
     def checks(self, name, answer):
         status = int(answer.startswith("error "))
         self.assertEqual(ran("check", "--dir", self.folder, name), (status, answer.encode() + b"\n", b""))
-
-    def test_saved_in_normal_form(self):
-        self.write("f", union_file("0c", "04", "04"))
-        self.answers("load a f\nsave a g\nload b g\nshow b\n", "ok 0 2\nok\nok 0 2\n04\n0c\nend\n")
-        with open(self.path("g"), "rb") as it:
-            self.assertEqual(it.read(), union_file("04", "0c"))
-
-    def test_accepted(self):
-        for content, loaded, shown, checked in ACCEPTED:
-            with self.subTest(content=content):
-                self.write("f", content)
-                # And `undo` brings the cell 3 back.
-                _, before, after = loaded.split()
-                answers = f"ok 0 1\n{loaded}\n{shown}end\nundo 2 redo 0\nok {after} {before}\n3\nend\n"
-                self.answers("add a 3\nload a f\nshow a\nhistory\nundo\nshow a\n", answers)
-                self.checks("f", checked)
-
-    def test_refused(self):
-        for content in REFUSED:
-            with self.subTest(content=content):
-                self.write("f", content)
-                # Registers, past and future are as before.
-                self.answers(
-                    "add a 3\nadd b 5\nundo\nload a f\nload b f\nshow a\nshow b\nhistory\nredo\nshow b\n",
-                    "ok 0 1\nok 0 1\nok 1 0\nerror format\nerror format\n3\nend\nend\nundo 1 redo 1\n"
-                    "ok 0 1\n5\nend\n",
-                )
-                self.checks("f", "error format")
 
     def test_absent_misnamed_and_not_a_file(self):
         os.mkdir(self.path("folder"))

@@ -1,4 +1,4 @@
-"""Undo and redo at the greatest depth, and at exactly the limit of a register."""
+"""Undo and redo at the greatest depth, and edits that leave the history as it is."""
 import unittest
 
 from model import REGISTERS
@@ -6,16 +6,7 @@ from process import ran
 
 
 class Histories(unittest.TestCase):
-    """Undo and redo at the greatest depth, and at exactly the limit of a register."""
-
-    def test_ten_thousand_changes(self):
-        changes = b"add z 1\nclear z\n" * 5000
-        script = changes + b"undo\n" * 10001 + b"redo\n" * 10001 + b"history\n"
-        status, out, error = ran("run", "--depth", "10000", script=script)
-        there = back = b"ok 0 1\nok 1 0\n" * 5000
-        nothing = b"error nothing\n"
-        self.assertEqual((status, error), (1, b""))
-        self.assertEqual(out, there + back + nothing + there + nothing + b"undo 10000 redo 0\n")
+    """Undo and redo at the greatest depth, and edits that leave the history as it is."""
 
     def test_ten_thousand_changes_of_registers_in_turn(self):
         registers = len(REGISTERS)
@@ -33,12 +24,6 @@ class Histories(unittest.TestCase):
         redone = first + later + b"error nothing\n"
         self.assertEqual((status, error), (1, b""))
         self.assertEqual(out, first + later + shown + undone + redone + shown + b"ok 1 1\nundo 10000 redo 0\n")
-
-    def test_lists_of_exactly_the_limit_come_back(self):
-        adds = b"add a 04\nadd a 24\nadd a 44\nadd a 64\nadd a 84\n"
-        out = ran("run", "--limit", "4", script=adds + b"undo\nundo\nredo\nredo\nshow a\n")[1]
-        answers = b"ok 0 1\n" * 4 + b"error too-many\n" + b"ok 1 0\n" * 2 + b"ok 0 1\n" * 2
-        self.assertEqual(out, answers + b"04\n24\n44\n64\nend\n")
 
     def test_only_an_edit_with_effect_touches_the_history(self):
         rows = [

@@ -1,49 +1,127 @@
-"""Worked scripts and their answers, whole and in pieces; long lines; and a long listing."""
+"""The worked rows of crates/script_rows, over the program: their scripts, the files before and after them, and the
+other commands. crates/row_table and crates/script_rows say what the lines of a row mean."""
 import os
 import re
+import tempfile
 import unittest
 
-from process import ran, ran_in_pieces
+from process import TOP, first_line, ran
 
-WORKED = os.path.join(os.path.dirname(os.path.realpath(__file__)), "scripts.txt")
+TABLE = os.path.join(TOP, "crates/script_rows/stdin")
 
 
-def worked():
-    """The title, the options, the script and the answers of each worked script."""
-    with open(WORKED, encoding="utf-8") as it:
-        parts = re.split(r"^## ", it.read(), flags=re.M)[1:]
-    for part in parts:
-        title, *lines = part.rstrip("\n").split("\n")
-        options = [word for line in lines if line[:2] == "$ " for word in line[2:].split()]
-        script = "".join(line[2:] + "\n" for line in lines if line[:2] == "> ").replace("\\r", "\r")
-        answers = "".join(line + "\n" for line in lines if line[:2] not in ("> ", "$ "))
-        yield title, options, script.encode(), answers.encode()
+def text_of(word):
+    """A text of a row, in which `\\r` at the end is a carriage return."""
+    return (word[:-2] + "\r" if word.endswith("\\r") else word).encode()
+
+
+def bytes_of(digits):
+    """The bytes of words of hexadecimal digits, in which DIGITS*N stands for its bytes N times."""
+    words = (word.partition("*")[::2] for word in digits.split())
+    return b"".join(bytes.fromhex(digits) * int(count or 1) for digits, count in words)
+
+
+def script_lines(kind, text):
+    """What a line of a row adds to the script."""
+    if kind == "*":
+        count, _, texts = text.partition(" ")
+        return b"".join(text_of(line) + b"\n" for line in texts.split(" ; ")) * int(count)
+    if kind == "^":
+        first, count, last = (b"" if word == "-" else text_of(word) for word in text.split(" "))
+        return first + b"x" * int(count) + last + b"\n"
+    return text_of(text) + (b"" if kind == "<" else b"\n")
+
+
+def answer_lines(line):
+    """What a line of a row adds to the answers."""
+    if line.startswith("= "):
+        count, _, texts = line[2:].partition(" ")
+        return "".join(text + "\n" for text in texts.split(" ; ")).encode() * int(count)
+    return line.encode() + b"\n"
+
+
+class Row:
+    """A row of the table: its title, options, files and script, the answers to it, and its calls with theirs."""
+
+    def __init__(self, text):
+        self.title, *lines = text.rstrip("\n").split("\n")
+        self.options, self.files, self.script, self.answers, self.calls = {}, {}, b"", b"", []
+        for line in lines:
+            kind, _, rest = line.partition(" ")
+            if kind == "$":
+                name, number = rest.split(" ")
+                self.options[name] = int(number)
+            elif kind == "@":
+                name, _, digits = rest.partition(" ")
+                self.files[name] = bytes_of(digits)
+            elif kind in (">", "<", "*", "^"):
+                self.script += script_lines(kind, rest)
+            elif kind == "?":
+                self.calls.append((*rest.partition(" ")[::2], []))
+            elif kind != "#" and line and self.calls:
+                self.calls[-1][2].append(line)
+            elif kind != "#" and line:
+                self.answers += answer_lines(line)
+
+    def has_failures(self):
+        """Whether a stream or the shelf fails in the row's run. The program has no way to make them fail."""
+        return bool(self.options.keys() & {"reader", "shelf"})
+
+    def words(self):
+        """The options of the program for the row's run."""
+        return [f"--{name}={self.options[name]}" for name in ("limit", "depth") if name in self.options]
+
+    def has(self, answers):
+        """Whether these are the row's answers, or for a row that has only the last of them, their number and those."""
+        count = self.options.get("last")
+        if count is None:
+            return answers == self.answers
+        lines = answers.splitlines(True)
+        return b"%d\n" % len(lines) + b"".join(lines[-count:]) == self.answers
+
+
+def rows():
+    """The rows of the table."""
+    with open(TABLE, encoding="utf-8") as it:
+        return [Row(part) for part in re.split(r"^## ", it.read(), flags=re.M)[1:]]
 
 
 class Scripts(unittest.TestCase):
     def test_each_has_its_answers(self):
-        for title, options, script, answers in worked():
-            with self.subTest(title):
-                status = int(b"error " in answers)
-                self.assertEqual(ran("run", *options, script=script), (status, answers, b""))
-                for size in (1, 7):
-                    self.assertEqual(ran_in_pieces(script, size, *options), (status, answers, b""))
-        self.assertEqual(len(list(worked())), 41)
+        for row in rows():
+            if not row.has_failures():
+                with self.subTest(row.title), tempfile.TemporaryDirectory() as folder:
+                    self.answer(row, folder)
 
-    def test_long_lines(self):
-        script = b"".join((
-            b"#" * 4096, b"\n", b"#" * 4097, b"\n", b"x" * 4095, b"\r\n", b"x" * 4096, b"\r\n", b"x" * 4097, b"\n",
-            b"cell 1\r",
-        ))
-        answers = b"error line\nerror syntax\nerror line\nerror line\n"
-        answers += b"cell 1 0/ level 0 face 0 leaves 0 1152921504606846975\n"
-        for size in (97, 4096, len(script)):
-            self.assertEqual(ran_in_pieces(script, size), (1, answers, b""))
+    def answer(self, row, folder):
+        for name, content in row.files.items():
+            with open(os.path.join(folder, name), "wb") as it:
+                it.write(content)
+        status, answers, error = ran("run", "--dir", folder, *row.words(), script=row.script)
+        self.assertTrue(row.has(answers), answers[-1000:])
+        self.assertEqual((status, error), (int(b"error " in answers), b""))
+        for name, words, wanted in row.calls:
+            self.call(name, words, wanted, status, folder)
 
-    def test_a_long_listing(self):
-        status, answers, error = ran("run", script=b"add a 1\ndenorm a 9 1\ndenorm a 10 1\n")
-        lines = answers.split(b"\n")
-        self.assertEqual((status, error), (1, b""))
-        self.assertEqual((lines[0], lines[-3:]), (b"ok 0 1", [b"end", b"error too-many", b""]))
-        self.assertEqual(len(lines), 4**9 + 4)
-        self.assertEqual((lines[1], lines[-4]), (b"000004", b"1ffffc"))
+    def call(self, name, words, wanted, status, folder):
+        """Makes a call of a row, if the program has it."""
+        if name == "status":
+            self.assertEqual([str(status)], wanted)
+        elif name == "file":
+            name, _, digits = words.partition(" ")
+            with open(os.path.join(folder, name), "rb") as it:
+                self.assertEqual((it.read(), ["same"]), (bytes_of(digits), wanted))
+        elif name in ("cell", "check"):
+            options = [] if name == "cell" else ["--dir", folder]
+            status, out, error = ran(name, *options, words)
+            self.assertEqual((out.decode(), error), (wanted[0] + "\n", b""))
+            self.assertEqual(status, {"true": 0, "false": 1}[wanted[1]])
+        elif name == "job" and " " in wanted[0] and wanted[0].split()[0] in ("help", "usage"):
+            status, _, error = ran(*words.split())
+            reason, number = wanted[0].split()
+            self.assertEqual((status, first_line(error)), (int(number), b"s2calc: usage" if reason == "usage" else b""))
+
+    def test_rows_are_those_that_the_table_is_said_to_have(self):
+        with open(os.path.join(os.path.dirname(TABLE), "stdout"), encoding="utf-8") as it:
+            self.assertEqual(it.read(), f"{len(rows())} rows have their answers\n")
+        self.assertEqual(len({row.title for row in rows()}), len(rows()))

@@ -69,39 +69,10 @@ class Sessions(unittest.TestCase):
         with open(os.path.join(self.folder, "s"), "rb") as it:
             return it.read()
 
-    def test_an_untouched_editor_as_its_bytes(self):
-        text = self.dumped(b"", b"ok\nundo 0 redo 0\n")
-        self.assertEqual((text, len(text)), (b"\x73\x01" + bytes(224), 226))
-
-    def test_a_change_as_its_bytes(self):
-        text = self.dumped(b"add a 1\n", b"ok 0 1\nok\nundo 1 redo 0\n")
-        self.assertEqual((text, len(text)), (session({"a": ["1"]}, [change("a", [], ["1"])]), 259))
-
-    def test_the_example_as_its_bytes(self):
-        text = self.dumped(b"add a 1\nremove a 04\nundo\n", b"ok 0 1\nok 1 3\nok 3 1\nok\nundo 1 redo 1\n")
-        self.assertEqual((text, len(text)), (EXAMPLE, 308))
-
-    def test_undo_and_redo_go_on_in_another_run(self):
-        self.write("s", EXAMPLE)
-        answers = self.answers(b"restore s\nhistory\nredo\nshow a\nundo\nundo\nundo\n")
-        self.assertEqual(answers, b"ok\nundo 1 redo 1\nok 1 3\n0c\n14\n1c\nend\nok 3 1\nok 1 0\nerror nothing\n")
-        # What was there before is gone, and an edit drops the future.
-        answers = self.answers(b"add b 5\nrestore s\nshow b\nadd b 7\nredo\nhistory\nundo\nundo\nundo\n")
-        wanted = b"ok 0 1\nok\nend\nok 0 1\nerror nothing\nundo 2 redo 0\nok 1 0\nok 1 0\nerror nothing\n"
-        self.assertEqual(answers, wanted)
-
     def test_what_was_restored_is_dumped_alike(self):
         self.write("e", EXAMPLE)
         text = self.dumped(b"restore e\n", b"ok\nok\nundo 1 redo 1\n", "--limit", "3", "--depth", "2")
         self.assertEqual(text, EXAMPLE)
-
-    def test_depth_and_limit_are_kept_to(self):
-        self.write("s", EXAMPLE)
-        # The depth is checked first.
-        for words, name in ((["--depth", "1"], b"too-deep"), (["--limit", "2"], b"too-many"),
-                            (["--limit", "2", "--depth", "1"], b"too-deep")):
-            answers = b"ok 0 1\nerror " + name + b"\n3\nend\nundo 1 redo 0\n"
-            self.assertEqual(self.answers(b"add a 3\nrestore s\nshow a\nhistory\n", *words), answers)
 
     def test_texts_of_another_form(self):
         for text in (EXAMPLE[:-1], EXAMPLE + b"\0", b"", b"\x73\x01", b"\x01" + number(1)):
@@ -119,11 +90,6 @@ class Sessions(unittest.TestCase):
         answers = b"ok 0 1\n" + b"".join(b"error %s\n" % name for name in refused.values())
         self.assertEqual(self.answers(script), answers + b"3\nend\nundo 1 redo 0\n")
         self.assertEqual(os.listdir(self.folder), ["folder"])
-
-    def test_a_union_file_is_a_session_of_one_register(self):
-        self.write("s", b"\x01" + cells("0c", "04", "04"))
-        answers = self.answers(b"add b 5\nrestore s\nshow a\nshow b\nhistory\n")
-        self.assertEqual(answers, b"ok 0 1\nok\n04\n0c\nend\nend\nundo 0 redo 0\n")
 
     def test_a_list_on_the_way_exceeds_the_limit(self):
         three = ["04", "24", "44"]

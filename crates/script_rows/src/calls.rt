@@ -146,7 +146,7 @@ fn add_file(
     found: &mut Vec<u8>,
 ) -> Result<(), AllocError> {
     let (name, digits) = rest.split_once(" ").unwrap_or((rest, ""));
-    match shelf.get(alloc, name) {
+    match shelf.get(name) {
         Ok(Some(bytes)) if bytes.as_slice() == bytes_of(alloc, digits)?.as_slice() => {
             add_line(found, "same")
         }

@@ -99,19 +99,14 @@ pub fn run_over(
 fn files_of(alloc: Global, shelf: &mut MemoryShelf) -> Result<Vec<u8>, AllocError> {
     let mut files = Vec::new(alloc);
     for name in NAMES {
-        add_file(alloc, shelf, name, &mut files)?;
+        add_file(shelf, name, &mut files)?;
     }
     Ok(files)
 }
 
 /// Adds the name of a file and its bytes, if it is there.
-fn add_file(
-    alloc: Global,
-    shelf: &mut MemoryShelf,
-    name: &str,
-    files: &mut Vec<u8>,
-) -> Result<(), AllocError> {
-    match shelf.get(alloc, name) {
+fn add_file(shelf: &mut MemoryShelf, name: &str, files: &mut Vec<u8>) -> Result<(), AllocError> {
+    match shelf.get(name) {
         Ok(Some(bytes)) => {
             files.extend_from_slice(name.as_bytes())?;
             files.push(b' ')?;

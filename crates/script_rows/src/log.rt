@@ -2,6 +2,7 @@
 ghost use Rattle.std.specs.Prelude.{◌≡◌, IfErr};
 
 use s2shelf::{Shelf, ShelfFault};
+use std::alloc::Global;
 use std::cell::RefCell;
 use std::io;
 use std::io::{Empty, ErrorKind, Write};
@@ -32,6 +33,7 @@ impl Write for LoggedWriter<'_> {
 /// A shelf that logs its calls. It has no files, and keeps none.
 #[derive(Drop)]
 pub struct LoggedShelf<'a> {
+    pub alloc: Global,
     pub log: &'a RefCell<Vec<u8>>,
     /// How many failures were counted.
     pub failures: u64,
@@ -60,6 +62,10 @@ impl Shelf for LoggedShelf<'_> {
     ghost files = { λ shelf. record { tells = false; at = λ _. None; found = None; failures = shelf.failures } };
 
     type Opened = Empty;
+
+    fn alloc(&self) -> Global {
+        self.alloc
+    }
 
     fn open(&mut self, name: &str) -> Result<Option<Empty>, ShelfFault> {
         self.note("OPEN ", name)?;

@@ -35,7 +35,11 @@ fn log_run(
     let mut editor = editor_of(alloc, lines)?;
     let mut reader = script.as_slice();
     let mut writer = AnswerBuffer::new(alloc, LoggedWriter { log })?;
-    let mut shelf = LoggedShelf { log, failures: 0 };
+    let mut shelf = LoggedShelf {
+        alloc,
+        log,
+        failures: 0,
+    };
     let _ = match flushing {
         Flushing::Promptly => {
             run_promptly(alloc, &mut editor, &mut reader, &mut writer, &mut shelf)

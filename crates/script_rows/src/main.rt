@@ -1,8 +1,8 @@
-//! Worked rows on `run` and on the other calls of `s2calc`: each row of standard input has a script and calls, and the
-//! answers that they must have. Each script is run over a reader that gives pieces of one size, a writer in memory and a
-//! shelf in memory. Prints the title and the answers found of each row with other answers, and how many have theirs.
+//! Worked rows on `run` and on the other calls of `s2calc`. Standard input is a table (`row_table`), whose rows have a
+//! script, calls, and the answers that both must have. Each script is run over a reader that gives pieces of one size,
+//! a writer in memory and a shelf in memory. Prints the title of each row with other answers, and how many have theirs.
 //!
-//! Besides what each table has (see `row_table`), a row here may have these options and calls:
+//! Rows here may have these options and calls:
 //!
 //! | Line | What it is |
 //! |---|---|
@@ -11,19 +11,24 @@
 //! | `$ reader 1` | the read after the script's last byte fails |
 //! | `$ shelf N` | the N-th call of the shelf fails |
 //! | `$ last N` | of the answers to the script only their number and the last N stand in the row |
-//! | `$ shown 1` | the answers to the script go to standard output, each as it is made |
-//! | `? status`, `? ended` | the exit status, and how the run ended, with the lines answered and refused |
+//! | `$ shown 1` | the answers to the script go to standard output, each when it is made |
+//! | `? status`, `? ended` | the exit status; how the run ended, with the numbers of lines answered and refused |
 //! | `? file NAME HEX` | `same` if the file has these bytes, or the bytes that it has |
-//! | `? cell WORD`, `? check NAME` | the program's other answers, and what the call told |
-//! | `? log`, `? log promptly` | what a run of the script writes, `|` for each flush, and its calls of a shelf without files |
-//! | `? job WORDS` | what words of the command line ask for, or why for nothing, with the exit status |
+//! | `? cell WORD`, `? check NAME` | the program's other answers, and what the call returned |
+//! | `? job WORDS` | what words of the command line ask for, or why they ask for nothing, with the exit status |
 //! | `? without CELL CELL` | how many cells the first cell has without the leaves of the second |
+//! | `? log`, `? log promptly` | what a run writes, `|` for each flush, and how it calls a shelf without files |
 //! | `? reads SIZE` | each read of SIZE bytes fails in turn |
 //! | `? writes SIZE`, `? takes SIZE` | each write of SIZE bytes and the flush fail in turn, or take nothing |
 //! | `? shelf` | each call of the shelf fails in turn |
 //!
-//! The last three answer how many runs failed, or `wrong` if one of them did not leave what it must. After the size they
-//! may have `promptly` (a run over an `AnswerBuffer`, whose writer below fails); writes also `cell WORD`, `check NAME`.
+//! The last three answer how many runs failed, or `wrong` if one of them did not leave what it must. After the size may
+//! stand `promptly`, for a run over an `AnswerBuffer` whose writer below fails; or, for writes, `cell WORD` or
+//! `check NAME`.
+//!
+//! Modules: `row` has a row answered, `calls` its calls. `failing_runs` and `failing_answers` make each call of a stream
+//! or the shelf fail in turn, over `pieces` (a reader) and `narrow` (a writer), and compare what is `left`. `logged`
+//! makes a log of a run, over the writer and the shelf of `log`. `example` is the example of README.md.
 #![tactic(auto)]
 
 mod calls;

@@ -15,8 +15,8 @@ pub struct Pieces<'a> {
 }
 
 impl<'a> Pieces<'a> {
-    /// A reader of these bytes, with a number of bytes per call, at least one. The call with the given number fails; 0 is
-    /// none.
+    /// A reader of these bytes, with a number of bytes per call, at least one. The call with the given number fails; 0
+    /// is none.
     pub fn of(bytes: &'a [u8], size: usize, fails_at: u64) -> Pieces<'a>
         ensures { result.rest.now ≡ bytes.now }
     {
