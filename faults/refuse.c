@@ -89,7 +89,9 @@ int statx(int folder, const char *restrict path, int flags, unsigned mask, struc
 
 int close(int file) { return is_refused(CLOSE, file) ? -1 : (int)told(syscall(SYS_close, file)); }
 
-off_t lseek(int file, off_t by, int from) { return is_refused(LSEEK, file) ? -1 : told(syscall(SYS_lseek, file, by, from)); }
+off_t lseek(int file, off_t by, int from) {
+  return is_refused(LSEEK, file) ? -1 : told(syscall(SYS_lseek, file, by, from));
+}
 
 __attribute__((destructor)) static void tell(void) {
   const char *name = getenv("CALLS");

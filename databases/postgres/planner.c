@@ -247,8 +247,8 @@ static Sample* sample_of(PlannerInfo* root, Node* node, int relation, Oid functi
 }
 
 /* The part of all pairs for which a question holds. It is asked about all of the values if one of the arguments is a
- * constant, and else about as many pairs, of which those of a value with itself, in one column, say nothing. If it holds
- * for none, there may still be some. */
+ * constant, and else about as many pairs, of which those of a value with itself, in one column, say nothing. If it
+ * holds for none, there may still be some. */
 static const double DEFAULT = 0.001, LEAST = 0.0001;
 
 static double part_of(question* ask, const Sample* x, const Sample* y) {

@@ -262,13 +262,16 @@ COMMENT ON FUNCTION s2_is_union(bytea) IS 'whether bytes are the union file of a
 COMMENT ON FUNCTION s2_count(s2union) IS 'how many cells';
 COMMENT ON FUNCTION s2_leaves(s2union) IS 'how many leaves';
 COMMENT ON FUNCTION s2_cells(s2union) IS 'the cells';
-COMMENT ON FUNCTION s2_cells(s2union, integer, integer) IS 'the cells, each cut to a level that is at least this one, and this one plus a multiple of the modulus';
+COMMENT ON FUNCTION s2_cells(s2union, integer, integer)
+  IS 'the cells, each cut to a level that is at least this one, and this one plus a multiple of the modulus';
 COMMENT ON FUNCTION s2_tokens(s2union) IS 'the cells as tokens separated by blanks';
 COMMENT ON FUNCTION s2_ancestors(s2union) IS 'the cells and all their ancestors, each once';
 COMMENT ON FUNCTION s2_outer(s2union, integer) IS 'the cells of a level that share a leaf with a union, as a union';
 COMMENT ON FUNCTION s2_inner(s2union, integer) IS 'the cells of a level that lie in a union, as a union';
-COMMENT ON FUNCTION s2_outer(integer, integer, integer, integer, integer, integer) IS 'the cells of a level that share a leaf with a rectangle of leaves on a face, as a union';
-COMMENT ON FUNCTION s2_inner(integer, integer, integer, integer, integer, integer) IS 'the cells of a level that lie in a rectangle of leaves on a face, as a union';
+COMMENT ON FUNCTION s2_outer(integer, integer, integer, integer, integer, integer)
+  IS 'the cells of a level that share a leaf with a rectangle of leaves on a face, as a union';
+COMMENT ON FUNCTION s2_inner(integer, integer, integer, integer, integer, integer)
+  IS 'the cells of a level that lie in a rectangle of leaves on a face, as a union';
 COMMENT ON FUNCTION s2_range(bigint, bigint) IS 'all leaves from the first of one cell to the last of another';
 COMMENT ON FUNCTION s2_leaf(integer, integer, integer) IS 'the leaf at a place of a face';
 COMMENT ON FUNCTION s2_cell(text) IS 'the cell of a token or of a debug text';
@@ -307,8 +310,10 @@ COMMENT ON FUNCTION s2union_recv(internal) IS 'I/O';
 COMMENT ON FUNCTION s2union_send(s2union) IS 'I/O';
 COMMENT ON FUNCTION s2union_typanalyze(internal) IS 'what ANALYZE keeps of unions';
 COMMENT ON FUNCTION s2union_support(internal) IS 'planner support for unions';
-COMMENT ON FUNCTION s2union_sel(internal, oid, internal, integer) IS 'restriction selectivity of questions about unions';
-COMMENT ON FUNCTION s2union_joinsel(internal, oid, internal, smallint, internal) IS 'join selectivity of questions about unions';
+COMMENT ON FUNCTION s2union_sel(internal, oid, internal, integer)
+  IS 'restriction selectivity of questions about unions';
+COMMENT ON FUNCTION s2union_joinsel(internal, oid, internal, smallint, internal)
+  IS 'join selectivity of questions about unions';
 COMMENT ON FUNCTION s2union_eq(s2union, s2union) IS 'implementation of = operator';
 COMMENT ON FUNCTION s2union_ne(s2union, s2union) IS 'implementation of <> operator';
 COMMENT ON FUNCTION s2union_lt(s2union, s2union) IS 'implementation of < operator';
@@ -325,8 +330,10 @@ COMMENT ON FUNCTION s2union_agg_serialise(internal) IS 'aggregate serial functio
 COMMENT ON FUNCTION s2union_agg_deserialise(bytea, internal) IS 'aggregate deserial function';
 COMMENT ON FUNCTION s2union_agg_final(internal) IS 'aggregate final function';
 COMMENT ON FUNCTION s2union_gin_value(s2union, internal) IS 'GIN support';
-COMMENT ON FUNCTION s2union_gin_query(s2union, internal, smallint, internal, internal, internal, internal) IS 'GIN support';
-COMMENT ON FUNCTION s2union_gin_consistent(internal, smallint, s2union, integer, internal, internal, internal) IS 'GIN support';
+COMMENT ON FUNCTION s2union_gin_query(s2union, internal, smallint, internal, internal, internal, internal)
+  IS 'GIN support';
+COMMENT ON FUNCTION s2union_gin_consistent(internal, smallint, s2union, integer, internal, internal, internal)
+  IS 'GIN support';
 COMMENT ON FUNCTION s2union_gin_partial(bigint, bigint, smallint, internal) IS 'GIN support';
 COMMENT ON FUNCTION s2union_gist_compress(internal) IS 'GiST support';
 COMMENT ON FUNCTION s2union_gist_consistent(internal, s2union, smallint, oid, internal) IS 'GiST support';

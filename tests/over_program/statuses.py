@@ -23,8 +23,8 @@ class Statuses(unittest.TestCase):
 
     def test_usage(self):
         said = {
-            b"invalid value": ["run --limit 1000001", "run --limit 12345678901234567890123", "run --limit x", "run --limit=",
-                               "run --depth 0"],
+            b"invalid value": ["run --limit 1000001", "run --limit 12345678901234567890123", "run --limit x",
+                               "run --limit=", "run --depth 0"],
             b"a value is required": ["run --limit", "run --dir", "run --dir=", "check --dir", "draw --cells"],
             b"cannot be used": ["run --limit 5 --limit 5", "draw f --cells 1", "draw --cells 1 -- f",
                                 "draw --dir d --cells 1"],
