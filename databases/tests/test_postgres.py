@@ -1072,18 +1072,20 @@ class Guarded(Tests):
 
     def test_what_is_kept_does_not_grow(self):
         """Values that come again, that change in each row, and that change in every other row."""
-        for other in ("y.part", "CASE WHEN k % 2 < 1 THEN y.part ELSE x.part END",
-                      "CASE WHEN k % 4 < 2 THEN y.part ELSE x.part END"):
-            for call in ("x.part && {}", "x.part @> {}", "s2_intersects({}, s2_cell('04'))"):
-                (grown,) = psql(f"""
-                    SELECT max(used) - min(used) FROM (
-                        SELECT CASE WHEN k IN (20, 9000) THEN (SELECT sum((m).used_bytes) FROM (
-                            SELECT pg_get_backend_memory_contexts() AS m WHERE k > 0) n) END AS used
-                        FROM generate_series(1, 9000) AS k, parts x, parts y
-                        WHERE x.id = 6 AND y.id = 7 AND {call.format(f"CASE WHEN k > 0 THEN {other} END")} IS NOT NULL
-                    ) u
-                """)
-                self.assertLess(int(grown), 100000, (call, other))
+        others = ("y.part", "CASE WHEN k % 2 < 1 THEN y.part ELSE x.part END",
+                  "CASE WHEN k % 4 < 2 THEN y.part ELSE x.part END")
+        calls = [call.format(f"CASE WHEN k > 0 THEN {other} END") for other in others
+                 for call in ("x.part && {}", "x.part @> {}", "s2_intersects({}, s2_cell('04'))")]
+        said = psql("".join(f"""
+            SELECT max(used) - min(used) FROM (
+                SELECT CASE WHEN k IN (20, 3000) THEN (SELECT sum((m).used_bytes) FROM (
+                    SELECT pg_get_backend_memory_contexts() AS m WHERE k > 0) n) END AS used
+                FROM generate_series(1, 3000) AS k, parts x, parts y
+                WHERE x.id = 6 AND y.id = 7 AND {call} IS NOT NULL
+            ) u;
+        """ for call in calls))
+        for call, grown in zip(calls, said, strict=True):
+            self.assertLess(int(grown), 100000, call)
 
     def test_limits_of_a_value(self):
         """Ten cells, or 87 bytes of text: 1 GB is more than a test should take."""
@@ -1122,13 +1124,12 @@ class Guarded(Tests):
     def test_a_question_has_at_most_256_keys(self):
         """Those of its outer covering at the finest level at which they are so few. The questions are n leaves of two
         diagonals, close together or far apart."""
+        leaves = "SELECT s2_union_agg(s2_leaf(k % 2, {0} * k, {0} * k)) FROM generate_series(1, {1}) AS k"
+        rows = [leaves.format(apart, n) for apart in (1, 3, 1000, 100000) for n in (5, 9, 10, 50, 200, 256, 257, 2000)]
         pairs = []
-        for apart in (1, 3, 1000, 100000):
-            for n in (5, 9, 10, 50, 200, 256, 257, 2000):
-                leaf = f"s2_leaf(k % 2, {apart} * k, {apart} * k)"
-                rows = f"SELECT s2_union_agg({leaf}) FROM generate_series(1, {n}) AS k"
-                cells = [int(cell) % 2**64 for cell in psql(f"SELECT unnest(s2_cells(({rows})))")]
-                pairs += [(f"s2_keys(({rows}), {strategy})", self.keys(cells, strategy)) for strategy in (1, 3)]
+        for row, said in zip(rows, psql("".join(f"SELECT array_to_string(s2_cells(({row})), ' ');\n" for row in rows))):
+            cells = [int(cell) % 2**64 for cell in said.split()]
+            pairs += [(f"s2_keys(({row}), {strategy})", self.keys(cells, strategy)) for strategy in (1, 3)]
         self.all_are(pairs)
 
     def keys(self, cells, strategy):
