@@ -12,6 +12,8 @@ use s2cell::CellId;
 use s2shelf::{MemoryShelf, Shelf};
 use std::alloc::{AllocError, Global};
 
+const DIGITS: &[u8; 16] = b"0123456789abcdef";
+
 /// Makes a call, and adds its answer.
 pub fn make(
     alloc: Global,
@@ -150,17 +152,17 @@ fn add_file(
         Ok(Some(bytes)) if bytes.as_slice() == bytes_of(alloc, digits)?.as_slice() => {
             add_line(found, "same")
         }
-        Ok(Some(bytes)) => add_digits(alloc, &bytes, found),
+        Ok(Some(bytes)) => add_digits(&bytes, found),
         Ok(None) => add_line(found, "no file"),
         Err(_) => add_line(found, "fault"),
     }
 }
 
 /// Adds bytes as hexadecimal digits.
-fn add_digits(alloc: Global, bytes: &[u8], found: &mut Vec<u8>) -> Result<(), AllocError> {
+fn add_digits(bytes: &[u8], found: &mut Vec<u8>) -> Result<(), AllocError> {
     for byte in bytes {
-        let digits = format!(in alloc; "{byte:02x}")?;
-        found.extend_from_slice(digits.as_bytes())?;
+        found.push(DIGITS[usize::from(byte / 16)])?;
+        found.push(DIGITS[usize::from(byte % 16)])?;
     }
     add_line(found, "")
 }
