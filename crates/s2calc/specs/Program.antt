@@ -1,5 +1,6 @@
 -- What the program's own calls answer.
-use Rattle.std.specs.Prelude.{◌≡◌, ◌≢◌, ◌⊎◌, ◌≤◌, ℕ, zero, suc, Bool, true, false, not, List, Option, None, Some, Result, Ok, Err, MatchResult}
+use Rattle.std.specs.Prelude.{◌≡◌, ◌≢◌, ◌⊎◌, ◌≤◌, ℕ, zero, suc, Bool, true, false, not, List, Option, None, Some}
+use Rattle.std.specs.Prelude.{Result, Ok, Err, MatchResult}
 use Rattle.std.specs.Io.KnownBytes.{Appends}
 use Rattle.s2script.specs.declared.refusal.Refusal.TheVariants.{Cell as NoCell}
 use Rattle.s2calc.specs.declared.refusal.Refusal.TheVariants.{Words}

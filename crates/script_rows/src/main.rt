@@ -26,9 +26,9 @@
 //! stand `promptly`, for a run over an `AnswerBuffer` whose writer below fails; or, for writes, `cell WORD` or
 //! `check NAME`.
 //!
-//! Modules: `row` has a row answered, `calls` its calls. `failing_runs` and `failing_answers` make each call of a stream
-//! or the shelf fail in turn, over `pieces` (a reader) and `narrow` (a writer), and compare what is `left`. `logged`
-//! makes a log of a run, over the writer and the shelf of `log`. `example` is the example of README.md.
+//! Modules: `row` has a row answered, `calls` its calls. `failing_runs` and `failing_answers` make each call of a
+//! stream or the shelf fail in turn, over `pieces` (a reader) and `narrow` (a writer), and compare what is `left`.
+//! `logged` makes a log of a run, over the writer and the shelf of `log`. `example` is the example of README.md.
 #![tactic(auto)]
 
 mod calls;
