@@ -1,8 +1,10 @@
 mod Asking
 mod Finding
 mod Holders
+mod Looking
 mod Reaching
 mod Numbers
 mod Packing
 mod Reading
 mod Running
+mod Walking

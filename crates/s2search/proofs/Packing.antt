@@ -1,9 +1,14 @@
 -- What makes a list of numbers a union, cell by cell.
-use Rattle.std.proofs.Common.{◌≡◌, ℕ, ◌+◌, ◌-◌, ◌<◌, ◌≤◌, ◌∙◌, ap, arith, List, [], ◌∷◌, ◌++◌}
-use Rattle.std.proofs.Common.{length, get_or, take, All}
+use Rattle.std.proofs.Common.{◌≡◌, ℕ, ◌+◌, ◌-◌, ◌*◌, ◌^◌, ◌<◌, ◌≤◌, refl, ◌∙◌, ap, arith, List, [], ◌∷◌, ◌++◌}
+use Rattle.std.proofs.Common.{length, get_or, take, All, bit_xor}
+use Rattle.std.specs.Int.Bits.{xor_self, xor_zero_l}
+use Rattle.std.proofs.lemmas.Nat.{pow_pos, xor_block}
 use Rattle.std.proofs.lemmas.Option.{gets}
 use Rattle.std.proofs.lemmas.List.{take_more, get_or-take, length-take-le}
-use Rattle.s2cell.specs.Cell.{IsCell}
+use Rattle.s2cell.specs.Cell.{IsCell, level_of, place_of, child_of}
+use Rattle.s2cell.proofs.Calls.{IsCell-child_of, IsCellAt-child_of}
+use Rattle.s2cell.proofs.CellLemmas.{cell_leaves}
+use Rattle.s2cell.proofs.Lowest.{four_pow}
 use Rattle.s2union.specs.Packed.{EndsBefore, IsFamily, IsPacked}
 use Rattle.s2union.proofs.Checking.{fits}
 
@@ -59,6 +64,54 @@ cell_from u k h packed =
     let len : length (take (k + 1) u) ≡ k + 1 = length-take-le (k + 1) u (omega arith) in
     let b : get_or (take (k + 1) u) k 0 ≡ get_or u k 0 = get_or-take (k + 1) u k 0 (omega arith) in
     rw b at (packed.cells k 0 (omega arith))
+
+-- and so is the one before it
+pub cell_before : (u : List ℕ) (k : ℕ) → k ≤ length u → 0 < k → IsPacked (take k u) → IsCell (get_or u (k - 1) 0)
+cell_before u k h some packed =
+    let len : length (take k u) ≡ k = length-take-le k u h in
+    let b : get_or (take k u) (k - 1) 0 ≡ get_or u (k - 1) 0 = get_or-take k u (k - 1) 0 (omega arith) in
+    rw b at (packed.cells (k - 1) 0 (omega arith))
+
+-- no cell has the identifier 0
+pub no_cell : IsCell 0 → ⊥
+no_cell own =
+    let l = cell_leaves 0 own in
+    let m = l.middle in
+    let s = l.some in
+    absurd (omega arith)
+
+pub no_family_from_zero : (a b c d p : ℕ) → a ≡ 0 → IsFamily a b c d p → ⊥
+no_family_from_zero a b c d p e f = no_cell (rw e at (IsCell-child_of p 0 a f.cell f.inner (omega arith) f.zero))
+
+-- the exclusive-or of the first three of four children is the fourth
+pub family_xor : (a b c d p : ℕ) → IsFamily a b c d p → bit_xor (bit_xor a b) c ≡ d
+family_xor a b c d p f =
+    let m = place_of p in
+    let z = 30 - (level_of p + 1) in
+    let s = 2 ^ (2 * z) in
+    let w : 4 ^ z ≡ s = four_pow z in
+    let eight : 2 ^ 3 ≡ 8 = refl in
+    let ia : child_of p 0 ≡ (2 * (4 * m + 0) + 1) * s = rw w at (IsCellAt-child_of p 0 f.cell f.inner (omega arith)).id in
+    let ib : child_of p 1 ≡ (2 * (4 * m + 1) + 1) * s = rw w at (IsCellAt-child_of p 1 f.cell f.inner (omega arith)).id in
+    let ic : child_of p 2 ≡ (2 * (4 * m + 2) + 1) * s = rw w at (IsCellAt-child_of p 2 f.cell f.inner (omega arith)).id in
+    let id : child_of p 3 ≡ (2 * (4 * m + 3) + 1) * s = rw w at (IsCellAt-child_of p 3 f.cell f.inner (omega arith)).id in
+    let za = f.zero in
+    let zb = f.one in
+    let zc = f.two in
+    let zd = f.three in
+    let ea : a ≡ (m * 2 ^ 3 + 1) * s + 0 = omega arith in
+    let eb : b ≡ (m * 2 ^ 3 + 3) * s + 0 = omega arith in
+    let ec : c ≡ (m * 2 ^ 3 + 5) * s + 0 = omega arith in
+    let ed : d ≡ (m * 2 ^ 3 + 7) * s + 0 = omega arith in
+    let two : bit_xor (m * 2 ^ 3 + 1) (m * 2 ^ 3 + 3) ≡ 0 * 2 ^ 3 + 2 =
+    xor_block 3 m m 1 3 (omega arith) (omega arith) ∙ ap (λ x. x * 2 ^ 3 + 2) (xor_self m) in
+    let three : bit_xor (0 * 2 ^ 3 + 2) (m * 2 ^ 3 + 5) ≡ m * 2 ^ 3 + 7 =
+    xor_block 3 0 m 2 5 (omega arith) (omega arith) ∙ ap (λ x. x * 2 ^ 3 + 7) (xor_zero_l m) in
+    let ab : bit_xor a b ≡ (0 * 2 ^ 3 + 2) * s + 0 =
+    rw (ea, eb) (xor_block (2 * z) (m * 2 ^ 3 + 1) (m * 2 ^ 3 + 3) 0 0 (pow_pos (2 * z)) (pow_pos (2 * z))
+    ∙ ap (λ x. x * s + 0) two) in
+    rw (ab, ec, ed) (xor_block (2 * z) (0 * 2 ^ 3 + 2) (m * 2 ^ 3 + 5) 0 0 (pow_pos (2 * z)) (pow_pos (2 * z))
+    ∙ ap (λ x. x * s + 0) three)
 
 -- and no four in a row are the children of a cell
 pub no_family : (u : List ℕ) (k p : ℕ) → k < length u → IsPacked (take (k + 1) u) → 3 ≤ k

@@ -2,3 +2,4 @@ pub mod Numbers
 pub mod Search
 pub mod Ancestors
 pub mod Normalising
+pub mod Looks

@@ -1,11 +1,11 @@
-//! Whether cells, wherever they lie in memory, have the leaves of a cell or of other cells.
+//! Whether cells, wherever they lie in memory, have the leaves of a cell.
 ghost use Rattle.std.specs.Prelude.{◌<◌, ◌↔◌, IsTrue, All, length, slice_index};
 ghost use Rattle.s2cell.specs.Cell.{IsCell, IsInside, covers, first_leaf};
 ghost use Rattle.s2union.specs.Union.{IsLocal, IsWithin, ShareSome, has_leaf};
 ghost use Rattle.s2union.specs.Packed.{IsPlace};
 
 use crate::cells::Cells;
-use crate::find::{find, find_from, find_near};
+use crate::find::{find, find_near};
 use s2cell::CellId;
 
 /// Whether a union has all leaves of the cell. Logarithmic.
@@ -23,7 +23,7 @@ pub fn intersects_cell<C: Cells>(cells: &C, cell: CellId) -> bool
 }
 
 /// How many cells of a union end by the first leaf of the cell: its place. It is found quickly if it is `near`, or at
-/// most `LAST_STEP` places after it. Any `near` will do. Logarithmic.
+/// most `NEARBY` places after it. Any `near` will do. Logarithmic.
 pub fn place_near<C: Cells>(cells: &C, near: usize, cell: CellId) -> usize
     ensures { IsLocal (C.ids cells.now) → IsPlace (C.ids cells.now) (first_leaf cell) result }
 {
@@ -46,44 +46,6 @@ pub fn intersects_cell_at<C: Cells>(cells: &C, at: usize, cell: CellId) -> bool
         → (IsTrue result ↔ ShareSome (covers cell) (has_leaf (C.ids cells.now))) }
 {
     begins_at(cells, at, cell.end_leaf())
-}
-
-/// Whether a union has all leaves of another. Goes through the cells of the part, and looks for each from the place of
-/// the one before, in steps that double.
-pub fn contains<X: Cells, Y: Cells>(whole: &X, part: &Y) -> bool
-    ensures { IsLocal (X.ids whole.now) → IsLocal (Y.ids part.now)
-        → (IsTrue result ↔ IsWithin (has_leaf (Y.ids part.now)) (has_leaf (X.ids whole.now))) }
-{
-    let mut at = 0;
-    for k in 0..part.len() {
-        let Some(cell) = CellId::from_id(part.id(k)) else {
-            return false;
-        };
-        at = find_from(whole, at, cell.first_leaf());
-        if !holds_at(whole, at, cell) {
-            return false;
-        }
-    }
-    true
-}
-
-/// Whether two unions share a leaf. Goes through the cells of `ys`, and looks for each from the place of the one
-/// before, in steps that double. It is faster if `ys` is the shorter list.
-pub fn intersects<X: Cells, Y: Cells>(xs: &X, ys: &Y) -> bool
-    ensures { IsLocal (X.ids xs.now) → IsLocal (Y.ids ys.now)
-        → (IsTrue result ↔ ShareSome (has_leaf (X.ids xs.now)) (has_leaf (Y.ids ys.now))) }
-{
-    let mut at = 0;
-    for k in 0..ys.len() {
-        let Some(cell) = CellId::from_id(ys.id(k)) else {
-            return false;
-        };
-        at = find_from(xs, at, cell.first_leaf());
-        if begins_at(xs, at, cell.end_leaf()) {
-            return true;
-        }
-    }
-    false
 }
 
 /// Whether there is a number at the place `at`, and its cell contains the cell.

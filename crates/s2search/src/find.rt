@@ -1,47 +1,70 @@
 //! The place of a leaf among cells in order.
-ghost use Rattle.std.specs.Prelude.{◌≡◌, ◌+◌, ◌<◌, ◌≤◌, ◌↔◌, IsTrue, length, slice_index};
+ghost use Rattle.std.specs.Prelude.{◌≡◌, ◌+◌, ◌-◌, ◌*◌, ◌^◌, ◌<◌, ◌≤◌, ◌↔◌, ℕ, IsTrue, min, length};
 ghost use Rattle.s2cell.specs.Cell.{IsCell, first_leaf, size_of};
-ghost use Rattle.s2union.specs.Packed.{IsPacked, FirstEndBy};
+ghost use Rattle.s2union.specs.Packed.{EndsAfter, FirstEndBy, IsPacked};
 ghost use Rattle.s2search.specs.Search.{IsFrom};
 
 use crate::cells::Cells;
+use crate::looks::{Count, Uncounted, look};
 
-/// The longest of the steps that double. A place farther away is looked for among all cells that are left.
-pub const LAST_STEP: usize = 15;
+/// How far after a place that is thought to be near a search goes on from there. One farther away is looked for among
+/// all cells.
+pub const NEARBY: usize = 15;
 
 /// How many cells end by the leaf `lo`; these come first.
 pub(crate) fn find<C: Cells>(cells: &C, lo: u64) -> usize
     ensures within { result ≤ length (C.ids cells.now) }
     ensures ended { IsPacked (C.ids cells.now) → FirstEndBy (C.ids cells.now) result lo }
-    ensures next { IsPacked (C.ids cells.now) → result < length (C.ids cells.now)
-        → lo < first_leaf (slice_index (C.ids cells.now) result) + size_of (slice_index (C.ids cells.now) result) }
+    ensures next { IsPacked (C.ids cells.now) → EndsAfter (C.ids cells.now) result lo }
 {
     find_between(cells, 0, cells.len(), lo)
 }
 
-/// The same, if the first `start` cells are known to end by the leaf. Begins with steps that double, so it finds a
-/// place close by soon.
+/// The same, if the first `start` cells are known to end by the leaf. Logarithmic in how many more do.
 #[inline(always)]
 pub(crate) fn find_from<C: Cells>(cells: &C, start: usize, lo: u64) -> usize
     requires { start ≤ length (C.ids cells.now) }
+    ensures from { start ≤ result }
     ensures within { result ≤ length (C.ids cells.now) }
     ensures ended { IsPacked (C.ids cells.now) → FirstEndBy (C.ids cells.now) start lo
         → FirstEndBy (C.ids cells.now) result lo }
     ensures next { IsPacked (C.ids cells.now) → FirstEndBy (C.ids cells.now) start lo
-        → result < length (C.ids cells.now)
-        → lo < first_leaf (slice_index (C.ids cells.now) result) + size_of (slice_index (C.ids cells.now) result) }
+        → EndsAfter (C.ids cells.now) result lo }
+{
+    find_from_counted(cells, start, lo, &mut Uncounted)
+}
+
+/// The same, counted. Leaps ahead, each leap as long as all before it, and then searches what the last leap passed
+/// over.
+#[inline(always)]
+pub(crate) fn find_from_counted<C: Cells, K: Count>(
+    cells: &C,
+    start: usize,
+    lo: u64,
+    count: &mut K,
+) -> usize
+    requires { start ≤ length (C.ids cells.now) }
+    ensures from { start ≤ result }
+    ensures within { result ≤ length (C.ids cells.now) }
+    ensures ended { IsPacked (C.ids cells.now) → FirstEndBy (C.ids cells.now) start lo
+        → FirstEndBy (C.ids cells.now) result lo }
+    ensures next { IsPacked (C.ids cells.now) → FirstEndBy (C.ids cells.now) start lo
+        → EndsAfter (C.ids cells.now) result lo }
+    ensures looks { (k : ℕ) → result - start < 2 ^ k → K.looks count.new ≤ K.looks count.old + 2 * k + 1 }
+    ensures least { min (K.looks count.old) K.most ≤ K.looks count.new }
+    ensures some { start < length (C.ids cells.now) → min (K.looks count.old + 1) K.most ≤ K.looks count.new }
 {
     let len = cells.len();
     let mut base = start;
-    let mut step = 0usize;
-    while step <= LAST_STEP && step < len - base {
-        if !ends_by(cells.id(base + step), lo) {
-            return find_between(cells, base, base + step, lo);
+    let mut leap = 1;
+    while leap <= len - base {
+        if !ends_by(look(cells, base + (leap - 1), count), lo) {
+            return narrow(cells, base, base + (leap - 1), lo, count);
         }
-        base += step + 1;
-        step = step.saturating_mul(2).saturating_add(1);
+        base += leap;
+        leap = base - start;
     }
-    find_between(cells, base, len, lo)
+    narrow(cells, base, len, lo, count)
 }
 
 /// The same, if that place is known to be one from `start` to `end`.
@@ -52,14 +75,35 @@ pub(crate) fn find_between<C: Cells>(cells: &C, start: usize, end: usize, lo: u6
     ensures ended { IsPacked (C.ids cells.now) → IsFrom (C.ids cells.now) lo start end
         → FirstEndBy (C.ids cells.now) result lo }
     ensures next { IsPacked (C.ids cells.now) → IsFrom (C.ids cells.now) lo start end
-        → result < length (C.ids cells.now)
-        → lo < first_leaf (slice_index (C.ids cells.now) result) + size_of (slice_index (C.ids cells.now) result) }
+        → EndsAfter (C.ids cells.now) result lo }
+{
+    narrow(cells, start, end, lo, &mut Uncounted)
+}
+
+/// The same, counted. Each look halves what is left.
+fn narrow<C: Cells, K: Count>(
+    cells: &C,
+    start: usize,
+    end: usize,
+    lo: u64,
+    count: &mut K,
+) -> usize
+    requires order { start ≤ end }
+    requires within { end ≤ length (C.ids cells.now) }
+    ensures from { start ≤ result }
+    ensures to { result ≤ end }
+    ensures ended { IsPacked (C.ids cells.now) → IsFrom (C.ids cells.now) lo start end
+        → FirstEndBy (C.ids cells.now) result lo }
+    ensures next { IsPacked (C.ids cells.now) → IsFrom (C.ids cells.now) lo start end
+        → EndsAfter (C.ids cells.now) result lo }
+    ensures looks { (k : ℕ) → end - start < 2 ^ k → K.looks count.new ≤ K.looks count.old + k }
+    ensures least { min (K.looks count.old) K.most ≤ K.looks count.new }
 {
     let mut first = start;
     let mut last = end;
     while first < last {
         let middle = first + (last - first) / 2;
-        if ends_by(cells.id(middle), lo) {
+        if ends_by(look(cells, middle, count), lo) {
             first = middle + 1;
         } else {
             last = middle;
@@ -73,15 +117,14 @@ pub(crate) fn find_between<C: Cells>(cells: &C, start: usize, end: usize, lo: u6
 pub(crate) fn find_near<C: Cells>(cells: &C, near: usize, lo: u64) -> usize
     ensures within { result ≤ length (C.ids cells.now) }
     ensures ended { IsPacked (C.ids cells.now) → FirstEndBy (C.ids cells.now) result lo }
-    ensures next { IsPacked (C.ids cells.now) → result < length (C.ids cells.now)
-        → lo < first_leaf (slice_index (C.ids cells.now) result) + size_of (slice_index (C.ids cells.now) result) }
+    ensures next { IsPacked (C.ids cells.now) → EndsAfter (C.ids cells.now) result lo }
 {
     let len = cells.len();
     let at = near.min(len);
     if at > 0 && !ends_by(cells.id(at - 1), lo) {
         return find(cells, lo);
     }
-    if len - at > LAST_STEP && ends_by(cells.id(at + LAST_STEP), lo) {
+    if len - at > NEARBY && ends_by(cells.id(at + NEARBY), lo) {
         return find(cells, lo);
     }
     find_from(cells, at, lo)
@@ -97,8 +140,17 @@ fn ends_by(id: u64, lo: u64) -> bool
 
 /// The number after that of the last leaf of the cell with this identifier. Doesn't check that a cell has it.
 #[inline(always)]
-fn end_of(id: u64) -> u64
-    ensures { IsCell id → result ≡ first_leaf id + size_of id }
+pub(crate) fn end_of(id: u64) -> u64
+    ensures cell { IsCell id → result ≡ first_leaf id + size_of id }
+    ensures none { id ≡ 0 → result ≡ 0 }
 {
     id.wrapping_add(id & id.wrapping_neg()) / 2
+}
+
+/// The number of the first leaf of the cell with this identifier. Doesn't check that a cell has it.
+#[inline(always)]
+pub(crate) fn first_of(id: u64) -> u64
+    ensures { IsCell id → result ≡ first_leaf id }
+{
+    id.wrapping_sub(id & id.wrapping_neg()) / 2
 }

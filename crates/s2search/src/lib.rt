@@ -13,19 +13,21 @@ mod find;
 mod four;
 mod keys;
 pub mod laws;
+mod looks;
 mod normalising;
 mod run;
+mod walk;
 mod whole;
 
 pub use ask::{
-    contains, contains_cell, contains_cell_at, intersects, intersects_cell, intersects_cell_at,
-    place_near,
+    contains_cell, contains_cell_at, intersects_cell, intersects_cell_at, place_near,
 };
 pub use cells::{Cells, FileIds, IdList, cell_of, number};
 pub use copying::union_of;
-pub use find::LAST_STEP;
+pub use find::NEARBY;
 pub use four::{Places, places_of_four};
 pub use keys::ancestors;
 pub use normalising::normalise;
 pub use run::cells_at;
+pub use walk::{contains, contains_counted, intersects, intersects_counted};
 pub use whole::{first_wrong, is_union, leaf_count};

@@ -1,43 +1,51 @@
 //! Questions about all numbers: whether they are a union, and how many leaves they have.
-ghost use Rattle.std.specs.Prelude.{◌≡◌, ◌+◌, ◌-◌, ◌*◌, ◌^◌, ◌<◌, ◌≤◌, ◌↔◌, ℕ, IsTrue, All};
-ghost use Rattle.std.specs.Prelude.{MatchOption, length};
-ghost use Rattle.std.specs.Prelude.{slice_index, take};
+ghost use Rattle.std.specs.Prelude.{◌≡◌, ◌+◌, ◌<◌, ◌≤◌, ◌↔◌, ◌⊎◌, ℕ, IsTrue, All};
+ghost use Rattle.std.specs.Prelude.{MatchOption};
 ghost use Rattle.s2cell.specs.Cell.{IsCell, level_of, size_of};
 ghost use Rattle.s2union.specs.Union.{IsLocal, has_leaf};
-ghost use Rattle.s2union.specs.Packed.{EndsBefore, IsFamily, IsPacked};
+ghost use Rattle.s2union.specs.Packed.{EndsBefore, IsFamily};
 ghost use Rattle.s2union.specs.Count.{count_below};
 ghost use Rattle.s2search.specs.Search.{IsFirstWrong};
 
 use crate::cells::Cells;
+use crate::find::end_of;
 use s2cell::{CellId, GREATEST_LEVEL, LEAVES};
 
 /// Whether the numbers are the cells of a union: they ascend, no two share a leaf, and no four are the children of one
-/// cell. Linear.
+/// cell. Linear; reads each number once.
 pub fn is_union<C: Cells>(cells: &C) -> bool
     ensures { IsTrue result ↔ IsLocal (C.ids cells.now) }
 {
+    // 0 is the identifier of no cell, and stands for each of the last three that isn't there.
+    let mut a = 0;
+    let mut b = 0;
+    let mut c = 0;
     for k in 0..cells.len() {
-        if !fits_at(cells, k) {
+        let d = cells.id(k);
+        if !continues(a, b, c, d) {
             return false;
         }
+        a = b;
+        b = c;
+        c = d;
     }
     true
 }
 
-/// Whether the number at the place `k` continues a union: it is the identifier of a cell that comes after the one
-/// before it, and doesn't complete four children of one cell.
-fn fits_at<C: Cells>(cells: &C, k: usize) -> bool
-    requires within { k < length (C.ids cells.now) }
-    requires packed { IsPacked (take k (C.ids cells.now)) }
-    ensures { IsTrue result ↔ IsPacked (take (k + 1) (C.ids cells.now)) }
+/// Whether the number `d` continues a union whose last three cells are `a`, `b` and `c`: it is the identifier of a cell
+/// that comes after `c`, and doesn't complete four children of one cell.
+#[inline(always)]
+fn continues(a: u64, b: u64, c: u64, d: u64) -> bool
+    requires { (c ≡ 0) ⊎ IsCell c }
+    ensures { IsTrue result ↔ (IsCell d × (IsCell c → EndsBefore c d) × ((p : ℕ) → IsFamily a b c d p → ⊥)) }
 {
-    let Some(cell) = CellId::from_id(cells.id(k)) else {
+    let Some(cell) = CellId::from_id(d) else {
         return false;
     };
-    if !follows_at(cells, k, cell) {
+    if cell.first_leaf() < end_of(c) {
         return false;
     }
-    if ends_family_at(cells, k, cell) {
+    if ends_family(a, b, c, cell) {
         return false;
     }
     true
@@ -49,56 +57,27 @@ pub fn leaf_count<C: Cells>(cells: &C) -> u64
 {
     let mut total = 0u64;
     for k in 0..cells.len() {
-        let leaves = leaves_of(cells.id(k));
-        if total > u64::MAX - leaves {
-            return u64::MAX;
-        }
-        total += leaves;
+        total = total.wrapping_add(leaves_of(cells.id(k)));
     }
     total
 }
 
-/// How many leaves the cell with this identifier has.
+/// How many leaves the cell with this identifier has. Doesn't check that a cell has it.
+#[inline(always)]
 fn leaves_of(id: u64) -> u64
     ensures { IsCell id → result ≡ size_of id }
 {
-    match CellId::from_id(id) {
-        Some(cell) => cell.leaf_count(),
-        None => 0,
-    }
+    id & id.wrapping_neg()
 }
 
-/// Whether a cell comes after the one at the place `k - 1`, if there is one.
-fn follows_at<C: Cells>(cells: &C, k: usize, cell: CellId) -> bool
-    requires within { k < length (C.ids cells.now) }
-    requires cells { All IsCell (take k (C.ids cells.now)) }
-    ensures { IsTrue result ↔ (0 < k → EndsBefore (slice_index (C.ids cells.now) (k - 1)) cell) }
-{
-    if k == 0 {
-        return true;
-    }
-    match CellId::from_id(cells.id(k - 1)) {
-        Some(before) => before.end_leaf() <= cell.first_leaf(),
-        None => false,
-    }
-}
-
-/// Whether a cell and the three before the place `k` are the children of one cell.
-fn ends_family_at<C: Cells>(cells: &C, k: usize, cell: CellId) -> bool
-    requires { k < length (C.ids cells.now) }
-    ensures { IsTrue result ↔ (3 ≤ k × (p : ℕ)
-        × IsFamily (slice_index (C.ids cells.now) (k - 3)) (slice_index (C.ids cells.now) (k - 2))
-        (slice_index (C.ids cells.now) (k - 1)) cell p) }
-{
-    k >= 3 && ends_family(cells.id(k - 3), cells.id(k - 2), cells.id(k - 1), cell)
-}
-
-/// Whether a cell is the last of four children, and the other three are those before it. Checks the distance of the
-/// last two first, since few neighbors in a list are as far apart as two children.
+/// Whether a cell is the last of four children, and the other three are those before it. Begins with the exclusive-or
+/// of the three, as S2 does, since it is the fourth of few cells in a row that are no family.
+#[inline(always)]
 pub(crate) fn ends_family(a: u64, b: u64, c: u64, d: CellId) -> bool
     ensures { IsTrue result ↔ ((p : ℕ) × IsFamily a b c d p) }
 {
-    if c.wrapping_add(2 * d.leaf_count()) != d.id() {
+    let fourth = a ^ b ^ c;
+    if fourth != d.id() {
         return false;
     }
     let level = d.level();

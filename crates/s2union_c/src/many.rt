@@ -10,7 +10,7 @@ ghost use Rattle.s2union_c.specs.Status.{IsBit, made, no_cell, no_room};
 use crate::status::{MADE, NO_CELL, NO_ROOM};
 use s2cell::CellId;
 use s2search::{
-    IdList, LAST_STEP, cell_of, contains_cell_at, first_wrong, intersects_cell_at, place_near,
+    IdList, NEARBY, cell_of, contains_cell_at, first_wrong, intersects_cell_at, place_near,
     places_of_four,
 };
 
@@ -107,14 +107,14 @@ fn answer_each(question: Question, ids: &[u64], cells: &[u64], answers: &mut [u8
     while k < cells.len() {
         if apart && cells.len() - k >= 4 {
             let (third, fourth) = answer_four(question, ids, cells, k, answers);
-            apart = third.abs_diff(fourth) > LAST_STEP;
+            apart = third.abs_diff(fourth) > NEARBY;
             near = fourth;
             k += 4;
         } else {
             let cell = cell_of(cells[k]);
             let at = place_near(&IdList { ids }, near, cell);
             answers[k] = bit(question, ids, at, cell);
-            apart = near.abs_diff(at) > LAST_STEP;
+            apart = near.abs_diff(at) > NEARBY;
             near = at;
             k += 1;
         }

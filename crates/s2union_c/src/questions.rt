@@ -97,12 +97,7 @@ pub extern "C" fn s2u_intersects(xs: &[u64], ys: &[u64]) -> i32
         (ShareSome (has_leaf xs.now) (has_leaf ys.now)) }
     ensures answer { IsAnswer result }
 {
-    let (first, second) = (IdList { ids: xs }, IdList { ids: ys });
-    if xs.len() < ys.len() {
-        answer(s2search::intersects(&second, &first))
-    } else {
-        answer(s2search::intersects(&first, &second))
-    }
+    answer(s2search::intersects(&IdList { ids: xs }, &IdList { ids: ys }))
 }
 
 /// The order of two lists, element by element and then by length: -1, 0 or 1.

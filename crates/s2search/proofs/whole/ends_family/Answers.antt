@@ -1,19 +1,18 @@
-use Rattle.std.proofs.Common.{◌≡◌, ◌+◌, ◌-◌, arith, ap, sym, ◌∙◌, subst}
+use Rattle.std.proofs.Common.{bit_xor, ◌≡◌, ◌+◌, ◌-◌, arith, ap, sym, ◌∙◌, subst}
 use Rattle.std.proofs.lemmas.Bool.{false≢true}
 use Rattle.s2cell.specs.Cell.{level_of, parent_of}
 use Rattle.s2union.specs.Packed.{IsFamily}
-use Rattle.s2union.proofs.Packing.{family_deep, family_parent, family_step}
+use Rattle.s2union.proofs.Packing.{family_deep, family_parent}
+use Rattle.s2search.proofs.Packing.{family_xor}
 use Rattle.s2search.proofs.whole.ends_family.Goals as goal
 
-pub returns-then-c-leaf_count : goal.returns-then-c-leaf_count
-returns-then-c-leaf_count c = (
+pub returns-then-fourth-id : goal.returns-then-fourth-id
+returns-then-fourth-id c = (
   λ e. absurd (false≢true e),
   λ (p, f).
-      let s = family_step c.args.a c.args.b c.args.c c.args.d p f in
-      let l = c.leaf_count.ensures.value in
+      let x : bit_xor (bit_xor c.args.a c.args.b) c.args.c ≡ c.args.d = family_xor c.args.a c.args.b c.args.c c.args.d p f in
       let i = c.id.ensures.value in
-      let m = c.id.ensures.most in
-      let t = c.if-c-leaf_count.true in
+      let t = c.if-fourth-id.true in
       absurd (omega arith),
 )
 

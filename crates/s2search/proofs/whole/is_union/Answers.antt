@@ -1,19 +1,84 @@
-use Rattle.std.proofs.Common.{◌≡◌, ◌+◌, ◌≤◌, take, length, refl, sym, ◌∙◌, arith}
-use Rattle.std.proofs.lemmas.Bool.{false≢true}
+use Rattle.std.proofs.Common.{◌≡◌, ◌+◌, ◌-◌, ◌<◌, ◌≤◌, ◌⊎◌, inl, inr, ℕ, take, length, get_or, refl, sym, ◌∙◌, arith, rules}
+use Rattle.std.proofs.Math.Logic.{⊎_elim}
+use Rattle.std.proofs.lemmas.Bool.{cases_lt, false≢true}
 use Rattle.std.proofs.lemmas.List.{take_all}
+use Rattle.s2cell.specs.Cell.{IsCell}
+use Rattle.s2union.specs.Packed.{EndsBefore, IsFamily, IsPacked}
 use Rattle.s2union.proofs.PackedLocal.{local_from_packed}
 use Rattle.s2union.proofs.Packing.{packed_take}
 use Rattle.s2union.proofs.Checking.{packed_from_local}
+use Rattle.s2search.proofs.Packing.{cell_before, cell_from, follows_from, no_family, no_cell, no_family_from_zero, packed_more}
 use Rattle.s2search.proofs.whole.is_union.Goals as goal
 
-pub returns-then-not-fits_at : goal.returns-then-not-fits_at
-returns-then-not-fits_at g c =
+pub loop-k-init : goal.loop-k-init
+loop-k-init g c = record {
+  packed = search rules;
+  a = λ h. absurd (omega arith);
+  b = λ h. absurd (omega arith);
+  c = λ h. absurd (omega arith);
+  no_a = λ h. refl;
+  no_b = λ h. refl;
+  no_c = λ h. refl;
+}
+
+pub continues-requires : goal.continues-requires
+continues-requires g c =
     let u = g.C.Cells.ids c.args.cells.now in
     let n = c.len-k-end.ensures in
-    let h : c.loop-k.k + 1 ≤ length u = omega (arith, c.loop-k-test.true) in (
+    let v = c.loop-k.invariant in
+    let h : c.loop-k.k < length u = omega (arith, c.loop-k-test.true) in
+    ⊎_elim
+    (λ (s : 0 < c.loop-k.k). let e = v.c s in inr (rw e (cell_before u c.loop-k.k (omega arith) s v.packed)))
+    (λ (s : c.loop-k.k ≤ 0). inl (v.no_c (omega arith)))
+    (cases_lt 0 c.loop-k.k)
+
+pub loop-k-preserved : goal.loop-k-preserved
+loop-k-preserved g c =
+    let u = g.C.Cells.ids c.args.cells.now in
+    let k = c.loop-k.k in
+    let n = c.len-k-end.ensures in
+    let v = c.loop-k.invariant in
+    let h : k < length u = omega (arith, c.loop-k-test.true) in
+    let is = rw c.id-d.ensures at (c.continues.ensures.0 c.if-not-continues.false) in
+    let one : k + 1 - 1 ≡ k = omega arith in
+    record {
+      packed = packed_more u k h v.packed is.0
+          (λ s. let e = v.c s in rw e at (is.1 (rw e (cell_before u k (omega arith) s v.packed))))
+          (λ f. let ea = v.a (let t = f.0 in omega arith) in
+          let eb = v.b (let t = f.0 in omega arith) in
+          let ec = v.c (let t = f.0 in omega arith) in is.2 f.1 (rw (ea, eb, ec) f.2));
+      a = λ s. let e : k + 1 - 3 ≡ k - 2 = omega arith in rw e (v.b (omega arith));
+      b = λ s. let e : k + 1 - 2 ≡ k - 1 = omega arith in rw e (v.c (omega arith));
+      c = λ s. rw one c.id-d.ensures;
+      no_a = λ s. v.no_b (omega arith);
+      no_b = λ s. v.no_c (omega arith);
+      no_c = λ s. absurd (omega arith);
+    }
+
+pub returns-then-not-continues : goal.returns-then-not-continues
+returns-then-not-continues g c =
+    let u = g.C.Cells.ids c.args.cells.now in
+    let k = c.loop-k.k in
+    let n = c.len-k-end.ensures in
+    let v = c.loop-k.invariant in
+    let h : k < length u = omega (arith, c.loop-k-test.true) in (
       λ e. absurd (false≢true e),
-      λ l. absurd (false≢true (sym c.if-not-fits_at.true
-          ∙ c.fits_at.ensures.1 (packed_take (c.loop-k.k + 1) u h (packed_from_local u l)))),
+      λ l.
+          let p : IsPacked (take (k + 1) u) = packed_take (k + 1) u (omega arith) (packed_from_local u l) in
+          let own : IsCell c.id-d.result = rw c.id-d.ensures (cell_from u k h p) in
+          let follows : IsCell c.loop-k.c → EndsBefore c.loop-k.c c.id-d.result = λ cc.
+              ⊎_elim
+              (λ (s : 0 < k). let e = v.c s in rw (e, c.id-d.ensures) (follows_from u k h p s))
+              (λ (s : k ≤ 0). absurd (no_cell (rw (v.no_c (omega arith)) at cc)))
+              (cases_lt 0 k) in
+          let none : (q : ℕ) → IsFamily c.loop-k.a c.loop-k.b c.loop-k.c c.id-d.result q → ⊥ = λ q f.
+              ⊎_elim
+              (λ (s : 2 < k).
+              let ea = v.a s in let eb = v.b (omega arith) in let ec = v.c (omega arith) in
+              no_family u k q h p (omega arith) (rw (ea, eb, ec, c.id-d.ensures) at f))
+              (λ (s : k ≤ 2). no_family_from_zero c.loop-k.a c.loop-k.b c.loop-k.c c.id-d.result q (v.no_a (omega arith)) f)
+              (cases_lt 2 k) in
+          absurd (false≢true (sym c.if-not-continues.true ∙ c.continues.ensures.1 (own, follows, none))),
     )
 
 pub returns : goal.returns
@@ -21,4 +86,4 @@ returns g c =
     let u = g.C.Cells.ids c.args.cells.now in
     let n = c.len-k-end.ensures in
     let all : take c.loop-k.k u ≡ u = take_all c.loop-k.k u (omega arith) in
-    (λ _. local_from_packed u (rw all at c.loop-k.invariant), λ _. refl)
+    (λ _. local_from_packed u (rw all at c.loop-k.invariant.packed), λ _. refl)

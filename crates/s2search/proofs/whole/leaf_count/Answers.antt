@@ -21,24 +21,9 @@ loop-k-preserved g c local =
     let w = (cell_leaves (get_or u i 0) own).within in
     let m : count_below (has_leaf (take (i + 1) u)) LEAVES ≡ count_below (has_leaf (take i u)) LEAVES
     + size_of (get_or u i 0) = count_more u i LEAVES (packed_from_local u local) h w in
-    let s : c.leaves_of-leaves.result ≡ size_of (get_or u i 0) =
-    rw c.id.ensures at (c.leaves_of-leaves.ensures (rw c.id.ensures own)) in
-    let v = c.loop-k.invariant local in
-    omega arith
-
-pub returns-then-total-leaves : goal.returns-then-total-leaves
-returns-then-total-leaves g c local =
-    let u = g.C.Cells.ids c.args.cells.now in
-    let i = c.loop-k.k in
-    let n = c.len-k-end.ensures in
-    let h : i < length u = omega (arith, c.loop-k-test.true) in
-    let own : IsCell (get_or u i 0) = local.cells i 0 h in
-    let w = (cell_leaves (get_or u i 0) own).within in
-    let m : count_below (has_leaf (take (i + 1) u)) LEAVES ≡ count_below (has_leaf (take i u)) LEAVES
-    + size_of (get_or u i 0) = count_more u i LEAVES (packed_from_local u local) h w in
     let most : count_below (has_leaf (take (i + 1) u)) LEAVES ≤ LEAVES =
     count_most (has_leaf (take (i + 1) u)) LEAVES in
-    let s : c.leaves_of-leaves.result ≡ size_of (get_or u i 0) =
-    rw c.id.ensures at (c.leaves_of-leaves.ensures (rw c.id.ensures own)) in
+    let s : c.leaves_of-total.result ≡ size_of (get_or u i 0) =
+    rw c.id.ensures at (c.leaves_of-total.ensures (rw c.id.ensures own)) in
     let v = c.loop-k.invariant local in
-    absurd (omega arith)
+    omega arith

@@ -1,14 +1,19 @@
-use Rattle.std.proofs.Common.{◌-◌, ◌≤◌, length}
+use Rattle.std.proofs.Common.{ℕ, ◌-◌, ◌^◌, ◌<◌, ◌≤◌, min}
 use Rattle.s2union.specs.Packed.{IsPacked}
 use Rattle.s2search.specs.Search.{IsFrom}
-use Rattle.s2search.proofs.find.find_between.Given as goal
+use Rattle.s2search.proofs.Looking.{Halved}
+use Rattle.s2search.proofs.find.narrow.Given as goal
 
 abbrev pub invariant-loop-first : goal.invariant-loop-first
 invariant-loop-first g l = record {
+  from : l.start ≤ l.first;
   order : l.first ≤ l.last;
-  within : l.last ≤ length (g.C.Cells.ids l.cells);
+  to : l.last ≤ l.end;
   found : IsPacked (g.C.Cells.ids l.cells) → IsFrom (g.C.Cells.ids l.cells) l.lo l.start l.end
       → IsFrom (g.C.Cells.ids l.cells) l.lo l.first l.last;
+  halved : (k : ℕ) → l.end - l.start < 2 ^ k → Halved (l.last - l.first) (g.K.Count.looks l.initial.count)
+      (g.K.Count.looks l.count) k;
+  least : min (g.K.Count.looks l.initial.count) g.K.Count.most ≤ g.K.Count.looks l.count;
 }
 
 abbrev pub decreases-loop-first : goal.decreases-loop-first
