@@ -30,56 +30,58 @@ pub halved_more : (size less before looks more k : ℕ) → 0 < size → Halved 
     → less ≤ size / 2 → Halved less before more k
 halved_more size less before looks more k h l e s = halved_less size less before looks more k l.power h l.fits l.paid e s
 
--- the looks of leaps that got `far` places on, each as long as all before it
+-- the looks of leaps that got `far` places on, each three times as long as all before it
 pub record Leapt (before looks far : ℕ) : Type 0 where
   pub leaps : ℕ
   pub paid : looks ≤ before + leaps
-  pub got : 2 ^ leaps ≤ max 1 (2 * far)
+  pub got : 2 ^ (2 * leaps) ≡ max 1 (4 * far)
 
 pub leapt_none : (before far : ℕ) → far ≡ 0 → Leapt before before far
-leapt_none before far e = let g : 2 ^ 0 ≡ 1 = refl in record { leaps = 0; paid = omega arith; got = omega arith }
+leapt_none before far e = let g : 2 ^ (2 * 0) ≡ 1 = refl in record { leaps = 0; paid = omega arith; got = omega arith }
 
-pub leapt_more : (before looks more far leap next : ℕ) → Leapt before looks far → more ≤ looks + 1 → leap ≡ max 1 far
-    → next ≡ far + leap → Leapt before more next
+pub leapt_more : (before looks more far leap next : ℕ) → Leapt before looks far → more ≤ looks + 1
+    → leap ≡ max 1 (3 * far) → next ≡ far + leap → Leapt before more next
 leapt_more before looks more far leap next l e h n =
     let g = l.got in
     let p = l.paid in
-    let s : 2 ^ (l.leaps + 1) ≡ 2 ^ l.leaps * 2 = pow-add 2 l.leaps 1 in
+    let two : 2 * (l.leaps + 1) ≡ 2 * l.leaps + 2 = omega arith in
+    let s : 2 ^ (2 * (l.leaps + 1)) ≡ 2 ^ (2 * l.leaps) * 4 = ap (λ x. 2 ^ x) two ∙ pow-add 2 (2 * l.leaps) 2 in
     record { leaps = l.leaps + 1; paid = omega arith; got = omega arith }
 
-leaps_few : (leaps far k : ℕ) → 2 ^ leaps ≤ max 1 (2 * far) → far < 2 ^ k → leaps ≤ k
+leaps_few : (leaps far k : ℕ) → 2 ^ (2 * leaps) ≡ max 1 (4 * far) → far < 2 ^ k → 2 * leaps ≤ k + 1
 leaps_few leaps far k h l =
     ⊎_elim
-    (λ (a : k < leaps).
-    let p : 2 ^ (k + 1) ≤ 2 ^ leaps = pow-le-pow_right {n = 2} (omega arith) {i = k + 1} {j = leaps} (omega arith) in
-    let s : 2 ^ (k + 1) ≡ 2 ^ k * 2 = pow-add 2 k 1 in
+    (λ (a : k + 1 < 2 * leaps).
+    let p : 2 ^ (k + 2) ≤ 2 ^ (2 * leaps) =
+    pow-le-pow_right {n = 2} (omega arith) {i = k + 2} {j = 2 * leaps} (omega arith) in
+    let s : 2 ^ (k + 2) ≡ 2 ^ k * 4 = pow-add 2 k 2 in
     absurd (omega arith))
-    (λ (a : leaps ≤ k). a)
-    (cases_lt k leaps)
+    (λ (a : 2 * leaps ≤ k + 1). a)
+    (cases_lt (k + 1) (2 * leaps))
 
--- the part that is left after them is no longer than they are together
-pub leapt_last : (before looks far size more last : ℕ) → Leapt before looks far → more ≤ looks + 1 → size < max 1 far
-    → ((k : ℕ) → size < 2 ^ k → last ≤ more + k)
-    → (all k : ℕ) → far ≤ all → all < 2 ^ k → last ≤ before + 2 * k + 1
+-- the part that is left after them is shorter than the next leap
+pub leapt_last : (before looks far size more last : ℕ) → Leapt before looks far → more ≤ looks + 1
+    → size < max 1 (3 * far) → ((k : ℕ) → size < 2 ^ k → last ≤ more + k)
+    → (all k : ℕ) → far ≤ all → all < 2 ^ k → last ≤ before + 2 * k + 2
 leapt_last before looks far size more last l e s rest all k h f =
-    let some = pow_pos k in
     let few = leaps_few l.leaps far k l.got (omega arith) in
     let p = l.paid in
-    let r = rest k (omega arith) in
+    let g = l.got in
+    let r = rest (2 * l.leaps) (omega arith) in
     omega arith
 
 -- ---- turns of a walk
 
 -- looks `before` a search that got `far` places on, and after it
 abbrev pub Sought : (before after far : ℕ) → Type 0
-Sought before after far = (k : ℕ) → far < 2 ^ k → after ≤ before + 2 * k + 1
+Sought before after far = (k : ℕ) → far < 2 ^ k → after ≤ before + 2 * k + 2
 
 pub sought_none : (looks : ℕ) → Sought looks looks 0
 sought_none looks k h = omega arith
 
 -- `looks` in `turns` turns, which got `far` places on in both lists together
 pub record Spent (looks turns far : ℕ) : Type 0 where
-  pub most : (k : ℕ) → looks * 2 ^ k ≤ (4 * k + 4) * (2 ^ k * turns) + 2 * far
+  pub most : (k : ℕ) → looks * 2 ^ k ≤ (4 * k + 6) * (2 ^ k * turns) + 2 * far
 
 -- a power of two is above its exponent
 above : (k : ℕ) → k + 1 ≤ 2 ^ k
@@ -88,14 +90,14 @@ above (suc k) = let h = above k in let e = pow-suc 2 k in omega arith
 
 -- the logarithm of the way is at most `k + far / 2 ^ k`
 sought_line : (before after far k : ℕ) → Sought before after far →
-    after * 2 ^ k ≤ before * 2 ^ k + (2 * k + 1) * 2 ^ k + 2 * far
+    after * 2 ^ k ≤ before * 2 ^ k + (2 * k + 2) * 2 ^ k + 2 * far
 sought_line before after far k s =
     let q = far / 2 ^ k in
     let split : q * 2 ^ k + far % 2 ^ k ≡ far = shr_split far k in
     let rest : far % 2 ^ k < 2 ^ k = mod-lt far (pow_pos k) in
     let more : (q + 1) * 2 ^ k ≤ 2 ^ q * 2 ^ k = mul-le-mul_right (2 ^ k) (above q) in
     let e : 2 ^ (k + q) ≡ 2 ^ k * 2 ^ q = pow-add 2 k q in
-    let h : after ≤ before + 2 * (k + q) + 1 = s (k + q) (omega arith) in
+    let h : after ≤ before + 2 * (k + q) + 2 = s (k + q) (omega arith) in
     let m = mul-le-mul_right (2 ^ k) h in
     omega arith
 
@@ -120,8 +122,8 @@ spent_last looks turns far a b x last cells d s ea sb el ht hf k h =
     let lb = sought_line a b x k sb in
     let ma = mul-le-mul_right (2 ^ k) ea in
     let ml = mul-le-mul_right (2 ^ k) el in
-    let t : turns * ((4 * k + 4) * 2 ^ k) ≤ d * ((4 * k + 4) * 2 ^ k) = mul-le-mul_right ((4 * k + 4) * 2 ^ k) ht in
-    let bound : last * 2 ^ k ≤ 6 * (d + 1) * (1 + k) * 2 ^ k = omega arith in
+    let t : turns * ((4 * k + 6) * 2 ^ k) ≤ d * ((4 * k + 6) * 2 ^ k) = mul-le-mul_right ((4 * k + 6) * 2 ^ k) ht in
+    let bound : last * 2 ^ k ≤ 8 * (d + 1) * (1 + k) * 2 ^ k = omega arith in
     le_of_mul-le-mul_right bound (pow_pos k)
 
 -- ---- a walk beside a way to cut both lists

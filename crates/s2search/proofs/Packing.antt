@@ -65,21 +65,15 @@ cell_from u k h packed =
     let b : get_or (take (k + 1) u) k 0 ≡ get_or u k 0 = get_or-take (k + 1) u k 0 (omega arith) in
     rw b at (packed.cells k 0 (omega arith))
 
--- and so is the one before it
-pub cell_before : (u : List ℕ) (k : ℕ) → k ≤ length u → 0 < k → IsPacked (take k u) → IsCell (get_or u (k - 1) 0)
-cell_before u k h some packed =
-    let len : length (take k u) ≡ k = length-take-le k u h in
-    let b : get_or (take k u) (k - 1) 0 ≡ get_or u (k - 1) 0 = get_or-take k u (k - 1) 0 (omega arith) in
-    rw b at (packed.cells (k - 1) 0 (omega arith))
-
 -- no cell has the identifier 0
-pub no_cell : IsCell 0 → ⊥
+no_cell : IsCell 0 → ⊥
 no_cell own =
     let l = cell_leaves 0 own in
     let m = l.middle in
     let s = l.some in
     absurd (omega arith)
 
+-- so it is no child
 pub no_family_from_zero : (a b c d p : ℕ) → a ≡ 0 → IsFamily a b c d p → ⊥
 no_family_from_zero a b c d p e f = no_cell (rw e at (IsCell-child_of p 0 a f.cell f.inner (omega arith) f.zero))
 

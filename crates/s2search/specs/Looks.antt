@@ -31,7 +31,7 @@ KnownToHold xs ys i j = (length xs ≤ i) ⊎ ((length ys ≤ j)
 abbrev pub KnownToMeet : (xs ys : List ℕ) (i j : ℕ) → Type 0
 KnownToMeet xs ys i j = (length xs ≤ i) ⊎ ((length ys ≤ j) ⊎ ShareSome (covers (slice_index ys j)) (has_leaf xs))
 
--- lists of `cells` cells together, in `d` runs of each: at most `6 (d + 1) (1 + k)` looks for each `k` that is at least
--- log2(cells / (d + 1)); so at most `c (d + 1) (1 + log2(cells / (d + 1)))` for `c` = 6 and the logarithm rounded up
+-- lists of `cells` cells together, in `d` runs of each: at most `8 (d + 1) (1 + k)` looks for each `k` that is at least
+-- log2(cells / (d + 1)); so at most `c (d + 1) (1 + log2(cells / (d + 1)))` for `c` = 8 and the logarithm rounded up
 abbrev pub FewForTurns : (cells d looks : ℕ) → Type 0
-FewForTurns cells d looks = (k : ℕ) → cells ≤ (d + 1) * 2 ^ k → looks ≤ 6 * (d + 1) * (1 + k)
+FewForTurns cells d looks = (k : ℕ) → cells ≤ (d + 1) * 2 ^ k → looks ≤ 8 * (d + 1) * (1 + k)

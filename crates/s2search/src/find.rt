@@ -34,8 +34,8 @@ pub(crate) fn find_from<C: Cells>(cells: &C, start: usize, lo: u64) -> usize
     find_from_counted(cells, start, lo, &mut Uncounted)
 }
 
-/// The same, counted. Leaps ahead, each leap as long as all before it, and then searches what the last leap passed
-/// over.
+/// The same, counted. Leaps ahead, each leap three times as long as all before it, and then searches what the last leap
+/// passed over.
 #[inline(always)]
 pub(crate) fn find_from_counted<C: Cells, K: Count>(
     cells: &C,
@@ -50,7 +50,7 @@ pub(crate) fn find_from_counted<C: Cells, K: Count>(
         → FirstEndBy (C.ids cells.now) result lo }
     ensures next { IsPacked (C.ids cells.now) → FirstEndBy (C.ids cells.now) start lo
         → EndsAfter (C.ids cells.now) result lo }
-    ensures looks { (k : ℕ) → result - start < 2 ^ k → K.looks count.new ≤ K.looks count.old + 2 * k + 1 }
+    ensures looks { (k : ℕ) → result - start < 2 ^ k → K.looks count.new ≤ K.looks count.old + 2 * k + 2 }
     ensures least { min (K.looks count.old) K.most ≤ K.looks count.new }
     ensures some { start < length (C.ids cells.now) → min (K.looks count.old + 1) K.most ≤ K.looks count.new }
 {
@@ -62,7 +62,7 @@ pub(crate) fn find_from_counted<C: Cells, K: Count>(
             return narrow(cells, base, base + (leap - 1), lo, count);
         }
         base += leap;
-        leap = base - start;
+        leap = (base - start).saturating_mul(3);
     }
     narrow(cells, base, len, lo, count)
 }
@@ -141,8 +141,7 @@ fn ends_by(id: u64, lo: u64) -> bool
 /// The number after that of the last leaf of the cell with this identifier. Doesn't check that a cell has it.
 #[inline(always)]
 pub(crate) fn end_of(id: u64) -> u64
-    ensures cell { IsCell id → result ≡ first_leaf id + size_of id }
-    ensures none { id ≡ 0 → result ≡ 0 }
+    ensures { IsCell id → result ≡ first_leaf id + size_of id }
 {
     id.wrapping_add(id & id.wrapping_neg()) / 2
 }

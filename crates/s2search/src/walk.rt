@@ -18,7 +18,7 @@ pub fn contains<X: Cells, Y: Cells>(whole: &X, part: &Y) -> bool
     holds_all(whole, part, &mut Uncounted)
 }
 
-/// The same, with how often it looks at a number of either list: at most `6 (d + 1) (1 + log2((m + n) / (d + 1)))`
+/// The same, with how often it looks at a number of either list: at most `8 (d + 1) (1 + log2((m + n) / (d + 1)))`
 /// times, rounded up, for unions of `m` and `n` cells that in the order of their first leaves are runs of one and of the
 /// other, at most `d` of each up to where the answer is known. So neither list is gone through.
 pub fn contains_counted<X: Cells, Y: Cells>(whole: &X, part: &Y) -> Counted

@@ -1,9 +1,8 @@
 //! Questions about all numbers: whether they are a union, and how many leaves they have.
-ghost use Rattle.std.specs.Prelude.{◌≡◌, ◌+◌, ◌<◌, ◌≤◌, ◌↔◌, ◌⊎◌, ℕ, IsTrue, All};
-ghost use Rattle.std.specs.Prelude.{MatchOption};
-ghost use Rattle.s2cell.specs.Cell.{IsCell, level_of, size_of};
+ghost use Rattle.std.specs.Prelude.{◌≡◌, ◌<◌, ◌≤◌, ◌↔◌, ℕ, IsTrue, All, MatchOption};
+ghost use Rattle.s2cell.specs.Cell.{IsCell, first_leaf, level_of, size_of};
 ghost use Rattle.s2union.specs.Union.{IsLocal, has_leaf};
-ghost use Rattle.s2union.specs.Packed.{EndsBefore, IsFamily};
+ghost use Rattle.s2union.specs.Packed.{IsFamily};
 ghost use Rattle.s2union.specs.Count.{count_below};
 ghost use Rattle.s2search.specs.Search.{IsFirstWrong};
 
@@ -16,33 +15,34 @@ use s2cell::{CellId, GREATEST_LEVEL, LEAVES};
 pub fn is_union<C: Cells>(cells: &C) -> bool
     ensures { IsTrue result ↔ IsLocal (C.ids cells.now) }
 {
-    // 0 is the identifier of no cell, and stands for each of the last three that isn't there.
+    // The last three cells, and where they end. 0 is the identifier of no cell.
     let mut a = 0;
     let mut b = 0;
     let mut c = 0;
+    let mut end = 0;
     for k in 0..cells.len() {
         let d = cells.id(k);
-        if !continues(a, b, c, d) {
+        if !continues(a, b, c, d, end) {
             return false;
         }
         a = b;
         b = c;
         c = d;
+        end = end_of(d);
     }
     true
 }
 
-/// Whether the number `d` continues a union whose last three cells are `a`, `b` and `c`: it is the identifier of a cell
-/// that comes after `c`, and doesn't complete four children of one cell.
+/// Whether the number `d` continues a union whose last three cells are `a`, `b` and `c`, and which ends by the leaf
+/// `end`: it is the identifier of a cell that comes after that, and doesn't complete four children of one cell.
 #[inline(always)]
-fn continues(a: u64, b: u64, c: u64, d: u64) -> bool
-    requires { (c ≡ 0) ⊎ IsCell c }
-    ensures { IsTrue result ↔ (IsCell d × (IsCell c → EndsBefore c d) × ((p : ℕ) → IsFamily a b c d p → ⊥)) }
+fn continues(a: u64, b: u64, c: u64, d: u64, end: u64) -> bool
+    ensures { IsTrue result ↔ (IsCell d × (end ≤ first_leaf d) × ((p : ℕ) → IsFamily a b c d p → ⊥)) }
 {
     let Some(cell) = CellId::from_id(d) else {
         return false;
     };
-    if cell.first_leaf() < end_of(c) {
+    if cell.first_leaf() < end {
         return false;
     }
     if ends_family(a, b, c, cell) {
@@ -80,6 +80,14 @@ pub(crate) fn ends_family(a: u64, b: u64, c: u64, d: CellId) -> bool
     if fourth != d.id() {
         return false;
     }
+    are_siblings(a, b, c, d)
+}
+
+/// Whether these four are the children of one cell, in order.
+#[inline(never)]
+fn are_siblings(a: u64, b: u64, c: u64, d: CellId) -> bool
+    ensures { IsTrue result ↔ ((p : ℕ) × IsFamily a b c d p) }
+{
     let level = d.level();
     if level == 0 {
         return false;

@@ -37,7 +37,7 @@ loop-leap-preserved g c =
           let all : FirstEndBy u (k + 1) c.args.lo = ended_up u c.args.lo k p h
           (rw c.look.ensures.id at (test.0 c.if-not-ends_by.false)) in
           rw same at all;
-      leapt = leapt_more _ _ _ _ c.loop-leap.leap _ v.leapt (omega arith) leap (omega arith);
+      leapt = leapt_more _ _ _ _ c.loop-leap.leap _ v.leapt (omega arith) (omega arith) (omega arith);
       least = omega arith;
       some = λ _. omega arith;
     }

@@ -1,4 +1,4 @@
-use Rattle.std.proofs.Common.{◌≡◌, ◌+◌, ◌-◌, ◌<◌, ◌≤◌, length, max, min}
+use Rattle.std.proofs.Common.{◌≡◌, ◌+◌, ◌-◌, ◌*◌, ◌^◌, ◌<◌, ◌≤◌, length, max, min}
 use Rattle.s2union.specs.Packed.{IsPacked, FirstEndBy}
 use Rattle.s2search.proofs.Looking.{Leapt}
 use Rattle.s2search.proofs.find.find_from_counted.Given as goal
@@ -7,7 +7,7 @@ abbrev pub invariant-loop-leap : goal.invariant-loop-leap
 invariant-loop-leap g l = record {
   from : l.start ≤ l.base;
   within : l.base ≤ length (g.C.Cells.ids l.cells);
-  leap : l.leap ≡ max 1 (l.base - l.start);
+  leap : l.leap ≡ max 1 (min (3 * (l.base - l.start)) (2 ^ 64 - 1));
   ended : IsPacked (g.C.Cells.ids l.cells) → FirstEndBy (g.C.Cells.ids l.cells) l.start l.lo →
       FirstEndBy (g.C.Cells.ids l.cells) l.base l.lo;
   leapt : Leapt (g.K.Count.looks l.initial.count) (g.K.Count.looks l.count) (l.base - l.start);

@@ -46,7 +46,7 @@ loop-j-preserved g c =
           let hi : i < length xs = omega arith in
           let cx : IsCell (get_or xs i 0) = lx.cells i 0 hi in
           let stop : c.end_of.result ≡ first_leaf (get_or xs i 0) + size_of (get_or xs i 0) =
-          rw c.look-x.ensures.id at (c.end_of.ensures.cell (rw c.look-x.ensures.id cx)) in
+          rw c.look-x.ensures.id at (c.end_of.ensures (rw c.look-x.ensures.id cx)) in
           let inside : (first_leaf (get_or xs i 0) ≤ first_leaf (get_or ys j 0))
               × (first_leaf (get_or ys j 0) + size_of (get_or ys j 0) ≤ first_leaf (get_or xs i 0) + size_of (get_or xs i 0)) =
           rw (c.look-x.ensures.id, c.look-y.ensures.id) at ((c.lies_in.ensures (rw c.look-x.ensures.id cx)
@@ -69,7 +69,7 @@ loop-j-preserved g c =
           let hi : i < length xs = omega arith in
           let cx : IsCell (get_or xs i 0) = lx.cells i 0 hi in
           let stop : c.end_of.result ≡ first_leaf (get_or xs i 0) + size_of (get_or xs i 0) =
-          rw c.look-x.ensures.id at (c.end_of.ensures.cell (rw c.look-x.ensures.id cx)) in
+          rw c.look-x.ensures.id at (c.end_of.ensures (rw c.look-x.ensures.id cx)) in
           let inside : (first_leaf (get_or xs i 0) ≤ first_leaf (get_or ys j 0))
               × (first_leaf (get_or ys j 0) + size_of (get_or ys j 0) ≤ first_leaf (get_or xs i 0) + size_of (get_or xs i 0)) =
           rw (c.look-x.ensures.id, c.look-y.ensures.id) at ((c.lies_in.ensures (rw c.look-x.ensures.id cx)
@@ -94,7 +94,7 @@ loop-j-preserved g c =
           let hi : i < length xs = omega arith in
           let cx : IsCell (get_or xs i 0) = lx.cells i 0 hi in
           let stop : c.end_of.result ≡ first_leaf (get_or xs i 0) + size_of (get_or xs i 0) =
-          rw c.look-x.ensures.id at (c.end_of.ensures.cell (rw c.look-x.ensures.id cx)) in
+          rw c.look-x.ensures.id at (c.end_of.ensures (rw c.look-x.ensures.id cx)) in
           let inside : (first_leaf (get_or xs i 0) ≤ first_leaf (get_or ys j 0))
               × (first_leaf (get_or ys j 0) + size_of (get_or ys j 0) ≤ first_leaf (get_or xs i 0) + size_of (get_or xs i 0)) =
           rw (c.look-x.ensures.id, c.look-y.ensures.id) at ((c.lies_in.ensures (rw c.look-x.ensures.id cx)

@@ -55,7 +55,7 @@ loop-j-preserved g c =
           let start : c.first_of-begin.result ≡ first_leaf (get_or xs i 0) = rw c.look-x.ensures.id at
               (c.first_of-begin.ensures (rw c.look-x.ensures.id cx)) in
           let stop : c.end_of-end.result ≡ first_leaf (get_or ys j 0) + size_of (get_or ys j 0) =
-          rw c.look-y.ensures.id at (c.end_of-end.ensures.cell (rw c.look-y.ensures.id cy)) in
+          rw c.look-y.ensures.id at (c.end_of-end.ensures (rw c.look-y.ensures.id cy)) in
           let next = c.find_from_counted-j.result in
           let fj = c.find_from_counted-j.ensures in
           let begun : FirstEndBy ys (j + 1) (first_leaf (get_or xs i 0)) =
@@ -74,7 +74,7 @@ loop-j-preserved g c =
           let start : c.first_of-begin.result ≡ first_leaf (get_or xs i 0) = rw c.look-x.ensures.id at
               (c.first_of-begin.ensures (rw c.look-x.ensures.id cx)) in
           let stop : c.end_of-end.result ≡ first_leaf (get_or ys j 0) + size_of (get_or ys j 0) =
-          rw c.look-y.ensures.id at (c.end_of-end.ensures.cell (rw c.look-y.ensures.id cy)) in
+          rw c.look-y.ensures.id at (c.end_of-end.ensures (rw c.look-y.ensures.id cy)) in
           let next = c.find_from_counted-j.result in
           let fj = c.find_from_counted-j.ensures in
           let begun : FirstEndBy ys (j + 1) (first_leaf (get_or xs i 0)) =
@@ -171,7 +171,7 @@ returns-then-begin-end-clause-answer g c lx ly =
     let start : c.first_of-begin.result ≡ first_leaf (get_or xs i 0) = rw c.look-x.ensures.id at
         (c.first_of-begin.ensures (rw c.look-x.ensures.id cx)) in
     let stop : c.end_of-end.result ≡ first_leaf (get_or ys j 0) + size_of (get_or ys j 0) =
-    rw c.look-y.ensures.id at (c.end_of-end.ensures.cell (rw c.look-y.ensures.id cy)) in
+    rw c.look-y.ensures.id at (c.end_of-end.ensures (rw c.look-y.ensures.id cy)) in
     (
       λ _. part_shares (has_leaf xs) ys j hj (shared_at xs i (get_or ys j 0) lx.cells cy hi (after hi) (omega arith)),
       λ _. refl,

@@ -1,23 +1,15 @@
 use Rattle.std.proofs.Common.{◌≡◌, ◌≤◌, ◌<◌, refl, sym, ◌∙◌, arith}
-use Rattle.std.proofs.Math.Logic.{⊎_elim}
 use Rattle.std.proofs.lemmas.Bool.{false≢true}
-use Rattle.s2cell.specs.Cell.{IsCell}
 use Rattle.s2search.proofs.whole.continues.Goals as goal
 
 pub returns-in_default : goal.returns-in_default
 returns-in_default c = (λ e. absurd (false≢true e), λ p. absurd (c.in_default.ensures p.0))
 
-pub returns-then-first_leaf-end_of : goal.returns-then-first_leaf-end_of
-returns-then-first_leaf-end_of c =
+pub returns-then-first_leaf-end : goal.returns-then-first_leaf-end
+returns-then-first_leaf-end c =
     let e : c.in-Some.cell ≡ c.args.d = c.in-Some.ensures.1 in
     let first = rw e at c.first_leaf.ensures.value in
-    (
-      λ e. absurd (false≢true e),
-      λ p. ⊎_elim
-          (λ (z : c.args.c ≡ 0). let n = c.end_of.ensures.none z in absurd (omega arith))
-          (λ (own : IsCell c.args.c). let n = c.end_of.ensures.cell own in let f = p.1 own in absurd (omega arith))
-          c.requires,
-    )
+    (λ e. absurd (false≢true e), λ p. let f = p.1 in absurd (omega arith))
 
 pub returns-then-ends_family : goal.returns-then-ends_family
 returns-then-ends_family c =
@@ -32,7 +24,7 @@ returns c =
     (
       λ _. (
         c.in-Some.ensures.0,
-        λ own. let n = c.end_of.ensures.cell own in omega arith,
+        omega arith,
         λ p f. false≢true (sym c.if-ends_family.false ∙ c.ends_family.ensures.1 (p, rw e f)),
       ),
       λ _. refl,

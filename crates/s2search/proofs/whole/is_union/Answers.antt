@@ -1,13 +1,13 @@
-use Rattle.std.proofs.Common.{◌≡◌, ◌+◌, ◌-◌, ◌<◌, ◌≤◌, ◌⊎◌, inl, inr, ℕ, take, length, get_or, refl, sym, ◌∙◌, arith, rules}
+use Rattle.std.proofs.Common.{◌≡◌, ◌+◌, ◌-◌, ◌<◌, ◌≤◌, ℕ, take, length, get_or, refl, sym, ◌∙◌, arith, rules}
 use Rattle.std.proofs.Math.Logic.{⊎_elim}
 use Rattle.std.proofs.lemmas.Bool.{cases_lt, false≢true}
 use Rattle.std.proofs.lemmas.List.{take_all}
-use Rattle.s2cell.specs.Cell.{IsCell}
-use Rattle.s2union.specs.Packed.{EndsBefore, IsFamily, IsPacked}
+use Rattle.s2cell.specs.Cell.{IsCell, first_leaf}
+use Rattle.s2union.specs.Packed.{IsFamily, IsPacked}
 use Rattle.s2union.proofs.PackedLocal.{local_from_packed}
 use Rattle.s2union.proofs.Packing.{packed_take}
 use Rattle.s2union.proofs.Checking.{packed_from_local}
-use Rattle.s2search.proofs.Packing.{cell_before, cell_from, follows_from, no_family, no_cell, no_family_from_zero, packed_more}
+use Rattle.s2search.proofs.Packing.{cell_from, follows_from, no_family, no_family_from_zero, packed_more}
 use Rattle.s2search.proofs.whole.is_union.Goals as goal
 
 pub loop-k-init : goal.loop-k-init
@@ -19,18 +19,9 @@ loop-k-init g c = record {
   no_a = λ h. refl;
   no_b = λ h. refl;
   no_c = λ h. refl;
+  end = λ h. absurd (omega arith);
+  no_end = λ h. refl;
 }
-
-pub continues-requires : goal.continues-requires
-continues-requires g c =
-    let u = g.C.Cells.ids c.args.cells.now in
-    let n = c.len-k-end.ensures in
-    let v = c.loop-k.invariant in
-    let h : c.loop-k.k < length u = omega (arith, c.loop-k-test.true) in
-    ⊎_elim
-    (λ (s : 0 < c.loop-k.k). let e = v.c s in inr (rw e (cell_before u c.loop-k.k (omega arith) s v.packed)))
-    (λ (s : c.loop-k.k ≤ 0). inl (v.no_c (omega arith)))
-    (cases_lt 0 c.loop-k.k)
 
 pub loop-k-preserved : goal.loop-k-preserved
 loop-k-preserved g c =
@@ -41,9 +32,10 @@ loop-k-preserved g c =
     let h : k < length u = omega (arith, c.loop-k-test.true) in
     let is = rw c.id-d.ensures at (c.continues.ensures.0 c.if-not-continues.false) in
     let one : k + 1 - 1 ≡ k = omega arith in
+    let own : IsCell (get_or u k 0) = is.0 in
     record {
       packed = packed_more u k h v.packed is.0
-          (λ s. let e = v.c s in rw e at (is.1 (rw e (cell_before u k (omega arith) s v.packed))))
+          (λ s. let e = v.end s in rw e at is.1)
           (λ f. let ea = v.a (let t = f.0 in omega arith) in
           let eb = v.b (let t = f.0 in omega arith) in
           let ec = v.c (let t = f.0 in omega arith) in is.2 f.1 (rw (ea, eb, ec) f.2));
@@ -53,6 +45,8 @@ loop-k-preserved g c =
       no_a = λ s. v.no_b (omega arith);
       no_b = λ s. v.no_c (omega arith);
       no_c = λ s. absurd (omega arith);
+      end = λ s. rw (one, ← c.id-d.ensures) (c.end_of-end.ensures (rw c.id-d.ensures own));
+      no_end = λ s. absurd (omega arith);
     }
 
 pub returns-then-not-continues : goal.returns-then-not-continues
@@ -66,10 +60,10 @@ returns-then-not-continues g c =
       λ l.
           let p : IsPacked (take (k + 1) u) = packed_take (k + 1) u (omega arith) (packed_from_local u l) in
           let own : IsCell c.id-d.result = rw c.id-d.ensures (cell_from u k h p) in
-          let follows : IsCell c.loop-k.c → EndsBefore c.loop-k.c c.id-d.result = λ cc.
+          let follows : c.loop-k.end ≤ first_leaf c.id-d.result =
               ⊎_elim
-              (λ (s : 0 < k). let e = v.c s in rw (e, c.id-d.ensures) (follows_from u k h p s))
-              (λ (s : k ≤ 0). absurd (no_cell (rw (v.no_c (omega arith)) at cc)))
+              (λ (s : 0 < k). let e = v.end s in rw (e, c.id-d.ensures) (follows_from u k h p s))
+              (λ (s : k ≤ 0). let e = v.no_end (omega arith) in omega arith)
               (cases_lt 0 k) in
           let none : (q : ℕ) → IsFamily c.loop-k.a c.loop-k.b c.loop-k.c c.id-d.result q → ⊥ = λ q f.
               ⊎_elim
