@@ -81,13 +81,7 @@ pub(crate) fn find_between<C: Cells>(cells: &C, start: usize, end: usize, lo: u6
 }
 
 /// The same, counted. Each look halves what is left.
-fn narrow<C: Cells, K: Count>(
-    cells: &C,
-    start: usize,
-    end: usize,
-    lo: u64,
-    count: &mut K,
-) -> usize
+fn narrow<C: Cells, K: Count>(cells: &C, start: usize, end: usize, lo: u64, count: &mut K) -> usize
     requires order { start ≤ end }
     requires within { end ≤ length (C.ids cells.now) }
     ensures from { start ≤ result }

@@ -19,9 +19,7 @@ mod run;
 mod walk;
 mod whole;
 
-pub use ask::{
-    contains_cell, contains_cell_at, intersects_cell, intersects_cell_at, place_near,
-};
+pub use ask::{contains_cell, contains_cell_at, intersects_cell, intersects_cell_at, place_near};
 pub use cells::{Cells, FileIds, IdList, cell_of, number};
 pub use copying::union_of;
 pub use find::NEARBY;

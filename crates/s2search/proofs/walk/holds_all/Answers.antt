@@ -1,8 +1,7 @@
-use Rattle.std.proofs.Common.{◌≡◌, ℕ, ◌+◌, ◌-◌, ◌<◌, ◌≤◌, length, get_or, refl, sym, ◌∙◌, arith}
+use Rattle.std.proofs.Common.{◌≡◌, ◌+◌, ◌-◌, ◌<◌, ◌≤◌, length, get_or, refl, sym, ◌∙◌, arith}
 use Rattle.std.proofs.Math.Logic.{⊎_elim}
 use Rattle.std.proofs.lemmas.Bool.{cases_lt, false≢true}
 use Rattle.s2cell.specs.Cell.{IsCell, covers, first_leaf, size_of}
-use Rattle.s2cell.proofs.CellLemmas.{cell_leaves}
 use Rattle.s2union.specs.Union.{IsWithin, has_leaf}
 use Rattle.s2union.specs.Packed.{EndsAfter, FirstEndBy}
 use Rattle.s2union.proofs.Checking.{packed_from_local}
@@ -40,7 +39,7 @@ loop-j-preserved g c =
       ended = λ lx ly l.
           let cy : IsCell (get_or ys j 0) = ly.cells j 0 hj in
           let begin : c.first_of.result ≡ first_leaf (get_or ys j 0) = rw c.look-y.ensures.id at
-              (c.first_of.ensures (rw c.look-y.ensures.id cy)) in
+          (c.first_of.ensures (rw c.look-y.ensures.id cy)) in
           let placed : FirstEndBy xs i (first_leaf (get_or ys j 0)) =
           rw begin at (fi.ended (packed_from_local xs lx) (rw begin (v.ended lx ly hj))) in
           let hi : i < length xs = omega arith in
@@ -48,7 +47,7 @@ loop-j-preserved g c =
           let stop : c.end_of.result ≡ first_leaf (get_or xs i 0) + size_of (get_or xs i 0) =
           rw c.look-x.ensures.id at (c.end_of.ensures (rw c.look-x.ensures.id cx)) in
           let inside : (first_leaf (get_or xs i 0) ≤ first_leaf (get_or ys j 0))
-              × (first_leaf (get_or ys j 0) + size_of (get_or ys j 0) ≤ first_leaf (get_or xs i 0) + size_of (get_or xs i 0)) =
+          × (first_leaf (get_or ys j 0) + size_of (get_or ys j 0) ≤ first_leaf (get_or xs i 0) + size_of (get_or xs i 0)) =
           rw (c.look-x.ensures.id, c.look-y.ensures.id) at ((c.lies_in.ensures (rw c.look-x.ensures.id cx)
           (rw c.look-y.ensures.id cy)).0 c.if-not-lies_in.false) in
           let next = c.find_from_counted-j.result in
@@ -63,7 +62,7 @@ loop-j-preserved g c =
       held = λ lx ly.
           let cy : IsCell (get_or ys j 0) = ly.cells j 0 hj in
           let begin : c.first_of.result ≡ first_leaf (get_or ys j 0) = rw c.look-y.ensures.id at
-              (c.first_of.ensures (rw c.look-y.ensures.id cy)) in
+          (c.first_of.ensures (rw c.look-y.ensures.id cy)) in
           let placed : FirstEndBy xs i (first_leaf (get_or ys j 0)) =
           rw begin at (fi.ended (packed_from_local xs lx) (rw begin (v.ended lx ly hj))) in
           let hi : i < length xs = omega arith in
@@ -71,7 +70,7 @@ loop-j-preserved g c =
           let stop : c.end_of.result ≡ first_leaf (get_or xs i 0) + size_of (get_or xs i 0) =
           rw c.look-x.ensures.id at (c.end_of.ensures (rw c.look-x.ensures.id cx)) in
           let inside : (first_leaf (get_or xs i 0) ≤ first_leaf (get_or ys j 0))
-              × (first_leaf (get_or ys j 0) + size_of (get_or ys j 0) ≤ first_leaf (get_or xs i 0) + size_of (get_or xs i 0)) =
+          × (first_leaf (get_or ys j 0) + size_of (get_or ys j 0) ≤ first_leaf (get_or xs i 0) + size_of (get_or xs i 0)) =
           rw (c.look-x.ensures.id, c.look-y.ensures.id) at ((c.lies_in.ensures (rw c.look-x.ensures.id cx)
           (rw c.look-y.ensures.id cy)).0 c.if-not-lies_in.false) in
           let next = c.find_from_counted-j.result in
@@ -86,7 +85,7 @@ loop-j-preserved g c =
       walked = λ lx ly.
           let cy : IsCell (get_or ys j 0) = ly.cells j 0 hj in
           let begin : c.first_of.result ≡ first_leaf (get_or ys j 0) = rw c.look-y.ensures.id at
-              (c.first_of.ensures (rw c.look-y.ensures.id cy)) in
+          (c.first_of.ensures (rw c.look-y.ensures.id cy)) in
           let placed : FirstEndBy xs i (first_leaf (get_or ys j 0)) =
           rw begin at (fi.ended (packed_from_local xs lx) (rw begin (v.ended lx ly hj))) in
           let after : EndsAfter xs i (first_leaf (get_or ys j 0)) =
@@ -96,7 +95,7 @@ loop-j-preserved g c =
           let stop : c.end_of.result ≡ first_leaf (get_or xs i 0) + size_of (get_or xs i 0) =
           rw c.look-x.ensures.id at (c.end_of.ensures (rw c.look-x.ensures.id cx)) in
           let inside : (first_leaf (get_or xs i 0) ≤ first_leaf (get_or ys j 0))
-              × (first_leaf (get_or ys j 0) + size_of (get_or ys j 0) ≤ first_leaf (get_or xs i 0) + size_of (get_or xs i 0)) =
+          × (first_leaf (get_or ys j 0) + size_of (get_or ys j 0) ≤ first_leaf (get_or xs i 0) + size_of (get_or xs i 0)) =
           rw (c.look-x.ensures.id, c.look-y.ensures.id) at ((c.lies_in.ensures (rw c.look-x.ensures.id cx)
           (rw c.look-y.ensures.id cy)).0 c.if-not-lies_in.false) in
           let next = c.find_from_counted-j.result in
@@ -139,12 +138,11 @@ returns-then-i-m-clause-answer g c lx ly =
     let fi = c.find_from_counted-i.ensures in
     let cy : IsCell (get_or ys j 0) = ly.cells j 0 hj in
     let begin : c.first_of.result ≡ first_leaf (get_or ys j 0) = rw c.look-y.ensures.id at
-        (c.first_of.ensures (rw c.look-y.ensures.id cy)) in
+    (c.first_of.ensures (rw c.look-y.ensures.id cy)) in
     let placed : FirstEndBy xs i (first_leaf (get_or ys j 0)) =
     rw begin at (fi.ended (packed_from_local xs lx) (rw begin (v.ended lx ly hj))) in
     let after : EndsAfter xs i (first_leaf (get_or ys j 0)) =
-    rw begin at (fi.next (packed_from_local xs lx) (rw begin (v.ended lx ly hj))) in
-    (
+    rw begin at (fi.next (packed_from_local xs lx) (rw begin (v.ended lx ly hj))) in (
       λ e. absurd (false≢true e),
       λ w. let h = held_at xs i (get_or ys j 0) lx cy placed after (part_within (has_leaf xs) ys j hj w) in
           let there = h.there in
@@ -190,7 +188,7 @@ returns-then-not-lies_in-clause-answer g c lx ly =
     let fi = c.find_from_counted-i.ensures in
     let cy : IsCell (get_or ys j 0) = ly.cells j 0 hj in
     let begin : c.first_of.result ≡ first_leaf (get_or ys j 0) = rw c.look-y.ensures.id at
-        (c.first_of.ensures (rw c.look-y.ensures.id cy)) in
+    (c.first_of.ensures (rw c.look-y.ensures.id cy)) in
     let placed : FirstEndBy xs i (first_leaf (get_or ys j 0)) =
     rw begin at (fi.ended (packed_from_local xs lx) (rw begin (v.ended lx ly hj))) in
     let after : EndsAfter xs i (first_leaf (get_or ys j 0)) =
@@ -198,7 +196,7 @@ returns-then-not-lies_in-clause-answer g c lx ly =
     let hi : i < length xs = omega arith in
     let cx : IsCell (get_or xs i 0) = lx.cells i 0 hi in
     let test = rw (c.look-x.ensures.id, c.look-y.ensures.id) at (c.lies_in.ensures (rw c.look-x.ensures.id cx)
-        (rw c.look-y.ensures.id cy)) in (
+    (rw c.look-y.ensures.id cy)) in (
       λ e. absurd (false≢true e),
       λ w. let h = held_at xs i (get_or ys j 0) lx cy placed after (part_within (has_leaf xs) ys j hj w) in
           absurd (false≢true (sym c.if-not-lies_in.true ∙ test.1 (h.within.low, h.within.high))),

@@ -1,4 +1,4 @@
-use Rattle.std.proofs.Common.{◌≡◌, ℕ, ◌+◌, ◌-◌, ◌<◌, ◌≤◌, length, get_or, refl, sym, ◌∙◌, arith}
+use Rattle.std.proofs.Common.{◌≡◌, ◌+◌, ◌-◌, ◌<◌, ◌≤◌, length, get_or, refl, arith}
 use Rattle.std.proofs.Math.Logic.{⊎_elim}
 use Rattle.std.proofs.lemmas.Bool.{cases_lt, false≢true}
 use Rattle.s2cell.specs.Cell.{IsCell, covers, first_leaf, size_of}
@@ -40,20 +40,20 @@ loop-j-preserved g c =
       ended = λ lx ly l.
           let cy : IsCell (get_or ys j 0) = ly.cells j 0 hj in
           let begin : c.first_of.result ≡ first_leaf (get_or ys j 0) = rw c.look-y.ensures.id at
-              (c.first_of.ensures (rw c.look-y.ensures.id cy)) in
+          (c.first_of.ensures (rw c.look-y.ensures.id cy)) in
           let placed : FirstEndBy xs i (first_leaf (get_or ys j 0)) =
           rw begin at (fi.ended (packed_from_local xs lx) (rw begin (v.ended lx ly hj))) in
           ended_on xs ys i j c.find_from_counted-j.result ly (let f = fj.from in omega arith) l placed;
       none = λ lx ly.
           let cy : IsCell (get_or ys j 0) = ly.cells j 0 hj in
           let begin : c.first_of.result ≡ first_leaf (get_or ys j 0) = rw c.look-y.ensures.id at
-              (c.first_of.ensures (rw c.look-y.ensures.id cy)) in
+          (c.first_of.ensures (rw c.look-y.ensures.id cy)) in
           let placed : FirstEndBy xs i (first_leaf (get_or ys j 0)) =
           rw begin at (fi.ended (packed_from_local xs lx) (rw begin (v.ended lx ly hj))) in
           let hi : i < length xs = omega arith in
           let cx : IsCell (get_or xs i 0) = lx.cells i 0 hi in
           let start : c.first_of-begin.result ≡ first_leaf (get_or xs i 0) = rw c.look-x.ensures.id at
-              (c.first_of-begin.ensures (rw c.look-x.ensures.id cx)) in
+          (c.first_of-begin.ensures (rw c.look-x.ensures.id cx)) in
           let stop : c.end_of-end.result ≡ first_leaf (get_or ys j 0) + size_of (get_or ys j 0) =
           rw c.look-y.ensures.id at (c.end_of-end.ensures (rw c.look-y.ensures.id cy)) in
           let next = c.find_from_counted-j.result in
@@ -66,13 +66,13 @@ loop-j-preserved g c =
       walked = λ lx ly.
           let cy : IsCell (get_or ys j 0) = ly.cells j 0 hj in
           let begin : c.first_of.result ≡ first_leaf (get_or ys j 0) = rw c.look-y.ensures.id at
-              (c.first_of.ensures (rw c.look-y.ensures.id cy)) in
+          (c.first_of.ensures (rw c.look-y.ensures.id cy)) in
           let placed : FirstEndBy xs i (first_leaf (get_or ys j 0)) =
           rw begin at (fi.ended (packed_from_local xs lx) (rw begin (v.ended lx ly hj))) in
           let hi : i < length xs = omega arith in
           let cx : IsCell (get_or xs i 0) = lx.cells i 0 hi in
           let start : c.first_of-begin.result ≡ first_leaf (get_or xs i 0) = rw c.look-x.ensures.id at
-              (c.first_of-begin.ensures (rw c.look-x.ensures.id cx)) in
+          (c.first_of-begin.ensures (rw c.look-x.ensures.id cx)) in
           let stop : c.end_of-end.result ≡ first_leaf (get_or ys j 0) + size_of (get_or ys j 0) =
           rw c.look-y.ensures.id at (c.end_of-end.ensures (rw c.look-y.ensures.id cy)) in
           let next = c.find_from_counted-j.result in
@@ -114,10 +114,9 @@ returns-then-i-m-clause-answer g c lx ly =
     let fi = c.find_from_counted-i.ensures in
     let cy : IsCell (get_or ys j 0) = ly.cells j 0 hj in
     let begin : c.first_of.result ≡ first_leaf (get_or ys j 0) = rw c.look-y.ensures.id at
-        (c.first_of.ensures (rw c.look-y.ensures.id cy)) in
+    (c.first_of.ensures (rw c.look-y.ensures.id cy)) in
     let placed : FirstEndBy xs i (first_leaf (get_or ys j 0)) =
-    rw begin at (fi.ended (packed_from_local xs lx) (rw begin (v.ended lx ly hj))) in
-    (
+    rw begin at (fi.ended (packed_from_local xs lx) (rw begin (v.ended lx ly hj))) in (
       λ e. absurd (false≢true e),
       λ s. absurd (none_shares (has_leaf xs) ys (none_left xs ys i j lx ly (omega arith) placed (v.none lx ly)) s),
     )
@@ -161,7 +160,7 @@ returns-then-begin-end-clause-answer g c lx ly =
     let fi = c.find_from_counted-i.ensures in
     let cy : IsCell (get_or ys j 0) = ly.cells j 0 hj in
     let begin : c.first_of.result ≡ first_leaf (get_or ys j 0) = rw c.look-y.ensures.id at
-        (c.first_of.ensures (rw c.look-y.ensures.id cy)) in
+    (c.first_of.ensures (rw c.look-y.ensures.id cy)) in
     let placed : FirstEndBy xs i (first_leaf (get_or ys j 0)) =
     rw begin at (fi.ended (packed_from_local xs lx) (rw begin (v.ended lx ly hj))) in
     let after : EndsAfter xs i (first_leaf (get_or ys j 0)) =
@@ -169,10 +168,9 @@ returns-then-begin-end-clause-answer g c lx ly =
     let hi : i < length xs = omega arith in
     let cx : IsCell (get_or xs i 0) = lx.cells i 0 hi in
     let start : c.first_of-begin.result ≡ first_leaf (get_or xs i 0) = rw c.look-x.ensures.id at
-        (c.first_of-begin.ensures (rw c.look-x.ensures.id cx)) in
+    (c.first_of-begin.ensures (rw c.look-x.ensures.id cx)) in
     let stop : c.end_of-end.result ≡ first_leaf (get_or ys j 0) + size_of (get_or ys j 0) =
-    rw c.look-y.ensures.id at (c.end_of-end.ensures (rw c.look-y.ensures.id cy)) in
-    (
+    rw c.look-y.ensures.id at (c.end_of-end.ensures (rw c.look-y.ensures.id cy)) in (
       λ _. part_shares (has_leaf xs) ys j hj (shared_at xs i (get_or ys j 0) lx.cells cy hi (after hi) (omega arith)),
       λ _. refl,
     )

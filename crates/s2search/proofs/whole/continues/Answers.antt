@@ -1,4 +1,4 @@
-use Rattle.std.proofs.Common.{◌≡◌, ◌≤◌, ◌<◌, refl, sym, ◌∙◌, arith}
+use Rattle.std.proofs.Common.{◌≡◌, refl, sym, ◌∙◌, arith}
 use Rattle.std.proofs.lemmas.Bool.{false≢true}
 use Rattle.s2search.proofs.whole.continues.Goals as goal
 
@@ -20,8 +20,7 @@ returns-then-ends_family c =
 pub returns : goal.returns
 returns c =
     let e : c.in-Some.cell ≡ c.args.d = c.in-Some.ensures.1 in
-    let first = rw e at c.first_leaf.ensures.value in
-    (
+    let first = rw e at c.first_leaf.ensures.value in (
       λ _. (
         c.in-Some.ensures.0,
         omega arith,

@@ -61,17 +61,17 @@ returns-then-not-continues g c =
           let p : IsPacked (take (k + 1) u) = packed_take (k + 1) u (omega arith) (packed_from_local u l) in
           let own : IsCell c.id-d.result = rw c.id-d.ensures (cell_from u k h p) in
           let follows : c.loop-k.end ≤ first_leaf c.id-d.result =
-              ⊎_elim
-              (λ (s : 0 < k). let e = v.end s in rw (e, c.id-d.ensures) (follows_from u k h p s))
-              (λ (s : k ≤ 0). let e = v.no_end (omega arith) in omega arith)
-              (cases_lt 0 k) in
+          ⊎_elim
+          (λ (s : 0 < k). let e = v.end s in rw (e, c.id-d.ensures) (follows_from u k h p s))
+          (λ (s : k ≤ 0). let e = v.no_end (omega arith) in omega arith)
+          (cases_lt 0 k) in
           let none : (q : ℕ) → IsFamily c.loop-k.a c.loop-k.b c.loop-k.c c.id-d.result q → ⊥ = λ q f.
-              ⊎_elim
-              (λ (s : 2 < k).
-              let ea = v.a s in let eb = v.b (omega arith) in let ec = v.c (omega arith) in
-              no_family u k q h p (omega arith) (rw (ea, eb, ec, c.id-d.ensures) at f))
-              (λ (s : k ≤ 2). no_family_from_zero c.loop-k.a c.loop-k.b c.loop-k.c c.id-d.result q (v.no_a (omega arith)) f)
-              (cases_lt 2 k) in
+          ⊎_elim
+          (λ (s : 2 < k).
+          let ea = v.a s in let eb = v.b (omega arith) in let ec = v.c (omega arith) in
+          no_family u k q h p (omega arith) (rw (ea, eb, ec, c.id-d.ensures) at f))
+          (λ (s : k ≤ 2). no_family_from_zero c.loop-k.a c.loop-k.b c.loop-k.c c.id-d.result q (v.no_a (omega arith)) f)
+          (cases_lt 2 k) in
           absurd (false≢true (sym c.if-not-continues.true ∙ c.continues.ensures.1 (own, follows, none))),
     )
 
