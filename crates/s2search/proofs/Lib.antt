@@ -1,10 +1,14 @@
 mod Asking
+mod Leaving
 mod Finding
 mod Holders
 mod Looking
 mod Reaching
 mod Numbers
 mod Packing
+mod Piling
+mod Putting
 mod Reading
 mod Running
 mod Walking
+mod Sharing

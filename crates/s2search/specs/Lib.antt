@@ -3,3 +3,4 @@ pub mod Search
 pub mod Ancestors
 pub mod Normalising
 pub mod Looks
+pub mod Room

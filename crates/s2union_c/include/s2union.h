@@ -19,8 +19,9 @@
  *
  * HOW LONG A RESULT IS. A call that makes a list takes `out`, `room` (how many elements it has) and `len`.
  *   S2U_OK     out[0 .. *len) is the result. What comes after it is not touched.
- *   S2U_ROOM   room is too small, *len is exactly how many elements the result has, and out is not touched. Call again
- *              with that much room; the second call cannot be refused for room.
+ *   S2U_ROOM   room is too small, *len is exactly how many elements the result has, and out is not touched (but by
+ *              s2u_union, s2u_intersection and s2u_difference, after which it may hold anything). Call again with that
+ *              much room; the second call cannot be refused for room.
  *   otherwise  *len is 0 and out is not touched. (s2u_from_tokens reports in *len where the wrong word is.)
  * Only s2u_normalise works in the list that it is given, and it never needs more room. So `room` 0 (and out NULL) asks
  * for the length, which costs as much as the call itself. It is never necessary to ask: each call has a bound, given as
@@ -164,7 +165,9 @@ int32_t s2u_compare(const uint64_t* xs, size_t nx, const uint64_t* ys, size_t ny
  * of many lists is their concatenation, normalized. */
 int32_t s2u_normalise(uint64_t* ids, size_t n, size_t* len);
 
-/* S2U_ROOM, S2U_MEMORY, S2U_NO_UNION. At most nx + ny cells, but for a difference; 24 (nx + ny) bytes. */
+/* [pure] Written straight into out. Like questions, these do not check that the lists are unions. If one is not, the
+ * status is S2U_OK or S2U_ROOM and the result means nothing; the call is as safe as any other, and takes at most
+ * 256 (nx + ny) steps. S2U_ROOM. At most nx + ny cells, but for a difference. */
 int32_t s2u_union(const uint64_t* xs, size_t nx, const uint64_t* ys, size_t ny, uint64_t* out,
                   size_t room, size_t* len);
 int32_t s2u_intersection(const uint64_t* xs, size_t nx, const uint64_t* ys, size_t ny, uint64_t* out,

@@ -5,4 +5,5 @@ mod Wrong
 mod Words
 mod Joining
 mod Pieces
+mod Placed
 mod Naming

@@ -1,5 +1,7 @@
 //! Writing results into the lists that a caller provides.
+ghost use Rattle.std.specs.Prelude.{◌≡◌, ◌<◌, ◌≤◌};
 ghost use Rattle.s2union_c.specs.Results.{Made};
+ghost use Rattle.s2union_c.specs.Status.{made, no_room};
 
 use crate::status::{MADE, NO_ROOM};
 use s2cell::CellId;
@@ -28,4 +30,12 @@ pub(crate) fn put_cells(cells: &[CellId], out: &mut [u64], len: &mut usize) -> i
         out[k] = cells[k].id();
     }
     MADE
+}
+
+/// Whether a result of this length fits the room.
+pub(crate) fn room_status(len: usize, room: usize) -> i32
+    ensures fits { len ≤ room → result ≡ made }
+    ensures short { room < len → result ≡ no_room }
+{
+    if len <= room { MADE } else { NO_ROOM }
 }

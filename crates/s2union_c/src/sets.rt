@@ -1,82 +1,48 @@
-//! The operations on two unions.
+//! The operations on two unions, written straight into the caller's list.
+ghost use Rattle.std.specs.Prelude.{◌≡◌, ◌≤◌, ◌⊎◌, length};
 ghost use Rattle.s2union.specs.Sets.{either, shared, without};
 ghost use Rattle.s2union.specs.Union.{IsLocal, IsNormalForm, has_leaf};
-ghost use Rattle.s2union_c.specs.Results.{MadeOne, Refused};
-ghost use Rattle.s2union_c.specs.Status.{no_union};
+ghost use Rattle.s2union_c.specs.Results.{MadeInPlace};
+ghost use Rattle.s2union_c.specs.Status.{made, no_room};
 
-use crate::lists::both_unions;
-use crate::results::put_cells;
-use crate::status::NO_MEMORY;
-use std::alloc::Global;
+use crate::results::room_status;
+use s2search::{IdList, put_difference, put_intersection, put_union};
 
-/// The leaves of either union.
+/// The leaves of either union. Of lists that are not unions the result means nothing.
 #[unsafe(no_mangle)]
-pub extern "C" fn s2u_union(
-    alloc: Global,
-    xs: &[u64],
-    ys: &[u64],
-    out: &mut [u64],
-    len: &mut usize,
-) -> i32
+pub extern "C" fn s2u_union(xs: &[u64], ys: &[u64], out: &mut [u64], len: &mut usize) -> i32
     ensures made { IsLocal xs.now → IsLocal ys.now
-        → MadeOne result (IsNormalForm (either (has_leaf xs.now) (has_leaf ys.now))) out.old out.new len.new }
-    ensures no_union { (IsLocal xs.now → IsLocal ys.now → ⊥) → Refused result no_union out.old out.new len.new }
+        → MadeInPlace result (IsNormalForm (either (has_leaf xs.now) (has_leaf ys.now))) out.old out.new len.new }
+    ensures status { (result ≡ made) ⊎ (result ≡ no_room) }
+    ensures fits { result ≡ made → len.new ≤ length out.new }
+    ensures same_length { length out.new ≡ length out.old }
 {
-    *len = 0;
-    let (first, second) = match both_unions(alloc, xs, ys) {
-        Ok(both) => both,
-        Err(refusal) => return refusal,
-    };
-    match first.union(&second) {
-        Ok(union) => put_cells(union.cells(), out, len),
-        Err(_) => NO_MEMORY,
-    }
+    *len = put_union(&IdList { ids: xs }, &IdList { ids: ys }, out);
+    room_status(*len, out.len())
 }
 
-/// The leaves that both unions have.
+/// The leaves that both unions have. Of lists that are not unions the result means nothing.
 #[unsafe(no_mangle)]
-pub extern "C" fn s2u_intersection(
-    alloc: Global,
-    xs: &[u64],
-    ys: &[u64],
-    out: &mut [u64],
-    len: &mut usize,
-) -> i32
+pub extern "C" fn s2u_intersection(xs: &[u64], ys: &[u64], out: &mut [u64], len: &mut usize) -> i32
     ensures made { IsLocal xs.now → IsLocal ys.now
-        → MadeOne result (IsNormalForm (shared (has_leaf xs.now) (has_leaf ys.now))) out.old out.new len.new }
-    ensures no_union { (IsLocal xs.now → IsLocal ys.now → ⊥) → Refused result no_union out.old out.new len.new }
+        → MadeInPlace result (IsNormalForm (shared (has_leaf xs.now) (has_leaf ys.now))) out.old out.new len.new }
+    ensures status { (result ≡ made) ⊎ (result ≡ no_room) }
+    ensures fits { result ≡ made → len.new ≤ length out.new }
+    ensures same_length { length out.new ≡ length out.old }
 {
-    *len = 0;
-    let (first, second) = match both_unions(alloc, xs, ys) {
-        Ok(both) => both,
-        Err(refusal) => return refusal,
-    };
-    match first.intersection(&second) {
-        Ok(union) => put_cells(union.cells(), out, len),
-        Err(_) => NO_MEMORY,
-    }
+    *len = put_intersection(&IdList { ids: xs }, &IdList { ids: ys }, out);
+    room_status(*len, out.len())
 }
 
-/// The leaves of the first union that the second doesn't have.
+/// The leaves of the first union that the second doesn't have. Of lists that are not unions the result means nothing.
 #[unsafe(no_mangle)]
-pub extern "C" fn s2u_difference(
-    alloc: Global,
-    xs: &[u64],
-    ys: &[u64],
-    out: &mut [u64],
-    len: &mut usize,
-) -> i32
+pub extern "C" fn s2u_difference(xs: &[u64], ys: &[u64], out: &mut [u64], len: &mut usize) -> i32
     ensures made { IsLocal xs.now → IsLocal ys.now
-        → MadeOne result (IsNormalForm (without (has_leaf xs.now) (has_leaf ys.now))) out.old out.new len.new }
-    ensures no_union { (IsLocal xs.now → IsLocal ys.now → ⊥) → Refused result no_union out.old out.new len.new }
+        → MadeInPlace result (IsNormalForm (without (has_leaf xs.now) (has_leaf ys.now))) out.old out.new len.new }
+    ensures status { (result ≡ made) ⊎ (result ≡ no_room) }
+    ensures fits { result ≡ made → len.new ≤ length out.new }
+    ensures same_length { length out.new ≡ length out.old }
 {
-    *len = 0;
-    let (first, second) = match both_unions(alloc, xs, ys) {
-        Ok(both) => both,
-        Err(refusal) => return refusal,
-    };
-    match first.difference(&second) {
-        Ok(union) => put_cells(union.cells(), out, len),
-        Err(_) => NO_MEMORY,
-    }
+    *len = put_difference(&IdList { ids: xs }, &IdList { ids: ys }, out);
+    room_status(*len, out.len())
 }

@@ -1,0 +1,25 @@
+use Rattle.std.proofs.Common.{◌≡◌, ◌++◌, ◌∷◌, [], ◌∙◌, refl, arith}
+use Rattle.s2union.proofs.Tiling.{tiling_step, tiling_done}
+use Rattle.s2search.proofs.room.put_gap.Goals as goal
+
+pub loop-first-preserved : goal.loop-first-preserved
+loop-first-preserved c = record {
+  len = c.put-count.ensures.len ∙ c.loop-first.invariant.len;
+  tiled = λ list room most p.
+      let (longer, tiling, put) = c.loop-first.invariant.tiled list room most p in
+      let cell = c.tile-cell.result in
+      let end : c.min-end.result ≡ c.args.hi = omega arith in
+      let ends = c.tile-cell.ensures.end in (
+        longer ++ cell ∷ [],
+        rw c.end_leaf-first.ensures.value
+            (tiling_step list longer (longer ++ cell ∷ []) c.args.lo c.args.hi c.loop-first.first cell tiling
+            c.tile-cell.ensures.cell c.tile-cell.ensures.first (omega arith)
+            (λ q own at by. c.tile-cell.ensures.largest q own at (omega arith)) refl),
+        rw c.id.ensures.value at (c.put-count.ensures.put longer room put),
+      );
+}
+
+pub returns-clause-put : goal.returns-clause-put
+returns-clause-put c most list room p =
+    let (longer, tiling, put) = c.loop-first.invariant.tiled list room most p in
+    (longer, tiling_done list longer c.args.lo c.args.hi c.loop-first.first tiling (omega arith), put)

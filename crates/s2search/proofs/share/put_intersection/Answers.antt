@@ -1,0 +1,127 @@
+use Rattle.std.proofs.Common.{◌≡◌, ◌+◌, ◌<◌, ◌≤◌, ◌∙◌, length, refl, sym, arith}
+use Rattle.std.proofs.lemmas.Bool.{false≢true}
+use Rattle.s2union.specs.Union.{has_leaf}
+use Rattle.s2union.specs.Sets.{shared}
+use Rattle.s2union.proofs.Shared.{both}
+use Rattle.s2search.proofs.Sharing.{shared_none, shared_swap, shared_skip, shared_run, shared_done, inside_by}
+use Rattle.s2search.proofs.Sharing.{inside_else}
+use Rattle.s2search.proofs.share.put_intersection.Goals as goal
+
+pub loop-i-init : goal.loop-i-init
+loop-i-init g c = record {
+  in_x = omega arith;
+  in_y = omega arith;
+  len = refl;
+  so_far = λ lx ly. shared_none (g.X.Cells.ids c.args.xs.now) (g.Y.Cells.ids c.args.ys.now) c.args.out.now;
+}
+
+pub loop-i-preserved-then-x_end-y_first : goal.loop-i-preserved-then-x_end-y_first
+loop-i-preserved-then-x_end-y_first g c =
+    let xs = g.X.Cells.ids c.args.xs.now in
+    let ys = g.Y.Cells.ids c.args.ys.now in
+    let nx = c.len-x_len.ensures in
+    let ny = c.len-y_len.ensures in
+    let h : c.loop-i.i < length xs = omega (arith, c.loop-i-test.true) in
+    let t : c.loop-i.j < length ys = omega (arith, c.if-j-y_len.true) in
+    let f = c.leap-i.ensures in
+    record {
+      in_x = f.within;
+      in_y = c.loop-i.invariant.in_y;
+      len = c.loop-i.invariant.len;
+      so_far = λ lx ly. shared_skip (both xs ys) xs ys c.args.out.now c.loop-i.out c.loop-i.n c.loop-i.i c.loop-i.j
+          c.leap-i.result c.id-x.result c.id-y.result c.end_of-x_end.result c.first_of-y_first.result lx ly
+          (c.loop-i.invariant.so_far lx ly) h t c.id-x.ensures c.id-y.ensures c.end_of-x_end.ensures
+          c.first_of-y_first.ensures c.if-x_end-y_first.true f.from f.within f.ended;
+    }
+
+pub loop-i-preserved-then-y_end-x_first : goal.loop-i-preserved-then-y_end-x_first
+loop-i-preserved-then-y_end-x_first g c =
+    let xs = g.X.Cells.ids c.args.xs.now in
+    let ys = g.Y.Cells.ids c.args.ys.now in
+    let nx = c.len-x_len.ensures in
+    let ny = c.len-y_len.ensures in
+    let h : c.loop-i.i < length xs = omega (arith, c.loop-i-test.true) in
+    let t : c.loop-i.j < length ys = omega (arith, c.if-j-y_len.true) in
+    let f = c.leap-j.ensures in
+    record {
+      in_x = c.loop-i.invariant.in_x;
+      in_y = f.within;
+      len = c.loop-i.invariant.len;
+      so_far = λ lx ly. shared_swap (both xs ys) ys xs c.args.out.now c.loop-i.out c.loop-i.n c.leap-j.result c.loop-i.i
+          (shared_skip (both xs ys) ys xs c.args.out.now c.loop-i.out c.loop-i.n c.loop-i.j c.loop-i.i
+          c.leap-j.result c.id-y.result c.id-x.result c.end_of-y_end.result c.first_of-x_first.result ly lx
+          (shared_swap (both xs ys) xs ys c.args.out.now c.loop-i.out c.loop-i.n c.loop-i.i c.loop-i.j
+          (c.loop-i.invariant.so_far lx ly)) t h c.id-y.ensures c.id-x.ensures c.end_of-y_end.ensures
+          c.first_of-x_first.ensures c.if-y_end-x_first.true f.from f.within f.ended);
+    }
+
+pub loop-i-preserved-then-is_within : goal.loop-i-preserved-then-is_within
+loop-i-preserved-then-is_within g c =
+    let xs = g.X.Cells.ids c.args.xs.now in
+    let ys = g.Y.Cells.ids c.args.ys.now in
+    let nx = c.len-x_len.ensures in
+    let ny = c.len-y_len.ensures in
+    let h : c.loop-i.i < length xs = omega (arith, c.loop-i-test.true) in
+    let t : c.loop-i.j < length ys = omega (arith, c.if-j-y_len.true) in
+    let f = c.leap-next.ensures in
+    let among = c.is_within.ensures.0 c.if-is_within.true in
+    record {
+      in_x = f.within;
+      in_y = omega arith;
+      len = c.put_run-n.ensures.len ∙ c.loop-i.invariant.len;
+      so_far = λ lx ly. shared_run (both xs ys) xs ys c.args.out.now c.loop-i.out c.put_run-n.new.out c.loop-i.n
+          c.put_run-n.result c.loop-i.i c.loop-i.j c.leap-next.result c.id-x.result c.id-y.result c.end_of-y_end.result
+          lx ly (c.loop-i.invariant.so_far lx ly) h t c.id-x.ensures c.id-y.ensures
+          (inside_by xs ys c.loop-i.i c.loop-i.j c.id-x.result c.id-y.result c.first_of-x_first.result
+          c.end_of-x_end.result c.first_of-y_first.result c.end_of-y_end.result lx ly h t c.id-x.ensures c.id-y.ensures
+          c.first_of-x_first.ensures c.end_of-x_end.ensures c.first_of-y_first.ensures c.end_of-y_end.ensures among.0
+          among.1)
+          c.end_of-y_end.ensures f.from f.within f.ended f.next c.put_run-n.ensures.put;
+    }
+
+pub loop-i-preserved : goal.loop-i-preserved
+loop-i-preserved g c =
+    let xs = g.X.Cells.ids c.args.xs.now in
+    let ys = g.Y.Cells.ids c.args.ys.now in
+    let nx = c.len-x_len.ensures in
+    let ny = c.len-y_len.ensures in
+    let h : c.loop-i.i < length xs = omega (arith, c.loop-i-test.true) in
+    let t : c.loop-i.j < length ys = omega (arith, c.if-j-y_len.true) in
+    let f = c.leap-next-else-is_within.ensures in
+    record {
+      in_x = omega arith;
+      in_y = f.within;
+      len = c.put_run-n-else-is_within.ensures.len ∙ c.loop-i.invariant.len;
+      so_far = λ lx ly. shared_swap (both xs ys) ys xs c.args.out.now c.put_run-n-else-is_within.new.out
+          c.put_run-n-else-is_within.result c.leap-next-else-is_within.result (c.loop-i.i + 1)
+          (shared_run (both xs ys) ys xs c.args.out.now c.loop-i.out c.put_run-n-else-is_within.new.out c.loop-i.n
+          c.put_run-n-else-is_within.result c.loop-i.j c.loop-i.i c.leap-next-else-is_within.result c.id-y.result
+          c.id-x.result c.end_of-x_end.result ly lx
+          (shared_swap (both xs ys) xs ys c.args.out.now c.loop-i.out c.loop-i.n c.loop-i.i c.loop-i.j
+          (c.loop-i.invariant.so_far lx ly)) t h c.id-y.ensures c.id-x.ensures
+          (inside_else xs ys c.loop-i.i c.loop-i.j c.id-x.result c.id-y.result c.first_of-x_first.result
+          c.end_of-x_end.result c.first_of-y_first.result c.end_of-y_end.result lx ly h t c.id-x.ensures c.id-y.ensures
+          c.first_of-x_first.ensures c.end_of-x_end.ensures c.first_of-y_first.ensures c.end_of-y_end.ensures
+          c.if-x_end-y_first.false c.if-y_end-x_first.false
+          (λ among. false≢true (sym c.if-is_within.false ∙ c.is_within.ensures.1 among)))
+          c.end_of-x_end.ensures f.from f.within f.ended f.next c.put_run-n-else-is_within.ensures.put);
+    }
+
+pub returns-else-j-y_len-clause-made : goal.returns-else-j-y_len-clause-made
+returns-else-j-y_len-clause-made g c lx ly =
+    let xs = g.X.Cells.ids c.args.xs.now in
+    let ys = g.Y.Cells.ids c.args.ys.now in
+    let ny = c.len-y_len.ensures in
+    shared_done (both xs ys) ys xs c.args.out.now c.loop-i.out c.loop-i.n c.loop-i.j c.loop-i.i
+    (shared (has_leaf xs) (has_leaf ys))
+    (shared_swap (both xs ys) xs ys c.args.out.now c.loop-i.out c.loop-i.n c.loop-i.i c.loop-i.j
+    (c.loop-i.invariant.so_far lx ly)) (omega (arith, c.if-j-y_len.false)) (λ x. refl)
+
+pub returns-after-loop-i-clause-made : goal.returns-after-loop-i-clause-made
+returns-after-loop-i-clause-made g c lx ly =
+    let xs = g.X.Cells.ids c.args.xs.now in
+    let ys = g.Y.Cells.ids c.args.ys.now in
+    let nx = c.len-x_len.ensures in
+    shared_done (both xs ys) xs ys c.args.out.now c.loop-i.out c.loop-i.n c.loop-i.i c.loop-i.j
+    (shared (has_leaf xs) (has_leaf ys)) (c.loop-i.invariant.so_far lx ly) (omega (arith, c.loop-i-test.false))
+    (λ x. refl)

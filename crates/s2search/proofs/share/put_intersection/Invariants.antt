@@ -1,0 +1,18 @@
+use Rattle.std.proofs.Common.{◌≡◌, ◌≤◌, ◌+◌, ◌-◌, length}
+use Rattle.s2union.specs.Union.{IsLocal}
+use Rattle.s2union.proofs.Shared.{both}
+use Rattle.s2search.proofs.Sharing.{SharingIn}
+use Rattle.s2search.proofs.share.put_intersection.Given as goal
+
+abbrev pub invariant-loop-i : goal.invariant-loop-i
+invariant-loop-i g l = record {
+  in_x : l.i ≤ length (g.X.Cells.ids l.xs);
+  in_y : l.j ≤ length (g.Y.Cells.ids l.ys);
+  len : length l.out ≡ length l.fn.out;
+  so_far : IsLocal (g.X.Cells.ids l.xs) → IsLocal (g.Y.Cells.ids l.ys)
+      → SharingIn (both (g.X.Cells.ids l.xs) (g.Y.Cells.ids l.ys)) (g.X.Cells.ids l.xs) (g.Y.Cells.ids l.ys) l.fn.out
+      l.out l.n l.i l.j;
+}
+
+abbrev pub decreases-loop-i : goal.decreases-loop-i
+decreases-loop-i g l = (length (g.X.Cells.ids l.xs) - l.i) + (length (g.Y.Cells.ids l.ys) - l.j)
