@@ -38,13 +38,18 @@ int main(void) {
     (void)s2u_leaf_count(xs, nx);
     unions += (size_t)s2u_is_union(xs, nx);
     for (size_t k = 0; k < room; k++) out[k] = 7;
+    int are_unions = s2u_is_union(xs, nx) && s2u_is_union(ys, ny);
     status = s2u_union(xs, nx, ys, ny, out, room, &len);
-    CHECK(status == (s2u_is_union(xs, nx) && s2u_is_union(ys, ny) ? (len > room ? S2U_ROOM : S2U_OK) : S2U_NO_UNION));
-    for (size_t k = status == S2U_OK ? len : 0; k < room; k++) CHECK(out[k] == 7);
+    CHECK(status == (len > room ? S2U_ROOM : S2U_OK) && len <= (are_unions ? 1 : 256) * (nx + ny));
+    for (size_t k = status == S2U_OK ? len : room; k < room; k++) CHECK(out[k] == 7);
+    CHECK(!are_unions || status != S2U_OK || s2u_is_union(out, len));
+    status = s2u_intersection(xs, nx, ys, ny, out, room, &len);
+    CHECK(status == (len > room ? S2U_ROOM : S2U_OK) && len <= nx + ny);
+    CHECK(!are_unions || status != S2U_OK || s2u_is_union(out, len));
     status = s2u_difference(xs, nx, ys, ny, out, room, &len);
-    CHECK(status == S2U_OK ? s2u_is_union(out, len) && len <= room
-                           : status == S2U_NO_UNION || (status == S2U_ROOM && len > room));
-    CHECK(len <= S2U_MOST_DIFFERENCE(nx, ny));
+    CHECK(status == (len > room ? S2U_ROOM : S2U_OK));
+    CHECK(len <= (are_unions ? S2U_MOST_DIFFERENCE(nx, ny) : 256 * (nx + ny)));
+    CHECK(!are_unions || status != S2U_OK || s2u_is_union(out, len));
     uint64_t last = garbage();
     status = s2u_range(cell, last, out, room, &len);
     CHECK(status == S2U_OK     ? s2u_is_union(out, len) && len <= room

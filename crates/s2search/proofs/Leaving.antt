@@ -66,7 +66,7 @@ pub left_taken : (xs ys room out new : List ℕ) (n m i j lo x y first end start
     IsLocal ys → LeavingIn xs ys room out n i j start → i < length xs → j < length ys → x ≡ get_or xs i 0
     → y ≡ get_or ys j 0 → (IsCell x → first ≡ first_leaf x) → (IsCell x → end ≡ first_leaf x + size_of x)
     → (IsCell y → y_first ≡ first_leaf y) → (IsCell y → y_end ≡ first_leaf y + size_of y) → start ≡ max first lo
-    → y_first < end → next ≡ max y_end start → (y_first ≤ LEAVES → PutsGap out new n m start y_first)
+    → y_first < end → next ≡ max y_end start → ((start < y_first → y_first ≤ LEAVES) → PutsGap out new n m start y_first)
     → LeavingIn xs ys room new m i (j + 1) next
 left_taken xs ys room out new n m i j lo x y first end start y_first y_end next lx ly s h g rx ry fx ex fy ey es before
     en puts =
@@ -77,7 +77,7 @@ left_taken xs ys room out new n m i j lo x y first end start y_first y_end next 
     let c = fy cy in
     let d = ey cy in
     let w = (cell_leaves y cy).within in
-    let (longer, fills, put) = puts (omega arith) s.list room s.put in
+    let (longer, fills, put) = puts (λ _. omega arith) s.list room s.put in
     record {
       list = longer;
       put = put;
@@ -99,13 +99,13 @@ pub left_free : (xs ys room out new : List ℕ) (n m i j lo x first end start ne
     LeavingIn xs ys room out n i j start → i < length xs → x ≡ get_or xs i 0 → (IsCell x → first ≡ first_leaf x)
     → (IsCell x → end ≡ first_leaf x + size_of x) → start ≡ max first lo
     → (j < length ys → end ≤ first_leaf (get_or ys j 0)) → next ≡ max end start
-    → (end ≤ LEAVES → PutsGap out new n m start end) → LeavingIn xs ys room new m (i + 1) j next
+    → ((start < end → end ≤ LEAVES) → PutsGap out new n m start end) → LeavingIn xs ys room new m (i + 1) j next
 left_free xs ys room out new n m i j lo x first end start next lx ly s h rx fx ex es free en puts =
     let cx : IsCell x = rw rx (lx.cells i 0 h) in
     let a = fx cx in
     let b = ex cx in
     let w = (cell_leaves x cx).within in
-    let (longer, fills, put) = puts (omega arith) s.list room s.put in
+    let (longer, fills, put) = puts (λ _. omega arith) s.list room s.put in
     record {
       list = longer;
       put = put;

@@ -1,4 +1,5 @@
 mod Asking
+mod Laying
 mod Leaving
 mod Finding
 mod Holders

@@ -17,24 +17,15 @@ use Rattle.s2union.proofs.Picking.{Picked, IsGap, picked_none, picked_fill, fill
 use Rattle.s2union.proofs.Tiling.{or_true, or_false, none_between}
 use Rattle.s2union.proofs.Walking.{leaf_at, not_true}
 use Rattle.s2union.proofs.Finding.{starts_later}
+use Rattle.s2search.specs.Piles.{Piling, PilingIn}
 use Rattle.s2search.specs.Room.{IsPut, PutsGap, PutsOne}
 use Rattle.s2search.proofs.Putting.{put_none, puts_normal}
 
 abbrev pub any : List ℕ → List ℕ → ℕ → Bool
 any xs ys x = has_leaf xs x || has_leaf ys x
 
--- the cells of `list` and the leaves from `lo` to before `hi` are the first i cells of xs and the first j of ys, and no
--- other cell begins before `lo`; `list` is done
-pub record Piling (S : ℕ → Bool) (xs ys list : List ℕ) (i j lo hi : ℕ) : Type 0 where
-  pub same : (x : ℕ) → S x ≡ (has_leaf xs x || has_leaf ys x)
-  pub picked : Picked S list
-  pub below : EndsBy list lo
-  pub order : lo ≤ hi
-  pub most : hi ≤ LEAVES
-  pub edge : (x : ℕ) → x + 1 ≡ lo → S x ≡ false
-  pub leaves : (x : ℕ) → (has_leaf list x || between lo hi x) ≡ (has_leaf (take i xs) x || has_leaf (take j ys) x)
-  pub start_x : i < length xs → lo ≤ first_leaf (get_or xs i 0)
-  pub start_y : j < length ys → lo ≤ first_leaf (get_or ys j 0)
+pub pile_picked : (S : ℕ → Bool) (xs ys list : List ℕ) (i j lo hi : ℕ) → Piling S xs ys list i j lo hi → Picked S list
+pile_picked S xs ys list i j lo hi s = record { chain = s.chain; greatest = s.greatest }
 
 or_swap : (a b : Bool) → (a || b) ≡ (b || a)
 or_swap true true = refl
@@ -54,7 +45,8 @@ pub piling_swap : (S : ℕ → Bool) (xs ys list : List ℕ) (i j lo hi : ℕ) �
     Piling S ys xs list j i lo hi
 piling_swap S xs ys list i j lo hi s = record {
   same = λ x. s.same x ∙ or_swap (has_leaf xs x) (has_leaf ys x);
-  picked = s.picked;
+  chain = s.chain;
+  greatest = s.greatest;
   below = s.below;
   order = s.order;
   most = s.most;
@@ -67,10 +59,11 @@ piling_swap S xs ys list i j lo hi s = record {
 pub piling_none : (xs ys : List ℕ) → Piling (any xs ys) xs ys [] 0 0 0 0
 piling_none xs ys = record {
   same = λ x. refl;
-  picked = picked_none (any xs ys);
+  chain = (picked_none (any xs ys)).chain;
+  greatest = (picked_none (any xs ys)).greatest;
   below = λ x h. absurd (false≢true h);
   order = omega arith;
-  most = omega arith;
+  most = λ h. absurd (omega arith);
   edge = λ x h. absurd (omega arith);
   leaves = λ x. none_between 0 x;
   start_x = λ h. omega arith;
@@ -93,18 +86,21 @@ piling_more S xs ys list i j lo hi m lx s h meets em =
     let some = l.some in
     let within = l.within in
     let order = s.order in
-    let most = s.most in
-    let low = s.start_x h in
+    let low : lo ≤ first_leaf (get_or xs i 0) = s.start_x h in
     let start = first_leaf c in
     let end = first_leaf c + size_of c in
     let is : (m ≡ hi) ⊎ (m ≡ end) = ⊎_elim (λ (a : end < hi). inl (omega arith)) (λ (a : hi ≤ end). inr (omega arith))
     (cases_lt end hi) in
     record {
       same = s.same;
-      picked = s.picked;
+      chain = s.chain;
+      greatest = s.greatest;
       below = s.below;
       order = omega arith;
-      most = omega arith;
+      most = λ b. ⊎_elim
+          (λ (a : lo < hi). let o = s.most a in omega arith)
+          (λ (a : hi ≤ lo). omega arith)
+          (cases_lt lo hi);
       edge = s.edge;
       leaves = λ x.
           let pile = has_leaf list x in
@@ -124,7 +120,7 @@ piling_more S xs ys list i j lo hi m lx s h meets em =
     }
 
 -- before the next cell a list has the leaves of those before it
-taken : (u : List ℕ) (i x : ℕ) → IsPacked u → (i < length u → x < first_leaf (get_or u i 0)) →
+pub taken : (u : List ℕ) (i x : ℕ) → IsPacked u → (i < length u → x < first_leaf (get_or u i 0)) →
     has_leaf u x ≡ has_leaf (take i u) x
 taken u i x p next =
     let parts : has_leaf u x ≡ (has_leaf (take i u) x || has_leaf (drop i u) x) =
@@ -153,7 +149,7 @@ pile_is S xs ys list i j lo hi start x px py s nx ny h =
     let ty = taken ys j x py (λ g. let n = ny g in omega arith) in
     s.same x ∙ ap (λ v. v || has_leaf ys x) tx ∙ ap (λ v. has_leaf (take i xs) x || v) ty ∙ sym (s.leaves x)
 
-pile_free : (list : List ℕ) (lo hi x : ℕ) → EndsBy list lo → lo ≤ hi → hi ≤ x →
+pub pile_free : (list : List ℕ) (lo hi x : ℕ) → EndsBy list lo → lo ≤ hi → hi ≤ x →
     (has_leaf list x || between lo hi x) ≡ false
 pile_free list lo hi x below order h = not_true (has_leaf list x || between lo hi x) (λ t.
     ⊎_elim
@@ -204,17 +200,19 @@ pile_gap S xs ys list i j lo hi start px py s nx ny h =
 -- the next cells begin after the leaves, which are put to the list
 pub piling_flush : (S : ℕ → Bool) (xs ys list new : List ℕ) (i j lo hi start : ℕ) → IsLocal xs → IsLocal ys →
     Piling S xs ys list i j lo hi → (i < length xs → start ≤ first_leaf (get_or xs i 0))
-    → (j < length ys → start ≤ first_leaf (get_or ys j 0)) → hi < start → start ≤ LEAVES → FillsGap list new lo hi
+    → (j < length ys → start ≤ first_leaf (get_or ys j 0)) → hi < start → FillsGap list new lo hi
     → Piling S xs ys new i j start start
-piling_flush S xs ys list new i j lo hi start lx ly s nx ny h most f =
+piling_flush S xs ys list new i j lo hi start lx ly s nx ny h f =
     let px = packed_from_local xs lx in
     let py = packed_from_local ys ly in
     let order = s.order in
     let filled = fill_leaves list new lo hi f in
+    let picked : Picked S new = picked_fill S list new lo hi (pile_picked S xs ys list i j lo hi s) s.below
+    (λ _. pile_gap S xs ys list i j lo hi start px py s nx ny h) f in
     record {
       same = s.same;
-      picked = picked_fill S list new lo hi s.picked s.below
-          (λ _. pile_gap S xs ys list i j lo hi start px py s nx ny h) f;
+      chain = picked.chain;
+      greatest = picked.greatest;
       below = λ x t.
           ⊎_elim
           (λ (a : x < start). a)
@@ -222,7 +220,7 @@ piling_flush S xs ys list new i j lo hi start lx ly s nx ny h most f =
           absurd (false≢true (sym (pile_free list lo hi x s.below order (omega arith)) ∙ (sym (filled x) ∙ t))))
           (cases_lt x start);
       order = omega arith;
-      most = most;
+      most = λ b. absurd (omega arith);
       edge = λ x e. pile_is S xs ys list i j lo hi start x px py s nx ny (omega arith)
           ∙ pile_free list lo hi x s.below order (omega arith);
       leaves = λ x. ap (λ v. has_leaf new x || v) (none_between start x) ∙ sym (or_false (has_leaf new x)) ∙ filled x
@@ -235,7 +233,7 @@ piling_flush S xs ys list new i j lo hi start lx ly s nx ny h most f =
 pub piling_picked : (S : ℕ → Bool) (xs ys list new : List ℕ) (i j lo hi : ℕ) → IsLocal xs → IsLocal ys →
     Piling S xs ys list i j lo hi → length xs ≤ i → length ys ≤ j → FillsGap list new lo hi → Picked S new
 piling_picked S xs ys list new i j lo hi lx ly s a b f =
-    picked_fill S list new lo hi s.picked s.below
+    picked_fill S list new lo hi (pile_picked S xs ys list i j lo hi s) s.below
     (λ _. pile_gap S xs ys list i j lo hi (hi + 1) (packed_from_local xs lx) (packed_from_local ys ly) s
     (λ h. absurd (omega arith)) (λ h. absurd (omega arith)) (omega arith)) f
 
@@ -247,12 +245,6 @@ piling_leaves S xs ys list new i j lo hi s a b f x =
     ∙ ap (λ v. has_leaf xs x || has_leaf v x) (take_all j ys b) ∙ sym (s.same x)
 
 -- ---- in a room
-
--- the list of a pile is in the room
-pub record PilingIn (S : ℕ → Bool) (xs ys room out : List ℕ) (n i j lo hi : ℕ) : Type 0 where
-  pub list : List ℕ
-  pub put : IsPut list room out n
-  pub pile : Piling S xs ys list i j lo hi
 
 pub pile_none : (xs ys room : List ℕ) → PilingIn (any xs ys) xs ys room room 0 0 0 0 0
 pile_none xs ys room = record { list = []; put = put_none room; pile = piling_none xs ys }
@@ -274,7 +266,7 @@ pub pile_add : (S : ℕ → Bool) (xs ys room out new : List ℕ) (n m i j lo hi
     → (IsCell x → first ≡ first_leaf x) → (IsCell x → end ≡ first_leaf x + size_of x)
     → (j < length ys → first ≤ first_leaf (get_or ys j 0))
     → (first ≤ hi → (new ≡ out) × (m ≡ n) × (low ≡ lo) × (high ≡ max hi end))
-    → (hi < first → hi ≤ LEAVES → PutsGap out new n m lo hi × (low ≡ first) × (high ≡ end))
+    → (hi < first → (lo < hi → hi ≤ LEAVES) → PutsGap out new n m lo hi × (low ≡ first) × (high ≡ end))
     → PilingIn S xs ys room new m (i + 1) j low high
 pile_add S xs ys room out new n m i j lo hi low high x first end lx ly s h rx fx ex later more apart =
     let c = get_or xs i 0 in
@@ -299,7 +291,7 @@ pile_add S xs ys room out new n m i j lo hi low high x first end lx ly s h rx fx
     let (puts, low_is, high_is) = apart a most in
     let (longer, fills, put) = puts s.list room s.put in
     let flushed : Piling S xs ys longer i j first first =
-    piling_flush S xs ys s.list longer i j lo hi first lx ly s.pile (λ g. omega arith) later a (omega arith) fills in
+    piling_flush S xs ys s.list longer i j lo hi first lx ly s.pile (λ g. omega arith) later a fills in
     let high_max : high ≡ max first (first_leaf c + size_of c) = omega arith in
     rw low_is
     (record {
@@ -312,7 +304,7 @@ pile_add S xs ys room out new n m i j lo hi low high x first end lx ly s h rx fx
 -- both lists are at their ends, and the pile is put into the room
 pub pile_done : (xs ys room out new : List ℕ) (n m i j lo hi : ℕ) (T : ℕ → Bool) → IsLocal xs → IsLocal ys →
     PilingIn (any xs ys) xs ys room out n i j lo hi → length xs ≤ i → length ys ≤ j
-    → (hi ≤ LEAVES → PutsGap out new n m lo hi) → ((x : ℕ) → any xs ys x ≡ T x)
+    → ((lo < hi → hi ≤ LEAVES) → PutsGap out new n m lo hi) → ((x : ℕ) → any xs ys x ≡ T x)
     → PutsOne (IsNormalForm T) room new m
 pile_done xs ys room out new n m i j lo hi T lx ly s a b puts same =
     let (longer, fills, put) = puts s.pile.most s.list room s.put in

@@ -3,4 +3,5 @@ pub mod Search
 pub mod Ancestors
 pub mod Normalising
 pub mod Looks
+pub mod Piles
 pub mod Room

@@ -1,14 +1,20 @@
-//! The leaves of two lists of cells, written into a room: a set is put together from its intervals, and each interval is
-//! filled with the largest cells that fit.
-ghost use Rattle.std.specs.Prelude.{◌≡◌, ◌<◌, ◌≤◌, length, max};
+//! The leaves of two lists of cells, written into a room. The set is put together from its intervals, each filled with
+//! the largest cells that fit; many cells of one list before the next of the other are copied as one run.
+ghost use Rattle.std.specs.Prelude.{◌≡◌, ◌+◌, ◌-◌, ◌^◌, ◌<◌, ◌≤◌, ℕ, Bool, IsTrue, List, length, max, slice_index};
+ghost use Rattle.s2cell.specs.Cell.{IsCell, first_leaf, size_of};
 ghost use Rattle.s2union.specs.Union.{IsLocal, IsNormalForm, has_leaf};
 ghost use Rattle.s2union.specs.Sets.{either};
+ghost use Rattle.s2search.specs.Piles.{PilingIn};
 ghost use Rattle.s2search.specs.Room.{PutsGap, PutsOne};
 
 use crate::cells::Cells;
 use crate::find::{end_of, first_of};
-use crate::room::put_gap;
+use crate::room::{put_gap, put_run};
+use crate::share::leap;
 use s2cell::LEAVES;
+
+/// How many cells a run has at least, before it is looked for.
+const RUN: usize = 8;
 
 /// How many cells are in the room, and the leaves after them that no cell was put for yet.
 #[derive(Clone, Copy)]
@@ -18,8 +24,16 @@ struct Pile {
     hi: u64,
 }
 
+/// A pile to which more cells were added, and the place of the next.
+#[derive(Clone, Copy)]
+struct Step {
+    pile: Pile,
+    next: usize,
+}
+
 /// Puts the leaves of either union into the room, if there is enough of it, and answers how many cells they are. One
-/// pass over both lists.
+/// pass over both lists. Many cells of one before the next of the other are passed by a search, in steps that double,
+/// and copied.
 pub fn put_union<X: Cells, Y: Cells>(xs: &X, ys: &Y, out: &mut [u64]) -> usize
     ensures len { length out.new ≡ length out.old }
     ensures made { IsLocal (X.ids xs.now) → IsLocal (Y.ids ys.now)
@@ -35,35 +49,76 @@ pub fn put_union<X: Cells, Y: Cells>(xs: &X, ys: &Y, out: &mut [u64]) -> usize
     let mut i = 0;
     let mut j = 0;
     while i < x_len && j < y_len {
-        let x = xs.id(i);
-        let y = ys.id(j);
-        let x_first = first_of(x);
-        let y_first = first_of(y);
+        let x_first = first_of(xs.id(i));
+        let y_first = first_of(ys.id(j));
         if x_first <= y_first {
-            let x_end = end_of(x);
-            pile = add(out, pile, x_first, x_end);
-            i += 1;
+            let by_x = add_next(xs, i, ys, j, out, pile);
+            pile = by_x.pile;
+            i = by_x.next;
         } else {
-            let y_end = end_of(y);
-            pile = add(out, pile, y_first, y_end);
-            j += 1;
+            let by_y = add_next(ys, j, xs, i, out, pile);
+            pile = by_y.pile;
+            j = by_y.next;
         }
     }
     while i < x_len {
-        let next = xs.id(i);
-        let next_first = first_of(next);
-        let next_end = end_of(next);
-        pile = add(out, pile, next_first, next_end);
-        i += 1;
+        let rest_x = add_next(xs, i, ys, j, out, pile);
+        pile = rest_x.pile;
+        i = rest_x.next;
     }
     while j < y_len {
-        let last = ys.id(j);
-        let last_first = first_of(last);
-        let last_end = end_of(last);
-        pile = add(out, pile, last_first, last_end);
-        j += 1;
+        let rest_y = add_next(ys, j, xs, i, out, pile);
+        pile = rest_y.pile;
+        j = rest_y.next;
     }
     put_gap(out, pile.n, pile.lo, pile.hi)
+}
+
+/// Adds the cell of `xs` at the place `i` to a pile, or a run of cells from that place on.
+fn add_next<X: Cells, Y: Cells>(
+    xs: &X,
+    i: usize,
+    ys: &Y,
+    j: usize,
+    out: &mut [u64],
+    pile: Pile,
+) -> Step
+    requires there { i < length (X.ids xs.now) }
+    requires fits { i + 1 < 2 ^ 64 }
+    ensures from { i < result.next }
+    ensures within { result.next ≤ length (X.ids xs.now) }
+    ensures len { length out.new ≡ length out.old }
+    ensures piled { IsLocal (X.ids xs.now) → IsLocal (Y.ids ys.now)
+        → (j < length (Y.ids ys.now) → first_leaf (slice_index (X.ids xs.now) i)
+        ≤ first_leaf (slice_index (Y.ids ys.now) j)) → (S : ℕ → Bool) (room : List ℕ)
+        → PilingIn S (X.ids xs.now) (Y.ids ys.now) room out.old pile.n i j pile.lo pile.hi
+        → PilingIn S (X.ids xs.now) (Y.ids ys.now) room out.new result.pile.n result.next j result.pile.lo
+        result.pile.hi }
+{
+    let x = xs.id(i);
+    let first = first_of(x);
+    if pile.hi < first {
+        let stop = run_to(xs, i, ys, j);
+        if i < stop {
+            let front = put_gap(out, pile.n, pile.lo, pile.hi);
+            let n = put_run(out, front, xs, i, stop);
+            let after = end_of(xs.id(stop - 1)).saturating_add(1);
+            return Step {
+                pile: Pile {
+                    n,
+                    lo: after,
+                    hi: after,
+                },
+                next: stop,
+            };
+        }
+    }
+    let end = end_of(x);
+    let more = add(out, pile, first, end);
+    Step {
+        pile: more,
+        next: i + 1,
+    }
 }
 
 /// Adds the leaves from `first` to before `end` to a pile. If they begin after its end, its leaves are put into the room
@@ -73,8 +128,8 @@ fn add(out: &mut [u64], pile: Pile, first: u64, end: u64) -> Pile
     ensures len { length out.new ≡ length out.old }
     ensures more { first ≤ pile.hi → (out.new ≡ out.old) × (result.n ≡ pile.n) × (result.lo ≡ pile.lo)
         × (result.hi ≡ max pile.hi end) }
-    ensures apart { pile.hi < first → pile.hi ≤ LEAVES → PutsGap out.old out.new pile.n result.n pile.lo pile.hi
-        × (result.lo ≡ first) × (result.hi ≡ end) }
+    ensures apart { pile.hi < first → (pile.lo < pile.hi → pile.hi ≤ LEAVES)
+        → PutsGap out.old out.new pile.n result.n pile.lo pile.hi × (result.lo ≡ first) × (result.hi ≡ end) }
 {
     if first <= pile.hi {
         return Pile {
@@ -89,4 +144,62 @@ fn add(out: &mut [u64], pile: Pile, first: u64, end: u64) -> Pile
         lo: first,
         hi: end,
     }
+}
+
+/// The place before which a run of cells of `xs` ends that begins at the place `i`, with a leaf after it that neither
+/// list has; or `i`, if no long one does.
+fn run_to<X: Cells, Y: Cells>(xs: &X, i: usize, ys: &Y, j: usize) -> usize
+    requires { i < length (X.ids xs.now) }
+    ensures from { i ≤ result }
+    ensures within { result ≤ length (X.ids xs.now) }
+    ensures cut { IsLocal (X.ids xs.now) → i < result → result < length (X.ids xs.now)
+        → first_leaf (slice_index (X.ids xs.now) (result - 1)) + size_of (slice_index (X.ids xs.now) (result - 1))
+        < first_leaf (slice_index (X.ids xs.now) result) }
+    ensures free { IsLocal (X.ids xs.now) → IsLocal (Y.ids ys.now) → i < result → j < length (Y.ids ys.now)
+        → first_leaf (slice_index (X.ids xs.now) (result - 1)) + size_of (slice_index (X.ids xs.now) (result - 1))
+        < first_leaf (slice_index (Y.ids ys.now) j) }
+{
+    let len = xs.len();
+    let y_len = ys.len();
+    if len - i <= RUN {
+        return i;
+    }
+    if y_len <= j {
+        return len;
+    }
+    let mark = first_of(ys.id(j));
+    if mark <= first_of(xs.id(i + RUN)) {
+        return i;
+    }
+    let mut stop = leap(xs, i + RUN, mark);
+    while i < stop {
+        if is_cut(xs, stop, mark) {
+            return stop;
+        }
+        stop -= 1;
+    }
+    i
+}
+
+/// Whether the cell before the place `stop` ends before the leaf `mark`, and before the cell at that place begins.
+fn is_cut<C: Cells>(cells: &C, stop: usize, mark: u64) -> bool
+    requires some { 0 < stop }
+    requires within { stop ≤ length (C.ids cells.now) }
+    ensures mark { IsTrue result → IsCell (slice_index (C.ids cells.now) (stop - 1))
+        → first_leaf (slice_index (C.ids cells.now) (stop - 1)) + size_of (slice_index (C.ids cells.now) (stop - 1))
+        < mark }
+    ensures cut { IsTrue result → IsCell (slice_index (C.ids cells.now) (stop - 1))
+        → stop < length (C.ids cells.now) → IsCell (slice_index (C.ids cells.now) stop)
+        → first_leaf (slice_index (C.ids cells.now) (stop - 1)) + size_of (slice_index (C.ids cells.now) (stop - 1))
+        < first_leaf (slice_index (C.ids cells.now) stop) }
+{
+    let end = end_of(cells.id(stop - 1));
+    if mark <= end {
+        return false;
+    }
+    if cells.len() <= stop {
+        return true;
+    }
+    let next = first_of(cells.id(stop));
+    end < next
 }

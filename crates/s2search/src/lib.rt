@@ -2,8 +2,9 @@
 //!
 //! No question copies anything or takes memory, and none has a precondition: whatever the numbers are, the call is safe
 //! and returns. The answer is exact if the numbers are the cells of a normalized union; for other numbers it means
-//! nothing. `ancestors` requires the cells of a union, and makes a list: the keys of an index. `union_of` tests and
-//! copies numbers in one pass. `normalise` makes a list of cells a union in place.
+//! nothing. The same holds of the set operations, which write into a room that the caller provides. `ancestors`
+//! requires the cells of a union, and makes a list: the keys of an index. `union_of` tests and copies numbers in one
+//! pass. `normalise` makes a list of cells a union in place.
 #![tactic(auto)]
 
 mod ask;

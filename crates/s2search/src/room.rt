@@ -1,5 +1,5 @@
 //! Lists of identifiers that grow at the front of a room. What doesn't fit is counted, and not written.
-ghost use Rattle.std.specs.Prelude.{◌≡◌, ◌+◌, ◌-◌, ◌≤◌, ◌++◌, ◌∷◌, [], ℕ, List, length, take, drop};
+ghost use Rattle.std.specs.Prelude.{◌≡◌, ◌+◌, ◌-◌, ◌<◌, ◌≤◌, ◌++◌, ◌∷◌, [], ℕ, List, length, take, drop};
 ghost use Rattle.s2search.specs.Room.{IsPut, PutsGap};
 
 use crate::cells::Cells;
@@ -48,7 +48,7 @@ pub(crate) fn put_run<C: Cells>(
 /// it, and so on.
 pub(crate) fn put_gap(out: &mut [u64], n: usize, lo: u64, hi: u64) -> usize
     ensures len { length out.new ≡ length out.old }
-    ensures put { hi ≤ LEAVES → PutsGap out.old out.new n result lo hi }
+    ensures put { (lo < hi → hi ≤ LEAVES) → PutsGap out.old out.new n result lo hi }
 {
     let end = hi.min(LEAVES);
     let mut count = n;

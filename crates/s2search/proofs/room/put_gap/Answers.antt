@@ -1,4 +1,7 @@
-use Rattle.std.proofs.Common.{◌≡◌, ◌++◌, ◌∷◌, [], ◌∙◌, refl, arith}
+use Rattle.std.proofs.Common.{◌≡◌, ◌<◌, ◌≤◌, ◌++◌, ◌∷◌, [], ◌∙◌, refl, arith}
+use Rattle.std.proofs.Math.Logic.{⊎_elim}
+use Rattle.std.proofs.lemmas.Bool.{cases_lt}
+use Rattle.s2cell.specs.declared.TheConstants.{LEAVES}
 use Rattle.s2union.proofs.Tiling.{tiling_step, tiling_done}
 use Rattle.s2search.proofs.room.put_gap.Goals as goal
 
@@ -8,6 +11,8 @@ loop-first-preserved c = record {
   tiled = λ list room most p.
       let (longer, tiling, put) = c.loop-first.invariant.tiled list room most p in
       let cell = c.tile-cell.result in
+      let start = tiling.start in
+      let within : c.args.hi ≤ LEAVES = most (omega arith) in
       let end : c.min-end.result ≡ c.args.hi = omega arith in
       let ends = c.tile-cell.ensures.end in (
         longer ++ cell ∷ [],
@@ -22,4 +27,9 @@ loop-first-preserved c = record {
 pub returns-clause-put : goal.returns-clause-put
 returns-clause-put c most list room p =
     let (longer, tiling, put) = c.loop-first.invariant.tiled list room most p in
-    (longer, tiling_done list longer c.args.lo c.args.hi c.loop-first.first tiling (omega arith), put)
+    let start = tiling.start in
+    let past : c.args.hi ≤ c.loop-first.first = ⊎_elim
+    (λ (h : c.args.lo < c.args.hi). let within = most h in omega arith)
+    (λ (h : c.args.hi ≤ c.args.lo). omega arith)
+    (cases_lt c.args.lo c.args.hi) in
+    (longer, tiling_done list longer c.args.lo c.args.hi c.loop-first.first tiling past, put)

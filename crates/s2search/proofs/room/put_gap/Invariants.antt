@@ -1,4 +1,4 @@
-use Rattle.std.proofs.Common.{◌≡◌, ℕ, ◌-◌, ◌≤◌, List, length}
+use Rattle.std.proofs.Common.{◌≡◌, ℕ, ◌-◌, ◌<◌, ◌≤◌, List, length}
 use Rattle.s2cell.specs.declared.TheConstants.{LEAVES}
 use Rattle.s2union.proofs.Tiling.{Tiling}
 use Rattle.s2search.specs.Room.{IsPut}
@@ -7,7 +7,7 @@ use Rattle.s2search.proofs.room.put_gap.Given as goal
 abbrev pub invariant-loop-first : goal.invariant-loop-first
 invariant-loop-first l = record {
   len : length l.out ≡ length l.fn.out;
-  tiled : (list room : List ℕ) → l.hi ≤ LEAVES → IsPut list room l.fn.out l.n
+  tiled : (list room : List ℕ) → (l.lo < l.hi → l.hi ≤ LEAVES) → IsPut list room l.fn.out l.n
       → (longer : List ℕ) × Tiling list longer l.lo l.hi l.first × IsPut longer room l.out l.count;
 }
 
