@@ -176,7 +176,7 @@ fn run_to<X: Cells, Y: Cells>(xs: &X, i: usize, ys: &Y, j: usize) -> usize
         if is_cut(xs, stop, mark) {
             return stop;
         }
-        stop -= 1;
+        stop = i + (stop - i) / 2;
     }
     i
 }

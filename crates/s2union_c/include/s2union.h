@@ -167,7 +167,7 @@ int32_t s2u_normalise(uint64_t* ids, size_t n, size_t* len);
 
 /* [pure] Written straight into out. Like questions, these do not check that the lists are unions. If one is not, the
  * status is S2U_OK or S2U_ROOM and the result means nothing; the call is as safe as any other, and takes at most
- * 256 (nx + ny) steps. S2U_ROOM. At most nx + ny cells, but for a difference. */
+ * 512 (nx + ny) steps. S2U_ROOM. At most nx + ny cells, but for a difference. */
 int32_t s2u_union(const uint64_t* xs, size_t nx, const uint64_t* ys, size_t ny, uint64_t* out,
                   size_t room, size_t* len);
 int32_t s2u_intersection(const uint64_t* xs, size_t nx, const uint64_t* ys, size_t ny, uint64_t* out,

@@ -4,5 +4,5 @@ use Rattle.s2union_c.proofs.sets.s2u_union.Goals as goal
 
 pub returns-clause-made : goal.returns-clause-made
 returns-clause-made c lx ly =
-    placed _ c.args.out.now c.put_union-len.new.out c.put_union-len.result (length c.put_union-len.new.out) c.room_status.result
-    (c.put_union-len.ensures.made lx ly) c.room_status.ensures.fits c.room_status.ensures.short
+    placed _ c.args.out.now c.put_union.new.out c.put_union.result (length c.put_union.new.out) c.room_status.result
+    (c.put_union.ensures.made lx ly) c.room_status.ensures.fits c.room_status.ensures.short
