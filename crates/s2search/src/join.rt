@@ -75,6 +75,7 @@ pub fn put_union<X: Cells, Y: Cells>(xs: &X, ys: &Y, out: &mut [u64]) -> usize
 }
 
 /// Adds the cell of `xs` at the place `i` to a pile, or a run of cells from that place on.
+#[inline(always)]
 fn add_next<X: Cells, Y: Cells>(
     xs: &X,
     i: usize,
@@ -98,19 +99,21 @@ fn add_next<X: Cells, Y: Cells>(
     let x = xs.id(i);
     let first = first_of(x);
     if pile.hi < first {
-        let stop = run_to(xs, i, ys, j);
-        if i < stop {
-            let front = put_gap(out, pile.n, pile.lo, pile.hi);
-            let n = put_run(out, front, xs, i, stop);
-            let after = end_of(xs.id(stop - 1)).saturating_add(1);
-            return Step {
-                pile: Pile {
-                    n,
-                    lo: after,
-                    hi: after,
-                },
-                next: stop,
-            };
+        if is_long(xs, i, ys, j) {
+            let stop = run_to(xs, i, ys, j);
+            if i < stop {
+                let front = put_gap(out, pile.n, pile.lo, pile.hi);
+                let n = put_run(out, front, xs, i, stop);
+                let after = end_of(xs.id(stop - 1)).saturating_add(1);
+                return Step {
+                    pile: Pile {
+                        n,
+                        lo: after,
+                        hi: after,
+                    },
+                    next: stop,
+                };
+            }
         }
     }
     let end = end_of(x);
@@ -146,11 +149,26 @@ fn add(out: &mut [u64], pile: Pile, first: u64, end: u64) -> Pile
     }
 }
 
-/// The place before which a run of cells of `xs` ends that begins at the place `i`, with a leaf after it that neither
-/// list has; or `i`, if no long one does.
-fn run_to<X: Cells, Y: Cells>(xs: &X, i: usize, ys: &Y, j: usize) -> usize
+/// Whether more than `RUN` cells of `xs` from the place `i` on begin before the next of `ys`.
+#[inline(always)]
+fn is_long<X: Cells, Y: Cells>(xs: &X, i: usize, ys: &Y, j: usize) -> bool
     requires { i < length (X.ids xs.now) }
-    ensures from { i ≤ result }
+    ensures { IsTrue result → i + RUN < length (X.ids xs.now) }
+{
+    let len = xs.len();
+    if len - i <= RUN {
+        return false;
+    }
+    if ys.len() <= j {
+        return true;
+    }
+    first_of(xs.id(i + RUN)) < first_of(ys.id(j))
+}
+
+/// The place before which a run of cells of `xs` ends that begins at the place `i`, with a leaf after it that neither
+/// list has; or `i`, if no such run is found.
+fn run_to<X: Cells, Y: Cells>(xs: &X, i: usize, ys: &Y, j: usize) -> usize
+    requires { i + RUN < length (X.ids xs.now) }
     ensures within { result ≤ length (X.ids xs.now) }
     ensures cut { IsLocal (X.ids xs.now) → i < result → result < length (X.ids xs.now)
         → first_leaf (slice_index (X.ids xs.now) (result - 1)) + size_of (slice_index (X.ids xs.now) (result - 1))
@@ -160,17 +178,10 @@ fn run_to<X: Cells, Y: Cells>(xs: &X, i: usize, ys: &Y, j: usize) -> usize
         < first_leaf (slice_index (Y.ids ys.now) j) }
 {
     let len = xs.len();
-    let y_len = ys.len();
-    if len - i <= RUN {
-        return i;
-    }
-    if y_len <= j {
+    if ys.len() <= j {
         return len;
     }
     let mark = first_of(ys.id(j));
-    if mark <= first_of(xs.id(i + RUN)) {
-        return i;
-    }
     let mut stop = leap(xs, i + RUN, mark);
     while i < stop {
         if is_cut(xs, stop, mark) {

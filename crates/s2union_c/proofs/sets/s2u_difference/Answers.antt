@@ -1,8 +1,8 @@
-use Rattle.std.proofs.Common.{◌≡◌, length}
-use Rattle.s2union_c.proofs.Placed.{placed, placed_status}
+use Rattle.std.proofs.Common.{length, refl}
+use Rattle.s2union_c.proofs.Placed.{placed}
 use Rattle.s2union_c.proofs.sets.s2u_difference.Goals as goal
 
 pub returns-clause-made : goal.returns-clause-made
 returns-clause-made c lx ly =
     placed _ c.args.out.now c.put_difference.new.out c.put_difference.result (length c.put_difference.new.out) c.room_status.result
-    (c.put_difference.ensures.made lx ly) c.room_status.ensures.fits c.room_status.ensures.short
+    (c.put_difference.ensures.made lx ly) refl c.room_status.ensures.fits c.room_status.ensures.short
