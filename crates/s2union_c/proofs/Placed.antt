@@ -23,8 +23,3 @@ placed P old new len room status p r fits short =
           }))
           (cases_lt room len),
     )
-
-pub placed_status : (len room : ℕ) (status : ℤ) → (len ≤ room → status ≡ made) → (room < len → status ≡ no_room)
-    → (status ≡ made) ⊎ (status ≡ no_room)
-placed_status len room status fits short = ⊎_elim (λ (h : room < len). inr (short h)) (λ (h : len ≤ room). inl (fits h))
-    (cases_lt room len)
