@@ -1,5 +1,5 @@
 -- What one list of cells has without the leaves of another, put into a room on a walk along both.
-use Rattle.std.proofs.Common.{◌≡◌, ℕ, ◌+◌, ◌-◌, ◌<◌, ◌≤◌, refl, sym, ◌∙◌, ap, arith, Bool, ◌⊎◌, inl, inr, List, []}
+use Rattle.std.proofs.Common.{◌≡◌, ℕ, ◌+◌, ◌-◌, ◌<◌, ◌≤◌, refl, sym, ◌∙◌, ap, arith, Bool, inl, List, []}
 use Rattle.std.proofs.Common.{◌++◌, length, get_or, take, drop, max}
 use Rattle.std.proofs.Common.{◌↔◌, IsTrue, false}
 use Rattle.std.proofs.Math.Logic.{⊎_elim}

@@ -18,7 +18,7 @@ use Rattle.s2union.proofs.Tiling.{or_true, or_false, none_between}
 use Rattle.s2union.proofs.Walking.{leaf_at, not_true}
 use Rattle.s2union.proofs.Finding.{starts_later}
 use Rattle.s2search.specs.Piles.{Piling, PilingIn}
-use Rattle.s2search.specs.Room.{IsPut, PutsGap, PutsOne}
+use Rattle.s2search.specs.Room.{PutsGap, PutsOne}
 use Rattle.s2search.proofs.Putting.{put_none, puts_normal}
 
 abbrev pub any : List ℕ → List ℕ → ℕ → Bool

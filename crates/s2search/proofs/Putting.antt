@@ -1,9 +1,9 @@
 -- A list that is put into a room, one number after another or a run at a time.
-use Rattle.std.proofs.Common.{◌≡◌, ℕ, zero, suc, Bool, ◌+◌, ◌-◌, ◌^◌, ◌<◌, ◌≤◌, refl, sym, ap, ◌∙◌, arith, List, [], ◌∷◌, ◌++◌}
+use Rattle.std.proofs.Common.{◌≡◌, ℕ, zero, suc, Bool, ◌+◌, ◌-◌, ◌^◌, ◌<◌, ◌≤◌, refl, ap, ◌∙◌, arith, List, [], ◌∷◌, ◌++◌}
 use Rattle.std.proofs.Common.{length, get_or, take, drop, add-one, append_assoc, drop-cons, drop-drop}
 use Rattle.std.proofs.Math.ListN.{set}
 use Rattle.std.proofs.Math.Seq.{set-append_seam, take-append_seam, drop-append-add}
-use Rattle.std.proofs.lemmas.List.{take_more, get_or-drop, length-take-le, length-drop, length-append, length-set}
+use Rattle.std.proofs.lemmas.List.{take_more, get_or-drop, length-take-le, length-drop, length-append}
 use Rattle.std.proofs.Math.Logic.{⊎_elim}
 use Rattle.std.proofs.lemmas.Bool.{cases_lt}
 use Rattle.s2cell.specs.Cell.{first_leaf, size_of}
@@ -17,43 +17,6 @@ use Rattle.s2search.specs.Room.{IsPut, PutsOne}
 
 pub put_none : (room : List ℕ) → IsPut [] room room 0
 put_none room = record { same_length = refl; len_is = λ h. refl; front = λ h. refl }
-
-pub put_there : (list room out : List ℕ) (n id : ℕ) → IsPut list room out n → n < length out → length out < 2 ^ 64 →
-    IsPut (list ++ id ∷ []) room (set out n id) (n + 1)
-put_there list room out n id p h fits =
-    let len : length (list ++ id ∷ []) ≡ length list + 1 = length-append list (id ∷ []) in
-    let s = p.same_length in
-    record {
-      same_length = length-set out n id ∙ p.same_length;
-      len_is = λ l. let e : n ≡ length list = p.len_is (omega arith) in omega arith;
-      front = λ l.
-          let k = length list in
-          let e : n ≡ k = p.len_is (omega arith) in
-          let there : k < length room = omega arith in
-          let f : out ≡ list ++ drop k room = p.front (omega arith) in
-          let d : drop k room ≡ get_or room k 0 ∷ drop (k + 1) room = rw (add-one, drop-cons room k 0) in
-          let seam : set (list ++ get_or room k 0 ∷ drop (k + 1) room) k id ≡ list ++ id ∷ drop (k + 1) room =
-          set-append_seam list (get_or room k 0) (drop (k + 1) room) id in
-          let assoc : (list ++ id ∷ []) ++ drop (k + 1) room ≡ list ++ (id ∷ [] ++ drop (k + 1) room) =
-          append_assoc list (id ∷ []) (drop (k + 1) room) in
-          let rest : drop (length (list ++ id ∷ [])) room ≡ drop (k + 1) room = ap (λ m. drop m room) len in
-          cc;
-    }
-
-pub put_past : (list room out run : List ℕ) (n m count : ℕ) → IsPut list room out n → length run ≡ count →
-    length out < n + count → length out < 2 ^ 64 → (n + count < 2 ^ 64 → m ≡ n + count) →
-    IsPut (list ++ run) room out m
-put_past list room out run n m count p lr h fits more =
-    let len : length (list ++ run) ≡ length list + length run = length-append list run in
-    let s = p.same_length in
-    record {
-      same_length = p.same_length;
-      len_is = λ l.
-          let e : n ≡ length list = p.len_is (omega arith) in
-          let f : m ≡ n + count = more (omega arith) in
-          omega arith;
-      front = λ l. let e : n ≡ length list = p.len_is (omega arith) in absurd (omega arith);
-    }
 
 pub run_more : (ids room out : List ℕ) (n k from x : ℕ) → n + k < length room → from + k < length ids →
     out ≡ (take n room ++ take k (drop from ids)) ++ drop (n + k) room → x ≡ get_or ids (from + k) 0

@@ -1,10 +1,10 @@
 -- What two lists of cells share, put into a room on a walk along both.
-use Rattle.std.proofs.Common.{◌≡◌, ℕ, ◌+◌, ◌-◌, ◌<◌, ◌≤◌, refl, sym, arith, Bool, ◌&&◌, List, [], ◌++◌, length}
+use Rattle.std.proofs.Common.{◌≡◌, ℕ, ◌+◌, ◌-◌, ◌<◌, ◌≤◌, refl, arith, Bool, List, [], ◌++◌, length}
 use Rattle.std.proofs.Common.{get_or, take, drop, inl}
 use Rattle.std.proofs.lemmas.Bool.Decides.{nat_tests}
 use Rattle.s2cell.specs.Cell.{IsCell, IsInside, first_leaf, size_of}
-use Rattle.s2cell.proofs.Leaves.{Within, inside_from_within, within_from_inside}
-use Rattle.s2union.specs.Union.{IsLocal, IsNormalForm, has_leaf}
+use Rattle.s2cell.proofs.Leaves.{inside_from_within, within_from_inside}
+use Rattle.s2union.specs.Union.{IsLocal, IsNormalForm}
 use Rattle.s2union.specs.Packed.{IsPacked, FirstEndBy}
 use Rattle.s2union.proofs.Checking.{packed_from_local}
 use Rattle.s2union.proofs.Packing.{is_at}

@@ -41,11 +41,7 @@ pub fn put_union<X: Cells, Y: Cells>(xs: &X, ys: &Y, out: &mut [u64]) -> usize
 {
     let x_len = xs.len();
     let y_len = ys.len();
-    let mut pile = Pile {
-        n: 0,
-        lo: 0,
-        hi: 0,
-    };
+    let mut pile = Pile { n: 0, lo: 0, hi: 0 };
     let mut i = 0;
     let mut j = 0;
     while i < x_len && j < y_len {

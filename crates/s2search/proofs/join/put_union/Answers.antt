@@ -1,4 +1,4 @@
-use Rattle.std.proofs.Common.{◌≡◌, ◌+◌, ◌<◌, ◌≤◌, ◌∙◌, length, get_or, refl, ap, arith}
+use Rattle.std.proofs.Common.{◌≡◌, ◌<◌, ◌∙◌, length, get_or, refl, ap, arith}
 use Rattle.s2cell.specs.Cell.{first_leaf}
 use Rattle.s2union.specs.Union.{has_leaf}
 use Rattle.s2union.specs.Sets.{either}

@@ -1,4 +1,4 @@
-use Rattle.std.proofs.Common.{◌≡◌, ◌-◌, ◌<◌, ◌≤◌, ◌∙◌, length, get_or, ap, arith}
+use Rattle.std.proofs.Common.{◌≡◌, ◌-◌, ◌∙◌, get_or, ap, arith}
 use Rattle.s2cell.specs.Cell.{first_leaf}
 use Rattle.s2search.proofs.join.run_to.Goals as goal
 
