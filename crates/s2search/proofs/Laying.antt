@@ -168,7 +168,8 @@ piling_run S xs ys list i j start stop mark lx ly s es h within em nx ny =
     let some = (cell_leaves (get_or xs i 0) (px.cells i 0 (omega arith))).some in
     let picked : Picked S (list ++ run) = run_picked S xs list i start n px (pile_picked S xs ys list i j start start s)
     s.below es (omega arith)
-    (λ k b. run_greatest S xs ys list i j start stop mark (i + k) lx ly s es (omega arith) (omega arith) within em nx ny)
+    (λ k b. run_greatest S xs ys list i j start stop mark (i + k) lx ly s es (omega arith) (omega arith) within em
+    nx ny)
     in
     record {
       same = s.same;

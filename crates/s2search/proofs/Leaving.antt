@@ -66,7 +66,8 @@ pub left_taken : (xs ys room out new : List ℕ) (n m i j lo x y first end start
     IsLocal ys → LeavingIn xs ys room out n i j start → i < length xs → j < length ys → x ≡ get_or xs i 0
     → y ≡ get_or ys j 0 → (IsCell x → first ≡ first_leaf x) → (IsCell x → end ≡ first_leaf x + size_of x)
     → (IsCell y → y_first ≡ first_leaf y) → (IsCell y → y_end ≡ first_leaf y + size_of y) → start ≡ max first lo
-    → y_first < end → next ≡ max y_end start → ((start < y_first → y_first ≤ LEAVES) → PutsGap out new n m start y_first)
+    → y_first < end → next ≡ max y_end start
+    → ((start < y_first → y_first ≤ LEAVES) → PutsGap out new n m start y_first)
     → LeavingIn xs ys room new m i (j + 1) next
 left_taken xs ys room out new n m i j lo x y first end start y_first y_end next lx ly s h g rx ry fx ex fy ey es before
     en puts =
@@ -109,7 +110,8 @@ left_free xs ys room out new n m i j lo x first end start next lx ly s h rx fx e
     record {
       list = longer;
       put = put;
-      left = subtracting_free xs ys s.list longer i j start start end next x lx ly s.left h (sym rx) free (omega arith) b
+      left = subtracting_free xs ys s.list longer i j start start end next x lx ly s.left h (sym rx) free
+          (omega arith) b
           en fills;
     }
 

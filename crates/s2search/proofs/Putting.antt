@@ -1,5 +1,6 @@
 -- A list that is put into a room, one number after another or a run at a time.
-use Rattle.std.proofs.Common.{◌≡◌, ℕ, zero, suc, Bool, ◌+◌, ◌-◌, ◌^◌, ◌<◌, ◌≤◌, refl, ap, ◌∙◌, arith, List, [], ◌∷◌, ◌++◌}
+use Rattle.std.proofs.Common.{◌≡◌, ℕ, zero, suc, Bool, ◌+◌, ◌-◌, ◌^◌, ◌<◌, ◌≤◌}
+use Rattle.std.proofs.Common.{refl, ap, ◌∙◌, arith, List, [], ◌∷◌, ◌++◌}
 use Rattle.std.proofs.Common.{length, get_or, take, drop, add-one, append_assoc, drop-cons, drop-drop}
 use Rattle.std.proofs.Math.ListN.{set}
 use Rattle.std.proofs.Math.Seq.{set-append_seam, take-append_seam, drop-append-add}
@@ -29,7 +30,8 @@ run_more ids room out n k from x h g e r =
     let len_k : length run ≡ k = length-take-le k (drop from ids) (omega arith) in
     let len_a : length front ≡ length (take n room) + length run = length-append (take n room) run in
     let len : length front ≡ n + k = omega arith in
-    let d : drop (n + k) room ≡ get_or room (n + k) 0 ∷ drop (n + k + 1) room = rw (add-one, drop-cons room (n + k) 0) in
+    let d : drop (n + k) room ≡ get_or room (n + k) 0 ∷ drop (n + k + 1) room =
+    rw (add-one, drop-cons room (n + k) 0) in
     let seam : set (front ++ get_or room (n + k) 0 ∷ drop (n + k + 1) room) (length front) x
     ≡ front ++ x ∷ drop (n + k + 1) room = set-append_seam front (get_or room (n + k) 0) (drop (n + k + 1) room) x in
     let more : take (k + 1) (drop from ids) ≡ run ++ get_or (drop from ids) k 0 ∷ [] = take_more (drop from ids) k 0

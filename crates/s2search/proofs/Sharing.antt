@@ -9,7 +9,8 @@ use Rattle.s2union.specs.Packed.{IsPacked, FirstEndBy}
 use Rattle.s2union.proofs.Checking.{packed_from_local}
 use Rattle.s2union.proofs.Packing.{is_at}
 use Rattle.s2union.proofs.Picking.{picked_none}
-use Rattle.s2union.proofs.Shared.{Sharing, both, ended_in, ended_up_to, held_else, share_x, sharing_done, sharing_swap, skip_x}
+use Rattle.s2union.proofs.Shared.{Sharing, both, ended_in, ended_up_to, held_else}
+use Rattle.s2union.proofs.Shared.{share_x, sharing_done, sharing_swap, skip_x}
 use Rattle.s2search.specs.Room.{IsPut, PutsOne}
 use Rattle.s2search.proofs.Putting.{put_none, puts_normal}
 

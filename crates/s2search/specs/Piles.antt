@@ -6,8 +6,9 @@ use Rattle.s2union.specs.Packed.{EndsBefore}
 use Rattle.s2union.specs.Union.{EndsBy, IsGreatestIn, between, has_leaf}
 use Rattle.s2search.specs.Room.{IsPut}
 
--- a pile: `list` and the leaves from `lo` to before `hi` have the leaves of the first `i` cells of `xs` and of the first
--- `j` of `ys`, and no other cell begins before `lo`. The cells of `list` are greatest in `S`, which is what both have
+-- a pile: `list` and the leaves from `lo` to before `hi` have the leaves of the first `i` cells of `xs` and of the
+-- first `j` of `ys`, and no other cell begins before `lo`. The cells of `list` are greatest in `S`, which is what both
+-- have
 pub record Piling (S : ℕ → Bool) (xs ys list : List ℕ) (i j lo hi : ℕ) : Type 0 where
   pub same : (x : ℕ) → S x ≡ (has_leaf xs x || has_leaf ys x)
   pub chain : AllPairs EndsBefore list

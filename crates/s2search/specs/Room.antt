@@ -18,8 +18,8 @@ pub record PutsOne (P : List ℕ → Type 0) (old new : List ℕ) (n : ℕ) : Ty
   pub same_length : length new ≡ length old
   pub front : length list ≤ length old → new ≡ list ++ drop (length list) old
 
--- the normal form of the leaves from `lo` to before `hi` was put into the room `old` after `n` numbers, which makes them
--- `m`
+-- the normal form of the leaves from `lo` to before `hi` was put into the room `old` after `n` numbers, which makes
+-- them `m`
 abbrev pub PutsGap : List ℕ → List ℕ → ℕ → ℕ → ℕ → ℕ → Type 0
 PutsGap old new n m lo hi = (list room : List ℕ) → IsPut list room old n →
     (longer : List ℕ) × FillsGap list longer lo hi × IsPut longer room new m

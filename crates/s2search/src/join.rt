@@ -120,8 +120,8 @@ fn add_next<X: Cells, Y: Cells>(
     }
 }
 
-/// Adds the leaves from `first` to before `end` to a pile. If they begin after its end, its leaves are put into the room
-/// first.
+/// Adds the leaves from `first` to before `end` to a pile. If they begin after its end, its leaves are put into the
+/// room first.
 #[inline(always)]
 fn add(out: &mut [u64], pile: Pile, first: u64, end: u64) -> Pile
     ensures len { length out.new ≡ length out.old }

@@ -43,9 +43,9 @@ pub(crate) fn put_run<C: Cells>(
     n.saturating_add(count)
 }
 
-/// Puts the normal form of the leaves from `lo` to before `hi` after the first `n` identifiers, as far as there is room,
-/// and answers how many they are then: the largest cell that begins at `lo` and fits, then the largest that begins after
-/// it, and so on.
+/// Puts the normal form of the leaves from `lo` to before `hi` after the first `n` identifiers, as far as there is
+/// room, and answers how many they are then. First comes the largest cell that begins at `lo` and fits, then the
+/// largest that begins after it, and so on.
 pub(crate) fn put_gap(out: &mut [u64], n: usize, lo: u64, hi: u64) -> usize
     ensures len { length out.new ≡ length out.old }
     ensures put { (lo < hi → hi ≤ LEAVES) → PutsGap out.old out.new n result lo hi }

@@ -15,7 +15,8 @@ pub placed : (P : List ℕ → Type 0) (old new : List ℕ) (len room : ℕ) (st
 placed P old new len room status p r fits short =
     let e = p.len_is in
     let s = p.same_length in
-    let in_room : len ≤ room → to_z w32 (of_z w32 status) ≡ made = (λ h. ap (λ (z : ℤ). to_z w32 (of_z w32 z)) (fits h)) in
+    let in_room : len ≤ room → to_z w32 (of_z w32 status) ≡ made =
+    (λ h. ap (λ (z : ℤ). to_z w32 (of_z w32 z)) (fits h)) in
     let past_it : room < len → to_z w32 (of_z w32 status) ≡ no_room =
     (λ h. ap (λ (z : ℤ). to_z w32 (of_z w32 z)) (short h)) in (
       p.list,

@@ -29,7 +29,8 @@ loop-i-preserved-then-x_first-y_first g c =
           let fx : c.first_of-x_first.result ≡ first_leaf (get_or xs c.loop-i.i 0) =
           c.first_of-x_first.ensures (rw c.id.ensures (lx.cells c.loop-i.i 0 hx)) ∙ ap first_leaf c.id.ensures in
           let fy : c.first_of-y_first.result ≡ first_leaf (get_or ys c.loop-i.j 0) =
-          c.first_of-y_first.ensures (rw c.id-in-loop-i.ensures (ly.cells c.loop-i.j 0 hy)) ∙ ap first_leaf c.id-in-loop-i.ensures in
+          c.first_of-y_first.ensures (rw c.id-in-loop-i.ensures (ly.cells c.loop-i.j 0 hy)) ∙ ap first_leaf
+          c.id-in-loop-i.ensures in
           let le = c.if-x_first-y_first.true in
           omega arith) (any xs ys) c.args.out.now
           (c.loop-i.invariant.so_far lx ly);
@@ -53,10 +54,12 @@ loop-i-preserved g c =
           let fx : c.first_of-x_first.result ≡ first_leaf (get_or xs c.loop-i.i 0) =
           c.first_of-x_first.ensures (rw c.id.ensures (lx.cells c.loop-i.i 0 hx)) ∙ ap first_leaf c.id.ensures in
           let fy : c.first_of-y_first.result ≡ first_leaf (get_or ys c.loop-i.j 0) =
-          c.first_of-y_first.ensures (rw c.id-in-loop-i.ensures (ly.cells c.loop-i.j 0 hy)) ∙ ap first_leaf c.id-in-loop-i.ensures in
+          c.first_of-y_first.ensures (rw c.id-in-loop-i.ensures (ly.cells c.loop-i.j 0 hy)) ∙ ap first_leaf
+          c.id-in-loop-i.ensures in
           let lt = c.if-x_first-y_first.false in
           omega arith) (any xs ys) c.args.out.now
-          (pile_swap (any xs ys) xs ys c.args.out.now c.loop-i.out c.loop-i.pile.n c.loop-i.i c.loop-i.j c.loop-i.pile.lo c.loop-i.pile.hi
+          (pile_swap (any xs ys) xs ys c.args.out.now c.loop-i.out c.loop-i.pile.n c.loop-i.i c.loop-i.j
+          c.loop-i.pile.lo c.loop-i.pile.hi
           (c.loop-i.invariant.so_far lx ly)));
     }
 
@@ -88,10 +91,12 @@ loop-j-preserved g c =
       done = done;
       in_y = c.add_next-rest_y.ensures.within;
       len = c.add_next-rest_y.ensures.len ∙ c.loop-j.invariant.len;
-      so_far = λ lx ly. pile_swap (any xs ys) ys xs c.args.out.now c.add_next-rest_y.new.out c.add_next-rest_y.result.pile.n
+      so_far = λ lx ly. pile_swap (any xs ys) ys xs c.args.out.now c.add_next-rest_y.new.out
+          c.add_next-rest_y.result.pile.n
           c.add_next-rest_y.result.next c.loop-i-2.i c.add_next-rest_y.result.pile.lo c.add_next-rest_y.result.pile.hi
           (c.add_next-rest_y.ensures.piled ly lx (λ t. absurd (omega arith)) (any xs ys) c.args.out.now
-          (pile_swap (any xs ys) xs ys c.args.out.now c.loop-j.out c.loop-j.pile.n c.loop-i-2.i c.loop-j.j c.loop-j.pile.lo c.loop-j.pile.hi
+          (pile_swap (any xs ys) xs ys c.args.out.now c.loop-j.out c.loop-j.pile.n c.loop-i-2.i c.loop-j.j
+          c.loop-j.pile.lo c.loop-j.pile.hi
           (c.loop-j.invariant.so_far lx ly)));
     }
 

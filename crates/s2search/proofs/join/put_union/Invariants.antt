@@ -10,7 +10,8 @@ invariant-loop-i g l = record {
   in_y : l.j ≤ length (g.Y.Cells.ids l.ys);
   len : length l.out ≡ length l.fn.out;
   so_far : IsLocal (g.X.Cells.ids l.xs) → IsLocal (g.Y.Cells.ids l.ys)
-      → PilingIn (any (g.X.Cells.ids l.xs) (g.Y.Cells.ids l.ys)) (g.X.Cells.ids l.xs) (g.Y.Cells.ids l.ys) l.fn.out l.out
+      → PilingIn (any (g.X.Cells.ids l.xs) (g.Y.Cells.ids l.ys)) (g.X.Cells.ids l.xs) (g.Y.Cells.ids l.ys) l.fn.out
+      l.out
       l.pile.n l.i l.j l.pile.lo l.pile.hi;
 }
 
@@ -24,7 +25,8 @@ invariant-loop-i-2 g l = record {
   other : l.i < length (g.X.Cells.ids l.xs) → length (g.Y.Cells.ids l.ys) ≤ l.j;
   len : length l.out ≡ length l.fn.out;
   so_far : IsLocal (g.X.Cells.ids l.xs) → IsLocal (g.Y.Cells.ids l.ys)
-      → PilingIn (any (g.X.Cells.ids l.xs) (g.Y.Cells.ids l.ys)) (g.X.Cells.ids l.xs) (g.Y.Cells.ids l.ys) l.fn.out l.out
+      → PilingIn (any (g.X.Cells.ids l.xs) (g.Y.Cells.ids l.ys)) (g.X.Cells.ids l.xs) (g.Y.Cells.ids l.ys) l.fn.out
+      l.out
       l.pile.n l.i l.j l.pile.lo l.pile.hi;
 }
 
@@ -37,7 +39,8 @@ invariant-loop-j g l = record {
   in_y : l.j ≤ length (g.Y.Cells.ids l.ys);
   len : length l.out ≡ length l.fn.out;
   so_far : IsLocal (g.X.Cells.ids l.xs) → IsLocal (g.Y.Cells.ids l.ys)
-      → PilingIn (any (g.X.Cells.ids l.xs) (g.Y.Cells.ids l.ys)) (g.X.Cells.ids l.xs) (g.Y.Cells.ids l.ys) l.fn.out l.out
+      → PilingIn (any (g.X.Cells.ids l.xs) (g.Y.Cells.ids l.ys)) (g.X.Cells.ids l.xs) (g.Y.Cells.ids l.ys) l.fn.out
+      l.out
       l.pile.n l.i l.j l.pile.lo l.pile.hi;
 }
 

@@ -4,5 +4,6 @@ use Rattle.s2union_c.proofs.sets.s2u_difference.Goals as goal
 
 pub returns-clause-made : goal.returns-clause-made
 returns-clause-made c lx ly =
-    placed _ c.args.out.now c.put_difference.new.out c.put_difference.result (length c.put_difference.new.out) c.room_status.result
+    placed _ c.args.out.now c.put_difference.new.out c.put_difference.result (length c.put_difference.new.out)
+    c.room_status.result
     (c.put_difference.ensures.made lx ly) refl c.room_status.ensures.fits c.room_status.ensures.short
