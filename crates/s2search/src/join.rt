@@ -8,9 +8,8 @@ ghost use Rattle.s2search.specs.Piles.{PilingIn};
 ghost use Rattle.s2search.specs.Room.{PutsGap, PutsOne};
 
 use crate::cells::Cells;
-use crate::find::{end_of, first_of};
+use crate::find::{end_of, find_from, first_of};
 use crate::room::{put_gap, put_run};
-use crate::share::leap;
 use s2cell::LEAVES;
 
 /// How many cells a run has at least, before it is looked for.
@@ -178,7 +177,7 @@ fn run_to<X: Cells, Y: Cells>(xs: &X, i: usize, ys: &Y, j: usize) -> usize
         return len;
     }
     let mark = first_of(ys.id(j));
-    let mut stop = leap(xs, i + RUN, mark);
+    let mut stop = find_from(xs, i + RUN, mark);
     while i < stop {
         if is_cut(xs, stop, mark) {
             return stop;

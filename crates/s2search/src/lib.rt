@@ -28,7 +28,6 @@ pub use ask::{contains_cell, contains_cell_at, intersects_cell, intersects_cell_
 pub use cells::{Cells, FileIds, IdList, cell_of, number};
 pub use copying::union_of;
 pub use find::NEARBY;
-pub use find::LAST_STEP;
 pub use four::{Places, places_of_four};
 pub use join::put_union;
 pub use keys::ancestors;

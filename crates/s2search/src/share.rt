@@ -1,8 +1,6 @@
 //! The leaves that two lists of cells share, written into a room.
-ghost use Rattle.std.specs.Prelude.{◌≡◌, ◌+◌, ◌<◌, ◌≤◌, ◌↔◌, IsTrue, length, slice_index};
-ghost use Rattle.s2cell.specs.Cell.{first_leaf, size_of};
+ghost use Rattle.std.specs.Prelude.{◌≡◌, ◌≤◌, ◌↔◌, IsTrue, length};
 ghost use Rattle.s2union.specs.Union.{IsLocal, IsNormalForm, has_leaf};
-ghost use Rattle.s2union.specs.Packed.{IsPacked, FirstEndBy};
 ghost use Rattle.s2union.specs.Sets.{shared};
 ghost use Rattle.s2search.specs.Room.{PutsOne};
 
@@ -31,16 +29,16 @@ pub fn put_intersection<X: Cells, Y: Cells>(xs: &X, ys: &Y, out: &mut [u64]) -> 
         let x_end = end_of(x);
         let y_end = end_of(y);
         if x_end <= y_first {
-            i = leap(xs, i + 1, y_first);
+            i = find_from(xs, i + 1, y_first);
         } else if y_end <= x_first {
-            j = leap(ys, j + 1, x_first);
+            j = find_from(ys, j + 1, x_first);
         } else if is_within(x_first, x_end, y_first, y_end) {
-            let next = leap(xs, i + 1, y_end);
+            let next = find_from(xs, i + 1, y_end);
             n = put_run(out, n, xs, i, next);
             i = next;
             j += 1;
         } else {
-            let next = leap(ys, j + 1, x_end);
+            let next = find_from(ys, j + 1, x_end);
             n = put_run(out, n, ys, j, next);
             j = next;
             i += 1;
@@ -55,18 +53,4 @@ fn is_within(first: u64, end: u64, lo: u64, hi: u64) -> bool
     ensures { IsTrue result ↔ ((lo ≤ first) × (end ≤ hi)) }
 {
     lo <= first && end <= hi
-}
-
-/// How many cells end by the leaf `lo`, if the first `start` are known to; at least `start`, whatever the numbers are.
-pub(crate) fn leap<C: Cells>(cells: &C, start: usize, lo: u64) -> usize
-    requires { start ≤ length (C.ids cells.now) }
-    ensures from { start ≤ result }
-    ensures within { result ≤ length (C.ids cells.now) }
-    ensures ended { IsPacked (C.ids cells.now) → FirstEndBy (C.ids cells.now) start lo
-        → FirstEndBy (C.ids cells.now) result lo }
-    ensures next { IsPacked (C.ids cells.now) → FirstEndBy (C.ids cells.now) start lo
-        → result < length (C.ids cells.now)
-        → lo < first_leaf (slice_index (C.ids cells.now) result) + size_of (slice_index (C.ids cells.now) result) }
-{
-    find_from(cells, start, lo).max(start)
 }

@@ -7,9 +7,8 @@ ghost use Rattle.s2union.specs.Sets.{without};
 ghost use Rattle.s2search.specs.Room.{PutsOne};
 
 use crate::cells::Cells;
-use crate::find::{end_of, first_of};
+use crate::find::{end_of, find_from, first_of};
 use crate::room::{put_gap, put_run};
-use crate::share::leap;
 
 /// Puts the leaves of the first union that the second doesn't have into the room, if there is enough of it, and answers
 /// how many cells they are. Searches, in steps that double, for the next cell of `ys` that ends after the leaves done,
@@ -28,7 +27,7 @@ pub fn put_difference<X: Cells, Y: Cells>(xs: &X, ys: &Y, out: &mut [u64]) -> us
         let first = first_of(x);
         let end = end_of(x);
         let start = first.max(lo);
-        j = leap(ys, j, start);
+        j = find_from(ys, j, start);
         if begins_before(ys, j, end) {
             let y = ys.id(j);
             n = put_gap(out, n, start, first_of(y));
@@ -70,7 +69,7 @@ fn leap_if<C: Cells>(asked: bool, cells: &C, start: usize, lo: u64) -> usize
         → FirstEndBy (C.ids cells.now) result lo }
 {
     if asked {
-        return leap(cells, start, lo);
+        return find_from(cells, start, lo);
     }
     start
 }
@@ -87,7 +86,7 @@ fn free_until<X: Cells, Y: Cells>(xs: &X, i: usize, ys: &Y, j: usize) -> usize
 {
     let len = xs.len();
     if j < ys.len() {
-        return leap(xs, i + 1, first_of(ys.id(j)));
+        return find_from(xs, i + 1, first_of(ys.id(j)));
     }
     len
 }

@@ -23,13 +23,13 @@ loop-i-preserved-then-x_end-y_first g c =
     let ny = c.len-y_len.ensures in
     let h : c.loop-i.i < length xs = omega (arith, c.loop-i-test.true) in
     let t : c.loop-i.j < length ys = omega (arith, c.if-j-y_len.true) in
-    let f = c.leap-i.ensures in
+    let f = c.find_from-i.ensures in
     record {
       in_x = f.within;
       in_y = c.loop-i.invariant.in_y;
       len = c.loop-i.invariant.len;
       so_far = λ lx ly. shared_skip (both xs ys) xs ys c.args.out.now c.loop-i.out c.loop-i.n c.loop-i.i c.loop-i.j
-          c.leap-i.result c.id-x.result c.id-y.result c.end_of-x_end.result c.first_of-y_first.result lx ly
+          c.find_from-i.result c.id-x.result c.id-y.result c.end_of-x_end.result c.first_of-y_first.result lx ly
           (c.loop-i.invariant.so_far lx ly) h t c.id-x.ensures c.id-y.ensures c.end_of-x_end.ensures
           c.first_of-y_first.ensures c.if-x_end-y_first.true f.from f.within f.ended;
     }
@@ -42,14 +42,14 @@ loop-i-preserved-then-y_end-x_first g c =
     let ny = c.len-y_len.ensures in
     let h : c.loop-i.i < length xs = omega (arith, c.loop-i-test.true) in
     let t : c.loop-i.j < length ys = omega (arith, c.if-j-y_len.true) in
-    let f = c.leap-j.ensures in
+    let f = c.find_from-j.ensures in
     record {
       in_x = c.loop-i.invariant.in_x;
       in_y = f.within;
       len = c.loop-i.invariant.len;
-      so_far = λ lx ly. shared_swap (both xs ys) ys xs c.args.out.now c.loop-i.out c.loop-i.n c.leap-j.result c.loop-i.i
+      so_far = λ lx ly. shared_swap (both xs ys) ys xs c.args.out.now c.loop-i.out c.loop-i.n c.find_from-j.result c.loop-i.i
           (shared_skip (both xs ys) ys xs c.args.out.now c.loop-i.out c.loop-i.n c.loop-i.j c.loop-i.i
-          c.leap-j.result c.id-y.result c.id-x.result c.end_of-y_end.result c.first_of-x_first.result ly lx
+          c.find_from-j.result c.id-y.result c.id-x.result c.end_of-y_end.result c.first_of-x_first.result ly lx
           (shared_swap (both xs ys) xs ys c.args.out.now c.loop-i.out c.loop-i.n c.loop-i.i c.loop-i.j
           (c.loop-i.invariant.so_far lx ly)) t h c.id-y.ensures c.id-x.ensures c.end_of-y_end.ensures
           c.first_of-x_first.ensures c.if-y_end-x_first.true f.from f.within f.ended);
@@ -63,14 +63,14 @@ loop-i-preserved-then-is_within g c =
     let ny = c.len-y_len.ensures in
     let h : c.loop-i.i < length xs = omega (arith, c.loop-i-test.true) in
     let t : c.loop-i.j < length ys = omega (arith, c.if-j-y_len.true) in
-    let f = c.leap-next.ensures in
+    let f = c.find_from-next.ensures in
     let among = c.is_within.ensures.0 c.if-is_within.true in
     record {
       in_x = f.within;
       in_y = omega arith;
       len = c.put_run-n.ensures.len ∙ c.loop-i.invariant.len;
       so_far = λ lx ly. shared_run (both xs ys) xs ys c.args.out.now c.loop-i.out c.put_run-n.new.out c.loop-i.n
-          c.put_run-n.result c.loop-i.i c.loop-i.j c.leap-next.result c.id-x.result c.id-y.result c.end_of-y_end.result
+          c.put_run-n.result c.loop-i.i c.loop-i.j c.find_from-next.result c.id-x.result c.id-y.result c.end_of-y_end.result
           lx ly (c.loop-i.invariant.so_far lx ly) h t c.id-x.ensures c.id-y.ensures
           (inside_by xs ys c.loop-i.i c.loop-i.j c.id-x.result c.id-y.result c.first_of-x_first.result
           c.end_of-x_end.result c.first_of-y_first.result c.end_of-y_end.result lx ly h t c.id-x.ensures c.id-y.ensures
@@ -87,15 +87,15 @@ loop-i-preserved g c =
     let ny = c.len-y_len.ensures in
     let h : c.loop-i.i < length xs = omega (arith, c.loop-i-test.true) in
     let t : c.loop-i.j < length ys = omega (arith, c.if-j-y_len.true) in
-    let f = c.leap-next-else-is_within.ensures in
+    let f = c.find_from-next-else-is_within.ensures in
     record {
       in_x = omega arith;
       in_y = f.within;
       len = c.put_run-n-else-is_within.ensures.len ∙ c.loop-i.invariant.len;
       so_far = λ lx ly. shared_swap (both xs ys) ys xs c.args.out.now c.put_run-n-else-is_within.new.out
-          c.put_run-n-else-is_within.result c.leap-next-else-is_within.result (c.loop-i.i + 1)
+          c.put_run-n-else-is_within.result c.find_from-next-else-is_within.result (c.loop-i.i + 1)
           (shared_run (both xs ys) ys xs c.args.out.now c.loop-i.out c.put_run-n-else-is_within.new.out c.loop-i.n
-          c.put_run-n-else-is_within.result c.loop-i.j c.loop-i.i c.leap-next-else-is_within.result c.id-y.result
+          c.put_run-n-else-is_within.result c.loop-i.j c.loop-i.i c.find_from-next-else-is_within.result c.id-y.result
           c.id-x.result c.end_of-x_end.result ly lx
           (shared_swap (both xs ys) xs ys c.args.out.now c.loop-i.out c.loop-i.n c.loop-i.i c.loop-i.j
           (c.loop-i.invariant.so_far lx ly)) t h c.id-y.ensures c.id-x.ensures

@@ -11,5 +11,5 @@ returns-then-j-len-clause-free g c lx h own free =
     let p = packed_from_local xs lx in
     let f : c.first_of.result ≡ first_leaf (get_or ys c.args.j 0) = c.first_of.ensures (rw c.id.ensures own)
     ∙ ap first_leaf c.id.ensures in
-    let ended = c.leap.ensures.ended p (ended_to xs c.args.i c.first_of.result p c.requires (omega arith)) in
+    let ended = c.find_from.ensures.ended p (ended_to xs c.args.i c.first_of.result p c.requires (omega arith)) in
     rw f at ended

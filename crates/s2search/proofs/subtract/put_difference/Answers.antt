@@ -30,19 +30,19 @@ loop-i-preserved-then-begins_before g c =
       len = c.put_gap-n.ensures.len ∙ c.loop-i.invariant.len;
       so_far = λ lx ly.
           let here = left_on xs ys c.args.out.now c.loop-i.out c.loop-i.n c.loop-i.i c.loop-i.j c.loop-i.lo
-          c.leap-j.result c.id-x.result c.first_of-first.result c.max-start.result lx ly
-          (c.loop-i.invariant.so_far lx ly) h c.id-x.ensures c.first_of-first.ensures es c.leap-j.ensures.within
-          c.leap-j.ensures.ended in
-          let own = ly.cells c.leap-j.result 0 there in
+          c.find_from-j.result c.id-x.result c.first_of-first.result c.max-start.result lx ly
+          (c.loop-i.invariant.so_far lx ly) h c.id-x.ensures c.first_of-first.ensures es c.find_from-j.ensures.within
+          c.find_from-j.ensures.ended in
+          let own = ly.cells c.find_from-j.result 0 there in
           let begins = (c.begins_before.ensures.begins there own).0 c.if-begins_before.true in
-          let fy : c.first_of.result ≡ first_leaf (get_or ys c.leap-j.result 0) = c.first_of.ensures (rw ry own)
+          let fy : c.first_of.result ≡ first_leaf (get_or ys c.find_from-j.result 0) = c.first_of.ensures (rw ry own)
           ∙ ap first_leaf ry in
           let taken = left_taken xs ys c.args.out.now c.loop-i.out c.put_gap-n.new.out c.loop-i.n c.put_gap-n.result
-          c.loop-i.i c.leap-j.result c.loop-i.lo c.id-x.result c.id-y.result c.first_of-first.result c.end_of-end.result
+          c.loop-i.i c.find_from-j.result c.loop-i.lo c.id-x.result c.id-y.result c.first_of-first.result c.end_of-end.result
           c.max-start.result c.first_of.result c.end_of.result c.max-lo.result lx ly here h there c.id-x.ensures ry
           c.first_of-first.ensures c.end_of-end.ensures c.first_of.ensures c.end_of.ensures es (omega arith)
           (omega arith) c.put_gap-n.ensures.put in
-          left_jump xs ys c.args.out.now c.put_gap-n.new.out c.put_gap-n.result c.loop-i.i (c.leap-j.result + 1)
+          left_jump xs ys c.args.out.now c.put_gap-n.new.out c.put_gap-n.result c.loop-i.i (c.find_from-j.result + 1)
           c.max-lo.result c.leap_if-i.result lx taken f.from f.within f.ended;
     }
 
@@ -56,23 +56,23 @@ loop-i-preserved-then-start-first g c =
     let f = c.free_until-next.ensures in
     record {
       in_x = f.within;
-      in_y = c.leap-j.ensures.within;
+      in_y = c.find_from-j.ensures.within;
       len = c.put_run-n.ensures.len ∙ c.loop-i.invariant.len;
       so_far = λ lx ly.
           let here = left_on xs ys c.args.out.now c.loop-i.out c.loop-i.n c.loop-i.i c.loop-i.j c.loop-i.lo
-          c.leap-j.result c.id-x.result c.first_of-first.result c.max-start.result lx ly
-          (c.loop-i.invariant.so_far lx ly) h c.id-x.ensures c.first_of-first.ensures es c.leap-j.ensures.within
-          c.leap-j.ensures.ended in
+          c.find_from-j.result c.id-x.result c.first_of-first.result c.max-start.result lx ly
+          (c.loop-i.invariant.so_far lx ly) h c.id-x.ensures c.first_of-first.ensures es c.find_from-j.ensures.within
+          c.find_from-j.ensures.ended in
           let ownx = lx.cells c.loop-i.i 0 h in
           let rx = c.id-x.ensures in
           let ex : c.end_of-end.result ≡ first_leaf (get_or xs c.loop-i.i 0) + size_of (get_or xs c.loop-i.i 0) =
           c.end_of-end.ensures (rw rx ownx) ∙ ap (λ v. first_leaf v + size_of v) rx in
           left_run xs ys c.args.out.now c.loop-i.out c.put_run-n.new.out c.loop-i.n c.put_run-n.result c.loop-i.i
-          c.leap-j.result c.id-x.result c.first_of-first.result c.max-start.result c.free_until-next.result c.id.result
+          c.find_from-j.result c.id-x.result c.first_of-first.result c.max-start.result c.free_until-next.result c.id.result
           c.end_of-lo.result lx ly here h rx c.first_of-first.ensures
           (let t = c.if-start-first.true in omega arith) f.more f.within
           (λ there.
-          let own = ly.cells c.leap-j.result 0 there in
+          let own = ly.cells c.find_from-j.result 0 there in
           let free = not_before _ _ _ (c.begins_before.ensures.begins there own) c.if-begins_before.false in
           f.free lx there own (omega arith))
           c.id.ensures c.end_of-lo.ensures c.put_run-n.ensures.put;
@@ -87,18 +87,18 @@ loop-i-preserved g c =
     let es : c.max-start.result ≡ max c.first_of-first.result c.loop-i.lo = omega arith in
     record {
       in_x = omega arith;
-      in_y = c.leap-j.ensures.within;
+      in_y = c.find_from-j.ensures.within;
       len = c.put_gap-n-else-start-first.ensures.len ∙ c.loop-i.invariant.len;
       so_far = λ lx ly.
           let here = left_on xs ys c.args.out.now c.loop-i.out c.loop-i.n c.loop-i.i c.loop-i.j c.loop-i.lo
-          c.leap-j.result c.id-x.result c.first_of-first.result c.max-start.result lx ly
-          (c.loop-i.invariant.so_far lx ly) h c.id-x.ensures c.first_of-first.ensures es c.leap-j.ensures.within
-          c.leap-j.ensures.ended in
+          c.find_from-j.result c.id-x.result c.first_of-first.result c.max-start.result lx ly
+          (c.loop-i.invariant.so_far lx ly) h c.id-x.ensures c.first_of-first.ensures es c.find_from-j.ensures.within
+          c.find_from-j.ensures.ended in
           left_free xs ys c.args.out.now c.loop-i.out c.put_gap-n-else-start-first.new.out c.loop-i.n
-          c.put_gap-n-else-start-first.result c.loop-i.i c.leap-j.result c.loop-i.lo c.id-x.result
+          c.put_gap-n-else-start-first.result c.loop-i.i c.find_from-j.result c.loop-i.lo c.id-x.result
           c.first_of-first.result c.end_of-end.result c.max-start.result c.max-lo-else-start-first.result lx ly here h
           c.id-x.ensures c.first_of-first.ensures c.end_of-end.ensures es
-          (λ there. not_before _ _ _ (c.begins_before.ensures.begins there (ly.cells c.leap-j.result 0 there))
+          (λ there. not_before _ _ _ (c.begins_before.ensures.begins there (ly.cells c.find_from-j.result 0 there))
           c.if-begins_before.false)
           (omega arith) c.put_gap-n-else-start-first.ensures.put;
     }
