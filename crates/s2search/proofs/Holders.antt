@@ -15,7 +15,8 @@ use Rattle.s2cell.proofs.Leaves.{Within, before, after, within, around, meeting,
 use Rattle.s2cell.proofs.Leaves.{within_from_inside}
 use Rattle.s2cell.proofs.Family.{same_from_within, deeper_inside, parent_level, parent_around}
 use Rattle.s2union.proofs.Checking.{member_at}
-use Rattle.s2search.specs.Ancestors.{Gains, IsBefore, IsAfter}
+use Rattle.s2search.specs.Ancestors.{Gains, IsBefore, IsAfter, LeadsTo}
+use Rattle.s2search.specs.Room.{IsPut}
 
 -- ---- lists that ascend
 
@@ -380,39 +381,50 @@ own_parent u cu =
 
 -- ---- one step of each loop
 
-pub before_step : (u from level : ℕ) (old list new : List ℕ) → IsCell u → level < level_of u →
-    from ≤ first_leaf (parent_of u level)
-    → ((c : ℕ) → Contains old c → IsCell c) → ((c : ℕ) → Contains old c → first_leaf c < from) →
-    ((c : ℕ) → Contains old c → c < u)
-    → (0 < parent_of u level → parent_of u level < u → new ≡ list ++ parent_of u level ∷ [])
-    → ((0 < parent_of u level → parent_of u level < u → ⊥) → new ≡ list)
-    → Gains (BeforeTo u from level) old list → Gains (BeforeTo u from (level + 1)) old new
-before_step u from level old list new cu h start cells began below added same g =
+pub before_step : (u from level : ℕ) (old room out new : List ℕ) (n m : ℕ) → IsCell u → level < level_of u
+    → LeadsTo old u from → from ≤ first_leaf (parent_of u level)
+    → (0 < parent_of u level → parent_of u level < u
+    → (l r : List ℕ) → IsPut l r out n → IsPut (l ++ parent_of u level ∷ []) r new m)
+    → ((0 < parent_of u level → parent_of u level < u → ⊥) → (new ≡ out) × (m ≡ n))
+    → (longer : List ℕ) × Gains (BeforeTo u from level) old longer × IsPut longer room out n
+    → (longer : List ℕ) × Gains (BeforeTo u from (level + 1)) old longer × IsPut longer room new m
+before_step u from level old room out new n m cu h led start added same (longer, g, p) =
     let a = ancestor_at u level cu (omega arith) in
     let l = cell_leaves (parent_of u level) a.cell in
-    let m = l.middle in
+    let mid = l.middle in
     let s = l.some in
     ⊎_elim
-    (λ (less : parent_of u level < u). rw (added (omega arith) less)
-    (before_more u from level old list cu h start less cells began below g))
-    (λ (more : u ≤ parent_of u level). rw (same (λ p less. omega (arith, less, more)))
-    (before_none u from level old list cu h (λ less. omega (arith, less, more)) g))
+    (λ (less : parent_of u level < u). (
+      longer ++ parent_of u level ∷ [],
+      before_more u from level old longer cu h start less led.cells led.began led.below g,
+      added (omega arith) less longer room p,
+    ))
+    (λ (more : u ≤ parent_of u level).
+    let e = same (λ q less. omega (arith, less, more)) in
+    (longer, before_none u from level old longer cu h (λ less. omega (arith, less, more)) g, rw (e.0, e.1) p))
     (cases_lt (parent_of u level) u)
 
-pub after_step : (u next level : ℕ) (old list new : List ℕ) → IsCell u → level < level_of u →
+pub after_step : (u next level : ℕ) (old room out new : List ℕ) (n m : ℕ) → IsCell u → level < level_of u →
     ((c : ℕ) → Contains old c → c ≤ u)
-    → (u < parent_of u level → parent_of u level < next → new ≡ list ++ parent_of u level ∷ [])
-    → ((u < parent_of u level → parent_of u level < next → ⊥) → new ≡ list)
-    → Gains (AfterTo u next (level + 1)) old list → Gains (AfterTo u next level) old new
-after_step u next level old list new cu h most added same g =
+    → (u < parent_of u level → parent_of u level < next
+    → (l r : List ℕ) → IsPut l r out n → IsPut (l ++ parent_of u level ∷ []) r new m)
+    → ((u < parent_of u level → parent_of u level < next → ⊥) → (new ≡ out) × (m ≡ n))
+    → (longer : List ℕ) × Gains (AfterTo u next (level + 1)) old longer × IsPut longer room out n
+    → (longer : List ℕ) × Gains (AfterTo u next level) old longer × IsPut longer room new m
+after_step u next level old room out new n m cu h most added same (longer, g, p) =
     ⊎_elim
     (λ (above : u < parent_of u level).
     ⊎_elim
-    (λ (below : parent_of u level < next). rw (added above below)
-    (after_more u next level old list cu h above below most g))
-    (λ (past : next ≤ parent_of u level). rw (same (λ a b. omega (arith, b, past)))
-    (after_none u next level old list cu h (λ a b. omega (arith, b, past)) g))
+    (λ (below : parent_of u level < next). (
+      longer ++ parent_of u level ∷ [],
+      after_more u next level old longer cu h above below most g,
+      added above below longer room p,
+    ))
+    (λ (past : next ≤ parent_of u level).
+    let e = same (λ a b. omega (arith, b, past)) in
+    (longer, after_none u next level old longer cu h (λ a b. omega (arith, b, past)) g, rw (e.0, e.1) p))
     (cases_lt (parent_of u level) next))
-    (λ (under : parent_of u level ≤ u). rw (same (λ a b. omega (arith, a, under)))
-    (after_none u next level old list cu h (λ a b. omega (arith, a, under)) g))
+    (λ (under : parent_of u level ≤ u).
+    let e = same (λ a b. omega (arith, a, under)) in
+    (longer, after_none u next level old longer cu h (λ a b. omega (arith, a, under)) g, rw (e.0, e.1) p))
     (cases_lt u (parent_of u level))

@@ -1,6 +1,7 @@
 mod Asking
 mod Laying
 mod Leaving
+mod Cutting
 mod Finding
 mod Holders
 mod Looking

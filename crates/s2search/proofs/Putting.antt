@@ -19,6 +19,21 @@ use Rattle.s2search.specs.Room.{IsPut, PutsOne}
 pub put_none : (room : List ℕ) → IsPut [] room room 0
 put_none room = record { same_length = refl; len_is = λ h. refl; front = λ h. refl }
 
+pub put_past : (list room out run : List ℕ) (n m count : ℕ) → IsPut list room out n → length run ≡ count →
+    length out < n + count → length out < 2 ^ 64 → (n + count < 2 ^ 64 → m ≡ n + count) →
+    IsPut (list ++ run) room out m
+put_past list room out run n m count p lr h fits more =
+    let len : length (list ++ run) ≡ length list + length run = length-append list run in
+    let s = p.same_length in
+    record {
+      same_length = p.same_length;
+      len_is = λ l.
+          let e : n ≡ length list = p.len_is (omega arith) in
+          let f : m ≡ n + count = more (omega arith) in
+          omega arith;
+      front = λ l. let e : n ≡ length list = p.len_is (omega arith) in absurd (omega arith);
+    }
+
 pub run_more : (ids room out : List ℕ) (n k from x : ℕ) → n + k < length room → from + k < length ids →
     out ≡ (take n room ++ take k (drop from ids)) ++ drop (n + k) room → x ≡ get_or ids (from + k) 0
     → set out (n + k) x ≡ (take n room ++ take (k + 1) (drop from ids)) ++ drop (n + (k + 1)) room

@@ -1,5 +1,5 @@
 -- The keys of the first cells of a union, while the list of all is put together; and what the keys of two unions tell.
-use Rattle.std.proofs.Common.{◌≡◌, ℕ, ◌+◌, ◌-◌, ◌^◌, ◌<◌, ◌≤◌, refl, sym, ap, arith, inl, inr, List, []}
+use Rattle.std.proofs.Common.{◌≡◌, ℕ, zero, suc, ◌+◌, ◌-◌, ◌^◌, ◌<◌, ◌≤◌, refl, sym, ap, arith, inl, inr, List, []}
 use Rattle.std.proofs.Common.{◌∷◌, ◌++◌}
 use Rattle.std.proofs.Common.{length, get_or, All, Contains}
 use Rattle.std.specs.List.Sorted.{IsStrictlyIncreasing}
@@ -15,7 +15,9 @@ use Rattle.s2union.specs.Packed.{IsPacked}
 use Rattle.s2union.proofs.Checking.{member_at}
 use Rattle.s2union.proofs.Normal.{leaf_from, leaf_to}
 use Rattle.s2union.proofs.PackedLocal.{place}
-use Rattle.s2search.specs.Ancestors.{AreHolders, IsHolder, ShareHolder, Gains, IsBefore, IsAfter}
+use Rattle.s2search.specs.Ancestors.{AreHolders, IsHolder, ShareHolder, Gains, IsBefore, IsAfter, LeadsTo}
+use Rattle.s2search.specs.Ancestors.{PutsThose}
+use Rattle.s2search.specs.Room.{IsPut, PutsOne}
 use Rattle.s2search.proofs.Holders.{rises_more}
 
 -- `c` holds one of the first `k` cells
@@ -51,7 +53,7 @@ reached_start u = record {
 }
 
 -- what the next cell asks for
-pub starts : (u : List ℕ) (k from : ℕ) (list : List ℕ) → IsPacked u → k < length u → Reached u k from list
+starts : (u : List ℕ) (k from : ℕ) (list : List ℕ) → IsPacked u → k < length u → Reached u k from list
     → from ≤ first_leaf (get_or u k 0)
 starts u k from list p h r =
     ⊎_elim
@@ -79,16 +81,16 @@ ended u k j from list p h l r =
     omega arith)
     (cases_lt j (k - 1))
 
-pub all_below : (cell from : ℕ) (old new : List ℕ) → ((c : ℕ) → Contains old c → c < cell)
+all_below : (cell from : ℕ) (old new : List ℕ) → ((c : ℕ) → Contains old c → c < cell)
     → Gains (IsBefore cell from) old new → (c : ℕ) → Contains new c → c < cell
 all_below cell from old new below g c h = ⊎_elim (λ (o : Contains old c). below c o)
     (λ (b : IsBefore cell from c). b.below) ((g.members c).0 h)
 
-pub rises_to : (cell from : ℕ) (old new : List ℕ) → ((c : ℕ) → Contains old c → c < cell)
+rises_to : (cell from : ℕ) (old new : List ℕ) → ((c : ℕ) → Contains old c → c < cell)
     → Gains (IsBefore cell from) old new → IsStrictlyIncreasing (new ++ cell ∷ [])
 rises_to cell from old new below g = rises_more new cell g.ascending (all_below cell from old new below g)
 
-pub most_to : (cell from : ℕ) (old new : List ℕ) → ((c : ℕ) → Contains old c → c < cell)
+most_to : (cell from : ℕ) (old new : List ℕ) → ((c : ℕ) → Contains old c → c < cell)
     → Gains (IsBefore cell from) old new → (c : ℕ) → Contains (new ++ cell ∷ []) c → c ≤ cell
 most_to cell from old new below g c h =
     ⊎_elim
@@ -282,7 +284,7 @@ complete_high u k from next old one two p h r pushed c j cc hj w high below =
     (pushed.back.members c).1
     (inr (record { own = cc; around = inside_from_within cell c v; above = high; below = below }))
 
-pub reached_more : (u : List ℕ) (k from next : ℕ) (old one two : List ℕ) → IsPacked u → k < length u
+reached_more : (u : List ℕ) (k from next : ℕ) (old one two : List ℕ) → IsPacked u → k < length u
     → (k + 1 < length u → next ≡ get_or u (k + 1) 0) → (length u ≤ k + 1 → next ≡ 2 ^ 64 - 1)
     → Reached u k from old → Pushed (get_or u k 0) from next old one two
     → Reached u (k + 1) (first_leaf (get_or u k 0) + size_of (get_or u k 0)) two
@@ -311,7 +313,7 @@ reached_more u k from next old one two p h is_next is_last r pushed =
           ap (λ n. first_leaf (get_or u n 0) + size_of (get_or u n 0)) e;
     }
 
-pub reached_done : (u : List ℕ) (k from : ℕ) (list : List ℕ) → IsPacked u → k ≡ length u → Reached u k from list →
+reached_done : (u : List ℕ) (k from : ℕ) (list : List ℕ) → IsPacked u → k ≡ length u → Reached u k from list →
     AreHolders u list
 reached_done u k from list p h r = record {
   ascending = r.ascending;
@@ -333,6 +335,71 @@ reached_done u k from list p h r = record {
         r.complete c at.at holder.cell (omega arith) w (λ l. absurd (omega arith)),
   );
 }
+
+-- ---- all of them
+
+at_place : (xs : List ℕ) (k : ℕ) → IsStrictlyIncreasing xs → k < length xs → k ≤ get_or xs k 0
+at_place xs zero rises h = omega arith
+at_place xs (suc k) rises h =
+    let before = at_place xs k rises (omega arith) in
+    let e : k + 1 ≡ suc k = omega arith in
+    let less : get_or xs k 0 < get_or xs (suc k) 0 = rw e at (rises k (omega arith)) in
+    omega arith
+
+few_holders : (u list : List ℕ) → AreHolders u list → length list < 2 ^ 64
+few_holders u list a =
+    ⊎_elim
+    (λ (some : 0 < length list).
+    let k = length list - 1 in
+    let last = get_or list k 0 in
+    let most = at_place list k a.ascending (omega arith) in
+    let fits = fits_below last ((a.members last).0 (member_at list k last (omega arith) refl)).cell in
+    omega arith)
+    (λ (none : length list ≤ 0). omega arith)
+    (cases_lt 0 (length list))
+
+pub puts_holders : (u list room out : List ℕ) (k from n : ℕ) → IsPacked u → k ≡ length u → Reached u k from list →
+    IsPut list room out n → PutsOne (AreHolders u) room out n
+puts_holders u list room out k from n p h r put =
+    let is = reached_done u k from list p h r in
+    record {
+      list = list;
+      is = is;
+      len_is = put.len_is (few_holders u list is);
+      same_length = put.same_length;
+      front = put.front;
+    }
+
+-- what the cells so far are for the ancestors of the next
+leads_to_next : (u : List ℕ) (k from : ℕ) (list : List ℕ) → IsPacked u → k < length u → Reached u k from list →
+    LeadsTo list (get_or u k 0) from
+leads_to_next u k from list p h r = record {
+  start = starts u k from list p h r;
+  ascending = r.ascending;
+  cells = λ c has. (r.sound c has).cell;
+  began = r.began;
+  below = r.below h;
+}
+
+-- the next cell, its ancestors before it, and those after it
+pub reached_step : (u : List ℕ) (k from next : ℕ) (room out one two three : List ℕ) (n n1 n2 n3 : ℕ) → IsPacked u →
+    k < length u → (k + 1 < length u → next ≡ get_or u (k + 1) 0) → (length u ≤ k + 1 → next ≡ 2 ^ 64 - 1)
+    → ((list : List ℕ) → LeadsTo list (get_or u k 0) from → PutsThose (IsBefore (get_or u k 0) from) list out one n n1)
+    → ((list r : List ℕ) → IsPut list r one n1 → IsPut (list ++ get_or u k 0 ∷ []) r two n2)
+    → ((list : List ℕ) → IsStrictlyIncreasing list → ((c : ℕ) → Contains list c → c ≤ get_or u k 0)
+    → PutsThose (IsAfter (get_or u k 0) next) list two three n2 n3)
+    → (list : List ℕ) × Reached u k from list × IsPut list room out n
+    → (list : List ℕ) × Reached u (k + 1) (first_leaf (get_or u k 0) + size_of (get_or u k 0)) list
+    × IsPut list room three n3
+reached_step u k from next room out one two three n n1 n2 n3 packed h is_next is_last leading itself trailing
+    (list, reached, p) =
+    let cell = get_or u k 0 in
+    let led = leads_to_next u k from list packed h reached in
+    let (first, front, p1) = leading list led room p in
+    let (all, back, p2) = trailing (first ++ cell ∷ []) (rises_to cell from list first led.below front)
+    (most_to cell from list first led.below front) room (itself first room p1) in
+    let pushed : Pushed cell from next list first all = record { front = front; back = back } in
+    (all, reached_more u k from next list first all packed h is_next is_last reached pushed, p2)
 
 -- ---- the law
 

@@ -1,5 +1,6 @@
 pub mod Numbers
 pub mod Search
+pub mod Room
 pub mod Ancestors
 pub mod Normalising
 pub mod Looks

@@ -1,14 +1,14 @@
 //! Numbers by their places, in a list or in bytes.
-ghost use Rattle.std.specs.Prelude.{◌≡◌, ◌/◌, ◌<◌, ◌≤◌, ℕ, List, length, slice_index};
+ghost use Rattle.std.specs.Prelude.{◌≡◌, ◌*◌, ◌/◌, ◌<◌, ◌≤◌, ℕ, List, length, slice_index};
 ghost use Rattle.s2cell.specs.Cell.{IsCell};
 ghost use Rattle.s2file.specs.File.{first_number};
-ghost use Rattle.s2search.specs.Numbers.{number_in};
+ghost use Rattle.s2search.specs.Numbers.{number_in, numbers};
 
 use byteorder::{ByteOrder, LittleEndian};
 use s2cell::CellId;
 
 /// The size of a number in a file, in bytes.
-const NUMBER_SIZE: usize = 8;
+pub const NUMBER_SIZE: usize = 8;
 
 /// Numbers that can be read by their places.
 pub trait Cells {
@@ -51,8 +51,6 @@ pub struct FileIds<'a> {
 }
 
 impl<'a> Cells for FileIds<'a> {
-    ghost use Rattle.s2search.specs.Numbers.{numbers};
-
     ghost ids = { λ s. numbers s.bytes.now };
 
     fn len(&self) -> usize {
@@ -79,6 +77,14 @@ pub fn number(bytes: &[u8]) -> u64
     ensures { result ≡ first_number bytes.now }
 {
     LittleEndian::read_u64(bytes)
+}
+
+/// Fills a list with the numbers of bytes, eight bytes each, which are as many.
+pub fn read_numbers(bytes: &[u8], out: &mut [u64])
+    requires { length bytes.now ≡ 8 * length out.old }
+    ensures { out.new ≡ numbers bytes.now }
+{
+    LittleEndian::read_u64_into(bytes, out);
 }
 
 /// The cell with this identifier.

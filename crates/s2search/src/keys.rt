@@ -2,36 +2,36 @@
 //!
 //! Identifiers in order are cells in order of their middles. So an ancestor comes before the first cell in it if that
 //! cell lies in its second half; otherwise it comes after the last cell in its first half.
-ghost use Rattle.std.specs.Prelude.{◌≡◌, ◌+◌, ◌-◌, ◌^◌, ◌<◌, ◌≤◌, ◌↔◌, ℕ, Contains, List, []};
-ghost use Rattle.std.specs.Prelude.{◌∷◌, ◌++◌, All, IfOk};
-ghost use Rattle.std.specs.Prelude.{OnOk, length, slice_index};
+ghost use Rattle.std.specs.Prelude.{◌≡◌, ◌+◌, ◌-◌, ◌^◌, ◌<◌, ◌≤◌, ℕ, Contains, List, []};
+ghost use Rattle.std.specs.Prelude.{◌∷◌, ◌++◌, length, slice_index};
 ghost use Rattle.std.specs.List.Sorted.{IsStrictlyIncreasing};
 ghost use Rattle.s2cell.specs.Cell.{IsCell, IsInside, first_leaf, level_of, parent_of};
 ghost use Rattle.s2union.specs.Union.{IsLocal};
-ghost use Rattle.s2search.specs.Ancestors.{AreHolders, Gains, IsAfter, IsBefore};
+ghost use Rattle.s2search.specs.Ancestors.{AreHolders, IsAfter, IsBefore, LeadsTo, PutsThose};
+ghost use Rattle.s2search.specs.Room.{IsPut, PutsOne};
 
 use crate::cells::Cells;
+use crate::room::put;
 use s2cell::CellId;
-use std::alloc::{AllocError, Global};
 
-/// The cells of a union and all their ancestors, ascending, each once. The work is in proportion to their number, at
-/// most 31 for each cell of the union. Fails only if it is out of memory.
-pub fn ancestors<C: Cells>(alloc: Global, cells: &C) -> Result<Vec<CellId>, AllocError>
-    requires { IsLocal (C.ids cells.now) }
-    ensures { IfOk result (λ list. AreHolders (C.ids cells.now) list.items) }
+/// Puts the cells of a union and all their ancestors, ascending, each once, at the front of a room, if they fit, and
+/// answers how many they are. Takes no memory. The work is in proportion to their number, at most 31 for each cell of the
+/// union. Numbers that are not cells are passed over.
+pub fn ancestors<C: Cells>(cells: &C, out: &mut [u64]) -> usize
+    ensures len { length out.new ≡ length out.old }
+    ensures put { IsLocal (C.ids cells.now) → PutsOne (AreHolders (C.ids cells.now)) out.old out.new result }
 {
-    let mut list = Vec::with_capacity(alloc, cells.len())?;
+    let mut n = 0;
     let mut from = 0;
     for k in 0..cells.len() {
-        let Some(cell) = CellId::from_id(cells.id(k)) else {
-            unreachable!();
-        };
-        push_before(&mut list, cell, from)?;
-        list.push(cell)?;
-        push_after(&mut list, cell, id_after(cells, k))?;
-        from = cell.end_leaf();
+        if let Some(cell) = CellId::from_id(cells.id(k)) {
+            n = put_before(out, n, cell, from);
+            n = put(out, n, cell.id());
+            n = put_after(out, n, cell, id_after(cells, k));
+            from = cell.end_leaf();
+        }
     }
-    Ok(list)
+    n
 }
 
 /// The number after the one at the place `k`, or the greatest number if that is the last.
@@ -47,28 +47,25 @@ fn id_after<C: Cells>(cells: &C, k: usize) -> u64
     }
 }
 
-/// Adds the ancestors of a cell that come before it and have no leaf before `from`.
-fn push_before(list: &mut Vec<CellId>, cell: CellId, from: u64) -> Result<(), AllocError>
-    requires from { from ≤ first_leaf cell }
-    requires ascending { IsStrictlyIncreasing list.old.items }
-    requires cells { (c : ℕ) → Contains list.old.items c → IsCell c }
-    requires began { (c : ℕ) → Contains list.old.items c → first_leaf c < from }
-    requires below { (c : ℕ) → Contains list.old.items c → c < cell }
-    ensures { OnOk result (Gains (IsBefore cell from) list.old.items list.new.items) }
+/// Puts the ancestors of a cell that come before it and have no leaf before `from`, and answers how many numbers there
+/// are then.
+fn put_before(out: &mut [u64], n: usize, cell: CellId, from: u64) -> usize
+    ensures len { length out.new ≡ length out.old }
+    ensures put { (list : List ℕ) → LeadsTo list cell from
+        → PutsThose (IsBefore cell from) list out.old out.new n result }
 {
     let middle = cell.id();
-    let first = outermost(cell, from);
-    for level in first..cell.level() {
-        push_between(list, cell.parent(level), 0, middle)?;
+    let mut count = n;
+    for level in outermost(cell, from)..cell.level() {
+        count = put_between(out, count, cell.parent(level), 0, middle);
     }
-    Ok(())
+    count
 }
 
 /// The least level at which the cell's ancestor has no leaf before `from`.
 fn outermost(cell: CellId, from: u64) -> u8
-    requires { from ≤ first_leaf cell }
     ensures within { result ≤ level_of cell }
-    ensures start { from ≤ first_leaf (parent_of cell result) }
+    ensures start { from ≤ first_leaf cell → from ≤ first_leaf (parent_of cell result) }
     ensures least { (c : ℕ) → IsCell c → IsInside cell c → from ≤ first_leaf c → result ≤ level_of c }
 {
     let _ = cell.id();
@@ -79,33 +76,37 @@ fn outermost(cell: CellId, from: u64) -> u8
     level
 }
 
-/// Adds the ancestors of a cell that come after it and before the cell `next`, from the smallest to the one that
-/// contains both.
-fn push_after(list: &mut Vec<CellId>, cell: CellId, next: u64) -> Result<(), AllocError>
-    requires ascending { IsStrictlyIncreasing list.old.items }
-    requires most { (c : ℕ) → Contains list.old.items c → c ≤ cell }
-    ensures { OnOk result (Gains (IsAfter cell next) list.old.items list.new.items) }
+/// Puts the ancestors of a cell that come after it and before the cell `next`, from the smallest to the one that contains
+/// both, and answers how many numbers there are then.
+fn put_after(out: &mut [u64], n: usize, cell: CellId, next: u64) -> usize
+    ensures len { length out.new ≡ length out.old }
+    ensures put { (list : List ℕ) → IsStrictlyIncreasing list → ((c : ℕ) → Contains list c → c ≤ cell)
+        → PutsThose (IsAfter cell next) list out.old out.new n result }
 {
     let middle = cell.id();
+    let mut count = n;
     let mut level = cell.level();
     while level > 0 {
         level -= 1;
         let ancestor = cell.parent(level);
-        push_between(list, ancestor, middle, next)?;
+        count = put_between(out, count, ancestor, middle, next);
         if next <= ancestor.range_max().id() {
-            return Ok(());
+            return count;
         }
     }
-    Ok(())
+    count
 }
 
-/// Adds a cell if its identifier lies between the two numbers.
-fn push_between(list: &mut Vec<CellId>, cell: CellId, low: u64, high: u64) -> Result<(), AllocError>
-    ensures added { OnOk result (low < cell → cell < high → list.new.items ≡ list.old.items ++ cell ∷ []) }
-    ensures same { OnOk result ((low < cell → cell < high → ⊥) → list.new.items ≡ list.old.items) }
+/// Puts a cell if its identifier lies between the two numbers, and answers how many numbers there are then.
+fn put_between(out: &mut [u64], n: usize, cell: CellId, low: u64, high: u64) -> usize
+    ensures len { length out.new ≡ length out.old }
+    ensures added { low < cell → cell < high
+        → (list room : List ℕ) → IsPut list room out.old n → IsPut (list ++ cell ∷ []) room out.new result }
+    ensures same { (low < cell → cell < high → ⊥) → (out.new ≡ out.old) × (result ≡ n) }
 {
     if low < cell.id() && cell.id() < high {
-        list.push(cell)?;
+        put(out, n, cell.id())
+    } else {
+        n
     }
-    Ok(())
 }

@@ -5,11 +5,14 @@
 //! nothing. The same holds of the set operations, which write into a room that the caller provides. `ancestors`
 //! requires the cells of a union, and makes a list: the keys of an index. `union_of` tests and copies numbers in one
 //! pass. `normalise` makes a list of cells a union in place.
+//! nothing. So it is with `ancestors`, the keys of an index, and `denormalise`, which put their results into a room.
+//! `union_of` tests and copies numbers in one pass. `normalise` makes a list of cells a union in place.
 #![tactic(auto)]
 
 mod ask;
 mod cells;
 mod copying;
+mod denormalising;
 mod find;
 mod four;
 mod join;
@@ -28,6 +31,14 @@ pub use ask::{contains_cell, contains_cell_at, intersects_cell, intersects_cell_
 pub use cells::{Cells, FileIds, IdList, cell_of, number};
 pub use copying::union_of;
 pub use find::NEARBY;
+pub use ask::{
+    contains, contains_cell, contains_cell_at, intersects, intersects_cell, intersects_cell_at,
+    place_near,
+};
+pub use cells::{Cells, FileIds, IdList, NUMBER_SIZE, cell_of, number, read_numbers};
+pub use copying::union_of;
+pub use denormalising::denormalise;
+pub use find::LAST_STEP;
 pub use four::{Places, places_of_four};
 pub use join::put_union;
 pub use keys::ancestors;

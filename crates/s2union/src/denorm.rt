@@ -83,8 +83,9 @@ impl<'a> Iterator for Denorm<'a> {
     }
 }
 
-/// The level that a cell of this level is cut to.
-fn level_to_cut(level: u8, min: u8, modulus: u8) -> u8
+/// The level that a cell of this level is cut to: the least that is at least its own, is at least `min`, and differs from
+/// `min` by a multiple of `modulus`; 30 if there is none.
+pub fn level_to_cut(level: u8, min: u8, modulus: u8) -> u8
     requires level { level ≤ GREATEST_LEVEL }
     requires min { min ≤ GREATEST_LEVEL }
     requires some { 0 < modulus }
@@ -99,7 +100,7 @@ fn level_to_cut(level: u8, min: u8, modulus: u8) -> u8
 }
 
 /// How many cells of a level a cell of another level has: 4 for each level between them.
-fn count_descendants(own: u8, level: u8) -> u64
+pub fn count_descendants(own: u8, level: u8) -> u64
     requires own { own ≤ level }
     requires level { level ≤ GREATEST_LEVEL }
     ensures { result ≡ 4 ^ (level - own) }

@@ -1,5 +1,12 @@
+use Rattle.std.proofs.Common.{◌≡◌, ℕ, List, length}
+use Rattle.s2union.specs.Union.{IsLocal}
+use Rattle.s2search.specs.Room.{IsPut}
 use Rattle.s2search.proofs.Reaching.{Reached}
 use Rattle.s2search.proofs.keys.ancestors.Given as goal
 
 abbrev pub invariant-loop-k : goal.invariant-loop-k
-invariant-loop-k g l = Reached (g.C.Cells.ids l.cells) l.k l.from l.list.items
+invariant-loop-k g l = record {
+  len : length l.out ≡ length l.fn.out;
+  put : IsLocal (g.C.Cells.ids l.cells)
+      → (list : List ℕ) × Reached (g.C.Cells.ids l.cells) l.k l.from list × IsPut list l.fn.out l.out l.n;
+}

@@ -7,7 +7,7 @@ pub loop-level-init : goal.loop-level-init
 loop-level-init c =
     let cu : IsCell c.args.cell = (_, _, c.id.ensures.cell) in
     let v = c.level-level.ensures.value in
-    record { within = omega arith; start = rw (v, own_parent c.args.cell cu) c.requires }
+    record { within = omega arith; start = λ h. rw (v, own_parent c.args.cell cu) h }
 
 pub returns-else-from-first_leaf-clause-least : goal.returns-else-from-first_leaf-clause-least
 returns-else-from-first_leaf-clause-least c =

@@ -5,7 +5,7 @@ use Rattle.s2search.proofs.keys.outermost.Given as goal
 abbrev pub invariant-loop-level : goal.invariant-loop-level
 invariant-loop-level l = record {
   within : l.level ≤ level_of l.cell;
-  start : l.from ≤ first_leaf (parent_of l.cell l.level);
+  start : l.from ≤ first_leaf l.cell → l.from ≤ first_leaf (parent_of l.cell l.level);
 }
 
 abbrev pub decreases-loop-level : goal.decreases-loop-level

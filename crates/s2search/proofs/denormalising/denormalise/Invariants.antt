@@ -1,0 +1,10 @@
+use Rattle.std.proofs.Common.{◌≡◌, length}
+use Rattle.s2union.specs.Union.{IsLocal}
+use Rattle.s2search.proofs.Cutting.{PutFirst}
+use Rattle.s2search.proofs.denormalising.denormalise.Given as goal
+
+abbrev pub invariant-loop-id : goal.invariant-loop-id
+invariant-loop-id l = record {
+  len : length l.out ≡ length l.fn.out;
+  put : IsLocal l.ids → PutFirst l.ids l.min l.modulus l.id-index l.fn.out l.out l.n;
+}
