@@ -152,9 +152,7 @@ class CellUnionOf {
   /// The union whose cells these are. S2U_NO_UNION if they are not normalized. n steps.
   static CellUnionOf FromNormalized(std::vector<Id> cell_ids, int32_t* status = nullptr) {
     CellUnionOf made;
-    if (internal::succeeded(IsNormalized(cell_ids) ? S2U_OK : S2U_NO_UNION, status)) {
-      made.cell_ids_ = std::move(cell_ids);
-    }
+    if (internal::succeeded(UnionStatus(cell_ids), status)) made.cell_ids_ = std::move(cell_ids);
     return made;
   }
 
@@ -228,7 +226,7 @@ class CellUnionOf {
   /// The cells, each cut to the least level that is at least its own and is `min_level` or above it by a multiple of
   /// `level_mod`, which is 1 to 3; to leaves if there is none. A face has 4^30 leaves. S2U_ARGUMENT, S2U_MEMORY.
   void Denormalize(int min_level, int level_mod, std::vector<Id>* output, int32_t* status = nullptr) const {
-    Denormalize(cell_ids_, min_level, level_mod, output, status);
+    Cut(cell_ids_, min_level, level_mod, output, status);
   }
 
   // ---- as a set of leaves
@@ -347,23 +345,15 @@ class CellUnionOf {
   static void Normalize(std::vector<Id>* cell_ids, int32_t* status = nullptr) {
     internal::succeeded(Normalized(cell_ids), status);
   }
-  /// As the one of a union, which `in` must be. S2U_NO_UNION.
+  /// As the one of a union, which `in` must be: it is checked, n steps. S2U_NO_UNION.
   static void Denormalize(const std::vector<Id>& in, int min_level, int level_mod, std::vector<Id>* out,
                           int32_t* status = nullptr) {
-    auto min = static_cast<uint32_t>(min_level), modulus = static_cast<uint32_t>(level_mod);
-    uint64_t length = 0;
-    int32_t found = s2u_denormalised_len(Numbers(in), in.size(), min, modulus, &length);
-    std::vector<Id> cells;
-    if (found == S2U_OK) {
-      found = Listed(length, &cells, [&](uint64_t* at, size_t room, size_t* len) {
-        return s2u_denormalised(Numbers(in), in.size(), min, modulus, at, room, len);
-      });
-    }
-    if (internal::succeeded(found, status)) *out = std::move(cells);
+    if (internal::succeeded(UnionStatus(in), status)) Cut(in, min_level, level_mod, out, status);
   }
-  /// The leaves that two unions share. S2U_NO_UNION, S2U_MEMORY.
+  /// The leaves that two unions share. Both lists are checked, a step for each cell. S2U_NO_UNION, S2U_MEMORY.
   static void GetIntersection(const std::vector<Id>& x, const std::vector<Id>& y, std::vector<Id>* out,
                               int32_t* status = nullptr) {
+    if (!internal::succeeded(UnionStatus(x), status) || !internal::succeeded(UnionStatus(y), status)) return;
     std::vector<Id> cells;
     int32_t found = IsNormalized(x) && IsNormalized(y) ? S2U_OK : S2U_NO_UNION;
     if (found == S2U_OK) {
@@ -386,6 +376,21 @@ class CellUnionOf {
   static uint64_t* Numbers(std::vector<Id>* cells) {
     void* at = cells->data();
     return static_cast<uint64_t*>(at);
+  }
+
+  static int32_t UnionStatus(const std::vector<Id>& cells) { return IsNormalized(cells) ? S2U_OK : S2U_NO_UNION; }
+
+  static void Cut(const std::vector<Id>& in, int min_level, int level_mod, std::vector<Id>* out, int32_t* status) {
+    auto min = static_cast<uint32_t>(min_level), modulus = static_cast<uint32_t>(level_mod);
+    uint64_t length = 0;
+    int32_t found = s2u_denormalised_len(Numbers(in), in.size(), min, modulus, &length);
+    std::vector<Id> cells;
+    if (found == S2U_OK) {
+      found = Listed(length, &cells, [&](uint64_t* at, size_t room, size_t* len) {
+        return s2u_denormalised(Numbers(in), in.size(), min, modulus, at, room, len);
+      });
+    }
+    if (internal::succeeded(found, status)) *out = std::move(cells);
   }
 
   static int32_t LeafStatus(uint64_t number) {

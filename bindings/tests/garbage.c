@@ -57,10 +57,15 @@ int main(void) {
                                : len == 0 && (status == S2U_ARGUMENT || !s2u_is_cell(cell) || !s2u_is_cell(last)));
     CHECK(len <= S2U_MOST_RANGE);
     status = s2u_ancestors(xs, nx, out, room, &len);
-    CHECK(s2u_is_union(xs, nx)
-              ? len >= nx && len <= S2U_MOST_ANCESTORS(nx) && status == (len > room ? S2U_ROOM : S2U_OK)
-              : status == S2U_NO_UNION && len == 0);
-    (void)s2u_denormalised(xs, nx, (uint32_t)(draw() % 40), (uint32_t)(draw() % 5), out, room, &len);
+    CHECK(len <= S2U_MOST_ANCESTORS(nx) && status == (len > room ? S2U_ROOM : S2U_OK));
+    CHECK(!s2u_is_union(xs, nx) || len >= nx);
+    uint32_t min = (uint32_t)(draw() % 40), modulus = (uint32_t)(draw() % 5);
+    status = s2u_denormalised(xs, nx, min, modulus, out, room, &len);
+    CHECK(status == (min > 30 || modulus < 1 || modulus > 3 ? S2U_ARGUMENT : len > room ? S2U_ROOM : S2U_OK));
+    CHECK(s2u_denormalised_len(xs, nx, min, modulus, &many) == (status == S2U_ARGUMENT ? S2U_ARGUMENT : S2U_OK));
+    CHECK(many == len && (status != S2U_ARGUMENT || len == 0));
+    status = s2u_encode(xs, nx, bytes_end - 9 - 8 * nx, 9 + 8 * nx, &len);
+    CHECK(status == S2U_OK && len == S2U_FILE_SIZE(nx) && memcmp(bytes_end - 8 * nx, xs, 8 * nx) == 0);
     char* text = text_end - draw() % (17 * MOST);
     size_t at_most = (size_t)(text_end - text);
     status = s2u_tokens(xs, nx, text, at_most, &len);
@@ -96,7 +101,7 @@ int main(void) {
     (void)s2u_file_intersects(bytes, size, bytes, size);
     status = s2u_file_ancestors(bytes, size, out, room, &len);
     CHECK(status == S2U_OK ? len <= room : status == S2U_ROOM ? len > room : len == 0);
-    CHECK((status >= S2U_ROOM) == (s2u_file_check(bytes, size) == 1));
+    CHECK((status >= S2U_ROOM) == (s2u_file_count(bytes, size, &many) == S2U_OK));
     status = s2u_decode(bytes, size, out, room, &len);
     CHECK(status == S2U_OK ? s2u_is_union(out, len) : status == S2U_ROOM ? len > room : len == 0);
   }

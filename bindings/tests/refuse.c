@@ -1,5 +1,6 @@
 /* Each allocation refused in turn, in each call that takes memory: the status is S2U_MEMORY, or the right result by
- * another way; nothing stays allocated, nothing else has changed. Linked with libs2union_noheap.a. */
+ * another way; nothing stays allocated, nothing else has changed. The calls that are [pure] take none. Linked with
+ * libs2union_noheap.a. */
 #include "tests.h"
 
 static long left = -1, taken, live;
@@ -36,10 +37,13 @@ void s2u_heap_give_back(void* at) {
 enum { N = 3000, ROOM = 400000 };
 static char text[17 * N];
 static uint64_t xs[N], ys[N], list[N], out[ROOM], want[ROOM];
-static uint8_t file[9 + 8 * ROOM], bytes[9 + 8 * ROOM];
-static size_t nx, ny, nfile, len;
+static uint8_t file[9 + 8 * ROOM], bytes[9 + 8 * ROOM], mixed[9 + 8 * N];
+static size_t nx, ny, nlist, nfile, len;
 static const s2u_rect rect = {1, 126420997, 159450117, 401604613, 434633733};
 
+static int32_t unite(void) { return s2u_union(xs, nx, ys, ny, out, ROOM, &len); }
+static int32_t intersect(void) { return s2u_intersection(xs, nx, ys, ny, out, ROOM, &len); }
+static int32_t subtract(void) { return s2u_difference(xs, nx, ys, ny, out, ROOM, &len); }
 static int32_t range(void) { return s2u_range(1, xs[nx - 1], out, ROOM, &len); }
 static int32_t cut(void) { return s2u_denormalised(xs, 40, 12, 1, out, ROOM, &len); }
 static int32_t cut_len(void) {
@@ -56,26 +60,30 @@ static int32_t outer_of(void) { return s2u_outer_of(xs, nx, 7, 1000000, out, ROO
 static int32_t inner_of(void) { return s2u_inner_of(xs, nx, 10, 1000000, out, ROOM, &len); }
 static int32_t encode(void) { return s2u_encode(xs, nx, bytes, sizeof bytes, &len); }
 static int32_t decode(void) { return s2u_decode(file, nfile, out, ROOM, &len); }
+static int32_t decode_mixed(void) { return s2u_decode(mixed, sizeof mixed, out, N, &len); }
+static int32_t decode_in_little_room(void) { return s2u_decode(mixed, sizeof mixed, out, nlist, &len); }
 
 int main(void) {
   size_t right = 0;
   static const struct {
     const char* name;
     int32_t (*call)(void);
-  } calls[] = {{"range", range}, {"denormalised", cut}, {"denormalised_len", cut_len}, {"outer", outer},
-               {"inner", inner}, {"outer_of", outer_of}, {"inner_of", inner_of}, {"encode", encode}, {"decode", decode},
-               {"ancestors", ancestors}, {"file_ancestors", of_file}};
+    int is_pure;
+  } calls[] = {{"union", unite, 1}, {"intersection", intersect, 1}, {"difference", subtract, 1}, {"range", range, 0},
+               {"denormalised", cut, 1}, {"denormalised_len", cut_len, 1}, {"ancestors", ancestors, 1},
+               {"file_ancestors", of_file, 1}, {"outer", outer, 0}, {"inner", inner, 0}, {"outer_of", outer_of, 0},
+               {"inner_of", inner_of, 0}, {"encode", encode, 1}, {"decode of a union", decode, 1},
+               {"decode in any order", decode_mixed, 1}, {"decode in little room", decode_in_little_room, 0}};
   nx = random_union(xs, N, 6, 12);
   ny = random_union(ys, N, 6, 12);
   for (size_t k = 0; k < N; k++) list[k] = random_cell(6, 12, 6);
   left = 0; /* the calls that need no memory */
+  CHECK(s2u_encode(list, N, mixed, sizeof mixed, &len) == S2U_OK && len == sizeof mixed);
   CHECK(s2u_normalise(list, N, &len) == S2U_OK && s2u_is_union(list, len) == 1 && taken == 0);
+  nlist = len;
   CHECK(s2u_tokens(list, len, text, sizeof text, &nfile) == S2U_OK && taken == 0);
   CHECK(s2u_from_tokens(text, nfile, out, ROOM, &right) == S2U_OK && right == len && taken == 0);
   CHECK(memcmp(out, list, 8 * len) == 0);
-  CHECK(s2u_union(xs, nx, ys, ny, out, ROOM, &len) == S2U_OK && s2u_is_union(out, len) == 1 && taken == 0);
-  CHECK(s2u_intersection(xs, nx, ys, ny, out, ROOM, &len) == S2U_OK && s2u_is_union(out, len) == 1 && taken == 0);
-  CHECK(s2u_difference(xs, nx, ys, ny, out, ROOM, &len) == S2U_OK && s2u_is_union(out, len) == 1 && taken == 0);
   left = -1;
   CHECK(s2u_encode(xs, nx, file, sizeof file, &nfile) == S2U_OK && nfile == S2U_FILE_SIZE(nx));
   for (size_t k = 0; k < sizeof calls / sizeof *calls; k++) {
@@ -84,6 +92,7 @@ int main(void) {
     memset(out, 0, sizeof out);
     CHECK(calls[k].call() == S2U_OK && live == 0);
     long allocations = taken;
+    CHECK((allocations == 0) == calls[k].is_pure);
     right = len;
     memcpy(want, out, sizeof out);
     for (long turn = 0; turn < allocations; turn++) {

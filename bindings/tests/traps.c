@@ -52,28 +52,44 @@ static void arguments_out_of_range(void) {
 
 typedef int32_t set_call(const uint64_t*, size_t, const uint64_t*, size_t, uint64_t*, size_t, size_t*);
 
+/* Lists that no call checks: the result means nothing, but it lies in the room, and its length within the bounds. */
 static void lists_that_are_no_union(void) {
-  uint64_t out[4] = {7, 7, 7, 7}, many = 77;
-  size_t len = 77;
+  const struct {
+    const uint64_t* ids;
+    size_t n;
+  } lists[] = {{unordered, 2}, {siblings, 4}, {wrong, sizeof wrong / sizeof *wrong}};
   set_call* sets[] = {s2u_union, s2u_intersection, s2u_difference};
-  for (int k = 0; k < 3; k++) { /* these do not check, and answer something */
-    CHECK(sets[k](unordered, 2, &face, 1, out, 4, &len) == (len > 4 ? S2U_ROOM : S2U_OK));
-    CHECK(sets[k](&face, 1, unordered, 2, out, 4, &len) == (len > 4 ? S2U_ROOM : S2U_OK));
-    CHECK(sets[k](siblings, 4, &face, 1, out, 4, &len) == (len > 4 ? S2U_ROOM : S2U_OK));
-    CHECK(sets[k](wrong, 2, &face, 1, out, 4, &len) == (len > 4 ? S2U_ROOM : S2U_OK));
+  CHECK(s2u_is_union(siblings, 3) == 1);
+  for (size_t k = 0; k < sizeof lists / sizeof *lists; k++) {
+    const uint64_t* ids = lists[k].ids;
+    size_t n = lists[k].n, len = 77;
+    uint64_t many = 77, same[6];
+    uint8_t bytes[S2U_FILE_SIZE(6)];
+    CHECK(s2u_is_union(ids, n) == 0);
+    for (size_t room = 0; room <= 8; room++) {
+      uint64_t* out = at_the_edge(8 * room);
+      for (int call = 0; call < 3; call++) {
+        int32_t status = sets[call](ids, n, &face, 1, out, room, &len);
+        CHECK(status == (len > room ? S2U_ROOM : S2U_OK) && len <= 256 * (n + 1));
+        status = sets[call](&face, 1, ids, n, out, room, &len);
+        CHECK(status == (len > room ? S2U_ROOM : S2U_OK) && len <= 256 * (n + 1));
+      }
+      CHECK(s2u_ancestors(ids, n, out, room, &len) == (len > room ? S2U_ROOM : S2U_OK));
+      CHECK(len <= S2U_MOST_ANCESTORS(n));
+      CHECK(s2u_denormalised(ids, n, 2, 1, out, room, &len) == (len > room ? S2U_ROOM : S2U_OK));
+      CHECK(s2u_denormalised_len(ids, n, 2, 1, &many) == S2U_OK && many == len);
+      CHECK(s2u_denormalised(ids, n, 31, 1, out, room, &len) == S2U_ARGUMENT && len == 0);
+      CHECK(s2u_outer_of(ids, n, 9, 99, out, room, &len) == S2U_NO_UNION && len == 0);
+      CHECK(s2u_inner_of(ids, n, 9, 99, out, room, &len) == S2U_NO_UNION && len == 0);
+    }
+    CHECK(s2u_encode(ids, n, bytes, sizeof bytes, &len) == S2U_OK && len == S2U_FILE_SIZE(n) && bytes[1] == n);
+    memcpy(same, bytes + 9, 8 * n);
+    CHECK(memcmp(same, ids, 8 * n) == 0);
   }
-  out[0] = 7;
-  len = 77;
-  CHECK(s2u_ancestors(unordered, 2, out, 4, &len) == S2U_NO_UNION && len == 0 && out[0] == 7);
-  CHECK(s2u_ancestors(wrong, 1, out, 4, &len) == S2U_NO_UNION &&
-        s2u_ancestors(siblings, 4, out, 4, &len) == S2U_NO_UNION);
-  CHECK(s2u_is_union(unordered, 2) == 0 && s2u_is_union(siblings, 4) == 0 && s2u_is_union(siblings, 3) == 1);
-  CHECK(s2u_denormalised_len(unordered, 2, 1, 1, &many) == S2U_NO_UNION && many == 0);
-  CHECK(s2u_denormalised(unordered, 2, 1, 1, out, 4, &len) == S2U_NO_UNION && len == 0);
 }
 
-/* Files with a whole frame around numbers that are no union: refused by calls that make something, answered by
- * questions; and with a damaged frame: refused by all. */
+/* Files with a whole frame around numbers that are no union: decoded if they are cells, answered by questions and by
+ * s2u_file_ancestors; and with a damaged frame: refused by all. */
 static void damaged_files(void) {
   static const uint64_t zero = 0;
   const struct {
@@ -82,12 +98,13 @@ static void damaged_files(void) {
   } damaged[] = {{unordered, S2U_OK, 0}, {siblings + 3, S2U_FILE_CELL, S2U_FILE_CELL}};
   for (size_t k = 0; k < 2; k++) {
     uint8_t file[25] = {1, 2};
-    uint64_t out[31], found = 77;
+    uint64_t out[62], found = 77;
     size_t len = 77;
     memcpy(file + 9, damaged[k].ids, 8), memcpy(file + 17, k ? &zero : damaged[k].ids + 1, 8);
     CHECK(s2u_file_check(file, 25) == damaged[k].checked);
-    CHECK(s2u_decode(file, 25, out, 31, &len) == damaged[k].decoded && len == (k ? 0 : 2));
-    CHECK(s2u_file_ancestors(file, 25, out, 31, &len) == S2U_NO_UNION && len == 0);
+    CHECK(s2u_decode(file, 25, out, 62, &len) == damaged[k].decoded && len == (k ? 0 : 2));
+    CHECK(s2u_file_ancestors(file, 25, out, 62, &len) == S2U_OK && len <= S2U_MOST_ANCESTORS(2));
+    CHECK(s2u_file_ancestors(file, 24, out, 62, &len) == S2U_FILE_SHORT && len == 0);
     CHECK(s2u_file_count(file, 25, &found) == S2U_OK && found == 2);
     CHECK(s2u_file_leaf_count(file, 25, &found) == S2U_OK && s2u_file_cell(file, 25, 1, &found) == S2U_OK);
     CHECK(found == (k ? 0 : unordered[1]));
@@ -121,6 +138,22 @@ static void many_questions(void) {
   }
 }
 
+/* Three children of a face and the fourth twice, last first: decoded with every room, those too short for the numbers of
+ * the file too. */
+static void files_of_cells_in_any_order(void) {
+  const uint64_t shuffled[] = {siblings[3], siblings[1], siblings[3], siblings[0], siblings[2]};
+  uint8_t file[S2U_FILE_SIZE(5)];
+  size_t len = 77;
+  CHECK(s2u_encode(shuffled, 5, file, sizeof file, &len) == S2U_OK && s2u_file_check(file, len) == 0);
+  for (size_t room = 0; room <= 7; room++) {
+    uint64_t* out = at_the_edge(8 * room);
+    for (size_t k = 0; k < room; k++) out[k] = 7;
+    CHECK(s2u_decode(file, sizeof file, out, room, &len) == (room < 1 ? S2U_ROOM : S2U_OK) && len == 1);
+    CHECK(room < 1 || out[0] == face);
+    for (size_t k = 5; k < room; k++) CHECK(out[k] == 7);
+  }
+}
+
 /* Every room from none to more than enough: the length that is needed is reported exactly, and nothing is written past
  * the room. */
 static void rooms(void) {
@@ -151,7 +184,7 @@ static void rooms(void) {
     CHECK(len == 4 && status == (room < 4 ? S2U_ROOM : S2U_OK));
     CHECK(status != S2U_OK ||
           (out[0] == siblings[0] && out[1] == siblings[1] && out[2] == face && out[3] == siblings[2]));
-    for (size_t k = status == S2U_OK ? 4 : 0; k < room; k++) CHECK(out[k] == 7);
+    for (size_t k = 4; k < room; k++) CHECK(out[k] == 7);
     len = 77;
     status = s2u_denormalised(&face, 1, 1, 1, out, room, &len);
     CHECK(len == 4 && status == (room < 4 ? S2U_ROOM : S2U_OK));
@@ -240,6 +273,7 @@ int main(void) {
   arguments_out_of_range();
   lists_that_are_no_union();
   damaged_files();
+  files_of_cells_in_any_order();
   many_questions();
   rooms();
   longest_results();

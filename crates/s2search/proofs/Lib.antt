@@ -1,3 +1,6 @@
+-- Cited by the crate above.
+pub mod Numbers
+-- Of this crate alone.
 mod Asking
 mod Laying
 mod Leaving
@@ -6,7 +9,6 @@ mod Finding
 mod Holders
 mod Looking
 mod Reaching
-mod Numbers
 mod Packing
 mod Piling
 mod Putting

@@ -17,11 +17,18 @@
  * RESULTS. int32_t results are statuses: 0 or more is an answer, below 0 a refusal. Treat an unknown number below 0 as
  * a refusal; later versions may add statuses. Calls that answer a cell answer 0 if there is none (0 is no cell).
  *
+ * LISTS ARE NOT CHECKED (since 0.2). A call that takes a union does not check that the list is one, which would cost
+ * more than the call itself. s2u_is_union checks it, once, when it comes in; what calls make of unions are unions. If a
+ * list is not a union, the result means nothing: the status is S2U_OK or S2U_ROOM, or any answer, or what another
+ * argument is refused for. Even so the result lies in the room, *len is within the bound that the call gives for such
+ * lists, the work is bounded as it says, and the call is as safe as any other. Only s2u_outer_of and s2u_inner_of check,
+ * and refuse such a list with S2U_NO_UNION.
+ *
  * HOW LONG A RESULT IS. A call that makes a list takes `out`, `room` (how many elements it has) and `len`.
- *   S2U_OK     out[0 .. *len) is the result. What comes after it is not touched.
- *   S2U_ROOM   room is too small, *len is exactly how many elements the result has, and out is not touched (but by
- *              s2u_union, s2u_intersection and s2u_difference, after which it may hold anything). Call again with that
- *              much room; the second call cannot be refused for room.
+ *   S2U_OK     out[0 .. *len) is the result. What comes after it is not touched, but by s2u_decode.
+ *   S2U_ROOM   room is too small, and *len is exactly how many elements the result has. Call again with that much room;
+ *              the second call cannot be refused for room. What out holds then means nothing: results are written
+ *              straight to it.
  *   otherwise  *len is 0 and out is not touched. (s2u_from_tokens reports in *len where the wrong word is.)
  * Only s2u_normalise works in the list that it is given, and it never needs more room. So `room` 0 (and out NULL) asks
  * for the length, which costs as much as the call itself. It is never necessary to ask: each call has a bound, given as
@@ -133,8 +140,7 @@ int32_t s2u_from_tokens(const char* text, size_t n, uint64_t* out, size_t room, 
 
 /* ---- questions about a union: all [pure], in place, without a copy --------------------------------------------------
  *
- * These do not check that the list is a union, which would cost more than the question; s2u_is_union does. If it is not
- * one, the answer means nothing (0 or 1, places in the list, any count of leaves); the call is as safe as any other. */
+ * If the list is not a union, the answer means nothing: 0 or 1, places in the list, any count of leaves. */
 
 int32_t s2u_is_union(const uint64_t* ids, size_t n);                       /* 1 or 0. n steps */
 /* How many leaves the union has: of a union at most 6 * 4^30, which an int64_t holds. n steps. */
@@ -165,9 +171,8 @@ int32_t s2u_compare(const uint64_t* xs, size_t nx, const uint64_t* ys, size_t ny
  * of many lists is their concatenation, normalized. */
 int32_t s2u_normalise(uint64_t* ids, size_t n, size_t* len);
 
-/* [pure] Written straight into out. Like questions, these do not check that the lists are unions. If one is not, the
- * status is S2U_OK or S2U_ROOM and the result means nothing; the call is as safe as any other, and takes at most
- * 512 (nx + ny) steps. S2U_ROOM. At most nx + ny cells, but for a difference. */
+/* [pure] S2U_ROOM. At most nx + ny cells, but for a difference. Of lists that are not unions: at most 256 (nx + ny)
+ * steps, and no more cells. */
 int32_t s2u_union(const uint64_t* xs, size_t nx, const uint64_t* ys, size_t ny, uint64_t* out,
                   size_t room, size_t* len);
 int32_t s2u_intersection(const uint64_t* xs, size_t nx, const uint64_t* ys, size_t ny, uint64_t* out,
@@ -182,25 +187,27 @@ int32_t s2u_difference(const uint64_t* xs, size_t nx, const uint64_t* ys, size_t
 #define S2U_MOST_RANGE 184
 int32_t s2u_range(uint64_t first, uint64_t last, uint64_t* out, size_t room, size_t* len);
 
-/* The cells of a union, each cut to the least level that is at least its own and `min` and min plus a multiple of
- * `modulus` (1 to 3); to leaves if there is none. Ask for the length first: a face has 4^30 leaves.
- * S2U_NO_UNION, S2U_ARGUMENT, S2U_MEMORY, S2U_ROOM (found before any cell is made). */
+/* [pure] The cells of a union, each cut to the least level that is at least its own and `min` and min plus a multiple
+ * of `modulus` (1 to 3); to leaves if there is none. Ask for the length first: a face has 4^30 leaves. S2U_ARGUMENT,
+ * S2U_ROOM. n steps, and one for each cell that is written. A number that is not a cell is cut into nothing. Of lists
+ * that are not unions: any length, and 2^64 - 1 if it would be greater. */
 int32_t s2u_denormalised_len(const uint64_t* ids, size_t n, uint32_t min, uint32_t modulus, uint64_t* len);
 int32_t s2u_denormalised(const uint64_t* ids, size_t n, uint32_t min, uint32_t modulus, uint64_t* out, size_t room,
                          size_t* len);
 
-/* The cells of a union and all their ancestors, ascending, each once. Two unions share a leaf exactly if a cell of one
- * is among the cells and ancestors of the other: the law of every inverted index over cells, proved. S2U_ROOM,
- * S2U_MEMORY, S2U_NO_UNION. At most S2U_MOST_ANCESTORS(n); up to 24 bytes for each. */
+/* [pure] The cells of a union and all their ancestors, ascending, each once. Two unions share a leaf exactly if a cell
+ * of one is among the cells and ancestors of the other: the law of every inverted index over cells, proved. S2U_ROOM.
+ * At most S2U_MOST_ANCESTORS(n), of any list. A number that is not a cell is passed over. */
 #define S2U_MOST_ANCESTORS(n) (UINT64_C(31) * (n))
 int32_t s2u_ancestors(const uint64_t* ids, size_t n, uint64_t* out, size_t room, size_t* len);
 
 /* ---- coverings at one level -----------------------------------------------------------------------------------------
  *
  * The outer covering: the cells of the level that share a leaf with the region, normalized; the inner: those that lie
- * in it. S2U_ROOM, S2U_MEMORY, S2U_ARGUMENT, S2U_NO_UNION, S2U_MANY if it would have more than `most` cells (which
- * bounds the list on the way too). A `most` greater than S2U_MOST_COVERING counts as S2U_MOST_COVERING: a covering that
- * would have more cells is refused with S2U_MANY, whatever `most` and room are. */
+ * in it. S2U_ROOM, S2U_MEMORY, S2U_ARGUMENT, S2U_NO_UNION (s2u_outer_of and s2u_inner_of: the list is not a union),
+ * S2U_MANY if it would have more than `most` cells (which bounds the list on the way too). A `most` greater than
+ * S2U_MOST_COVERING counts as S2U_MOST_COVERING: a covering that would have more cells is refused with S2U_MANY,
+ * whatever `most` and room are. */
 #define S2U_MOST_COVERING 1000000
 int32_t s2u_outer(const s2u_rect* rect, uint32_t level, size_t most, uint64_t* out, size_t room, size_t* len);
 int32_t s2u_inner(const s2u_rect* rect, uint32_t level, size_t most, uint64_t* out, size_t room, size_t* len);
@@ -219,9 +226,11 @@ int32_t s2u_inner_of(const uint64_t* ids, size_t n, uint32_t level, size_t most,
 #define S2U_FILE_SIZE(n) (9 + UINT64_C(8) * (n)) /* exactly */
 #define S2U_MOST_IN_FILE(bytes) ((bytes) < 9 ? 0 : ((bytes) - 9) / 8)
 
-/* S2U_ROOM, S2U_MEMORY, S2U_NO_UNION. */
+/* [pure] S2U_ROOM. S2U_FILE_SIZE(n) bytes of any list: it writes the numbers as they are. */
 int32_t s2u_encode(const uint64_t* ids, size_t n, uint8_t* out, size_t room, size_t* len);
-/* Takes cells in any order and answers the union. S2U_ROOM, S2U_MEMORY, S2U_FILE_* (the first check that fails). */
+/* Takes cells in any order and answers the union. S2U_ROOM, S2U_FILE_* (the first check that fails), S2U_MEMORY. If
+ * the cells are not a union already, they are normalized in out, if it has room for S2U_MOST_IN_FILE(n) of them: what
+ * out[*len .. S2U_MOST_IN_FILE(n)) holds then means nothing. Only if it has less room, the call takes memory. */
 int32_t s2u_decode(const uint8_t* bytes, size_t n, uint64_t* out, size_t room, size_t* len);
 /* [pure] 1: the file that encode writes of some union; 0: another file that decode takes; else S2U_FILE_*. n steps. */
 int32_t s2u_file_check(const uint8_t* bytes, size_t n);
@@ -237,8 +246,7 @@ int32_t s2u_file_intersects_cell(const uint8_t* bytes, size_t n, uint64_t cell);
 /* 1 if all leaves of ys are in xs, else 0; and 1 if they share a leaf, else 0. */
 int32_t s2u_file_contains(const uint8_t* xs, size_t nx, const uint8_t* ys, size_t ny);
 int32_t s2u_file_intersects(const uint8_t* xs, size_t nx, const uint8_t* ys, size_t ny);
-/* s2u_ancestors of the union in a file, with no copy of it. S2U_FILE_* of the frame, S2U_NO_UNION (not encode's own),
- * S2U_ROOM, S2U_MEMORY. */
+/* s2u_ancestors of the union in a file, with no copy of it. S2U_FILE_* of the frame, S2U_ROOM. */
 int32_t s2u_file_ancestors(const uint8_t* bytes, size_t n, uint64_t* out, size_t room, size_t* len);
 
 /* ---- memory for a host that has its own -----------------------------------------------------------------------------

@@ -4,6 +4,8 @@ mod Ordering
 mod Wrong
 mod Words
 mod Joining
+mod Encoding
+mod Decoding
 mod Pieces
 mod Placed
 mod Naming

@@ -1,9 +1,12 @@
 -- Union files with any number of cells: their frame, the numbers in them, and what is wrong with other bytes.
-use Rattle.std.specs.Prelude.{◌≡◌, ◌≢◌, ℕ, ◌+◌, ◌*◌, ◌<◌, ◌⊎◌, ℤ, List, All, length, drop, slice_index}
+use Rattle.std.specs.Prelude.{◌≡◌, ◌≢◌, ℕ, ◌+◌, ◌*◌, ◌<◌, ◌≤◌, ◌⊎◌, ℤ, List, All, length, take, drop}
+use Rattle.std.specs.Prelude.{slice_index}
 use Rattle.s2cell.specs.Cell.{IsCell}
 use Rattle.s2file.specs.File.{HasHead, HasVersion, stated_count}
+use Rattle.s2union.specs.Union.{IsNormalForm, has_leaf}
 use Rattle.s2search.specs.Numbers.{numbers}
-use Rattle.s2union_c.specs.Status.{short_file, other_version, long_file}
+use Rattle.s2union_c.specs.Results.{HasNoRoom, Refused}
+use Rattle.s2union_c.specs.Status.{made, no_room, no_memory, short_file, other_version, long_file}
 
 -- the byte 1, a count, and that many numbers
 pub record IsFramed (bytes : List ℕ) : Type 0 where
@@ -37,3 +40,18 @@ abbrev pub IsFrameFault : List ℕ → ℤ → Type 0
 IsFrameFault bytes status =
     ((status ≡ short_file) × IsShortFile bytes)
     ⊎ (((status ≡ other_version) × IsOtherVersion bytes) ⊎ ((status ≡ long_file) × IsLongFile bytes))
+
+-- the normal form of the leaves of the cells `ids` is at the front of `new`, which is as `old` after as many numbers as
+-- there are cells; what stands between has no meaning
+pub record IsDecodedIn (ids old new : List ℕ) (len : ℕ) : Type 0 where
+  pub within : len ≤ length old
+  pub same_length : length new ≡ length old
+  pub normal : IsNormalForm (has_leaf ids) (take len new)
+  pub rest : drop (length ids) new ≡ drop (length ids) old
+
+-- the normal form of the leaves of the cells `ids` was written or is longer than the room, or there was no memory
+abbrev pub Decoded : ℤ → List ℕ → List ℕ → List ℕ → ℕ → Type 0
+Decoded status ids old new len =
+    ((status ≡ made) × IsDecodedIn ids old new len)
+    ⊎ (((status ≡ no_room) × (xs : List ℕ) × IsNormalForm (has_leaf ids) xs × HasNoRoom xs old new len)
+    ⊎ Refused status no_memory old new len)

@@ -1,67 +1,130 @@
 //! Union files, which S2's `S2CellUnion::Encode` writes too: the byte 1, the number of cells in eight bytes, and eight
 //! bytes for each cell, the lowest byte first. Questions are answered from a file's bytes where they lie, at any
 //! address.
-ghost use Rattle.std.specs.Prelude.{◌≡◌, ◌*◌, ◌<◌, ◌≤◌, ◌⊎◌, All, MatchResult, length, slice_index, drop};
+ghost use Rattle.std.specs.Prelude.{◌≡◌, ◌+◌, ◌*◌, ◌<◌, ◌≤◌, ◌⊎◌, All, MatchResult, length, slice_index, drop};
 ghost use Rattle.s2cell.specs.Cell.{IsCell, covers};
 ghost use Rattle.s2union.specs.Union.{IsLocal, IsNormalForm, IsWithin, ShareSome, has_leaf};
 ghost use Rattle.s2union.specs.Count.{count_below};
 ghost use Rattle.s2file.specs.File.{file_text};
 ghost use Rattle.s2search.specs.Ancestors.{AreHolders};
-ghost use Rattle.s2union_c.specs.Files.{IsCellFile, IsFrameFault, IsFramed, file_ids};
-ghost use Rattle.s2union_c.specs.Results.{Made, MadeOne, Refused};
-ghost use Rattle.s2union_c.specs.Status.{IsAnswerTo, IsAnswer, bad_argument, made, no_cell, no_memory, no_union};
-ghost use Rattle.s2union_c.specs.Status.{wrong_cell};
+ghost use Rattle.s2search.specs.Normalising.{IsNormalisedIn};
+ghost use Rattle.s2search.specs.Numbers.{numbers};
+ghost use Rattle.s2union_c.specs.Files.{Decoded, IsCellFile, IsFrameFault, IsFramed, file_ids};
+ghost use Rattle.s2union_c.specs.Results.{Made, MadeInPlace, MadeOne, Refused};
+ghost use Rattle.s2union_c.specs.Status.{IsAnswerTo, IsAnswer, bad_argument, made, no_cell, no_room, wrong_cell};
 
-use crate::lists::{cells_of, union_of};
-use crate::results::{put, put_cells};
+use crate::lists::cells_of;
+use crate::results::{put_cells, room_status};
 use crate::status::{
-    BAD_ARGUMENT, LONG_FILE, MADE, NO_CELL, NO_MEMORY, NO_UNION, OTHER_VERSION, SHORT_FILE,
+    BAD_ARGUMENT, LONG_FILE, MADE, NO_CELL, NO_MEMORY, NO_ROOM, OTHER_VERSION, SHORT_FILE,
     WRONG_CELL, answer,
 };
+use byteorder::{ByteOrder, LittleEndian};
 use s2cell::{CellId, LEAVES};
 use s2file::{HEAD_SIZE, VERSION};
-use s2search::{Cells, FileIds, IdList, ancestors, first_wrong, is_union, number};
+use s2search::{
+    Cells, FileIds, NUMBER_SIZE, ancestors, first_wrong, is_union, number, read_numbers,
+};
 use s2union::normalise;
 use std::alloc::Global;
 
-/// The file of a union, of `9 + 8 n` bytes for n cells.
+/// The bytes of a file with these numbers, `9 + 8 n` of them for n numbers: of the cells of a union, the union's file.
+/// Takes no memory, and checks nothing.
 #[unsafe(no_mangle)]
-pub extern "C" fn s2u_encode(alloc: Global, ids: &[u64], out: &mut [u8], len: &mut usize) -> i32
-    ensures made { IsLocal ids.now → Made result (file_text ids.now) out.old out.new len.new
-        ⊎ Refused result no_memory out.old out.new len.new }
-    ensures no_union { (IsLocal ids.now → ⊥) → Refused result no_union out.old out.new len.new }
+pub extern "C" fn s2u_encode(ids: &[u64], out: &mut [u8], len: &mut usize) -> i32
+    ensures { Made result (file_text ids.now) out.old out.new len.new }
 {
-    *len = 0;
-    if !is_union(&IdList { ids }) {
-        return NO_UNION;
+    let size = HEAD_SIZE + NUMBER_SIZE * ids.len();
+    *len = size;
+    if size > out.len() {
+        return NO_ROOM;
     }
-    let Ok(union) = union_of(alloc, ids) else {
-        return NO_MEMORY;
-    };
-    match s2file::encode(alloc, &union) {
-        Ok(bytes) => put(bytes.as_slice(), out, len),
-        Err(_) => NO_MEMORY,
-    }
+    write_file(ids, &mut out[..size]);
+    MADE
 }
 
-/// The union that a file stands for. The file's cells may be in any order.
+/// Fills a list with the bytes of a file with these numbers, which are as many.
+fn write_file(ids: &[u64], out: &mut [u8])
+    requires { length out.old ≡ 9 + 8 * length ids.now }
+    ensures { out.new ≡ file_text ids.now }
+{
+    out[0] = VERSION;
+    LittleEndian::write_u64(&mut out[1..], ids.len() as u64);
+    LittleEndian::write_u64_into(ids, &mut out[HEAD_SIZE..]);
+}
+
+/// The union that a file stands for. The file's cells may be in any order. If they are not a union already, they are
+/// normalized in the room, if it has room for all of them; else in memory of the call. What follows the result, up to as
+/// many numbers as the file has, then has no meaning.
 #[unsafe(no_mangle)]
 pub extern "C" fn s2u_decode(alloc: Global, bytes: &[u8], out: &mut [u64], len: &mut usize) -> i32
-    ensures made { IsCellFile bytes.now
-        → MadeOne result (IsNormalForm (has_leaf (file_ids bytes.now))) out.old out.new len.new }
+    ensures made { IsCellFile bytes.now → Decoded result (file_ids bytes.now) out.old out.new len.new }
     ensures fault { (IsFramed bytes.now → ⊥) → IsFrameFault bytes.now result × (len.new ≡ 0) × (out.new ≡ out.old) }
     ensures wrong { IsFramed bytes.now → (All IsCell (file_ids bytes.now) → ⊥)
         → Refused result wrong_cell out.old out.new len.new }
 {
     *len = 0;
-    let ids = match bytes_after_head(bytes) {
-        Ok(numbers) => FileIds { bytes: numbers },
-        Err(status) => return status,
-    };
+    match bytes_after_head(bytes) {
+        Ok(numbers) => decode_numbers(alloc, numbers, out, len),
+        Err(status) => status,
+    }
+}
+
+/// The union of the cells in bytes, as `s2u_decode` answers it.
+fn decode_numbers(alloc: Global, bytes: &[u8], out: &mut [u64], len: &mut usize) -> i32
+    requires len { len.old ≡ 0 }
+    requires whole { length bytes.now ≡ 8 * length (numbers bytes.now) }
+    ensures made { All IsCell (numbers bytes.now) → Decoded result (numbers bytes.now) out.old out.new len.new }
+    ensures wrong { (All IsCell (numbers bytes.now) → ⊥) → Refused result wrong_cell out.old out.new len.new }
+{
+    let ids = FileIds { bytes };
+    if is_union(&ids) {
+        return put_numbers(bytes, out, len);
+    }
     if let Some(_) = first_wrong(&ids) {
         return WRONG_CELL;
     }
-    match cells_of(alloc, &ids) {
+    let n = ids.len();
+    if n <= out.len() {
+        *len = normalise_numbers(bytes, &mut out[..n]);
+        return MADE;
+    }
+    put_normalised(alloc, bytes, out, len)
+}
+
+/// Writes the numbers of bytes to the front of the room, if they fit, and tells how many there are.
+fn put_numbers(bytes: &[u8], out: &mut [u64], len: &mut usize) -> i32
+    requires { length bytes.now ≡ 8 * length (numbers bytes.now) }
+    ensures { Made result (numbers bytes.now) out.old out.new len.new }
+{
+    let n = FileIds { bytes }.len();
+    *len = n;
+    if n > out.len() {
+        return NO_ROOM;
+    }
+    read_numbers(bytes, &mut out[..n]);
+    MADE
+}
+
+/// Fills a list with the cells of bytes, which are as many, makes its front the union that has their leaves, and answers
+/// how many cells that union has.
+fn normalise_numbers(bytes: &[u8], out: &mut [u64]) -> usize
+    requires size { length bytes.now ≡ 8 * length out.old }
+    requires cells { All IsCell (numbers bytes.now) }
+    ensures { IsNormalisedIn (numbers bytes.now) out.new result }
+{
+    read_numbers(bytes, out);
+    s2search::normalise(out)
+}
+
+/// Writes the union of the cells in bytes to the front of the room, if it fits, and tells how many cells it has. Takes
+/// memory for all cells of the bytes.
+fn put_normalised(alloc: Global, bytes: &[u8], out: &mut [u64], len: &mut usize) -> i32
+    requires len { len.old ≡ 0 }
+    requires cells { All IsCell (numbers bytes.now) }
+    ensures { MadeOne result (IsNormalForm (has_leaf (numbers bytes.now))) out.old out.new len.new }
+{
+    match cells_of(alloc, &FileIds { bytes }) {
         Ok(cells) => put_cells(normalise(cells).cells(), out, len),
         Err(_) => NO_MEMORY,
     }
@@ -219,31 +282,24 @@ pub extern "C" fn s2u_file_intersects(xs: &[u8], ys: &[u8]) -> i32
     answer(s2search::intersects(&first, &second))
 }
 
-/// The cells of a file's union and all their ancestors, ascending, each once.
+/// The cells of a file's union and all their ancestors, ascending, each once. Of a file that is not the file of a union
+/// the result means nothing.
 #[unsafe(no_mangle)]
-pub extern "C" fn s2u_file_ancestors(
-    alloc: Global,
-    bytes: &[u8],
-    out: &mut [u64],
-    len: &mut usize,
-) -> i32
+pub extern "C" fn s2u_file_ancestors(bytes: &[u8], out: &mut [u64], len: &mut usize) -> i32
     ensures made { IsFramed bytes.now → IsLocal (file_ids bytes.now)
-        → MadeOne result (AreHolders (file_ids bytes.now)) out.old out.new len.new }
-    ensures no_union { IsFramed bytes.now → (IsLocal (file_ids bytes.now) → ⊥)
-        → Refused result no_union out.old out.new len.new }
+        → MadeInPlace result (AreHolders (file_ids bytes.now)) out.old out.new len.new }
+    ensures status { IsFramed bytes.now → (result ≡ made) ⊎ (result ≡ no_room) }
+    ensures fits { result ≡ made → len.new ≤ length out.new }
+    ensures same_length { length out.new ≡ length out.old }
     ensures fault { (IsFramed bytes.now → ⊥) → IsFrameFault bytes.now result × (len.new ≡ 0) × (out.new ≡ out.old) }
 {
     *len = 0;
-    let ids = match bytes_after_head(bytes) {
-        Ok(numbers) => FileIds { bytes: numbers },
-        Err(status) => return status,
-    };
-    if !is_union(&ids) {
-        return NO_UNION;
-    }
-    match ancestors(alloc, &ids) {
-        Ok(cells) => put_cells(cells.as_slice(), out, len),
-        Err(_) => NO_MEMORY,
+    match bytes_after_head(bytes) {
+        Ok(numbers) => {
+            *len = ancestors(&FileIds { bytes: numbers }, out);
+            room_status(*len, out.len())
+        }
+        Err(status) => status,
     }
 }
 

@@ -6,15 +6,14 @@ ghost use Rattle.s2union.specs.Denorm.{denormalised};
 ghost use Rattle.s2search.specs.Ancestors.{AreHolders};
 ghost use Rattle.s2search.specs.Normalising.{IsNormalisedIn};
 ghost use Rattle.s2search.specs.Search.{IsFirstWrong};
-ghost use Rattle.s2union_c.specs.Results.{Made, MadeOne, Refused};
+ghost use Rattle.s2union_c.specs.Results.{MadeInPlace, MadeOne, Refused};
 ghost use Rattle.s2union_c.specs.Cutting.{IsCutting};
-ghost use Rattle.s2union_c.specs.Status.{bad_argument, made, no_cell, no_memory, no_union};
+ghost use Rattle.s2union_c.specs.Status.{bad_argument, made, no_cell, no_room};
 
-use crate::lists::union_of;
-use crate::results::put_cells;
-use crate::status::{BAD_ARGUMENT, MADE, NO_CELL, NO_MEMORY, NO_ROOM, NO_UNION};
+use crate::results::{put_cells, room_status};
+use crate::status::{BAD_ARGUMENT, MADE, NO_CELL, NO_MEMORY};
 use s2cell::CellId;
-use s2search::{IdList, ancestors, first_wrong, is_union};
+use s2search::{IdList, ancestors, denormalise, first_wrong};
 use s2union::CellUnion;
 use std::alloc::Global;
 
@@ -65,58 +64,38 @@ pub extern "C" fn s2u_range(
 }
 
 /// The cells of a union and all their ancestors, ascending, each once: the keys of an index, by
-/// `s2search::laws::law_of_indexes`.
+/// `s2search::laws::law_of_indexes`. Of a list that is not a union the result means nothing.
 #[unsafe(no_mangle)]
-pub extern "C" fn s2u_ancestors(alloc: Global, ids: &[u64], out: &mut [u64], len: &mut usize) -> i32
-    ensures made { IsLocal ids.now → MadeOne result (AreHolders ids.now) out.old out.new len.new }
-    ensures no_union { (IsLocal ids.now → ⊥) → Refused result no_union out.old out.new len.new }
+pub extern "C" fn s2u_ancestors(ids: &[u64], out: &mut [u64], len: &mut usize) -> i32
+    ensures made { IsLocal ids.now → MadeInPlace result (AreHolders ids.now) out.old out.new len.new }
+    ensures status { (result ≡ made) ⊎ (result ≡ no_room) }
+    ensures fits { result ≡ made → len.new ≤ length out.new }
+    ensures same_length { length out.new ≡ length out.old }
 {
-    *len = 0;
-    if !is_union(&IdList { ids }) {
-        return NO_UNION;
-    }
-    match ancestors(alloc, &IdList { ids }) {
-        Ok(cells) => put_cells(cells.as_slice(), out, len),
-        Err(_) => NO_MEMORY,
-    }
+    *len = ancestors(&IdList { ids }, out);
+    room_status(*len, out.len())
 }
 
 /// How many cells `s2u_denormalised` gives.
 #[unsafe(no_mangle)]
-pub extern "C" fn s2u_denormalised_len(
-    alloc: Global,
-    ids: &[u64],
-    min: u32,
-    modulus: u32,
-    len: &mut u64,
-) -> i32
-    ensures made { IsLocal ids.now → IsCutting min modulus
-        → ((result ≡ made) × (len.new ≡ length (denormalised min modulus ids.now)))
-        ⊎ ((result ≡ no_memory) × (len.new ≡ 0)) }
-    ensures no_union { (IsLocal ids.now → ⊥) → (result ≡ no_union) × (len.new ≡ 0) }
-    ensures argument { IsLocal ids.now → (IsCutting min modulus → ⊥) → (result ≡ bad_argument) × (len.new ≡ 0) }
+pub extern "C" fn s2u_denormalised_len(ids: &[u64], min: u32, modulus: u32, len: &mut u64) -> i32
+    ensures made { IsLocal ids.now → IsCutting min modulus → len.new ≡ length (denormalised min modulus ids.now) }
+    ensures status { IsCutting min modulus → result ≡ made }
+    ensures argument { (IsCutting min modulus → ⊥) → (result ≡ bad_argument) × (len.new ≡ 0) }
 {
     *len = 0;
-    if !is_union(&IdList { ids }) {
-        return NO_UNION;
-    }
     if !is_cutting(min, modulus) {
         return BAD_ARGUMENT;
     }
-    match union_of(alloc, ids) {
-        Ok(union) => {
-            *len = union.denormalized_len(min as u8, modulus as u8);
-            MADE
-        }
-        Err(_) => NO_MEMORY,
-    }
+    *len = denormalise(ids, min as u8, modulus as u8, &mut []) as u64;
+    MADE
 }
 
 /// The cells of a union, each cut to the least level that is at least its own, is at least `min`, and differs from
-/// `min` by a multiple of `modulus`; to leaves if there is no such level. `min` is at most 30, `modulus` 1 to 3.
+/// `min` by a multiple of `modulus`; to leaves if there is no such level. `min` is at most 30, `modulus` 1 to 3. Of a
+/// list that is not a union the result means nothing.
 #[unsafe(no_mangle)]
 pub extern "C" fn s2u_denormalised(
-    alloc: Global,
     ids: &[u64],
     min: u32,
     modulus: u32,
@@ -124,48 +103,18 @@ pub extern "C" fn s2u_denormalised(
     len: &mut usize,
 ) -> i32
     ensures made { IsLocal ids.now → IsCutting min modulus
-        → Made result (denormalised min modulus ids.now) out.old out.new len.new
-        ⊎ Refused result no_memory out.old out.new len.new }
-    ensures no_union { (IsLocal ids.now → ⊥) → Refused result no_union out.old out.new len.new }
-    ensures argument { IsLocal ids.now → (IsCutting min modulus → ⊥)
-        → Refused result bad_argument out.old out.new len.new }
+        → MadeInPlace result (λ list. list ≡ denormalised min modulus ids.now) out.old out.new len.new }
+    ensures status { IsCutting min modulus → (result ≡ made) ⊎ (result ≡ no_room) }
+    ensures fits { result ≡ made → len.new ≤ length out.new }
+    ensures same_length { length out.new ≡ length out.old }
+    ensures argument { (IsCutting min modulus → ⊥) → Refused result bad_argument out.old out.new len.new }
 {
     *len = 0;
-    if !is_union(&IdList { ids }) {
-        return NO_UNION;
-    }
     if !is_cutting(min, modulus) {
         return BAD_ARGUMENT;
     }
-    match union_of(alloc, ids) {
-        Ok(union) => put_denormalised(alloc, &union, min as u8, modulus as u8, out, len),
-        Err(_) => NO_MEMORY,
-    }
-}
-
-/// Writes the cells that a union is cut to, if they fit the room, or tells how many there are.
-fn put_denormalised(
-    alloc: Global,
-    union: &CellUnion,
-    min: u8,
-    modulus: u8,
-    out: &mut [u64],
-    len: &mut usize,
-) -> i32
-    requires cutting { IsCutting min modulus }
-    requires len { len.old ≡ 0 }
-    ensures { Made result (denormalised min modulus union.now.cells) out.old out.new len.new
-        ⊎ Refused result no_memory out.old out.new len.new }
-{
-    let need = union.denormalized_len(min, modulus);
-    if need > out.len() as u64 {
-        *len = need as usize;
-        return NO_ROOM;
-    }
-    match union.denormalized_list(alloc, min, modulus) {
-        Ok(cells) => put_cells(cells.as_slice(), out, len),
-        Err(_) => NO_MEMORY,
-    }
+    *len = denormalise(ids, min as u8, modulus as u8, out);
+    room_status(*len, out.len())
 }
 
 /// Whether these numbers are in range, so that a union can be cut by them.

@@ -1,0 +1,22 @@
+use Rattle.std.proofs.Common.{refl, length, rules}
+use Rattle.std.specs.Int.{w32}
+use Rattle.std.proofs.lemmas.Int.{to_z-of_z}
+use mir.Val.{SFits}
+use Rattle.s2search.specs.Ancestors.{AreHolders}
+use Rattle.s2union_c.proofs.Placed.{placed, placed_status}
+use Rattle.s2union_c.proofs.unions.s2u_ancestors.Goals as goal
+
+pub returns-clause-made : goal.returns-clause-made
+returns-clause-made c local =
+    let fits : SFits w32 c.room_status.result = search rules in
+    rw (to_z-of_z w32 c.room_status.result fits)
+    (placed (AreHolders c.args.ids.now) c.args.out.now c.ancestors.new.out c.ancestors.result
+    (length c.ancestors.new.out) c.room_status.result (c.ancestors.ensures.put local) refl c.room_status.ensures.fits
+    c.room_status.ensures.short)
+
+pub returns-clause-status : goal.returns-clause-status
+returns-clause-status c =
+    let fits : SFits w32 c.room_status.result = search rules in
+    rw (to_z-of_z w32 c.room_status.result fits)
+    (placed_status c.ancestors.result (length c.ancestors.new.out) c.room_status.result c.room_status.ensures.fits
+    c.room_status.ensures.short)
