@@ -207,8 +207,9 @@ class AgainstTheModel(unittest.TestCase):
             self.assertEqual(a.intersects(b), found)
         many = Union([self.random.cell(20, 30) for _ in range(20000)])
         self.assertEqual(many.ancestors(), model.ancestors(many))
-        for wrong in ([3 * FACE, FACE], [2]):
-            self.assertRaises(ValueError, UnionFile(model.file(wrong), checked=True).ancestors)
+        for wrong in ([3 * FACE, FACE], [2], [FACE, FACE + 1]):  # no union: the list means nothing, and is not too long
+            self.assertRaises(ValueError, UnionFile, model.file(wrong))
+            self.assertLessEqual(len(UnionFile(model.file(wrong), checked=True).ancestors()), 31 * len(wrong))
 
     def test_files(self):
         for _ in range(1500):

@@ -511,7 +511,7 @@ class UnionFile:
         return _answer(_library.file_intersects(*self._place, *_wanted(UnionFile, other)._place))
 
     def ancestors(self) -> list[int]:
-        """The cells of the union and all their ancestors, as Union.ancestors. ValueError if they are no union."""
+        """The cells of the union and all their ancestors, as Union.ancestors."""
         return list(_listed(_library.file_ancestors, 2 * self._size, *self._bytes.unchanging()))
 
     def union(self) -> Union:
