@@ -1,4 +1,4 @@
-// Whole calls of the library for C, compared with S2: with their checks of the arguments and all of their copying.
+// Whole calls of the library for C, compared with S2.
 #include <s2union.h>
 
 #include "sides.h"
