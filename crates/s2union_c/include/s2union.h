@@ -172,7 +172,7 @@ int32_t s2u_compare(const uint64_t* xs, size_t nx, const uint64_t* ys, size_t ny
 int32_t s2u_normalise(uint64_t* ids, size_t n, size_t* len);
 
 /* [pure] S2U_ROOM. At most nx + ny cells, but for a difference. Of lists that are not unions: at most 256 (nx + ny)
- * steps, and no more cells. */
+ * cells, in at most twice as many steps. */
 int32_t s2u_union(const uint64_t* xs, size_t nx, const uint64_t* ys, size_t ny, uint64_t* out,
                   size_t room, size_t* len);
 int32_t s2u_intersection(const uint64_t* xs, size_t nx, const uint64_t* ys, size_t ny, uint64_t* out,
