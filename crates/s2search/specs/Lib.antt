@@ -5,4 +5,3 @@ pub mod Ancestors
 pub mod Normalising
 pub mod Looks
 pub mod Piles
-pub mod Room

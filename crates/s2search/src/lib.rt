@@ -1,12 +1,11 @@
-//! Questions about cells where they lie: in a list of numbers, or in the bytes of a union file at any address.
+//! Questions and set operations about cells where they lie: in a list of numbers, or in the bytes of a union file at any
+//! address.
 //!
 //! No question copies anything or takes memory, and none has a precondition: whatever the numbers are, the call is safe
 //! and returns. The answer is exact if the numbers are the cells of a normalized union; for other numbers it means
-//! nothing. The same holds of the set operations, which write into a room that the caller provides. `ancestors`
-//! requires the cells of a union, and makes a list: the keys of an index. `union_of` tests and copies numbers in one
-//! pass. `normalise` makes a list of cells a union in place.
-//! nothing. So it is with `ancestors`, the keys of an index, and `denormalise`, which put their results into a room.
-//! `union_of` tests and copies numbers in one pass. `normalise` makes a list of cells a union in place.
+//! nothing. So it is with the set operations, with `ancestors`, the keys of an index, and with `denormalise`, which write
+//! into a room that the caller provides. `union_of` tests and copies numbers in one pass. `normalise` makes a list of
+//! cells a union in place.
 #![tactic(auto)]
 
 mod ask;
@@ -22,29 +21,22 @@ mod looks;
 mod normalising;
 mod room;
 mod run;
-mod walk;
 mod share;
 mod subtract;
+mod walk;
 mod whole;
 
 pub use ask::{contains_cell, contains_cell_at, intersects_cell, intersects_cell_at, place_near};
-pub use cells::{Cells, FileIds, IdList, cell_of, number};
-pub use copying::union_of;
-pub use find::NEARBY;
-pub use ask::{
-    contains, contains_cell, contains_cell_at, intersects, intersects_cell, intersects_cell_at,
-    place_near,
-};
 pub use cells::{Cells, FileIds, IdList, NUMBER_SIZE, cell_of, number, read_numbers};
 pub use copying::union_of;
 pub use denormalising::denormalise;
-pub use find::LAST_STEP;
+pub use find::NEARBY;
 pub use four::{Places, places_of_four};
 pub use join::put_union;
 pub use keys::ancestors;
 pub use normalising::normalise;
 pub use run::cells_at;
-pub use walk::{contains, contains_counted, intersects, intersects_counted};
 pub use share::put_intersection;
 pub use subtract::put_difference;
+pub use walk::{contains, contains_counted, intersects, intersects_counted};
 pub use whole::{first_wrong, is_union, leaf_count};
