@@ -16,6 +16,19 @@ struct Side {
   uint32_t more = 0;
 };
 
+// How many more times a side must work so that these times far exceed what it does only once.
+inline uint32_t repeats(const std::function<void(uint32_t)>& work) {
+  auto time_of = [&](uint32_t times) {
+    auto start = std::chrono::steady_clock::now();
+    work(times);
+    return std::chrono::duration<double, std::milli>(std::chrono::steady_clock::now() - start).count();
+  };
+  double once = std::min(time_of(1), time_of(1));
+  uint32_t more = 2;
+  while (more < 1000000 && time_of(1 + more) < 4 * once + 20) more *= 4;
+  return more;
+}
+
 struct Row {
   const char* name;
   size_t units;

@@ -1,0 +1,403 @@
+// Coverings of real coastlines: S2, `CellUnion`, the calls for C and hand-written C++ on the same lists, in one process.
+// bench/README.md has the rows.
+#include <absl/flags/flag.h>
+#include <s2union.h>
+
+#include <cstdint>
+
+#include "lanes.h"
+#include "limit.h"
+#include "sides.h"
+
+using Lists = std::vector<List>;
+
+static List normalised(const List& list) { return ids_of(S2CellUnion(peer_cells(list))); }
+
+static Lists read_lists(const std::string& name) {
+  std::string path = "out/coasts/" + name;
+  FILE* file = fopen(path.c_str(), "rb");
+  must(file != nullptr, path.c_str());
+  u64 count = 0, len = 0;
+  must(fread(&count, 8, 1, file) == 1, path.c_str());
+  Lists lists(count);
+  for (List& list : lists) {
+    must(fread(&len, 8, 1, file) == 1, path.c_str());
+    list.resize(len);
+    must(len == 0 || fread(list.data(), 8, len, file) == len, path.c_str());
+  }
+  fclose(file);
+  return lists;
+}
+
+static Lists read_unions(const std::string& name) {
+  Lists lists = read_lists(name);
+  for (List& list : lists) list = normalised(list);
+  return lists;
+}
+
+// All lists one after another, and where each begins; the last offset is the end.
+struct Chain {
+  List ids;
+  std::vector<size_t> offsets = {0};
+
+  explicit Chain(const Lists& lists) {
+    for (const List& list : lists) {
+      ids.insert(ids.end(), list.begin(), list.end());
+      offsets.push_back(ids.size());
+    }
+  }
+};
+
+static u64 sum_of(const List& list) { return Sum().add_all(list).value(); }
+static List union_of(const Lists& lists) { return normalised(Chain(lists).ids); }
+
+static void made(int32_t status, const char* call) {
+  if (status < 0) fprintf(stderr, "%s\n", s2u_status_text(status));
+  must(status >= 0, call);
+}
+
+// Pairs of unions, for each way.
+struct Pairs {
+  std::vector<std::pair<List, List>> lists;
+  std::vector<std::pair<S2CellUnion, S2CellUnion>> peers;
+  size_t cells = 0, most = 0;
+
+  // A pair that is alone stays in the cache, so each way does its work on it many times.
+  uint32_t more(Way way) const { return way == ALONE || lists.size() == 1 ? REPEATED : 0; }
+
+  void add(const List& x, const List& y) {
+    lists.push_back({x, y});
+    peers.push_back({peer_union(x), peer_union(y)});
+    cells += x.size() + y.size();
+    most = std::max(most, x.size() + y.size());
+  }
+
+  // Each with the next.
+  static Pairs next(const Lists& lists) {
+    Pairs pairs;
+    for (size_t k = 0; k + 1 < lists.size(); k += 2) pairs.add(lists[k], lists[k + 1]);
+    return pairs;
+  }
+
+  static Pairs of(const Lists& xs, const Lists& ys) {
+    Pairs pairs;
+    for (size_t k = 0; k < xs.size() && k < ys.size(); k++) pairs.add(xs[k], ys[k]);
+    return pairs;
+  }
+
+  static Pairs one(const List& x, const List& y) { return of({x}, {y}); }
+};
+
+using SetCall = int32_t (*)(const u64*, size_t, const u64*, size_t, u64*, size_t, size_t*);
+using SetLimit = size_t (*)(const u64*, size_t, const u64*, size_t, u64*);
+
+struct SetOperation {
+  const char* name;
+  PeerOperation peer;
+  Operation alone;
+  SetCall call;
+  SetLimit limit;
+};
+
+// A side whose work goes through all pairs: `work` does that of one pair so many times, and `made` sums what it made.
+template <typename Work, typename Made>
+static Side pair_side(Way way, const Pairs& pairs, Work work, Made made) {
+  return {[&pairs, work](uint32_t times) {
+            for (size_t k = 0; k < pairs.lists.size(); k++) work(times, k);
+          },
+          [&pairs, work, made] {
+            Sum sum;
+            for (size_t k = 0; k < pairs.lists.size(); k++) {
+              work(1, k);
+              sum.add(made());
+            }
+            return sum.value();
+          },
+          pairs.more(way)};
+}
+
+static void sets(Lanes& lanes, const std::string& of, const Pairs& pairs, size_t units) {
+  PeerOperation intersection = &S2CellUnion::Intersection;
+  const SetOperation operations[] = {
+      {"union", &S2CellUnion::Union, s2c_union, s2u_union, limit::unite},
+      {"intersection", intersection, s2c_intersection, s2u_intersection, limit::intersect},
+      {"difference", &S2CellUnion::Difference, s2c_difference, s2u_difference, limit::subtract}};
+  Room room(2 * pairs.most + 200);
+  S2CellUnion peer;
+  auto sum_of_peer = [&] { return sum_of(ids_of(peer)); };
+  auto sum_of_room = [&] { return sum_of(room.made()); };
+  for (const SetOperation& it : operations) {
+    auto theirs = [&](uint32_t times, size_t k) {
+      auto& [x, y] = pairs.peers[k];
+      while (times-- > 0) peer = (x.*it.peer)(y);
+    };
+    auto alone = [&](uint32_t times, size_t k) {
+      auto& [x, y] = pairs.lists[k];
+      must(it.alone(x.data(), x.size(), y.data(), y.size(), times, room.at(), room.size(), room.len()), it.name);
+    };
+    auto call = [&](uint32_t times, size_t k) {
+      auto& [x, y] = pairs.lists[k];
+      while (times-- > 0)
+        made(it.call(x.data(), x.size(), y.data(), y.size(), room.at(), room.size(), room.len()), it.name);
+    };
+    auto limit = [&](uint32_t times, size_t k) {
+      auto& [x, y] = pairs.lists[k];
+      while (times-- > 0) *room.len() = it.limit(x.data(), x.size(), y.data(), y.size(), room.at());
+    };
+    std::string name = std::string(it.name) + "_" + of;
+    lanes.row({name.c_str(), units > 0 ? units : pairs.cells, 0},
+              {pair_side(PEER, pairs, theirs, sum_of_peer), pair_side(ALONE, pairs, alone, sum_of_room),
+               pair_side(CALL, pairs, call, sum_of_room), pair_side(LIMIT, pairs, limit, sum_of_room)});
+  }
+}
+
+using PairCall = int32_t (*)(const u64*, size_t, const u64*, size_t);
+using PairLimit = bool (*)(const u64*, size_t, const u64*, size_t);
+
+struct PairQuestion {
+  const char* name;
+  bool (S2CellUnion::*peer)(const S2CellUnion&) const;
+  UnionQuestion alone;
+  PairCall call;
+  PairLimit limit;
+};
+
+static void pair_questions(Lanes& lanes, const std::string& of, const Pairs& pairs) {
+  const PairQuestion questions[] = {
+      {"contains", &S2CellUnion::Contains, s2c_contains, s2u_contains, limit::has_all},
+      {"intersects", &S2CellUnion::Intersects, s2c_intersects, s2u_intersects, limit::meets}};
+  bool answer = false;
+  auto sum = [&] { return u64{answer}; };
+  for (const PairQuestion& it : questions) {
+    auto theirs = [&](uint32_t times, size_t k) {
+      auto& [x, y] = pairs.peers[k];
+      while (times-- > 0) answer = (x.*it.peer)(y);
+    };
+    auto alone = [&](uint32_t times, size_t k) {
+      auto& [x, y] = pairs.lists[k];
+      must(it.alone(x.data(), x.size(), y.data(), y.size(), times, &answer), it.name);
+    };
+    auto call = [&](uint32_t times, size_t k) {
+      auto& [x, y] = pairs.lists[k];
+      while (times-- > 0) answer = it.call(x.data(), x.size(), y.data(), y.size()) == 1;
+    };
+    auto limit = [&](uint32_t times, size_t k) {
+      auto& [x, y] = pairs.lists[k];
+      while (times-- > 0) answer = it.limit(x.data(), x.size(), y.data(), y.size());
+    };
+    std::string name = std::string(it.name) + "_" + of;
+    lanes.row({name.c_str(), pairs.lists.size(), 0},
+              {pair_side(PEER, pairs, theirs, sum), pair_side(ALONE, pairs, alone, sum),
+               pair_side(CALL, pairs, call, sum), pair_side(LIMIT, pairs, limit, sum)});
+  }
+}
+
+static void both(Lanes& lanes, const std::string& of, const Pairs& pairs, size_t units = 0) {
+  sets(lanes, of, pairs, units);
+  pair_questions(lanes, of, pairs);
+}
+
+// A row whose work makes one list. Each way writes to its own room.
+struct ListWays {
+  std::function<List()> peer;
+  std::function<void(Room&)> call, limit;
+};
+
+static void list_row(Lanes& lanes, const std::string& name, size_t units, size_t most, const ListWays& ways) {
+  List peer;
+  Room room(most), best(most);
+  lanes.row({name.c_str(), units, 0},
+            {Side{[&](uint32_t) { peer = ways.peer(); }, [&] { return sum_of(peer); }}, Side{},
+             Side{[&](uint32_t) { ways.call(room); }, [&] { return sum_of(room.made()); }},
+             Side{[&](uint32_t) { ways.limit(best); }, [&] { return sum_of(best.made()); }}},
+            [&] { return units > 0 ? units : *room.len(); });
+}
+
+static void normalising(Lanes& lanes, const std::string& of, const List& cells) {
+  std::vector<S2CellId> peer = peer_cells(cells);
+  List spare(cells.size());
+  bool sorted = std::is_sorted(cells.begin(), cells.end());
+  list_row(lanes, "normalise_" + of, cells.size(), cells.size(),
+           {[&] { return ids_of(S2CellUnion(peer)); },
+            [&](Room& room) {
+              memcpy(room.at(), cells.data(), 8 * cells.size());
+              made(s2u_normalise(room.at(), cells.size(), room.len()), "normalise");
+            },
+            [&](Room& room) {
+              memcpy(room.at(), cells.data(), 8 * cells.size());
+              if (!sorted) limit::sort(room.at(), cells.size(), spare.data());
+              *room.len() = limit::normalise(room.at(), cells.size());
+            }});
+}
+
+static void union_of_many(Lanes& lanes, const std::string& of, const Lists& lists) {
+  Chain chain(lists);
+  size_t n = chain.ids.size();
+  List spare(n);
+  list_row(lanes, "union_of_many_" + of, n, n,
+           {[&] { return ids_of(S2CellUnion(peer_cells(chain.ids))); },
+            [&](Room& room) {
+              memcpy(room.at(), chain.ids.data(), 8 * n);
+              made(s2u_normalise(room.at(), n, room.len()), "union_of_many");
+            },
+            [&](Room& room) {
+              memcpy(room.at(), chain.ids.data(), 8 * n);
+              *room.len() = limit::unite_all(room.at(), chain.offsets, spare.data());
+            }});
+}
+
+static void denormalising(Lanes& lanes, const std::string& of, const List& list, int level, int step) {
+  S2CellUnion peer = peer_union(list);
+  u64 most = 0;
+  made(s2u_denormalised_len(list.data(), list.size(), level, step, &most), "denormalised_len");
+  list_row(lanes, "denormalise_" + of, most, most,
+           {[&] {
+              std::vector<S2CellId> cells;
+              peer.Denormalize(level, step, &cells);
+              return ids_of(cells);
+            },
+            [&](Room& room) {
+              made(s2u_denormalised(list.data(), list.size(), level, step, room.at(), room.size(), room.len()),
+                   "denormalised");
+            },
+            [&](Room& room) { *room.len() = limit::denormalise(list.data(), list.size(), level, step, room.at()); }});
+}
+
+static void outer_of(Lanes& lanes, const std::string& of, const List& list, int level) {
+  list_row(lanes, "outer_of_" + of, list.size(), list.size(),
+           {[&] {
+              std::vector<S2CellId> cells;
+              for (u64 id : list) cells.push_back(S2CellId(id).level() > level ? S2CellId(id).parent(level) : S2CellId(id));
+              return ids_of(S2CellUnion(std::move(cells)));
+            },
+            [&](Room& room) {
+              made(s2u_outer_of(list.data(), list.size(), level, list.size(), room.at(), room.size(), room.len()),
+                   "outer_of");
+            },
+            [&](Room& room) { *room.len() = limit::outer(list.data(), list.size(), level, room.at()); }});
+}
+
+static void files(Lanes& lanes, const std::string& of, const List& list) {
+  S2CellUnion peer = peer_union(list), peer_back;
+  size_t n = list.size(), size = 0;
+  Encoder encoder;
+  std::vector<uint8_t> bytes(S2U_FILE_SIZE(n)), best(bytes.size());
+  auto sum = [&](const std::vector<uint8_t>& file) { return Sum().add_all(file).value(); };
+  std::string name = "encode_" + of;
+  lanes.row({name.c_str(), n, 0},
+            {Side{[&](uint32_t) {
+                    encoder.clear();
+                    peer.Encode(&encoder);
+                  },
+                  [&] { return sum({encoder.base(), encoder.base() + encoder.length()}); }},
+             Side{},
+             Side{[&](uint32_t) { made(s2u_encode(list.data(), n, bytes.data(), bytes.size(), &size), "encode"); },
+                  [&] { return sum(bytes); }},
+             Side{[&](uint32_t) { limit::encode(list.data(), n, best.data()); }, [&] { return sum(best); }}});
+  limit::encode(list.data(), n, bytes.data());
+  list_row(lanes, "decode_" + of, n, n,
+           {[&] {
+              Decoder decoder(bytes.data(), bytes.size());
+              peer_back.Decode(&decoder);
+              std::vector<S2CellId> cells = peer_back.Release();
+              S2CellUnion::Normalize(&cells);
+              return ids_of(cells);
+            },
+            [&](Room& room) { made(s2u_decode(bytes.data(), bytes.size(), room.at(), n, room.len()), "decode"); },
+            [&](Room& room) { *room.len() = limit::decode(bytes.data(), bytes.size(), room.at()); }});
+}
+
+static void is_union(Lanes& lanes, const std::string& of, const List& list) {
+  S2CellUnion peer = peer_union(list);
+  u64 answers[WAYS];
+  std::string name = "is_union_" + of;
+  auto side = [&](Way way, auto ask) {
+    return Side{[&, way, ask](uint32_t) { answers[way] = ask(); }, [&, way] { return answers[way]; }};
+  };
+  lanes.row({name.c_str(), list.size(), 0},
+            {side(PEER, [&] { return u64{peer.IsNormalized()}; }), Side{},
+             side(CALL, [&] { return u64{s2u_is_union(list.data(), list.size()) == 1}; }),
+             side(LIMIT, [&] { return u64{limit::is_union(list.data(), list.size())}; })});
+}
+
+static void cell_questions(Lanes& lanes, const std::string& of, const List& list) {
+  const size_t N = 1000000;
+  S2CellUnion peer = peer_union(list);
+  List asked = Random(9).cells(N, 8, 30);
+  std::vector<uint8_t> answers(N);
+  u64 held[WAYS];
+  auto side = [&](Way way, auto ask) {
+    return Side{[&, way, ask](uint32_t) { held[way] = ask(); }, [&, way] { return held[way]; }};
+  };
+  auto row = [&](const std::string& name, auto call, auto limit) {
+    lanes.row({name.c_str(), N, 0},
+              {side(PEER,
+                    [&] {
+                      u64 count = 0;
+                      for (u64 cell : asked) count += peer.Contains(S2CellId(cell));
+                      return count;
+                    }),
+               Side{}, side(CALL, call), side(LIMIT, limit)});
+  };
+  auto one_by_one = [&] {
+    u64 count = 0;
+    for (u64 cell : asked) count += s2u_contains_cell(list.data(), list.size(), cell) == 1;
+    return count;
+  };
+  auto all = [&] {
+    size_t bad;
+    made(s2u_contains_cells(list.data(), list.size(), asked.data(), N, answers.data(), N, &bad), "contains_cells");
+    return static_cast<u64>(std::count(answers.begin(), answers.end(), 1));
+  };
+  auto searched = [&] { return limit::count_held(list.data(), list.size(), asked); };
+  row("contains_cell_" + of, one_by_one, searched);
+  row("contains_cells_" + of, all, searched);
+  std::sort(asked.begin(), asked.end());
+  row("contains_cells_in_order_" + of, all, [&] { return limit::count_held_in_order(list.data(), list.size(), asked); });
+}
+
+static List shuffled(List list) {
+  Random(5).shuffle(list);
+  return list;
+}
+
+// Every n-th of the list, `count` cells in all.
+static List spread(const List& list, size_t count) {
+  List some;
+  for (size_t k = 0; k < count; k++) some.push_back(list[k * list.size() / count]);
+  return some;
+}
+
+static void one_list(Lanes& lanes, const std::string& of, const List& list) {
+  is_union(lanes, of, list);
+  files(lanes, of, list);
+  denormalising(lanes, of + "_level_9_2nd", list, 9, 2);
+  outer_of(lanes, of + "_level_10", list, 10);
+  outer_of(lanes, of + "_level_14", list, 14);
+  cell_questions(lanes, of, list);
+}
+
+int main(int argc, char** argv) {
+  absl::SetFlag(&FLAGS_s2cell_union_decode_max_num_cells, INT32_MAX);
+  Lanes lanes(argc > 1 ? argv[1] : "", argc > 2 ? atoi(argv[2]) : 5);
+  for (const char* cells : {"8", "100", "1000", "10000"}) {
+    Lists land = read_unions(std::string("land_") + cells), twin = read_unions(std::string("twin_") + cells);
+    both(lanes, std::string("neighbors_") + cells, Pairs::next(land));
+    both(lanes, std::string("twins_") + cells, Pairs::of(land, twin));
+    union_of_many(lanes, std::string("land_") + cells, land);
+  }
+  Lists land = read_unions("land_10000");
+  List all = union_of(land), turned = union_of(read_lists("twin_10000")), level = Chain(read_lists("level_10")).ids;
+  std::sort(level.begin(), level.end());
+  both(lanes, "land_and_lakes", Pairs::one(all, union_of(read_lists("lakes_1000"))));
+  both(lanes, "land_and_twin", Pairs::one(all, turned));
+  both(lanes, "covering_and_inner", Pairs::of(land, read_unions("inner_10000")));
+  both(lanes, "ten_cells_of_land", Pairs::one(spread(all, 10), all), 1);
+  both(lanes, "land_and_ten_cells", Pairs::one(all, spread(turned, 10)), 1);
+  normalising(lanes, "level_10_in_order", level);
+  normalising(lanes, "level_10_shuffled", shuffled(level));
+  normalising(lanes, "land_10000_shuffled", shuffled(Chain(land).ids));
+  one_list(lanes, "land", all);
+  one_list(lanes, "Eurasia", land[0]);
+  return lanes.all_equal() ? 0 : 1;
+}
