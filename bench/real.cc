@@ -361,11 +361,11 @@ static List shuffled(List list) {
   return list;
 }
 
-// Every n-th of the list, `count` cells in all.
-static List spread(const List& list, size_t count) {
-  List some;
-  for (size_t k = 0; k < count; k++) some.push_back(list[k * list.size() / count]);
-  return some;
+// Eight times ten cells of a list, one of each tenth.
+static Lists tens(const List& list) {
+  Lists lists(8);
+  for (size_t k = 0; k < 80; k++) lists[k % 8].push_back(list[k * list.size() / 80]);
+  return lists;
 }
 
 static void one_list(Lanes& lanes, const std::string& of, const List& list) {
@@ -392,8 +392,8 @@ int main(int argc, char** argv) {
   both(lanes, "land_and_lakes", Pairs::one(all, union_of(read_lists("lakes_1000"))));
   both(lanes, "land_and_twin", Pairs::one(all, turned));
   both(lanes, "covering_and_inner", Pairs::of(land, read_unions("inner_10000")));
-  both(lanes, "ten_cells_of_land", Pairs::one(spread(all, 10), all), 1);
-  both(lanes, "land_and_ten_cells", Pairs::one(all, spread(turned, 10)), 1);
+  both(lanes, "ten_cells_and_land", Pairs::of(tens(all), Lists(8, all)), 8);
+  both(lanes, "land_and_ten_cells", Pairs::of(Lists(8, all), tens(turned)), 8);
   normalising(lanes, "level_10_in_order", level);
   normalising(lanes, "level_10_shuffled", shuffled(level));
   normalising(lanes, "land_10000_shuffled", shuffled(Chain(land).ids));
