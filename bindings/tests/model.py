@@ -1,6 +1,9 @@
 """A plain model of cells and unions: a cell is its level and its place, a union the sorted list of its runs."""
 
+from pathlib import Path
+
 LEAVES = 6 * 4**30
+VERSION = (Path(__file__).resolve().parents[2] / "VERSION").read_text().strip()
 
 
 def identifier(level, place):

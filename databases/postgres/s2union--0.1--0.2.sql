@@ -129,6 +129,11 @@ RETURNS bigint
 AS 'MODULE_PATHNAME'
 LANGUAGE C IMMUTABLE STRICT PARALLEL SAFE;
 
+CREATE FUNCTION s2_version()
+RETURNS text
+AS 'MODULE_PATHNAME'
+LANGUAGE C STABLE STRICT PARALLEL SAFE;
+
 -- Aggregates
 
 CREATE FUNCTION s2union_agg_step(internal, bigint)
@@ -274,6 +279,7 @@ COMMENT ON FUNCTION s2_inner(integer, integer, integer, integer, integer, intege
   IS 'the cells of a level that lie in a rectangle of leaves on a face, as a union';
 COMMENT ON FUNCTION s2_range(bigint, bigint) IS 'all leaves from the first of one cell to the last of another';
 COMMENT ON FUNCTION s2_leaf(integer, integer, integer) IS 'the leaf at a place of a face';
+COMMENT ON FUNCTION s2_version() IS 'the version of the code that the server has loaded';
 COMMENT ON FUNCTION s2_cell(text) IS 'the cell of a token or of a debug text';
 COMMENT ON FUNCTION s2_token(bigint) IS 'the token of a cell';
 COMMENT ON FUNCTION s2_debug(bigint) IS 'the debug text of a cell';

@@ -562,6 +562,9 @@ Datum s2_leaf(PG_FUNCTION_ARGS) {
   PG_RETURN_INT64((int64)leaf);
 }
 
+PG_FUNCTION_INFO_V1(s2_version);
+Datum s2_version(PG_FUNCTION_ARGS) { PG_RETURN_TEXT_P(cstring_to_text(S2U_VERSION_TEXT)); }
+
 PG_FUNCTION_INFO_V1(s2_cell);
 Datum s2_cell(PG_FUNCTION_ARGS) {
   text* word = PG_GETARG_TEXT_PP(0);

@@ -362,6 +362,7 @@ CALL(range_max) { return answer_cell(c, s2u_range_max(a->cell)); }
 CALL(common_ancestor) { return answer_cell(c, s2u_common_ancestor(a[0].cell, a[1].cell)); }
 CALL(level) { return answer_number(c, s2u_level(a->cell)); }
 CALL(face) { return answer_number(c, s2u_face(a->cell)); }
+CALL(version) { return sqlite3_result_text(c, S2U_VERSION_TEXT, -1, SQLITE_STATIC), S2U_OK; }
 
 static const function functions[] = {
   {"s2_union", "ll", makes, .make = make_union}, {"s2_intersection", "ll", makes, .make = make_intersection},
@@ -374,7 +375,7 @@ static const function functions[] = {
   {"s2_cell", "c", cell}, {"s2_token", "c", text, .text = s2u_token}, {"s2_debug", "c", text, .text = s2u_debug},
   {"s2_level", "c", level}, {"s2_face", "c", face}, {"s2_parent", "cn", parent}, {"s2_child", "cn", child},
   {"s2_range_min", "c", range_min}, {"s2_range_max", "c", range_max}, {"s2_common_ancestor", "cc", common_ancestor},
-  {"s2_leaf", "nnn", leaf},
+  {"s2_leaf", "nnn", leaf}, {"s2_version", "", version},
 };
 
 /* Every function comes through here: NULL if an argument is NULL, an error if the call refuses. */

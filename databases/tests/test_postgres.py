@@ -215,6 +215,10 @@ class AgainstTheModel(Tests):
             pairs.append((f"s2_inner({box}, {min(level, 29)}) = ''::s2union", "true"))
         self.all_are(pairs)
 
+    def test_version(self):
+        said = psql("SELECT s2_version(), extversion FROM pg_extension WHERE extname = 's2union';")
+        self.assertEqual(said, [f"{model.VERSION}|{model.VERSION.rpartition('.')[0]}"])
+
     def test_long_texts(self):
         """They are read and written in pieces."""
         cells = [model.identifier(28, 3 * k) for k in range(70000)]

@@ -161,6 +161,9 @@ class AgainstTheModel(Tests):
             self.assertEqual(self.ask("s2_is_union(?)", value), int(value == model.file(normal)))
         self.assertEqual(self.ask("s2_leaves(?)", model.file([model.identifier(0, f) for f in range(6)])), 6 * 4**30)
 
+    def test_version(self):
+        self.assertEqual(self.ask("s2_version()"), model.VERSION)
+
     def test_cells(self):
         for _ in range(ROUNDS):
             number = self.random.cell()

@@ -5,7 +5,10 @@ import struct
 import tempfile
 import unittest
 
-from process import FACE, first_line, ran
+from process import FACE, TOP, first_line, ran
+
+with open(os.path.join(TOP, "VERSION"), "rb") as it:
+    VERSION = it.read()
 
 
 class Statuses(unittest.TestCase):
@@ -96,7 +99,7 @@ class Statuses(unittest.TestCase):
 
     def test_version(self):
         for words in (["--version"], ["-V"]):
-            self.assertEqual(ran(*words), (0, b"s2calc 1.0.0\n", b""))
+            self.assertEqual(ran(*words), (0, b"s2calc " + VERSION, b""))
 
     def test_usage_faults_name_the_word(self):
         for words, said in (

@@ -44,6 +44,7 @@ __all__ = ["Union", "UnionFile", "version", "is_cell", "level", "face", "parent"
            "size", "next_cell", "previous_cell", "common_ancestor", "contains", "intersects", "from_face_ij", "square",
            "token", "from_token", "debug", "from_debug", "tokens", "from_tokens", "to_signed"]
 
+__version__ = "0.2.0"
 _ALL_BITS = 2**64 - 1
 _SEPARATOR = _re.compile(rb"[ \t\n\r,]")  # of words, for the library; bytes.split would end words at form feeds too
 
