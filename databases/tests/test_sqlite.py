@@ -22,7 +22,7 @@ FUNCTIONS = {
     "s2_count": "l", "s2_leaves": "l", "s2_tokens": "l",
     "s2_cell": "c", "s2_token": "c", "s2_debug": "c", "s2_level": "c", "s2_face": "c", "s2_parent": "cn",
     "s2_child": "cn", "s2_range_min": "c", "s2_range_max": "c", "s2_common_ancestor": "cc", "s2_leaf": "nnn",
-    "s2_union_agg": "l", "s2_intersection_agg": "l",
+    "s2_union_agg": "l", "s2_intersection_agg": "l", "s2_version": "",
 }
 COVERINGS = ("s2_outer", "s2_inner")
 GOOD = {"l": "0c 14", "q": "0c", "c": "1c", "n": 1, "b": EMPTY}
