@@ -1,0 +1,159 @@
+package s2union
+
+// #include <s2union.h>
+import "C"
+
+import "strconv"
+
+// CellID is the identifier of a cell. Any number may be one; IsValid says whether it is. All other methods panic with
+// ErrNoCell if it isn't, except String.
+type CellID uint64
+
+// CellIDFromToken is the cell of a token, in either case.
+func CellIDFromToken(token string) (CellID, error) {
+	var id C.uint64_t
+	at, n := placeOfText([]byte(token))
+	return CellID(id), refused(C.s2u_from_token(at, n, &id))
+}
+
+// CellIDFromString is the cell of a debug text, such as "4/032212".
+func CellIDFromString(text string) (CellID, error) {
+	var id C.uint64_t
+	at, n := placeOfText([]byte(text))
+	return CellID(id), refused(C.s2u_from_debug(at, n, &id))
+}
+
+// CellIDFromFace is the cell of a whole face, 0 to 5.
+func CellIDFromFace(face int) (CellID, error) {
+	leaf, err := CellIDFromFaceIJ(face, 0, 0)
+	if err != nil {
+		return 0, err
+	}
+	return leaf.Parent(0), nil
+}
+
+// CellIDFromFaceIJ is the leaf at a place of a face: i and j are below 2^30.
+func CellIDFromFaceIJ(face, i, j int) (CellID, error) {
+	id := C.s2u_from_face_ij(narrowed(face), narrowed(i), narrowed(j))
+	if id == 0 {
+		return 0, ErrArgument
+	}
+	return CellID(id), nil
+}
+
+// IsValid is whether the number is the identifier of a cell.
+func (id CellID) IsValid() bool { return answer(C.s2u_is_cell(C.uint64_t(id))) }
+
+// Level is 0 for a face, to 30 for a leaf.
+func (id CellID) Level() int { return number(C.s2u_level(C.uint64_t(id))) }
+
+// Face is 0 to 5.
+func (id CellID) Face() int { return number(C.s2u_face(C.uint64_t(id))) }
+
+// IsLeaf is whether the cell is at level 30.
+func (id CellID) IsLeaf() bool { return id.Level() == 30 }
+
+// IsFace is whether the cell is a whole face.
+func (id CellID) IsFace() bool { return id.Level() == 0 }
+
+// Parent is the cell of a level that contains the cell; at its own level, itself. It panics with ErrArgument if the
+// level is deeper.
+func (id CellID) Parent(level int) CellID {
+	parent := C.s2u_parent(id.cell(), narrowed(level))
+	if parent == 0 {
+		panic(ErrArgument)
+	}
+	return CellID(parent)
+}
+
+// Children are the four children along the curve. It panics with ErrArgument if the cell is a leaf.
+func (id CellID) Children() [4]CellID {
+	var children [4]CellID
+	for k := range children {
+		child := C.s2u_child(id.cell(), C.uint32_t(k))
+		if child == 0 {
+			panic(ErrArgument)
+		}
+		children[k] = CellID(child)
+	}
+	return children
+}
+
+// RangeMin is the first leaf of the cell: another cell is in it exactly if its number is not below RangeMin and not
+// above RangeMax.
+func (id CellID) RangeMin() CellID { return CellID(C.s2u_range_min(id.cell())) }
+
+// RangeMax is the last leaf of the cell.
+func (id CellID) RangeMax() CellID { return CellID(C.s2u_range_max(id.cell())) }
+
+// LeafCellsCovered is how many leaves the cell has.
+func (id CellID) LeafCellsCovered() int64 { return int64(C.s2u_size(id.cell())) }
+
+// Next is the next cell of the same level, across faces; 0, which is no cell, after the last one.
+func (id CellID) Next() CellID { return CellID(C.s2u_next(id.cell())) }
+
+// Prev is the cell of the same level before it, across faces; 0, which is no cell, before the first one.
+func (id CellID) Prev() CellID { return CellID(C.s2u_prev(id.cell())) }
+
+// Contains is whether all leaves of another cell are in the cell.
+func (id CellID) Contains(other CellID) bool {
+	return answer(C.s2u_cell_contains(C.uint64_t(id), C.uint64_t(other)))
+}
+
+// Intersects is whether two cells share a leaf.
+func (id CellID) Intersects(other CellID) bool {
+	return answer(C.s2u_cell_intersects(C.uint64_t(id), C.uint64_t(other)))
+}
+
+// CommonAncestor is the smallest cell that contains both; false if they are on two faces.
+func (id CellID) CommonAncestor(other CellID) (CellID, bool) {
+	ancestor := CellID(C.s2u_common_ancestor(id.cell(), other.cell()))
+	return ancestor, ancestor != 0
+}
+
+// CommonAncestorLevel is the level of CommonAncestor.
+func (id CellID) CommonAncestorLevel(other CellID) (level int, ok bool) {
+	if ancestor, ok := id.CommonAncestor(other); ok {
+		return ancestor.Level(), true
+	}
+	return 0, false
+}
+
+// Square is the face, the least coordinates and the side of the cell, in leaves.
+func (id CellID) Square() (face, i, j, side int) {
+	var square C.s2u_square
+	answer(C.s2u_square_of(C.uint64_t(id), &square))
+	return int(square.face), int(square.i), int(square.j), int(square.size)
+}
+
+// ToToken is the identifier in hexadecimal without the zeros at its end.
+func (id CellID) ToToken() string {
+	return text(C.S2U_MOST_TOKEN, func(out *C.char, room C.size_t, length *C.size_t) C.int32_t {
+		return C.s2u_token(C.uint64_t(id), out, room, length)
+	})
+}
+
+// String is the debug text, such as "4/032212", or a text that says that the number is no cell.
+func (id CellID) String() string {
+	if !id.IsValid() {
+		return "Invalid: " + strconv.FormatUint(uint64(id), 16)
+	}
+	return text(C.S2U_MOST_DEBUG, func(out *C.char, room C.size_t, length *C.size_t) C.int32_t {
+		return C.s2u_debug(C.uint64_t(id), out, room, length)
+	})
+}
+
+// cell is the number as the library takes it. It panics with ErrNoCell if it is no cell.
+func (id CellID) cell() C.uint64_t {
+	if !id.IsValid() {
+		panic(ErrNoCell)
+	}
+	return C.uint64_t(id)
+}
+
+func number(status C.int32_t) int {
+	if status < 0 {
+		panic(Error(status))
+	}
+	return int(status)
+}

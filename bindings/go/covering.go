@@ -1,0 +1,50 @@
+package s2union
+
+// #include <s2union.h>
+import "C"
+
+// Rect is the leaves of a face with I0 <= i <= I1 and J0 <= j <= J1, all below 2^30.
+type Rect struct {
+	Face, I0, I1, J0, J1 int
+}
+
+// MostCovering is the most cells that a covering may have.
+const MostCovering = C.S2U_MOST_COVERING
+
+// Covering is the union of the cells of a level that share a leaf with the rectangle: not the best few cells of several
+// levels, as golang/geo's RegionCoverer finds them for regions of the sphere. ErrArgument. ErrMany: there would be more
+// than `most` cells, or more than MostCovering.
+func (rect Rect) Covering(level, most int) (CellUnion, error) {
+	corners := rect.corners()
+	return made(64, func(out *C.uint64_t, room C.size_t, length *C.size_t) C.int32_t {
+		return C.s2u_outer(&corners, narrowed(level), atLeastZero(most), out, room, length)
+	})
+}
+
+// InteriorCovering is the union of the cells of a level that lie in the rectangle, as Covering.
+func (rect Rect) InteriorCovering(level, most int) (CellUnion, error) {
+	corners := rect.corners()
+	return made(64, func(out *C.uint64_t, room C.size_t, length *C.size_t) C.int32_t {
+		return C.s2u_inner(&corners, narrowed(level), atLeastZero(most), out, room, length)
+	})
+}
+
+// Covering is the union of the cells of a level that share a leaf with the union, as that of a Rect.
+func (cu CellUnion) Covering(level, most int) (CellUnion, error) {
+	at, n := place(cu.ids)
+	return made(len(cu.ids), func(out *C.uint64_t, room C.size_t, length *C.size_t) C.int32_t {
+		return C.s2u_outer_of(at, n, narrowed(level), atLeastZero(most), out, room, length)
+	})
+}
+
+// InteriorCovering is the union of the cells of a level that lie in the union, as Covering.
+func (cu CellUnion) InteriorCovering(level, most int) (CellUnion, error) {
+	at, n := place(cu.ids)
+	return made(len(cu.ids), func(out *C.uint64_t, room C.size_t, length *C.size_t) C.int32_t {
+		return C.s2u_inner_of(at, n, narrowed(level), atLeastZero(most), out, room, length)
+	})
+}
+
+func (rect Rect) corners() C.s2u_rect {
+	return C.s2u_rect{narrowed(rect.Face), narrowed(rect.I0), narrowed(rect.I1), narrowed(rect.J0), narrowed(rect.J1)}
+}

@@ -1,0 +1,3 @@
+module s2union
+
+go 1.18

@@ -1,0 +1,190 @@
+package s2union_test
+
+import (
+	"bytes"
+	"encoding/gob"
+	"errors"
+	"io"
+	"math"
+	"strings"
+	"sync"
+	"testing"
+	"testing/iotest"
+
+	"s2union"
+)
+
+const face CellID = 0x1000000000000000
+
+func check(t *testing.T, holds bool, what string) {
+	t.Helper()
+	if !holds {
+		t.Error(what)
+	}
+}
+
+func panics(t *testing.T, want error, what string, call func()) {
+	t.Helper()
+	defer func() {
+		if said := recover(); said != want {
+			t.Errorf("%s: panics with %v, not %v", what, said, want)
+		}
+	}()
+	call()
+}
+
+func TestACellThatIsNone(t *testing.T) {
+	union := must(s2union.NewCellUnion(face))
+	file := must(s2union.NewUnionFile(must(union.MarshalBinary())))
+	for _, id := range []CellID{0, 2, 12 * face, math.MaxUint64} {
+		for what, call := range map[string]func(){
+			"Level": func() { id.Level() }, "Face": func() { id.Face() }, "IsLeaf": func() { id.IsLeaf() },
+			"IsFace": func() { id.IsFace() }, "Parent": func() { id.Parent(0) }, "Children": func() { id.Children() },
+			"RangeMin": func() { id.RangeMin() }, "RangeMax": func() { id.RangeMax() }, "Next": func() { id.Next() },
+			"Prev": func() { id.Prev() }, "LeafCellsCovered": func() { id.LeafCellsCovered() },
+			"ToToken": func() { id.ToToken() }, "Square": func() { id.Square() },
+			"Contains": func() { id.Contains(face) }, "Intersects": func() { face.Intersects(id) },
+			"CommonAncestor":          func() { face.CommonAncestor(id) },
+			"CommonAncestorLevel":     func() { id.CommonAncestorLevel(face) },
+			"ContainsCellID":          func() { union.ContainsCellID(id) },
+			"IntersectsCellID":        func() { union.IntersectsCellID(id) },
+			"CellIDsAt":               func() { union.CellIDsAt(id) },
+			"file's ContainsCellID":   func() { file.ContainsCellID(id) },
+			"file's IntersectsCellID": func() { file.IntersectsCellID(id) },
+			"IntersectionWithCellID":  func() { s2union.CellUnionFromIntersectionWithCellID(union, id) },
+		} {
+			panics(t, s2union.ErrNoCell, what, call)
+		}
+		check(t, !id.IsValid() && strings.HasPrefix(id.String(), "Invalid: "), "String")
+		_, err := s2union.RangeUnion(id, face)
+		check(t, err == s2union.ErrNoCell, "RangeUnion")
+		_, err = union.ContainsCellIDs(face, id)
+		check(t, errors.Is(err, s2union.ErrNoCell), "ContainsCellIDs")
+		check(t, err.Error() == "s2union: not a cell at place 1", "its text")
+		_, err = union.IntersectsCellIDs(id)
+		check(t, errors.Is(err, s2union.ErrNoCell), "IntersectsCellIDs")
+	}
+	for _, level := range []int{-1, 1, 31, math.MaxInt, math.MinInt, 1 << 32} {
+		panics(t, s2union.ErrArgument, "Parent", func() { face.Parent(level) })
+	}
+	panics(t, s2union.ErrArgument, "Children", func() { face.RangeMin().Children() })
+	panics(t, s2union.ErrArgument, "CellID", func() { file.CellID(1) })
+	panics(t, s2union.ErrArgument, "CellID", func() { file.CellID(-1) })
+	panics(t, s2union.ErrFileShort, "a file that was not made", func() { new(s2union.UnionFile).Len() })
+}
+
+func TestNumbersOutOfRange(t *testing.T) {
+	union := must(s2union.NewCellUnion(face))
+	for _, wrong := range []int{-1, 31, math.MaxInt, math.MinInt, 1 << 32} {
+		_, err := union.Denormalize(wrong, 1, most)
+		check(t, err == s2union.ErrArgument, "a level")
+		_, err = union.Covering(wrong, most)
+		check(t, err == s2union.ErrArgument, "a level of a covering")
+		_, err = s2union.Rect{Face: 0, I0: 0, I1: wrong - 31, J0: 0, J1: 0}.Covering(30, most)
+		check(t, wrong == 31 || err == s2union.ErrArgument, "a corner")
+		_, err = s2union.CellIDFromFace(wrong)
+		check(t, err == s2union.ErrArgument, "a face")
+	}
+	for _, modulus := range []int{-1, 0, 4, 1<<32 + 1} {
+		_, err := union.Denormalize(0, modulus, most)
+		check(t, err == s2union.ErrArgument, "a modulus")
+	}
+	for limit, want := range map[int]error{4: nil, 3: s2union.ErrMany, 0: s2union.ErrMany, -1: s2union.ErrMany} {
+		list, err := union.Denormalize(1, 1, limit)
+		check(t, err == want && (len(list) == 4) == (err == nil), "a limit")
+		_, err = must(union.Covering(0, most)).InteriorCovering(3, limit)
+		check(t, (err == s2union.ErrMany) == (limit < 1), "a limit of a covering")
+	}
+	_, err := union.Denormalize(30, 1, math.MaxInt32)
+	check(t, err == s2union.ErrMany, "4^30 cells")
+	_, err = s2union.Rect{Face: 0, I0: 0, I1: 1<<30 - 1}.Covering(30, math.MaxInt)
+	check(t, err == s2union.ErrMany, "a row of leaves")
+}
+
+func TestRanges(t *testing.T) {
+	const end CellID = 0xc000000000000001
+	check(t, must(s2union.CellUnionFromRange(1, end)).Equal(s2union.WholeSphere()), "all leaves")
+	for _, id := range []CellID{1, 7, end} {
+		check(t, must(s2union.CellUnionFromRange(id, id)).Len() == 0, "nothing")
+	}
+	for _, wrong := range [][2]CellID{
+		{3, 1}, {5, 3}, {face, end}, {1, face}, {end, 1}, {end, end - 2}, {0, 1}, {1, 0}, {1, end + 2},
+	} {
+		_, err := s2union.CellUnionFromRange(wrong[0], wrong[1])
+		check(t, err == s2union.ErrArgument, "a range")
+	}
+}
+
+func TestOtherTypesOfCells(t *testing.T) {
+	type theirs uint64 // as golang/geo's CellID
+	wood := must(s2union.CellUnionFromTokens("9 64c"))
+	signed := s2union.CellIDsAs[int64](wood)
+	check(t, signed[0] == 0x64c0000000000000 && signed[1] == -0x7000000000000000, "numbers with a sign")
+	check(t, must(s2union.NewCellUnion(signed[1], signed[0], signed[1])).Equal(wood), "from numbers with a sign")
+	check(t, must(s2union.CellUnionFromNormalized(s2union.CellIDsAs[theirs](wood)...)).Equal(wood), "another package's")
+	list := []theirs{0x1400000000000000, 0x0c00000000000000, 0x1c00000000000000, 0x0400000000000000, 0x1400000000000000}
+	list, err := s2union.Normalize(list)
+	check(t, err == nil && len(list) == 1 && list[0] == theirs(face) && s2union.IsNormalized(list), "Normalize")
+	_, err = s2union.NewCellUnion(int64(face), -1)
+	check(t, errors.Is(err, s2union.ErrNoCell), "-1")
+	_, err = s2union.CellUnionFromNormalized(face, face)
+	check(t, err == s2union.ErrNotNormalized, "not normalized")
+}
+
+func TestUnionsNeverChange(t *testing.T) {
+	given := []CellID{face, 3 * face}
+	union := must(s2union.NewCellUnion(given...))
+	same := must(s2union.CellUnionFromNormalized(given...))
+	given[0] = 0
+	union.CellIDs()[0] = 0
+	union.CellIDsAt(face)[0] = 0
+	must(union.Denormalize(0, 1, most))[0] = 0
+	check(t, union.String() == "1 3" && same.Equal(union) && union.IsValid() && union.IsNormalized(), "the union")
+	var zero CellUnion
+	check(t, zero.Len() == 0 && zero.String() == "" && zero.Equal(s2union.CellUnionFromUnion()), "the empty union")
+	check(t, s2union.CellUnionFromUnion(union).Equal(union) && union.Contains(zero), "of one")
+	var all sync.WaitGroup
+	for turn := 0; turn < 8; turn++ {
+		all.Add(1)
+		go func() {
+			defer all.Done()
+			for round := 0; round < 200; round++ {
+				rest := s2union.CellUnionFromDifference(s2union.WholeSphere(), union)
+				check(t, !rest.Intersects(union) && rest.Len() == 4, "in several goroutines")
+			}
+		}()
+	}
+	all.Wait()
+}
+
+func TestFiles(t *testing.T) {
+	union := must(s2union.CellUnionFromTokens("04 0c"))
+	file := must(union.MarshalBinary())
+	var stream bytes.Buffer
+	check(t, union.Encode(&stream) == nil && union.Encode(&stream) == nil && stream.Len() == 50, "Encode")
+	var read CellUnion
+	for round := 0; round < 2; round++ {
+		check(t, read.Decode(iotest.OneByteReader(&stream)) == nil && read.Equal(union), "Decode")
+	}
+	check(t, read.Decode(&stream) == s2union.ErrFileShort && read.Equal(union), "Decode of nothing")
+	for wrong, want := range map[string]error{
+		"\x02" + string(file[1:]): s2union.ErrFileVersion, string(file[:24]): s2union.ErrFileShort,
+		string(file[:8]): s2union.ErrFileShort, "\x01" + strings.Repeat("\xff", 24): s2union.ErrFileShort,
+		"\x01\xff\xff\xff\xff\xff\xff\xff\x07" + string(file): s2union.ErrFileShort,
+	} {
+		check(t, read.Decode(strings.NewReader(wrong)) == want && read.Equal(union), "Decode of what is wrong")
+		check(t, read.UnmarshalBinary([]byte(wrong)) == want && read.Equal(union), "UnmarshalBinary of what is wrong")
+	}
+	broken := errors.New("broken")
+	check(t, read.Decode(iotest.ErrReader(broken)) == broken, "a reader that fails")
+	check(t, union.Encode(brokenWriter{}) == io.ErrClosedPipe, "a writer that fails")
+	check(t, gob.NewEncoder(&stream).Encode(union) == nil, "gob's encoder")
+	var again CellUnion
+	check(t, gob.NewDecoder(&stream).Decode(&again) == nil && again.Equal(union), "gob's decoder")
+	check(t, s2union.Error(-99).Error() == "s2union: unknown refusal", "an unknown refusal")
+	check(t, strings.Count(s2union.Version(), ".") == 2, "the version")
+}
+
+type brokenWriter struct{}
+
+func (brokenWriter) Write([]byte) (int, error) { return 0, io.ErrClosedPipe }

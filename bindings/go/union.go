@@ -1,0 +1,395 @@
+package s2union
+
+// #include <s2union.h>
+import "C"
+
+import (
+	"bytes"
+	"encoding/binary"
+	"errors"
+	"io"
+	"unsafe"
+)
+
+// ID is the identifier of a cell as other packages have it: golang/geo's CellID, and a database's BIGINT, whose 64 bits
+// it is taken by. No cell can be read in two ways.
+type ID interface{ ~uint64 | ~int64 }
+
+// CellUnion is a set of leaves, as the one normalized list of cells that covers it.
+type CellUnion struct {
+	ids []CellID // normalized, and never written again
+}
+
+// NewCellUnion is the union of cells, in any order, repeated, or inside one another. It refuses numbers that are no
+// cells, with a PlaceError.
+func NewCellUnion[N ID](ids ...N) (CellUnion, error) {
+	return normalized(append([]CellID(nil), sameBits[CellID](ids)...))
+}
+
+// CellUnionFromNormalized is the union whose cells these are, or ErrNotNormalized. It takes as many steps as there are
+// cells.
+func CellUnionFromNormalized[N ID](ids ...N) (CellUnion, error) {
+	if !IsNormalized(ids) {
+		return CellUnion{}, ErrNotNormalized
+	}
+	return CellUnion{append([]CellID(nil), sameBits[CellID](ids)...)}, nil
+}
+
+// CellUnionFromTokens is the union of the cells that a text names: words with blanks, tabs, line ends or commas between
+// them, each a token or a debug text. A PlaceError has the place where the first word begins that names no cell.
+func CellUnionFromTokens(words string) (CellUnion, error) {
+	given := []byte(words)
+	at, n := placeOfText(given)
+	named := make([]CellID, len(given)/2+1)
+	var length C.size_t
+	out, room := place(named)
+	if status := C.s2u_from_tokens(at, n, out, room, &length); status == C.S2U_NO_CELL {
+		return CellUnion{}, &PlaceError{int(length)}
+	} else if status != C.S2U_OK {
+		return CellUnion{}, Error(status)
+	}
+	return normalized(named[:length])
+}
+
+// CellUnionFromRange is the union of the leaves from begin up to end, which is not one of them: a leaf, or the number
+// after the last leaf, as CellID.Next makes it in S2. ErrArgument: one is no leaf, or end comes first.
+func CellUnionFromRange(begin, end CellID) (CellUnion, error) {
+	const afterLastLeaf CellID = 0xc000000000000001 // S2's CellIDFromFace(5).ChildEndAtLevel(30), which is no cell
+	last := lastFace.RangeMax()
+	for _, id := range []CellID{begin, end} {
+		if id != afterLastLeaf && !(id.IsValid() && id.IsLeaf()) {
+			return CellUnion{}, ErrArgument
+		}
+	}
+	if begin == end {
+		return CellUnion{}, nil
+	}
+	if end != afterLastLeaf {
+		last = end.Prev()
+	}
+	if begin == afterLastLeaf || last == 0 {
+		return CellUnion{}, ErrArgument
+	}
+	return RangeUnion(begin, last)
+}
+
+// RangeUnion is the union of all leaves from the first of one cell to the last of another, also across faces.
+// ErrNoCell; ErrArgument: the last leaf comes before the first.
+func RangeUnion(first, last CellID) (CellUnion, error) {
+	return made(C.S2U_MOST_RANGE, func(out *C.uint64_t, room C.size_t, length *C.size_t) C.int32_t {
+		return C.s2u_range(C.uint64_t(first), C.uint64_t(last), out, room, length)
+	})
+}
+
+// WholeSphere is the union of all leaves.
+func WholeSphere() CellUnion { return always(RangeUnion(firstFace, lastFace)) }
+
+// CellUnionFromUnion is the union of unions.
+func CellUnionFromUnion(unions ...CellUnion) CellUnion {
+	if len(unions) == 2 {
+		x, y := unions[0], unions[1]
+		return x.with(y, len(x.ids)+len(y.ids), func(xs *C.uint64_t, nx C.size_t, ys *C.uint64_t, ny C.size_t,
+			out *C.uint64_t, room C.size_t, length *C.size_t) C.int32_t {
+			return C.s2u_union(xs, nx, ys, ny, out, room, length)
+		})
+	}
+	var all []CellID
+	for _, union := range unions {
+		all = append(all, union.ids...)
+	}
+	return always(normalized(all))
+}
+
+// CellUnionFromIntersection is the union of the leaves that two unions share.
+func CellUnionFromIntersection(x, y CellUnion) CellUnion {
+	// Twice the shorter one nearly always suffices, and the longer one may be much longer.
+	return x.with(y, 2*smaller(len(x.ids), len(y.ids)), func(xs *C.uint64_t, nx C.size_t, ys *C.uint64_t, ny C.size_t,
+		out *C.uint64_t, room C.size_t, length *C.size_t) C.int32_t {
+		return C.s2u_intersection(xs, nx, ys, ny, out, room, length)
+	})
+}
+
+// CellUnionFromIntersectionWithCellID is the union of the leaves of a cell that a union has.
+func CellUnionFromIntersectionWithCellID(x CellUnion, id CellID) CellUnion {
+	if x.ContainsCellID(id) {
+		return CellUnion{[]CellID{id}}
+	}
+	return CellUnion{x.CellIDsAt(id)}
+}
+
+// CellUnionFromDifference is the union of the leaves of x that y doesn't have.
+func CellUnionFromDifference(x, y CellUnion) CellUnion {
+	const leavesOfAFace = 90 // cells that remain of a face without one leaf
+	room := len(x.ids) + smaller(len(x.ids), len(y.ids)) + leavesOfAFace
+	return x.with(y, room, func(xs *C.uint64_t, nx C.size_t, ys *C.uint64_t, ny C.size_t,
+		out *C.uint64_t, room C.size_t, length *C.size_t) C.int32_t {
+		return C.s2u_difference(xs, nx, ys, ny, out, room, length)
+	})
+}
+
+// Len is the number of cells.
+func (cu CellUnion) Len() int { return len(cu.ids) }
+
+// CellID is the cell at a place, in ascending order. It panics if there is none, as an index does.
+func (cu CellUnion) CellID(place int) CellID { return cu.ids[place] }
+
+// CellIDs is a new list of the cells, in ascending order.
+func (cu CellUnion) CellIDs() []CellID { return CellIDsAs[CellID](cu) }
+
+// CellIDsAs is a new list of the cells in another type, such as golang/geo's CellID or int64.
+func CellIDsAs[N ID](cu CellUnion) []N { return append([]N(nil), sameBits[N](cu.ids)...) }
+
+// IsValid is true: see IsNormalized for lists.
+func (cu CellUnion) IsValid() bool { return true }
+
+// IsNormalized is true: see the function for lists.
+func (cu CellUnion) IsNormalized() bool { return true }
+
+// Equal is whether two unions have the same leaves, and so the same cells.
+func (cu CellUnion) Equal(other CellUnion) bool {
+	xs, nx := place(cu.ids)
+	ys, ny := place(other.ids)
+	return C.s2u_compare(xs, nx, ys, ny) == 0
+}
+
+// ContainsCellID is whether the union has all leaves of a cell. It takes log n steps.
+func (cu CellUnion) ContainsCellID(id CellID) bool {
+	at, n := place(cu.ids)
+	return answer(C.s2u_contains_cell(at, n, C.uint64_t(id)))
+}
+
+// IntersectsCellID is whether the union has a leaf of a cell. It takes log n steps.
+func (cu CellUnion) IntersectsCellID(id CellID) bool {
+	at, n := place(cu.ids)
+	return answer(C.s2u_intersects_cell(at, n, C.uint64_t(id)))
+}
+
+// CellIDsAt is a new list of the cells of the union that share a leaf with a cell. It takes log n steps.
+func (cu CellUnion) CellIDsAt(id CellID) []CellID {
+	at, n := place(cu.ids)
+	var first, count C.size_t
+	answer(C.s2u_cells_at(at, n, C.uint64_t(id), &first, &count))
+	return append([]CellID(nil), cu.ids[first:first+count]...)
+}
+
+// ContainsCellIDs is whether the union has all leaves of each cell in turn. Cells in ascending order are quickest. A
+// PlaceError has the place of the first number that is no cell.
+func (cu CellUnion) ContainsCellIDs(ids ...CellID) ([]bool, error) {
+	at, n := place(cu.ids)
+	return asked(ids, func(cells *C.uint64_t, m C.size_t, answers *C.uint8_t, bad *C.size_t) C.int32_t {
+		return C.s2u_contains_cells(at, n, cells, m, answers, m, bad)
+	})
+}
+
+// IntersectsCellIDs is whether the union has a leaf of each cell in turn, as ContainsCellIDs.
+func (cu CellUnion) IntersectsCellIDs(ids ...CellID) ([]bool, error) {
+	at, n := place(cu.ids)
+	return asked(ids, func(cells *C.uint64_t, m C.size_t, answers *C.uint8_t, bad *C.size_t) C.int32_t {
+		return C.s2u_intersects_cells(at, n, cells, m, answers, m, bad)
+	})
+}
+
+// Contains is whether the union has all leaves of another one.
+func (cu CellUnion) Contains(other CellUnion) bool {
+	xs, nx := place(cu.ids)
+	ys, ny := place(other.ids)
+	return answer(C.s2u_contains(xs, nx, ys, ny))
+}
+
+// Intersects is whether two unions share a leaf.
+func (cu CellUnion) Intersects(other CellUnion) bool {
+	xs, nx := place(cu.ids)
+	ys, ny := place(other.ids)
+	return answer(C.s2u_intersects(xs, nx, ys, ny))
+}
+
+// LeafCellsCovered is how many leaves the union has, of 6 * 4^30.
+func (cu CellUnion) LeafCellsCovered() int64 {
+	at, n := place(cu.ids)
+	return int64(C.s2u_leaf_count(at, n))
+}
+
+// Denormalize is a new list of the cells, each cut to the least level that is at least its own and is minLevel or above
+// it by a multiple of levelMod, which is 1 to 3; to leaves if there is none. ErrArgument. ErrMany: there would be more
+// than most cells; a face has 4^30 leaves.
+func (cu CellUnion) Denormalize(minLevel, levelMod, most int) ([]CellID, error) {
+	at, n := place(cu.ids)
+	min, mod := narrowed(minLevel), narrowed(levelMod)
+	var length C.uint64_t
+	if status := C.s2u_denormalised_len(at, n, min, mod, &length); status != C.S2U_OK {
+		return nil, Error(status)
+	}
+	if length > C.uint64_t(atLeastZero(most)) {
+		return nil, ErrMany
+	}
+	return listed(int(length), func(out *C.uint64_t, room C.size_t, made *C.size_t) C.int32_t {
+		return C.s2u_denormalised(at, n, min, mod, out, room, made)
+	})
+}
+
+// Ancestors is a new list of the cells and all their ancestors, ascending, each once: the keys of an index. Two unions
+// share a leaf exactly if a cell of one is among the ancestors of the other.
+func (cu CellUnion) Ancestors() []CellID {
+	at, n := place(cu.ids)
+	return always(listed(2*len(cu.ids)+30, func(out *C.uint64_t, room C.size_t, length *C.size_t) C.int32_t {
+		return C.s2u_ancestors(at, n, out, room, length)
+	}))
+}
+
+// String is the tokens of the cells, with blanks between them.
+func (cu CellUnion) String() string {
+	at, n := place(cu.ids)
+	return text((C.S2U_MOST_TOKEN+1)*len(cu.ids), func(out *C.char, room C.size_t, length *C.size_t) C.int32_t {
+		return C.s2u_tokens(at, n, out, room, length)
+	})
+}
+
+// MarshalBinary makes the union file: the bytes that S2's own Encode writes in C++, Go and Java. Equal unions have
+// equal files.
+func (cu CellUnion) MarshalBinary() ([]byte, error) {
+	at, n := place(cu.ids)
+	file := make([]byte, sizeOfFile(len(cu.ids)))
+	var length C.size_t
+	out, room := placeOfBytes(file)
+	if status := C.s2u_encode(at, n, out, room, &length); status != C.S2U_OK {
+		return nil, Error(status)
+	}
+	return file, nil
+}
+
+// UnmarshalBinary makes the union that in a union file, whose cells may be in any order. If it is refused, the union
+// stays as it was.
+func (cu *CellUnion) UnmarshalBinary(file []byte) error {
+	union, err := unmarshalled(file)
+	if err == nil {
+		*cu = union
+	}
+	return err
+}
+
+// Encode writes the union file.
+func (cu CellUnion) Encode(w io.Writer) error {
+	file, err := cu.MarshalBinary()
+	if err == nil {
+		_, err = w.Write(file)
+	}
+	return err
+}
+
+// Decode makes the union that in the union file which is read next; what follows it is not read. Refusals are those of
+// UnmarshalBinary, and errors of the reader; an end of it within the file is ErrFileShort.
+func (cu *CellUnion) Decode(r io.Reader) error {
+	var file bytes.Buffer
+	if err := readMore(&file, r, int64(sizeOfFile(0))); err != nil {
+		return err
+	}
+	if file.Bytes()[0] != 1 {
+		return ErrFileVersion
+	}
+	cells := binary.LittleEndian.Uint64(file.Bytes()[1:])
+	if cells >= 1<<59 {
+		return ErrFileShort
+	}
+	if err := readMore(&file, r, int64(8*cells)); err != nil {
+		return err
+	}
+	return cu.UnmarshalBinary(file.Bytes())
+}
+
+// ---- lists of cells
+
+// IsNormalized is whether these are the cells of a union. It takes as many steps as there are cells.
+func IsNormalized[N ID](ids []N) bool { return isNormalized(sameBits[CellID](ids)) }
+
+// Normalize normalizes a list of cells in place, and answers what it has become. A PlaceError has the place of the
+// first number that is no cell, and then the list is as it was.
+func Normalize[N ID](ids []N) ([]N, error) {
+	union, err := normalized(sameBits[CellID](ids))
+	if err != nil {
+		return ids, err
+	}
+	return ids[:len(union.ids)], nil
+}
+
+// ---- inside
+
+const firstFace, lastFace CellID = 0x1000000000000000, 0xb000000000000000
+
+func isNormalized(ids []CellID) bool {
+	at, n := place(ids)
+	return answer(C.s2u_is_union(at, n))
+}
+
+// normalized is the union of a list, which becomes the union's own.
+func normalized(ids []CellID) (CellUnion, error) {
+	at, n := place(ids)
+	var length C.size_t
+	if status := C.s2u_normalise(at, n, &length); status == C.S2U_NO_CELL {
+		return CellUnion{}, &PlaceError{int(length)}
+	} else if status != C.S2U_OK {
+		return CellUnion{}, Error(status)
+	}
+	return CellUnion{ids[:length:length]}, nil
+}
+
+// sameBits is a list of cells in another type, in the same memory.
+func sameBits[To, From ID](ids []From) []To { return *(*[]To)(unsafe.Pointer(&ids)) }
+
+func unmarshalled(file []byte) (CellUnion, error) {
+	at, n := placeOfBytes(file)
+	return made(len(file)/8, func(out *C.uint64_t, room C.size_t, length *C.size_t) C.int32_t {
+		return C.s2u_decode(at, n, out, room, length)
+	})
+}
+
+func made(room int, call func(out *C.uint64_t, room C.size_t, length *C.size_t) C.int32_t) (CellUnion, error) {
+	ids, err := listed(room, call)
+	return CellUnion{ids}, err
+}
+
+// with is the union that a call makes of two.
+func (cu CellUnion) with(other CellUnion, room int, call func(xs *C.uint64_t, nx C.size_t, ys *C.uint64_t, ny C.size_t,
+	out *C.uint64_t, room C.size_t, length *C.size_t) C.int32_t) CellUnion {
+	xs, nx := place(cu.ids)
+	ys, ny := place(other.ids)
+	return always(made(room, func(out *C.uint64_t, room C.size_t, length *C.size_t) C.int32_t {
+		return call(xs, nx, ys, ny, out, room, length)
+	}))
+}
+
+func asked(ids []CellID, call func(cells *C.uint64_t, m C.size_t, answers *C.uint8_t, bad *C.size_t) C.int32_t) (
+	[]bool, error) {
+	found := make([]byte, len(ids))
+	cells, m := place(ids)
+	answers, _ := placeOfBytes(found)
+	var bad C.size_t
+	if status := call(cells, m, answers, &bad); status == C.S2U_NO_CELL {
+		return nil, &PlaceError{int(bad)}
+	} else if status != C.S2U_OK {
+		return nil, Error(status)
+	}
+	told := make([]bool, len(found))
+	for k, one := range found {
+		told[k] = one == 1
+	}
+	return told, nil
+}
+
+// sizeOfFile is how many bytes the file of n cells has.
+func sizeOfFile(n int) int { return 9 + 8*n }
+
+// readMore reads so many bytes. It takes memory for what has come, not for what was promised.
+func readMore(file *bytes.Buffer, r io.Reader, count int64) error {
+	_, err := io.CopyN(file, r, count)
+	if errors.Is(err, io.EOF) {
+		return ErrFileShort
+	}
+	return err
+}
+
+func smaller(a, b int) int {
+	if a < b {
+		return a
+	}
+	return b
+}

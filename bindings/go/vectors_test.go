@@ -1,0 +1,321 @@
+package s2union_test
+
+import (
+	"bufio"
+	"bytes"
+	"encoding/hex"
+	"errors"
+	"fmt"
+	"os"
+	"strconv"
+	"strings"
+	"testing"
+
+	"s2union"
+)
+
+type (
+	CellID    = s2union.CellID
+	CellUnion = s2union.CellUnion
+)
+
+// TestVectors asks the questions of bindings/tests/vectors.py, in the file that S2UNION_VECTORS names, and compares the
+// answers with those of the plain model.
+func TestVectors(t *testing.T) {
+	path := os.Getenv("S2UNION_VECTORS")
+	if path == "" {
+		t.Skip("S2UNION_VECTORS is not set")
+	}
+	file, err := os.Open(path)
+	if err != nil {
+		t.Fatal(err)
+	}
+	defer file.Close()
+	asked := map[string]bool{}
+	lines := bufio.NewScanner(file)
+	for lines.Scan() {
+		fields := strings.Split(lines.Text(), "\t")
+		call, last := fields[0], len(fields)-1
+		question, known := questions[call]
+		if !known {
+			t.Fatalf("there is no call %s", call)
+		}
+		asked[call] = true
+		if found := ask(question, fields[1:last]); found != fields[last] {
+			t.Errorf("%s %q is %q, not %q", call, fields[1:last], found, fields[last])
+		}
+	}
+	if lines.Err() != nil {
+		t.Fatal(lines.Err())
+	}
+	if len(asked) != len(questions) {
+		t.Errorf("%d calls were asked, of %d", len(asked), len(questions))
+	}
+}
+
+// given are the arguments of a question.
+type given []string
+
+func (texts given) cell(place int) CellID {
+	id, _ := strconv.ParseUint(texts[place], 16, 64)
+	return CellID(id)
+}
+
+func (texts given) cells(place int) []CellID {
+	ids := []CellID{}
+	for _, text := range strings.Fields(texts[place]) {
+		ids = append(ids, given{text}.cell(0))
+	}
+	return ids
+}
+
+func (texts given) union(place int) CellUnion {
+	union, err := s2union.CellUnionFromNormalized(texts.cells(place)...)
+	if err != nil {
+		panic(fmt.Sprint(err, texts))
+	}
+	return union
+}
+
+func (texts given) file(place int) s2union.UnionFile {
+	return must(s2union.NewUnionFile(must(texts.union(place).MarshalBinary())))
+}
+
+func (texts given) bytes(place int) []byte { return must(hex.DecodeString(texts[place])) }
+
+func (texts given) numbers(place int) []int {
+	numbers := []int{}
+	for _, text := range strings.Fields(texts[place]) {
+		numbers = append(numbers, must(strconv.Atoi(text)))
+	}
+	return numbers
+}
+
+func (texts given) rect(place int) s2union.Rect {
+	corners := texts.numbers(place)
+	return s2union.Rect{Face: corners[0], I0: corners[1], I1: corners[2], J0: corners[3], J1: corners[4]}
+}
+
+func must[T any](value T, err error) T {
+	if err != nil {
+		panic(err)
+	}
+	return value
+}
+
+// ask is the answer to a question. The only panics that are answers are those of cells that there are not.
+func ask(question func(given) string, texts given) (answer string) {
+	defer func() {
+		if said := recover(); said == s2union.ErrArgument {
+			answer = "none"
+		} else if said != nil {
+			panic(said)
+		}
+	}()
+	return question(texts)
+}
+
+const most = 100_000 // cells of a list
+
+var questions = map[string]func(given) string{
+	"is_cell":     func(g given) string { return shown(g.cell(0).IsValid()) },
+	"level":       func(g given) string { return shown(g.cell(0).Level()) },
+	"face":        func(g given) string { return shown(g.cell(0).Face()) },
+	"range_min":   func(g given) string { return shown(g.cell(0).RangeMin()) },
+	"range_max":   func(g given) string { return shown(g.cell(0).RangeMax()) },
+	"size":        func(g given) string { return shown(g.cell(0).LeafCellsCovered()) },
+	"next":        func(g given) string { return shown(g.cell(0).Next()) },
+	"previous":    func(g given) string { return shown(g.cell(0).Prev()) },
+	"parent":      func(g given) string { return shown(g.cell(0).Parent(g.numbers(1)[0])) },
+	"token":       func(g given) string { return g.cell(0).ToToken() },
+	"debug":       func(g given) string { return g.cell(0).String() },
+	"from_token":  func(g given) string { return shown(s2union.CellIDFromToken(string(g.bytes(0)))) },
+	"from_debug":  func(g given) string { return shown(s2union.CellIDFromString(string(g.bytes(0)))) },
+	"contains":    func(g given) string { return shown(g.cell(0).Contains(g.cell(1))) },
+	"intersects":  func(g given) string { return shown(g.cell(0).Intersects(g.cell(1))) },
+	"normalise":   func(g given) string { return same(shown(s2union.NewCellUnion(g.cells(0)...)), normalised(g)) },
+	"is_union":    isUnion,
+	"tokens":      func(g given) string { return shown([]byte(g.union(0).String())) },
+	"from_tokens": func(g given) string { return shown(s2union.CellUnionFromTokens(string(g.bytes(0)))) },
+	"leaf_count": func(g given) string {
+		return twice(g, CellUnion.LeafCellsCovered, s2union.UnionFile.LeafCellsCovered)
+	},
+	"ancestors":    func(g given) string { return twice(g, CellUnion.Ancestors, s2union.UnionFile.Ancestors) },
+	"cells_at":     func(g given) string { return shown(g.union(0).CellIDsAt(g.cell(1))) },
+	"range":        func(g given) string { return shown(s2union.RangeUnion(g.cell(0), g.cell(1))) },
+	"leaves":       func(g given) string { return shown(s2union.CellUnionFromRange(g.cell(0), g.cell(1))) },
+	"union":        func(g given) string { return shown(s2union.CellUnionFromUnion(g.union(0), g.union(1))) },
+	"intersection": func(g given) string { return shown(s2union.CellUnionFromIntersection(g.union(0), g.union(1))) },
+	"difference":   func(g given) string { return shown(s2union.CellUnionFromDifference(g.union(0), g.union(1))) },
+	"outer":        func(g given) string { return shown(g.union(0).Covering(g.numbers(1)[0], most)) },
+	"inner":        func(g given) string { return shown(g.union(0).InteriorCovering(g.numbers(1)[0], most)) },
+	"encode":       func(g given) string { return same(shown(g.union(0).MarshalBinary()), encoded(g.union(0))) },
+	"decode":       func(g given) string { return same(unmarshalled(g.bytes(0)), decoded(g.bytes(0))) },
+	"contains_cell": func(g given) string {
+		return same(shown(g.union(0).ContainsCellID(g.cell(1))), shown(g.file(0).ContainsCellID(g.cell(1))))
+	},
+	"intersects_cell": func(g given) string {
+		return same(shown(g.union(0).IntersectsCellID(g.cell(1))), shown(g.file(0).IntersectsCellID(g.cell(1))))
+	},
+	"union_contains": func(g given) string {
+		return same(shown(g.union(0).Contains(g.union(1))), shown(g.file(0).Contains(g.file(1))))
+	},
+	"union_intersects": func(g given) string {
+		return same(shown(g.union(0).Intersects(g.union(1))), shown(g.file(0).Intersects(g.file(1))))
+	},
+	"contains_cells":   func(g given) string { return shown(g.union(0).ContainsCellIDs(g.cells(1)...)) },
+	"intersects_cells": func(g given) string { return shown(g.union(0).IntersectsCellIDs(g.cells(1)...)) },
+	"intersection_with_cell": func(g given) string {
+		return shown(s2union.CellUnionFromIntersectionWithCellID(g.union(0), g.cell(1)))
+	},
+	"symmetric_difference": func(g given) string {
+		x, y := g.union(0), g.union(1)
+		less, more := s2union.CellUnionFromDifference(x, y), s2union.CellUnionFromDifference(y, x)
+		return shown(s2union.CellUnionFromUnion(less, CellUnion{}, more))
+	},
+	"children": func(g given) string {
+		children := g.cell(0).Children()
+		return shown(children[:])
+	},
+	"square": func(g given) string {
+		face, i, j, side := g.cell(0).Square()
+		return fmt.Sprint(face, i, j, side)
+	},
+	"from_face_ij": func(g given) string {
+		numbers := g.numbers(0)
+		return shown(s2union.CellIDFromFaceIJ(numbers[0], numbers[1], numbers[2]))
+	},
+	"common_ancestor": func(g given) string {
+		ancestor, found := g.cell(0).CommonAncestor(g.cell(1))
+		level, same := g.cell(0).CommonAncestorLevel(g.cell(1))
+		if found != same || (found && level != ancestor.Level()) {
+			return "another level"
+		}
+		return shown(ancestor)
+	},
+	"denormalised": func(g given) string {
+		numbers := g.numbers(1)
+		return shown(g.union(0).Denormalize(numbers[0], numbers[1], most))
+	},
+	"outer_of_rectangle": func(g given) string { return shown(g.rect(0).Covering(g.numbers(1)[0], most)) },
+	"inner_of_rectangle": func(g given) string { return shown(g.rect(0).InteriorCovering(g.numbers(1)[0], most)) },
+	"file_check":         fileCheck,
+}
+
+// twice asks a union and its file the same.
+func twice[T any](g given, union func(CellUnion) T, file func(s2union.UnionFile) T) string {
+	return same(shown(union(g.union(0))), shown(file(g.file(0))))
+}
+
+func same(one, other string) string {
+	if one != other {
+		return one + ", and " + other
+	}
+	return one
+}
+
+// normalised is what Normalize makes of a list. A list that is refused must be as it was.
+func normalised(g given) string {
+	ids := g.cells(0)
+	made, err := s2union.Normalize(ids)
+	if err != nil && shown(ids) != shown(g.cells(0)) {
+		return "changed"
+	}
+	return shown(made, err)
+}
+
+func isUnion(g given) string {
+	_, err := s2union.CellUnionFromNormalized(g.cells(0)...)
+	return same(shown(s2union.IsNormalized(g.cells(0))), shown(err == nil))
+}
+
+func encoded(union CellUnion) string {
+	var written bytes.Buffer
+	err := union.Encode(&written)
+	return shown(written.Bytes(), err)
+}
+
+func unmarshalled(file []byte) string {
+	var union CellUnion
+	err := union.UnmarshalBinary(file)
+	return shown(union, err)
+}
+
+// decoded reads a file, and what follows it.
+func decoded(file []byte) string {
+	var union CellUnion
+	reader := bytes.NewReader(file)
+	err := union.Decode(reader)
+	if err == nil && reader.Len() > 0 {
+		err = s2union.ErrFileTrailing
+	}
+	return shown(union, err)
+}
+
+func fileCheck(g given) string {
+	file, err := s2union.NewUnionFile(g.bytes(0))
+	if err == s2union.ErrNotNormalized {
+		return "no"
+	}
+	if err != nil {
+		return shown(false, err)
+	}
+	union := file.CellUnion()
+	for place := 0; place < file.Len(); place++ {
+		if file.CellID(place) != union.CellID(place) {
+			return "another cell"
+		}
+	}
+	return shown(file.Len() == union.Len())
+}
+
+var names = map[s2union.Error]string{
+	s2union.ErrNoCell: "no_cell", s2union.ErrArgument: "argument", s2union.ErrMany: "many",
+	s2union.ErrFileShort: "file_short", s2union.ErrFileVersion: "file_version",
+	s2union.ErrFileTrailing: "file_trailing", s2union.ErrFileCell: "file_cell",
+}
+
+// shown is a value as vectors.py shows it, or an error that comes with it.
+func shown(value any, errs ...error) string {
+	for _, err := range errs {
+		var refusal s2union.Error
+		var place *s2union.PlaceError
+		if errors.As(err, &place) {
+			return fmt.Sprintf("!%s %d", names[s2union.ErrNoCell], place.Place)
+		} else if errors.As(err, &refusal) {
+			return "!" + names[refusal]
+		} else if err != nil {
+			return err.Error()
+		}
+	}
+	switch value := value.(type) {
+	case bool:
+		if value {
+			return "yes"
+		}
+		return "no"
+	case CellID:
+		if value == 0 {
+			return "none"
+		}
+		return strconv.FormatUint(uint64(value), 16)
+	case CellUnion:
+		return shown(value.CellIDs())
+	case []CellID:
+		return joined(value)
+	case []bool:
+		return joined(value)
+	case []byte:
+		return hex.EncodeToString(value)
+	default:
+		return fmt.Sprint(value)
+	}
+}
+
+func joined[T any](values []T) string {
+	texts := []string{}
+	for _, value := range values {
+		texts = append(texts, shown(value))
+	}
+	return strings.Join(texts, " ")
+}

@@ -1,0 +1,59 @@
+use crate::calls;
+use crate::error::Error;
+use crate::union::CellUnion;
+
+/// The most cells that a covering may have.
+pub const MOST_COVERING: usize = calls::MOST_COVERING;
+
+/// The leaves of a face with `i0 <= i <= i1` and `j0 <= j <= j1`, all below 2^30.
+///
+/// ```
+/// use s2union::Rect;
+///
+/// let edge = Rect { face: 0, i0: 0, i1: (1 << 30) - 1, j0: 0, j1: 0 };
+/// assert_eq!(edge.outer(1, 10)?.to_string(), "04 1c");
+/// assert!(edge.inner(1, 10)?.is_empty());
+/// # Ok::<(), s2union::Error>(())
+/// ```
+#[derive(Clone, Copy, Debug, PartialEq, Eq, Hash)]
+pub struct Rect {
+    /// 0 to 5.
+    pub face: u32,
+    /// The least first coordinate.
+    pub i0: u32,
+    /// The greatest first coordinate.
+    pub i1: u32,
+    /// The least second coordinate.
+    pub j0: u32,
+    /// The greatest second coordinate.
+    pub j1: u32,
+}
+
+impl Rect {
+    /// The cells of a level that share a leaf with the rectangle. [`Error::Argument`], [`Error::Memory`].
+    /// [`Error::Many`]: there would be more than `most` cells, or more than [`MOST_COVERING`].
+    pub fn outer(&self, level: u32, most: usize) -> Result<CellUnion, Error> {
+        CellUnion::made(calls::outer(&self.corners(), level, most))
+    }
+
+    /// The cells of a level that lie in the rectangle, as `outer`.
+    pub fn inner(&self, level: u32, most: usize) -> Result<CellUnion, Error> {
+        CellUnion::made(calls::inner(&self.corners(), level, most))
+    }
+
+    fn corners(&self) -> calls::Corners {
+        calls::Corners { face: self.face, i0: self.i0, i1: self.i1, j0: self.j0, j1: self.j1 }
+    }
+}
+
+impl CellUnion {
+    /// The cells of a level that share a leaf with the union, as that of a [`Rect`].
+    pub fn outer(&self, level: u32, most: usize) -> Result<CellUnion, Error> {
+        CellUnion::made(calls::outer_of(self.as_ref(), level, most))
+    }
+
+    /// The cells of a level that lie in the union, as `outer`.
+    pub fn inner(&self, level: u32, most: usize) -> Result<CellUnion, Error> {
+        CellUnion::made(calls::inner_of(self.as_ref(), level, most))
+    }
+}

@@ -1,0 +1,87 @@
+use crate::calls;
+use crate::cell::CellId;
+use crate::error::Error;
+use crate::union::{cells_of, CellUnion};
+
+/// The bytes of a union file, which answer questions in place, as in a mapped file or a row of a table: nothing is
+/// copied.
+///
+/// ```
+/// use s2union::{CellUnion, UnionFile};
+///
+/// let bytes = "04 0c".parse::<CellUnion>()?.encode()?;
+/// let file = UnionFile::new(&bytes)?;
+/// assert!(file.len() == 2 && file.contains_cell("0401".parse()?));
+/// # Ok::<(), s2union::Error>(())
+/// ```
+#[derive(Clone, Copy)]
+pub struct UnionFile<'a> {
+    bytes: &'a [u8], // the file that `encode` makes of some union
+}
+
+impl<'a> UnionFile<'a> {
+    /// Checks the bytes once: they must be those that [`CellUnion::encode`] makes of some union. [`Error::FileShort`]
+    /// and the others of files; [`Error::NotNormalized`]: [`CellUnion::decode`] takes it.
+    pub fn new(bytes: &'a [u8]) -> Result<UnionFile<'a>, Error> {
+        match calls::file_check(bytes) {
+            0 => Err(Error::NotNormalized),
+            status => Error::of(status, 0).map(|()| UnionFile { bytes }),
+        }
+    }
+
+    /// How many cells the union has.
+    pub fn len(&self) -> usize {
+        let mut count = 0;
+        calls::file_count(self.bytes, &mut count);
+        count as usize
+    }
+
+    /// Whether the union has no leaf.
+    pub fn is_empty(&self) -> bool {
+        self.len() == 0
+    }
+
+    /// The cell at a place, in ascending order, if there is one.
+    pub fn cell(&self, place: usize) -> Option<CellId> {
+        let mut id = 0;
+        calls::file_cell(self.bytes, place as u64, &mut id);
+        CellId::made(id)
+    }
+
+    /// How many leaves the union has.
+    pub fn leaf_count(&self) -> u64 {
+        let mut leaves = 0;
+        calls::file_leaf_count(self.bytes, &mut leaves);
+        leaves
+    }
+
+    /// Whether the union has all leaves of a cell. It takes log n steps.
+    pub fn contains_cell(&self, cell: CellId) -> bool {
+        calls::file_contains_cell(self.bytes, cell.id()) == 1
+    }
+
+    /// Whether the union has a leaf of a cell. It takes log n steps.
+    pub fn intersects_cell(&self, cell: CellId) -> bool {
+        calls::file_intersects_cell(self.bytes, cell.id()) == 1
+    }
+
+    /// Whether the union has all leaves of the union in another file.
+    pub fn contains(&self, other: &UnionFile<'_>) -> bool {
+        calls::file_contains(self.bytes, other.bytes) == 1
+    }
+
+    /// Whether the unions of two files share a leaf.
+    pub fn intersects(&self, other: &UnionFile<'_>) -> bool {
+        calls::file_intersects(self.bytes, other.bytes) == 1
+    }
+
+    /// [`CellUnion::ancestors`] of the union. [`Error::Memory`].
+    pub fn ancestors(&self) -> Result<Vec<CellId>, Error> {
+        calls::file_ancestors(self.bytes).map(cells_of)
+    }
+
+    /// The union, copied. [`Error::Memory`].
+    pub fn to_union(&self) -> Result<CellUnion, Error> {
+        CellUnion::decode(self.bytes)
+    }
+}

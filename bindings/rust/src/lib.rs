@@ -1,0 +1,43 @@
+//! The cell unions of S2, proved: a set of leaf cells of the sphere as the one normalized list of cells that covers it.
+//! All work is done by the library libs2union, whose every call is proved; this crate turns its statuses into errors,
+//! and does no arithmetic on cells.
+//!
+//! ```
+//! use s2union::{CellUnion, CellId};
+//!
+//! let park: CellUnion = "04 0c 14 1c".parse()?; // four siblings are their parent
+//! let pond: CellUnion = "14".parse()?;
+//! let lawn = &park - &pond;
+//! assert_eq!((park.to_string(), lawn.to_string()), ("1".into(), "04 0c 1c".into()));
+//!
+//! let tree: CellId = "0401".parse()?;
+//! assert!(lawn.contains_cell(tree) && !pond.contains_cell(tree) && lawn.is_subset(&park));
+//! # Ok::<(), s2union::Error>(())
+//! ```
+//!
+//! A [`CellId`] is always a cell, and a [`CellUnion`] is always normalized and never changes, so only what comes from
+//! outside can be refused: numbers, lists, texts, files, levels. The operators `|`, `&`, `-` and `^`, `collect`, and
+//! whatever else has no [`Error`] to tell take memory as [`Vec`] does; the methods `union`, `intersection`,
+//! `difference` and `symmetric_difference` answer [`Error::Memory`] if there is none. There is no geometry: no points,
+//! areas or bounds.
+#![warn(missing_docs)]
+
+mod calls;
+mod cell;
+mod covering;
+mod error;
+mod file;
+mod operators;
+mod union;
+
+pub use cell::{CellId, Square};
+pub use covering::{Rect, MOST_COVERING};
+pub use error::Error;
+pub use file::UnionFile;
+pub use union::CellUnion;
+
+/// The version of the library, as "1.0.0".
+pub fn version() -> String {
+    let version = calls::version();
+    format!("{}.{}.{}", version / 10_000, version / 100 % 100, version % 100)
+}

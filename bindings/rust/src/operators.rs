@@ -1,0 +1,73 @@
+//! A union as a collection of cells, and as a set with operators.
+
+use std::ops::{BitAnd, BitOr, BitXor, Sub};
+
+use crate::cell::CellId;
+use crate::error::Error;
+use crate::union::CellUnion;
+
+macro_rules! operator {
+    ($trait:ident, $name:ident, $method:ident) => {
+        /// Takes memory as [`Vec`] does.
+        impl $trait for &CellUnion {
+            type Output = CellUnion;
+            fn $name(self, other: &CellUnion) -> CellUnion {
+                self.$method(other).unwrap_or_else(|error: Error| panic!("{error}"))
+            }
+        }
+        impl $trait for CellUnion {
+            type Output = CellUnion;
+            fn $name(self, other: CellUnion) -> CellUnion {
+                (&self).$name(&other)
+            }
+        }
+    };
+}
+operator!(BitOr, bitor, union);
+operator!(BitAnd, bitand, intersection);
+operator!(Sub, sub, difference);
+operator!(BitXor, bitxor, symmetric_difference);
+
+/// Takes memory as [`Vec`] does.
+impl FromIterator<CellId> for CellUnion {
+    fn from_iter<I: IntoIterator<Item = CellId>>(cells: I) -> CellUnion {
+        CellUnion::from_cells(cells.into_iter().collect())
+    }
+}
+
+/// The union of unions, made at once.
+impl<'a> FromIterator<&'a CellUnion> for CellUnion {
+    fn from_iter<I: IntoIterator<Item = &'a CellUnion>>(unions: I) -> CellUnion {
+        unions.into_iter().flatten().collect()
+    }
+}
+
+/// The union of unions, made at once.
+impl FromIterator<CellUnion> for CellUnion {
+    fn from_iter<I: IntoIterator<Item = CellUnion>>(unions: I) -> CellUnion {
+        unions.into_iter().flatten().collect()
+    }
+}
+
+impl IntoIterator for CellUnion {
+    type Item = CellId;
+    type IntoIter = std::vec::IntoIter<CellId>;
+    fn into_iter(self) -> Self::IntoIter {
+        self.into_cells().into_iter()
+    }
+}
+
+impl<'a> IntoIterator for &'a CellUnion {
+    type Item = CellId;
+    type IntoIter = std::iter::Copied<std::slice::Iter<'a, CellId>>;
+    fn into_iter(self) -> Self::IntoIter {
+        self.iter()
+    }
+}
+
+/// The union of the leaves of one cell.
+impl From<CellId> for CellUnion {
+    fn from(cell: CellId) -> CellUnion {
+        CellUnion::from_cells(vec![cell])
+    }
+}

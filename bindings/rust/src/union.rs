@@ -1,0 +1,325 @@
+use std::fmt;
+use std::str::FromStr;
+
+use crate::calls;
+use crate::cell::{text, CellId};
+use crate::error::Error;
+
+/// A set of leaves, as the one normalized list of cells that covers it: S2's `S2CellUnion`. It never changes.
+///
+/// As a set it has the operators `|`, `&`, `-` and `^`; as a list, iterators in ascending order. Equal sets are equal
+/// lists, and have equal hashes and files. The order of unions is that of their lists, for maps and for sorting.
+///
+/// ```
+/// use s2union::{CellId, CellUnion};
+/// use std::collections::HashMap;
+///
+/// let (lawn, pond): (CellUnion, CellUnion) = ("04 0c 1c".parse()?, "14".parse()?);
+/// assert_eq!(&lawn | &pond, CellUnion::from(CellId::from_face(0)?));
+/// assert_eq!((&lawn & &pond).is_empty(), lawn.is_disjoint(&pond));
+///
+/// let levels: Vec<u32> = lawn.iter().map(CellId::level).collect();
+/// assert_eq!(levels, [1, 1, 1]);
+/// let park: CellUnion = lawn.iter().chain(&pond).collect(); // of cells, in any order; or of unions
+/// let names = HashMap::from([(park, "park")]);
+/// assert_eq!(names[&[lawn, pond].iter().collect::<CellUnion>()], "park");
+/// # Ok::<(), s2union::Error>(())
+/// ```
+#[derive(Clone, Default, PartialEq, Eq, PartialOrd, Ord, Hash)]
+pub struct CellUnion {
+    cells: Vec<CellId>, // normalized
+}
+
+impl CellUnion {
+    /// The empty union.
+    pub fn new() -> CellUnion {
+        CellUnion::default()
+    }
+
+    /// The union of cells in any order, repeated, or inside one another. It takes no memory.
+    pub fn from_cells(cells: Vec<CellId>) -> CellUnion {
+        CellUnion::from_ids(numbers_of(cells)).expect("cells are cells")
+    }
+
+    /// The same of numbers, which may be none of cells: [`Error::NoCell`] has the place of the first one.
+    ///
+    /// ```
+    /// use s2union::{CellUnion, Error};
+    ///
+    /// let half = CellUnion::from_ids([0x0c00000000000000, 0x0400000000000000, 0x0c00000000000000])?;
+    /// assert_eq!(half.to_string(), "04 0c");
+    /// assert_eq!(CellUnion::from_ids([0x0400000000000000, 2]), Err(Error::NoCell { place: 1 }));
+    /// # Ok::<(), s2union::Error>(())
+    /// ```
+    pub fn from_ids(ids: impl Into<Vec<u64>>) -> Result<CellUnion, Error> {
+        let mut ids = ids.into();
+        calls::normalise(&mut ids)?;
+        Ok(CellUnion { cells: cells_of(ids) })
+    }
+
+    /// The union whose cells these are. [`Error::NotNormalized`]. It takes as many steps as there are cells.
+    pub fn from_normalized(cells: Vec<CellId>) -> Result<CellUnion, Error> {
+        if is_normalized(&cells) {
+            Ok(CellUnion { cells })
+        } else {
+            Err(Error::NotNormalized)
+        }
+    }
+
+    /// All leaves from the first of one cell to the last of another, also across faces. [`Error::Argument`]: the last
+    /// leaf comes before the first.
+    pub fn from_range(first: CellId, last: CellId) -> Result<CellUnion, Error> {
+        CellUnion::made(calls::range(first.id(), last.id()))
+    }
+
+    /// The leaves from `begin` up to `end`, which is not one of them; all from `begin` if there is no `end`.
+    /// [`Error::Argument`]: one is no leaf, or `end` comes first.
+    pub fn from_begin_end(begin: CellId, end: Option<CellId>) -> Result<CellUnion, Error> {
+        let last = match end {
+            Some(end) if end == begin && end.is_leaf() => return Ok(CellUnion::new()),
+            Some(end) if end.is_leaf() => end.prev().ok_or(Error::Argument)?,
+            Some(_) => return Err(Error::Argument),
+            None => CellId::from_face(5)?.range_max(),
+        };
+        if begin.is_leaf() {
+            CellUnion::from_range(begin, last)
+        } else {
+            Err(Error::Argument)
+        }
+    }
+
+    /// All leaves.
+    pub fn whole_sphere() -> CellUnion {
+        (0..6).map(|face| CellId::from_face(face).expect("there are six faces")).collect()
+    }
+
+    /// How many cells the union has.
+    pub fn len(&self) -> usize {
+        self.cells.len()
+    }
+
+    /// Whether the union has no leaf.
+    pub fn is_empty(&self) -> bool {
+        self.cells.is_empty()
+    }
+
+    /// The cells, in ascending order.
+    pub fn cells(&self) -> &[CellId] {
+        &self.cells
+    }
+
+    /// The cells themselves.
+    pub fn into_cells(self) -> Vec<CellId> {
+        self.cells
+    }
+
+    /// An iterator over the cells, in ascending order.
+    pub fn iter(&self) -> std::iter::Copied<std::slice::Iter<'_, CellId>> {
+        self.cells.iter().copied()
+    }
+
+    // ---- as a set of leaves
+
+    /// Whether the union has all leaves of a cell. It takes log n steps.
+    pub fn contains_cell(&self, cell: CellId) -> bool {
+        calls::contains_cell(self.as_ref(), cell.id()) == 1
+    }
+
+    /// Whether the union has a leaf of a cell. It takes log n steps.
+    pub fn intersects_cell(&self, cell: CellId) -> bool {
+        calls::intersects_cell(self.as_ref(), cell.id()) == 1
+    }
+
+    /// Whether the union has all leaves of each cell in turn. Cells in ascending order are quickest.
+    pub fn contains_cells(&self, cells: &[CellId]) -> Vec<bool> {
+        calls::contains_cells(self.as_ref(), numbers(cells))
+    }
+
+    /// Whether the union has a leaf of each cell in turn.
+    pub fn intersects_cells(&self, cells: &[CellId]) -> Vec<bool> {
+        calls::intersects_cells(self.as_ref(), numbers(cells))
+    }
+
+    /// The cells of the union that share a leaf with a cell. It takes log n steps.
+    pub fn cells_at(&self, cell: CellId) -> &[CellId] {
+        let (mut first, mut count) = (0, 0);
+        calls::cells_at(self.as_ref(), cell.id(), &mut first, &mut count);
+        &self.cells[first..first + count]
+    }
+
+    /// Whether the union has all leaves of another one.
+    pub fn contains(&self, other: &CellUnion) -> bool {
+        calls::contains(self.as_ref(), other.as_ref()) == 1
+    }
+
+    /// Whether two unions share a leaf.
+    pub fn intersects(&self, other: &CellUnion) -> bool {
+        calls::intersects(self.as_ref(), other.as_ref()) == 1
+    }
+
+    /// `contains`, by the name that sets have for it.
+    pub fn is_superset(&self, other: &CellUnion) -> bool {
+        self.contains(other)
+    }
+
+    /// Whether another union has all leaves of this one.
+    pub fn is_subset(&self, other: &CellUnion) -> bool {
+        other.contains(self)
+    }
+
+    /// Whether two unions share no leaf.
+    pub fn is_disjoint(&self, other: &CellUnion) -> bool {
+        !self.intersects(other)
+    }
+
+    /// The leaves of both. [`Error::Memory`].
+    pub fn union(&self, other: &CellUnion) -> Result<CellUnion, Error> {
+        CellUnion::made(calls::union(self.as_ref(), other.as_ref()))
+    }
+
+    /// The leaves that both have. [`Error::Memory`].
+    pub fn intersection(&self, other: &CellUnion) -> Result<CellUnion, Error> {
+        CellUnion::made(calls::intersection(self.as_ref(), other.as_ref()))
+    }
+
+    /// The leaves of a cell that the union has. [`Error::Memory`].
+    pub fn intersection_with_cell(&self, cell: CellId) -> Result<CellUnion, Error> {
+        let found = if self.contains_cell(cell) { std::slice::from_ref(&cell) } else { self.cells_at(cell) };
+        let mut cells = calls::roomy(found.len())?;
+        cells.extend_from_slice(found);
+        Ok(CellUnion { cells })
+    }
+
+    /// The leaves that the other doesn't have. [`Error::Memory`].
+    pub fn difference(&self, other: &CellUnion) -> Result<CellUnion, Error> {
+        CellUnion::made(calls::difference(self.as_ref(), other.as_ref()))
+    }
+
+    /// The leaves that one of them has, and not the other. [`Error::Memory`].
+    pub fn symmetric_difference(&self, other: &CellUnion) -> Result<CellUnion, Error> {
+        self.difference(other)?.union(&other.difference(self)?)
+    }
+
+    /// How many leaves the union has, of 6 * 4^30.
+    pub fn leaf_count(&self) -> u64 {
+        calls::leaf_count(self.as_ref())
+    }
+
+    /// The cells, each cut to the least level that is at least its own and is `min_level` or above it by a multiple of
+    /// `modulus`, which is 1 to 3; to leaves if there is none. [`Error::Argument`], [`Error::Memory`]. [`Error::Many`]:
+    /// there would be more than `most` cells.
+    ///
+    /// ```
+    /// use s2union::{CellUnion, Error};
+    ///
+    /// let face: CellUnion = "1".parse()?;
+    /// let quarters: Vec<String> = face.denormalized(1, 1, 100)?.iter().map(|cell| cell.token()).collect();
+    /// assert_eq!(quarters, ["04", "0c", "14", "1c"]);
+    /// assert_eq!(face.denormalized_len(30, 1)?, 1 << 60);
+    /// assert_eq!(face.denormalized(30, 1, 100), Err(Error::Many));
+    /// # Ok::<(), s2union::Error>(())
+    /// ```
+    pub fn denormalized(&self, min_level: u32, modulus: u32, most: usize) -> Result<Vec<CellId>, Error> {
+        if self.denormalized_len(min_level, modulus)? > most as u64 {
+            return Err(Error::Many);
+        }
+        calls::denormalised(self.as_ref(), min_level, modulus).map(cells_of)
+    }
+
+    /// How many cells `denormalized` makes. [`Error::Argument`].
+    pub fn denormalized_len(&self, min_level: u32, modulus: u32) -> Result<u64, Error> {
+        let mut len = 0;
+        Error::of(calls::denormalised_len(self.as_ref(), min_level, modulus, &mut len), 0)?;
+        Ok(len)
+    }
+
+    /// The cells and all their ancestors, ascending, each once: the keys of an index. Two unions share a leaf exactly
+    /// if a cell of one is among the ancestors of the other. [`Error::Memory`].
+    ///
+    /// ```
+    /// let pond: s2union::CellUnion = "14".parse()?;
+    /// assert_eq!(format!("{:?}", pond.ancestors()?), "[0/, 0/2]");
+    /// # Ok::<(), s2union::Error>(())
+    /// ```
+    pub fn ancestors(&self) -> Result<Vec<CellId>, Error> {
+        calls::ancestors(self.as_ref()).map(cells_of)
+    }
+
+    /// The union file: the bytes that S2's own `Encode` writes. [`Error::Memory`].
+    pub fn encode(&self) -> Result<Vec<u8>, Error> {
+        calls::encode(self.as_ref())
+    }
+
+    /// The union in a union file, whose cells may be in any order. [`Error::FileShort`] and the others of files,
+    /// [`Error::Memory`].
+    ///
+    /// ```
+    /// use s2union::{CellUnion, Error};
+    ///
+    /// let union: CellUnion = "04 0c".parse()?;
+    /// let bytes = union.encode()?;
+    /// assert_eq!((bytes.len(), CellUnion::decode(&bytes)?), (25, union));
+    /// assert_eq!(CellUnion::decode(&bytes[..24]), Err(Error::FileShort));
+    /// # Ok::<(), s2union::Error>(())
+    /// ```
+    pub fn decode(bytes: &[u8]) -> Result<CellUnion, Error> {
+        CellUnion::made(calls::decode(bytes))
+    }
+
+    /// The union whose normalized list a call has made.
+    pub(crate) fn made(ids: Result<Vec<u64>, Error>) -> Result<CellUnion, Error> {
+        Ok(CellUnion { cells: cells_of(ids?) })
+    }
+}
+
+/// Whether these are the cells of a union. It takes as many steps as there are cells.
+fn is_normalized(cells: &[CellId]) -> bool {
+    calls::is_union(numbers(cells)) == 1
+}
+
+fn numbers(cells: &[CellId]) -> &[u64] {
+    // SAFETY: a cell has the layout of its number.
+    unsafe { std::slice::from_raw_parts(cells.as_ptr().cast(), cells.len()) }
+}
+
+/// The cells of numbers that a call has made, which are cells.
+pub(crate) fn cells_of(ids: Vec<u64>) -> Vec<CellId> {
+    let mut ids = std::mem::ManuallyDrop::new(ids);
+    // SAFETY: a cell has the layout of its number, which is not 0.
+    unsafe { Vec::from_raw_parts(ids.as_mut_ptr().cast(), ids.len(), ids.capacity()) }
+}
+
+fn numbers_of(cells: Vec<CellId>) -> Vec<u64> {
+    let mut cells = std::mem::ManuallyDrop::new(cells);
+    // SAFETY: as above.
+    unsafe { Vec::from_raw_parts(cells.as_mut_ptr().cast(), cells.len(), cells.capacity()) }
+}
+
+impl AsRef<[u64]> for CellUnion {
+    fn as_ref(&self) -> &[u64] {
+        numbers(&self.cells)
+    }
+}
+
+/// The union of the cells that a text names: words with blanks, tabs, line ends or commas between them, each a token or
+/// a debug text.
+impl FromStr for CellUnion {
+    type Err = Error;
+    fn from_str(text: &str) -> Result<CellUnion, Error> {
+        CellUnion::from_ids(calls::from_tokens(text.as_bytes())?)
+    }
+}
+
+/// The tokens, with blanks between them.
+impl fmt::Display for CellUnion {
+    fn fmt(&self, f: &mut fmt::Formatter<'_>) -> fmt::Result {
+        f.pad(&text(calls::tokens(self.as_ref())))
+    }
+}
+
+/// The debug texts of the cells.
+impl fmt::Debug for CellUnion {
+    fn fmt(&self, f: &mut fmt::Formatter<'_>) -> fmt::Result {
+        f.debug_set().entries(self).finish()
+    }
+}
