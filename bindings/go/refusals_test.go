@@ -175,6 +175,7 @@ func TestFiles(t *testing.T) {
 		check(t, read.Decode(strings.NewReader(wrong)) == want && read.Equal(union), "Decode of what is wrong")
 		check(t, read.UnmarshalBinary([]byte(wrong)) == want && read.Equal(union), "UnmarshalBinary of what is wrong")
 	}
+	check(t, read.Decode(strings.NewReader("\x02"+string(file[1:20]))) == s2union.ErrFileVersion, "Decode of version 2")
 	broken := errors.New("broken")
 	check(t, read.Decode(iotest.ErrReader(broken)) == broken, "a reader that fails")
 	check(t, union.Encode(brokenWriter{}) == io.ErrClosedPipe, "a writer that fails")

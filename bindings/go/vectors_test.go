@@ -118,9 +118,12 @@ func ask(question func(given) string, texts given) (answer string) {
 const most = 100_000 // cells of a list
 
 var questions = map[string]func(given) string{
-	"is_cell":     func(g given) string { return shown(g.cell(0).IsValid()) },
-	"level":       func(g given) string { return shown(g.cell(0).Level()) },
-	"face":        func(g given) string { return shown(g.cell(0).Face()) },
+	"is_cell": func(g given) string { return shown(g.cell(0).IsValid()) },
+	"level":   level,
+	"face": func(g given) string {
+		face := g.cell(0).Face()
+		return same(shown(face), shown(must(s2union.CellIDFromFace(face)).Face()))
+	},
 	"range_min":   func(g given) string { return shown(g.cell(0).RangeMin()) },
 	"range_max":   func(g given) string { return shown(g.cell(0).RangeMax()) },
 	"size":        func(g given) string { return shown(g.cell(0).LeafCellsCovered()) },
@@ -200,6 +203,14 @@ var questions = map[string]func(given) string{
 	"outer_of_rectangle": func(g given) string { return shown(g.rect(0).Covering(g.numbers(1)[0], most)) },
 	"inner_of_rectangle": func(g given) string { return shown(g.rect(0).InteriorCovering(g.numbers(1)[0], most)) },
 	"file_check":         fileCheck,
+}
+
+func level(g given) string {
+	id := g.cell(0)
+	if id.IsFace() != (id.Level() == 0) || id.IsLeaf() != (id.Level() == 30) {
+		return "no level"
+	}
+	return shown(id.Level())
 }
 
 // twice asks a union and its file the same.

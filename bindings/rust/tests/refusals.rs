@@ -55,7 +55,7 @@ fn ranges() {
     assert_eq!(CellUnion::from_begin_end(first, Some(first)), Ok(CellUnion::new()));
     assert_eq!(CellUnion::from_begin_end(last, None).unwrap(), CellUnion::from(last));
     let face = cell("1");
-    for (begin, end) in [(face, last), (first, face), (last, first), (face, face)] {
+    for (begin, end) in [(face, last), (first, cell("3")), (last, first), (face, face)] {
         assert_eq!(CellUnion::from_begin_end(begin, Some(end)), Err(Error::Argument));
     }
     assert_eq!(CellUnion::from_begin_end(face, None), Err(Error::Argument));

@@ -80,8 +80,15 @@ impl Given<'_> {
     fn answer(&self, call: &str) -> String {
         match call {
             "is_cell" => same(CellId::from_id(self.id(0)).is_some(), CellId::try_from(self.id(0) as i64).is_ok()),
-            "level" => self.cell(0).level().to_string(),
-            "face" => self.cell(0).face().to_string(),
+            "level" => {
+                let level = self.cell(0).level();
+                assert_eq!((self.cell(0).is_face(), self.cell(0).is_leaf()), (level == 0, level == 30));
+                level.to_string()
+            }
+            "face" => {
+                let face = self.cell(0).face();
+                same(face.to_string(), CellId::from_face(face).unwrap().face().to_string())
+            }
             "range_min" => self.cell(0).range_min().shown(),
             "range_max" => self.cell(0).range_max().shown(),
             "size" => self.cell(0).leaf_count().to_string(),

@@ -1,0 +1,175 @@
+"""Three servers and a replica, after docs/SERVERS.md has run: a part moves, a server is down, a cable is cut.
+
+NET is the name of the network namespaces, and WORK the folder of the servers' folders."""
+
+import os
+import subprocess
+import threading
+import time
+import unittest
+
+NET, WORK = os.environ["NET"], os.environ["WORK"]
+FIRST, SECOND, THIRD = "s2_leaf(5, 7, 9)", "s2_leaf(1, 300000000, 400000000)", "s2_leaf(2, 300000000, 400000000)"
+ALL = "SELECT count(*) FROM tiles"
+DONE = "== done"
+
+
+def at(leaf):
+    """A question that only the server of this place is asked."""
+    return f"SELECT count(*) FROM tiles WHERE tile = s2_parent({leaf}, 5) AND part @> {leaf};"
+
+
+def insert(leaf):
+    return f"INSERT INTO tiles SELECT 'new', s2_parent({leaf}, 5), {leaf}::s2union;"
+
+
+class Session:
+    """A session on the first server, in its namespace."""
+
+    def __init__(self, host="192.0.2.1"):
+        command = ["ip", "netns", "exec", f"{NET}-first", "psql", "-XAqt", "-h", host, "-U", "postgres", "-d", "postgres"]
+        self.process = subprocess.Popen(command, stdin=subprocess.PIPE, stdout=subprocess.PIPE,
+                                        stderr=subprocess.STDOUT, text=True, bufsize=1)
+
+    def ask(self, script):
+        """The lines that a script writes, with those of errors."""
+        self.process.stdin.write(f"{script}\n;\\echo {DONE}\n")
+        lines = iter(self.process.stdout.readline, "")
+        return "\n".join(line.rstrip("\n") for line in iter(lambda: next(lines, DONE + "\n"), DONE + "\n"))
+
+    def __enter__(self):
+        return self
+
+    def __exit__(self, *_):
+        self.process.stdin.close()
+        self.process.stdout.close()
+        self.process.wait()
+
+
+def once(script, host="192.0.2.1"):
+    with Session(host) as session:
+        return session.ask(script)
+
+
+def control(server, *arguments):
+    """Runs pg_ctl for a server, in its namespace."""
+    folder = f"{WORK}/{server}"
+    subprocess.run(["ip", "netns", "exec", f"{NET}-{server}", "runuser", "-u", "postgres", "--", "pg_ctl", "-D", folder,
+                    "-l", f"{folder}/log", "-w", *arguments], check=True, cwd="/", stdout=subprocess.DEVNULL)
+
+
+def cable(server, state):
+    subprocess.run(["ip", "-n", NET, "link", "set", server, state], check=True)
+
+
+def timed(call):
+    began = time.monotonic()
+    return call(), time.monotonic() - began
+
+
+class AfterThePage(unittest.TestCase):
+    def test_a_part_moves(self):
+        """From the first server, to which the page has moved it, back to the second."""
+        before, inserted, counts, moved = int(once(ALL)), [], [], threading.Event()
+
+        def write():
+            with Session() as session:
+                while not moved.is_set():
+                    inserted.append(session.ask(insert((FIRST, SECOND, THIRD)[len(inserted) % 3])))
+
+        def read():
+            with Session() as session:
+                while not moved.is_set():
+                    counts.append(session.ask(ALL))
+
+        threads = [threading.Thread(target=call) for call in (write, read, read)]
+        for thread in threads:
+            thread.start()
+        time.sleep(0.5)
+        said = once("""
+            BEGIN;
+            LOCK TABLE tiles IN SHARE ROW EXCLUSIVE MODE;
+            INSERT INTO tiles_second SELECT * FROM tiles_moved;
+            ALTER TABLE tiles DETACH PARTITION tiles_moved;
+            ALTER TABLE tiles ATTACH PARTITION tiles_second FOR VALUES FROM (0) TO (4611686018427387904);
+            DROP TABLE tiles_moved;
+            COMMIT;""")
+        time.sleep(0.5)
+        moved.set()
+        for thread in threads:
+            thread.join()
+        self.assertEqual((said, set(inserted)), ("", {""}))
+        self.assertEqual(int(once(ALL)), before + len(inserted))
+        self.assertGreater(len(inserted), 10)
+        counts = [int(count) for count in counts]
+        self.assertTrue(all(before <= count <= before + len(inserted) for count in counts))
+        once("DELETE FROM tiles WHERE name = 'new'")
+        self.assertEqual(int(once(ALL)), before)
+
+    def test_questions(self):
+        said = once("""
+            CREATE TABLE whole AS SELECT * FROM tiles;
+            SELECT count(*), count(*) FILTER (WHERE apart.found IS DISTINCT FROM together.found), count(apart.found) > 50
+            FROM generate_series(1, 200) AS k,
+                LATERAL (SELECT s2_outer(k % 6, k * 900000, k * 900000 + 30000000, k * 1000000, k * 1000000 + 9000000, 10)
+                    AS q) AS asked,
+                LATERAL (SELECT array_agg(name || tile ORDER BY name, tile) AS found FROM tiles WHERE part && q) AS apart,
+                LATERAL (SELECT array_agg(name || tile ORDER BY name, tile) AS found FROM whole WHERE part && q)
+                    AS together;
+            SELECT (SELECT s2_union_agg(part) FROM tiles) = (SELECT s2_union_agg(part) FROM whole);
+            DROP TABLE whole;""")
+        self.assertEqual(said, "200|0|t\nt")
+
+    def test_fetch_size(self):
+        once("CREATE TABLE many AS SELECT k, s2_leaf(0, k, k)::s2union AS part FROM generate_series(1, 100000) AS k;",
+             "192.0.2.2")
+        once("CREATE FOREIGN TABLE many (k int, part s2union) SERVER second OPTIONS (fetch_size '100');")
+        for size in (1, 100, 1000, 10000, 100000):
+            with Session() as session:
+                session.ask(f"ALTER FOREIGN TABLE many OPTIONS (SET fetch_size '{size}'); SELECT count(*) FROM many;")
+                said, took = timed(lambda: session.ask("CREATE TEMP TABLE got AS SELECT * FROM many;"))
+                self.assertEqual(said, "")
+                self.assertEqual(session.ask("SELECT sum(s2_leaves(part)), count(DISTINCT k) FROM got;"), "100000|100000")
+            print(f"100,000 rows with a fetch_size of {size}: {1000 * took:.0f} ms", flush=True)
+
+    def test_a_cable_is_cut(self):
+        with Session() as session:
+            count = session.ask(ALL)
+            found = session.ask(at(THIRD))
+            cable("second", "down")
+            said, took = timed(lambda: session.ask(ALL))
+            self.assertIn("ERROR", said)
+            self.assertLess(took, 10)
+            print(f"a session whose server can't be reached is told after {1000 * took:.0f} ms", flush=True)
+            said, took = timed(lambda: once(ALL))
+            self.assertIn('could not connect to server "second"', said)
+            self.assertLess(took, 10)
+            print(f"a new session is told after {1000 * took:.0f} ms", flush=True)
+            self.assertEqual(session.ask(at(THIRD)), found)
+            cable("second", "up")
+            self.assertEqual((session.ask(ALL), once(ALL)), (count, count))
+
+    def test_a_server_is_down(self):
+        with Session() as session:
+            count, found = session.ask(ALL), session.ask(at(SECOND))
+            self.assertEqual(session.ask(insert(THIRD)), "")
+            count = str(int(count) + 1)
+            control("third", "-m", "immediate", "stop")
+            self.assertEqual((once(ALL), session.ask(ALL)), (count, count))
+            refused = session.ask(insert(THIRD))
+            self.assertIn("cannot execute INSERT in a read-only transaction", refused)
+            self.assertEqual(session.ask(insert(SECOND)), "")
+            control("replica", "promote")
+            self.assertEqual(session.ask(insert(THIRD)), "")
+            count = str(int(count) + 2)
+            self.assertEqual((once(ALL), session.ask(ALL)), (count, count))
+            control("replica", "-m", "immediate", "stop")
+            said = session.ask(ALL)
+            self.assertIn('could not connect to server "third"', said)
+            self.assertEqual(int(session.ask(at(SECOND))), int(found) + 1)
+            control("replica", "start")
+            self.assertEqual((once(ALL), session.ask(ALL)), (count, count))
+
+
+if __name__ == "__main__":
+    unittest.main()
