@@ -648,12 +648,24 @@ class TheModule(unittest.TestCase):
         self.assertEqual((a.tokens(), a.name, Named().name), (["04", "0c"], "of 2", "of 0"))
         self.assertEqual((a, hash(a)), (Union(a), hash(Union(a))))
         self.assertIs(copy.copy(a), a)
-        self.assertIs(copy.deepcopy(a), a)
         cell = s2union.from_token("04")
         made = (Named.from_tokens("04"), Named.from_tokens(["04"]), Named.from_range(cell, cell), a - Union([a[1]]),
                 Named.from_bytes(Union([cell]).to_bytes()))
         for found in made + (a.of([Union([cell])]), a.intersection(Union([cell])), Named().union(Union([cell]))):
             self.assertEqual((type(found), found.tokens()), (Named, ["04"]))
+
+    def test_deep_copies(self):
+        a = Union.from_tokens("04 0c")
+        self.assertIs(copy.deepcopy([a])[0], a)
+        park = Park(["High Line", {}], "89c259c")
+        park.name[1]["itself"] = park
+        copied = copy.deepcopy([park, park])
+        self.assertIs(copied[0], copied[1])
+        again = copied[0]
+        self.assertEqual((type(again), again, hash(again)), (Park, park, hash(park)))
+        self.assertIs(again.name[1]["itself"], again)
+        again.name[0] = "another"
+        self.assertEqual(park.name[0], "High Line")
 
     def test_subclasses_are_pickled_as_they_are(self):
         for protocol in range(pickle.HIGHEST_PROTOCOL + 1):

@@ -21,6 +21,7 @@ $S2UNION_LIBRARY, beside this module, in the two folders above it, and in the sy
 
 from __future__ import annotations
 
+import copy as _copy
 import ctypes as _c
 import operator as _operator
 import re as _re
@@ -637,8 +638,14 @@ class Union:
     def __copy__(self: Self) -> Self:
         return self
 
-    def __deepcopy__(self: Self, memo: object) -> Self:
-        return self
+    def __deepcopy__(self: Self, memo: dict[int, Any]) -> Self:
+        """The union itself, which can't change; or of a subclass that has attributes, a union with copies of these."""
+        attributes = getattr(self, "__dict__", None)
+        if not attributes:
+            return self
+        made = memo[id(self)] = self._made(_ids_of(self))
+        made.__dict__.update(_copy.deepcopy(attributes, memo))
+        return made
 
     def tokens(self) -> list[str]:
         """The tokens of the cells."""
