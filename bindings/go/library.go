@@ -16,7 +16,7 @@
 // that is no cell or is out of range, as an index does; CellID.IsValid asks first. A union, an intersection and a
 // difference can't be refused; if memory runs out in the library, they panic with ErrMemory.
 //
-// A call of C takes some 50 ns on top of its own work, so many cells are best asked about in one call, such as
+// A call of C takes some 100 ns on top of its own work, so many cells are best asked about in one call, such as
 // ContainsCellIDs.
 package s2union
 
