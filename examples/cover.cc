@@ -1,0 +1,69 @@
+// Coverings of GeoJSON by S2: cover FILE.geojson FOLDER MAX_CELLS MAX_LEVEL
+// Writes FOLDER/NAME.outer and FOLDER/NAME.inner for each feature, with NAME from its property 'file'. Lines are taken
+// as borders too. Rings may cross or touch themselves, and polygons may overlap: a point is inside if it is in an odd
+// number of rings, and what they enclose is the smaller side.
+#include <s2/s2builder.h>
+#include <s2/s2builderutil_s2polygon_layer.h>
+#include <s2/s2builderutil_snap_functions.h>
+#include <s2/s2cell_union.h>
+#include <s2/s2edge_tessellator.h>
+#include <s2/s2polygon.h>
+#include <s2/s2projections.h>
+#include <s2/s2region_coverer.h>
+#include <fstream>
+#include <iostream>
+#include <memory>
+#include <nlohmann/json.hpp>
+
+using nlohmann::json;
+
+// Adds the edges of all lists of points below. An edge that is straight on the map is bent on the sphere: it is cut until
+// that is less than 10 m.
+void AddEdges(const json& coordinates, S2Builder* builder) {
+  static const S2::PlateCarreeProjection map(180);
+  static const S2EdgeTessellator cut(&map, S1Angle::Radians(10 / 6371e3));
+  if (!coordinates[0][0].is_number()) {
+    for (const json& part : coordinates) AddEdges(part, builder);
+    return;
+  }
+  for (size_t k = 1; k < coordinates.size(); k++) {
+    const json &a = coordinates[k - 1], &b = coordinates[k];
+    std::vector<S2Point> points;
+    cut.AppendUnprojected(R2Point(a[0], a[1]), R2Point(b[0], b[1]), &points);
+    for (size_t i = 1; i < points.size(); i++) builder->AddEdge(points[i - 1], points[i]);
+  }
+}
+
+void Write(const S2CellUnion& cells, const std::string& name) {
+  Encoder encoder;
+  cells.Encode(&encoder);
+  std::ofstream(name, std::ios::binary).write(encoder.base(), encoder.length());
+}
+
+int main(int argc, char** argv) {
+  if (argc != 5) return std::cerr << "usage: cover FILE.geojson FOLDER MAX_CELLS MAX_LEVEL\n", 2;
+  S2RegionCoverer coverer;
+  coverer.mutable_options()->set_max_cells(std::stoi(argv[3]));
+  coverer.mutable_options()->set_max_level(std::stoi(argv[4]));
+  size_t outer_cells = 0, inner_cells = 0;
+  const json features = json::parse(std::ifstream(argv[1]))["features"];
+  for (const json& feature : features) {
+    const std::string name = std::string(argv[2]) + "/" + feature["properties"]["file"].get<std::string>();
+    S2Builder::Options options{s2builderutil::S2CellIdSnapFunction(23)};  // to within 2 m
+    options.set_split_crossing_edges(true);
+    S2Builder builder(options);
+    S2Polygon polygon;
+    builder.StartLayer(std::make_unique<s2builderutil::S2PolygonLayer>(
+        &polygon, s2builderutil::S2PolygonLayer::Options(S2Builder::EdgeType::UNDIRECTED)));
+    builder.AddIsFullPolygonPredicate(S2Builder::IsFullPolygon(false));
+    AddEdges(feature["geometry"]["coordinates"], &builder);
+    S2Error error;
+    if (!builder.Build(&error)) return std::cerr << name << ": " << error.text() << "\n", 1;
+    const S2CellUnion outer = coverer.GetCovering(polygon), inner = coverer.GetInteriorCovering(polygon);
+    Write(outer, name + ".outer");
+    Write(inner, name + ".inner");
+    outer_cells += outer.size();
+    inner_cells += inner.size();
+  }
+  std::cout << features.size() << " features, " << outer_cells << " and " << inner_cells << " cells\n";
+}

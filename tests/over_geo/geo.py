@@ -1,0 +1,115 @@
+"""What docs/GEO.md shows, and that it is S2's: leaves, coverings and corners beside S2's own and plain polygons."""
+import json
+import subprocess
+import unittest
+from pathlib import Path
+from random import Random
+
+import numpy
+import page
+import pywraps2 as s2
+import to_geojson
+from leaves import leaves
+from s2union import Union, from_tokens, to_signed, tokens
+from shapely.geometry import Point, shape
+from shapely.prepared import prep
+from which import covering, features_of, which
+
+
+def points_of_the_sphere(count):
+    random = Random(20261126)
+    points = numpy.array([[random.gauss(0, 1) for _ in range(3)] for _ in range(count)]).T
+    return numpy.degrees(numpy.arctan2(points[1], points[0])), \
+        numpy.degrees(numpy.arctan2(points[2], numpy.hypot(points[0], points[1])))
+
+
+class Geo(page.Page):
+    name = "GEO.md"
+
+    def test_page(self):
+        self.page_holds()
+
+    def test_leaves_are_s2s(self):
+        """Random points, and a grid with all borders of faces."""
+        longitude, latitude = points_of_the_sphere(200000)
+        grid = numpy.array([(x, y) for x in range(-180, 181, 5) for y in range(-90, 91, 5)], float).T
+        longitude, latitude = numpy.append(longitude, grid[0]), numpy.append(latitude, grid[1])
+        text = "".join(f"{x!r} {y!r}\n" for x, y in zip(longitude.tolist(), latitude.tolist()))
+        wanted = subprocess.run([self.file("leaf")], input=text, capture_output=True, text=True, check=True).stdout
+        self.assertEqual(tokens(leaves(longitude, latitude)), wanted.split())
+        signed = [to_signed(cell) for cell in from_tokens(wanted)]
+        for said in (self.in_sqlite(text), self.in_postgres(text)):
+            self.assertEqual([int(line) for line in said.split()], signed)
+
+    def in_sqlite(self, points):
+        rows = "".join(f"{k} {line}\n" for k, line in enumerate(points.splitlines()))
+        Path(self.file("rows")).write_text(rows)
+        command = """sqlite3 -cmd ".load $PREFIX/lib/sqlite3/mod_s2union" :memory: <<'SQL'
+CREATE TABLE places(name INTEGER, longitude REAL, latitude REAL);
+.separator " "
+.import world/rows places
+.read examples/leaf.sqlite.sql
+SELECT leaf FROM leaves ORDER BY name;
+SQL
+"""
+        return self.output(command)
+
+    def in_postgres(self, points):
+        command = """psql -XAqt regions -c "CREATE TABLE rows (place int, x float8, y float8)" \
+            -c "\\copy rows FROM 'world/rows' (DELIMITER ' ')" -c "SELECT s2_leaf_at(x, y) FROM rows ORDER BY place"
+"""
+        return self.output(command)
+
+    def test_coverings_bound_their_polygons(self):
+        """Of 20,000 points: those in an inner covering are in the polygon, and those in it are in the outer one."""
+        longitude, latitude = points_of_the_sphere(20000)
+        cells, points = leaves(longitude, latitude), list(map(Point, longitude, latitude))
+        features = features_of(self.file("countries.geojson"))
+        names, tested = which(features, self.file("countries"), longitude, latitude)
+        plain = numpy.full(len(cells), "-", object)
+        for feature in features:
+            polygon = prep(shape(feature["geometry"]))
+            inside = numpy.array([polygon.contains(point) for point in points])
+            plain[inside] = feature["properties"]["name"]
+            for folder in ("countries", "python"):
+                if folder == "python" and feature["properties"]["name"] == "Sudan":
+                    continue
+                inner, outer = (covering(self.file(folder), feature, kind) for kind in ("inner", "outer"))
+                with self.subTest(folder=folder, name=feature["properties"]["name"]):
+                    self.assertFalse((inner.contains_cells(cells) & ~inside).any())
+                    self.assertFalse((inside & ~outer.contains_cells(cells)).any())
+                    self.assertTrue(inner <= outer)
+        self.assertEqual(names.tolist(), plain.tolist())
+        self.assertTrue(0 < numpy.count_nonzero(tested) < 2000)
+
+    def test_both_programs_cover_the_same_polygons(self):
+        for feature in features_of(self.file("countries.geojson")):
+            if feature["properties"]["name"] != "Sudan":
+                with self.subTest(name=feature["properties"]["name"]):
+                    here, there = ({kind: covering(self.file(folder), feature, kind) for kind in ("inner", "outer")}
+                                   for folder in ("countries", "python"))
+                    self.assertTrue(here["inner"] <= there["outer"] and there["inner"] <= here["outer"])
+
+    def test_corners_are_s2s(self):
+        random = Random(7)
+        cells = [s2.S2CellId.FromFacePosLevel(random.randrange(6), random.randrange(2**61), level).id()
+                 for level in range(1, 31) for _ in range(50)]
+        for cell, ring in zip(cells, to_geojson.rings(cells)):
+            square = s2.S2Cell(s2.S2CellId(cell))
+            corners = [s2.S2LatLng(square.GetVertex(k)) for k in range(4)]
+            if all(abs(corner.lat().degrees()) < 89.9 for corner in corners):
+                self.assertEqual((len(ring), ring[0]), (5, ring[4]))
+                for corner, (longitude, latitude) in zip(corners, ring):
+                    self.assertAlmostEqual(corner.lat().degrees(), latitude, places=12)
+                    self.assertAlmostEqual((corner.lng().degrees() - longitude + 180) % 360, 180, places=11)
+
+    def test_the_map_has_the_cells(self):
+        with open(self.file("france.geojson"), encoding="utf-8") as it:
+            features = json.load(it)["features"]
+        with open(self.file("countries/France.outer"), "rb") as it:
+            union = Union.from_bytes(it.read())
+        self.assertEqual([feature["properties"]["cell"] for feature in features], union.tokens())
+
+
+if __name__ == "__main__":
+    unittest.main()
