@@ -17,8 +17,8 @@
 
 using nlohmann::json;
 
-// Adds the edges of all lists of points below. An edge that is straight on the map is bent on the sphere: it is cut until
-// that is less than 10 m.
+// Adds the edges of all lists of points below. An edge that is straight on the map is bent on the sphere: it is cut
+// until that is less than 10 m.
 void AddEdges(const json& coordinates, S2Builder* builder) {
   static const S2::PlateCarreeProjection map(180);
   static const S2EdgeTessellator cut(&map, S1Angle::Radians(10 / 6371e3));

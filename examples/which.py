@@ -1,7 +1,7 @@
 """The country of each point: which.py FILE.geojson FOLDER < POINTS
 
-A point is a line of a longitude and a latitude, in degrees. FOLDER has the inner and the outer covering of each feature.
-Where they don't decide, the polygon is asked; the last line says for how many points that was.
+A point is a line of a longitude and a latitude, in degrees. FOLDER has the inner and the outer covering of each
+feature. Where they don't decide, the polygon is asked; the last line says for how many points that was.
 """
 import json
 import sys
