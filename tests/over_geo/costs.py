@@ -6,7 +6,6 @@ that answers, with its points and regions.
 """
 import glob
 import os
-import resource
 import subprocess
 import sys
 import time
@@ -46,8 +45,16 @@ class Clock:
         self.begun = time.perf_counter()
 
 
-def peak(whose):
-    print("peak", resource.getrusage(whose).ru_maxrss // 1024)
+def peak(process="self"):
+    """The most memory that a process has had, in MB."""
+    with open(f"/proc/{process}/status", encoding="ascii") as it:
+        print("peak", next(int(line.split()[1]) // 1024 for line in it if line.startswith("VmHWM")))
+
+
+def ran(command, script=b""):
+    """What a command answers, and its peak in MB. What Python starts itself begins with Python's own memory."""
+    run = subprocess.run(["/usr/bin/time", "-f", "%M", *command], input=script, capture_output=True, check=True)
+    return run.stdout, int(run.stderr) // 1024
 
 
 def in_python(folder):
@@ -66,7 +73,7 @@ def in_python(folder):
     found = numpy.stack([points[pairs], numpy.repeat(owners, counts)])
     clock.says("which", found.shape[1])
     clock.says("any", numpy.count_nonzero(every.contains_cells(points)))
-    peak(resource.RUSAGE_SELF)
+    peak()
 
 
 def in_sqlite(folder):
@@ -88,7 +95,7 @@ def in_sqlite(folder):
     inside = """SELECT count(*) FROM (SELECT s2_union_agg(region) AS every FROM regions), s2_cells(every), points
         WHERE leaf BETWEEN range_min AND range_max"""
     clock.says("any", *database.execute(inside).fetchone())
-    peak(resource.RUSAGE_SELF)
+    peak()
 
 
 class Session:
@@ -107,11 +114,6 @@ class Session:
                 raise RuntimeError(question)
             lines.append(line)
         return lines
-
-    def peak(self):
-        """The most memory that the server's process has had, in MB."""
-        with open(f"/proc/{int(self.ask('SELECT pg_backend_pid();')[0])}/status", encoding="ascii") as it:
-            return next(int(line.split()[1]) // 1024 for line in it if line.startswith("VmHWM"))
 
 
 def in_postgres(folder):
@@ -137,7 +139,7 @@ def in_postgres(folder):
     clock.says("which", int(which))
     every = "s2_cells((SELECT s2_union_agg(region) FROM regions))"
     clock.says("any", int(session.ask(f"SELECT count(*) FROM unnest({every}) {ranges}")[0]))
-    print("peak", session.peak())
+    peak(int(session.ask("SELECT pg_backend_pid();")[0]))
 
 
 def in_calculator(folder):
@@ -149,16 +151,15 @@ def in_calculator(folder):
     asked = "".join(f"has a {token}\n" for token in tokens(points))
     for what, script in (("prepared", added), ("any", added + asked)):
         clock = Clock()
-        run = subprocess.run([os.environ["S2CALC"], "run", "--limit", "1000000"], input=script.encode(),
-                             stdout=subprocess.PIPE, check=True)
-        clock.says(what, *[run.stdout.count(b"yes\n")] * (what == "any"))
-    peak(resource.RUSAGE_CHILDREN)
+        answers, most = ran([os.environ["S2CALC"], "run", "--limit", "1000000"], script.encode())
+        clock.says(what, *[answers.count(b"yes\n")] * (what == "any"))
+    print("peak", most)
 
 
 def in_s2(folder):
-    names = (os.path.join(folder, name) for name in ("cell_index", "cells", "owners", "points"))
-    subprocess.run(list(names), check=True)
-    peak(resource.RUSAGE_CHILDREN)
+    answers, most = ran([os.path.join(folder, name) for name in ("cell_index", "cells", "owners", "points")])
+    print(answers.decode(), end="")
+    print("peak", most)
 
 
 def built(folder):
