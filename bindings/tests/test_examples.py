@@ -1,9 +1,9 @@
 """The examples that need no package but numpy: points to leaves and cells to corners. tests/geo asks S2 about more."""
 
-import random
 import sys
 import unittest
 from pathlib import Path
+from random import Random
 
 import numpy
 from s2union import from_face_ij, from_token, tokens
@@ -14,7 +14,7 @@ import to_geojson
 from leaves import leaves
 
 # Longitude, latitude, and the token of S2CellId(S2LatLng::FromDegrees(latitude, longitude)): places, the date line, the
-# poles, and points on the borders of faces.
+# poles, and points on the borders of faces; on the last five, two coordinates on the sphere are equal.
 POINTS = """
 0 0 1000000000000001
 2.3522 48.8566 47e66e1d8f8be23b
@@ -36,6 +36,11 @@ POINTS = """
 90 -45 2800000000000001
 -90 45 8800000000000001
 180 -45 6d55555555555555
+-135 -27.5 9fd62757fdf5f89d
+-45 27.5 8ad33352acb4accd
+-179.8 44.99982546672037 57ffe2761e2aa821
+179.3 44.99786191847826 58008275f58077d7
+179.8 -44.99982546672037 a8001d89e1d557df
 """
 
 
@@ -46,6 +51,7 @@ class Examples(unittest.TestCase):
         self.assertEqual((found.dtype, tokens(found)), ("uint64", list(wanted)))
 
     def test_the_middle_of_a_leaf_lies_in_it(self):
+        random = Random(47)
         places = numpy.array([[random.randrange(6), *random.choices(range(2**30), k=2)] for _ in range(2000)]).T
         longitude, latitude = to_geojson.points(places[0], places[1] + 0.5, places[2] + 0.5)
         self.assertEqual(leaves(longitude, latitude).tolist(), list(map(from_face_ij, *places.tolist())))

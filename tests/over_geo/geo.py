@@ -2,6 +2,7 @@
 import json
 import subprocess
 import unittest
+from math import atan, cos, degrees, radians, sin
 from pathlib import Path
 from random import Random
 
@@ -14,6 +15,15 @@ from s2union import Union, from_tokens, to_signed, tokens
 from shapely.geometry import Point, shape
 from shapely.prepared import prep
 from which import covering, features_of, which
+
+
+def points_on_borders():
+    """A grid, and points on the borders of faces, many of which have two equal coordinates on the sphere."""
+    grid = [(x, y) for x in range(-180, 181, 5) for y in range(-90, 91, 5)]
+    upright = [(x, y / 2) for x in (-135, -45, 45, 135) for y in range(-80, 81)]
+    turns = [x / 10 for x in range(-1799, 1801)]
+    around = [(x, degrees(atan(max(abs(cos(radians(x))), abs(sin(radians(x))))))) for x in turns]
+    return numpy.array(grid + upright + around + [(x, -y) for x, y in around], float).T
 
 
 def points_of_the_sphere(count):
@@ -30,10 +40,7 @@ class Geo(page.Page):
         self.page_holds()
 
     def test_leaves_are_s2s(self):
-        """Random points, and a grid with all borders of faces."""
-        longitude, latitude = points_of_the_sphere(200000)
-        grid = numpy.array([(x, y) for x in range(-180, 181, 5) for y in range(-90, 91, 5)], float).T
-        longitude, latitude = numpy.append(longitude, grid[0]), numpy.append(latitude, grid[1])
+        longitude, latitude = numpy.append(points_of_the_sphere(200000), points_on_borders(), axis=1)
         text = "".join(f"{x!r} {y!r}\n" for x, y in zip(longitude.tolist(), latitude.tolist()))
         wanted = subprocess.run([self.file("leaf")], input=text, capture_output=True, text=True, check=True).stdout
         self.assertEqual(tokens(leaves(longitude, latitude)), wanted.split())
