@@ -1,7 +1,7 @@
-"""The corridor of a flight, as a union file: corridor.py LONGITUDE LATITUDE LONGITUDE LATITUDE KILOMETERS FILE
+"""The corridor of a flight: corridor.py LONGITUDE LATITUDE LONGITUDE LATITUDE KILOMETERS FILE
 
-All points that are at most so many kilometers from the shortest way between two points: caps along the way, covered by
-S2's module for Python, and united here.
+Its points are at most so many kilometers from the shortest way between two points. FILE.outer has all of them,
+FILE.inner no others: caps along the way, covered by S2's module for Python, and united here.
 """
 import math
 import sys
@@ -13,19 +13,21 @@ EARTH = 6371.01  # its radius, in kilometers
 
 
 def corridor(start, end, kilometers):
+    """The outer and the inner covering."""
     way, coverer = s2.S2Polyline(), s2.S2RegionCoverer()
     way.InitFromS2LatLngs([s2.S2LatLng.FromDegrees(latitude, longitude) for longitude, latitude in (start, end)])
     coverer.set_max_cells(200)
     steps = math.ceil(way.GetLength().radians() * EARTH / (kilometers / 2))
-    radius = s2.S1Angle.Radians(kilometers / EARTH * 1.04)  # so that nothing is left out between two caps
-    caps = [s2.S2Cap(way.Interpolate(k / steps), radius) for k in range(steps + 1)]
-    return Union(cell.id() for cap in caps for cell in coverer.GetCovering(cap))
+    for cover, factor in ((coverer.GetCovering, 1.04), (coverer.GetInteriorCovering, 1)):
+        radius = s2.S1Angle.Radians(kilometers / EARTH * factor)  # 1.04: nothing is left out between two caps
+        caps = (s2.S2Cap(way.Interpolate(k / steps), radius) for k in range(steps + 1))
+        yield Union(cell.id() for cap in caps for cell in cover(cap))
 
 
 if __name__ == "__main__":
     *numbers, file = sys.argv[1:]
     west, south, east, north, kilometers = map(float, numbers)
-    union = corridor((west, south), (east, north), kilometers)
-    with open(file, "wb") as it:
-        it.write(union.to_bytes())
-    print(f"{len(union)} cells")
+    for kind, union in zip(("outer", "inner"), corridor((west, south), (east, north), kilometers)):
+        with open(f"{file}.{kind}", "wb") as it:
+            it.write(union.to_bytes())
+        print(f"{kind}: {len(union)} cells")

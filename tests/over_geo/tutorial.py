@@ -88,22 +88,24 @@ class Tutorial(page.Page):
                 self.assertTrue(float(least) / 100 < share < float(most) / 100)
 
     def test_the_flight(self):
-        """The corridor has all points within 50 km; the countries are those whose polygons are so near."""
-        flight, way = self.union("flight"), s2.S2Polyline()
+        """The corridor has the points within 50 km; the countries are those whose polygons are so near."""
+        way = s2.S2Polyline()
         way.InitFromS2LatLngs([s2.S2LatLng.FromDegrees(30.05, 31.25), s2.S2LatLng.FromDegrees(-26.2, 28.05)])
         steps = [s2.S2LatLng(way.Interpolate(k / 2000)) for k in range(2001)]
         steps = numpy.array([[step.lng().degrees(), step.lat().degrees()] for step in steps])
         longitude, latitude = random_points(3000, (27, -27, 33, 31))
         near = numpy.array([kilometers(steps, point) < 50 for point in zip(longitude, latitude)])
         self.assertGreater(near.sum(), 100)
-        self.assertTrue(flight.contains_cells(leaves(longitude[near], latitude[near])).all())
+        cells = leaves(longitude, latitude)
+        self.assertFalse((near & ~self.union("flight.outer").contains_cells(cells)).any())
+        self.assertFalse((self.union("flight.inner").contains_cells(cells) & ~near).any())
         crossed = []
         for feature in features_of(self.file("countries.geojson")):
             polygon = shape(feature["geometry"])
             if any(polygon.contains(Point(step)) for step in steps[::10]) or any(
                     kilometers(steps, point) < 50 for point in border(polygon)):
                 crossed.append(feature["properties"]["file"])
-        self.assertEqual(self.printed('"world/flight"').split("\n")[:2],
+        self.assertEqual(self.printed('world/flight.{kind}').split("\n")[:2],
                          [" ".join(sorted(crossed))] * 2)
 
     def test_what_has_changed(self):
