@@ -20,7 +20,7 @@ use Rattle.s2calc.specs.Stands.{EndsUnflushed, EndsBefore}
 use Rattle.s2calc.proofs.LineLemmas.{lines_begun, but_last-append}
 use Rattle.s2calc.proofs.TakeInLemmas.{IsCutOff-part, Explains-line, Explains-cut, Steps-line, has_file-kept}
 
-but_last-more : (replies : List Reply) (m : Reply) (ms : List Reply) →
+pub but_last-more : {X : Type 0} (replies : List X) (m : X) (ms : List X) →
     but_last (replies ++ m ∷ ms) ≡ replies ++ but_last (m ∷ ms)
 but_last-more replies m ms =
     let count : length (replies ++ m ∷ ms) - 1 ≡ length replies + (length (m ∷ ms) - 1) =

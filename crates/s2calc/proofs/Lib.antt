@@ -1,6 +1,8 @@
 pub mod AnswerLemmas
+pub mod CallLemmas
 pub mod CloseLemmas
 pub mod CoveringLemmas
+pub mod CutOffLemmas
 pub mod Failures
 pub mod LineLemmas
 pub mod ListingLemmas

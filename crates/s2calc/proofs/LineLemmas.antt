@@ -36,7 +36,7 @@ pieces_unbroken : (line : List ℕ) → IsUnbroken line → pieces line ≡ line
 pieces_unbroken [] u = refl
 pieces_unbroken (b ∷ bs) u = slice_split-cons_no (λ x. eqb x 10) b bs u.0 ∙ ap (onto_first b) (pieces_unbroken bs u.1)
 
-pieces_line : (line more : List ℕ) → IsUnbroken line → pieces (line ++ 10 ∷ more) ≡ line ∷ pieces more
+pub pieces_line : (line more : List ℕ) → IsUnbroken line → pieces (line ++ 10 ∷ more) ≡ line ∷ pieces more
 pieces_line [] more u = refl
 pieces_line (b ∷ bs) more u = slice_split-cons_no (λ x. eqb x 10) b (bs ++ 10 ∷ more) u.0
     ∙ ap (onto_first b) (pieces_line bs more u.1)

@@ -1,9 +1,12 @@
 -- Lemmas on the listing of cells.
 use Rattle.std.proofs.Common.{◌≡◌, ℕ, ◌+◌, ◌<◌, List, [], ◌∷◌, ◌++◌, codes, length, take, drop, get_or, sym}
-use Rattle.std.proofs.Common.{ap, ◌∙◌, append_assoc, append-nil, take-append-drop}
+use Rattle.std.proofs.Common.{Option, subst, ap, ◌∙◌, append_assoc, append-nil, take-append-drop}
 use Rattle.std.specs.List.{flat_map}
 use Rattle.std.proofs.lemmas.List.{drop_more}
+use Rattle.std.proofs.lemmas.List.{flat_map_more}
 use Rattle.std.proofs.lemmas.List.Concat.{flat_map-append}
+use Rattle.std.specs.Io.KnownBytes.{Appends}
+use Rattle.std.proofs.KnownBytes.{Appends-trans}
 use Rattle.s2calc.specs.Texts.{token_line, listing}
 
 -- a listing, cut round the line of one cell
@@ -35,3 +38,11 @@ pub cut_round : (cells : List ℕ) (i cell : ℕ) → i < length cells → cell 
     take i cells ++ (cell ∷ drop (i + 1) cells) ≡ cells
 cut_round cells i cell h e = ap (λ c. take i cells ++ (c ∷ drop (i + 1) cells)) e
     ∙ ap (λ s. take i cells ++ s) (sym (drop_more cells i cell h)) ∙ take-append-drop i cells
+
+-- the line of one more cell was written
+pub listed_more : (old mid new : Option (List ℕ)) (done text : List ℕ) (cell : ℕ) →
+    Appends old mid (flat_map token_line done) → Appends mid new text → text ≡ token_line cell
+    → Appends old new (flat_map token_line (done ++ cell ∷ []))
+listed_more old mid new done text cell p q t =
+    subst (Appends old new) (ap (λ s. flat_map token_line done ++ s) t ∙ flat_map_more token_line [] done cell)
+    (Appends-trans old mid new (flat_map token_line done) text p q)

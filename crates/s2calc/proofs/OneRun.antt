@@ -310,10 +310,10 @@ one_act (Ask question) a b c d x y s t l m p q =
           (subst (λ w. SameWorld a w) (sym m.1) s),
     )
 
-unchanged : (a b c d : World) → SameWorld a b → c ≡ a → d ≡ b → SameWorld c d
+pub unchanged : (a b c d : World) → SameWorld a b → c ≡ a → d ≡ b → SameWorld c d
 unchanged a b c d s e f = subst (λ w. SameWorld w d) (sym e) (subst (λ w. SameWorld a w) (sym f) s)
 
-one_line : (parsed : Parsed) (a b c d : World) (x y : Reply) → SameWorld a b → a.files.tells ≡ true →
+pub one_line : (parsed : Parsed) (a b c d : World) (x y : Reply) → SameWorld a b → a.files.tells ≡ true →
     StepBy parsed a x c → StepBy parsed b y d → IsPlain x → IsPlain y → (x ≡ y) × SameWorld c d
 one_line Nothing a b c d x y s t l m p q = (l.0 ∙ sym m.0, unchanged a b c d s l.1 m.1)
 one_line (Fails refusal) a b c d x y s t l m p q = (l.0 ∙ sym m.0, unchanged a b c d s l.1 m.1)
@@ -344,7 +344,7 @@ still_acts Undo a c x l = ap (λ (h : Files). h.tells) l.1
 still_acts Redo a c x l = ap (λ (h : Files). h.tells) l.1
 still_acts (Ask question) a c x l = ap (λ (w : World). w.files.tells) l.1
 
-still_tells : (parsed : Parsed) (a c : World) (x : Reply) → StepBy parsed a x c → c.files.tells ≡ a.files.tells
+pub still_tells : (parsed : Parsed) (a c : World) (x : Reply) → StepBy parsed a x c → c.files.tells ≡ a.files.tells
 still_tells Nothing a c x l = ap (λ (w : World). w.files.tells) l.1
 still_tells (Fails refusal) a c x l = ap (λ (w : World). w.files.tells) l.1
 still_tells (Does command) a c x l = still_acts command a c x l

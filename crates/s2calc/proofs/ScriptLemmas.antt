@@ -19,7 +19,7 @@ whole ends old new tally script f e =
     subst (λ o. IfSome o (λ all. f.script ≡ all)) e known
 
 -- what a writer that exposes its bytes holds in the end
-written_is : (old new : Option (List ℕ)) (out bytes : List ℕ) → old ≡ Some out → Appends old new bytes →
+pub written_is : (old new : Option (List ℕ)) (out bytes : List ℕ) → old ≡ Some out → Appends old new bytes →
     new ≡ Some (out ++ bytes)
 written_is None new out bytes e a = cc
 written_is (Some xs) None out bytes e a = absurd a

@@ -14,7 +14,7 @@ use Rattle.s2calc.specs.Replies.{Reply, Says, is_refusal}
 use Rattle.s2calc.specs.Texts.{done_line}
 use Rattle.s2calc.specs.Edits.{leaves_of}
 use Rattle.s2calc.specs.Step.{Step}
-use Rattle.s2calc.specs.Run.{Ends, Finishes, Steps}
+use Rattle.s2calc.specs.Run.{Ends, Finishes, StopsReading, StopsWriting, Steps}
 use Rattle.s2calc.specs.Laws.{SameWorld, IsPlain, AllPlain}
 
 -- the writer holds the same bytes, the lines had the same replies and tally, and the states and the files are the same
@@ -37,6 +37,39 @@ OneEnd =
     → (run : Finishes ends old new tally) (other : Finishes ends' old' new' tally') → AllPlain run.replies →
     AllPlain other.replies
     → SameEnd ends ends' run.replies other.replies tally tally' new new'
+
+-- the writer holds the same bytes, the lines that were carried out had the same replies, and the states and the files
+-- are the same
+pub record SameStop (ends ends' : Ends) (replies replies' : List Reply) (new new' : World) : Type 0 where
+  pub written : ends.output_new ≡ ends'.output_new
+  pub replies_are : replies ≡ replies'
+  pub world : SameWorld new new'
+
+-- Two runs whose reading stopped have the same end if both stopped at the same byte of the same script, their writers
+-- held the same bytes, they began with the same state and the same known files, and no line of either was answered
+-- `error memory` or `error file`.
+abbrev pub OneEndOfInput : Type 0
+OneEndOfInput =
+    (ends ends' : Ends) (old old' new new' : World) (script out : List ℕ) →
+    SameWorld old old' → old.files.tells ≡ true
+    → ends.input_old ≡ Some script → ends'.input_old ≡ Some script → ends.input_new ≡ ends'.input_new →
+    ends.output_old ≡ Some out → ends'.output_old ≡ Some out
+    → (run : StopsReading ends old new) (other : StopsReading ends' old' new') → AllPlain run.replies →
+    AllPlain other.replies
+    → SameStop ends ends' run.replies other.replies new new'
+
+-- Two runs whose writers failed inside an answer have the same end if both wrote the same bytes, their readers told the
+-- same script, they began with the same state and the same known files, and no line of either was answered `error
+-- memory` or `error file`: the same lines were carried out, however the reads were cut.
+abbrev pub OneEndOfOutput : Type 0
+OneEndOfOutput =
+    (ends ends' : Ends) (old old' new new' : World) (script out : List ℕ) →
+    SameWorld old old' → old.files.tells ≡ true
+    → ends.input_old ≡ Some script → ends'.input_old ≡ Some script → ends.output_old ≡ Some out →
+    ends'.output_old ≡ Some out → ends.output_new ≡ ends'.output_new
+    → (run : StopsWriting ends old new) (other : StopsWriting ends' old' new') → AllPlain run.replies →
+    AllPlain other.replies
+    → SameStop ends ends' run.replies other.replies new new'
 
 -- each line says `undo`
 abbrev pub AllUndo : List (List ℕ) → Type 0

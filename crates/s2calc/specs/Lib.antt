@@ -15,6 +15,8 @@ pub mod Output
 pub mod Buffered
 pub mod Answer
 pub mod Execute
+pub mod Calls
+pub mod CallsOfRun
 pub mod Stands
 pub mod Laws
 pub mod LawsScripts

@@ -6,6 +6,7 @@ ghost use Rattle.s2cell.specs.Token.{token_of};
 ghost use Rattle.s2cell.specs.Debug.{debug_of};
 ghost use Rattle.s2union.specs.Denorm.{denormalised};
 ghost use Rattle.s2calc.specs.Output.{AppendsPart};
+ghost use Rattle.s2calc.specs.Calls.{NoneFailed, LastFailed};
 ghost use Rattle.s2calc.specs.Refusals.{name_of};
 ghost use Rattle.s2calc.specs.Replies.{text_of};
 ghost use Rattle.s2calc.specs.Answer.{reply_of, told};
@@ -15,13 +16,13 @@ ghost use Rattle.s2calc.specs.Texts.{listing};
 use crate::fault::RunFault;
 use crate::output::emit;
 use crate::refusal::Refusal;
+use crate::streams::Sink;
 use arrayvec::ArrayVec;
 use itoa::Buffer;
 use s2cell::{CellId, Square};
 use s2edit::{Editor, Register};
 use s2script::{Level, Modulus};
 use s2union::CellUnion;
-use std::io::Write;
 
 /// The answer to a line, until it is written. For a long answer it says only what to list.
 #[derive(Clone, Copy)]
@@ -64,7 +65,7 @@ pub enum Answer {
 }
 
 /// Writes an answer. It takes no memory: a long answer goes out line by line.
-pub(crate) fn write_answer<W: Write>(
+pub(crate) fn write_answer<W: Sink>(
     writer: &mut W,
     answer: &Answer,
     editor: &Editor,
@@ -74,6 +75,8 @@ pub(crate) fn write_answer<W: Write>(
     ensures err { OnErr result (AppendsPart (W.contents writer.old) (W.contents writer.new)
         (text_of (reply_of answer.now editor.now))) }
     ensures fault { IfErr result (λ fault. fault ≡ RunFault.Output) }
+    ensures none_failed { OnOk result (NoneFailed ⊥ (W.calls writer.old) (W.calls writer.new)) }
+    ensures failed { OnErr result (LastFailed ⊥ (W.calls writer.old) (W.calls writer.new)) }
 {
     match answer {
         Answer::Nothing => Ok(()),
@@ -118,10 +121,12 @@ fn done_line() -> &'static [u8]
 }
 
 /// Writes the tokens of cells, one a line, and then `end`.
-fn write_cells<W: Write>(writer: &mut W, cells: &[CellId]) -> Result<(), RunFault>
+fn write_cells<W: Sink>(writer: &mut W, cells: &[CellId]) -> Result<(), RunFault>
     ensures ok { OnOk result (Appends (W.contents writer.old) (W.contents writer.new) (listing cells.now)) }
     ensures err { OnErr result (AppendsPart (W.contents writer.old) (W.contents writer.new) (listing cells.now)) }
     ensures fault { IfErr result (λ fault. fault ≡ RunFault.Output) }
+    ensures none_failed { OnOk result (NoneFailed ⊥ (W.calls writer.old) (W.calls writer.new)) }
+    ensures failed { OnErr result (LastFailed ⊥ (W.calls writer.old) (W.calls writer.new)) }
 {
     for cell in cells {
         emit(writer, token_line(*cell).as_slice())?;
@@ -130,7 +135,7 @@ fn write_cells<W: Write>(writer: &mut W, cells: &[CellId]) -> Result<(), RunFaul
 }
 
 /// Writes the tokens of the cells that a union is cut to, one a line, and then `end`.
-fn write_cut<W: Write>(
+fn write_cut<W: Sink>(
     writer: &mut W,
     union: &CellUnion,
     least: Level,
@@ -141,6 +146,8 @@ fn write_cut<W: Write>(
     ensures err { OnErr result (AppendsPart (W.contents writer.old) (W.contents writer.new)
         (listing (denormalised least modulus union.now.cells))) }
     ensures fault { IfErr result (λ fault. fault ≡ RunFault.Output) }
+    ensures none_failed { OnOk result (NoneFailed ⊥ (W.calls writer.old) (W.calls writer.new)) }
+    ensures failed { OnErr result (LastFailed ⊥ (W.calls writer.old) (W.calls writer.new)) }
 {
     for cell in union.denormalized(least.number(), modulus.number()) {
         emit(writer, token_line(cell).as_slice())?;

@@ -4,12 +4,13 @@ ghost use Rattle.std.specs.Prelude.{vec_len, vec_capacity};
 ghost use Rattle.std.specs.Io.{WritesAtMost};
 ghost use Rattle.std.specs.Io.KnownBytes.{Keeps, WriteAppends};
 ghost use Rattle.s2calc.specs.Buffered.{written_to};
+ghost use Rattle.s2calc.specs.Calls.{NoneFailed, LastFlushed, LastFailed};
 
 use crate::limits::MOST_WAITING;
 use crate::output::write_out;
+use crate::streams::Sink;
 use std::alloc::{AllocError, Global};
 use std::io;
-use std::io::Write;
 use std::marker::Model;
 
 /// A writer that buffers what is written to it, and passes it to the writer below when it is flushed or when 64 KiB are
@@ -37,7 +38,7 @@ impl<W> Model for AnswerBuffer<W> {
     ghost invariant = { λ b. (vec_len b.waiting ≤ MOST_WAITING) × (MOST_WAITING ≤ vec_capacity b.waiting) };
 }
 
-impl<W: Write + Drop> AnswerBuffer<W> {
+impl<W: Sink + Drop> AnswerBuffer<W> {
     /// An empty buffer over a writer. If there is no memory, the writer is dropped.
     pub fn new(alloc: Global, writer: W) -> Result<AnswerBuffer<W>, AllocError>
         ensures writer { IfOk result (λ b. b.writer ≡ writer) }
@@ -65,12 +66,14 @@ impl<W> AnswerBuffer<W> {
     }
 }
 
-impl<W: Write> AnswerBuffer<W> {
+impl<W: Sink> AnswerBuffer<W> {
     /// Passes on what is waiting. If that fails, some of it still waits.
     fn hand_over(&mut self) -> io::Result<()>
         ensures kept { Keeps (written_to W.contents self.old) (written_to W.contents self.new) }
         ensures ok { OnOk result (self.new.waiting ≡ []) }
         ensures err { OnErr result (0 < length self.new.waiting) }
+        ensures none_failed { OnOk result (NoneFailed ⊥ (W.calls self.old.writer) (W.calls self.new.writer)) }
+        ensures failed { OnErr result (LastFailed ⊥ (W.calls self.old.writer) (W.calls self.new.writer)) }
     {
         let (written, ended) = write_out(&mut self.writer, self.waiting.as_slice());
         drop_front(&mut self.waiting, written);
@@ -78,8 +81,10 @@ impl<W: Write> AnswerBuffer<W> {
     }
 }
 
-impl<W: Write> Write for AnswerBuffer<W> {
+impl<W: Sink> Sink for AnswerBuffer<W> {
     ghost contents = { written_to W.contents };
+
+    ghost calls = { λ b. W.calls b.writer };
 
     /// Takes at least one byte, if there are any. Fails only if 64 KiB are waiting and can't be passed on.
     fn write(&mut self, bytes: &[u8]) -> io::Result<usize>
@@ -88,6 +93,12 @@ impl<W: Write> Write for AnswerBuffer<W> {
             bytes.now }
         ensures some { 0 < length bytes.now → IfOk result (λ count. 0 < count) }
         ensures full { OnErr result (MOST_WAITING ≤ length self.old.waiting) }
+        ensures takes { 0 < length bytes.now → IfOk result (λ count. 0 < count → NoneFailed ⊥ (W.calls self.old.writer)
+            (W.calls self.new.writer)) }
+        ensures takes_nothing { 0 < length bytes.now → IfOk result (λ count. count ≡ 0 →
+            LastFailed ⊥ (W.calls self.old.writer) (W.calls self.new.writer)) }
+        ensures failed { 0 < length bytes.now → OnErr result (LastFailed ⊥ (W.calls self.old.writer)
+            (W.calls self.new.writer)) }
     {
         if self.waiting.len() >= MOST_WAITING {
             self.hand_over()?;
@@ -100,6 +111,8 @@ impl<W: Write> Write for AnswerBuffer<W> {
     fn flush(&mut self) -> io::Result<()>
         ensures bytes { Keeps (written_to W.contents self.old) (written_to W.contents self.new) }
         ensures ok { OnOk result (self.new.waiting ≡ []) }
+        ensures flushed { OnOk result (LastFlushed ⊥ (W.calls self.old.writer) (W.calls self.new.writer)) }
+        ensures failed { OnErr result (LastFailed ⊥ (W.calls self.old.writer) (W.calls self.new.writer)) }
     {
         self.hand_over()?;
         self.writer.flush()

@@ -1,4 +1,6 @@
 //! The answer about a file.
+ghost use Rattle.std.specs.Prelude.{OnOk, OnErr};
+ghost use Rattle.s2calc.specs.Calls.{LastFlushed, LastFailed};
 ghost use Rattle.s2calc.specs.Check.{Checks, ChecksFile, ChecksAndTells, check_reply};
 
 use crate::answer::count_line;
@@ -6,21 +8,23 @@ use crate::fault::RunFault;
 use crate::fetch::fetch_union;
 use crate::program::{refuse, say};
 use crate::refusal::Refusal;
+use crate::streams::Sink;
 use s2script::name_in;
 use s2shelf::Shelf;
 use std::alloc::Global;
-use std::io::Write;
 
 /// Writes how many cells and leaves the union in a file has, or why there is none, and flushes. Answers false in the
 /// second case. Out of memory is an answer of the second kind, the line `error memory`.
-pub fn check_answer<S: Shelf, W: Write>(
+pub fn check_answer<S: Shelf, W: Sink>(
     alloc: Global,
     shelf: &mut S,
     name: &str,
     writer: &mut W,
 ) -> Result<bool, RunFault>
-    ensures { ChecksAndTells name.now (S.files shelf.old) (S.files shelf.new) (W.contents writer.old)
+    ensures answer { ChecksAndTells name.now (S.files shelf.old) (S.files shelf.new) (W.contents writer.old)
         (W.contents writer.new) result }
+    ensures flushed { OnOk result (LastFlushed ⊥ (W.calls writer.old) (W.calls writer.new)) }
+    ensures failed { OnErr result (LastFailed ⊥ (W.calls writer.old) (W.calls writer.new)) }
 {
     match check(alloc, shelf, name) {
         Ok((cells, leaves)) => say(count_line(cells, leaves).as_slice(), writer),

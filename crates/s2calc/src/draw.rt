@@ -1,5 +1,6 @@
 //! The answers with pictures.
-ghost use Rattle.std.specs.Prelude.{◌≡◌, MatchResult, IfOk, map, string_bytes};
+ghost use Rattle.std.specs.Prelude.{◌≡◌, MatchResult, OnOk, OnErr, IfOk, map, string_bytes};
+ghost use Rattle.s2calc.specs.Calls.{LastFlushed, LastFailed};
 ghost use Rattle.s2draw.specs.Picture.{picture};
 ghost use Rattle.s2script.specs.CellList.{cells_of};
 ghost use Rattle.s2calc.specs.Draw.{all_name_cells, Draws, DrawsFile, DrawsWords, DrawsAndTells, DrawsWordsAndTells};
@@ -9,25 +10,27 @@ use crate::fault::RunFault;
 use crate::fetch::fetch_union;
 use crate::program::{refuse, say};
 use crate::refusal::Refusal;
+use crate::streams::Sink;
 use s2cell::CellId;
 use s2draw::picture;
 use s2script::{cell_in, name_in};
 use s2shelf::Shelf;
 use std::alloc::{AllocError, Global};
-use std::io::Write;
 
 /// Writes the picture of the union in a file, or why there is none, and flushes. Answers false in the second case. If
 /// `curve`, the picture has the line through the middles of the cells. Out of memory is an answer of the second kind,
 /// the line `error memory`; a picture is complete before its first byte is written.
-pub fn draw_answer<S: Shelf, W: Write>(
+pub fn draw_answer<S: Shelf, W: Sink>(
     alloc: Global,
     shelf: &mut S,
     name: &str,
     curve: bool,
     writer: &mut W,
 ) -> Result<bool, RunFault>
-    ensures { DrawsAndTells name.now curve (S.files shelf.old) (S.files shelf.new) (W.contents writer.old)
+    ensures answer { DrawsAndTells name.now curve (S.files shelf.old) (S.files shelf.new) (W.contents writer.old)
         (W.contents writer.new) result }
+    ensures flushed { OnOk result (LastFlushed ⊥ (W.calls writer.old) (W.calls writer.new)) }
+    ensures failed { OnErr result (LastFailed ⊥ (W.calls writer.old) (W.calls writer.new)) }
 {
     match draw(alloc, shelf, name, curve) {
         Ok(picture) => say(picture.as_slice(), writer),
@@ -37,14 +40,16 @@ pub fn draw_answer<S: Shelf, W: Write>(
 
 /// Writes the picture of the cells that words name, in their order, or `error cell` if one of the words names none, and
 /// flushes. Otherwise as `draw_answer`.
-pub fn draw_cells_answer<W: Write>(
+pub fn draw_cells_answer<W: Sink>(
     alloc: Global,
     words: &[String],
     curve: bool,
     writer: &mut W,
 ) -> Result<bool, RunFault>
-    ensures { DrawsWordsAndTells (map string_bytes words.now) curve (W.contents writer.old) (W.contents writer.new)
-        result }
+    ensures answer { DrawsWordsAndTells (map string_bytes words.now) curve (W.contents writer.old)
+        (W.contents writer.new) result }
+    ensures flushed { OnOk result (LastFlushed ⊥ (W.calls writer.old) (W.calls writer.new)) }
+    ensures failed { OnErr result (LastFailed ⊥ (W.calls writer.old) (W.calls writer.new)) }
 {
     match draw_words(alloc, words, curve) {
         Ok(picture) => say(picture.as_slice(), writer),

@@ -12,6 +12,8 @@ ghost use Rattle.s2calc.specs.Step.{asks_for_file};
 ghost use Rattle.s2calc.specs.Run.{Runs, RunsPromptly};
 ghost use Rattle.s2calc.specs.Buffered.{written_to};
 ghost use Rattle.s2calc.specs.World.{World, world};
+ghost use Rattle.s2calc.specs.Calls.{NoneFailed, LastFlushed, LastFailed};
+ghost use Rattle.s2calc.specs.CallsOfRun.{ReadsOf, CallsOf};
 ghost use Rattle.s2calc.specs.Stands.{Stands, AnswersKept, StandsAfter, StopsInside, StopsBeside, Closes, RunsBy};
 ghost use Rattle.s2calc.specs.Noting.{noted_by};
 ghost use Rattle.s2calc.specs.Explained.{Point, point, RunsExplained};
@@ -23,11 +25,11 @@ use crate::flushing::{AtTheEnd, Flushing, Promptly, around_file_command};
 use crate::limits::{MOST_WAITING, READ_SIZE};
 use crate::notes::{NoNotes, NoteWriter, Notes};
 use crate::progress::Progress;
+use crate::streams::{Sink, Source};
 use s2edit::Editor;
 use s2script::parse;
 use s2shelf::Shelf;
 use std::alloc::Global;
-use std::io::{Read, Write};
 
 /// How many lines were answered, and how many of them were refused. Each number stops at its greatest value.
 #[derive(Clone, Copy, Debug, PartialEq, Eq)]
@@ -64,7 +66,7 @@ fn newline_in(bytes: &[u8]) -> Option<usize>
 }
 
 /// Takes the next bytes of a script, and carries out each line that ends in them.
-fn take_in<W: Write, S: Shelf, F: Flushing<W>, N: Notes>(
+fn take_in<W: Sink, S: Shelf, F: Flushing<W>, N: Notes>(
     alloc: Global,
     editor: &mut Editor,
     progress: &mut Progress,
@@ -85,6 +87,8 @@ fn take_in<W: Write, S: Shelf, F: Flushing<W>, N: Notes>(
         (point (world editor.new (S.files shelf.new)) (N.noted notes.new))
         (W.contents writer.old) (W.contents writer.new))) }
     ensures fault { IfErr result (λ fault. fault ≡ RunFault.Output) }
+    ensures none_failed { OnOk result (NoneFailed F.may_fail (W.calls writer.old) (W.calls writer.new)) }
+    ensures failed { OnErr result (LastFailed F.may_fail (W.calls writer.old) (W.calls writer.new)) }
 {
     let mut rest = chunk;
     while let Some(at) = newline_in(rest) {
@@ -99,7 +103,7 @@ fn take_in<W: Write, S: Shelf, F: Flushing<W>, N: Notes>(
 
 /// Carries out the line that is kept, writes its answer, counts it, and says why it is refused, if it is. If it asks
 /// for a command with a file, all earlier answers are handed over before it is carried out, and its own after that.
-fn answer_kept<W: Write, S: Shelf, F: Flushing<W>, N: Notes>(
+fn answer_kept<W: Sink, S: Shelf, F: Flushing<W>, N: Notes>(
     alloc: Global,
     editor: &mut Editor,
     progress: &mut Progress,
@@ -111,6 +115,8 @@ fn answer_kept<W: Write, S: Shelf, F: Flushing<W>, N: Notes>(
         progress.old (point (world editor.new (S.files shelf.new)) (N.noted notes.new)) progress.new
         (W.contents writer.old) (W.contents writer.new) result }
     ensures sent { OnOk result (asks_for_file (line_of progress.old.kept) ≡ true → F.is_sent writer.new) }
+    ensures none_failed { OnOk result (NoneFailed F.may_fail (W.calls writer.old) (W.calls writer.new)) }
+    ensures failed { OnErr result (LastFailed F.may_fail (W.calls writer.old) (W.calls writer.new)) }
 {
     let said = parse(progress.kept.as_slice());
     let has_file = asks_for_file(&said);
@@ -131,11 +137,12 @@ fn answer_kept<W: Write, S: Shelf, F: Flushing<W>, N: Notes>(
 /// have not come to the end) exactly the lines that were read whole were carried out, and exactly their answers were
 /// written. After `Output`, either a write failed or took nothing, and then some bytes of an answer are missing and the
 /// line that it answers was carried out; or the flush failed, and then all lines were carried out and all answers were
-/// written. A failed call is not retried.
+/// written. Each of the two is answered only if a call failed so. Nothing is called after a failed call, so none is
+/// retried.
 ///
 /// Each list of the editor is the normal form of its leaves, before and after the run, and so are the lists in the
 /// answers.
-pub fn run<R: Read, W: Write, S: Shelf>(
+pub fn run<R: Source, W: Sink, S: Shelf>(
     alloc: Global,
     editor: &mut Editor,
     reader: &mut R,
@@ -148,6 +155,8 @@ pub fn run<R: Read, W: Write, S: Shelf>(
       output_old = W.contents writer.old;
       output_new = W.contents writer.new;
     }) (world editor.old (S.files shelf.old)) (world editor.new (S.files shelf.new)) result }
+    ensures reads { ReadsOf (R.reads reader.old) (R.reads reader.new) result }
+    ensures calls { CallsOf ⊥ (W.calls writer.old) (W.calls writer.new) result }
     ensures before { EachList (λ u. IsNormalForm (has_leaf u) u) editor.old }
     ensures after { EachList (λ u. IsNormalForm (has_leaf u) u) editor.new }
 {
@@ -177,7 +186,7 @@ pub fn run<R: Read, W: Write, S: Shelf>(
 /// or after a command with a file failed, and then it is exactly the answers to the lines that were carried out: those
 /// before the command, or the command too. At most 64 KiB of it wait in the buffer, and are lost when the buffer is
 /// dropped.
-pub fn run_promptly<R: Read, W: Write, S: Shelf>(
+pub fn run_promptly<R: Source, W: Sink, S: Shelf>(
     alloc: Global,
     editor: &mut Editor,
     reader: &mut R,
@@ -193,6 +202,8 @@ pub fn run_promptly<R: Read, W: Write, S: Shelf>(
     ensures nothing_waits { MatchResult result (λ _. writer.new.waiting ≡ []) (λ fault. fault ≡ RunFault.Input →
         writer.new.waiting ≡ []) }
     ensures few_wait { length writer.new.waiting ≤ MOST_WAITING }
+    ensures reads { ReadsOf (R.reads reader.old) (R.reads reader.new) result }
+    ensures calls { CallsOf (Unit {0}) (W.calls writer.old.writer) (W.calls writer.new.writer) result }
     ensures before { EachList (λ u. IsNormalForm (has_leaf u) u) editor.old }
     ensures after { EachList (λ u. IsNormalForm (has_leaf u) u) editor.new }
 {
@@ -217,7 +228,7 @@ pub fn run_promptly<R: Read, W: Write, S: Shelf>(
 /// The notes are those on the lines that were carried out, with the replies that they had. If the output failed inside
 /// an answer, there is none on that last line. If a note can't be written, the run goes on, and no more notes are
 /// written; the notes that were written are then a beginning of those.
-pub fn run_explained<R: Read, W: Write, S: Shelf, N: Write>(
+pub fn run_explained<R: Source, W: Sink, S: Shelf, N: Sink>(
     alloc: Global,
     editor: &mut Editor,
     reader: &mut R,
@@ -235,6 +246,8 @@ pub fn run_explained<R: Read, W: Write, S: Shelf, N: Write>(
     ensures nothing_waits { MatchResult result (λ _. writer.new.waiting ≡ []) (λ fault. fault ≡ RunFault.Input →
         writer.new.waiting ≡ []) }
     ensures few_wait { length writer.new.waiting ≤ MOST_WAITING }
+    ensures reads { ReadsOf (R.reads reader.old) (R.reads reader.new) result }
+    ensures calls { CallsOf (Unit {0}) (W.calls writer.old.writer) (W.calls writer.new.writer) result }
     ensures before { EachList (λ u. IsNormalForm (has_leaf u) u) editor.old }
     ensures after { EachList (λ u. IsNormalForm (has_leaf u) u) editor.new }
 {
@@ -256,7 +269,7 @@ fn input_buffer(alloc: Global) -> Result<Vec<u8>, RunFault>
 }
 
 /// The run, over a buffer for the reader.
-fn run_over<R: Read, W: Write, S: Shelf, F: Flushing<W>, N: Notes>(
+fn run_over<R: Source, W: Sink, S: Shelf, F: Flushing<W>, N: Notes>(
     alloc: Global,
     input: &mut [u8],
     editor: &mut Editor,
@@ -275,6 +288,8 @@ fn run_over<R: Read, W: Write, S: Shelf, F: Flushing<W>, N: Notes>(
         (point (world editor.new (S.files shelf.new)) (N.noted notes.new)) result }
     ensures sent { MatchResult result (λ _. F.is_sent writer.new) (λ fault. fault ≡ RunFault.Input →
         F.is_sent writer.new) }
+    ensures reads { ReadsOf (R.reads reader.old) (R.reads reader.new) result }
+    ensures calls { CallsOf F.may_fail (W.calls writer.old) (W.calls writer.new) result }
 {
     let mut progress = Progress::new();
     for _ in 0..u64::MAX {
@@ -299,7 +314,7 @@ fn run_over<R: Read, W: Write, S: Shelf, F: Flushing<W>, N: Notes>(
 }
 
 /// Carries out a last line without a newline, and flushes.
-fn finish<W: Write, S: Shelf, F: Flushing<W>, N: Notes>(
+fn finish<W: Sink, S: Shelf, F: Flushing<W>, N: Notes>(
     alloc: Global,
     editor: &mut Editor,
     mut progress: Progress,
@@ -312,6 +327,8 @@ fn finish<W: Write, S: Shelf, F: Flushing<W>, N: Notes>(
         Closes F.may_fail start script replies (point (world editor.new (S.files shelf.new)) (N.noted notes.new))
         (W.contents writer.old) (W.contents writer.new) result }
     ensures sent { MatchResult result (λ _. F.is_sent writer.new) (λ fault. fault ≡ RunFault.Output) }
+    ensures flushed { OnOk result (LastFlushed F.may_fail (W.calls writer.old) (W.calls writer.new)) }
+    ensures failed { OnErr result (LastFailed F.may_fail (W.calls writer.old) (W.calls writer.new)) }
 {
     if progress.kept.as_slice().is_empty() {
         return flush_at_the_end::<W, F>(progress.tally, writer);
@@ -321,13 +338,15 @@ fn finish<W: Write, S: Shelf, F: Flushing<W>, N: Notes>(
 }
 
 /// Flushes the writer, and answers how many lines were answered.
-fn flush_at_the_end<W: Write, F: Flushing<W>>(
+fn flush_at_the_end<W: Sink, F: Flushing<W>>(
     tally: Tally,
     writer: &mut W,
 ) -> Result<Tally, RunFault>
     ensures kept { Keeps (W.contents writer.old) (W.contents writer.new) }
     ensures result { MatchResult result (λ told. told ≡ tally) (λ fault. fault ≡ RunFault.Output) }
     ensures sent { OnOk result (F.is_sent writer.new) }
+    ensures flushed { OnOk result (LastFlushed F.may_fail (W.calls writer.old) (W.calls writer.new)) }
+    ensures failed { OnErr result (LastFailed F.may_fail (W.calls writer.old) (W.calls writer.new)) }
 {
     F::at_the_end(writer)?;
     Ok(tally)

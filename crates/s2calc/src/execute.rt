@@ -1,5 +1,6 @@
 //! Carrying out a line.
-ghost use Rattle.std.specs.Prelude.{◌≡◌, true, IfErr};
+ghost use Rattle.std.specs.Prelude.{◌≡◌, true, OnOk, OnErr, IfErr};
+ghost use Rattle.s2calc.specs.Calls.{NoneFailed, LastFailed};
 ghost use Rattle.s2calc.specs.Execute.{Executes, outcome_of};
 ghost use Rattle.s2calc.specs.Answer.{reply_of};
 ghost use Rattle.s2calc.specs.Step.{StepBy, Acts, uses_file, asks_for_file};
@@ -13,11 +14,11 @@ use crate::flushing::Flushing;
 use crate::questions::answer_to;
 use crate::refusal::Refusal;
 use crate::sessions::{dump, restore};
+use crate::streams::Sink;
 use s2edit::Editor;
 use s2script::{Command, Parsed};
 use s2shelf::Shelf;
 use std::alloc::Global;
-use std::io::Write;
 
 /// How a line was answered.
 #[derive(Clone, Copy, Debug, PartialEq, Eq)]
@@ -32,7 +33,7 @@ pub enum Outcome {
 
 /// Carries out what a line says, and writes its answer. If the writer fails, it was still carried out. Nothing waits in
 /// the writer when a command with a file is carried out.
-pub(crate) fn execute<W: Write, S: Shelf, F: Flushing<W>>(
+pub(crate) fn execute<W: Sink, S: Shelf, F: Flushing<W>>(
     alloc: Global,
     editor: &mut Editor,
     said: Parsed<'_>,
@@ -43,6 +44,8 @@ pub(crate) fn execute<W: Write, S: Shelf, F: Flushing<W>>(
     ensures executes { Executes (world editor.old (S.files shelf.old)) said.entry
         (world editor.new (S.files shelf.new)) (W.contents writer.old) (W.contents writer.new) result }
     ensures fault { IfErr result (λ fault. fault ≡ RunFault.Output) }
+    ensures none_failed { OnOk result (NoneFailed ⊥ (W.calls writer.old) (W.calls writer.new)) }
+    ensures failed { OnErr result (LastFailed ⊥ (W.calls writer.old) (W.calls writer.new)) }
 {
     let answer = carry_out(alloc, editor, said, shelf);
     write_answer(writer, &answer, editor)?;

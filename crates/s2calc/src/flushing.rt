@@ -1,15 +1,16 @@
 //! When a run flushes its writer.
-ghost use Rattle.std.specs.Prelude.{◌≡◌, true, [], OnOk, IfErr};
+ghost use Rattle.std.specs.Prelude.{◌≡◌, true, [], OnOk, OnErr, IfErr};
 ghost use Rattle.std.specs.Io.KnownBytes.{Keeps};
 ghost use Rattle.s2calc.specs.Buffered.{written_to};
+ghost use Rattle.s2calc.specs.Calls.{NoneFailed, LastFlushed, LastFailed};
 
 use crate::answer_buffer::AnswerBuffer;
 use crate::fault::RunFault;
 use crate::output::flush;
-use std::io::Write;
+use crate::streams::Sink;
 
 /// When a run flushes its writer besides at the end, and what is known of the writer then.
-pub(crate) trait Flushing<W: Write> {
+pub(crate) trait Flushing<W: Sink> {
     // nothing that was written waits in the writer
     ghost is_sent: { W → Type 0 };
 
@@ -20,19 +21,23 @@ pub(crate) trait Flushing<W: Write> {
     fn in_between(writer: &mut W) -> Result<(), RunFault>
         ensures kept { Keeps (W.contents writer.old) (W.contents writer.new) }
         ensures sent { OnOk result (is_sent writer.new) }
-        ensures fault { IfErr result (λ fault. (fault ≡ RunFault.Output) × may_fail) };
+        ensures fault { IfErr result (λ fault. (fault ≡ RunFault.Output) × may_fail) }
+        ensures none_failed { OnOk result (NoneFailed may_fail (W.calls writer.old) (W.calls writer.new)) }
+        ensures failed { OnErr result (LastFailed may_fail (W.calls writer.old) (W.calls writer.new)) };
 
     /// The flush at the end.
     fn at_the_end(writer: &mut W) -> Result<(), RunFault>
         ensures kept { Keeps (W.contents writer.old) (W.contents writer.new) }
         ensures sent { OnOk result (is_sent writer.new) }
-        ensures fault { IfErr result (λ fault. fault ≡ RunFault.Output) };
+        ensures fault { IfErr result (λ fault. fault ≡ RunFault.Output) }
+        ensures flushed { OnOk result (LastFlushed may_fail (W.calls writer.old) (W.calls writer.new)) }
+        ensures failed { OnErr result (LastFailed may_fail (W.calls writer.old) (W.calls writer.new)) };
 }
 
 /// Nothing happens before the end. It isn't known what waits in a writer of any kind.
 pub(crate) struct AtTheEnd;
 
-impl<W: Write> Flushing<W> for AtTheEnd {
+impl<W: Sink> Flushing<W> for AtTheEnd {
     ghost is_sent = { λ _. Unit {0} };
 
     ghost may_fail = { ⊥ };
@@ -49,7 +54,7 @@ impl<W: Write> Flushing<W> for AtTheEnd {
 /// The buffer is flushed each time.
 pub(crate) struct Promptly;
 
-impl<W: Write> Flushing<AnswerBuffer<W>> for Promptly {
+impl<W: Sink> Flushing<AnswerBuffer<W>> for Promptly {
     ghost is_sent = { λ b. b.waiting ≡ [] };
 
     ghost may_fail = { Unit {0} };
@@ -64,10 +69,12 @@ impl<W: Write> Flushing<AnswerBuffer<W>> for Promptly {
 }
 
 /// Flushes the buffer.
-fn flush_buffer<W: Write>(writer: &mut AnswerBuffer<W>) -> Result<(), RunFault>
+fn flush_buffer<W: Sink>(writer: &mut AnswerBuffer<W>) -> Result<(), RunFault>
     ensures kept { Keeps (written_to W.contents writer.old) (written_to W.contents writer.new) }
     ensures sent { OnOk result (writer.new.waiting ≡ []) }
     ensures fault { IfErr result (λ fault. fault ≡ RunFault.Output) }
+    ensures flushed { OnOk result (LastFlushed ⊥ (W.calls writer.old.writer) (W.calls writer.new.writer)) }
+    ensures failed { OnErr result (LastFailed ⊥ (W.calls writer.old.writer) (W.calls writer.new.writer)) }
 {
     match writer.flush() {
         Ok(()) => Ok(()),
@@ -76,13 +83,15 @@ fn flush_buffer<W: Write>(writer: &mut AnswerBuffer<W>) -> Result<(), RunFault>
 }
 
 /// What happens before and after a line, if it asks for a command with a file.
-pub(crate) fn around_file_command<W: Write, F: Flushing<W>>(
+pub(crate) fn around_file_command<W: Sink, F: Flushing<W>>(
     has_file: bool,
     writer: &mut W,
 ) -> Result<(), RunFault>
     ensures kept { Keeps (W.contents writer.old) (W.contents writer.new) }
     ensures sent { OnOk result (has_file ≡ true → F.is_sent writer.new) }
     ensures fault { IfErr result (λ fault. (fault ≡ RunFault.Output) × F.may_fail × (has_file ≡ true)) }
+    ensures none_failed { OnOk result (NoneFailed F.may_fail (W.calls writer.old) (W.calls writer.new)) }
+    ensures failed { OnErr result (LastFailed F.may_fail (W.calls writer.old) (W.calls writer.new)) }
 {
     if has_file {
         F::in_between(writer)

@@ -1,6 +1,6 @@
 //! Laws about the definitions.
 ghost use Rattle.s2calc.specs.Laws.{TellsWhole, OneRun, CountsFailures, FilesStay};
-ghost use Rattle.s2calc.specs.LawsScripts.{OneEnd, LawOfUndo, RestoreGivesBack};
+ghost use Rattle.s2calc.specs.LawsScripts.{OneEnd, OneEndOfInput, OneEndOfOutput, LawOfUndo, RestoreGivesBack};
 
 /// If the reader exposes its bytes, a run that finishes has carried out the lines of exactly these bytes.
 pub fn whole_script()
@@ -27,6 +27,17 @@ pub fn files_stay()
 /// the tally, the state and the known files are one function of the script, the first state and the first files.
 pub fn one_end()
     ensures { OneEnd }
+{}
+
+/// If no line is answered `error memory` or `error file`, runs whose reading stopped at the same byte have one end.
+pub fn one_end_of_input()
+    ensures { OneEndOfInput }
+{}
+
+/// If no line is answered `error memory` or `error file`, runs whose writers failed at the same byte of the answers
+/// have one end.
+pub fn one_end_of_output()
+    ensures { OneEndOfOutput }
 {}
 
 /// As far as the history reaches, undo gives each earlier table back, list for list and byte for byte.

@@ -5,7 +5,8 @@
 //! A line flows one way: bytes (`engine`, `progress`, `kept`) -> what it says (the crate `s2script`) -> its effect
 //! (`execute`: `edits`, `files`, `sessions`, `questions`; `fetch` asks the shelf) -> an `answer` -> bytes
 //! (`output`, `answer_buffer`). `refusal` says why a line is refused, `notes` writes that to whoever asks, `fault` is
-//! what ends a run, `flushing` when the writer is flushed; `limits` are the limits, `laws` laws about the definitions.
+//! what ends a run, `streams` what it reads from and writes to, `flushing` when the writer is flushed; `limits` are the
+//! limits, `laws` laws about the definitions.
 //! For the program: `command_line`, `help` and `task` (what it is asked for), `program`, `check` and `draw` (its other
 //! answers).
 #![tactic(auto)]
@@ -33,6 +34,7 @@ mod progress;
 mod questions;
 mod refusal;
 mod sessions;
+mod streams;
 mod task;
 
 pub use answer_buffer::AnswerBuffer;
@@ -44,4 +46,5 @@ pub use fault::RunFault;
 pub use notes::NoteWriter;
 pub use program::{answer_status, cell_answer, status};
 pub use refusal::Refusal;
+pub use streams::{Sink, Source, Stream};
 pub use task::{Job, Stop};

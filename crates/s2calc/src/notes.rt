@@ -11,10 +11,10 @@ use crate::execute::Outcome;
 use crate::limits::NOTE_ROOM;
 use crate::output::emit;
 use crate::refusal::Refusal;
+use crate::streams::Sink;
 use s2script::misfit_of;
 use std::alloc::{AllocError, Global};
 use std::fmt;
-use std::io::Write;
 use std::marker::Model;
 
 /// Where notes on refused lines go.
@@ -113,7 +113,7 @@ impl<W> Model for NoteWriter<W> {
     ghost view = { λ n. record { writer = n.writer; stopped = n.stopped } };
 }
 
-impl<W: Write + Drop> NoteWriter<W> {
+impl<W: Sink + Drop> NoteWriter<W> {
     /// A writer of notes over a writer. Takes room for the longest note. If there is no memory, the writer is dropped.
     pub fn new(alloc: Global, writer: W) -> Result<NoteWriter<W>, AllocError>
         ensures writer { IfOk result (λ n. n.writer ≡ writer) }
@@ -144,7 +144,7 @@ impl<W> NoteWriter<W> {
     }
 }
 
-impl<W: Write> NoteWriter<W> {
+impl<W: Sink> NoteWriter<W> {
     /// Writes a note, unless it has stopped.
     fn write_note(&mut self, note: Note<'_>)
         ensures { WritesNotes (noted_by W.contents self.old)
@@ -165,7 +165,7 @@ impl<W: Write> NoteWriter<W> {
     }
 }
 
-impl<W: Write> Notes for NoteWriter<W> {
+impl<W: Sink> Notes for NoteWriter<W> {
     ghost noted = { noted_by W.contents };
 
     fn note(&mut self, number: u64, line: &[u8], outcome: Outcome) {

@@ -2,6 +2,7 @@
 ghost use Rattle.std.specs.Prelude.{◌≡◌, OnOk, OnErr, IfOk, IfErr, not};
 ghost use Rattle.std.specs.Io.KnownBytes.{Appends};
 ghost use Rattle.s2calc.specs.Output.{AppendsUnflushed};
+ghost use Rattle.s2calc.specs.Calls.{LastFlushed, LastFailed};
 ghost use Rattle.s2calc.specs.Replies.{Says, Refuses, text_of, is_refusal};
 ghost use Rattle.s2calc.specs.Program.{ShowsReply, cell_reply, status_of, status_of_answer};
 
@@ -10,18 +11,20 @@ use crate::engine::Tally;
 use crate::fault::RunFault;
 use crate::output::{emit, flush};
 use crate::refusal::Refusal;
+use crate::streams::Sink;
 use s2script::cell_in;
-use std::io::Write;
 
 /// Writes what is known of the cell that the word names, and flushes. If it names none, writes that and answers false.
 /// Takes no memory.
-pub fn cell_answer<W: Write>(word: &[u8], writer: &mut W) -> Result<bool, RunFault>
+pub fn cell_answer<W: Sink>(word: &[u8], writer: &mut W) -> Result<bool, RunFault>
     ensures ok { OnOk result (Appends (W.contents writer.old) (W.contents writer.new) (text_of (cell_reply word.now))) }
     ensures named { IfOk result (λ named. named ≡ not (is_refusal (cell_reply word.now))) }
     // Bytes of the line are missing, or all of it was written and the flush failed.
     ensures err { OnErr result (AppendsUnflushed (W.contents writer.old) (W.contents writer.new)
         (text_of (cell_reply word.now))) }
     ensures fault { IfErr result (λ fault. fault ≡ RunFault.Output) }
+    ensures flushed { OnOk result (LastFlushed ⊥ (W.calls writer.old) (W.calls writer.new)) }
+    ensures failed { OnErr result (LastFailed ⊥ (W.calls writer.old) (W.calls writer.new)) }
 {
     match cell_in(word) {
         Some(cell) => say(cell_line(cell).as_slice(), writer),
@@ -30,26 +33,32 @@ pub fn cell_answer<W: Write>(word: &[u8], writer: &mut W) -> Result<bool, RunFau
 }
 
 /// Writes an answer that is not a refusal, and flushes.
-pub(crate) fn say<W: Write>(text: &[u8], writer: &mut W) -> Result<bool, RunFault>
-    ensures { ShowsReply (Says text.now) (W.contents writer.old) (W.contents writer.new) result }
+pub(crate) fn say<W: Sink>(text: &[u8], writer: &mut W) -> Result<bool, RunFault>
+    ensures shows { ShowsReply (Says text.now) (W.contents writer.old) (W.contents writer.new) result }
+    ensures flushed { OnOk result (LastFlushed ⊥ (W.calls writer.old) (W.calls writer.new)) }
+    ensures failed { OnErr result (LastFailed ⊥ (W.calls writer.old) (W.calls writer.new)) }
 {
     write_line(text, writer)?;
     Ok(true)
 }
 
 /// Writes why there is no other answer, and flushes.
-pub(crate) fn refuse<W: Write>(refusal: Refusal, writer: &mut W) -> Result<bool, RunFault>
-    ensures { ShowsReply (Refuses refusal) (W.contents writer.old) (W.contents writer.new) result }
+pub(crate) fn refuse<W: Sink>(refusal: Refusal, writer: &mut W) -> Result<bool, RunFault>
+    ensures shows { ShowsReply (Refuses refusal) (W.contents writer.old) (W.contents writer.new) result }
+    ensures flushed { OnOk result (LastFlushed ⊥ (W.calls writer.old) (W.calls writer.new)) }
+    ensures failed { OnErr result (LastFailed ⊥ (W.calls writer.old) (W.calls writer.new)) }
 {
     write_line(error_line(refusal).as_slice(), writer)?;
     Ok(false)
 }
 
 /// Writes bytes and flushes.
-fn write_line<W: Write>(line: &[u8], writer: &mut W) -> Result<(), RunFault>
+fn write_line<W: Sink>(line: &[u8], writer: &mut W) -> Result<(), RunFault>
     ensures ok { OnOk result (Appends (W.contents writer.old) (W.contents writer.new) line.now) }
     ensures err { OnErr result (AppendsUnflushed (W.contents writer.old) (W.contents writer.new) line.now) }
     ensures fault { IfErr result (λ fault. fault ≡ RunFault.Output) }
+    ensures flushed { OnOk result (LastFlushed ⊥ (W.calls writer.old) (W.calls writer.new)) }
+    ensures failed { OnErr result (LastFailed ⊥ (W.calls writer.old) (W.calls writer.new)) }
 {
     emit(writer, line)?;
     flush(writer)

@@ -1,11 +1,12 @@
 //! A writer and a shelf that log their calls in one text, in the order in which they come.
 ghost use Rattle.std.specs.Prelude.{◌≡◌, IfErr};
 
+use s2calc::Sink;
 use s2shelf::{Shelf, ShelfFault};
 use std::alloc::Global;
 use std::cell::RefCell;
 use std::io;
-use std::io::{Empty, ErrorKind, Write};
+use std::io::{Empty, ErrorKind};
 
 /// A writer that logs the bytes that it takes, and a bar for each flush.
 #[derive(Drop)]
@@ -13,7 +14,7 @@ pub struct LoggedWriter<'a> {
     pub log: &'a RefCell<Vec<u8>>,
 }
 
-impl Write for LoggedWriter<'_> {
+impl Sink for LoggedWriter<'_> {
     fn write(&mut self, buf: &[u8]) -> io::Result<usize> {
         match self.log.try_borrow_mut() {
             Ok(mut log) => {

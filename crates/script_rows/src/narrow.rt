@@ -1,9 +1,10 @@
 //! A writer that takes a few bytes per call, and may fail.
 ghost use Rattle.std.specs.Prelude.{◌≡◌, Some, [], IfOk};
 
+use s2calc::Sink;
 use std::alloc::{AllocError, Global};
 use std::io;
-use std::io::{ErrorKind, Write};
+use std::io::ErrorKind;
 
 /// How a call of `Narrow` fails.
 #[derive(Clone, Copy, PartialEq, Eq, Debug)]
@@ -78,7 +79,7 @@ impl Narrow {
     }
 }
 
-impl Write for Narrow {
+impl Sink for Narrow {
     ghost contents = { λ n. Some n.written.items };
 
     /// Fails as a call that was interrupted, which may be tried again in other places.

@@ -1,8 +1,9 @@
 //! A reader that cuts its bytes into pieces, and may fail.
 ghost use Rattle.std.specs.Prelude.{◌≡◌, ◌<◌, Some};
 
+use s2calc::Source;
 use std::io;
-use std::io::{ErrorKind, Read};
+use std::io::ErrorKind;
 
 /// Gives its bytes in pieces of one size, and may fail at one call.
 #[derive(Drop)]
@@ -34,7 +35,7 @@ impl<'a> Pieces<'a> {
     }
 }
 
-impl Read for Pieces<'_> {
+impl Source for Pieces<'_> {
     ghost remaining = { λ p. Some p.rest.now };
 
     /// Fails as a call that was interrupted, which may be tried again in other places.

@@ -1,6 +1,8 @@
 use Rattle.std.proofs.Common.{ap, ◌∙◌}
+use Rattle.std.proofs.lemmas.Result.{err_from_is_err_and, IfOk-weaker, IfErr-weaker}
 use Rattle.s2script.specs.Line.{line_of}
 use Rattle.s2calc.proofs.AnswerLemmas.{Answered-between, AnswersKept-flushed}
+use Rattle.s2calc.proofs.CallLemmas.{none_failed_more, none_failed_may, last_failed_may, last_failed_after}
 use Rattle.s2calc.proofs.engine.answer_kept.Goals as goal
 
 pub returns-clause-answers : goal.returns-clause-answers
@@ -13,3 +15,19 @@ returns-clause-answers g c =
     c.around_file_command-2.ensures.kept c.count.ensures.kept
     (λ replies e. c.count.ensures.tally done.reply replies done.writes.0 e) c.count.ensures.lines
     (c.as_slice-2.ensures ∙ c.count.ensures.kept) (c.note.ensures done.reply done.writes.0))
+
+pub returns-in_err-outcome-clause-failed : goal.returns-in_err-outcome-clause-failed
+returns-in_err-outcome-clause-failed g c =
+    let p = err_from_is_err_and c.from_residual-in_err-outcome.result c.from_residual-in_err-outcome.ensures.1 in
+    rw p.1 (last_failed_after _ _ _ _ c.in_ok-around_file_command.ensures.none_failed
+    (last_failed_may _ _ _ c.in_err-outcome.ensures.failed))
+
+pub returns-clause-none_failed : goal.returns-clause-none_failed
+returns-clause-none_failed g c = IfOk-weaker c.around_file_command-2.result _ _
+    (λ u q. none_failed_more _ _ _ _ (none_failed_more _ _ _ _ c.in_ok-around_file_command.ensures.none_failed
+    (none_failed_may _ _ _ c.in_ok-outcome.ensures.none_failed)) q) c.around_file_command-2.ensures.none_failed
+
+pub returns-clause-failed : goal.returns-clause-failed
+returns-clause-failed g c = IfErr-weaker c.around_file_command-2.result _ _
+    (λ fault q. last_failed_after _ _ _ _ (none_failed_more _ _ _ _ c.in_ok-around_file_command.ensures.none_failed
+    (none_failed_may _ _ _ c.in_ok-outcome.ensures.none_failed)) q) c.around_file_command-2.ensures.failed

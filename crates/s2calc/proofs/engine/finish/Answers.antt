@@ -1,6 +1,7 @@
 use Rattle.std.proofs.Common.{◌≡◌, ◌<◌, [], length, arith, inl, inr}
 use Rattle.std.proofs.lemmas.Grind.{common_steps}
-use Rattle.std.proofs.lemmas.Result.{err_from_is_err_and, MatchResult-weaker}
+use Rattle.std.proofs.lemmas.Result.{err_from_is_err_and, MatchResult-weaker, IfOk-weaker, IfErr-weaker}
+use Rattle.s2calc.proofs.CallLemmas.{last_flushed_after, last_failed_after}
 use Rattle.s2calc.proofs.CloseLemmas.{Ended-none, EndsUnflushed-none, Ended-line, EndsUnflushed-line, EndsInPart-part}
 use Rattle.s2calc.proofs.CloseLemmas.{Ends-unflushed}
 use Rattle.s2calc.proofs.engine.finish.Goals as goal
@@ -37,3 +38,12 @@ returns-clause-closes g c =
       f,
       inr (inl (EndsUnflushed-line start script replies _ _ s _ some _ _ _ _ done c.flush_at_the_end-2.ensures.kept)),
     ))
+
+pub returns-clause-flushed : goal.returns-clause-flushed
+returns-clause-flushed g c = IfOk-weaker c.flush_at_the_end-2.result _ _
+    (λ told q. last_flushed_after _ _ _ _ c.in_ok-answer_kept.ensures.none_failed q)
+    c.flush_at_the_end-2.ensures.flushed
+
+pub returns-clause-failed : goal.returns-clause-failed
+returns-clause-failed g c = IfErr-weaker c.flush_at_the_end-2.result _ _
+    (λ fault q. last_failed_after _ _ _ _ c.in_ok-answer_kept.ensures.none_failed q) c.flush_at_the_end-2.ensures.failed

@@ -1,14 +1,24 @@
-use Rattle.std.proofs.Common.{[], ◌++◌, take, arith, inl, inr}
+use Rattle.std.proofs.Common.{ℕ, ◌+◌, [], ◌++◌, None, take, refl, subst, arith, inl, inr}
 use Rattle.std.proofs.KnownBytes.{Keeps-refl, Consumes-nil, Appends-nil, Consumes-trans, Appends-kept}
 use Rattle.std.proofs.lemmas.Result.{err_from_is_err_and, MatchResult-weaker}
+use Rattle.s2calc.specs.CallsOfRun.{ReadsOn}
+use Rattle.s2calc.proofs.CallLemmas.{none_failed_none, none_failed_more, last_failed_after, calls_of_end, reads_of_end}
+use Rattle.s2calc.proofs.CallLemmas.{reads_on_none, reads_on_more, reads_last, reads_end}
 use Rattle.s2calc.proofs.ReadLemmas.{Consumes-none, StopsReading-here, Faults-inside, Runs-close, Appends-texts}
 use Rattle.s2calc.proofs.TakeInLemmas.{Stands-start}
 use Rattle.s2calc.proofs.engine.run_over.Goals as goal
 
 pub loop-init : goal.loop-init
 loop-init g c =
-    let new = c.new-progress.ensures in
-    ([], [], Consumes-nil _, Stands-start _ _ new.kept new.tally new.lines, Appends-nil _)
+    let new = c.new-progress.ensures in (
+      [],
+      [],
+      Consumes-nil _,
+      Stands-start _ _ new.kept new.tally new.lines,
+      Appends-nil _,
+      none_failed_none _ _,
+      reads_on_none _,
+    )
 
 pub returns-in_err-in_between-clause-runs : goal.returns-in_err-in_between-clause-runs
 returns-in_err-in_between-clause-runs g c =
@@ -59,6 +69,9 @@ loop-preserved g c =
       Consumes-trans _ _ _ i.0 _ i.2 c.in-Ok.ensures.bytes.0,
       s.stands,
       Appends-texts _ _ _ i.1 s.more (Appends-kept _ _ _ _ i.4 c.in_between.ensures.kept) s.written,
+      none_failed_more _ _ _ _ (none_failed_more _ _ _ _ i.5 c.in_ok-in_between.ensures.none_failed)
+          c.in_ok-take_in-in-Ok.ensures.none_failed,
+      reads_on_more _ _ _ _ _ _ i.6 c.in-Ok.ensures.call (omega arith) refl,
     )
 
 pub returns-in_err-in_between-2-clause-runs : goal.returns-in_err-in_between-2-clause-runs
@@ -77,3 +90,70 @@ pub returns-clause-runs : goal.returns-clause-runs
 returns-clause-runs g c =
     let i = c.loop.invariant in
     StopsReading-here _ _ _ i.0 i.1 _ _ i.2 (Keeps-refl _) i.3 (Appends-kept _ _ _ _ i.4 c.in_between-2.ensures.kept)
+
+pub returns-in_err-in_between-clause-reads : goal.returns-in_err-in_between-clause-reads
+returns-in_err-in_between-clause-reads g c =
+    let p = err_from_is_err_and c.from_residual.result c.from_residual.ensures.1 in
+    let f = c.in_err-in_between.ensures.fault in
+    rw (p.1, p.2, f.0) (inl (c.loop.counter, c.loop.invariant.6))
+
+pub returns-in_err-in_between-clause-calls : goal.returns-in_err-in_between-clause-calls
+returns-in_err-in_between-clause-calls g c =
+    let p = err_from_is_err_and c.from_residual.result c.from_residual.ensures.1 in
+    let f = c.in_err-in_between.ensures.fault in
+    rw (p.1, p.2, f.0) (last_failed_after _ _ _ _ c.loop.invariant.5 c.in_err-in_between.ensures.failed)
+
+pub returns-in_err-in_between-2-clause-reads : goal.returns-in_err-in_between-2-clause-reads
+returns-in_err-in_between-2-clause-reads g c =
+    let p = err_from_is_err_and c.from_residual-in_err-in_between-2.result
+    c.from_residual-in_err-in_between-2.ensures.1 in
+    let f = c.in_err-in_between-2.ensures.fault in
+    rw (p.1, p.2, f.0) (inl (c.loop.counter, c.loop.invariant.6))
+
+pub returns-in_err-in_between-2-clause-calls : goal.returns-in_err-in_between-2-clause-calls
+returns-in_err-in_between-2-clause-calls g c =
+    let p = err_from_is_err_and c.from_residual-in_err-in_between-2.result
+    c.from_residual-in_err-in_between-2.ensures.1 in
+    let f = c.in_err-in_between-2.ensures.fault in
+    rw (p.1, p.2, f.0) (last_failed_after _ _ _ _ c.loop.invariant.5 c.in_err-in_between-2.ensures.failed)
+
+pub returns-in-Ok-eq0-clause-reads : goal.returns-in-Ok-eq0-clause-reads
+returns-in-Ok-eq0-clause-reads g c =
+    reads_of_end _ _ _ c.finish.result
+    (reads_end _ _ _ _ _ c.loop.invariant.6 c.in-Ok-eq0.ensures.call c.in-Ok-eq0.field-0-test) c.finish.ensures.sent
+
+pub returns-in-Ok-eq0-clause-calls : goal.returns-in-Ok-eq0-clause-calls
+returns-in-Ok-eq0-clause-calls g c =
+    calls_of_end _ _ _ _ _ c.finish.result
+    (none_failed_more _ _ _ _ c.loop.invariant.5 c.in_ok-in_between.ensures.none_failed) c.finish.ensures.flushed
+    c.finish.ensures.failed c.finish.ensures.sent
+
+pub returns-in_err-take_in-in-Ok-clause-reads : goal.returns-in_err-take_in-in-Ok-clause-reads
+returns-in_err-take_in-in-Ok-clause-reads g c =
+    let p = err_from_is_err_and c.from_residual-in_err-take_in-in-Ok.result
+    c.from_residual-in_err-take_in-in-Ok.ensures.1 in
+    rw (p.1, p.2, c.in_err-take_in-in-Ok.ensures.fault) (inl (
+      c.loop.counter + 1,
+      reads_on_more _ _ _ _ _ _ c.loop.invariant.6 c.in-Ok.ensures.call (omega arith) refl,
+    ))
+
+pub returns-in_err-take_in-in-Ok-clause-calls : goal.returns-in_err-take_in-in-Ok-clause-calls
+returns-in_err-take_in-in-Ok-clause-calls g c =
+    let p = err_from_is_err_and c.from_residual-in_err-take_in-in-Ok.result
+    c.from_residual-in_err-take_in-in-Ok.ensures.1 in
+    rw (p.1, p.2, c.in_err-take_in-in-Ok.ensures.fault) (last_failed_after _ _ _ _
+    (none_failed_more _ _ _ _ c.loop.invariant.5 c.in_ok-in_between.ensures.none_failed)
+    c.in_err-take_in-in-Ok.ensures.failed)
+
+pub returns-in-Err-clause-reads : goal.returns-in-Err-clause-reads
+returns-in-Err-clause-reads g c = inl (reads_last _ _ _ _ None c.loop.invariant.6 c.in-Err.ensures.call)
+
+pub returns-in-Err-clause-calls : goal.returns-in-Err-clause-calls
+returns-in-Err-clause-calls g c = none_failed_more _ _ _ _ c.loop.invariant.5 c.in_ok-in_between.ensures.none_failed
+
+pub returns-clause-reads : goal.returns-clause-reads
+returns-clause-reads g c = inr (subst (λ (times : ℕ). ReadsOn (g.R.Source.reads c.args.reader.now)
+    (g.R.Source.reads c.loop.reader) times) (omega arith) c.loop.invariant.6)
+
+pub returns-clause-calls : goal.returns-clause-calls
+returns-clause-calls g c = none_failed_more _ _ _ _ c.loop.invariant.5 c.in_ok-in_between-2.ensures.none_failed

@@ -4,13 +4,17 @@ use Rattle.s2calc.specs.Replies.{Reply, texts}
 use Rattle.s2calc.specs.World.{world}
 use Rattle.s2calc.specs.Explained.{point}
 use Rattle.s2calc.specs.Stands.{Stands}
+use Rattle.s2calc.specs.Calls.{NoneFailed}
+use Rattle.s2calc.specs.CallsOfRun.{ReadsOn}
 use Rattle.s2calc.proofs.engine.run_over.Given as goal
 
--- what was read is taken in, and its answers are written
+-- what was read is taken in, its answers are written, no call failed, and each read gave some bytes
 abbrev pub invariant-loop : goal.invariant-loop
 invariant-loop g l =
-    (script : List ℕ) × (replies : List Reply) × Consumes (g.R.Read.remaining l.fn.reader)
-    (g.R.Read.remaining l.reader) script
+    (script : List ℕ) × (replies : List Reply) × Consumes (g.R.Source.remaining l.fn.reader)
+    (g.R.Source.remaining l.reader) script
     × Stands (point (world l.fn.editor (g.S.Shelf.files l.fn.shelf)) (g.N.Notes.noted l.fn.notes)) script replies
     (point (world l.editor (g.S.Shelf.files l.shelf)) (g.N.Notes.noted l.notes)) l.progress
-    × Appends (g.W.Write.contents l.fn.writer) (g.W.Write.contents l.writer) (texts replies)
+    × Appends (g.W.Sink.contents l.fn.writer) (g.W.Sink.contents l.writer) (texts replies)
+    × NoneFailed g.F.Flushing.may_fail (g.W.Sink.calls l.fn.writer) (g.W.Sink.calls l.writer)
+    × ReadsOn (g.R.Source.reads l.fn.reader) (g.R.Source.reads l.reader) l.counter

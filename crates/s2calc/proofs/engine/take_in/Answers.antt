@@ -3,6 +3,7 @@ use Rattle.std.proofs.Common.{◌∙◌, append_assoc, take-append-drop, inl, in
 use Rattle.std.proofs.lemmas.List.{take_rest}
 use Rattle.std.proofs.lemmas.Result.{err_from_is_err_and}
 use Rattle.s2script.specs.Lines.{EndsLineAt}
+use Rattle.s2calc.proofs.CallLemmas.{none_failed_none, none_failed_more, last_failed_after}
 use Rattle.s2calc.proofs.TakeInLemmas.{StandsAfter-none, StandsAfter-line, StandsAfter-rest, StopsInside-line}
 use Rattle.s2calc.proofs.TakeInLemmas.{StopsBeside-line}
 use Rattle.s2calc.proofs.engine.take_in.Goals as goal
@@ -21,7 +22,12 @@ cut_after chunk seen rest at e h =
     ∙ ap (λ s. ((seen ++ take at rest) ++ 10 ∷ []) ++ s) (sym (take_rest rest (at + 1)))
 
 pub loop-at-init : goal.loop-at-init
-loop-at-init g c = ([], refl, λ start script replies s. StandsAfter-none start script replies _ _ _ s)
+loop-at-init g c = (
+  [],
+  refl,
+  λ start script replies s. StandsAfter-none start script replies _ _ _ s,
+  none_failed_none _ _,
+)
 
 pub returns-in_err-answer_kept-clause-err : goal.returns-in_err-answer_kept-clause-err
 returns-in_err-answer_kept-clause-err g c =
@@ -54,6 +60,7 @@ loop-at-preserved g c =
       λ start script replies s.
           StandsAfter-line start script replies i.0 (take c.in-Some.at rest) _ _ _ _ _ _ _ _ _
           (i.2 start script replies s) ends.before c.keep.ensures refl refl done c.clear.ensures refl refl,
+      none_failed_more _ _ _ _ i.3 c.in_ok-answer_kept.ensures.none_failed,
     )
 
 pub returns-clause-ok : goal.returns-clause-ok
@@ -62,3 +69,11 @@ returns-clause-ok g c =
     λ start script replies s.
     StandsAfter-rest start script replies _ i.0 c.loop-at.rest.now _ _ _ _ _ (i.2 start script replies s)
     c.in_default.ensures.none c.keep-2.ensures refl refl i.1
+
+pub returns-in_err-answer_kept-clause-failed : goal.returns-in_err-answer_kept-clause-failed
+returns-in_err-answer_kept-clause-failed g c =
+    let p = err_from_is_err_and c.from_residual.result c.from_residual.ensures.1 in
+    rw p.1 (last_failed_after _ _ _ _ c.loop-at.invariant.3 c.in_err-answer_kept.ensures.failed)
+
+pub returns-clause-none_failed : goal.returns-clause-none_failed
+returns-clause-none_failed g c = c.loop-at.invariant.3

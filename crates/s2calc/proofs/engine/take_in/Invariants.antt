@@ -1,11 +1,12 @@
 use Rattle.std.proofs.Common.{◌≡◌, ℕ, List, ◌++◌, length}
 use Rattle.s2calc.specs.World.{world}
 use Rattle.s2calc.specs.Replies.{Reply}
+use Rattle.s2calc.specs.Calls.{NoneFailed}
 use Rattle.s2calc.specs.Explained.{Point, point}
 use Rattle.s2calc.specs.Stands.{Stands, StandsAfter}
 use Rattle.s2calc.proofs.engine.take_in.Given as goal
 
--- what was seen of the chunk is taken in
+-- what was seen of the chunk is taken in, and no call failed
 abbrev pub invariant-loop-at : goal.invariant-loop-at
 invariant-loop-at g l =
     (seen : List ℕ) × (l.chunk ≡ seen ++ l.rest)
@@ -14,7 +15,8 @@ invariant-loop-at g l =
     l.fn.progress
     → StandsAfter start script replies seen
     (point (world l.editor (g.S.Shelf.files l.shelf)) (g.N.Notes.noted l.notes)) l.progress
-    (g.W.Write.contents l.fn.writer) (g.W.Write.contents l.writer))
+    (g.W.Sink.contents l.fn.writer) (g.W.Sink.contents l.writer))
+    × NoneFailed g.F.Flushing.may_fail (g.W.Sink.calls l.fn.writer) (g.W.Sink.calls l.writer)
 
 abbrev pub decreases-loop-at : goal.decreases-loop-at
 decreases-loop-at g l = length l.rest

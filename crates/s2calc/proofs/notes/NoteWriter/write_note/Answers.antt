@@ -18,5 +18,5 @@ returns-else-is_err-2 g c =
     let wrote = on_ok c.emit.result _ second c.emit.ensures.ok in
     let view = c.self.view_is in
     WritesNotes-wrote _ _ c.as_bytes.result.now _ (subst (λ v. v.stopped ≡ false) view fresh) fresh
-    (subst (λ v. Appends (g.W.Write.contents v.writer) (g.W.Write.contents c.emit.new.writer) c.as_bytes.result.now)
+    (subst (λ v. Appends (g.W.Sink.contents v.writer) (g.W.Sink.contents c.emit.new.writer) c.as_bytes.result.now)
     view wrote) (c.as_bytes.ensures.value ∙ bytes)

@@ -1,0 +1,125 @@
+-- Lemmas on the calls of a reader and of a writer.
+use Rattle.std.proofs.Common.{◌≡◌, ◌<◌, ℕ, ◌+◌, List, [], ◌∷◌, ◌++◌, Option, None, Some, Result, Ok, Err, refl, sym, ap}
+use Rattle.std.proofs.Common.{append_assoc, append-nil, subst, inr, arith, length-append, OnOk, OnErr, MatchResult}
+use Rattle.s2calc.specs.declared.fault.RunFault.{RunFault}
+use Rattle.s2calc.specs.declared.fault.RunFault.TheVariants.{Output}
+use Rattle.s2calc.specs.Calls.{Call, Gains, NoneFailed, LastFlushed, LastFailed, AllWell, Wrote, Flushed, Failed}
+use Rattle.s2calc.specs.CallsOfRun.{AllGave, ReadsOn, ReadsLast, ReadsOf, ReadsOfFault, CallsOf, CallsOfFault}
+
+pub gains_nil : {A : Type 0} (a : Option (List A)) → Gains a a []
+gains_nil None = refl
+gains_nil (Some xs) = ap Some (sym (append-nil xs))
+
+pub gains_more : {A : Type 0} (a b c : Option (List A)) (front back : List A) → Gains a b front → Gains b c back →
+    Gains a c (front ++ back)
+gains_more None b c front back p q = rw (q, p) refl
+gains_more (Some xs) b c front back p q = rw (q, p) (ap Some (append_assoc xs front back))
+
+pub all_well_more : (may : Type 0) (front back : List Call) → AllWell may front → AllWell may back →
+    AllWell may (front ++ back)
+all_well_more may [] back p q = q
+all_well_more may (Wrote ∷ cs) back p q = all_well_more may cs back p q
+all_well_more may (Flushed ∷ cs) back p q = (p.0, all_well_more may cs back p.1 q)
+all_well_more may (Failed ∷ cs) back p q = absurd p
+
+-- if no flush is there, there may be one
+pub all_well_may : (may : Type 0) (calls : List Call) → AllWell ⊥ calls → AllWell may calls
+all_well_may may [] p = p
+all_well_may may (Wrote ∷ cs) p = all_well_may may cs p
+all_well_may may (Flushed ∷ cs) p = absurd p.0
+all_well_may may (Failed ∷ cs) p = absurd p
+
+pub none_failed_none : (may : Type 0) (a : Option (List Call)) → NoneFailed may a a
+none_failed_none may a = record { calls = []; gained = gains_nil a; well = tt }
+
+pub none_failed_more : (may : Type 0) (a b c : Option (List Call)) → NoneFailed may a b → NoneFailed may b c →
+    NoneFailed may a c
+none_failed_more may a b c p q =
+    record {
+      calls = p.calls ++ q.calls;
+      gained = gains_more a b c p.calls q.calls p.gained q.gained;
+      well = all_well_more may p.calls q.calls p.well q.well;
+    }
+
+pub none_failed_may : (may : Type 0) (a b : Option (List Call)) → NoneFailed ⊥ a b → NoneFailed may a b
+none_failed_may may a b p = record { calls = p.calls; gained = p.gained; well = all_well_may may p.calls p.well }
+
+pub last_failed_may : (may : Type 0) (a b : Option (List Call)) → LastFailed ⊥ a b → LastFailed may a b
+last_failed_may may a b p =
+    record { calls = p.calls; gained = p.gained; well = all_well_may may p.calls p.well }
+
+pub last_flushed_may : (may : Type 0) (a b : Option (List Call)) → LastFlushed ⊥ a b → LastFlushed may a b
+last_flushed_may may a b p = record { calls = p.calls; gained = p.gained; well = all_well_may may p.calls p.well }
+
+pub last_failed_after : (may : Type 0) (a b c : Option (List Call)) → NoneFailed may a b → LastFailed may b c →
+    LastFailed may a c
+last_failed_after may a b c p q =
+    record {
+      calls = p.calls ++ q.calls;
+      gained = subst (Gains a c) (sym (append_assoc p.calls q.calls (Failed ∷ [])))
+          (gains_more a b c p.calls (q.calls ++ Failed ∷ []) p.gained q.gained);
+      well = all_well_more may p.calls q.calls p.well q.well;
+    }
+
+pub last_flushed_after : (may : Type 0) (a b c : Option (List Call)) → NoneFailed may a b → LastFlushed may b c →
+    LastFlushed may a c
+last_flushed_after may a b c p q =
+    record {
+      calls = p.calls ++ q.calls;
+      gained = subst (Gains a c) (sym (append_assoc p.calls q.calls (Flushed ∷ [])))
+          (gains_more a b c p.calls (q.calls ++ Flushed ∷ []) p.gained q.gained);
+      well = all_well_more may p.calls q.calls p.well q.well;
+    }
+
+-- a flush is a call like others, if there may be one
+pub none_failed_flushed : (may : Type 0) (a b : Option (List Call)) → may → LastFlushed may a b → NoneFailed may a b
+none_failed_flushed may a b m p =
+    record {
+      calls = p.calls ++ Flushed ∷ [];
+      gained = p.gained;
+      well = all_well_more may p.calls (Flushed ∷ []) p.well (m, tt);
+    }
+
+-- ---- the calls of a run
+
+pub reads_on_none : (a : Option (List (Option ℕ))) → ReadsOn a a 0
+reads_on_none a = record { reads = []; gained = gains_nil a; gave = tt; count = refl }
+
+all_gave_more : (reads : List (Option ℕ)) (n : ℕ) → AllGave reads → 0 < n → AllGave (reads ++ Some n ∷ [])
+all_gave_more [] n p h = (h, tt)
+all_gave_more (None ∷ rs) n p h = absurd p
+all_gave_more (Some m ∷ rs) n p h = (p.0, all_gave_more rs n p.1 h)
+
+pub reads_on_more : (a b c : Option (List (Option ℕ))) (times later n : ℕ) → ReadsOn a b times →
+    Gains b c (Some n ∷ []) → 0 < n → later ≡ times + 1 → ReadsOn a c later
+reads_on_more a b c times later n p g h e =
+    let count = p.count in
+    record {
+      reads = p.reads ++ Some n ∷ [];
+      gained = gains_more a b c p.reads (Some n ∷ []) p.gained g;
+      gave = all_gave_more p.reads n p.gave h;
+      count = omega (arith, length-append p.reads (Some n ∷ []), count, e);
+    }
+
+pub reads_last : (a b c : Option (List (Option ℕ))) (times : ℕ) (last : Option ℕ) → ReadsOn a b times →
+    Gains b c (last ∷ []) → ReadsLast a c last
+reads_last a b c times last p g =
+    record { reads = p.reads; gained = gains_more a b c p.reads (last ∷ []) p.gained g; gave = p.gave }
+
+pub reads_end : (a b c : Option (List (Option ℕ))) (times n : ℕ) → ReadsOn a b times → Gains b c (Some n ∷ []) →
+    n ≡ 0 → ReadsLast a c (Some 0)
+reads_end a b c times n p g e = reads_last a b c times (Some 0) p
+    (subst (λ (k : ℕ). Gains b c (Some k ∷ [])) e g)
+
+-- the end of a run, after calls that didn't fail
+pub calls_of_end : {T : Type 0} (S may : Type 0) (a b c : Option (List Call)) (result : Result T RunFault) →
+    NoneFailed may a b → OnOk result (LastFlushed may b c) → OnErr result (LastFailed may b c)
+    → MatchResult result (λ _. S) (λ fault. fault ≡ Output) → CallsOf may a c result
+calls_of_end S may a b c (Ok told) n flushed failed fault = last_flushed_after may a b c n flushed
+calls_of_end S may a b c (Err fault) n flushed failed is =
+    subst (CallsOfFault may a c) (sym is) (last_failed_after may a b c n failed)
+
+pub reads_of_end : {T : Type 0} (S : Type 0) (a b : Option (List (Option ℕ))) (result : Result T RunFault) →
+    ReadsLast a b (Some 0) → MatchResult result (λ _. S) (λ fault. fault ≡ Output) → ReadsOf a b result
+reads_of_end S a b (Ok told) r fault = r
+reads_of_end S a b (Err fault) r is = subst (ReadsOfFault a b) (sym is) (inr r)

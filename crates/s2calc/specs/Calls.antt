@@ -1,0 +1,43 @@
+-- The calls of a reader and of a writer, as far as they are known.
+use Rattle.std.specs.Prelude.{◌≡◌, ℕ, List, [], ◌∷◌, ◌++◌, Option, Some, None}
+use Rattle.std.specs.Prelude.{Result, Ok, Err, option_map}
+
+-- a list, if it is known, gains these at its end
+abbrev pub Gains : {A : Type 0} → Option (List A) → Option (List A) → List A → Type 0
+Gains old new more = new ≡ option_map (λ before. before ++ more) old
+
+-- a call of a writer: a write that took some bytes, a flush, or one that failed, as a write does that takes nothing
+pub data Call : Type 0 where
+  Wrote : Call
+  Flushed : Call
+  Failed : Call
+
+-- none of the calls failed, and if there is a flush among them, then `may_flush`
+abbrev pub AllWell : Type 0 → List Call → Type 0
+AllWell may_flush [] = Unit {0}
+AllWell may_flush (Wrote ∷ calls) = AllWell may_flush calls
+AllWell may_flush (Flushed ∷ calls) = may_flush × AllWell may_flush calls
+AllWell may_flush (Failed ∷ calls) = ⊥
+
+-- the writer was called some times, and no call failed
+pub record NoneFailed (may_flush : Type 0) (old new : Option (List Call)) : Type 0 where
+  pub calls : List Call
+  pub gained : Gains old new calls
+  pub well : AllWell may_flush calls
+
+-- the same, and then it was flushed, which didn't fail either
+pub record LastFlushed (may_flush : Type 0) (old new : Option (List Call)) : Type 0 where
+  pub calls : List Call
+  pub gained : Gains old new (calls ++ Flushed ∷ [])
+  pub well : AllWell may_flush calls
+
+-- the same, and then a call failed, which is the last one
+pub record LastFailed (may_flush : Type 0) (old new : Option (List Call)) : Type 0 where
+  pub calls : List Call
+  pub gained : Gains old new (calls ++ Failed ∷ [])
+  pub well : AllWell may_flush calls
+
+-- what a read gave: a number of bytes, or None if it failed
+abbrev pub what_came : {E : Type 0} → Result ℕ E → Option ℕ
+what_came (Ok count) = Some count
+what_came (Err error) = None
