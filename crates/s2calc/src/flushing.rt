@@ -14,7 +14,7 @@ pub(crate) trait Flushing<W: Sink> {
     // nothing that was written waits in the writer
     ghost is_sent: { W → Type 0 };
 
-    // a flush before the end may fail
+    // there may be flushes before the end, and they may fail
     ghost may_fail: { Type 0 };
 
     /// What happens before each read, and before and after each command with a file.
