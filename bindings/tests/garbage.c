@@ -40,7 +40,7 @@ int main(void) {
     for (size_t k = 0; k < room; k++) out[k] = 7;
     int are_unions = s2u_is_union(xs, nx) && s2u_is_union(ys, ny);
     status = s2u_union(xs, nx, ys, ny, out, room, &len);
-    CHECK(status == (len > room ? S2U_ROOM : S2U_OK) && len <= (are_unions ? 1 : 256) * (nx + ny));
+    CHECK(status == (len > room ? S2U_ROOM : S2U_OK) && len <= (are_unions ? 1u : 256u) * (nx + ny));
     for (size_t k = status == S2U_OK ? len : room; k < room; k++) CHECK(out[k] == 7);
     CHECK(!are_unions || status != S2U_OK || s2u_is_union(out, len));
     status = s2u_intersection(xs, nx, ys, ny, out, room, &len);
