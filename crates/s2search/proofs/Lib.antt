@@ -8,6 +8,7 @@ mod Cutting
 mod Finding
 mod Holders
 mod Looking
+mod Marking
 mod Reaching
 mod Packing
 mod Piling

@@ -58,7 +58,7 @@ fn goes_on(front: &[CellId], cell: CellId) -> bool
         front[n - 3].id(),
         front[n - 2].id(),
         front[n - 1].id(),
-        cell,
+        cell.id(),
     ) {
         return false;
     }

@@ -7,8 +7,14 @@ ghost use Rattle.s2union.specs.Count.{count_below};
 ghost use Rattle.s2search.specs.Search.{IsFirstWrong};
 
 use crate::cells::Cells;
-use crate::find::end_of;
+use crate::find::{end_of, first_of};
 use s2cell::{CellId, GREATEST_LEVEL, LEAVES};
+
+/// The number after the last of face 5.
+const FACES_END: u64 = 0xC000_0000_0000_0000;
+
+/// The bits at which the lowest bit of a cell can stand.
+const MARKERS: u64 = 0x1555_5555_5555_5555;
 
 /// Whether the numbers are the cells of a union: they ascend, no two share a leaf, and no four are the children of one
 /// cell. Linear; reads each number once.
@@ -39,13 +45,29 @@ pub fn is_union<C: Cells>(cells: &C) -> bool
 fn continues(a: u64, b: u64, c: u64, d: u64, end: u64) -> bool
     ensures { IsTrue result ↔ (IsCell d × (end ≤ first_leaf d) × ((p : ℕ) → IsFamily a b c d p → ⊥)) }
 {
-    let Some(cell) = CellId::from_id(d) else {
-        return false;
-    };
-    if cell.first_leaf() < end {
+    if !is_cell(d) {
         return false;
     }
-    if ends_family(a, b, c, cell) {
+    if first_of(d) < end {
+        return false;
+    }
+    if ends_family(a, b, c, d) {
+        return false;
+    }
+    true
+}
+
+/// Whether a number is the identifier of a cell. `CellId::from_id` is the same test; this one counts no bits, which
+/// takes longer.
+#[inline(always)]
+fn is_cell(id: u64) -> bool
+    ensures { IsTrue result ↔ IsCell id }
+{
+    if id >= FACES_END {
+        return false;
+    }
+    let lowest = id & id.wrapping_neg();
+    if lowest & MARKERS == 0 {
         return false;
     }
     true
@@ -70,14 +92,14 @@ fn leaves_of(id: u64) -> u64
     id & id.wrapping_neg()
 }
 
-/// Whether a cell is the last of four children, and the other three are those before it. Begins with the exclusive-or
+/// Whether a number is the last of four children, and the other three are those before it. Begins with the exclusive-or
 /// of the three, as S2 does, since it is the fourth of few cells in a row that are no family.
 #[inline(always)]
-pub(crate) fn ends_family(a: u64, b: u64, c: u64, d: CellId) -> bool
+pub(crate) fn ends_family(a: u64, b: u64, c: u64, d: u64) -> bool
     ensures { IsTrue result ↔ ((p : ℕ) × IsFamily a b c d p) }
 {
     let fourth = a ^ b ^ c;
-    if fourth != d.id() {
+    if fourth != d {
         return false;
     }
     are_siblings(a, b, c, d)
@@ -85,15 +107,18 @@ pub(crate) fn ends_family(a: u64, b: u64, c: u64, d: CellId) -> bool
 
 /// Whether these four are the children of one cell, in order.
 #[inline(never)]
-fn are_siblings(a: u64, b: u64, c: u64, d: CellId) -> bool
+fn are_siblings(a: u64, b: u64, c: u64, d: u64) -> bool
     ensures { IsTrue result ↔ ((p : ℕ) × IsFamily a b c d p) }
 {
-    let level = d.level();
+    let Some(cell) = CellId::from_id(d) else {
+        return false;
+    };
+    let level = cell.level();
     if level == 0 {
         return false;
     }
-    let parent = d.parent(level - 1);
-    are_children(parent, a, b, c, d)
+    let parent = cell.parent(level - 1);
+    are_children(parent, a, b, c, cell)
 }
 
 /// Whether these four are the children of a cell, in order.

@@ -3,12 +3,11 @@ use Rattle.std.proofs.lemmas.Bool.{false≢true}
 use Rattle.s2search.proofs.Packing.{family_xor}
 use Rattle.s2search.proofs.whole.ends_family.Goals as goal
 
-pub returns-then-fourth-id : goal.returns-then-fourth-id
-returns-then-fourth-id c = (
+pub returns-then-fourth-d : goal.returns-then-fourth-d
+returns-then-fourth-d c = (
   λ e. absurd (false≢true e),
   λ (p, f).
-      let x : bit_xor (bit_xor c.args.a c.args.b) c.args.c ≡ c.args.d = family_xor c.args.a c.args.b c.args.c c.args.d p f in
-      let i = c.id.ensures.value in
-      let t = c.if-fourth-id.true in
+      let x : bit_xor (bit_xor c.args.a c.args.b) c.args.c ≡ c.args.d =
+      family_xor c.args.a c.args.b c.args.c c.args.d p f in
       absurd (omega arith),
 )
