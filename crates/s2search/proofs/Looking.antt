@@ -28,7 +28,8 @@ halved_less size less before looks more k (suc j) h f p e l =
 
 pub halved_more : (size less before looks more k : ℕ) → 0 < size → Halved size before looks k → more ≤ looks + 1
     → less ≤ size / 2 → Halved less before more k
-halved_more size less before looks more k h l e s = halved_less size less before looks more k l.power h l.fits l.paid e s
+halved_more size less before looks more k h l e s =
+    halved_less size less before looks more k l.power h l.fits l.paid e s
 
 -- the looks of leaps that got `far` places on, each three times as long as all before it
 pub record Leapt (before looks far : ℕ) : Type 0 where

@@ -8,9 +8,9 @@ use Rattle.std.specs.Int.Bits.{and_zero_l}
 use Rattle.std.specs.Int.Count.{count_trailing_zeros}
 use Rattle.std.proofs.lemmas.Nat.{and_comm, pow_pos}
 use Rattle.std.proofs.lemmas.Nat.Bits.{and_pow, bit_at-suc, bit_at-zero, bit_at_lowest}
-use Rattle.s2cell.specs.Cell.{IsCell, level_of, size_of}
+use Rattle.s2cell.specs.Cell.{IsCell, level_of}
 use Rattle.s2cell.proofs.Calls.{size_at, size_bits}
-use Rattle.s2cell.proofs.CellLemmas.{cell_from_test, cell_leaves}
+use Rattle.s2cell.proofs.CellLemmas.{cell_from_test}
 use Rattle.s2cell.proofs.Lowest.{four_pow, lowest_bit, odd_part}
 
 -- the bit of `n` at the place `i`

@@ -85,10 +85,14 @@ family_xor a b c d p f =
     let s = 2 ^ (2 * z) in
     let w : 4 ^ z ≡ s = four_pow z in
     let eight : 2 ^ 3 ≡ 8 = refl in
-    let ia : child_of p 0 ≡ (2 * (4 * m + 0) + 1) * s = rw w at (IsCellAt-child_of p 0 f.cell f.inner (omega arith)).id in
-    let ib : child_of p 1 ≡ (2 * (4 * m + 1) + 1) * s = rw w at (IsCellAt-child_of p 1 f.cell f.inner (omega arith)).id in
-    let ic : child_of p 2 ≡ (2 * (4 * m + 2) + 1) * s = rw w at (IsCellAt-child_of p 2 f.cell f.inner (omega arith)).id in
-    let id : child_of p 3 ≡ (2 * (4 * m + 3) + 1) * s = rw w at (IsCellAt-child_of p 3 f.cell f.inner (omega arith)).id in
+    let ia : child_of p 0 ≡ (2 * (4 * m + 0) + 1) * s =
+    rw w at (IsCellAt-child_of p 0 f.cell f.inner (omega arith)).id in
+    let ib : child_of p 1 ≡ (2 * (4 * m + 1) + 1) * s =
+    rw w at (IsCellAt-child_of p 1 f.cell f.inner (omega arith)).id in
+    let ic : child_of p 2 ≡ (2 * (4 * m + 2) + 1) * s =
+    rw w at (IsCellAt-child_of p 2 f.cell f.inner (omega arith)).id in
+    let id : child_of p 3 ≡ (2 * (4 * m + 3) + 1) * s =
+    rw w at (IsCellAt-child_of p 3 f.cell f.inner (omega arith)).id in
     let za = f.zero in
     let zb = f.one in
     let zc = f.two in

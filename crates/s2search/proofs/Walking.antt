@@ -1,4 +1,4 @@
--- A turn of a walk along two unions: the place of the next cell of `ys` in `xs`, and then the cells of `ys` up to there.
+-- A turn of a walk along two unions: the place in `xs` of the next cell of `ys`, and then the cells of `ys` up to it.
 use Rattle.std.proofs.Common.{ℕ, ◌+◌, ◌<◌, ◌≤◌, refl, arith, List, length, get_or}
 use Rattle.std.proofs.Math.Logic.{⊎_elim}
 use Rattle.std.proofs.lemmas.Bool.{cases_lt}
@@ -34,7 +34,8 @@ none_left xs ys i j lx ly out ended none k h =
     ⊎_elim
     (λ (a : k < j). none k a)
     (λ (a : j ≤ k).
-    shared_none xs i (get_or ys k 0) lx (ended_on xs ys i j k ly a h ended) (λ (l : i < length xs). absurd (omega arith)))
+    shared_none xs i (get_or ys k 0) lx (ended_on xs ys i j k ly a h ended)
+    (λ (l : i < length xs). absurd (omega arith)))
     (cases_lt k j)
 
 -- the cells of `xs` that begin no later than a cell of `ys` come before one that begins after it
@@ -115,7 +116,8 @@ pub lacks_next : (xs ys : List ℕ) (i j : ℕ) → IsLocal xs → IsLocal ys
     → (i < length xs → first_leaf (get_or ys j 0) < first_leaf (get_or xs i 0))
     → IsWithin (covers (get_or ys j 0)) (has_leaf xs) → ⊥
 lacks_next xs ys i j lx ly ended g later lies =
-    let h = held_at xs i (get_or ys j 0) lx (ly.cells j 0 g) (ended g) (λ (h : i < length xs). let b = later h in omega arith)
+    let h = held_at xs i (get_or ys j 0) lx (ly.cells j 0 g) (ended g)
+    (λ (h : i < length xs). let b = later h in omega arith)
     lies in
     let low = h.within.low in
     let b = later h.there in

@@ -4,8 +4,8 @@ use Rattle.s2cell.specs.Cell.{covers, first_leaf}
 use Rattle.s2union.specs.Union.{IsWithin, ShareSome, has_leaf}
 
 -- in the order of their first leaves, a cell of `xs` before one of `ys` that begins with it, the cells of both lists up
--- to the places `i` and `j` are `d` runs of `xs` and `d` of `ys` in turns: the `r`-th run of a list goes from its `r`-th
--- cut to the next
+-- to the places `i` and `j` are `d` runs of `xs` and `d` of `ys` in turns: the `r`-th run of a list goes from its
+-- `r`-th cut to the next
 pub record Alternates (xs ys : List ℕ) (d i j : ℕ) : Type 0 where
   pub x_cut : ℕ → ℕ
   pub y_cut : ℕ → ℕ
@@ -26,8 +26,8 @@ abbrev pub KnownToHold : (xs ys : List ℕ) (i j : ℕ) → Type 0
 KnownToHold xs ys i j = (length xs ≤ i) ⊎ ((length ys ≤ j)
     ⊎ (IsWithin (covers (slice_index ys j)) (has_leaf xs) → ⊥))
 
--- at the places `i` and `j` it is known whether the lists share a leaf: one has ended, or `xs` has a leaf of the cell of
--- `ys` there
+-- at the places `i` and `j` it is known whether the lists share a leaf: one has ended, or `xs` has a leaf of the cell
+-- of `ys` there
 abbrev pub KnownToMeet : (xs ys : List ℕ) (i j : ℕ) → Type 0
 KnownToMeet xs ys i j = (length xs ≤ i) ⊎ ((length ys ≤ j) ⊎ ShareSome (covers (slice_index ys j)) (has_leaf xs))
 

@@ -19,8 +19,8 @@ pub fn contains<X: Cells, Y: Cells>(whole: &X, part: &Y) -> bool
 }
 
 /// The same, with how often it looks at a number of either list: at most `8 (d + 1) (1 + log2((m + n) / (d + 1)))`
-/// times, rounded up, for unions of `m` and `n` cells that in the order of their first leaves are runs of one and of the
-/// other, at most `d` of each up to where the answer is known. So neither list is gone through.
+/// times, the logarithm rounded up, for unions of `m` and `n` cells that in the order of their first leaves are in
+/// turns `d` runs of each up to where the answer is known. So neither list is gone through.
 pub fn contains_counted<X: Cells, Y: Cells>(whole: &X, part: &Y) -> Counted
     ensures answer { IsLocal (X.ids whole.now) → IsLocal (Y.ids part.now)
         → (IsTrue result.answer ↔ IsWithin (has_leaf (Y.ids part.now)) (has_leaf (X.ids whole.now))) }
@@ -93,8 +93,8 @@ fn holds_all<X: Cells, Y: Cells, K: Count>(xs: &X, ys: &Y, count: &mut K) -> boo
     true
 }
 
-/// Whether `xs` and `ys` share a leaf. Each turn passes the cells of `xs` before the next of `ys`, and then the cells of
-/// `ys` before the next of `xs`.
+/// Whether `xs` and `ys` share a leaf. Each turn passes the cells of `xs` before the next of `ys`, and then the cells
+/// of `ys` before the next of `xs`.
 fn meets_any<X: Cells, Y: Cells, K: Count>(xs: &X, ys: &Y, count: &mut K) -> bool
     requires { K.looks count.old ≡ 0 }
     ensures answer { IsLocal (X.ids xs.now) → IsLocal (Y.ids ys.now)
@@ -125,7 +125,7 @@ fn meets_any<X: Cells, Y: Cells, K: Count>(xs: &X, ys: &Y, count: &mut K) -> boo
     false
 }
 
-/// Whether the cell with the identifier `y` lies in the one with the identifier `x`. Doesn't check that cells have them.
+/// Whether the cell with the identifier `y` lies in the one with the identifier `x`. Doesn't check that they are cells.
 #[inline(always)]
 fn lies_in(y: u64, x: u64) -> bool
     ensures { IsCell x → IsCell y → (IsTrue result ↔ ((first_leaf x ≤ first_leaf y)

@@ -22,7 +22,8 @@ returns-then-n-lt3 c =
 
 pub returns-then-ends_family : goal.returns-then-ends_family
 returns-then-ends_family c =
-    let is = rw (c.id-2.ensures.value, c.id-3.ensures.value, c.id-4.ensures.value, c.id-5.ensures.value) at c.ends_family.ensures in
+    let is = rw (c.id-2.ensures.value, c.id-3.ensures.value, c.id-4.ensures.value, c.id-5.ensures.value) at
+    c.ends_family.ensures in
     let f = is.0 c.if-ends_family.true in (
       λ e. absurd (false≢true e),
       λ p. absurd (pushed_unmerged c.args.front.now c.args.cell _ _ _ _ p (omega arith) c.index-front-n-2.is
@@ -32,7 +33,8 @@ returns-then-ends_family c =
 pub returns : goal.returns
 returns c =
     let own : IsCell c.args.cell = (level_of c.args.cell, place_of c.args.cell, c.id.ensures.cell) in
-    let is = rw (c.id-2.ensures.value, c.id-3.ensures.value, c.id-4.ensures.value, c.id-5.ensures.value) at c.ends_family.ensures in (
+    let is = rw (c.id-2.ensures.value, c.id-3.ensures.value, c.id-4.ensures.value, c.id-5.ensures.value) at
+    c.ends_family.ensures in (
       λ _. fits c.args.front.now c.args.cell c.requires.packed own
           (elim c.else-n-gt0.branch [
             | else-n-gt0-via-then-n-gt0+else-le w ↦ λ h.

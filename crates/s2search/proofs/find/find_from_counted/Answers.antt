@@ -93,6 +93,7 @@ returns-clause-looks g c k h =
     let leap = v.leap in
     let n = c.len-len.ensures in
     let on = c.narrow-2.ensures.from in
-    leapt_last _ (g.K.Count.looks c.loop-leap.count) (c.loop-leap.base - c.args.start) (c.len-len.result - c.loop-leap.base)
+    leapt_last _ (g.K.Count.looks c.loop-leap.count) (c.loop-leap.base - c.args.start)
+    (c.len-len.result - c.loop-leap.base)
     (g.K.Count.looks c.loop-leap.count) _ v.leapt (omega arith) (omega arith)
     (λ j f. c.narrow-2.ensures.looks j (omega arith)) _ k (omega arith) h

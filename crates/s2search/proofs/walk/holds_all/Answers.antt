@@ -47,7 +47,8 @@ loop-j-preserved g c =
           let stop : c.end_of.result ≡ first_leaf (get_or xs i 0) + size_of (get_or xs i 0) =
           rw c.look-x.ensures.id at (c.end_of.ensures (rw c.look-x.ensures.id cx)) in
           let inside : (first_leaf (get_or xs i 0) ≤ first_leaf (get_or ys j 0))
-          × (first_leaf (get_or ys j 0) + size_of (get_or ys j 0) ≤ first_leaf (get_or xs i 0) + size_of (get_or xs i 0)) =
+          × (first_leaf (get_or ys j 0) + size_of (get_or ys j 0)
+          ≤ first_leaf (get_or xs i 0) + size_of (get_or xs i 0)) =
           rw (c.look-x.ensures.id, c.look-y.ensures.id) at ((c.lies_in.ensures (rw c.look-x.ensures.id cx)
           (rw c.look-y.ensures.id cy)).0 c.if-not-lies_in.false) in
           let next = c.find_from_counted-j.result in
@@ -70,7 +71,8 @@ loop-j-preserved g c =
           let stop : c.end_of.result ≡ first_leaf (get_or xs i 0) + size_of (get_or xs i 0) =
           rw c.look-x.ensures.id at (c.end_of.ensures (rw c.look-x.ensures.id cx)) in
           let inside : (first_leaf (get_or xs i 0) ≤ first_leaf (get_or ys j 0))
-          × (first_leaf (get_or ys j 0) + size_of (get_or ys j 0) ≤ first_leaf (get_or xs i 0) + size_of (get_or xs i 0)) =
+          × (first_leaf (get_or ys j 0) + size_of (get_or ys j 0)
+          ≤ first_leaf (get_or xs i 0) + size_of (get_or xs i 0)) =
           rw (c.look-x.ensures.id, c.look-y.ensures.id) at ((c.lies_in.ensures (rw c.look-x.ensures.id cx)
           (rw c.look-y.ensures.id cy)).0 c.if-not-lies_in.false) in
           let next = c.find_from_counted-j.result in
@@ -95,7 +97,8 @@ loop-j-preserved g c =
           let stop : c.end_of.result ≡ first_leaf (get_or xs i 0) + size_of (get_or xs i 0) =
           rw c.look-x.ensures.id at (c.end_of.ensures (rw c.look-x.ensures.id cx)) in
           let inside : (first_leaf (get_or xs i 0) ≤ first_leaf (get_or ys j 0))
-          × (first_leaf (get_or ys j 0) + size_of (get_or ys j 0) ≤ first_leaf (get_or xs i 0) + size_of (get_or xs i 0)) =
+          × (first_leaf (get_or ys j 0) + size_of (get_or ys j 0)
+          ≤ first_leaf (get_or xs i 0) + size_of (get_or xs i 0)) =
           rw (c.look-x.ensures.id, c.look-y.ensures.id) at ((c.lies_in.ensures (rw c.look-x.ensures.id cx)
           (rw c.look-y.ensures.id cy)).0 c.if-not-lies_in.false) in
           let next = c.find_from_counted-j.result in

@@ -88,7 +88,8 @@ loop-j-preserved g c =
           let far = fj.from in
           let more_y = c.look-y.ensures.count in
           let more_x = c.look-x.ensures.count in
-          walked_more (λ k. ShareSome (covers (get_or ys k 0)) (has_leaf xs)) xs ys _ c.loop-j.i j _ _ _ _ (i - c.loop-j.i)
+          walked_more (λ k. ShareSome (covers (get_or ys k 0)) (has_leaf xs)) xs ys _ c.loop-j.i j _ _ _ _
+          (i - c.loop-j.i)
           (next - (j + 1)) i next (v.walked lx ly) (omega arith) hj
           (λ l h. none_more xs ys i j next lx ly fj.within placed passed (v.none lx ly) l (omega arith))
           (begun_before xs i (first_leaf (get_or ys j 0)) lx (omega arith)) (meets_next xs ys i next lx ly hi ends)
@@ -135,7 +136,8 @@ returns-then-i-m-clause-looks g c lx ly =
     let on = fi.from in
     let w = fi.within in
     let more_y = c.look-y.ensures.count in
-    walked_last (λ k. ShareSome (covers (get_or ys k 0)) (has_leaf xs)) xs ys _ c.loop-j.i j _ _ (i - c.loop-j.i) _ (v.walked lx ly)
+    walked_last (λ k. ShareSome (covers (get_or ys k 0)) (has_leaf xs)) xs ys _ c.loop-j.i j _ _ (i - c.loop-j.i) _
+    (v.walked lx ly)
     (omega arith) fi.looks (omega arith) (omega arith)
 
 pub returns-then-i-m-clause-least : goal.returns-then-i-m-clause-least
@@ -190,7 +192,8 @@ returns-then-begin-end-clause-looks g c lx ly =
     let w = fi.within in
     let more_y = c.look-y.ensures.count in
     let more_x = c.look-x.ensures.count in
-    walked_last (λ k. ShareSome (covers (get_or ys k 0)) (has_leaf xs)) xs ys _ c.loop-j.i j _ _ (i - c.loop-j.i) _ (v.walked lx ly)
+    walked_last (λ k. ShareSome (covers (get_or ys k 0)) (has_leaf xs)) xs ys _ c.loop-j.i j _ _ (i - c.loop-j.i) _
+    (v.walked lx ly)
     (omega arith) fi.looks (omega arith) (omega arith)
 
 pub returns-then-begin-end-clause-least : goal.returns-then-begin-end-clause-least
@@ -215,7 +218,8 @@ returns-clause-looks g c lx ly =
     let v = c.loop-j.invariant in
     let in_x = v.in_x in
     let in_y = v.in_y in
-    walked_last (λ k. ShareSome (covers (get_or ys k 0)) (has_leaf xs)) xs ys _ c.loop-j.i c.loop-j.j _ _ 0 _ (v.walked lx ly)
+    walked_last (λ k. ShareSome (covers (get_or ys k 0)) (has_leaf xs)) xs ys _ c.loop-j.i c.loop-j.j _ _ 0 _
+    (v.walked lx ly)
     (omega arith) (sought_none (g.K.Count.looks c.loop-j.count)) (omega arith) (omega arith)
 
 pub returns-clause-least : goal.returns-clause-least

@@ -1,6 +1,6 @@
 use Rattle.std.proofs.Common.{◌≡◌, ◌+◌, ◌-◌, arith, ap, sym, ◌∙◌, subst}
 use Rattle.std.proofs.lemmas.Bool.{false≢true}
-use Rattle.s2cell.specs.Cell.{IsCell, level_of, parent_of}
+use Rattle.s2cell.specs.Cell.{level_of, parent_of}
 use Rattle.s2cell.proofs.Calls.{IsCell-child_of}
 use Rattle.s2union.specs.Packed.{IsFamily}
 use Rattle.s2union.proofs.Packing.{family_deep, family_parent}

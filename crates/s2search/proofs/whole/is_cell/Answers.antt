@@ -1,4 +1,4 @@
-use Rattle.std.proofs.Common.{◌≡◌, ◌*◌, ◌^◌, ◌<◌, refl, arith, rules}
+use Rattle.std.proofs.Common.{refl, arith, rules}
 use Rattle.std.proofs.lemmas.Bool.{false≢true}
 use Rattle.s2cell.proofs.CellLemmas.{face_of_cell}
 use Rattle.s2search.proofs.Marking.{cell_marked, marked_cell}
