@@ -17,8 +17,8 @@ class Lanes {
   Lanes(const char* only, int rounds) : only_(only), rounds_(rounds) {
     std::ifstream sums("real.sums");
     for (std::string name; sums >> name;) sums >> std::hex >> known_[name];
-    printf("%-34s %10s %10s %10s %10s %9s %9s %9s  %s\n", "", "S2", "CellUnion", "C call", "limit", "S2/union", "S2/call",
-           "call/lim", "checksum");
+    printf("%-34s %10s %10s %10s %10s %9s %9s %9s  %s\n", "", "S2", "CellUnion", "C call", "limit", "S2/union",
+           "S2/call", "call/lim", "checksum");
   }
 
   bool wants(const char* name) const { return strstr(name, only_) != nullptr; }

@@ -1,5 +1,6 @@
 // What hand-written C++ reaches on the same lists: the same results, and no proof. A list is the identifiers of a union
-// unless a comment says another thing. Blocks of a list that need no change are found without branches and copied whole.
+// unless a comment says another thing. Blocks of a list that need no change are found without branches, and copied
+// whole.
 #pragma once
 #include <cstring>
 #include <initializer_list>

@@ -1,5 +1,5 @@
-// Coverings of real coastlines: S2, `CellUnion`, the calls for C and hand-written C++ on the same lists, in one process.
-// bench/README.md has the rows.
+// Coverings of real coastlines: S2, `CellUnion`, the calls for C and hand-written C++ on the same lists, in one
+// process. bench/README.md has the rows.
 #include <absl/flags/flag.h>
 #include <s2union.h>
 
@@ -267,7 +267,8 @@ static void outer_of(Lanes& lanes, const std::string& of, const List& list, int 
   list_row(lanes, "outer_of_" + of, list.size(), list.size(),
            {[&] {
               std::vector<S2CellId> cells;
-              for (u64 id : list) cells.push_back(S2CellId(id).level() > level ? S2CellId(id).parent(level) : S2CellId(id));
+              for (S2CellId cell : peer_cells(list))
+                cells.push_back(cell.level() > level ? cell.parent(level) : cell);
               return ids_of(S2CellUnion(std::move(cells)));
             },
             [&](Room& room) {
@@ -353,7 +354,8 @@ static void cell_questions(Lanes& lanes, const std::string& of, const List& list
   row("contains_cell_" + of, one_by_one, searched);
   row("contains_cells_" + of, all, searched);
   std::sort(asked.begin(), asked.end());
-  row("contains_cells_in_order_" + of, all, [&] { return limit::count_held_in_order(list.data(), list.size(), asked); });
+  auto walked = [&] { return limit::count_held_in_order(list.data(), list.size(), asked); };
+  row("contains_cells_in_order_" + of, all, walked);
 }
 
 static List shuffled(List list) {

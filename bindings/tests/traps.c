@@ -138,8 +138,8 @@ static void many_questions(void) {
   }
 }
 
-/* Three children of a face and the fourth twice, last first: decoded with every room, those too short for the numbers of
- * the file too. */
+/* Three children of a face and the fourth twice, last first: decoded with every room, those too short for the numbers
+ * of the file too. */
 static void files_of_cells_in_any_order(void) {
   const uint64_t shuffled[] = {siblings[3], siblings[1], siblings[3], siblings[0], siblings[2]};
   uint8_t file[S2U_FILE_SIZE(5)];

@@ -27,7 +27,8 @@ class Session:
     """A session on the first server, in its namespace."""
 
     def __init__(self, host="192.0.2.1"):
-        command = ["ip", "netns", "exec", f"{NET}-first", "psql", "-XAqt", "-h", host, "-U", "postgres", "-d", "postgres"]
+        command = ["ip", "netns", "exec", f"{NET}-first"]
+        command += ["psql", "-XAqt", "-h", host, "-U", "postgres", "-d", "postgres"]
         self.process = subprocess.Popen(command, stdin=subprocess.PIPE, stdout=subprocess.PIPE,
                                         stderr=subprocess.STDOUT, text=True, bufsize=1)
 
@@ -109,11 +110,13 @@ class AfterThePage(unittest.TestCase):
     def test_questions(self):
         said = once("""
             CREATE TABLE whole AS SELECT * FROM tiles;
-            SELECT count(*), count(*) FILTER (WHERE apart.found IS DISTINCT FROM together.found), count(apart.found) > 50
+            SELECT count(*), count(*) FILTER (WHERE apart.found IS DISTINCT FROM together.found),
+                count(apart.found) > 50
             FROM generate_series(1, 200) AS k,
-                LATERAL (SELECT s2_outer(k % 6, k * 900000, k * 900000 + 30000000, k * 1000000, k * 1000000 + 9000000, 10)
-                    AS q) AS asked,
-                LATERAL (SELECT array_agg(name || tile ORDER BY name, tile) AS found FROM tiles WHERE part && q) AS apart,
+                LATERAL (SELECT s2_outer(k % 6, k * 900000, k * 900000 + 30000000, k * 1000000, k * 1000000 + 9000000,
+                    10) AS q) AS asked,
+                LATERAL (SELECT array_agg(name || tile ORDER BY name, tile) AS found FROM tiles WHERE part && q)
+                    AS apart,
                 LATERAL (SELECT array_agg(name || tile ORDER BY name, tile) AS found FROM whole WHERE part && q)
                     AS together;
             SELECT (SELECT s2_union_agg(part) FROM tiles) = (SELECT s2_union_agg(part) FROM whole);
@@ -129,7 +132,8 @@ class AfterThePage(unittest.TestCase):
                 session.ask(f"ALTER FOREIGN TABLE many OPTIONS (SET fetch_size '{size}'); SELECT count(*) FROM many;")
                 said, took = timed(lambda: session.ask("CREATE TEMP TABLE got AS SELECT * FROM many;"))
                 self.assertEqual(said, "")
-                self.assertEqual(session.ask("SELECT sum(s2_leaves(part)), count(DISTINCT k) FROM got;"), "100000|100000")
+                found = session.ask("SELECT sum(s2_leaves(part)), count(DISTINCT k) FROM got;")
+                self.assertEqual(found, "100000|100000")
             print(f"100,000 rows with a fetch_size of {size}: {1000 * took:.0f} ms", flush=True)
 
     def test_a_cable_is_cut(self):

@@ -15,8 +15,8 @@ use crate::room::put;
 use s2cell::CellId;
 
 /// Puts the cells of a union and all their ancestors, ascending, each once, at the front of a room, if they fit, and
-/// answers how many they are. Takes no memory. The work is in proportion to their number, at most 31 for each cell of the
-/// union. Numbers that are not cells are passed over.
+/// answers how many they are. Takes no memory. The work is in proportion to their number, at most 31 for each cell of
+/// the union. Numbers that are not cells are passed over.
 pub fn ancestors<C: Cells>(cells: &C, out: &mut [u64]) -> usize
     ensures len { length out.new ≡ length out.old }
     ensures put { IsLocal (C.ids cells.now) → PutsOne (AreHolders (C.ids cells.now)) out.old out.new result }
@@ -76,8 +76,8 @@ fn outermost(cell: CellId, from: u64) -> u8
     level
 }
 
-/// Puts the ancestors of a cell that come after it and before the cell `next`, from the smallest to the one that contains
-/// both, and answers how many numbers there are then.
+/// Puts the ancestors of a cell that come after it and before the cell `next`, from the smallest to the one that
+/// contains both, and answers how many numbers there are then.
 fn put_after(out: &mut [u64], n: usize, cell: CellId, next: u64) -> usize
     ensures len { length out.new ≡ length out.old }
     ensures put { (list : List ℕ) → IsStrictlyIncreasing list → ((c : ℕ) → Contains list c → c ≤ cell)

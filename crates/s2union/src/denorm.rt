@@ -83,8 +83,8 @@ impl<'a> Iterator for Denorm<'a> {
     }
 }
 
-/// The level that a cell of this level is cut to: the least that is at least its own, is at least `min`, and differs from
-/// `min` by a multiple of `modulus`; 30 if there is none.
+/// The level that a cell of this level is cut to: the least that is at least its own, is at least `min`, and differs
+/// from `min` by a multiple of `modulus`; 30 if there is none.
 pub fn level_to_cut(level: u8, min: u8, modulus: u8) -> u8
     requires level { level ≤ GREATEST_LEVEL }
     requires min { min ≤ GREATEST_LEVEL }

@@ -21,8 +21,8 @@
  * more than the call itself. s2u_is_union checks it, once, when it comes in; what calls make of unions are unions. If a
  * list is not a union, the result means nothing: the status is S2U_OK or S2U_ROOM, or any answer, or what another
  * argument is refused for. Even so the result lies in the room, *len is within the bound that the call gives for such
- * lists, the work is bounded as it says, and the call is as safe as any other. Only s2u_outer_of and s2u_inner_of check,
- * and refuse such a list with S2U_NO_UNION.
+ * lists, the work is bounded as it says, and the call is as safe as any other. Only s2u_outer_of and s2u_inner_of
+ * check, and refuse such a list with S2U_NO_UNION.
  *
  * HOW LONG A RESULT IS. A call that makes a list takes `out`, `room` (how many elements it has) and `len`.
  *   S2U_OK     out[0 .. *len) is the result. What comes after it is not touched, but by s2u_decode.

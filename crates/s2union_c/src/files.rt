@@ -54,8 +54,8 @@ fn write_file(ids: &[u64], out: &mut [u8])
 }
 
 /// The union that a file stands for. The file's cells may be in any order. If they are not a union already, they are
-/// normalized in the room, if it has room for all of them; else in memory of the call. What follows the result, up to as
-/// many numbers as the file has, then has no meaning.
+/// normalized in the room, if it has room for all of them; else in memory of the call. What follows the result, up to
+/// as many numbers as the file has, then has no meaning.
 #[unsafe(no_mangle)]
 pub extern "C" fn s2u_decode(alloc: Global, bytes: &[u8], out: &mut [u64], len: &mut usize) -> i32
     ensures made { IsCellFile bytes.now → Decoded result (file_ids bytes.now) out.old out.new len.new }
@@ -106,8 +106,8 @@ fn put_numbers(bytes: &[u8], out: &mut [u64], len: &mut usize) -> i32
     MADE
 }
 
-/// Fills a list with the cells of bytes, which are as many, makes its front the union that has their leaves, and answers
-/// how many cells that union has.
+/// Fills a list with the cells of bytes, which are as many, makes its front the union that has their leaves, and
+/// answers how many cells that union has.
 fn normalise_numbers(bytes: &[u8], out: &mut [u64]) -> usize
     requires size { length bytes.now ≡ 8 * length out.old }
     requires cells { All IsCell (numbers bytes.now) }

@@ -9,7 +9,8 @@ use Rattle.s2union.proofs.Cutting.{length-cells_in}
 use Rattle.s2search.proofs.Cutting.{stepped, item_more, items_there}
 use Rattle.s2search.proofs.Putting.{put_past}
 use Rattle.s2search.proofs.denormalising.put_descendants.Goals as goal
-use Rattle.s2search.proofs.denormalising.put_descendants.Goals.{else-n-out-via-then-n-out+else-count-out, else-n-out-via-else-n-out}
+use Rattle.s2search.proofs.denormalising.put_descendants.Goals.{else-n-out-via-then-n-out+else-count-out}
+use Rattle.s2search.proofs.denormalising.put_descendants.Goals.{else-n-out-via-else-n-out}
 
 pub descendant-first-requires-clause-place : goal.descendant-first-requires-clause-place
 descendant-first-requires-clause-place c = four_pos (c.args.level - level_of c.args.cell)

@@ -47,8 +47,8 @@ loop-i-preserved-then-y_end-x_first g c =
       in_x = c.loop-i.invariant.in_x;
       in_y = f.within;
       len = c.loop-i.invariant.len;
-      so_far = λ lx ly. shared_swap (both xs ys) ys xs c.args.out.now c.loop-i.out c.loop-i.n c.find_from-j.result c.loop-i.i
-          (shared_skip (both xs ys) ys xs c.args.out.now c.loop-i.out c.loop-i.n c.loop-i.j c.loop-i.i
+      so_far = λ lx ly. shared_swap (both xs ys) ys xs c.args.out.now c.loop-i.out c.loop-i.n c.find_from-j.result
+          c.loop-i.i (shared_skip (both xs ys) ys xs c.args.out.now c.loop-i.out c.loop-i.n c.loop-i.j c.loop-i.i
           c.find_from-j.result c.id-y.result c.id-x.result c.end_of-y_end.result c.first_of-x_first.result ly lx
           (shared_swap (both xs ys) xs ys c.args.out.now c.loop-i.out c.loop-i.n c.loop-i.i c.loop-i.j
           (c.loop-i.invariant.so_far lx ly)) t h c.id-y.ensures c.id-x.ensures c.end_of-y_end.ensures
@@ -70,8 +70,8 @@ loop-i-preserved-then-is_within g c =
       in_y = omega arith;
       len = c.put_run-n.ensures.len ∙ c.loop-i.invariant.len;
       so_far = λ lx ly. shared_run (both xs ys) xs ys c.args.out.now c.loop-i.out c.put_run-n.new.out c.loop-i.n
-          c.put_run-n.result c.loop-i.i c.loop-i.j c.find_from-next.result c.id-x.result c.id-y.result c.end_of-y_end.result
-          lx ly (c.loop-i.invariant.so_far lx ly) h t c.id-x.ensures c.id-y.ensures
+          c.put_run-n.result c.loop-i.i c.loop-i.j c.find_from-next.result c.id-x.result c.id-y.result
+          c.end_of-y_end.result lx ly (c.loop-i.invariant.so_far lx ly) h t c.id-x.ensures c.id-y.ensures
           (inside_by xs ys c.loop-i.i c.loop-i.j c.id-x.result c.id-y.result c.first_of-x_first.result
           c.end_of-x_end.result c.first_of-y_first.result c.end_of-y_end.result lx ly h t c.id-x.ensures c.id-y.ensures
           c.first_of-x_first.ensures c.end_of-x_end.ensures c.first_of-y_first.ensures c.end_of-y_end.ensures among.0

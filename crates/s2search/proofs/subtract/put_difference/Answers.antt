@@ -38,8 +38,9 @@ loop-i-preserved-then-begins_before g c =
           let fy : c.first_of.result ≡ first_leaf (get_or ys c.find_from-j.result 0) = c.first_of.ensures (rw ry own)
           ∙ ap first_leaf ry in
           let taken = left_taken xs ys c.args.out.now c.loop-i.out c.put_gap-n.new.out c.loop-i.n c.put_gap-n.result
-          c.loop-i.i c.find_from-j.result c.loop-i.lo c.id-x.result c.id-y.result c.first_of-first.result c.end_of-end.result
-          c.max-start.result c.first_of.result c.end_of.result c.max-lo.result lx ly here h there c.id-x.ensures ry
+          c.loop-i.i c.find_from-j.result c.loop-i.lo c.id-x.result c.id-y.result c.first_of-first.result
+          c.end_of-end.result c.max-start.result c.first_of.result c.end_of.result c.max-lo.result lx ly here h there
+          c.id-x.ensures ry
           c.first_of-first.ensures c.end_of-end.ensures c.first_of.ensures c.end_of.ensures es (omega arith)
           (omega arith) c.put_gap-n.ensures.put in
           left_jump xs ys c.args.out.now c.put_gap-n.new.out c.put_gap-n.result c.loop-i.i (c.find_from-j.result + 1)
@@ -68,8 +69,8 @@ loop-i-preserved-then-start-first g c =
           let ex : c.end_of-end.result ≡ first_leaf (get_or xs c.loop-i.i 0) + size_of (get_or xs c.loop-i.i 0) =
           c.end_of-end.ensures (rw rx ownx) ∙ ap (λ v. first_leaf v + size_of v) rx in
           left_run xs ys c.args.out.now c.loop-i.out c.put_run-n.new.out c.loop-i.n c.put_run-n.result c.loop-i.i
-          c.find_from-j.result c.id-x.result c.first_of-first.result c.max-start.result c.free_until-next.result c.id.result
-          c.end_of-lo.result lx ly here h rx c.first_of-first.ensures
+          c.find_from-j.result c.id-x.result c.first_of-first.result c.max-start.result c.free_until-next.result
+          c.id.result c.end_of-lo.result lx ly here h rx c.first_of-first.ensures
           (let t = c.if-start-first.true in omega arith) f.more f.within
           (λ there.
           let own = ly.cells c.find_from-j.result 0 there in

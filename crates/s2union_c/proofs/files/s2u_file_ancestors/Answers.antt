@@ -12,8 +12,8 @@ returns-in-Ok-clause-made c framed local =
     let fits : SFits w32 c.room_status.result = search rules in
     rw (to_z-of_z w32 c.room_status.result fits)
     (placed (AreHolders (file_ids c.args.bytes.now)) c.args.out.now c.ancestors.new.out c.ancestors.result
-    (length c.ancestors.new.out) c.room_status.result (rw c.in-Ok.ensures.1 at c.ancestors.ensures.put local) refl c.room_status.ensures.fits
-    c.room_status.ensures.short)
+    (length c.ancestors.new.out) c.room_status.result (rw c.in-Ok.ensures.1 at c.ancestors.ensures.put local) refl
+    c.room_status.ensures.fits c.room_status.ensures.short)
 
 pub returns-in-Ok-clause-status : goal.returns-in-Ok-clause-status
 returns-in-Ok-clause-status c framed =

@@ -9,5 +9,5 @@ pub returns-clause-made : goal.returns-clause-made
 returns-clause-made c lx ly =
     let fits : SFits w32 c.room_status.result = search rules in
     rw (to_z-of_z w32 c.room_status.result fits)
-    (placed _ c.args.out.now c.put_union.new.out c.put_union.result (length c.put_union.new.out) c.room_status.result
-    (c.put_union.ensures.made lx ly) refl c.room_status.ensures.fits c.room_status.ensures.short)
+    (placed _ c.args.out.now c.put_union.new.out c.put_union.result (length c.put_union.new.out)
+    c.room_status.result (c.put_union.ensures.made lx ly) refl c.room_status.ensures.fits c.room_status.ensures.short)

@@ -10,9 +10,9 @@ pub returns-clause-made : goal.returns-clause-made
 returns-clause-made c local cutting =
     let fits : SFits w32 c.room_status.result = search rules in
     rw (to_z-of_z w32 c.room_status.result fits)
-    (placed (λ list. list ≡ denormalised c.args.min c.args.modulus c.args.ids.now) c.args.out.now c.denormalise.new.out c.denormalise.result
-    (length c.denormalise.new.out) c.room_status.result (c.denormalise.ensures.put local) refl c.room_status.ensures.fits
-    c.room_status.ensures.short)
+    (placed (λ list. list ≡ denormalised c.args.min c.args.modulus c.args.ids.now) c.args.out.now
+    c.denormalise.new.out c.denormalise.result (length c.denormalise.new.out) c.room_status.result
+    (c.denormalise.ensures.put local) refl c.room_status.ensures.fits c.room_status.ensures.short)
 
 pub returns-clause-status : goal.returns-clause-status
 returns-clause-status c cutting =
