@@ -4,8 +4,8 @@
 ghost use Rattle.std.specs.Prelude.{◌≤◌};
 
 use s2calc::{
-    AnswerBuffer, Job, NoteWriter, RunFault, Stop, Stream, Tally, answer_status, cell_answer,
-    check_answer, draw_answer, draw_cells_answer, job, run_explained, run_promptly, status,
+    AnswerBuffer, Job, NoteWriter, RunFault, Stop, Tally, answer_status, cell_answer, check_answer,
+    draw_answer, draw_cells_answer, job, run_explained, run_promptly, status,
 };
 use s2edit::{Editor, MOST_CELLS, MOST_STATES};
 use s2shelf::DirShelf;
@@ -55,17 +55,17 @@ fn run_script(rt: &HostRuntime, limit: usize, depth: usize, dir: &str, explain: 
     let Ok(mut shelf) = DirShelf::at(rt, dir) else {
         return report_end(rt, &Err(RunFault::Memory));
     };
-    let Ok(mut writer) = AnswerBuffer::new(rt.alloc(), Stream(io::writer(rt))) else {
+    let Ok(mut writer) = AnswerBuffer::new(rt.alloc(), io::writer(rt)) else {
         return report_end(rt, &Err(RunFault::Memory));
     };
     let result = if explain {
-        let Ok(mut notes) = NoteWriter::new(rt.alloc(), Stream(rt.stderr())) else {
+        let Ok(mut notes) = NoteWriter::new(rt.alloc(), rt.stderr()) else {
             return report_end(rt, &Err(RunFault::Memory));
         };
         run_explained(
             rt.alloc(),
             &mut editor,
-            &mut Stream(rt.reader()),
+            &mut rt.reader(),
             &mut writer,
             &mut shelf,
             &mut notes,
@@ -74,7 +74,7 @@ fn run_script(rt: &HostRuntime, limit: usize, depth: usize, dir: &str, explain: 
         run_promptly(
             rt.alloc(),
             &mut editor,
-            &mut Stream(rt.reader()),
+            &mut rt.reader(),
             &mut writer,
             &mut shelf,
         )
@@ -84,10 +84,7 @@ fn run_script(rt: &HostRuntime, limit: usize, depth: usize, dir: &str, explain: 
 
 /// Answers one `cell CELL`.
 fn answer_cell(rt: &HostRuntime, word: &str) -> ExitCode {
-    report_answer(
-        rt,
-        cell_answer(word.as_bytes(), &mut Stream(io::writer(rt))),
-    )
+    report_answer(rt, cell_answer(word.as_bytes(), &mut io::writer(rt)))
 }
 
 /// Answers one `check FILE`.
@@ -97,7 +94,7 @@ fn answer_check(rt: &HostRuntime, dir: &str, name: &str) -> ExitCode {
     };
     report_answer(
         rt,
-        check_answer(rt.alloc(), &mut shelf, name, &mut Stream(io::writer(rt))),
+        check_answer(rt.alloc(), &mut shelf, name, &mut io::writer(rt)),
     )
 }
 
@@ -108,13 +105,7 @@ fn answer_draw(rt: &HostRuntime, dir: &str, name: &str, curve: bool) -> ExitCode
     };
     report_answer(
         rt,
-        draw_answer(
-            rt.alloc(),
-            &mut shelf,
-            name,
-            curve,
-            &mut Stream(io::writer(rt)),
-        ),
+        draw_answer(rt.alloc(), &mut shelf, name, curve, &mut io::writer(rt)),
     )
 }
 
@@ -122,7 +113,7 @@ fn answer_draw(rt: &HostRuntime, dir: &str, name: &str, curve: bool) -> ExitCode
 fn answer_draw_cells(rt: &HostRuntime, words: &[String], curve: bool) -> ExitCode {
     report_answer(
         rt,
-        draw_cells_answer(rt.alloc(), words, curve, &mut Stream(io::writer(rt))),
+        draw_cells_answer(rt.alloc(), words, curve, &mut io::writer(rt)),
     )
 }
 

@@ -46,5 +46,5 @@ pub use fault::RunFault;
 pub use notes::NoteWriter;
 pub use program::{answer_status, cell_answer, status};
 pub use refusal::Refusal;
-pub use streams::{Sink, Source, Stream};
+pub use streams::{Sink, Source};
 pub use task::{Job, Stop};

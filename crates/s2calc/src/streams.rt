@@ -48,26 +48,24 @@ pub trait Sink {
         ensures failed { OnErr result (LastFailed ⊥ (calls self.old) (calls self.new)) };
 }
 
-/// A reader or a writer of std. Its bytes are known to a contract if std knows them, and its calls are not.
-#[derive(Drop)]
-pub struct Stream<T>(pub T);
-
-impl<R: Read> Source for Stream<R> {
-    ghost remaining = { λ stream. R.remaining stream.0 };
+/// Every reader of std. Its bytes are known to a contract if std knows them, and its calls are not.
+impl<R: Read> Source for R {
+    ghost remaining = { λ stream. R.remaining stream };
 
     fn read(&mut self, buf: &mut [u8]) -> io::Result<usize> {
-        self.0.read(buf)
+        Read::read(self, buf)
     }
 }
 
-impl<W: Write> Sink for Stream<W> {
-    ghost contents = { λ stream. W.contents stream.0 };
+/// Every writer of std. Its bytes are known to a contract if std knows them, and its calls are not.
+impl<W: Write> Sink for W {
+    ghost contents = { λ stream. W.contents stream };
 
     fn write(&mut self, bytes: &[u8]) -> io::Result<usize> {
-        self.0.write(bytes)
+        Write::write(self, bytes)
     }
 
     fn flush(&mut self) -> io::Result<()> {
-        self.0.flush()
+        Write::flush(self)
     }
 }

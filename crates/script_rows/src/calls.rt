@@ -7,7 +7,7 @@ use crate::logged::add_log;
 use crate::narrow::Mishap;
 use crate::row::Done;
 use row_table::{add_line, bytes_of, number};
-use s2calc::{RunFault, Stop, Stream, Tally, cell_answer, check_answer, job, status};
+use s2calc::{RunFault, Stop, Tally, cell_answer, check_answer, job, status};
 use s2cell::CellId;
 use s2shelf::{MemoryShelf, Shelf};
 use std::alloc::{AllocError, Global};
@@ -33,11 +33,11 @@ pub fn make(
         return add_file(alloc, &mut done.shelf, rest, found);
     }
     if name == "cell" {
-        let told = cell_answer(rest.as_bytes(), &mut Stream(&mut *found));
+        let told = cell_answer(rest.as_bytes(), found);
         return add_line(found, name_of(&told));
     }
     if name == "check" {
-        let told = check_answer(alloc, &mut done.shelf, rest, &mut Stream(&mut *found));
+        let told = check_answer(alloc, &mut done.shelf, rest, found);
         return add_line(found, name_of(&told));
     }
     make_other(alloc, lines, name, rest, found)

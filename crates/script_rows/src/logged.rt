@@ -3,7 +3,7 @@ use crate::left::Flushing;
 use crate::log::{LoggedShelf, LoggedWriter};
 use crate::row::editor_of;
 use row_table::script_of;
-use s2calc::{AnswerBuffer, Stream, run, run_promptly};
+use s2calc::{AnswerBuffer, run, run_promptly};
 use std::alloc::{AllocError, Global};
 use std::cell::RefCell;
 
@@ -33,7 +33,7 @@ fn log_run(
 ) -> Result<(), AllocError> {
     let script = script_of(alloc, lines)?;
     let mut editor = editor_of(alloc, lines)?;
-    let mut reader = Stream(script.as_slice());
+    let mut reader = script.as_slice();
     let mut writer = AnswerBuffer::new(alloc, LoggedWriter { log })?;
     let mut shelf = LoggedShelf {
         alloc,

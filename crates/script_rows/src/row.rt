@@ -4,7 +4,7 @@ ghost use Rattle.std.specs.Prelude.{◌<◌};
 use crate::calls::make;
 use crate::pieces::Pieces;
 use row_table::{Table, add_line, bytes_of, option, script_of, wanted_of};
-use s2calc::{RunFault, Sink, Stream, Tally, run};
+use s2calc::{RunFault, Sink, Tally, run};
 use s2edit::{Editor, MOST_CELLS, MOST_STATES};
 use s2shelf::{MemoryShelf, Shelf};
 use std::alloc::{AllocError, Global};
@@ -30,7 +30,7 @@ pub struct Done {
 impl<R: Print> Table for Rows<'_, R> {
     fn answers_of(&mut self, alloc: Global, lines: &[&str]) -> Result<Vec<u8>, AllocError> {
         if option(lines, "shown", 0) == 1 {
-            let done = run_row(alloc, lines, 4096, &mut Stream(io::writer(self.rt)))?;
+            let done = run_row(alloc, lines, 4096, &mut io::writer(self.rt))?;
             return with_calls(alloc, lines, Vec::new(alloc), done);
         }
         match option(lines, "pieces", 0) as usize {
@@ -55,7 +55,7 @@ fn answers_in_each_size(alloc: Global, lines: &[&str]) -> Result<Vec<u8>, AllocE
 /// The answers to a row's script and calls, if a read gives this many bytes.
 fn answers_in_pieces(alloc: Global, lines: &[&str], size: usize) -> Result<Vec<u8>, AllocError> {
     let mut answers = Vec::new(alloc);
-    let done = run_row(alloc, lines, size, &mut Stream(&mut answers))?;
+    let done = run_row(alloc, lines, size, &mut answers)?;
     match option(lines, "last", 0) as usize {
         0 => with_calls(alloc, lines, answers, done),
         count => with_calls(alloc, lines, ending_of(alloc, &answers, count)?, done),
