@@ -3,6 +3,7 @@ pub mod Numbers
 -- Of this crate alone.
 mod Asking
 mod Laying
+mod Leaping
 mod Leaving
 mod Cutting
 mod Finding

@@ -85,12 +85,12 @@ pub record Spent (looks turns far : ℕ) : Type 0 where
   pub most : (k : ℕ) → looks * 2 ^ k ≤ (4 * k + 6) * (2 ^ k * turns) + 2 * far
 
 -- a power of two is above its exponent
-above : (k : ℕ) → k + 1 ≤ 2 ^ k
+pub above : (k : ℕ) → k + 1 ≤ 2 ^ k
 above zero = let e : 2 ^ zero ≡ 1 = refl in omega arith
 above (suc k) = let h = above k in let e = pow-suc 2 k in omega arith
 
 -- the logarithm of the way is at most `k + far / 2 ^ k`
-sought_line : (before after far k : ℕ) → Sought before after far →
+pub sought_line : (before after far k : ℕ) → Sought before after far →
     after * 2 ^ k ≤ before * 2 ^ k + (2 * k + 2) * 2 ^ k + 2 * far
 sought_line before after far k s =
     let q = far / 2 ^ k in

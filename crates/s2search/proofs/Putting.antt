@@ -105,15 +105,19 @@ few_cells u p = ⊎_elim
     (cases_lt 0 (length u))
 
 -- the list that was put into the room is the normal form
+-- the number of cells fits
+pub puts_length : (S : ℕ → Bool) (list room out : List ℕ) (n : ℕ) → Picked S list → ((x : ℕ) → has_leaf list x ≡ S x)
+    → IsPut list room out n → n ≡ length list
+puts_length S list room out n picked leaves p =
+    p.len_is (few_cells list (packed_from_local list (picked_local S list picked leaves)))
+
 pub puts_normal : (S T : ℕ → Bool) (list room out : List ℕ) (n : ℕ) → Picked S list →
     ((x : ℕ) → has_leaf list x ≡ S x) → ((x : ℕ) → S x ≡ T x) → IsPut list room out n →
     PutsOne (IsNormalForm T) room out n
-puts_normal S T list room out n picked leaves same p =
-    let local = picked_local S list picked leaves in
-    record {
-      list = list;
-      is = normal_from_leaves T list local (λ x. leaves x ∙ same x);
-      len_is = p.len_is (few_cells list (packed_from_local list local));
-      same_length = p.same_length;
-      front = p.front;
-    }
+puts_normal S T list room out n picked leaves same p = record {
+  list = list;
+  is = normal_from_leaves T list (picked_local S list picked leaves) (λ x. leaves x ∙ same x);
+  len_is = puts_length S list room out n picked leaves p;
+  same_length = p.same_length;
+  front = p.front;
+}

@@ -1,27 +1,33 @@
 -- What two lists of cells share, put into a room on a walk along both.
-use Rattle.std.proofs.Common.{◌≡◌, ℕ, ◌+◌, ◌-◌, ◌<◌, ◌≤◌, refl, arith, Bool, List, [], ◌++◌, length}
-use Rattle.std.proofs.Common.{get_or, take, drop, inl}
+use Rattle.std.proofs.Common.{◌≡◌, ℕ, ◌+◌, ◌-◌, ◌<◌, ◌≤◌, refl, sym, ap, ◌∙◌, arith, Bool, ◌&&◌, List, [], ◌++◌}
+use Rattle.std.proofs.Common.{length, ◌⊎◌, get_or, take, drop, inl}
+use Rattle.std.proofs.Math.Logic.{⊎_elim}
+use Rattle.std.proofs.lemmas.List.{length-append, length-drop, length-take-le}
 use Rattle.std.proofs.lemmas.Bool.Decides.{nat_tests}
 use Rattle.s2cell.specs.Cell.{IsCell, IsInside, first_leaf, size_of}
-use Rattle.s2cell.proofs.Leaves.{inside_from_within, within_from_inside}
-use Rattle.s2union.specs.Union.{IsLocal, IsNormalForm}
-use Rattle.s2union.specs.Packed.{IsPacked, FirstEndBy}
+use Rattle.s2cell.proofs.Leaves.{Within, inside_from_within, within_from_inside}
+use Rattle.s2union.specs.Union.{IsLocal, IsNormalForm, has_leaf}
+use Rattle.s2union.specs.Packed.{EndsAfter, IsPacked, FirstEndBy}
 use Rattle.s2union.proofs.Checking.{packed_from_local}
+use Rattle.s2union.proofs.Finding.{ended_to}
 use Rattle.s2union.proofs.Packing.{is_at}
 use Rattle.s2union.proofs.Picking.{picked_none}
-use Rattle.s2union.proofs.Shared.{Sharing, both, ended_in, ended_up_to, held_else}
-use Rattle.s2union.proofs.Shared.{share_x, sharing_done, sharing_swap, skip_x}
+use Rattle.s2union.proofs.Shared.{Sharing, both, held_else, share_x, sharing_done, sharing_swap, skip_x}
+use Rattle.s2search.specs.Looks.{Alternates, FewForTurnsAndCells}
 use Rattle.s2search.specs.Room.{IsPut, PutsOne}
-use Rattle.s2search.proofs.Putting.{put_none, puts_normal}
+use Rattle.s2search.proofs.Leaping.{Stepped, stepped_all, stepped_leap, stepped_none, stepped_run, stepped_swap}
+use Rattle.s2search.proofs.Looking.{Sought}
+use Rattle.s2search.proofs.Putting.{put_none, puts_length, puts_normal}
 
--- a list of what is shared so far is in the room
-pub record SharingIn (S : ℕ → Bool) (xs ys room out : List ℕ) (n i j : ℕ) : Type 0 where
+-- a list of what is shared so far is in the room, after so many looks
+pub record SharingIn (S : ℕ → Bool) (xs ys room out : List ℕ) (n looks i j : ℕ) : Type 0 where
   pub list : List ℕ
   pub put : IsPut list room out n
   pub sharing : Sharing S xs ys list i j
+  pub stepped : Stepped xs ys looks (length list) i j
 
-pub shared_none : (xs ys room : List ℕ) → SharingIn (both xs ys) xs ys room room 0 0 0
-shared_none xs ys room = record {
+pub shared_none : (xs ys room : List ℕ) (looks : ℕ) → looks ≡ 0 → SharingIn (both xs ys) xs ys room room 0 looks 0 0
+shared_none xs ys room looks e = record {
   list = [];
   put = put_none room;
   sharing = record {
@@ -35,58 +41,78 @@ shared_none xs ys room = record {
     from = inl (λ h. omega arith);
     picked = picked_none (both xs ys);
   };
+  stepped = stepped_none xs ys looks e;
 }
 
-pub shared_swap : (S : ℕ → Bool) (xs ys room out : List ℕ) (n i j : ℕ) → SharingIn S xs ys room out n i j →
-    SharingIn S ys xs room out n j i
-shared_swap S xs ys room out n i j s = record {
+pub shared_swap : (S : ℕ → Bool) (xs ys room out : List ℕ) (n looks i j : ℕ) → SharingIn S xs ys room out n looks i j →
+    SharingIn S ys xs room out n looks j i
+shared_swap S xs ys room out n looks i j s = record {
   list = s.list;
   put = s.put;
   sharing = sharing_swap S xs ys s.list i j s.sharing;
+  stepped = stepped_swap xs ys looks (length s.list) i j s.stepped;
 }
 
 -- the next cell of xs ends before the next of ys, and so do all up to a place
-pub shared_skip : (S : ℕ → Bool) (xs ys room out : List ℕ) (n i j next x y end first : ℕ) → IsLocal xs → IsLocal ys →
-    SharingIn S xs ys room out n i j → i < length xs → j < length ys → x ≡ get_or xs i 0 → y ≡ get_or ys j 0
-    → (IsCell x → end ≡ first_leaf x + size_of x) → (IsCell y → first ≡ first_leaf y) → end ≤ first → i + 1 ≤ next
-    → next ≤ length xs → (IsPacked xs → FirstEndBy xs (i + 1) first → FirstEndBy xs next first)
-    → SharingIn S xs ys room out n next j
-shared_skip S xs ys room out n i j next x y end first lx ly s h g rx ry ends begins apart le in_x leap =
+pub shared_skip : (S : ℕ → Bool) (xs ys room out : List ℕ) (n looks a b c i j next x y end first : ℕ) → IsLocal xs →
+    IsLocal ys → SharingIn S xs ys room out n looks i j → i < length xs → j < length ys → x ≡ get_or xs i 0
+    → y ≡ get_or ys j 0 → (IsCell x → end ≡ first_leaf x + size_of x) → (IsCell y → first ≡ first_leaf y) → end ≤ first
+    → i + 1 ≤ next → next ≤ length xs → (IsPacked xs → FirstEndBy xs (i + 1) first → FirstEndBy xs next first)
+    → (IsPacked xs → FirstEndBy xs (i + 1) first → EndsAfter xs next first) → a ≤ looks + 1 → b ≤ a + 1
+    → Sought b c (next - (i + 1)) → SharingIn S xs ys room out n c next j
+shared_skip S xs ys room out n looks a b c i j next x y end first lx ly s h g rx ry ends begins apart le in_x leap past
+    ea eb sought =
     let cx : IsCell x = rw rx (lx.cells i 0 h) in
     let cy : IsCell y = rw ry (ly.cells j 0 g) in
-    let ex = ends cx in
-    let ey = begins cy in
-    let ended : FirstEndBy xs next first = leap (packed_from_local xs lx)
-    (ended_up_to xs i x first lx h (is_at xs i x h rx) (omega arith)) in
+    let ex : end ≡ first_leaf (get_or xs i 0) + size_of (get_or xs i 0) = ends cx
+    ∙ ap (λ v. first_leaf v + size_of v) rx in
+    let ey : first ≡ first_leaf (get_or ys j 0) = begins cy ∙ ap first_leaf ry in
+    let from : FirstEndBy xs (i + 1) first = ended_to xs i first (packed_from_local xs lx) h (omega arith) in
+    let ended : FirstEndBy xs next (first_leaf (get_or ys j 0)) = rw ey at (leap (packed_from_local xs lx) from) in
+    let later : EndsAfter xs next (first_leaf (get_or ys j 0)) = rw ey at (past (packed_from_local xs lx) from) in
     record {
       list = s.list;
       put = s.put;
-      sharing = skip_x S xs ys s.list i j next y lx ly s.sharing g (is_at ys j y g ry) (omega arith) in_x
-          (rw ey at ended);
+      sharing = skip_x S xs ys s.list i j next (get_or ys j 0) lx ly s.sharing g
+          (is_at ys j (get_or ys j 0) g refl) (omega arith) in_x ended;
+      stepped = stepped_leap xs ys looks (length s.list) i j a b c next lx ly s.stepped h g (omega arith) le ended later
+          ea eb sought;
     }
 
 -- the next cell of xs lies in the next of ys, and all up to a place are put into the room
-pub shared_run : (S : ℕ → Bool) (xs ys room out new : List ℕ) (n m i j next x y end : ℕ) → IsLocal xs → IsLocal ys →
-    SharingIn S xs ys room out n i j → i < length xs → j < length ys → x ≡ get_or xs i 0 → y ≡ get_or ys j 0
-    → IsInside x y → (IsCell y → end ≡ first_leaf y + size_of y) → i + 1 ≤ next → next ≤ length xs
+pub shared_run : (S : ℕ → Bool) (xs ys room out new : List ℕ) (n m looks a b c i j next x y end : ℕ) → IsLocal xs →
+    IsLocal ys → SharingIn S xs ys room out n looks i j → i < length xs → j < length ys → x ≡ get_or xs i 0
+    → y ≡ get_or ys j 0 → IsInside x y → (IsCell y → end ≡ first_leaf y + size_of y) → i + 1 ≤ next
+    → next ≤ length xs
     → (IsPacked xs → FirstEndBy xs (i + 1) end → FirstEndBy xs next end)
-    → (IsPacked xs → FirstEndBy xs (i + 1) end → next < length xs
-    → end < first_leaf (get_or xs next 0) + size_of (get_or xs next 0))
+    → (IsPacked xs → FirstEndBy xs (i + 1) end → EndsAfter xs next end)
     → ((list old : List ℕ) → IsPut list old out n → IsPut (list ++ take (next - i) (drop i xs)) old new m)
-    → SharingIn S xs ys room new m next (j + 1)
-shared_run S xs ys room out new n m i j next x y end lx ly s h g rx ry inside ends le in_x leap past puts =
+    → a ≤ looks + 1 → b ≤ a + 1 → Sought b c (next - (i + 1)) → SharingIn S xs ys room new m c next (j + 1)
+shared_run S xs ys room out new n m looks a b c i j next x y end lx ly s h g rx ry inside ends le in_x leap past puts
+    ea eb sought =
     let cy : IsCell y = rw ry (ly.cells j 0 g) in
-    let ey = ends cy in
     let p = packed_from_local xs lx in
-    let from : FirstEndBy xs (i + 1) end = rw ey (ended_in xs i y x lx h (is_at xs i x h rx) inside) in
-    let ended : FirstEndBy xs next end = leap p from in
-    let later = past p from in
+    let ey : end ≡ first_leaf (get_or ys j 0) + size_of (get_or ys j 0) = ends cy
+    ∙ ap (λ v. first_leaf v + size_of v) ry in
+    let lies : IsInside (get_or xs i 0) (get_or ys j 0) = rw (rx, ry) at inside in
+    let w = within_from_inside (get_or xs i 0) (get_or ys j 0) (lx.cells i 0 h) lies in
+    let high = w.high in
+    let from : FirstEndBy xs (i + 1) end = ended_to xs i end p h (omega arith) in
+    let ended : FirstEndBy xs next (first_leaf (get_or ys j 0) + size_of (get_or ys j 0)) = rw ey at (leap p from) in
+    let later : EndsAfter xs next (first_leaf (get_or ys j 0) + size_of (get_or ys j 0)) = rw ey at (past p from) in
+    let cells : length (s.list ++ take (next - i) (drop i xs)) ≡ length s.list + (next - i) =
+    length-append s.list (take (next - i) (drop i xs))
+    ∙ ap (λ v. length s.list + v)
+    (length-take-le (next - i) (drop i xs) (let l = length-drop i xs in omega arith)) in
     record {
       list = s.list ++ take (next - i) (drop i xs);
       put = puts s.list room s.put;
-      sharing = share_x S xs ys s.list (s.list ++ take (next - i) (drop i xs)) i j next x y lx ly s.sharing h g
-          (is_at xs i x h rx) (is_at ys j y g ry) inside (omega arith) in_x (rw ey at ended)
-          (λ w. let l = later w in omega arith) refl;
+      sharing = share_x S xs ys s.list (s.list ++ take (next - i) (drop i xs)) i j next (get_or xs i 0) (get_or ys j 0)
+          lx ly s.sharing h g (is_at xs i (get_or xs i 0) h refl) (is_at ys j (get_or ys j 0) g refl) lies (omega arith)
+          in_x ended (λ l. let o = later l in omega arith) refl;
+      stepped = rw cells
+          (stepped_run xs ys looks (length s.list) i j a b c next lx ly s.stepped h g w.low w.high le ended later
+          ea eb sought);
     }
 
 -- a cell whose leaves are among those of another lies in it
@@ -125,7 +151,21 @@ inside_else xs ys i j x y x_first x_end y_first y_end lx ly h g rx ry fx ex fy e
     not_in (omega arith, omega arith))
 
 -- one of the lists is at its end
-pub shared_done : (S : ℕ → Bool) (xs ys room out : List ℕ) (n i j : ℕ) (T : ℕ → Bool) →
-    SharingIn S xs ys room out n i j → length xs ≤ i → ((x : ℕ) → S x ≡ T x) → PutsOne (IsNormalForm T) room out n
-shared_done S xs ys room out n i j T s h same =
+pub shared_done : (S : ℕ → Bool) (xs ys room out : List ℕ) (n looks i j : ℕ) (T : ℕ → Bool) →
+    SharingIn S xs ys room out n looks i j → length xs ≤ i → ((x : ℕ) → S x ≡ T x)
+    → PutsOne (IsNormalForm T) room out n
+shared_done S xs ys room out n looks i j T s h same =
     puts_normal S T s.list room out n s.sharing.picked (sharing_done S xs ys s.list i j s.sharing h) same s.put
+
+-- once a list is at its end the looks are few
+pub shared_few : (S : ℕ → Bool) (xs ys room out : List ℕ) (n looks i j d : ℕ) → SharingIn S xs ys room out n looks i j →
+    (length xs ≤ i) ⊎ (length ys ≤ j) → i ≤ length xs → j ≤ length ys → Alternates xs ys d (length xs) (length ys)
+    → FewForTurnsAndCells (length xs + length ys) d n looks
+shared_few S xs ys room out n looks i j d s ends hx hy cut =
+    let leaves : (x : ℕ) → has_leaf s.list x ≡ S x =
+    ⊎_elim
+    (λ (h : length xs ≤ i). sharing_done S xs ys s.list i j s.sharing h)
+    (λ (h : length ys ≤ j). sharing_done S ys xs s.list j i (sharing_swap S xs ys s.list i j s.sharing) h)
+    ends in
+    rw (puts_length S s.list room out n s.sharing.picked leaves s.put)
+    (stepped_all xs ys looks (length s.list) i j d s.stepped hx hy cut)

@@ -1,4 +1,4 @@
--- How many numbers a question about two unions looks at.
+-- How many numbers a question about two unions looks at, or an operation on them.
 use Rattle.std.specs.Prelude.{◌≡◌, ℕ, ◌+◌, ◌*◌, ◌^◌, ◌<◌, ◌≤◌, ◌⊎◌, List, length, slice_index}
 use Rattle.s2cell.specs.Cell.{covers, first_leaf}
 use Rattle.s2union.specs.Union.{IsWithin, ShareSome, has_leaf}
@@ -35,3 +35,8 @@ KnownToMeet xs ys i j = (length xs ≤ i) ⊎ ((length ys ≤ j) ⊎ ShareSome (
 -- log2(cells / (d + 1)); so at most `c (d + 1) (1 + log2(cells / (d + 1)))` for `c` = 8 and the logarithm rounded up
 abbrev pub FewForTurns : (cells d looks : ℕ) → Type 0
 FewForTurns cells d looks = (k : ℕ) → cells ≤ (d + 1) * 2 ^ k → looks ≤ 8 * (d + 1) * (1 + k)
+
+-- the same for an operation whose result has `written` cells: at most four looks more for each of these
+abbrev pub FewForTurnsAndCells : (cells d written looks : ℕ) → Type 0
+FewForTurnsAndCells cells d written looks = (k : ℕ) → cells ≤ (d + 1) * 2 ^ k
+    → looks ≤ 8 * (d + 1) * (1 + k) + 4 * written

@@ -31,6 +31,15 @@ impl Count for Looks {
     }
 }
 
+/// What a set operation answers, with how many looks that took.
+#[derive(Clone, Copy)]
+pub struct CountedLength {
+    /// How many cells the set has, whether they fit into the room or not.
+    pub len: usize,
+    /// How many times a cell of either list was looked at to search or to decide.
+    pub looks: u64,
+}
+
 /// No count, so that a call that nobody counts has no code for it.
 #[derive(Clone, Copy)]
 pub(crate) struct Uncounted;

@@ -1,20 +1,64 @@
 //! The leaves that two lists of cells share, written into a room.
-ghost use Rattle.std.specs.Prelude.{◌≡◌, ◌≤◌, ◌↔◌, IsTrue, length};
+ghost use Rattle.std.specs.Prelude.{◌≡◌, ◌+◌, ◌<◌, ◌≤◌, ◌↔◌, ℕ, IsTrue, min, length};
 ghost use Rattle.s2union.specs.Union.{IsLocal, IsNormalForm, has_leaf};
 ghost use Rattle.s2union.specs.Sets.{shared};
+ghost use Rattle.s2search.specs.Looks.{Alternates, FewForTurnsAndCells};
 ghost use Rattle.s2search.specs.Room.{PutsOne};
 
 use crate::cells::Cells;
-use crate::find::{end_of, find_from, first_of};
+use crate::find::{end_of, find_from_counted, first_of};
+use crate::looks::{Count, CountedLength, Looks, Uncounted, look};
 use crate::room::put_run;
 
 /// Puts the leaves that two unions share into the room, if there is enough of it, and answers how many cells they are.
-/// Whichever list is behind is searched for the place of the other, in steps that double, and the cells of one that lie
-/// in a cell of the other are copied as one run.
+/// Whichever list is behind is searched for the place of the other, in leaps, and the cells of one that lie in a cell
+/// of the other are copied as one run. Its work follows how the two interleave, as `put_intersection_counted` says.
 pub fn put_intersection<X: Cells, Y: Cells>(xs: &X, ys: &Y, out: &mut [u64]) -> usize
     ensures len { length out.new ≡ length out.old }
     ensures made { IsLocal (X.ids xs.now) → IsLocal (Y.ids ys.now)
         → PutsOne (IsNormalForm (shared (has_leaf (X.ids xs.now)) (has_leaf (Y.ids ys.now)))) out.old out.new result }
+{
+    put_shared(xs, ys, out, &mut Uncounted)
+}
+
+/// The same, with how often it looks at a number of either list to search or to decide: at most
+/// `8 (d + 1) (1 + log2((m + n) / (d + 1))) + 4 r` times, with the logarithm rounded up, for unions of `m` and `n`
+/// cells that in the order of their first leaves are `d` runs of each, and a result of `r` cells. A cell that it copies
+/// into the room is read once more, which isn't counted: these reads are at most `r`.
+pub fn put_intersection_counted<X: Cells, Y: Cells>(xs: &X, ys: &Y, out: &mut [u64]) -> CountedLength
+    ensures len { length out.new ≡ length out.old }
+    ensures made { IsLocal (X.ids xs.now) → IsLocal (Y.ids ys.now)
+        → PutsOne (IsNormalForm (shared (has_leaf (X.ids xs.now)) (has_leaf (Y.ids ys.now)))) out.old out.new
+        result.len }
+    ensures looks { IsLocal (X.ids xs.now) → IsLocal (Y.ids ys.now) → (d : ℕ)
+        → Alternates (X.ids xs.now) (Y.ids ys.now) d (length (X.ids xs.now)) (length (Y.ids ys.now))
+        → FewForTurnsAndCells (length (X.ids xs.now) + length (Y.ids ys.now)) d result.len result.looks }
+    ensures least { 0 < length (X.ids xs.now) → 0 < length (Y.ids ys.now) → 2 ≤ result.looks }
+{
+    let mut count = Looks { looks: 0 };
+    let len = put_shared(xs, ys, out, &mut count);
+    CountedLength {
+        len,
+        looks: count.looks,
+    }
+}
+
+/// The same for any counter. Each turn passes the cells of a list that end before the next of the other, or copies
+/// those that lie in it.
+fn put_shared<X: Cells, Y: Cells, K: Count>(
+    xs: &X,
+    ys: &Y,
+    out: &mut [u64],
+    count: &mut K,
+) -> usize
+    requires { K.looks count.old ≡ 0 }
+    ensures len { length out.new ≡ length out.old }
+    ensures made { IsLocal (X.ids xs.now) → IsLocal (Y.ids ys.now)
+        → PutsOne (IsNormalForm (shared (has_leaf (X.ids xs.now)) (has_leaf (Y.ids ys.now)))) out.old out.new result }
+    ensures looks { IsLocal (X.ids xs.now) → IsLocal (Y.ids ys.now) → (d : ℕ)
+        → Alternates (X.ids xs.now) (Y.ids ys.now) d (length (X.ids xs.now)) (length (Y.ids ys.now))
+        → FewForTurnsAndCells (length (X.ids xs.now) + length (Y.ids ys.now)) d result (K.looks count.new) }
+    ensures least { 0 < length (X.ids xs.now) → 0 < length (Y.ids ys.now) → min 2 K.most ≤ K.looks count.new }
 {
     let x_len = xs.len();
     let y_len = ys.len();
@@ -22,23 +66,23 @@ pub fn put_intersection<X: Cells, Y: Cells>(xs: &X, ys: &Y, out: &mut [u64]) -> 
     let mut i = 0;
     let mut j = 0;
     while i < x_len && j < y_len {
-        let x = xs.id(i);
-        let y = ys.id(j);
+        let x = look(xs, i, count);
+        let y = look(ys, j, count);
         let x_first = first_of(x);
         let y_first = first_of(y);
         let x_end = end_of(x);
         let y_end = end_of(y);
         if x_end <= y_first {
-            i = find_from(xs, i + 1, y_first);
+            i = find_from_counted(xs, i + 1, y_first, count);
         } else if y_end <= x_first {
-            j = find_from(ys, j + 1, x_first);
+            j = find_from_counted(ys, j + 1, x_first, count);
         } else if is_within(x_first, x_end, y_first, y_end) {
-            let next = find_from(xs, i + 1, y_end);
+            let next = find_from_counted(xs, i + 1, y_end, count);
             n = put_run(out, n, xs, i, next);
             i = next;
             j += 1;
         } else {
-            let next = find_from(ys, j + 1, x_end);
+            let next = find_from_counted(ys, j + 1, x_end, count);
             n = put_run(out, n, ys, j, next);
             j = next;
             i += 1;

@@ -1,8 +1,8 @@
-use Rattle.std.proofs.Common.{◌≡◌, ◌≤◌, ◌+◌, ◌-◌, length}
+use Rattle.std.proofs.Common.{◌≡◌, ◌≤◌, ◌<◌, ◌+◌, ◌-◌, length, min}
 use Rattle.s2union.specs.Union.{IsLocal}
 use Rattle.s2union.proofs.Shared.{both}
 use Rattle.s2search.proofs.Sharing.{SharingIn}
-use Rattle.s2search.proofs.share.put_intersection.Given as goal
+use Rattle.s2search.proofs.share.put_shared.Given as goal
 
 abbrev pub invariant-loop-i : goal.invariant-loop-i
 invariant-loop-i g l = record {
@@ -11,7 +11,8 @@ invariant-loop-i g l = record {
   len : length l.out ≡ length l.fn.out;
   so_far : IsLocal (g.X.Cells.ids l.xs) → IsLocal (g.Y.Cells.ids l.ys)
       → SharingIn (both (g.X.Cells.ids l.xs) (g.Y.Cells.ids l.ys)) (g.X.Cells.ids l.xs) (g.Y.Cells.ids l.ys) l.fn.out
-      l.out l.n l.i l.j;
+      l.out l.n (g.K.Count.looks l.count) l.i l.j;
+  some : 0 < l.i + l.j → min 2 g.K.Count.most ≤ g.K.Count.looks l.count;
 }
 
 abbrev pub decreases-loop-i : goal.decreases-loop-i
