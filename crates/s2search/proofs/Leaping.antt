@@ -1,5 +1,5 @@
 -- How many numbers a walk looks at that passes what ends before the other list, and writes what lies in it.
-use Rattle.std.proofs.Common.{◌≡◌, ℕ, zero, suc, ◌+◌, ◌-◌, ◌*◌, ◌^◌, ◌<◌, ◌≤◌, refl, ap, ◌∙◌, arith}
+use Rattle.std.proofs.Common.{◌≡◌, ℕ, zero, suc, ◌+◌, ◌-◌, ◌*◌, ◌^◌, ◌<◌, ◌≤◌, ap, ◌∙◌, arith}
 use Rattle.std.proofs.Common.{List, length, get_or}
 use Rattle.std.proofs.Math.Logic.{⊎_elim}
 use Rattle.std.proofs.Math.Nat.{mul-le-mul_right, le_of_mul-le-mul_right}
@@ -111,6 +111,7 @@ cut_swap xs ys d a = record {
         let at_x : a.x_cut (suc r) ≡ a.x_cut (r + 1) = ap a.x_cut next in
         let b = a.y_run r l k (omega arith) (omega arith) (omega arith) f in
         omega arith
+
     after : (r k l : ℕ) → r < d + 1 → l < a.x_cut (r + 1) → a.y_cut (r + 1 - 1) ≤ k → k < length ys → l < length xs →
         first_leaf (get_or xs l 0) ≤ first_leaf (get_or ys k 0)
     after r k l h s e f g =

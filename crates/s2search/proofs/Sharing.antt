@@ -1,11 +1,11 @@
 -- What two lists of cells share, put into a room on a walk along both.
-use Rattle.std.proofs.Common.{◌≡◌, ℕ, ◌+◌, ◌-◌, ◌<◌, ◌≤◌, refl, sym, ap, ◌∙◌, arith, Bool, ◌&&◌, List, [], ◌++◌}
+use Rattle.std.proofs.Common.{◌≡◌, ℕ, ◌+◌, ◌-◌, ◌<◌, ◌≤◌, refl, ap, ◌∙◌, arith, Bool, List, [], ◌++◌}
 use Rattle.std.proofs.Common.{length, ◌⊎◌, get_or, take, drop, inl}
 use Rattle.std.proofs.Math.Logic.{⊎_elim}
 use Rattle.std.proofs.lemmas.List.{length-append, length-drop, length-take-le}
 use Rattle.std.proofs.lemmas.Bool.Decides.{nat_tests}
 use Rattle.s2cell.specs.Cell.{IsCell, IsInside, first_leaf, size_of}
-use Rattle.s2cell.proofs.Leaves.{Within, inside_from_within, within_from_inside}
+use Rattle.s2cell.proofs.Leaves.{inside_from_within, within_from_inside}
 use Rattle.s2union.specs.Union.{IsLocal, IsNormalForm, has_leaf}
 use Rattle.s2union.specs.Packed.{EndsAfter, IsPacked, FirstEndBy}
 use Rattle.s2union.proofs.Checking.{packed_from_local}

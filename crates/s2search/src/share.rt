@@ -25,7 +25,11 @@ pub fn put_intersection<X: Cells, Y: Cells>(xs: &X, ys: &Y, out: &mut [u64]) -> 
 /// `8 (d + 1) (1 + log2((m + n) / (d + 1))) + 4 r` times, with the logarithm rounded up, for unions of `m` and `n`
 /// cells that in the order of their first leaves are `d` runs of each, and a result of `r` cells. A cell that it copies
 /// into the room is read once more, which isn't counted: these reads are at most `r`.
-pub fn put_intersection_counted<X: Cells, Y: Cells>(xs: &X, ys: &Y, out: &mut [u64]) -> CountedLength
+pub fn put_intersection_counted<X: Cells, Y: Cells>(
+    xs: &X,
+    ys: &Y,
+    out: &mut [u64],
+) -> CountedLength
     ensures len { length out.new ≡ length out.old }
     ensures made { IsLocal (X.ids xs.now) → IsLocal (Y.ids ys.now)
         → PutsOne (IsNormalForm (shared (has_leaf (X.ids xs.now)) (has_leaf (Y.ids ys.now)))) out.old out.new
@@ -45,12 +49,7 @@ pub fn put_intersection_counted<X: Cells, Y: Cells>(xs: &X, ys: &Y, out: &mut [u
 
 /// The same for any counter. Each turn passes the cells of a list that end before the next of the other, or copies
 /// those that lie in it.
-fn put_shared<X: Cells, Y: Cells, K: Count>(
-    xs: &X,
-    ys: &Y,
-    out: &mut [u64],
-    count: &mut K,
-) -> usize
+fn put_shared<X: Cells, Y: Cells, K: Count>(xs: &X, ys: &Y, out: &mut [u64], count: &mut K) -> usize
     requires { K.looks count.old ≡ 0 }
     ensures len { length out.new ≡ length out.old }
     ensures made { IsLocal (X.ids xs.now) → IsLocal (Y.ids ys.now)
