@@ -234,7 +234,8 @@ stepped_swap xs ys looks written i j s =
 
 -- cells before one that begins later end before it
 ended_still : (xs ys : List ℕ) (i j next : ℕ) → IsLocal xs
-    → (i < length xs → FirstEndBy ys j (first_leaf (get_or xs i 0))) → i ≤ next → next < length xs → FirstEndBy ys j (first_leaf (get_or xs next 0))
+    → (i < length xs → FirstEndBy ys j (first_leaf (get_or xs i 0))) → i ≤ next → next < length xs
+    → FirstEndBy ys j (first_leaf (get_or xs next 0))
 ended_still xs ys i j next lx ended le h k l =
     let e = ended (omega arith) k l in
     let s = starts_later xs i next (packed_from_local xs lx) le h in

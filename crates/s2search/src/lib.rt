@@ -37,8 +37,6 @@ pub use keys::ancestors;
 pub use looks::CountedLength;
 pub use normalising::normalise;
 pub use run::cells_at;
-pub use share::put_intersection;
-pub use walk::{contains, contains_counted, intersects, intersects_counted};
 pub use share::{put_intersection, put_intersection_counted};
 pub use subtract::put_difference;
 pub use walk::{contains, contains_counted, intersects, intersects_counted};

@@ -36,7 +36,8 @@ loop-i-preserved-then-x_end-y_first g c =
       len = c.loop-i.invariant.len;
       so_far = λ lx ly. shared_skip (both xs ys) xs ys c.args.out.now c.loop-i.out c.loop-i.n looks a b _
           c.loop-i.i c.loop-i.j c.find_from_counted-i.result c.look-x.result c.look-y.result c.end_of-x_end.result
-          c.first_of-y_first.result lx ly (c.loop-i.invariant.so_far lx ly) h t c.look-x.ensures.id c.look-y.ensures.id c.end_of-x_end.ensures
+          c.first_of-y_first.result lx ly (c.loop-i.invariant.so_far lx ly) h t c.look-x.ensures.id
+          c.look-y.ensures.id c.end_of-x_end.ensures
           c.first_of-y_first.ensures c.if-x_end-y_first.true f.from f.within f.ended f.next (omega arith) (omega arith)
           f.looks;
       some = λ _. let least = f.least in omega arith;
