@@ -99,7 +99,7 @@ struct SetOperation {
   SetLimit limit;
 };
 
-// A side whose work goes through all pairs: `work` does that of one pair so many times, and `made` sums what it made.
+// A side whose work goes through all pairs: `work` does that of one pair that often, and `made` sums what it made.
 template <typename Work, typename Made>
 static Side pair_side(Way way, const Pairs& pairs, Work work, Made made) {
   return {[&pairs, work](uint32_t times) {

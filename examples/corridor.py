@@ -1,6 +1,6 @@
 """The corridor of a flight: corridor.py LONGITUDE LATITUDE LONGITUDE LATITUDE KILOMETERS FILE
 
-Its points are at most so many kilometers from the shortest way between two points. FILE.outer has all of them,
+Its points are at most this number of kilometers from the shortest way between two points. FILE.outer has all of them,
 FILE.inner no others: caps along the way, covered by S2's module for Python, and united here.
 """
 import math

@@ -378,7 +378,7 @@ func asked(ids []CellID, call func(cells *C.uint64_t, m C.size_t, answers *C.uin
 // sizeOfFile is how many bytes the file of n cells has.
 func sizeOfFile(n int) int { return 9 + 8*n }
 
-// readMore reads so many bytes. It takes memory for what has come, not for what was promised.
+// readMore reads this number of bytes. It takes memory for what has come, not for what was promised.
 func readMore(file *bytes.Buffer, r io.Reader, count int64) error {
 	_, err := io.CopyN(file, r, count)
 	if errors.Is(err, io.EOF) {

@@ -158,7 +158,7 @@ fn listed<T>(room: usize, call: impl Fn(*mut T, usize, *mut usize) -> i32) -> Re
     Ok(made)
 }
 
-/// An empty list with room for so many.
+/// An empty list with room for this number.
 pub fn roomy<T>(room: usize) -> Result<Vec<T>, Error> {
     let mut made = Vec::new();
     made.try_reserve_exact(room).map_err(|_| Error::Memory)?;

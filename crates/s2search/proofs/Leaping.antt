@@ -45,7 +45,7 @@ paid_run looks written leaps far a b e x next p ea eb s en = record {
       omega arith;
 }
 
--- so few in so many turns
+-- the looks of the turns are few
 few_turns : (d k : ℕ) → (2 * suc k + 4) * (2 * d + 1) + 2 * (d + 1) ≤ 8 * (d + 1) * (1 + suc k)
 few_turns d k = omega arith
 

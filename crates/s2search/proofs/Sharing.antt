@@ -19,7 +19,7 @@ use Rattle.s2search.proofs.Leaping.{Stepped, stepped_all, stepped_leap, stepped_
 use Rattle.s2search.proofs.Looking.{Sought}
 use Rattle.s2search.proofs.Putting.{put_none, puts_length, puts_normal}
 
--- a list of what is shared so far is in the room, after so many looks
+-- a list of what is shared so far is in the room, and `looks` is how often the walk has looked
 pub record SharingIn (S : ℕ → Bool) (xs ys room out : List ℕ) (n looks i j : ℕ) : Type 0 where
   pub list : List ℕ
   pub put : IsPut list room out n
