@@ -393,8 +393,14 @@ static int32_t make_symmetric_difference(const Job* j, uint64_t* out, size_t roo
   return status;
 }
 
+/* Argument k of a set operation. What an operation has just made hardly comes again, so it isn't kept. */
+static const S2Union* stored_argument(FunctionCallInfo fcinfo, int k) {
+  bool stored = is_constant(fcinfo->flinfo, k) || VARATT_IS_EXTERNAL_ONDISK(PG_GETARG_POINTER(k));
+  return stored ? ASKED(k) : ARGUMENT(k);
+}
+
 static Datum of_two_unions(FunctionCallInfo fcinfo, maker* make) {
-  Job j = {.x = ARGUMENT(0), .y = ARGUMENT(1)};
+  Job j = {.x = stored_argument(fcinfo, 0), .y = stored_argument(fcinfo, 1)};
   return made(make, &j, Min(count_of(j.x) + count_of(j.y), MOST_CELLS));
 }
 
