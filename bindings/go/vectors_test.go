@@ -19,7 +19,7 @@ type (
 	CellUnion = s2union.CellUnion
 )
 
-// TestVectors asks the questions of bindings/tests/vectors.py, in the file that S2UNION_VECTORS names, and compares the
+// TestVectors asks the questions of tests/python/vectors.py, in the file that S2UNION_VECTORS names, and compares the
 // answers with those of the plain model.
 func TestVectors(t *testing.T) {
 	path := os.Getenv("S2UNION_VECTORS")

@@ -1,4 +1,4 @@
-//! The questions of bindings/tests/vectors.py, in the file that S2UNION_VECTORS names, with the plain model's answers.
+//! The questions of tests/python/vectors.py, in the file that S2UNION_VECTORS names, with the plain model's answers.
 
 use std::collections::BTreeSet;
 use std::{env, fs};

@@ -1,0 +1,210 @@
+#!/usr/bin/env bash
+# The tests of the library for C, and of the bindings for C++, Python, Go and Rust: tests/run bindings.
+# It installs the Debian packages that it needs, but not Go (golang-go) and Rust (cargo, or rustup's): the bindings for
+# these are tested if their commands are there. Its last line is 'N passed, M failed'; the status is 1 if any failed.
+set -uo pipefail
+top=$(cd "$(dirname "$0")/../.." && pwd)
+tests=$top/tests/c
+work=$(mktemp -d)
+trap 'rm -rf "$work"' EXIT
+passed=0 failed=0
+
+# Runs a step by its name; its output is shown if it fails.
+step() {
+  local name=$1
+  shift
+  if "$@" >"$work/log" 2>&1; then
+    passed=$((passed + 1))
+    local checks
+    checks=$(sed -n '/^[0-9]* passed, 0 failed$/s/ passed, 0 failed/ checks/;T;s/^/: /p' "$work/log" | tail -1)
+    echo "ok     $name$checks"
+  else
+    failed=$((failed + 1))
+    echo "FAILED $name"
+    tail -40 "$work/log"
+  fi
+}
+
+finish() {
+  echo "$passed passed, $failed failed"
+  [ "$failed" -eq 0 ]
+  exit
+}
+
+# ---- what is needed
+
+packages=()
+command -v gcc >/dev/null && command -v g++ >/dev/null || packages+=(gcc g++ libc6-dev)
+command -v clang >/dev/null || packages+=(clang)
+command -v pkg-config >/dev/null || packages+=(pkg-config)
+[ -x /usr/bin/python3 ] || packages+=(python3)
+/usr/bin/python3 -c 'import numpy' 2>/dev/null || packages+=(python3-numpy)
+/usr/bin/python3 -c 'import pip, setuptools, wheel' 2>/dev/null || packages+=(python3-{pip,setuptools,wheel})
+install_packages() {
+  local as_root=()
+  [ "$(id -u)" -eq 0 ] || as_root=(sudo -n)
+  "${as_root[@]}" apt-get update && "${as_root[@]}" apt-get install -y --no-install-recommends "$@"
+}
+if [ ${#packages[@]} -gt 0 ]; then
+  step "Debian packages: ${packages[*]}" install_packages "${packages[@]}"
+  [ "$failed" -eq 0 ] || { echo "tests/run bindings can't run without these packages"; finish; }
+fi
+
+# ---- the library, installed as a package would be
+
+step "tools/library" "$top/tools/library" "$work/usr"
+[ "$failed" -eq 0 ] || finish
+own_sources() ( # in a copy, where no kit is, the archive stays as long as its sources do
+  cd "$top" && mkdir "$work/copy" &&
+    cp -r --parents tools crates.txt crates/*/{src,specs,proofs} \
+      crates/s2union_c/out/{libs2union_c.a,heap.o,archive.json} "$work/copy" && cd "$work/copy" &&
+    export PATH=/usr/bin:/bin XDG_CACHE_HOME=$work/cache &&
+    tools/archive && echo >>crates/s2cell/src/lib.rt && ! tools/archive
+)
+step "tools/archive: no archive of other sources" own_sources
+export PKG_CONFIG_PATH=$work/usr/lib/pkgconfig LD_LIBRARY_PATH=$work/usr/lib
+include=$work/usr/include
+static=$work/usr/lib/libs2union.a
+noheap=$work/usr/lib/libs2union_noheap.a
+strict=(-Wall -Wextra -pedantic -Werror)
+
+symbols() { # what the shared library offers and wants
+  local shared=$work/usr/lib/libs2union.so.0 given wanted
+  given=$(nm -D --defined-only "$shared" | awk '$2 == "T" { print $3 }' | grep -v '^s2u_.*@@S2UNION_0$')
+  wanted=$(nm -D --undefined-only "$shared" | awk '{ sub(/@.*/, "", $2); print $2 }' | sort | tr '\n' ' ')
+  echo "offered beside s2u_*: ${given:-nothing}; wanted: $wanted"
+  [ -z "$given" ] && ! grep -qvwE 'free|malloc|memcpy|memmove|memset|realloc' <(printf '%s\n' $wanted)
+}
+step "symbols" symbols
+
+# ---- the header, in five languages by two compilers
+
+for compiler in "gcc -x c -std=c99" "gcc -x c -std=c17" "clang -x c -std=c99" "clang -x c -std=c17" \
+  "g++ -x c++ -std=c++11" "g++ -x c++ -std=c++20" "clang++ -x c++ -std=c++11" "clang++ -x c++ -std=c++20"; do
+  step "header: $compiler" $compiler "${strict[@]}" -I"$include" "$tests/header.c" -x none -o "$work/header" "$static"
+done
+step "header: run" "$work/header"
+
+# ---- programs in C
+
+program() { # NAME LIBRARY FLAGS..: builds a test and runs it
+  local name=$1 library=$2
+  shift 2
+  gcc -std=c11 -D_DEFAULT_SOURCE -O2 "${strict[@]}" "$@" -I"$include" "$tests/$name.c" "$library" -lpthread \
+    -o "$work/$name" && timeout 300 "$work/$name"
+}
+step "traps" program traps "$static"
+step "traps, under the sanitizers" program traps "$static" -fsanitize=address,undefined -fno-sanitize-recover
+step "each allocation refused in turn" program refuse "$noheap" -fsanitize=address
+step "200,000 lists of garbage" program garbage "$static" -fsanitize=address
+step "8 threads" program threads "$static"
+
+# ---- unions for C++
+
+unions() { # COMPILER OPTION..: builds the test of s2union.hpp and runs it
+  "$@" -D_DEFAULT_SOURCE "${strict[@]}" -Wconversion -I"$include" "$tests/cell_union.cc" "$noheap" -o "$work/unions" \
+    && "$work/unions"
+}
+step "s2union.hpp: g++, under the sanitizers" unions g++ -std=c++17 -fsanitize=address,undefined -fno-sanitize-recover
+step "s2union.hpp: clang++" unions clang++ -std=c++20
+step "s2union.hpp: g++, without exceptions" unions g++ -std=c++17 -fno-exceptions
+
+# ---- the programs of the docs
+
+extract() { # FILE LANGUAGE: the first block in this language
+  awk -v start="\`\`\`$2" '$0 == start && !done { on = 1; next } /^```/ { if (on) done = 1; on = 0 } on' "$top/docs/$1"
+}
+program_of() { # PAGE LANGUAGE FILE: writes the page's program to a file
+  extract "$1" "$2" >"$3"
+  [ -s "$3" ] || { echo "docs/$1 has no program in $2"; return 1; }
+}
+says() { # PAGE LANGUAGE COMMAND..: whether a program says what the page says that it does
+  extract "$1" "text $2" >"$work/want-$2"
+  "${@:3}" >"$work/said-$2" && diff "$work/want-$2" "$work/said-$2"
+}
+documented() { # LANGUAGE COMPILER..
+  local language=$1
+  shift
+  program_of C.md "$language" "$work/x.$language" || return 1
+  (
+    cd "$work" && export PATH=/usr/bin:/bin # where no kit is
+    "$@" "${strict[@]}" "x.$language" $(pkg-config --cflags --libs s2union) -o "x-$language" \
+      && says C.md "$language" "./x-$language"
+  )
+}
+step "docs/C.md: the program in C" documented c cc -std=c99
+step "docs/C.md: the program in C++" documented cpp c++ -std=c++17
+moved() { # the program in C again, with the library in another folder than that it was installed to
+  local status=0
+  mv "$work/usr" "$work/moved" || return 1
+  PKG_CONFIG_PATH=$work/moved/lib/pkgconfig LD_LIBRARY_PATH=$work/moved/lib documented c cc -std=c99 || status=1
+  mv "$work/moved" "$work/usr" && return $status
+}
+step "s2union.pc, after the folder was moved" moved
+
+# ---- Python
+
+python() {
+  (
+    cd "$top/tests/python" && export PYTHONPATH=$work/usr/lib/python PYTHONDONTWRITEBYTECODE=1
+    timeout 600 /usr/bin/python3 -X dev "$@"
+  )
+}
+step "Python: against the model, and the module" python -m unittest -q test_library
+step "Python: docs/PYTHON.md" python -m doctest "$top/docs/PYTHON.md"
+step "Python: examples of points and of maps" python -m unittest -q test_examples
+without_numpy() {
+  python -c 'import sys, unittest
+sys.modules["numpy"] = None
+unittest.main("test_library", argv=["x", "-q", "TheModule"])'
+}
+step "Python: without numpy" without_numpy
+by_pip() { # the module where pip puts it, with the library elsewhere
+  cp -r "$top/bindings/python" "$work/source" && /usr/bin/python3 -m pip install -q --no-index --no-build-isolation \
+    --no-deps --disable-pip-version-check --root-user-action=ignore --target "$work/site" "$work/source" \
+    && (cd "$work" && env -u LD_LIBRARY_PATH PYTHONPATH="$work/site" S2UNION_LIBRARY="$work/usr/lib/libs2union.so.0" \
+      /usr/bin/python3 -m doctest "$top/docs/PYTHON.md") && [ -e "$work/site/s2union/py.typed" ]
+}
+step "Python: installed by pip" by_pip
+
+# ---- Go and Rust, if they are there
+
+questions() { # with the plain model's answers, for languages that can't ask it
+  PYTHONDONTWRITEBYTECODE=1 /usr/bin/python3 "$top/tests/python/vectors.py" >"$work/vectors"
+}
+step "questions for Go and Rust" questions
+export S2UNION_VECTORS=$work/vectors
+
+export GOPATH=$work/go GOCACHE=$work/go-cache GOFLAGS=-mod=mod GOPROXY=off GOTOOLCHAIN=local
+for_go() (
+  cd "$top/bindings/go" && [ -z "$(gofmt -l .)" ] && go vet . && timeout 300 go test -count=1 .
+)
+by_go() ( # the page's program, in a module of its own
+  mkdir -p "$work/by-go" && cd "$work/by-go" && program_of GO.md go main.go && [ -z "$(gofmt -l .)" ] &&
+    go mod init program && go mod edit -require s2union@v0.0.0 -replace "s2union=$top/bindings/go" &&
+    go build -o program && says GO.md go ./program
+)
+if command -v go >/dev/null; then
+  step "Go: against the model, what is refused, and the examples" for_go
+  step "Go: docs/GO.md" by_go
+else
+  echo "       Go is not there: its package is not tested"
+fi
+
+for_rust() ( # in a copy, since cargo writes beside the sources
+  cp -r "$top/bindings/rust" "$work/for-rust" && cd "$work/for-rust" &&
+    RUSTFLAGS=-Dwarnings CARGO_TARGET_DIR=$work/target timeout 300 cargo test -q --offline
+)
+by_rust() (
+  mkdir -p "$work/by-rust/src" && cd "$work/by-rust" && program_of RUST.md rust src/main.rs &&
+    printf '%s\n' "[package]" 'name = "program"' 'version = "0.0.0"' 'edition = "2021"' "[dependencies]" \
+      "s2union = { path = \"$work/for-rust\" }" >Cargo.toml &&
+    CARGO_TARGET_DIR=$work/target cargo build -q --offline && says RUST.md rust "$work/target/debug/program"
+)
+if command -v cargo >/dev/null; then
+  step "Rust: against the model, what is refused, and the examples" for_rust
+  step "Rust: docs/RUST.md" by_rust
+else
+  echo "       cargo is not there: the crate for Rust is not tested"
+fi
+finish

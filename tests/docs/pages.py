@@ -1,0 +1,140 @@
+#!/usr/bin/env python3
+"""Checks the pages: docs/DEFINITIONS.md is what tools/definitions makes; every relative link of every page leads to a
+file; if the link's text is names of the sources, the file has them; the files that docs/ARCHITECTURE.md walks through
+have the functions that it names; each language has what docs/FROM_S2.md says it has; and what can't read the file
+VERSION has the version that it gives. The last line is 'N passed, M failed', where N counts the definitions, the links,
+the names and the places of the version."""
+import re
+import subprocess
+import sys
+from pathlib import Path
+
+ROOT = Path(__file__).resolve().parents[2]
+LINK = re.compile(r"\]\((?!https?://|#)([^)#\s]+)[^)]*\)")
+NAMES = re.compile(r"\[((?:`\w+`(?:, | and )?)+)\]\(([^)#\s]+(?<!lib)\.(?:rt|antt))\)")
+STEP = re.compile(r"^\d+\. `(\w+/src)/(\w+\.rt)`: (.*)$", re.M)
+DEFINES = r"\b(?:fn|struct|trait|record|data|abbrev pub|unfoldable pub) {}\b"
+# The columns of docs/FROM_S2.md: what a name is in them, where it is defined, and how.
+CALLS = {
+    "C++": (r"operator==|\w+", ["bindings/cpp/s2union.hpp"], r"\b{}(?!\w)"),
+    "C": (r"s2u_\w+", ["crates/s2union_c/include/s2union.h"], r"\b{}\("),
+    "Go": (r"\w+", ["bindings/go/*.go"], r"(?:\bfunc (?:\(\w+ \*?\w+\) )?|^type ){}\b"),
+    "Rust": (r"\w{2,}", ["bindings/rust/src/*.rs"], r"\b(?:fn|struct) {}\b"),
+    "Rattle": (r"\w{2,}", ["crates/s2*/src/*.rt"], r"\bpub (?:fn|struct) {}\b"),
+    "Python": (r"(?!in\b)\w{2,}", ["bindings/python/s2union/__init__.py"], r"\b(?:def|class) (?:{0}|__{0}__)\b"),
+    "SQL": (r"s2_\w+", ["databases/sqlite/*.c", "databases/postgres/*.sql"], r"\b{}\b"),
+    "Script": (r"[a-z]{2,}", ["docs/SCRIPT.md"], r"`{}\b"),
+}
+# Where the version stands beside the file VERSION: a file, what comes before it and after it, and its form there.
+VERSIONS = [
+    ("CHANGELOG.md", r"\A# .*\n+## ", r"(?: |$)", "{0}.{1}.{2}"),
+    ("crates/s2calc/src/command_line.rt", r'\.version\("', '"', "{0}.{1}.{2}"),
+    ("crates/s2union_c/src/cells.rt", r"fn s2u_version\(\) -> u32\n.*\n\{\n +", "\n", "{3}"),
+    ("crates/s2union_c/include/s2union.h", '#define S2U_VERSION_TEXT "', '"', "{0}.{1}.{2}"),
+    ("crates/s2union_c/include/s2union.h", "#define S2U_VERSION_MAJOR ", "\n", "{0}"),
+    ("crates/s2union_c/include/s2union.h", "#define S2U_VERSION_MINOR ", "\n", "{1}"),
+    ("crates/s2union_c/include/s2union.h", "#define S2U_VERSION_PATCH ", "\n", "{2}"),
+    ("bindings/python/s2union/__init__.py", r'\n__version__ = "', '"', "{0}.{1}.{2}"),
+    ("bindings/rust/Cargo.toml", r'\nversion = "', '"', "{0}.{1}.{2}"),
+    ("databases/postgres/s2union.control", "default_version = '", "'", "{0}.{1}"),
+]
+
+
+def pages():
+    listed = subprocess.run(["git", "ls-files", "*.md"], cwd=ROOT, capture_output=True, text=True, check=True)
+    return [ROOT / name for name in listed.stdout.splitlines()]
+
+
+def broken_links():
+    """The number of links, and those that lead nowhere, as 'page: link'."""
+    count, broken = 0, []
+    for page in pages():
+        for link in LINK.findall(page.read_text()):
+            count += 1
+            if not (page.parent / link).exists():
+                broken.append(f"{page.relative_to(ROOT)}: {link}")
+    return count, broken
+
+
+def names_in_links():
+    """Each name of the sources that is the text of a link, with the page and the file that defines it."""
+    for page in pages():
+        for names, link in NAMES.findall(page.read_text()):
+            for name in re.findall(r"`(\w+)`", names):
+                yield page, name, [page.parent / link]
+
+
+def names_on_the_walk():
+    """Each function that docs/ARCHITECTURE.md names on the way of a line, with the files of its step."""
+    page = ROOT / "docs" / "ARCHITECTURE.md"
+    for folder, first, text in STEP.findall(page.read_text()):
+        files = [ROOT / "crates" / folder / name for name in [first] + re.findall(r"`(\w+\.rt)`", text)]
+        for name in re.findall(r"`(\w+)`", text):
+            yield page, name, files
+
+
+def calls_from_s2():
+    """Each name in a table of docs/FROM_S2.md, with the text of its column's files and how they would define it."""
+    texts = {column: "\n".join(file.read_text() for glob in globs for file in ROOT.glob(glob))
+             for column, (_, globs, _) in CALLS.items()}
+    columns = []
+    for line in (ROOT / "docs" / "FROM_S2.md").read_text().splitlines():
+        cells = [cell.strip() for cell in re.split(r"(?<!\\)\|", line)[1:-1]]
+        columns = (columns or cells) if cells else []
+        for column, cell in zip(columns, cells):
+            for name in named(column, cell):
+                yield name, texts[column], CALLS[column][2].format(re.escape(name))
+
+
+def named(column, cell):
+    """The names in a cell of a column whose names are looked for; none in the head of the column."""
+    codes = " ".join(re.findall(r"`(.*?)`", cell)) if column in CALLS else ""
+    return re.findall(CALLS[column][0], codes) if codes else []
+
+
+def lost_names():
+    """The number of names, and those that their files don't define, as 'page: name'."""
+    count, lost = 0, []
+    for name, text, defines in calls_from_s2():
+        count += 1
+        if not re.search(defines, text, re.M):
+            lost.append(f"docs/FROM_S2.md: {name}")
+    for page, name, files in [*names_in_links(), *names_on_the_walk()]:
+        count += 1
+        texts = [file.read_text() if file.exists() else "" for file in files]
+        if "" in texts or not any(re.search(DEFINES.format(name), text) for text in texts):
+            lost.append(f"{page.relative_to(ROOT)}: {name}")
+    return count, lost
+
+
+def other_versions():
+    """The places of the version that have another one than the file VERSION, as 'file: what it has'."""
+    numbers = [int(word) for word in (ROOT / "VERSION").read_text().split(".")]
+    for name, before, after, form in VERSIONS:
+        wanted = form.format(*numbers, 10000 * numbers[0] + 100 * numbers[1] + numbers[2])
+        found = re.findall(f"{before}(.*?){after}", (ROOT / name).read_text(), re.M)
+        if found != [wanted]:
+            yield f"{name}: {', '.join(found) or 'none'}, not {wanted}"
+
+
+def main():
+    definitions = subprocess.run([ROOT / "tools" / "definitions", "--check"], capture_output=True, text=True)
+    sys.stdout.write(definitions.stdout)
+    passed, failed = map(int, re.findall(r"(\d+) passed, (\d+) failed$", definitions.stdout)[0])
+    count, broken = broken_links()
+    for link in broken:
+        print(f"leads nowhere: {link}")
+    names, lost = lost_names()
+    for name in lost:
+        print(f"not defined in the file that is linked or named: {name}")
+    others = list(other_versions())
+    for other in others:
+        print(f"another version: {other}")
+    wrong = len(broken) + len(lost) + len(others)
+    passed, failed = passed + count + names + len(VERSIONS) - wrong, failed + wrong
+    print(f"{passed} passed, {failed} failed")
+    return 0 if failed == 0 else 1
+
+
+if __name__ == "__main__":
+    sys.exit(main())

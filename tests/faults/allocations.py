@@ -1,0 +1,126 @@
+#!/usr/bin/env python3
+"""Each allocation of a run of every command, refused in turn: tests/run allocations.
+
+One call of malloc, calloc or realloc of the proved program is refused in each run, and then all from one on. Answers,
+status, standard error and files must be what docs/SCRIPT.md says of a run that finds no memory. Then the same for a few
+lines with notes on standard error, and for the same script on `run` itself, over a shelf in memory and a writer that
+takes all answers. The last line is 'N passed, M failed'.
+"""
+import collections
+import errno
+import sys
+import tempfile
+
+from every_command import ANSWERS, ESCAPED, FILES, LINES, STEPS, lines_answered, ways_through
+from refusing import ROWS, Refusing, has_program
+
+# Few lines with a long note.
+NOTED = [*LINES[:12], ESCAPED]
+
+# Where an allocation lies that comes before the script is read.
+BEFORE = b"before the script"
+
+
+def verdict(ended, lines=LINES, most=1, has_notes=False):
+    """What the refusal changed, or None if it changed more than it may: the answers to more than `most` lines, say."""
+    if (ended.status, ended.error) == (3, b"s2calc: memory\n"):
+        return "refused at the start" if (ended.answers, ended.files) == (b"", FILES) else None
+    ways = [way for way in ways_through(lines, ended.answers, most, disk=False) if way.leaves(ended.files)]
+    ways = [way for way in ways if ended.error == (way.notes if has_notes else b"")]
+    if ended.status != 1 or not ways:
+        return None
+    return "refused in an answer" if all(way.failed for way in ways) else "no answer changed"
+
+
+def wrong_ends(whole):
+    """Ends of a run that no refused allocation may lead to."""
+    undo = next(n for n, line in enumerate(LINES) if line == b"undo")
+    before, after = ANSWERS[: STEPS[undo].at], ANSWERS[STEPS[undo + 1].at :]
+    yield whole._replace(answers=before + b"error memory\n" + after)
+    yield whole._replace(answers=before + after)
+    yield whole._replace(answers=whole.answers[:-1])
+    yield whole._replace(files=FILES)
+    yield whole._replace(status=3, error=b"s2calc: memory\n")
+    yield whole._replace(status=3, error=b"s2calc: memory\n", answers=b"")
+    yield whole._replace(status=2, error=b"s2calc: output\n")
+
+
+def lines_of_allocations(calls):
+    """The line in which each allocation lies: the one whose answer comes next. Before and after a line with a file, all
+    earlier answers are out, so these lines are the right ones however the answers are buffered."""
+    out, is_read = 0, False
+    for call in calls:
+        if call.kind == "memory":
+            yield (LINES + [b""])[lines_answered(out)] if is_read else BEFORE
+        elif call[:2] == ("write", 1):
+            out += call.answer
+        elif call[:2] == ("read", 0):
+            is_read = True
+
+
+def may_go_on(line):
+    """Whether a run may go on without an allocation there: `restore` may, and what reads the command line."""
+    return line == BEFORE or line.split()[:1] == [b"restore"]
+
+
+class Judge:
+    """Counts what refused allocations did, and what was wrong."""
+
+    def __init__(self):
+        self.told, self.failed = collections.Counter(), 0
+
+    def wrong(self, what):
+        self.failed += 1
+        print(what)
+
+    def judge(self, ended, said, first, last, line):
+        """Notes what was said of a run in which these allocations were refused, the first in a line."""
+        self.told[said] += 1
+        if said is None or said == "no answer changed" and not may_go_on(line):
+            ends = f"status {ended.status} {ended.error!r}\n{ended.answers!r}"
+            self.wrong(f"allocations {first} to {last}, the first in {line}: {said}, {ends}")
+
+    def refuse_each(self, run, lines=LINES, has_notes=False):
+        """Refuses each allocation of a run."""
+        whole = run("")
+        if verdict(whole, lines, has_notes=has_notes) != "no answer changed":
+            self.wrong(f"a run without a refusal is judged wrong: {whole[:3]}")
+        for number, line in enumerate(lines_of_allocations(whole.calls), 1):
+            if line:
+                ended = run(f"memory {number} {number} {errno.ENOMEM}", has_calls=False)
+                self.judge(ended, verdict(ended, lines, has_notes=has_notes), number, number, line)
+        return whole
+
+    def refuse_all_from_one_on(self, run, whole):
+        """Refuses all allocations of a run from one on, each twentieth."""
+        within = list(lines_of_allocations(whole.calls))
+        for number in range(1, len(within) + 1, 20):
+            ended = run(f"memory {number} {10 * len(within)} {errno.ENOMEM}", has_calls=False)
+            self.judge(ended, verdict(ended, most=len(LINES)), number, "the last", within[number - 1])
+
+
+def main():
+    has_program("tests/run allocations")
+    has_program("tests/run allocations", ROWS, "rt run in crates/script_rows")
+    judge = Judge()
+    with tempfile.TemporaryDirectory() as room:
+        refusing = Refusing(room)
+        whole = judge.refuse_each(refusing.run)
+        judge.refuse_all_from_one_on(refusing.run, whole)
+        if any(map(verdict, wrong_ends(whole))):
+            judge.wrong("a wrong run is judged right")
+        judge.refuse_each(refusing.run_in_memory)
+        script = b"".join(line + b"\n" for line in NOTED)
+        judge.refuse_each(
+            lambda refused, **how: refusing.run(refused, options=["--explain"], script=script, **how), NOTED, True
+        )
+    for said in ("refused at the start", "refused in an answer", "no answer changed"):
+        print(f"{judge.told[said]} {said}")
+        if judge.told[said] == 0:
+            judge.wrong(f"no allocation was {said}")
+    print(f"{sum(judge.told.values()) - judge.told[None]} passed, {judge.failed} failed")
+    return judge.failed > 0
+
+
+if __name__ == "__main__":
+    sys.exit(main())

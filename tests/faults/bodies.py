@@ -1,0 +1,149 @@
+#!/usr/bin/env python3
+"""Tries the mutants that the contracts let through, since every contract allows memory and disks to fail:
+tests/run bodies -- [--asked | NAME..].
+
+Each file tests/faults/let-through/NAME.edit names a test, and has an edit in the form of those in must-fail. The test
+is one of tests/program, or if the file names a crate, the title of a row of that crate's table. Each mutant is built
+unproved, in a copy of the repository, and its test has to fail. The tests of tests/program have to pass without a mutant.
+`.ci/run` tries those that were asked for (--asked), some of them built together: NAME+NAME, where no mistake of one can
+be seen in the row of the other. The last line is 'N passed, M failed'.
+"""
+import glob
+import os
+import re
+import shutil
+import subprocess
+import sys
+import tempfile
+import time
+
+TOP = os.path.dirname(os.path.dirname(os.path.dirname(os.path.realpath(__file__))))
+FOLDER = os.path.join(TOP, "tests", "faults", "let-through")
+ASKED = [
+    "assignments_count_as_out_of_memory+decode_always_out_of_memory+folder_always_fails",
+    "folder_has_no_file",
+    "every_edit_answers_memory",
+    "save_always_out_of_memory",
+    "run_ends_at_once",
+]
+sys.path.insert(0, os.path.join(TOP, "tests", "mutants"))
+from mutant_texts import changed_texts  # noqa: E402
+
+
+def copy_of_the_sources(room):
+    files = subprocess.check_output(["git", "ls-files", "-z", "crates", "crates.txt", "HANDLES"], cwd=TOP)
+    for name in files.decode().split("\0")[:-1]:
+        os.makedirs(os.path.join(room, os.path.dirname(name)), exist_ok=True)
+        shutil.copy(os.path.join(TOP, name), os.path.join(room, name))
+
+
+def built(copy, to):
+    """Builds the program of the copy, unproved. `rt try` deletes what it built, so a link is made to it in time."""
+    with tempfile.TemporaryDirectory(dir=copy) as room:
+        trial = subprocess.Popen(
+            ["rt", "try", "--", "run"], cwd=os.path.join(copy, "crates/calculator"), env={**os.environ, "TMPDIR": room},
+            stdin=subprocess.DEVNULL, stdout=subprocess.DEVNULL, stderr=subprocess.DEVNULL,
+        )
+        while trial.poll() is None and not os.path.exists(to):
+            for program in glob.glob(os.path.join(room, "*", "*", "program")):
+                try:
+                    os.link(program, to)
+                except FileNotFoundError:
+                    pass
+            time.sleep(0.001)
+        trial.wait()
+    return os.path.exists(to)
+
+
+def said_by(command, folder, read=""):
+    done = subprocess.run(
+        command, cwd=folder, input=read, capture_output=True, encoding="utf-8", errors="replace"
+    )
+    return done.stdout + done.stderr
+
+
+def row_of(crate, title):
+    """The row with this title in the table of a crate."""
+    with open(os.path.join(crate, "stdin"), encoding="utf-8") as it:
+        rows = re.split(r"^(?=## )", it.read(), flags=re.M)
+    return next(row for row in rows if row.startswith(f"## {title}\n"))
+
+
+class Mutant:
+    def __init__(self, name):
+        self.name, self.file = name, os.path.join(FOLDER, name + ".edit")
+        with open(self.file, encoding="utf-8") as it:
+            self.lines = dict(line.rstrip("\n").split(": ", 1) for line in it if re.match("(crate|test): ", line))
+        self.crate, self.test = self.lines.get("crate"), self.lines["test"]
+
+    def is_refused(self, said):
+        """Whether the mutant's test ran and failed."""
+        failure = rf"other answers: {re.escape(self.test)}" if self.crate else r"0 passed, [1-9]\d* failed"
+        found = re.search(rf"^{failure}$", said, re.M)
+        print(f"{self.name}: {f'refused by {self.test}' if found else 'NOT REFUSED'}", flush=True)
+        if not found:
+            print(said[-2000:])
+        return bool(found)
+
+
+def words_of_tests(program, *tests):
+    return [sys.executable, "tests/program", program, *tests]
+
+
+def said_of(copy, mutants):
+    """What the tests of mutants say that were built together."""
+    first = mutants[0]
+    if not first.crate:
+        program = os.path.join(copy, first.name)
+        return said_by(words_of_tests(program, first.test), TOP) if built(copy, program) else "not built"
+    crate = os.path.join(copy, "crates", first.crate)
+    return said_by(["rt", "try"], crate, "".join(row_of(crate, mutant.test) for mutant in mutants))
+
+
+def tried(copy, mutants):
+    """How many of these mutants, which are built together, are refused."""
+    originals = {}
+    for mutant in mutants:
+        for path, text in changed_texts(mutant.file, copy).items():
+            with open(path, encoding="utf-8") as it:
+                originals.setdefault(path, it.read())
+            write(path, text)
+    try:
+        said = said_of(copy, mutants)
+    finally:
+        for path, text in originals.items():
+            write(path, text)
+    return sum(mutant.is_refused(said) for mutant in mutants)
+
+
+def write(path, text):
+    with open(path, "w", encoding="utf-8") as it:
+        it.write(text)
+
+
+def passes_without_a_mutant(copy, tests):
+    program = os.path.join(copy, "good")
+    said = said_by(words_of_tests(program, *tests), TOP) if built(copy, program) else "not built"
+    if re.search(r"^[1-9]\d* passed, 0 failed$", said, re.M):
+        return True
+    print(f"the tests don't pass without a mutant\n{said[-2000:]}")
+    return False
+
+
+def main():
+    names = ASKED if sys.argv[1:] == ["--asked"] else sys.argv[1:]
+    names = names or sorted(name.removesuffix(".edit") for name in os.listdir(FOLDER))
+    groups = [[Mutant(name) for name in group.split("+")] for group in names]
+    tests = {group[0].test for group in groups if not group[0].crate}
+    with tempfile.TemporaryDirectory() as copy:
+        copy_of_the_sources(copy)
+        if tests and not passes_without_a_mutant(copy, tests):
+            return 1
+        refused = sum(tried(copy, group) for group in groups)
+    left = sum(map(len, groups)) - refused
+    print(f"{refused} passed, {left} failed")
+    return left > 0
+
+
+if __name__ == "__main__":
+    sys.exit(main())

@@ -1,0 +1,6 @@
+#!/usr/bin/env bash
+# The proved library and S2 asked the same random questions: tests/run s2 -- [CASES [SEED]].
+set -euo pipefail
+cd "$(dirname "$0")"
+bash ../../bench/build ../tests/peer/peer.cc
+../../bench/out/peer "${1:-100000}" "${2:-1}"

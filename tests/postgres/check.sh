@@ -1,0 +1,74 @@
+#!/usr/bin/env bash
+# The tests of the unions inside PostgreSQL: tests/run postgres -- [--full | --costs REGIONS].
+# A copy of the server that Debian ships runs in a folder of its own, on a socket there. Nothing is installed except
+# Debian's packages. --full asks for 10,000 random rows in place of 1,000; --costs measures the costs of this many
+# regions, and tests nothing. The last line is 'N passed, M failed'; the status is 1 if any failed.
+set -uo pipefail
+top=$(cd "$(dirname "$0")/../.." && pwd)
+work=$(mktemp -d)
+[ "${1:-}" != --full ] || export S2UNION_ROUNDS=10000
+. "$top/tests/steps.sh"
+. "$top/tests/postgres/server.sh"
+
+# ---- the extension: as it is, over guarded allocations, and with the sanitizers
+
+step "a copy of PostgreSQL $server" copied
+source=$top/databases/postgres
+for file in s2union.c planner.c value.h; do step "no arithmetic on cells: $file" no_arithmetic "$source/$file"; done
+step "build" built build COPT=-Werror
+rebuilt() { # if the header or the archive has changed, and only then
+  local make=(make -C "$work/build" PREFIX="$work/usr" PG_CONFIG="$config" COPT=-Werror) file
+  "${make[@]}" -q || return 1
+  for file in include/s2union.h lib/libs2union_noheap.a; do
+    touch "$work/usr/$file"
+    ! "${make[@]}" -q && "${make[@]}" && "${make[@]}" -q || return 1
+  done
+}
+step "built again after the library has changed" rebuilt
+step "build, guarded" guarded guarded "$source" COPT=-Werror
+step "build, guarded, with the sanitizers" guarded sanitized "$source" \
+  COPT="-O1 -Werror -fsanitize=address,undefined -fno-sanitize-recover"
+[ "$failed" -eq 0 ] || finish
+installed() { make -C "$work/build" PREFIX="$work/usr" PG_CONFIG="$config" install DESTDIR="$copy"; }
+step "install" installed
+step "a cluster on a socket" begun data
+step "another" begun shard
+[ "$failed" -eq 0 ] || finish
+
+if [ "${1:-}" = --costs ]; then
+  S2UNION_SHARD=$work/shard /usr/bin/python3 "$top/tests/postgres/costs_postgres.py" "${2:-100000}"
+  finish
+fi
+
+# ---- the tests
+
+step "the type and its functions, against the model" tests AgainstTheModel
+step "what is refused; 100 stored values, each bit flipped" tests WhatIsRefused
+step "indexes: 2,000 questions by GIN, GiST and by a scan" tests Indexes
+step "no two regions overlap" tests Exclusion
+step "plans: the index where values are large and where few rows are found" tests Planner
+step "large questions end within twice their timeout" tests LargeQuestions
+step "the aggregate, in parallel" tests Aggregates
+step "dump, restore and update" tests DumpAndUpdate
+step "a session's memory limited in steps" tests MemoryLimits
+page() { # PAGE DATABASE: its examples, in a database of their own
+  createdb "$2" && S2UNION_FIRST=$work/data S2UNION_SHARD=$work/shard \
+    /usr/bin/python3 "$top/tests/docs/documented.py" "$top/docs/$1" psql -XAqt -d "$2"
+}
+step "docs/POSTGRES.md" page POSTGRES.md page
+step "docs/SCALE.md" page SCALE.md scale
+step "200 questions over two servers" tests Servers
+
+export S2UNION_ROUNDS=150
+put_in guarded
+again() { tests Guarded AgainstTheModel WhatIsRefused Indexes Exclusion Aggregates "$@"; }
+step "guarded: each allocation refused in turn, nothing written over, nothing left" again Planner
+sanitized() { stopped data && put_in sanitized && with_sanitizers data && again Planner; }
+step "the same under the sanitizers" sanitized
+valgrind_finds_nothing() {
+  stopped data && put_in guarded && with_valgrind data && S2UNION_ROUNDS=30 again && stopped data &&
+    ! cat "$work"/valgrind/* | grep .
+}
+step "the same under valgrind" valgrind_finds_nothing
+step "no server has fallen" whole
+finish

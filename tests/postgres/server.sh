@@ -1,0 +1,112 @@
+# What the tests of PostgreSQL, its mutants and tests/geo share: a copy of the server that Debian ships,
+# in $work, with the extension. Nothing is installed except Debian's packages. The caller has set top and work and read
+# steps.
+
+packages=()
+command -v gcc >/dev/null || packages+=(gcc libc6-dev)
+command -v make >/dev/null || packages+=(make)
+headers=$(pg_config --includedir-server 2>/dev/null || true)
+[ -n "$headers" ] && [ -e "$headers/postgres.h" ] || packages+=(postgresql-server-dev-all)
+command -v pg_ctlcluster >/dev/null || packages+=(postgresql)
+[ -e /usr/include/valgrind/memcheck.h ] || packages+=(valgrind)
+[ -x /usr/bin/python3 ] || packages+=(python3)
+need_packages
+need_library
+
+config=$(command -v pg_config)
+server=$(basename "$(dirname "$("$config" --bindir)")") # 15
+copy=$work/copy
+bin=$copy/usr/lib/postgresql/$server/bin
+as_postgres=()
+[ "$(id -u)" -eq 0 ] && as_postgres=(runuser -u postgres --)
+
+copied() {
+  mkdir -p "$copy/usr/lib/postgresql" "$copy/usr/share/postgresql" && chmod 755 "$work" &&
+    cp -a "/usr/lib/postgresql/$server" "$copy/usr/lib/postgresql/" &&
+    cp -a "/usr/share/postgresql/$server" "$copy/usr/share/postgresql/"
+}
+
+built() { # FOLDER FLAGS..: the extension as it is
+  local folder=$work/$1
+  shift
+  mkdir -p "$folder" && cp "$top"/databases/postgres/{Makefile,*.c,*.h,s2union.control,*.sql} "$folder" &&
+    make -C "$folder" PREFIX="$work/usr" PG_CONFIG="$config" "$@"
+}
+
+guarded() { # FOLDER SOURCES FLAGS..: the extension over the allocator of guarded.c
+  local folder=$work/$1 sources=$2
+  shift 2
+  mkdir -p "$folder" && cp "$top"/databases/postgres/{Makefile,s2union.control,*.sql} "$folder" &&
+    cp "$sources"/{planner.c,value.h} "$folder" && cp "$top/tests/postgres/guarded.c" "$folder/s2union.c" &&
+    sed -E 's/Datum ([a-z0-9_]+)\(PG_FUNCTION_ARGS\)/GUARDED(\1)/' "$sources/s2union.c" >"$folder/rewritten.c" &&
+    make -C "$folder" PREFIX="$work/usr" PG_CONFIG="$config" "$@"
+}
+
+put_in() { # FOLDER: sessions that begin from now on have the extension built there
+  local to=$copy/usr/lib/postgresql/$server/lib extension=$copy/usr/share/postgresql/$server/extension
+  install -m 755 "$work/$1/s2union.so" "$to/s2union.new" && mv "$to/s2union.new" "$to/s2union.so" &&
+    install -m 644 "$work/$1"/s2union.control "$work/$1"/*.sql "$extension/"
+}
+
+# A cluster's server under valgrind, with findings in $work/valgrind, or with the sanitizers, with findings in its log.
+start_under() { # FOLDER COMMAND..
+  local folder=$work/$1
+  shift
+  cd / && "${as_postgres[@]}" "$@" "$bin/postgres" -D "$folder" >>"$folder/log" 2>&1 &
+  is_up
+}
+
+with_valgrind() { # FOLDER
+  mkdir -p "$work/valgrind" && chmod 777 "$work/valgrind" &&
+    start_under "$1" valgrind -q --trace-children=yes --undef-value-errors=no --log-file="$work/valgrind/%p"
+}
+
+with_sanitizers() { # FOLDER
+  local preload
+  preload="$(gcc -print-file-name=libasan.so) $(gcc -print-file-name=libubsan.so) $work/untranslated.so"
+  gcc -shared -fPIC "$top/tests/postgres/untranslated.c" -o "$work/untranslated.so" &&
+    start_under "$1" env LD_PRELOAD="$preload" ASAN_OPTIONS=detect_leaks=0:abort_on_error=1
+}
+
+is_up() {
+  for ((turn = 0; turn < 300; turn++)); do
+    psql -qd postgres -c "SELECT 1" >/dev/null 2>&1 && return
+    sleep 0.2
+  done
+  return 1
+}
+
+clusters=()
+begun() { # FOLDER LINE..: a cluster there, with these lines in its configuration
+  local folder=$work/$1
+  clusters+=("$1")
+  mkdir -p "$folder" && { [ "$(id -u)" -ne 0 ] || chown -R postgres "$folder"; } && cd / &&
+    "${as_postgres[@]}" "$bin/initdb" -D "$folder" -U postgres -A trust -E UTF8 --locale=C.UTF-8 &&
+    printf '%s\n' "listen_addresses = ''" "unix_socket_directories = '$folder'" "fsync = off" "jit = off" \
+      "max_parallel_workers_per_gather = 2" "restart_after_crash = on" "${@:2}" >>"$folder/postgresql.conf" &&
+    "${as_postgres[@]}" "$bin/pg_ctl" -D "$folder" -l "$folder/log" -w start
+}
+
+stopped() { # FOLDER
+  [ ! -e "$work/$1/postmaster.pid" ] || (cd / && "${as_postgres[@]}" "$bin/pg_ctl" -D "$work/$1" -m immediate stop)
+}
+
+tests() { # TEST..: those of test_postgres.py, or of TESTS
+  (
+    cd "$top/tests/postgres" && export PYTHONPATH=$top/tests/python PYTHONDONTWRITEBYTECODE=1
+    export EXTENSIONS=$copy/usr/share/postgresql/$server/extension
+    timeout "${SECONDS_OF_TESTS:-1800}" /usr/bin/python3 -m unittest -q -f "${@/#/${TESTS:-test_postgres}.}"
+  )
+}
+
+whole() { # no session has ended by a signal
+  ! grep -E 'terminated by signal|PANIC|TRAP|Sanitizer|runtime error' "$work"/*/log
+}
+
+end() {
+  local cluster
+  for cluster in "${clusters[@]}"; do stopped "$cluster" >/dev/null; done
+  cd / && rm -rf "$work"
+}
+trap end EXIT
+export PGHOST=$work/data PGUSER=postgres PGDATABASE=postgres PATH=$bin:$PATH

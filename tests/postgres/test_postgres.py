@@ -1,0 +1,1222 @@
+"""The extension for PostgreSQL against the plain model, its indexes against scans, and what it refuses.
+
+The server is the one that PGHOST names, EXTENSIONS is its folder of extensions, and the model is in tests/python.
+S2UNION_ROUNDS is the number of random rows: 1,000 if it isn't set."""
+
+import hashlib
+import os
+import re
+import subprocess
+import time
+import unittest
+
+import model
+import random_cells
+from random_cells import signed
+
+ROUNDS = int(os.environ.get("S2UNION_ROUNDS", "1000"))
+FLIPPED = min(100, ROUNDS // 10)
+QUESTIONS = min(2000, 2 * ROUNDS)
+AS_POSTGRES = ["runuser", "-u", "postgres", "--"] if os.geteuid() == 0 else []
+DATABASE = os.environ.get("PGDATABASE", "postgres")
+TRY = """
+CREATE OR REPLACE FUNCTION try(query text) RETURNS text LANGUAGE plpgsql AS $$
+DECLARE answer text;
+BEGIN
+    EXECUTE query INTO answer;
+    RETURN answer;
+EXCEPTION WHEN OTHERS THEN
+    RETURN 'error: ' || SQLERRM;
+END $$;
+"""
+
+
+STATE = """
+CREATE OR REPLACE FUNCTION state_of(query text) RETURNS text LANGUAGE plpgsql AS $$
+BEGIN
+    EXECUTE query;
+    RETURN 'no error';
+EXCEPTION WHEN OTHERS THEN
+    RETURN SQLSTATE;
+END $$;
+"""
+
+
+class Random(random_cells.Random):
+    def text(self, cells):
+        blank = self.choice([" ", ",", ", ", "  "])
+        return blank.join(self.choice([model.token, model.debug])(cell) for cell in cells)
+
+
+def psql(script, database=DATABASE):
+    """The lines that a script writes. An error of the server ends the script."""
+    command = ["psql", "-XAqt", "-v", "ON_ERROR_STOP=1", "-d", database]
+    run = subprocess.run(command, input=script, stdout=subprocess.PIPE, stderr=subprocess.PIPE, text=True, check=False)
+    if run.returncode != 0:
+        raise AssertionError(run.stderr)
+    return run.stdout.splitlines()
+
+
+def ask(expressions, before="", database=DATABASE):
+    """What each expression is, as text, or its error."""
+    lines = "".join(f"SELECT coalesce(try($q$SELECT ({sql})::text$q$), 'null');\n" for sql in expressions)
+    answers = psql(before + lines, database)
+    assert len(answers) == len(expressions), answers
+    return answers
+
+
+def u(cells):
+    return "'" + " ".join(model.token(cell) for cell in cells) + "'::s2union"
+
+
+def md5(text):
+    return hashlib.md5(text.encode()).hexdigest()
+
+
+def tokens(cells):
+    return " ".join(model.token(cell) for cell in cells)
+
+
+def array(cells):
+    return "{" + ",".join(str(signed(cell)) for cell in cells) + "}"
+
+
+def boolean(value):
+    return "true" if value else "false"
+
+
+class Tests(unittest.TestCase):
+    @classmethod
+    def setUpClass(cls):
+        psql("SET client_min_messages = error; CREATE EXTENSION IF NOT EXISTS s2union;" + TRY)
+
+    def setUp(self):
+        self.random = Random(20261122)
+
+    def all_are(self, pairs, before=""):
+        answers = ask([sql for sql, _ in pairs], before)
+        for (sql, wanted), answer in zip(pairs, answers):
+            self.assertEqual(answer, wanted, sql)
+
+    def all_refused(self, pairs):
+        answers = ask([sql for sql, _ in pairs])
+        for (sql, wanted), answer in zip(pairs, answers):
+            self.assertTrue(answer.startswith("error: ") and wanted in answer, (sql, wanted, answer))
+
+
+class AgainstTheModel(Tests):
+    def test_sets_and_questions(self):
+        pairs = []
+        for _ in range(ROUNDS):
+            xs = self.random.cells()
+            ys = xs[::-1] if self.random.random() < 0.1 else self.random.cells(near=xs)
+            a, b = f"'{self.random.text(xs)}'::s2union", u(ys)
+            x, y = model.runs(xs), model.runs(ys)
+            normal = model.normal(x)
+            both = model.common(x, y)
+            contains, within = not model.common(y, model.rest(x)), not model.common(x, model.rest(y))
+            order = (normal > model.normal(y)) - (normal < model.normal(y))
+            pairs += [
+                (a, tokens(normal)), (f"{a} | {b}", tokens(model.normal(x + y))),
+                (f"{a} & {b}", tokens(model.normal(both))),
+                (f"{a} - {b}", tokens(model.normal(model.common(x, model.rest(y))))),
+                (f"{a} # {b}",
+                 tokens(model.normal(model.common(x, model.rest(y)) + model.common(y, model.rest(x))))),
+                (f"{a} @> {b}", boolean(contains)),
+                (f"{a} <@ {b}", boolean(within)), (f"{a} && {b}", boolean(both)), (f"{a} = {b}", boolean(x == y)),
+                (f"s2union_cmp({a}, {b})", str(order)), (f"s2_count({a})", str(len(normal))),
+                (f"{a} < {b}", boolean(order < 0)), (f"{a} <= {b}", boolean(order <= 0)),
+                (f"{a} <> {b}", boolean(order != 0)),
+                (f"{a} > {b}", boolean(order > 0)), (f"{a} >= {b}", boolean(order >= 0)),
+                (f"s2_leaves({a})", str(model.count(x))), (f"{a}::bytea", "\\x" + model.file(normal).hex()),
+                (f"('\\x{model.file(self.random.sample(xs, len(xs))).hex()}'::bytea)::s2union = {a}", "true"),
+                (f"s2union_hash({a}) = s2union_hash({u(normal)})", "true"),
+                (f"s2union_hash_extended({a}, 7) = s2union_hash_extended({u(normal)}, 7)", "true"),
+                (f"s2union_hash_extended({a}, 0)::bit(32) = s2union_hash({a})::bit(32)", "true"),
+                (f"s2union_hash_extended({a}, 7) = s2union_hash_extended({a}, 8)", "false"),
+                (f"s2_cells({a})", array(normal)), (f"{a}::bigint[]", array(normal)),
+                (f"('{array(self.random.sample(xs, len(xs)))}'::bigint[])::s2union = {a}", "true"),
+                (f"s2_tokens({a})", tokens(normal)), (f"s2_is_union('\\x{model.file(normal).hex()}')", "true"),
+                (f"s2_is_union('\\x{model.file(xs).hex()}')", boolean(xs == normal)),
+            ]
+        self.all_are(pairs)
+
+    def test_ancestors(self):
+        pairs = []
+        for _ in range(ROUNDS // 3):
+            xs = self.random.cells()
+            above = set()
+            for cell in model.normal(model.runs(xs)):
+                level, place = model.cell(cell)
+                above |= {model.identifier(k, place // 4 ** (level - k)) for k in range(level + 1)}
+            pairs.append((f"s2_ancestors({u(xs)})", array(sorted(above))))
+        self.all_are(pairs)
+
+    def test_cells_cut(self):
+        pairs = []
+        for _ in range(ROUNDS // 3):
+            normal = model.normal(model.runs(self.random.cells()))
+            least = min([model.cell(c)[0] for c in normal] + [27]) + self.random.randrange(4)
+            small, modulus = [c for c in normal if model.cell(c)[0] > least - 4], self.random.randint(1, 3)
+            pairs += [
+                (f"s2_cells({u(small)}, {least}, {modulus})", array(model.cut(small, least, modulus))),
+                (f"s2_cells({u(small)}, {least})", array(model.cut(small, least, 1))),
+            ]
+        self.all_are(pairs)
+
+    def test_cells(self):
+        pairs = []
+        for _ in range(ROUNDS):
+            number = self.random.cell()
+            level, place = model.cell(number)
+            first, end = model.run(number)
+            above = self.random.randint(0, 30)
+            parent = str(signed(model.identifier(above, place // 4 ** (level - above)))) if above <= level else "null"
+            xs = self.random.cells(near=[number])
+            contains = not model.common([(first, end)], model.rest(model.runs(xs)))
+            shares = bool(model.common([(first, end)], model.runs(xs)))
+            cell = f"({signed(number)})::bigint"
+            kth, other = self.random.randrange(5), self.random.near(number)
+            child = level < 30 and kth < 4
+            child = str(signed(model.identifier(level + 1, 4 * place + kth))) if child else "null"
+            leaves = (first, end - 1, model.run(other)[0], model.run(other)[1] - 1)
+            both = [k for k in range(31) if len({leaf // 4 ** (30 - k) for leaf in leaves}) == 1]
+            common = str(signed(model.identifier(both[-1], first // 4 ** (30 - both[-1])))) if both else "null"
+            pairs += [
+                (f"s2_cell('{model.token(number)}')", str(signed(number))),
+                (f"s2_cell('{model.debug(number)}')", str(signed(number))),
+                (f"s2_token({cell})", model.token(number)),
+                (f"s2_level({cell})", str(level)), (f"s2_face({cell})", str(place // 4**level)),
+                (f"s2_range_min({cell})", str(signed(2 * first + 1))),
+                (f"s2_range_max({cell})", str(signed(2 * end - 1))),
+                (f"s2_parent({cell}, {above})", parent), (f"{cell}::s2union", model.token(number)),
+                (f"{u(xs)} @> {cell}", boolean(contains)), (f"{cell} <@ {u(xs)}", boolean(contains)),
+                (f"{u(xs)} && {cell}", boolean(shares)), (f"{cell} && {u(xs)}", boolean(shares)),
+                (f"s2_debug({cell})", model.debug(number)), (f"s2_child({cell}, {kth})", child),
+                (f"s2_common_ancestor({cell}, {signed(other)})", common),
+            ]
+        self.all_are(pairs)
+
+    def test_coverings_and_ranges(self):
+        pairs = []
+        for _ in range(ROUNDS // 3):
+            xs, level = self.random.cells(5), self.random.randint(0, 30)
+            x = model.runs(xs)
+            pairs.append((f"s2_outer({u(xs)}, {level})", tokens(model.normal(model.around(x, level)))))
+            pairs.append((f"s2_inner({u(xs)}, {level})", tokens(model.normal(model.within(x, level)))))
+            first, last = sorted((self.random.cell(), self.random.cell()))
+            a, b = model.run(first)[0], model.run(last)[1]
+            pairs.append((f"s2_range({signed(first)}, {signed(last)})", tokens(model.normal([(a, b)]))))
+            place = self.random.randrange(6), self.random.randrange(2**30), self.random.randrange(2**30)
+            leaf = f"s2_leaf({place[0]}, {place[1]}, {place[2]})"
+            box = f"{place[0]}, {place[1]}, {place[1]}, {place[2]}, {place[2]}"
+            pairs.append((f"s2_outer({box}, 30) = {leaf}::s2union and s2_inner({box}, 30) = {leaf}::s2union", "true"))
+            pairs.append((f"s2_outer({box}, {level}) = s2_parent({leaf}, {level})::s2union", "true"))
+            pairs.append((f"s2_inner({box}, {min(level, 29)}) = ''::s2union", "true"))
+        self.all_are(pairs)
+
+    def test_version(self):
+        said = psql("SELECT s2_version(), extversion FROM pg_extension WHERE extname = 's2union';")
+        self.assertEqual(said, [f"{model.VERSION}|{model.VERSION.rpartition('.')[0]}"])
+
+    def test_long_texts(self):
+        """They are read and written in pieces."""
+        cells = [model.identifier(28, 3 * k) for k in range(70000)]
+        lists = [cells[: 9000 + shift] for shift in range(0, 40, 3)]
+        texts = [" " * shift + self.random.text(some) for shift, some in enumerate(lists)]
+        lines = "".join(f"SELECT md5('{text}'::s2union::text);\n" for text in [*texts, tokens(cells)])
+        self.assertEqual(psql(lines), [md5(tokens(some)) for some in [*lists, cells]])
+        words = [f"1/0123{'0' * shift}park" for shift in range(40)]
+        words += ["0" * 65534, "0" * 65535, "0" * 65536, "0" * 200000, "1/" + "0" * 70000, "1" * 70000]
+        wrongs = [f"{texts[0][:65500].rpartition(' ')[0]} {word}\n{texts[1]}" for word in words]
+        said = psql("".join(f"SELECT try($q$SELECT '{text}'::s2union$q$);\n" for text in wrongs))
+        error = 'error: invalid input syntax for type s2union: "{:.40}" names no cell'
+        self.assertEqual(said, [error.format(word) for word in words])
+        self.all_are([("s2_count((repeat('04 ', 2000000) || '14')::s2union)", "2")])
+
+    def test_large_values_that_come_again(self):
+        """In each row, in every other row, or never twice; as a parameter of a generic plan, and from a subquery."""
+        said = psql("""
+            SET client_min_messages = error; SET max_parallel_workers_per_gather = 0;
+            DROP TABLE IF EXISTS large;
+            CREATE TABLE large AS SELECT k AS id, s2_outer(0, k * 90000000, k * 90000000 + 100000000, k % 3 * 200000000,
+                k % 3 * 200000000 + 300000000, 12) AS region FROM generate_series(0, 8) AS k;
+            INSERT INTO large SELECT 9 + k, s2_outer(0, 0, 400000000, 0, 700000000, 11) - region
+                FROM generate_series(0, 1) AS k, large WHERE id = 3 * k;
+            SELECT min(pg_column_size(region)) > 2000 FROM large;
+            PREPARE shared(s2union) AS SELECT array_agg(id ORDER BY id) FROM large WHERE region && $1;
+            SET plan_cache_mode = force_generic_plan;
+            CREATE OR REPLACE FUNCTION answers(x s2union, y s2union) RETURNS text LANGUAGE sql IMMUTABLE AS $$
+                SELECT format('%s%s%s', s2_count(x & y) > 0, s2_count(y - x) = 0, s2_count(x - y) = 0) $$;
+        """ + "".join(f"""
+            SELECT count(*), count(*) FILTER (WHERE said IS DISTINCT FROM answers(x, y)) FROM (
+                SELECT x.region AS x, y.region AS y,
+                    format('%s%s%s', x.region && y.region, x.region @> y.region, x.region <@ y.region) AS said
+                FROM large x, large y ORDER BY {order} OFFSET 0) q;
+        """ for order in ("x.id, y.id", "y.id, x.id", "x.id + y.id")) + """
+            SELECT format('EXECUTE shared(%L);', region), format('SELECT array_agg(id ORDER BY id) FROM large
+                WHERE region && (SELECT region FROM large WHERE id = %s)', id),
+                format('SELECT array_agg(id ORDER BY id) FROM large WHERE s2_count(region & %L) > 0', region)
+            FROM large ORDER BY id \\gexec
+        """)
+        self.assertEqual(said[:4], ["t", "121|0", "121|0", "121|0"])
+        self.assertEqual(said[4::3], said[6::3])
+        self.assertEqual(said[5::3], said[6::3])
+
+    def test_binary_copy(self):
+        rows = [self.random.cells() for _ in range(500)]
+        values = ", ".join(f"({k}, {u(xs)})" for k, xs in enumerate(rows))
+        said = psql(f"""
+            SELECT current_setting('data_directory') || '/regions.copy' AS file \\gset
+            CREATE TEMP TABLE a(id int, region s2union);
+            CREATE TEMP TABLE b(LIKE a);
+            INSERT INTO a VALUES {values}, (999, NULL);
+            COPY a TO :'file' (FORMAT binary);
+            COPY b FROM :'file' (FORMAT binary);
+            SELECT count(*) FROM a JOIN b USING (id) WHERE a.region = b.region;
+            SELECT count(*) FROM b WHERE region IS NULL;
+        """)
+        self.assertEqual(said, ["500", "1"])
+
+
+def stored(cells):
+    """The bytes of a stored value after its length."""
+    return b"\1\0\0\0" + b"".join(cell.to_bytes(8, "little") for cell in cells)
+
+
+def flips_of(value):
+    """How many flips of one bit leave a stored value valid, and how many don't."""
+    good, bits = 0, 8 * len(value)
+    for bit in range(32, bits):
+        flipped = int.from_bytes(value, "little") ^ 1 << bit
+        words = flipped.to_bytes(len(value), "little")[4:]
+        cells = [int.from_bytes(words[k : k + 8], "little") for k in range(0, len(words), 8)]
+        good += all(map(model.cell, cells)) and model.normal(model.runs(cells)) == cells
+    return good, bits - good
+
+
+class WhatIsRefused(Tests):
+    @classmethod
+    def setUpClass(cls):
+        super().setUpClass()
+        psql("""
+            SET client_min_messages = error;
+            DROP TYPE IF EXISTS raw8 CASCADE;
+            CREATE TYPE raw8;
+            CREATE FUNCTION raw8_in(cstring) RETURNS raw8 LANGUAGE internal IMMUTABLE STRICT AS 'byteain';
+            CREATE FUNCTION raw8_out(raw8) RETURNS cstring LANGUAGE internal IMMUTABLE STRICT AS 'byteaout';
+            CREATE TYPE raw8 (INPUT = raw8_in, OUTPUT = raw8_out, INTERNALLENGTH = VARIABLE, ALIGNMENT = double);
+            CREATE CAST (raw8 AS s2union) WITHOUT FUNCTION;
+        """)
+
+    def test_stored_values_that_are_cut(self):
+        cells = [model.identifier(5, k) for k in (1, 7, 60)]
+        value = stored(cells)
+        cut = [f"'\\x{value[:k].hex()}'::raw8::s2union" for k in range(len(value) + 1)]
+        whole = {4 + 8 * k: tokens(cells[:k]) for k in range(4)}
+        self.all_are([(cut[k], text) for k, text in whole.items()])
+        self.all_refused([(sql, "not a normalized list") for k, sql in enumerate(cut) if k not in whole])
+
+    def test_texts(self):
+        texts = ("X", "2", "g", "1 g", "1,0/4", "0" * 17, "é" * 60)
+        self.all_refused([(f"'{text}'::s2union", "names no cell") for text in texts])
+        wrong = [("'1 04,park 3 X'::s2union", '"park" names no cell'), ("' 0/5\t1'::s2union", '"0/5" names no cell')]
+        ends = ("\\n", "\\r", "\\t", "\\r\\n", ",")
+        wrong += [(f"E'1 park{end}04'::s2union", '"park" names no cell') for end in ends]
+        self.all_refused(wrong)
+        self.all_refused([(f"s2_cell('{text}')", "not a cell") for text in ("", "X", "1 1", "6/")])
+        self.all_are([("''::s2union::text = '' and ' , '::s2union = ''", "true")])
+
+    def test_files(self):
+        good = model.file([model.identifier(5, k) for k in (1, 7, 60)])
+        faults = [(good[:k], "bytes are missing") for k in range(len(good))]
+        faults += [(bytes([k]) + good[1:], "unknown version") for k in (0, 2, 255)]
+        faults += [(good + bytes(k), "bytes after the last cell") for k in (1, 8, 100)]
+        wrongs = [good[:17] + cell.to_bytes(8, "little") + good[25:] for cell in (0, 2, 2**64 - 1)]
+        faults += [(wrong, "a number that is not a cell") for wrong in wrongs]
+        faults += [(good[:1] + b"\xff" * 8 + good[9:], "bytes are missing")]
+        faults = [(f"('\\x{file.hex()}'::bytea)::s2union", reason) for file, reason in faults]
+        self.all_refused([(expression, f"s2union: union file: {reason}") for expression, reason in faults])
+
+    def test_numbers(self):
+        self.all_refused([
+            ("s2_outer(6, 0, 0, 0, 0, 5)", "argument"), ("s2_outer(0, 1, 0, 0, 0, 5)", "argument"),
+            ("s2_outer(0, 0, 0, 0, 0, 31)", "argument"),
+            ("s2_outer(0, -1, 0, 0, 0, 5)", "argument"), ("s2_inner('1'::s2union, -1)", "argument"),
+            ("s2_leaf(0, 0, -1)", "argument"),
+            ("s2_outer(0, 0, 1073741823, 5, 5, 30)", "too many cells"),
+            ("(2::bigint)::s2union", "not a cell"), ("s2_level(0)", "not a cell"),
+            ("s2_token(0)", "not a cell"), ("s2_parent(0, 0)", "not a cell"), ("s2_range_max(0)", "not a cell"),
+            ("'1'::s2union @> 0::bigint", "not a cell"), ("0::bigint <@ '1'::s2union", "not a cell"),
+            ("'1'::s2union && 0::bigint", "not a cell"), ("0::bigint && '1'::s2union", "not a cell"),
+            ("s2_child(0, 0)", "not a cell"), ("s2_debug(0)", "not a cell"),
+            ("s2_common_ancestor(0, s2_cell('1'))", "not a cell"),
+            ("s2_common_ancestor(s2_cell('1'), 0)", "not a cell"),
+            ("'{0}'::bigint[]::s2union", "not a cell"), ("(ARRAY[s2_cell('1'), NULL])::s2union", "a cell is NULL"),
+            ("(SELECT s2_union_agg(c) FROM (VALUES (0::bigint)) v(c))", "not a cell"),
+            ("s2_cells('1'::s2union, 31)", "argument"), ("s2_cells('1'::s2union, 1, 4)", "argument"),
+            ("s2_cells('1'::s2union, -1)", "argument"), ("s2_cells('1'::s2union, 30)", "too many cells"),
+            ("s2_cells('1 3'::s2union, 13)", "too many cells"), ("s2_cells(''::s2union, 31)", "argument"),
+            ("s2_range(-1, 1)", "not a cell"), ("s2_range(s2_cell('3'), s2_cell('1'))", "argument"),
+        ])
+
+    def test_null_gives_null(self):
+        """In each argument of each function and operator."""
+        said = psql("""
+            SELECT p.proname || '|' || p.pronargs || '|' || string_agg(t.typname, ',' ORDER BY a.k)
+            FROM pg_proc p JOIN pg_depend d ON d.classid = 'pg_proc'::regclass AND d.objid = p.oid AND d.deptype = 'e'
+                JOIN pg_extension e ON e.oid = d.refobjid AND e.extname = 's2union',
+                unnest(p.proargtypes) WITH ORDINALITY a(type, k) JOIN pg_type t ON t.oid = a.type
+            WHERE p.prokind = 'f' GROUP BY p.oid, p.proname, p.pronargs
+            HAVING bool_and(t.typname NOT IN ('internal', 'cstring')) ORDER BY 1;
+        """)
+        good = {"s2union": "'04'::s2union", "int8": "s2_cell('04')", "int4": "1", "text": "'04'",
+                "bytea": "'\\x01'::bytea", "_int8": "'{}'::bigint[]"}
+        pairs = []
+        for name, count, types in (line.split("|") for line in said):
+            types = types.split(",")
+            for k in range(int(count)):
+                values = [f"NULL::{t.replace('_int8', 'bigint[]')}" if n == k else good[t] for n, t in enumerate(types)]
+                pairs.append((f"{name}({', '.join(values)})", "null"))
+        self.assertGreater(len(pairs), 80)
+        self.all_are(pairs)
+        operators = ("|", "&", "-", "#", "@>", "<@", "&&", "=", "<>", "<", "<=", ">", ">=")
+        self.all_are([(f"NULL::s2union {name} '1'::s2union", "null") for name in operators])
+        self.all_are([(f"'1'::s2union {name} NULL", "null") for name in operators])
+        self.all_are([("NULL::s2union", "null"), ("s2_union_agg(NULL::bigint)", "null"),
+                      ("s2_intersection_agg(NULL::s2union)", "null")])
+
+    def test_the_code_of_each_refusal(self):
+        file = model.file([model.identifier(5, k) for k in (1, 7)])
+        wrong_cell = file[:9] + bytes(8) + file[17:]
+        files = [b"", b"\2", file[:-1], file + b"\0", wrong_cell]
+        codes = [(f"SELECT ('\\x{wrong.hex()}'::bytea)::s2union", "22P03") for wrong in files]
+        codes += [
+            ("SELECT 'X'::s2union", "22P02"), ("SELECT s2_level(0)", "22023"), ("SELECT s2_leaf(6, 0, 0)", "22023"),
+            ("SELECT s2_cells('1', 30)", "54000"), ("SELECT s2_outer(0, 0, 1073741823, 5, 5, 30)", "54000"),
+            ("SELECT s2_count('\\x0100000000'::raw8::s2union)", "XX001"),
+            ("SELECT ARRAY[NULL::bigint]::s2union", "22004"),
+        ]
+        psql(STATE)
+        self.all_are([(f"state_of($s${query}$s$)", code) for query, code in codes])
+
+    def test_each_bit_of_100_stored_values_flipped(self):
+        """What a damaged page may hold: the bytes of a value after its length, with one wrong bit."""
+        values = []
+        for _ in range(FLIPPED):
+            cells = model.normal(model.runs(self.random.cells(6)))
+            values.append(stored(cells))
+        flips = "".join(f"SELECT (flip('\\x{value.hex()}')).*;\n" for value in values)
+        said = psql(f"""
+            SET client_min_messages = error;
+            DROP TABLE IF EXISTS flipped;
+            CREATE TABLE flipped(id int, region s2union);
+            CREATE OR REPLACE FUNCTION flip(file bytea, OUT answers int, OUT refusals int, OUT others int)
+            LANGUAGE plpgsql AS $$
+            DECLARE query text; said text;
+            BEGIN
+                answers := 0; refusals := 0; others := 0;
+                FOR bit IN 0 .. 8 * length(file) - 1 LOOP
+                    EXECUTE format('UPDATE flipped SET region = %L::raw8::s2union',
+                        set_bit(file, bit, 1 - get_bit(file, bit)));
+                    FOREACH query IN ARRAY ARRAY['region', 'region @> s2_cell($t$04$t$)', 'region && $t$1$t$',
+                        '$t$1$t$ - region',
+                        'region | $t$3$t$', 'region::bytea', 's2_cells(region)', 's2_ancestors(region)',
+                        'region < $t$1$t$',
+                        's2union_hash(region)', 's2_outer(region, 3)', 's2_union_agg(region)'] LOOP
+                        said := try(format('SELECT (%s)::text FROM flipped', query));
+                        IF said NOT LIKE 'error: %' THEN answers := answers + 1;
+                        ELSIF said LIKE 'error: s2union: not a normalized list of cells' THEN refusals := refusals + 1;
+                        ELSE others := others + 1;
+                        END IF;
+                    END LOOP;
+                END LOOP;
+            END $$;
+            INSERT INTO flipped VALUES (1, NULL);
+            {flips}
+            DROP TABLE flipped;
+        """)
+        counts = [[int(word) for word in line.split("|")] for line in said]
+        wanted = [[12 * good, 12 * bad, 0] for good, bad in map(flips_of, values)]
+        self.assertEqual(counts, wanted)
+        self.assertGreater(sum(answers for answers, _, _ in wanted), 10 * FLIPPED)
+
+
+# By a scan and by an index, in how many questions the answers differ, how many rows match, and in how many lines of the
+# last plan the index stands.
+DIFFER = """
+CREATE OR REPLACE FUNCTION differ(name text, by text, OUT different int, OUT matches bigint, OUT plans int)
+LANGUAGE plpgsql AS $$
+DECLARE q s2union; query text; line text; a int[]; b int[];
+BEGIN
+    different := 0; matches := 0; plans := 0;
+    query := format('SELECT array_agg(id ORDER BY id) FROM regions WHERE region OPERATOR(%s) $1', name);
+    FOR q IN SELECT region FROM questions ORDER BY id LOOP
+        PERFORM set_config('enable_seqscan', 'on', true), set_config('enable_bitmapscan', 'off', true),
+            set_config('enable_indexscan', 'off', true);
+        EXECUTE query INTO a USING q;
+        PERFORM set_config('enable_seqscan', 'off', true), set_config('enable_bitmapscan', 'on', true),
+            set_config('enable_indexscan', 'on', true);
+        EXECUTE query INTO b USING q;
+        IF a IS DISTINCT FROM b THEN different := different + 1; END IF;
+        matches := matches + coalesce(array_length(a, 1), 0);
+    END LOOP;
+    FOR line IN EXECUTE format('EXPLAIN SELECT * FROM regions WHERE region OPERATOR(%s) %L::s2union', name, q) LOOP
+        IF line LIKE '%' || by || '%' THEN plans := plans + 1; END IF;
+    END LOOP;
+END $$;
+"""
+GIN = """
+SELECT name, (differ(name, by)).* FROM (VALUES ('&&', 'regions_gin'), ('@>', 'regions_gin'), ('<@', 'regions_gin'))
+    v(name, by);
+"""
+# The same for questions about a cell, written in three ways: by an operator, by its commutator, and by the function.
+DIFFER_OF_CELLS = """
+CREATE OR REPLACE FUNCTION differ_of_cells(condition text, by text,
+    OUT different int, OUT matches bigint, OUT plans int)
+LANGUAGE plpgsql AS $$
+DECLARE q bigint; query text; line text; a int[]; b int[];
+BEGIN
+    different := 0; matches := 0; plans := 0;
+    query := format('SELECT array_agg(id ORDER BY id) FROM regions WHERE ' || condition, '$1');
+    FOR q IN SELECT (s2_cells(region))[1] FROM questions WHERE s2_count(region) > 0 ORDER BY id LIMIT 200 LOOP
+        PERFORM set_config('enable_seqscan', 'on', true), set_config('enable_bitmapscan', 'off', true),
+            set_config('enable_indexscan', 'off', true);
+        EXECUTE query INTO a USING q;
+        PERFORM set_config('enable_seqscan', 'off', true), set_config('enable_bitmapscan', 'on', true),
+            set_config('enable_indexscan', 'on', true);
+        EXECUTE query INTO b USING q;
+        IF a IS DISTINCT FROM b THEN different := different + 1; END IF;
+        matches := matches + coalesce(array_length(a, 1), 0);
+    END LOOP;
+    FOR line IN EXECUTE format('EXPLAIN SELECT * FROM regions WHERE ' || condition, q || '::bigint') LOOP
+        IF line LIKE '%' || by || '%' THEN plans := plans + 1; END IF;
+    END LOOP;
+END $$;
+"""
+ABOUT_CELLS = ("region @> {}", "{} <@ region", "region && {}", "{} && region", "s2_contains(region, {})",
+               "s2_within({}, region)", "s2_intersects(region, {})", "s2_intersects({}, region)")
+
+
+def of_cells(by):
+    conditions = ", ".join(f"('{condition.format('%s')}')" for condition in ABOUT_CELLS)
+    return f"SELECT condition, (differ_of_cells(condition, '{by}')).* FROM (VALUES {conditions}) v(condition);"
+
+
+class Indexes(Tests):
+    def test_questions_by_index_and_by_scan(self):
+        regions, questions = [], []
+        for _ in range(3 * QUESTIONS // 2):
+            near = self.random.choice(regions) if regions and self.random.random() < 0.6 else ()
+            regions.append(self.random.cells(near=near, low=4))
+        for _ in range(QUESTIONS):
+            near = self.random.choice(regions) if self.random.random() < 0.9 else ()
+            questions.append(self.random.cells(4, near=near))
+        script = """
+            SET client_min_messages = error;
+            DROP TABLE IF EXISTS regions, questions;
+            CREATE TABLE regions(id int, region s2union);
+            CREATE TABLE questions(id int, region s2union);
+        """
+        for name, rows in (("regions", regions), ("questions", questions)):
+            lines = "".join(f"{k}\t{tokens(xs)}\n" for k, xs in enumerate(rows))
+            script += f"COPY {name} FROM STDIN;\n{lines}\\.\n"
+        script += """
+            INSERT INTO regions VALUES (9999, NULL);
+            CREATE INDEX regions_gin ON regions USING gin (region);
+            CREATE INDEX regions_btree ON regions (region);
+            CREATE INDEX regions_hash ON regions USING hash (region);
+            ANALYZE regions;
+        """ + DIFFER + GIN + DIFFER_OF_CELLS + of_cells("regions_gin") + """
+            DROP INDEX regions_gin;
+            CREATE INDEX regions_gist ON regions USING gist (region);
+            SELECT name, (differ(name, by)).* FROM (VALUES ('&&', 'regions_gist'), ('@>', 'regions_gist')) v(name, by);
+        """ + of_cells("regions_gist") + """
+            DROP INDEX regions_gist;
+            CREATE EXTENSION IF NOT EXISTS amcheck;
+            SELECT 'checked', 0, 1, 1 FROM bt_index_check('regions_btree', true);
+            SELECT name, (differ(name, by)).* FROM (VALUES ('=', 'regions_'), ('<', 'regions_btree'),
+                ('>=', 'regions_btree')) v(name, by);
+            DROP INDEX regions_btree;
+            SELECT name, (differ(name, by)).* FROM (VALUES ('=', 'regions_hash')) v(name, by);
+        """
+        said = [line.split("|") for line in psql(script)]
+        wanted = {name: 0 for name in ("&&", "@>", "<@")}
+        forms = [model.runs(xs) for xs in regions]
+        for ys in questions[:100]:
+            y = model.runs(ys)
+            wanted["&&"] += sum(bool(model.common(x, y)) for x in forms)
+        self.assertEqual(len(said), 10 + 2 * len(ABOUT_CELLS))
+        for name, different, found, plans in said:
+            self.assertEqual(different, "0", name)
+            self.assertNotEqual(plans, "0", name)
+            self.assertGreater(int(found), 0, name)
+        by_scan = psql("SELECT count(*) FROM questions q JOIN regions r ON r.region && q.region WHERE q.id < 100")
+        self.assertEqual(int(by_scan[0]), wanted["&&"])
+
+    def test_questions_of_many_cells(self):
+        """With so little memory that the index answers some pages as a whole, and with rows that wait in its list."""
+        rows = """
+            SELECT k, CASE WHEN k % 50 = 0 THEN '' WHEN k % 51 = 0 THEN NULL
+                WHEN k % 100 = 1 THEN s2_outer(0, 0, 16777215, 0, 16777215, 6) - s2_leaf(0, k * 1000, k * 1001)::s2union
+                ELSE s2_outer(0, k * 7919 % 16000000, k * 7919 % 16000000 + k * 97 % 1048576,
+                    k * 104729 % 16000000, k * 104729 % 16000000 + k * 89 % 1048576, 10) END
+            FROM generate_series({}, {}) AS k
+        """
+        scattered = f"""
+            SELECT n, s2_union_agg(s2_parent(s2_leaf(0, (8000000 + k * 7919 % side)::int,
+                (8000000 + k * k * 31 % side)::int), level)::s2union) AS region
+            FROM (VALUES (0, 100, 30), (1, 100000, 25), (2, 1000000, 20), (3, 8000000, 18)) v(n, side, level),
+                generate_series(0::bigint, {ROUNDS - 1}) AS k WHERE k < {{}} GROUP BY n
+        """
+        said = psql(f"""
+            SET client_min_messages = error;
+            SET work_mem = '64kB';
+            DROP TABLE IF EXISTS regions, questions;
+            CREATE TABLE regions(id int, region s2union, half_a_page char(4000) DEFAULT '');
+            ALTER TABLE regions ALTER half_a_page SET STORAGE plain;
+            INSERT INTO regions (id, region) {rows.format(0, 2999)};
+            CREATE INDEX regions_gin ON regions USING gin (region);
+            ANALYZE regions;
+            INSERT INTO regions (id, region) {rows.format(3000, 3099)};
+            CREATE TABLE questions(id int, region s2union);
+            INSERT INTO questions VALUES (0, ''), (1, NULL), (2, '1');
+            INSERT INTO questions SELECT 3 + n, region FROM ({scattered.format(ROUNDS)}) s;
+            INSERT INTO questions SELECT 7 + n, '1'::s2union - region FROM ({scattered.format(20)}) s;
+            {DIFFER} {GIN}
+            SELECT max(s2_count(region)) FROM questions WHERE id < 7;
+        """)
+        for line in said[:3]:
+            name, different, found, plans = line.split("|")
+            self.assertEqual(different, "0", name)
+            self.assertNotEqual(plans, "0", name)
+            self.assertGreater(int(found), 12, name)
+        self.assertGreater(int(said[3]), ROUNDS // 2)
+
+
+class Planner(Tests):
+    """Which plan is chosen, with nothing disabled."""
+
+    @classmethod
+    def setUpClass(cls):
+        super().setUpClass()
+        psql("""
+            SET client_min_messages = error;
+            DROP TABLE IF EXISTS countries, fresh, cities, small, many;
+            CREATE TABLE countries AS SELECT k AS id, s2_outer(k % 6, k * 5000000, k * 5000000 + 150000000,
+                k * 4000000, k * 4000000 + 130000000, 13) - s2_leaf(k % 6, k * 5000000, k * 4000000)::s2union AS region
+                FROM generate_series(1, 180) AS k;
+            CREATE TABLE fresh AS TABLE countries;
+            CREATE TABLE cities AS SELECT k AS id, s2_leaf(k % 6, k * 4000000 + 7000000, k * 4000000 + 9000000) AS leaf
+                FROM generate_series(1, 240) AS k;
+            CREATE TABLE small AS SELECT k AS id, s2_outer(k % 6, k * 50000, k * 50000 + 300000,
+                k * 40000, k * 40000 + 200000, 14) AS region FROM generate_series(1, 20000) AS k;
+            CREATE INDEX countries_gin ON countries USING gin (region);
+            CREATE INDEX fresh_gin ON fresh USING gin (region);
+            CREATE INDEX small_gin ON small USING gin (region);
+            ANALYZE countries; ANALYZE cities; ANALYZE small;
+        """)
+
+    def plan(self, query, settings=""):
+        return "\n".join(psql(f"SET max_parallel_workers_per_gather = 0; {settings} EXPLAIN {query}"))
+
+    def test_joins_with_large_values_use_the_index(self):
+        """They are kept out of line, and take as long to read as some thousand comparisons."""
+        self.assertEqual(psql("SELECT min(s2_count(region)) > 1000, max(pg_column_size(region)) > 4000 FROM countries"),
+                         ["t|t"])
+        conditions = ("@> c.leaf", "@> c.leaf::s2union", "&& c.leaf", "&& c.leaf::s2union")
+        for table in ("countries", "fresh"): # the second has no statistics
+            for condition in conditions:
+                plan = self.plan(f"SELECT count(*) FROM cities c JOIN {table} d ON d.region {condition}")
+                self.assertIn(f"{table}_gin", plan)
+            plan = self.plan(f"SELECT count(*) FROM cities c JOIN {table} d ON s2_contains(d.region, c.leaf)")
+            self.assertIn(f"{table}_gin", plan)
+
+    def test_questions_that_find_few_rows_use_the_index(self):
+        for table in ("small", "countries"):
+            for condition in ("@> s2_leaf(1, 50100000, 40100000)", "&& s2_leaf(1, 50100000, 40100000)",
+                              "&& s2_parent(s2_leaf(1, 50100000, 40100000), 14)::s2union"):
+                plan = self.plan(f"SELECT * FROM {table} WHERE region {condition}")
+                self.assertIn(f"{table}_gin", plan)
+
+    def test_questions_that_find_most_rows_scan(self):
+        for condition in ("&& '1 3 5 7 9 b'", "<@ '1 3 5 7 9 b'", "&& (s2_range(s2_cell('1'), s2_cell('b')) - '04')"):
+            plan = self.plan(f"SELECT * FROM small WHERE region {condition}")
+            self.assertIn("Seq Scan", plan)
+
+    def test_how_many_rows_are_expected(self):
+        """Within a factor of three, or of thirty if a sample of 100 values has none of the rows."""
+        for condition, table, factor in (
+            ("region && '1'", "small", 3), ("region <@ '1'", "small", 3), ("region && '04'", "small", 3),
+            ("'1 3' @> region", "small", 3), ("region && s2_cell('1')", "small", 3),
+            ("s2_cell('3') && region", "small", 3),
+            ("s2_intersects(region, '1 5')", "small", 3), ("s2_within(region, '5 7')", "small", 3),
+            ("region @> s2_leaf(1, 50100000, 40100000)", "small", 30), ("region && '3'", "countries", 3),
+            ("region @> ''", "small", 3), ("region && ''", "small", 30),
+        ):
+            rows = int(psql(f"SELECT count(*) FROM {table} WHERE {condition}")[0])
+            expected = self.expected(self.plan(f"SELECT * FROM {table} WHERE {condition}"))
+            self.assertLessEqual(rows, factor * expected, condition)
+            self.assertLessEqual(expected, factor * max(rows, 1), condition)
+        for condition in ("region @> leaf", "region && leaf", "leaf <@ region", "region @> leaf::s2union"):
+            rows = int(psql(f"SELECT count(*) FROM countries, cities WHERE {condition}")[0])
+            expected = self.expected(self.plan(f"SELECT * FROM countries, cities WHERE {condition}"))
+            self.assertLessEqual(rows, 5 * expected, condition)
+            self.assertLessEqual(expected, 5 * rows, condition)
+        rows = int(psql("SELECT count(*) FROM countries x, countries y WHERE x.region && y.region")[0])
+        expected = self.expected(self.plan("SELECT * FROM countries x, countries y WHERE x.region && y.region"))
+        self.assertTrue(rows / 5 < expected < rows * 5, (rows, expected))
+
+        plan = self.plan("EXECUTE unknown('04')", """PREPARE unknown(s2union) AS SELECT * FROM small WHERE region && $1;
+            SET plan_cache_mode = force_generic_plan;""")
+        self.assertIn("$1", plan)
+        self.assertLess(self.expected(plan), 200)
+
+    def expected(self, plan):
+        return int(re.search(r"rows=(\d+)", plan)[1])
+
+    def test_rows_that_are_null_count(self):
+        psql("""
+            SET client_min_messages = error;
+            DROP TABLE IF EXISTS half;
+            CREATE TABLE half AS SELECT id, CASE WHEN id % 2 = 0 THEN region END AS region FROM small;
+            ANALYZE half;
+        """)
+        expected = self.expected(self.plan("SELECT * FROM half WHERE region && '1 3 5 7 9 b'"))
+        self.assertTrue(8000 < expected < 12000, expected)
+        self.assertIn("One-Time Filter: false", self.plan("SELECT * FROM half WHERE region && NULL::s2union"))
+
+    def test_what_analyze_keeps_of_all_null_and_of_one_row(self):
+        psql("""
+            SET client_min_messages = error;
+            DROP TABLE IF EXISTS nulls, one;
+            CREATE TABLE nulls AS SELECT NULL::s2union AS region FROM generate_series(1, 1000);
+            CREATE TABLE one AS SELECT '04'::s2union AS region;
+            ANALYZE nulls; ANALYZE one;
+        """)
+        self.assertEqual(self.expected(self.plan("SELECT * FROM nulls WHERE region && '1'")), 1)
+        self.assertEqual(self.expected(self.plan("SELECT * FROM one WHERE region && '1'")), 1)
+
+    def test_a_function_costs_what_it_takes_to_read_its_arguments(self):
+        def cost(query):
+            return float(re.search(r"\.\.([\d.]+) rows", self.plan(query))[1])
+
+        for call in ("s2_count(region)", "region | '04'", "s2_tokens(region)", "region = ''", "s2_cells(region, 3)"):
+            ratio = cost(f"SELECT {call} FROM countries") / 180 / (cost(f"SELECT {call} FROM small") / 20000)
+            self.assertGreater(ratio, 200, call)
+
+    def test_a_large_constant_is_read_once(self):
+        psql("""
+            CREATE TABLE many AS SELECT s2_union_agg(s2_leaf(0, 2 * (k % 600), 2 * (k / 600))::s2union) AS region
+            FROM generate_series(0, 199999) AS k;
+        """)
+        plans = psql("""
+            SET enable_bitmapscan = off;
+            SELECT format('EXPLAIN SELECT count(*) FROM small WHERE region <@ %L', region) FROM many \\gexec
+            SELECT format('EXPLAIN SELECT count(*) FROM small WHERE region | %L = region', region) FROM many \\gexec
+        """)
+        asked, made = [float(re.search(r"\.\.([\d.]+) rows", plan)[1]) for plan in plans if "Aggregate" in plan]
+        self.assertLess(20 * asked, made)
+
+    def test_equal_regions_are_joined_by_their_hashes(self):
+        plan = self.plan("SELECT * FROM small x JOIN small y ON x.region = y.region", "SET enable_mergejoin = off;")
+        self.assertIn("Hash Join", plan)
+        plan = self.plan("SELECT * FROM small x JOIN small y ON x.region = y.region",
+                         "SET enable_hashjoin = off; SET enable_nestloop = off;")
+        self.assertIn("Merge Join", plan)
+
+
+class LargeQuestions(Tests):
+    """While rows wait in the list of a GIN index, PostgreSQL compares each of them with each key of a question, and
+    can't be cancelled. So a question has few keys. Elsewhere it is cancelled at once."""
+
+    def ends_in_time(self, query):
+        """It answers or is cancelled within twice its timeout: at the third try, if the machine is busy."""
+        command = ["psql", "-XAqt", "-d", DATABASE, "-c", "SET statement_timeout = '1s'", "-c", query]
+        for _ in range(3):
+            begun = time.monotonic()
+            run = subprocess.run(command, stdout=subprocess.PIPE, stderr=subprocess.PIPE, text=True, check=False)
+            took = time.monotonic() - begun
+            self.assertTrue(run.returncode == 0 or "due to statement timeout" in run.stderr, run.stderr)
+            if took < 2:
+                return
+        self.fail(f"{took:.1f} s: {query}")
+
+    @classmethod
+    def setUpClass(cls):
+        super().setUpClass()
+        psql("""
+            SET client_min_messages = error;
+            DROP TABLE IF EXISTS waiting, asked;
+            CREATE TABLE waiting (id int, region s2union);
+            CREATE INDEX waiting_gin ON waiting USING gin (region);
+            INSERT INTO waiting SELECT k, s2_outer(k % 6, k * 100000, k * 100000 + 900000,
+                k * 90000, k * 90000 + 700000, 13) FROM generate_series(1, 9000) AS k;
+            CREATE TABLE asked AS SELECT n, s2_union_agg(s2_parent(s2_leaf((k * 7919 % 6)::int,
+                (k * k * 7919 % 1073741823)::int, (k * 104729 % 1073741823)::int), 24)) AS region
+                FROM (VALUES (100), (10000), (300000)) v(n), generate_series(1::bigint, 300000) AS k WHERE k <= n
+                GROUP BY n;
+            ANALYZE asked;
+        """)
+
+    def test_each_kind_of_large_question_over_pending_rows(self):
+        ask = "SELECT count(*) FROM waiting WHERE "
+        asked = "(SELECT region FROM asked WHERE n = {})"
+        for n in (100, 10000, 300000):
+            for condition in (f"region && {asked}", f"region @> {asked}", f"region <@ {asked}",
+                              f"region @> (s2_cells({asked}))[1]", f"region && (s2_cells({asked}))[1]",
+                              f"s2_intersects(region, {asked})"):
+                self.ends_in_time("SET enable_seqscan = off; " + ask + condition.format(n))
+            self.ends_in_time(f"""DO $do$ DECLARE q s2union := {asked.format(n)}; c bigint; BEGIN
+                PERFORM set_config('enable_seqscan', 'off', true);
+                EXECUTE '{ask} region && $1' INTO c USING q; END $do$""")
+            self.ends_in_time("SET enable_seqscan = off; SELECT count(*) FROM asked a JOIN waiting w "
+                              f"ON w.region && a.region WHERE a.n = {n}")
+
+    def test_by_gist(self):
+        psql("""
+            SET client_min_messages = error;
+            DROP TABLE IF EXISTS placed;
+            CREATE TABLE placed AS TABLE waiting;
+            CREATE INDEX placed_gist ON placed USING gist (region);
+        """)
+        ask = "SET enable_seqscan = off; SELECT count(*) FROM placed p, asked a WHERE n = {} AND p.region {} a.region"
+        for n in (100, 10000, 300000):
+            for operator in ("&&", "@>"):
+                self.ends_in_time(ask.format(n, operator))
+
+    def test_the_answers_are_those_of_a_scan(self):
+        for n in (100, 10000):
+            for operator in ("&&", "@>", "<@"):
+                query = f"SELECT count(*) FROM waiting WHERE region {operator} (SELECT region FROM asked WHERE n = {n})"
+                scan, index = psql(f"""SET enable_bitmapscan = off; {query};
+                    SET enable_bitmapscan = on; SET enable_seqscan = off; {query};""")
+                self.assertEqual(scan, index, query)
+
+    def test_texts_are_cancelled(self):
+        self.ends_in_time("SELECT sum(length(region::text)) FROM asked, generate_series(1, 9999)")
+        self.ends_in_time("SELECT length(repeat('04 ', 60000000)::s2union::text)")
+
+
+class Aggregates(Tests):
+    def test_the_aggregate(self):
+        rows = [(self.random.randrange(20), self.random.cells()) for _ in range(5000)]
+        script = "SET client_min_messages = error; DROP TABLE IF EXISTS parts;\n"
+        script += "CREATE TABLE parts(kind int, region s2union);\nCOPY parts FROM STDIN;\n"
+        script += "".join(f"{kind}\t{tokens(xs)}\n" for kind, xs in rows) + "\\.\nANALYZE parts;\n"
+        query = "SELECT kind, s2_union_agg(region) FROM parts GROUP BY kind ORDER BY kind;\n"
+        script += query + """
+            SET parallel_setup_cost = 0; SET parallel_tuple_cost = 0; SET min_parallel_table_scan_size = 0;
+            INSERT INTO parts VALUES (20, NULL); ALTER TABLE parts SET (parallel_workers = 3);
+        """ + query + """
+            SELECT s2_union_agg(region) FROM parts;
+            SELECT s2_union_agg(region) IS NULL FROM parts WHERE kind > 99;
+            EXPLAIN SELECT s2_union_agg(region) FROM parts;
+        """
+        said = psql(script)
+        kinds = [model.normal(model.runs([cell for k, xs in rows if k == kind for cell in xs])) for kind in range(20)]
+        lines = [f"{kind}|{tokens(cells)}" for kind, cells in enumerate(kinds)]
+        self.assertEqual(said[:20], lines)
+        self.assertEqual(said[20:41], lines + ["20|"])
+        self.assertEqual(said[41:43], [tokens(model.normal(model.runs([cell for _, xs in rows for cell in xs]))), "t"])
+        self.assertTrue(any("Partial Aggregate" in line for line in said[43:]), said[43:])
+
+    def test_the_union_of_cells_and_the_intersection_of_unions(self):
+        rows = [(self.random.randrange(ROUNDS // 10), self.random.cells(5)) for _ in range(ROUNDS)]
+        kinds = {}
+        for kind, xs in rows:
+            first = kinds[kind][0] if kind in kinds else []
+            kinds.setdefault(kind, []).append(xs + first)
+        values = ", ".join(f"({kind}, {u(xs)})" for kind, lists in kinds.items() for xs in lists)
+        query = """SELECT s2_union_agg(region), s2_intersection_agg(region),
+            (SELECT s2_union_agg(c) FROM parts q, unnest(s2_cells(q.region)) AS c WHERE q.kind = p.kind)
+            FROM parts p GROUP BY kind ORDER BY kind;\n"""
+        said = psql(f"""SET client_min_messages = error; DROP TABLE IF EXISTS parts;
+            CREATE TABLE parts(kind int, region s2union); INSERT INTO parts VALUES {values}, (-1, NULL);
+            {query} SET parallel_setup_cost = 0; SET parallel_tuple_cost = 0; SET min_parallel_table_scan_size = 0;
+            SET max_parallel_workers_per_gather = 3; ALTER TABLE parts SET (parallel_workers = 3); ANALYZE parts;
+            SELECT s2_union_agg(c), s2_intersection_agg(region) FROM parts LEFT JOIN
+                LATERAL unnest(s2_cells(region)) AS c ON true;
+            EXPLAIN SELECT s2_intersection_agg(region) FROM parts; {query}""")
+        wanted = ["||"]
+        for _, lists in sorted(kinds.items()):
+            union, both = [], [(0, model.LEAVES)]
+            for xs in lists:
+                union, both = model.joined(union + model.runs(xs)), model.common(both, model.runs(xs))
+            whole = tokens(model.normal(union))
+            wanted.append(f"{whole}|{tokens(model.normal(both))}|{whole}")
+        self.assertEqual(said[: len(wanted)], wanted)
+        self.assertEqual(said[-len(wanted):], wanted)
+        every = tokens(model.normal(model.runs([cell for lists in kinds.values() for xs in lists for cell in xs])))
+        self.assertEqual(said[len(wanted)].split("|")[0], every)
+        self.assertTrue(any("Partial Aggregate" in line for line in said[len(wanted):]))
+
+    def test_many_cells(self):
+        said = psql("""
+            SELECT s2_count(s2_union_agg(s2_parent(s2_leaf(0, 2 * (k % 600), 2 * (k / 600)), 30)::s2union))
+                FROM generate_series(0, 359999) k;
+            SELECT s2_union_agg(s2_leaf(0, k % 512, k / 512)::s2union) FROM generate_series(0, 262143) k;
+        """)
+        self.assertEqual(said[0], "360000")
+        self.assertEqual(said[1], model.token(model.identifier(21, 0)))
+
+
+class DumpAndUpdate(Tests):
+    def test_dump_and_restore(self):
+        rows = [self.random.cells() for _ in range(300)]
+        values = ", ".join(f"({k}, {u(xs)})" for k, xs in enumerate(rows))
+        psql("DROP DATABASE IF EXISTS restored; DROP DATABASE IF EXISTS dumped;")
+        psql("CREATE DATABASE dumped;")
+        psql("CREATE DATABASE restored;")
+        psql(f"""CREATE EXTENSION s2union; CREATE TABLE regions(id int PRIMARY KEY, region s2union);
+             INSERT INTO regions VALUES {values}; CREATE INDEX ON regions USING gin (region);
+             CREATE INDEX ON regions (region);""", "dumped")
+        subprocess.run("pg_dump -Fc dumped | pg_restore -e -d restored", shell=True, check=True)
+        query = """SELECT id, region FROM regions ORDER BY id;
+                   SELECT indexdef FROM pg_indexes WHERE tablename = 'regions' ORDER BY 1;"""
+        self.assertEqual(psql(query, "restored"), psql(query, "dumped"))
+        self.assertEqual(len(psql(query, "restored")), 303)
+        psql("DROP DATABASE restored; ")
+        psql("DROP DATABASE dumped; ")
+
+    def test_update(self):
+        """What 0.1 has made goes on: a table, its index, and a view."""
+        query = """
+            SET enable_seqscan = off; SET max_parallel_workers_per_gather = 0;
+            SELECT extversion FROM pg_extension WHERE extname = 's2union';
+            SELECT count(*) FROM regions WHERE region && '04'; SELECT sum(n) FROM counts;
+        """
+        psql("DROP DATABASE IF EXISTS updated;")
+        psql("CREATE DATABASE updated;")
+        before = psql("""
+            CREATE EXTENSION s2union VERSION '0.1'; CREATE TABLE regions(id int, region s2union);
+            INSERT INTO regions SELECT k, s2_leaf(0, k * 1000000, k * 900000)::s2union FROM generate_series(1, 999) k;
+            CREATE INDEX ON regions USING gin (region);
+            CREATE VIEW counts AS SELECT s2_count(region) AS n FROM regions WHERE region @> s2_leaf(0, 1000000, 900000);
+        """ + query, "updated")
+        after = psql("ALTER EXTENSION s2union UPDATE; " + query + """
+            SELECT count(*) FROM regions WHERE region @> s2_leaf(0, 5000000, 4500000);
+            EXPLAIN SELECT * FROM regions WHERE region @> s2_leaf(0, 5000000, 4500000);
+        """, "updated")
+        self.assertEqual(before[0], "0.1")
+        self.assertEqual(after[:4], ["0.2", *before[1:], "1"])
+        self.assertTrue(any("regions_region_idx" in line for line in after[4:]), after)
+        psql("DROP DATABASE updated;")
+
+    def test_a_later_version(self):
+        script = os.path.join(os.environ["EXTENSIONS"], "s2union--0.2--0.2.1.sql")
+        with open(script, "w", encoding="utf-8") as file:
+            file.write("COMMENT ON TYPE s2union IS 'a later version';\n")
+        said = psql("""
+            BEGIN; ALTER EXTENSION s2union UPDATE TO '0.2.1';
+            SELECT extversion, obj_description('s2union'::regtype, 'pg_type')
+                FROM pg_extension WHERE extname = 's2union';
+            ROLLBACK; DROP EXTENSION IF EXISTS s2union CASCADE; CREATE EXTENSION s2union;
+            SELECT '1'::s2union @> '04'::s2union;
+        """.replace("BEGIN;", "SET client_min_messages = error; BEGIN;"))
+        os.remove(script)
+        self.assertEqual(said, ["0.2.1|a later version", "t"])
+
+    def test_the_owner_of_a_database_may_create_the_extension(self):
+        psql("DROP DATABASE IF EXISTS owned; ")
+        psql("SET client_min_messages = error; DROP ROLE IF EXISTS owner, guest; CREATE ROLE owner; CREATE ROLE guest;")
+        psql("CREATE DATABASE owned OWNER owner;")
+        with self.assertRaisesRegex(AssertionError, "permission denied"):
+            psql("SET ROLE guest; CREATE EXTENSION s2union;", "owned")
+        said = psql("""SET ROLE owner; CREATE EXTENSION s2union; CREATE TABLE t AS SELECT '04'::s2union AS u; ANALYZE t;
+                    SELECT u FROM t WHERE u && '1'; DROP EXTENSION s2union CASCADE;""", "owned")
+        self.assertEqual(said, ["04"])
+        psql("DROP DATABASE owned; ")
+        psql("DROP ROLE owner, guest; ")
+
+    def test_everything_has_a_comment(self):
+        said = psql("""
+            SELECT pg_describe_object(d.classid, d.objid, 0) FROM pg_depend d
+            JOIN pg_extension e ON e.oid = d.refobjid AND e.extname = 's2union'
+            WHERE d.deptype = 'e' AND d.classid IN ('pg_proc'::regclass, 'pg_operator'::regclass, 'pg_type'::regclass)
+                AND NOT EXISTS (SELECT FROM pg_description c WHERE (c.classoid, c.objoid) = (d.classid, d.objid))
+                AND pg_describe_object(d.classid, d.objid, 0) <> 'type s2union[]';
+        """)
+        self.assertEqual(said, [])
+
+
+class Exclusion(Tests):
+    def test_no_two_regions_overlap(self):
+        psql("""
+            SET client_min_messages = error;
+            DROP TABLE IF EXISTS zones;
+            CREATE TABLE zones(id serial, region s2union, EXCLUDE USING gist (region WITH &&));
+            CREATE OR REPLACE FUNCTION put(s2union) RETURNS boolean LANGUAGE plpgsql AS $$
+            BEGIN
+                INSERT INTO zones(region) VALUES ($1);
+                RETURN true;
+            EXCEPTION WHEN exclusion_violation THEN
+                RETURN false;
+            END $$;
+        """)
+        first = [model.identifier(20, 10**9 * k + 5 * k * k) for k in range(400)] # more than a page of the index has
+        psql("".join(f"INSERT INTO zones(region) VALUES ({u([cell])});\n" for cell in self.random.sample(first, 400)))
+        taken, regions = model.runs(first), [first]
+        for _ in range(max(ROUNDS, 300)):
+            near = self.random.choice(regions) if self.random.random() < 0.4 else ()
+            regions.append(self.random.cells(30, near=near, low=5))
+        said = psql("".join(f"SELECT put({u(xs)});\n" for xs in regions[1:]))
+        for xs, answer in zip(regions[1:], said):
+            free = not model.common(model.runs(xs), taken)
+            self.assertEqual(answer, "t" if free else "f")
+            if free:
+                taken = model.joined(taken + model.runs(xs))
+        self.assertGreater(min(said.count("f"), said.count("t")), 0)
+
+
+class Guarded(Tests):
+    """On the build of guarded.c. That file says what the build refuses and counts."""
+
+    @classmethod
+    def setUpClass(cls):
+        super().setUpClass()
+        psql(STATE + """
+            SET client_min_messages = error;
+            CREATE OR REPLACE FUNCTION s2_refuse(bigint) RETURNS bigint LANGUAGE C AS '$libdir/s2union';
+            CREATE OR REPLACE FUNCTION s2_left() RETURNS integer LANGUAGE C AS '$libdir/s2union';
+            CREATE OR REPLACE FUNCTION s2_limit(bigint) RETURNS void LANGUAGE C AS '$libdir/s2union';
+            CREATE OR REPLACE FUNCTION s2_keys(s2union, integer) RETURNS text LANGUAGE C AS '$libdir/s2union';
+            CREATE OR REPLACE FUNCTION s2_keys(bigint, integer) RETURNS text LANGUAGE C AS '$libdir/s2union';
+            CREATE OR REPLACE FUNCTION s2_keys_found(integer, text, boolean) RETURNS text LANGUAGE C
+                AS '$libdir/s2union';
+            DROP TABLE IF EXISTS parts;
+            CREATE TABLE parts(id int, part s2union);
+            INSERT INTO parts VALUES (1, '04 0c'), (2, '1c'), (3, NULL), (4, ''),
+                (5, '1'::s2union - '0000000000000001'), (6, s2_outer(0, 5, 400000, 7, 400000, 20)),
+                (7, s2_inner(0, 5, 400000, 7, 400000, 20));
+            CREATE OR REPLACE FUNCTION indexed(method text) RETURNS bigint LANGUAGE plpgsql AS $$
+            DECLARE found bigint;
+            BEGIN
+                EXECUTE format('CREATE INDEX parts_index ON parts USING %I (part)', method);
+                EXECUTE 'SELECT count(*) FROM parts WHERE part '
+                    || CASE WHEN method LIKE 'gi%' THEN '&& $t$041 1c4$t$' ELSE '= $t$04 0c$t$' END INTO found;
+                DROP INDEX parts_index;
+                RETURN found;
+            END $$;
+            CREATE OR REPLACE FUNCTION refused_in_turn(query text,
+                OUT allocations bigint, OUT errors int, OUT wrong text)
+            LANGUAGE plpgsql AS $$
+            DECLARE answer text; said text;
+            BEGIN
+                errors := 0;
+                answer := try(query);
+                PERFORM s2_refuse(0);
+                said := try(query);
+                allocations := s2_refuse(0);
+                FOR n IN 1 .. allocations LOOP
+                    PERFORM s2_refuse(n);
+                    said := try(query);
+                    PERFORM s2_refuse(0);
+                    IF said LIKE 'error: %out of memory' THEN errors := errors + 1;
+                    ELSIF said IS DISTINCT FROM answer THEN wrong := format('%s: %s', n, said);
+                    END IF;
+                    IF try(query) IS DISTINCT FROM answer THEN wrong := format('after %s', n); END IF;
+                END LOOP;
+            END $$;
+        """)
+
+    def test_each_allocation_refused_in_turn(self):
+        over_parts = (
+            "part | '3'", "part & '0c 14'", "'1'::s2union - part", "part # '0c 14'", "part::bytea",
+            "part::bytea::s2union",
+            "s2_tokens(part)", "s2_cells(part, 20)", "part::bigint[]::s2union", "s2_cell('0401') <@ part",
+            "part && s2_cell('0401')", "s2_cell('0401') && part",
+            "s2_cells(part)", "s2_ancestors(part)", "s2_outer(part, 3)", "s2_inner(part, 3)", "part @> '04'",
+            "'1'::s2union <@ part",
+            "part && '1c'", "part @> s2_cell('0401')", "part < '1'", "s2union_cmp(part, '04 0c')", "s2union_hash(part)",
+            "s2union_hash_extended(part, 3)", "s2_count(part) + s2_leaves(part)", "part",
+        )
+        queries = [f"SELECT string_agg(({sql})::text, ';' ORDER BY id) FROM parts" for sql in over_parts] + [
+            "SELECT s2_union_agg(part) FROM parts",
+            "SELECT array_agg(u) FROM (SELECT s2_union_agg(part) AS u FROM parts GROUP BY id % 2 ORDER BY 1) g",
+            "SELECT s2_outer(0, 5, 9000, 7, 9000, 24)", "SELECT '1 04 3'::s2union",
+            "SELECT s2_inner(0, 5, 9000, 7, 9000, 24)", "SELECT s2_range(s2_cell('0000000000000001'), s2_cell('3'))",
+            "SELECT s2_token(s2_parent(s2_cell('1c'), 0)), s2_cell('04')::s2union", "SELECT indexed('gin')",
+            "SELECT s2_union_agg(c) FROM parts, unnest(s2_cells(part)) AS c",
+            "SELECT s2_intersection_agg(part) FROM parts WHERE id > 4", "SELECT indexed('gist')",
+            "SELECT indexed('btree')", "SELECT indexed('hash')", "SELECT s2_union_agg(part) FROM parts p, parts q",
+        ]
+        script = """SET parallel_setup_cost = 0; SET parallel_tuple_cost = 0; SET min_parallel_table_scan_size = 0;
+            SET max_parallel_workers = 0; SET enable_seqscan = off; SET client_min_messages = error;
+            ANALYZE parts; ALTER TABLE parts SET (parallel_workers = 1);\n"""
+        script += "".join(f"SELECT (refused_in_turn($q${query}$q$)).*;\n" for query in queries)
+        said = [line.split("|", 2) for line in psql(script)]
+        self.assertEqual(len(said), len(queries))
+        for query, (allocations, errors, wrong) in zip(queries, said):
+            self.assertEqual(wrong, "", query)
+            self.assertEqual(int(errors) > 0, int(allocations) > 0, query)
+        self.assertGreater(sum(int(errors) for _, errors, _ in said), 150)
+
+    def test_what_a_call_leaves(self):
+        """Blocks that are still there when a call ends: the result, and what the end of the statement frees. A sort or
+        an index calls the order and the hash many times before that, and a join the questions, so these must leave
+        nothing, except what is kept for the next call: a block for both arguments, and one for each that is large."""
+        large = "SELECT {} FROM parts x, parts y WHERE x.id = 6 AND y.id = 7"
+        calls = [(large.format(f"x.part {name} y.part"), 0) for name in ("=", "<>", "<", "<=", ">", ">=")]
+        calls += [(large.format(f"x.part {name} y.part"), 3) for name in ("@>", "<@", "&&")]
+        calls += [
+            (large.format("x.part @> s2_cell('04')"), 2), (large.format("s2_cell('04') <@ x.part"), 2),
+            (large.format("x.part && s2_cell('04')"), 2), (large.format("s2_cell('04') && x.part"), 2),
+            (large.format("x.part @> '04'"), 2), ("SELECT pg_column_size('04'::s2union # '14')", 2),
+            (large.format("'04' <@ x.part"), 2),
+            (large.format("s2union_cmp(x.part, y.part)"), 0), (large.format("s2union_hash(x.part)"), 0),
+            (large.format("s2union_hash_extended(x.part, 1)"), 0), (large.format("s2_count(x.part)"), 1),
+            ("SELECT pg_column_size('1'::s2union - '0000000000000001')", 2),
+            ("SELECT pg_column_size('04'::s2union | '14')", 2), ("SELECT pg_column_size(s2_range(1, 3000000001))", 1),
+            ("SELECT pg_column_size(s2_outer(0, 5, 90000, 7, 90000, 20))", 1),
+            ("SELECT cardinality(s2_ancestors(part)) FROM parts WHERE id = 6", 3),
+        ]
+        said = psql("".join(f"{query};\nSELECT s2_left();\n" for query, _ in calls))
+        self.assertEqual([(query, int(left)) for (query, _), left in zip(calls, said[1::2])], calls)
+
+    def test_what_is_kept_does_not_grow(self):
+        """Values that come again, that change in each row, and that change in every other row."""
+        others = ("y.part", "CASE WHEN k % 2 < 1 THEN y.part ELSE x.part END",
+                  "CASE WHEN k % 4 < 2 THEN y.part ELSE x.part END")
+        calls = [call.format(f"CASE WHEN k > 0 THEN {other} END") for other in others
+                 for call in ("x.part && {}", "x.part @> {}", "s2_intersects({}, s2_cell('04'))", "x.part & {}")]
+        said = psql("".join(f"""
+            SELECT max(used) - min(used) FROM (
+                SELECT CASE WHEN k IN (20, 3000) THEN (SELECT sum((m).used_bytes) FROM (
+                    SELECT pg_get_backend_memory_contexts() AS m WHERE k > 0) n) END AS used
+                FROM generate_series(1, 3000) AS k, parts x, parts y
+                WHERE x.id = 6 AND y.id = 7 AND {call} IS NOT NULL
+            ) u;
+        """ for call in calls))
+        for call, grown in zip(calls, said, strict=True):
+            self.assertLess(int(grown), 100000, call)
+
+    def test_limits_of_a_value(self):
+        """Ten cells, or 87 bytes of text: 1 GB is more than a test should take."""
+        limit = "DO $$ BEGIN PERFORM s2_limit(88); END $$;"
+        cells = [model.identifier(2, 5 * k) for k in range(11)]
+        leaves = [model.identifier(30, 5 * k) for k in range(6)]
+        ten, eleven, six = u(cells[:10]), u(cells), u(leaves)
+        two, three = [model.identifier(2, 95)], [model.identifier(4, 1535)] # cells with tokens of 2 and 3 letters
+        self.all_are([
+            (f"s2_count({ten})", "10"), (f"{ten}", tokens(cells[:10])), (f"s2_count('{' ' * 200}{ten[1:]})", "10"),
+            (f"{u(leaves[:5])}", tokens(leaves[:5])), (f"s2_count({six})", "6"),
+            (f"{u(leaves[:5] + two)}", tokens(leaves[:5] + two)), (f"length(({u(leaves[:5] + two)})::text)", "87"),
+            (f"state_of($s$SELECT ({u(leaves[:5] + three)})::text$s$)", "54000"),
+            (f"state_of($s$SELECT s2_tokens({u(leaves[:5] + three)})$s$)", "54000"),
+            (f"length(({u(cells[:9])})::bytea)", "81"), (f"state_of($s$SELECT ({ten})::bytea$s$)", "54000"),
+            (f"cardinality(s2_cells({u(cells[:8])}))", "8"),
+            (f"state_of($s$SELECT s2_cells({u(cells[:9])})$s$)", "54000"),
+            (eleven, "error: s2union: too many cells"), (six, "error: s2union: too many cells"),
+            (f"state_of($s$SELECT {eleven}$s$)", "54000"), (f"state_of($s$SELECT ({six})::text$s$)", "54000"),
+            ("state_of($s$SELECT '1 X'::s2union$s$)", "22P02"),
+        ], limit)
+
+    def test_keys_of_a_question(self):
+        """How many keys, how many of them ranges, how many with something that isn't compared, the mode of the search,
+        and whether a row in which a key is found matches."""
+        self.all_are([(f"s2_keys({asked})", answer) for asked, answer in (
+            ("''::s2union, 1", "0 0 0 0 t"), ("''::s2union, 2", "0 0 0 2 t"), ("''::s2union, 3", "0 0 0 1 f"),
+            ("'04 1c'::s2union, 1", "3 2 3 0 t"), ("'04 1c'::s2union, 2", "2 0 2 0 f"),
+            ("'04'::s2union, 2", "2 0 2 0 t"), ("'04 1c'::s2union, 3", "2 2 2 1 f"),
+            ("'1 3 5'::s2union, 1", "3 3 3 0 t"), ("'1'::s2union, 2", "1 0 1 0 t"),
+            ("s2_cell('04'), 4", "2 0 2 0 t"), ("s2_cell('04'), 5", "2 1 2 0 t"), ("s2_cell('1'), 4", "1 0 1 0 t"),
+            ("s2_cell('0000000000000001'), 4", "31 0 31 0 t"), ("s2_cell('0000000000000001'), 5", "31 1 31 0 t"),
+            ("s2_cells('1', 3)::s2union - '04', 1", "4 3 4 0 t"),
+        )])
+
+    def test_a_question_has_at_most_256_keys(self):
+        """Those of its outer covering at the finest level at which they are so few. The questions are n leaves of two
+        diagonals, close together or far apart."""
+        leaves = "SELECT s2_union_agg(s2_leaf(k % 2, {0} * k, {0} * k)) FROM generate_series(1, {1}) AS k"
+        rows = [leaves.format(apart, n) for apart in (1, 3, 1000, 100000) for n in (5, 9, 10, 50, 200, 256, 257, 2000)]
+        pairs = []
+        for row, said in zip(rows, psql("".join(f"SELECT array_to_string(s2_cells(({row})), ' ');\n" for row in rows))):
+            cells = [int(cell) % 2**64 for cell in said.split()]
+            pairs += [(f"s2_keys(({row}), {strategy})", self.keys(cells, strategy)) for strategy in (1, 3)]
+        self.all_are(pairs)
+
+    def keys(self, cells, strategy):
+        x, said = model.runs(cells), ""
+        for level in range(31):
+            covering = model.normal(model.around(x, level))
+            keys = model.ancestors(covering) if strategy == 1 else covering
+            if len(keys) > 256:
+                break
+            exact = boolean(strategy == 1 and covering == cells)[0]
+            said = f"{len(keys)} {len(covering)} {len(keys)} {int(strategy == 3)} {exact}"
+        return said
+
+    def test_keys_that_are_found(self):
+        self.all_are([(f"s2_keys_found({asked})", answer) for asked, answer in (
+            ("1, 'ffffff', true", "f"), ("1, 'fffmff', true", "m"), ("1, 'mmmmmm', true", "m"),
+            ("1, 'fffftf', true", "t"), ("1, 't', true", "t"), ("1, 'f', true", "f"), ("1, 't', false", "m"),
+            ("1, 'ft', false", "m"),
+            ("2, 'ft', false", "m"), ("2, 'ft', true", "t"), ("2, 'ff', false", "f"), ("2, 'mf', true", "m"),
+            ("3, 'ff', false", "m"), ("3, 't', true", "m"), ("4, 'ft', true", "t"), ("5, 'ff', true", "f"),
+        )])
+
+
+class MemoryLimits(Tests):
+    """A session that gets less and less memory from the system: it answers or reports an error, and goes on."""
+
+    def said(self, query, extra):
+        command = ["psql", "-XAqt", "-d", DATABASE]
+        with subprocess.Popen(command, stdin=subprocess.PIPE, stdout=subprocess.PIPE, stderr=subprocess.STDOUT,
+                              text=True) as session:
+            print("SET max_parallel_workers_per_gather = 0;",
+                  "SELECT pg_backend_pid() FROM large WHERE region @> '04' OR true;", file=session.stdin, flush=True)
+            pid = int(session.stdout.readline())
+            with open(f"/proc/{pid}/status", encoding="utf-8") as status:
+                size = next(int(line.split()[1]) * 1024 for line in status if line.startswith("VmSize"))
+            subprocess.run([*AS_POSTGRES, "prlimit", f"--pid={pid}", f"--as={size + extra}"], check=True)
+            output, _ = session.communicate(f"{query};\nSELECT 'goes on';\n")
+        return output.splitlines()
+
+    def test_limits_in_steps(self):
+        psql("""
+            SET client_min_messages = error;
+            DROP TABLE IF EXISTS large;
+            CREATE TABLE large AS SELECT s2_union_agg(s2_leaf(0, 2 * (k % 600), 2 * (k / 600))::s2union) AS region
+            FROM generate_series(0, 199999) AS k;
+        """)
+        many = "generate_series(0, 99999) AS k"
+        queries = (
+            f"SELECT s2_count(s2_union_agg(s2_leaf(1, 2 * (k % 600), k / 600)::s2union)) FROM {many}",
+            "SELECT s2_count(region | '1') FROM large",
+            "SELECT md5((s2_range(5, 4294967297) - region)::text) FROM large",
+            "SELECT cardinality(s2_ancestors(region)) FROM large", "SELECT s2_count(region::bytea::s2union) FROM large",
+            "SELECT s2_count(s2_outer(region, 29)), s2union_hash(region) FROM large",
+        )
+        for query in queries:
+            wanted = psql(query)
+            refused = answered = 0
+            for extra in [2**20 * n for n in (1, 2, 3, 4, 6, 8, 12, 16, 24, 32, 64)]:
+                said = self.said(query, extra)
+                self.assertEqual(said[-1], "goes on", (query, extra, said))
+                if said[:-1] == wanted:
+                    answered += 1
+                else:
+                    self.assertIn("out of memory", said[0], (query, extra))
+                    refused += 1
+            self.assertTrue(refused and answered, (query, refused, answered))
+
+
+class Servers(unittest.TestCase):
+    """After docs/SCALE.md has run."""
+
+    def test_questions_over_two_servers(self):
+        said = psql("""
+            CREATE TABLE whole AS SELECT * FROM regions;
+            SELECT count(*), count(*) FILTER (WHERE here.ids IS DISTINCT FROM there.ids), count(here.ids) > 50
+            FROM generate_series(1, 200) AS k,
+                LATERAL (SELECT s2_outer(k % 6, k * 9000, k * 9000 + 300000, k * 20000, k * 20000 + 9000, 15) AS q) a,
+                LATERAL (SELECT array_agg(id ORDER BY id) AS ids FROM regions WHERE region && q) AS here,
+                LATERAL (SELECT array_agg(id ORDER BY id) AS ids FROM whole WHERE region && q) AS there;
+            SELECT (SELECT s2_union_agg(region) FROM regions) = (SELECT s2_union_agg(region) FROM whole);
+        """, "scale")
+        self.assertEqual(said, ["200|0|t", "t"])
+
+
+if __name__ == "__main__":
+    unittest.main()

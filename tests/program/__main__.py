@@ -1,0 +1,38 @@
+#!/usr/bin/env python3
+"""The built program as a process: worked scripts, refused lines, coverings, both file formats byte by byte, statuses,
+standard error, pictures, sessions, streams that fail, files that may not be touched, a terminal, and what the pages
+show. The tests are in tests/program/.
+
+tests/run program -- [PROGRAM [TEST..]]; without PROGRAM it is the one that the gate or tools/prove has built. A TEST is a
+part of a test's name. The last line is 'N passed, M failed'.
+"""
+import os
+import sys
+import unittest
+
+TOP = os.path.dirname(os.path.dirname(os.path.dirname(os.path.realpath(__file__))))
+FOLDER = os.path.join(TOP, "tests", "program")
+
+
+class Result(unittest.TextTestResult):
+    passed = 0
+
+    def addSuccess(self, test):
+        super().addSuccess(test)
+        self.passed += 1
+
+
+def main():
+    if len(sys.argv) > 1:
+        os.environ["S2CALC"] = os.path.realpath(sys.argv[1])
+    sys.path += [FOLDER, os.path.join(TOP, "tests", "peer")]
+    loader = unittest.TestLoader()
+    loader.testNamePatterns = [f"*{name}*" for name in sys.argv[2:]] or None
+    tests = loader.discover(FOLDER, "[a-z]*.py")
+    result = unittest.TextTestRunner(stream=sys.stdout, resultclass=Result).run(tests)
+    print(f"{result.passed} passed, {len(result.failures) + len(result.errors)} failed", flush=True)
+    return not result.wasSuccessful() or not result.passed
+
+
+if __name__ == "__main__":
+    sys.exit(main())

@@ -1,0 +1,872 @@
+"""Every call of the library, through the Python module, against the plain model; and the module itself."""
+
+import copy
+import ctypes
+import doctest
+import gc
+import importlib.util
+import inspect
+import mmap
+import operator as operators
+import os
+import pickle
+import shutil
+import subprocess
+import sys
+import tempfile
+import unittest
+from array import array
+from pathlib import Path
+from types import SimpleNamespace
+from unittest import mock
+
+import model
+import s2union
+from random_cells import FACE, Random
+from s2union import Union, UnionFile
+
+try:
+    import numpy
+except ImportError:
+    numpy = None
+try:
+    import pandas
+except ImportError:
+    pandas = None
+
+
+def loaded(name, path):
+    """The module in this file, under another name than the file's."""
+    spec = importlib.util.spec_from_file_location(name, path)
+    module = importlib.util.module_from_spec(spec)
+    spec.loader.exec_module(module)
+    return module
+
+
+peer_model = loaded("peer_model", Path(__file__).resolve().parents[1] / "peer" / "model.py")
+
+
+class AgainstTheModel(unittest.TestCase):
+    def setUp(self):
+        self.random = Random(20261122)
+
+    def test_cells(self):
+        for _ in range(5000):
+            number = self.random.number()
+            cell = model.cell(number)
+            self.assertEqual(s2union.is_cell(number), cell is not None)
+            if cell is None:
+                for name in "level face range_min range_max size token debug square next_cell".split():
+                    self.assertRaises(ValueError, getattr(s2union, name), number)
+                continue
+            level, place = cell
+            first, end = model.run(number)
+            self.assertEqual((s2union.level(number), s2union.face(number)), (level, place // 4**level))
+            self.assertEqual((s2union.range_min(number), s2union.range_max(number)), (2 * first + 1, 2 * end - 1))
+            self.assertEqual(s2union.size(number), end - first)
+            for above in range(level + 1):
+                self.assertEqual(s2union.parent(number, above), model.identifier(above, place // 4 ** (level - above)))
+            for k in range(4 if level < 30 else 0):
+                self.assertEqual(s2union.child(number, k), model.identifier(level + 1, 4 * place + k))
+            after = model.identifier(level, place + 1) if place + 1 < 6 * 4**level else None
+            before = model.identifier(level, place - 1) if place else None
+            self.assertEqual((s2union.next_cell(number), s2union.previous_cell(number)), (after, before))
+            self.assertEqual((s2union.token(number), s2union.debug(number)), (model.token(number), model.debug(number)))
+            self.assertEqual(s2union.from_token(model.token(number).upper()), number)
+            self.assertEqual(s2union.from_debug(model.debug(number)), number)
+            face, i, j, side = s2union.square(number)
+            leaf = s2union.from_face_ij(face, self.random.randrange(i, i + side), self.random.randrange(j, j + side))
+            self.assertTrue(first <= leaf // 2 < end)
+
+    def test_two_cells(self):
+        for _ in range(5000):
+            a = self.random.cell()
+            b = self.random.near(a)
+            (a0, a1), (b0, b1) = model.run(a), model.run(b)
+            self.assertEqual(s2union.contains(a, b), a0 <= b0 and b1 <= a1)
+            self.assertEqual(s2union.intersects(a, b), max(a0, b0) < min(a1, b1))
+            both = [k for k in range(31) if len({leaf // 4 ** (30 - k) for leaf in (a0, a1 - 1, b0, b1 - 1)}) == 1]
+            want = model.identifier(both[-1], a0 // 4 ** (30 - both[-1])) if both else None
+            self.assertEqual(s2union.common_ancestor(a, b), want)
+
+    def test_squares_and_places(self):
+        """The model of the calculator follows the curve digit by digit, the library four levels at a time."""
+        last = 2**30 - 1
+        corners = [s2union.from_face_ij(face, i, j) for face in range(6) for i in (0, last) for j in (0, last)]
+        leaves = [self.random.cell(30) for _ in range(10000)]
+        cells = corners + leaves + [self.random.cell() for _ in range(10000)]
+        cells += [s2union.parent(corner, level) for corner in corners for level in range(30)]
+        for number in cells:
+            face, i, j, side = square = s2union.square(number)
+            self.assertEqual(square, peer_model.square(model.cell(number)))
+            for x, y in ((i, j), (i + self.random.randrange(side), j + self.random.randrange(side))):
+                leaf = s2union.from_face_ij(face, x, y)
+                self.assertEqual(leaf, peer_model.identifier(peer_model.leaf_at(face, x, y)))
+                self.assertEqual(s2union.square(leaf), (face, x, y, 1))
+
+    def test_texts_that_name_no_cell(self):
+        for text in ("", "X", "c", "2", "0", "0" * 17, "1" + "0" * 15 + "1", "1 ", "0x1", "g", "0/4", "6/", "/",
+                     "0/" + "0" * 31, "\ud800", "é"):
+            self.assertRaises(ValueError, s2union.from_token, text)
+        for text in ("", "0", "/", "0/4", "0/a", "00/", "6/", "0-1", "0/" + "0" * 31):
+            self.assertRaises(ValueError, s2union.from_debug, text)
+        for number in (0, 0x2000000000000000, 0xd000000000000000):
+            self.assertFalse(s2union.is_cell(number))
+
+    def test_lists_as_texts(self):
+        for _ in range(1500):
+            cells = self.random.cells()
+            a = Union(cells)
+            self.assertEqual(a.tokens(), [model.token(cell) for cell in model.normal(model.runs(cells))])
+            text = "".join(self.random.choice((model.token, model.debug, lambda cell: model.token(cell).upper()))(cell)
+                           + self.random.choice((" ", ",", "\t", "\n", "\r\n", ", ")) for cell in cells)
+            self.assertEqual(Union.from_tokens(text), a)
+            self.assertEqual(Union.from_tokens((" " + text.replace(" ", ",")).encode()), a)
+            wrong = self.random.choice(("x", "0c;", "2", "0/4", "6/", "\0", "0" * 17, "é"))
+            with self.assertRaisesRegex(ValueError, f"not a cell: .* at place {len(text)}$"):
+                Union.from_tokens(text + wrong + self.random.choice(("", " 04", ",y")))
+        self.assertEqual((Union.from_tokens(""), Union().tokens()), (Union(), []))
+        many = Union([self.random.cell(20, 30) for _ in range(20000)])
+        self.assertEqual(Union.from_tokens(" ".join(many.tokens())), many)
+
+    def test_sets(self):
+        for _ in range(3000):
+            xs, ys = self.random.cells(), self.random.cells()
+            if self.random.random() < 0.7 and xs:
+                ys = [self.random.near(self.random.choice(xs)) for _ in range(self.random.randrange(9))]
+            a, b = Union(xs), Union(ys)
+            x, y = model.runs(xs), model.runs(ys)
+            self.assertEqual(list(a), model.normal(x))
+            self.assertEqual(list(a | b), model.normal(x + y))
+            self.assertEqual(list(a & b), model.normal(model.common(x, y)))
+            self.assertEqual(list(a - b), model.normal(model.common(x, model.rest(y))))
+            self.assertEqual(list(a ^ b), list((a | b) - (a & b)))
+            self.assertEqual(a >= b, not model.common(y, model.rest(x)))
+            self.assertEqual(a.intersects(b), bool(model.common(x, y)))
+            self.assertEqual(a.isdisjoint(b), not model.common(x, y))
+            self.assertEqual((a == b, hash(a) == hash(b) or a != b), (x == y, True))
+            self.assertEqual((a < b, a > b, a <= b), (b >= a and a != b, a >= b and a != b, b >= a))
+            self.assertEqual(a.leaf_count(), model.count(x))
+            for cell in (self.random.cell(), self.random.near(self.random.choice(xs or [FACE]))):
+                one = [model.run(cell)]
+                self.assertEqual(cell in a, not model.common(one, model.rest(x)))
+                self.assertEqual(a.intersects_cell(cell), bool(model.common(one, x)))
+                self.assertEqual(list(a.contains_cells([cell, cell])), 2 * [cell in a])
+                self.assertEqual(list(a.intersects_cells([cell])), [a.intersects_cell(cell)])
+                self.assertEqual(a.cells_at(cell), [c for c in a if model.common(one, [model.run(c)])])
+
+    def test_ranges_and_cuts(self):
+        for _ in range(1500):
+            first, last = self.random.cell(), self.random.cell()
+            if self.random.random() < 0.5:
+                last = self.random.near(first)
+            a, b = model.run(first)[0], model.run(last)[1]
+            if a < b:
+                self.assertEqual(list(Union.from_range(first, last)), model.normal([(a, b)]))
+            else:
+                self.assertRaises(ValueError, Union.from_range, first, last)
+            xs = Union(self.random.cells())
+            least = min([model.cell(c)[0] for c in xs] + [27]) + self.random.randrange(4)
+            modulus = self.random.randint(1, 3)
+            cells = [c for c in xs if model.cell(c)[0] > least - 5]
+            self.assertEqual(Union(cells).denormalised(least, modulus), model.cut(Union(cells), least, modulus))
+        self.assertRaises(ValueError, Union([FACE]).denormalised, 30, 1, most=1000)
+
+    def test_coverings(self):
+        for _ in range(400):
+            xs = Union(self.random.cells(6))
+            level = self.random.randint(0, 30)
+            runs = model.runs(xs)
+            for made, want in ((xs.outer, model.around), (xs.inner, model.within)):
+                self.assertEqual(list(made(level)), model.normal(want(runs, level)))
+            side = 2 ** self.random.randint(0, 5)
+            i, j = self.random.randrange(2**30 - side), self.random.randrange(2**30 - side)
+            face = self.random.randrange(6)
+            leaves = [(s2union.from_face_ij(face, i + k % side, j + k // side) // 2,) for k in range(side * side)]
+            square = model.joined([(leaf, leaf + 1) for leaf, in leaves])
+            level = self.random.randint(20, 30)
+            place = (face, i, i + side - 1, j, j + side - 1, level)
+            self.assertEqual(list(Union.covering(*place)), model.normal(model.around(square, level)))
+            self.assertEqual(list(Union.covering(*place, inner=True)), model.normal(model.within(square, level)))
+        self.assertRaises(ValueError, Union.covering, 0, 0, 2**30 - 1, 3, 3, 30, most=1000)
+        # Too many cells, answered as out of memory, would be proved: every contract allows that.
+        self.assertRaises(ValueError, Union.covering, 0, 0, 2**30 - 1, 3, 3, 30, inner=True, most=1000)
+        self.assertRaises(ValueError, Union([FACE, 5 * FACE]).outer, 3, most=1)
+        self.assertRaises(ValueError, Union([FACE, 5 * FACE]).inner, 3, most=1)
+        self.assertRaises(ValueError, Union.covering, 0, 5, 4, 0, 0, 30)
+
+    def test_ancestors(self):
+        for _ in range(1500):
+            xs, ys = self.random.cells(), self.random.cells()
+            if self.random.random() < 0.7 and xs:
+                ys = [self.random.near(self.random.choice(xs)) for _ in range(self.random.randrange(9))]
+            a, b = Union(xs), Union(ys)
+            self.assertEqual(a.ancestors(), model.ancestors(a))
+            self.assertEqual(UnionFile(a.to_bytes()).ancestors(), a.ancestors())
+            found = bool(set(a) & set(b.ancestors()) or set(b) & set(a.ancestors()))
+            self.assertEqual(a.intersects(b), found)
+        many = Union([self.random.cell(20, 30) for _ in range(20000)])
+        self.assertEqual(many.ancestors(), model.ancestors(many))
+        for wrong in ([3 * FACE, FACE], [2], [FACE, FACE + 1]):  # no union: the list means nothing, and is not too long
+            self.assertRaises(ValueError, UnionFile, model.file(wrong))
+            self.assertLessEqual(len(UnionFile(model.file(wrong), checked=True).ancestors()), 31 * len(wrong))
+
+    def test_files(self):
+        for _ in range(1500):
+            cells = self.random.cells()
+            a = Union(cells)
+            data = model.file(model.normal(model.runs(cells)))
+            self.assertEqual(a.to_bytes(), data)
+            self.assertEqual(Union.from_bytes(data), a)
+            self.assertEqual(Union.from_bytes(model.file(cells)), a)
+            shift = self.random.randrange(8)
+            file = UnionFile(memoryview(bytes(shift) + data)[shift:])
+            self.assertEqual((len(file), file.leaf_count()), (len(a), a.leaf_count()))
+            self.assertEqual([file[k] for k in range(len(file))], list(a))
+            self.assertEqual(file.union(), a)
+            other = UnionFile(Union(self.random.cells() + cells[:1]).to_bytes())
+            self.assertEqual(file.contains(other), a >= other.union())
+            self.assertEqual(file.intersects(other), a.intersects(other.union()))
+            for cell in (self.random.cell(), self.random.near(cells[0] if cells else FACE)):
+                self.assertEqual(cell in file, cell in a)
+                self.assertEqual(file.intersects_cell(cell), a.intersects_cell(cell))
+            place = self.random.randrange(len(data))
+            other_version = bytes([self.random.randint(2, 255)]) + data[1:]
+            for wrong in (data[:place], data + b"\0", other_version, data[:1] + b"\xff" * 8 + data[9:]):
+                self.assertRaises(ValueError, Union.from_bytes, wrong)
+                self.assertRaises(ValueError, UnionFile, wrong)
+        self.assertRaises(ValueError, UnionFile, model.file([FACE + 2 * FACE, FACE]))
+        self.assertRaises(ValueError, Union.from_bytes, model.file([2]))
+
+    def test_more_than_a_million_cells(self):
+        step = 2 ** (2 * (30 - 12) + 1)
+        ids = array("Q", (k * step + step // 2 for k in range(1_400_000) if k % 4 != 3))
+        a = Union(ids)
+        self.assertEqual(len(a), len(ids))
+        self.assertEqual(Union.from_bytes(a.to_bytes()), a)
+
+
+cell_of, union_of = s2union.from_token, Union.from_tokens
+LAST = 2**30 - 1
+LEAF = "0000000000000001"
+FIRST_FOUR = "0000000000000004"  # the parent of the first four leaves of face 0
+FIRST_AND_LAST = FIRST_FOUR + " 000000000000001c"  # and the last of its siblings
+
+
+class WorkedExamples(unittest.TestCase):
+    """Rows with S2's answers for cells, and rows of unions. Sets are named by their tokens."""
+
+    def test_texts_and_leaves_of_cells(self):
+        for token, debug, level, face, first, last in (
+            ("1", "0/", 0, 0, 0, 1152921504606846975),
+            ("3", "1/", 0, 1, 1152921504606846976, 2305843009213693951),
+            ("5", "2/", 0, 2, 2305843009213693952, 3458764513820540927),
+            ("7", "3/", 0, 3, 3458764513820540928, 4611686018427387903),
+            ("9", "4/", 0, 4, 4611686018427387904, 5764607523034234879),
+            ("b", "5/", 0, 5, 5764607523034234880, 6917529027641081855),
+            ("0c", "0/1", 1, 0, 288230376151711744, 576460752303423487),
+            ("64c", "3/021", 3, 3, 3620894100405878784, 3638908498915360767),
+            ("000000000000003", "0/0000000000000000000000000001", 28, 0, 16, 31),
+            ("0000000000000003", "0/000000000000000000000000000001", 30, 0, 1, 1),
+            ("1fffffffffffffff", "0/333333333333333333333333333333", 30, 0, 1152921504606846975, 1152921504606846975),
+        ):
+            cell = cell_of(token)
+            self.assertEqual((s2union.token(cell), s2union.debug(cell)), (token, debug))
+            self.assertEqual(s2union.from_debug(debug), cell)
+            self.assertEqual((s2union.level(cell), s2union.face(cell)), (level, face))
+            self.assertEqual((s2union.range_min(cell), s2union.range_max(cell)), (2 * first + 1, 2 * last + 1))
+            self.assertEqual((s2union.size(cell), s2union.is_cell(cell)), (last - first + 1, True))
+        self.assertEqual(cell_of("0C00"), cell_of("0c"))
+
+    def test_children(self):
+        for whole, children in (("1", "04 0c 14 1c"), ("04", "01 03 05 07")):
+            cell = cell_of(whole)
+            for place, child in enumerate(map(cell_of, children.split())):
+                self.assertEqual((s2union.child(cell, place), s2union.parent(child)), (child, cell))
+                self.assertEqual((s2union.contains(cell, child), s2union.contains(child, cell)), (True, False))
+                self.assertEqual((s2union.intersects(cell, child), s2union.intersects(child, cell)), (True, True))
+                sibling = s2union.child(cell, (place + 1) % 4)
+                self.assertEqual((s2union.contains(child, sibling), s2union.intersects(child, sibling)), (False, False))
+
+    def test_next_cells(self):
+        for before, after in (("1c", "24"), ("04", "0c"), ("1", "3")):
+            self.assertEqual(s2union.next_cell(cell_of(before)), cell_of(after))
+            self.assertEqual(s2union.previous_cell(cell_of(after)), cell_of(before))
+        self.assertIsNone(s2union.next_cell(cell_of("b")))
+        self.assertIsNone(s2union.previous_cell(cell_of("1")))
+
+    def test_common_ancestors(self):
+        for one, other, ancestor in (("05", "07", "04"), ("04", "05", "04"), ("04", "0c", "1"), ("1", "3", None)):
+            one, other = cell_of(one), cell_of(other)
+            want = cell_of(ancestor) if ancestor else None
+            self.assertEqual((s2union.common_ancestor(one, other), s2union.common_ancestor(other, one)), (want, want))
+
+    def test_the_first_leaves_of_an_even_and_of_an_odd_face(self):
+        even = ((0, 0), (1, 0), (1, 1), (0, 1), (0, 2), (0, 3), (1, 3), (1, 2),
+                (2, 2), (2, 3), (3, 3), (3, 2), (3, 1), (2, 1), (2, 0), (3, 0))
+        odd = ((0, 0), (0, 1), (1, 1), (1, 0), (2, 0), (3, 0), (3, 1), (2, 1),
+               (2, 2), (3, 2), (3, 3), (2, 3), (1, 3), (1, 2), (0, 2), (0, 3))
+        for face, places in enumerate((even, odd)):
+            for number, (i, j) in enumerate(places):
+                leaf = 2 * (face * 4**30 + number) + 1
+                self.assertEqual((s2union.square(leaf), s2union.from_face_ij(face, i, j)), ((face, i, j, 1), leaf))
+        self.assertEqual(s2union.from_face_ij(0, LAST, 0), cell_of("1fffffffffffffff"))
+
+    def test_squares(self):
+        for token, square in (
+            ("04", (0, 0, 0, 536870912)),
+            ("0c", (0, 0, 536870912, 536870912)),
+            ("14", (0, 536870912, 536870912, 536870912)),
+            ("1c", (0, 536870912, 0, 536870912)),
+            ("24", (1, 0, 0, 536870912)),
+            ("2c", (1, 536870912, 0, 536870912)),
+            ("34", (1, 536870912, 536870912, 536870912)),
+            ("3c", (1, 0, 536870912, 536870912)),
+            ("1", (0, 0, 0, 1073741824)),
+            ("64c", (3, 268435456, 402653184, 134217728)),
+            ("bfffffffffffffff", (5, 0, 1073741823, 1)),
+        ):
+            self.assertEqual(s2union.square(cell_of(token)), square)
+
+    def test_siblings_merge_again_and_faces_never(self):
+        for given, normal in (
+            ("", ""),
+            ("04 0c 14 1c", "1"),
+            ("0c 14 1c 01 03 05 07", "1"),
+            ("0c 04 04", "04 0c"),
+            ("04 1 05", "1"),
+            ("0c 14 1c 24", "0c 14 1c 24"),
+            ("b 9 7 5 3 1", "1 3 5 7 9 b"),
+        ):
+            self.assertEqual(union_of(given).tokens(), normal.split())
+
+    def test_normalized_lists(self):
+        for tokens, is_normalized in (
+            ("", True),
+            ("1 3 5 7 9 b", True),
+            ("04 0c 14", True),
+            ("04 0c 14 1c", False),
+            ("0c 04", False),
+            ("04 04", False),
+            ("04 1", False),
+        ):
+            cells = [cell_of(token) for token in tokens.split()]
+            if is_normalized:
+                self.assertEqual(list(UnionFile(model.file(cells))), cells)
+            else:
+                self.assertRaises(ValueError, UnionFile, model.file(cells))
+
+    def test_sets_of_leaves(self):
+        for a, b, either, both, less in (
+            ("04 0c", "0c 14", "04 0c 14", "0c", "04"),
+            ("0c 14", "0c", "0c 14", "0c", "14"),
+            ("04 0c 14", "1c", "1", "", "04 0c 14"),
+            ("1", "04 05", "1", "04", "0c 14 1c"),
+            ("", "1", "1", "", ""),
+        ):
+            a, b = union_of(a), union_of(b)
+            self.assertEqual((a | b, a & b, a - b), (union_of(either), union_of(both), union_of(less)))
+
+    def test_a_leaf_leaves_a_face_and_returns(self):
+        face, leaf = union_of("1"), union_of(LEAF)
+        rest = face - leaf
+        self.assertEqual((len(rest), rest.leaf_count()), (90, 4**30 - 1))
+        self.assertEqual((rest | leaf, leaf | rest, rest & leaf), (face, face, Union()))
+
+    def test_six_faces_without_a_hundred_leaves(self):
+        faces = union_of("1 3 5 7 9 b")
+        leaves = Union(2 * k * 69175290276410818 + 1 for k in range(100))
+        rest = faces - leaves
+        self.assertEqual((len(leaves), rest.leaf_count()), (100, 6917529027641081756))
+        self.assertGreater(len(rest), 1000)
+        self.assertEqual(list(rest), model.normal(model.rest(model.runs(leaves))))
+
+    def test_inclusion_and_shared_leaves(self):
+        for a, b, contains, intersects in (
+            ("1", "04 0c", True, True),
+            ("04 0c", "1", False, True),
+            ("04 0c", "0c", True, True),
+            ("04 0c", "14", False, False),
+            ("04 0c 14", "1", False, True),
+            ("04 0c 14 24", "04", True, True),
+            ("04 0c 14 24", "24", True, True),
+        ):
+            a, b = union_of(a), union_of(b)
+            self.assertEqual((a >= b, a.intersects(b)), (contains, intersects))
+            if len(b) == 1:
+                self.assertEqual((b[0] in a, a.intersects_cell(b[0])), (contains, intersects))
+
+    def test_ranges_across_faces(self):
+        four = "0000000000000003 0000000000000005 0000000000000007 0000000000000009"
+        for first, last, range_, leaves in (
+            ("1", "b", "1 3 5 7 9 b", 6 * 4**30),
+            ("0000000000000003", "0000000000000009", four, 4),
+            ("1c", "24", "1c 24", 4**30 // 2),
+        ):
+            made = Union.from_range(cell_of(first), cell_of(last))
+            self.assertEqual((made.tokens(), made.leaf_count()), (range_.split(), leaves))
+
+    def test_levels_that_are_wanted(self):
+        for tokens, least, modulus, want in (
+            ("04", 0, 2, "01 03 05 07"),
+            (LEAF, 29, 3, LEAF),
+            ("1 " + LEAF, 1, 3, "04 0c 14 1c"),
+            ("", 5, 1, ""),
+        ):
+            found = union_of(tokens).denormalised(least, modulus)
+            self.assertEqual([s2union.token(cell) for cell in found], want.split())
+        face = union_of("1")
+        self.assertEqual((len(face.denormalised(9)), len(face.denormalised(10))), (4**9, 4**10))
+        with self.assertRaisesRegex(ValueError, f"too many cells: {4**30}$"):
+            face.denormalised(30, most=0)
+        self.assertEqual(len(face.denormalised(3, most=64)), 64)
+        self.assertRaisesRegex(ValueError, "too many cells: 64$", face.denormalised, 3, most=63)
+
+    def test_coverings(self):
+        for rectangle, level, inner, most, want in (
+            ((0, 0, 2, 0, 0), 29, False, 9, FIRST_AND_LAST),
+            ((0, 0, 2, 0, 0), 29, True, 9, ""),
+            ((0, 0, 1, 0, 1), 30, True, 9, FIRST_FOUR),
+            ((0, 0, LAST, 0, LAST), 1, False, 1, "1"),  # the limit is that of merged cells
+        ):
+            self.assertEqual(Union.covering(*rectangle, level, inner, most).tokens(), want.split())
+        self.assertRaises(ValueError, Union.covering, 0, 0, LAST, 0, 0, 1, most=1)
+        leaf = union_of("0000000000000003")
+        self.assertEqual((leaf.outer(29).tokens(), leaf.inner(29).tokens()), ([FIRST_FOUR], []))
+        for wrong in ((6, 0, 0, 0, 0), (0, 1, 0, 0, 0), (0, 0, 0, 3, 2), (0, 0, LAST + 1, 0, 0),
+                      (0, 0, 0, 0, LAST + 1)):
+            self.assertRaises(ValueError, Union.covering, *wrong, 30)
+
+
+class Park(Union):
+    """A subclass that is made from other things than cells."""
+
+    def __new__(cls, name, tokens):
+        return cls.from_tokens(tokens)
+
+    def __init__(self, name, tokens):
+        super().__init__(name, tokens)
+        self.__dict__["name"] = name
+
+
+class TheModule(unittest.TestCase):
+    def test_as_a_collection(self):
+        a = Union.from_tokens("04 0c 14")
+        self.assertEqual((len(a), bool(a), bool(Union())), (3, True, False))
+        self.assertEqual((a[0], a[-1]), (s2union.from_token("04"), s2union.from_token("14")))
+        self.assertEqual((a[1:], list(reversed(a))), (list(a)[1:], list(a)[::-1]))
+        self.assertRaises(IndexError, lambda: a[3])
+        self.assertEqual(repr(a), "<Union of 3 cells: 04 0c 14>")
+        tokens = [model.token(model.identifier(2, 5 * k)) for k in range(9)]
+        self.assertEqual(repr(Union.from_tokens(" ".join(tokens[:8]))), f"<Union of 8 cells: {' '.join(tokens[:8])}>")
+        shown = f"<Union of 9 cells: {' '.join(tokens[:8])} and 1 more>"
+        self.assertEqual(repr(Union.from_tokens(" ".join(tokens))), shown)
+        self.assertEqual((a.issubset(Union([FACE])), Union([FACE]).issubset(a)), (True, False))
+        self.assertEqual((a.issuperset(Union([FACE])), Union([FACE]).issuperset(a)), (False, True))
+        self.assertEqual((a.issubset(a), a.issuperset(a)), (True, True))
+        self.assertEqual({a: 1}[Union(list(a))], 1)
+        self.assertEqual(a.tokens(), ["04", "0c", "14"])
+        with self.assertRaises(AttributeError):
+            a._ids = b""
+
+    def test_texts_for_a_person(self):
+        few = Union(range(1, 4 * 8 + 1, 4))
+        self.assertEqual(repr(few), "<Union of 8 cells: " + " ".join(few.tokens()) + ">")
+        more = Union(range(1, 4 * 9 + 1, 4))
+        self.assertEqual(repr(more), "<Union of 9 cells: " + " ".join(few.tokens()) + " and 1 more>")
+        self.assertEqual(repr(Union()), "<Union of 0 cells: >")
+
+    def test_subsets_both_ways(self):
+        part, whole, other = Union.from_tokens("04"), Union.from_tokens("04 0c"), Union.from_tokens("14")
+        for a, b, is_subset in ((part, whole, True), (whole, part, False), (part, part, True), (part, other, False),
+                                (Union(), part, True), (part, Union(), False)):
+            self.assertEqual((a.issubset(b), b.issuperset(a)), (is_subset, is_subset))
+            self.assertEqual((a <= b, b >= a), (is_subset, is_subset))
+
+    def test_just_as_many_cells_as_are_allowed(self):
+        face = Union([FACE])
+        for level, count in ((1, 4), (3, 64)):
+            self.assertEqual(len(face.denormalised(level, most=count)), count)
+            self.assertEqual(len(face.denormalised(level, most=count + 1)), count)
+            with self.assertRaisesRegex(ValueError, f"too many cells: {count}$"):
+                face.denormalised(level, most=count - 1)
+        self.assertEqual(Union().denormalised(3, most=0), [])
+        for level in (30, 29, 25):
+            self.assertRaises(MemoryError, face.denormalised, level)
+
+    def test_many_unions(self):
+        faces = [Union([(2 * k + 1) * FACE]) for k in range(6)]
+        a, b, c = (Union.from_tokens(text) for text in ("04 0c", "0c 14", "04 0c 3"))
+        sphere = Union.from_range(faces[0][0], faces[5][0])
+        self.assertEqual((Union.of(faces), Union.of(iter(faces)), Union.of([])), (sphere, sphere, Union()))
+        self.assertEqual((Union.of([a, b, a]), a.union(b, c), a.union(b), a.union()), (a | b, a | b | c, a | b, a))
+        self.assertEqual((a.intersection(b, c), a.intersection(b), a.intersection()), (a & b & c, a & b, a))
+        self.assertEqual((a.difference(b, c), a.difference(b), a.difference()), (a - b - c, a - b, a))
+        self.assertEqual(a.symmetric_difference(b), a ^ b)
+        self.assertEqual(len({id(a.of([a, b])), id(a)}), 2)
+        for wrong in (None, 3, [FACE], {FACE}, "1"):
+            for call in (a.union, a.intersection, a.difference, a.symmetric_difference):
+                self.assertRaises(TypeError, call, wrong)
+            for call in (a.union, a.intersection, a.difference):
+                self.assertRaises(TypeError, call, b, wrong)
+            self.assertRaises(TypeError, Union.of, [a, wrong])
+        random = Random(20261125)
+        for _ in range(200):
+            lists = [random.cells() for _ in range(random.randrange(5))]
+            self.assertEqual(Union.of(map(Union, lists)), Union(sum(lists, [])))
+
+    def test_numbers_with_a_sign(self):
+        cells = [cell_of(text) for text in ("1", "7", "9", "b", "89c25", "bfffffffffffffff", LEAF)]
+        signed = [s2union.to_signed(cell) for cell in cells]
+        self.assertEqual([number < 0 for number in signed], [False, False, True, True, True, True, False])
+        self.assertEqual(signed, [cell - 2**64 if cell >= 2**63 else cell for cell in cells])
+        self.assertEqual([s2union.to_signed(number) for number in signed], signed)
+        a = Union(cells)
+        self.assertEqual((Union(signed), Union(array("q", signed)), Union(set(signed))), (a, a, a))
+        self.assertEqual(Union(a.ids.cast("B").cast("q")), a)
+        for cell, number in zip(cells, signed):
+            self.assertEqual((s2union.level(number), s2union.token(number)), (s2union.level(cell), s2union.token(cell)))
+            self.assertTrue(s2union.is_cell(number) and number in a and s2union.contains(number, cell))
+            self.assertEqual(s2union.range_min(number), s2union.range_min(cell))
+        for wrong in (-1, -2**63 - 1, -2**63, 2**64):
+            self.assertRaises(ValueError, s2union.level, wrong)
+            self.assertRaises(ValueError, s2union.to_signed, wrong)
+        self.assertFalse(s2union.is_cell(-1))
+
+    def test_texts_of_many_cells(self):
+        cells = [cell_of(text) for text in ("1c", "04", "04", LEAF, "b")]
+        words = ["1c", "04", "04", LEAF, "b"]
+        self.assertEqual((s2union.tokens(cells), s2union.tokens(iter(cells)), s2union.tokens([])), (words, words, []))
+        self.assertEqual(s2union.tokens(array("Q", cells)), words)
+        self.assertEqual(s2union.tokens(Union(cells)), Union(cells).tokens())
+        self.assertEqual((s2union.from_tokens("1c,04 04 " + LEAF + "\n5/"), s2union.from_tokens(words)), (cells, cells))
+        self.assertEqual((s2union.from_tokens(""), s2union.from_tokens([])), ([], []))
+        with self.assertRaisesRegex(ValueError, "not a cell at place 1: 0x2$"):
+            s2union.tokens([FACE, 2, 0])
+        self.assertRaises(ValueError, s2union.from_tokens, "04 x")
+
+    def test_answers_are_a_mask(self):
+        a, cells = Union.from_tokens("04 0c"), [cell_of(text) for text in ("04", "14", "01", "1")]
+        file = UnionFile(a.to_bytes())
+        for part in (cells, array("Q", cells), tuple(cells), Union(cells[:2])):
+            inside, shared = [cell in a for cell in part], [a.intersects_cell(cell) for cell in part]
+            for asked in (a, file):
+                answers = asked.contains_cells(part), asked.intersects_cells(part)
+                self.assertEqual(answers, (inside, shared))
+                self.assertEqual({type(answer) for answer in answers[0]}, {bool})
+        self.assertRaises(ValueError, file.contains_cells, [FACE, 0])
+        self.assertRaises(TypeError, file.contains_cells, ["x"])
+        self.assertEqual((file.contains_cells([]), file.intersects_cells(())), ([], []))
+
+    @unittest.skipUnless(numpy, "numpy is not installed")
+    def test_answers_are_a_mask_for_numpy(self):
+        class Column:
+            """As a column of pandas: made an array of numpy, and otherwise only iterable."""
+
+            def __init__(self, numbers):
+                self.numbers = numbers
+
+            def __array__(self):
+                return self.numbers
+
+            def __iter__(self):
+                return iter(self.numbers.tolist())
+
+        a, cells = Union.from_tokens("04 0c 9"), [cell_of(text) for text in ("04", "14", "01", "1", "94")]
+        signed = numpy.array(cells, numpy.uint64).view(numpy.int64)
+        self.assertLess(signed.min(), 0)
+        for asked in (a, UnionFile(a.to_bytes())):
+            for part in (signed, Column(signed), Column(signed.view(numpy.uint64)), Column(signed.astype(object))):
+                mask = asked.contains_cells(part)
+                self.assertEqual((type(mask), mask.dtype, mask.tolist()),
+                                 (numpy.ndarray, numpy.bool_, [True, False, True, False, True]))
+                self.assertEqual(signed[mask].tolist(), signed[[0, 2, 4]].tolist())
+            self.assertEqual(asked.contains_cells(signed[:0]).tolist(), [])
+        for part in (signed, list(signed), Column(signed), Column(signed.astype(object))):
+            self.assertEqual(Union(part), Union(cells))
+
+    @unittest.skipUnless(pandas, "pandas is not installed")
+    def test_pandas(self):
+        a, cells = Union.from_tokens("04 0c 9"), [cell_of(text) for text in ("04", "14", "01", "1", "94")]
+        frame = pandas.DataFrame({"leaf": [s2union.to_signed(cell) for cell in cells], "name": list("abcde")})
+        for column in (frame.leaf, frame.leaf.tolist(), frame.leaf.to_numpy(), frame.leaf.astype("Int64")):
+            self.assertEqual("".join(frame[a.contains_cells(column)].name), "ace")
+            self.assertEqual("".join(frame[a.intersects_cells(column)].name), "acde")
+        self.assertEqual((Union(frame.leaf), Union(pandas.Series(cells, dtype="uint64"))), (Union(cells), Union(cells)))
+
+    def test_ids_hand_out_nothing_that_can_be_changed(self):
+        a = Union.from_tokens("04 0c 14")
+        for view in (a.ids, a.ids[1:], a.__array_interface__["data"]):
+            self.assertTrue(view.readonly)
+            self.assertIs(type(view.obj), bytes)
+            with self.assertRaises(TypeError):
+                view[0] = 1
+
+    def test_files_are_copied_and_pickled(self):
+        a = Union.from_tokens("04 0c 14")
+        data = bytearray(a.to_bytes())
+        file = UnionFile(data)
+        made = [pickle.loads(pickle.dumps(file, protocol)) for protocol in range(pickle.HIGHEST_PROTOCOL + 1)]
+        made.append(copy.deepcopy(file))
+        self.assertIs(copy.copy(file), file)
+        data[0] = 2
+        self.assertRaises(ValueError, file.union)
+        for again in made:
+            self.assertEqual((type(again), again.union(), len(again)), (UnionFile, a, 3))
+        data[0], data[9:17] = 1, bytes(8)
+        self.assertRaises(ValueError, pickle.loads, pickle.dumps(UnionFile(data, checked=True)))
+
+    def test_copies_and_pickles(self):
+        a = Union.from_tokens("04 0c 14")
+        for protocol in range(pickle.HIGHEST_PROTOCOL + 1):
+            self.assertEqual(pickle.loads(pickle.dumps(a, protocol)), a)
+        self.assertEqual((copy.copy(a), copy.deepcopy(a), Union(a), bytes(a)), (a, a, a, a.to_bytes()))
+        self.assertEqual(s2union._unpickled(a.to_bytes()), a)
+
+    def test_a_union_never_changes(self):
+        a, b = Union.from_tokens("04 0c"), Union.from_tokens("14")
+        known = {a: "a"}
+        for again in (a.__init__, lambda cells=(): Union.__init__(a, cells)):
+            for cells in (b, [FACE], [2], "text"):
+                again(cells)
+            again()
+        self.assertEqual((a.tokens(), known[a], hash(a)), (["04", "0c"], "a", hash(Union(list(a)))))
+        for name in ("_ids", "_hash", "other"):
+            self.assertRaises(AttributeError, setattr, a, name, None)
+            self.assertRaises(AttributeError, delattr, a, name)
+        self.assertEqual(Union.__new__(Union), Union())
+        self.assertRaises(TypeError, Union, [FACE], [FACE])
+        self.assertRaises(TypeError, Union, cell=[FACE])
+
+    def test_subclasses(self):
+        class Named(Union):
+            def __init__(self, cells=()):
+                super().__init__(cells)
+                object.__setattr__(self, "name", f"of {len(self)}")
+
+        a = Named(cell for cell in Union.from_tokens("04 0c"))
+        self.assertEqual((a.tokens(), a.name, Named().name), (["04", "0c"], "of 2", "of 0"))
+        self.assertEqual((a, hash(a)), (Union(a), hash(Union(a))))
+        self.assertIs(copy.copy(a), a)
+        cell = s2union.from_token("04")
+        made = (Named.from_tokens("04"), Named.from_tokens(["04"]), Named.from_range(cell, cell), a - Union([a[1]]),
+                Named.from_bytes(Union([cell]).to_bytes()))
+        for found in made + (a.of([Union([cell])]), a.intersection(Union([cell])), Named().union(Union([cell]))):
+            self.assertEqual((type(found), found.tokens()), (Named, ["04"]))
+
+    def test_deep_copies(self):
+        a = Union.from_tokens("04 0c")
+        self.assertIs(copy.deepcopy([a])[0], a)
+        park = Park(["High Line", {}], "89c259c")
+        park.name[1]["itself"] = park
+        copied = copy.deepcopy([park, park])
+        self.assertIs(copied[0], copied[1])
+        again = copied[0]
+        self.assertEqual((type(again), again, hash(again)), (Park, park, hash(park)))
+        self.assertIs(again.name[1]["itself"], again)
+        again.name[0] = "another"
+        self.assertEqual(park.name[0], "High Line")
+
+    def test_subclasses_are_pickled_as_they_are(self):
+        for protocol in range(pickle.HIGHEST_PROTOCOL + 1):
+            again = pickle.loads(pickle.dumps(Park("High Line", "89c259c"), protocol))
+            self.assertEqual((type(again), again.name, again.tokens()), (Park, "High Line", ["89c259c"]))
+
+    def test_a_refused_word_ends_only_where_the_library_ends_it(self):
+        others = set(range(128)) - set(b" \t\n\r,")
+        for word in [b"\f", b"\v"] + [shape % byte for byte in others for shape in (b"%cx", b"x%cy", b"x%c")]:
+            for text, place in ((word, 0), (b"04 " + word + b",0c", 3), (b"04\n" + word + b"\t", 3)):
+                with self.assertRaises(ValueError) as refusal:
+                    Union.from_tokens(text)
+                self.assertEqual(str(refusal.exception), f"not a cell: {word!r} at place {place}")
+
+    def test_buffers(self):
+        a = Union.from_tokens("04 0c 14")
+        self.assertEqual(Union(a.ids), a)
+        self.assertEqual(Union(array("Q", a)), a)
+        self.assertTrue(a.ids.readonly)
+        square = memoryview(array("Q", [1, 2, 3, 4])).cast("B").cast("Q", (2, 2))
+        for wrong in (b"12345678", array("d", [1.0]), array("I", [1]), square):
+            self.assertRaises(TypeError, Union, wrong)
+        self.assertEqual(Union(memoryview(array("Q", [1, 0, 3, 0]))[::2]), Union([1, 3]))
+        for kind in (ctypes.c_uint64, ctypes.c_size_t, ctypes.c_uint64.__ctype_le__, ctypes.c_int64, ctypes.c_ssize_t):
+            self.assertEqual((Union((kind * 2)(3, 1)), Union((kind * 0)())), (Union([1, 3]), Union()))
+        for kind in (ctypes.c_uint64.__ctype_be__, ctypes.c_uint32, ctypes.c_int32, ctypes.c_double):
+            self.assertRaises(TypeError, Union, (kind * 1)(1))
+        with tempfile.TemporaryFile() as stored:
+            stored.write(b"x" + a.to_bytes())
+            stored.flush()
+            with mmap.mmap(stored.fileno(), 0, access=mmap.ACCESS_READ) as mapped:
+                file = UnionFile(memoryview(mapped)[1:])
+                self.assertEqual((file.union(), a[0] in file), (a, True))
+                del file
+
+    def test_functions_that_all_modules_share_are_left_as_they_are(self):
+        for function in (ctypes.pythonapi.PyObject_GetBuffer, ctypes.pythonapi.PyBuffer_Release):
+            self.assertEqual((function.argtypes, function.restype), (None, ctypes.c_int))
+
+    def test_refused_buffers_are_dropped_without_a_complaint(self):
+        with mock.patch("sys.unraisablehook") as complain:
+            for wrong in ("text", 3, memoryview(b"abcd")[::2]):
+                self.assertRaises(TypeError, Union.from_bytes, wrong)
+                self.assertRaises(TypeError, UnionFile, wrong)
+        complain.assert_not_called()
+
+    def test_a_file_as_a_collection(self):
+        a = Union.from_tokens("04 0c 1c 24 31")
+        file, none = UnionFile(a.to_bytes()), UnionFile(Union().to_bytes())
+        self.assertEqual((list(file), list(none), none[:]), (list(a), [], []))
+        for place in (0, 4, -1, -5, slice(None), slice(1, 3), slice(None, None, -2), slice(-2, 2**70), slice(9, 3)):
+            self.assertEqual(file[place], a[place])
+        for place in (5, -6, 2**64, 2**64 + 1, -2**64, 2**100):
+            self.assertRaises(IndexError, lambda: file[place])
+            self.assertRaises(IndexError, lambda: none[place])
+        for place in ("x", None, 1.0, (0, 1), slice("x"), slice(0, 1, "x")):
+            self.assertRaises(TypeError, lambda: file[place])
+        self.assertRaises(ValueError, lambda: file[::0])
+
+    def test_a_file_that_is_damaged_after_it_was_opened(self):
+        data = bytearray(Union.from_tokens("04").to_bytes())
+        whole, damaged = UnionFile(bytes(data)), UnionFile(data)
+        data[0] = 2
+        questions = [damaged.leaf_count, damaged.ancestors, damaged.union, lambda: damaged[0], lambda: list(damaged)]
+        for text in ("04", "14"):
+            cell = s2union.from_token(text)
+            questions += [lambda cell=cell: cell in damaged, lambda cell=cell: damaged.intersects_cell(cell)]
+        for a, b in ((whole, damaged), (damaged, whole)):
+            questions += [lambda a=a, b=b: a.contains(b), lambda a=a, b=b: a.intersects(b)]
+        for question in questions:
+            with self.assertRaisesRegex(ValueError, "unknown version"):
+                question()
+
+    def test_bytes_that_are_written_during_a_call(self):
+        a = Union.from_tokens("04 0c 1c")
+        for name, ask, want in (("decode", Union.from_bytes, a),
+                                ("decode", lambda data: UnionFile(data).union(), a),
+                                ("file_ancestors", lambda data: UnionFile(data).ancestors(), a.ancestors())):
+            data, call = bytearray(a.to_bytes()), getattr(s2union._library, name)
+
+            def call_after_a_write(*arguments):
+                data[9:] = bytes(len(data) - 9)
+                return call(*arguments)
+
+            with mock.patch.object(s2union._library, name, call_after_a_write):
+                self.assertEqual(ask(data), want)
+            self.assertRaises(ValueError, ask, data)
+        self.assertRaises(ValueError, Union.from_bytes, bytearray())
+
+    def test_the_array_interface_holds_the_cells(self):
+        for cells in ([], [FACE], [1, 3, 9]):
+            interface = Union(cells).__array_interface__  # the union itself is gone
+            shown = interface.pop("data")
+            self.assertEqual(interface, {"shape": (len(cells),), "typestr": "<u8", "version": 3})
+            self.assertEqual((shown.readonly, list(shown)), (True, cells))
+
+    @unittest.skipUnless(numpy, "numpy is not installed")
+    def test_numpy_shows_the_cells_and_keeps_them(self):
+        for cells in ([], [FACE], list(range(1, 40001, 4))):
+            a = Union(cells)
+            view, interface = numpy.asarray(a), a.__array_interface__
+            self.assertTrue(numpy.shares_memory(view, numpy.asarray(a.ids)) or not cells)
+            del a
+            held = numpy.asarray(SimpleNamespace(__array_interface__=interface))
+            del interface
+            gc.collect()
+            others = [Union(range(3, 40003, 4)) for _ in range(9)]  # takes memory that was given back
+            for found in (view, held):
+                self.assertEqual((found.dtype, found.shape, found.tolist()), (numpy.uint64, (len(cells),), cells))
+                self.assertFalse(found.flags.writeable)
+                self.assertRaises(ValueError, found.setflags, write=True)
+                self.assertRaises(ValueError, found.fill, 7)
+                self.assertEqual(Union(found), Union(cells))
+            del others
+
+    @unittest.skipUnless(numpy, "numpy is not installed")
+    def test_numpy(self):
+        ids = numpy.array([s2union.from_token(text) for text in ("14", "04", "0c", "04")], numpy.uint64)
+        a = Union(ids)
+        view = numpy.asarray(a)
+        self.assertEqual((view.dtype, view.tolist()), (numpy.uint64, list(a)))
+        self.assertFalse(view.flags.writeable)
+        self.assertEqual(Union(ids[::2]), Union(list(ids[::2])))
+        unaligned = numpy.frombuffer(b"x" + ids.tobytes(), numpy.uint64, offset=1)
+        column = numpy.array([(0, cell) for cell in ids], [("byte", "u1"), ("cell", "<u8")])["cell"]
+        for cells in (unaligned, unaligned[::-1], column, ids.astype("<u8")):
+            self.assertEqual((Union(cells), Union(cells[:0])), (a, Union()))
+        self.assertTrue(ids[0] in a)
+        self.assertEqual(UnionFile(a.to_bytes())[numpy.int64(1)], a[1])
+        for kind in (numpy.float64, numpy.uint32, numpy.int32, ">u8", ">i8", numpy.bool_):
+            self.assertRaises(TypeError, Union, ids.astype(kind))
+        self.assertRaises(TypeError, Union, ids.reshape(2, 2))
+
+    def test_wrong_types_and_numbers(self):
+        a = Union([FACE])
+        class Index:
+            def __index__(self):
+                return 1.5
+
+        for wrong in (None, "1", 1.0, b"1", [], object(), True, Index(), *([numpy.bool_(True)] if numpy else [])):
+            self.assertRaises(TypeError, s2union.level, wrong)
+            self.assertRaises(TypeError, lambda: wrong in a)
+        for wrong in (-1, 2**64, 2**100, 0):
+            self.assertRaises(ValueError, s2union.level, wrong)
+            self.assertRaises(ValueError, Union, [wrong])
+        for wrong in (None, 3, [None], ["1"], [1.5], "04"):
+            self.assertRaises((TypeError, ValueError), Union, wrong)
+        for wrong in (None, 3, [FACE], {FACE}, "1"):
+            for operator in ("or_", "and_", "sub", "xor", "le", "lt", "ge", "gt"):
+                self.assertRaises(TypeError, getattr(operators, operator), a, wrong)
+            for call in (a.intersects, a.isdisjoint, a.issubset, a.issuperset):
+                self.assertRaises(TypeError, call, wrong)
+            self.assertNotEqual(a, wrong)
+        for wrong in (None, 3, "text", ["x"]):
+            self.assertRaises(TypeError, Union.from_bytes, wrong)
+            self.assertRaises(TypeError, UnionFile, wrong)
+            self.assertRaises(TypeError, s2union.from_token, None)
+        self.assertRaises(TypeError, UnionFile(a.to_bytes()).contains, a)
+        self.assertRaises(ValueError, a.contains_cells, [FACE, 0])
+        self.assertRaises(TypeError, a.contains_cells, ["x"])
+        self.assertEqual((a.contains_cells([]), a.intersects_cells([])), ([], []))
+        self.assertRaises(ValueError, a.denormalised, 31)
+        self.assertRaises(ValueError, a.denormalised, 0, 0)
+        self.assertRaises(ValueError, a.denormalised, 0, 4)
+        self.assertRaises(ValueError, s2union.parent, FACE)
+        self.assertRaises(ValueError, s2union.child, 1, 0)
+
+    def test_version(self):
+        self.assertEqual(s2union.version(), tuple(map(int, model.VERSION.split("."))))
+        self.assertEqual(s2union.__version__, model.VERSION)
+
+    def test_each_parameter_and_answer_has_a_type(self):
+        offered = [getattr(s2union, name) for name in s2union.__all__]
+        members = [*vars(Union).values(), *vars(UnionFile).values()]
+        calls = [getattr(call, "fget", getattr(call, "__func__", call)) for call in offered + members]
+        calls = [call for call in calls if inspect.isfunction(call)]
+        self.assertGreater(len(calls), 80)
+        for call in calls:
+            signature = inspect.signature(call)
+            kinds = [given.annotation for name, given in signature.parameters.items() if name not in ("self", "cls")]
+            self.assertNotIn(inspect.Parameter.empty, kinds + [signature.return_annotation], call.__qualname__)
+        self.assertTrue((Path(s2union.__file__).parent / "py.typed").exists())
+
+    def test_a_library_that_is_not_found(self):
+        with tempfile.TemporaryDirectory() as folder:
+            shutil.copytree(Path(s2union.__file__).parent, Path(folder) / "s2union")
+            given = {"PATH": os.environ["PATH"], "PYTHONPATH": folder, "PYTHONDONTWRITEBYTECODE": "1"}
+            (Path(folder) / "other.so").write_bytes(b"")
+            for more, message in (({}, "libs2union.so.0 is not beside the module.*set S2UNION_LIBRARY"),
+                                  ({"S2UNION_LIBRARY": "/no/such"}, "S2UNION_LIBRARY is '/no/such'"),
+                                  ({"S2UNION_LIBRARY": folder + "/other.so"}, "can't load it .*other.so"),
+                                  ({"S2UNION_LIBRARY": "libc.so.6"}, "libc.so.6 has no call s2u_is_cell")):
+                said = subprocess.run([sys.executable, "-c", "import s2union"], env={**given, **more}, text=True,
+                                      cwd=folder, stderr=subprocess.PIPE).stderr
+                self.assertRegex(said, f"\nImportError: .*{message}")
+
+
+def load_tests(loader, tests, pattern):
+    tests.addTests(doctest.DocTestSuite(s2union))
+    return tests
+
+
+if __name__ == "__main__":
+    unittest.main()

@@ -1,0 +1,107 @@
+#!/usr/bin/env bash
+# The tests of the unions inside SQLite: tests/run sqlite -- [--full | --costs].
+# It installs the Debian packages that it needs. --full asks for 10,000 random rows in place of 1,500; --costs measures
+# the time of questions, and tests nothing. The last line is 'N passed, M failed'; the status is 1 if any failed.
+# The tests for PostgreSQL, which need a server, are in tests/postgres.
+set -uo pipefail
+top=$(cd "$(dirname "$0")/../.." && pwd)
+work=$(mktemp -d)
+trap 'rm -rf "$work"' EXIT
+. "$top/tests/steps.sh"
+rounds=1500
+[ "${1:-}" != --full ] || rounds=10000
+
+packages=()
+command -v gcc >/dev/null || packages+=(gcc libc6-dev)
+command -v make >/dev/null || packages+=(make)
+command -v sqlite3 >/dev/null || packages+=(sqlite3)
+[ -e /usr/include/sqlite3ext.h ] || packages+=(libsqlite3-dev)
+command -v valgrind >/dev/null || packages+=(valgrind)
+[ -x /usr/bin/python3 ] || packages+=(python3)
+need_packages
+need_library
+
+# ---- the extension
+
+source=$top/databases/sqlite
+step "no arithmetic on cells" no_arithmetic "$source/s2union.c"
+for file in s2union.c planner.c value.h; do
+  step "none in the extension for PostgreSQL: $file" no_arithmetic "$top/databases/postgres/$file"
+done
+# What is not proved stays short. Of these lines 100 are for listings that make a cell when it is asked for, texts that
+# are read in pieces, and windows, which the library, whose calls answer all at once, can't have.
+short() { # lines of code
+  local lines
+  lines=$(grep -cvE '^[[:space:]]*(/?\*.*)?$' "$source/s2union.c")
+  echo "$lines lines of code"
+  [ "$lines" -le 500 ]
+}
+step "at most 500 lines of C" short
+
+build() { # FOLDER FLAGS..
+  local folder=$work/$1
+  shift
+  mkdir -p "$folder" && cp "$source/s2union.c" "$source/Makefile" "$folder" && make -C "$folder" PREFIX="$work/usr" "$@"
+}
+step "build" build plain
+step "build, with the sanitizers" build sanitized CFLAGS="-O1 -g -fsanitize=address,undefined -fno-sanitize-recover"
+with_counts() {
+  cp "$top/tests/sqlite/counted.c" "$work/"
+  build counted LDFLAGS="$work/counted.c -Wl,--wrap=s2u_file_check,--wrap=s2u_decode,--wrap=s2u_encode"
+}
+step "build, counting steps" with_counts
+[ "$failed" -eq 0 ] || finish
+
+tests() { # FOLDER TEST..
+  local folder=$1
+  shift
+  (
+    cd "$top/tests/sqlite" && export PYTHONPATH=$top/tests/python PYTHONDONTWRITEBYTECODE=1
+    S2UNION_SQLITE=$work/$folder/mod_s2union.so S2UNION_ROUNDS=${S2UNION_ROUNDS:-$rounds} timeout 1800 \
+      /usr/bin/python3 -m unittest -q "$@"
+  )
+}
+if [ "${1:-}" = --costs ]; then
+  cd "$top/tests/sqlite" && export PYTHONPATH=$top/tests/python PYTHONDONTWRITEBYTECODE=1
+  S2UNION_SQLITE=$work/plain/mod_s2union.so /usr/bin/python3 costs.py
+  finish
+fi
+sanitized() {
+  export S2UNION_ROUNDS=300 ASAN_OPTIONS=detect_leaks=0
+  LD_PRELOAD="$(gcc -print-file-name=libasan.so) $(gcc -print-file-name=libubsan.so)" tests sanitized "$@"
+}
+any_name() { # and none that Python's import of the library's module would find
+  local name
+  cd "$work/plain" || return 1
+  for name in mod_s2union s2 s2union lib7; do
+    [ -e "$name.so" ] || cp mod_s2union.so "$name.so"
+    [ "$(sqlite3 -batch :memory: ".load ./$name" "SELECT s2_tokens('1')")" = 1 ] || return 1
+  done
+  [ "$(sqlite3 -batch :memory: ".load ./lib7 sqlite3_sunion_init" "SELECT s2_tokens('1')")" = 1 ] || return 1
+  rm s2.so s2union.so lib7.so
+  PYTHONPATH=$work/usr/lib/python LD_LIBRARY_PATH=$work/usr/lib /usr/bin/python3 -c 'import s2union'
+}
+step "the file loads under any name, and is not taken for the Python module" any_name
+step "against the model" tests plain test_sqlite.AgainstTheModel
+step "what is refused" tests plain test_sqlite.WhatIsRefused
+step "a union that is asked for each row is looked at once" tests counted test_sqlite.Steps
+step "under the sanitizers" sanitized test_sqlite.AgainstTheModel test_sqlite.WhatIsRefused
+
+refused() {
+  gcc -std=c11 -D_DEFAULT_SOURCE -Wall -Wextra -Werror "$top/tests/sqlite/refuse.c" -lsqlite3 -o "$work/refuse" &&
+    valgrind -q --error-exitcode=9 --leak-check=full "$work/refuse" "$work/plain/mod_s2union"
+}
+step "each allocation refused in turn, under valgrind" refused
+
+documented() {
+  S2UNION_SQLITE=$work/plain/mod_s2union /usr/bin/python3 "$top/tests/docs/documented.py" "$top/docs/SQLITE.md"
+}
+step "docs/SQLITE.md" documented
+valgrind_run() {
+  /usr/bin/python3 "$top/tests/docs/documented.py" --script "$top/docs/SQLITE.md" >"$work/script.sql"
+  cd "$work/plain" || return 1
+  valgrind -q --error-exitcode=9 --leak-check=full sqlite3 -batch :memory: <"$work/script.sql" >/dev/null
+  [ $? -ne 9 ] # the page shows an error, so sqlite3 ends with 1
+}
+step "docs/SQLITE.md under valgrind" valgrind_run
+finish
