@@ -2,7 +2,7 @@
 """Tries the mutants that the contracts let through, since every contract allows memory and disks to fail:
 tests/run bodies -- [--asked | NAME..].
 
-Each file tests/faults/let-through/NAME.edit names a test, and has an edit in the form of those in must-fail. The test
+Each file tests/faults/let-through/NAME.edit names a test, and has the form of tests/mutants/mutant_texts.py. The test
 is one of tests/program, or if the file names a crate, the title of a row of that crate's table. Each mutant is built
 unproved, in a copy of the repository, and its test has to fail. The tests of tests/program have to pass without a mutant.
 `.ci/run` tries those that were asked for (--asked), some of them built together: NAME+NAME, where no mistake of one can
@@ -27,7 +27,7 @@ ASKED = [
     "run_ends_at_once",
 ]
 sys.path.insert(0, os.path.join(TOP, "tests", "mutants"))
-from mutant_texts import changed_texts  # noqa: E402
+from mutant_texts import make  # noqa: E402
 
 
 def copy_of_the_sources(room):
@@ -80,7 +80,8 @@ class Mutant:
         """Whether the mutant's test ran and failed."""
         failure = rf"other answers: {re.escape(self.test)}" if self.crate else r"0 passed, [1-9]\d* failed"
         found = re.search(rf"^{failure}$", said, re.M)
-        print(f"{self.name}: {f'refused by {self.test}' if found else 'NOT REFUSED'}", flush=True)
+        other = "NOT TRIED: not built" if said == "not built" else "NOT REFUSED"
+        print(f"{self.name}: {f'refused by {self.test}' if found else other}", flush=True)
         if not found:
             print(said[-2000:])
         return bool(found)
@@ -104,21 +105,13 @@ def tried(copy, mutants):
     """How many of these mutants, which are built together, are refused."""
     originals = {}
     for mutant in mutants:
-        for path, text in changed_texts(mutant.file, copy).items():
-            with open(path, encoding="utf-8") as it:
-                originals.setdefault(path, it.read())
-            write(path, text)
+        originals = {**make(mutant.file, copy), **originals}
     try:
         said = said_of(copy, mutants)
     finally:
         for path, text in originals.items():
-            write(path, text)
+            path.write_text(text)
     return sum(mutant.is_refused(said) for mutant in mutants)
-
-
-def write(path, text):
-    with open(path, "w", encoding="utf-8") as it:
-        it.write(text)
 
 
 def passes_without_a_mutant(copy, tests):

@@ -1,127 +1,194 @@
-#!/usr/bin/env python3
-"""Tries mutants, each by the one function that it changes: tests/run mutants -- [NAME..].
+"""Tries mutants of the crates, which the prover has to refuse: tests/run mutants -- [--all | NAME..].
 
-A mutant in a crate's more-must-fail/ may have a line 'function: PATH', its function by its path below the crate. Then
-only this function and those that it calls are checked, over the libraries that `rt ci` has just proved. Mutants of
-different functions are made in one copy of the crate and checked together, since what is proved of a function says
-nothing of the text of another; the next check of the copy begins with what this one proved. `.ci/run` calls this after
-the gate, in which each crate is proved without a mutant. The last line is 'N passed, M failed'.
+Each is tried by the functions that it changes. Only these and those that they call are checked, over the libraries that
+`rt ci` has just proved. Mutants of different functions are made in one copy of the crate and checked together, since
+what is proved of a function says nothing of the text of another; the next check of the copy begins with what this one
+proved. A mutant that changes no function, or whose function is proved with it, is checked with the whole crate.
+
+`.ci/run` tries those that name their function, which are those that were asked for, and then some of the others, in an
+order that the commit's hash gives, for BUDGET seconds of processor time. --all tries all, also those in must-fail/,
+which `rt ci` tries too. The last line is 'N passed, M failed'. A mutant whose check was killed, or judged nothing, was
+not tried: that is another thing than one that isn't refused, and fails too.
 """
+import collections
 import concurrent.futures
 import os
+import random
 import re
+import resource
 import shutil
 import subprocess
 import sys
 import tempfile
+from pathlib import Path
 
-from mutant_texts import changed_texts
+from mutant_texts import FUNCTION, functions_of, make
 
-sys.path.insert(0, os.path.join(os.path.dirname(os.path.realpath(__file__)), "../../tools"))
-from over_gate import TOP, crate_of, has_libraries, rtlib  # noqa: E402
+sys.path.insert(0, str(Path(__file__).resolve().parents[2] / "tools"))
+from over_gate import TOP, crate_of, has_libraries, words_of_check  # noqa: E402
 
-FUNCTION = re.compile(r"^function: (\S+)$", re.M)
+BUDGET = 8 * 60
+AT_ONCE = 12
 ENDED = re.compile(r"^only=\d+ proved=\d+$")
+OPEN = re.compile(r"^fn \S+: (?:not proved|no proof)\b")
+REFUSED, NOT_REFUSED, NOT_TRIED = "refused", "NOT REFUSED", "NOT TRIED"
 
 
-def chosen(names):
-    """The mutants that name a function, as (crate, file of the mutant, function), or those of them with these names."""
-    for crate in sorted(os.listdir(os.path.join(TOP, "crates"))):
-        folder = os.path.join(TOP, "crates", crate, "more-must-fail")
-        for file in sorted(os.listdir(folder)) if os.path.isdir(folder) else []:
-            with open(os.path.join(folder, file), encoding="utf-8") as it:
-                named = FUNCTION.search(it.read())
-            if named and (not names or file.removesuffix(".edit") in names):
-                yield crate, os.path.join(folder, file), named[1]
+class Mutant:
+    def __init__(self, file):
+        self.file, self.folder = file, file.parent.parent
+        self.crate, self.name = self.folder.name, file.stem
+        self.is_named = bool(FUNCTION.search(file.read_text()))
+        self.functions = functions_of(file, self.folder)
+
+    def says(self, verdict, more=""):
+        print(f"{self.crate}/{self.name}: {verdict}{more}", flush=True)
+        return verdict
 
 
-def words_for(name):
-    """The words of a check of the crate from nothing, or None if a library below it is not proved."""
-    crate = crate_of(name)
-    return [rtlib.RATTLE, "check", *crate.words(["--jobs", "1"], keeps=False)] if has_libraries(crate) else None
+def mutants(*folders):
+    files = [file for folder in folders for file in Path(TOP, "crates").glob(f"*/{folder}/*.edit")]
+    return [Mutant(file) for file in sorted(files)]
 
 
 class Copy:
     """A copy of a crate, in which mutants are made."""
 
-    def __init__(self, crate, room):
-        self.crate, self.folder, self.originals = crate, os.path.join(room, crate), {}
+    def __init__(self, crate, words, room):
+        self.words, self.folder = words, os.path.join(room, crate)
         for part in ("src", "specs", "proofs"):
-            if os.path.isdir(os.path.join(TOP, "crates", crate, part)):
-                shutil.copytree(os.path.join(TOP, "crates", crate, part), os.path.join(self.folder, part))
+            source = os.path.join(TOP, "crates", crate, part)
+            if os.path.isdir(source):
+                shutil.copytree(source, os.path.join(self.folder, part))
 
-    def refused(self, words, mutants):
-        """How many of the mutants' functions aren't proved."""
-        refused = 0
-        while mutants:
-            made, mutants = self.made(mutants)
-            if not made:
-                print("\n".join(f"can't be made: {mutant}" for mutant, _ in mutants), flush=True)
-                break
-            refused += self.refused_together(words, made)
-            for file, text in self.originals.items():
-                write(file, text)
-        return refused
+    def tried(self, waiting):
+        """What was found of each mutant."""
+        found, left = [], [mutant for mutant in waiting if not mutant.functions]
+        waiting = [mutant for mutant in waiting if mutant.functions]
+        while waiting:
+            together, functions = [], set()
+            for mutant in waiting:
+                if functions.isdisjoint(mutant.functions):
+                    together.append(mutant)
+                    functions.update(mutant.functions)
+            waiting = [mutant for mutant in waiting if mutant not in together]
+            verdicts = self.checked(together) or {it: verdict for each in together
+                                                  for it, verdict in (self.checked([each]) or {each: None}).items()}
+            left += [mutant for mutant, verdict in verdicts.items() if verdict in (None, NOT_REFUSED)]
+            found += [mutant.says(verdict) for mutant, verdict in verdicts.items() if mutant not in left]
+        return found + [self.alone(mutant) for mutant in left]
 
-    def made(self, mutants):
-        """Makes one mutant of each function, and answers them by their functions, and those that are left."""
-        made, left = {}, []
-        for mutant, function in mutants:
-            try:
-                texts = {} if function in made else changed_texts(mutant, self.folder)
-            except ValueError:
-                texts = {}
-            for file, text in texts.items():
-                with open(file, encoding="utf-8") as it:
-                    self.originals.setdefault(file, it.read())
-                write(file, text)
-            if texts:
-                made[function] = mutant
-            else:
-                left.append((mutant, function))
-        return made, left
+    def checked(self, together):
+        """What the functions of mutants of different functions say of each, or None if the check came to no end."""
+        originals = {}
+        for mutant in together:
+            originals = {**(made(mutant, self.folder) or {}), **originals}
+        only = [word for mutant in together for function in mutant.functions for word in ("--only", function)]
+        _, lines = self.check("--incremental", "proved", *only)
+        restore(originals)
+        if not ENDED.match(lines[-1]):
+            print(f"{together[0].crate}: {len(together)} together: {lines[-1][:120]}", flush=True)
+            return None
+        return {mutant: verdict_on(mutant, lines) for mutant in together}
 
-    def refused_together(self, words, made):
-        """How many of the functions of these mutants aren't proved."""
-        only = [word for function in made for word in ("--only", function)]
-        done = subprocess.run(
-            [*rtlib.guarded(), *words, "--incremental", "proved", *only], cwd=self.folder, stdin=subprocess.DEVNULL,
-            stdout=subprocess.PIPE, stderr=subprocess.STDOUT, encoding="utf-8", errors="replace",
-        )
-        lines = done.stdout.rstrip().split("\n")
-        if done.returncode != 1 or not ENDED.match(lines[-1]):
-            lines = [line for line in lines if ": error" in line or line == lines[-1]]
-            print("\n".join(line[:160] for line in lines), flush=True)
-            return 0
-        return sum(self.is_open(function, mutant, lines) for function, mutant in made.items())
+    def alone(self, mutant):
+        """What was found of a mutant whose functions don't refuse it: those that call them may do. One that names its
+        function is not tried again."""
+        if mutant.is_named and mutant.functions:
+            return mutant.says(NOT_REFUSED)
+        texts = made(mutant, self.folder)
+        if texts is None:
+            return mutant.says(NOT_TRIED, ": it can't be made")
+        status, lines = self.check()
+        restore(texts)
+        if status == 0:
+            return mutant.says(NOT_REFUSED)
+        if status == 1 and any(OPEN.match(line) for line in lines):
+            return mutant.says(REFUSED, ", by its crate")
+        return mutant.says(NOT_TRIED, f": status {status}, {lines[-1][:120]}")
 
-    def is_open(self, function, mutant, lines):
-        """Whether the check said that the function of a mutant is not proved."""
-        said = re.compile(rf"^fn (?:\S*::)?{re.escape(function)}: (?:not proved|no proof)\b")
-        is_refused = any(said.match(line) for line in lines)
-        name = os.path.basename(mutant).removesuffix(".edit")
-        print(f"{self.crate}/{name}: {'refused' if is_refused else 'NOT REFUSED'}", flush=True)
-        return is_refused
+    def check(self, *more):
+        done = subprocess.run([*self.words, *more], cwd=self.folder, stdin=subprocess.DEVNULL, stdout=subprocess.PIPE,
+                              stderr=subprocess.STDOUT, encoding="utf-8", errors="replace")
+        return done.returncode, done.stdout.rstrip().split("\n")
 
 
-def write(path, text):
-    with open(path, "w", encoding="utf-8") as it:
-        it.write(text)
+def made(mutant, folder):
+    """The texts that a mutant replaces in a copy, or None if it can't be made there."""
+    try:
+        return make(mutant.file, folder)
+    except ValueError:
+        return None
+
+
+def restore(texts):
+    for path, text in texts.items():
+        path.write_text(text)
+
+
+def verdict_on(mutant, lines):
+    """What a check said of a mutant's functions."""
+    names = "|".join(map(re.escape, mutant.functions))
+    said = [match[1] for line in lines if (match := re.match(rf"^fn (?:\S*::)?(?:{names}): (.*)", line))]
+    if any(it.startswith(("not proved", "no proof")) for it in said):
+        return REFUSED
+    return NOT_REFUSED if said and all(it.startswith("proved") for it in said) else NOT_TRIED
+
+
+def words_of(crates):
+    """The words of a check of each crate; the libraries below that are missing are proved first."""
+    words = {}
+    for name in crates:
+        crate = crate_of(name)
+        if not has_libraries(crate):
+            sys.exit(f"a library below {name} is not proved")
+        words[name] = words_of_check(crate)
+    return words
+
+
+def tried(chosen):
+    """What was found of each of these mutants, counted; each crate's are tried beside those of others."""
+    crates = collections.defaultdict(list)
+    for mutant in chosen:
+        crates[mutant.crate].append(mutant)
+    words = words_of(crates)
+    with tempfile.TemporaryDirectory() as room, concurrent.futures.ThreadPoolExecutor(os.cpu_count()) as pool:
+        return collections.Counter(sum(pool.map(
+            lambda it: Copy(it[0], words[it[0]], room).tried(it[1]), crates.items()), []))
+
+
+def processor_time():
+    used = resource.getrusage(resource.RUSAGE_CHILDREN)
+    return used.ru_utime + used.ru_stime
+
+
+def drawn(others):
+    """What was found of some of these mutants, in an order of the commit's own, until the time is used up."""
+    commit = subprocess.run(["git", "rev-parse", "HEAD"], cwd=TOP, capture_output=True, text=True).stdout.strip()
+    others = random.Random(commit).sample(others, len(others))
+    found, begun = collections.Counter(), processor_time()
+    while others and processor_time() - begun < BUDGET:
+        found += tried(others[:AT_ONCE])
+        others = others[AT_ONCE:]
+    print(f"{sum(found.values())} drawn by the commit {commit[:12]}; {len(others)} left to --tier full", flush=True)
+    return found
 
 
 def main():
-    crates = {}
-    for crate, mutant, function in chosen(sys.argv[1:]):
-        crates.setdefault(crate, []).append((mutant, function))
-    words = {crate: words_for(crate) for crate in crates}
-    if None in words.values():
-        sys.exit("a library is not proved")
-    with tempfile.TemporaryDirectory() as room, concurrent.futures.ThreadPoolExecutor(os.cpu_count()) as pool:
-        tried = pool.map(lambda it: Copy(it[0], room).refused(words[it[0]], it[1]), crates.items())
-        refused = sum(tried)
-    failed = sum(map(len, crates.values())) - refused
-    print(f"{refused} passed, {failed} failed")
-    return failed > 0 or not crates
+    names = sys.argv[1:]
+    if names == ["--all"]:
+        found = tried(mutants("must-fail", "more-must-fail"))
+    elif names:
+        found = tried([it for it in mutants("must-fail", "more-must-fail") if it.name in names])
+    else:
+        asked = mutants("more-must-fail")
+        found = tried([it for it in asked if it.is_named])
+        found += drawn([it for it in asked if not it.is_named and it.functions])
+    failed = found[NOT_REFUSED] + found[NOT_TRIED]
+    print(f"{found[REFUSED]} refused, {found[NOT_REFUSED]} not refused, {found[NOT_TRIED]} not tried,"
+          f" in {processor_time() / 60:.0f} minutes of processor time")
+    print(f"{found[REFUSED]} passed, {failed} failed")
+    return failed > 0 or not found
 
 
 if __name__ == "__main__":

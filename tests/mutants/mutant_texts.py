@@ -1,9 +1,23 @@
-"""The texts that a mutant changes. A mutant is a file with lines 'file: PATH', and after each such line pairs of one or
-more lines 'old: TEXT' and one or more lines 'new: TEXT'. The old text stands in the file once."""
+"""The one form of a mutant, and what makes it: mutant_texts.py MUTANT FOLDER makes it in a copy of the sources.
+
+A mutant is a file with lines 'file: PATH', and after each such line pairs of one or more lines 'old: TEXT' and one or
+more lines 'new: TEXT'. The old text stands in that file of the folder once. Beside them it may have one of these lines:
+
+    function: PATH    the function that the prover has to refuse, if it isn't the one in which the old text stands
+    test: NAME        the test that has to refuse it, since no contract can
+    crate: NAME       the test is a row of this crate's table
+
+The folder of a mutant of the crates and of the databases is the one above its own; of those in tests/faults/let-through
+it is the top of the repository.
+"""
 import re
+import sys
 from pathlib import Path
 
 LINE = re.compile(r"^(file|old|new): ?(.*)$", re.M)
+FUNCTION = re.compile(r"^function: (\S+)$", re.M)
+FN = re.compile(r'^ *(?:pub(?:\([a-z]+\))? )?(?:const )?(?:extern "C" )?fn (\w+)')
+BLOCK = re.compile(r"^(?:pub )?(?:impl(?:<.*?>)? (?:(\w+)(?:<(.*?)>)? for )?|trait )(?:&(?:mut )?)?(\w+)")
 
 
 def changes(mutant):
@@ -34,3 +48,60 @@ def changed_texts(mutant, folder):
             raise ValueError(f"a text is in {file} {text.count(old)} times")
         texts[path] = text.replace(old, "\n".join(news))
     return texts
+
+
+def functions_of(mutant, folder):
+    """The functions that a mutant of a crate changes, by the ends of their names: the one that it names, or else those
+    in which its old texts stand. None if one of them stands in no function."""
+    named = FUNCTION.search(Path(mutant).read_text())
+    if named:
+        return [named[1]]
+    places = [(Path(folder) / file, olds) for file, olds, _ in changes(mutant) if not olds[0].startswith("use ")]
+    texts = [(path, text_before(path, olds)) for path, olds in places]
+    found = {function_at(path, before) for path, before in texts if before is not None}
+    return None if None in found or not found else sorted(found)
+
+
+def text_before(path, olds):
+    """The text of a file up to the first line of an old text that isn't blank, or None if another change of the same
+    mutant makes the old text."""
+    text, old = path.read_text(), "\n".join(olds)
+    if old not in text:
+        return None
+    blank = len(old) - len(old.lstrip("\n"))
+    end = text.find("\n", text.index(old) + blank)
+    return text[:end]
+
+
+def function_at(path, before):
+    """The function of a source that the last line of this beginning of it is in, as the end of the name that a check
+    prints, or None. A method of a trait's impl is printed as of the type's name and the trait's in one word."""
+    if path.suffix != ".rt":
+        return None
+    name = block = None
+    lines = before.split("\n")
+    for line, earlier in zip(lines, [""] + lines):
+        if earlier == "}":
+            name = block = None
+        fn, outer = FN.match(line), BLOCK.match(line)
+        if outer:
+            trait, kind, block = outer.groups()
+            block, name = block + (trait or "") + (kind or "" if trait == "From" else ""), None
+        elif fn:
+            name = fn[1]
+    if name is None:
+        return None
+    return f"{block or path.stem}::{name}" if block or path.stem not in ("lib", "main") else name
+
+
+def make(mutant, folder):
+    """Makes a mutant in a copy of the sources, and answers the texts that it has replaced, by their paths."""
+    texts = changed_texts(mutant, folder)
+    originals = {path: path.read_text() for path in texts}
+    for path, text in texts.items():
+        path.write_text(text)
+    return originals
+
+
+if __name__ == "__main__":
+    make(*sys.argv[1:])

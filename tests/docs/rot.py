@@ -1,0 +1,144 @@
+"""What rots unseen: lemmas and definitions that nobody cites, lemmas that are stated twice, word for word, lines of more
+than 120 characters, hosts of package registries, and words that the house avoids. tests/docs/pages.py looks for paths.
+
+What stands in DOUBLES and WORDS was there when the check came; each may become less, and nothing may be added. The last
+line is 'N passed, M failed', where N counts the declarations, the files and the words.
+"""
+import collections
+import re
+import subprocess
+import sys
+from pathlib import Path
+
+ROOT = Path(__file__).resolve().parents[2]
+MOST = 120
+INSIDE = (" ", "}", ")", "]")
+BETWEEN = ("use ", "pub use ", "--", "pub mod ", "mod ", "module ", "infix", "#")
+KEYWORDS = {"abbrev", "unfoldable", "pub", "record", "data", "opaque"}
+TOKEN = re.compile(r"[^\s(){}\[\],.;:`]+")
+HOSTS = re.compile(r"\b(?:(?:static\.)?crates[.]io|pypi[.]org|pythonhosted[.]org|npmjs[.](?:com|org)|"
+                   r"proxy[.]golang[.]org|rubygems[.]org|docker[.]io|repo1?[.]maven)\b")
+DOUBLES = 25
+WORDS = {"told": 200, "asked about": 20, "so many": 9, "refused where": 0, "exactly if": 80}
+# Files whose lines may be long: pages and tables of rows, which are not wrapped, texts of others, and what pins a line.
+UNWRAPPED = re.compile(r"\.(?:md|svg|sums|edit)$|^LICENSE$|/(?:stdin|stdout)$")
+
+
+def tracked():
+    listed = subprocess.run(["git", "ls-files", "-z"], cwd=ROOT, capture_output=True, text=True, check=True)
+    return [name for name in listed.stdout.split("\0")[:-1] if (ROOT / name).is_file()]
+
+
+def text_of(name):
+    return (ROOT / name).read_text(encoding="utf-8", errors="replace")
+
+
+def blocks(text):
+    """The declarations at the top of a module of proofs: each name with its lines, signature and equations."""
+    name, lines = None, []
+    for line in [*text.splitlines(), "--"]:
+        if line.startswith(BETWEEN):
+            if name:
+                yield name, lines
+            name, lines = None, []
+        elif line and not line.startswith(INSIDE):
+            found = next(word for word in line.split() if word not in KEYWORDS).rstrip(":")
+            if name and found != name:
+                yield name, lines
+            if found != name:
+                name, lines = found, []
+        if name:
+            lines.append(line)
+
+
+def statement(lines):
+    """The type of a declaration, in one line, or None if it has none: all between the colon and the first equation."""
+    text = " ".join(line.strip() for line in lines)
+    name = next(word for word in lines[0].split() if word not in KEYWORDS)
+    found = re.match(rf"(?:pub )?{re.escape(name)} : (.*?) {re.escape(name)}\b.* = ", text)
+    return re.sub(r"\s+", " ", found[1]) if found else None
+
+
+def without_imports(text):
+    """The tokens of a module or a source, without its lines of imports and its comments."""
+    kept = [line for line in text.splitlines() if not re.match(r"\s*(?:ghost |pub )*use |\s*(?:--|//)", line)]
+    return TOKEN.findall("\n".join(kept))
+
+
+def modules():
+    """The modules of specs/ and proofs/ of all crates, and those below a folder of proofs/, which the checker reads."""
+    named = [name for name in tracked() if re.match(r"crates/[^/]+/(?:specs|proofs)/.*\.antt$", name)]
+    return named, [name for name in named if name.count("/") == 3 and not name.endswith("/Lib.antt")]
+
+
+def uncited():
+    """The number of declarations that may be cited, and those that are not, as 'file: name'."""
+    everywhere, own, places = collections.Counter(), collections.Counter(), {}
+    named, top = modules()
+    for name in [*named, *(name for name in tracked() if re.match(r"crates/.*\.rt$", name))]:
+        everywhere.update(without_imports(text_of(name)))
+    for file in top:
+        for name, lines in blocks(text_of(file)):
+            places.setdefault(name, []).append(file)
+            own[name] += without_imports("\n".join(lines)).count(name)
+    left = [name for name in places if everywhere[name] <= own[name] and "◌" not in name]
+    return len(places), [f"{file}: {name}" for name in left for file in places[name]]
+
+
+def doubles():
+    """The number of lemmas with a statement, and those that are stated before, as 'file: name, as file: name'."""
+    first, found, count = {}, [], 0
+    for file in [name for name in modules()[1] if "/proofs/" in name]:
+        for name, lines in blocks(text_of(file)):
+            said = statement(lines)
+            if said is None:
+                continue
+            count += 1
+            if said in first:
+                found.append(f"{file}: {name}, as {first[said]}")
+            else:
+                first[said] = f"{file}: {name}"
+    return count, found
+
+
+def long_lines():
+    """The number of files whose lines are wrapped, and their lines that are too long, as 'file:line'."""
+    files = [name for name in tracked() if not UNWRAPPED.search(name)]
+    return len(files), [f"{name}:{number}" for name in files
+                        for number, line in enumerate(text_of(name).splitlines(), 1) if len(line) > MOST]
+
+
+def hosts():
+    """The number of files, and those that name the host of a package registry."""
+    return len(tracked()), [name for name in tracked() if HOSTS.search(text_of(name))]
+
+
+def avoided():
+    """The number of words that the house avoids, and those that stand more often than they did, with where."""
+    files = [name for name in tracked() if not name.endswith((".edit", "/rot.py", "docs/DEFINITIONS.md"))]
+    texts = {name: re.sub(r"\s+", " ", text_of(name)) for name in files}
+    more = []
+    for word, most in WORDS.items():
+        form = re.compile(rf"\b{word}\b", re.I)
+        found = {name: count for name, text in texts.items() if (count := len(form.findall(text)))}
+        if sum(found.values()) > most:
+            more.append(f"'{word}' {sum(found.values())} times, where {most} is the most: {found}")
+    return len(WORDS), more
+
+
+def main():
+    passed = failed = 0
+    counts, double = doubles()
+    double = double if len(double) > DOUBLES else []
+    asked = {"nobody cites it": uncited(), "stated before": (counts, double), "too long": long_lines(),
+             "names the host of a registry": hosts(), "avoided": avoided()}
+    for what, (count, wrong) in asked.items():
+        for it in wrong:
+            print(f"{what}: {it}")
+        passed, failed = passed + max(count - len(wrong), 0), failed + len(wrong)
+    print(f"{passed} passed, {failed} failed")
+    return failed > 0
+
+
+if __name__ == "__main__":
+    sys.exit(main())
