@@ -55,10 +55,6 @@ pub Step-kept : (old new : World) (line : List ℕ) (reply : Reply) → Step old
     Step old line reply new
 Step-kept old new line reply s = record { by = subst (λ p. StepBy p old reply new) (line_of-kept line) s.by }
 
-pub Step-same : (old new : World) (given line : List ℕ) (reply : Reply) → given ≡ line → Step old given reply new →
-    Step old line reply new
-Step-same old new given line reply e s = subst (λ l. Step old l reply new) e s
-
 act_stays : (command : Command) (old new : World) (reply : Reply) → Acts command old reply new →
     uses_file command ≡ false → new.files ≡ old.files
 act_stays (Edit r edit) old new reply a h = a.1

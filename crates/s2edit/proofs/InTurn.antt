@@ -43,11 +43,6 @@ whole_left f emptied emptied' local own out put e e' =
           (ap (λ (u : Union). u.cells) out ∙ e) (ap (λ (u : Union). u.cells) put ∙ e') here;
     }
 
-pub same_applied : (out put us out' put' us' : List ℕ) → out ≡ out' → put ≡ put' → us ≡ us' →
-    applied out put us ≡ applied out' put' us'
-same_applied out put us out' put' us' e f g =
-    ap (λ (l : List ℕ). applied l put us) e ∙ ap (λ (l : List ℕ). applied out' l us) f ∙ ap (applied out' put') g
-
 -- how many cells there are without those that are taken out
 module _ (out put us : List ℕ) (local : IsLocal us) (f : Fits out put us) where
   put_back : insert_cells out (cells_without us out) ≡ us

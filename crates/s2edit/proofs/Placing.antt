@@ -42,19 +42,6 @@ ends_rise u l k h =
 abbrev pub SeekingPlace : List ℕ → ℕ → ℕ → ℕ → Type 0
 SeekingPlace u leaf first left = Seeking (ends u) (leaf + 1) 0 first left
 
-pub seeking_first : (u : List ℕ) (leaf : ℕ) → SeekingPlace u leaf 0 (length u)
-seeking_first u leaf =
-    let count = length-map u end_of in
-    record {
-      from = omega arith;
-      brackets = record {
-        order = omega arith;
-        within = omega arith;
-        below = λ k l. absurd (omega arith);
-        rest = λ k a b. absurd (omega arith);
-      };
-    }
-
 pub seeking_within : (u : List ℕ) (leaf first left : ℕ) → SeekingPlace u leaf first left → first + left ≤ length u
 seeking_within u leaf first left seeking =
     let count = length-map u end_of in

@@ -68,10 +68,6 @@ module _ {A : Type 0} (text : A → List ℕ) (Ok : A → Type 0) (one : IsOneWa
   no_more (x ∷ xs) (y ∷ ys) mid r a b l e none =
       no_more xs ys mid r a.1 b.1 (omega arith) (heads x y xs ys mid r a.0 b.0 e).1 none
 
-all_numbers : (ids : List ℕ) → AllByRecursion IsCell ids → AllByRecursion IsNumber ids
-all_numbers [] a = tt
-all_numbers (x ∷ xs) a = (fits_u64 x a.0, all_numbers xs a.1)
-
 pub one_cell : IsOneWay number_text IsCell
 one_cell = one_within number_text IsCell IsNumber fits_u64 one_number
 

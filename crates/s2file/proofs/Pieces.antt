@@ -1,9 +1,8 @@
 -- The bytes that a buffer holds, and those that are ahead of it.
 use Rattle.std.proofs.Common.{◌≡◌, ℕ, ◌+◌, ◌-◌, ◌≤◌, List, ◌++◌, length, take, drop, slice_range}
-use Rattle.std.proofs.Common.{Option, Some, None, refl, sym, ap, ◌∙◌, arith, append_assoc}
+use Rattle.std.proofs.Common.{refl, sym, ap, ◌∙◌, arith}
 use Rattle.std.proofs.lemmas.List.{append-nil, take_at, drop_at, take-append-le, drop-append-le, drop-take}
 use Rattle.std.proofs.lemmas.List.{drop-drop, length-take-le, length-drop}
-use Rattle.std.specs.Io.KnownBytes.{Consumes, Keeps, prepend_known}
 use borrow.Rule.Slice.PartMut.{put_mid, post_of}
 use lib.Seq.{take-add}
 
@@ -44,20 +43,3 @@ consumed xs start end count inside =
     let parts : end - start ≡ count + (end - (start + count)) = omega arith in
     sym (ap (λ j. drop count (take j (drop start xs))) parts ∙ drop-take count _ (drop start xs)
     ∙ ap (take (end - (start + count))) (drop-drop count start xs))
-
--- what is read comes after what is held
-pub Keeps-read : (a b c : Option (List ℕ)) (old new more : List ℕ) → Keeps a (prepend_known old b) →
-    Consumes b c more → new ≡ old ++ more → Keeps a (prepend_known new c)
-Keeps-read None b c old new more k r e = tt
-Keeps-read (Some x) None c old new more k r e = absurd k
-Keeps-read (Some x) (Some y) None old new more k r e = absurd r
-Keeps-read (Some x) (Some y) (Some z) old new more k r e =
-    ap (λ (l : List ℕ). l ++ z) e ∙ append_assoc old more z ∙ ap (λ (l : List ℕ). old ++ l) (sym r) ∙ k
-
-pub Keeps-same : (a b c : Option (List ℕ)) (old new : List ℕ) → Keeps a (prepend_known old b) → Keeps b c →
-    new ≡ old → Keeps a (prepend_known new c)
-Keeps-same None b c old new k r e = tt
-Keeps-same (Some x) None c old new k r e = absurd k
-Keeps-same (Some x) (Some y) None old new k r e = absurd r
-Keeps-same (Some x) (Some y) (Some z) old new k r e =
-    ap (λ (l : List ℕ). l ++ z) e ∙ ap (λ (l : List ℕ). old ++ l) r ∙ k

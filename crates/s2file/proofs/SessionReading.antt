@@ -83,10 +83,6 @@ module _ (bytes after : List ℕ) (count : ℕ) (n : Begins number_text IsNumber
       let c = counted ids rest f in
       none ids rest (record { is = c.1; ok = record { len = sym c.0; valid = f.ok.valid } })
 
-pub list_uncounted : (bytes : List ℕ) → BeginsNone number_text IsNumber bytes → BeginsNone list_text AreCells bytes
-list_uncounted bytes none ids rest f = none (length ids) (flat_map number_text ids ++ rest)
-    (list_count bytes ids rest f)
-
 -- identifiers one after another: these are the first, and the rest is still to be read
 pub record SpellsSome (numbers cells rest : List ℕ) : Type 0 where
   pub is : numbers ≡ flat_map number_text cells ++ rest
@@ -178,11 +174,6 @@ part_all numbers old new (x ∷ rest) count len s short =
       length-append (flat_map number_text s.good) (x ∷ rest),
       length-number_texts s.good,
     ))
-
--- the list of a register
-pub register_cells_at : (bytes : List ℕ) → BeginsNone list_text AreCells bytes →
-    BeginsNone list_text IsRegisterList bytes
-register_cells_at bytes none cells rest f = none cells rest (record { is = f.is; ok = register_cells cells f.ok })
 
 pub register_unmerged : (bytes cells rest : List ℕ) → Begins list_text AreCells bytes cells rest →
     (IsLocal cells → ⊥) → BeginsNone list_text IsRegisterList bytes

@@ -80,9 +80,6 @@ module _ (bytes after : List ℕ) (count : ℕ) (n : Begins number_text IsNumber
       let c = counted ms rest f in
       none ms rest (record { is = c.1; ok = record { len = sym c.0; each = f.ok.each } })
 
-pub moves_uncounted : (bytes : List ℕ) → BeginsNone number_text IsNumber bytes → BeginsNone moves_text AreMoves bytes
-moves_uncounted bytes none ms rest f = none (length ms) (flat_map move_text ms ++ rest) (moves_count bytes ms rest f)
-
 -- a session file
 after_two : (a b c d : ℕ) (xs ys : List ℕ) → a ∷ b ∷ xs ≡ c ∷ d ∷ ys → xs ≡ ys
 after_two a b c d xs ys e = (after_byte b d xs ys (after_byte a c (b ∷ xs) (d ∷ ys) e).1).1

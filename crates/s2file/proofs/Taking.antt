@@ -1,7 +1,7 @@
 -- What is taken from the bytes that are left, and what these lack.
 use Rattle.std.proofs.Common.{◌≡◌, ℕ, List, [], ◌∷◌, ◌++◌, Option, Some, None, IfSome}
-use Rattle.std.proofs.Common.{flat_map, map, sym, ap, ◌∙◌, subst, append_assoc}
-use Rattle.std.proofs.lemmas.List.{append-nil, map-append}
+use Rattle.std.proofs.Common.{flat_map, sym, ap, ◌∙◌, subst, append_assoc}
+use Rattle.std.proofs.lemmas.List.{append-nil}
 use Rattle.std.proofs.lemmas.Grind.{flat_map-append}
 use Rattle.std.proofs.KnownBytes.{Consumes-nil, Consumes-trans}
 use Rattle.std.specs.Io.KnownBytes.{Consumes, IsAtEnd, Keeps, prepend_known}
@@ -34,10 +34,6 @@ pub refuses_later : (fault : ReadFault) (old mid : Option (List ℕ)) (front : L
     Refuses fault (IfSome old Q)
 refuses_later fault old mid front P Q c f h =
     refuses fault (IfSome mid P) (IfSome old Q) (known_later old mid front P Q c f) h
-
-pub refuses_weaker : (fault : ReadFault) (old : Option (List ℕ)) (P Q : List ℕ → Type 0) →
-    ((bytes : List ℕ) → P bytes → Q bytes) → Refuses fault (IfSome old P) → Refuses fault (IfSome old Q)
-refuses_weaker fault old P Q f h = refuses fault (IfSome old P) (IfSome old Q) (known_weaker old P Q f) h
 
 -- ---- the bytes that are held, and those that come
 
@@ -84,12 +80,3 @@ module _ {A : Type 0} (text : A → List ℕ) (Ok : A → Type 0) where
         (Consumes-trans old mid new (flat_map text xs) (text x) row.is one.is);
     ok = all_push xs x row.ok one.ok;
   }
-
--- the same of values under a view
-pub one_more_viewed : {T A : Type 0} (f : T → A) (text : A → List ℕ) (Ok : A → Type 0) (old mid new : Option (List ℕ))
-    (ts : List T) (t : T)
-    → Takes (flat_map text) (AllByRecursion Ok) old (map f ts) mid → Takes text Ok mid (f t) new
-    → Takes (flat_map text) (AllByRecursion Ok) old (map f (ts ++ t ∷ [])) new
-one_more_viewed {A = A} f text Ok old mid new ts t row one =
-    subst (λ (xs : List A). Takes (flat_map text) (AllByRecursion Ok) old xs new) (sym (map-append f ts (t ∷ [])))
-    (one_more_taken text Ok old mid new (map f ts) (f t) row one)

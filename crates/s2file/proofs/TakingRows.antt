@@ -11,23 +11,12 @@ use Rattle.s2file.specs.SessionParts.{BeginsNone, Refuses, Takes, Lacks, IsByte,
 use Rattle.s2file.specs.SessionParts.{AreRegisters, IsRow, byte_text, registers_text, row_text}
 use Rattle.s2file.specs.declared.TheConstants.{SESSION_REGISTERS, SESSION_CHANGES}
 use Rattle.s2file.specs.declared.session.ReadFault.{ReadFault}
-use Rattle.s2file.proofs.Fronts.{move_front}
-use Rattle.s2file.proofs.SessionReading.{register_cells_at, register_unmerged}
+use Rattle.s2file.proofs.SessionReading.{register_unmerged}
 use Rattle.s2file.proofs.SessionRows.{move_without_out, move_without_put, move_wrong, registers_none, row_none}
 use Rattle.s2file.proofs.SessionRows.{moves_count_many, moves_none}
-use Rattle.s2file.proofs.Taking.{known_front, refuses_later, refuses_weaker}
+use Rattle.s2file.proofs.Taking.{known_front, refuses_later}
 
 -- ---- the list of a register
-
-pub register_taken : (old new : Option (List ℕ)) (cells : List ℕ) → Takes list_text AreCells old cells new →
-    IsLocal cells → Takes list_text IsRegisterList old cells new
-register_taken old new cells t local = record { is = t.is; ok = record { local = local; few = t.ok.few } }
-
-pub register_refused : (fault : ReadFault) (old : Option (List ℕ)) → Refuses fault (Lacks list_text AreCells old) →
-    Refuses fault (Lacks list_text IsRegisterList old)
-register_refused fault old h =
-    refuses_weaker fault old (λ bytes. BeginsNone list_text AreCells bytes)
-    (λ bytes. BeginsNone list_text IsRegisterList bytes) register_cells_at h
 
 pub register_wrong : (old new : Option (List ℕ)) (cells : List ℕ) → Takes list_text AreCells old cells new →
     (IsLocal cells → ⊥) → Lacks list_text IsRegisterList old
@@ -54,13 +43,6 @@ row_refused fault old mid xs count t few h =
     (λ rest none. row_none _ xs rest count (record { is = refl; each = t.ok }) few none) h
 
 -- ---- a change
-
-pub move_refused : (fault : ReadFault) (old : Option (List ℕ)) → Refuses fault (Lacks byte_text IsByte old) →
-    Refuses fault (Lacks move_text IsMoved old)
-move_refused fault old h =
-    refuses_weaker fault old (λ bytes. BeginsNone byte_text IsByte bytes) (λ bytes. BeginsNone move_text IsMoved bytes)
-    (λ bytes none m rest f. none m.register (list_text m.out ++ (list_text m.put ++ rest))
-    (record { is = move_front bytes m rest f.is; ok = omega (arith, f.ok.register) })) h
 
 module _ (old mid : Option (List ℕ)) (r : ℕ) (b : Takes byte_text IsByte old r mid) where
   pub out_refused : (fault : ReadFault) → Refuses fault (Lacks list_text AreCells mid) →

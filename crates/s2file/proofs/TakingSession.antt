@@ -5,7 +5,7 @@ use Rattle.std.proofs.Common.{arith, append_assoc}
 use Rattle.std.proofs.lemmas.List.{length-append, take_all, get_or_append_left}
 use Rattle.std.proofs.KnownBytes.{Consumes-trans, Consumes-whole, prepend_known-end, prepend_known-nil}
 use Rattle.std.specs.Io.KnownBytes.{Consumes, IsAtEnd, Keeps, prepend_known}
-use Rattle.std.specs.Prelude.{MatchResult, IfOk}
+use Rattle.std.specs.Prelude.{MatchResult}
 use Rattle.std.specs.Option.{option_map}
 use Rattle.s2file.specs.Session.{Moved, Content, content_of, moves_text, IsContent, IsSessionFile}
 use Rattle.s2file.specs.Session.{IsUnionFile, Spells}
@@ -20,20 +20,13 @@ use Rattle.s2file.proofs.Beginnings.{longest, all_or_more}
 use Rattle.s2file.proofs.SessionRows.{file_without_registers, file_without_past, file_without_future, file_with_more}
 use Rattle.s2file.proofs.SessionRows.{file_of_many}
 use Rattle.s2file.proofs.Spelled.{first_of_file, union_content}
-use Rattle.s2file.proofs.Taking.{known_later, known_front, refuses_later, refuses_weaker, known_weaker}
-use Rattle.s2file.proofs.Taking.{held_front, held_all}
+use Rattle.s2file.proofs.Taking.{known_later, known_front, refuses_later, known_weaker}
+use Rattle.s2file.proofs.Taking.{held_front}
 
 -- ---- a session file
 
 abbrev pub NoFile : List ℕ → Type 0
 NoFile bytes = (s : Content) → IsSessionFile bytes s → ⊥
-
-pub head_refused : (fault : ReadFault) (old : Option (List ℕ))
-    → Refuses fault (IfSome old (λ bytes. (rest : List ℕ) → bytes ≡ 0x73 ∷ 1 ∷ rest → ⊥)) →
-    Refuses fault (IfSome old NoFile)
-head_refused fault old h =
-    refuses_weaker fault old (λ bytes. (rest : List ℕ) → bytes ≡ 0x73 ∷ 1 ∷ rest → ⊥) NoFile
-    (λ bytes none s f. none _ f.text) h
 
 -- something is left
 pub some_left : (now coming : Option (List ℕ)) (held : List ℕ) → Keeps now (prepend_known held coming) →
@@ -215,17 +208,6 @@ module _ (old coming : Option (List ℕ)) (held : List ℕ) (k : Keeps old (prep
   spells_file (Err Device) other h = tt
   spells_file (Err Memory) other h = tt
 
--- no byte spells no session
-pub spells_nothing : (old coming : Option (List ℕ)) (held : List ℕ) → Keeps old (prepend_known held coming) →
-    length held < 1 → IsAtEnd coming → IfSome old (λ bytes. (s : Content) → Spells bytes s → ⊥)
-spells_nothing old coming held k few end =
-    held_all old coming held (λ bytes. (s : Content) → Spells bytes s → ⊥) k end (λ s. nothing held few s)
-  where
-    nothing : (bytes : List ℕ) → length bytes < 1 → (s : Content) → Spells bytes s → ⊥
-    nothing bytes few s (inl f) = absurd (omega (arith, few, ap length f.text))
-    nothing [] few s (inr u) = absurd (omega (arith, u.file.is.version))
-    nothing (x ∷ bytes) few s (inr u) = absurd (omega (arith, few))
-
 -- ---- the answer
 
 -- an empty buffer adds nothing
@@ -239,8 +221,3 @@ answers ahead (Ok session) h = h.1
 answers ahead (Err Form) h = h
 answers ahead (Err Device) h = tt
 answers ahead (Err Memory) h = tt
-
-pub answers_content : (ahead : Option (List ℕ)) (answer : Result Session ReadFault) → Finds Spells ahead answer →
-    IfOk answer (λ session. IsContent (content_of session))
-answers_content ahead (Ok session) h = h.0
-answers_content ahead (Err fault) h = tt

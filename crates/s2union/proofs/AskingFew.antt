@@ -126,15 +126,6 @@ few_looks n m looks few most k h =
     (λ (a : m ≤ 0). omega arith)
     (cases_lt 0 m)
 
-pub few_looks_swap : (n m looks : ℕ) → FewForUnion n m looks → FewForUnion m n looks
-few_looks_swap n m looks few k h =
-    let less : min n m ≡ min m n = omega arith in
-    let more : max n m ≡ max m n = omega arith in
-    let same : (min n m + 1) * 2 ^ k ≡ (min m n + 1) * 2 ^ k = ap (λ x. (x + 1) * 2 ^ k) less in
-    let l = few k (omega arith) in
-    let twice : min n m * k ≡ min m n * k = ap (λ x. x * k) less in
-    omega arith
-
 -- ---- answers
 
 -- all leaves of a list, if those of each of its cells
@@ -158,9 +149,6 @@ none_of_each xs ys each (x, a, b) =
 pub one_of_each : (xs ys : List ℕ) (k : ℕ) → k < length ys → ShareSome (covers (get_or ys k 0)) (has_leaf xs) →
     ShareSome (has_leaf xs) (has_leaf ys)
 one_of_each xs ys k h (x, v, a) = let r = covers_from (get_or ys k 0) x v in (x, a, leaf_there ys k x h r.0 r.1)
-
-pub share_swap : (xs ys : List ℕ) → ShareSome (has_leaf xs) (has_leaf ys) → ShareSome (has_leaf ys) (has_leaf xs)
-share_swap xs ys (x, a, b) = (x, b, a)
 
 -- ---- cells that cost no search
 

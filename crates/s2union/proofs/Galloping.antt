@@ -157,13 +157,3 @@ leap_ends u mark low leap up below z h e = record {
   below = below;
   rest = λ k a b. let c = rises u (low + (leap - 1)) k up a b in omega arith;
 }
-
-pub all_left : (u : List ℕ) (mark low : ℕ) → low ≤ length u → ((k : ℕ) → k < low → get_or u k 0 < mark) →
-    Brackets u mark low (length u)
-all_left u mark low h below = record {
-  order = h;
-  within = omega arith;
-  below = below;
-  rest = λ k a b.
-      absurd (omega arith);
-}

@@ -3,7 +3,7 @@ use Rattle.std.proofs.Common.{◌≡◌, ℕ, ◌+◌, ◌-◌, ◌<◌, ◌≤�
 use Rattle.std.proofs.Common.{◌∷◌, ◌++◌, length, take, drop, reverse, get_or, slice_get, Some, append_assoc}
 use Rattle.std.proofs.Common.{length-append}
 use Rattle.std.proofs.lemmas.List.{get_or-append_right, length-reverse, length-take-le, reverse-append, reverse-reverse}
-use Rattle.std.proofs.lemmas.List.{append-nil, take-append-drop, take_all, take_at, take_more, drop_more, get_or-take}
+use Rattle.std.proofs.lemmas.List.{take-append-drop, take_at, take_more, drop_more, get_or-take}
 use Rattle.s2cell.specs.Cell.{IsCell}
 use Rattle.s2union.specs.Packed.{IsPacked, Continues}
 use Rattle.s2union.specs.Tail.{Follows, IsTail, Passes}
@@ -23,12 +23,6 @@ reverse_back run back = reverse-append (reverse run) back ∙ ap (λ l. reverse 
 pub record Passing (old now : Tail) (run : List ℕ) (n : ℕ) : Type 0 where
   pub packed : (back : List ℕ) → IsTail old back → IsPacked (reverse back) → IsPacked (reverse back ++ take n run)
   pub ends : (back : List ℕ) → IsTail old back → IsPacked (reverse back) → IsTail now (reverse (take n run) ++ back)
-
-pub passing_none : (old : Tail) (run : List ℕ) → Passing old old run 0
-passing_none old run = record {
-  packed = λ back i p. subst IsPacked (sym (append-nil (reverse back))) p;
-  ends = λ back i p. i;
-}
 
 -- what went by with the first cells of the run is packed, read from its end
 passed : (old now : Tail) (run : List ℕ) (n : ℕ) (back : List ℕ) → Passing old now run n → IsTail old back →
@@ -72,16 +66,6 @@ passing_fails old now run n cell s h r fails back i p q =
     ∙ ap (λ l. l ++ cell ∷ drop (n + 1) run) (sym (reverse_back (take n run) back)) in
     fails (follows_packed now (reverse (take n run) ++ back) cell (s.ends back i p)
     (packed_front (reverse (reverse (take n run) ++ back)) (drop (n + 1) run) cell (subst IsPacked whole q)))
-
--- all of the run went by
-pub passing_all : (passes : Type 0) (old now : Tail) (run : List ℕ) (n : ℕ) → passes → Passing old now run n →
-    length run ≤ n → Passes passes old now run
-passing_all passes old now run n passed_by s h =
-    let e : take n run ≡ run = take_all n run h in
-    record {
-      exact = λ back i p. (λ _. subst (λ l. IsPacked (reverse back ++ l)) e (s.packed back i p), λ _. passed_by);
-      ends = λ back i p _. subst (λ l. IsTail now (reverse l ++ back)) e (s.ends back i p);
-    }
 
 -- a cell near the end of a run, by its place from the end
 near_end : (run back : List ℕ) (k x : ℕ) → k < length run → x ≡ get_or run (length run - 1 - k) x →

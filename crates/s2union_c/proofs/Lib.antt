@@ -1,5 +1,4 @@
 mod Asking
-mod Writing
 mod Ordering
 mod Wrong
 mod Words

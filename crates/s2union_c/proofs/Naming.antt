@@ -48,10 +48,6 @@ name_at [] w later (i ∷ ids) z = (i, z.0)
 name_at (v ∷ done) w later [] z = absurd z
 name_at (v ∷ done) w later (i ∷ ids) z = name_at done w later ids z.1
 
-append_none : (ws : List (List ℕ)) → ws ++ [] ≡ ws
-append_none [] = refl
-append_none (w ∷ ws) = ap (λ vs. w ∷ vs) (append_none ws)
-
 pub naming_start : (text : List ℕ) → Naming text 0 0 []
 naming_start text = record {
   within = omega arith;
@@ -87,13 +83,6 @@ naming_more text at count ids start end id n w names =
       named = zip_push n.done ids (word_at text start end) id n.named names;
       count_is = omega arith;
     }
-
-pub naming_done : (text : List ℕ) (at count : ℕ) (ids : List ℕ) → Naming text at count ids
-    → words_of_text (drop at text) ≡ []
-    → AllZip NamesCell (words_of_text text) ids
-naming_done text at count ids n none =
-    let all : n.done ≡ words_of_text text = sym (append_none n.done) ∙ ap (λ ws. n.done ++ ws) (sym none) ∙ n.all in
-    subst (λ ws. AllZip NamesCell ws ids) all n.named
 
 pub nameless_at : (text : List ℕ) (at count : ℕ) (ids : List ℕ) (start end : ℕ) → Naming text at count ids →
     IsNextWord text at start end

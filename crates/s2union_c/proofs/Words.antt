@@ -51,10 +51,6 @@ words_last bytes u some = ap (filter is_nonempty) (split_none is_between bytes u
 front : (text : List ℕ) (k : ℕ) → k < length text → drop k text ≡ get_or text k 0 ∷ drop (k + 1) text
 front text k h = rw (add-one, drop-cons text k 0)
 
-pub words_step : (text : List ℕ) (k : ℕ) → k < length text → is_between (get_or text k 0) ≡ true
-    → words_of_text (drop (k + 1) text) ≡ words_of_text (drop k text)
-words_step text k h e = sym (ap words_of_text (front text k h) ∙ words_skip (get_or text k 0) (drop (k + 1) text) e)
-
 pub words_end : (text : List ℕ) (k : ℕ) → length text ≤ k → words_of_text (drop k text) ≡ []
 words_end text k h = let e : drop k text ≡ [] = drop_of_length-le text h in rw e refl
 
