@@ -1,9 +1,9 @@
 #!/usr/bin/env python3
 """Checks the pages: docs/DEFINITIONS.md is what tools/definitions makes; every relative link of every page leads to a
-file; if the link's text is names of the sources, the file has them; the files that docs/ARCHITECTURE.md walks through
-have the functions that it names; each language has what docs/FROM_S2.md says it has; and what can't read the file
-VERSION has the version that it gives. The last line is 'N passed, M failed', where N counts the definitions, the links,
-the names and the places of the version."""
+file; if the link's text is names of the sources, the file has them; each path in backticks is there; the files that
+docs/ARCHITECTURE.md walks through have the functions that it names; each language has what docs/FROM_S2.md says it
+has; and what can't read the file VERSION has the version that it gives. The last line is 'N passed, M failed', where N
+counts the definitions, the links, the paths, the names and the places of the version."""
 import re
 import subprocess
 import sys
@@ -12,6 +12,12 @@ from pathlib import Path
 ROOT = Path(__file__).resolve().parents[2]
 LINK = re.compile(r"\]\((?!https?://|#)([^)#\s]+)[^)]*\)")
 NAMES = re.compile(r"\[((?:`\w+`(?:, | and )?)+)\]\(([^)#\s]+(?<!lib)\.(?:rt|antt))\)")
+CODE = re.compile(r"`([^`\n]+)`")
+PATH = re.compile(r"[\w.*/-]+")
+FILE = re.compile(r"[\w.-]+\.(?:rt|antt|py|sh|md|edit|hpp|h|cc|go|rs|sql)")
+# Names that stand for any file of their kind, and headers of S2.
+EXAMPLES = {"NAME.edit", "s2union--OLD--NEW.sql", "s2cell_id.h", "s2cell_union.h"}
+GONE = {"peer", "faults", "examples"}
 STEP = re.compile(r"^\d+\. `(\w+/src)/(\w+\.rt)`: (.*)$", re.M)
 DEFINES = r"\b(?:fn|struct|trait|record|data|abbrev pub|unfoldable pub) {}\b"
 # The columns of docs/FROM_S2.md: what a name is in them, where it is defined, and how.
@@ -46,14 +52,40 @@ def pages():
 
 
 def broken_links():
-    """The number of links, and those that lead nowhere, as 'page: link'."""
+    """The number of links and of paths, and those that lead nowhere, as 'page: link'."""
     count, broken = 0, []
     for page in pages():
         for link in LINK.findall(page.read_text()):
             count += 1
             if not (page.parent / link).exists():
                 broken.append(f"{page.relative_to(ROOT)}: {link}")
+    for page, path, there in paths():
+        count += 1
+        if not there:
+            broken.append(f"{page.relative_to(ROOT)}: {path}")
     return count, broken
+
+
+def paths():
+    """Each path in backticks, as (page, path, whether it is there): one that begins with a folder of the top or a
+    crate, or has the name of a file. A crate and a name may also be a mutant."""
+    files = subprocess.run(["git", "ls-files"], cwd=ROOT, capture_output=True, text=True, check=True).stdout.split("\n")
+    names = {name.rpartition("/")[2] for name in files} | EXAMPLES
+    folders = {path.name for path in [*ROOT.iterdir(), *(ROOT / "crates").iterdir()] if path.is_dir()} | GONE
+    for page in pages():
+        for code in CODE.findall(page.read_text()):
+            path = code.split()[0] if code.split() else ""
+            if FILE.fullmatch(path):
+                yield page, path, path in names
+            elif PATH.fullmatch(path) and "/" in path and path.split("/")[0] in folders:
+                yield page, path, is_there(page, path.rstrip("/."))
+
+
+def is_there(page, path):
+    crate, _, name = path.partition("/")
+    places = [(ROOT, path), (ROOT / "crates", path), (page.parent, path),
+              (ROOT / "crates" / crate, f"*must-fail/{name}.edit")]
+    return any(next(folder.glob(it.replace("NAME", "*")), None) for folder, it in places)
 
 
 def names_in_links():

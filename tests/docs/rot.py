@@ -1,8 +1,9 @@
-"""What rots unseen: lemmas and definitions that nobody cites, lemmas that are stated twice, word for word, lines of more
-than 120 characters, hosts of package registries, and words that the house avoids. tests/docs/pages.py looks for paths.
+"""What rots unseen: lemmas and definitions that nobody cites, lemmas that are stated twice, word for word, lines of
+more than 120 characters, hosts of package registries, and words that the house avoids. tests/docs/pages.py looks for
+paths.
 
-What stands in DOUBLES and WORDS was there when the check came; each may become less, and nothing may be added. The last
-line is 'N passed, M failed', where N counts the declarations, the files and the words.
+DOUBLES and WORDS are the most that may stand: what stood there when this check came, and less from time to time. The
+last line is 'N passed, M failed', where N counts the declarations, the files and the words.
 """
 import collections
 import re

@@ -4,9 +4,9 @@ tests/run bodies -- [--asked | NAME..].
 
 Each file tests/faults/let-through/NAME.edit names a test, and has the form of tests/mutants/mutant_texts.py. The test
 is one of tests/program, or if the file names a crate, the title of a row of that crate's table. Each mutant is built
-unproved, in a copy of the repository, and its test has to fail. The tests of tests/program have to pass without a mutant.
-`.ci/run` tries those that were asked for (--asked), some of them built together: NAME+NAME, where no mistake of one can
-be seen in the row of the other. The last line is 'N passed, M failed'.
+unproved, in a copy of the repository, and its test has to fail. The tests of tests/program have to pass without a
+mutant. `.ci/run` tries those that were asked for (--asked), some of them built together: NAME+NAME, where no mistake of
+one can be seen in the row of the other. The last line is 'N passed, M failed'.
 """
 import glob
 import os

@@ -1,9 +1,9 @@
 #!/usr/bin/env bash
 # The pages about the earth: tests/run geo -- [PROGRAM]. Each command of docs/GEO.md and docs/TUTORIAL.md is run and its
-# output compared, and the answers are compared with S2's and with those of plain tests by polygons. PROGRAM is the calculator;
-# without it, the one that the gate or tools/prove has built. The Debian packages that it needs are installed, which are
-# over 100 MB. tests/run geo -- --costs [REGIONS POINTS] measures the table of docs/GEO.md, and tests nothing. The last
-# line is 'N passed, M failed'; the status is 1 if any failed.
+# output compared, and the answers are compared with S2's and with those of plain tests by polygons. PROGRAM is the
+# calculator; without it, the one that the gate or tools/prove has built. The Debian packages that it needs are
+# installed, which are over 100 MB. tests/run geo -- --costs [REGIONS POINTS] measures the table of docs/GEO.md, and
+# tests nothing. The last line is 'N passed, M failed'; the status is 1 if any failed.
 set -uo pipefail
 top=$(cd "$(dirname "$0")/../.." && pwd)
 work=$(mktemp -d)

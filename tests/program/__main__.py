@@ -3,8 +3,8 @@
 standard error, pictures, sessions, streams that fail, files that may not be touched, a terminal, and what the pages
 show. The tests are in tests/program/.
 
-tests/run program -- [PROGRAM [TEST..]]; without PROGRAM it is the one that the gate or tools/prove has built. A TEST is a
-part of a test's name. The last line is 'N passed, M failed'.
+tests/run program -- [PROGRAM [TEST..]]; without PROGRAM it is the one that the gate or tools/prove has built. A TEST
+is a part of a test's name. The last line is 'N passed, M failed'.
 """
 import os
 import sys

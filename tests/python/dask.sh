@@ -1,6 +1,7 @@
 #!/usr/bin/env bash
 # The tests of unions on a cluster of worker processes: tests/run dask -- [CELLS]. It installs the Debian packages
-# that it needs, and prints the figures of docs/DASK.md. Its last line is 'N passed, M failed'; the status is 1 if any failed.
+# that it needs, and prints the figures of docs/DASK.md. Its last line is 'N passed, M failed'; the status is 1 if any
+# failed.
 set -uo pipefail
 top=$(cd "$(dirname "$0")/../.." && pwd)
 work=$(mktemp -d)
