@@ -1,52 +1,28 @@
-"""A plain model of cells and unions: a cell is its level and its place, a union the sorted list of its runs."""
+"""The plain model of cells and unions, tests/peer/model.py, by identifiers: a union is the sorted list of its runs."""
 
 from pathlib import Path
+from runpy import run_path
+from types import SimpleNamespace
 
-LEAVES = 6 * 4**30
+plain = SimpleNamespace(**run_path(str(Path(__file__).resolve().parents[1] / "peer" / "model.py")))
+LEAVES = plain.LEAVES
 VERSION = (Path(__file__).resolve().parents[2] / "VERSION").read_text().strip()
+cell = plain.cell_of
+joined = plain.joined
 
 
 def identifier(level, place):
-    return (2 * place + 1) * 4 ** (30 - level)
-
-
-def cell(number):
-    """The level and the place of the cell with this identifier, or None."""
-    for level in range(31):
-        unit = 4 ** (30 - level)
-        if number % (2 * unit) == unit:
-            place = number // (2 * unit)
-            return (level, place) if place < 6 * 4**level else None
-    return None
+    return plain.identifier((level, place))
 
 
 def run(number):
     """The first leaf of a cell, and the one after its last."""
-    level, place = cell(number)
-    unit = 4 ** (30 - level)
-    return place * unit, (place + 1) * unit
-
-
-def joined(runs):
-    """Runs in order, none empty, no two of them touching."""
-    made = []
-    for first, end in sorted(run for run in runs if run[0] < run[1]):
-        if made and first <= made[-1][1]:
-            made[-1] = (made[-1][0], max(end, made[-1][1]))
-        else:
-            made.append((first, end))
-    return made
+    return plain.run_of(cell(number))
 
 
 def normal(runs):
     """The normal form: the largest cells, from the left."""
-    cells = []
-    for first, end in joined(runs):
-        while first < end:
-            level = next(k for k in range(31) if first % 4 ** (30 - k) == 0 and first + 4 ** (30 - k) <= end)
-            cells.append(identifier(level, first // 4 ** (30 - level)))
-            first += 4 ** (30 - level)
-    return cells
+    return [plain.identifier(each) for each in plain.normal_form(joined(runs))]
 
 
 def runs(cells):
@@ -105,6 +81,4 @@ def token(number):
 
 
 def debug(number):
-    level, place = cell(number)
-    digits = "".join(str(place // 4 ** (level - k) % 4) for k in range(1, level + 1))
-    return f"{place // 4**level}/{digits}"
+    return plain.debug(cell(number))

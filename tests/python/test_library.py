@@ -4,7 +4,6 @@ import copy
 import ctypes
 import doctest
 import gc
-import importlib.util
 import inspect
 import mmap
 import operator as operators
@@ -33,17 +32,6 @@ try:
     import pandas
 except ImportError:
     pandas = None
-
-
-def loaded(name, path):
-    """The module in this file, under another name than the file's."""
-    spec = importlib.util.spec_from_file_location(name, path)
-    module = importlib.util.module_from_spec(spec)
-    spec.loader.exec_module(module)
-    return module
-
-
-peer_model = loaded("peer_model", Path(__file__).resolve().parents[1] / "peer" / "model.py")
 
 
 class AgainstTheModel(unittest.TestCase):
@@ -98,10 +86,10 @@ class AgainstTheModel(unittest.TestCase):
         cells += [s2union.parent(corner, level) for corner in corners for level in range(30)]
         for number in cells:
             face, i, j, side = square = s2union.square(number)
-            self.assertEqual(square, peer_model.square(model.cell(number)))
+            self.assertEqual(square, model.plain.square(model.cell(number)))
             for x, y in ((i, j), (i + self.random.randrange(side), j + self.random.randrange(side))):
                 leaf = s2union.from_face_ij(face, x, y)
-                self.assertEqual(leaf, peer_model.identifier(peer_model.leaf_at(face, x, y)))
+                self.assertEqual(leaf, model.plain.identifier(model.plain.leaf_at(face, x, y)))
                 self.assertEqual(s2union.square(leaf), (face, x, y, 1))
 
     def test_texts_that_name_no_cell(self):
