@@ -1,4 +1,4 @@
-# What the commands of databases/ share. The caller has set top and work.
+# What the parts in bash share. The caller has set top and work.
 passed=0 failed=0
 
 step() { # NAME COMMAND..: its output is shown if it fails
@@ -6,8 +6,10 @@ step() { # NAME COMMAND..: its output is shown if it fails
   shift
   if "$@" >"$work/log" 2>&1; then
     passed=$((passed + 1))
-    echo "ok     $name"
-    grep -E ' us a row$| ms$|lines of code$' "$work/log" | sed 's/^/         /'
+    local checks
+    checks=$(sed -n '/^[0-9]* passed, 0 failed$/s/ passed, 0 failed/ checks/;T;s/^/: /p' "$work/log" | tail -1)
+    echo "ok     $name$checks"
+    grep -E ' us a row$| ms$|lines of code$| branches$' "$work/log" | sed 's/^/         /'
   else
     failed=$((failed + 1))
     echo "FAILED $name"

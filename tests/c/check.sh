@@ -7,29 +7,7 @@ top=$(cd "$(dirname "$0")/../.." && pwd)
 tests=$top/tests/c
 work=$(mktemp -d)
 trap 'rm -rf "$work"' EXIT
-passed=0 failed=0
-
-# Runs a step by its name; its output is shown if it fails.
-step() {
-  local name=$1
-  shift
-  if "$@" >"$work/log" 2>&1; then
-    passed=$((passed + 1))
-    local checks
-    checks=$(sed -n '/^[0-9]* passed, 0 failed$/s/ passed, 0 failed/ checks/;T;s/^/: /p' "$work/log" | tail -1)
-    echo "ok     $name$checks"
-  else
-    failed=$((failed + 1))
-    echo "FAILED $name"
-    tail -40 "$work/log"
-  fi
-}
-
-finish() {
-  echo "$passed passed, $failed failed"
-  [ "$failed" -eq 0 ]
-  exit
-}
+. "$top/tests/steps.sh"
 
 # ---- what is needed
 
@@ -40,20 +18,11 @@ command -v pkg-config >/dev/null || packages+=(pkg-config)
 [ -x /usr/bin/python3 ] || packages+=(python3)
 /usr/bin/python3 -c 'import numpy' 2>/dev/null || packages+=(python3-numpy)
 /usr/bin/python3 -c 'import pip, setuptools, wheel' 2>/dev/null || packages+=(python3-{pip,setuptools,wheel})
-install_packages() {
-  local as_root=()
-  [ "$(id -u)" -eq 0 ] || as_root=(sudo -n)
-  "${as_root[@]}" apt-get update && "${as_root[@]}" apt-get install -y --no-install-recommends "$@"
-}
-if [ ${#packages[@]} -gt 0 ]; then
-  step "Debian packages: ${packages[*]}" install_packages "${packages[@]}"
-  [ "$failed" -eq 0 ] || { echo "tests/run bindings can't run without these packages"; finish; }
-fi
+need_packages
 
 # ---- the library, installed as a package would be
 
-step "tools/library" "$top/tools/library" "$work/usr"
-[ "$failed" -eq 0 ] || finish
+need_library
 own_sources() ( # in a copy, where no kit is, the archive stays as long as its sources do
   cd "$top" && mkdir "$work/copy" &&
     cp -r --parents tools crates.txt crates/*/{src,specs,proofs} \
@@ -108,6 +77,11 @@ unions() { # COMPILER OPTION..: builds the test of s2union.hpp and runs it
 step "s2union.hpp: g++, under the sanitizers" unions g++ -std=c++17 -fsanitize=address,undefined -fno-sanitize-recover
 step "s2union.hpp: clang++" unions clang++ -std=c++20
 step "s2union.hpp: g++, without exceptions" unions g++ -std=c++17 -fno-exceptions
+covered() {
+  unions g++ -std=c++17 -O0 -g --coverage -fkeep-inline-functions &&
+    /usr/bin/python3 "$top/tests/c/coverage.py" "$work" s2union.hpp=bindings/cpp/s2union.hpp
+}
+step "s2union.hpp: what its test executes" covered
 
 # ---- the programs of the docs
 

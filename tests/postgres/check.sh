@@ -63,6 +63,14 @@ export S2UNION_ROUNDS=150
 put_in guarded
 again() { tests Guarded AgainstTheModel WhatIsRefused Indexes Exclusion Aggregates "$@"; }
 step "guarded: each allocation refused in turn, nothing written over, nothing left" again Planner
+covered() {
+  local sources=databases/postgres
+  guarded covered "$source" COPT="-O0 --coverage" && { [ "$(id -u)" -ne 0 ] || chown -R postgres "$work/covered"; } &&
+    put_in covered && again Planner LargeQuestions &&
+    /usr/bin/python3 "$top/tests/c/coverage.py" "$work/covered" rewritten.c=$sources/s2union.c \
+      planner.c=$sources/planner.c value.h=$sources/value.h
+}
+step "what these tests execute" covered
 sanitized() { stopped data && put_in sanitized && with_sanitizers data && again Planner; }
 step "the same under the sanitizers" sanitized
 valgrind_finds_nothing() {

@@ -93,10 +93,17 @@ refused() {
 }
 step "each allocation refused in turn, under valgrind" refused
 
-documented() {
-  S2UNION_SQLITE=$work/plain/mod_s2union /usr/bin/python3 "$top/tests/docs/documented.py" "$top/docs/SQLITE.md"
+documented() { # FOLDER
+  S2UNION_SQLITE=$work/$1/mod_s2union /usr/bin/python3 "$top/tests/docs/documented.py" "$top/docs/SQLITE.md"
 }
-step "docs/SQLITE.md" documented
+step "docs/SQLITE.md" documented plain
+covered() {
+  build covered CFLAGS="-O0 -g --coverage" && export S2UNION_ROUNDS=300 &&
+    tests covered test_sqlite.AgainstTheModel test_sqlite.WhatIsRefused && "$work/refuse" "$work/covered/mod_s2union" &&
+    documented covered &&
+    /usr/bin/python3 "$top/tests/c/coverage.py" "$work/covered" s2union.c=databases/sqlite/s2union.c
+}
+step "what these tests execute" covered
 valgrind_run() {
   /usr/bin/python3 "$top/tests/docs/documented.py" --script "$top/docs/SQLITE.md" >"$work/script.sql"
   cd "$work/plain" || return 1
