@@ -24,7 +24,8 @@ def misfit(mutant, folder):
 
 def misfits():
     """The number of mutants, and those that can't be made, as 'mutant: why'."""
-    files = [*ROOT.glob("crates/*/*must-fail/*.edit"), *ROOT.glob("databases/*/mutants/*.edit")]
+    files = [*ROOT.glob("crates/*/*must-fail/*.edit"), *ROOT.glob("databases/*/mutants/*.edit"),
+             *ROOT.glob("bindings/*/mutants/*.edit")]
     mutants = [(mutant, mutant.parent.parent) for mutant in sorted(files)]
     mutants += [(mutant, ROOT) for mutant in sorted(ROOT.glob("tests/faults/let-through/*.edit"))]
     found = [(mutant, misfit(mutant, folder)) for mutant, folder in mutants]
