@@ -2,8 +2,8 @@
 
 FOLDER is where gcc has compiled the source with --coverage and where the tests have left their counts; NAME is the name
 that the source has there, and SOURCE its path in the repository. Each line has to be executed, except those that
-tests/c/uncovered.txt has, each with its reason, and no more branches may be left than that file says. The last line
-is the figure.
+tests/c/uncovered.txt has, each with its reason, and no more branches may be left than that file says. Of a source that
+isn't in that file only the figure is printed, which is the last line.
 """
 import collections
 import json
@@ -38,8 +38,8 @@ def together(some, others):
 
 
 def allowed(source):
-    """The texts of the lines of a source that may stay unexecuted, and how many branches may."""
-    texts, branches = collections.Counter(), 0
+    """The texts of the lines of a source that may stay unexecuted, and how many branches may, if that is said."""
+    texts, branches = collections.Counter(), None
     for line in LIST.read_text().splitlines():
         file, _, rest = line.partition(": ")
         if file == source:
@@ -67,7 +67,9 @@ def judged(source, lines):
             bad.append(f"{source}:{number}: not executed: {text}")
     branches = [(number, count) for number, (_, counts) in sorted(lines.items()) for count in counts]
     left = [number for number, count in branches if count == 0]
-    if len(left) > most:
+    if most is None:
+        bad = []
+    elif len(left) > most:
         bad.append(f"{source}: {len(left)} branches not taken, where {most} is the most, in lines {sorted(set(left))}")
     bad += [f"{source}: executed after all: {text}" for text, count in texts.items() if count > 0]
     for it in bad:
