@@ -226,4 +226,5 @@ int main(int argc, char** argv) {
   printf("union files: %ld with the bytes of S2's S2CellUnion::Encode, %ld read by S2, %ld of S2's read\n", files_same,
          files_read_by_s2, files_of_s2_read);
   printf("%ld random cases with the seed %llu, none different\n", cases, static_cast<unsigned long long>(seed));
+  printf("%ld passed, 0 failed\n", cases);
 }
