@@ -1,5 +1,5 @@
 /* The header for C++: what its unions answer, with numbers for cells and with a class for them, and how each refusal is
- * told: by an exception, and by a status. Linked with libs2union_noheap.a, so that memory can run out. */
+ * reported: by an exception, and by a status. Linked with libs2union_noheap.a, so that memory can run out. */
 #include "tests.h"
 #include <s2union.hpp>
 

@@ -1,7 +1,7 @@
 /* The header alone, in each of the languages that it is for. */
 #include <s2union.h>
 
-/* The bounds of so many cells, computed from an int: more than an int holds. */
+/* The bounds of a number of cells, computed from an int: more than an int holds. */
 static int sizes_are_wide(int cells) {
   uint64_t n = (uint64_t)cells;
   return S2U_MOST_TOKENS(cells) == 17 * n && S2U_MOST_ANCESTORS(cells) == 31 * n && S2U_FILE_SIZE(cells) == 9 + 8 * n &&

@@ -20,7 +20,7 @@ TOKEN = re.compile(r"[^\s(){}\[\],.;:`]+")
 HOSTS = re.compile(r"\b(?:(?:static\.)?crates[.]io|pypi[.]org|pythonhosted[.]org|npmjs[.](?:com|org)|"
                    r"proxy[.]golang[.]org|rubygems[.]org|docker[.]io|repo1?[.]maven)\b")
 DOUBLES = 25
-WORDS = {"told": 200, "asked about": 20, "so many": 9, "refused where": 0, "exactly if": 80}
+WORDS = {"told": 115, "asked about": 18, "so many": 5, "refused where": 0, "exactly if": 80}
 # Files whose lines may be long: pages and tables of rows, which are not wrapped, texts of others, and what pins a line.
 UNWRAPPED = re.compile(r"\.(?:md|svg|sums|edit)$|^LICENSE$|/(?:stdin|stdout)$")
 

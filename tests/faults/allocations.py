@@ -67,7 +67,7 @@ class Judge:
     """Counts what refused allocations did, and what was wrong."""
 
     def __init__(self):
-        self.told, self.failed = collections.Counter(), 0
+        self.counts, self.failed = collections.Counter(), 0
 
     def wrong(self, what):
         self.failed += 1
@@ -75,7 +75,7 @@ class Judge:
 
     def judge(self, ended, said, first, last, line):
         """Notes what was said of a run in which these allocations were refused, the first in a line."""
-        self.told[said] += 1
+        self.counts[said] += 1
         if said is None or said == "no answer changed" and not may_go_on(line):
             ends = f"status {ended.status} {ended.error!r}\n{ended.answers!r}"
             self.wrong(f"allocations {first} to {last}, the first in {line}: {said}, {ends}")
@@ -115,10 +115,10 @@ def main():
             lambda refused, **how: refusing.run(refused, options=["--explain"], script=script, **how), NOTED, True
         )
     for said in ("refused at the start", "refused in an answer", "no answer changed"):
-        print(f"{judge.told[said]} {said}")
-        if judge.told[said] == 0:
+        print(f"{judge.counts[said]} {said}")
+        if judge.counts[said] == 0:
             judge.wrong(f"no allocation was {said}")
-    print(f"{sum(judge.told.values()) - judge.told[None]} passed, {judge.failed} failed")
+    print(f"{sum(judge.counts.values()) - judge.counts[None]} passed, {judge.failed} failed")
     return judge.failed > 0
 
 

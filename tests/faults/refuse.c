@@ -47,10 +47,10 @@ static int is_refused(enum kind kind, int file) {
 }
 
 /* Notes what the last call answered. */
-static long told(long answer) { return calls[total - 1].answer = answer; }
+static long noted(long answer) { return calls[total - 1].answer = answer; }
 
 static void *given(void *memory) {
-  told(memory != NULL);
+  noted(memory != NULL);
   return memory;
 }
 
@@ -64,12 +64,12 @@ static size_t least(size_t size) { return size > (size_t)piece ? (size_t)piece :
 
 ssize_t read(int file, void *to, size_t size) {
   if (is_refused(READ, file)) return -1;
-  return told(syscall(SYS_read, file, to, file == 0 ? least(size) : size));
+  return noted(syscall(SYS_read, file, to, file == 0 ? least(size) : size));
 }
 
 ssize_t write(int file, const void *from, size_t size) {
-  if (is_refused(WRITE, file)) return error ? -1 : told(0);
-  return told(syscall(SYS_write, file, from, file == 1 ? least(size) : size));
+  if (is_refused(WRITE, file)) return error ? -1 : noted(0);
+  return noted(syscall(SYS_write, file, from, file == 1 ? least(size) : size));
 }
 
 int open(const char *path, int flags, ...) {
@@ -80,17 +80,17 @@ int open(const char *path, int flags, ...) {
   if (is_refused(OPEN, -1)) return -1;
   const char *swapped = getenv("SWAPPED");
   if (swapped && (unlink(path) || symlink(swapped, path))) abort();
-  return (int)told(syscall(SYS_openat, AT_FDCWD, path, flags, mode));
+  return (int)noted(syscall(SYS_openat, AT_FDCWD, path, flags, mode));
 }
 
 int statx(int folder, const char *restrict path, int flags, unsigned mask, struct statx *restrict to) {
-  return is_refused(STATX, -1) ? -1 : (int)told(syscall(SYS_statx, folder, path, flags, mask, to));
+  return is_refused(STATX, -1) ? -1 : (int)noted(syscall(SYS_statx, folder, path, flags, mask, to));
 }
 
-int close(int file) { return is_refused(CLOSE, file) ? -1 : (int)told(syscall(SYS_close, file)); }
+int close(int file) { return is_refused(CLOSE, file) ? -1 : (int)noted(syscall(SYS_close, file)); }
 
 off_t lseek(int file, off_t by, int from) {
-  return is_refused(LSEEK, file) ? -1 : told(syscall(SYS_lseek, file, by, from));
+  return is_refused(LSEEK, file) ? -1 : noted(syscall(SYS_lseek, file, by, from));
 }
 
 __attribute__((destructor)) static void tell(void) {

@@ -42,7 +42,7 @@ class Refusing:
             return Ended(done.returncode, done.stdout, done.stderr, files_of(folder), calls)
 
     def run_in_memory(self, refused="", has_calls=True):
-        """The same for a run over a shelf in memory, by script_rows. It is told as a run that ends with 3 and
+        """The same for a run over a shelf in memory, by script_rows. It counts as a run that ends with 3 and
         `s2calc: memory` if `run` answers so, or if there is no memory for the row or the editor."""
         done, calls = self.started([ROWS], row(), refused, has_calls=has_calls)
         answers, is_begun, rest = done.stdout.partition(f"other answers: {TITLE}\n".encode())

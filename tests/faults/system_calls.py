@@ -44,8 +44,8 @@ def is_file_command(line):
 
 
 def is_right(ended, call, before, error):
-    """Whether the run in which this call failed with this error is what docs/SCRIPT.md says. Before it, so many bytes
-    of answers were out."""
+    """Whether the run in which this call failed with this error is what docs/SCRIPT.md says. Before it, `before`
+    bytes of answers were out."""
     if call[:2] == ("read", 0):
         done = lines_in(ended.read())
         left = ended.answers == ANSWERS[: STEPS[done].at] and STEPS[done].leaves(ended.files)
@@ -171,11 +171,11 @@ def failures(refusing):
 
 def main():
     has_program("tests/run system-calls")
-    told, failed = collections.Counter(), 0
+    counts, failed = collections.Counter(), 0
 
     def tell(what, is_well, *more):
         nonlocal failed
-        told[what] += 1
+        counts[what] += 1
         if not is_well:
             failed += 1
             print(f"{what}: wrong", *more)
@@ -191,9 +191,9 @@ def main():
             tell("files of few bytes", is_cut_right(refusing, most), most)
         tell("notes before a read that fails", is_explained(refusing))
         tell("files that become a device", is_looked_at_again(refusing))
-    for what, count in sorted(told.items()):
+    for what, count in sorted(counts.items()):
         print(f"{count} of {what}")
-    print(f"{sum(told.values()) - failed} passed, {failed} failed")
+    print(f"{sum(counts.values()) - failed} passed, {failed} failed")
     return failed > 0
 
 

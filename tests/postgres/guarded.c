@@ -4,7 +4,7 @@
  *   - refuses the allocation that s2_refuse(n) names: as the server does, or by telling the library that there is none,
  *   - counts what a call leaves: s2_left(), the blocks of the call and the copies of its arguments that nobody freed,
  *   - takes as the most bytes of a value or a text those that s2_limit(n) names,
- *   - tells what a GIN index asks for and is told: s2_keys(asked, strategy), s2_keys_found(strategy, found, exact).
+ *   - shows what a GIN index asks for and is answered: s2_keys(asked, strategy), s2_keys_found(strategy, found, exact).
  * The build has rewritten each 'Datum NAME(PG_FUNCTION_ARGS)' of s2union.c to GUARDED(NAME). */
 #include "postgres.h"
 

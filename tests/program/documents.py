@@ -81,8 +81,8 @@ class Documents(unittest.TestCase):
 
     def test_the_reason_of_each_refusal(self):
         section = self.texts["docs/SCRIPT.md"].split("### Why")[1].split("\n## ")[0]
-        told = dict(re.findall(r"^\| `([a-z-]+)` \| `(.*?)` \|$", section, re.M))
-        self.assertEqual(told, {**REASONS, "memory": "out of memory"})
+        shown = dict(re.findall(r"^\| `([a-z-]+)` \| `(.*?)` \|$", section, re.M))
+        self.assertEqual(shown, {**REASONS, "memory": "out of memory"})
 
     def test_help_pictures_and_usage_faults(self):
         shown = 0

@@ -274,7 +274,7 @@ class AgainstTheModel(Tests):
             self.refused("s2: not a cell", "s2_count(?)", word + " 04")
 
     def peak(self, query, most=300000):
-        """The rows of a query that takes at most so many bytes."""
+        """The rows of a query that takes at most this many bytes."""
         sqlite.sqlite3_memory_highwater(1)
         before = sqlite.sqlite3_memory_used()
         rows = self.db.execute(query).fetchall()
@@ -584,7 +584,7 @@ class WhatIsRefused(Tests):
             self.assertTrue(refused and answered, (query, refused, answered))
 
 
-# A union in the table big that is asked about for each row of the table regions. If SQLite brings it to each row again,
+# A union in the table big that is queried for each row of the table regions. If SQLite brings it to each row again,
 # it is compared with what it was in the row before.
 PREPARED_ONCE = {
     "a parameter": "SELECT sum(s2_contains(?, region)) FROM regions",
