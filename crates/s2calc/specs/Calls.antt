@@ -25,13 +25,13 @@ pub record NoneFailed (may_flush : Type 0) (old new : Option (List Call)) : Type
   pub gained : Gains old new calls
   pub well : AllWell may_flush calls
 
--- the same, and then it was flushed, which didn't fail either
+-- the writer was called some times and then flushed, and no call failed
 pub record LastFlushed (may_flush : Type 0) (old new : Option (List Call)) : Type 0 where
   pub calls : List Call
   pub gained : Gains old new (calls ++ Flushed ∷ [])
   pub well : AllWell may_flush calls
 
--- the same, and then a call failed, which is the last one
+-- the last call of the writer failed, and no other did
 pub record LastFailed (may_flush : Type 0) (old new : Option (List Call)) : Type 0 where
   pub calls : List Call
   pub gained : Gains old new (calls ++ Failed ∷ [])

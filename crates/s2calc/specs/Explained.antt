@@ -15,6 +15,7 @@ pub record Point : Type 0 where
   pub world : World
   pub noted : Noted
 
+-- the point with this world and these notes
 abbrev pub point : World → Noted → Point
 point world noted = record { world = world; noted = noted }
 

@@ -20,7 +20,7 @@ TellsWhole =
     → (replies : List Reply) × Steps old (lines script) replies new
     × Appends ends.output_old ends.output_new (texts replies) × (tally ≡ tally_of replies)
 
--- the same state, and the same files
+-- two worlds with the same state and the same files
 pub record SameWorld (a b : World) : Type 0 where
   pub state : a.state ≡ b.state
   pub tells : a.files.tells ≡ b.files.tells

@@ -18,15 +18,17 @@ text_of Silent = []
 text_of (Says text) = text
 text_of (Refuses refusal) = codes "error " ++ name_of refusal ++ 10 ∷ []
 
+-- the bytes that are written for replies, one after another
 abbrev pub texts : List Reply → List ℕ
 texts replies = flat_map text_of replies
 
--- whether anything is answered, and whether it is a refusal
+-- whether anything is answered
 abbrev pub is_answer : Reply → Bool
 is_answer Silent = false
 is_answer (Says text) = true
 is_answer (Refuses refusal) = true
 
+-- whether the reply is a refusal
 abbrev pub is_refusal : Reply → Bool
 is_refusal Silent = false
 is_refusal (Says text) = false

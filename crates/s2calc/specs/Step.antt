@@ -83,7 +83,7 @@ asks_for_file Nothing = false
 asks_for_file (Fails refusal) = false
 asks_for_file (Does command) = uses_file command
 
--- the same as `Acts`, for what a line says: a line without words is silent, a refused one changes nothing
+-- a line that says this may have this reply: one without words is silent, a refused one changes nothing
 abbrev pub StepBy : Parsed → World → Reply → World → Type 0
 StepBy Nothing old reply new = (reply ≡ Silent) × (new ≡ old)
 StepBy (Fails refusal) old reply new = (reply ≡ Refuses (Words refusal)) × (new ≡ old)

@@ -20,16 +20,19 @@ square_line face i j size = codes "face " ++ decimal face ++ codes " i " ++ deci
 unfoldable pub ok_line : ℕ → ℕ → List ℕ
 ok_line out put = codes "ok " ++ decimal out ++ codes " " ++ decimal put ++ 10 ∷ []
 
--- the other lines with numbers, and the answers `yes` and `no`
+-- the numbers of cells and of leaves of a register
 unfoldable pub count_line : ℕ → ℕ → List ℕ
 count_line cells leaves = codes "cells " ++ decimal cells ++ codes " leaves " ++ decimal leaves ++ 10 ∷ []
 
+-- how many times undo and redo can be done
 unfoldable pub history_line : ℕ → ℕ → List ℕ
 history_line undos redos = codes "undo " ++ decimal undos ++ codes " redo " ++ decimal redos ++ 10 ∷ []
 
+-- the answer yes
 unfoldable pub yes_line : List ℕ
 yes_line = codes "yes" ++ 10 ∷ []
 
+-- the answer no
 unfoldable pub no_line : List ℕ
 no_line = codes "no" ++ 10 ∷ []
 
@@ -37,10 +40,11 @@ no_line = codes "no" ++ 10 ∷ []
 unfoldable pub done_line : List ℕ
 done_line = codes "ok" ++ 10 ∷ []
 
--- the lines of a listing
+-- the last line of a listing
 unfoldable pub end_line : List ℕ
 end_line = codes "end" ++ 10 ∷ []
 
+-- the line of a cell in a listing
 abbrev pub token_line : ℕ → List ℕ
 token_line n = token_of n ++ 10 ∷ []
 

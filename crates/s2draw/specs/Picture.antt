@@ -21,7 +21,7 @@ unfoldable pub small_line : ℕ → List ℕ
 small_line n =
     codes "<text x='0' y='272'>" ++ decimal n ++ codes " deeper than level 9, drawn as cells of level 9</text>\n"
 
--- the same note, or nothing if there are none
+-- the note on `n` cells that are too small to be seen, or nothing if `n` is 0
 unfoldable pub small_note : ℕ → List ℕ
 unfolding small_line
 small_note zero = []

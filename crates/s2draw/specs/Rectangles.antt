@@ -18,11 +18,11 @@ seen c = cond (can_be_seen c) c (parent_of c 9)
 abbrev pub drawn : List ℕ → List ℕ
 drawn cells = dedup (λ a b. a == b) (map seen cells)
 
--- the place of a face in the picture: three rows of two faces, counted from below, each row one face further right than
--- the row below it
+-- the column of a face in the picture, from the left: each row begins one face further right than the row under it
 abbrev pub column : ℕ → ℕ
 column face = (face + 1) / 2
 
+-- the row of a face in the picture, from the bottom: there are two faces in each
 abbrev pub row : ℕ → ℕ
 row face = face / 2
 
@@ -39,8 +39,8 @@ abbrev pub top_of : ℕ → ℕ
 top_of c = 1024 * (3 - row (face_of c)) - side_of c
     * (j_within (level_of c) (face_of c % 2) (place_of c % 4 ^ level_of c) + 1)
 
--- this rectangle is exactly the square of the cell `c`, at 2^20 leaves a unit, moved to the place of its face in the
--- picture
+-- the rectangle with this left side, top and side is exactly the square of the cell `c`, at 2^20 leaves a unit, moved to
+-- the place of its face in the picture
 pub record IsRectangleOf (c left top side : ℕ) : Type 0 where
   pub face : ℕ
   pub i : ℕ

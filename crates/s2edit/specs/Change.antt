@@ -2,6 +2,7 @@
 use Rattle.s2edit.specs.Diff.{Diff, IsDiff}
 use Rattle.s2edit.specs.declared.change.Change.TheInside.{Inside}
 
+-- the change that the fields of a change stand for
 abbrev pub diff_of : Inside → Diff
 diff_of c = record { register = c.register; out = c.out.items; put = c.put.items }
 

@@ -10,10 +10,11 @@ use Rattle.s2edit.specs.declared.TheConstants.{REGISTERS}
 use Rattle.s2edit.specs.declared.session.RestoreFault.{RestoreFault}
 use Rattle.s2edit.specs.declared.session.RestoreFault.TheVariants.{Fit, TooDeep, TooMany, Memory}
 
--- a change of a session as a change of the editor, and the reverse
+-- a change of a session as a change of the editor
 abbrev pub diff : Moved → Diff
 diff m = record { register = m.register; out = m.out; put = m.put }
 
+-- a change of the editor as one of a session
 abbrev pub moved : Diff → Moved
 moved d = record { register = d.register; out = d.out; put = d.put }
 
@@ -54,7 +55,7 @@ pub record Stored (bytes : List ℕ) (h : History (List ℕ)) : Type 0 where
   pub spells : Spells bytes content
   pub tells : Records content h
 
--- the same for a history of tables of leaf sets
+-- the bytes spell a session that tells this history of tables of leaf sets
 pub record StoredSets (bytes : List ℕ) (h : History (ℕ → Bool)) : Type 0 where
   pub lists : History (List ℕ)
   pub stored : Stored bytes lists

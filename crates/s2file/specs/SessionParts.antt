@@ -49,6 +49,7 @@ Reads text Ok view old new answer =
 abbrev pub byte_text : ℕ → List ℕ
 byte_text byte = byte ∷ []
 
+-- a number that fits in a byte
 abbrev pub IsByte : ℕ → Type 0
 IsByte n = n < 256
 

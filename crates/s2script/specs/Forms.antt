@@ -54,19 +54,23 @@ register_named [] = None
 register_named (b ∷ []) = if nat_le 97 b && nat_lt b (97 + REGISTERS) then Some (b - 97) else None
 register_named (b ∷ c ∷ bs) = None
 
--- the next word as a register, a cell, a level, a modulus or a face
+-- the next word as a register
 abbrev pub next_register : List (List ℕ) → Taken ℕ
 next_register ws = next_as register_named Register ws
 
+-- the next word as a cell
 abbrev pub next_cell : List (List ℕ) → Taken ℕ
 next_cell ws = next_as cell_named Cell ws
 
+-- the next word as a level
 abbrev pub next_level : List (List ℕ) → Taken ℕ
 next_level ws = next_as (number_within 0 GREATEST_LEVEL) Level ws
 
+-- the next word as a modulus of levels
 abbrev pub next_modulus : List (List ℕ) → Taken ℕ
 next_modulus ws = next_as (number_within 1 GREATEST_MODULUS) Modulus ws
 
+-- the next word as a face
 abbrev pub next_face : List (List ℕ) → Taken ℕ
 next_face ws = next_as (number_within 0 GREATEST_FACE) Face ws
 

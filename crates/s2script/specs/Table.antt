@@ -26,7 +26,7 @@ fact_of name ws =
     else if bytes_eq name (codes "history") then at_end ws History
     else Err (Unfit name CommandName)
 
--- the questions about registers by name, and the ones above
+-- the questions about registers by name, and those of `fact_of`
 unfoldable pub question_of : List ℕ → List (List ℕ) → Result Question Misfit
 question_of name ws =
     if bytes_eq name (codes "show") then (one_register ws gives λ r. Show r)
@@ -39,7 +39,7 @@ question_of name ws =
     Denorm r least modulus)
     else fact_of name ws
 
--- the commands with files and those that move in the history by name, and the questions
+-- the commands with files and those that move in the history by name, and those of `question_of`
 unfoldable pub file_or_move_of : List ℕ → List (List ℕ) → Result Command Misfit
 file_or_move_of name ws =
     if bytes_eq name (codes "load") then (register_and_name ws gives λ (r, file). Load r file)
@@ -50,7 +50,7 @@ file_or_move_of name ws =
     else if bytes_eq name (codes "redo") then at_end ws Redo
     else (question_of name ws gives λ question. Ask question)
 
--- the edits of a register by a covering, by name, and the commands above
+-- the edits of a register by a covering, by name, and the commands of `file_or_move_of`
 unfoldable pub covering_of : List ℕ → List (List ℕ) → Result Command Misfit
 covering_of name ws =
     if bytes_eq name (codes "outer") then (register_level_rect ws gives λ (r, level, rect).
@@ -63,7 +63,7 @@ covering_of name ws =
     Edit r (InnerOf s level rect))
     else file_or_move_of name ws
 
--- the edits of a register by another one, by name, and the commands above
+-- the edits of a register by another one, by name, and the commands of `covering_of`
 unfoldable pub combination_of : List ℕ → List (List ℕ) → Result Command Misfit
 combination_of name ws =
     if bytes_eq name (codes "copy") then (two_registers ws gives λ (r, s). Edit r (Copy s))

@@ -36,7 +36,8 @@ KnownToMeet xs ys i j = (length xs ≤ i) ⊎ ((length ys ≤ j) ⊎ ShareSome (
 abbrev pub FewForTurns : (cells d looks : ℕ) → Type 0
 FewForTurns cells d looks = (k : ℕ) → cells ≤ (d + 1) * 2 ^ k → looks ≤ 8 * (d + 1) * (1 + k)
 
--- the same for an operation whose result has `written` cells: at most four looks more for each of these
+-- the looks of an operation whose result has `written` cells: as `FewForTurns` says, and at most four more for each of
+-- these
 abbrev pub FewForTurnsAndCells : (cells d written looks : ℕ) → Type 0
 FewForTurnsAndCells cells d written looks = (k : ℕ) → cells ≤ (d + 1) * 2 ^ k
     → looks ≤ 8 * (d + 1) * (1 + k) + 4 * written

@@ -53,7 +53,8 @@ pub record Finds (old : Files) (name : List ℕ) (content : Option (List ℕ)) (
   pub holds : Holds old name content
   pub asked : new.found ≡ option_map (λ before. record { name = name; content = content } ∷ before) old.found
 
--- the same, but only the first `most` bytes of what was found are handed over
+-- the shelf was asked for that name, once, and the first `most` bytes of what was found were handed over; no file
+-- changes
 pub record FindsBeginning (old : Files) (name : List ℕ) (most : ℕ) (beginning : Option (List ℕ)) (new : Files) :
     Type 0 where
   pub content : Option (List ℕ)

@@ -45,10 +45,11 @@ long_file = negsuc 11
 abbrev pub wrong_cell : ℤ
 wrong_cell = negsuc 12
 
--- the answer to a question is yes, or no
+-- the answer yes to a question
 abbrev pub yes : ℤ
 yes = pos 1
 
+-- the answer no
 abbrev pub no : ℤ
 no = pos 0
 
