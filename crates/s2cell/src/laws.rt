@@ -1,7 +1,7 @@
 //! Laws about the definitions themselves: functions that do nothing, whose clauses are proved.
-ghost use Rattle.std.specs.Prelude.{◌≡◌, ◌+◌, ◌*◌, ◌/◌, ◌%◌, ◌<◌, ◌↔◌, ℕ, true, List, [], ◌∷◌};
+ghost use Rattle.std.specs.Prelude.{◌≡◌, ◌+◌, ◌-◌, ◌*◌, ◌/◌, ◌%◌, ◌^◌, ◌<◌, ◌↔◌, ℕ, true, List, [], ◌∷◌};
 ghost use Rattle.std.specs.Prelude.{bit_xor, codes};
-ghost use Rattle.s2cell.specs.Cell.{IsCell, level_of, face_of, child_of, covers};
+ghost use Rattle.s2cell.specs.Cell.{IsCell, IsCellAt, level_of, place_of, face_of, child_of, covers};
 ghost use Rattle.s2cell.specs.Token.{IsReading, IsToken, token_of};
 ghost use Rattle.s2cell.specs.Debug.{IsDebug, debug_of};
 ghost use Rattle.s2cell.specs.Example.{IsDescribed};
@@ -10,6 +10,15 @@ ghost use Rattle.s2cell.specs.CurveExample.{StandAt};
 ghost use Rattle.s2cell.specs.Square.{InSquare, IsSquareOf, orientation_of};
 
 use crate::{FACE_LEAVES, GREATEST_LEVEL, LEAVES, SIDE};
+
+/// A cell has one level and one place, those that are read from its identifier. It covers the leaves of that place: the
+/// leaf `x` is at the place `x / 4^(30 - k)` of level `k`.
+pub fn law_of_levels()
+    ensures level_and_place { (k m n : ℕ) → IsCellAt k m n
+        ↔ (IsCell n × (level_of n ≡ k) × (place_of n ≡ m)) }
+    ensures leaves { (k m n x : ℕ) → IsCellAt k m n
+        → ((covers n x ≡ true) ↔ (x / 4 ^ (GREATEST_LEVEL - k) ≡ m)) }
+{}
 
 /// Each cell has one token and one debug text, and each text stands for at most one cell.
 pub fn law_of_texts()
