@@ -1,9 +1,10 @@
 #!/usr/bin/env python3
-"""Checks the pages: docs/DEFINITIONS.md is what tools/definitions makes; every relative link of every page leads to a
-file; if the link's text is names of the sources, the file has them; each path in backticks is there; the files that
-docs/ARCHITECTURE.md walks through have the functions that it names; each language has what docs/FROM_S2.md says it
-has; and what can't read the file VERSION has the version that it gives. The last line is 'N passed, M failed', where N
-counts the definitions, the links, the paths, the names and the places of the version."""
+"""Checks the pages: docs/STATEMENT.md is what tools/statement makes; each definition has a sentence, and stands in
+specs/Working if no public contract needs it; every relative link of every page leads to a file; if the link's text is
+names of the sources, the file has them; each path in backticks is there; the files that docs/ARCHITECTURE.md walks
+through have the functions that it names; each language has what docs/FROM_S2.md says it has; and what can't read the
+file VERSION has the version that it gives. The last line is 'N passed, M failed', where N counts the definitions, the
+links, the paths, the names and the places of the version."""
 import re
 import subprocess
 import sys
@@ -150,9 +151,9 @@ def other_versions():
 
 
 def main():
-    definitions = subprocess.run([ROOT / "tools" / "definitions", "--check"], capture_output=True, text=True)
-    sys.stdout.write(definitions.stdout)
-    passed, failed = map(int, re.findall(r"(\d+) passed, (\d+) failed$", definitions.stdout)[0])
+    statement = subprocess.run([ROOT / "tools" / "statement", "--check"], capture_output=True, text=True, check=False)
+    sys.stdout.write(statement.stdout + statement.stderr)
+    passed, failed = map(int, re.findall(r"(\d+) passed, (\d+) failed$", statement.stdout)[0])
     count, broken = broken_links()
     for link in broken:
         print(f"leads nowhere: {link}")
