@@ -14,6 +14,52 @@ static uint64_t garbage(void) {
 
 static int is_answer(int32_t status) { return status == 0 || status == 1; }
 
+/* What the calls for many cells answer is what those for one do; `out` has room for `room` cells and no byte more. */
+static void many_cells(const uint64_t* ids, size_t n, uint32_t level, uint64_t* out, size_t room) {
+  typedef int32_t call(const uint64_t*, size_t, uint64_t*, size_t, size_t*);
+  static uint64_t (*const one[])(uint64_t) = {s2u_range_min, s2u_range_max};
+  static call* const many[] = {s2u_range_mins, s2u_range_maxes};
+  size_t bad = 77, first = 0;
+  uint64_t after = n < room ? out[n] : 0;
+  CHECK(s2u_parents(ids, n, level, out, room, &bad) == (n > room ? S2U_ROOM : S2U_OK));
+  for (size_t k = 0; k < n && n <= room; k++) CHECK(out[k] == s2u_parent(ids[k], level));
+  while (n <= room && first < n && s2u_parent(ids[first], level)) first++;
+  CHECK(bad == (n > room ? n : first));
+  CHECK(n >= room || out[n] == after);
+  for (first = 0; first < n && s2u_is_cell(ids[first]);) first++;
+  for (size_t which = 0; which < 2; which++) {
+    CHECK(many[which](ids, n, out, room, &bad) == (n > room ? S2U_ROOM : S2U_OK) && bad == (n > room ? n : first));
+    for (size_t k = 0; k < n && n <= room; k++) CHECK(out[k] == one[which](ids[k]));
+  }
+  uint8_t* levels = (uint8_t*)(out + room) - room;
+  CHECK(s2u_levels(ids, n, levels, room, &bad) == (n > room ? S2U_ROOM : S2U_OK) && bad == (n > room ? n : first));
+  for (size_t k = 0; k < n && n <= room; k++)
+    CHECK(levels[k] == (s2u_is_cell(ids[k]) ? s2u_level(ids[k]) : S2U_NO_LEVEL));
+  char *fields = (char*)out, token[S2U_MOST_TOKEN];
+  int fits = S2U_MOST_TOKEN * n <= 8 * room;
+  CHECK(s2u_token_fields(ids, n, fields, 8 * room, &bad) == (fits ? S2U_OK : S2U_ROOM) && bad == (fits ? first : n));
+  for (size_t k = 0, len = 0; k < n && fits; k++) {
+    memset(token, 0, sizeof token);
+    (void)s2u_token(ids[k], token, sizeof token, &len);
+    CHECK(memcmp(fields + S2U_MOST_TOKEN * k, token, sizeof token) == 0);
+  }
+}
+
+/* Leaves at points that are on a face or nearly. */
+static void many_points(uint64_t* out, size_t room) {
+  s2u_point points[MOST] = {{0, 0, 0}};
+  size_t n = draw() % MOST, bad = 77, first = n;
+  for (size_t k = 0; k < n; k++) {
+    s2u_point point = {draw() % 9 ? (uint32_t)(draw() % 6) : (uint32_t)draw(), (uint32_t)(draw() % (1u << 30)),
+                       draw() % 9 ? (uint32_t)(draw() % (1u << 30)) : (1u << 30) - (uint32_t)(draw() % 2)};
+    points[k] = point;
+  }
+  for (size_t k = n; k-- > 0;) first = s2u_from_face_ij(points[k].face, points[k].i, points[k].j) ? first : k;
+  CHECK(s2u_from_points(points, n, out, room, &bad) == (n > room ? S2U_ROOM : S2U_OK) && bad == (n > room ? n : first));
+  for (size_t k = 0; k < n && n <= room; k++)
+    CHECK(out[k] == s2u_from_face_ij(points[k].face, points[k].i, points[k].j));
+}
+
 int main(void) {
   uint64_t *xs_end = (uint64_t*)at_the_edge(8 * MOST) + MOST, *ys_end = (uint64_t*)at_the_edge(8 * MOST) + MOST;
   uint64_t* out_end = (uint64_t*)at_the_edge(8 * MOST) + MOST;
@@ -64,6 +110,8 @@ int main(void) {
     CHECK(status == (min > 30 || modulus < 1 || modulus > 3 ? S2U_ARGUMENT : len > room ? S2U_ROOM : S2U_OK));
     CHECK(s2u_denormalised_len(xs, nx, min, modulus, &many) == (status == S2U_ARGUMENT ? S2U_ARGUMENT : S2U_OK));
     CHECK(many == len && (status != S2U_ARGUMENT || len == 0));
+    many_cells(xs, nx, (uint32_t)(draw() % 33), out, room);
+    many_points(out, room);
     status = s2u_encode(xs, nx, bytes_end - 9 - 8 * nx, 9 + 8 * nx, &len);
     CHECK(status == S2U_OK && len == S2U_FILE_SIZE(nx) && memcmp(bytes_end - 8 * nx, xs, 8 * nx) == 0);
     char* text = text_end - draw() % (17 * MOST);

@@ -10,7 +10,8 @@
  *   1. a pointer and its length describe memory that the call may use; a pointer may be NULL if its length is 0, and a
  *      pointer to one value (len, id, rect, ..) never;
  *   2. lists that a call writes (out, len, text, ..) overlap no other argument;
- *   3. lists of uint64_t are aligned to 8 bytes, and single values as C aligns them. Bytes and texts need no alignment;
+ *   3. lists of uint64_t are aligned to 8 bytes, points and single values as C aligns them. Bytes and texts need no
+ *      alignment;
  *   4. during the call no one else writes what it reads, or reads or writes what it writes: no other thread, no process
  *      that shares the memory, no signal handler.
  *
@@ -86,6 +87,11 @@ typedef struct s2u_rect {
   uint32_t face, i0, i1, j0, j1;
 } s2u_rect;
 
+/* A leaf's face (0 to 5) and its coordinates there, below 2^30. */
+typedef struct s2u_point {
+  uint32_t face, i, j;
+} s2u_point;
+
 /* ---- the library ------------------------------------------------------------------------------------------------- */
 
 uint32_t s2u_version(void); /* [pure] S2U_VERSION of the library that runs */
@@ -138,6 +144,23 @@ int32_t s2u_tokens(const uint64_t* ids, size_t n, char* text, size_t room, size_
  * names none, *len is the place in the text where the first such word begins, and out is not touched. Two passes. */
 #define S2U_MOST_NAMED(n) ((n) / 2 + (n) % 2)
 int32_t s2u_from_tokens(const char* text, size_t n, uint64_t* out, size_t room, size_t* len);
+
+/* ---- many cells at once: all [pure], all for every number -----------------------------------------------------------
+ *
+ * Entry k is what the call for one cell answers for ids[k]. S2U_OK, and *bad is the first k that has no answer; n if
+ * each has one. S2U_ROOM: room is too small for n entries; nothing is written, and *bad is n. n steps. */
+
+/* The cells of this level that contain the cells. 0: not a cell, or a deeper level. */
+int32_t s2u_parents(const uint64_t* ids, size_t n, uint32_t level, uint64_t* out, size_t room, size_t* bad);
+/* The first and the last leaves. 0: not a cell. */
+int32_t s2u_range_mins(const uint64_t* ids, size_t n, uint64_t* out, size_t room, size_t* bad);
+int32_t s2u_range_maxes(const uint64_t* ids, size_t n, uint64_t* out, size_t room, size_t* bad);
+#define S2U_NO_LEVEL 255 /* the entry of a number that is not a cell */
+int32_t s2u_levels(const uint64_t* ids, size_t n, uint8_t* out, size_t room, size_t* bad);
+/* The tokens, each in S2U_MOST_TOKEN bytes, with zeros after it; zeros alone: not a cell. room is in bytes. */
+int32_t s2u_token_fields(const uint64_t* ids, size_t n, char* text, size_t room, size_t* bad);
+/* The leaves at points. 0: a face above 5, or i or j of 2^30 or more. */
+int32_t s2u_from_points(const s2u_point* points, size_t n, uint64_t* out, size_t room, size_t* bad);
 
 /* ---- questions about a union: all [pure], in place, without a copy --------------------------------------------------
  *

@@ -8,3 +8,4 @@ mod Decoding
 mod Pieces
 mod Placed
 mod Naming
+mod Fields

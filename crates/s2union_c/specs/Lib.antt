@@ -2,6 +2,7 @@ pub mod Status
 pub mod Cutting
 pub mod Files
 pub mod Many
+pub mod ManyCells
 pub mod Order
 pub mod Results
 pub mod Texts

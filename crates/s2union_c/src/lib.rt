@@ -12,6 +12,7 @@ mod coverings;
 mod files;
 mod lists;
 mod many;
+mod many_cells;
 mod questions;
 mod results;
 mod sets;

@@ -1,0 +1,13 @@
+use Rattle.std.proofs.Common.{◌≡◌, ◌<◌, ◌≤◌, ℕ, length, drop}
+use Rattle.std.specs.Prelude.{slice_index}
+use Rattle.s2union_c.specs.ManyCells.{HasRelative, IsFirstWithout, IsValueOr, relative_of}
+use Rattle.s2union_c.proofs.many_cells.put_relatives.Given as goal
+
+abbrev pub invariant-loop-k : goal.invariant-loop-k
+invariant-loop-k l = record {
+  so_far : (i : ℕ) → i < l.k → IsValueOr (HasRelative l.which (slice_index l.ids i))
+      (relative_of l.which (slice_index l.ids i)) 0 (slice_index l.out i);
+  rest : drop (length l.ids) l.out ≡ drop (length l.ids) l.fn.out;
+  room : length l.ids ≤ length l.out;
+  bad : IsFirstWithout (HasRelative l.which) l.ids l.bad;
+}
