@@ -6,7 +6,7 @@ import math
 import sys
 
 import numpy
-from s2union import from_face_ij, tokens
+from s2union import from_points, tokens
 
 SIDE = 2**30  # of a face, in leaves
 # The C library's, which S2 takes. The last bit of numpy's own may differ, and on the border of two leaves it matters.
@@ -35,8 +35,7 @@ def _leaf_at(u):
 
 def leaves(longitude, latitude):
     """The leaf of each point, as an array of S2's identifiers."""
-    parts = [part.tolist() for part in face_ij(longitude, latitude)]
-    return numpy.fromiter(map(from_face_ij, *parts), "uint64", len(parts[0]))
+    return from_points(*face_ij(longitude, latitude))
 
 
 if __name__ == "__main__":

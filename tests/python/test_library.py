@@ -533,6 +533,60 @@ class TheModule(unittest.TestCase):
             s2union.tokens([FACE, 2, 0])
         self.assertRaises(ValueError, s2union.from_tokens, "04 x")
 
+    def test_many_cells(self):
+        cells = [cell_of(text) for text in ("1c", "04", "1", LEAF, "9", "04")]
+        for part in (cells, tuple(cells), iter(cells), array("Q", cells), array("q", map(s2union.to_signed, cells))):
+            part = list(part) if not hasattr(part, "__len__") else part
+            for name, one in (("levels", s2union.level), ("range_mins", s2union.range_min),
+                              ("range_maxes", s2union.range_max)):
+                self.assertEqual(getattr(s2union, name)(part), [one(cell) for cell in cells])
+                self.assertEqual(getattr(s2union, name)([]), [])
+            self.assertEqual(s2union.parents(part, 0), [s2union.parent(cell, 0) for cell in cells])
+            self.assertEqual(s2union.token_fields(part), [s2union.token(cell).encode() for cell in cells])
+        self.assertEqual(s2union.levels(iter(cells)), [1, 1, 0, 30, 0, 1])
+        self.assertEqual(s2union.parents(Union(cells[:2]), 1), Union(cells[:2])[:])
+        for name, more in (("levels", ()), ("parents", (0,)), ("range_mins", ()), ("range_maxes", ()),
+                           ("token_fields", ())):
+            with self.assertRaisesRegex(ValueError, "not a cell at place 1: 0x2$"):
+                getattr(s2union, name)([FACE, 2, 0], *more)
+            self.assertRaises(TypeError, getattr(s2union, name), ["x"], *more)
+        with self.assertRaisesRegex(ValueError, "the level is below the cell's own at place 2: 0x1000000000000000$"):
+            s2union.parents(cells, 1)
+        for level, error in ((31, ValueError), (-1, ValueError), ("1", TypeError), (True, TypeError)):
+            self.assertRaises(error, s2union.parents, [], level)
+
+    def test_many_points(self):
+        points = [(0, 0, 0), (5, LAST, 1), (3, 2, LAST)]
+        face, i, j = zip(*points)
+        self.assertEqual(s2union.from_points(face, i, j), [s2union.from_face_ij(*point) for point in points])
+        self.assertEqual(s2union.from_points([], iter(()), ()), [])
+        for wrong in (((6,), (0,), (0,)), ((0,), (2**30,), (0,)), ((0,), (0,), (-1,)), ((0, 0), (0,), (0, 0))):
+            self.assertRaises(ValueError, s2union.from_points, *wrong)
+        self.assertRaises(TypeError, s2union.from_points, [0.5], [0], [0])
+
+    @unittest.skipUnless(numpy, "numpy is not installed")
+    def test_many_cells_for_numpy(self):
+        cells = [cell_of(text) for text in ("1c", "04", "1", LEAF, "9")]
+        unsigned = numpy.array(cells, numpy.uint64)
+        for part in (unsigned, unsigned.view(numpy.int64), unsigned.astype(object), numpy.repeat(unsigned, 2)[::2]):
+            for found, kind, wanted in (
+                    (s2union.levels(part), "uint8", [1, 1, 0, 30, 0]),
+                    (s2union.parents(part, 0), "uint64", [s2union.parent(cell, 0) for cell in cells]),
+                    (s2union.range_mins(part), "uint64", list(map(s2union.range_min, cells))),
+                    (s2union.range_maxes(part), "uint64", list(map(s2union.range_max, cells))),
+                    (s2union.token_fields(part), "S16", [s2union.token(cell).encode() for cell in cells])):
+                self.assertEqual((type(found), found.dtype, found.tolist()), (numpy.ndarray, kind, wanted))
+            self.assertEqual(s2union.parents(part[:0], 0).tolist(), [])
+        points = numpy.array([(0, 0, 0), (5, LAST, 1), (3, 2, LAST)])
+        for kind in ("int64", "uint64", "int32", "uint32"):
+            found = s2union.from_points(*points.T.astype(kind))
+            self.assertEqual((found.dtype, found.tolist()), ("uint64", [s2union.from_face_ij(*p) for p in points]))
+        for wrong in (2**32, -1, 2**30):
+            with self.assertRaisesRegex(ValueError, f"i is out of range at place 1: {wrong}$"):
+                s2union.from_points(*numpy.array([(0, 0, 0), (0, wrong, 0)]).T)
+        self.assertRaises(TypeError, s2union.from_points, *points.T.astype(float))
+        self.assertRaises(TypeError, s2union.from_points, *3 * [points])
+
     def test_answers_are_a_mask(self):
         a, cells = Union.from_tokens("04 0c"), [cell_of(text) for text in ("04", "14", "01", "1")]
         file = UnionFile(a.to_bytes())

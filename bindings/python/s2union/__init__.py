@@ -43,7 +43,8 @@ if TYPE_CHECKING:
 
 __all__ = ["Union", "UnionFile", "version", "is_cell", "level", "face", "parent", "child", "range_min", "range_max",
            "size", "next_cell", "previous_cell", "common_ancestor", "contains", "intersects", "from_face_ij", "square",
-           "token", "from_token", "debug", "from_debug", "tokens", "from_tokens", "to_signed"]
+           "token", "from_token", "debug", "from_debug", "tokens", "from_tokens", "to_signed", "levels", "parents",
+           "range_mins", "range_maxes", "token_fields", "from_points"]
 
 __version__ = "0.2.0"
 _ALL_BITS = 2**64 - 1
@@ -245,6 +246,152 @@ def debug(cell: SupportsIndex) -> str:
 def from_debug(text: str | bytes) -> int:
     """The cell with a debug text."""
     return _cell_of(_library.from_debug, text)
+
+
+@overload
+def levels(cells: Array) -> Any: ...
+@overload
+def levels(cells: Iterable[SupportsIndex]) -> list[int]: ...
+
+
+def levels(cells: Any) -> Any:
+    """The levels of many cells in one call, in their order: a list, or for an array of numpy or a column of pandas, an
+    array. So it is with `parents`, `range_mins` and `range_maxes`.
+
+    >>> levels([0x1000000000000000, 0x0400000000000000])
+    [0, 1]
+    """
+    ids = _ids_of(cells)
+    return _entries(cells, _each(_library.levels, ids, _array("B", bytes(len(ids)))))
+
+
+@overload
+def parents(cells: Array, level: SupportsIndex) -> Any: ...
+@overload
+def parents(cells: Iterable[SupportsIndex], level: SupportsIndex) -> list[int]: ...
+
+
+def parents(cells: Any, level: SupportsIndex) -> Any:
+    """The cells of one level that contain the cells, in one call; ValueError if the level is below a cell's own."""
+    ids, wanted = _ids_of(cells), _number(level, 30, "a level")
+    return _entries(cells, _each(_library.parents, ids, _room(len(ids)), wanted))
+
+
+@overload
+def range_mins(cells: Array) -> Any: ...
+@overload
+def range_mins(cells: Iterable[SupportsIndex]) -> list[int]: ...
+
+
+def range_mins(cells: Any) -> Any:
+    """The first leaves of many cells, in one call."""
+    ids = _ids_of(cells)
+    return _entries(cells, _each(_library.range_mins, ids, _room(len(ids))))
+
+
+@overload
+def range_maxes(cells: Array) -> Any: ...
+@overload
+def range_maxes(cells: Iterable[SupportsIndex]) -> list[int]: ...
+
+
+def range_maxes(cells: Any) -> Any:
+    """The last leaves of many cells, in one call."""
+    ids = _ids_of(cells)
+    return _entries(cells, _each(_library.range_maxes, ids, _room(len(ids))))
+
+
+@overload
+def token_fields(cells: Array) -> Any: ...
+@overload
+def token_fields(cells: Iterable[SupportsIndex]) -> list[bytes]: ...
+
+
+def token_fields(cells: Any) -> Any:
+    """The tokens of many cells in one call, as bytes: a list, or for an array of numpy or a column of pandas, an array
+    of texts of at most 16 bytes, which is made more quickly than the list that `tokens` gives."""
+    ids = _ids_of(cells)
+    width = _library.MOST_TOKEN
+    if len(ids) > _sys.maxsize // width:
+        _refuse(_library.MEMORY)
+    fields = _each(_library.token_fields, ids, _array("B", bytes(width * len(ids))))
+    if _is_array(cells):
+        import numpy
+        return numpy.frombuffer(fields, f"S{width}")
+    text = fields.tobytes()
+    return [text[at:at + width].rstrip(b"\0") for at in range(0, len(text), width)]
+
+
+@overload
+def from_points(face: Array, i: Array, j: Array) -> Any: ...
+@overload
+def from_points(face: Iterable[SupportsIndex], i: Iterable[SupportsIndex], j: Iterable[SupportsIndex]) -> list[int]: ...
+
+
+def from_points(face: Any, i: Any, j: Any) -> Any:
+    """The leaves at many places of faces, in one call: a list, or for arrays of numpy or columns of pandas, an array.
+
+    >>> from_points([0, 5], [0, 1], [0, 2]) == [from_face_ij(0, 0, 0), from_face_ij(5, 1, 2)]
+    True
+    """
+    points = _points_of((face, 5, "a face"), (i, 2**30 - 1, "i"), (j, 2**30 - 1, "j"))
+    count, bad = len(points) // 3, _c.c_size_t()
+    out = _room(count)
+    status = _library.from_points(points.buffer_info()[0], count, *_place(out), _c.byref(bad))
+    if status != _library.OK:
+        _refuse(status)
+    if bad.value < count:
+        _refuse(_library.ARGUMENT, f"at place {bad.value}: {points[3 * bad.value:3 * bad.value + 3].tolist()}")
+    return _entries(face, out)
+
+
+def _points_of(*parts: tuple[Any, int, str]) -> _array[int]:
+    """The numbers of points, each the first of all parts, the second of all, and so on."""
+    columns = [_column_of(*part) for part in parts]
+    count = len(columns[0])
+    if any(len(column) != count for column in columns):
+        raise ValueError(f"there are not as many of each: {', '.join(str(len(column)) for column in columns)}")
+    points = _array("I", bytes(4 * len(columns) * count))
+    for place, column in enumerate(columns):
+        points[place::len(columns)] = column
+    return points
+
+
+def _column_of(numbers: Any, most: int, what: str) -> _array[int]:
+    """Numbers from 0 to `most`, of 32 bits each."""
+    if not _is_array(numbers):
+        return _array("I", [_number(value, most, what) for value in numbers])
+    import numpy
+    given = numpy.asarray(numbers)
+    if given.ndim != 1 or given.dtype.kind not in "iu":
+        raise TypeError(f"{what} is an int, not of {given.ndim} dimensions and the type {given.dtype}")
+    if given.size and (given.min() < 0 or given.max() > most):
+        place = numpy.argmax((given < 0) | (given > most))
+        raise ValueError(f"{what} is out of range at place {place}: {given[place]}")
+    column = _array("I")
+    column.frombytes(given.astype(numpy.uint32).tobytes())
+    return column
+
+
+def _each(call: Callable[..., int], ids: _array[int], out: _array[int], *arguments: Any) -> _array[int]:
+    """The entries that a call answers for the cells. A cell without one is refused, by its place."""
+    bad = _c.c_size_t()
+    status = call(*_place(ids), *arguments, *_place(out), _c.byref(bad))
+    if status != _library.OK:
+        _refuse(status)
+    if bad.value < len(ids):
+        cell = ids[bad.value]
+        what = "the level is below the cell's own" if _library.is_cell(cell) else "not a cell"
+        raise ValueError(f"{what} at place {bad.value}: {cell:#x}")
+    return out
+
+
+def _entries(cells: Any, found: _array[int]) -> Any:
+    """What was found for cells: in an array if the caller has the cells in one, else in a list."""
+    if not _is_array(cells):
+        return found.tolist()
+    import numpy
+    return numpy.asarray(found)
 
 
 def tokens(cells: Iterable[SupportsIndex] | Array) -> list[str]:
