@@ -189,3 +189,28 @@ func TestFiles(t *testing.T) {
 type brokenWriter struct{}
 
 func (brokenWriter) Write([]byte) (int, error) { return 0, io.ErrClosedPipe }
+
+func TestManyCellsOneOfWhichHasNoAnswer(t *testing.T) {
+	ids := []CellID{face, 2, 0}
+	_, levels := s2union.Levels(ids)
+	_, parents := s2union.Parents(ids, 0)
+	_, first := s2union.RangeMins(ids)
+	_, last := s2union.RangeMaxes(ids)
+	_, tokens := s2union.Tokens(ids)
+	for what, err := range map[string]error{
+		"Levels": levels, "Parents": parents, "RangeMins": first, "RangeMaxes": last, "Tokens": tokens,
+	} {
+		var refusal *s2union.PlaceError
+		check(t, errors.As(err, &refusal) && refusal.Place == 1, what)
+	}
+	for _, level := range []int{1, 31, -1} {
+		made, err := s2union.Parents(ids[:1], level)
+		check(t, made == nil && err == s2union.ErrArgument, "Parents below the cell")
+	}
+	for _, point := range []s2union.FacePoint{{Face: 6}, {I: 1 << 30}, {J: 1 << 30}} {
+		made, err := s2union.CellIDsFromPoints([]s2union.FacePoint{{}, point})
+		check(t, made == nil && err == s2union.ErrArgument, "CellIDsFromPoints")
+	}
+	none, err := s2union.CellIDsFromPoints(nil)
+	check(t, len(none) == 0 && err == nil && len(must(s2union.Tokens(nil))) == 0, "none")
+}

@@ -203,6 +203,32 @@ var questions = map[string]func(given) string{
 	"outer_of_rectangle": func(g given) string { return shown(g.rect(0).Covering(g.numbers(1)[0], most)) },
 	"inner_of_rectangle": func(g given) string { return shown(g.rect(0).InteriorCovering(g.numbers(1)[0], most)) },
 	"file_check":         fileCheck,
+	"levels": func(g given) string {
+		levels := must(s2union.Levels(g.cells(0)))
+		texts := make([]string, len(levels))
+		for k, level := range levels {
+			texts[k] = strconv.Itoa(int(level))
+		}
+		return strings.Join(texts, " ")
+	},
+	"parents":     func(g given) string { return shown(s2union.Parents(g.cells(0), g.numbers(1)[0])) },
+	"range_mins":  func(g given) string { return shown(s2union.RangeMins(g.cells(0))) },
+	"range_maxes": func(g given) string { return shown(s2union.RangeMaxes(g.cells(0))) },
+	"token_fields": func(g given) string {
+		fields := []byte{}
+		for _, token := range must(s2union.Tokens(g.cells(0))) {
+			fields = append(append(fields, token...), make([]byte, 16-len(token))...)
+		}
+		return shown(fields)
+	},
+	"from_points": func(g given) string {
+		numbers, points := g.numbers(0), []s2union.FacePoint{}
+		for k := 0; k < len(numbers); k += 3 {
+			face, i, j := uint32(numbers[k]), uint32(numbers[k+1]), uint32(numbers[k+2])
+			points = append(points, s2union.FacePoint{Face: face, I: i, J: j})
+		}
+		return shown(s2union.CellIDsFromPoints(points))
+	},
 }
 
 func level(g given) string {

@@ -99,6 +99,22 @@ def lists():
     return normal
 
 
+def many_cells():
+    """Calls for many cells."""
+    given = [random.cell() for _ in range(random.randrange(9))]
+    placed = [model.cell(cell) for cell in given]
+    say("levels", given, numbers(*(level for level, _ in placed)))
+    say("range_mins", given, [2 * model.run(cell)[0] + 1 for cell in given])
+    say("range_maxes", given, [2 * model.run(cell)[1] - 1 for cell in given])
+    say("token_fields", given, b"".join(model.token(cell).encode().ljust(16, b"\0") for cell in given))
+    wanted = random.randint(0, min([level for level, _ in placed], default=30))
+    say("parents", given, str(wanted),
+        [model.identifier(wanted, place // 4 ** (level - wanted)) for level, place in placed])
+    points = [(random.randrange(6), random.randrange(2**30), random.randrange(2**30)) for _ in range(4)]
+    say("from_points", numbers(*sum(points, ())),
+        [peer_model.identifier(peer_model.leaf_at(*point)) for point in points])
+
+
 def files(normal):
     data = model.file(normal)
     for wrong, why in ((data[:random.randrange(len(data))], "short"), (data + b"\0", "trailing"),
@@ -192,6 +208,7 @@ def main(rounds):
     for _ in range(rounds):
         cells(random.number())
         two_cells()
+        many_cells()
         a = lists()
         files(a)
         sets(a)

@@ -13,7 +13,7 @@ pub const FILE_VERSION: i32 = -11;
 pub const FILE_TRAILING: i32 = -12;
 pub const FILE_CELL: i32 = -13;
 
-const MOST_TOKEN: usize = 16;
+pub const MOST_TOKEN: usize = 16;
 const MOST_DEBUG: usize = 32;
 const MOST_RANGE: usize = 184;
 pub const MOST_COVERING: usize = 1_000_000;
@@ -176,6 +176,39 @@ pub fn normalise(ids: &mut Vec<u64>) -> Result<(), Error> {
     Error::of(unsafe { s2u_normalise(ids.as_mut_ptr(), ids.len(), &mut len) }, len)?;
     ids.truncate(len);
     Ok(())
+}
+
+/// s2u_point.
+#[repr(C)]
+pub struct Point {
+    pub face: u32,
+    pub i: u32,
+    pub j: u32,
+}
+
+/// Calls that answer something for each element of a list, in a number of parts each.
+macro_rules! of_each {
+    ($($name:ident: $call:ident([$element:ty] $(, $argument:ident: $kind:ty)*) -> [$made:ty; $width:expr];)*) => {
+        extern "C" {
+            $(fn $call(at: *const $element, n: usize $(, $argument: $kind)*,
+                out: *mut $made, room: usize, bad: *mut usize) -> i32;)*
+        }
+        $(pub fn $name(list: &[$element] $(, $argument: $kind)*) -> Vec<$made> {
+            let (mut made, mut bad) = (vec![0; $width * list.len()], 0);
+            let (out, room) = (made.as_mut_ptr(), made.len());
+            // SAFETY: as above.
+            unsafe { $call(list.as_ptr(), list.len() $(, $argument)*, out, room, &mut bad) };
+            made
+        })*
+    };
+}
+of_each! {
+    parents: s2u_parents([u64], level: u32) -> [u64; 1];
+    range_mins: s2u_range_mins([u64]) -> [u64; 1];
+    range_maxes: s2u_range_maxes([u64]) -> [u64; 1];
+    levels: s2u_levels([u64]) -> [u8; 1];
+    token_fields: s2u_token_fields([u64]) -> [u8; MOST_TOKEN];
+    from_points: s2u_from_points([Point]) -> [u64; 1];
 }
 
 type AboutCells = unsafe extern "C" fn(*const u64, usize, *const u64, usize, *mut u8, usize, *mut usize) -> i32;

@@ -24,6 +24,7 @@
 
 mod calls;
 mod cell;
+mod cells;
 mod covering;
 mod error;
 mod file;
@@ -31,6 +32,7 @@ mod operators;
 mod union;
 
 pub use cell::{CellId, Square};
+pub use cells::FacePoint;
 pub use covering::{Rect, MOST_COVERING};
 pub use error::Error;
 pub use file::UnionFile;

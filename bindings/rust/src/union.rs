@@ -277,7 +277,7 @@ fn is_normalized(cells: &[CellId]) -> bool {
     calls::is_union(numbers(cells)) == 1
 }
 
-fn numbers(cells: &[CellId]) -> &[u64] {
+pub(crate) fn numbers(cells: &[CellId]) -> &[u64] {
     // SAFETY: a cell has the layout of its number.
     unsafe { std::slice::from_raw_parts(cells.as_ptr().cast(), cells.len()) }
 }

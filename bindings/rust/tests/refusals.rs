@@ -3,7 +3,7 @@
 use std::collections::{BTreeMap, HashSet};
 use std::thread;
 
-use s2union::{CellId, CellUnion, Error, Rect, UnionFile, MOST_COVERING};
+use s2union::{CellId, CellUnion, Error, FacePoint, Rect, UnionFile, MOST_COVERING};
 
 const FACE: u64 = 0x1000000000000000;
 
@@ -45,6 +45,15 @@ fn numbers_out_of_range() {
     let row = Rect { face: 0, i0: 0, i1: (1 << 30) - 1, j0: 0, j1: 0 };
     assert_eq!((row.outer(30, usize::MAX), row.outer(3, MOST_COVERING).unwrap().len()), (Err(Error::Many), 8));
     assert_eq!(Rect { face: 6, ..row }.inner(3, 9), Err(Error::Argument));
+}
+
+#[test]
+fn many_cells_some_of_which_have_no_answer() {
+    let cells = [cell("04"), cell("1")];
+    assert_eq!((CellId::parents(&cells, 1), CellId::parents(&cells, 31)), (vec![Some(cells[0]), None], vec![None; 2]));
+    let points = [(6, 0), (0, 0), (0, 1 << 30)].map(|(face, i)| FacePoint { face, i, j: 0 });
+    assert_eq!(CellId::from_points(&points), [None, Some(cell("0000000000000001")), None]);
+    assert_eq!((CellId::levels(&[]), CellId::token_fields(&[]).len()), (vec![], 0));
 }
 
 #[test]

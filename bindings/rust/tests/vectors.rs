@@ -3,10 +3,10 @@
 use std::collections::BTreeSet;
 use std::{env, fs};
 
-use s2union::{CellId, CellUnion, Error, Rect, UnionFile};
+use s2union::{CellId, CellUnion, Error, FacePoint, Rect, UnionFile};
 
 const MOST: usize = 100_000; // cells of a list
-const CALLS: usize = 47; // that vectors.py asks
+const CALLS: usize = 53; // that vectors.py asks
 
 #[test]
 fn vectors() {
@@ -114,6 +114,30 @@ impl Given<'_> {
             "contains" => self.cell(0).contains(self.cell(1)).shown(),
             "intersects" => self.cell(0).intersects(self.cell(1)).shown(),
             "common_ancestor" => self.cell(0).common_ancestor(self.cell(1)).shown(),
+            _ => self.answer_of_many_cells(call),
+        }
+    }
+
+    fn answer_of_many_cells(&self, call: &str) -> String {
+        match call {
+            "levels" => {
+                let levels: Vec<String> = CellId::levels(&self.cells(0)).iter().map(u8::to_string).collect();
+                levels.join(" ")
+            }
+            "parents" => {
+                let parents: Option<Vec<CellId>> =
+                    CellId::parents(&self.cells(0), self.number(1)).into_iter().collect();
+                parents.shown()
+            }
+            "range_mins" => CellId::range_mins(&self.cells(0)).shown(),
+            "range_maxes" => CellId::range_maxes(&self.cells(0)).shown(),
+            "token_fields" => CellId::token_fields(&self.cells(0)).concat().shown(),
+            "from_points" => {
+                let numbers = self.numbers(0);
+                let points = numbers.chunks(3).map(|part| FacePoint { face: part[0], i: part[1], j: part[2] });
+                let leaves = CellId::from_points(&points.collect::<Vec<_>>());
+                leaves.into_iter().collect::<Option<Vec<CellId>>>().shown()
+            }
             _ => self.answer_of_unions(call),
         }
     }

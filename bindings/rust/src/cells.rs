@@ -1,0 +1,64 @@
+//! Many cells in one call.
+
+use crate::calls;
+use crate::cell::CellId;
+use crate::union::{cells_of, numbers};
+
+/// A leaf's face and its coordinates there.
+#[derive(Clone, Copy, Debug, PartialEq, Eq, Hash)]
+pub struct FacePoint {
+    /// 0 to 5.
+    pub face: u32,
+    /// The first coordinate, below 2^30.
+    pub i: u32,
+    /// The second coordinate, below 2^30.
+    pub j: u32,
+}
+
+/// What the methods for one cell answer, for many in one call.
+///
+/// ```
+/// use s2union::CellId;
+///
+/// let cells = [CellId::from_token("89c25")?, CellId::from_token("1")?];
+/// assert_eq!(CellId::levels(&cells), [8, 0]);
+/// assert_eq!(CellId::parents(&cells, 5), [cells[0].parent(5), None]);
+/// # Ok::<(), s2union::Error>(())
+/// ```
+impl CellId {
+    /// The level of each cell.
+    pub fn levels(cells: &[CellId]) -> Vec<u8> {
+        calls::levels(numbers(cells))
+    }
+
+    /// The cell of a level that contains each cell; none if the level is deeper than its own.
+    pub fn parents(cells: &[CellId], level: u32) -> Vec<Option<CellId>> {
+        calls::parents(numbers(cells), level).into_iter().map(CellId::made).collect()
+    }
+
+    /// The first leaf of each cell.
+    pub fn range_mins(cells: &[CellId]) -> Vec<CellId> {
+        cells_of(calls::range_mins(numbers(cells)))
+    }
+
+    /// The last leaf of each cell.
+    pub fn range_maxes(cells: &[CellId]) -> Vec<CellId> {
+        cells_of(calls::range_maxes(numbers(cells)))
+    }
+
+    /// The token of each cell in 16 bytes, with zeros after it.
+    pub fn token_fields(cells: &[CellId]) -> Vec<[u8; calls::MOST_TOKEN]> {
+        let text = calls::token_fields(numbers(cells));
+        let mut fields = vec![[0; calls::MOST_TOKEN]; cells.len()];
+        for (field, bytes) in fields.iter_mut().zip(text.chunks_exact(calls::MOST_TOKEN)) {
+            field.copy_from_slice(bytes);
+        }
+        fields
+    }
+
+    /// The leaf at each point; none if it is on no face.
+    pub fn from_points(points: &[FacePoint]) -> Vec<Option<CellId>> {
+        let points = points.iter().map(|point| calls::Point { face: point.face, i: point.i, j: point.j });
+        calls::from_points(&points.collect::<Vec<_>>()).into_iter().map(CellId::made).collect()
+    }
+}
