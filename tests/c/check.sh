@@ -38,8 +38,8 @@ noheap=$work/usr/lib/libs2union_noheap.a
 strict=(-Wall -Wextra -pedantic -Werror)
 
 symbols() { # what the shared library offers and wants
-  local shared=$work/usr/lib/libs2union.so.0 given wanted
-  given=$(nm -D --defined-only "$shared" | awk '$2 == "T" { print $3 }' | grep -v '^s2u_.*@@S2UNION_0$')
+  local shared=$work/usr/lib/libs2union.so.1 given wanted
+  given=$(nm -D --defined-only "$shared" | awk '$2 == "T" { print $3 }' | grep -v '^s2u_.*@@S2UNION_1$')
   wanted=$(nm -D --undefined-only "$shared" | awk '{ sub(/@.*/, "", $2); print $2 }' | sort | tr '\n' ' ')
   echo "offered beside s2u_*: ${given:-nothing}; wanted: $wanted"
   [ -z "$given" ] && ! grep -qvwE 'free|malloc|memcpy|memmove|memset|realloc' <(printf '%s\n' $wanted)
@@ -136,7 +136,7 @@ step "Python: without numpy" without_numpy
 by_pip() { # the module where pip puts it, with the library elsewhere
   cp -r "$top/bindings/python" "$work/source" && /usr/bin/python3 -m pip install -q --no-index --no-build-isolation \
     --no-deps --disable-pip-version-check --root-user-action=ignore --target "$work/site" "$work/source" \
-    && (cd "$work" && env -u LD_LIBRARY_PATH PYTHONPATH="$work/site" S2UNION_LIBRARY="$work/usr/lib/libs2union.so.0" \
+    && (cd "$work" && env -u LD_LIBRARY_PATH PYTHONPATH="$work/site" S2UNION_LIBRARY="$work/usr/lib/libs2union.so.1" \
       /usr/bin/python3 -m doctest "$top/docs/PYTHON.md") && [ -e "$work/site/s2union/py.typed" ]
 }
 step "Python: installed by pip" by_pip

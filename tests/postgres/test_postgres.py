@@ -880,7 +880,12 @@ class DumpAndUpdate(Tests):
         psql("DROP DATABASE dumped; ")
 
     def test_update(self):
-        """What 0.1 has made goes on: a table, its index, and a view."""
+        """What an earlier version has made goes on: a table, its index, and a view."""
+        for earlier in ("0.1", "0.2"):
+            with self.subTest(earlier=earlier):
+                self.update_from(earlier)
+
+    def update_from(self, earlier):
         query = """
             SET enable_seqscan = off; SET max_parallel_workers_per_gather = 0;
             SELECT extversion FROM pg_extension WHERE extname = 's2union';
@@ -888,8 +893,8 @@ class DumpAndUpdate(Tests):
         """
         psql("DROP DATABASE IF EXISTS updated;")
         psql("CREATE DATABASE updated;")
-        before = psql("""
-            CREATE EXTENSION s2union VERSION '0.1'; CREATE TABLE regions(id int, region s2union);
+        before = psql(f"""
+            CREATE EXTENSION s2union VERSION '{earlier}'; CREATE TABLE regions(id int, region s2union);
             INSERT INTO regions SELECT k, s2_leaf(0, k * 1000000, k * 900000)::s2union FROM generate_series(1, 999) k;
             CREATE INDEX ON regions USING gin (region);
             CREATE VIEW counts AS SELECT s2_count(region) AS n FROM regions WHERE region @> s2_leaf(0, 1000000, 900000);
@@ -898,24 +903,24 @@ class DumpAndUpdate(Tests):
             SELECT count(*) FROM regions WHERE region @> s2_leaf(0, 5000000, 4500000);
             EXPLAIN SELECT * FROM regions WHERE region @> s2_leaf(0, 5000000, 4500000);
         """, "updated")
-        self.assertEqual(before[0], "0.1")
-        self.assertEqual(after[:4], ["0.2", *before[1:], "1"])
+        self.assertEqual(before[0], earlier)
+        self.assertEqual(after[:4], ["1.0", *before[1:], "1"])
         self.assertTrue(any("regions_region_idx" in line for line in after[4:]), after)
         psql("DROP DATABASE updated;")
 
     def test_a_later_version(self):
-        script = os.path.join(os.environ["EXTENSIONS"], "s2union--0.2--0.2.1.sql")
+        script = os.path.join(os.environ["EXTENSIONS"], "s2union--1.0--1.0.1.sql")
         with open(script, "w", encoding="utf-8") as file:
             file.write("COMMENT ON TYPE s2union IS 'a later version';\n")
         said = psql("""
-            BEGIN; ALTER EXTENSION s2union UPDATE TO '0.2.1';
+            BEGIN; ALTER EXTENSION s2union UPDATE TO '1.0.1';
             SELECT extversion, obj_description('s2union'::regtype, 'pg_type')
                 FROM pg_extension WHERE extname = 's2union';
             ROLLBACK; DROP EXTENSION IF EXISTS s2union CASCADE; CREATE EXTENSION s2union;
             SELECT '1'::s2union @> '04'::s2union;
         """.replace("BEGIN;", "SET client_min_messages = error; BEGIN;"))
         os.remove(script)
-        self.assertEqual(said, ["0.2.1|a later version", "t"])
+        self.assertEqual(said, ["1.0.1|a later version", "t"])
 
     def test_the_owner_of_a_database_may_create_the_extension(self):
         psql("DROP DATABASE IF EXISTS owned; ")

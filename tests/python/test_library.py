@@ -896,7 +896,7 @@ class TheModule(unittest.TestCase):
             shutil.copytree(Path(s2union.__file__).parent, Path(folder) / "s2union")
             given = {"PATH": os.environ["PATH"], "PYTHONPATH": folder, "PYTHONDONTWRITEBYTECODE": "1"}
             (Path(folder) / "other.so").write_bytes(b"")
-            for more, message in (({}, "libs2union.so.0 is not beside the module.*set S2UNION_LIBRARY"),
+            for more, message in (({}, "libs2union.so.1 is not beside the module.*set S2UNION_LIBRARY"),
                                   ({"S2UNION_LIBRARY": "/no/such"}, "S2UNION_LIBRARY is '/no/such'"),
                                   ({"S2UNION_LIBRARY": folder + "/other.so"}, "can't load it .*other.so"),
                                   ({"S2UNION_LIBRARY": "libc.so.6"}, "libc.so.6 has no call s2u_is_cell")):

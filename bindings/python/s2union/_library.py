@@ -6,7 +6,7 @@ import ctypes as c
 import os
 from typing import Any, Callable
 
-NAME = "libs2union.so.0"
+NAME = "libs2union.so.1"
 OK, ROOM, MEMORY, NO_CELL, NO_UNION, ARGUMENT, MANY = 0, -1, -2, -3, -4, -5, -6
 TEXTS = {NO_CELL: "not a cell", NO_UNION: "not a normalized list of cells", ARGUMENT: "argument out of range",
          MANY: "too many cells", -10: "union file: bytes are missing", -11: "union file: unknown version",

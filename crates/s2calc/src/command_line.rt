@@ -135,7 +135,7 @@ fn command<'a>(alloc: Global) -> Result<Command<'a>, AllocError> {
         .bin_name("s2calc")?
         .about(ABOUT)
         .after_help(AFTER)
-        .version("0.2.0")
+        .version("1.0.0")
         .subcommand_required(true)
         .subcommand(run_command(alloc)?)?
         .subcommand(cell_command(alloc)?)?
