@@ -15,6 +15,18 @@ extern "C" s2u_block s2u_heap_grow(void* at, size_t, size_t size, size_t align) 
 }
 extern "C" void s2u_heap_give_back(void* at) { free(at); }
 
+#if S2UNION_THROWS
+/// The memory of std's lists and strings, which can run out too.
+static bool std_has_memory = true;
+void* operator new(size_t size) {
+  void* at = std_has_memory ? malloc(size ? size : 1) : nullptr;
+  if (at == nullptr) throw std::bad_alloc();
+  return at;
+}
+void operator delete(void* at) noexcept { free(at); }
+void operator delete(void* at, size_t) noexcept { free(at); }
+#endif
+
 /// A cell as S2CellId is one: a class of 64 bits, not aligned, that is made from a number only where that is written.
 class __attribute__((packed)) Cell {
  public:
@@ -207,6 +219,13 @@ static void unions() {
   two.Encode(&bytes);
   has_memory = false;
   REFUSES(S2U_MEMORY, Union::WholeSphere(status));
+#if S2UNION_THROWS
+  has_memory = true;
+  std_has_memory = false;
+  REFUSES(S2U_MEMORY, Union::WholeSphere(status));
+  std_has_memory = true;
+  has_memory = false;
+#endif
   REFUSES(S2U_OK, two.Union(face, status));
   REFUSES(S2U_OK, two.Intersection(face, status));
   REFUSES(S2U_OK, two.Difference(rest, status));

@@ -100,7 +100,7 @@ step "docs/SQLITE.md" documented plain
 covered() {
   build covered CFLAGS="-O0 -g --coverage" && export S2UNION_ROUNDS=300 &&
     tests covered test_sqlite.AgainstTheModel test_sqlite.WhatIsRefused && "$work/refuse" "$work/covered/mod_s2union" &&
-    documented covered &&
+    documented covered && sqlite3 -batch :memory: ".load $work/covered/mod_s2union sqlite3_sunion_init" &&
     /usr/bin/python3 "$top/tests/c/coverage.py" "$work/covered" s2union.c=databases/sqlite/s2union.c
 }
 step "what these tests execute" covered
