@@ -74,8 +74,8 @@ class Copy:
             waiting = [mutant for mutant in waiting if mutant not in together]
             verdicts = self.checked(together) or {it: verdict for each in together
                                                   for it, verdict in (self.checked([each]) or {each: None}).items()}
-            left += [mutant for mutant, verdict in verdicts.items() if verdict in (None, NOT_REFUSED)]
-            found += [mutant.says(verdict) for mutant, verdict in verdicts.items() if mutant not in left]
+            left += [it for it, verdict in verdicts.items() if verdict != REFUSED and not it.is_named]
+            found += [it.says(verdict or NOT_TRIED) for it, verdict in verdicts.items() if it not in left]
         return found + [self.alone(mutant) for mutant in left]
 
     def checked(self, together):
@@ -92,10 +92,7 @@ class Copy:
         return {mutant: verdict_on(mutant, lines) for mutant in together}
 
     def alone(self, mutant):
-        """What was found of a mutant whose functions don't refuse it: those that call them may do. One that names its
-        function is not tried again."""
-        if mutant.is_named and mutant.functions:
-            return mutant.says(NOT_REFUSED)
+        """What was found of a mutant that its functions alone don't refuse: those that call them may do."""
         texts = made(mutant, self.folder)
         if texts is None:
             return mutant.says(NOT_TRIED, ": it can't be made")

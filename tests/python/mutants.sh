@@ -14,7 +14,7 @@ survives() { # EDIT: status 0 if the tests find nothing, 1 if they do, 2 if it i
   [ -z "$1" ] || /usr/bin/python3 "$top/tests/mutants/mutant_texts.py" "$1" "$work/mutant" || return 2
   (
     cd "$top/tests/python" && export PYTHONPATH=$work/mutant PYTHONDONTWRITEBYTECODE=1
-    S2UNION_LIBRARY=$work/usr/lib/libs2union.so.1 timeout 600 /usr/bin/python3 -m unittest -q -f test_library
+    S2UNION_LIBRARY=$work/usr/lib/libs2union.so timeout 600 /usr/bin/python3 -m unittest -q -f test_library
   )
   case $? in 0) ;; 137 | 143) echo "not tried: the tests were killed" && return 2 ;; *) return 1 ;; esac
 }

@@ -33,6 +33,8 @@ try:
 except ImportError:
     pandas = None
 
+peer_model = model.plain
+
 
 class AgainstTheModel(unittest.TestCase):
     def setUp(self):
@@ -86,10 +88,10 @@ class AgainstTheModel(unittest.TestCase):
         cells += [s2union.parent(corner, level) for corner in corners for level in range(30)]
         for number in cells:
             face, i, j, side = square = s2union.square(number)
-            self.assertEqual(square, model.plain.square(model.cell(number)))
+            self.assertEqual(square, peer_model.square(model.cell(number)))
             for x, y in ((i, j), (i + self.random.randrange(side), j + self.random.randrange(side))):
                 leaf = s2union.from_face_ij(face, x, y)
-                self.assertEqual(leaf, model.plain.identifier(model.plain.leaf_at(face, x, y)))
+                self.assertEqual(leaf, peer_model.identifier(peer_model.leaf_at(face, x, y)))
                 self.assertEqual(s2union.square(leaf), (face, x, y, 1))
 
     def test_texts_that_name_no_cell(self):

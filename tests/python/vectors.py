@@ -11,6 +11,7 @@ import sys
 import model
 from random_cells import FACE, Random
 
+peer_model = model.plain
 random = Random(20261126)
 LAST = 2**30 - 1
 
@@ -58,11 +59,11 @@ def cells(number):
     say("debug", number, model.debug(number))
     say("from_token", model.token(number).upper().encode(), number)
     say("from_debug", model.debug(number).encode(), number)
-    square = model.plain.square(placed)
+    square = peer_model.square(placed)
     say("square", number, numbers(*square))
     face, i, j, side = square
     i, j = random.randrange(i, i + side), random.randrange(j, j + side)
-    say("from_face_ij", numbers(face, i, j), model.plain.identifier(model.plain.leaf_at(face, i, j)))
+    say("from_face_ij", numbers(face, i, j), peer_model.identifier(peer_model.leaf_at(face, i, j)))
 
 
 def two_cells():
@@ -171,7 +172,7 @@ def coverings(a):
     say("inner", a, str(level), model.normal(model.within(model.runs(a), level)))
     face, side = random.randrange(6), 2 ** random.randint(0, 4)
     i, j = random.randrange(2**30 - side), random.randrange(2**30 - side)
-    leaves = [model.plain.leaf_at(face, i + k % side, j + k // side)[1] for k in range(side * side)]
+    leaves = [peer_model.leaf_at(face, i + k % side, j + k // side)[1] for k in range(side * side)]
     square = model.joined([(leaf, leaf + 1) for leaf in leaves])
     level = random.randint(20, 30)
     place = numbers(face, i, i + side - 1, j, j + side - 1)
@@ -200,7 +201,7 @@ def refusals():
 
 
 def main(rounds):
-    corners = [model.plain.identifier(model.plain.leaf_at(face, i, j))
+    corners = [peer_model.identifier(peer_model.leaf_at(face, i, j))
                for face in range(6) for i in (0, LAST) for j in (0, LAST)]
     for number in corners + [0, 1, 2, FACE, 12 * FACE, 12 * FACE + 1, 2**64 - 1]:
         cells(number)
