@@ -1114,6 +1114,7 @@ class Guarded(Tests):
             (f"state_of($s$SELECT s2_cells({u(cells[:9])})$s$)", "54000"),
             (eleven, "error: s2union: too many cells"), (six, "error: s2union: too many cells"),
             (f"state_of($s$SELECT {eleven}$s$)", "54000"), (f"state_of($s$SELECT ({six})::text$s$)", "54000"),
+            (f"('\\x{model.file(cells).hex()}'::bytea)::s2union", "error: s2union: more than 10 cells"),
             ("state_of($s$SELECT '1 X'::s2union$s$)", "22P02"),
         ], limit)
 
