@@ -427,7 +427,7 @@ class Words:
         return face, i0, i1, j0, self.coordinate(j0)
 
     def name(self):
-        form = "1 to 64 letters, digits, '.', '_' or '-', the first no '.' and no '-'"
+        form = "1 to 64 letters, digits, '.', '_' or '-', the first no '.' and no '-'; --dir names the folder"
         return self.next(name_in, "name", f"a file name ({form})")
 
     def end(self):

@@ -29,7 +29,8 @@ class Explanations(unittest.TestCase):
         b"redo": (b"error nothing", b"there is nothing to undo or redo"),
         b"save a .x": (
             b"error name",
-            b"'.x' is not a file name (1 to 64 letters, digits, '.', '_' or '-', the first no '.' and no '-')",
+            b"'.x' is not a file name (1 to 64 letters, digits, '.', '_' or '-', the first no '.' and no '-'; "
+            b"--dir names the folder)",
         ),
         b"add a '\\\x01": (b"error cell", b"'\\'\\\\\\x01' is not a cell (a token or a debug text)"),
         b"count a b": (b"error syntax", b"'b' is a word too many"),

@@ -5,7 +5,7 @@ import unittest
 from model import LONGEST_LINE, REGISTERS
 from process import ran
 
-NAME = b"a file name (1 to 64 letters, digits, '.', '_' or '-', the first no '.' and no '-')"
+NAME = b"a file name (1 to 64 letters, digits, '.', '_' or '-', the first no '.' and no '-'; --dir names the folder)"
 LONG = b"line: more than 4096 bytes"
 
 # Refused lines, and what is said about them.

@@ -33,7 +33,7 @@ wanted_text Modulus = ranged (codes "a modulus") 1 GREATEST_MODULUS
 wanted_text Face = ranged (codes "a face") 0 GREATEST_FACE
 wanted_text (Coordinate least) = ranged (codes "a coordinate") least GREATEST_COORDINATE
 wanted_text FileName = codes "a file name (1 to " ++ decimal LONGEST_NAME
-    ++ codes " letters, digits, '.', '_' or '-', the first no '.' and no '-')"
+    ++ codes " letters, digits, '.', '_' or '-', the first no '.' and no '-'; --dir names the folder)"
 
 -- what is said about a word that is not what is wanted
 abbrev pub unfit_text : List ℕ → Wanted → List ℕ

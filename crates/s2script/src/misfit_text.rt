@@ -80,7 +80,8 @@ impl fmt::Display for Wanted {
             }
             Wanted::FileName => write!(
                 f,
-                "a file name (1 to {LONGEST_NAME} letters, digits, '.', '_' or '-', the first no '.' and no '-')"
+                "a file name (1 to {LONGEST_NAME} letters, digits, '.', '_' or '-', the first no '.' and no '-'; \
+                 --dir names the folder)"
             ),
         }
     }
