@@ -265,6 +265,11 @@ static void nothing_at_all(void) {
   CHECK(s2u_from_token(NULL, 0, &id) == S2U_NO_CELL && id == 0);
   CHECK(s2u_from_debug(NULL, 0, &id) == S2U_NO_CELL && id == 0);
   CHECK(s2u_token(face, NULL, 0, &len) == S2U_ROOM && len == 1);
+  CHECK(s2u_parents(NULL, 0, 31, NULL, 0, &len) == S2U_OK && len == 0);
+  CHECK(s2u_levels(NULL, 0, NULL, 0, &len) == S2U_OK && len == 0);
+  CHECK(s2u_token_fields(NULL, 0, NULL, 0, &len) == S2U_OK && len == 0);
+  CHECK(s2u_from_points(NULL, 0, NULL, 0, &len) == S2U_OK && len == 0);
+  CHECK(s2u_range_mins(&face, 1, NULL, 0, &len) == S2U_ROOM && len == 1);
 }
 
 int main(void) {
