@@ -39,8 +39,8 @@ abbrev pub top_of : ℕ → ℕ
 top_of c = 1024 * (3 - row (face_of c)) - side_of c
     * (j_within (level_of c) (face_of c % 2) (place_of c % 4 ^ level_of c) + 1)
 
--- the rectangle with this left side, top and side is exactly the square of the cell `c`, at 2^20 leaves a unit, moved to
--- the place of its face in the picture
+-- the rectangle with this left side, top and side is exactly the square of the cell `c`, at 2^20 leaves a unit, moved
+-- to the place of its face in the picture
 pub record IsRectangleOf (c left top side : ℕ) : Type 0 where
   pub face : ℕ
   pub i : ℕ

@@ -2,7 +2,8 @@ use Rattle.std.proofs.Common.{◌≡◌, ℕ, ◌+◌, ◌-◌, ◌*◌, ◌/◌
 use Rattle.std.proofs.Math.Nat.{div-eq_of_lt-le}
 use Rattle.std.proofs.lemmas.Nat.{div-add-mod', mod_below}
 use Rattle.s2cell.specs.Cell.{IsCellAt, IsCell, level_of, place_of, covers}
-use Rattle.s2cell.proofs.CellLemmas.{level_of_cell, place_of_cell, size_of_cell, first_leaf_of_cell, own_place, four_pos}
+use Rattle.s2cell.proofs.CellLemmas.{level_of_cell, place_of_cell, size_of_cell, first_leaf_of_cell}
+use Rattle.s2cell.proofs.CellLemmas.{own_place, four_pos}
 use Rattle.s2cell.proofs.Leaves.{covers_from, covers_there}
 use Rattle.s2cell.proofs.laws.law_of_levels.Goals as goal
 
