@@ -1,2 +1,3 @@
 pub mod Rectangles
 pub mod Picture
+pub mod Overlay

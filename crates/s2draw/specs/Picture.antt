@@ -2,7 +2,7 @@
 use Rattle.std.specs.Prelude.{ℕ, zero, suc, ◌+◌, ◌/◌, Bool, cond, not, List, [], ◌++◌, length, codes, decimal, flat_map}
 use Rattle.std.specs.Prelude.{count_by}
 use Rattle.s2cell.specs.Cell.{level_of}
-use Rattle.s2draw.specs.declared.fixed.TheConstants.{HEAD, FOOT}
+use Rattle.s2draw.specs.declared.fixed.TheConstants.{HEAD, STYLE, LEVELS, FACES, FOOT}
 use Rattle.s2draw.specs.Rectangles.{can_be_seen, drawn, left_of, top_of, side_of}
 
 -- the element for a cell: its level and its rectangle
@@ -44,8 +44,12 @@ unfoldable pub rectangles : List ℕ → List ℕ
 unfolding rectangle
 rectangles cells = codes "<g id='cells'>\n" ++ flat_map rectangle cells ++ codes "</g>\n"
 
+-- what comes before the notes
+unfoldable pub head : List ℕ
+head = HEAD.now ++ STYLE.now ++ LEVELS.now ++ FACES.now
+
 -- the picture of a list of cells, with the line if `curve`
 unfoldable pub picture : Bool → List ℕ → List ℕ
-unfolding note line rectangles
-picture curve cells = HEAD.now ++ note cells ++ rectangles (drawn cells) ++ cond curve (line (drawn cells)) []
+unfolding head note line rectangles
+picture curve cells = head ++ note cells ++ rectangles (drawn cells) ++ cond curve (line (drawn cells)) []
     ++ FOOT.now

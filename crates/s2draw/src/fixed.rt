@@ -1,9 +1,12 @@
 //! What all pictures have in common.
 
-/// What comes before the cells: the size, the colors of the levels, the faces, the legend.
+/// The size of the picture of one list of cells.
 pub(crate) const HEAD: &str =
     "<svg xmlns='http://www.w3.org/2000/svg' width='1072' height='824' viewBox='-96 -112 4288 3296'>
-<title>S2 cells on the six faces, unfolded</title>
+";
+
+/// What the pictures are called, and how their parts look that all of them have.
+pub(crate) const STYLE: &str = "<title>S2 cells on the six faces, unfolded</title>
 <style>
 text{font:64px Helvetica,Arial,sans-serif;fill:#333}
 .title{font-size:112px;fill:#111}
@@ -11,7 +14,10 @@ text{font:64px Helvetica,Arial,sans-serif;fill:#333}
 .face{fill:#f3f4f6}
 .edge{fill:none;stroke:#4b5563;stroke-width:6}
 .curve{fill:none;stroke:#d9480f;stroke-width:8;stroke-linejoin:round;stroke-linecap:round}
-.l0,.l1,.l2,.l3,.l4,.l5,.l6,.l7{stroke:#163a5f}
+";
+
+/// The colors of the levels, and their legend.
+pub(crate) const LEVELS: &str = ".l0,.l1,.l2,.l3,.l4,.l5,.l6,.l7{stroke:#163a5f}
 .l0,.l1,.l2,.l3{stroke-width:5}
 .l4,.l5{stroke-width:3}
 .l6{stroke-width:2}
@@ -42,7 +48,29 @@ text{font:64px Helvetica,Arial,sans-serif;fill:#333}
 <rect class='l9' x='1296' y='368' width='96' height='96'/><text x='1326' y='536'>9</text>
 <text x='0' y='648'>On each face i grows to the right and j upward.</text>
 </g>
-<g id='faces'>
+";
+
+/// The colors of the layers, and what stands beside them.
+pub(crate) const COLORS: &str = "path{fill-opacity:.7}
+path,text{stroke:none}
+.curve{stroke:inherit}
+.c0{fill:#009e73;stroke:#009e73}
+.c1{fill:#0072b2;stroke:#0072b2}
+.c2{fill:#e69f00;stroke:#e69f00}
+.c3{fill:#d55e00;stroke:#d55e00}
+.c4{fill:#cc79a7;stroke:#cc79a7}
+.c5{fill:#56b4e9;stroke:#56b4e9}
+.c6{fill:#f0e442;stroke:#f0e442}
+.c7{fill:#6b7280;stroke:#6b7280}
+</style>
+<rect class='paper' x='-96' y='-112' width='100%' height='100%'/>
+<text class='title' x='0' y='64'>S2 cells by file</text>
+<text x='0' y='176'>On each face i grows to the right and j upward.</text>
+<text x='0' y='272'>Cells deeper than level 9 are drawn as cells of level 9.</text>
+";
+
+/// The faces, below the cells.
+pub(crate) const FACES: &str = "<g id='faces'>
 <rect class='face' x='0' y='2048' width='1024' height='1024'/><text x='0' y='2020'>face 0</text>
 <rect class='face' x='1024' y='2048' width='1024' height='1024'/><text x='1024' y='3144'>face 1</text>
 <rect class='face' x='1024' y='1024' width='1024' height='1024'/><text x='1024' y='996'>face 2</text>

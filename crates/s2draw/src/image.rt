@@ -3,9 +3,9 @@ ghost use Rattle.std.specs.Prelude.{◌≡◌, ◌≤◌, ◌++◌, ℕ, All, If
 ghost use Rattle.std.specs.List.{count_by};
 ghost use Rattle.s2cell.specs.Cell.{IsCell, level_of};
 ghost use Rattle.s2draw.specs.Rectangles.{can_be_seen, seen, drawn, IsDrawnExactly};
-ghost use Rattle.s2draw.specs.Picture.{rectangle, middle, small_line, note, line, rectangles, picture};
+ghost use Rattle.s2draw.specs.Picture.{rectangle, middle, small_line, note, line, rectangles, head, picture};
 
-use crate::fixed::{FOOT, HEAD};
+use crate::fixed::{FACES, FOOT, HEAD, LEVELS, STYLE};
 use crate::rectangle::{DEEPEST, rectangle_of};
 use itoa::Buffer;
 use s2cell::CellId;
@@ -23,7 +23,7 @@ pub fn picture(alloc: Global, cells: &[CellId], curve: bool) -> Result<Vec<u8>, 
     ensures squares { IfOk result (λ p. (c : ℕ) → IsCell c → IsDrawnExactly (seen c)) }
 {
     let list = cells_to_draw(alloc, cells)?;
-    let mut text = Vec::from_slice(alloc, HEAD.as_bytes())?;
+    let mut text = begin(alloc)?;
     put_note(&mut text, cells)?;
     put_rectangles(&mut text, list.as_slice())?;
     put_curve(&mut text, list.as_slice(), curve)?;
@@ -31,8 +31,19 @@ pub fn picture(alloc: Global, cells: &[CellId], curve: bool) -> Result<Vec<u8>, 
     Ok(text)
 }
 
+/// What comes before the notes.
+fn begin(alloc: Global) -> Result<Vec<u8>, AllocError>
+    ensures { IfOk result (λ text. text.items ≡ head) }
+{
+    let mut text = Vec::from_slice(alloc, HEAD.as_bytes())?;
+    put(&mut text, STYLE.as_bytes())?;
+    put(&mut text, LEVELS.as_bytes())?;
+    put(&mut text, FACES.as_bytes())?;
+    Ok(text)
+}
+
 /// The cells that are drawn.
-fn cells_to_draw(alloc: Global, cells: &[CellId]) -> Result<Vec<CellId>, AllocError>
+pub(crate) fn cells_to_draw(alloc: Global, cells: &[CellId]) -> Result<Vec<CellId>, AllocError>
     ensures cells { IfOk result (λ list. list.items ≡ drawn cells.now) }
     ensures levels { IfOk result (λ list. All (λ c. level_of c ≤ 9) list.items) }
 {
@@ -120,7 +131,7 @@ fn put_rectangle(text: &mut Vec<u8>, cell: CellId) -> Result<(), AllocError>
 }
 
 /// Adds the line that joins the middles of the cells, if it is asked for.
-fn put_curve(text: &mut Vec<u8>, cells: &[CellId], curve: bool) -> Result<(), AllocError>
+pub(crate) fn put_curve(text: &mut Vec<u8>, cells: &[CellId], curve: bool) -> Result<(), AllocError>
     requires { All (λ c. level_of c ≤ 9) cells.now }
     ensures { IfOk result (λ _. text.new.items ≡ text.old.items ++ cond curve (line cells.now) []) }
 {
@@ -152,7 +163,7 @@ fn put_middle(text: &mut Vec<u8>, cell: CellId) -> Result<(), AllocError>
 }
 
 /// Adds a number in decimal digits, after a few bytes.
-fn put_field(text: &mut Vec<u8>, before: &[u8], number: u64) -> Result<(), AllocError>
+pub(crate) fn put_field(text: &mut Vec<u8>, before: &[u8], number: u64) -> Result<(), AllocError>
     ensures { IfOk result (λ _. text.new.items ≡ text.old.items ++ before.now ++ decimal number) }
 {
     let mut buffer = Buffer::new();
@@ -161,7 +172,7 @@ fn put_field(text: &mut Vec<u8>, before: &[u8], number: u64) -> Result<(), Alloc
 }
 
 /// Adds bytes.
-fn put(text: &mut Vec<u8>, bytes: &[u8]) -> Result<(), AllocError>
+pub(crate) fn put(text: &mut Vec<u8>, bytes: &[u8]) -> Result<(), AllocError>
     ensures { IfOk result (λ _. text.new.items ≡ text.old.items ++ bytes.now) }
 {
     text.extend_from_slice(bytes)

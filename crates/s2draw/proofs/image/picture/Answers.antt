@@ -1,7 +1,7 @@
 use Rattle.std.proofs.Common.{◌∙◌}
 use Rattle.s2draw.specs.Rectangles.{seen}
-use Rattle.s2draw.specs.Picture.{picture}
-use Rattle.s2draw.specs.declared.fixed.TheConstants.{HEAD, FOOT}
+use Rattle.s2draw.specs.Picture.{head, picture}
+use Rattle.s2draw.specs.declared.fixed.TheConstants.{FOOT}
 use Rattle.s2draw.proofs.Shapes.{IsCell-seen, exact}
 use Rattle.s2draw.proofs.Notes.{whole}
 use Rattle.s2draw.proofs.image.picture.Goals as goal
@@ -12,11 +12,11 @@ returns-clause-squares c k ic = let s = IsCell-seen k ic in exact (seen k) s.0 s
 pub returns-clause-bytes : goal.returns-clause-bytes
 unfolding picture
 returns-clause-bytes c =
-    whole HEAD.now FOOT.now _ _ _ _ _ _ c.args.curve c.args.cells.now _ _
+    whole head FOOT.now _ _ _ _ _ _ c.args.curve c.args.cells.now _ _
     (c.as_slice.ensures.value ∙ c.in_ok-list.ensures.cells)
     (c.as_slice-2.ensures.value ∙ c.in_ok-list.ensures.cells)
-    c.as_bytes-2.ensures.value
-    (c.in_ok-text.ensures.items ∙ c.as_bytes.ensures.value)
+    c.as_bytes.ensures.value
+    c.in_ok-text.ensures
     c.in_ok-put_note.ensures
     c.in_ok-put_rectangles.ensures
     c.in_ok-put_curve.ensures
