@@ -368,20 +368,26 @@ def name_in(word):
     return word.decode() if re.fullmatch(rb"[A-Za-z0-9_][A-Za-z0-9._-]{0,63}", word) else None
 
 
+def unfit_byte(word):
+    """What is said about the first byte that keeps a word from being a file name."""
+    index = re.match(rb"(?:[A-Za-z0-9_][A-Za-z0-9._-]{0,63})?", word).end()
+    return f": byte {index + 1} is {shown(word[index:index + 1])}"
+
+
 class Words:
     """The words of a line after its first, read from left to right."""
 
     def __init__(self, words):
         self.words = list(words)
 
-    def next(self, meaning, refusal, wanted):
-        """What the next word means; it is wanted to be something, and refused if it isn't."""
+    def next(self, meaning, refusal, wanted, more=lambda word: ""):
+        """What the next word means; it is wanted to be something, and refused if it isn't, where `more` may be said."""
         if not self.words:
             raise Refused("syntax", f"{wanted} is missing")
         word = self.words.pop(0)
         value = meaning(word)
         if value is None:
-            raise Refused(refusal, f"{shown(word)} is not {wanted}")
+            raise Refused(refusal, f"{shown(word)} is not {wanted}{more(word)}")
         return value
 
     def register(self):
@@ -428,7 +434,7 @@ class Words:
 
     def name(self):
         form = "1 to 64 letters, digits, '.', '_' or '-', the first no '.' and no '-'; --dir names the folder"
-        return self.next(name_in, "name", f"a file name ({form})")
+        return self.next(name_in, "name", f"a file name ({form})", unfit_byte)
 
     def end(self):
         if self.words:

@@ -30,7 +30,7 @@ class Explanations(unittest.TestCase):
         b"save a .x": (
             b"error name",
             b"'.x' is not a file name (1 to 64 letters, digits, '.', '_' or '-', the first no '.' and no '-'; "
-            b"--dir names the folder)",
+            b"--dir names the folder): byte 1 is '.'",
         ),
         b"add a '\\\x01": (b"error cell", b"'\\'\\\\\\x01' is not a cell (a token or a debug text)"),
         b"count a b": (b"error syntax", b"'b' is a word too many"),

@@ -1,6 +1,6 @@
 -- The names of files.
-use Rattle.std.specs.Prelude.{ℕ, Bool, ◌&&◌, ◌||◌, not, List, ◌==◌, nat_le, if◌then◌else◌, length, slice_index}
-use Rattle.std.specs.Prelude.{Option, Some, None}
+use Rattle.std.specs.Prelude.{ℕ, suc, Bool, ◌&&◌, ◌||◌, not, List, ◌==◌, nat_le, nat_lt, if◌then◌else◌, length, slice_index}
+use Rattle.std.specs.Prelude.{[], ◌∷◌, Option, Some, None}
 use Rattle.std.specs.List.{list_all}
 use Rattle.s2script.specs.declared.limits.TheConstants.{LONGEST_NAME}
 
@@ -21,3 +21,16 @@ is_name word = nat_le 1 (length word) && (nat_le (length word) LONGEST_NAME
 -- the word, if it is a name
 abbrev pub name_of_word : List ℕ → Option (List ℕ)
 name_of_word word = if is_name word then Some word else None
+
+-- whether a byte may stand in a name at this index
+abbrev pub fits_at : ℕ → ℕ → Bool
+fits_at at b = nat_lt at LONGEST_NAME && (is_name_byte b && (nat_lt 0 at || is_first_byte b))
+
+-- the index of the first byte that may not stand where it does, counted from `at`
+abbrev pub unfit_from : ℕ → List ℕ → Option ℕ
+unfit_from at [] = None
+unfit_from at (b ∷ bs) = if fits_at at b then unfit_from (suc at) bs else Some at
+
+-- the index of the first byte of a word that may not stand there in a name
+abbrev pub unfit_index : List ℕ → Option ℕ
+unfit_index word = unfit_from 0 word

@@ -1,9 +1,11 @@
 -- What is printed for a line that does not fit.
-use Rattle.std.specs.Prelude.{ℕ, List, ◌++◌, codes, decimal, flat_map, encode_utf8_all}
+use Rattle.std.specs.Prelude.{ℕ, ◌+◌, List, [], ◌++◌, slice_index, codes, decimal, flat_map, encode_utf8_all}
+use Rattle.std.specs.Prelude.{Option, Some, None}
 use Rattle.std.specs.Char.Escape.{escape_ascii}
 use Rattle.s2script.specs.declared.misfit.Wanted.{Wanted}
 use Rattle.s2script.specs.declared.misfit.Wanted.TheVariants.{CommandName, EndOfLine, Register, Cell, RangeEnd, Level}
 use Rattle.s2script.specs.declared.misfit.Wanted.TheVariants.{Modulus, Face, Coordinate, FileName}
+use Rattle.s2script.specs.FileName.{unfit_index}
 use Rattle.s2script.specs.declared.misfit.Misfit.{Misfit}
 use Rattle.s2script.specs.declared.misfit.Misfit.TheVariants.{LongLine, Missing, Unfit}
 use Rattle.s2script.specs.declared.limits.TheConstants.{GREATEST_FACE, GREATEST_LEVEL, GREATEST_MODULUS}
@@ -35,9 +37,17 @@ wanted_text (Coordinate least) = ranged (codes "a coordinate") least GREATEST_CO
 wanted_text FileName = codes "a file name (1 to " ++ decimal LONGEST_NAME
     ++ codes " letters, digits, '.', '_' or '-', the first no '.' and no '-'; --dir names the folder)"
 
--- what is said about a word that is not what is wanted
+-- the byte of a word at this index, if there is one: its place, counted from 1, and the byte
+abbrev pub byte_text : List ℕ → Option ℕ → List ℕ
+byte_text word None = []
+byte_text word (Some at) = codes ": byte " ++ decimal (at + 1) ++ codes " is '" ++ shown_byte (slice_index word at)
+    ++ codes "'"
+
+-- what is said about a word that is not what is wanted; of a word that is no file name, its first byte that doesn't fit
 abbrev pub unfit_text : List ℕ → Wanted → List ℕ
 unfit_text word EndOfLine = word_text word ++ codes " is a word too many"
+unfit_text word FileName =
+    word_text word ++ codes " is not " ++ wanted_text FileName ++ byte_text word (unfit_index word)
 unfit_text word wanted = word_text word ++ codes " is not " ++ wanted_text wanted
 
 -- the text that tells where a line does not fit

@@ -1,13 +1,15 @@
 //! What is printed for a line that does not fit. Each `Display` writes the text that the definitions give.
 ghost use Rattle.std.specs.Prelude.{flat_map};
 ghost use Rattle.std.specs.Fmt.{WritesOnOk};
-ghost use Rattle.s2script.specs.MisfitTexts.{shown_byte, ranged};
+ghost use Rattle.s2script.specs.FileName.{unfit_index};
+ghost use Rattle.s2script.specs.MisfitTexts.{shown_byte, ranged, byte_text};
 
 use crate::limits::{
     GREATEST_COORDINATE, GREATEST_FACE, GREATEST_LEVEL, GREATEST_MODULUS, LONGEST_LINE,
     LONGEST_NAME,
 };
 use crate::misfit::{Misfit, Wanted};
+use crate::name::unfit_index;
 use crate::words::Word;
 use std::fmt;
 
@@ -30,6 +32,20 @@ fn write_bytes<W: fmt::Write>(bytes: &[u8], f: &mut fmt::Formatter<W>) -> fmt::R
         write_byte(*byte, f)?;
     }
     Ok(())
+}
+
+/// Writes which byte of a word is the first that may not stand there in a file's name, if there is one.
+fn write_unfit_byte<W: fmt::Write>(word: &[u8], f: &mut fmt::Formatter<W>) -> fmt::Result
+    ensures { WritesOnOk W.write_str_gives f.old result (byte_text word.now (unfit_index word.now)) f.new }
+{
+    match unfit_index(word) {
+        None => Ok(()),
+        Some(index) => {
+            write!(f, ": byte {} is '", index + 1)?;
+            write_byte(word[index], f)?;
+            f.write_str("'")
+        }
+    }
 }
 
 /// Writes what a number stands for, and its least and greatest value.
@@ -101,6 +117,13 @@ impl<'a> fmt::Display for Misfit<'a> {
                 word,
                 wanted: Wanted::EndOfLine,
             } => write!(f, "{word} is a word too many"),
+            Misfit::Unfit {
+                word,
+                wanted: Wanted::FileName,
+            } => {
+                write!(f, "{word} is not {}", Wanted::FileName)?;
+                write_unfit_byte(word.as_bytes(), f)
+            }
             Misfit::Unfit { word, wanted } => write!(f, "{word} is not {wanted}"),
         }
     }

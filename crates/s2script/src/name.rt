@@ -1,7 +1,7 @@
 //! The names of files.
-ghost use Rattle.std.specs.Prelude.{◌≡◌};
+ghost use Rattle.std.specs.Prelude.{◌≡◌, ◌<◌, IfSome, length};
 ghost use Rattle.std.specs.List.{list_all};
-ghost use Rattle.s2script.specs.FileName.{is_name_byte, is_first_byte, is_name, name_of_word};
+ghost use Rattle.s2script.specs.FileName.{is_name_byte, is_first_byte, is_name, name_of_word, fits_at, unfit_index};
 
 use crate::limits::LONGEST_NAME;
 use std::marker::Model;
@@ -70,4 +70,26 @@ pub fn name_in(word: &[u8]) -> Option<Name<'_>>
         Ok(text) if is_name(word) => Some(Name { text }),
         _ => None,
     }
+}
+
+/// Whether a byte may stand in a name at this index.
+fn fits_at(index: usize, byte: u8) -> bool
+    ensures { result ≡ fits_at index byte }
+{
+    index < LONGEST_NAME && is_name_byte(byte) && (index > 0 || is_first_byte(byte))
+}
+
+/// The index of the first byte of a word that may not stand there in a name.
+pub(crate) fn unfit_index(word: &[u8]) -> Option<usize>
+    ensures index { result ≡ unfit_index word.now }
+    ensures within { IfSome result (λ index. index < length word.now) }
+{
+    let mut index = 0;
+    for byte in word {
+        if !fits_at(index, *byte) {
+            return Some(index);
+        }
+        index += 1;
+    }
+    None
 }
