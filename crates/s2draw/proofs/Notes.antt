@@ -60,6 +60,7 @@ entry old t1 t2 t3 t4 t5 t6 a1 a2 a3 name a4 a5 n1 n2 n3 m1 m2 m3 e1 e2 e3 e4 e5
 pub layered : (old t1 t2 t3 t4 t5 t6 a1 a2 a3 legend : List ℕ) (n m : ℕ) (curve : Bool) (cells list again : List ℕ) →
     list ≡ drawn cells → again ≡ drawn cells → t1 ≡ old ++ a1 ++ decimal n → t2 ≡ t1 ++ a2 → t3 ≡ t2 ++ outlines list →
     t4 ≡ t3 ++ cond curve (line again) [] → t5 ≡ t4 ++ legend → t6 ≡ t5 ++ a3 → n ≡ m
-    → t6 ≡ old ++ (a1 ++ decimal m ++ a2 ++ outlines (drawn cells) ++ cond curve (line (drawn cells)) [] ++ legend ++ a3)
+    → t6 ≡ old ++ (a1 ++ decimal m ++ a2 ++ outlines (drawn cells) ++ cond curve (line (drawn cells)) []
+    ++ legend ++ a3)
 layered old t1 t2 t3 t4 t5 t6 a1 a2 a3 legend n m curve cells list again d d2 e1 e2 e3 e4 e5 e6 f =
     rw (e6, e5, e4, e3, e2, e1, d, d2, f) (simp append_assoc)

@@ -55,7 +55,11 @@ overlay_head n =
     ++ codes "' viewBox='-96 -112 4288 " ++ decimal (3296 + 96 * (n - 9)) ++ codes "'>\n" ++ STYLE.now ++ COLORS.now
     ++ FACES.now
 
+-- what comes after the lists: the edges of the faces
+unfoldable pub overlay_foot : List ℕ
+overlay_foot = FOOT.now
+
 -- the picture of several lists of cells, each drawn over those before it, with the line through each if `curve`
 unfoldable pub overlay : Bool → List Layer → List ℕ
-unfolding overlay_head layer
-overlay curve ls = overlay_head (length ls) ++ layers_from curve 0 ls ++ FOOT.now
+unfolding overlay_head layer overlay_foot
+overlay curve ls = overlay_head (length ls) ++ layers_from curve 0 ls ++ overlay_foot

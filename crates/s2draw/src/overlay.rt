@@ -2,7 +2,7 @@
 ghost use Rattle.std.specs.Prelude.{◌≡◌, ◌≤◌, ◌++◌, ℕ, All, IfOk, codes, flat_map};
 ghost use Rattle.s2cell.specs.Cell.{level_of, IsCell};
 ghost use Rattle.s2draw.specs.Rectangles.{seen, IsDrawnExactly};
-ghost use Rattle.s2draw.specs.Overlay.{escaped_byte, outline, outlines, legend, layer, overlay_head};
+ghost use Rattle.s2draw.specs.Overlay.{escaped_byte, outline, outlines, legend, layer, overlay_head, overlay_foot};
 
 use crate::fixed::{COLORS, FACES, FOOT, STYLE};
 use crate::image::{cells_to_draw, put, put_curve, put_field};
@@ -66,8 +66,9 @@ pub fn add_layer(
 }
 
 /// Adds the end of a picture that was begun by `begin_overlay`.
+#[tactic(auto, unfolding(crate::specs::Overlay::overlay_foot))]
 pub fn end_overlay(text: &mut Vec<u8>) -> Result<(), AllocError>
-    ensures { IfOk result (λ _. text.new.items ≡ text.old.items ++ FOOT.now) }
+    ensures { IfOk result (λ _. text.new.items ≡ text.old.items ++ overlay_foot) }
 {
     put(text, FOOT.as_bytes())
 }

@@ -1,6 +1,6 @@
 -- The names of files.
-use Rattle.std.specs.Prelude.{ℕ, suc, Bool, ◌&&◌, ◌||◌, not, List, ◌==◌, nat_le, nat_lt, if◌then◌else◌, length, slice_index}
-use Rattle.std.specs.Prelude.{[], ◌∷◌, Option, Some, None}
+use Rattle.std.specs.Prelude.{ℕ, suc, Bool, ◌&&◌, ◌||◌, not, List, [], ◌∷◌, ◌==◌, nat_le, nat_lt, if◌then◌else◌}
+use Rattle.std.specs.Prelude.{length, slice_index, Option, Some, None}
 use Rattle.std.specs.List.{list_all}
 use Rattle.s2script.specs.declared.limits.TheConstants.{LONGEST_NAME}
 
