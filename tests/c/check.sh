@@ -1,5 +1,6 @@
 #!/usr/bin/env bash
-# The tests of the library for C, and of the bindings for C++, Python, Go and Rust: tests/run bindings.
+# The tests of the library for C, and of the bindings for C++, Python, Go and Rust: tests/run bindings [-- SECONDS]. The
+# fuzzer runs for SECONDS, 20 if none are given.
 # It installs the Debian packages that it needs, but not Go (golang-go) and Rust (cargo, or rustup's): the bindings for
 # these are tested if their commands are there. Its last line is 'N passed, M failed'; the status is 1 if any failed.
 set -uo pipefail
@@ -67,6 +68,18 @@ step "traps, under the sanitizers" program traps "$static" -fsanitize=address,un
 step "each allocation refused in turn" program refuse "$noheap" -fsanitize=address
 step "200,000 lists of garbage" program garbage "$static" -fsanitize=address
 step "8 threads" program threads "$static"
+seconds=${1:-20}
+fuzzed() { # each call of the header with what libFuzzer makes up, from a fixed seed
+  mkdir -p "$work/found" && clang -std=c11 -D_DEFAULT_SOURCE -O2 "${strict[@]}" -fsanitize=fuzzer,address,undefined \
+    -fno-sanitize-recover=undefined -I"$include" "$tests/fuzz.c" "$static" -o "$work/fuzz" &&
+    "$work/fuzz" -seed=1 -max_len=1200 -len_control=0 -max_total_time="$seconds" -artifact_prefix="$work/found/" \
+      || { od -An -tx1 "$work"/found/* | head -40; return 1; }
+}
+if [ -e "$(clang --print-runtime-dir)/libclang_rt.fuzzer-x86_64.a" ]; then
+  step "fuzzer, $seconds seconds" fuzzed
+else
+  echo "       clang's fuzzer is not there (libclang-rt-dev): the calls are not fuzzed"
+fi
 
 # ---- unions for C++
 

@@ -11,7 +11,7 @@
 static size_t passed, failed;
 
 /* Counts a check, and reports one that fails. */
-static void check(int holds, const char* what) {
+static inline void check(int holds, const char* what) {
   if (holds) {
     passed++;
   } else {
@@ -21,7 +21,7 @@ static void check(int holds, const char* what) {
 }
 #define CHECK(holds) check((holds), __FILE__ ": " #holds)
 
-static int report(void) {
+static inline int report(void) {
   printf("%zu passed, %zu failed\n", passed, failed);
   return failed != 0;
 }
