@@ -1,6 +1,6 @@
 -- The change between two unions, made in the first.
 use Rattle.std.proofs.Common.{◌≡◌, ℕ, List, length, ap}
-use Rattle.s2union.specs.Union.{IsLocal}
+use Rattle.s2list.specs.Union.{IsLocal}
 use Rattle.s2union.specs.Apply.{cells_without, applied}
 use Rattle.s2union.proofs.Applied.{applied-between}
 

@@ -4,7 +4,8 @@ ghost use Rattle.std.specs.Prelude.{◌<◌};
 use crate::texts::{cut, numbers_of, union_of, yes_or_no};
 use row_table::add_line;
 use s2cell::CellId;
-use s2union::{CellUnion, Counted, normalise};
+use s2list::Counted;
+use s2union::{CellUnion, normalise};
 use std::alloc::{AllocError, Global};
 
 /// Makes a call, and adds its answer. False for the name of another call.

@@ -1,6 +1,6 @@
 //! The coverings of a rectangle, and of a union clipped by one.
 ghost use Rattle.std.specs.Prelude.{◌≡◌, ◌≤◌, IsTrue, IfSome, length, take};
-ghost use Rattle.s2union.specs.Union.{IsLocal, IsNormalForm};
+ghost use Rattle.s2list.specs.Union.{IsLocal, IsNormalForm};
 ghost use Rattle.s2cover.specs.Coverings.{inner_set, outer_set};
 ghost use Rattle.s2cover.specs.Rectangles.{clipped, rect_set};
 

@@ -1,6 +1,6 @@
 //! The file of a union.
 ghost use Rattle.std.specs.Prelude.{◌≡◌, ◌≤◌, ◌↔◌, IsTrue, length, take};
-ghost use Rattle.s2union.specs.Union.{IsLocal, has_leaf};
+ghost use Rattle.s2list.specs.Union.{IsLocal, has_leaf};
 ghost use Rattle.s2file.specs.File.{File, file_text};
 
 use crate::lists::{put_cells, union_of};

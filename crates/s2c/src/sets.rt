@@ -1,7 +1,7 @@
 //! The operations on two unions.
 ghost use Rattle.std.specs.Prelude.{◌≡◌, ◌≤◌, IsTrue, length, take, ◌↔◌};
-ghost use Rattle.s2union.specs.Union.{IsLocal, IsNormalForm, has_leaf};
-ghost use Rattle.s2union.specs.Sets.{either, shared, without};
+ghost use Rattle.s2list.specs.Union.{IsLocal, IsNormalForm, has_leaf};
+ghost use Rattle.s2list.specs.Sets.{either, shared, without};
 
 use crate::lists::{put_cells, union_of};
 use std::alloc::Global;

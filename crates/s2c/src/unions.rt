@@ -1,7 +1,7 @@
 //! The normal form of a list, the cells of a range, and a union cut to levels.
 ghost use Rattle.std.specs.Prelude.{◌≡◌, ◌+◌, ◌<◌, ◌≤◌, IsTrue, length, take};
 ghost use Rattle.s2cell.specs.Cell.{IsCell, first_leaf, size_of};
-ghost use Rattle.s2union.specs.Union.{IsLocal, IsNormalForm, has_leaf, between};
+ghost use Rattle.s2list.specs.Union.{IsLocal, IsNormalForm, has_leaf, between};
 ghost use Rattle.s2union.specs.Denorm.{denormalised};
 
 use crate::lists::{cells_of, put_cells, union_of};

@@ -7,10 +7,10 @@ use Rattle.std.proofs.lemmas.List.Elements.{All-contains}
 use Rattle.s2cell.specs.Cell.{IsCell}
 use Rattle.s2cell.proofs.CellLemmas.{cell_leaves}
 use Rattle.s2cell.specs.declared.TheConstants.{LEAVES}
-use Rattle.s2union.specs.Union.{has_leaf, IsLocal, IsNormalForm}
-use Rattle.s2union.specs.Union as U
-use Rattle.s2union.specs.Sets.{without}
-use Rattle.s2union.proofs.Normal.{leaf_from, normal_form_same}
+use Rattle.s2list.specs.Union.{has_leaf, IsLocal, IsNormalForm}
+use Rattle.s2list.specs.Union as U
+use Rattle.s2list.specs.Sets.{without}
+use Rattle.s2list.proofs.Normal.{leaf_from, normal_form_same}
 use Rattle.s2cover.specs.Coverings.{filled, outer_set, inner_set}
 use Rattle.s2cover.proofs.NormalForms.{outer_has_normal_form, inner_has_normal_form}
 use Rattle.s2calc.specs.declared.refusal.Refusal.{Refusal}

@@ -10,8 +10,8 @@ use Rattle.s2cell.specs.Cell.{IsCell, level_of, first_leaf, size_of}
 use Rattle.s2cell.proofs.CellLemmas.{cell_leaves}
 use Rattle.s2cell.proofs.Calls.{size_at}
 use Rattle.s2cell.proofs.Squares.{one_leaf, one_square}
-use Rattle.s2union.specs.Union.{IsNormalForm}
-use Rattle.s2union.proofs.Normal.{one_normal_form, normal_form_same}
+use Rattle.s2list.specs.Union.{IsNormalForm}
+use Rattle.s2list.proofs.Normal.{one_normal_form, normal_form_same}
 use Rattle.s2edit.specs.History.{History, Assigned, numbers, undone, redone, sets}
 use Rattle.s2edit.specs.Session.{Text}
 use Rattle.s2edit.specs.SessionLaws.{IsKept}

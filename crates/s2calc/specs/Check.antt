@@ -1,7 +1,7 @@
 -- The answer about a file.
 use Rattle.std.specs.Prelude.{◌≡◌, ℕ, ◌⊎◌, Bool, false, true, List, length, Option, Result, Ok, Err}
-use Rattle.s2union.specs.Union.{IsNormalForm}
-use Rattle.s2union.specs.Count.{count_below}
+use Rattle.s2list.specs.Union.{IsNormalForm}
+use Rattle.s2list.specs.Count.{count_below}
 use Rattle.s2shelf.specs.Shelf.{Files}
 use Rattle.s2script.specs.declared.refusal.Refusal.TheVariants.{Name as NoName}
 use Rattle.s2calc.specs.declared.refusal.Refusal.{Refusal}

@@ -1,7 +1,7 @@
 -- The answers with pictures.
 use Rattle.std.specs.Prelude.{◌≡◌, ℕ, ◌⊎◌, Bool, false, true, List, is_some, Option, Result, Ok, Err}
 use Rattle.std.specs.List.{list_all}
-use Rattle.s2union.specs.Union.{IsNormalForm}
+use Rattle.s2list.specs.Union.{IsNormalForm}
 use Rattle.s2shelf.specs.Shelf.{Files}
 use Rattle.s2draw.specs.Picture.{picture}
 use Rattle.s2script.specs.declared.refusal.Refusal.TheVariants.{Name as NoName, Cell as NoCell}

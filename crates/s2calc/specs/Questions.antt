@@ -3,8 +3,8 @@ use Rattle.std.specs.Prelude.{◌≡◌, ℕ, ◌<◌, ◌≤◌, ◌⊎◌, Boo
 use Rattle.s2cell.specs.Cell.{IsCell, level_of, first_leaf, covers}
 use Rattle.s2cell.specs.Curve.{IsPlaceOf}
 use Rattle.s2cell.specs.Square.{IsSquareOf}
-use Rattle.s2union.specs.Union.{has_leaf, IsWithin, ShareSome}
-use Rattle.s2union.specs.Count.{count_below}
+use Rattle.s2list.specs.Union.{has_leaf, IsWithin, ShareSome}
+use Rattle.s2list.specs.Count.{count_below}
 use Rattle.s2union.specs.Denorm.{denormalised}
 use Rattle.s2edit.specs.History.{History}
 use Rattle.s2edit.specs.Leads.{list_at}

@@ -2,7 +2,7 @@
 ghost use Rattle.std.specs.Prelude.{◌≡◌, ℕ, ◌⊎◌, List, [], ◌∷◌, ◌++◌, OnOk, OnErr, IfOk, IfErr, IfSome, IfNone};
 ghost use Rattle.std.specs.Prelude.{◌<◌, ◌≤◌, true, length, MatchResult};
 ghost use Rattle.std.specs.Io.KnownBytes.{Keeps};
-ghost use Rattle.s2union.specs.Union.{IsNormalForm, has_leaf};
+ghost use Rattle.s2list.specs.Union.{IsNormalForm, has_leaf};
 ghost use Rattle.s2edit.specs.History.{EachList};
 ghost use Rattle.s2calc.specs.Replies.{Reply, tally_of};
 ghost use Rattle.s2calc.specs.Execute.{IsOutcome};

@@ -1,6 +1,6 @@
 //! What the shelf has under a name: the bytes of a file, and the union in it.
 ghost use Rattle.std.specs.Prelude.{◌≡◌, ℕ, List, take, MatchResult, Ok, Err};
-ghost use Rattle.s2union.specs.Union.{has_leaf, IsNormalForm};
+ghost use Rattle.s2list.specs.Union.{has_leaf, IsNormalForm};
 ghost use Rattle.s2calc.specs.Fetch.{Fetches, FetchesUnion, Reads};
 
 use crate::refusal::Refusal;

@@ -12,8 +12,8 @@ use Rattle.std.proofs.lemmas.Result.{IfOk-weaker}
 use Rattle.s2cell.specs.Cell.{IsCell, level_of, first_leaf, size_of, covers}
 use Rattle.s2cell.proofs.Family.{deeper_inside}
 use Rattle.s2cell.proofs.Leaves.{covers_from, covers_there, inside_from_within}
-use Rattle.s2union.specs.Union.{has_leaf, IsLocal, IsNormalForm, Union}
-use Rattle.s2union.proofs.Normal.{leaf_to, normal_form_same}
+use Rattle.s2list.specs.Union.{has_leaf, IsLocal, IsNormalForm, Union}
+use Rattle.s2list.proofs.Normal.{leaf_to, normal_form_same}
 use Rattle.s2cover.specs.Coverings.{filled, outer_set, inner_set, IsInOuter, IsInInner}
 use Rattle.s2cover.specs.Cut.{meets, reaches, cut_at, cells_cut, cells_kept, cells_met}
 use Rattle.s2cell.specs.declared.TheConstants.{LEAVES}

@@ -8,9 +8,9 @@ use Rattle.s2cover.specs.Descent.{depth_of, form_in, IsAligned}
 use Rattle.s2cover.specs.Rectangles.{Rect, rect_set}
 use Rattle.s2cover.proofs.Rectangles.{in_rect_from}
 use Rattle.s2cover.proofs.Formed.{formed}
-use Rattle.s2union.specs.Union.{has_leaf, IsNormalForm}
-use Rattle.s2union.proofs.Normal.{normal_form_same, one_normal_form}
-use Rattle.s2union.proofs.Picking.{picked_none, picked_normal}
+use Rattle.s2list.specs.Union.{has_leaf, IsNormalForm}
+use Rattle.s2list.proofs.Normal.{normal_form_same, one_normal_form}
+use Rattle.s2list.proofs.Picking.{picked_none, picked_normal}
 use Rattle.s2cell.specs.Cell.{IsCell, level_of, place_of, face_of, covers}
 use Rattle.s2cell.proofs.CellLemmas.{own_place}
 use Rattle.std.proofs.lemmas.Result.{IfErr-weaker}

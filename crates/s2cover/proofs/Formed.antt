@@ -13,11 +13,11 @@ use Rattle.s2cell.specs.Cell.{parent_of}
 use Rattle.s2cell.proofs.CellLemmas.{cell_leaves, level_of_cell, place_of_cell, first_leaf_of_cell, size_of_cell}
 use Rattle.s2cell.proofs.Calls.{child_leaves, shallow}
 use Rattle.s2cell.proofs.Leaves.{covers_from}
-use Rattle.s2union.specs.Union.{has_leaf, between, LiesIn, IsGreatestIn, IsNormalForm}
-use Rattle.s2union.specs.Packed.{EndsBefore}
-use Rattle.s2union.proofs.Normal.{parent_of_child, normal_form_same, one_normal_form}
-use Rattle.s2union.proofs.Tiling.{none_between}
-use Rattle.s2union.proofs.Picking.{picked_normal}
+use Rattle.s2list.specs.Union.{has_leaf, between, LiesIn, IsGreatestIn, IsNormalForm}
+use Rattle.s2list.specs.Packed.{EndsBefore}
+use Rattle.s2list.proofs.Normal.{parent_of_child, normal_form_same, one_normal_form}
+use Rattle.s2list.proofs.Tiling.{none_between}
+use Rattle.s2list.proofs.Picking.{picked_normal}
 use Rattle.s2cover.specs.Coverings.{filled, touched, outer_set, inner_set}
 use Rattle.s2cover.specs.Descent.{blocks, covering_set, form_faces, form_in, form, joined, cell_at, depth_of, IsAligned}
 use Rattle.s2cell.specs.declared.TheConstants.{LEAVES}

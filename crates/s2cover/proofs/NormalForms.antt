@@ -1,6 +1,6 @@
 -- Each covering has a normal form.
 use Rattle.std.proofs.Common.{ℕ, Bool, true, false, List}
-use Rattle.s2union.specs.Union.{IsNormalForm}
+use Rattle.s2list.specs.Union.{IsNormalForm}
 use Rattle.s2cover.specs.Coverings.{outer_set, inner_set}
 use Rattle.s2cover.proofs.Formed.{covering_normal}
 

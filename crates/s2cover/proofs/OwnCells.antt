@@ -13,8 +13,8 @@ use Rattle.s2cell.proofs.Calls.{IsCell-parent_of, shallow}
 use Rattle.s2cell.proofs.Family.{deeper_inside, parent_level, parent_around, same_from_within}
 use Rattle.s2cell.proofs.Leaves.{Within, covers_from, inside_from_within}
 use Rattle.s2cell.proofs.Squares.{covers_block, first_leaf_covered}
-use Rattle.s2union.specs.Union.{has_leaf, IsLocal, IsNormalForm, Union}
-use Rattle.s2union.proofs.Normal.{all_held, holder, family, leaf_to, normal_form_same, one_normal_form}
+use Rattle.s2list.specs.Union.{has_leaf, IsLocal, IsNormalForm, Union}
+use Rattle.s2list.proofs.Normal.{all_held, holder, family, leaf_to, normal_form_same, one_normal_form}
 use Rattle.std.proofs.lemmas.Result.{IfOk-weaker, IfErr-weaker}
 use Rattle.std.specs.List.{list_any}
 use Rattle.s2cover.specs.Coverings.{touched, outer_set, inner_set, IsInOuter, IsInInner}

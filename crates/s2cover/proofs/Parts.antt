@@ -13,11 +13,11 @@ use Rattle.s2cell.proofs.Calls.{IsCell-parent_of}
 use Rattle.s2cell.proofs.Family.{deeper_inside, parent_level, parent_around}
 use Rattle.s2cell.proofs.Leaves.{covers_from, inside_from_within}
 use Rattle.s2cell.proofs.Squares.{first_leaf_covered}
-use Rattle.s2union.specs.Union.{has_leaf, IsGreatestIn, IsLocal, IsNormalForm}
-use Rattle.s2union.specs.Packed.{EndsBefore}
-use Rattle.s2union.proofs.Normal.{leaf_from, leaf_to, member_greatest, one_normal_form}
-use Rattle.s2union.proofs.Checking.{packed_from_local}
-use Rattle.s2union.proofs.Picking.{picked_normal}
+use Rattle.s2list.specs.Union.{has_leaf, IsGreatestIn, IsLocal, IsNormalForm}
+use Rattle.s2list.specs.Packed.{EndsBefore}
+use Rattle.s2list.proofs.Normal.{leaf_from, leaf_to, member_greatest, one_normal_form}
+use Rattle.s2list.proofs.Checking.{packed_from_local}
+use Rattle.s2list.proofs.Picking.{picked_normal}
 use Rattle.s2cover.specs.Coverings.{filled, touched, outer_set, inner_set}
 use Rattle.s2cell.specs.declared.TheConstants.{LEAVES}
 use Rattle.s2cell.proofs.CellLemmas.{cell_leaves, four_pos}

@@ -3,8 +3,8 @@ use Rattle.std.proofs.Common.{◌≡◌, ℕ, Bool, true, false, ◌&&◌, List,
 use Rattle.s2cell.specs.Cell.{IsCell, covers}
 use Rattle.s2cell.proofs.Leaves.{covers_there, covers_from, inside_from_within, meeting, before, after, within, around}
 use Rattle.std.proofs.lemmas.List.Elements.{All-contains}
-use Rattle.s2union.specs.Union.{has_leaf, IsWithin, ShareSome}
-use Rattle.s2union.proofs.Normal.{leaf_from, leaf_to}
+use Rattle.s2list.specs.Union.{has_leaf, IsWithin, ShareSome}
+use Rattle.s2list.proofs.Normal.{leaf_from, leaf_to}
 
 -- if the set doesn't hold the whole cell, the cells that share a leaf with it lie inside it
 pub run_inside : (u run : List ℕ) (c x : ℕ) → IsCell c →

@@ -2,7 +2,7 @@
 use Rattle.std.specs.Prelude.{◌≡◌, ℕ, zero, suc, ◌+◌, ◌-◌, ◌*◌, ◌/◌, ◌^◌, Bool, true, false, ◌&&◌}
 use Rattle.std.specs.Prelude.{◌||◌, nat_lt, ◌<◌, List, length}
 use Rattle.s2cell.specs.Cell.{IsCell, level_of, covers}
-use Rattle.s2union.specs.Union.{LiesIn, ShareSome, IsNormalForm, has_leaf}
+use Rattle.s2list.specs.Union.{LiesIn, ShareSome, IsNormalForm, has_leaf}
 use Rattle.s2cover.specs.declared.region.CoverFault.{CoverFault}
 use Rattle.s2cover.specs.declared.region.CoverFault.TheVariants.{TooMany}
 use Rattle.s2cell.specs.declared.TheConstants.{LEAVES}

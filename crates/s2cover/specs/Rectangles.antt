@@ -1,7 +1,7 @@
 -- Rectangles of leaves on a face.
 use Rattle.std.specs.Prelude.{◌≡◌, ℕ, ◌/◌, ◌^◌, ◌<◌, ◌≤◌, Bool, ◌&&◌, ◌==◌, nat_le, List}
 use Rattle.s2cell.specs.Curve.{i_of, j_of}
-use Rattle.s2union.specs.Union.{has_leaf}
+use Rattle.s2list.specs.Union.{has_leaf}
 
 -- a face, and the least and the greatest value of each coordinate
 pub record Rect : Type 0 where

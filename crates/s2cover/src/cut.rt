@@ -1,6 +1,6 @@
 //! The coverings of a union, which are its own cells cut to a level.
 ghost use Rattle.std.specs.Prelude.{◌≡◌, ◌<◌, ◌≤◌, length, IfOk, IfErr};
-ghost use Rattle.s2union.specs.Union.{has_leaf, IsLocal, IsNormalForm};
+ghost use Rattle.s2list.specs.Union.{has_leaf, IsLocal, IsNormalForm};
 ghost use Rattle.s2cover.specs.Coverings.{HasLeavesOf, TooManyMeans, inner_set, outer_set};
 ghost use Rattle.s2cover.specs.Cut.{cells_cut, cells_kept, cut_at};
 

@@ -2,7 +2,7 @@
 ghost use Rattle.std.specs.Prelude.{◌≡◌, ◌+◌, ◌-◌, ◌*◌, ◌^◌, ◌<◌, ◌≤◌, ◌↔◌, ◌++◌, ◌∷◌};
 ghost use Rattle.std.specs.Prelude.{[], ℕ, true, false, length, vec_len, OnOk, OnErr, IfErr};
 ghost use Rattle.s2cell.specs.Cell.{level_of};
-ghost use Rattle.s2union.specs.Union.{LiesIn};
+ghost use Rattle.s2list.specs.Union.{LiesIn};
 ghost use Rattle.s2cell.specs.Square.{IsPlacedCell, IsSquareOf};
 ghost use Rattle.s2cover.specs.Coverings.{LiesOutside};
 ghost use Rattle.s2cover.specs.Descent.{IsAligned, depth_of, form_in};

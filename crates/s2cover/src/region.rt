@@ -1,7 +1,7 @@
 //! What a region is.
 ghost use Rattle.std.specs.Prelude.{◌≡◌, ◌↔◌, ℕ, Bool};
 ghost use Rattle.s2cell.specs.Square.{IsPlacedCell};
-ghost use Rattle.s2union.specs.Union.{LiesIn};
+ghost use Rattle.s2list.specs.Union.{LiesIn};
 ghost use Rattle.s2cover.specs.Coverings.{LiesOutside};
 ghost use Rattle.s2cover.specs.declared.region.CoverFault.TheVariants.{Memory};
 

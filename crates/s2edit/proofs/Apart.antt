@@ -4,9 +4,9 @@ use Rattle.std.proofs.Common.{get_or, refl, sym, ap, ◌∙◌, subst, arith}
 use Rattle.std.proofs.lemmas.Grind.{common_steps}
 use Rattle.std.proofs.lemmas.Bool.{false≢true}
 use Rattle.s2cell.specs.Cell.{IsCell, first_leaf, covers}
-use Rattle.s2union.specs.Union.{has_leaf, IsLocal, ShareSome}
+use Rattle.s2list.specs.Union.{has_leaf, IsLocal, ShareSome}
 use Rattle.s2union.specs.Apply.{has, cells_without, applied, Fits}
-use Rattle.s2union.proofs.Normal.{leaf_to}
+use Rattle.s2list.proofs.Normal.{leaf_to}
 use Rattle.s2union.proofs.CellLists.{has-cells_without, has-applied, IsAscending-cells_without, ascends_from}
 use Rattle.s2union.proofs.Applied.{local_ascends}
 use Rattle.s2file.specs.Session.{AreApart}

@@ -6,7 +6,7 @@ use Rattle.std.proofs.lemmas.List.Elements.{recursion_from_All, All-from_recursi
 use Rattle.std.proofs.lemmas.Bool.{cond_both, cases_lt}
 use Rattle.std.specs.List.{AllByRecursion}
 use Rattle.s2cell.specs.Cell.{IsCell}
-use Rattle.s2union.specs.Union.{IsLocal}
+use Rattle.s2list.specs.Union.{IsLocal}
 use Rattle.s2union.specs.Apply.{has, cells_without, applied}
 use Rattle.s2union.proofs.Applied.{applied-between, Fits-between}
 use Rattle.s2file.specs.declared.session.Move.{Move}

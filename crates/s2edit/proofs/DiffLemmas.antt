@@ -1,7 +1,7 @@
 -- The change between two lists.
 use Rattle.std.proofs.Common.{◌≡◌, ℕ, List, [], ◌∷◌, refl, sym, ap, ◌∙◌, arith}
 use Rattle.std.proofs.lemmas.Grind.{common_steps}
-use Rattle.s2union.specs.Union.{IsLocal}
+use Rattle.s2list.specs.Union.{IsLocal}
 use Rattle.s2union.specs.Apply.{cells_without}
 use Rattle.s2union.proofs.CellLists.{has-cells_without}
 use Rattle.s2union.proofs.Applied.{Fits-between}

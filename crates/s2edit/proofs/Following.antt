@@ -3,7 +3,7 @@ use Rattle.std.proofs.Common.{◌≡◌, ◌≢◌, ℕ, zero, suc, ◌+◌, ◌
 use Rattle.std.proofs.Common.{◌∷◌, ◌++◌, length, take, drop, get_or, slice_set, add-one, drop-cons}
 use Rattle.std.proofs.Common.{refl, sym, ap, ◌∙◌, subst, arith}
 use Rattle.std.proofs.lemmas.Bool.{true≢false}
-use Rattle.s2union.specs.Union.{Union, IsLocal}
+use Rattle.s2list.specs.Union.{Union, IsLocal}
 use Rattle.s2union.specs.Apply.{has, cells_without, applied, Fits}
 use Rattle.s2union.proofs.Applied.{only_out, only_put}
 use Rattle.s2file.specs.Session.{Moved, IsMoved}

@@ -3,7 +3,7 @@ use Rattle.std.proofs.Common.{◌≡◌, ℕ, ◌+◌, Bool, true, false, not, �
 use Rattle.std.proofs.Common.{◌∙◌, subst, arith, None}
 use Rattle.std.proofs.lemmas.Grind.{common_steps}
 use Rattle.std.specs.List.Sorted.{IsStrictlyIncreasing}
-use Rattle.s2union.specs.Union.{Union, IsLocal}
+use Rattle.s2list.specs.Union.{Union, IsLocal}
 use Rattle.s2union.specs.Apply.{has, cells_without, insert_cells, applied, Fits}
 use Rattle.s2union.proofs.CellLists.{IsAscending, same_cells, has-cells_without, has-insert_cells, has-applied}
 use Rattle.s2union.proofs.CellLists.{IsAscending-cells_without, IsAscending-insert_cells, IsAscending-applied}

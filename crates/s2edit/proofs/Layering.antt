@@ -3,9 +3,9 @@ use Rattle.std.proofs.Common.{◌≡◌, ℕ, zero, suc, ◌<◌, ◌≤◌, ◌
 use Rattle.std.proofs.Common.{slice_set, refl, sym, ap, ◌∙◌, subst, arith}
 use Rattle.std.proofs.lemmas.Grind.{common_steps}
 use Rattle.s2cell.specs.Cell.{IsCell, covers}
-use Rattle.s2union.specs.Union.{IsLocal}
+use Rattle.s2list.specs.Union.{IsLocal}
 use Rattle.s2union.specs.Apply.{has, cells_without, applied, Fits}
-use Rattle.s2union.proofs.Normal.{leaf_to}
+use Rattle.s2list.proofs.Normal.{leaf_to}
 use Rattle.s2union.proofs.CellLists.{same_cells, has-cells_without, has-insert_cells, has-applied}
 use Rattle.s2union.proofs.CellLists.{IsAscending-cells_without, IsAscending-insert_cells, IsAscending-applied}
 use Rattle.s2union.proofs.CellLists.{ascends_from, increasing_from}

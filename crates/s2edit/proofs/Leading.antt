@@ -4,10 +4,10 @@ use Rattle.std.proofs.Common.{Option, Some, None, IsNone, IfSome, ◌↔◌, opt
 use Rattle.std.proofs.Common.{arith}
 use Rattle.std.proofs.lemmas.Bool.{true≢false}
 use Rattle.std.proofs.lemmas.Option.{slice_get_past}
-use Rattle.s2union.specs.Union.{IsLocal}
+use Rattle.s2list.specs.Union.{IsLocal}
 use Rattle.s2union.specs.Apply.{cells_without}
 use Rattle.s2union.proofs.Applied.{only_out, only_put}
-use Rattle.s2union.specs.Union.{Union}
+use Rattle.s2list.specs.Union.{Union}
 use Rattle.s2edit.specs.History.{AllLists, AllTables, EachList}
 use Rattle.s2edit.specs.Diff.{Diff, inverse}
 use Rattle.s2edit.specs.Leads.{list_at, table_at, Leads}

@@ -2,7 +2,7 @@
 use Rattle.std.proofs.Common.{◌≡◌, ℕ, ◌+◌, ◌≤◌, List, [], ◌∷◌, length, map, take, drop, slice_get, slice_set}
 use Rattle.std.proofs.Common.{Some, sym, ap, ◌∙◌, subst, arith}
 use Rattle.std.proofs.lemmas.List.{take_all, length-set}
-use Rattle.s2union.specs.Union.{Union}
+use Rattle.s2list.specs.Union.{Union}
 use Rattle.s2union.specs.Apply.{applied}
 use Rattle.s2edit.specs.History.{undone, undone_to, redone, redone_to, cells_lost, numbers}
 use Rattle.s2edit.specs.Diff.{Diff, inverse}

@@ -10,9 +10,9 @@ use Rattle.s2cell.proofs.CellLemmas.{cell_leaves}
 use Rattle.s2cell.proofs.Calls.{IsCell-child_of}
 use Rattle.s2cell.proofs.Leaves.{covers_there, inside_from_within}
 use Rattle.s2cell.proofs.Family.{parent_around, child_within}
-use Rattle.s2union.specs.Union.{has_leaf, IsLocal, LiesIn}
+use Rattle.s2list.specs.Union.{has_leaf, IsLocal, LiesIn}
 use Rattle.s2union.specs.Apply.{has, applied, Fits}
-use Rattle.s2union.proofs.Normal.{member_greatest, greatest_apart, parent_of_child}
+use Rattle.s2list.proofs.Normal.{member_greatest, greatest_apart, parent_of_child}
 use Rattle.s2union.proofs.CellLists.{IsAscending, has-applied, IsAscending-applied, ascends_from, increasing_from}
 use Rattle.s2union.proofs.Applied.{local_ascends}
 use Rattle.s2edit.specs.Part.{around, IsWatched, IsPart}

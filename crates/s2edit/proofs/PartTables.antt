@@ -9,9 +9,9 @@ use Rattle.std.proofs.lemmas.List.Elements.{All-contains}
 use Rattle.std.proofs.lemmas.List.Folds.{list_any-append}
 use Rattle.s2cell.specs.Cell.{IsCell, IsInside, first_leaf, covers}
 use Rattle.s2cell.proofs.Leaves.{covers_there, nested_from_shared}
-use Rattle.s2union.specs.Union.{has_leaf, IsLocal, LiesIn}
-use Rattle.s2union.proofs.Normal.{leaf_from, leaf_to, member_greatest, greatest_apart}
-use Rattle.s2union.proofs.Picking.{greatest_below}
+use Rattle.s2list.specs.Union.{has_leaf, IsLocal, LiesIn}
+use Rattle.s2list.proofs.Normal.{leaf_from, leaf_to, member_greatest, greatest_apart}
+use Rattle.s2list.proofs.Picking.{greatest_below}
 use Rattle.s2union.proofs.CellLists.{IsAscending-cells_without, has-cells_without, increasing_from}
 use Rattle.s2union.proofs.Applied.{local_ascends}
 use Rattle.s2union.specs.Apply.{has, cells_without, Fits}

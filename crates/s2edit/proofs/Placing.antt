@@ -7,10 +7,10 @@ use Rattle.std.specs.List.Sorted.{IsStrictlyIncreasing}
 use Rattle.s2cell.specs.Cell.{first_leaf, size_of, covers}
 use Rattle.s2cell.proofs.CellLemmas.{cell_leaves}
 use Rattle.s2cell.proofs.Leaves.{covers_from}
-use Rattle.s2union.specs.Union.{IsLocal}
-use Rattle.s2union.specs.Packed.{EndsAt, EndsAfter, FirstEndBy, IsPlace}
-use Rattle.s2union.proofs.Checking.{packed_from_local}
-use Rattle.s2union.proofs.Galloping.{Seeking, Look, seeking_quarter}
+use Rattle.s2list.specs.Union.{IsLocal}
+use Rattle.s2list.specs.Packed.{EndsAt, EndsAfter, FirstEndBy, IsPlace}
+use Rattle.s2list.proofs.Checking.{packed_from_local}
+use Rattle.s2list.proofs.Galloping.{Seeking, Look, seeking_quarter}
 
 -- the leaf by which a cell ends
 abbrev pub end_of : ℕ → ℕ

@@ -3,7 +3,7 @@ use Rattle.std.proofs.Common.{◌≡◌, ℕ, zero, suc, ◌+◌, ◌<◌, ◌�
 use Rattle.std.proofs.Common.{length, map, reverse, refl, sym, ap, ◌∙◌, subst, arith}
 use Rattle.std.proofs.lemmas.List.{length-map, length-set, length-reverse}
 use Rattle.std.specs.List.{AllByRecursion}
-use Rattle.s2union.specs.Union.{Union}
+use Rattle.s2list.specs.Union.{Union}
 use Rattle.std.proofs.lemmas.Bool.{false≢true, true≢false}
 use Rattle.s2file.specs.Session.{Moved, Content, moved_of, IsContent, IsMoved, IsRegisterList}
 use Rattle.s2file.specs.declared.session.Move.{Move}

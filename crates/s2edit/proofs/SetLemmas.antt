@@ -2,8 +2,8 @@
 use Rattle.std.proofs.Common.{◌≡◌, ℕ, zero, suc, Bool, List, [], ◌∷◌, map, take, slice_get, slice_set, Some, refl, sym}
 use Rattle.std.proofs.Common.{ap, ◌∙◌}
 use Rattle.std.proofs.lemmas.List.{map-set, take-map}
-use Rattle.s2union.specs.Union.{has_leaf, IsLocal}
-use Rattle.s2union.proofs.Normal.{same_from_leaves}
+use Rattle.s2list.specs.Union.{has_leaf, IsLocal}
+use Rattle.s2list.proofs.Normal.{same_from_leaves}
 use Rattle.s2edit.specs.History.{History, changed, undone, redone, Assigned, sets, sets_of}
 
 module _ {A : Type 0} {B : Type 0} (f : A → B) where

@@ -1,8 +1,8 @@
 -- A run over tables of leaf sets is one over the tables of lists that stand for them.
 use Rattle.std.proofs.Common.{◌≡◌, ℕ, zero, suc, Bool, List, [], ◌∷◌, ⊎_elim, map, take, slice_get, slice_set, Some}
 use Rattle.std.proofs.Common.{refl, sym, ap, ◌∙◌, subst}
-use Rattle.s2union.specs.Union.{has_leaf, IsLocal}
-use Rattle.s2union.proofs.Normal.{same_from_leaves}
+use Rattle.s2list.specs.Union.{has_leaf, IsLocal}
+use Rattle.s2list.proofs.Normal.{same_from_leaves}
 use Rattle.s2edit.specs.History.{History, changed, undone, undone_to, redone, redone_to, sets, sets_of, AllLists}
 use Rattle.s2edit.specs.History.{AllTables, EachList}
 use Rattle.s2edit.specs.Edits.{Edited, EditRun, edit_tally_of, AssignLocal}

@@ -14,8 +14,8 @@ use Rattle.std.specs.List.{AllByRecursion}
 use Rattle.std.proofs.lemmas.Option.{gets}
 use Rattle.s2cell.specs.Cell.{first_leaf, covers}
 use Rattle.s2cell.proofs.Leaves.{covers_there}
-use Rattle.s2union.specs.Union.{has_leaf, IsLocal}
-use Rattle.s2union.proofs.Normal.{leaf_from}
+use Rattle.s2list.specs.Union.{has_leaf, IsLocal}
+use Rattle.s2list.proofs.Normal.{leaf_from}
 use Rattle.s2union.specs.Apply.{has}
 use Rattle.s2file.specs.declared.session.Move.{Move}
 use Rattle.s2file.specs.Session.{Moved, IsMoved, moved_of}

@@ -4,7 +4,7 @@ use Rattle.std.proofs.Common.{take, get_or, slice_get, slice_set, Some, refl, sy
 use Rattle.std.proofs.lemmas.List.{map-set, length-set, replicate_more, get_or-set_same, set-set, set-get_or}
 use Rattle.std.proofs.lemmas.List.{map-append}
 use Rattle.std.proofs.lemmas.Option.{slice_get_read, get_or_from_slice_get}
-use Rattle.s2union.specs.Union.{Union}
+use Rattle.s2list.specs.Union.{Union}
 use Rattle.s2union.specs.Apply.{applied, Fits}
 use Rattle.s2union.proofs.Applied.{applied-inverse, Fits-inverse}
 use Rattle.s2edit.specs.Diff.{Diff, inverse}

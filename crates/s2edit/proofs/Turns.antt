@@ -4,7 +4,7 @@ use Rattle.std.proofs.Common.{refl, sym, ap, ◌∙◌, subst, arith}
 use Rattle.std.proofs.lemmas.Grind.{common_steps}
 use Rattle.std.proofs.lemmas.List.{map-append, take-append-drop, drop-drop}
 use Rattle.std.specs.List.{AllByRecursion}
-use Rattle.s2union.specs.Union.{has_leaf}
+use Rattle.s2list.specs.Union.{has_leaf}
 use Rattle.s2file.specs.Session.{Moved, IsMoved, moved_of}
 use Rattle.s2file.specs.declared.session.Move.{Move}
 use Rattle.s2edit.specs.Diff.{Diff, apply}

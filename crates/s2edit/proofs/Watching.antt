@@ -11,9 +11,9 @@ use Rattle.std.specs.List.{AllByRecursion}
 use Rattle.s2cell.specs.Cell.{IsCell, level_of, covers}
 use Rattle.s2cell.proofs.Calls.{IsCell-parent_of, shallow}
 use Rattle.s2cell.proofs.Leaves.{inside_from_within}
-use Rattle.s2union.specs.Union.{has_leaf, IsLocal, LiesIn}
-use Rattle.s2union.proofs.Normal.{holder, family, all_held}
-use Rattle.s2union.proofs.PackedLocal.{place}
+use Rattle.s2list.specs.Union.{has_leaf, IsLocal, LiesIn}
+use Rattle.s2list.proofs.Normal.{holder, family, all_held}
+use Rattle.s2list.proofs.PackedLocal.{place}
 use Rattle.s2file.specs.declared.session.Move.{Move}
 use Rattle.s2file.specs.Session.{Moved, IsMoved, IsChangeList, moved_of}
 use Rattle.s2edit.specs.Diff.{Diff}

@@ -1,6 +1,6 @@
 -- The tables that kept changes lead to, one after another.
 use Rattle.std.specs.Prelude.{◌≢◌, ℕ, ◌<◌, ◌≤◌, List, [], ◌∷◌, length, map, slice_set}
-use Rattle.s2union.specs.Union.{Union, IsLocal}
+use Rattle.s2list.specs.Union.{Union, IsLocal}
 use Rattle.s2edit.specs.History.{History, AllLists}
 use Rattle.s2edit.specs.Diff.{Diff, apply, FitsList, inverse}
 use Rattle.s2edit.specs.Leads.{list_at}

@@ -1,7 +1,7 @@
 -- Lists of edits as runs of the history. A register holds f of its union's list: the list itself, or its set of leaves.
 use Rattle.std.specs.Prelude.{◌≡◌, ◌≢◌, ℕ, ◌+◌, ◌<◌, ◌≤◌, Bool, List, [], ◌∷◌, ◌++◌, length}
 use Rattle.std.specs.Prelude.{replicate, slice_get, Some}
-use Rattle.s2union.specs.Union.{has_leaf, IsLocal}
+use Rattle.s2list.specs.Union.{has_leaf, IsLocal}
 use Rattle.s2edit.specs.History.{History, Assigned, changed, undone, redone, timeline, sets, EachList}
 use Rattle.s2edit.specs.declared.edits.Edit.{Edit}
 use Rattle.s2edit.specs.declared.edits.Edit.TheVariants.{Assign, Undo, Redo}

@@ -1,7 +1,7 @@
 -- A register's list that is followed along changes: the list that it had at some point, and the change since then.
 use Rattle.std.specs.Prelude.{◌≡◌, ℕ, true, false, List, Option, Some, None}
 use Rattle.s2cell.specs.Cell.{covers}
-use Rattle.s2union.specs.Union.{Union, has_leaf, IsLocal}
+use Rattle.s2list.specs.Union.{Union, has_leaf, IsLocal}
 use Rattle.s2union.specs.Apply.{has, cells_without, insert_cells, applied, Fits}
 use Rattle.s2file.specs.Session.{AreApart}
 use Rattle.s2edit.specs.Part.{around}

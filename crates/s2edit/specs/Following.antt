@@ -1,6 +1,6 @@
 -- Registers that are followed along changes.
 use Rattle.std.specs.Prelude.{◌≡◌, ℕ, ◌≤◌, Bool, true, List, [], ◌∷◌, length}
-use Rattle.s2union.specs.Union.{Union}
+use Rattle.s2list.specs.Union.{Union}
 use Rattle.s2file.specs.declared.TheConstants.{SESSION_CELLS}
 use Rattle.s2edit.specs.Diff.{Diff}
 use Rattle.s2edit.specs.Chain.{FitAlong}

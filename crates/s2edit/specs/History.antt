@@ -2,7 +2,7 @@
 -- a set of leaves, or the one list of cells that stands for it.
 use Rattle.std.specs.Prelude.{◌≡◌, ◌≢◌, ℕ, ◌+◌, Bool, List, [], ◌∷◌, ◌++◌, length, map, take, reverse}
 use Rattle.std.specs.Prelude.{slice_get, slice_set, Some}
-use Rattle.s2union.specs.Union.{has_leaf}
+use Rattle.s2list.specs.Union.{has_leaf}
 use Rattle.s2union.specs.Apply.{cells_without}
 
 -- The most cells that a register may have and the most tables that are kept; the earlier tables, the present one, and

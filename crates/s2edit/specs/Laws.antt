@@ -1,6 +1,6 @@
 -- The law of a change.
 use Rattle.std.specs.Prelude.{◌≡◌, ◌||◌, ◌&&◌, not, ℕ, List}
-use Rattle.s2union.specs.Union.{IsLocal}
+use Rattle.s2list.specs.Union.{IsLocal}
 use Rattle.s2union.specs.Apply.{has}
 use Rattle.s2edit.specs.Diff.{Diff, IsDiff, apply, FitsList, inverse, change_between}
 

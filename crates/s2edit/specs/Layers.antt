@@ -3,7 +3,7 @@ use Rattle.std.specs.Prelude.{◌≡◌, ℕ, ◌==◌, ◌<◌, ◌≤◌, if�
 use Rattle.std.specs.Prelude.{slice_index, slice_index_or}
 use Rattle.std.specs.List.{AllByRecursion}
 use Rattle.s2cell.specs.Cell.{IsCell, covers, first_leaf}
-use Rattle.s2union.specs.Union.{IsLocal, LiesIn}
+use Rattle.s2list.specs.Union.{IsLocal, LiesIn}
 use Rattle.s2union.specs.Apply.{has, insert_cells}
 use Rattle.s2file.specs.Session.{Moved}
 use Rattle.s2edit.specs.Diff.{Diff, IsDiff, apply, FitsList}

@@ -3,7 +3,7 @@ use Rattle.std.specs.Prelude.{◌≡◌, ℕ, ◌+◌, ◌-◌, ◌^◌, ◌≤�
 use Rattle.std.specs.Prelude.{if◌then◌else◌, Bool, true, List, [], ◌∷◌, ◌++◌}
 use Rattle.std.specs.Prelude.{length, map, min, max, slice_set, slice_index_or}
 use Rattle.s2cell.specs.Cell.{IsCell, level_of, covers, parent_of}
-use Rattle.s2union.specs.Union.{IsLocal, LiesIn}
+use Rattle.s2list.specs.Union.{IsLocal, LiesIn}
 use Rattle.s2union.specs.Apply.{has}
 use Rattle.s2file.specs.Session.{Moved}
 use Rattle.s2edit.specs.Diff.{Diff}

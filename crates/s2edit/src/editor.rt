@@ -2,7 +2,7 @@
 ghost use Rattle.std.specs.Prelude.{◌≡◌, ◌≢◌, ◌+◌, ◌<◌, ◌≤◌, ◌↔◌, [], ◌∷◌, length};
 ghost use Rattle.std.specs.Prelude.{replicate, IfOk, OnOk, OnErr, IsOk, IfSome, IsNone, slice_get, slice_set, Some};
 ghost use Rattle.std.specs.Prelude.{vec_len, MatchBool, MatchOption};
-ghost use Rattle.s2union.specs.Union.{has_leaf, IsLocal, IsNormalForm};
+ghost use Rattle.s2list.specs.Union.{has_leaf, IsLocal, IsNormalForm};
 ghost use Rattle.s2union.specs.Apply.{applied, Fits};
 ghost use Rattle.s2edit.specs.History.{untouched, Assigned, sets, undone, redone, numbers, EachList};
 ghost use Rattle.s2edit.specs.Leads.{list_at, table_at, Leads};

@@ -4,7 +4,7 @@
 //! name few, so that what is held for a batch is small beside the session.
 ghost use Rattle.std.specs.Prelude.{◌≡◌, ◌≤◌, length, map, OnOk, MatchResult};
 ghost use Rattle.std.specs.List.{AllByRecursion};
-ghost use Rattle.s2union.specs.Union.{IsLocal};
+ghost use Rattle.s2list.specs.Union.{IsLocal};
 ghost use Rattle.s2file.specs.Session.{moved_of, IsMoved};
 ghost use Rattle.s2edit.specs.Layers.{of_register, list_after_all, AreChanges, FitInTurn};
 ghost use Rattle.s2edit.specs.Session.{diff};

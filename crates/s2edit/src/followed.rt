@@ -1,7 +1,7 @@
 //! A register's list that is followed along changes.
 ghost use Rattle.std.specs.Prelude.{◌≡◌, ◌≤◌, ◌↔◌, length, OnOk, IfOk, IfSome, IsTrue, MatchOption, MatchResult};
 ghost use Rattle.std.specs.List.Sorted.{IsStrictlyIncreasing};
-ghost use Rattle.s2union.specs.Union.{IsLocal};
+ghost use Rattle.s2list.specs.Union.{IsLocal};
 ghost use Rattle.s2union.specs.Apply.{applied, Fits};
 ghost use Rattle.s2file.specs.Session.{AreApart};
 ghost use Rattle.s2edit.specs.Diff.{IsDiff};

@@ -7,9 +7,9 @@ ghost use Rattle.std.specs.Prelude.{◌≡◌, ◌≤◌, ◌<◌, ◌+◌, ◌+
 ghost use Rattle.std.specs.Prelude.{IfOk, OnOk, slice_index, take};
 ghost use Rattle.std.specs.List.{AllByRecursion};
 ghost use Rattle.s2cell.specs.Cell.{covers, first_leaf};
-ghost use Rattle.s2union.specs.Union.{has_leaf, IsLocal};
+ghost use Rattle.s2list.specs.Union.{has_leaf, IsLocal};
 ghost use Rattle.s2union.specs.Apply.{has};
-ghost use Rattle.s2union.specs.Packed.{EndsAfter, EndsAt, IsPlace};
+ghost use Rattle.s2list.specs.Packed.{EndsAfter, EndsAt, IsPlace};
 ghost use Rattle.s2file.specs.Session.{moved_of, IsMoved};
 ghost use Rattle.s2edit.specs.Diff.{Diff};
 ghost use Rattle.s2edit.specs.Layers.{ordered, ordered_diff, of_register, IsNearWatched, IsStacked, LeadAlike};

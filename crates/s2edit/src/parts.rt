@@ -1,7 +1,7 @@
 //! The part of a register's list that changes can concern.
 ghost use Rattle.std.specs.Prelude.{◌≡◌, ◌++◌, ℕ, length, map, take, drop, IfOk, MatchBool, OnOk};
 ghost use Rattle.std.specs.List.Sorted.{IsStrictlyIncreasing};
-ghost use Rattle.s2union.specs.Union.{has_leaf};
+ghost use Rattle.s2list.specs.Union.{has_leaf};
 ghost use Rattle.s2file.specs.Session.{moved_of, AreApart};
 ghost use Rattle.s2edit.specs.Chain.{lists_of};
 ghost use Rattle.s2edit.specs.Followed.{latest};

@@ -5,7 +5,7 @@ use Rattle.std.specs.Prelude.{MatchResult}
 use Rattle.std.proofs.lemmas.List.{ext_get_or}
 use Rattle.std.proofs.lemmas.List.Elements.{All-get_or}
 use Rattle.s2cell.specs.Cell.{IsCell}
-use Rattle.s2union.specs.Union.{Union, has_leaf}
+use Rattle.s2list.specs.Union.{Union, has_leaf}
 use Rattle.s2file.specs.declared.fault.FileFault.{FileFault}
 use Rattle.s2file.specs.declared.fault.FileFault.TheVariants.{Version, Count, Short, Trailing, Cell, Memory}
 use Rattle.s2file.specs.File.{stated_count, IsFileOf, File, HasCount, HasFault}

@@ -5,9 +5,9 @@ use Rattle.std.proofs.lemmas.List.Elements.{All-nil, All-cons}
 use Rattle.std.specs.Int.Count.{count_trailing_zeros}
 use Rattle.s2cell.specs.Cell.{IsCell, covers, level_of, place_of, child_of}
 use Rattle.s2cell.proofs.CellLemmas.{face_of_cell, trailing_even}
-use Rattle.s2union.specs.Union.{has_leaf}
-use Rattle.s2union.specs.Packed.{IsFamily}
-use Rattle.s2union.proofs.Packing.{family_covers}
+use Rattle.s2list.specs.Union.{has_leaf}
+use Rattle.s2list.specs.Packed.{IsFamily}
+use Rattle.s2list.proofs.Packing.{family_covers}
 use Rattle.s2file.specs.declared.union_file.TheConstants.{MOST_CELLS}
 use Rattle.s2file.specs.File.{IsFileOf, File, file_text}
 use Rattle.s2file.proofs.Texts.{text_is_file}

@@ -6,7 +6,7 @@ use Rattle.std.proofs.lemmas.List.{length_push}
 use Rattle.std.proofs.lemmas.List.Elements.{All-push}
 use borrow.Author.Count.{below_more}
 use Rattle.s2cell.specs.Cell.{IsCell}
-use Rattle.s2union.specs.Union.{has_leaf}
+use Rattle.s2list.specs.Union.{has_leaf}
 use Rattle.s2file.specs.File.{first_number, number_at, IsFileOf, File, HasFrame, HasFault}
 use Rattle.s2file.specs.declared.fault.FileFault.TheVariants.{Cell}
 use Rattle.s2file.proofs.Numbers.{first_number-append}

@@ -9,7 +9,7 @@ use Rattle.std.proofs.lemmas.List.Elements.{All-push}
 use Rattle.std.proofs.lemmas.Grind.{flat_map-append}
 use Rattle.std.proofs.lemmas.Nat.{le_bytes_8}
 use Rattle.s2cell.specs.Cell.{IsCell}
-use Rattle.s2union.specs.Union.{IsLocal}
+use Rattle.s2list.specs.Union.{IsLocal}
 use Rattle.s2file.specs.declared.TheConstants.{SESSION_CELLS}
 use Rattle.s2file.specs.declared.session.ReadFault.{ReadFault}
 use Rattle.s2file.specs.declared.session.ReadFault.TheVariants.{Form, Device, Memory}

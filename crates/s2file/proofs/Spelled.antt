@@ -5,9 +5,9 @@ use Rattle.std.proofs.Common.{◌∙◌, subst, arith}
 use Rattle.std.specs.Prelude.{IfOk}
 use Rattle.std.specs.declared.alloc.AllocError.{AllocError}
 use Rattle.std.specs.List.{AllByRecursion}
-use Rattle.s2union.specs.Union.{has_leaf, IsLocal}
-use Rattle.s2union.proofs.Normal.{same_from_leaves}
-use Rattle.s2union.proofs.Shortest.{shortest}
+use Rattle.s2list.specs.Union.{has_leaf, IsLocal}
+use Rattle.s2list.proofs.Normal.{same_from_leaves}
+use Rattle.s2list.proofs.Shortest.{shortest}
 use Rattle.s2file.specs.Session.{Content, content_of_list, session_text, moves_text, IsRegisterList}
 use Rattle.s2file.specs.Session.{IsContent, IsSessionFile, IsUnionFile, Spells}
 use Rattle.s2file.proofs.Files.{same_leaves}

@@ -4,7 +4,7 @@ use Rattle.std.proofs.Common.{subst, arith, append_assoc}
 use Rattle.std.proofs.KnownBytes.{Consumes-trans}
 use Rattle.std.specs.Io.KnownBytes.{Consumes}
 use Rattle.std.specs.List.{AllByRecursion}
-use Rattle.s2union.specs.Union.{IsLocal}
+use Rattle.s2list.specs.Union.{IsLocal}
 use Rattle.s2file.specs.File.{number_text}
 use Rattle.s2file.specs.Session.{Moved, list_text, move_text, moves_text, IsRegisterList, IsMoved}
 use Rattle.s2file.specs.SessionParts.{BeginsNone, Refuses, Takes, Lacks, IsByte, IsNumber, AreCells, AreMoves}

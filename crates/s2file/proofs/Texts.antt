@@ -5,8 +5,8 @@ use Rattle.std.proofs.lemmas.List.{length-append, drop_at, take_all}
 use Rattle.std.proofs.lemmas.List.Elements.{All-get_or}
 use Rattle.s2cell.specs.Cell.{IsCell}
 use Rattle.s2cell.proofs.Calls.{fits_u64}
-use Rattle.s2union.specs.Union.{has_leaf, IsLocal}
-use Rattle.s2union.proofs.Normal.{normal_from_local, normal_form_same, one_normal_form}
+use Rattle.s2list.specs.Union.{has_leaf, IsLocal}
+use Rattle.s2list.proofs.Normal.{normal_from_local, normal_form_same, one_normal_form}
 use Rattle.s2file.specs.declared.union_file.TheConstants.{MOST_CELLS}
 use Rattle.s2file.specs.File.{first_number, number_text, IsFileOf, File, file_text, Bytes}
 use Rattle.s2file.proofs.Numbers.{first_number-number_text, length-number_text, drop-number_texts, length-number_texts}

@@ -4,7 +4,7 @@ use Rattle.std.specs.Prelude.{◌≡◌, ◌≢◌, ℕ, zero, suc, ◌+◌, ◌
 use Rattle.std.specs.Prelude.{◌∷◌, ◌++◌, length, drop, slice_index, All, flat_map}
 use Rattle.byteorder.specs.Endian.{little_bytes}
 use Rattle.s2cell.specs.Cell.{IsCell}
-use Rattle.s2union.specs.Union.{has_leaf, IsNormalForm}
+use Rattle.s2list.specs.Union.{has_leaf, IsNormalForm}
 use Rattle.s2file.specs.declared.union_file.TheConstants.{MOST_CELLS}
 use Rattle.s2file.specs.declared.fault.FileFault.{FileFault}
 use Rattle.s2file.specs.declared.fault.FileFault.TheVariants.{Version, Count, Short, Trailing, Cell, Memory}

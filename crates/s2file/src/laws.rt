@@ -1,7 +1,7 @@
 //! Laws that follow from the definitions of files, and the way back from bytes to a union.
 ghost use Rattle.std.specs.Prelude.{◌≡◌, ◌≢◌, ◌<◌, ◌≤◌, ℕ, Bool, List, [], ◌∷◌, ◌++◌, length, take};
 ghost use Rattle.std.specs.Prelude.{drop, replicate, MatchResult};
-ghost use Rattle.s2union.specs.Union.{has_leaf};
+ghost use Rattle.s2list.specs.Union.{has_leaf};
 ghost use Rattle.s2file.specs.declared.union_file.TheConstants.{MOST_CELLS, MOST_SIZE};
 ghost use Rattle.s2file.specs.File.{File, HasFault, file_text, Bytes};
 ghost use Rattle.s2file.specs.Session.{Content, Spells, session_text, content_of_list};

@@ -4,7 +4,7 @@ ghost use Rattle.std.specs.Prelude.{MatchResult, MatchBool, OnOk, vec_len};
 ghost use Rattle.std.specs.Vec.{vec_capacity};
 ghost use Rattle.std.specs.List.Sorted.{IsStrictlyIncreasing};
 ghost use Rattle.s2cell.specs.Cell.{IsCell};
-ghost use Rattle.s2union.specs.Union.{Union};
+ghost use Rattle.s2list.specs.Union.{Union};
 ghost use Rattle.s2file.specs.File.{number_text};
 ghost use Rattle.s2file.specs.Session.{list_text, move_text, moves_text, moved_of, AreApart, IsMoved, IsRegisterList};
 ghost use Rattle.s2file.specs.SessionParts.{Begins, Reads, Refuses, AreCells, AreCounted, AreMoves, AreRegisters};

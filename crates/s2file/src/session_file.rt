@@ -2,7 +2,7 @@
 ghost use Rattle.std.specs.Prelude.{◌≡◌, ◌≢◌, ℕ, List, [], ◌∷◌, ◌++◌, map, replicate};
 ghost use Rattle.std.specs.Prelude.{MatchResult, IfOk, IfSome, OnOk};
 ghost use Rattle.std.specs.Io.KnownBytes.{Consumes};
-ghost use Rattle.s2union.specs.Union.{Union};
+ghost use Rattle.s2list.specs.Union.{Union};
 ghost use Rattle.s2file.specs.Session.{Content, content_of, content_of_parts, content_of_list, list_text, move_text};
 ghost use Rattle.s2file.specs.Session.{moves_text, moved_of, session_text, IsContent, IsSessionFile, IsUnionFile};
 ghost use Rattle.s2file.specs.Session.{Spells};

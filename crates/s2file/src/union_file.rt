@@ -1,6 +1,6 @@
 //! The union file: a union of cells as bytes.
 ghost use Rattle.std.specs.Prelude.{◌≡◌, ◌≤◌, ◌++◌, ℕ, Bool, length, MatchResult, IfOk, OnOk};
-ghost use Rattle.s2union.specs.Union.{has_leaf, IsLocal};
+ghost use Rattle.s2list.specs.Union.{has_leaf, IsLocal};
 ghost use Rattle.s2file.specs.declared.union_file.TheConstants.{MOST_CELLS};
 ghost use Rattle.s2file.specs.File.{first_number, number_text, HasFrame, IsFileOf, File, HasFault, file_text, Bytes};
 

@@ -11,7 +11,7 @@ use Rattle.s2cell.specs.Descendant.{descendant_of}
 use Rattle.s2cell.proofs.CellLemmas.{cell_leaves, four_pos}
 use Rattle.s2cell.proofs.Calls.{fits_u64}
 use Rattle.s2cell.proofs.Descendants.{descendant, IsCell-descendant_of}
-use Rattle.s2union.specs.Union.{IsLocal}
+use Rattle.s2list.specs.Union.{IsLocal}
 use Rattle.s2union.specs.Denorm.{cells_in, cut_level, denormalised}
 use Rattle.s2union.proofs.Items.{Listing, listing_start, listing_more, listing_done, length-denormalised-le}
 use Rattle.s2search.specs.Room.{IsPut, PutsOne}

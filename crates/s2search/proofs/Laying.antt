@@ -12,15 +12,15 @@ use Rattle.s2cell.proofs.Calls.{IsCell-parent_of}
 use Rattle.s2cell.proofs.CellLemmas.{cell_leaves}
 use Rattle.s2cell.proofs.Family.{parent_around}
 use Rattle.s2cell.proofs.Leaves.{covers_there, covers_from}
-use Rattle.s2union.specs.Union.{has_leaf, EndsBy, IsGreatestIn, IsLocal}
-use Rattle.s2union.specs.Packed.{IsPacked}
-use Rattle.s2union.proofs.Checking.{member_at, packed_from_local}
-use Rattle.s2union.proofs.Finding.{ends_later, starts_later}
-use Rattle.s2union.proofs.Normal.{member_greatest}
-use Rattle.s2union.proofs.Picking.{Picked, picked_push}
-use Rattle.s2union.proofs.Shared.{run_push}
-use Rattle.s2union.proofs.Tiling.{or_true, or_false, none_between}
-use Rattle.s2union.proofs.Walking.{leaf_at, not_true}
+use Rattle.s2list.specs.Union.{has_leaf, EndsBy, IsGreatestIn, IsLocal}
+use Rattle.s2list.specs.Packed.{IsPacked}
+use Rattle.s2list.proofs.Checking.{member_at, packed_from_local}
+use Rattle.s2list.proofs.Finding.{ends_later, starts_later}
+use Rattle.s2list.proofs.Normal.{member_greatest}
+use Rattle.s2list.proofs.Picking.{Picked, picked_push}
+use Rattle.s2list.proofs.Shared.{run_push}
+use Rattle.s2list.proofs.Tiling.{or_true, or_false, none_between}
+use Rattle.s2list.proofs.Walking.{leaf_at, not_true}
 use Rattle.s2search.specs.Room.{IsPut, PutsGap}
 use Rattle.s2search.specs.Piles.{Piling, PilingIn}
 use Rattle.s2search.proofs.Piling.{pile_free, pile_picked, piling_flush, taken}

@@ -7,13 +7,13 @@ use Rattle.std.proofs.lemmas.Bool.{cases_lt}
 use Rattle.std.proofs.lemmas.Nat.{pow_pos}
 use Rattle.s2cell.specs.Cell.{first_leaf, size_of}
 use Rattle.s2cell.proofs.CellLemmas.{cell_leaves}
-use Rattle.s2union.specs.Union.{IsLocal}
-use Rattle.s2union.specs.Packed.{EndsAfter, FirstEndBy}
-use Rattle.s2union.proofs.Checking.{packed_from_local}
-use Rattle.s2union.proofs.Finding.{ends_later, starts_later}
-use Rattle.s2search.specs.Looks.{Alternates, FewForTurnsAndCells}
-use Rattle.s2search.proofs.Looking.{Sought, above, sought_line}
-use Rattle.s2search.proofs.Walking.{ended_next}
+use Rattle.s2list.specs.Union.{IsLocal}
+use Rattle.s2list.specs.Packed.{EndsAfter, FirstEndBy}
+use Rattle.s2list.proofs.Checking.{packed_from_local}
+use Rattle.s2list.proofs.Finding.{ends_later, starts_later}
+use Rattle.s2list.specs.Looks.{Alternates, FewForTurnsAndCells}
+use Rattle.s2list.proofs.Looking.{Sought, above, sought_line}
+use Rattle.s2list.proofs.Turns.{ended_next}
 
 -- ---- looks
 

@@ -8,12 +8,12 @@ use Rattle.std.proofs.lemmas.Bool.Decides.{nat_tests}
 use Rattle.s2cell.specs.Cell.{IsCell, first_leaf, size_of}
 use Rattle.s2cell.specs.declared.TheConstants.{LEAVES}
 use Rattle.s2cell.proofs.CellLemmas.{cell_leaves}
-use Rattle.s2union.specs.Union.{IsLocal, IsNormalForm}
-use Rattle.s2union.specs.Packed.{IsPacked, FirstEndBy}
-use Rattle.s2union.proofs.Checking.{packed_from_local}
-use Rattle.s2union.proofs.Picking.{picked_none}
-use Rattle.s2union.proofs.Subtracting.{Subtracting, minus, subtract_done, subtracting_free, subtracting_from}
-use Rattle.s2union.proofs.Subtracting.{subtracting_on_x, subtracting_on_y, subtracting_run, subtracting_taken}
+use Rattle.s2list.specs.Union.{IsLocal, IsNormalForm}
+use Rattle.s2list.specs.Packed.{IsPacked, FirstEndBy}
+use Rattle.s2list.proofs.Checking.{packed_from_local}
+use Rattle.s2list.proofs.Picking.{picked_none}
+use Rattle.s2list.proofs.Subtracting.{Subtracting, minus, subtract_done, subtracting_free, subtracting_from}
+use Rattle.s2list.proofs.Subtracting.{subtracting_on_x, subtracting_on_y, subtracting_run, subtracting_taken}
 use Rattle.s2search.specs.Room.{IsPut, PutsGap, PutsOne}
 use Rattle.s2search.proofs.Putting.{put_none, puts_normal}
 

@@ -10,13 +10,13 @@ use Rattle.s2cell.specs.Cell.{IsCell, first_leaf, size_of, covers}
 use Rattle.s2cell.specs.declared.TheConstants.{LEAVES}
 use Rattle.s2cell.proofs.CellLemmas.{cell_leaves}
 use Rattle.s2cell.proofs.Leaves.{covers_there, covers_from}
-use Rattle.s2union.specs.Union.{has_leaf, between, EndsBy, IsLocal, IsNormalForm}
-use Rattle.s2union.specs.Packed.{IsPacked, FillsGap}
-use Rattle.s2union.proofs.Checking.{packed_from_local}
-use Rattle.s2union.proofs.Picking.{Picked, IsGap, picked_none, picked_fill, fill_leaves, between_ends}
-use Rattle.s2union.proofs.Tiling.{or_true, or_false, none_between}
-use Rattle.s2union.proofs.Walking.{leaf_at, not_true}
-use Rattle.s2union.proofs.Finding.{starts_later}
+use Rattle.s2list.specs.Union.{has_leaf, between, EndsBy, IsLocal, IsNormalForm}
+use Rattle.s2list.specs.Packed.{IsPacked, FillsGap}
+use Rattle.s2list.proofs.Checking.{packed_from_local}
+use Rattle.s2list.proofs.Picking.{Picked, IsGap, picked_none, picked_fill, fill_leaves, between_ends}
+use Rattle.s2list.proofs.Tiling.{or_true, or_false, none_between}
+use Rattle.s2list.proofs.Walking.{leaf_at, not_true}
+use Rattle.s2list.proofs.Finding.{starts_later}
 use Rattle.s2search.specs.Piles.{Piling, PilingIn}
 use Rattle.s2search.specs.Room.{PutsGap, PutsOne}
 use Rattle.s2search.proofs.Putting.{put_none, puts_normal}

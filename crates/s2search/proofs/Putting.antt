@@ -9,11 +9,11 @@ use Rattle.std.proofs.Math.Logic.{⊎_elim}
 use Rattle.std.proofs.lemmas.Bool.{cases_lt}
 use Rattle.s2cell.specs.Cell.{first_leaf, size_of}
 use Rattle.s2cell.proofs.CellLemmas.{cell_leaves}
-use Rattle.s2union.specs.Union.{IsNormalForm, has_leaf}
-use Rattle.s2union.specs.Packed.{IsPacked}
-use Rattle.s2union.proofs.Checking.{packed_from_local}
-use Rattle.s2union.proofs.Normal.{normal_from_leaves}
-use Rattle.s2union.proofs.Picking.{Picked, picked_local}
+use Rattle.s2list.specs.Union.{IsNormalForm, has_leaf}
+use Rattle.s2list.specs.Packed.{IsPacked}
+use Rattle.s2list.proofs.Checking.{packed_from_local}
+use Rattle.s2list.proofs.Normal.{normal_from_leaves}
+use Rattle.s2list.proofs.Picking.{Picked, picked_local}
 use Rattle.s2search.specs.Room.{IsPut, PutsOne}
 
 pub put_none : (room : List ℕ) → IsPut [] room room 0

@@ -10,11 +10,11 @@ use Rattle.s2cell.specs.Cell.{IsCell, IsInside, size_of, first_leaf}
 use Rattle.s2cell.proofs.CellLemmas.{cell_leaves}
 use Rattle.s2cell.proofs.Leaves.{Within, before, after, within, around, meeting, covers_there, inside_from_within}
 use Rattle.s2cell.proofs.Leaves.{within_from_inside, nested_from_shared}
-use Rattle.s2union.specs.Union.{ShareSome, has_leaf}
-use Rattle.s2union.specs.Packed.{IsPacked}
-use Rattle.s2union.proofs.Checking.{member_at}
-use Rattle.s2union.proofs.Normal.{leaf_from, leaf_to}
-use Rattle.s2union.proofs.PackedLocal.{place}
+use Rattle.s2list.specs.Union.{ShareSome, has_leaf}
+use Rattle.s2list.specs.Packed.{IsPacked}
+use Rattle.s2list.proofs.Checking.{member_at}
+use Rattle.s2list.proofs.Normal.{leaf_from, leaf_to}
+use Rattle.s2list.proofs.PackedLocal.{place}
 use Rattle.s2search.specs.Ancestors.{AreHolders, IsHolder, ShareHolder, Gains, IsBefore, IsAfter, LeadsTo}
 use Rattle.s2search.specs.Ancestors.{PutsThose}
 use Rattle.s2search.specs.Room.{IsPut, PutsOne}

@@ -6,17 +6,17 @@ use Rattle.std.proofs.lemmas.List.{length-append, length-drop, length-take-le}
 use Rattle.std.proofs.lemmas.Bool.Decides.{nat_tests}
 use Rattle.s2cell.specs.Cell.{IsCell, IsInside, first_leaf, size_of}
 use Rattle.s2cell.proofs.Leaves.{inside_from_within, within_from_inside}
-use Rattle.s2union.specs.Union.{IsLocal, IsNormalForm, has_leaf}
-use Rattle.s2union.specs.Packed.{EndsAfter, IsPacked, FirstEndBy}
-use Rattle.s2union.proofs.Checking.{packed_from_local}
-use Rattle.s2union.proofs.Finding.{ended_to}
-use Rattle.s2union.proofs.Packing.{is_at}
-use Rattle.s2union.proofs.Picking.{picked_none}
-use Rattle.s2union.proofs.Shared.{Sharing, both, held_else, share_x, sharing_done, sharing_swap, skip_x}
-use Rattle.s2search.specs.Looks.{Alternates, FewForTurnsAndCells}
+use Rattle.s2list.specs.Union.{IsLocal, IsNormalForm, has_leaf}
+use Rattle.s2list.specs.Packed.{EndsAfter, IsPacked, FirstEndBy}
+use Rattle.s2list.proofs.Checking.{packed_from_local}
+use Rattle.s2list.proofs.Finding.{ended_to}
+use Rattle.s2list.proofs.Packing.{is_at}
+use Rattle.s2list.proofs.Picking.{picked_none}
+use Rattle.s2list.proofs.Shared.{Sharing, both, held_else, share_x, sharing_done, sharing_swap, skip_x}
+use Rattle.s2list.specs.Looks.{Alternates, FewForTurnsAndCells}
 use Rattle.s2search.specs.Room.{IsPut, PutsOne}
 use Rattle.s2search.proofs.Leaping.{Stepped, stepped_all, stepped_leap, stepped_none, stepped_run, stepped_swap}
-use Rattle.s2search.proofs.Looking.{Sought}
+use Rattle.s2list.proofs.Looking.{Sought}
 use Rattle.s2search.proofs.Putting.{put_none, puts_length, puts_normal}
 
 -- a list of what is shared so far is in the room, and `looks` is how often the walk has looked

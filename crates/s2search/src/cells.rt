@@ -1,47 +1,15 @@
-//! Numbers by their places, in a list or in bytes.
-ghost use Rattle.std.specs.Prelude.{◌≡◌, ◌*◌, ◌/◌, ◌<◌, ◌≤◌, ℕ, List, length, slice_index};
+//! The numbers of a file by their places, in its bytes.
+ghost use Rattle.std.specs.Prelude.{◌≡◌, ◌*◌, ◌/◌, ◌<◌, ◌≤◌, length};
 ghost use Rattle.s2cell.specs.Cell.{IsCell};
 ghost use Rattle.s2file.specs.File.{first_number};
 ghost use Rattle.s2search.specs.Numbers.{number_in, numbers};
 
 use byteorder::{ByteOrder, LittleEndian};
 use s2cell::CellId;
+use s2list::Cells;
 
 /// The size of a number in a file, in bytes.
 pub const NUMBER_SIZE: usize = 8;
-
-/// Numbers that can be read by their places.
-pub trait Cells {
-    ghost ids: { Self → List ℕ };
-
-    /// How many numbers there are.
-    fn len(&self) -> usize
-        ensures { result ≡ length (ids self.now) };
-
-    /// The number at the place `k`, counted from 0.
-    fn id(&self, k: usize) -> u64
-        requires { k < length (ids self.now) }
-        ensures { result ≡ slice_index (ids self.now) k };
-}
-
-/// The numbers of a list.
-#[derive(Clone, Copy)]
-pub struct IdList<'a> {
-    /// The list.
-    pub ids: &'a [u64],
-}
-
-impl<'a> Cells for IdList<'a> {
-    ghost ids = { λ s. s.ids.now };
-
-    fn len(&self) -> usize {
-        self.ids.len()
-    }
-
-    fn id(&self, k: usize) -> u64 {
-        self.ids[k]
-    }
-}
 
 /// The numbers of a union file after its head: eight bytes each, the lowest byte first.
 #[derive(Clone, Copy)]

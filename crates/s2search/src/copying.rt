@@ -1,11 +1,10 @@
 //! The union whose cells some numbers are, in a list of its own.
 ghost use Rattle.std.specs.Prelude.{◌≡◌, ◌++◌, ◌∷◌, ◌↔◌, [], IfOk, IsTrue, MatchOption, SomeIff};
-ghost use Rattle.s2union.specs.Union.{IsLocal};
-ghost use Rattle.s2union.specs.Packed.{IsPacked};
+ghost use Rattle.s2list.specs.Union.{IsLocal};
+ghost use Rattle.s2list.specs.Packed.{IsPacked};
 
-use crate::cells::Cells;
-use crate::whole::ends_family;
 use s2cell::CellId;
+use s2list::{Cells, ends_family};
 use s2union::CellUnion;
 use std::alloc::{AllocError, Global};
 

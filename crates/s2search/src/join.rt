@@ -2,15 +2,14 @@
 //! the largest cells that fit; many cells of one list before the next of the other are copied as one run.
 ghost use Rattle.std.specs.Prelude.{◌≡◌, ◌+◌, ◌-◌, ◌^◌, ◌<◌, ◌≤◌, ℕ, Bool, IsTrue, List, length, max, slice_index};
 ghost use Rattle.s2cell.specs.Cell.{IsCell, first_leaf, size_of};
-ghost use Rattle.s2union.specs.Union.{IsLocal, IsNormalForm, has_leaf};
-ghost use Rattle.s2union.specs.Sets.{either};
+ghost use Rattle.s2list.specs.Union.{IsLocal, IsNormalForm, has_leaf};
+ghost use Rattle.s2list.specs.Sets.{either};
 ghost use Rattle.s2search.specs.Piles.{PilingIn};
 ghost use Rattle.s2search.specs.Room.{PutsGap, PutsOne};
 
-use crate::cells::Cells;
-use crate::find::{end_of, find_from, first_of};
 use crate::room::{put_gap, put_run};
 use s2cell::LEAVES;
+use s2list::{Cells, end_of, find_from, first_of};
 
 /// How many cells a run has at least, before it is looked for.
 const RUN: usize = 8;

@@ -6,13 +6,13 @@ ghost use Rattle.std.specs.Prelude.{◌≡◌, ◌+◌, ◌-◌, ◌^◌, ◌<�
 ghost use Rattle.std.specs.Prelude.{◌∷◌, ◌++◌, length, slice_index};
 ghost use Rattle.std.specs.List.Sorted.{IsStrictlyIncreasing};
 ghost use Rattle.s2cell.specs.Cell.{IsCell, IsInside, first_leaf, level_of, parent_of};
-ghost use Rattle.s2union.specs.Union.{IsLocal};
+ghost use Rattle.s2list.specs.Union.{IsLocal};
 ghost use Rattle.s2search.specs.Ancestors.{AreHolders, IsAfter, IsBefore, LeadsTo, PutsThose};
 ghost use Rattle.s2search.specs.Room.{IsPut, PutsOne};
 
-use crate::cells::Cells;
 use crate::room::put;
 use s2cell::CellId;
+use s2list::Cells;
 
 /// Puts the cells of a union and all their ancestors, ascending, each once, at the front of a room, if they fit, and
 /// answers how many they are. Takes no memory. The work is in proportion to their number, at most 31 for each cell of

@@ -1,7 +1,7 @@
 //! The law of inverted indexes.
 ghost use Rattle.std.specs.Prelude.{◌↔◌, ℕ, List, All};
 ghost use Rattle.s2cell.specs.Cell.{IsCell};
-ghost use Rattle.s2union.specs.Union.{ShareSome, has_leaf};
+ghost use Rattle.s2list.specs.Union.{ShareSome, has_leaf};
 ghost use Rattle.s2search.specs.Ancestors.{AreHolders, ShareHolder};
 
 /// Two lists of cells share a leaf exactly if a cell of one is a cell of the other, or an ancestor of a cell of the

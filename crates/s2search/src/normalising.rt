@@ -7,13 +7,13 @@ ghost use Rattle.std.specs.Prelude.{MatchOption, [], ◌∷◌};
 ghost use Rattle.std.specs.Prelude.{◌++◌, length, take, slice_index, slice_index_or};
 ghost use Rattle.std.specs.List.Sorted.{IsNonDecreasing};
 ghost use Rattle.s2cell.specs.Cell.{IsCell, IsInside, covers, first_leaf};
-ghost use Rattle.s2union.specs.Union.{has_leaf};
-ghost use Rattle.s2union.specs.Packed.{EndsBefore, IsFamily, IsPacked, Merges};
+ghost use Rattle.s2list.specs.Union.{has_leaf};
+ghost use Rattle.s2list.specs.Packed.{EndsBefore, IsFamily, IsPacked, Merges};
 ghost use Rattle.s2search.specs.Normalising.{IsNormalisedIn};
 
 use crate::cells::cell_of;
-use crate::whole::are_children;
 use s2cell::CellId;
+use s2list::are_children;
 
 /// Makes the front of a list of cells the union that has their leaves, and answers how many cells that union has. The
 /// cells may be in any order, and one may lie in another. Takes no memory and can't fail. A sort and one pass. What the

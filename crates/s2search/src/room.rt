@@ -2,8 +2,8 @@
 ghost use Rattle.std.specs.Prelude.{◌≡◌, ◌+◌, ◌-◌, ◌<◌, ◌≤◌, ◌++◌, ◌∷◌, [], ℕ, List, length, take, drop};
 ghost use Rattle.s2search.specs.Room.{IsPut, PutsGap};
 
-use crate::cells::Cells;
 use s2cell::{CellId, LEAVES};
+use s2list::Cells;
 
 /// Puts an identifier after the first `n`, if there is room, and answers how many they are then.
 #[inline(always)]

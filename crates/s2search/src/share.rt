@@ -1,14 +1,21 @@
 //! The leaves that two lists of cells share, written into a room.
 ghost use Rattle.std.specs.Prelude.{◌≡◌, ◌+◌, ◌<◌, ◌≤◌, ◌↔◌, ℕ, IsTrue, min, length};
-ghost use Rattle.s2union.specs.Union.{IsLocal, IsNormalForm, has_leaf};
-ghost use Rattle.s2union.specs.Sets.{shared};
-ghost use Rattle.s2search.specs.Looks.{Alternates, FewForTurnsAndCells};
+ghost use Rattle.s2list.specs.Union.{IsLocal, IsNormalForm, has_leaf};
+ghost use Rattle.s2list.specs.Sets.{shared};
+ghost use Rattle.s2list.specs.Looks.{Alternates, FewForTurnsAndCells};
 ghost use Rattle.s2search.specs.Room.{PutsOne};
 
-use crate::cells::Cells;
-use crate::find::{end_of, find_from_counted, first_of};
-use crate::looks::{Count, CountedLength, Looks, Uncounted, look};
 use crate::room::put_run;
+use s2list::{Cells, Count, Looks, Uncounted, end_of, find_from_counted, first_of, look};
+
+/// What a set operation answers, with how many looks that took.
+#[derive(Clone, Copy)]
+pub struct CountedLength {
+    /// How many cells the set has, whether they fit into the room or not.
+    pub len: usize,
+    /// How many times a cell of either list was looked at to search or to decide.
+    pub looks: u64,
+}
 
 /// Puts the leaves that two unions share into the room, if there is enough of it, and answers how many cells they are.
 /// Whichever list is behind is searched for the place of the other, in leaps, and the cells of one that lie in a cell

@@ -1,14 +1,13 @@
 //! The leaves of one list of cells that another doesn't have, written into a room.
 ghost use Rattle.std.specs.Prelude.{◌≡◌, ◌+◌, ◌^◌, ◌<◌, ◌≤◌, ◌↔◌, IsTrue, length, slice_index};
 ghost use Rattle.s2cell.specs.Cell.{IsCell, first_leaf, size_of};
-ghost use Rattle.s2union.specs.Union.{IsLocal, IsNormalForm, has_leaf};
-ghost use Rattle.s2union.specs.Packed.{FirstEndBy};
-ghost use Rattle.s2union.specs.Sets.{without};
+ghost use Rattle.s2list.specs.Union.{IsLocal, IsNormalForm, has_leaf};
+ghost use Rattle.s2list.specs.Packed.{FirstEndBy};
+ghost use Rattle.s2list.specs.Sets.{without};
 ghost use Rattle.s2search.specs.Room.{PutsOne};
 
-use crate::cells::Cells;
-use crate::find::{end_of, find_from, first_of};
 use crate::room::{put_gap, put_run};
+use s2list::{Cells, end_of, find_from, first_of};
 
 /// Puts the leaves of the first union that the second doesn't have into the room, if there is enough of it, and answers
 /// how many cells they are. Searches, in steps that double, for the next cell of `ys` that ends after the leaves done,

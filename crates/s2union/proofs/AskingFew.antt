@@ -7,13 +7,13 @@ use Rattle.std.proofs.lemmas.Bool.{cases_lt, false≢true}
 use Rattle.std.proofs.lemmas.Nat.{pow_below}
 use Rattle.s2cell.specs.Cell.{IsInside, covers, first_leaf, size_of}
 use Rattle.s2cell.proofs.Leaves.{covers_there, covers_from, inside_from_within, within_from_inside}
-use Rattle.s2union.specs.Union.{has_leaf, IsLocal, IsWithin, ShareSome}
-use Rattle.s2union.specs.Packed.{IsPacked, FirstEndBy}
-use Rattle.s2union.specs.Search.{Brackets}
-use Rattle.s2union.specs.Looks.{FewForUnion}
-use Rattle.s2union.proofs.Finding.{shared_none, starts_later}
+use Rattle.s2list.specs.Union.{has_leaf, IsLocal, IsWithin, ShareSome}
+use Rattle.s2list.specs.Packed.{IsPacked, FirstEndBy}
+use Rattle.s2list.specs.Search.{Brackets}
+use Rattle.s2list.specs.Looks.{FewForUnion}
+use Rattle.s2list.proofs.Finding.{shared_none, starts_later}
 use Rattle.s2union.proofs.Looking.{Sought, above, quarter_left}
-use Rattle.s2union.proofs.Walking.{leaf_there, leaf_at}
+use Rattle.s2list.proofs.Walking.{leaf_there, leaf_at}
 
 -- what holds at four places in a row
 pub four_places : (P : ℕ → Type 0) (at k : ℕ) → P at → P (at + 1) → P (at + 2) → P (at + 3) →
@@ -62,15 +62,6 @@ one_of_four false false false false P at p q r s = (
 )
 
 -- ---- looks
-
--- a whole list
-pub all_places : (u : List ℕ) (mark : ℕ) → Brackets u mark 0 (0 + length u)
-all_places u mark = record {
-  order = omega arith;
-  within = omega arith;
-  below = λ k h. absurd (omega arith);
-  rest = λ k a b. absurd (omega arith);
-}
 
 -- the power is at least 32
 power_five : (m n k : ℕ) → 0 < m → 64 * m ≤ n → n ≤ (m + 1) * 2 ^ k → 5 ≤ k

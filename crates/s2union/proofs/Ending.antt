@@ -6,14 +6,14 @@ use Rattle.std.proofs.lemmas.List.{get_or-reverse, length-reverse, reverse-appen
 use Rattle.std.proofs.lemmas.Option.{slice_get-get_or, get_or_from_slice_get, slice_get_within}
 use Rattle.std.specs.List.Sorted.{IsStrictlyIncreasing}
 use Rattle.s2cell.specs.Cell.{IsCell}
-use Rattle.s2union.specs.Packed.{IsPacked}
+use Rattle.s2list.specs.Packed.{IsPacked}
 use Rattle.s2union.specs.Tail.{Follows, IsTail}
 use Rattle.s2union.specs.declared.apply.Tail.{Tail}
 use Rattle.s2union.specs.Apply.{applied, Fits}
 use Rattle.s2union.specs.Merge.{Left, CanApply, Goes, made_list}
-use Rattle.s2union.proofs.Packing.{packed_take}
-use Rattle.s2union.proofs.PackedLocal.{local_from_packed}
-use Rattle.s2union.proofs.Checking.{fits, pushed_after, pushed_unmerged, packed_from_local}
+use Rattle.s2list.proofs.Packing.{packed_take}
+use Rattle.s2list.proofs.PackedLocal.{local_from_packed}
+use Rattle.s2list.proofs.Checking.{fits, pushed_after, pushed_unmerged, packed_from_local}
 
 -- a cell of the list by its place from the end
 pub from_end : (back : List ℕ) (k j : ℕ) → j + k + 1 ≡ length back → slice_get back k ≡ Some (get_or (reverse back) j 0)

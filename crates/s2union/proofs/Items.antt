@@ -13,11 +13,11 @@ use Rattle.s2cell.specs.Cell.{IsCell, level_of, first_leaf, size_of}
 use Rattle.s2cell.specs.Descendant.{descendant_of}
 use Rattle.s2cell.proofs.CellLemmas.{cell_leaves, four_pos}
 use Rattle.s2cell.proofs.Calls.{size_at}
-use Rattle.s2union.specs.Union.{IsLocal}
+use Rattle.s2list.specs.Union.{IsLocal}
 use Rattle.s2union.specs.Denorm.{IsDenormalised, IsUnderway, cut_level, cells_in, denormalised}
 use Rattle.s2cell.specs.declared.TheConstants.{LEAVES}
-use Rattle.s2union.proofs.Checking.{packed_from_local}
-use Rattle.s2union.proofs.Packing.{read_at}
+use Rattle.s2list.proofs.Checking.{packed_from_local}
+use Rattle.s2list.proofs.Packing.{read_at}
 use Rattle.s2union.proofs.Cutting.{cut_level_is, cut_level_own, cut_level_most, level_most, length-cells_in}
 use Rattle.s2union.proofs.Cutting.{get_or-cells_in, cells_in_is}
 

@@ -5,7 +5,7 @@ use Rattle.std.proofs.Math.Logic.{⊎_elim}
 use Rattle.std.proofs.Math.Nat.{pow-suc, mul-le-mul_right, le_of_mul-le-mul_right, mod-lt}
 use Rattle.std.proofs.lemmas.Bool.{cases_lt}
 use Rattle.s2cell.specs.Cell.{first_leaf, size_of}
-use Rattle.s2union.specs.Looks.{FewForUnion}
+use Rattle.s2list.specs.Looks.{FewForUnion}
 use Rattle.std.proofs.lemmas.Nat.{pow_pos, pow_below, pow-add, shr_split}
 
 -- a search that has `size` cells left fits a power of two, and each halving since `2 ^ k` paid for three looks

@@ -8,10 +8,10 @@ use Rattle.std.proofs.lemmas.List.{get_or-drop, length-drop, length-take-le, get
 use Rattle.s2cell.specs.Cell.{IsCell, size_of, first_leaf, covers}
 use Rattle.s2cell.proofs.CellLemmas.{cell_leaves}
 use Rattle.s2cell.proofs.Leaves.{covers_there, covers_from}
-use Rattle.s2union.specs.Union.{has_leaf, ShareSome}
-use Rattle.s2union.specs.Packed.{IsPacked, FirstEndBy}
-use Rattle.s2union.proofs.Walking.{leaf_at, leaf_there, not_true}
-use Rattle.s2union.proofs.Finding.{starts_later}
+use Rattle.s2list.specs.Union.{has_leaf, ShareSome}
+use Rattle.s2list.specs.Packed.{IsPacked, FirstEndBy}
+use Rattle.s2list.proofs.Walking.{leaf_at, leaf_there, not_true}
+use Rattle.s2list.proofs.Finding.{starts_later}
 
 -- a cell that ends by a leaf begins before it
 pub begun_before : (u : List ℕ) (n lo k : ℕ) → IsPacked u → n ≤ length u → FirstEndBy u n lo → k < n →

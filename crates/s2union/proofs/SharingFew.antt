@@ -12,16 +12,16 @@ use Rattle.std.proofs.lemmas.Option.{gets}
 use Rattle.s2cell.specs.Cell.{IsCell, IsInside, size_of, first_leaf}
 use Rattle.s2cell.proofs.CellLemmas.{cell_leaves}
 use Rattle.s2cell.proofs.Leaves.{before, after, within, around, meeting, inside_from_within, within_from_inside}
-use Rattle.s2union.specs.Union.{has_leaf, IsLocal}
-use Rattle.s2union.specs.Packed.{IsPlace, FirstEndBy, EndsAfter}
-use Rattle.s2union.specs.Sets.{IsShared}
-use Rattle.s2union.proofs.Checking.{packed_from_local}
-use Rattle.s2union.proofs.Finding.{starts_later}
-use Rattle.s2union.proofs.Packing.{read_at}
-use Rattle.s2union.proofs.Picking.{Picked}
-use Rattle.s2union.proofs.Shared.{Sharing, both, share_y, sharing_push, sharing_skip}
+use Rattle.s2list.specs.Union.{has_leaf, IsLocal}
+use Rattle.s2list.specs.Packed.{IsPlace, FirstEndBy, EndsAfter}
+use Rattle.s2list.specs.Sets.{IsShared}
+use Rattle.s2list.proofs.Checking.{packed_from_local}
+use Rattle.s2list.proofs.Finding.{starts_later}
+use Rattle.s2list.proofs.Packing.{read_at}
+use Rattle.s2list.proofs.Picking.{Picked}
+use Rattle.s2list.proofs.Shared.{Sharing, both, share_y, sharing_push, sharing_skip}
 use Rattle.s2union.proofs.SubtractingFew.{and_group, has_leaf-take, same_truth}
-use Rattle.s2union.proofs.Walking.{leaf_at, leaf_there}
+use Rattle.s2list.proofs.Walking.{leaf_at, leaf_there}
 
 -- before the first cell
 pub shared_none : (xs ys : List ℕ) → IsShared xs ys [] 0

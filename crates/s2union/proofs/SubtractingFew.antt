@@ -7,14 +7,14 @@ use Rattle.std.proofs.lemmas.Bool.Decides.{nat_tests}
 use Rattle.std.proofs.lemmas.List.{get_or-take, length-take-le, take_all}
 use Rattle.s2cell.specs.Cell.{size_of, first_leaf}
 use Rattle.s2cell.proofs.CellLemmas.{cell_leaves}
-use Rattle.s2union.specs.Union.{has_leaf, IsLocal}
-use Rattle.s2union.specs.Packed.{IsPacked, IsPlace, FirstEndBy}
-use Rattle.s2union.specs.Sets.{IsLeft}
-use Rattle.s2union.proofs.Checking.{packed_from_local}
-use Rattle.s2union.proofs.Finding.{ended_to, starts_later}
-use Rattle.s2union.proofs.Picking.{Picked}
-use Rattle.s2union.proofs.Subtracting.{minus, Subtracting}
-use Rattle.s2union.proofs.Walking.{leaf_at, leaf_there, not_true}
+use Rattle.s2list.specs.Union.{has_leaf, IsLocal}
+use Rattle.s2list.specs.Packed.{IsPacked, IsPlace, FirstEndBy}
+use Rattle.s2list.specs.Sets.{IsLeft}
+use Rattle.s2list.proofs.Checking.{packed_from_local}
+use Rattle.s2list.proofs.Finding.{ended_to, starts_later}
+use Rattle.s2list.proofs.Picking.{Picked}
+use Rattle.s2list.proofs.Subtracting.{minus, Subtracting}
+use Rattle.s2list.proofs.Walking.{leaf_at, leaf_there, not_true}
 
 pub same_truth : (a b : Bool) → (a ≡ true → b ≡ true) → (b ≡ true → a ≡ true) → a ≡ b
 same_truth true b f g = sym (f refl)

@@ -1,7 +1,7 @@
 -- Lists of cells as sets of cells, and the list that results from taking some cells out and putting others in.
 use Rattle.std.specs.Prelude.{◌≡◌, ℕ, Bool, true, false, ◌||◌, ◌==◌, nat_lt, if◌then◌else◌, List, [], ◌∷◌}
 use Rattle.std.specs.List.Sorted.{IsStrictlyIncreasing}
-use Rattle.s2union.specs.Union.{IsLocal}
+use Rattle.s2list.specs.Union.{IsLocal}
 
 -- whether the cell is in the list
 abbrev pub has : List ℕ → ℕ → Bool

@@ -5,7 +5,7 @@ use Rattle.std.specs.List.Sorted.{IsStrictlyIncreasing}
 use Rattle.std.specs.declared.cmp.Ordering.{Ordering}
 use Rattle.std.specs.declared.cmp.Ordering.TheVariants.{Less, Equal, Greater}
 use Rattle.s2union.specs.Apply.{has, applied}
-use Rattle.s2union.specs.Packed.{IsPacked}
+use Rattle.s2list.specs.Packed.{IsPacked}
 use Rattle.s2union.specs.declared.apply.Turn.{Turn}
 use Rattle.s2union.specs.declared.apply.Turn.TheVariants.{Write, Skip, Misfit, End}
 

@@ -1,6 +1,6 @@
 -- The last cells of a list that is passed one cell after another.
 use Rattle.std.specs.Prelude.{◌≡◌, ◌↔◌, ◌++◌, ℕ, List, Some, slice_get, reverse}
-use Rattle.s2union.specs.Packed.{EndsBefore, IsFamily, IsPacked}
+use Rattle.s2list.specs.Packed.{EndsBefore, IsFamily, IsPacked}
 use Rattle.s2union.specs.declared.apply.Tail.{Tail}
 
 -- the cell comes after the last one, and is not the fourth of a family with the last three

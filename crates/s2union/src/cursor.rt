@@ -1,8 +1,8 @@
 //! Questions that are asked in order.
 ghost use Rattle.std.specs.Prelude.{◌≡◌, ◌≤◌, ◌*◌, ◌^◌, ◌↔◌, IsTrue, length};
 ghost use Rattle.s2cell.specs.Cell.{covers, first_leaf};
-ghost use Rattle.s2union.specs.Union.{has_leaf, IsWithin, ShareSome};
-ghost use Rattle.s2union.specs.Packed.{IsPacked, FirstEndBy, EndsAfter};
+ghost use Rattle.s2list.specs.Union.{has_leaf, IsWithin, ShareSome};
+ghost use Rattle.s2list.specs.Packed.{IsPacked, FirstEndBy, EndsAfter};
 
 use crate::questions::{holds_at, meets_at};
 use crate::search::{find, find_from};
@@ -23,7 +23,7 @@ pub struct Cursor<'a> {
 
 impl<'a> Model for Cursor<'a> {
     ghost use Rattle.std.specs.Prelude.{ℕ, List};
-    ghost use Rattle.s2union.specs.Search.{IsCursor};
+    ghost use Rattle.s2list.specs.Search.{IsCursor};
 
     ghost Value = { List ℕ };
 

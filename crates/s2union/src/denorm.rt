@@ -3,7 +3,7 @@
 ghost use Rattle.std.specs.Prelude.{◌*◌, ◌+◌, ◌++◌, ◌-◌, ◌^◌, ◌≡◌, ◌≤◌, ◌<◌, IfOk, length};
 ghost use Rattle.std.specs.Vec.{vec_len, vec_capacity};
 ghost use Rattle.s2cell.specs.Cell.{level_of};
-ghost use Rattle.s2union.specs.Union.{IsLocal};
+ghost use Rattle.s2list.specs.Union.{IsLocal};
 ghost use Rattle.s2union.specs.Denorm.{denormalised, IsDenormalised, IsCutLevel, cells_in, cut_level};
 
 use crate::union::CellUnion;
@@ -25,7 +25,7 @@ pub struct Denorm<'a> {
 
 impl<'a> Model for Denorm<'a> {
     ghost use Rattle.std.specs.Prelude.{ℕ, List, drop};
-    ghost use Rattle.s2union.specs.Union.{IsLocal};
+    ghost use Rattle.s2list.specs.Union.{IsLocal};
     ghost use Rattle.s2union.specs.Denorm.{denormalised, IsUnderway};
 
     ghost Value = { List ℕ };

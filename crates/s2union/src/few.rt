@@ -6,15 +6,16 @@
 ghost use Rattle.std.specs.Prelude.{◌≡◌, ◌≤◌, ◌<◌, ◌+◌, ◌-◌, ◌*◌, ◌%◌, ◌↔◌};
 ghost use Rattle.std.specs.Prelude.{ℕ, All, IsTrue, IfSome, MatchOption, length, slice_index};
 ghost use Rattle.s2cell.specs.Cell.{IsCell, IsInside, first_leaf};
-ghost use Rattle.s2union.specs.Union.{IsLocal, has_leaf, IsWithin, ShareSome};
-ghost use Rattle.s2union.specs.Packed.{IsPacked, IsPlace, EndsBefore};
-ghost use Rattle.s2union.specs.Search.{Brackets};
-ghost use Rattle.s2union.specs.Sets.{HoldsBetween, MissesBetween};
-ghost use Rattle.s2union.specs.Looks.{FewForUnion};
+ghost use Rattle.s2list.specs.Union.{IsLocal, has_leaf, IsWithin, ShareSome};
+ghost use Rattle.s2list.specs.Packed.{IsPacked, IsPlace, EndsBefore};
+ghost use Rattle.s2list.specs.Search.{Brackets};
+ghost use Rattle.s2list.specs.Sets.{HoldsBetween, MissesBetween};
+ghost use Rattle.s2list.specs.Looks.{FewForUnion};
 
-use crate::questions::{Counted, answer_with, holds_at, meets_at};
+use crate::questions::{answer_with, holds_at, meets_at};
 use crate::search::{Found, find_counted, find_from_counted, look, pass, quarter, without_last};
 use s2cell::CellId;
+use s2list::Counted;
 
 /// A list counts as short if the other is at least this many times as long. A search in the other takes no more steps
 /// than that, so the searches for all cells of the short one take no more than a pass.

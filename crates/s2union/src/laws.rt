@@ -1,6 +1,6 @@
 //! The law of normal forms.
 ghost use Rattle.std.specs.Prelude.{◌≡◌, ℕ};
-ghost use Rattle.s2union.specs.Union.{has_leaf};
+ghost use Rattle.s2list.specs.Union.{has_leaf};
 
 use crate::union::CellUnion;
 

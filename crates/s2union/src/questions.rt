@@ -2,23 +2,15 @@
 ghost use Rattle.std.specs.Prelude.{◌≡◌, ◌≤◌, ◌<◌, ◌+◌, ◌-◌, ◌^◌, ◌↔◌, ℕ, IsTrue};
 ghost use Rattle.std.specs.Prelude.{min, length, slice_index, All, true};
 ghost use Rattle.s2cell.specs.Cell.{IsCell, covers, first_leaf};
-ghost use Rattle.s2union.specs.Union.{IsLocal, has_leaf, IsWithin, ShareSome};
-ghost use Rattle.s2union.specs.Packed.{IsPacked, FirstEndBy, EndsAfter};
-ghost use Rattle.s2union.specs.Looks.{FewForCell, FewForUnion};
+ghost use Rattle.s2list.specs.Union.{IsLocal, has_leaf, IsWithin, ShareSome};
+ghost use Rattle.s2list.specs.Packed.{IsPacked, FirstEndBy, EndsAfter};
+ghost use Rattle.s2list.specs.Looks.{FewForCell, FewForUnion};
 
 use crate::few::{MUCH_LONGER, holds_few, meets_few};
 use crate::search::{find, find_counted, find_from_counted, look};
 use crate::union::CellUnion;
 use s2cell::{CellId, LEAVES};
-
-/// The answer to a question, and how many cells were looked at for it.
-#[derive(Clone, Copy, PartialEq, Eq, Debug)]
-pub struct Counted {
-    /// The answer.
-    pub answer: bool,
-    /// How many times a cell of a list was looked at; of either list, if there are two.
-    pub looks: u64,
-}
+use s2list::Counted;
 
 impl CellUnion {
     /// Whether it has all leaves of the cell. Logarithmic in the number of its cells. S2 calls it `Contains`.

@@ -3,8 +3,8 @@
 ghost use Rattle.std.specs.Prelude.{◌≡◌, ◌≤◌, ◌<◌, ◌+◌, ◌-◌, ◌*◌, ◌^◌, ◌↔◌};
 ghost use Rattle.std.specs.Prelude.{◌/◌, ◌⊎◌, ℕ, IsTrue, length, slice_index};
 ghost use Rattle.std.specs.List.Sorted.{IsStrictlyIncreasing};
-ghost use Rattle.s2union.specs.Packed.{IsPacked, FirstEndBy, EndsAt, EndsAfter};
-ghost use Rattle.s2union.specs.Search.{Brackets};
+ghost use Rattle.s2list.specs.Packed.{IsPacked, FirstEndBy, EndsAt, EndsAfter};
+ghost use Rattle.s2list.specs.Search.{Brackets};
 
 use s2cell::{CellId, LEAVES};
 

@@ -5,9 +5,9 @@ ghost use Rattle.std.specs.Prelude.{◌↔◌, All, slice_index, ℕ, length, []
 ghost use Rattle.std.specs.Prelude.{IfErr, IfOk, List, OnOk, not, IsTrue};
 ghost use Rattle.std.specs.Vec.{vec_len, vec_capacity};
 ghost use Rattle.s2cell.specs.Cell.{first_leaf};
-ghost use Rattle.s2union.specs.Union.{IsLocal, IsNormalForm, has_leaf};
-ghost use Rattle.s2union.specs.Sets.{either, shared, without};
-ghost use Rattle.s2union.specs.Packed.{IsPacked, Continues};
+ghost use Rattle.s2list.specs.Union.{IsLocal, IsNormalForm, has_leaf};
+ghost use Rattle.s2list.specs.Sets.{either, shared, without};
+ghost use Rattle.s2list.specs.Packed.{IsPacked, Continues};
 
 use crate::fault::UnionFault;
 use crate::few::MUCH_LONGER;

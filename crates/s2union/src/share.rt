@@ -2,9 +2,9 @@
 ghost use Rattle.std.specs.Prelude.{ℕ, ◌≡◌, ◌≤◌, ◌<◌, ◌+◌, ◌-◌, ◌↔◌, ◌&&◌};
 ghost use Rattle.std.specs.Prelude.{[], IsTrue, length, slice_index, IfOk, OnOk};
 ghost use Rattle.s2cell.specs.Cell.{IsInside, first_leaf};
-ghost use Rattle.s2union.specs.Union.{IsLocal, has_leaf};
-ghost use Rattle.s2union.specs.Sets.{IsShared};
-ghost use Rattle.s2union.specs.Packed.{FirstEndBy, IsPlace};
+ghost use Rattle.s2list.specs.Union.{IsLocal, has_leaf};
+ghost use Rattle.s2list.specs.Sets.{IsShared};
+ghost use Rattle.s2list.specs.Packed.{FirstEndBy, IsPlace};
 
 use crate::few::{MUCH_LONGER, by_four, find_four, pass_free, pass_held};
 use crate::search::{find, find_from};

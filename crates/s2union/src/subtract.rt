@@ -5,9 +5,9 @@ ghost use Rattle.std.specs.Prelude.{slice_index, ℕ, length, []};
 ghost use Rattle.std.specs.Prelude.{IfErr, List, OnOk, not};
 ghost use Rattle.std.specs.Vec.{vec_len};
 ghost use Rattle.s2cell.specs.Cell.{IsCell, first_leaf, size_of};
-ghost use Rattle.s2union.specs.Union.{IsLocal, IsNormalForm, has_leaf};
-ghost use Rattle.s2union.specs.Sets.{without, IsLeft};
-ghost use Rattle.s2union.specs.Packed.{FirstEndBy, FillsGap, IsPlace};
+ghost use Rattle.s2list.specs.Union.{IsLocal, IsNormalForm, has_leaf};
+ghost use Rattle.s2list.specs.Sets.{without, IsLeft};
+ghost use Rattle.s2list.specs.Packed.{FirstEndBy, FillsGap, IsPlace};
 
 use crate::fault::UnionFault;
 use crate::few::{MUCH_LONGER, find_four};

@@ -11,8 +11,8 @@ ghost use Rattle.std.specs.Vec.Iter.{into_iter_items, into_iter_len, into_iter_s
 ghost use Rattle.std.specs.Cmp.Rules.{hashing};
 ghost use Rattle.std.proofs.Common.{rules};
 ghost use Rattle.s2cell.specs.Cell.{first_leaf, size_of};
-ghost use Rattle.s2union.specs.Union.{IsLocal, IsNormalForm, has_leaf, between};
-ghost use Rattle.s2union.specs.Count.{count_below};
+ghost use Rattle.s2list.specs.Union.{IsLocal, IsNormalForm, has_leaf, between};
+ghost use Rattle.s2list.specs.Count.{count_below};
 
 use crate::normalising::normalise;
 use crate::subtract::fill_gap;
@@ -49,7 +49,7 @@ pub struct CellUnion {
 
 impl Model for CellUnion {
     ghost use Rattle.std.specs.Vec.{vec_capacity};
-    ghost use Rattle.s2union.specs.Union.{Union, IsLocal};
+    ghost use Rattle.s2list.specs.Union.{Union, IsLocal};
 
     ghost Value = { Union };
 

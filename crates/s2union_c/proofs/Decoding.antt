@@ -3,8 +3,8 @@ use Rattle.std.proofs.Common.{◌≡◌, ℕ, ℤ, ◌<◌, ◌≤◌, inl, inr,
 use Rattle.std.proofs.Common.{length, take, drop}
 use Rattle.std.proofs.Math.Logic.{⊎_elim}
 use Rattle.std.proofs.lemmas.List.{drop_all, drop_at, length-append, length-drop, take_at, take-append-le}
-use Rattle.s2union.specs.Union.{IsLocal, IsNormalForm, has_leaf}
-use Rattle.s2union.proofs.Normal.{normal_from_local}
+use Rattle.s2list.specs.Union.{IsLocal, IsNormalForm, has_leaf}
+use Rattle.s2list.proofs.Normal.{normal_from_local}
 use Rattle.s2search.specs.Normalising.{IsNormalisedIn}
 use Rattle.s2union_c.specs.Files.{Decoded, IsDecodedIn}
 use Rattle.s2union_c.specs.Results.{HasNoRoom, IsWritten, Made, MadeOne, Refused}

@@ -1,7 +1,7 @@
 -- What is asked about many cells.
 use Rattle.std.specs.Prelude.{ℕ, List}
 use Rattle.s2cell.specs.Cell.{covers}
-use Rattle.s2union.specs.Union.{IsWithin, ShareSome, has_leaf}
+use Rattle.s2list.specs.Union.{IsWithin, ShareSome, has_leaf}
 use Rattle.s2union_c.specs.declared.many.Question.{Question}
 use Rattle.s2union_c.specs.declared.many.Question.TheVariants.{Contains, Intersects}
 

@@ -1,6 +1,6 @@
 //! The coverings of rectangles and of unions at one level.
 ghost use Rattle.std.specs.Prelude.{◌<◌, ◌≤◌, ◌⊎◌, ℕ, List, SomeIff, length, min};
-ghost use Rattle.s2union.specs.Union.{IsLocal, IsNormalForm, has_leaf};
+ghost use Rattle.s2list.specs.Union.{IsLocal, IsNormalForm, has_leaf};
 ghost use Rattle.s2cover.specs.Coverings.{inner_set, outer_set};
 ghost use Rattle.s2cover.specs.Rectangles.{IsRect, Rect, rect_set};
 ghost use Rattle.s2union_c.specs.Results.{MadeOne, Refused};
@@ -10,7 +10,7 @@ use crate::lists::union_of;
 use crate::results::put_cells;
 use crate::status::{BAD_ARGUMENT, NO_MEMORY, NO_UNION, TOO_MANY};
 use s2cover::{CoverFault, FaceRect, Looks, MOST_CELLS, inner, outer, rect_inner, rect_outer};
-use s2search::{IdList, is_union};
+use s2list::{IdList, is_union};
 use std::alloc::Global;
 
 /// The leaves of a face, 0 to 5, with coordinates from `i0` to `i1` and from `j0` to `j1`, bounds included.

@@ -3,8 +3,8 @@
 //! address.
 ghost use Rattle.std.specs.Prelude.{◌≡◌, ◌+◌, ◌*◌, ◌<◌, ◌≤◌, ◌⊎◌, All, MatchResult, length, slice_index, drop};
 ghost use Rattle.s2cell.specs.Cell.{IsCell, covers};
-ghost use Rattle.s2union.specs.Union.{IsLocal, IsNormalForm, IsWithin, ShareSome, has_leaf};
-ghost use Rattle.s2union.specs.Count.{count_below};
+ghost use Rattle.s2list.specs.Union.{IsLocal, IsNormalForm, IsWithin, ShareSome, has_leaf};
+ghost use Rattle.s2list.specs.Count.{count_below};
 ghost use Rattle.s2file.specs.File.{file_text};
 ghost use Rattle.s2search.specs.Ancestors.{AreHolders};
 ghost use Rattle.s2search.specs.Normalising.{IsNormalisedIn};
@@ -22,9 +22,8 @@ use crate::status::{
 use byteorder::{ByteOrder, LittleEndian};
 use s2cell::{CellId, LEAVES};
 use s2file::{HEAD_SIZE, VERSION};
-use s2search::{
-    Cells, FileIds, NUMBER_SIZE, ancestors, first_wrong, is_union, number, read_numbers,
-};
+use s2list::{Cells, first_wrong, is_union};
+use s2search::{FileIds, NUMBER_SIZE, ancestors, number, read_numbers};
 use s2union::normalise;
 use std::alloc::Global;
 
@@ -177,7 +176,7 @@ pub extern "C" fn s2u_file_leaf_count(bytes: &[u8], leaves: &mut u64) -> i32
     *leaves = 0;
     match bytes_after_head(bytes) {
         Ok(numbers) => {
-            *leaves = s2search::leaf_count(&FileIds { bytes: numbers });
+            *leaves = s2list::leaf_count(&FileIds { bytes: numbers });
             MADE
         }
         Err(status) => status,
@@ -217,7 +216,7 @@ pub extern "C" fn s2u_file_contains_cell(bytes: &[u8], cell: u64) -> i32
 {
     match bytes_after_head(bytes) {
         Ok(numbers) => match CellId::from_id(cell) {
-            Some(part) => answer(s2search::contains_cell(&FileIds { bytes: numbers }, part)),
+            Some(part) => answer(s2list::contains_cell(&FileIds { bytes: numbers }, part)),
             None => NO_CELL,
         },
         Err(status) => status,
@@ -235,7 +234,7 @@ pub extern "C" fn s2u_file_intersects_cell(bytes: &[u8], cell: u64) -> i32
 {
     match bytes_after_head(bytes) {
         Ok(numbers) => match CellId::from_id(cell) {
-            Some(part) => answer(s2search::intersects_cell(&FileIds { bytes: numbers }, part)),
+            Some(part) => answer(s2list::intersects_cell(&FileIds { bytes: numbers }, part)),
             None => NO_CELL,
         },
         Err(status) => status,
@@ -259,7 +258,7 @@ pub extern "C" fn s2u_file_contains(xs: &[u8], ys: &[u8]) -> i32
         Ok(numbers) => FileIds { bytes: numbers },
         Err(status) => return status,
     };
-    answer(s2search::contains(&whole, &part))
+    answer(s2list::contains(&whole, &part))
 }
 
 /// Whether the unions of two files share a leaf.
@@ -279,7 +278,7 @@ pub extern "C" fn s2u_file_intersects(xs: &[u8], ys: &[u8]) -> i32
         Ok(numbers) => FileIds { bytes: numbers },
         Err(status) => return status,
     };
-    answer(s2search::intersects(&first, &second))
+    answer(s2list::intersects(&first, &second))
 }
 
 /// The cells of a file's union and all their ancestors, ascending, each once. Of a file that is not the file of a union

@@ -1,10 +1,10 @@
 //! Numbers, wherever they lie in memory, as lists of cells and as unions.
 ghost use Rattle.std.specs.Prelude.{◌≡◌, All, IfOk};
 ghost use Rattle.s2cell.specs.Cell.{IsCell};
-ghost use Rattle.s2union.specs.Union.{IsLocal};
+ghost use Rattle.s2list.specs.Union.{IsLocal};
 
 use s2cell::CellId;
-use s2search::{Cells, IdList};
+use s2list::{Cells, IdList};
 use s2union::CellUnion;
 use std::alloc::{AllocError, Global};
 

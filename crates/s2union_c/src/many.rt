@@ -1,18 +1,16 @@
 //! Many questions about one union, where it lies, as in `questions`.
 ghost use Rattle.std.specs.Prelude.{◌≡◌, ◌+◌, ◌<◌, ◌≤◌, ℕ, All, length, drop, slice_index};
 ghost use Rattle.s2cell.specs.Cell.{IsCell, covers, first_leaf};
-ghost use Rattle.s2union.specs.Union.{IsLocal, IsWithin, ShareSome, has_leaf};
-ghost use Rattle.s2union.specs.Packed.{IsPlace};
-ghost use Rattle.s2search.specs.Search.{IsFirstWrong};
+ghost use Rattle.s2list.specs.Union.{IsLocal, IsWithin, ShareSome, has_leaf};
+ghost use Rattle.s2list.specs.Packed.{IsPlace};
+ghost use Rattle.s2list.specs.Search.{IsFirstWrong};
 ghost use Rattle.s2union_c.specs.Many.{Holds};
 ghost use Rattle.s2union_c.specs.Status.{IsBit, made, no_cell, no_room};
 
 use crate::status::{MADE, NO_CELL, NO_ROOM};
 use s2cell::CellId;
-use s2search::{
-    IdList, NEARBY, cell_of, contains_cell_at, first_wrong, intersects_cell_at, place_near,
-    places_of_four,
-};
+use s2list::{IdList, NEARBY, contains_cell_at, first_wrong, intersects_cell_at, place_near, places_of_four};
+use s2search::cell_of;
 
 /// What is asked about each cell.
 #[derive(Clone, Copy, PartialEq, Eq)]

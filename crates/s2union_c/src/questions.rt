@@ -2,16 +2,16 @@
 //! a union, which would cost more than the question. If it isn't one, the answer means nothing.
 ghost use Rattle.std.specs.Prelude.{◌≡◌, ◌+◌, ◌≤◌, length};
 ghost use Rattle.s2cell.specs.Cell.{IsCell, covers, first_leaf};
-ghost use Rattle.s2union.specs.Union.{IsLocal, IsWithin, ShareSome, has_leaf};
-ghost use Rattle.s2union.specs.Count.{count_below};
-ghost use Rattle.s2union.specs.Packed.{IsPlace};
-ghost use Rattle.s2search.specs.Search.{IsRunAt};
+ghost use Rattle.s2list.specs.Union.{IsLocal, IsWithin, ShareSome, has_leaf};
+ghost use Rattle.s2list.specs.Count.{count_below};
+ghost use Rattle.s2list.specs.Packed.{IsPlace};
+ghost use Rattle.s2list.specs.Search.{IsRunAt};
 ghost use Rattle.s2union_c.specs.Status.{IsAnswerTo, IsAnswer, made, no_cell};
 ghost use Rattle.s2union_c.specs.Order.{order};
 
 use crate::status::{MADE, NO_CELL, answer};
 use s2cell::{CellId, LEAVES};
-use s2search::IdList;
+use s2list::IdList;
 
 /// Whether a list is a union: cells, ascending, no two that share a leaf, no four that are the children of one cell.
 /// Linear.
@@ -19,7 +19,7 @@ use s2search::IdList;
 pub extern "C" fn s2u_is_union(ids: &[u64]) -> i32
     ensures { IsAnswerTo result (IsLocal ids.now) }
 {
-    answer(s2search::is_union(&IdList { ids }))
+    answer(s2list::is_union(&IdList { ids }))
 }
 
 /// How many of the `6 * 4^30` leaves a union has. Linear.
@@ -27,7 +27,7 @@ pub extern "C" fn s2u_is_union(ids: &[u64]) -> i32
 pub extern "C" fn s2u_leaf_count(ids: &[u64]) -> u64
     ensures { IsLocal ids.now → result ≡ count_below (has_leaf ids.now) LEAVES }
 {
-    s2search::leaf_count(&IdList { ids })
+    s2list::leaf_count(&IdList { ids })
 }
 
 /// Whether a union has all leaves of a cell. Logarithmic.
@@ -38,7 +38,7 @@ pub extern "C" fn s2u_contains_cell(ids: &[u64], cell: u64) -> i32
     ensures no_cell { (IsCell cell → ⊥) → result ≡ no_cell }
 {
     match CellId::from_id(cell) {
-        Some(part) => answer(s2search::contains_cell(&IdList { ids }, part)),
+        Some(part) => answer(s2list::contains_cell(&IdList { ids }, part)),
         None => NO_CELL,
     }
 }
@@ -51,7 +51,7 @@ pub extern "C" fn s2u_intersects_cell(ids: &[u64], cell: u64) -> i32
     ensures no_cell { (IsCell cell → ⊥) → result ≡ no_cell }
 {
     match CellId::from_id(cell) {
-        Some(part) => answer(s2search::intersects_cell(&IdList { ids }, part)),
+        Some(part) => answer(s2list::intersects_cell(&IdList { ids }, part)),
         None => NO_CELL,
     }
 }
@@ -68,7 +68,7 @@ pub extern "C" fn s2u_cells_at(ids: &[u64], cell: u64, first: &mut usize, count:
 {
     match CellId::from_id(cell) {
         Some(place) => {
-            let (start, len) = s2search::cells_at(&IdList { ids }, place);
+            let (start, len) = s2list::cells_at(&IdList { ids }, place);
             *first = start;
             *count = len;
             MADE
@@ -87,7 +87,7 @@ pub extern "C" fn s2u_contains(xs: &[u64], ys: &[u64]) -> i32
     ensures exact { IsLocal xs.now → IsLocal ys.now → IsAnswerTo result (IsWithin (has_leaf ys.now) (has_leaf xs.now)) }
     ensures answer { IsAnswer result }
 {
-    answer(s2search::contains(&IdList { ids: xs }, &IdList { ids: ys }))
+    answer(s2list::contains(&IdList { ids: xs }, &IdList { ids: ys }))
 }
 
 /// Whether two unions share a leaf.
@@ -97,7 +97,7 @@ pub extern "C" fn s2u_intersects(xs: &[u64], ys: &[u64]) -> i32
         (ShareSome (has_leaf xs.now) (has_leaf ys.now)) }
     ensures answer { IsAnswer result }
 {
-    answer(s2search::intersects(&IdList { ids: xs }, &IdList { ids: ys }))
+    answer(s2list::intersects(&IdList { ids: xs }, &IdList { ids: ys }))
 }
 
 /// The order of two lists, element by element and then by length: -1, 0 or 1.

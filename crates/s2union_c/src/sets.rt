@@ -1,12 +1,13 @@
 //! The operations on two unions, written straight into the caller's list.
 ghost use Rattle.std.specs.Prelude.{◌≡◌, ◌≤◌, ◌⊎◌, length};
-ghost use Rattle.s2union.specs.Sets.{either, shared, without};
-ghost use Rattle.s2union.specs.Union.{IsLocal, IsNormalForm, has_leaf};
+ghost use Rattle.s2list.specs.Sets.{either, shared, without};
+ghost use Rattle.s2list.specs.Union.{IsLocal, IsNormalForm, has_leaf};
 ghost use Rattle.s2union_c.specs.Results.{MadeInPlace};
 ghost use Rattle.s2union_c.specs.Status.{made, no_room};
 
 use crate::results::room_status;
-use s2search::{IdList, put_difference, put_intersection, put_union};
+use s2list::IdList;
+use s2search::{put_difference, put_intersection, put_union};
 
 /// The leaves of either union. Of lists that are not unions the result means nothing.
 #[unsafe(no_mangle)]

@@ -12,7 +12,8 @@ ghost use Rattle.s2union_c.specs.Texts.{is_between, piece, tokens_of, words_of_t
 
 use crate::status::{MADE, NO_CELL, NO_ROOM, TOO_MANY};
 use s2cell::CellId;
-use s2search::{IdList, cell_of, first_wrong};
+use s2list::{IdList, first_wrong};
+use s2search::cell_of;
 
 /// How many hexadecimal digits an identifier has.
 const DIGITS: usize = 16;

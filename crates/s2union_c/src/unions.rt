@@ -1,11 +1,11 @@
 //! Making unions from a list or a range, the ancestors of a union's cells, and its cells cut to levels.
 ghost use Rattle.std.specs.Prelude.{◌≡◌, ◌+◌, ◌<◌, ◌≤◌, ◌⊎◌, ◌↔◌, IsTrue, All, length};
 ghost use Rattle.s2cell.specs.Cell.{IsCell, first_leaf, size_of};
-ghost use Rattle.s2union.specs.Union.{IsLocal, IsNormalForm, between, has_leaf};
+ghost use Rattle.s2list.specs.Union.{IsLocal, IsNormalForm, between, has_leaf};
 ghost use Rattle.s2union.specs.Denorm.{denormalised};
 ghost use Rattle.s2search.specs.Ancestors.{AreHolders};
 ghost use Rattle.s2search.specs.Normalising.{IsNormalisedIn};
-ghost use Rattle.s2search.specs.Search.{IsFirstWrong};
+ghost use Rattle.s2list.specs.Search.{IsFirstWrong};
 ghost use Rattle.s2union_c.specs.Results.{MadeInPlace, MadeOne, Refused};
 ghost use Rattle.s2union_c.specs.Cutting.{IsCutting};
 ghost use Rattle.s2union_c.specs.Status.{bad_argument, made, no_cell, no_room};
@@ -13,7 +13,8 @@ ghost use Rattle.s2union_c.specs.Status.{bad_argument, made, no_cell, no_room};
 use crate::results::{put_cells, room_status};
 use crate::status::{BAD_ARGUMENT, MADE, NO_CELL, NO_MEMORY};
 use s2cell::CellId;
-use s2search::{IdList, ancestors, denormalise, first_wrong};
+use s2list::{IdList, first_wrong};
+use s2search::{ancestors, denormalise};
 use s2union::CellUnion;
 use std::alloc::Global;
 

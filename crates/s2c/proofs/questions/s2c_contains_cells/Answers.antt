@@ -1,7 +1,7 @@
 use Rattle.std.proofs.Common.{rules, ◌≡◌, ◌↔◌, IsTrue, subst}
 use Rattle.std.specs.Prelude.{slice_index}
 use Rattle.s2cell.specs.Cell.{covers}
-use Rattle.s2union.specs.Union.{has_leaf, IsWithin}
+use Rattle.s2list.specs.Union.{has_leaf, IsWithin}
 use Rattle.s2c.proofs.Answering.{answers_more}
 use Rattle.s2c.proofs.questions.s2c_contains_cells.Goals as goal
 

@@ -1,7 +1,7 @@
 use Rattle.std.proofs.Common.{◌≡◌, ◌<◌, ◌≤◌, ◌↔◌, ℕ, IsTrue, false, length}
 use Rattle.std.specs.Prelude.{slice_index, slice_index_or}
 use Rattle.s2cell.specs.Cell.{covers}
-use Rattle.s2union.specs.Union.{has_leaf, IsWithin}
+use Rattle.s2list.specs.Union.{has_leaf, IsWithin}
 use Rattle.s2c.proofs.questions.s2c_contains_cells_in_order.Given as goal
 
 abbrev pub invariant-loop-k : goal.invariant-loop-k

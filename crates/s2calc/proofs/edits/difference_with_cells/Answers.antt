@@ -1,6 +1,6 @@
 use Rattle.std.proofs.Common.{◌&&◌, not, ap}
-use Rattle.s2union.specs.Union.{has_leaf}
-use Rattle.s2union.specs.Sets.{without}
+use Rattle.s2list.specs.Union.{has_leaf}
+use Rattle.s2list.specs.Sets.{without}
 use Rattle.s2calc.proofs.CoveringLemmas.{makes_same}
 use Rattle.s2calc.proofs.edits.difference_with_cells.Goals as goal
 

@@ -1,8 +1,8 @@
 use Rattle.std.proofs.Common.{◌&&◌, ap}
 use Rattle.std.proofs.lemmas.Result.{IfOk-weaker}
-use Rattle.s2union.specs.Union.{has_leaf}
-use Rattle.s2union.specs.Sets.{shared}
-use Rattle.s2union.proofs.Normal.{normal_form_same}
+use Rattle.s2list.specs.Union.{has_leaf}
+use Rattle.s2list.specs.Sets.{shared}
+use Rattle.s2list.proofs.Normal.{normal_form_same}
 use Rattle.s2calc.proofs.edits.intersection_with_cells.Goals as goal
 
 pub returns : goal.returns

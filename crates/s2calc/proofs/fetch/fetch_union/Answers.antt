@@ -1,6 +1,6 @@
 use Rattle.std.proofs.Common.{◌≡◌, ◌<◌, Ok, Err, inr, rules, subst, arith}
 use Rattle.std.proofs.lemmas.Result.{MatchResult-weaker}
-use Rattle.s2union.specs.Union.{has_leaf}
+use Rattle.s2list.specs.Union.{has_leaf}
 use Rattle.s2file.specs.declared.union_file.TheConstants.{MOST_SIZE}
 use Rattle.s2calc.specs.declared.fetch.TheConstants.{BYTES_OF_A_UNION}
 use Rattle.s2calc.specs.Fetch.{Reads}

@@ -1,4 +1,4 @@
-use Rattle.s2union.proofs.Normal.{normal_from_local}
+use Rattle.s2list.proofs.Normal.{normal_from_local}
 use Rattle.s2calc.proofs.fetch.read.Goals as goal
 
 pub returns-in-Ok : goal.returns-in-Ok

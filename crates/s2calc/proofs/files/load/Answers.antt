@@ -1,5 +1,5 @@
 use Rattle.std.proofs.Common.{◌≡◌, Ok, Err, inl, inr, refl, rules, subst}
-use Rattle.s2union.specs.Union.{has_leaf}
+use Rattle.s2list.specs.Union.{has_leaf}
 use Rattle.s2calc.specs.Fetch.{FetchesUnion}
 use Rattle.s2calc.proofs.files.load.Goals as goal
 

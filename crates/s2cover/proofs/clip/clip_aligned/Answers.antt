@@ -1,8 +1,8 @@
 use Rattle.std.proofs.Common.{◌≡◌, ◌-◌, ◌<◌, List, ℕ, length, ◌∙◌, ap, sym, subst}
 use Rattle.std.proofs.lemmas.Result.{err_from_is_err_and}
 use Rattle.std.specs.List.{flat_map}
-use Rattle.s2union.specs.Union.{has_leaf, IsLocal, IsNormalForm}
-use Rattle.s2union.proofs.Normal.{local_from_normal}
+use Rattle.s2list.specs.Union.{has_leaf, IsLocal, IsNormalForm}
+use Rattle.s2list.proofs.Normal.{local_from_normal}
 use Rattle.s2cover.specs.Descent.{form_in}
 use Rattle.s2cover.specs.Rectangles.{clipped, rect_set}
 use Rattle.s2cover.proofs.Parts.{parts_normal, parts_many}

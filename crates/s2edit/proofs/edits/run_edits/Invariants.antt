@@ -1,5 +1,5 @@
 use Rattle.std.proofs.Common.{◌≡◌, ◌+◌, List, take}
-use Rattle.s2union.specs.Union.{has_leaf}
+use Rattle.s2list.specs.Union.{has_leaf}
 use Rattle.s2edit.specs.History.{sets}
 use Rattle.s2edit.specs.Edits.{EditRun, edit_tally_of}
 use Rattle.s2edit.specs.declared.edits.EditOutcome.{EditOutcome}

@@ -1,6 +1,6 @@
 use Rattle.std.proofs.Common.{◌+◌, ◌-◌, List, map, take, drop, sym, subst, length-drop, arith}
 use Rattle.std.proofs.lemmas.Result.{err_from_is_err_and}
-use Rattle.s2union.specs.Union.{IsLocal}
+use Rattle.s2list.specs.Union.{IsLocal}
 use Rattle.s2file.specs.Session.{moved_of}
 use Rattle.s2edit.specs.Diff.{Diff}
 use Rattle.s2edit.specs.Layers.{of_register, FitInTurn}

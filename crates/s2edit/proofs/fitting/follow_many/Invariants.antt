@@ -1,5 +1,5 @@
 use Rattle.std.proofs.Common.{◌≤◌, ◌-◌, length, map, drop}
-use Rattle.s2union.specs.Union.{IsLocal}
+use Rattle.s2list.specs.Union.{IsLocal}
 use Rattle.s2file.specs.Session.{moved_of}
 use Rattle.s2edit.specs.Layers.{of_register}
 use Rattle.s2edit.specs.Session.{diff}

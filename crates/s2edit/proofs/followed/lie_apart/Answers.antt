@@ -1,6 +1,6 @@
 use Rattle.std.proofs.Common.{◌∙◌, ℕ, List, sym, subst}
 use Rattle.std.proofs.lemmas.Bool.{false≢true}
-use Rattle.s2union.specs.Union.{has_leaf, ShareSome}
+use Rattle.s2list.specs.Union.{has_leaf, ShareSome}
 use Rattle.s2cell.specs.Cell.{covers}
 use Rattle.s2edit.proofs.Apart.{lie_on, lie_rest}
 use Rattle.s2edit.proofs.followed.lie_apart.Goals as goal

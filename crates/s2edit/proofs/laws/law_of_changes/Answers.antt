@@ -1,5 +1,5 @@
 use Rattle.std.proofs.Common.{◌≡◌, ℕ, List, ap, ◌∙◌, subst}
-use Rattle.s2union.specs.Union.{IsLocal}
+use Rattle.s2list.specs.Union.{IsLocal}
 use Rattle.s2union.specs.Apply.{cells_without}
 use Rattle.s2union.proofs.CellLists.{has-applied}
 use Rattle.s2union.proofs.Applied.{Fits-inverse, applied-inverse, Fits-between, applied-between, only_out, only_put}

@@ -1,7 +1,7 @@
 use Rattle.std.proofs.Common.{◌≡◌, ℕ, true, get_or, ◌∙◌, refl, subst}
 use Rattle.std.proofs.lemmas.Grind.{get_or_default_zero}
 use Rattle.s2cell.specs.Cell.{first_leaf, covers}
-use Rattle.s2union.specs.Packed.{IsPlace}
+use Rattle.s2list.specs.Packed.{IsPlace}
 use Rattle.s2edit.proofs.PartLemmas.{leaf_there}
 use Rattle.s2edit.proofs.Placing.{place_is}
 use Rattle.s2edit.proofs.Stacking.{one_place}

@@ -1,5 +1,5 @@
 use Rattle.std.proofs.Common.{refl, sym}
-use Rattle.s2union.specs.Union.{has_leaf}
+use Rattle.s2list.specs.Union.{has_leaf}
 use Rattle.s2file.specs.Session.{AreApart}
 use Rattle.s2edit.proofs.PartTables.{part_from, uncut, fits_out}
 use Rattle.s2edit.proofs.parts.part_of.Goals as goal

@@ -4,7 +4,7 @@ use Rattle.std.proofs.Math.Logic.{⊎_elim}
 use Rattle.std.proofs.lemmas.Bool.{cases_lt, leb-true, le-leb}
 use Rattle.std.proofs.lemmas.List.{length-map}
 use Rattle.std.proofs.lemmas.Result.{err_from_is_err_and}
-use Rattle.s2union.specs.Union.{Union}
+use Rattle.s2list.specs.Union.{Union}
 use Rattle.s2file.specs.Session.{moved_of}
 use Rattle.s2file.specs.declared.TheConstants.{SESSION_CELLS}
 use Rattle.s2edit.specs.Chain.{lists_of, FitAlong}

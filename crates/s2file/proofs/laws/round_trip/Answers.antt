@@ -1,8 +1,8 @@
 use Rattle.std.proofs.Common.{List, ℕ, Result, Ok, Err, rules, subst}
 use Rattle.std.specs.Prelude.{MatchResult, IfOk}
 use Rattle.std.proofs.lemmas.Result.{MatchResult-weaker}
-use Rattle.s2union.specs.Union.{has_leaf}
-use Rattle.s2union.proofs.Normal.{same_from_leaves}
+use Rattle.s2list.specs.Union.{has_leaf}
+use Rattle.s2list.proofs.Normal.{same_from_leaves}
 use Rattle.s2file.specs.File.{File}
 use Rattle.s2file.proofs.laws.round_trip.Goals as goal
 

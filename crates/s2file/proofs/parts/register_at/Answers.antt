@@ -1,5 +1,5 @@
 use Rattle.std.proofs.Common.{ℕ, List, subst}
-use Rattle.s2union.specs.Union.{IsLocal}
+use Rattle.s2list.specs.Union.{IsLocal}
 use Rattle.s2file.proofs.SessionReading.{not_test}
 use Rattle.s2file.proofs.TakingRows.{register_wrong}
 use Rattle.s2file.proofs.parts.register_at.Goals as goal

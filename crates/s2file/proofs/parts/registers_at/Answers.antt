@@ -1,7 +1,7 @@
 use Rattle.std.proofs.Common.{ℕ, List, map, arith}
 use Rattle.std.proofs.lemmas.List.{length-map}
 use Rattle.std.proofs.lemmas.Result.{err_from_is_err_and}
-use Rattle.s2union.specs.Union.{Union}
+use Rattle.s2list.specs.Union.{Union}
 use Rattle.s2file.proofs.TakingRows.{registers_refused}
 use Rattle.s2file.proofs.parts.registers_at.Goals as goal
 

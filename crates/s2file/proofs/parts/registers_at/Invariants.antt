@@ -1,6 +1,6 @@
 use Rattle.std.proofs.Common.{◌≡◌, length, map}
 use Rattle.std.specs.List.{AllByRecursion}
-use Rattle.s2union.specs.Union.{Union}
+use Rattle.s2list.specs.Union.{Union}
 use Rattle.s2file.specs.Session.{IsRegisterList}
 use Rattle.s2file.specs.SessionParts.{Takes, registers_text}
 use Rattle.s2file.specs.Source.{ahead}

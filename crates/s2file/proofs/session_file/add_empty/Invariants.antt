@@ -1,5 +1,5 @@
 use Rattle.std.proofs.Common.{◌≡◌, [], ◌++◌, map, replicate}
-use Rattle.s2union.specs.Union.{Union}
+use Rattle.s2list.specs.Union.{Union}
 use Rattle.s2file.proofs.session_file.add_empty.Given as goal
 
 abbrev pub invariant-loop-i : goal.invariant-loop-i

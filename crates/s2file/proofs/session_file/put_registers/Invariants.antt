@@ -1,5 +1,5 @@
 use Rattle.std.proofs.Common.{◌≡◌, ◌++◌, map, take, flat_map}
-use Rattle.s2union.specs.Union.{Union}
+use Rattle.s2list.specs.Union.{Union}
 use Rattle.s2file.specs.Session.{list_text}
 use Rattle.s2file.proofs.session_file.put_registers.Given as goal
 

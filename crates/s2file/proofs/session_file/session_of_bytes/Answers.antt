@@ -1,5 +1,5 @@
 use Rattle.std.proofs.Common.{◌≢◌}
-use Rattle.s2union.specs.Union.{has_leaf}
+use Rattle.s2list.specs.Union.{has_leaf}
 use Rattle.s2file.specs.Session.{Content, IsUnionFile}
 use Rattle.s2file.specs.declared.fault.FileFault.TheVariants.{Memory}
 use Rattle.s2file.proofs.SessionReading.{refuses}

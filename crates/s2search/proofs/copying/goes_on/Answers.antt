@@ -1,7 +1,7 @@
 use Rattle.std.proofs.Common.{arith, refl, sym, ◌∙◌}
 use Rattle.std.proofs.lemmas.Bool.{false≢true}
 use Rattle.s2cell.specs.Cell.{IsCell, level_of, place_of}
-use Rattle.s2union.proofs.Checking.{fits, last_before, not_before, no_family_with, pushed_after, pushed_unmerged}
+use Rattle.s2list.proofs.Checking.{fits, last_before, not_before, no_family_with, pushed_after, pushed_unmerged}
 use Rattle.s2search.proofs.copying.goes_on.Goals as goal
 use Rattle.s2search.proofs.copying.goes_on.Goals.{else-n-gt0-via-then-n-gt0+else-le, else-n-gt0-via-else-n-gt0}
 

@@ -1,8 +1,8 @@
 use Rattle.std.proofs.Common.{◌≡◌, ◌<◌, ◌∙◌, length, take, get_or, subst, sym, arith}
 use Rattle.std.proofs.lemmas.Option.{gets}
-use Rattle.s2union.specs.Union.{IsLocal}
-use Rattle.s2union.proofs.Checking.{unpacked_prefix}
-use Rattle.s2union.proofs.PackedLocal.{local_from_packed}
+use Rattle.s2list.specs.Union.{IsLocal}
+use Rattle.s2list.proofs.Checking.{unpacked_prefix}
+use Rattle.s2list.proofs.PackedLocal.{local_from_packed}
 use Rattle.s2search.proofs.copying.union_of.Goals as goal
 
 pub returns-in_default : goal.returns-in_default

@@ -1,6 +1,6 @@
 use Rattle.std.proofs.Common.{◌≡◌, ◌≤◌, take}
 use Rattle.std.specs.Vec.{vec_capacity}
-use Rattle.s2union.specs.Packed.{IsPacked}
+use Rattle.s2list.specs.Packed.{IsPacked}
 use Rattle.s2search.proofs.copying.union_of.Given as goal
 
 abbrev pub invariant-loop-k : goal.invariant-loop-k

@@ -1,5 +1,5 @@
 use Rattle.std.proofs.Common.{◌≡◌, length}
-use Rattle.s2union.specs.Union.{IsLocal}
+use Rattle.s2list.specs.Union.{IsLocal}
 use Rattle.s2search.proofs.Cutting.{PutFirst}
 use Rattle.s2search.proofs.denormalising.denormalise.Given as goal
 

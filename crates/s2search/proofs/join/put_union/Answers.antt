@@ -1,7 +1,7 @@
 use Rattle.std.proofs.Common.{◌≡◌, ◌<◌, ◌∙◌, length, get_or, refl, ap, arith}
 use Rattle.s2cell.specs.Cell.{first_leaf}
-use Rattle.s2union.specs.Union.{has_leaf}
-use Rattle.s2union.specs.Sets.{either}
+use Rattle.s2list.specs.Union.{has_leaf}
+use Rattle.s2list.specs.Sets.{either}
 use Rattle.s2search.proofs.Piling.{any, pile_none, pile_swap, pile_done}
 use Rattle.s2search.proofs.join.put_union.Goals as goal
 

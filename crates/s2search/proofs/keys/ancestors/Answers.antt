@@ -1,6 +1,6 @@
 use Rattle.std.proofs.Common.{◌≡◌, ◌+◌, ◌<◌, [], length, get_or, ◌∙◌, refl, ap, arith}
 use Rattle.s2cell.specs.Cell.{first_leaf, size_of}
-use Rattle.s2union.proofs.Checking.{packed_from_local}
+use Rattle.s2list.proofs.Checking.{packed_from_local}
 use Rattle.s2search.proofs.Putting.{put_none}
 use Rattle.s2search.proofs.Reaching.{reached_start, reached_step, puts_holders}
 use Rattle.s2search.proofs.keys.ancestors.Goals as goal

@@ -1,4 +1,4 @@
-use Rattle.s2union.proofs.Packing.{Merging}
+use Rattle.s2list.proofs.Packing.{Merging}
 use Rattle.s2search.proofs.normalising.merge_families.Given as goal
 
 abbrev pub invariant-loop-kept : goal.invariant-loop-kept

@@ -1,8 +1,8 @@
 use Rattle.std.proofs.Common.{rules, arith, sym, ◌∙◌}
 use Rattle.std.proofs.lemmas.Bool.{false≢true}
 use Rattle.s2cell.specs.Cell.{IsCell, level_of, place_of}
-use Rattle.s2union.proofs.Packing.{packed_take}
-use Rattle.s2union.proofs.Placing.{starts_kept}
+use Rattle.s2list.proofs.Packing.{packed_take}
+use Rattle.s2list.proofs.Placing.{starts_kept}
 use Rattle.s2search.proofs.normalising.new_end.Goals as goal
 use Rattle.s2search.proofs.normalising.new_end.Goals.{else-n-gt0-via-then-n-gt0+else-contains}
 use Rattle.s2search.proofs.normalising.new_end.Goals.{else-n-gt0-via-else-n-gt0}

@@ -1,9 +1,9 @@
 use Rattle.std.proofs.Common.{◌≡◌, ℕ, sym, ◌∙◌, length, take}
 use Rattle.std.proofs.lemmas.List.Sorted.{IsNonDecreasingBy-from_sort, All-permutation, list_any-IsPermutation}
 use Rattle.s2cell.specs.Cell.{IsCell, covers}
-use Rattle.s2union.specs.Union.{has_leaf}
-use Rattle.s2union.proofs.Normal.{normal_from_local, normal_form_same}
-use Rattle.s2union.proofs.PackedLocal.{local_from_packed}
+use Rattle.s2list.specs.Union.{has_leaf}
+use Rattle.s2list.proofs.Normal.{normal_from_local, normal_form_same}
+use Rattle.s2list.proofs.PackedLocal.{local_from_packed}
 use Rattle.s2search.proofs.normalising.normalise.Goals as goal
 
 pub pack-requires-clause-cells : goal.pack-requires-clause-cells

@@ -1,6 +1,6 @@
 use Rattle.std.proofs.Common.{◌-◌, arith, sym, ◌∙◌}
 use Rattle.std.proofs.lemmas.Bool.{false≢true}
-use Rattle.s2union.proofs.Placing.{leaving_step, leaving_done}
+use Rattle.s2list.proofs.Placing.{leaving_step, leaving_done}
 use Rattle.s2search.proofs.Reading.{reads}
 use Rattle.s2search.proofs.normalising.outside.Goals as goal
 

@@ -1,4 +1,4 @@
-use Rattle.s2union.proofs.Placing.{Leaving}
+use Rattle.s2list.proofs.Placing.{Leaving}
 use Rattle.s2search.proofs.normalising.outside.Given as goal
 
 abbrev pub invariant-loop-kept : goal.invariant-loop-kept

@@ -1,6 +1,6 @@
 use Rattle.std.proofs.Common.{◌≡◌, ◌<◌, arith, length, get_or}
 use Rattle.s2cell.specs.Cell.{IsCell}
-use Rattle.s2union.proofs.Placing.{compacting_step}
+use Rattle.s2list.proofs.Placing.{compacting_step}
 use Rattle.s2search.proofs.Reading.{reads_as}
 use Rattle.s2search.proofs.normalising.pack.Goals as goal
 

@@ -1,4 +1,4 @@
-use Rattle.s2union.proofs.Placing.{Compacting}
+use Rattle.s2list.proofs.Placing.{Compacting}
 use Rattle.s2search.proofs.normalising.pack.Given as goal
 
 -- what the loop keeps

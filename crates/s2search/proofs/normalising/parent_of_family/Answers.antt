@@ -1,8 +1,8 @@
 use Rattle.std.proofs.Common.{◌≡◌, ◌-◌, arith, ap, sym, ◌∙◌, subst}
 use Rattle.std.proofs.lemmas.Bool.{false≢true}
 use Rattle.s2cell.specs.Cell.{level_of, parent_of}
-use Rattle.s2union.specs.Packed.{IsFamily}
-use Rattle.s2union.proofs.Packing.{family_deep, family_parent}
+use Rattle.s2list.specs.Packed.{IsFamily}
+use Rattle.s2list.proofs.Packing.{family_deep, family_parent}
 use Rattle.s2search.proofs.normalising.parent_of_family.Goals as goal
 
 pub returns-then-level-eq0 : goal.returns-then-level-eq0

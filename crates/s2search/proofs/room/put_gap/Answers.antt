@@ -2,7 +2,7 @@ use Rattle.std.proofs.Common.{◌≡◌, ◌<◌, ◌≤◌, ◌++◌, ◌∷◌
 use Rattle.std.proofs.Math.Logic.{⊎_elim}
 use Rattle.std.proofs.lemmas.Bool.{cases_lt}
 use Rattle.s2cell.specs.declared.TheConstants.{LEAVES}
-use Rattle.s2union.proofs.Tiling.{tiling_step, tiling_done}
+use Rattle.s2list.proofs.Tiling.{tiling_step, tiling_done}
 use Rattle.s2search.proofs.room.put_gap.Goals as goal
 
 pub loop-first-preserved : goal.loop-first-preserved

@@ -1,8 +1,8 @@
 use Rattle.std.proofs.Common.{◌+◌, ◌<◌, ◌∙◌, length, refl, sym, arith, inl, inr}
 use Rattle.std.proofs.lemmas.Bool.{false≢true}
-use Rattle.s2union.specs.Union.{has_leaf}
-use Rattle.s2union.specs.Sets.{shared}
-use Rattle.s2union.proofs.Shared.{both}
+use Rattle.s2list.specs.Union.{has_leaf}
+use Rattle.s2list.specs.Sets.{shared}
+use Rattle.s2list.proofs.Shared.{both}
 use Rattle.s2search.proofs.Sharing.{shared_none, shared_swap, shared_skip, shared_run, shared_done, shared_few}
 use Rattle.s2search.proofs.Sharing.{inside_by, inside_else}
 use Rattle.s2search.proofs.share.put_shared.Goals as goal

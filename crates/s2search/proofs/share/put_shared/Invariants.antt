@@ -1,6 +1,6 @@
 use Rattle.std.proofs.Common.{◌≡◌, ◌≤◌, ◌<◌, ◌+◌, ◌-◌, length, min}
-use Rattle.s2union.specs.Union.{IsLocal}
-use Rattle.s2union.proofs.Shared.{both}
+use Rattle.s2list.specs.Union.{IsLocal}
+use Rattle.s2list.proofs.Shared.{both}
 use Rattle.s2search.proofs.Sharing.{SharingIn}
 use Rattle.s2search.proofs.share.put_shared.Given as goal
 

@@ -1,7 +1,7 @@
 use Rattle.std.proofs.Common.{◌≡◌, ◌∙◌, get_or, ap, arith}
 use Rattle.s2cell.specs.Cell.{first_leaf}
-use Rattle.s2union.proofs.Checking.{packed_from_local}
-use Rattle.s2union.proofs.Finding.{ended_to}
+use Rattle.s2list.proofs.Checking.{packed_from_local}
+use Rattle.s2list.proofs.Finding.{ended_to}
 use Rattle.s2search.proofs.subtract.free_until.Goals as goal
 
 pub returns-then-j-len-clause-free : goal.returns-then-j-len-clause-free

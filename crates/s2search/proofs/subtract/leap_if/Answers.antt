@@ -1,4 +1,4 @@
-use Rattle.s2union.proofs.Checking.{packed_from_local}
+use Rattle.s2list.proofs.Checking.{packed_from_local}
 use Rattle.s2search.proofs.subtract.leap_if.Goals as goal
 
 pub returns-then-asked-clause-ended : goal.returns-then-asked-clause-ended

@@ -1,7 +1,7 @@
 use Rattle.std.proofs.Common.{◌≡◌, ◌+◌, ◌<◌, ◌∙◌, length, get_or, max, refl, ap, arith}
 use Rattle.s2cell.specs.Cell.{first_leaf, size_of}
-use Rattle.s2union.specs.Union.{has_leaf}
-use Rattle.s2union.specs.Sets.{without}
+use Rattle.s2list.specs.Union.{has_leaf}
+use Rattle.s2list.specs.Sets.{without}
 use Rattle.s2search.proofs.Leaving.{left_none, left_on, left_taken, left_jump, left_free}
 use Rattle.s2search.proofs.Leaving.{left_run, left_done, not_before}
 use Rattle.s2search.proofs.subtract.put_difference.Goals as goal

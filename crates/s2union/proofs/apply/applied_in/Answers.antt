@@ -1,4 +1,4 @@
-use Rattle.s2union.proofs.Checking.{packed_from_local}
+use Rattle.s2list.proofs.Checking.{packed_from_local}
 use Rattle.s2union.proofs.apply.applied_in.Goals as goal
 
 pub new-merge-requires-clause-cells_packed : goal.new-merge-requires-clause-cells_packed

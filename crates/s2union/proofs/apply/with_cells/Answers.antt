@@ -1,6 +1,6 @@
 use Rattle.std.proofs.Common.{◌≡◌, ◌∙◌, ◌++◌, ◌∷◌, [], List, ℕ, ap, sym, arith, refl, take, get_or}
 use Rattle.std.proofs.lemmas.List.{append_assoc, take_more, take_all}
-use Rattle.s2union.proofs.Packing.{read_at}
+use Rattle.s2list.proofs.Packing.{read_at}
 use Rattle.s2union.proofs.apply.with_cells.Goals as goal
 
 pub loop-k-preserved : goal.loop-k-preserved

@@ -1,8 +1,8 @@
 use Rattle.std.proofs.Common.{◌≡◌, ◌+◌, ◌-◌, get_or, arith, refl, ap, subst}
 use Rattle.s2cell.specs.Cell.{first_leaf, size_of}
-use Rattle.s2union.specs.Packed.{FirstEndBy}
-use Rattle.s2union.proofs.Packing.{read_at}
-use Rattle.s2union.proofs.Finding.{ended_to}
+use Rattle.s2list.specs.Packed.{FirstEndBy}
+use Rattle.s2list.proofs.Packing.{read_at}
+use Rattle.s2list.proofs.Finding.{ended_to}
 use Rattle.s2union.proofs.cursor.find_near.Goals as goal
 
 pub find_from-requires-clause-ended : goal.find_from-requires-clause-ended

@@ -1,6 +1,6 @@
 use Rattle.std.proofs.Common.{arith, refl}
 use Rattle.s2union.proofs.AskingFew.{few_looks, within_each}
-use Rattle.s2union.proofs.Checking.{packed_from_local}
+use Rattle.s2list.proofs.Checking.{packed_from_local}
 use Rattle.s2union.proofs.few.holds_few.Goals as goal
 
 pub holds_next-requires-clause-few_packed : goal.holds_next-requires-clause-few_packed

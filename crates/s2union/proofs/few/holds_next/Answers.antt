@@ -1,9 +1,9 @@
 use Rattle.std.proofs.Common.{◌+◌, get_or, arith, refl}
 use Rattle.s2cell.specs.Cell.{covers}
-use Rattle.s2union.specs.Union.{has_leaf, IsWithin}
+use Rattle.s2list.specs.Union.{has_leaf, IsWithin}
 use Rattle.s2union.proofs.AskingFew.{more_places, one_place}
-use Rattle.s2union.proofs.Checking.{packed_from_local}
-use Rattle.s2union.proofs.Finding.{within_from_place}
+use Rattle.s2list.proofs.Checking.{packed_from_local}
+use Rattle.s2list.proofs.Finding.{within_from_place}
 use Rattle.s2union.proofs.few.holds_next.Goals as goal
 
 pub find_counted-found-requires-clause-packed : goal.find_counted-found-requires-clause-packed

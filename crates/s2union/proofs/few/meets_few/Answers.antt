@@ -1,9 +1,9 @@
 use Rattle.std.proofs.Common.{arith, get_or}
 use Rattle.std.proofs.lemmas.Bool.{false≢true}
 use Rattle.s2cell.specs.Cell.{covers}
-use Rattle.s2union.specs.Union.{has_leaf, ShareSome}
+use Rattle.s2list.specs.Union.{has_leaf, ShareSome}
 use Rattle.s2union.proofs.AskingFew.{few_looks, more_places, none_of_each}
-use Rattle.s2union.proofs.Checking.{packed_from_local}
+use Rattle.s2list.proofs.Checking.{packed_from_local}
 use Rattle.s2union.proofs.few.meets_few.Goals as goal
 
 pub meets_next-requires-clause-few_packed : goal.meets_next-requires-clause-few_packed

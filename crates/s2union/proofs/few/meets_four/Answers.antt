@@ -1,9 +1,9 @@
 use Rattle.std.proofs.Common.{◌+◌, get_or, arith, sym, ◌∙◌}
 use Rattle.std.proofs.lemmas.Bool.{false≢true}
 use Rattle.s2cell.specs.Cell.{covers}
-use Rattle.s2union.specs.Union.{has_leaf, ShareSome}
+use Rattle.s2list.specs.Union.{has_leaf, ShareSome}
 use Rattle.s2union.proofs.AskingFew.{more_places, one_of_each, one_of_four, run_missed}
-use Rattle.s2union.proofs.Checking.{packed_from_local}
+use Rattle.s2list.proofs.Checking.{packed_from_local}
 use Rattle.s2union.proofs.few.meets_four.Goals as goal
 
 pub find_four-places-requires-clause-packed : goal.find_four-places-requires-clause-packed

@@ -1,10 +1,10 @@
 use Rattle.std.proofs.Common.{◌+◌, ◌∙◌, get_or, arith, sym}
 use Rattle.std.proofs.lemmas.Bool.{false≢true}
 use Rattle.s2cell.specs.Cell.{covers, first_leaf}
-use Rattle.s2union.specs.Union.{has_leaf, ShareSome}
-use Rattle.s2union.specs.Packed.{FirstEndBy}
+use Rattle.s2list.specs.Union.{has_leaf, ShareSome}
+use Rattle.s2list.specs.Packed.{FirstEndBy}
 use Rattle.s2union.proofs.AskingFew.{more_places, one_place, run_missed}
-use Rattle.s2union.proofs.Checking.{packed_from_local}
+use Rattle.s2list.proofs.Checking.{packed_from_local}
 use Rattle.s2union.proofs.few.meets_next.Goals as goal
 
 pub find_counted-found-requires-clause-packed : goal.find_counted-found-requires-clause-packed

@@ -1,6 +1,7 @@
 use Rattle.std.proofs.Common.{arith}
-use Rattle.s2union.proofs.Finding.{ascends}
-use Rattle.s2union.proofs.AskingFew.{all_places, left_four_all, left_four}
+use Rattle.s2list.proofs.Finding.{ascends}
+use Rattle.s2list.proofs.Galloping.{all_places}
+use Rattle.s2union.proofs.AskingFew.{left_four_all, left_four}
 use Rattle.s2union.proofs.few.parts_of_four.Goals as goal
 
 pub loop-size-init : goal.loop-size-init

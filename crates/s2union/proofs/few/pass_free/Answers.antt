@@ -1,7 +1,7 @@
 use Rattle.std.proofs.Common.{◌≡◌, ◌-◌, length, get_or, arith, ap, sym}
 use Rattle.s2cell.specs.Cell.{first_leaf, size_of}
 use Rattle.s2union.proofs.AskingFew.{sought_near}
-use Rattle.s2union.proofs.Finding.{ended_to, ends_later}
+use Rattle.s2list.proofs.Finding.{ended_to, ends_later}
 use Rattle.s2union.proofs.few.pass_free.Goals as goal
 
 pub find_from_counted-requires-clause-ended : goal.find_from_counted-requires-clause-ended

@@ -2,7 +2,7 @@ use Rattle.std.proofs.Common.{◌≡◌, get_or, arith, sym}
 use Rattle.s2cell.specs.Cell.{IsInside}
 use Rattle.s2cell.proofs.Leaves.{within_from_inside}
 use Rattle.s2union.proofs.AskingFew.{run_held, sought_near}
-use Rattle.s2union.proofs.Finding.{ended_to}
+use Rattle.s2list.proofs.Finding.{ended_to}
 use Rattle.s2union.proofs.few.pass_held.Goals as goal
 
 pub find_from_counted-requires-clause-ended : goal.find_from_counted-requires-clause-ended

@@ -1,4 +1,4 @@
-use Rattle.s2union.proofs.Finding.{ascends}
+use Rattle.s2list.proofs.Finding.{ascends}
 use Rattle.s2union.proofs.few.settle.Goals as goal
 
 pub pass-at-requires-clause-ascends : goal.pass-at-requires-clause-ascends

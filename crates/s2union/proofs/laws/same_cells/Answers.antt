@@ -1,6 +1,6 @@
 use Rattle.std.proofs.Common.{◌≡◌, ap}
-use Rattle.s2union.specs.Union.{Union}
-use Rattle.s2union.proofs.Normal.{same_from_leaves}
+use Rattle.s2list.specs.Union.{Union}
+use Rattle.s2list.proofs.Normal.{same_from_leaves}
 use Rattle.s2union.proofs.laws.same_cells.Goals as goal
 
 pub returns : goal.returns

@@ -1,6 +1,6 @@
 use Rattle.std.proofs.Common.{◌≡◌, ◌<◌, arith, length, rules, ◌∙◌}
 use Rattle.std.specs.Vec.{vec_len}
-use Rattle.s2union.proofs.Placing.{compacting_step}
+use Rattle.s2list.proofs.Placing.{compacting_step}
 use Rattle.s2union.proofs.normalising.compact.Goals as goal
 
 pub loop-i-preserved : goal.loop-i-preserved

@@ -1,6 +1,6 @@
 use Rattle.std.proofs.Common.{◌≡◌}
 use Rattle.std.specs.Vec.{vec_len, vec_capacity}
-use Rattle.s2union.proofs.Placing.{Compacting}
+use Rattle.s2list.proofs.Placing.{Compacting}
 use Rattle.s2union.proofs.normalising.compact.Given as goal
 
 -- what the loop keeps

@@ -1,10 +1,10 @@
 use Rattle.std.proofs.Common.{◌≡◌, rules, take, refl, sym, ◌∙◌}
 use Rattle.std.proofs.lemmas.Bool.{false≢true}
 use Rattle.std.proofs.lemmas.List.{take_all}
-use Rattle.s2union.specs.Union.{has_leaf}
-use Rattle.s2union.proofs.Normal.{normal_from_local, local_from_normal}
-use Rattle.s2union.proofs.PackedLocal.{local_from_packed}
-use Rattle.s2union.proofs.Checking.{unpacked_prefix}
+use Rattle.s2list.specs.Union.{has_leaf}
+use Rattle.s2list.proofs.Normal.{normal_from_local, local_from_normal}
+use Rattle.s2list.proofs.PackedLocal.{local_from_packed}
+use Rattle.s2list.proofs.Checking.{unpacked_prefix}
 use Rattle.s2union.proofs.normalising.is_normalized.Goals as goal
 
 pub returns-then-not-fits_after-clause-local : goal.returns-then-not-fits_after-clause-local

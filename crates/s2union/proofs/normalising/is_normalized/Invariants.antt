@@ -1,5 +1,5 @@
 use Rattle.std.proofs.Common.{take}
-use Rattle.s2union.specs.Packed.{IsPacked}
+use Rattle.s2list.specs.Packed.{IsPacked}
 use Rattle.s2union.proofs.normalising.is_normalized.Given as goal
 
 abbrev pub invariant-loop-i : goal.invariant-loop-i

@@ -1,5 +1,5 @@
 use Rattle.std.proofs.Common.{arith}
-use Rattle.s2union.proofs.Packing.{step_from_reads, none_from_reads, merging_done}
+use Rattle.s2list.proofs.Packing.{step_from_reads, none_from_reads, merging_done}
 use Rattle.s2union.proofs.normalising.merge_families.Goals as goal
 use Rattle.s2union.proofs.normalising.merge_families.Goals.{else-loop-kept-test, then-loop-kept-test+in-None}
 

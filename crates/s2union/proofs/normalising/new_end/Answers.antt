@@ -1,7 +1,7 @@
 use Rattle.std.proofs.Common.{rules}
 use Rattle.s2cell.specs.Cell.{IsCell, level_of, place_of}
-use Rattle.s2union.proofs.Packing.{packed_take}
-use Rattle.s2union.proofs.Placing.{starts_kept}
+use Rattle.s2list.proofs.Packing.{packed_take}
+use Rattle.s2list.proofs.Placing.{starts_kept}
 use Rattle.s2union.proofs.normalising.new_end.Goals as goal
 
 pub merge_families-kept-requires-clause-packed : goal.merge_families-kept-requires-clause-packed

@@ -1,10 +1,10 @@
 use Rattle.std.proofs.Common.{◌∙◌, sym}
 use Rattle.std.proofs.lemmas.List.Sorted.{IsNonDecreasingBy-from_sort, list_any-IsPermutation}
 use Rattle.s2cell.specs.Cell.{covers}
-use Rattle.s2union.specs.Union.{has_leaf}
-use Rattle.s2union.proofs.Normal.{normal_from_local, normal_form_same}
-use Rattle.s2union.proofs.Shortest.{shortest}
-use Rattle.s2union.proofs.PackedLocal.{local_from_packed}
+use Rattle.s2list.specs.Union.{has_leaf}
+use Rattle.s2list.proofs.Normal.{normal_from_local, normal_form_same}
+use Rattle.s2list.proofs.Shortest.{shortest}
+use Rattle.s2list.proofs.PackedLocal.{local_from_packed}
 use Rattle.s2union.proofs.normalising.normalise.Goals as goal
 
 pub compact-requires : goal.compact-requires

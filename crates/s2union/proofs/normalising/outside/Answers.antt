@@ -1,7 +1,7 @@
 use Rattle.std.proofs.Common.{◌≡◌, ◌-◌, arith, get_or, refl, sym, ◌∙◌}
 use Rattle.std.proofs.lemmas.Bool.{false≢true}
-use Rattle.s2union.proofs.Placing.{leaving_step, leaving_done}
-use Rattle.s2union.proofs.Packing.{read_at}
+use Rattle.s2list.proofs.Placing.{leaving_step, leaving_done}
+use Rattle.s2list.proofs.Packing.{read_at}
 use Rattle.s2union.proofs.normalising.outside.Goals as goal
 
 pub loop-kept-preserved : goal.loop-kept-preserved

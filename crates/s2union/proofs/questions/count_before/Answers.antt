@@ -1,6 +1,6 @@
 use Rattle.std.proofs.Common.{◌≡◌, get_or, arith, refl, ap}
 use Rattle.s2cell.specs.Cell.{first_leaf}
-use Rattle.s2union.proofs.Packing.{read_at}
+use Rattle.s2list.proofs.Packing.{read_at}
 use Rattle.s2union.proofs.Overlapping.{begun_before, begun_more, rest_begins_later, rest_from}
 use Rattle.s2union.proofs.questions.count_before.Goals as goal
 use Rattle.s2union.proofs.questions.count_before.Goals.{else-ended-cells-via-then-ended-cells+else-first_leaf-end}

@@ -1,5 +1,5 @@
 use Rattle.std.proofs.Common.{arith}
-use Rattle.s2union.proofs.Checking.{packed_from_local}
+use Rattle.s2list.proofs.Checking.{packed_from_local}
 use Rattle.s2union.proofs.questions.holds.Goals as goal
 
 pub find_counted-found-requires-clause-packed : goal.find_counted-found-requires-clause-packed

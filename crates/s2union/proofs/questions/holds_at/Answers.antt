@@ -2,7 +2,7 @@ use Rattle.std.proofs.Common.{◌≡◌, false, nat_lt, length, get_or, arith, s
 use Rattle.std.proofs.lemmas.Bool.{false≢true}
 use Rattle.std.proofs.lemmas.Bool.Decides.{nat_tests}
 use Rattle.s2cell.proofs.Leaves.{inside_from_within}
-use Rattle.s2union.proofs.Finding.{held_at, within_from_place}
+use Rattle.s2list.proofs.Finding.{held_at, within_from_place}
 use Rattle.s2union.proofs.questions.holds_at.Goals as goal
 
 pub returns-then-at-cells-clause-answer : goal.returns-then-at-cells-clause-answer

@@ -1,10 +1,10 @@
 use Rattle.std.proofs.Common.{◌≡◌, get_or, arith, refl, sym, ◌∙◌, rules}
 use Rattle.std.proofs.lemmas.Bool.{false≢true}
 use Rattle.s2cell.specs.Cell.{IsInside}
-use Rattle.s2union.proofs.Packing.{is_at}
-use Rattle.s2union.proofs.Checking.{packed_from_local}
+use Rattle.s2list.proofs.Packing.{is_at}
+use Rattle.s2list.proofs.Checking.{packed_from_local}
 use Rattle.s2union.proofs.Comparing.{covering_on, covering_run, covering_fails, covering_ends, covering_done}
-use Rattle.s2union.proofs.Shared.{ended_in}
+use Rattle.s2list.proofs.Shared.{ended_in}
 use Rattle.s2union.proofs.Looking.{no_turn, turns_more, turns_last, turns_all}
 use Rattle.s2union.proofs.questions.holds_evenly.Goals as goal
 

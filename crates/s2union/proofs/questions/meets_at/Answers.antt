@@ -3,7 +3,7 @@ use Rattle.std.proofs.Math.Logic.{⊎_elim}
 use Rattle.std.proofs.lemmas.Bool.{cases_lt, false≢true}
 use Rattle.std.proofs.lemmas.Bool.Decides.{nat_tests}
 use Rattle.s2cell.specs.Cell.{first_leaf}
-use Rattle.s2union.proofs.Finding.{shared_at, shared_none}
+use Rattle.s2list.proofs.Finding.{shared_at, shared_none}
 use Rattle.s2union.proofs.questions.meets_at.Goals as goal
 
 pub returns-then-at-cells-clause-answer : goal.returns-then-at-cells-clause-answer

@@ -2,11 +2,11 @@ use Rattle.std.proofs.Common.{◌≡◌, ◌+◌, ◌<◌, ◌≤◌, get_or, ar
 use Rattle.std.proofs.Math.Logic.{⊎_elim}
 use Rattle.std.proofs.lemmas.Bool.{false≢true, cases_lt}
 use Rattle.s2cell.specs.Cell.{first_leaf, size_of}
-use Rattle.s2union.proofs.Packing.{is_at}
-use Rattle.s2union.proofs.Checking.{packed_from_local}
+use Rattle.s2list.proofs.Packing.{is_at}
+use Rattle.s2list.proofs.Checking.{packed_from_local}
 use Rattle.s2union.proofs.Comparing.{none_shared, none_shared_swap, some_shared}
-use Rattle.s2union.proofs.Finding.{starts_later}
-use Rattle.s2union.proofs.Shared.{both, ended_up_to, skip_x, skip_y}
+use Rattle.s2list.proofs.Finding.{starts_later}
+use Rattle.s2list.proofs.Shared.{both, ended_up_to, skip_x, skip_y}
 use Rattle.s2union.proofs.Looking.{no_try, tries_more, tries_last, tries_all}
 use Rattle.s2union.proofs.questions.meets_evenly.Goals as goal
 

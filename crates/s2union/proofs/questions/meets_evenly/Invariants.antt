@@ -1,7 +1,7 @@
 use Rattle.std.proofs.Common.{◌<◌, ◌≤◌, ◌+◌, ◌-◌, length, get_or, []}
 use Rattle.s2cell.specs.Cell.{first_leaf}
-use Rattle.s2union.specs.Packed.{FirstEndBy}
-use Rattle.s2union.proofs.Shared.{Sharing, both}
+use Rattle.s2list.specs.Packed.{FirstEndBy}
+use Rattle.s2list.proofs.Shared.{Sharing, both}
 use Rattle.s2union.proofs.Looking.{Tries}
 use Rattle.s2union.proofs.questions.meets_evenly.Given as goal
 

@@ -1,5 +1,5 @@
 use Rattle.std.proofs.Common.{arith}
-use Rattle.s2union.proofs.Finding.{ascends}
+use Rattle.s2list.proofs.Finding.{ascends}
 use Rattle.s2union.proofs.search.find_counted.Goals as goal
 
 pub narrow-begun-requires-clause-ascends : goal.narrow-begun-requires-clause-ascends

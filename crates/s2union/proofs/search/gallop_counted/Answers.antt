@@ -1,5 +1,5 @@
 use Rattle.std.proofs.Common.{◌+◌, ◌-◌, get_or, arith}
-use Rattle.s2union.proofs.Galloping.{is_below, not_below, small, leap_on, leap_ends}
+use Rattle.s2list.proofs.Galloping.{is_below, not_below, small, leap_on, leap_ends}
 use Rattle.s2union.proofs.Looking.{leaps_few, leaps_more, last_leap}
 use Rattle.s2union.proofs.search.gallop_counted.Goals as goal
 

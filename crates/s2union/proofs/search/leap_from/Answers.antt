@@ -1,5 +1,5 @@
 use Rattle.std.proofs.Common.{arith}
-use Rattle.s2union.proofs.Finding.{ascends, middle_before}
+use Rattle.s2list.proofs.Finding.{ascends, middle_before}
 use Rattle.s2union.proofs.search.leap_from.Goals as goal
 
 pub gallop_counted-begun-requires-clause-ascends : goal.gallop_counted-begun-requires-clause-ascends

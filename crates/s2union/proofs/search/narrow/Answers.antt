@@ -1,5 +1,5 @@
 use Rattle.std.proofs.Common.{arith}
-use Rattle.s2union.proofs.Galloping.{seeking_all}
+use Rattle.s2list.proofs.Galloping.{seeking_all}
 use Rattle.s2union.proofs.Looking.{left_all, left_quarter}
 use Rattle.s2union.proofs.search.narrow.Goals as goal
 

@@ -1,5 +1,5 @@
 use Rattle.std.proofs.Common.{ℕ, ◌≤◌, ◌-◌, ◌^◌}
-use Rattle.s2union.proofs.Galloping.{Seeking}
+use Rattle.s2list.proofs.Galloping.{Seeking}
 use Rattle.s2union.proofs.Looking.{Left}
 use Rattle.s2union.proofs.search.narrow.Given as goal
 

@@ -1,5 +1,5 @@
 use Rattle.std.proofs.Common.{◌/◌, arith}
-use Rattle.s2union.proofs.Galloping.{seeking_quarter}
+use Rattle.s2list.proofs.Galloping.{seeking_quarter}
 use Rattle.s2union.proofs.search.quarter.Goals as goal
 
 pub returns-clause-brackets : goal.returns-clause-brackets

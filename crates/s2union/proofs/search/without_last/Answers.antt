@@ -1,6 +1,6 @@
 use Rattle.std.proofs.Common.{◌≡◌, ◌-◌, get_or, arith, sym, ap}
 use Rattle.s2cell.specs.Cell.{first_leaf, size_of}
-use Rattle.s2union.proofs.Finding.{ended_before, ends_after, ended_all}
+use Rattle.s2list.proofs.Finding.{ended_before, ends_after, ended_all}
 use Rattle.s2union.proofs.search.without_last.Goals as goal
 use Rattle.s2union.proofs.search.without_last.Goals.{else-from-begun-via-then-from-begun+else-lo-end_leaf}
 use Rattle.s2union.proofs.search.without_last.Goals.{else-from-begun-via-else-from-begun}

@@ -1,6 +1,6 @@
 use Rattle.std.proofs.Common.{◌≡◌, ◌<◌, ◌≤◌, ◌∙◌, length, get_or, add-zero, arith, refl}
-use Rattle.s2union.proofs.Packing.{read_at}
-use Rattle.s2union.proofs.PackedLocal.{local_from_packed}
+use Rattle.s2list.proofs.Packing.{read_at}
+use Rattle.s2list.proofs.PackedLocal.{local_from_packed}
 use Rattle.s2union.proofs.Joining.{lt_from_test, le_from_test, join_x, join_y, joining_rest, joining_rest_swap}
 use Rattle.s2union.proofs.Following.{rest_packed}
 use Rattle.s2union.proofs.sets.join_evenly.Goals as goal

@@ -1,8 +1,8 @@
 use Rattle.std.proofs.Common.{◌≡◌, ◌<◌, ◌+◌, get_or, arith, refl}
-use Rattle.s2union.specs.Search.{Brackets}
-use Rattle.s2union.proofs.Packing.{read_at}
-use Rattle.s2union.proofs.PackedLocal.{local_from_packed}
-use Rattle.s2union.proofs.Checking.{packed_from_local}
+use Rattle.s2list.specs.Search.{Brackets}
+use Rattle.s2list.proofs.Packing.{read_at}
+use Rattle.s2list.proofs.PackedLocal.{local_from_packed}
+use Rattle.s2list.proofs.Checking.{packed_from_local}
 use Rattle.s2union.proofs.Joining.{Joining, join_y, joining_rest}
 use Rattle.s2union.proofs.Following.{part_packed, rest_packed, run_joins, run_starts}
 use Rattle.s2union.proofs.sets.join_few.Goals as goal

@@ -1,9 +1,9 @@
 use Rattle.std.proofs.Common.{arith, sym, ◌∙◌}
 use Rattle.std.proofs.lemmas.Bool.{false≢true}
-use Rattle.s2union.proofs.Checking.{packed_from_local}
-use Rattle.s2union.proofs.Picking.{picked_local}
-use Rattle.s2union.proofs.Shared.{both, ended_in, ended_up_to, held_else, share_x, share_y, skip_x, skip_y}
-use Rattle.s2union.proofs.Shared.{sharing_done, sharing_swap}
+use Rattle.s2list.proofs.Checking.{packed_from_local}
+use Rattle.s2list.proofs.Picking.{picked_local}
+use Rattle.s2list.proofs.Shared.{both, ended_in, ended_up_to, held_else, share_x, share_y, skip_x, skip_y}
+use Rattle.s2list.proofs.Shared.{sharing_done, sharing_swap}
 use Rattle.s2union.proofs.share.share_evenly.Goals as goal
 
 pub find_from-i-requires-clause-packed : goal.find_from-i-requires-clause-packed

@@ -1,5 +1,5 @@
 use Rattle.std.proofs.Common.{◌≤◌, ◌+◌, ◌-◌, length}
-use Rattle.s2union.proofs.Shared.{Sharing, both}
+use Rattle.s2list.proofs.Shared.{Sharing, both}
 use Rattle.s2union.proofs.share.share_evenly.Given as goal
 
 abbrev pub invariant-loop-i : goal.invariant-loop-i

@@ -1,7 +1,7 @@
 use Rattle.std.proofs.Common.{arith}
-use Rattle.s2union.proofs.Checking.{packed_from_local}
-use Rattle.s2union.proofs.Picking.{picked_local}
-use Rattle.s2union.proofs.Shared.{both}
+use Rattle.s2list.proofs.Checking.{packed_from_local}
+use Rattle.s2list.proofs.Picking.{picked_local}
+use Rattle.s2list.proofs.Shared.{both}
 use Rattle.s2union.proofs.SharingFew.{shared_all, shared_none, shared_picked}
 use Rattle.s2union.proofs.share.share_few.Goals as goal
 

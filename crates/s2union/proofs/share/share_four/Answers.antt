@@ -1,4 +1,4 @@
-use Rattle.s2union.proofs.Checking.{packed_from_local}
+use Rattle.s2list.proofs.Checking.{packed_from_local}
 use Rattle.s2union.proofs.share.share_four.Goals as goal
 
 pub find_four-places-requires-clause-packed : goal.find_four-places-requires-clause-packed

@@ -1,7 +1,7 @@
 use Rattle.std.proofs.Common.{◌-◌, get_or, arith}
 use Rattle.s2cell.specs.Cell.{first_leaf}
-use Rattle.s2union.proofs.Checking.{packed_from_local}
-use Rattle.s2union.proofs.Finding.{starts_later}
+use Rattle.s2list.proofs.Checking.{packed_from_local}
+use Rattle.s2list.proofs.Finding.{starts_later}
 use Rattle.s2union.proofs.SharingFew.{shared_held_run, shared_passed}
 use Rattle.s2union.proofs.share.share_near.Goals as goal
 

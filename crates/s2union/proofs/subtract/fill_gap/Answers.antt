@@ -1,5 +1,5 @@
 use Rattle.std.proofs.Common.{rules, arith, ◌≡◌, ◌++◌, ◌∷◌, []}
-use Rattle.s2union.proofs.Tiling.{tiling_step, tiling_done}
+use Rattle.s2list.proofs.Tiling.{tiling_step, tiling_done}
 use Rattle.s2union.proofs.subtract.fill_gap.Goals as goal
 
 pub loop-first-preserved : goal.loop-first-preserved

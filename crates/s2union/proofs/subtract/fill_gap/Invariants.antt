@@ -1,5 +1,5 @@
 use Rattle.std.proofs.Common.{◌-◌}
-use Rattle.s2union.proofs.Tiling.{Tiling}
+use Rattle.s2list.proofs.Tiling.{Tiling}
 use Rattle.s2union.proofs.subtract.fill_gap.Given as goal
 
 abbrev pub invariant-loop-first : goal.invariant-loop-first

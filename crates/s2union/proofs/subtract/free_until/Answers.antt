@@ -1,8 +1,8 @@
 use Rattle.std.proofs.Common.{◌≡◌, get_or, arith, refl, ap}
 use Rattle.s2cell.specs.Cell.{first_leaf}
-use Rattle.s2union.proofs.Packing.{read_at}
-use Rattle.s2union.proofs.Checking.{packed_from_local}
-use Rattle.s2union.proofs.Finding.{ended_to}
+use Rattle.s2list.proofs.Packing.{read_at}
+use Rattle.s2list.proofs.Checking.{packed_from_local}
+use Rattle.s2list.proofs.Finding.{ended_to}
 use Rattle.s2union.proofs.subtract.free_until.Goals as goal
 
 pub find_from-requires-clause-packed : goal.find_from-requires-clause-packed

@@ -1,12 +1,12 @@
 use Rattle.std.proofs.Common.{◌≡◌, ◌+◌, ◌-◌, ◌≤◌, get_or, length, arith, refl, ap}
 use Rattle.std.proofs.lemmas.Result.{err_from_is_err_and, on_ok_weaker, IfErr-weaker}
 use Rattle.s2cell.specs.Cell.{first_leaf, size_of}
-use Rattle.s2union.proofs.Packing.{read_at}
-use Rattle.s2union.proofs.Checking.{packed_from_local}
-use Rattle.s2union.proofs.Picking.{picked_local}
-use Rattle.s2union.proofs.Shortest.{picked_length}
-use Rattle.s2union.proofs.Subtracting.{minus, subtracting_from, subtracting_on_x, subtracting_on_y, subtracting_run}
-use Rattle.s2union.proofs.Subtracting.{subtracting_taken, subtracting_free, subtract_done}
+use Rattle.s2list.proofs.Packing.{read_at}
+use Rattle.s2list.proofs.Checking.{packed_from_local}
+use Rattle.s2list.proofs.Picking.{picked_local}
+use Rattle.s2list.proofs.Shortest.{picked_length}
+use Rattle.s2list.proofs.Subtracting.{minus, subtracting_from, subtracting_on_x, subtracting_on_y, subtracting_run}
+use Rattle.s2list.proofs.Subtracting.{subtracting_taken, subtracting_free, subtract_done}
 use Rattle.s2union.proofs.subtract.subtract_evenly.Goals as goal
 use Rattle.s2union.proofs.subtract.subtract_evenly.Goals.{then-loop-i-test+else-len-limit, else-loop-i-test}
 

@@ -1,5 +1,5 @@
 use Rattle.std.proofs.Common.{◌+◌, ◌-◌, ◌≤◌, length}
-use Rattle.s2union.proofs.Subtracting.{Subtracting}
+use Rattle.s2list.proofs.Subtracting.{Subtracting}
 use Rattle.s2union.proofs.subtract.subtract_evenly.Given as goal
 use Rattle.s2cell.specs.declared.TheConstants.{LEAVES}
 

@@ -1,7 +1,7 @@
 use Rattle.std.proofs.Common.{arith}
-use Rattle.s2union.proofs.Checking.{packed_from_local}
-use Rattle.s2union.proofs.Picking.{picked_local}
-use Rattle.s2union.proofs.Subtracting.{minus}
+use Rattle.s2list.proofs.Checking.{packed_from_local}
+use Rattle.s2list.proofs.Picking.{picked_local}
+use Rattle.s2list.proofs.Subtracting.{minus}
 use Rattle.s2union.proofs.SubtractingFew.{left_none, left_all, left_picked}
 use Rattle.s2union.proofs.subtract.subtract_few.Goals as goal
 

@@ -1,9 +1,9 @@
 use Rattle.std.proofs.Common.{◌≡◌, ◌≤◌, get_or, arith, refl, ap}
 use Rattle.std.proofs.lemmas.Result.{on_ok_weaker, IfErr-weaker}
 use Rattle.s2cell.specs.Cell.{first_leaf, size_of}
-use Rattle.s2union.proofs.Packing.{read_at}
-use Rattle.s2union.proofs.Shortest.{picked_length}
-use Rattle.s2union.proofs.Subtracting.{minus, subtracting_taken, subtracting_free}
+use Rattle.s2list.proofs.Packing.{read_at}
+use Rattle.s2list.proofs.Shortest.{picked_length}
+use Rattle.s2list.proofs.Subtracting.{minus, subtracting_taken, subtracting_free}
 use Rattle.s2union.proofs.SubtractingFew.{leaving_start, leaving_taken, leaving_free, leaving_done}
 use Rattle.s2union.proofs.subtract.subtract_one.Goals as goal
 use Rattle.s2union.proofs.subtract.subtract_one.Goals.{then-loop-lo-test+else-len-limit, else-loop-lo-test}

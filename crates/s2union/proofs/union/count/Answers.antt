@@ -1,12 +1,12 @@
 use Rattle.std.proofs.Common.{◌≡◌, ◌+◌, ◌≤◌, get_or, take, arith, refl, sym, ap}
 use Rattle.s2cell.specs.Cell.{size_of}
 use Rattle.s2cell.proofs.CellLemmas.{cell_leaves}
-use Rattle.s2union.specs.Union.{has_leaf}
-use Rattle.s2union.specs.Count.{count_below}
+use Rattle.s2list.specs.Union.{has_leaf}
+use Rattle.s2list.specs.Count.{count_below}
 use Rattle.s2cell.specs.declared.TheConstants.{LEAVES}
-use Rattle.s2union.proofs.Packing.{read_at}
-use Rattle.s2union.proofs.Checking.{packed_from_local}
-use Rattle.s2union.proofs.Counting.{count_more, count_none, count_most}
+use Rattle.s2list.proofs.Packing.{read_at}
+use Rattle.s2list.proofs.Checking.{packed_from_local}
+use Rattle.s2list.proofs.Counting.{count_more, count_none, count_most}
 use Rattle.s2union.proofs.union.count.Goals as goal
 
 pub loop-cell-init : goal.loop-cell-init

@@ -1,6 +1,6 @@
 use Rattle.std.proofs.Common.{◌≡◌, take}
-use Rattle.s2union.specs.Union.{has_leaf}
-use Rattle.s2union.specs.Count.{count_below}
+use Rattle.s2list.specs.Union.{has_leaf}
+use Rattle.s2list.specs.Count.{count_below}
 use Rattle.s2cell.specs.declared.TheConstants.{LEAVES}
 use Rattle.s2union.proofs.union.count.Given as goal
 

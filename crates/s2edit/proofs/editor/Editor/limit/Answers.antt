@@ -1,6 +1,6 @@
 use Rattle.std.proofs.Common.{◌≤◌, ℕ, List, length, subst}
-use Rattle.s2union.specs.Union.{IsLocal, IsNormalForm, has_leaf}
-use Rattle.s2union.proofs.Normal.{normal_from_local}
+use Rattle.s2list.specs.Union.{IsLocal, IsNormalForm, has_leaf}
+use Rattle.s2list.proofs.Normal.{normal_from_local}
 use Rattle.s2edit.specs.History.{History, EachList}
 use Rattle.s2edit.proofs.Leading.{each_within}
 use Rattle.s2edit.proofs.editor.Editor.limit.Goals as goal

@@ -1,4 +1,4 @@
-use Rattle.s2union.proofs.Checking.{packed_from_local}
+use Rattle.s2list.proofs.Checking.{packed_from_local}
 use Rattle.s2union.proofs.cursor.Cursor.intersects_cell.Goals as goal
 
 pub find_near-at-requires-clause-packed : goal.find_near-at-requires-clause-packed

@@ -1,8 +1,8 @@
 use Rattle.std.proofs.Common.{◌+◌, arith, ◌∙◌, ap}
 use Rattle.s2cell.specs.Cell.{first_leaf, size_of}
-use Rattle.s2union.specs.Union.{has_leaf}
-use Rattle.s2union.specs.Packed.{IsPacked}
-use Rattle.s2union.proofs.Checking.{packed_from_local}
+use Rattle.s2list.specs.Union.{has_leaf}
+use Rattle.s2list.specs.Packed.{IsPacked}
+use Rattle.s2list.proofs.Checking.{packed_from_local}
 use Rattle.s2union.proofs.Overlapping.{Between, in_order, run_cells, run_shares, run_leaves}
 use Rattle.s2union.proofs.union.CellUnion.cells_at.Goals as goal
 

@@ -1,7 +1,7 @@
 use Rattle.std.proofs.Common.{rules}
-use Rattle.s2union.specs.Union.{has_leaf}
-use Rattle.s2union.specs.Sets.{without}
-use Rattle.s2union.proofs.Normal.{normal_from_leaves}
+use Rattle.s2list.specs.Union.{has_leaf}
+use Rattle.s2list.specs.Sets.{without}
+use Rattle.s2list.proofs.Normal.{normal_from_leaves}
 use Rattle.s2union.proofs.union.CellUnion.difference_up_to.Goals as goal
 
 pub returns-clause-normal : goal.returns-clause-normal

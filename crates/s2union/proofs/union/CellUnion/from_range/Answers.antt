@@ -1,8 +1,8 @@
 use Rattle.std.proofs.Common.{◌+◌, []}
 use Rattle.s2cell.specs.Cell.{first_leaf, size_of}
-use Rattle.s2union.specs.Packed.{FillsGap}
-use Rattle.s2union.proofs.Normal.{local_from_normal}
-use Rattle.s2union.proofs.Picking.{fill_alone, fill_alone_leaves}
+use Rattle.s2list.specs.Packed.{FillsGap}
+use Rattle.s2list.proofs.Normal.{local_from_normal}
+use Rattle.s2list.proofs.Picking.{fill_alone, fill_alone_leaves}
 use Rattle.s2union.proofs.union.CellUnion.from_range.Goals as goal
 
 pub returns-clause-normal : goal.returns-clause-normal

@@ -1,0 +1,150 @@
+-- The place of a leaf among cells in order, and what a local list holds.
+use Rattle.std.proofs.Common.{◌≡◌, ℕ, ◌+◌, ◌-◌, ◌*◌, ◌<◌, ◌≤◌, sym, ◌∙◌, ap, arith, List, length}
+use Rattle.std.proofs.Common.{get_or, All, max}
+use Rattle.std.proofs.Math.Logic.{⊎_elim}
+use Rattle.std.proofs.lemmas.Bool.{cases_lt, false≢true}
+use Rattle.s2cell.specs.Cell.{IsCell, level_of, size_of, first_leaf, covers, IsInside}
+use Rattle.s2cell.proofs.CellLemmas.{cell_leaves}
+use Rattle.s2cell.proofs.Leaves.{Within, covers_there, covers_from}
+use Rattle.s2list.specs.Union.{has_leaf, IsLocal, IsWithin, ShareSome}
+use Rattle.std.specs.List.Sorted.{IsStrictlyIncreasing}
+use Rattle.s2list.specs.Packed.{IsPacked, FirstEndBy}
+use Rattle.s2list.specs.Search.{Brackets}
+use Rattle.s2list.proofs.Normal.{holder, family, all_held, leaf_to}
+use Rattle.s2list.proofs.PackedLocal.{place, local_from_packed}
+use Rattle.s2list.proofs.Checking.{packed_from_local, member_at}
+use Rattle.s2list.proofs.Walking.{leaf_there, gap}
+
+-- cells end later than those before them
+pub ends_later : (u : List ℕ) (j k : ℕ) → IsPacked u → j ≤ k → k < length u →
+    first_leaf (get_or u j 0) + size_of (get_or u j 0) ≤ first_leaf (get_or u k 0) + size_of (get_or u k 0)
+ends_later u j k p h l =
+    ⊎_elim
+    (λ (a : j < k). let c : first_leaf (get_or u j 0) + size_of (get_or u j 0)
+    ≤ first_leaf (get_or u k 0) = p.chain j k 0 a l in omega arith)
+    (λ (a : k ≤ j). let e : j ≡ k = omega arith in
+    let f = ap (λ i. first_leaf (get_or u i 0) + size_of (get_or u i 0)) e in omega arith)
+    (cases_lt j k)
+
+-- cells begin later than those before them
+pub starts_later : (u : List ℕ) (j k : ℕ) → IsPacked u → j ≤ k → k < length u →
+    first_leaf (get_or u j 0) ≤ first_leaf (get_or u k 0)
+starts_later u j k p h l =
+    ⊎_elim
+    (λ (a : j < k). let c : first_leaf (get_or u j 0) + size_of (get_or u j 0)
+    ≤ first_leaf (get_or u k 0) = p.chain j k 0 a l in omega arith)
+    (λ (a : k ≤ j). let e : j ≡ k = omega arith in let f = ap (λ i. first_leaf (get_or u i 0)) e in omega arith)
+    (cases_lt j k)
+
+-- a cell ends by a leaf, and so do those before it
+pub ended_to : (u : List ℕ) (i lo : ℕ) → IsPacked u → i < length u →
+    first_leaf (get_or u i 0) + size_of (get_or u i 0) ≤ lo → FirstEndBy u (i + 1) lo
+ended_to u i lo packed h le k l = let e = ends_later u k i packed (omega arith) h in omega arith
+
+-- of the cells with their middle before a leaf all but the last end by it
+pub ended_before : (u : List ℕ) (lo at k : ℕ) → IsPacked u → Brackets u (2 * lo) at at → k + 1 < at →
+    first_leaf (get_or u k 0) + size_of (get_or u k 0) ≤ lo
+ended_before u lo at k p b h =
+    let w = b.within in
+    let c : first_leaf (get_or u k 0) + size_of (get_or u k 0) ≤ first_leaf (get_or u (at - 1) 0) =
+    p.chain k (at - 1) 0 (omega arith) (omega arith) in
+    let m = (cell_leaves (get_or u (at - 1) 0) (p.cells (at - 1) 0 (omega arith))).middle in
+    let l = b.below (at - 1) (omega arith) in
+    omega arith
+
+-- and the others end after it
+pub ends_after : (u : List ℕ) (lo at : ℕ) → IsPacked u → Brackets u (2 * lo) at at → at < length u →
+    lo < first_leaf (get_or u at 0) + size_of (get_or u at 0)
+ends_after u lo at p b h =
+    let c = cell_leaves (get_or u at 0) (p.cells at 0 h) in
+    let m = c.middle in
+    let s = c.some in
+    let r = b.rest at (omega arith) h in
+    omega arith
+
+-- a cell that ends by a leaf has its middle before it
+pub middle_before : (u : List ℕ) (lo from k : ℕ) → IsPacked u → from ≤ length u → FirstEndBy u from lo → k < from →
+    get_or u k 0 < 2 * lo
+middle_before u lo from k p w b h =
+    let c = cell_leaves (get_or u k 0) (p.cells k 0 (omega arith)) in
+    let m = c.middle in
+    let s = c.some in
+    let e = b k h in
+    omega arith
+
+pub ascends : (u : List ℕ) → IsPacked u → IsStrictlyIncreasing u
+ascends u p = (local_from_packed u p).ascending
+
+-- the last of them ends by the leaf, or was known to
+pub ended_all : (u : List ℕ) (lo from at : ℕ) → IsPacked u → FirstEndBy u from lo → from ≤ at →
+    Brackets u (2 * lo) at at → (from < at → first_leaf (get_or u (at - 1) 0) + size_of (get_or u (at - 1) 0) ≤ lo) →
+    FirstEndBy u at lo
+ended_all u lo from at p ended f b last k h =
+    ⊎_elim
+    (λ (a : k < from). ended k a)
+    (λ (a : from ≤ k).
+    ⊎_elim
+    (λ (l : k + 1 < at). ended_before u lo at k p b l)
+    (λ (l : at ≤ k + 1). let e : k ≡ at - 1 = omega arith in rw e (last (omega arith)))
+    (cases_lt (k + 1) at))
+    (cases_lt k from)
+
+-- ---- what a local list holds
+
+pub record HeldAt (u : List ℕ) (i c : ℕ) : Type 0 where
+  pub there : i < length u
+  pub within : Within c (get_or u i 0)
+
+pub held_at : (u : List ℕ) (i c : ℕ) → IsLocal u → IsCell c → FirstEndBy u i (first_leaf c) →
+    (i < length u → first_leaf c < first_leaf (get_or u i 0) + size_of (get_or u i 0)) →
+    IsWithin (covers c) (has_leaf u) → HeldAt u i c
+held_at u i c local cc ended next lies =
+    let lc = cell_leaves c cc in
+    let sc = lc.some in
+    let level = lc.shallow in
+    let packed = packed_from_local u local in
+    elim (all_held (30 - level_of c) u c local.cells cc (omega arith) lies) [
+      | family q cq lq all ↦ absurd (local.unmerged q cq lq all)
+      | holder d m w ↦
+          let p = place u d m in
+          let e = p.is in
+          let ef = ap first_leaf e in
+          let es = ap size_of e in
+          let wl = w.low in
+          let wh = w.high in
+          let b = p.below in
+          ⊎_elim
+          (λ (g : p.at < i). let x = ended p.at g in absurd (omega arith))
+          (λ (g : i ≤ p.at).
+          ⊎_elim
+          (λ (h : i < p.at).
+          let x : first_leaf (get_or u i 0) + size_of (get_or u i 0) ≤ first_leaf (get_or u p.at 0) =
+          packed.chain i p.at 0 h b in
+          let y = next (omega arith) in
+          absurd (omega arith))
+          (λ (h : p.at ≤ i).
+          let s : p.at ≡ i = omega arith in
+          record { there = omega arith; within = (rw s at (rw (← e) at w)) })
+          (cases_lt i p.at))
+          (cases_lt p.at i)
+    ]
+
+pub within_from_place : (u : List ℕ) (i c x : ℕ) → i < length u → get_or u i 0 ≡ x → IsInside c x →
+    IsWithin (covers c) (has_leaf u)
+within_from_place u i c x h e inside y v = leaf_to u x y (member_at u i x h e) (inside y v)
+
+pub shared_at : (u : List ℕ) (i c : ℕ) → All IsCell u → IsCell c → i < length u →
+    first_leaf c < first_leaf (get_or u i 0) + size_of (get_or u i 0) →
+    first_leaf (get_or u i 0) < first_leaf c + size_of c → ShareSome (covers c) (has_leaf u)
+shared_at u i c cells cc h a b =
+    let sc = (cell_leaves c cc).some in
+    let su = (cell_leaves (get_or u i 0) (cells i 0 h)).some in
+    let x = max (first_leaf c) (first_leaf (get_or u i 0)) in
+    (x, covers_there c x (omega arith) (omega arith), leaf_there u i x h (omega arith) (omega arith))
+
+pub shared_none : (u : List ℕ) (i c : ℕ) → IsLocal u → FirstEndBy u i (first_leaf c) →
+    (i < length u → first_leaf c + size_of c ≤ first_leaf (get_or u i 0)) → ShareSome (covers c) (has_leaf u) → ⊥
+shared_none u i c local ended next (x, v, l) =
+    let r = covers_from c x v in
+    false≢true (sym (gap u i (first_leaf c) (first_leaf c + size_of c) x (packed_from_local u local) ended next
+    r.0 r.1) ∙ l)

@@ -1,0 +1,25 @@
+-- Cited by the crates above: normal forms, and how cells are packed.
+pub mod Normal
+pub mod PackedLocal
+pub mod Packing
+pub mod Placing
+pub mod Checking
+pub mod Families
+pub mod Shortest
+pub mod Picking
+pub mod Tiling
+pub mod Counting
+-- Cited by the crates above: walks and searches.
+pub mod Walking
+pub mod Galloping
+pub mod Finding
+pub mod Looking
+pub mod Turns
+-- Cited by the crates above: set operations.
+pub mod Shared
+pub mod Subtracting
+-- Of this crate alone.
+mod Asking
+mod Marking
+mod Narrowing
+mod Running

@@ -1,0 +1,218 @@
+-- How many numbers a search looks at, and a walk along two unions.
+use Rattle.std.proofs.Common.{◌≡◌, ℕ, zero, suc, ◌+◌, ◌*◌, ◌/◌, ◌%◌, ◌^◌, ◌<◌, ◌≤◌, refl, ap, ◌∙◌, arith}
+use Rattle.std.proofs.Common.{◌⊎◌, inl, inr, List, length, get_or, max}
+use Rattle.std.proofs.Math.Logic.{⊎_elim}
+use Rattle.std.proofs.Math.Nat.{pow-suc, mul-le-mul_right, le_of_mul-le-mul_right, mod-lt, pow-le-pow_right}
+use Rattle.std.proofs.lemmas.Bool.{cases_lt}
+use Rattle.std.proofs.lemmas.Nat.{pow_pos, pow-add, shr_split}
+use Rattle.s2cell.specs.Cell.{first_leaf}
+use Rattle.s2list.specs.Looks.{Alternates, FewForTurns}
+
+-- ---- one search
+
+-- what a search has left fits a power of two, and each halving since `2 ^ k` paid for a look
+pub record Halved (size before looks k : ℕ) : Type 0 where
+  pub power : ℕ
+  pub fits : size < 2 ^ power
+  pub paid : looks + power ≤ before + k
+
+pub halved_all : (size before k : ℕ) → size < 2 ^ k → Halved size before before k
+halved_all size before k h = record { power = k; fits = h; paid = omega arith }
+
+halved_less : (size less before looks more k j : ℕ) → 0 < size → size < 2 ^ j → looks + j ≤ before + k
+    → more ≤ looks + 1 → less ≤ size / 2 → Halved less before more k
+halved_less size less before looks more k zero h f p e l = let g : 2 ^ zero ≡ 1 = refl in absurd (omega arith)
+halved_less size less before looks more k (suc j) h f p e l =
+    let g = pow-suc 2 j in
+    record { power = j; fits = omega arith; paid = omega arith }
+
+pub halved_more : (size less before looks more k : ℕ) → 0 < size → Halved size before looks k → more ≤ looks + 1
+    → less ≤ size / 2 → Halved less before more k
+halved_more size less before looks more k h l e s =
+    halved_less size less before looks more k l.power h l.fits l.paid e s
+
+-- the looks of leaps that got `far` places on, each three times as long as all before it
+pub record Leapt (before looks far : ℕ) : Type 0 where
+  pub leaps : ℕ
+  pub paid : looks ≤ before + leaps
+  pub got : 2 ^ (2 * leaps) ≡ max 1 (4 * far)
+
+pub leapt_none : (before far : ℕ) → far ≡ 0 → Leapt before before far
+leapt_none before far e = let g : 2 ^ (2 * 0) ≡ 1 = refl in record { leaps = 0; paid = omega arith; got = omega arith }
+
+pub leapt_more : (before looks more far leap next : ℕ) → Leapt before looks far → more ≤ looks + 1
+    → leap ≡ max 1 (3 * far) → next ≡ far + leap → Leapt before more next
+leapt_more before looks more far leap next l e h n =
+    let g = l.got in
+    let p = l.paid in
+    let two : 2 * (l.leaps + 1) ≡ 2 * l.leaps + 2 = omega arith in
+    let s : 2 ^ (2 * (l.leaps + 1)) ≡ 2 ^ (2 * l.leaps) * 4 = ap (λ x. 2 ^ x) two ∙ pow-add 2 (2 * l.leaps) 2 in
+    record { leaps = l.leaps + 1; paid = omega arith; got = omega arith }
+
+leaps_few : (leaps far k : ℕ) → 2 ^ (2 * leaps) ≡ max 1 (4 * far) → far < 2 ^ k → 2 * leaps ≤ k + 1
+leaps_few leaps far k h l =
+    ⊎_elim
+    (λ (a : k + 1 < 2 * leaps).
+    let p : 2 ^ (k + 2) ≤ 2 ^ (2 * leaps) =
+    pow-le-pow_right {n = 2} (omega arith) {i = k + 2} {j = 2 * leaps} (omega arith) in
+    let s : 2 ^ (k + 2) ≡ 2 ^ k * 4 = pow-add 2 k 2 in
+    absurd (omega arith))
+    (λ (a : 2 * leaps ≤ k + 1). a)
+    (cases_lt (k + 1) (2 * leaps))
+
+-- the part that is left after them is shorter than the next leap
+pub leapt_last : (before looks far size more last : ℕ) → Leapt before looks far → more ≤ looks + 1
+    → size < max 1 (3 * far) → ((k : ℕ) → size < 2 ^ k → last ≤ more + k)
+    → (all k : ℕ) → far ≤ all → all < 2 ^ k → last ≤ before + 2 * k + 2
+leapt_last before looks far size more last l e s rest all k h f =
+    let few = leaps_few l.leaps far k l.got (omega arith) in
+    let p = l.paid in
+    let g = l.got in
+    let r = rest (2 * l.leaps) (omega arith) in
+    omega arith
+
+-- ---- turns of a walk
+
+-- looks `before` a search that got `far` places on, and after it
+abbrev pub Sought : (before after far : ℕ) → Type 0
+Sought before after far = (k : ℕ) → far < 2 ^ k → after ≤ before + 2 * k + 2
+
+pub sought_none : (looks : ℕ) → Sought looks looks 0
+sought_none looks k h = omega arith
+
+-- `looks` in `turns` turns, which got `far` places on in both lists together
+pub record Spent (looks turns far : ℕ) : Type 0 where
+  pub most : (k : ℕ) → looks * 2 ^ k ≤ (4 * k + 6) * (2 ^ k * turns) + 2 * far
+
+-- a power of two is above its exponent
+pub above : (k : ℕ) → k + 1 ≤ 2 ^ k
+above zero = let e : 2 ^ zero ≡ 1 = refl in omega arith
+above (suc k) = let h = above k in let e = pow-suc 2 k in omega arith
+
+-- the logarithm of the way is at most `k + far / 2 ^ k`
+pub sought_line : (before after far k : ℕ) → Sought before after far →
+    after * 2 ^ k ≤ before * 2 ^ k + (2 * k + 2) * 2 ^ k + 2 * far
+sought_line before after far k s =
+    let q = far / 2 ^ k in
+    let split : q * 2 ^ k + far % 2 ^ k ≡ far = shr_split far k in
+    let rest : far % 2 ^ k < 2 ^ k = mod-lt far (pow_pos k) in
+    let more : (q + 1) * 2 ^ k ≤ 2 ^ q * 2 ^ k = mul-le-mul_right (2 ^ k) (above q) in
+    let e : 2 ^ (k + q) ≡ 2 ^ k * 2 ^ q = pow-add 2 k q in
+    let h : after ≤ before + 2 * (k + q) + 2 = s (k + q) (omega arith) in
+    let m = mul-le-mul_right (2 ^ k) h in
+    omega arith
+
+-- a turn: a look and a search in each list
+spent_turn : (looks turns far a b e f x y next : ℕ) → Spent looks turns far → a ≤ looks + 1 → Sought a b x → e ≤ b + 1
+    → Sought e f y → far + x + y ≤ next → Spent f (turns + 1) next
+spent_turn looks turns far a b e f x y next s ea sb ee sf en = record {
+  most = λ k.
+      let h = s.most k in
+      let lb = sought_line a b x k sb in
+      let lf = sought_line e f y k sf in
+      let ma = mul-le-mul_right (2 ^ k) ea in
+      let me = mul-le-mul_right (2 ^ k) ee in
+      omega arith;
+}
+
+-- and one that ends the walk
+spent_last : (looks turns far a b x last cells d : ℕ) → Spent looks turns far → a ≤ looks + 1 → Sought a b x
+    → last ≤ b + 1 → turns ≤ d → far + x ≤ cells → FewForTurns cells d last
+spent_last looks turns far a b x last cells d s ea sb el ht hf k h =
+    let p = s.most k in
+    let lb = sought_line a b x k sb in
+    let ma = mul-le-mul_right (2 ^ k) ea in
+    let ml = mul-le-mul_right (2 ^ k) el in
+    let t : turns * ((4 * k + 6) * 2 ^ k) ≤ d * ((4 * k + 6) * 2 ^ k) = mul-le-mul_right ((4 * k + 6) * 2 ^ k) ht in
+    let bound : last * 2 ^ k ≤ 8 * (d + 1) * (1 + k) * 2 ^ k = omega arith in
+    le_of_mul-le-mul_right bound (pow_pos k)
+
+-- ---- a walk beside a way to cut both lists
+
+-- a question is answered at the places `i` and `j`: a list has ended, or the cell of `ys` there decides it
+abbrev pub Known : (D : ℕ → Type 0) (xs ys : List ℕ) (i j : ℕ) → Type 0
+Known D xs ys i j = (length xs ≤ i) ⊎ ((length ys ≤ j) ⊎ D j)
+
+-- after `turns` turns a walk has passed as many runs of each list, or is at a cell that decides the question
+pub record Passed (D : ℕ → Type 0) (xs ys : List ℕ) (d a b turns i j : ℕ) (cut : Alternates xs ys d a b) : Type 0 where
+  pub few : turns ≤ d
+  pub by_x : cut.x_cut turns ≤ i
+  pub by_y : (cut.y_cut turns ≤ j) ⊎ D j
+
+-- the turns of a walk that took `looks` to the places `i` and `j`
+pub record Walked (D : ℕ → Type 0) (xs ys : List ℕ) (looks i j : ℕ) : Type 0 where
+  pub turns : ℕ
+  pub spent : Spent looks turns (i + j)
+  pub passed : (d a b : ℕ) (cut : Alternates xs ys d a b) → Known D xs ys a b → Passed D xs ys d a b turns i j cut
+
+pub walked_none : (D : ℕ → Type 0) (xs ys : List ℕ) (looks : ℕ) → looks ≡ 0 → Walked D xs ys looks 0 0
+walked_none D xs ys looks e = record {
+  turns = 0;
+  spent = record { most = λ k. rw e (omega arith) };
+  passed = λ d a b cut known.
+      let x = cut.x_start in
+      let y = cut.y_start in
+      record { few = omega arith; by_x = omega arith; by_y = inl (omega arith) };
+}
+
+-- no turn is complete once all runs are passed
+not_all : (D : ℕ → Type 0) (xs ys : List ℕ) (d a b turns i j : ℕ) (cut : Alternates xs ys d a b) → Known D xs ys a b
+    → turns ≡ d → cut.x_cut turns ≤ i → cut.y_cut turns ≤ j → i < length xs → j < length ys
+    → ((l : ℕ) → l ≤ j → D l → ⊥) → ⊥
+not_all D xs ys d a b turns i j cut known e hx hy hi hj live =
+    let x : cut.x_cut turns ≡ a = ap cut.x_cut e ∙ cut.x_end in
+    let y : cut.y_cut turns ≡ b = ap cut.y_cut e ∙ cut.y_end in
+    ⊎_elim
+    (λ (h : length xs ≤ a). absurd (omega arith))
+    (λ (rest : (length ys ≤ b) ⊎ D b). ⊎_elim (λ (h : length ys ≤ b). absurd (omega arith))
+    (λ (h : D b). live b (omega arith) h)
+    rest)
+    known
+
+pub walked_more : (D : ℕ → Type 0) (xs ys : List ℕ) (looks i j a b e f x y next_i next_j : ℕ)
+    → Walked D xs ys looks i j → i < length xs → j < length ys → ((l : ℕ) → l ≤ j → D l → ⊥)
+    → ((k : ℕ) → k < length xs → first_leaf (get_or xs k 0) ≤ first_leaf (get_or ys j 0) → k < next_i)
+    → (next_j < length ys → (next_i < length xs → first_leaf (get_or ys next_j 0) < first_leaf (get_or xs next_i 0))
+    → D next_j)
+    → a ≤ looks + 1 → Sought a b x → e ≤ b + 1 → Sought e f y → i + j + x + y ≤ next_i + next_j
+    → Walked D xs ys f next_i next_j
+walked_more D xs ys looks i j a b e f x y next_i next_j w hi hj live px dy ea sb ee sf far = record {
+  turns = w.turns + 1;
+  spent = spent_turn looks w.turns (i + j) a b e f x y (next_i + next_j) w.spent ea sb ee sf far;
+  passed = λ d p q cut known.
+      let v = w.passed d p q cut known in
+      let few = v.few in
+      let by_y : cut.y_cut w.turns ≤ j =
+      ⊎_elim (λ (h : cut.y_cut w.turns ≤ j). h) (λ (h : D j). absurd (live j (omega arith) h)) v.by_y in
+      let more : w.turns < d =
+      ⊎_elim
+      (λ (h : w.turns < d). h)
+      (λ (h : d ≤ w.turns). absurd (not_all D xs ys d p q w.turns i j cut known (omega arith) v.by_x by_y hi hj live))
+      (cases_lt w.turns d) in
+      let in_x = cut.x_within (w.turns + 1) in
+      let in_y = cut.y_within (w.turns + 1) in
+      let by_x : cut.x_cut (w.turns + 1) ≤ next_i =
+      ⊎_elim
+      (λ (h : next_i < cut.x_cut (w.turns + 1)).
+      let s = px next_i (omega arith) (cut.x_run w.turns next_i j more h by_y hj) in
+      absurd (omega arith))
+      (λ (h : cut.x_cut (w.turns + 1) ≤ next_i). h)
+      (cases_lt next_i (cut.x_cut (w.turns + 1))) in
+      record {
+        few = omega arith;
+        by_x = by_x;
+        by_y = ⊎_elim
+            (λ (h : next_j < cut.y_cut (w.turns + 1)).
+            inr (dy (omega arith) (λ g. cut.y_run w.turns next_i next_j more h by_x g)))
+            (λ (h : cut.y_cut (w.turns + 1) ≤ next_j). inl h)
+            (cases_lt next_j (cut.y_cut (w.turns + 1)));
+      };
+}
+
+-- the looks of a walk that ends in a turn
+pub walked_last : (D : ℕ → Type 0) (xs ys : List ℕ) (looks i j a b x last : ℕ) → Walked D xs ys looks i j
+    → a ≤ looks + 1 → Sought a b x → last ≤ b + 1 → i + j + x ≤ length xs + length ys
+    → (d p q : ℕ) → Alternates xs ys d p q → Known D xs ys p q → FewForTurns (length xs + length ys) d last
+walked_last D xs ys looks i j a b x last w ea sb el far d p q cut known =
+    spent_last looks w.turns (i + j) a b x last (length xs + length ys) d w.spent ea sb el
+    ((w.passed d p q cut known).few) far

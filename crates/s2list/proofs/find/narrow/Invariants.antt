@@ -1,0 +1,20 @@
+use Rattle.std.proofs.Common.{ℕ, ◌-◌, ◌^◌, ◌<◌, ◌≤◌, min}
+use Rattle.s2list.specs.Packed.{IsPacked}
+use Rattle.s2list.specs.Search.{IsFrom}
+use Rattle.s2list.proofs.Looking.{Halved}
+use Rattle.s2list.proofs.find.narrow.Given as goal
+
+abbrev pub invariant-loop-first : goal.invariant-loop-first
+invariant-loop-first g l = record {
+  from : l.start ≤ l.first;
+  order : l.first ≤ l.last;
+  to : l.last ≤ l.end;
+  found : IsPacked (g.C.Cells.ids l.cells) → IsFrom (g.C.Cells.ids l.cells) l.lo l.start l.end
+      → IsFrom (g.C.Cells.ids l.cells) l.lo l.first l.last;
+  halved : (k : ℕ) → l.end - l.start < 2 ^ k → Halved (l.last - l.first) (g.K.Count.looks l.initial.count)
+      (g.K.Count.looks l.count) k;
+  least : min (g.K.Count.looks l.initial.count) g.K.Count.most ≤ g.K.Count.looks l.count;
+}
+
+abbrev pub decreases-loop-first : goal.decreases-loop-first
+decreases-loop-first g l = l.last - l.first

@@ -1,0 +1,6 @@
+pub mod Union
+pub mod Packed
+pub mod Count
+pub mod Sets
+pub mod Search
+pub mod Looks

@@ -1,0 +1,136 @@
+//! The places of four leaves among cells in order, searched at once: while one search waits for memory, others go on.
+ghost use Rattle.std.specs.Prelude.{◌≡◌, ◌+◌, ◌-◌, ◌*◌, ◌/◌, ◌^◌, ◌<◌, ◌≤◌, ◌⊎◌, length};
+ghost use Rattle.s2cell.specs.Cell.{first_leaf};
+ghost use Rattle.s2list.specs.Union.{IsLocal};
+ghost use Rattle.s2list.specs.Packed.{IsPacked, IsPlace};
+ghost use Rattle.s2list.specs.Search.{Brackets};
+
+use crate::cells::Cells;
+use crate::find::find_between;
+use s2cell::{CellId, LEAVES};
+
+/// Where the parts of a list begin that have the places of four leaves. Each part has `size` numbers.
+#[derive(Clone, Copy)]
+struct Parts {
+    first: usize,
+    second: usize,
+    third: usize,
+    fourth: usize,
+    size: usize,
+}
+
+/// The places of four cells.
+#[derive(Clone, Copy)]
+pub struct Places {
+    /// The place of the first.
+    pub first: usize,
+    /// The place of the second.
+    pub second: usize,
+    /// The place of the third.
+    pub third: usize,
+    /// The place of the fourth.
+    pub fourth: usize,
+}
+
+/// The places in a union of four cells: for each, how many cells of the union end by its first leaf. Logarithmic. The
+/// four searches take turns.
+pub fn places_of_four<C: Cells>(
+    cells: &C,
+    first: CellId,
+    second: CellId,
+    third: CellId,
+    fourth: CellId,
+) -> Places
+    ensures first { IsLocal (C.ids cells.now) → IsPlace (C.ids cells.now) (first_leaf first) result.first }
+    ensures second { IsLocal (C.ids cells.now) → IsPlace (C.ids cells.now) (first_leaf second) result.second }
+    ensures third { IsLocal (C.ids cells.now) → IsPlace (C.ids cells.now) (first_leaf third) result.third }
+    ensures fourth { IsLocal (C.ids cells.now) → IsPlace (C.ids cells.now) (first_leaf fourth) result.fourth }
+{
+    let a = first.first_leaf();
+    let b = second.first_leaf();
+    let c = third.first_leaf();
+    let d = fourth.first_leaf();
+    let parts = parts_of_four(cells, 2 * a, 2 * b, 2 * c, 2 * d);
+    Places {
+        first: settle(cells, parts.first, parts.size, a),
+        second: settle(cells, parts.second, parts.size, b),
+        third: settle(cells, parts.third, parts.size, c),
+        fourth: settle(cells, parts.fourth, parts.size, d),
+    }
+}
+
+/// How many cells end by the leaf `lo`, if the first number from `2 * lo` on is at one of the `size` places from `base`
+/// on, or at their end.
+fn settle<C: Cells>(cells: &C, base: usize, size: usize, lo: u64) -> usize
+    requires fits { length (C.ids cells.now) < 2 ^ 64 }
+    requires within { base + size ≤ length (C.ids cells.now) }
+    ensures { IsPacked (C.ids cells.now) → Brackets (C.ids cells.now) (2 * lo) base (base + size)
+        → IsPlace (C.ids cells.now) lo result }
+{
+    // Of the cells before `base`, only the last may end after the leaf.
+    find_between(cells, base.saturating_sub(1), base + size, lo)
+}
+
+/// The parts of a list that have the places of four numbers: at most three places, or their end.
+fn parts_of_four<C: Cells>(cells: &C, a: u64, b: u64, c: u64, d: u64) -> Parts
+    ensures fits { length (C.ids cells.now) < 2 ^ 64 }
+    ensures first_within { result.first + result.size ≤ length (C.ids cells.now) }
+    ensures second_within { result.second + result.size ≤ length (C.ids cells.now) }
+    ensures third_within { result.third + result.size ≤ length (C.ids cells.now) }
+    ensures fourth_within { result.fourth + result.size ≤ length (C.ids cells.now) }
+    ensures first { IsPacked (C.ids cells.now)
+        → Brackets (C.ids cells.now) a result.first (result.first + result.size) }
+    ensures second { IsPacked (C.ids cells.now)
+        → Brackets (C.ids cells.now) b result.second (result.second + result.size) }
+    ensures third { IsPacked (C.ids cells.now)
+        → Brackets (C.ids cells.now) c result.third (result.third + result.size) }
+    ensures fourth { IsPacked (C.ids cells.now)
+        → Brackets (C.ids cells.now) d result.fourth (result.fourth + result.size) }
+{
+    let mut first = 0;
+    let mut second = 0;
+    let mut third = 0;
+    let mut fourth = 0;
+    let mut size = cells.len();
+    while size >= 4 {
+        first = quarter(cells, first, size, a);
+        second = quarter(cells, second, size, b);
+        third = quarter(cells, third, size, c);
+        fourth = quarter(cells, fourth, size, d);
+        size -= 3 * (size / 4);
+    }
+    Parts {
+        first,
+        second,
+        third,
+        fourth,
+        size,
+    }
+}
+
+/// Where the quarter begins that has the place of `mark`, which is one of the next `size` places from `base` on, or
+/// their end. It compares three numbers at once and sums the results, since a branch on each would be mispredicted half
+/// the time.
+#[inline(always)]
+fn quarter<C: Cells>(cells: &C, base: usize, size: usize, mark: u64) -> usize
+    requires fits { length (C.ids cells.now) < 2 ^ 64 }
+    requires some { 4 ≤ size }
+    requires within { base + size ≤ length (C.ids cells.now) }
+    ensures within { result + (size - 3 * (size / 4)) ≤ length (C.ids cells.now) }
+    ensures brackets { IsPacked (C.ids cells.now) → Brackets (C.ids cells.now) mark base (base + size)
+        → Brackets (C.ids cells.now) mark result (result + (size - 3 * (size / 4))) }
+{
+    let quarter = size / 4;
+    let first = is_below(cells.id(base + (quarter - 1)), mark);
+    let second = is_below(cells.id(base + (2 * quarter - 1)), mark);
+    let third = is_below(cells.id(base + (3 * quarter - 1)), mark);
+    base + quarter * (first + second + third)
+}
+
+/// 1 if the number is below `mark`, else 0.
+#[inline(always)]
+fn is_below(id: u64, mark: u64) -> usize
+    ensures below { ((result ≡ 1) × (id < mark)) ⊎ ((result ≡ 0) × (mark ≤ id)) }
+{
+    (id < mark) as usize
+}

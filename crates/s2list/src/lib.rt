@@ -1,0 +1,28 @@
+//! Lists of cells by their places: searches and questions, written once for each form that a list may have.
+//!
+//! Anything that gives numbers by their places is a list of cells (`Cells`): numbers in a slice, the cells of a union,
+//! the bytes of a file at any address. No call copies anything or takes memory, and none has a precondition on the
+//! numbers: whatever they are, the call is safe and returns. The answer is exact if they are the cells of a normalized
+//! union; for other numbers it means nothing. What counts the looks of a call is a type parameter (`Count`), so that a
+//! call that nobody counts has no code for it.
+#![tactic(auto)]
+
+mod ask;
+mod cells;
+mod find;
+mod four;
+mod looks;
+mod run;
+mod walk;
+mod whole;
+
+pub use ask::{
+    begins_at, contains_cell, contains_cell_at, intersects_cell, intersects_cell_at, place_near,
+};
+pub use cells::{CellList, Cells, IdList};
+pub use find::{NEARBY, end_of, find_from, find_from_counted, first_of};
+pub use four::{Places, places_of_four};
+pub use looks::{Count, Counted, Looks, Uncounted, look};
+pub use run::cells_at;
+pub use walk::{contains, contains_counted, intersects, intersects_counted};
+pub use whole::{are_children, ends_family, first_wrong, is_union, leaf_count};

@@ -1,0 +1,64 @@
+//! How a call counts the numbers that it looks at, or doesn't: the counter is a type of its own.
+ghost use Rattle.std.specs.Prelude.{◌≡◌, ◌+◌, ◌-◌, ◌^◌, ◌<◌, ℕ, min, length, slice_index};
+
+use crate::cells::Cells;
+
+/// What counts the looks of a call.
+pub trait Count {
+    ghost most: { ℕ };
+
+    ghost looks: { Self → ℕ };
+
+    /// Counts a look, up to the greatest count that there is.
+    fn look(&mut self)
+        ensures { looks self.new ≡ min (looks self.old + 1) most };
+}
+
+/// A count in 64 bits.
+#[derive(Clone, Copy)]
+pub struct Looks {
+    /// How many looks there were, or the greatest number if there were more.
+    pub looks: u64,
+}
+
+impl Count for Looks {
+    ghost most = { 2 ^ 64 - 1 };
+
+    ghost looks = { λ s. s.looks };
+
+    fn look(&mut self) {
+        self.looks = self.looks.saturating_add(1);
+    }
+}
+
+/// The answer to a question, and how many cells were looked at for it.
+#[derive(Clone, Copy, PartialEq, Eq, Debug)]
+pub struct Counted {
+    /// The answer.
+    pub answer: bool,
+    /// How many times a cell of a list was looked at; of either list, if there are two.
+    pub looks: u64,
+}
+
+/// No count, so that a call that nobody counts has no code for it.
+#[derive(Clone, Copy)]
+pub struct Uncounted;
+
+impl Count for Uncounted {
+    ghost most = { 0 };
+
+    ghost looks = { λ s. 0 };
+
+    fn look(&mut self) {}
+}
+
+/// The number at a place. A search that is counted sees numbers only through this call.
+#[inline(always)]
+pub fn look<C: Cells, K: Count>(cells: &C, at: usize, count: &mut K) -> u64
+    requires { at < length (C.ids cells.now) }
+    ensures id { result ≡ slice_index (C.ids cells.now) at }
+    ensures count { K.looks count.new ≡ min (K.looks count.old + 1) K.most }
+{
+    count.look();
+    cells.id(at)
+}

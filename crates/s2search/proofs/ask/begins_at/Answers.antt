@@ -1,9 +1,0 @@
-use Rattle.std.proofs.lemmas.Bool.{false≢true}
-use Rattle.s2search.proofs.ask.begins_at.Goals as goal
-
-pub returns-in-None : goal.returns-in-None
-returns-in-None g c all = (
-  λ e. absurd (false≢true e),
-  λ h.
-      absurd (c.in-None.ensures (rw c.id.ensures (all c.args.at 0 h.0))),
-)

@@ -1,7 +1,0 @@
-use Rattle.std.proofs.Common.{ℕ, ◌<◌}
-use Rattle.std.specs.Prelude.{slice_index}
-use Rattle.s2cell.specs.Cell.{IsCell}
-use Rattle.s2search.proofs.whole.first_wrong.Given as goal
-
-abbrev pub invariant-loop-k : goal.invariant-loop-k
-invariant-loop-k g l = (j : ℕ) → j < l.k → IsCell (slice_index (g.C.Cells.ids l.cells) j)

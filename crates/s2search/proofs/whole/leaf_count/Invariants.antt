@@ -1,9 +1,0 @@
-use Rattle.std.proofs.Common.{◌≡◌, take}
-use Rattle.s2union.specs.Union.{IsLocal, has_leaf}
-use Rattle.s2union.specs.Count.{count_below}
-use Rattle.s2cell.specs.declared.TheConstants.{LEAVES}
-use Rattle.s2search.proofs.whole.leaf_count.Given as goal
-
-abbrev pub invariant-loop-k : goal.invariant-loop-k
-invariant-loop-k g l = IsLocal (g.C.Cells.ids l.cells) →
-    l.total ≡ count_below (has_leaf (take l.k (g.C.Cells.ids l.cells))) LEAVES
