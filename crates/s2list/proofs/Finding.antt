@@ -62,16 +62,6 @@ ends_after u lo at p b h =
     let r = b.rest at (omega arith) h in
     omega arith
 
--- a cell that ends by a leaf has its middle before it
-pub middle_before : (u : List ℕ) (lo from k : ℕ) → IsPacked u → from ≤ length u → FirstEndBy u from lo → k < from →
-    get_or u k 0 < 2 * lo
-middle_before u lo from k p w b h =
-    let c = cell_leaves (get_or u k 0) (p.cells k 0 (omega arith)) in
-    let m = c.middle in
-    let s = c.some in
-    let e = b k h in
-    omega arith
-
 pub ascends : (u : List ℕ) → IsPacked u → IsStrictlyIncreasing u
 ascends u p = (local_from_packed u p).ascending
 

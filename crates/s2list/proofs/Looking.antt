@@ -1,12 +1,12 @@
 -- How many numbers a search looks at, and a walk along two unions.
-use Rattle.std.proofs.Common.{◌≡◌, ℕ, zero, suc, ◌+◌, ◌*◌, ◌/◌, ◌%◌, ◌^◌, ◌<◌, ◌≤◌, refl, ap, ◌∙◌, arith}
-use Rattle.std.proofs.Common.{◌⊎◌, inl, inr, List, length, get_or, max}
+use Rattle.std.proofs.Common.{◌≡◌, ℕ, zero, suc, ◌+◌, ◌-◌, ◌*◌, ◌/◌, ◌%◌, ◌^◌, ◌<◌, ◌≤◌, refl, ap, ◌∙◌, arith}
+use Rattle.std.proofs.Common.{◌⊎◌, inl, inr, List, length, get_or, min, max}
 use Rattle.std.proofs.Math.Logic.{⊎_elim}
 use Rattle.std.proofs.Math.Nat.{pow-suc, mul-le-mul_right, le_of_mul-le-mul_right, mod-lt, pow-le-pow_right}
 use Rattle.std.proofs.lemmas.Bool.{cases_lt}
 use Rattle.std.proofs.lemmas.Nat.{pow_pos, pow-add, shr_split}
 use Rattle.s2cell.specs.Cell.{first_leaf}
-use Rattle.s2list.specs.Looks.{Alternates, FewForTurns}
+use Rattle.s2list.specs.Looks.{Alternates, FewForTurns, FewForUnion}
 
 -- ---- one search
 
@@ -31,44 +31,83 @@ pub halved_more : (size less before looks more k : ℕ) → 0 < size → Halved 
 halved_more size less before looks more k h l e s =
     halved_less size less before looks more k l.power h l.fits l.paid e s
 
--- the looks of leaps that got `far` places on, each three times as long as all before it
+-- a search that has `size` places left fits a power of two, and each step since `2 ^ k` paid for three looks
+pub record Quartered (size before looks k : ℕ) : Type 0 where
+  pub power : ℕ
+  pub fits : size ≤ 2 ^ power
+  pub paid : looks + 3 * power ≤ before + 3 * k
+
+pub quartered_all : (size before k : ℕ) → size ≤ 2 ^ k → Quartered size before before k
+quartered_all size before k h = record { power = k; fits = h; paid = omega arith }
+
+-- three looks leave half at most
+pub quarter_left : (size j : ℕ) → 4 ≤ size → size ≤ 2 ^ suc j → size - 3 * (size / 4) ≤ 2 ^ j
+quarter_left size zero h f = let e : 2 ^ suc zero ≡ 2 = refl in absurd (omega arith)
+quarter_left size (suc zero) h f =
+    let e : 2 ^ suc (suc zero) ≡ 4 = refl in
+    let g : 2 ^ suc zero ≡ 2 = refl in
+    omega arith
+quarter_left size (suc (suc zero)) h f =
+    let e : 2 ^ suc (suc (suc zero)) ≡ 8 = refl in
+    let g : 2 ^ suc (suc zero) ≡ 4 = refl in
+    omega arith
+quarter_left size (suc (suc (suc j))) h f =
+    let some = pow_pos j in
+    let e1 = pow-suc 2 j in
+    let e2 = pow-suc 2 (suc j) in
+    let e3 = pow-suc 2 (suc (suc j)) in
+    let e4 = pow-suc 2 (suc (suc (suc j))) in
+    omega arith
+
+quartered_less : (size before looks more k j : ℕ) → 4 ≤ size → size ≤ 2 ^ j → looks + 3 * j ≤ before + 3 * k →
+    more ≤ looks + 3 → Quartered (size - 3 * (size / 4)) before more k
+quartered_less size before looks more k zero h f p e = let g : 2 ^ zero ≡ 1 = refl in absurd (omega arith)
+quartered_less size before looks more k (suc j) h f p e =
+    record { power = j; fits = quarter_left size j h f; paid = omega arith }
+
+pub quartered_more : (size before looks more k : ℕ) → 4 ≤ size → Quartered size before looks k → more ≤ looks + 3 →
+    Quartered (size - 3 * (size / 4)) before more k
+quartered_more size before looks more k h l e = quartered_less size before looks more k l.power h l.fits l.paid e
+
+-- the looks of leaps that got `far` places on, each three times as long as all before it and the first two
 pub record Leapt (before looks far : ℕ) : Type 0 where
   pub leaps : ℕ
   pub paid : looks ≤ before + leaps
-  pub got : 2 ^ (2 * leaps) ≡ max 1 (4 * far)
+  pub got : 2 ^ (2 * leaps + 1) ≡ far
 
-pub leapt_none : (before far : ℕ) → far ≡ 0 → Leapt before before far
-leapt_none before far e = let g : 2 ^ (2 * 0) ≡ 1 = refl in record { leaps = 0; paid = omega arith; got = omega arith }
+pub leapt_two : (before far : ℕ) → far ≡ 2 → Leapt before before far
+leapt_two before far e = let g : 2 ^ (2 * 0 + 1) ≡ 2 = refl in record { leaps = 0; paid = omega arith; got = omega arith }
 
 pub leapt_more : (before looks more far leap next : ℕ) → Leapt before looks far → more ≤ looks + 1
-    → leap ≡ max 1 (3 * far) → next ≡ far + leap → Leapt before more next
+    → leap ≡ 3 * far → next ≡ far + leap → Leapt before more next
 leapt_more before looks more far leap next l e h n =
     let g = l.got in
     let p = l.paid in
-    let two : 2 * (l.leaps + 1) ≡ 2 * l.leaps + 2 = omega arith in
-    let s : 2 ^ (2 * (l.leaps + 1)) ≡ 2 ^ (2 * l.leaps) * 4 = ap (λ x. 2 ^ x) two ∙ pow-add 2 (2 * l.leaps) 2 in
+    let two : 2 * (l.leaps + 1) + 1 ≡ (2 * l.leaps + 1) + 2 = omega arith in
+    let s : 2 ^ (2 * (l.leaps + 1) + 1) ≡ 2 ^ (2 * l.leaps + 1) * 4 =
+    ap (λ x. 2 ^ x) two ∙ pow-add 2 (2 * l.leaps + 1) 2 in
     record { leaps = l.leaps + 1; paid = omega arith; got = omega arith }
 
-leaps_few : (leaps far k : ℕ) → 2 ^ (2 * leaps) ≡ max 1 (4 * far) → far < 2 ^ k → 2 * leaps ≤ k + 1
+leaps_few : (leaps far k : ℕ) → 2 ^ (2 * leaps + 1) ≤ far → far < 2 ^ k → 2 * leaps + 2 ≤ k
 leaps_few leaps far k h l =
     ⊎_elim
-    (λ (a : k + 1 < 2 * leaps).
-    let p : 2 ^ (k + 2) ≤ 2 ^ (2 * leaps) =
-    pow-le-pow_right {n = 2} (omega arith) {i = k + 2} {j = 2 * leaps} (omega arith) in
-    let s : 2 ^ (k + 2) ≡ 2 ^ k * 4 = pow-add 2 k 2 in
+    (λ (a : k < 2 * leaps + 2).
+    let p : 2 ^ k ≤ 2 ^ (2 * leaps + 1) =
+    pow-le-pow_right {n = 2} (omega arith) {i = k} {j = 2 * leaps + 1} (omega arith) in
     absurd (omega arith))
-    (λ (a : 2 * leaps ≤ k + 1). a)
-    (cases_lt (k + 1) (2 * leaps))
+    (λ (a : 2 * leaps + 2 ≤ k). a)
+    (cases_lt k (2 * leaps + 2))
 
 -- the part that is left after them is shorter than the next leap
 pub leapt_last : (before looks far size more last : ℕ) → Leapt before looks far → more ≤ looks + 1
-    → size < max 1 (3 * far) → ((k : ℕ) → size < 2 ^ k → last ≤ more + k)
-    → (all k : ℕ) → far ≤ all → all < 2 ^ k → last ≤ before + 2 * k + 2
+    → size < 3 * far → ((k : ℕ) → size < 2 ^ k → last ≤ more + k)
+    → (all k : ℕ) → far ≤ all → all < 2 ^ k → last ≤ before + 2 * k
 leapt_last before looks far size more last l e s rest all k h f =
-    let few = leaps_few l.leaps far k l.got (omega arith) in
-    let p = l.paid in
     let g = l.got in
-    let r = rest (2 * l.leaps) (omega arith) in
+    let few = leaps_few l.leaps far k (omega arith) (omega arith) in
+    let p = l.paid in
+    let four : 2 ^ ((2 * l.leaps + 1) + 2) ≡ 2 ^ (2 * l.leaps + 1) * 4 = pow-add 2 (2 * l.leaps + 1) 2 in
+    let r = rest ((2 * l.leaps + 1) + 2) (omega arith) in
     omega arith
 
 -- ---- turns of a walk
@@ -143,12 +182,20 @@ pub record Passed (D : ℕ → Type 0) (xs ys : List ℕ) (d a b turns i j : ℕ
 pub record Walked (D : ℕ → Type 0) (xs ys : List ℕ) (looks i j : ℕ) : Type 0 where
   pub turns : ℕ
   pub spent : Spent looks turns (i + j)
+  pub by_x : turns ≤ i + 1
+  pub by_y : turns ≤ j
+  pub some_x : 0 < turns → 0 < length xs
+  pub begun : turns ≡ 0 → i + j ≡ 0
   pub passed : (d a b : ℕ) (cut : Alternates xs ys d a b) → Known D xs ys a b → Passed D xs ys d a b turns i j cut
 
 pub walked_none : (D : ℕ → Type 0) (xs ys : List ℕ) (looks : ℕ) → looks ≡ 0 → Walked D xs ys looks 0 0
 walked_none D xs ys looks e = record {
   turns = 0;
   spent = record { most = λ k. rw e (omega arith) };
+  by_x = omega arith;
+  by_y = omega arith;
+  some_x = λ h. absurd (omega arith);
+  begun = λ _. omega arith;
   passed = λ d a b cut known.
       let x = cut.x_start in
       let y = cut.y_start in
@@ -175,10 +222,15 @@ pub walked_more : (D : ℕ → Type 0) (xs ys : List ℕ) (looks i j a b e f x y
     → (next_j < length ys → (next_i < length xs → first_leaf (get_or ys next_j 0) < first_leaf (get_or xs next_i 0))
     → D next_j)
     → a ≤ looks + 1 → Sought a b x → e ≤ b + 1 → Sought e f y → i + j + x + y ≤ next_i + next_j
-    → Walked D xs ys f next_i next_j
-walked_more D xs ys looks i j a b e f x y next_i next_j w hi hj live px dy ea sb ee sf far = record {
+    → (0 < j → i < next_i) → j < next_j → Walked D xs ys f next_i next_j
+walked_more D xs ys looks i j a b e f x y next_i next_j w hi hj live px dy ea sb ee sf far on_x on_y = record {
   turns = w.turns + 1;
   spent = spent_turn looks w.turns (i + j) a b e f x y (next_i + next_j) w.spent ea sb ee sf far;
+  by_x = let t = w.by_x in let s = w.by_y in
+      ⊎_elim (λ (h : 0 < j). let o = on_x h in omega arith) (λ (h : j ≤ 0). omega arith) (cases_lt 0 j);
+  by_y = let t = w.by_y in omega arith;
+  some_x = λ _. omega arith;
+  begun = λ h. absurd (omega arith);
   passed = λ d p q cut known.
       let v = w.passed d p q cut known in
       let few = v.few in
@@ -216,3 +268,36 @@ pub walked_last : (D : ℕ → Type 0) (xs ys : List ℕ) (looks i j a b x last 
 walked_last D xs ys looks i j a b x last w ea sb el far d p q cut known =
     spent_last looks w.turns (i + j) a b x last (length xs + length ys) d w.spent ea sb el
     ((w.passed d p q cut known).few) far
+
+-- and by the sizes of the lists
+few_from : (a b d k last : ℕ) → d ≡ min a b → 0 < d → max a b ≤ (d + 1) * 2 ^ k
+    → FewForTurns (a + b) (d + 1) last → last ≤ 42 * d * (1 + k) + 42
+few_from a b d k last e some h all =
+    let two : 2 ^ suc k ≡ 2 * 2 ^ k = let s = pow-suc 2 k in omega arith in
+    let twice : d * 2 ^ suc k ≡ d * (2 * 2 ^ k) = ap (λ x. d * x) two in
+    let l = all (suc k) (omega arith) in
+    let p : 1 * k ≤ d * k = mul-le-mul_right k some in
+    omega arith
+
+pub walked_few : (D : ℕ → Type 0) (xs ys : List ℕ) (looks i j a b x last : ℕ) → Walked D xs ys looks i j
+    → a ≤ looks + 1 → Sought a b x → last ≤ b + 1 → i + x ≤ length xs → j ≤ length ys → (j < length ys) ⊎ (x ≡ 0)
+    → FewForUnion (length xs) (length ys) last
+walked_few D xs ys looks i j a b x last w ea sb el hx hy end k h =
+    let by_x = w.by_x in
+    let by_y = w.by_y in
+    ⊎_elim
+    (λ (some : 0 < min (length xs) (length ys)).
+    few_from (length xs) (length ys) (min (length xs) (length ys)) k last refl some h
+    (spent_last looks w.turns (i + j) a b x last (length xs + length ys) (min (length xs) (length ys) + 1) w.spent ea sb
+    el (omega arith) (omega arith)))
+    (λ (none : min (length xs) (length ys) ≤ 0).
+    let still : w.turns ≡ 0 =
+    ⊎_elim (λ (t : 0 < w.turns). let s = w.some_x t in omega arith) (λ (t : w.turns ≤ 0). omega arith)
+    (cases_lt 0 w.turns) in
+    let begun = w.begun still in
+    let one : 2 ^ 0 ≡ 1 = refl in
+    let spent : looks * 2 ^ 0 ≤ (4 * 0 + 6) * (2 ^ 0 * 0) + 2 * 0 = rw (still, begun) at (w.spent.most 0) in
+    let short : x ≡ 0 = ⊎_elim (λ (l : j < length ys). omega arith) (λ (e : x ≡ 0). e) end in
+    let s = sb 0 (omega arith) in
+    omega arith)
+    (cases_lt 0 (min (length xs) (length ys)))

@@ -1,5 +1,5 @@
 -- How the places narrow where a leaf may stand.
-use Rattle.std.proofs.Common.{◌≡◌, ℕ, ◌+◌, ◌-◌, ◌*◌, ◌<◌, ◌≤◌, ◌↔◌, IsTrue, Bool, false, sym}
+use Rattle.std.proofs.Common.{◌≡◌, ℕ, ◌+◌, ◌-◌, ◌*◌, ◌^◌, ◌<◌, ◌≤◌, ◌↔◌, IsTrue, Bool, false, sym, min}
 use Rattle.std.proofs.Common.{◌∙◌, arith, List}
 use Rattle.std.proofs.Common.{length, get_or}
 use Rattle.std.proofs.Math.Logic.{⊎_elim}
@@ -55,6 +55,21 @@ from_brackets u lo base high start p b e =
           let r = b.rest high (omega arith) h in
           omega arith;
     }
+
+-- cells are below the greatest number, so a mark that would be greater may be that
+pub brackets_capped : (u : List ℕ) (mark capped base high : ℕ) → IsPacked u → capped ≡ min mark (2 ^ 64 - 1)
+    → Brackets u capped base high → Brackets u mark base high
+brackets_capped u mark capped base high p e b = record {
+  order = b.order;
+  within = b.within;
+  below = λ k h. let l = b.below k h in omega arith;
+  rest = λ k h l.
+      let r = b.rest k h l in
+      let c = cell_leaves (get_or u k 0) (p.cells k 0 l) in
+      let m = c.middle in
+      let w = c.within in
+      omega arith;
+}
 
 -- three looks leave a quarter of the list
 pub quarter_within : (base size q s t r : ℕ) → s < 2 → t < 2 → r < 2 → 4 * q ≤ size

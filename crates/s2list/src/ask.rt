@@ -1,25 +1,82 @@
 //! Whether cells, wherever they lie in memory, have the leaves of a cell.
-ghost use Rattle.std.specs.Prelude.{◌<◌, ◌↔◌, IsTrue, All, length, slice_index};
+ghost use Rattle.std.specs.Prelude.{◌+◌, ◌*◌, ◌^◌, ◌<◌, ◌≤◌, ◌↔◌, ℕ, IsTrue, All, min, length, slice_index};
 ghost use Rattle.s2cell.specs.Cell.{IsCell, IsInside, covers, first_leaf};
 ghost use Rattle.s2list.specs.Union.{IsLocal, IsWithin, ShareSome, has_leaf};
 ghost use Rattle.s2list.specs.Packed.{IsPlace};
+ghost use Rattle.s2list.specs.Looks.{FewForCell};
 
 use crate::cells::Cells;
-use crate::find::{find, find_near};
+use crate::find::{find_counted, find_near};
+use crate::looks::{Count, Counted, Looks, Uncounted, look};
 use s2cell::CellId;
 
 /// Whether a union has all leaves of the cell. Logarithmic.
 pub fn contains_cell<C: Cells>(cells: &C, cell: CellId) -> bool
     ensures { IsLocal (C.ids cells.now) → (IsTrue result ↔ IsWithin (covers cell) (has_leaf (C.ids cells.now))) }
 {
-    holds_at(cells, find(cells, cell.first_leaf()), cell)
+    holds(cells, cell, &mut Uncounted)
+}
+
+/// The same, with how often it looks at a number: at least once if there is one, and at most `3 k + 5` times if there
+/// are at most `2^k`.
+pub fn contains_cell_counted<C: Cells>(cells: &C, cell: CellId) -> Counted
+    ensures answer { IsLocal (C.ids cells.now)
+        → (IsTrue result.answer ↔ IsWithin (covers cell) (has_leaf (C.ids cells.now))) }
+    ensures looks { FewForCell (length (C.ids cells.now)) result.looks }
+    ensures least { 0 < length (C.ids cells.now) → 0 < result.looks }
+{
+    let mut count = Looks { looks: 0 };
+    let answer = holds(cells, cell, &mut count);
+    Counted {
+        answer,
+        looks: count.looks,
+    }
+}
+
+/// The same for any counter.
+#[inline(always)]
+fn holds<C: Cells, K: Count>(cells: &C, cell: CellId, count: &mut K) -> bool
+    ensures answer { IsLocal (C.ids cells.now)
+        → (IsTrue result ↔ IsWithin (covers cell) (has_leaf (C.ids cells.now))) }
+    ensures looks { (k : ℕ) → length (C.ids cells.now) ≤ 2 ^ k → K.looks count.new ≤ K.looks count.old + 3 * k + 4 }
+    ensures some { 0 < length (C.ids cells.now) → min (K.looks count.old + 1) K.most ≤ K.looks count.new }
+{
+    let at = find_counted(cells, cell.first_leaf(), count);
+    holds_at(cells, at, cell, count)
 }
 
 /// Whether a union has a leaf of the cell. Logarithmic.
 pub fn intersects_cell<C: Cells>(cells: &C, cell: CellId) -> bool
     ensures { IsLocal (C.ids cells.now) → (IsTrue result ↔ ShareSome (covers cell) (has_leaf (C.ids cells.now))) }
 {
-    begins_at(cells, find(cells, cell.first_leaf()), cell.end_leaf())
+    meets(cells, cell, &mut Uncounted)
+}
+
+/// The same, with how often it looks at a number, which is bounded as for `contains_cell_counted`.
+pub fn intersects_cell_counted<C: Cells>(cells: &C, cell: CellId) -> Counted
+    ensures answer { IsLocal (C.ids cells.now)
+        → (IsTrue result.answer ↔ ShareSome (covers cell) (has_leaf (C.ids cells.now))) }
+    ensures looks { FewForCell (length (C.ids cells.now)) result.looks }
+    ensures least { 0 < length (C.ids cells.now) → 0 < result.looks }
+{
+    let mut count = Looks { looks: 0 };
+    let answer = meets(cells, cell, &mut count);
+    Counted {
+        answer,
+        looks: count.looks,
+    }
+}
+
+/// The same for any counter.
+#[inline(always)]
+fn meets<C: Cells, K: Count>(cells: &C, cell: CellId, count: &mut K) -> bool
+    ensures answer { IsLocal (C.ids cells.now)
+        → (IsTrue result ↔ ShareSome (covers cell) (has_leaf (C.ids cells.now))) }
+    ensures looks { (k : ℕ) → length (C.ids cells.now) ≤ 2 ^ k → K.looks count.new ≤ K.looks count.old + 3 * k + 4 }
+    ensures some { 0 < length (C.ids cells.now) → min (K.looks count.old + 1) K.most ≤ K.looks count.new }
+{
+    let at = find_counted(cells, cell.first_leaf(), count);
+    begins_at(cells, at, cell.end_leaf(), count)
 }
 
 /// How many cells of a union end by the first leaf of the cell: its place. It is found quickly if it is `near`, or at
@@ -36,7 +93,7 @@ pub fn contains_cell_at<C: Cells>(cells: &C, at: usize, cell: CellId) -> bool
     ensures { IsLocal (C.ids cells.now) → IsPlace (C.ids cells.now) (first_leaf cell) at
         → (IsTrue result ↔ IsWithin (covers cell) (has_leaf (C.ids cells.now))) }
 {
-    holds_at(cells, at, cell)
+    holds_at(cells, at, cell, &mut Uncounted)
 }
 
 /// Whether a union has a leaf of the cell, once its place is known.
@@ -45,32 +102,38 @@ pub fn intersects_cell_at<C: Cells>(cells: &C, at: usize, cell: CellId) -> bool
     ensures { IsLocal (C.ids cells.now) → IsPlace (C.ids cells.now) (first_leaf cell) at
         → (IsTrue result ↔ ShareSome (covers cell) (has_leaf (C.ids cells.now))) }
 {
-    begins_at(cells, at, cell.end_leaf())
+    begins_at(cells, at, cell.end_leaf(), &mut Uncounted)
 }
 
 /// Whether there is a number at the place `at`, and its cell contains the cell.
-fn holds_at<C: Cells>(cells: &C, at: usize, cell: CellId) -> bool
-    ensures { All IsCell (C.ids cells.now)
+#[inline(always)]
+fn holds_at<C: Cells, K: Count>(cells: &C, at: usize, cell: CellId, count: &mut K) -> bool
+    ensures answer { All IsCell (C.ids cells.now)
         → (IsTrue result ↔ (at < length (C.ids cells.now) × IsInside cell (slice_index (C.ids cells.now) at))) }
+    ensures looks { K.looks count.new ≤ K.looks count.old + 1 }
+    ensures least { min (K.looks count.old) K.most ≤ K.looks count.new }
 {
     if at >= cells.len() {
         return false;
     }
-    match CellId::from_id(cells.id(at)) {
+    match CellId::from_id(look(cells, at, count)) {
         Some(holder) => holder.contains(cell),
         None => false,
     }
 }
 
 /// Whether there is a number at the place `at`, and its cell begins before the leaf `end`.
-pub fn begins_at<C: Cells>(cells: &C, at: usize, end: u64) -> bool
-    ensures { All IsCell (C.ids cells.now)
+#[inline(always)]
+pub(crate) fn begins_at<C: Cells, K: Count>(cells: &C, at: usize, end: u64, count: &mut K) -> bool
+    ensures answer { All IsCell (C.ids cells.now)
         → (IsTrue result ↔ (at < length (C.ids cells.now) × first_leaf (slice_index (C.ids cells.now) at) < end)) }
+    ensures looks { K.looks count.new ≤ K.looks count.old + 1 }
+    ensures least { min (K.looks count.old) K.most ≤ K.looks count.new }
 {
     if at >= cells.len() {
         return false;
     }
-    match CellId::from_id(cells.id(at)) {
+    match CellId::from_id(look(cells, at, count)) {
         Some(cell) => cell.first_leaf() < end,
         None => false,
     }

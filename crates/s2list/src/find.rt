@@ -1,8 +1,9 @@
 //! The place of a leaf among cells in order.
-ghost use Rattle.std.specs.Prelude.{◌≡◌, ◌+◌, ◌-◌, ◌*◌, ◌^◌, ◌<◌, ◌≤◌, ◌↔◌, ℕ, IsTrue, min, length};
+ghost use Rattle.std.specs.Prelude.{◌≡◌, ◌+◌, ◌-◌, ◌*◌, ◌/◌, ◌^◌, ◌<◌, ◌≤◌, ◌↔◌, ◌⊎◌};
+ghost use Rattle.std.specs.Prelude.{ℕ, IsTrue, All, min, length};
 ghost use Rattle.s2cell.specs.Cell.{IsCell, first_leaf, size_of};
-ghost use Rattle.s2list.specs.Packed.{EndsAfter, FirstEndBy, IsPacked};
-ghost use Rattle.s2list.specs.Search.{IsFrom};
+ghost use Rattle.s2list.specs.Packed.{EndsAfter, EndsAt, FirstEndBy, IsPacked};
+ghost use Rattle.s2list.specs.Search.{Brackets, IsFrom};
 
 use crate::cells::Cells;
 use crate::looks::{Count, Uncounted, look};
@@ -11,13 +12,32 @@ use crate::looks::{Count, Uncounted, look};
 /// all cells.
 pub const NEARBY: usize = 15;
 
-/// How many cells end by the leaf `lo`; these come first.
-pub fn find<C: Cells>(cells: &C, lo: u64) -> usize
+/// How many cells end by the leaf `lo`; these come first. Logarithmic.
+pub(crate) fn find<C: Cells>(cells: &C, lo: u64) -> usize
     ensures within { result ≤ length (C.ids cells.now) }
     ensures ended { IsPacked (C.ids cells.now) → FirstEndBy (C.ids cells.now) result lo }
     ensures next { IsPacked (C.ids cells.now) → EndsAfter (C.ids cells.now) result lo }
 {
-    find_between(cells, 0, cells.len(), lo)
+    find_counted(cells, lo, &mut Uncounted)
+}
+
+/// The same, counted. Looks at three numbers at once, and then goes on in a quarter of what was left.
+pub fn find_counted<C: Cells, K: Count>(cells: &C, lo: u64, count: &mut K) -> usize
+    ensures within { result ≤ length (C.ids cells.now) }
+    ensures ended { IsPacked (C.ids cells.now) → FirstEndBy (C.ids cells.now) result lo }
+    ensures next { IsPacked (C.ids cells.now) → EndsAfter (C.ids cells.now) result lo }
+    ensures looks { (k : ℕ) → length (C.ids cells.now) ≤ 2 ^ k → K.looks count.new ≤ K.looks count.old + 3 * k + 3 }
+    ensures some { 0 < length (C.ids cells.now) → min (K.looks count.old + 1) K.most ≤ K.looks count.new }
+{
+    let mark = lo.saturating_mul(2);
+    let mut base = 0;
+    let mut size = cells.len();
+    while size >= 4 {
+        base = quarter(cells, base, size, mark, count);
+        size -= 3 * (size / 4);
+    }
+    // Of the cells before `base`, only the last may end after the leaf.
+    narrow(cells, base.saturating_sub(1), base + size, lo, count)
 }
 
 /// The same, if the first `start` cells are known to end by the leaf. Logarithmic in how many more do.
@@ -34,8 +54,8 @@ pub fn find_from<C: Cells>(cells: &C, start: usize, lo: u64) -> usize
     find_from_counted(cells, start, lo, &mut Uncounted)
 }
 
-/// The same, counted. Leaps ahead, each leap three times as long as all before it, and then searches what the last leap
-/// passed over.
+/// The same, counted. Looks at the next two cells one by one, since in lists of similar length it is mostly one of
+/// these.
 #[inline(always)]
 pub fn find_from_counted<C: Cells, K: Count>(
     cells: &C,
@@ -54,9 +74,48 @@ pub fn find_from_counted<C: Cells, K: Count>(
     ensures least { min (K.looks count.old) K.most ≤ K.looks count.new }
     ensures some { start < length (C.ids cells.now) → min (K.looks count.old + 1) K.most ≤ K.looks count.new }
 {
+    if !ends_at(cells, start, lo, count) {
+        return start;
+    }
+    let next = start + 1;
+    if !ends_at(cells, next, lo, count) {
+        return next;
+    }
+    leap_on(cells, start, lo, count)
+}
+
+/// Whether there is a number at the place `at`, and its cell ends by the leaf `lo`.
+#[inline(always)]
+fn ends_at<C: Cells, K: Count>(cells: &C, at: usize, lo: u64, count: &mut K) -> bool
+    ensures answer { All IsCell (C.ids cells.now) → (IsTrue result ↔ EndsAt (C.ids cells.now) at lo) }
+    ensures within { IsTrue result → at < length (C.ids cells.now) }
+    ensures fits { IsTrue result → at + 1 < 2 ^ 64 }
+    ensures looks { K.looks count.new ≤ K.looks count.old + 1 }
+    ensures least { min (K.looks count.old) K.most ≤ K.looks count.new }
+    ensures some { at < length (C.ids cells.now) → min (K.looks count.old + 1) K.most ≤ K.looks count.new }
+{
+    if at >= cells.len() {
+        return false;
+    }
+    ends_by(look(cells, at, count), lo)
+}
+
+/// The same, once it is known that two more cells end by the leaf. Leaps ahead, each leap three times as long as all
+/// before it, and then searches what the last leap passed over.
+fn leap_on<C: Cells, K: Count>(cells: &C, start: usize, lo: u64, count: &mut K) -> usize
+    requires { start + 2 ≤ length (C.ids cells.now) }
+    ensures from { start + 2 ≤ result }
+    ensures within { result ≤ length (C.ids cells.now) }
+    ensures ended { IsPacked (C.ids cells.now) → FirstEndBy (C.ids cells.now) (start + 2) lo
+        → FirstEndBy (C.ids cells.now) result lo }
+    ensures next { IsPacked (C.ids cells.now) → FirstEndBy (C.ids cells.now) (start + 2) lo
+        → EndsAfter (C.ids cells.now) result lo }
+    ensures looks { (k : ℕ) → result - start < 2 ^ k → K.looks count.new ≤ K.looks count.old + 2 * k }
+    ensures least { min (K.looks count.old) K.most ≤ K.looks count.new }
+{
     let len = cells.len();
-    let mut base = start;
-    let mut leap = 1;
+    let mut base = start + 2;
+    let mut leap = 6;
     while leap <= len - base {
         if !ends_by(look(cells, base + (leap - 1), count), lo) {
             return narrow(cells, base, base + (leap - 1), lo, count);
@@ -92,6 +151,7 @@ fn narrow<C: Cells, K: Count>(cells: &C, start: usize, end: usize, lo: u64, coun
         → EndsAfter (C.ids cells.now) result lo }
     ensures looks { (k : ℕ) → end - start < 2 ^ k → K.looks count.new ≤ K.looks count.old + k }
     ensures least { min (K.looks count.old) K.most ≤ K.looks count.new }
+    ensures some { start < end → min (K.looks count.old + 1) K.most ≤ K.looks count.new }
 {
     let mut first = start;
     let mut last = end;
@@ -104,6 +164,41 @@ fn narrow<C: Cells, K: Count>(cells: &C, start: usize, end: usize, lo: u64, coun
         }
     }
     first
+}
+
+/// Where the quarter begins that has the place of `mark`, which is one of the next `size` places from `base` on, or
+/// their end. It compares three numbers at once and sums the results, since a branch on each would be mispredicted half
+/// the time.
+#[inline(always)]
+pub(crate) fn quarter<C: Cells, K: Count>(
+    cells: &C,
+    base: usize,
+    size: usize,
+    mark: u64,
+    count: &mut K,
+) -> usize
+    requires fits { length (C.ids cells.now) < 2 ^ 64 }
+    requires some { 4 ≤ size }
+    requires within { base + size ≤ length (C.ids cells.now) }
+    ensures within { result + (size - 3 * (size / 4)) ≤ length (C.ids cells.now) }
+    ensures brackets { IsPacked (C.ids cells.now) → Brackets (C.ids cells.now) mark base (base + size)
+        → Brackets (C.ids cells.now) mark result (result + (size - 3 * (size / 4))) }
+    ensures looks { K.looks count.new ≤ K.looks count.old + 3 }
+    ensures least { min (K.looks count.old + 1) K.most ≤ K.looks count.new }
+{
+    let quarter = size / 4;
+    let first = is_below(look(cells, base + (quarter - 1), count), mark);
+    let second = is_below(look(cells, base + (2 * quarter - 1), count), mark);
+    let third = is_below(look(cells, base + (3 * quarter - 1), count), mark);
+    base + quarter * (first + second + third)
+}
+
+/// 1 if the number is below `mark`, else 0.
+#[inline(always)]
+fn is_below(id: u64, mark: u64) -> usize
+    ensures below { ((result ≡ 1) × (id < mark)) ⊎ ((result ≡ 0) × (mark ≤ id)) }
+{
+    (id < mark) as usize
 }
 
 /// The same, and quick if that place is `near` or a little after it. If it isn't, it searches all cells: that search

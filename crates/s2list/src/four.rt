@@ -6,7 +6,8 @@ ghost use Rattle.s2list.specs.Packed.{IsPacked, IsPlace};
 ghost use Rattle.s2list.specs.Search.{Brackets};
 
 use crate::cells::Cells;
-use crate::find::find_between;
+use crate::find::{find_between, quarter};
+use crate::looks::Uncounted;
 use s2cell::{CellId, LEAVES};
 
 /// Where the parts of a list begin that have the places of four leaves. Each part has `size` numbers.
@@ -93,10 +94,10 @@ fn parts_of_four<C: Cells>(cells: &C, a: u64, b: u64, c: u64, d: u64) -> Parts
     let mut fourth = 0;
     let mut size = cells.len();
     while size >= 4 {
-        first = quarter(cells, first, size, a);
-        second = quarter(cells, second, size, b);
-        third = quarter(cells, third, size, c);
-        fourth = quarter(cells, fourth, size, d);
+        first = quarter(cells, first, size, a, &mut Uncounted);
+        second = quarter(cells, second, size, b, &mut Uncounted);
+        third = quarter(cells, third, size, c, &mut Uncounted);
+        fourth = quarter(cells, fourth, size, d, &mut Uncounted);
         size -= 3 * (size / 4);
     }
     Parts {
@@ -106,31 +107,4 @@ fn parts_of_four<C: Cells>(cells: &C, a: u64, b: u64, c: u64, d: u64) -> Parts
         fourth,
         size,
     }
-}
-
-/// Where the quarter begins that has the place of `mark`, which is one of the next `size` places from `base` on, or
-/// their end. It compares three numbers at once and sums the results, since a branch on each would be mispredicted half
-/// the time.
-#[inline(always)]
-fn quarter<C: Cells>(cells: &C, base: usize, size: usize, mark: u64) -> usize
-    requires fits { length (C.ids cells.now) < 2 ^ 64 }
-    requires some { 4 ≤ size }
-    requires within { base + size ≤ length (C.ids cells.now) }
-    ensures within { result + (size - 3 * (size / 4)) ≤ length (C.ids cells.now) }
-    ensures brackets { IsPacked (C.ids cells.now) → Brackets (C.ids cells.now) mark base (base + size)
-        → Brackets (C.ids cells.now) mark result (result + (size - 3 * (size / 4))) }
-{
-    let quarter = size / 4;
-    let first = is_below(cells.id(base + (quarter - 1)), mark);
-    let second = is_below(cells.id(base + (2 * quarter - 1)), mark);
-    let third = is_below(cells.id(base + (3 * quarter - 1)), mark);
-    base + quarter * (first + second + third)
-}
-
-/// 1 if the number is below `mark`, else 0.
-#[inline(always)]
-fn is_below(id: u64, mark: u64) -> usize
-    ensures below { ((result ≡ 1) × (id < mark)) ⊎ ((result ≡ 0) × (mark ≤ id)) }
-{
-    (id < mark) as usize
 }

@@ -17,10 +17,11 @@ mod walk;
 mod whole;
 
 pub use ask::{
-    begins_at, contains_cell, contains_cell_at, intersects_cell, intersects_cell_at, place_near,
+    contains_cell, contains_cell_at, contains_cell_counted, intersects_cell, intersects_cell_at,
+    intersects_cell_counted, place_near,
 };
 pub use cells::{CellList, Cells, IdList};
-pub use find::{NEARBY, end_of, find_from, find_from_counted, first_of};
+pub use find::{NEARBY, end_of, find_counted, find_from, find_from_counted, first_of};
 pub use four::{Places, places_of_four};
 pub use looks::{Count, Counted, Looks, Uncounted, look};
 pub use run::cells_at;

@@ -8,6 +8,7 @@ ghost use Rattle.s2list.specs.Search.{IsRunAt};
 use crate::ask::begins_at;
 use crate::cells::Cells;
 use crate::find::find;
+use crate::looks::Uncounted;
 use s2cell::CellId;
 
 /// The cells of a union that share a leaf with the cell: the place of the first, and how many there are. They follow
@@ -20,7 +21,7 @@ pub fn cells_at<C: Cells>(cells: &C, cell: CellId) -> (usize, usize)
 {
     let first = find(cells, cell.first_leaf());
     let mut end = find(cells, cell.end_leaf());
-    if end < cells.len() && begins_at(cells, end, cell.end_leaf()) {
+    if end < cells.len() && begins_at(cells, end, cell.end_leaf(), &mut Uncounted) {
         end += 1;
     }
     (first, end.saturating_sub(first))

@@ -3,7 +3,7 @@
 ghost use Rattle.std.specs.Prelude.{◌≡◌, ◌+◌, ◌<◌, ◌≤◌, ◌↔◌, ℕ, IsTrue, min, length};
 ghost use Rattle.s2cell.specs.Cell.{IsCell, first_leaf, size_of};
 ghost use Rattle.s2list.specs.Union.{IsLocal, IsWithin, ShareSome, has_leaf};
-ghost use Rattle.s2list.specs.Looks.{Alternates, FewForTurns, KnownToHold, KnownToMeet};
+ghost use Rattle.s2list.specs.Looks.{Alternates, FewForTurns, FewForUnion, KnownToHold, KnownToMeet};
 
 use crate::cells::Cells;
 use crate::find::{end_of, find_from_counted, first_of};
@@ -19,13 +19,16 @@ pub fn contains<X: Cells, Y: Cells>(whole: &X, part: &Y) -> bool
 
 /// The same, with how often it looks at a number of either list: at most `8 (d + 1) (1 + log2((m + n) / (d + 1)))`
 /// times, the logarithm rounded up, for unions of `m` and `n` cells that in the order of their first leaves are in
-/// turns `d` runs of each up to where the answer is known. So neither list is gone through.
+/// turns `d` runs of each up to where the answer is known. So neither list is gone through. By the sizes alone it is at
+/// most `42 m (1 + k) + 42` times if the shorter list has `m` cells and the longer one at most `(m + 1) 2^k`.
 pub fn contains_counted<X: Cells, Y: Cells>(whole: &X, part: &Y) -> Counted
     ensures answer { IsLocal (X.ids whole.now) → IsLocal (Y.ids part.now)
         → (IsTrue result.answer ↔ IsWithin (has_leaf (Y.ids part.now)) (has_leaf (X.ids whole.now))) }
     ensures looks { IsLocal (X.ids whole.now) → IsLocal (Y.ids part.now) → (d i j : ℕ)
         → Alternates (X.ids whole.now) (Y.ids part.now) d i j → KnownToHold (X.ids whole.now) (Y.ids part.now) i j
         → FewForTurns (length (X.ids whole.now) + length (Y.ids part.now)) d result.looks }
+    ensures sizes { IsLocal (X.ids whole.now) → IsLocal (Y.ids part.now)
+        → FewForUnion (length (X.ids whole.now)) (length (Y.ids part.now)) result.looks }
     ensures least { 0 < length (X.ids whole.now) → 0 < length (Y.ids part.now) → 2 ≤ result.looks }
 {
     let mut count = Looks { looks: 0 };
@@ -51,6 +54,8 @@ pub fn intersects_counted<X: Cells, Y: Cells>(xs: &X, ys: &Y) -> Counted
     ensures looks { IsLocal (X.ids xs.now) → IsLocal (Y.ids ys.now) → (d i j : ℕ)
         → Alternates (X.ids xs.now) (Y.ids ys.now) d i j → KnownToMeet (X.ids xs.now) (Y.ids ys.now) i j
         → FewForTurns (length (X.ids xs.now) + length (Y.ids ys.now)) d result.looks }
+    ensures sizes { IsLocal (X.ids xs.now) → IsLocal (Y.ids ys.now)
+        → FewForUnion (length (X.ids xs.now)) (length (Y.ids ys.now)) result.looks }
     ensures least { 0 < length (X.ids xs.now) → 0 < length (Y.ids ys.now) → 2 ≤ result.looks }
 {
     let mut count = Looks { looks: 0 };
@@ -70,6 +75,8 @@ fn holds_all<X: Cells, Y: Cells, K: Count>(xs: &X, ys: &Y, count: &mut K) -> boo
     ensures looks { IsLocal (X.ids xs.now) → IsLocal (Y.ids ys.now) → (d i j : ℕ)
         → Alternates (X.ids xs.now) (Y.ids ys.now) d i j → KnownToHold (X.ids xs.now) (Y.ids ys.now) i j
         → FewForTurns (length (X.ids xs.now) + length (Y.ids ys.now)) d (K.looks count.new) }
+    ensures sizes { IsLocal (X.ids xs.now) → IsLocal (Y.ids ys.now)
+        → FewForUnion (length (X.ids xs.now)) (length (Y.ids ys.now)) (K.looks count.new) }
     ensures least { 0 < length (X.ids xs.now) → 0 < length (Y.ids ys.now) → min 2 K.most ≤ K.looks count.new }
 {
     let m = xs.len();
@@ -101,6 +108,8 @@ fn meets_any<X: Cells, Y: Cells, K: Count>(xs: &X, ys: &Y, count: &mut K) -> boo
     ensures looks { IsLocal (X.ids xs.now) → IsLocal (Y.ids ys.now) → (d i j : ℕ)
         → Alternates (X.ids xs.now) (Y.ids ys.now) d i j → KnownToMeet (X.ids xs.now) (Y.ids ys.now) i j
         → FewForTurns (length (X.ids xs.now) + length (Y.ids ys.now)) d (K.looks count.new) }
+    ensures sizes { IsLocal (X.ids xs.now) → IsLocal (Y.ids ys.now)
+        → FewForUnion (length (X.ids xs.now)) (length (Y.ids ys.now)) (K.looks count.new) }
     ensures least { 0 < length (X.ids xs.now) → 0 < length (Y.ids ys.now) → min 2 K.most ≤ K.looks count.new }
 {
     let m = xs.len();

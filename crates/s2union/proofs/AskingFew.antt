@@ -9,10 +9,10 @@ use Rattle.s2cell.specs.Cell.{IsInside, covers, first_leaf, size_of}
 use Rattle.s2cell.proofs.Leaves.{covers_there, covers_from, inside_from_within, within_from_inside}
 use Rattle.s2list.specs.Union.{has_leaf, IsLocal, IsWithin, ShareSome}
 use Rattle.s2list.specs.Packed.{IsPacked, FirstEndBy}
-use Rattle.s2list.specs.Search.{Brackets}
 use Rattle.s2list.specs.Looks.{FewForUnion}
 use Rattle.s2list.proofs.Finding.{shared_none, starts_later}
-use Rattle.s2union.proofs.Looking.{Sought, above, quarter_left}
+use Rattle.s2list.proofs.Looking.{above, quarter_left}
+use Rattle.s2union.proofs.Looking.{Sought}
 use Rattle.s2list.proofs.Walking.{leaf_there, leaf_at}
 
 -- what holds at four places in a row

@@ -3,21 +3,21 @@ ghost use Rattle.std.specs.Prelude.{◌≡◌, ◌≤◌, ◌<◌, ◌+◌, ◌-
 ghost use Rattle.std.specs.Prelude.{min, length, slice_index, All, true};
 ghost use Rattle.s2cell.specs.Cell.{IsCell, covers, first_leaf};
 ghost use Rattle.s2list.specs.Union.{IsLocal, has_leaf, IsWithin, ShareSome};
-ghost use Rattle.s2list.specs.Packed.{IsPacked, FirstEndBy, EndsAfter};
+ghost use Rattle.s2list.specs.Packed.{FirstEndBy, EndsAfter};
 ghost use Rattle.s2list.specs.Looks.{FewForCell, FewForUnion};
 
 use crate::few::{MUCH_LONGER, holds_few, meets_few};
-use crate::search::{find, find_counted, find_from_counted, look};
+use crate::search::look;
 use crate::union::CellUnion;
-use s2cell::{CellId, LEAVES};
-use s2list::Counted;
+use s2cell::CellId;
+use s2list::{CellList, Counted};
 
 impl CellUnion {
     /// Whether it has all leaves of the cell. Logarithmic in the number of its cells. S2 calls it `Contains`.
     pub fn contains_cell(&self, cell: CellId) -> bool
         ensures { IsTrue result ↔ IsWithin (covers cell) (has_leaf self.now.cells) }
     {
-        self.contains_cell_counted(cell).answer
+        s2list::contains_cell(&self.list(), cell)
     }
 
     /// The same, with the number of cells that it looks at: at least 1 if it has a cell, and at most `3 k + 5` if it
@@ -27,14 +27,14 @@ impl CellUnion {
         ensures looks { FewForCell (length self.now.cells) result.looks }
         ensures least { 0 < length self.now.cells → 0 < result.looks }
     {
-        holds(self.cells(), cell)
+        s2list::contains_cell_counted(&self.list(), cell)
     }
 
     /// Whether it has a leaf of the cell. Logarithmic in the number of its cells. S2 calls it `Intersects`.
     pub fn intersects_cell(&self, cell: CellId) -> bool
         ensures { IsTrue result ↔ ShareSome (covers cell) (has_leaf self.now.cells) }
     {
-        self.intersects_cell_counted(cell).answer
+        s2list::intersects_cell(&self.list(), cell)
     }
 
     /// The same, with the number of cells that it looks at: at least 1 if it has a cell, and at most `3 k + 5` if it
@@ -44,7 +44,7 @@ impl CellUnion {
         ensures looks { FewForCell (length self.now.cells) result.looks }
         ensures least { 0 < length self.now.cells → 0 < result.looks }
     {
-        meets(self.cells(), cell)
+        s2list::intersects_cell_counted(&self.list(), cell)
     }
 
     /// Whether it has all leaves of the other union; stops by the third cell after the first that it lacks. Searches in
@@ -91,28 +91,13 @@ impl CellUnion {
         ensures sharing { All (λ c. ShareSome (covers c) (covers cell)) result.now }
         ensures cells { All IsCell result.now }
     {
-        let cells = self.cells();
-        let start = find(cells, cell.first_leaf());
-        let end = count_before(cells, cell.end_leaf());
-        prove!(start <= end);
-        &cells[start..end]
+        let (start, count) = s2list::cells_at(&self.list(), cell);
+        &self.cells()[start..start + count]
     }
 }
 
-/// Whether a local list has all leaves of the cell.
-pub(crate) fn holds(cells: &[CellId], cell: CellId) -> Counted
-    requires { IsLocal cells.now }
-    ensures answer { IsTrue result.answer ↔ IsWithin (covers cell) (has_leaf cells.now) }
-    ensures looks { FewForCell (length cells.now) result.looks }
-    ensures least { 0 < length cells.now → 0 < result.looks }
-{
-    let found = find_counted(cells, cell.first_leaf());
-    let mut looks = found.looks;
-    let answer = holds_at(cells, found.at, cell, &mut looks);
-    Counted { answer, looks }
-}
-
-/// The same once it is known how many of its cells end by the first leaf of the cell.
+/// Whether a local list has all leaves of the cell, once it is known how many of its cells end by the first leaf of the
+/// cell.
 pub(crate) fn holds_at(cells: &[CellId], at: usize, cell: CellId, looks: &mut u64) -> bool
     requires local { IsLocal cells.now }
     requires is_cell { IsCell cell }
@@ -127,20 +112,8 @@ pub(crate) fn holds_at(cells: &[CellId], at: usize, cell: CellId, looks: &mut u6
     at < cells.len() && look(cells, at, looks).contains(cell)
 }
 
-/// Whether a local list has a leaf of the cell.
-pub(crate) fn meets(cells: &[CellId], cell: CellId) -> Counted
-    requires { IsLocal cells.now }
-    ensures answer { IsTrue result.answer ↔ ShareSome (covers cell) (has_leaf cells.now) }
-    ensures looks { FewForCell (length cells.now) result.looks }
-    ensures least { 0 < length cells.now → 0 < result.looks }
-{
-    let found = find_counted(cells, cell.first_leaf());
-    let mut looks = found.looks;
-    let answer = meets_at(cells, found.at, cell, &mut looks);
-    Counted { answer, looks }
-}
-
-/// The same once it is known how many of its cells end by the first leaf of the cell.
+/// Whether a local list has a leaf of the cell, once it is known how many of its cells end by the first leaf of the
+/// cell.
 pub(crate) fn meets_at(cells: &[CellId], at: usize, cell: CellId, looks: &mut u64) -> bool
     requires local { IsLocal cells.now }
     requires is_cell { IsCell cell }
@@ -155,22 +128,6 @@ pub(crate) fn meets_at(cells: &[CellId], at: usize, cell: CellId, looks: &mut u6
     at < cells.len() && look(cells, at, looks).first_leaf() < cell.end_leaf()
 }
 
-/// How many cells begin before the leaf `end`.
-fn count_before(cells: &[CellId], end: u64) -> usize
-    requires packed { IsPacked cells.now }
-    requires leaf { end ≤ LEAVES }
-    ensures within { result ≤ length cells.now }
-    ensures begun { (k : ℕ) → k < result → first_leaf (slice_index cells.now k) < end }
-    ensures rest { (k : ℕ) → result ≤ k → k < length cells.now → end ≤ first_leaf (slice_index cells.now k) }
-{
-    let ended = find(cells, end);
-    if ended < cells.len() && cells[ended].first_leaf() < end {
-        ended + 1
-    } else {
-        ended
-    }
-}
-
 /// Whether `xs` has all leaves of `ys`.
 fn holds_all(xs: &[CellId], ys: &[CellId]) -> Counted
     requires x_local { IsLocal xs.now }
@@ -182,60 +139,7 @@ fn holds_all(xs: &[CellId], ys: &[CellId]) -> Counted
     if ys.len() <= xs.len() / MUCH_LONGER {
         return holds_few(xs, ys);
     }
-    let mut looks = 0;
-    if begins_before(ys, xs, &mut looks) {
-        return answer_with(false, 0, looks);
-    }
-    holds_evenly(xs, ys, looks)
-}
-
-/// Whether the first cell of `ys` begins before the first cell of `xs`, so that `xs` lacks a leaf of it. This mostly
-/// decides whether a short list has the leaves of a long one.
-fn begins_before(ys: &[CellId], xs: &[CellId], looks: &mut u64) -> bool
-    requires x_local { IsLocal xs.now }
-    requires y_local { IsLocal ys.now }
-    requires before { looks.old ≡ 0 }
-    ensures lacks { IsTrue result → IsWithin (has_leaf ys.now) (has_leaf xs.now) → ⊥ }
-    ensures looks { looks.new ≤ 2 }
-    ensures least { 0 < length xs.now → 0 < length ys.now → 2 ≤ looks.new }
-{
-    if ys.is_empty() || xs.is_empty() {
-        return false;
-    }
-    let y = look(ys, 0, looks);
-    let x = look(xs, 0, looks);
-    y.first_leaf() < x.first_leaf()
-}
-
-/// Whether `xs` has all leaves of `ys`, by a walk along both lists. Its looks are added to those before.
-#[inline(never)]
-fn holds_evenly(xs: &[CellId], ys: &[CellId], before: u64) -> Counted
-    requires x_local { IsLocal xs.now }
-    requires y_local { IsLocal ys.now }
-    requires before { before ≤ 2 }
-    ensures answer { IsTrue result.answer ↔ IsWithin (has_leaf ys.now) (has_leaf xs.now) }
-    ensures looks { FewForUnion (length xs.now) (length ys.now) result.looks }
-    ensures least { before ≤ result.looks }
-{
-    let mut looks: u64 = 0;
-    let mut i = 0;
-    let mut j = 0;
-    while j < ys.len() {
-        let mut more = 0;
-        let y = look(ys, j, &mut more);
-        i = find_from_counted(xs, i, y.first_leaf(), &mut more);
-        if i >= xs.len() {
-            return answer_with(false, looks, more + before);
-        }
-        let x = look(xs, i, &mut more);
-        if !x.contains(y) {
-            return answer_with(false, looks, more + before);
-        }
-        j = find_from_counted(ys, j + 1, x.end_leaf(), &mut more);
-        i += 1;
-        looks = looks.saturating_add(more);
-    }
-    answer_with(true, looks, before)
+    s2list::contains_counted(&CellList { cells: xs }, &CellList { cells: ys })
 }
 
 /// Whether `xs` and `ys` share a leaf.
@@ -247,41 +151,12 @@ fn meets_any(xs: &[CellId], ys: &[CellId]) -> Counted
     ensures least { 0 < length xs.now → 0 < length ys.now → 2 ≤ result.looks }
 {
     if ys.len() <= xs.len() / MUCH_LONGER {
-        meets_few(xs, ys)
-    } else if xs.len() <= ys.len() / MUCH_LONGER {
-        meets_few(ys, xs)
-    } else {
-        meets_evenly(xs, ys)
+        return meets_few(xs, ys);
     }
-}
-
-/// The same, by a walk along both lists.
-#[inline(never)]
-fn meets_evenly(xs: &[CellId], ys: &[CellId]) -> Counted
-    requires x_local { IsLocal xs.now }
-    requires y_local { IsLocal ys.now }
-    ensures answer { IsTrue result.answer ↔ ShareSome (has_leaf xs.now) (has_leaf ys.now) }
-    ensures looks { FewForUnion (length xs.now) (length ys.now) result.looks }
-    ensures least { 0 < length xs.now → 0 < length ys.now → 2 ≤ result.looks }
-{
-    let mut looks: u64 = 0;
-    let mut i = 0;
-    let mut j = 0;
-    while j < ys.len() {
-        let mut more = 0;
-        let y = look(ys, j, &mut more);
-        i = find_from_counted(xs, i, y.first_leaf(), &mut more);
-        if i >= xs.len() {
-            return answer_with(false, looks, more);
-        }
-        let x = look(xs, i, &mut more);
-        if x.first_leaf() < y.end_leaf() {
-            return answer_with(true, looks, more);
-        }
-        j = find_from_counted(ys, j + 1, x.first_leaf(), &mut more);
-        looks = looks.saturating_add(more);
+    if xs.len() <= ys.len() / MUCH_LONGER {
+        return meets_few(ys, xs);
     }
-    answer_with(false, looks, 0)
+    s2list::intersects_counted(&CellList { cells: xs }, &CellList { cells: ys })
 }
 
 /// An answer with its looks, and `more`.

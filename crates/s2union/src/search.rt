@@ -3,10 +3,11 @@
 ghost use Rattle.std.specs.Prelude.{◌≡◌, ◌≤◌, ◌<◌, ◌+◌, ◌-◌, ◌*◌, ◌^◌, ◌↔◌};
 ghost use Rattle.std.specs.Prelude.{◌/◌, ◌⊎◌, ℕ, IsTrue, length, slice_index};
 ghost use Rattle.std.specs.List.Sorted.{IsStrictlyIncreasing};
-ghost use Rattle.s2list.specs.Packed.{IsPacked, FirstEndBy, EndsAt, EndsAfter};
+ghost use Rattle.s2list.specs.Packed.{IsPacked, FirstEndBy, EndsAfter};
 ghost use Rattle.s2list.specs.Search.{Brackets};
 
 use s2cell::{CellId, LEAVES};
+use s2list::{CellList, Looks, Uncounted};
 
 /// A place in a list, and how many cells were looked at to find it.
 #[derive(Clone, Copy)]
@@ -35,7 +36,7 @@ pub(crate) fn find(cells: &[CellId], lo: u64) -> usize
     ensures ended { FirstEndBy cells.now result lo }
     ensures next { EndsAfter cells.now result lo }
 {
-    find_counted(cells, lo).at
+    s2list::find_counted(&CellList { cells }, lo, &mut Uncounted)
 }
 
 /// The same, counted.
@@ -48,8 +49,12 @@ pub(crate) fn find_counted(cells: &[CellId], lo: u64) -> Found
     ensures looks { (k : ℕ) → length cells.now ≤ 2 ^ k → result.looks ≤ 3 * k + 4 }
     ensures least { 0 < result.at → 0 < result.looks }
 {
-    let begun = narrow(cells, 0, cells.len(), 2 * lo, 0);
-    without_last(cells, 0, begun, lo)
+    let mut count = Looks { looks: 0 };
+    let at = s2list::find_counted(&CellList { cells }, lo, &mut count);
+    Found {
+        at,
+        looks: count.looks,
+    }
 }
 
 /// The same, if the first `from` are known to end by it. Logarithmic in how many more do.
@@ -64,12 +69,10 @@ pub(crate) fn find_from(cells: &[CellId], from: usize, lo: u64) -> usize
     ensures ended { FirstEndBy cells.now result lo }
     ensures next { EndsAfter cells.now result lo }
 {
-    let mut looks = 0;
-    find_from_counted(cells, from, lo, &mut looks)
+    s2list::find_from(&CellList { cells }, from, lo)
 }
 
-/// The same, counted. Looks at the next two cells one by one, since in lists of similar length it is mostly one of
-/// these.
+/// The same, counted.
 #[inline(always)]
 pub(crate) fn find_from_counted(cells: &[CellId], from: usize, lo: u64, looks: &mut u64) -> usize
     requires packed { IsPacked cells.now }
@@ -83,45 +86,11 @@ pub(crate) fn find_from_counted(cells: &[CellId], from: usize, lo: u64, looks: &
     ensures next { EndsAfter cells.now result lo }
     ensures looks { (k : ℕ) → result - from < 2 ^ k → looks.new ≤ looks.old + 4 * k + 16 }
     ensures least { looks.old ≤ looks.new }
-    ensures some { from < result → looks.old < looks.new }
 {
-    if !ends_by(cells, from, lo, looks) {
-        return from;
-    }
-    if !ends_by(cells, from + 1, lo, looks) {
-        return from + 1;
-    }
-    let found = leap_from(cells, from + 2, lo);
-    *looks += found.looks;
-    found.at
-}
-
-/// Whether there is a cell at the place `at`, and it ends by the leaf `lo`.
-#[inline(always)]
-fn ends_by(cells: &[CellId], at: usize, lo: u64, looks: &mut u64) -> bool
-    requires before { looks.old ≤ 1001 }
-    ensures answer { IsTrue result ↔ EndsAt cells.now at lo }
-    ensures looks { looks.new ≤ looks.old + 1 }
-    ensures least { looks.old ≤ looks.new }
-    ensures some { IsTrue result → looks.old < looks.new }
-{
-    at < cells.len() && look(cells, at, looks).end_leaf() <= lo
-}
-
-/// The same as `find_from`, if more cells may end by it.
-fn leap_from(cells: &[CellId], from: usize, lo: u64) -> Found
-    requires packed { IsPacked cells.now }
-    requires leaf { lo ≤ LEAVES }
-    requires within { from ≤ length cells.now }
-    requires ended { FirstEndBy cells.now from lo }
-    ensures from { from ≤ result.at }
-    ensures within { result.at ≤ length cells.now }
-    ensures ended { FirstEndBy cells.now result.at lo }
-    ensures next { EndsAfter cells.now result.at lo }
-    ensures looks { (k : ℕ) → result.at + 1 - from < 2 ^ k → result.looks ≤ 4 * k + 14 }
-{
-    let begun = gallop_counted(cells, from, 2 * lo);
-    without_last(cells, from, begun, lo)
+    let mut count = Looks { looks: *looks };
+    let at = s2list::find_from_counted(&CellList { cells }, from, lo, &mut count);
+    *looks = count.looks;
+    at
 }
 
 /// The same, once it is known how many cells have their middle before `lo`; only the last of these may end after it.

@@ -17,6 +17,7 @@ ghost use Rattle.s2list.specs.Count.{count_below};
 use crate::normalising::normalise;
 use crate::subtract::fill_gap;
 use s2cell::{CellId, LEAVES};
+use s2list::CellList;
 use std::alloc::{AllocError, Global};
 use std::hash::{Hash, Hasher};
 use std::marker::Model;
@@ -119,6 +120,16 @@ impl CellUnion {
         ensures normal { IsNormalForm (has_leaf self.now.cells) self.now.cells }
     {
         self.cells.as_slice()
+    }
+
+    /// The cells by their places.
+    pub(crate) fn list(&self) -> CellList<'_>
+        ensures value { result.cells.now ≡ self.now.cells }
+        ensures local { IsLocal self.now.cells }
+    {
+        CellList {
+            cells: self.cells(),
+        }
     }
 
     /// The cells, ascending. S2: `begin` and `end`.

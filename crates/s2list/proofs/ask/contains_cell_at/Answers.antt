@@ -6,5 +6,5 @@ use Rattle.s2list.proofs.ask.contains_cell_at.Goals as goal
 pub returns : goal.returns
 returns g c local place =
     let own : IsCell c.args.cell = search rules in
-    both (c.holds_at.ensures local.cells)
+    both (c.holds_at.ensures.answer local.cells)
     (held_there (g.C.Cells.ids c.args.cells.now) c.args.at c.args.cell local own place.ended place.next)

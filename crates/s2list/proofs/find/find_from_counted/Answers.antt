@@ -1,99 +1,67 @@
-use Rattle.std.proofs.Common.{◌≡◌, ◌+◌, ◌-◌, ◌<◌, length, arith}
+use Rattle.std.proofs.Common.{◌≡◌, ◌+◌, ◌≤◌, ◌↔◌, IsTrue, subst, get_or, arith}
+use Rattle.s2cell.specs.Cell.{first_leaf, size_of}
 use Rattle.s2list.specs.Packed.{FirstEndBy}
-use Rattle.s2list.specs.Search.{IsFrom}
-use Rattle.s2list.proofs.Narrowing.{later, ended_up}
-use Rattle.s2list.proofs.Looking.{leapt_none, leapt_more, leapt_last}
+use Rattle.s2list.proofs.Narrowing.{ended_up, later}
 use Rattle.s2list.proofs.find.find_from_counted.Goals as goal
 
-pub loop-leap-init : goal.loop-leap-init
-loop-leap-init g c = record {
-  from = omega arith;
-  within = c.requires;
-  leap = omega arith;
-  ended = λ p e. e;
-  leapt = leapt_none _ _ (omega arith);
-  least = omega arith;
-  some = λ h. absurd (omega arith);
-}
-
-pub loop-leap-preserved : goal.loop-leap-preserved
-loop-leap-preserved g c =
+pub returns-then-not-ends_at-clause-next : goal.returns-then-not-ends_at-clause-next
+returns-then-not-ends_at-clause-next g c p b h =
     let u = g.C.Cells.ids c.args.cells.now in
-    let v = c.loop-leap.invariant in
-    let from = v.from in
-    let leap = v.leap in
-    let z = v.least in
-    let k = c.loop-leap.base + (c.loop-leap.leap - 1) in
-    let n = c.len-len.ensures in
-    let more = c.look.ensures.count in
-    let h : k < length u = omega arith in
-    let same : k + 1 ≡ c.loop-leap.base + c.loop-leap.leap = omega arith in
-    record {
-      from = omega arith;
-      within = omega arith;
-      leap = omega arith;
-      ended = λ p b.
-          let test = c.ends_by.ensures (rw c.look.ensures.id (p.cells k 0 h)) in
-          let all : FirstEndBy u (k + 1) c.args.lo = ended_up u c.args.lo k p h
-          (rw c.look.ensures.id at (test.0 c.if-not-ends_by.false)) in
-          rw same at all;
-      leapt = leapt_more _ _ _ _ c.loop-leap.leap _ v.leapt (omega arith) (omega arith) (omega arith);
-      least = omega arith;
-      some = λ _. omega arith;
-    }
+    let t = c.ends_at.ensures.answer p.cells in
+    let test : IsTrue c.ends_at.result
+    ↔ (first_leaf (get_or u c.args.start 0) + size_of (get_or u c.args.start 0) ≤ c.args.lo) =
+    (λ e. (t.0 e).1, λ l. t.1 (h, l)) in
+    later _ _ _ test c.if-not-ends_at.true
 
-pub returns-then-not-ends_by-clause-ended : goal.returns-then-not-ends_by-clause-ended
-returns-then-not-ends_by-clause-ended g c p b =
+pub overflow_add-next : goal.overflow_add-next
+overflow_add-next g c = let f = c.ends_at.ensures.fits c.if-not-ends_at.false in omega arith
+
+pub returns-then-not-ends_at-2-clause-within : goal.returns-then-not-ends_at-2-clause-within
+returns-then-not-ends_at-2-clause-within g c =
+    let w = c.ends_at.ensures.within c.if-not-ends_at.false in omega arith
+
+pub returns-then-not-ends_at-2-clause-ended : goal.returns-then-not-ends_at-2-clause-ended
+returns-then-not-ends_at-2-clause-ended g c p b =
+    let e = (c.ends_at.ensures.answer p.cells).0 c.if-not-ends_at.false in
+    ended_up (g.C.Cells.ids c.args.cells.now) c.args.lo c.args.start p e.0 e.1
+
+pub returns-then-not-ends_at-2-clause-next : goal.returns-then-not-ends_at-2-clause-next
+returns-then-not-ends_at-2-clause-next g c p b h =
     let u = g.C.Cells.ids c.args.cells.now in
-    let v = c.loop-leap.invariant in
-    let leap = v.leap in
-    let k = c.loop-leap.base + (c.loop-leap.leap - 1) in
-    let n = c.len-len.ensures in
-    let h : k < length u = omega arith in
-    let test = c.ends_by.ensures (rw c.look.ensures.id (p.cells k 0 h)) in
-    let from : IsFrom u c.args.lo c.loop-leap.base k =
-    record {
-      ended = v.ended p b;
-      next = λ _. rw c.look.ensures.id at
-          (later _ _ _ test c.if-not-ends_by.true);
-    } in
-    c.narrow.ensures.ended p from
+    let t = c.ends_at-2.ensures.answer p.cells in
+    let test : IsTrue c.ends_at-2.result
+    ↔ (first_leaf (get_or u (c.args.start + 1) 0) + size_of (get_or u (c.args.start + 1) 0) ≤ c.args.lo) =
+    (λ e. (t.0 e).1, λ l. t.1 (h, l)) in
+    later _ _ _ test c.if-not-ends_at-2.true
 
-pub returns-then-not-ends_by-clause-next : goal.returns-then-not-ends_by-clause-next
-returns-then-not-ends_by-clause-next g c p b =
+pub returns-then-not-ends_at-2-clause-some : goal.returns-then-not-ends_at-2-clause-some
+returns-then-not-ends_at-2-clause-some g c h =
+    let s = c.ends_at.ensures.some h in
+    let l = c.ends_at-2.ensures.least in
+    omega arith
+
+pub leap_on-requires : goal.leap_on-requires
+leap_on-requires g c = let w = c.ends_at-2.ensures.within c.if-not-ends_at-2.false in omega arith
+
+pub returns-clause-ended : goal.returns-clause-ended
+returns-clause-ended g c p b =
     let u = g.C.Cells.ids c.args.cells.now in
-    let v = c.loop-leap.invariant in
-    let leap = v.leap in
-    let k = c.loop-leap.base + (c.loop-leap.leap - 1) in
-    let n = c.len-len.ensures in
-    let h : k < length u = omega arith in
-    let test = c.ends_by.ensures (rw c.look.ensures.id (p.cells k 0 h)) in
-    let from : IsFrom u c.args.lo c.loop-leap.base k =
-    record {
-      ended = v.ended p b;
-      next = λ _. rw c.look.ensures.id at
-          (later _ _ _ test c.if-not-ends_by.true);
-    } in
-    c.narrow.ensures.next p from
+    let e = (c.ends_at-2.ensures.answer p.cells).0 c.if-not-ends_at-2.false in
+    let same : (c.args.start + 1) + 1 ≡ c.args.start + 2 = omega arith in
+    c.leap_on.ensures.ended p
+    (subst (λ n. FirstEndBy u n c.args.lo) same (ended_up u c.args.lo (c.args.start + 1) p e.0 e.1))
 
-pub returns-then-not-ends_by-clause-looks : goal.returns-then-not-ends_by-clause-looks
-returns-then-not-ends_by-clause-looks g c k h =
-    let v = c.loop-leap.invariant in
-    let from = v.from in
-    let leap = v.leap in
-    let more = c.look.ensures.count in
-    let on = c.narrow.ensures.from in
-    leapt_last _ _ (c.loop-leap.base - c.args.start) (c.loop-leap.leap - 1) (g.K.Count.looks c.look.new.count) _ v.leapt
-    (omega arith) (omega arith) (λ j f. c.narrow.ensures.looks j (omega arith)) _ k (omega arith) h
+pub returns-clause-next : goal.returns-clause-next
+returns-clause-next g c p b =
+    let u = g.C.Cells.ids c.args.cells.now in
+    let e = (c.ends_at-2.ensures.answer p.cells).0 c.if-not-ends_at-2.false in
+    let same : (c.args.start + 1) + 1 ≡ c.args.start + 2 = omega arith in
+    c.leap_on.ensures.next p
+    (subst (λ n. FirstEndBy u n c.args.lo) same (ended_up u c.args.lo (c.args.start + 1) p e.0 e.1))
 
-pub returns-clause-looks : goal.returns-clause-looks
-returns-clause-looks g c k h =
-    let v = c.loop-leap.invariant in
-    let from = v.from in
-    let leap = v.leap in
-    let n = c.len-len.ensures in
-    let on = c.narrow-2.ensures.from in
-    leapt_last _ (g.K.Count.looks c.loop-leap.count) (c.loop-leap.base - c.args.start)
-    (c.len-len.result - c.loop-leap.base)
-    (g.K.Count.looks c.loop-leap.count) _ v.leapt (omega arith) (omega arith)
-    (λ j f. c.narrow-2.ensures.looks j (omega arith)) _ k (omega arith) h
+pub returns-clause-some : goal.returns-clause-some
+returns-clause-some g c h =
+    let s = c.ends_at.ensures.some h in
+    let l = c.ends_at-2.ensures.least in
+    let m = c.leap_on.ensures.least in
+    omega arith

@@ -11,6 +11,7 @@ loop-first-init g c = record {
   found = λ p f. f;
   halved = λ k h. halved_all _ _ k h;
   least = omega arith;
+  some = λ h. absurd (omega arith);
 }
 
 pub loop-first-preserved-then-ends_by : goal.loop-first-preserved-then-ends_by
@@ -36,6 +37,7 @@ loop-first-preserved-then-ends_by g c =
       halved = λ k l. halved_more (c.loop-first.last - c.loop-first.first) _ _ _ _ k (omega arith) (v.halved k l)
           (omega arith) (omega arith);
       least = omega arith;
+      some = λ _. omega arith;
     }
 
 pub loop-first-preserved : goal.loop-first-preserved
@@ -61,6 +63,7 @@ loop-first-preserved g c =
       halved = λ k l. halved_more (c.loop-first.last - c.loop-first.first) _ _ _ _ k (omega arith) (v.halved k l)
           (omega arith) (omega arith);
       least = omega arith;
+      some = λ _. omega arith;
     }
 
 pub returns-clause-ended : goal.returns-clause-ended
@@ -73,3 +76,6 @@ returns-clause-next g c p f h =
 
 pub returns-clause-looks : goal.returns-clause-looks
 returns-clause-looks g c k h = let l = (c.loop-first.invariant.halved k h).paid in omega arith
+
+pub returns-clause-some : goal.returns-clause-some
+returns-clause-some g c h = let o = c.loop-first.invariant.order in c.loop-first.invariant.some (omega arith)

@@ -1,4 +1,4 @@
-use Rattle.std.proofs.Common.{ℕ, ◌-◌, ◌^◌, ◌<◌, ◌≤◌, min}
+use Rattle.std.proofs.Common.{ℕ, ◌+◌, ◌-◌, ◌^◌, ◌<◌, ◌≤◌, min}
 use Rattle.s2list.specs.Packed.{IsPacked}
 use Rattle.s2list.specs.Search.{IsFrom}
 use Rattle.s2list.proofs.Looking.{Halved}
@@ -14,6 +14,8 @@ invariant-loop-first g l = record {
   halved : (k : ℕ) → l.end - l.start < 2 ^ k → Halved (l.last - l.first) (g.K.Count.looks l.initial.count)
       (g.K.Count.looks l.count) k;
   least : min (g.K.Count.looks l.initial.count) g.K.Count.most ≤ g.K.Count.looks l.count;
+  some : l.last - l.first < l.end - l.start →
+      min (g.K.Count.looks l.initial.count + 1) g.K.Count.most ≤ g.K.Count.looks l.count;
 }
 
 abbrev pub decreases-loop-first : goal.decreases-loop-first

@@ -35,12 +35,12 @@ returns-clause-run g c local =
     elim c.if-end-len.branch [
       | then-end-len+then-begins_at x ↦
           let t = rw x.end_leaf-then-end-len.ensures.value at
-          ((x.begins_at.ensures local.cells).0 x.if-begins_at.true) in
+          ((x.begins_at.ensures.answer local.cells).0 x.if-begins_at.true) in
           inl (t.0, t.1, x.end-is)
       | else-end-len x ↦
           elim x.else-end-len.branch [
             | else-end-len-via-then-end-len+else-begins_at y ↦
-                let test = rw y.end_leaf-then-end-len.ensures.value at (y.begins_at.ensures local.cells) in
+                let test = rw y.end_leaf-then-end-len.ensures.value at (y.begins_at.ensures.answer local.cells) in
                 inr (
                   λ h.
                       ⊎_elim

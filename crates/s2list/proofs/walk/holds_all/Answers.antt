@@ -1,4 +1,4 @@
-use Rattle.std.proofs.Common.{◌≡◌, ◌+◌, ◌-◌, ◌<◌, ◌≤◌, length, get_or, refl, sym, ◌∙◌, arith}
+use Rattle.std.proofs.Common.{◌≡◌, ◌+◌, ◌-◌, ◌<◌, ◌≤◌, length, get_or, refl, sym, ◌∙◌, arith, inl, inr}
 use Rattle.std.proofs.Math.Logic.{⊎_elim}
 use Rattle.std.proofs.lemmas.Bool.{cases_lt, false≢true}
 use Rattle.s2cell.specs.Cell.{IsCell, covers, first_leaf, size_of}
@@ -7,7 +7,7 @@ use Rattle.s2list.specs.Packed.{EndsAfter, FirstEndBy}
 use Rattle.s2list.proofs.Checking.{packed_from_local}
 use Rattle.s2list.proofs.Finding.{ended_to, held_at}
 use Rattle.s2list.proofs.Asking.{all_within, part_within}
-use Rattle.s2list.proofs.Looking.{sought_none, walked_last, walked_more, walked_none}
+use Rattle.s2list.proofs.Looking.{sought_none, walked_few, walked_last, walked_more, walked_none}
 use Rattle.s2list.proofs.Turns.{begun_up, ended_next, held_more, lacks_next}
 use Rattle.s2list.proofs.walk.holds_all.Goals as goal
 
@@ -119,7 +119,7 @@ loop-j-preserved g c =
           (begun_up xs i (first_leaf (get_or ys j 0)) lx after)
           (lacks_next xs ys (i + 1) next lx ly
           (ended_next xs ys i j next lx ly hi hj (omega arith) inside.0 inside.1 ends))
-          (omega arith) fi.looks (omega arith) fj.looks (omega arith);
+          (omega arith) fi.looks (omega arith) fj.looks (omega arith) (λ _. omega arith) (omega arith);
       some = λ _.
           let more_y = c.look-y.ensures.count in
           let more_x = c.look-x.ensures.count in
@@ -168,6 +168,23 @@ returns-then-i-m-clause-looks g c lx ly =
     let more_y = c.look-y.ensures.count in
     walked_last (λ k. IsWithin (covers (get_or ys k 0)) (has_leaf xs) → ⊥) xs ys _ c.loop-j.i j _ _ (i - c.loop-j.i) _
     (v.walked lx ly) (omega arith) fi.looks (omega arith) (omega arith)
+
+pub returns-then-i-m-clause-sizes : goal.returns-then-i-m-clause-sizes
+returns-then-i-m-clause-sizes g c lx ly =
+    let xs = g.X.Cells.ids c.args.xs.now in
+    let ys = g.Y.Cells.ids c.args.ys.now in
+    let m = c.len-m.ensures in
+    let n = c.len-n.ensures in
+    let v = c.loop-j.invariant in
+    let j = c.loop-j.j in
+    let hj : j < length ys = omega arith in
+    let i = c.find_from_counted-i.result in
+    let fi = c.find_from_counted-i.ensures in
+    let on = fi.from in
+    let w = fi.within in
+    let more_y = c.look-y.ensures.count in
+    walked_few (λ k. IsWithin (covers (get_or ys k 0)) (has_leaf xs) → ⊥) xs ys _ c.loop-j.i j _ _ (i - c.loop-j.i) _
+    (v.walked lx ly) (omega arith) fi.looks (omega arith) (omega arith) (omega arith) (inl hj)
 
 pub returns-then-i-m-clause-least : goal.returns-then-i-m-clause-least
 returns-then-i-m-clause-least g c hx hy =
@@ -223,6 +240,24 @@ returns-then-not-lies_in-clause-looks g c lx ly =
     walked_last (λ k. IsWithin (covers (get_or ys k 0)) (has_leaf xs) → ⊥) xs ys _ c.loop-j.i j _ _ (i - c.loop-j.i) _
     (v.walked lx ly) (omega arith) fi.looks (omega arith) (omega arith)
 
+pub returns-then-not-lies_in-clause-sizes : goal.returns-then-not-lies_in-clause-sizes
+returns-then-not-lies_in-clause-sizes g c lx ly =
+    let xs = g.X.Cells.ids c.args.xs.now in
+    let ys = g.Y.Cells.ids c.args.ys.now in
+    let m = c.len-m.ensures in
+    let n = c.len-n.ensures in
+    let v = c.loop-j.invariant in
+    let j = c.loop-j.j in
+    let hj : j < length ys = omega arith in
+    let i = c.find_from_counted-i.result in
+    let fi = c.find_from_counted-i.ensures in
+    let on = fi.from in
+    let w = fi.within in
+    let more_y = c.look-y.ensures.count in
+    let more_x = c.look-x.ensures.count in
+    walked_few (λ k. IsWithin (covers (get_or ys k 0)) (has_leaf xs) → ⊥) xs ys _ c.loop-j.i j _ _ (i - c.loop-j.i) _
+    (v.walked lx ly) (omega arith) fi.looks (omega arith) (omega arith) (omega arith) (inl hj)
+
 pub returns-then-not-lies_in-clause-least : goal.returns-then-not-lies_in-clause-least
 returns-then-not-lies_in-clause-least g c hx hy =
     let more_y = c.look-y.ensures.count in
@@ -247,6 +282,17 @@ returns-clause-looks g c lx ly =
     let in_y = v.in_y in
     walked_last (λ k. IsWithin (covers (get_or ys k 0)) (has_leaf xs) → ⊥) xs ys _ c.loop-j.i c.loop-j.j _ _ 0 _
     (v.walked lx ly) (omega arith) (sought_none (g.K.Count.looks c.loop-j.count)) (omega arith) (omega arith)
+
+pub returns-clause-sizes : goal.returns-clause-sizes
+returns-clause-sizes g c lx ly =
+    let xs = g.X.Cells.ids c.args.xs.now in
+    let ys = g.Y.Cells.ids c.args.ys.now in
+    let v = c.loop-j.invariant in
+    let in_x = v.in_x in
+    let in_y = v.in_y in
+    walked_few (λ k. IsWithin (covers (get_or ys k 0)) (has_leaf xs) → ⊥) xs ys _ c.loop-j.i c.loop-j.j _ _ 0 _
+    (v.walked lx ly) (omega arith) (sought_none (g.K.Count.looks c.loop-j.count)) (omega arith) (omega arith)
+    (omega arith) (inr refl)
 
 pub returns-clause-least : goal.returns-clause-least
 returns-clause-least g c hx hy = let n = c.len-n.ensures in c.loop-j.invariant.some (omega arith)

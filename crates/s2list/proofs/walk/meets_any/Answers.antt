@@ -1,4 +1,4 @@
-use Rattle.std.proofs.Common.{◌≡◌, ◌+◌, ◌-◌, ◌<◌, ◌≤◌, length, get_or, refl, arith}
+use Rattle.std.proofs.Common.{◌≡◌, ◌+◌, ◌-◌, ◌<◌, ◌≤◌, length, get_or, refl, ap, arith, inl, inr}
 use Rattle.std.proofs.Math.Logic.{⊎_elim}
 use Rattle.std.proofs.lemmas.Bool.{cases_lt, false≢true}
 use Rattle.s2cell.specs.Cell.{IsCell, covers, first_leaf, size_of}
@@ -8,7 +8,7 @@ use Rattle.s2list.specs.Packed.{EndsAfter, FirstEndBy}
 use Rattle.s2list.proofs.Checking.{packed_from_local}
 use Rattle.s2list.proofs.Finding.{ended_to, shared_at}
 use Rattle.s2list.proofs.Asking.{ended_on, none_shares, part_shares}
-use Rattle.s2list.proofs.Looking.{sought_none, walked_last, walked_more, walked_none}
+use Rattle.s2list.proofs.Looking.{sought_none, walked_few, walked_last, walked_more, walked_none}
 use Rattle.s2list.proofs.Turns.{begun_before, meets_next, none_left, none_more}
 use Rattle.s2list.proofs.walk.meets_any.Goals as goal
 
@@ -19,6 +19,7 @@ loop-j-init g c = record {
   ended = λ lx ly h k l. absurd (omega arith);
   none = λ lx ly k l. absurd (omega arith);
   walked = λ lx ly. walked_none _ _ _ _ c.requires;
+  after = λ lx ly h. absurd (omega arith);
   some = λ h. absurd (omega arith);
 }
 
@@ -93,7 +94,28 @@ loop-j-preserved g c =
           (next - (j + 1)) i next (v.walked lx ly) (omega arith) hj
           (λ l h. none_more xs ys i j next lx ly fj.within placed passed (v.none lx ly) l (omega arith))
           (begun_before xs i (first_leaf (get_or ys j 0)) lx (omega arith)) (meets_next xs ys i next lx ly hi ends)
-          (omega arith) fi.looks (omega arith) fj.looks (omega arith);
+          (omega arith) fi.looks (omega arith) fj.looks (omega arith)
+          (λ h.
+          ⊎_elim
+          (λ (l : c.loop-j.i < i). l)
+          (λ (l : i ≤ c.loop-j.i).
+          let e : i ≡ c.loop-j.i = omega arith in
+          let same : first_leaf (get_or xs i 0) ≡ first_leaf (get_or xs c.loop-j.i 0) =
+          ap (λ k. first_leaf (get_or xs k 0)) e in
+          let b = v.after lx ly h hj in
+          absurd (omega arith))
+          (cases_lt c.loop-j.i i)) (omega arith);
+      after = λ lx ly _.
+          let cy : IsCell (get_or ys j 0) = ly.cells j 0 hj in
+          let hi : i < length xs = omega arith in
+          let cx : IsCell (get_or xs i 0) = lx.cells i 0 hi in
+          let start : c.first_of-begin.result ≡ first_leaf (get_or xs i 0) = rw c.look-x.ensures.id at
+          (c.first_of-begin.ensures (rw c.look-x.ensures.id cx)) in
+          let stop : c.end_of-end.result ≡ first_leaf (get_or ys j 0) + size_of (get_or ys j 0) =
+          rw c.look-y.ensures.id at (c.end_of-end.ensures (rw c.look-y.ensures.id cy)) in
+          let begun : FirstEndBy ys (j + 1) (first_leaf (get_or xs i 0)) =
+          ended_to ys j (first_leaf (get_or xs i 0)) (packed_from_local ys ly) hj (omega arith) in
+          rw start at (fj.next (packed_from_local ys ly) (rw start begun));
       some = λ _.
           let more_y = c.look-y.ensures.count in
           let more_x = c.look-x.ensures.count in
@@ -139,6 +161,23 @@ returns-then-i-m-clause-looks g c lx ly =
     walked_last (λ k. ShareSome (covers (get_or ys k 0)) (has_leaf xs)) xs ys _ c.loop-j.i j _ _ (i - c.loop-j.i) _
     (v.walked lx ly)
     (omega arith) fi.looks (omega arith) (omega arith)
+
+pub returns-then-i-m-clause-sizes : goal.returns-then-i-m-clause-sizes
+returns-then-i-m-clause-sizes g c lx ly =
+    let xs = g.X.Cells.ids c.args.xs.now in
+    let ys = g.Y.Cells.ids c.args.ys.now in
+    let m = c.len-m.ensures in
+    let n = c.len-n.ensures in
+    let v = c.loop-j.invariant in
+    let j = c.loop-j.j in
+    let hj : j < length ys = omega arith in
+    let i = c.find_from_counted-i.result in
+    let fi = c.find_from_counted-i.ensures in
+    let on = fi.from in
+    let w = fi.within in
+    let more_y = c.look-y.ensures.count in
+    walked_few (λ k. ShareSome (covers (get_or ys k 0)) (has_leaf xs)) xs ys _ c.loop-j.i j _ _ (i - c.loop-j.i) _
+    (v.walked lx ly) (omega arith) fi.looks (omega arith) (omega arith) (omega arith) (inl hj)
 
 pub returns-then-i-m-clause-least : goal.returns-then-i-m-clause-least
 returns-then-i-m-clause-least g c hx hy =
@@ -196,6 +235,24 @@ returns-then-begin-end-clause-looks g c lx ly =
     (v.walked lx ly)
     (omega arith) fi.looks (omega arith) (omega arith)
 
+pub returns-then-begin-end-clause-sizes : goal.returns-then-begin-end-clause-sizes
+returns-then-begin-end-clause-sizes g c lx ly =
+    let xs = g.X.Cells.ids c.args.xs.now in
+    let ys = g.Y.Cells.ids c.args.ys.now in
+    let m = c.len-m.ensures in
+    let n = c.len-n.ensures in
+    let v = c.loop-j.invariant in
+    let j = c.loop-j.j in
+    let hj : j < length ys = omega arith in
+    let i = c.find_from_counted-i.result in
+    let fi = c.find_from_counted-i.ensures in
+    let on = fi.from in
+    let w = fi.within in
+    let more_y = c.look-y.ensures.count in
+    let more_x = c.look-x.ensures.count in
+    walked_few (λ k. ShareSome (covers (get_or ys k 0)) (has_leaf xs)) xs ys _ c.loop-j.i j _ _ (i - c.loop-j.i) _
+    (v.walked lx ly) (omega arith) fi.looks (omega arith) (omega arith) (omega arith) (inl hj)
+
 pub returns-then-begin-end-clause-least : goal.returns-then-begin-end-clause-least
 returns-then-begin-end-clause-least g c hx hy =
     let more_y = c.look-y.ensures.count in
@@ -221,6 +278,17 @@ returns-clause-looks g c lx ly =
     walked_last (λ k. ShareSome (covers (get_or ys k 0)) (has_leaf xs)) xs ys _ c.loop-j.i c.loop-j.j _ _ 0 _
     (v.walked lx ly)
     (omega arith) (sought_none (g.K.Count.looks c.loop-j.count)) (omega arith) (omega arith)
+
+pub returns-clause-sizes : goal.returns-clause-sizes
+returns-clause-sizes g c lx ly =
+    let xs = g.X.Cells.ids c.args.xs.now in
+    let ys = g.Y.Cells.ids c.args.ys.now in
+    let v = c.loop-j.invariant in
+    let in_x = v.in_x in
+    let in_y = v.in_y in
+    walked_few (λ k. ShareSome (covers (get_or ys k 0)) (has_leaf xs)) xs ys _ c.loop-j.i c.loop-j.j _ _ 0 _
+    (v.walked lx ly) (omega arith) (sought_none (g.K.Count.looks c.loop-j.count)) (omega arith) (omega arith)
+    (omega arith) (inr refl)
 
 pub returns-clause-least : goal.returns-clause-least
 returns-clause-least g c hx hy = let n = c.len-n.ensures in c.loop-j.invariant.some (omega arith)

@@ -2,7 +2,7 @@ use Rattle.std.proofs.Common.{ℕ, ◌+◌, ◌-◌, ◌<◌, ◌≤◌, length,
 use Rattle.std.specs.Prelude.{slice_index}
 use Rattle.s2cell.specs.Cell.{covers, first_leaf}
 use Rattle.s2list.specs.Union.{IsLocal, ShareSome, has_leaf}
-use Rattle.s2list.specs.Packed.{FirstEndBy}
+use Rattle.s2list.specs.Packed.{EndsAfter, FirstEndBy}
 use Rattle.s2list.proofs.Looking.{Walked}
 use Rattle.s2list.proofs.walk.meets_any.Given as goal
 
@@ -18,6 +18,8 @@ invariant-loop-j g l = record {
       → Walked (λ k. ShareSome (covers (slice_index (g.Y.Cells.ids l.ys) k)) (has_leaf (g.X.Cells.ids l.xs)))
       (g.X.Cells.ids l.xs)
       (g.Y.Cells.ids l.ys) (g.K.Count.looks l.count) l.i l.j;
+  after : IsLocal (g.X.Cells.ids l.xs) → IsLocal (g.Y.Cells.ids l.ys) → 0 < l.j
+      → EndsAfter (g.Y.Cells.ids l.ys) l.j (first_leaf (slice_index (g.X.Cells.ids l.xs) l.i));
   some : 0 < l.i + l.j → min 2 g.K.Count.most ≤ g.K.Count.looks l.count;
 }
 

@@ -1,10 +1,14 @@
 use Rattle.std.proofs.Common.{arith}
 use Rattle.s2union.proofs.search.find_from_counted.Goals as goal
 
-pub overflow_add-looks : goal.overflow_add-looks
-overflow_add-looks c =
-    let f = c.leap_from-found.ensures in
-    let l = f.looks 64 (let w = f.within in let g = f.from in omega arith) in
-    let a = c.ends_by.ensures.looks in
-    let b = c.ends_by-2.ensures.looks in
-    omega arith
+pub returns-clause-ended : goal.returns-clause-ended
+returns-clause-ended c = c.find_from_counted-at.ensures.ended c.requires.packed c.requires.ended
+
+pub returns-clause-next : goal.returns-clause-next
+returns-clause-next c = c.find_from_counted-at.ensures.next c.requires.packed c.requires.ended
+
+pub returns-clause-looks : goal.returns-clause-looks
+returns-clause-looks c k h = let l = c.find_from_counted-at.ensures.looks k h in omega arith
+
+pub returns-clause-least : goal.returns-clause-least
+returns-clause-least c = let l = c.find_from_counted-at.ensures.least in omega arith

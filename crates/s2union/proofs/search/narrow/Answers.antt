@@ -1,12 +1,12 @@
 use Rattle.std.proofs.Common.{arith}
 use Rattle.s2list.proofs.Galloping.{seeking_all}
-use Rattle.s2union.proofs.Looking.{left_all, left_quarter}
+use Rattle.s2list.proofs.Looking.{quartered_all, quartered_more}
 use Rattle.s2union.proofs.search.narrow.Goals as goal
 
 pub loop-size-init : goal.loop-size-init
 loop-size-init c = record {
   seeking = seeking_all c.args.cells.now c.args.mark c.args.low c.args.high c.requires.brackets;
-  left = λ k h. left_all _ c.args.before k h;
+  left = λ k h. quartered_all _ c.args.before k h;
 }
 
 pub quarter-base-requires-clause-brackets : goal.quarter-base-requires-clause-brackets
@@ -21,7 +21,7 @@ loop-size-preserved c =
     let on = c.quarter-base.ensures.from in
     record {
       seeking = record { from = omega arith; brackets = c.quarter-base.ensures.brackets };
-      left = λ k h. left_quarter c.loop-size.size c.args.before c.loop-size.looks _ k c.loop-size-test.true
+      left = λ k h. quartered_more c.loop-size.size c.args.before c.loop-size.looks _ k c.loop-size-test.true
           (c.loop-size.invariant.left k h)
           (omega arith);
     }
