@@ -76,7 +76,8 @@ pub record Leapt (before looks far : ℕ) : Type 0 where
   pub got : 2 ^ (2 * leaps + 1) ≡ far
 
 pub leapt_two : (before far : ℕ) → far ≡ 2 → Leapt before before far
-leapt_two before far e = let g : 2 ^ (2 * 0 + 1) ≡ 2 = refl in record { leaps = 0; paid = omega arith; got = omega arith }
+leapt_two before far e = let g : 2 ^ (2 * 0 + 1) ≡ 2 = refl in
+    record { leaps = 0; paid = omega arith; got = omega arith }
 
 pub leapt_more : (before looks more far leap next : ℕ) → Leapt before looks far → more ≤ looks + 1
     → leap ≡ 3 * far → next ≡ far + leap → Leapt before more next

@@ -34,7 +34,8 @@ run_shares u c start count end r e k d l =
     let w = r.within in
     let len = run_len u start end (omega arith) in
     let at = start + k in
-    let is : get_or (run u start end) k d ≡ get_or u at 0 = run_at u start end k d (omega arith) ∙ grind (arith, gets) in
+    let is : get_or (run u start end) k d ≡ get_or u at 0 = run_at u start end k d (omega arith)
+    ∙ grind (arith, gets) in
     rw is (swapped (covers c) (covers (get_or u at 0)) ((r.members at (omega arith)).0 (omega arith, omega arith)))
 
 pub run_leaves : (u : List ℕ) (c start count end : ℕ) → IsRunAt u c start count → end ≡ start + count →

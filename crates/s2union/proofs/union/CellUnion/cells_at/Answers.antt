@@ -9,7 +9,8 @@ returns-clause-leaves c x h =
     let v = c.list.ensures.value in
     let run : IsRunAt c.args.self.now.cells c.args.cell c.cells_at-start.result.0 c.cells_at-start.result.1 =
     rw v at (c.cells_at-start.ensures.run (rw v c.list.ensures.local)) in
-    run_leaves c.cells.result.now c.args.cell c.cells_at-start.result.0 c.cells_at-start.result.1 _ (rw c.cells.ensures.value run) refl x h
+    run_leaves c.cells.result.now c.args.cell c.cells_at-start.result.0 c.cells_at-start.result.1 _
+    (rw c.cells.ensures.value run) refl x h
     ∙ ap (λ u. has_leaf u x) c.cells.ensures.value
 
 pub returns-clause-sharing : goal.returns-clause-sharing
@@ -17,7 +18,8 @@ returns-clause-sharing c =
     let v = c.list.ensures.value in
     let run : IsRunAt c.args.self.now.cells c.args.cell c.cells_at-start.result.0 c.cells_at-start.result.1 =
     rw v at (c.cells_at-start.ensures.run (rw v c.list.ensures.local)) in
-    run_shares c.cells.result.now c.args.cell c.cells_at-start.result.0 c.cells_at-start.result.1 _ (rw c.cells.ensures.value run) refl
+    run_shares c.cells.result.now c.args.cell c.cells_at-start.result.0 c.cells_at-start.result.1 _
+    (rw c.cells.ensures.value run) refl
 
 pub returns-clause-cells : goal.returns-clause-cells
 returns-clause-cells c =
