@@ -5,7 +5,7 @@ use Rattle.std.proofs.Math.Nat.{div-one}
 use Rattle.std.proofs.lemmas.Nat.{pow-add, mod_below}
 use Rattle.s2cell.specs.Cell.{IsCell, IsCellAt, level_of, place_of, face_of, child_of}
 use Rattle.s2cell.specs.Curve.{At, orientation_after, quadrant, turn, i_within, j_within}
-use Rattle.s2cell.specs.Entries.{IsPlaceEntry, held}
+use Rattle.s2cell.specs.Working.Entries.{IsPlaceEntry, held}
 use Rattle.s2cell.specs.Square.{IsSquareOf, IsPlaced, orientation_of}
 use Rattle.s2cell.proofs.CellLemmas.{four_pos, level_of_cell, place_of_cell}
 use Rattle.s2cell.proofs.Calls.{IsCellAt-child_of, IsCell-child_of}

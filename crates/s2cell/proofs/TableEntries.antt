@@ -6,7 +6,7 @@ use Rattle.std.proofs.lemmas.Nat.{pow_pos, mod_below, div-add-mod'}
 use Rattle.std.proofs.lemmas.Bool.{and_parts}
 use Rattle.s2cell.specs.declared.tables.TheConstants.{PLACE_STEPS, LEAF_STEPS, PLACES, LEAVES}
 use Rattle.s2cell.specs.Curve.{At, orientation_after, quadrant, quadrants, turn}
-use Rattle.s2cell.specs.Entries.{IsPlaceEntry, IsLeafEntry, held}
+use Rattle.s2cell.specs.Working.Entries.{IsPlaceEntry, IsLeafEntry, held}
 use Rattle.s2cell.proofs.CellLemmas.{four_pos}
 use Rattle.s2cell.proofs.Quadrants.{four_cases}
 use Rattle.s2cell.proofs.Levels.{at_bounds}

@@ -6,7 +6,7 @@ use Rattle.std.proofs.Math.Nat.{div-div-eq-div-mul, div-eq_of_lt, div-one, pow-l
 use Rattle.std.proofs.lemmas.Nat.{pow-add, div-add-mod'}
 use Rattle.std.proofs.lemmas.Bool.{cases_lt}
 use Rattle.s2cell.specs.Curve.{At, orientation_after, quadrant, turn}
-use Rattle.s2cell.specs.Entries.{IsPlaceEntry, IsLeafEntry, fours, held}
+use Rattle.s2cell.specs.Working.Entries.{IsPlaceEntry, IsLeafEntry, fours, held}
 use Rattle.s2cell.proofs.Quadrants.{turn_keeps}
 use Rattle.s2cell.proofs.Levels.{at_bounds, at_step, at_join, orientation_join, orientation_below}
 

@@ -6,7 +6,7 @@
 //! to other orientations.
 
 ghost use Rattle.std.specs.Prelude.{◌≡◌, ◌/◌, ◌%◌, ◌<◌};
-ghost use Rattle.s2cell.specs.Entries.{IsPlaceEntry, IsLeafEntry, held};
+ghost use Rattle.s2cell.specs.Working.Entries.{IsPlaceEntry, IsLeafEntry, held};
 
 /// The entry for an orientation and a digit: its quadrant, as `2 * (half in i) + (half in j)`. `shift` is sixteen times
 /// the orientation.

@@ -25,7 +25,7 @@
 
 ghost use Rattle.std.specs.Prelude.{◌≡◌, ◌+◌, ◌-◌, ◌*◌, ◌/◌, ◌%◌, ◌^◌, ◌<◌};
 ghost use Rattle.s2cell.specs.Curve.{At};
-ghost use Rattle.s2cell.specs.Entries.{fours};
+ghost use Rattle.s2cell.specs.Working.Entries.{fours};
 
 use crate::{FACE_LEAVES, SIDE, tables};
 

@@ -4,7 +4,7 @@ use Rattle.std.proofs.Common.{[], length, Result, IfErr, refl, sym, ◌∙◌, a
 use Rattle.std.proofs.lemmas.Bool.{both_ways}
 use Rattle.std.proofs.Math.Nat.{div-one}
 use Rattle.s2cell.proofs.Squares.{covers_block}
-use Rattle.s2cover.specs.Descent.{depth_of, form_in, IsAligned}
+use Rattle.s2cover.specs.Working.Descent.{depth_of, form_in, IsAligned}
 use Rattle.s2cover.specs.Rectangles.{Rect, rect_set}
 use Rattle.s2cover.proofs.Rectangles.{in_rect_from}
 use Rattle.s2cover.proofs.Formed.{formed}

@@ -19,7 +19,8 @@ use Rattle.s2list.proofs.Normal.{parent_of_child, normal_form_same, one_normal_f
 use Rattle.s2list.proofs.Tiling.{none_between}
 use Rattle.s2list.proofs.Picking.{picked_normal}
 use Rattle.s2cover.specs.Coverings.{filled, touched, outer_set, inner_set}
-use Rattle.s2cover.specs.Descent.{blocks, covering_set, form_faces, form_in, form, joined, cell_at, depth_of, IsAligned}
+use Rattle.s2cover.specs.Working.Descent.{blocks, covering_set, form_faces, form_in, form, joined, cell_at, depth_of}
+use Rattle.s2cover.specs.Working.Descent.{IsAligned}
 use Rattle.s2cell.specs.declared.TheConstants.{LEAVES}
 use Rattle.s2cover.proofs.Runs.{filled_each, filled_from, block_here}
 use Rattle.s2cover.proofs.Forms.{form_whole, joined_more, joined_grows}

@@ -6,7 +6,7 @@ use Rattle.std.proofs.lemmas.Bool.{cases_lt, cond-true, cond-false}
 use Rattle.std.proofs.Math.Nat.{pow-suc, mul-le-mul_right}
 use Rattle.s2cell.proofs.CellLemmas.{four_pos}
 use Rattle.s2cover.specs.Coverings.{filled}
-use Rattle.s2cover.specs.Descent.{form, joined, cell_at}
+use Rattle.s2cover.specs.Working.Descent.{form, joined, cell_at}
 use Rattle.s2cover.proofs.Runs.{filled_add, not_filled}
 
 -- a cell inside the set

@@ -18,7 +18,7 @@ use Rattle.s2list.proofs.Normal.{all_held, holder, family, leaf_to, normal_form_
 use Rattle.std.proofs.lemmas.Result.{IfOk-weaker, IfErr-weaker}
 use Rattle.std.specs.List.{list_any}
 use Rattle.s2cover.specs.Coverings.{touched, outer_set, inner_set, IsInOuter, IsInInner}
-use Rattle.s2cover.specs.Cut.{reaches, cut_at, cells_cut, cells_kept}
+use Rattle.s2cover.specs.Working.Cut.{reaches, cut_at, cells_cut, cells_kept}
 use Rattle.s2cell.specs.declared.TheConstants.{LEAVES}
 use Rattle.s2cover.proofs.Runs.{touched_from_none}
 use Rattle.s2cover.proofs.Squares.{same_bool}

@@ -9,7 +9,7 @@ use Rattle.s2cell.proofs.Places.{place_is}
 use Rattle.s2cell.proofs.Squares.{in_block, block_of}
 use Rattle.s2cell.proofs.CellLemmas.{four_pos}
 use Rattle.s2cover.specs.Coverings.{touched, outer_set, inner_set}
-use Rattle.s2cover.specs.Descent.{blocks, IsAligned}
+use Rattle.s2cover.specs.Working.Descent.{blocks, IsAligned}
 use Rattle.s2cover.specs.Rectangles.{Rect, IsRect, rect_set}
 use Rattle.s2cell.specs.declared.TheConstants.{LEAVES}
 use Rattle.s2cover.proofs.Runs.{filled_each, filled_from, touched_none, block_here}

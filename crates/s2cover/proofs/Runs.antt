@@ -7,7 +7,7 @@ use Rattle.std.proofs.lemmas.Nat.{div-add-mod', mod_below, pow-add}
 use Rattle.std.proofs.Math.Nat.{mul-le-mul_right, div-eq_of_lt-le, add-suc}
 use Rattle.s2cell.proofs.CellLemmas.{four_pos}
 use Rattle.s2cover.specs.Coverings.{filled, touched}
-use Rattle.s2cover.specs.Descent.{blocks}
+use Rattle.s2cover.specs.Working.Descent.{blocks}
 
 pub filled_each : (S : ℕ → Bool) (lo n : ℕ) → filled S lo n ≡ true → (x : ℕ) → lo ≤ x → x < lo + n → S x ≡ true
 unfolding filled

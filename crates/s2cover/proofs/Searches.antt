@@ -8,7 +8,7 @@ use Rattle.std.proofs.lemmas.Nat.{div-add-mod', mod_below}
 use Rattle.std.proofs.Math.Nat.{pow-suc, mul-le-mul_right}
 use Rattle.s2cell.proofs.CellLemmas.{four_pos}
 use Rattle.s2cover.specs.Coverings.{filled}
-use Rattle.s2cover.specs.Descent.{form, joined, cell_at, depth_of, IsAligned}
+use Rattle.s2cover.specs.Working.Descent.{form, joined, cell_at, depth_of, IsAligned}
 use Rattle.s2cover.proofs.Runs.{filled_each, filled_from, block_here}
 use Rattle.s2cover.proofs.Visits.{list_next, leaf_at, child_at}
 use Rattle.s2cell.specs.Cell.{IsCell, place_of, covers, child_of}

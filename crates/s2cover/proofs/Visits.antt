@@ -7,7 +7,7 @@ use Rattle.std.proofs.lemmas.Result.{IfOk-weaker, IfErr-weaker}
 use Rattle.std.proofs.Math.Seq.{take-append_seam}
 use Rattle.std.proofs.Math.Nat.{pow-suc, mul-le-mul_right}
 use Rattle.s2cover.specs.Coverings.{filled, touched}
-use Rattle.s2cover.specs.Descent.{blocks, form, joined, cell_at, depth_of}
+use Rattle.s2cover.specs.Working.Descent.{blocks, form, joined, cell_at, depth_of}
 use Rattle.s2cell.specs.Cell.{IsCell, level_of, place_of, size_of, first_leaf, covers, child_of}
 use Rattle.s2cell.proofs.CellLemmas.{four_pos, own_place, level_of_cell, place_of_cell}
 use Rattle.s2cell.proofs.Calls.{IsCellAt-child_of, IsCell-child_of}

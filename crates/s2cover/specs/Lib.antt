@@ -1,4 +1,3 @@
 pub mod Coverings
-pub mod Cut
-pub mod Descent
 pub mod Rectangles
+pub mod Working

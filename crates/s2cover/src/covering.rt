@@ -4,7 +4,7 @@ ghost use Rattle.std.specs.Prelude.{vec_len, IfOk, IfErr};
 ghost use Rattle.s2cell.specs.Cell.{IsCell};
 ghost use Rattle.s2list.specs.Union.{IsLocal, IsNormalForm};
 ghost use Rattle.s2cover.specs.Coverings.{HasLeavesOf, IsInInner, IsInOuter, TooManyMeans, inner_set, outer_set};
-ghost use Rattle.s2cover.specs.Descent.{covering_set, is_outer};
+ghost use Rattle.s2cover.specs.Working.Descent.{covering_set, is_outer};
 
 use crate::MOST_CELLS;
 use crate::descent::{Kind, visit};

@@ -2,7 +2,7 @@
 ghost use Rattle.std.specs.Prelude.{◌≡◌, ◌<◌, ◌≤◌, length, IfOk, IfErr};
 ghost use Rattle.s2list.specs.Union.{has_leaf, IsLocal, IsNormalForm};
 ghost use Rattle.s2cover.specs.Coverings.{HasLeavesOf, TooManyMeans, inner_set, outer_set};
-ghost use Rattle.s2cover.specs.Cut.{cells_cut, cells_kept, cut_at};
+ghost use Rattle.s2cover.specs.Working.Cut.{cells_cut, cells_kept, cut_at};
 
 use crate::region::CoverFault;
 use s2cell::{CellId, GREATEST_LEVEL};

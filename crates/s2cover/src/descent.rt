@@ -4,7 +4,7 @@ ghost use Rattle.std.specs.Prelude.{◌++◌, ◌∷◌, [], length, vec_len, If
 ghost use Rattle.s2cell.specs.Cell.{level_of, place_of};
 ghost use Rattle.s2cell.specs.Square.{IsPlacedCell};
 ghost use Rattle.s2cover.specs.Coverings.{filled};
-ghost use Rattle.s2cover.specs.Descent.{blocks, depth_of, filled_in, form_in, is_outer};
+ghost use Rattle.s2cover.specs.Working.Descent.{blocks, depth_of, filled_in, form_in, is_outer};
 
 use crate::MOST_CELLS;
 use crate::region::{CoverFault, Part, Region};

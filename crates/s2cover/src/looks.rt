@@ -5,7 +5,7 @@ ghost use Rattle.s2cell.specs.Cell.{level_of};
 ghost use Rattle.s2list.specs.Union.{LiesIn};
 ghost use Rattle.s2cell.specs.Square.{IsPlacedCell, IsSquareOf};
 ghost use Rattle.s2cover.specs.Coverings.{LiesOutside};
-ghost use Rattle.s2cover.specs.Descent.{IsAligned, depth_of, form_in};
+ghost use Rattle.s2cover.specs.Working.Descent.{IsAligned, depth_of, form_in};
 ghost use Rattle.s2cover.specs.Rectangles.{rect_set};
 
 use crate::MOST_CELLS;

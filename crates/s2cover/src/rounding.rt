@@ -2,7 +2,7 @@
 ghost use Rattle.std.specs.Prelude.{◌≡◌, ◌+◌, ◌-◌, ◌*◌, ◌/◌, ◌^◌, ◌<◌, ◌≤◌, ℕ, true, false, IfSome};
 ghost use Rattle.std.specs.Prelude.{None};
 ghost use Rattle.s2cover.specs.Coverings.{inner_set, outer_set};
-ghost use Rattle.s2cover.specs.Descent.{IsAligned};
+ghost use Rattle.s2cover.specs.Working.Descent.{IsAligned};
 ghost use Rattle.s2cover.specs.Rectangles.{rect_set};
 
 use crate::rect::FaceRect;

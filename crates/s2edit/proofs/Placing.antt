@@ -8,7 +8,8 @@ use Rattle.s2cell.specs.Cell.{first_leaf, size_of, covers}
 use Rattle.s2cell.proofs.CellLemmas.{cell_leaves}
 use Rattle.s2cell.proofs.Leaves.{covers_from}
 use Rattle.s2list.specs.Union.{IsLocal}
-use Rattle.s2list.specs.Packed.{EndsAt, EndsAfter, FirstEndBy, IsPlace}
+use Rattle.s2list.specs.Working.Packed.{EndsAt}
+use Rattle.s2list.specs.Packed.{EndsAfter, FirstEndBy, IsPlace}
 use Rattle.s2list.proofs.Checking.{packed_from_local}
 use Rattle.s2list.proofs.Galloping.{Seeking, Look, seeking_quarter}
 

@@ -9,7 +9,7 @@ use Rattle.s2cell.proofs.Calls.{fits_u64}
 use Rattle.s2file.specs.File.{first_number, number_text}
 use Rattle.s2file.specs.Session.{Moved, Content, list_text, move_text, moves_text, parts_text, IsRegisterList}
 use Rattle.s2file.specs.Session.{IsChangeList, IsMoved, IsContent}
-use Rattle.s2file.specs.SessionParts.{Begins, IsNumber, AreCells, AreMoves, AreRegisters, registers_text}
+use Rattle.s2file.specs.Working.SessionParts.{Begins, IsNumber, AreCells, AreMoves, AreRegisters, registers_text}
 use Rattle.s2file.proofs.Numbers.{first_number-number_text, length-number_text}
 
 -- two values at the front of the same bytes are one, and the same bytes follow

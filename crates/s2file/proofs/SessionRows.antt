@@ -6,8 +6,8 @@ use Rattle.std.specs.List.{AllByRecursion}
 use Rattle.s2file.specs.File.{number_text}
 use Rattle.s2file.specs.Session.{Moved, Content, list_text, move_text, moves_text, parts_text}
 use Rattle.s2file.specs.Session.{IsRegisterList, IsMoved, IsContent, IsSessionFile}
-use Rattle.s2file.specs.SessionParts.{Begins, BeginsNone, IsNumber, AreCells, AreMoves, AreRegisters, IsRow}
-use Rattle.s2file.specs.SessionParts.{registers_text, row_text}
+use Rattle.s2file.specs.Working.SessionParts.{Begins, BeginsNone, IsNumber, AreCells, AreMoves, AreRegisters, IsRow}
+use Rattle.s2file.specs.Working.SessionParts.{registers_text, row_text}
 use Rattle.s2file.specs.declared.TheConstants.{SESSION_REGISTERS, SESSION_CHANGES}
 use Rattle.s2file.proofs.Fronts.{one_number, one_list, one_move, one_moves, one_registers, one_register}
 use Rattle.s2file.proofs.Fronts.{no_more, same_move, after_byte, change_cells, move_front, moves_count, Parts}

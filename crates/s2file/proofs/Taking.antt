@@ -6,7 +6,7 @@ use Rattle.std.proofs.lemmas.Grind.{flat_map-append}
 use Rattle.std.proofs.KnownBytes.{Consumes-nil, Consumes-trans}
 use Rattle.std.specs.Io.KnownBytes.{Consumes, IsAtEnd, Keeps, prepend_known}
 use Rattle.std.specs.List.{AllByRecursion}
-use Rattle.s2file.specs.SessionParts.{Refuses, Takes}
+use Rattle.s2file.specs.Working.SessionParts.{Refuses, Takes}
 use Rattle.s2file.specs.declared.session.ReadFault.{ReadFault}
 use Rattle.s2file.proofs.SessionReading.{refuses}
 

@@ -7,8 +7,8 @@ use Rattle.std.specs.List.{AllByRecursion}
 use Rattle.s2list.specs.Union.{IsLocal}
 use Rattle.s2file.specs.File.{number_text}
 use Rattle.s2file.specs.Session.{Moved, list_text, move_text, moves_text, IsRegisterList, IsMoved}
-use Rattle.s2file.specs.SessionParts.{BeginsNone, Refuses, Takes, Lacks, IsByte, IsNumber, AreCells, AreMoves}
-use Rattle.s2file.specs.SessionParts.{AreRegisters, IsRow, byte_text, registers_text, row_text}
+use Rattle.s2file.specs.Working.SessionParts.{BeginsNone, Refuses, Takes, Lacks, IsByte, IsNumber, AreCells, AreMoves}
+use Rattle.s2file.specs.Working.SessionParts.{AreRegisters, IsRow, byte_text, registers_text, row_text}
 use Rattle.s2file.specs.declared.TheConstants.{SESSION_REGISTERS, SESSION_CHANGES}
 use Rattle.s2file.specs.declared.session.ReadFault.{ReadFault}
 use Rattle.s2file.proofs.SessionReading.{register_unmerged}

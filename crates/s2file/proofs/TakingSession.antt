@@ -9,8 +9,9 @@ use Rattle.std.specs.Prelude.{MatchResult}
 use Rattle.std.specs.Option.{option_map}
 use Rattle.s2file.specs.Session.{Moved, Content, content_of, moves_text, IsContent, IsSessionFile}
 use Rattle.s2file.specs.Session.{IsUnionFile, Spells}
-use Rattle.s2file.specs.SessionParts.{BeginsNone, Refuses, Takes, Lacks, AreMoves, AreRegisters, registers_text}
-use Rattle.s2file.specs.Reading.{Finds, RefusesToRead}
+use Rattle.s2file.specs.Working.SessionParts.{BeginsNone, Refuses, Takes, Lacks, AreMoves, AreRegisters, registers_text}
+use Rattle.s2file.specs.Working.Reading.{Finds}
+use Rattle.s2file.specs.Reading.{RefusesToRead}
 use Rattle.s2file.specs.declared.TheConstants.{SESSION_CHANGES}
 use Rattle.s2file.specs.declared.union_file.TheConstants.{MOST_SIZE}
 use Rattle.s2file.specs.declared.session.Session.{Session}

@@ -1,5 +1,5 @@
 pub mod File
 pub mod Session
 pub mod SessionParts
-pub mod Source
 pub mod Reading
+pub mod Working

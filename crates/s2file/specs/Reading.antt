@@ -1,10 +1,7 @@
 -- What the reading of a session answers.
-use Rattle.std.specs.Prelude.{ℕ, List, IfSome, MatchResult}
+use Rattle.std.specs.Prelude.{ℕ, List, IfSome}
 use Rattle.std.specs.declared.option.Option.{Option}
-use Rattle.std.specs.declared.result.Result.{Result}
-use Rattle.s2file.specs.Session.{Content, content_of, IsContent, Spells}
-use Rattle.s2file.specs.SessionParts.{Refuses}
-use Rattle.s2file.specs.declared.session.Session.{Session}
+use Rattle.s2file.specs.Session.{Content, Spells}
 use Rattle.s2file.specs.declared.session.ReadFault.{ReadFault}
 use Rattle.s2file.specs.declared.session.ReadFault.TheVariants.{Form, Device, Memory}
 
@@ -14,10 +11,3 @@ abbrev pub RefusesToRead : ReadFault → Option (List ℕ) → Type 0
 RefusesToRead Form ahead = IfSome ahead (λ bytes. (s : Content) → Spells bytes s → ⊥)
 RefusesToRead Device ahead = Unit {0}
 RefusesToRead Memory ahead = Unit {0}
-
--- the session is one that a file may hold, and the bytes, where they are known, are of it; `Form` says that they are of
--- none
-abbrev pub Finds : (List ℕ → Content → Type 0) → Option (List ℕ) → Result Session ReadFault → Type 0
-Finds IsOf ahead answer = MatchResult answer
-    (λ session. IsContent (content_of session) × IfSome ahead (λ bytes. IsOf bytes (content_of session)))
-    (λ fault. Refuses fault (IfSome ahead (λ bytes. (s : Content) → IsOf bytes s → ⊥)))

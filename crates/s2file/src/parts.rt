@@ -7,11 +7,13 @@ ghost use Rattle.s2cell.specs.Cell.{IsCell};
 ghost use Rattle.s2list.specs.Union.{Union};
 ghost use Rattle.s2file.specs.File.{number_text};
 ghost use Rattle.s2file.specs.Session.{list_text, move_text, moves_text, moved_of, AreApart, IsMoved, IsRegisterList};
-ghost use Rattle.s2file.specs.SessionParts.{Begins, Reads, Refuses, AreCells, AreCounted, AreMoves, AreRegisters};
-ghost use Rattle.s2file.specs.SessionParts.{IsRow};
-ghost use Rattle.s2file.specs.SessionParts.{registers_text, row_text, byte_text, identifiers_text, IsByte, IsNumber};
-ghost use Rattle.s2file.specs.SessionParts.{SpellsMore, SpellsWrong};
-ghost use Rattle.s2file.specs.Source.{ahead};
+ghost use Rattle.s2file.specs.Working.SessionParts.{Begins, Reads, Refuses, AreCells, AreCounted, AreMoves};
+ghost use Rattle.s2file.specs.Working.SessionParts.{AreRegisters};
+ghost use Rattle.s2file.specs.Working.SessionParts.{IsRow};
+ghost use Rattle.s2file.specs.Working.SessionParts.{registers_text, row_text, byte_text, identifiers_text, IsByte};
+ghost use Rattle.s2file.specs.Working.SessionParts.{IsNumber};
+ghost use Rattle.s2file.specs.Working.SessionParts.{SpellsMore, SpellsWrong};
+ghost use Rattle.s2file.specs.Working.Source.{ahead};
 
 use crate::session::{Move, ReadFault};
 use crate::source::Buffer;

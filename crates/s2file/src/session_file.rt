@@ -6,9 +6,10 @@ ghost use Rattle.s2list.specs.Union.{Union};
 ghost use Rattle.s2file.specs.Session.{Content, content_of, content_of_parts, content_of_list, list_text, move_text};
 ghost use Rattle.s2file.specs.Session.{moves_text, moved_of, session_text, IsContent, IsSessionFile, IsUnionFile};
 ghost use Rattle.s2file.specs.Session.{Spells};
-ghost use Rattle.s2file.specs.SessionParts.{Refuses, registers_text};
-ghost use Rattle.s2file.specs.Source.{ahead};
-ghost use Rattle.s2file.specs.Reading.{Finds, RefusesToRead};
+ghost use Rattle.s2file.specs.Working.SessionParts.{Refuses, registers_text};
+ghost use Rattle.s2file.specs.Working.Source.{ahead};
+ghost use Rattle.s2file.specs.Working.Reading.{Finds};
+ghost use Rattle.s2file.specs.Reading.{RefusesToRead};
 
 use crate::fault::FileFault;
 use crate::parts::{byte_at, moves_at, registers_at};

@@ -25,7 +25,7 @@ pub(crate) struct Buffer {
 }
 
 impl Buffer {
-    ghost use Rattle.s2file.specs.Source.{ahead, held, room};
+    ghost use Rattle.s2file.specs.Working.Source.{ahead, held, room};
 
     /// An empty buffer for one piece.
     pub(crate) fn new(alloc: Global) -> Result<Buffer, ReadFault>

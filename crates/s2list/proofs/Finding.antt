@@ -9,7 +9,7 @@ use Rattle.s2cell.proofs.Leaves.{Within, covers_there, covers_from}
 use Rattle.s2list.specs.Union.{has_leaf, IsLocal, IsWithin, ShareSome}
 use Rattle.std.specs.List.Sorted.{IsStrictlyIncreasing}
 use Rattle.s2list.specs.Packed.{IsPacked, FirstEndBy}
-use Rattle.s2list.specs.Search.{Brackets}
+use Rattle.s2list.specs.Working.Search.{Brackets}
 use Rattle.s2list.proofs.Normal.{holder, family, all_held, leaf_to}
 use Rattle.s2list.proofs.PackedLocal.{place, local_from_packed}
 use Rattle.s2list.proofs.Checking.{packed_from_local, member_at}

@@ -15,7 +15,8 @@ use Rattle.s2cell.specs.Cell.{IsCell, level_of, size_of, first_leaf, covers, chi
 use Rattle.s2cell.proofs.CellLemmas.{cell_leaves}
 use Rattle.s2cell.proofs.Calls.{child_leaves, IsCell-child_of}
 use Rattle.s2list.specs.Union.{has_leaf}
-use Rattle.s2list.specs.Packed.{EndsBefore, IsFamily, IsPacked, Merges}
+use Rattle.s2list.specs.Packed.{EndsBefore, IsFamily, IsPacked}
+use Rattle.s2list.specs.Working.Packed.{Merges}
 use Rattle.s2cell.proofs.Family.{level_of_child}
 use Rattle.s2list.proofs.Normal.{parent_of_child}
 

@@ -6,7 +6,8 @@ use Rattle.std.proofs.lemmas.Bool.{cases_lt, false≢true}
 use Rattle.std.proofs.lemmas.Bool.Decides.{nat_tests}
 use Rattle.s2cell.specs.Cell.{size_of, first_leaf}
 use Rattle.s2cell.proofs.Leaves.{covers_there}
-use Rattle.s2list.specs.Union.{has_leaf, between, EndsBy}
+use Rattle.s2list.specs.Union.{has_leaf, between}
+use Rattle.s2list.specs.Working.Union.{EndsBy}
 use Rattle.s2list.specs.Packed.{IsPacked, FirstEndBy}
 use Rattle.s2list.proofs.Normal.{leaf_to, leaf_from}
 use Rattle.s2list.proofs.PackedLocal.{place}

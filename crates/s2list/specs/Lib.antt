@@ -4,3 +4,4 @@ pub mod Count
 pub mod Sets
 pub mod Search
 pub mod Looks
+pub mod Working

@@ -1,8 +1,7 @@
 -- A list of cells while it is being put together.
-use Rattle.std.specs.Prelude.{◌≡◌, ℕ, ◌+◌, ◌-◌, ◌<◌, ◌≤◌, ◌||◌, List, [], ◌∷◌, ◌++◌, length}
-use Rattle.std.specs.Prelude.{take, All, AllPairs, slice_index}
-use Rattle.s2cell.specs.Cell.{IsCell, level_of, first_leaf, size_of, covers, child_of}
-use Rattle.s2list.specs.Union.{has_leaf, between, IsNormalForm}
+use Rattle.std.specs.Prelude.{◌≡◌, ℕ, ◌+◌, ◌<◌, ◌≤◌, List, length}
+use Rattle.std.specs.Prelude.{All, AllPairs, slice_index}
+use Rattle.s2cell.specs.Cell.{IsCell, level_of, first_leaf, size_of, child_of}
 
 -- all leaves of `a` come before those of `b`
 abbrev pub EndsBefore : ℕ → ℕ → Type 0
@@ -24,19 +23,6 @@ pub record IsPacked (u : List ℕ) : Type 0 where
   pub unmerged : (k p : ℕ) → k + 3 < length u →
       IsFamily (slice_index u k) (slice_index u (k + 1)) (slice_index u (k + 2)) (slice_index u (k + 3)) p → ⊥
 
--- the first `kept` cells of `front`, followed by `merged`, are packed, and have the leaves of `front` and `cell`
-pub record Merges (front : List ℕ) (cell kept merged : ℕ) : Type 0 where
-  pub within : kept ≤ length front
-  pub packed : IsPacked (take kept front ++ merged ∷ [])
-  pub leaves : (x : ℕ) → (has_leaf (take kept front) x || covers merged x) ≡ (has_leaf front x || covers cell x)
-  pub start : first_leaf merged ≤ first_leaf cell
-
--- the last three cells of `list`, or all if it has fewer, are the cells of `cells` just before the place `i`
-pub record Continues (list cells : List ℕ) (i : ℕ) : Type 0 where
-  pub within : (k : ℕ) → length list ≤ k + 3 → k < length list → length list ≤ k + i
-  pub same : (k : ℕ) → length list ≤ k + 3 → k < length list →
-      slice_index list k ≡ slice_index cells (k + i - length list)
-
 -- the first `n` cells of `u` end by the leaf `lo`
 abbrev pub FirstEndBy : List ℕ → ℕ → ℕ → Type 0
 FirstEndBy u n lo = (k : ℕ) → k < n → first_leaf (slice_index u k) + size_of (slice_index u k) ≤ lo
@@ -50,14 +36,3 @@ pub record IsPlace (u : List ℕ) (lo at : ℕ) : Type 0 where
   pub within : at ≤ length u
   pub ended : FirstEndBy u at lo
   pub next : EndsAfter u at lo
-
--- there is a cell at the place `at` of `u`, and it ends by the leaf `lo`
-abbrev pub EndsAt : List ℕ → ℕ → ℕ → Type 0
-EndsAt u at lo = (at < length u) × (first_leaf (slice_index u at) + size_of (slice_index u at) ≤ lo)
-
--- `new` is `old`, and then the normal form of the leaves from `lo` to before `hi`
-pub record FillsGap (old new : List ℕ) (lo hi : ℕ) : Type 0 where
-  pub tiles : List ℕ
-  pub is : new ≡ old ++ tiles
-  pub normal : IsNormalForm (between lo hi) tiles
-  pub leaves : (x : ℕ) → has_leaf tiles x ≡ between lo hi x

@@ -1,8 +1,5 @@
 -- The sets of leaves that the set operations make.
-use Rattle.std.specs.Prelude.{◌≡◌, ◌≤◌, ◌<◌, ℕ, Bool, ◌||◌, ◌&&◌, not, List, take, All, AllPairs, slice_index}
-use Rattle.s2cell.specs.Cell.{covers}
-use Rattle.s2list.specs.Union.{has_leaf, IsGreatestIn, IsWithin, ShareSome}
-use Rattle.s2list.specs.Packed.{EndsBefore}
+use Rattle.std.specs.Prelude.{ℕ, Bool, ◌||◌, ◌&&◌, not}
 
 -- the leaves of `S` or of `T`
 abbrev pub either : (ℕ → Bool) → (ℕ → Bool) → ℕ → Bool
@@ -15,27 +12,3 @@ shared S T x = S x && T x
 -- the leaves of `S` that are not in `T`
 abbrev pub without : (ℕ → Bool) → (ℕ → Bool) → ℕ → Bool
 without S T x = S x && not (T x)
-
--- `list` is what the first `n` cells of `xs` have without the leaves of `ys`: each of its cells ends before the next,
--- and is greatest in what all of `xs` has without them
-pub record IsLeft (xs ys list : List ℕ) (n : ℕ) : Type 0 where
-  pub chain : AllPairs EndsBefore list
-  pub greatest : All (IsGreatestIn (without (has_leaf xs) (has_leaf ys))) list
-  pub leaves : (x : ℕ) → has_leaf list x ≡ (has_leaf (take n xs) x && not (has_leaf ys x))
-
--- `list` is what the first `n` cells of `xs` share with `ys`: each of its cells ends before the next, and is greatest
--- in what all of `xs` shares with it
-pub record IsShared (xs ys list : List ℕ) (n : ℕ) : Type 0 where
-  pub chain : AllPairs EndsBefore list
-  pub greatest : All (IsGreatestIn (shared (has_leaf xs) (has_leaf ys))) list
-  pub leaves : (x : ℕ) → has_leaf list x ≡ (has_leaf (take n xs) x && has_leaf ys x)
-
--- `cells` has the leaves of each cell of `few` from the place `from` on, up to the place `to`
-abbrev pub HoldsBetween : List ℕ → List ℕ → ℕ → ℕ → Type 0
-HoldsBetween cells few from to = (k : ℕ) → from ≤ k → k < to →
-    IsWithin (covers (slice_index few k)) (has_leaf cells)
-
--- `cells` shares no leaf with a cell of `few` from the place `from` on, up to the place `to`
-abbrev pub MissesBetween : List ℕ → List ℕ → ℕ → ℕ → Type 0
-MissesBetween cells few from to = (k : ℕ) → from ≤ k → k < to →
-    ShareSome (covers (slice_index few k)) (has_leaf cells) → ⊥

@@ -2,8 +2,9 @@
 ghost use Rattle.std.specs.Prelude.{◌≡◌, ◌+◌, ◌-◌, ◌*◌, ◌/◌, ◌^◌, ◌<◌, ◌≤◌, ◌↔◌, ◌⊎◌};
 ghost use Rattle.std.specs.Prelude.{ℕ, IsTrue, All, min, length};
 ghost use Rattle.s2cell.specs.Cell.{IsCell, first_leaf, size_of};
-ghost use Rattle.s2list.specs.Packed.{EndsAfter, EndsAt, FirstEndBy, IsPacked};
-ghost use Rattle.s2list.specs.Search.{Brackets, IsFrom};
+ghost use Rattle.s2list.specs.Packed.{EndsAfter, FirstEndBy, IsPacked};
+ghost use Rattle.s2list.specs.Working.Packed.{EndsAt};
+ghost use Rattle.s2list.specs.Working.Search.{Brackets, IsFrom};
 
 use crate::cells::Cells;
 use crate::looks::{Count, Uncounted, look};

@@ -3,7 +3,7 @@ ghost use Rattle.std.specs.Prelude.{◌≡◌, ◌+◌, ◌-◌, ◌*◌, ◌/�
 ghost use Rattle.s2cell.specs.Cell.{first_leaf};
 ghost use Rattle.s2list.specs.Union.{IsLocal};
 ghost use Rattle.s2list.specs.Packed.{IsPacked, IsPlace};
-ghost use Rattle.s2list.specs.Search.{Brackets};
+ghost use Rattle.s2list.specs.Working.Search.{Brackets};
 
 use crate::cells::Cells;
 use crate::find::{find_between, quarter};

@@ -12,7 +12,8 @@ use Rattle.s2cell.proofs.Calls.{IsCell-parent_of}
 use Rattle.s2cell.proofs.CellLemmas.{cell_leaves}
 use Rattle.s2cell.proofs.Family.{parent_around}
 use Rattle.s2cell.proofs.Leaves.{covers_there, covers_from}
-use Rattle.s2list.specs.Union.{has_leaf, EndsBy, IsGreatestIn, IsLocal}
+use Rattle.s2list.specs.Union.{has_leaf, IsGreatestIn, IsLocal}
+use Rattle.s2list.specs.Working.Union.{EndsBy}
 use Rattle.s2list.specs.Packed.{IsPacked}
 use Rattle.s2list.proofs.Checking.{member_at, packed_from_local}
 use Rattle.s2list.proofs.Finding.{ends_later, starts_later}

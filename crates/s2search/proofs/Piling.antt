@@ -10,8 +10,10 @@ use Rattle.s2cell.specs.Cell.{IsCell, first_leaf, size_of, covers}
 use Rattle.s2cell.specs.declared.TheConstants.{LEAVES}
 use Rattle.s2cell.proofs.CellLemmas.{cell_leaves}
 use Rattle.s2cell.proofs.Leaves.{covers_there, covers_from}
-use Rattle.s2list.specs.Union.{has_leaf, between, EndsBy, IsLocal, IsNormalForm}
-use Rattle.s2list.specs.Packed.{IsPacked, FillsGap}
+use Rattle.s2list.specs.Union.{has_leaf, between, IsLocal, IsNormalForm}
+use Rattle.s2list.specs.Working.Union.{EndsBy}
+use Rattle.s2list.specs.Packed.{IsPacked}
+use Rattle.s2list.specs.Working.Packed.{FillsGap}
 use Rattle.s2list.proofs.Checking.{packed_from_local}
 use Rattle.s2list.proofs.Picking.{Picked, IsGap, picked_none, picked_fill, fill_leaves, between_ends}
 use Rattle.s2list.proofs.Tiling.{or_true, or_false, none_between}

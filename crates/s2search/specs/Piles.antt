@@ -3,7 +3,8 @@ use Rattle.std.specs.Prelude.{◌≡◌, ℕ, ◌+◌, ◌<◌, ◌≤◌, Bool,
 use Rattle.s2cell.specs.Cell.{first_leaf}
 use Rattle.s2cell.specs.declared.TheConstants.{LEAVES}
 use Rattle.s2list.specs.Packed.{EndsBefore}
-use Rattle.s2list.specs.Union.{EndsBy, IsGreatestIn, between, has_leaf}
+use Rattle.s2list.specs.Working.Union.{EndsBy}
+use Rattle.s2list.specs.Union.{IsGreatestIn, between, has_leaf}
 use Rattle.s2search.specs.Room.{IsPut}
 
 -- a pile: `list` and the leaves from `lo` to before `hi` have the leaves of the first `i` cells of `xs` and of the

@@ -8,7 +8,8 @@ ghost use Rattle.std.specs.Prelude.{◌++◌, length, take, slice_index, slice_i
 ghost use Rattle.std.specs.List.Sorted.{IsNonDecreasing};
 ghost use Rattle.s2cell.specs.Cell.{IsCell, IsInside, covers, first_leaf};
 ghost use Rattle.s2list.specs.Union.{has_leaf};
-ghost use Rattle.s2list.specs.Packed.{EndsBefore, IsFamily, IsPacked, Merges};
+ghost use Rattle.s2list.specs.Packed.{EndsBefore, IsFamily, IsPacked};
+ghost use Rattle.s2list.specs.Working.Packed.{Merges};
 ghost use Rattle.s2search.specs.Normalising.{IsNormalisedIn};
 
 use crate::cells::cell_of;

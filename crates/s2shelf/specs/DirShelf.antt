@@ -1,5 +1,5 @@
 -- What is seen of a folder.
-use Rattle.std.specs.Prelude.{ℕ, false, List, ◌∷◌, ◌++◌, None}
+use Rattle.std.specs.Prelude.{ℕ, false, List, None}
 use Rattle.std.specs.String.{string_bytes}
 use Rattle.s2shelf.specs.declared.dir_shelf.DirShelf.{DirShelf}
 use Rattle.s2shelf.specs.Shelf.{Files}
@@ -11,7 +11,3 @@ folder_files shelf = record { tells = false; at = λ _. None; found = None; fail
 -- the path that goes before each name
 abbrev pub folder_path : {R F D : Type 0} → DirShelf R F D → List ℕ
 folder_path shelf = string_bytes shelf.path
-
--- the path of a file: the folder's, a slash, and the name
-abbrev pub path_to : List ℕ → List ℕ → List ℕ
-path_to path name = path ++ (47 ∷ name)

@@ -1,3 +1,4 @@
 pub mod Shelf
 pub mod MemoryShelf
 pub mod DirShelf
+pub mod Working

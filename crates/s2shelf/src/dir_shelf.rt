@@ -4,7 +4,8 @@ ghost use Rattle.std.specs.Prelude.{option_map, take};
 ghost use Rattle.std.specs.IoError.{error_kind};
 ghost use Rattle.s2shelf.specs.Shelf.{MayHold, one_more};
 ghost use Rattle.std.specs.String.{string_bytes};
-ghost use Rattle.s2shelf.specs.DirShelf.{folder_files, folder_path, path_to};
+ghost use Rattle.s2shelf.specs.DirShelf.{folder_files, folder_path};
+ghost use Rattle.s2shelf.specs.Working.DirShelf.{path_to};
 
 use crate::shelf::{Shelf, ShelfFault, beginning_of};
 use std::alloc::{AllocError, Global};

@@ -7,10 +7,10 @@ use Rattle.std.proofs.lemmas.Option.{slice_get-get_or, get_or_from_slice_get, sl
 use Rattle.std.specs.List.Sorted.{IsStrictlyIncreasing}
 use Rattle.s2cell.specs.Cell.{IsCell}
 use Rattle.s2list.specs.Packed.{IsPacked}
-use Rattle.s2union.specs.Tail.{Follows, IsTail}
+use Rattle.s2union.specs.Working.Tail.{Follows, IsTail}
 use Rattle.s2union.specs.declared.apply.Tail.{Tail}
 use Rattle.s2union.specs.Apply.{applied, Fits}
-use Rattle.s2union.specs.Merge.{Left, CanApply, Goes, made_list}
+use Rattle.s2union.specs.Working.Merge.{Left, CanApply, Goes, made_list}
 use Rattle.s2list.proofs.Packing.{packed_take}
 use Rattle.s2list.proofs.PackedLocal.{local_from_packed}
 use Rattle.s2list.proofs.Checking.{fits, pushed_after, pushed_unmerged, packed_from_local}

@@ -12,12 +12,13 @@ use Rattle.std.proofs.lemmas.List.{append-nil, take-take, drop-take}
 use Rattle.std.proofs.lemmas.List.Folds.{list_any_more, list_any-append}
 use Rattle.std.specs.List.{list_any}
 use Rattle.std.proofs.lemmas.List.Kept.{AllPairs-from_increasing}
-use Rattle.s2list.specs.Search.{Brackets}
+use Rattle.s2list.specs.Working.Search.{Brackets}
 use Rattle.s2list.proofs.Galloping.{rises}
 use Rattle.s2cell.specs.Cell.{IsCell, first_leaf, covers}
 use Rattle.s2cell.proofs.CellLemmas.{cell_leaves}
 use Rattle.s2list.specs.Union.{has_leaf, IsLocal}
-use Rattle.s2list.specs.Packed.{EndsBefore, IsFamily, IsPacked, Continues}
+use Rattle.s2list.specs.Packed.{EndsBefore, IsFamily, IsPacked}
+use Rattle.s2list.specs.Working.Packed.{Continues}
 use Rattle.s2list.proofs.Packing.{read_at}
 use Rattle.s2list.proofs.PackedLocal.{local_from_packed}
 use Rattle.s2list.proofs.Checking.{packed_from_local}

@@ -14,7 +14,8 @@ use Rattle.s2cell.specs.Descendant.{descendant_of}
 use Rattle.s2cell.proofs.CellLemmas.{cell_leaves, four_pos}
 use Rattle.s2cell.proofs.Calls.{size_at}
 use Rattle.s2list.specs.Union.{IsLocal}
-use Rattle.s2union.specs.Denorm.{IsDenormalised, IsUnderway, cut_level, cells_in, denormalised}
+use Rattle.s2union.specs.Denorm.{IsDenormalised, cut_level, cells_in, denormalised}
+use Rattle.s2union.specs.Working.Denorm.{IsUnderway}
 use Rattle.s2cell.specs.declared.TheConstants.{LEAVES}
 use Rattle.s2list.proofs.Checking.{packed_from_local}
 use Rattle.s2list.proofs.Packing.{read_at}

@@ -8,8 +8,8 @@ use Rattle.std.proofs.lemmas.Bool.{cond-true, cond-false, false≢true, true≢f
 use Rattle.std.specs.List.Sorted.{IsStrictlyIncreasing}
 use Rattle.s2union.specs.Apply.{has, cells_without, insert_cell, insert_cells, applied}
 use Rattle.std.specs.declared.cmp.Ordering.TheVariants.{Less, Equal, Greater}
-use Rattle.s2union.specs.Merge.{CanApply, Goes, Keeps, Ascend, IsHead, IsFrontOf}
-use Rattle.s2list.specs.Search.{Brackets}
+use Rattle.s2union.specs.Working.Merge.{CanApply, Goes, Keeps, Ascend, IsHead, IsFrontOf}
+use Rattle.s2list.specs.Working.Search.{Brackets}
 use Rattle.s2list.specs.Packed.{IsPacked}
 use Rattle.s2list.proofs.Finding.{ascends}
 use Rattle.s2union.proofs.Following.{part_packed}

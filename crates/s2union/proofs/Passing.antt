@@ -5,11 +5,12 @@ use Rattle.std.proofs.Common.{length-append}
 use Rattle.std.proofs.lemmas.List.{get_or-append_right, length-reverse, length-take-le, reverse-append, reverse-reverse}
 use Rattle.std.proofs.lemmas.List.{take-append-drop, take_at, take_more, drop_more, get_or-take}
 use Rattle.s2cell.specs.Cell.{IsCell}
-use Rattle.s2list.specs.Packed.{IsPacked, Continues}
-use Rattle.s2union.specs.Tail.{Follows, IsTail, Passes}
+use Rattle.s2list.specs.Packed.{IsPacked}
+use Rattle.s2list.specs.Working.Packed.{Continues}
+use Rattle.s2union.specs.Working.Tail.{Follows, IsTail, Passes}
 use Rattle.s2union.specs.declared.apply.Tail.{Tail}
 use Rattle.s2union.specs.Apply.{applied, Fits}
-use Rattle.s2union.specs.Merge.{Left, CanApply, Keeps, made_list}
+use Rattle.s2union.specs.Working.Merge.{Left, CanApply, Keeps, made_list}
 use Rattle.s2list.proofs.Packing.{packed_take, read_at}
 use Rattle.s2list.proofs.Checking.{packed_from_local}
 use Rattle.s2union.proofs.Following.{follow_packed}

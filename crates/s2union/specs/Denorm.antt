@@ -1,6 +1,6 @@
 -- Unions whose cells are cut to the levels that a caller wants (`S2CellUnion::Denormalize`).
-use Rattle.std.specs.Prelude.{◌≡◌, ℕ, ◌+◌, ◌-◌, ◌*◌, ◌/◌, ◌%◌, ◌^◌, ◌<◌, ◌≤◌, ◌⊎◌}
-use Rattle.std.specs.Prelude.{◌↔◌, min, List, [], ◌∷◌, ◌++◌, map, flat_map, Contains, length, slice_index}
+use Rattle.std.specs.Prelude.{◌≡◌, ℕ, ◌+◌, ◌-◌, ◌*◌, ◌/◌, ◌%◌, ◌^◌, ◌≤◌, ◌⊎◌}
+use Rattle.std.specs.Prelude.{◌↔◌, min, List, [], ◌∷◌, ◌++◌, map, flat_map, Contains}
 use Rattle.std.specs.List.{range_with_len}
 use Rattle.std.specs.List.Sorted.{IsStrictlyIncreasing}
 use Rattle.s2cell.specs.Cell.{IsCell, level_of, IsInside}
@@ -43,14 +43,3 @@ cells_in t c = map (descendant_of c t) (range_with_len 0 (4 ^ (t - level_of c)))
 unfoldable pub denormalised : ℕ → ℕ → List ℕ → List ℕ
 unfolding cut_level cells_in
 denormalised least modulus u = flat_map (λ c. cells_in (cut_level (level_of c) least modulus) c) u
-
--- where an iterator over that list is: at the item `number` of the `count` items of its first cell, which is cut to
--- `level`
-pub record IsUnderway (cells : List ℕ) (least modulus level number count : ℕ) : Type 0 where
-  pub least_fits : least ≤ 30
-  pub modulus_some : 0 < modulus
-  pub modulus_fits : modulus ≤ 3
-  pub ended : length cells ≡ 0 → number ≡ 0
-  pub cut : 0 < length cells → level ≡ cut_level (level_of (slice_index cells 0)) least modulus
-  pub items : 0 < length cells → count ≡ 4 ^ (level - level_of (slice_index cells 0))
-  pub before : 0 < length cells → number < count

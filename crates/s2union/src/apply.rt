@@ -8,9 +8,9 @@ ghost use Rattle.std.specs.Vec.{vec_len, vec_capacity};
 ghost use Rattle.s2cell.specs.Cell.{IsCell};
 ghost use Rattle.s2list.specs.Union.{IsLocal};
 ghost use Rattle.s2union.specs.Apply.{applied, Fits};
-ghost use Rattle.s2union.specs.Merge.{IsTurn, IsHead, IsFrontOf, Keeps};
+ghost use Rattle.s2union.specs.Working.Merge.{IsTurn, IsHead, IsFrontOf, Keeps};
 ghost use Rattle.s2list.specs.Packed.{IsPacked};
-ghost use Rattle.s2union.specs.Tail.{Follows, Passes};
+ghost use Rattle.s2union.specs.Working.Tail.{Follows, Passes};
 
 use crate::normalising::parent_of_family;
 use crate::search::gallop;
@@ -155,7 +155,7 @@ pub(crate) struct Merge<'a> {
 }
 
 impl<'a> Model for Merge<'a> {
-    ghost use Rattle.s2union.specs.Merge.{Left, Ascend};
+    ghost use Rattle.s2union.specs.Working.Merge.{Left, Ascend};
 
     ghost Value = { Left };
 

@@ -26,7 +26,8 @@ pub struct Denorm<'a> {
 impl<'a> Model for Denorm<'a> {
     ghost use Rattle.std.specs.Prelude.{ℕ, List, drop};
     ghost use Rattle.s2list.specs.Union.{IsLocal};
-    ghost use Rattle.s2union.specs.Denorm.{denormalised, IsUnderway};
+    ghost use Rattle.s2union.specs.Denorm.{denormalised};
+    ghost use Rattle.s2union.specs.Working.Denorm.{IsUnderway};
 
     ghost Value = { List ℕ };
 

@@ -8,8 +8,8 @@ ghost use Rattle.std.specs.Prelude.{ℕ, All, IsTrue, IfSome, MatchOption, lengt
 ghost use Rattle.s2cell.specs.Cell.{IsCell, IsInside, first_leaf};
 ghost use Rattle.s2list.specs.Union.{IsLocal, has_leaf, IsWithin, ShareSome};
 ghost use Rattle.s2list.specs.Packed.{IsPacked, IsPlace, EndsBefore};
-ghost use Rattle.s2list.specs.Search.{Brackets};
-ghost use Rattle.s2list.specs.Sets.{HoldsBetween, MissesBetween};
+ghost use Rattle.s2list.specs.Working.Search.{Brackets};
+ghost use Rattle.s2list.specs.Working.Sets.{HoldsBetween, MissesBetween};
 ghost use Rattle.s2list.specs.Looks.{FewForUnion};
 
 use crate::questions::{answer_with, holds_at, meets_at};

@@ -12,7 +12,8 @@ ghost use Rattle.std.specs.Vec.{vec_len, vec_capacity};
 ghost use Rattle.std.specs.List.Sorted.{IsNonDecreasing};
 ghost use Rattle.s2cell.specs.Cell.{covers, first_leaf, IsCell, level_of, IsInside};
 ghost use Rattle.s2list.specs.Union.{IsLocal, IsNormalForm, IsShortest, has_leaf};
-ghost use Rattle.s2list.specs.Packed.{IsPacked, EndsBefore, IsFamily, Merges};
+ghost use Rattle.s2list.specs.Packed.{IsPacked, EndsBefore, IsFamily};
+ghost use Rattle.s2list.specs.Working.Packed.{Merges};
 
 use crate::union::CellUnion;
 use s2cell::{CellId, GREATEST_LEVEL};

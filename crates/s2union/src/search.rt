@@ -4,7 +4,7 @@ ghost use Rattle.std.specs.Prelude.{◌≡◌, ◌≤◌, ◌<◌, ◌+◌, ◌-
 ghost use Rattle.std.specs.Prelude.{◌/◌, ◌⊎◌, ℕ, IsTrue, length, slice_index};
 ghost use Rattle.std.specs.List.Sorted.{IsStrictlyIncreasing};
 ghost use Rattle.s2list.specs.Packed.{IsPacked, FirstEndBy, EndsAfter};
-ghost use Rattle.s2list.specs.Search.{Brackets};
+ghost use Rattle.s2list.specs.Working.Search.{Brackets};
 
 use s2cell::{CellId, LEAVES};
 use s2list::{CellList, Looks, Uncounted};

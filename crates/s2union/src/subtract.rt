@@ -6,8 +6,10 @@ ghost use Rattle.std.specs.Prelude.{IfErr, List, OnOk, not};
 ghost use Rattle.std.specs.Vec.{vec_len};
 ghost use Rattle.s2cell.specs.Cell.{IsCell, first_leaf, size_of};
 ghost use Rattle.s2list.specs.Union.{IsLocal, IsNormalForm, has_leaf};
-ghost use Rattle.s2list.specs.Sets.{without, IsLeft};
-ghost use Rattle.s2list.specs.Packed.{FirstEndBy, FillsGap, IsPlace};
+ghost use Rattle.s2list.specs.Sets.{without};
+ghost use Rattle.s2list.specs.Working.Sets.{IsLeft};
+ghost use Rattle.s2list.specs.Packed.{FirstEndBy, IsPlace};
+ghost use Rattle.s2list.specs.Working.Packed.{FillsGap};
 
 use crate::fault::UnionFault;
 use crate::few::{MUCH_LONGER, find_four};

@@ -9,7 +9,9 @@ ghost use Rattle.s2union_c.specs.Status.{IsBit, made, no_cell, no_room};
 
 use crate::status::{MADE, NO_CELL, NO_ROOM};
 use s2cell::CellId;
-use s2list::{IdList, NEARBY, contains_cell_at, first_wrong, intersects_cell_at, place_near, places_of_four};
+use s2list::{
+    IdList, NEARBY, contains_cell_at, first_wrong, intersects_cell_at, place_near, places_of_four,
+};
 use s2search::cell_of;
 
 /// What is asked about each cell.

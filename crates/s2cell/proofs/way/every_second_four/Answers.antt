@@ -1,5 +1,5 @@
 use Rattle.std.proofs.Common.{refl}
-use Rattle.s2cell.specs.Entries.{fours}
+use Rattle.s2cell.specs.Working.Entries.{fours}
 use Rattle.s2cell.proofs.way.every_second_four.Goals as goal
 
 pub returns : goal.returns

@@ -1,6 +1,6 @@
 use Rattle.std.proofs.Common.{arith, ◌+◌, ◌*◌, ◌/◌, ◌∙◌, ap}
 use Rattle.s2cell.proofs.Walk.{to_leaf_begin, to_leaf_one, to_leaf_four, to_leaf_small, to_leaf_end, fours_small}
-use Rattle.s2cell.specs.Entries.{fours}
+use Rattle.s2cell.specs.Working.Entries.{fours}
 use Rattle.s2cell.proofs.way.leaf_at.Goals as goal
 
 pub overflow_mul-odd : goal.overflow_mul-odd

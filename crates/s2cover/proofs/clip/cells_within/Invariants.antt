@@ -1,5 +1,5 @@
 use Rattle.std.proofs.Common.{◌-◌, take, vec_len}
-use Rattle.s2cover.specs.Descent.{form_in}
+use Rattle.s2cover.specs.Working.Descent.{form_in}
 use Rattle.s2cover.specs.Rectangles.{rect_set}
 use Rattle.s2cover.proofs.Parts.{Gathered}
 use Rattle.s2cover.proofs.Searches.{Added}

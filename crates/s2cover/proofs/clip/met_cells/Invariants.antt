@@ -1,5 +1,5 @@
 use Rattle.std.proofs.Common.{◌≡◌, ◌+◌, take}
-use Rattle.s2cover.specs.Cut.{cells_met}
+use Rattle.s2cover.specs.Working.Cut.{cells_met}
 use Rattle.s2cover.specs.Rectangles.{rect_set}
 use Rattle.s2cover.proofs.clip.met_cells.Given as goal
 

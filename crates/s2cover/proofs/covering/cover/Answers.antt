@@ -1,7 +1,7 @@
 use Rattle.std.proofs.Common.{arith, ◌≡◌, ◌+◌, ◌-◌, vec_len, ◌∙◌}
 use Rattle.std.proofs.lemmas.Result.{err_from_is_err_and}
 use Rattle.s2list.proofs.Normal.{local_from_normal}
-use Rattle.s2cover.specs.Descent.{blocks, covering_set, form_faces, is_outer}
+use Rattle.s2cover.specs.Working.Descent.{blocks, covering_set, form_faces, is_outer}
 use Rattle.s2cover.proofs.Formed.{found_none, found_next, found_many, found_stops, found_long, covering_normal}
 use Rattle.s2cover.proofs.Formed.{covering_leaves}
 use Rattle.s2cover.proofs.covering.cover.Goals as goal

@@ -1,5 +1,5 @@
 use Rattle.std.proofs.Common.{◌-◌, vec_len}
-use Rattle.s2cover.specs.Descent.{blocks, is_outer}
+use Rattle.s2cover.specs.Working.Descent.{blocks, is_outer}
 use Rattle.s2cover.proofs.Formed.{Found}
 use Rattle.s2cover.proofs.covering.cover.Given as goal
 

@@ -1,4 +1,4 @@
-use Rattle.s2cover.specs.Descent.{form_faces}
+use Rattle.s2cover.specs.Working.Descent.{form_faces}
 use Rattle.s2cover.proofs.Formed.{set_normal}
 use Rattle.s2cover.proofs.covering.normal_forms.Goals as goal
 

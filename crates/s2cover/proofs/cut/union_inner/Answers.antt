@@ -1,6 +1,6 @@
 use Rattle.std.proofs.Common.{◌≡◌, ℕ, ◌∙◌, ap}
 use Rattle.s2list.specs.Union.{has_leaf, IsLocal, IsNormalForm}
-use Rattle.s2cover.specs.Cut.{cells_kept}
+use Rattle.s2cover.specs.Working.Cut.{cells_kept}
 use Rattle.s2cover.specs.Coverings.{inner_set}
 use Rattle.s2cover.proofs.OwnCells.{kept_normal, kept_leaves, same_ok, many_err}
 use Rattle.s2cover.proofs.cut.union_inner.Goals as goal

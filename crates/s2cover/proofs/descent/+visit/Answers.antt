@@ -3,7 +3,7 @@ use Rattle.std.proofs.Common.{◌∙◌, ap, sym, inl, inr}
 use Rattle.std.proofs.lemmas.Bool.{both_ways}
 use Rattle.std.proofs.lemmas.Result.{err_from_is_err_and}
 use Rattle.s2cell.specs.Cell.{level_of, place_of}
-use Rattle.s2cover.specs.Descent.{blocks, depth_of, is_outer}
+use Rattle.s2cover.specs.Working.Descent.{blocks, depth_of, is_outer}
 use Rattle.s2cover.proofs.Visits.{in_whole, out_nothing, cross_whole, cross_nothing, same_list, one_more, is_full}
 use Rattle.s2cover.proofs.Visits.{too_many, Both, visited_next, whole_next, list_next, many_next, many_child, id_of}
 use Rattle.s2cover.proofs.Visits.{all_children, some_children, kept, child_from, child_stops, visited_none, Held}

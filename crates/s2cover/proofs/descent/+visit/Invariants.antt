@@ -1,6 +1,6 @@
 use Rattle.std.proofs.Common.{◌-◌, vec_len}
 use Rattle.s2cell.specs.Cell.{place_of}
-use Rattle.s2cover.specs.Descent.{blocks, depth_of, is_outer}
+use Rattle.s2cover.specs.Working.Descent.{blocks, depth_of, is_outer}
 use Rattle.s2cover.proofs.Forms.{Visited}
 use Rattle.s2cover.proofs.descent.+visit.Given as goal
 

@@ -2,7 +2,7 @@ use Rattle.std.proofs.Common.{arith, ◌≡◌, ◌-◌, ◌++◌, vec_len, ◌�
 use Rattle.std.proofs.lemmas.Result.{err_from_is_err_and}
 use Rattle.s2list.specs.Union.{has_leaf}
 use Rattle.s2list.proofs.Normal.{local_from_normal}
-use Rattle.s2cover.specs.Descent.{form_in}
+use Rattle.s2cover.specs.Working.Descent.{form_in}
 use Rattle.s2cover.specs.Rectangles.{Rect, rect_set}
 use Rattle.s2cover.proofs.Faces.{one_face, on_face, too_long}
 use Rattle.s2cover.proofs.grid.cover_aligned.Goals as goal

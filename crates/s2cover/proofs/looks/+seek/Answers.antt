@@ -3,7 +3,7 @@ use Rattle.std.proofs.Common.{vec_len, refl, sym, ◌∙◌, ap, append-nil}
 use Rattle.std.proofs.lemmas.Result.{err_from_is_err_and}
 use Rattle.s2cover.specs.Rectangles.{rect_set}
 use Rattle.s2cell.specs.Cell.{level_of, place_of}
-use Rattle.s2cover.specs.Descent.{depth_of}
+use Rattle.s2cover.specs.Working.Descent.{depth_of}
 use Rattle.s2cover.proofs.Forms.{form_none_at}
 use Rattle.s2cover.proofs.Visits.{whole_from, covers_at, id_of}
 use Rattle.s2cover.proofs.Searches.{crossed, kid, sought_none, sought_next, sought_all, sought_stop, sought_many}

@@ -2,8 +2,8 @@ use Rattle.std.proofs.Common.{◌≡◌, ◌+◌, ◌*◌, ◌≤◌, ℕ, List,
 use Rattle.std.proofs.lemmas.Bool.{MatchBool-at_false}
 use Rattle.std.proofs.lemmas.List.{take-append-drop, length-take-le}
 use Rattle.std.proofs.lemmas.Result.{err_from_is_err_and}
-use Rattle.s2file.specs.Source.{ahead, held}
-use Rattle.s2file.specs.SessionParts.{Lacks, AreCounted, SpellsWrong, identifiers_text}
+use Rattle.s2file.specs.Working.Source.{ahead, held}
+use Rattle.s2file.specs.Working.SessionParts.{Lacks, AreCounted, SpellsWrong, identifiers_text}
 use Rattle.s2file.proofs.SessionReading.{refuses}
 use Rattle.s2file.proofs.TakingCells.{cells_more, cells_end, cells_wrong, length_more}
 use Rattle.s2file.proofs.parts.cells_counted.Goals as goal

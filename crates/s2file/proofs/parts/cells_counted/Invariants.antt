@@ -1,7 +1,7 @@
 use Rattle.std.proofs.Common.{◌-◌, ◌≤◌, All, length}
 use Rattle.s2cell.specs.Cell.{IsCell}
-use Rattle.s2file.specs.Source.{ahead}
-use Rattle.s2file.specs.SessionParts.{Takes, identifiers_text}
+use Rattle.s2file.specs.Working.Source.{ahead}
+use Rattle.s2file.specs.Working.SessionParts.{Takes, identifiers_text}
 use Rattle.s2file.proofs.parts.cells_counted.Given as goal
 
 abbrev pub invariant-pieces : goal.invariant-pieces

@@ -1,5 +1,5 @@
 use Rattle.std.proofs.lemmas.Bool.{MatchBool-at_false}
-use Rattle.s2file.specs.Source.{held}
+use Rattle.s2file.specs.Working.Source.{held}
 use Rattle.s2file.proofs.TakingCells.{number_taken, number_lacks}
 use Rattle.s2file.proofs.parts.number_at.Goals as goal
 

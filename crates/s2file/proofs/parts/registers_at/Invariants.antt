@@ -2,8 +2,8 @@ use Rattle.std.proofs.Common.{◌≡◌, length, map}
 use Rattle.std.specs.List.{AllByRecursion}
 use Rattle.s2list.specs.Union.{Union}
 use Rattle.s2file.specs.Session.{IsRegisterList}
-use Rattle.s2file.specs.SessionParts.{Takes, registers_text}
-use Rattle.s2file.specs.Source.{ahead}
+use Rattle.s2file.specs.Working.SessionParts.{Takes, registers_text}
+use Rattle.s2file.specs.Working.Source.{ahead}
 use Rattle.s2file.proofs.parts.registers_at.Given as goal
 
 abbrev pub invariant-loop-i : goal.invariant-loop-i

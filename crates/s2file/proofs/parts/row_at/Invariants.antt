@@ -1,8 +1,8 @@
 use Rattle.std.proofs.Common.{◌≡◌, length, map}
 use Rattle.std.specs.List.{AllByRecursion}
 use Rattle.s2file.specs.Session.{moved_of, IsMoved}
-use Rattle.s2file.specs.SessionParts.{Takes, row_text}
-use Rattle.s2file.specs.Source.{ahead}
+use Rattle.s2file.specs.Working.SessionParts.{Takes, row_text}
+use Rattle.s2file.specs.Working.Source.{ahead}
 use Rattle.s2file.proofs.parts.row_at.Given as goal
 
 abbrev pub invariant-loop-i : goal.invariant-loop-i

@@ -1,7 +1,7 @@
 use Rattle.std.proofs.Common.{◌∙◌, ℕ, List, Option, slice_index, ap, sym, subst}
 use Rattle.std.proofs.lemmas.Bool.{MatchBool-at_true}
 use Rattle.std.specs.Io.KnownBytes.{Keeps}
-use Rattle.s2file.specs.Source.{ahead, held}
+use Rattle.s2file.specs.Working.Source.{ahead, held}
 use Rattle.s2file.proofs.TakingSession.{spells_union, fresh, answers}
 use Rattle.s2file.proofs.session_file.read_session.Goals as goal
 

@@ -4,7 +4,7 @@ use Rattle.std.proofs.lemmas.List.{length-map}
 use Rattle.std.proofs.lemmas.Result.{err_from_is_err_and}
 use Rattle.s2list.specs.Union.{Union}
 use Rattle.s2file.specs.Session.{moved_of}
-use Rattle.s2file.specs.Source.{held}
+use Rattle.s2file.specs.Working.Source.{held}
 use Rattle.s2file.proofs.TakingSession.{no_past, no_future, more_than_parts, too_many_changes, some_left}
 use Rattle.s2file.proofs.session_file.session_of_parts.Goals as goal
 

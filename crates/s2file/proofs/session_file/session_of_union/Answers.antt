@@ -1,7 +1,7 @@
 use Rattle.std.proofs.Common.{◌≡◌, ℕ, ◌+◌, ◌<◌, List, ◌++◌, length, take, IfSome, ap, ◌∙◌, subst, arith}
 use Rattle.std.specs.Option.{option_map}
 use Rattle.s2file.specs.declared.union_file.TheConstants.{MOST_SIZE}
-use Rattle.s2file.specs.Source.{held}
+use Rattle.s2file.specs.Working.Source.{held}
 use Rattle.s2file.proofs.TakingSession.{all_read, union_found}
 use Rattle.s2file.proofs.session_file.session_of_union.Goals as goal
 

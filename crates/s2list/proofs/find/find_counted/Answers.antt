@@ -1,7 +1,7 @@
 use Rattle.std.proofs.Common.{◌≡◌, ◌+◌, ◌*◌, ◌^◌, ◌<◌, ◌≤◌, length, arith, refl}
 use Rattle.std.proofs.Math.Logic.{⊎_elim}
 use Rattle.std.proofs.lemmas.Bool.{cases_lt}
-use Rattle.s2list.specs.Search.{IsFrom}
+use Rattle.s2list.specs.Working.Search.{IsFrom}
 use Rattle.s2list.proofs.Galloping.{all_places}
 use Rattle.s2list.proofs.Narrowing.{brackets_capped, from_brackets}
 use Rattle.s2list.proofs.Looking.{quartered_all, quartered_more}

@@ -1,6 +1,6 @@
 use Rattle.std.proofs.Common.{ℕ, ◌+◌, ◌^◌, ◌<◌, ◌≤◌, length, min}
 use Rattle.s2list.specs.Packed.{IsPacked}
-use Rattle.s2list.specs.Search.{Brackets}
+use Rattle.s2list.specs.Working.Search.{Brackets}
 use Rattle.s2list.proofs.Looking.{Quartered}
 use Rattle.s2list.proofs.find.find_counted.Given as goal
 

@@ -1,6 +1,6 @@
 use Rattle.std.proofs.Common.{◌≡◌, ◌+◌, ◌-◌, ◌<◌, length, arith}
 use Rattle.s2list.specs.Packed.{FirstEndBy}
-use Rattle.s2list.specs.Search.{IsFrom}
+use Rattle.s2list.specs.Working.Search.{IsFrom}
 use Rattle.s2list.proofs.Narrowing.{later, ended_up}
 use Rattle.s2list.proofs.Looking.{leapt_two, leapt_more, leapt_last}
 use Rattle.s2list.proofs.find.leap_on.Goals as goal

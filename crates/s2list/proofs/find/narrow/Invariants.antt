@@ -1,6 +1,6 @@
 use Rattle.std.proofs.Common.{ℕ, ◌+◌, ◌-◌, ◌^◌, ◌<◌, ◌≤◌, min}
 use Rattle.s2list.specs.Packed.{IsPacked}
-use Rattle.s2list.specs.Search.{IsFrom}
+use Rattle.s2list.specs.Working.Search.{IsFrom}
 use Rattle.s2list.proofs.Looking.{Halved}
 use Rattle.s2list.proofs.find.narrow.Given as goal
 

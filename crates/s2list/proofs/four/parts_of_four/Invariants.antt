@@ -1,6 +1,6 @@
 use Rattle.std.proofs.Common.{◌+◌, ◌^◌, ◌<◌, ◌≤◌, length}
 use Rattle.s2list.specs.Packed.{IsPacked}
-use Rattle.s2list.specs.Search.{Brackets}
+use Rattle.s2list.specs.Working.Search.{Brackets}
 use Rattle.s2list.proofs.four.parts_of_four.Given as goal
 
 abbrev pub invariant-loop-size : goal.invariant-loop-size

@@ -1,7 +1,7 @@
 use Rattle.std.proofs.Common.{◌≡◌, ◌++◌, ◌+◌, length}
 use Rattle.std.specs.Vec.{vec_capacity}
 use Rattle.s2union.specs.Apply.{applied}
-use Rattle.s2union.specs.Merge.{CanApply, made_list}
+use Rattle.s2union.specs.Working.Merge.{CanApply, made_list}
 use Rattle.s2union.proofs.apply.applied_in.Given as goal
 
 -- what is written, and what is left to write, are the whole list

@@ -1,6 +1,6 @@
 use Rattle.std.proofs.Common.{refl, sym, ◌∙◌}
 use Rattle.std.proofs.lemmas.Bool.{false≢true}
-use Rattle.s2union.specs.Merge.{Left}
+use Rattle.s2union.specs.Working.Merge.{Left}
 use Rattle.s2list.proofs.Checking.{packed_from_local}
 use Rattle.s2union.proofs.Ending.{seen_write, unfit_cell, can_from, fits_all}
 use Rattle.s2union.proofs.Passing.{seen_run, unfit_run}

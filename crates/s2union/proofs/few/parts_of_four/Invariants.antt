@@ -1,5 +1,5 @@
 use Rattle.std.proofs.Common.{◌+◌}
-use Rattle.s2list.specs.Search.{Brackets}
+use Rattle.s2list.specs.Working.Search.{Brackets}
 use Rattle.s2union.proofs.AskingFew.{LeftFour}
 use Rattle.s2union.proofs.few.parts_of_four.Given as goal
 

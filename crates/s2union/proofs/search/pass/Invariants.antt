@@ -1,5 +1,5 @@
 use Rattle.std.proofs.Common.{◌≡◌, ◌≤◌, ◌+◌, ◌-◌}
-use Rattle.s2list.specs.Search.{Brackets}
+use Rattle.s2list.specs.Working.Search.{Brackets}
 use Rattle.s2union.proofs.search.pass.Given as goal
 
 abbrev pub invariant-loop-at : goal.invariant-loop-at

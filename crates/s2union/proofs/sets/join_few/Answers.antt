@@ -1,5 +1,5 @@
 use Rattle.std.proofs.Common.{◌≡◌, ◌<◌, ◌+◌, get_or, arith, refl}
-use Rattle.s2list.specs.Search.{Brackets}
+use Rattle.s2list.specs.Working.Search.{Brackets}
 use Rattle.s2list.proofs.Packing.{read_at}
 use Rattle.s2list.proofs.PackedLocal.{local_from_packed}
 use Rattle.s2list.proofs.Checking.{packed_from_local}

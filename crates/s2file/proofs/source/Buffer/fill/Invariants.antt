@@ -1,6 +1,6 @@
 use Rattle.std.proofs.Common.{◌≡◌, ◌+◌, ◌<◌, length}
 use Rattle.std.specs.Io.KnownBytes.{Keeps}
-use Rattle.s2file.specs.Source.{ahead, held, room}
+use Rattle.s2file.specs.Working.Source.{ahead, held, room}
 use Rattle.s2file.proofs.source.Buffer.fill.Given as goal
 
 abbrev pub invariant-reads : goal.invariant-reads

@@ -1,5 +1,5 @@
 use Rattle.std.proofs.Common.{◌-◌, length, subst, take, drop, arith}
-use Rattle.s2union.specs.Merge.{Left, Keeps}
+use Rattle.s2union.specs.Working.Merge.{Left, Keeps}
 use Rattle.s2list.proofs.Finding.{ascends}
 use Rattle.s2union.proofs.Following.{part_packed}
 use Rattle.s2union.proofs.MergeSteps.{keep_found, rest_after}

@@ -1,5 +1,5 @@
 use Rattle.std.proofs.Common.{[], ◌∷◌, sym, subst, drop, get_or}
-use Rattle.s2union.specs.Merge.{Left, Goes, CanApply}
+use Rattle.s2union.specs.Working.Merge.{Left, Goes, CanApply}
 use Rattle.s2union.proofs.MergeSteps.{put_turn, keep_turn, take_turn, put_misfit, out_misfit, after_first}
 use Rattle.s2union.proofs.MergeSteps.{after_first_ascends, rest_packed}
 use Rattle.s2union.proofs.apply.Merge.turn.Goals as goal

@@ -1,6 +1,6 @@
 use Rattle.std.proofs.Common.{[], ◌∷◌, ap, sym, ◌∙◌, subst, arith}
 use Rattle.std.proofs.lemmas.Grind.{common_steps}
-use Rattle.s2union.specs.Merge.{Left, Goes, CanApply}
+use Rattle.s2union.specs.Working.Merge.{Left, Goes, CanApply}
 use Rattle.s2union.proofs.MergeSteps.{last_turn, end_misfit, rest_ascends}
 use Rattle.s2union.proofs.apply.Merge.turn_after_cells.Goals as goal
 

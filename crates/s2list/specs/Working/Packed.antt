@@ -1,0 +1,30 @@
+-- What only private contracts need, beside Packed.antt, which has what public contracts need.
+use Rattle.std.specs.Prelude.{◌≡◌, ℕ, ◌+◌, ◌-◌, ◌<◌, ◌≤◌, ◌||◌, List, [], ◌∷◌, ◌++◌, length}
+use Rattle.std.specs.Prelude.{take, slice_index}
+use Rattle.s2cell.specs.Cell.{first_leaf, size_of, covers}
+use Rattle.s2list.specs.Union.{has_leaf, between, IsNormalForm}
+use Rattle.s2list.specs.Packed.{IsPacked}
+
+-- the first `kept` cells of `front`, followed by `merged`, are packed, and have the leaves of `front` and `cell`
+pub record Merges (front : List ℕ) (cell kept merged : ℕ) : Type 0 where
+  pub within : kept ≤ length front
+  pub packed : IsPacked (take kept front ++ merged ∷ [])
+  pub leaves : (x : ℕ) → (has_leaf (take kept front) x || covers merged x) ≡ (has_leaf front x || covers cell x)
+  pub start : first_leaf merged ≤ first_leaf cell
+
+-- the last three cells of `list`, or all if it has fewer, are the cells of `cells` just before the place `i`
+pub record Continues (list cells : List ℕ) (i : ℕ) : Type 0 where
+  pub within : (k : ℕ) → length list ≤ k + 3 → k < length list → length list ≤ k + i
+  pub same : (k : ℕ) → length list ≤ k + 3 → k < length list →
+      slice_index list k ≡ slice_index cells (k + i - length list)
+
+-- there is a cell at the place `at` of `u`, and it ends by the leaf `lo`
+abbrev pub EndsAt : List ℕ → ℕ → ℕ → Type 0
+EndsAt u at lo = (at < length u) × (first_leaf (slice_index u at) + size_of (slice_index u at) ≤ lo)
+
+-- `new` is `old`, and then the normal form of the leaves from `lo` to before `hi`
+pub record FillsGap (old new : List ℕ) (lo hi : ℕ) : Type 0 where
+  pub tiles : List ℕ
+  pub is : new ≡ old ++ tiles
+  pub normal : IsNormalForm (between lo hi) tiles
+  pub leaves : (x : ℕ) → has_leaf tiles x ≡ between lo hi x

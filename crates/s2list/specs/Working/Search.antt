@@ -1,0 +1,22 @@
+-- What only private contracts need, beside Search.antt, which has what public contracts need.
+use Rattle.std.specs.Prelude.{ℕ, ◌+◌, ◌<◌, ◌≤◌, List, length, slice_index}
+use Rattle.s2cell.specs.Cell.{first_leaf, size_of}
+use Rattle.s2list.specs.Union.{IsLocal}
+use Rattle.s2list.specs.Packed.{FirstEndBy}
+
+-- the first `low` cells of `u` are below `mark`, and those from `high` on are not
+pub record Brackets (u : List ℕ) (mark low high : ℕ) : Type 0 where
+  pub order : low ≤ high
+  pub within : high ≤ length u
+  pub below : (k : ℕ) → k < low → slice_index u k < mark
+  pub rest : (k : ℕ) → high ≤ k → k < length u → mark ≤ slice_index u k
+
+-- `u` is local, and `at` is a place in it or its end
+pub record IsCursor (u : List ℕ) (at : ℕ) : Type 0 where
+  pub local : IsLocal u
+  pub within : at ≤ length u
+
+-- the first cell that ends after the leaf `lo`, if there is one, is at a place from `start` to `end`
+pub record IsFrom (u : List ℕ) (lo start end : ℕ) : Type 0 where
+  pub ended : FirstEndBy u start lo
+  pub next : end < length u → lo < first_leaf (slice_index u end) + size_of (slice_index u end)
