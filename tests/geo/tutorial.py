@@ -51,6 +51,11 @@ class Tutorial(page.Page):
     def test_page(self):
         self.page_holds()
 
+    def test_picture(self):
+        """The picture that the commands make is that of the pages."""
+        made, shown = Path(self.file("world.svg")), Path(page.TOP, "docs", "pictures", "world.svg")
+        self.assertEqual(made.read_bytes(), shown.read_bytes())
+
     def test_cities(self):
         """Each city's country is that of the polygons."""
         features = features_of(self.file("countries.geojson"))

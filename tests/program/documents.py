@@ -88,14 +88,14 @@ class Documents(unittest.TestCase):
         shown = 0
         for words, text in re.findall(r"```text\n\$ \./s2calc ([^<\n]*)\n(.*?)```", self.texts["docs/SCRIPT.md"], re.S):
             words, _, rest = words.partition(" | ")
-            status, out, error = ran(*words.split())
+            status, out, error = ran(*words.split(), cwd=TOP)
             with self.subTest(words=words):
                 if rest:
                     out = subprocess.run(rest, shell=True, input=out, stdout=subprocess.PIPE, check=True).stdout
                 self.assertEqual((out + error).decode(), text)
                 self.assertEqual(status, 2 if error else 0)
                 shown += 1
-        self.assertEqual(shown, 5)
+        self.assertEqual(shown, 6)
 
     def test_each_command_has_an_example(self):
         text = self.texts["docs/SCRIPT.md"]

@@ -41,6 +41,32 @@ class Picture:
         self.small = int(small[1]) if small else 0
 
 
+class Overlay:
+    """What is seen in a picture of several files: the color, the cells, the line and the legend of each."""
+
+    LAYER = re.compile(
+        r"<g class='c(\d)'>\n<path d='(.*?)'/>\n(?:<polyline class='curve' points='(.*?)'/>\n)?"
+        r"<rect x='2144' y='(\d+)' width='64' height='64'/><text x='2240' y='(\d+)'>(.*?): (\d+) cells</text>\n</g>\n"
+    )
+    SQUARE = re.compile(r"M(\d+),(\d+)h(\d+)v\3h-\3z")
+
+    def __init__(self, text):
+        between = text[text.index("</g>\n", text.index("<g id='faces'>")) + 5:text.index("<g id='edges'>")]
+        parts = self.LAYER.split(between)
+        assert not any(parts[::8]), parts[::8]
+        rows = [parts[at:at + 7] for at in range(1, len(parts), 8)]
+        squares = [[tuple(map(int, square)) for square in self.SQUARE.findall(row[1])] for row in rows]
+        for row, row_squares in zip(rows, squares):
+            assert not self.SQUARE.sub("", row[1])
+        levels = [[(11 - side.bit_length(), left, top, side) for left, top, side in row] for row in squares]
+        self.colors = [int(row[0]) for row in rows]
+        self.cells = [[cell_at(*square) for square in row] for row in levels]
+        self.middles = [[(left + side // 2, top + side // 2) for left, top, side in row] for row in squares]
+        self.lines = [row[2] and [tuple(map(int, point.split(","))) for point in row[2].split()] for row in rows]
+        self.places = [(int(row[3]), int(row[4])) for row in rows]
+        self.legend = [(row[5], int(row[6])) for row in rows]
+
+
 def seen(cells):
     """The cells as they are seen: those deeper than level 9 as their ancestors, and equal ones in a row once."""
     larger = [(min(level, 9), place // 4 ** max(level - 9, 0)) for level, place in cells]
@@ -112,6 +138,46 @@ class Pictures(unittest.TestCase):
         self.draws(["f", "--curve", "--dir", self.folder], normal)
         self.draws(["--dir", self.folder, "none"], [])
         self.assertEqual(ran("draw", "f", cwd=self.folder), ran("draw", "--dir", self.folder, "f"))
+
+    def overlays(self, files, *options):
+        """The picture of these files, by their names and cells, has their cells and their legend."""
+        for name, cells in files:
+            self.write(name, cells)
+        status, out, error = ran("draw", "--dir", self.folder, *options, *(name for name, cells in files))
+        self.assertEqual((status, error), (0, b""))
+        picture = Overlay(out.decode())
+        self.assertEqual(picture.colors, [k % 8 for k in range(len(files))])
+        self.assertEqual(picture.cells, [seen(cells) for name, cells in files])
+        self.assertEqual(picture.lines, picture.middles if "--curve" in options else [None] * len(files))
+        self.assertEqual(picture.legend, [(name, len(cells)) for name, cells in files])
+        self.assertEqual(picture.places, [(2240 + 96 * k, 2296 + 96 * k) for k in range(len(files))])
+        image = ElementTree.fromstring(out)
+        more = max(0, len(files) - 9)
+        self.assertEqual(image.get("height"), str(824 + 24 * more))
+        self.assertEqual(image.get("viewBox"), f"-96 -112 4288 {3296 + 96 * more}")
+
+    def test_several_files(self):
+        lists = [model.normal_form(model.joined(map(model.run_of, self.some_cells(60, 14)))) for _ in range(20)]
+        files = [(f"{k}_-.", cells) for k, cells in enumerate(lists)]
+        for count in (2, 3, 9, 10, 20):
+            self.overlays(files[:count])
+        self.overlays(files[:3], "--curve")
+        self.overlays([("a", lists[0]), ("none", []), ("a", lists[0])])
+
+    def test_refusals_of_several_files(self):
+        self.write("f", [(0, 1)])
+        self.write("short", [(0, 1)])
+        with open(os.path.join(self.folder, "short"), "r+b") as file:
+            file.truncate(10)
+        for names, refusal in (
+            (("f", "absent"), b"missing"), (("f", "f", "short", "absent"), b"format"),
+            (("absent", "short"), b"missing"), (("f", "<b>"), b"name"), (("absent", "../f"), b"name"), (("f", "a&b"), b"name"), (("", "f"), b"name"),
+        ):
+            with self.subTest(names=names):
+                answer = (1, b"error " + refusal + b"\n", b"")
+                self.assertEqual(ran("draw", "--dir", self.folder, *names), answer)
+        many = ["f"] * 65536
+        self.assertEqual(ran("draw", "--dir", self.folder, *many), (1, b"error too-many\n", b""))
 
     def test_a_million_cells(self):
         # Every second cell of level 9, and then leaves, four in each cell of level 9.

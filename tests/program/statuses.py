@@ -32,7 +32,7 @@ class Statuses(unittest.TestCase):
             b"cannot be used": ["run --limit 5 --limit 5", "draw f --cells 1", "draw --cells 1 -- f",
                                 "draw --dir d --cells 1"],
             b"unexpected argument": ["run --limit -5", "run --lim 5", "--limit 5 run", "run --colour", "run run",
-                                     "run x", "-- run", "cell 1 2", "check f g", "check --limit f", "draw f g",
+                                     "run x", "-- run", "cell 1 2", "check f g", "check --limit f",
                                      "draw -f", "draw --curves f"],
             b"unrecognized subcommand": ["ru", "RUN", "walk", "", "help foo"],
             b"requires a subcommand": ["--"],
@@ -109,7 +109,7 @@ class Statuses(unittest.TestCase):
             (["check"], b"<FILE>"),
             (["check", b"\xff"], b"invalid UTF-8 was detected in one or more arguments"),
             (["draw"], b"<FILE|--cells <CELL>...>"),
-            (["draw", "f", "--cells", "1"], b"'[FILE]' cannot be used with '--cells <CELL>...'"),
+            (["draw", "f", "--cells", "1"], b"'[FILE]...' cannot be used with '--cells <CELL>...'"),
             (["draw", "--dir", "d", "--cells", "1"], b"'--dir <PATH>' cannot be used with '--cells <CELL>...'"),
         ):
             with self.subTest(words=words):

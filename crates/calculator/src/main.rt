@@ -5,7 +5,7 @@ ghost use Rattle.std.specs.Prelude.{◌≤◌};
 
 use s2calc::{
     AnswerBuffer, Job, NoteWriter, RunFault, Stop, Tally, answer_status, cell_answer, check_answer,
-    draw_answer, draw_cells_answer, job, run_explained, run_promptly, status,
+    draw_answer, draw_cells_answer, job, overlay_answer, run_explained, run_promptly, status,
 };
 use s2edit::{Editor, MOST_CELLS, MOST_STATES};
 use s2shelf::DirShelf;
@@ -39,6 +39,7 @@ fn main(rt: HostRuntime) -> ExitCode {
         Ok(Job::Cell { word }) => answer_cell(&rt, &word),
         Ok(Job::Check { dir, name }) => answer_check(&rt, &dir, &name),
         Ok(Job::Draw { dir, name, curve }) => answer_draw(&rt, &dir, &name, curve),
+        Ok(Job::Overlay { dir, names, curve }) => answer_overlay(&rt, &dir, names.as_slice(), curve),
         Ok(Job::DrawCells { words, curve }) => answer_draw_cells(&rt, words.as_slice(), curve),
         Err(stop) => report_stop(&rt, &stop),
     }
@@ -106,6 +107,17 @@ fn answer_draw(rt: &HostRuntime, dir: &str, name: &str, curve: bool) -> ExitCode
     report_answer(
         rt,
         draw_answer(rt.alloc(), &mut shelf, name, curve, &mut io::writer(rt)),
+    )
+}
+
+/// Answers one `draw FILE FILE..`.
+fn answer_overlay(rt: &HostRuntime, dir: &str, names: &[String], curve: bool) -> ExitCode {
+    let Ok(mut shelf) = DirShelf::at(rt, dir) else {
+        return report_end(rt, &Err(RunFault::Memory));
+    };
+    report_answer(
+        rt,
+        overlay_answer(rt.alloc(), &mut shelf, names, curve, &mut io::writer(rt)),
     )
 }
 

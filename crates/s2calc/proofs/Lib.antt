@@ -10,6 +10,7 @@ pub mod FetchLemmas
 pub mod NoteLemmas
 pub mod OneRun
 pub mod OutputLemmas
+pub mod OverlayLemmas
 pub mod ReadLemmas
 pub mod RunLemmas
 pub mod ScriptLemmas

@@ -34,10 +34,10 @@ listing_last all done e = listing_end all done e
     ∙ ap (λ s. flat_map token_line done ++ s) (sym (append-nil (codes "end" ++ 10 ∷ [])))
 
 -- a list, cut round one of its elements
-pub cut_round : (cells : List ℕ) (i cell : ℕ) → i < length cells → cell ≡ get_or cells i cell →
-    take i cells ++ (cell ∷ drop (i + 1) cells) ≡ cells
-cut_round cells i cell h e = ap (λ c. take i cells ++ (c ∷ drop (i + 1) cells)) e
-    ∙ ap (λ s. take i cells ++ s) (sym (drop_more cells i cell h)) ∙ take-append-drop i cells
+pub cut_round : {A : Type 0} → (xs : List A) (i : ℕ) (x : A) → i < length xs → x ≡ get_or xs i x →
+    take i xs ++ (x ∷ drop (i + 1) xs) ≡ xs
+cut_round xs i x h e = ap (λ y. take i xs ++ (y ∷ drop (i + 1) xs)) e
+    ∙ ap (λ s. take i xs ++ s) (sym (drop_more xs i x h)) ∙ take-append-drop i xs
 
 -- the line of one more cell was written
 pub listed_more : (old mid new : Option (List ℕ)) (done text : List ℕ) (cell : ℕ) →

@@ -23,3 +23,4 @@ pub mod LawsScripts
 pub mod Program
 pub mod Check
 pub mod Draw
+pub mod Overlay

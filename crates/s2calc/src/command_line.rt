@@ -107,8 +107,23 @@ fn draw_job(alloc: Global, draw: &ArgMatches<'_>) -> Result<Option<Job>, AllocEr
             words: texts(alloc, words)?,
             curve,
         })),
-        None => Ok(Some(Job::Draw {
-            dir: text(alloc, draw, "dir")?,
+        None => file_job(alloc, draw, curve),
+    }
+}
+
+/// The picture of one file, or of several.
+fn file_job(alloc: Global, draw: &ArgMatches<'_>, curve: bool) -> Result<Option<Job>, AllocError>
+    ensures { IfOk result (λ job. IfSome job IsInRange) }
+{
+    let dir = text(alloc, draw, "dir")?;
+    match draw.get_strs("FILE") {
+        Some(names) if names.len() > 1 => Ok(Some(Job::Overlay {
+            dir,
+            names: texts(alloc, names)?,
+            curve,
+        })),
+        _ => Ok(Some(Job::Draw {
+            dir,
             name: text(alloc, draw, "FILE")?,
             curve,
         })),
@@ -185,18 +200,19 @@ fn check_command<'a>(alloc: Global) -> Result<Command<'a>, AllocError> {
         .arg(word(alloc, "FILE", "The name of a file in the folder"))
 }
 
-/// The command `draw`. Either the file or the cells are required.
+/// The command `draw`. Either files or cells are required.
 fn draw_command<'a>(alloc: Global) -> Result<Command<'a>, AllocError> {
     let drawn = ArgGroup::new(alloc, "drawn").arg("FILE")?.arg("cells")?;
     Command::new(alloc, "draw")
-        .about("Draws a union file, or cells, as an SVG image")
+        .about("Draws union files, or cells, as an SVG image")
         .after_help(PICTURE)
         .arg(dir(alloc).conflicts_with("cells")?)?
         .arg(cells(alloc))?
         .arg(curve(alloc))?
         .arg(
             Arg::new(alloc, "FILE")
-                .help("The name of a file in the folder")
+                .help("The name of a file in the folder; of several, each has its own color")
+                .num_args(1..)
                 .action(ArgAction::Set),
         )?
         .group(drawn.required(true))

@@ -7,8 +7,8 @@
 //! (`output`, `answer_buffer`). `refusal` says why a line is refused, `notes` writes that to whoever asks, `fault` is
 //! what ends a run, `streams` what it reads from and writes to, `flushing` when the writer is flushed; `limits` are the
 //! limits, `laws` laws about the definitions.
-//! For the program: `command_line`, `help` and `task` (what it is asked for), `program`, `check` and `draw` (its other
-//! answers).
+//! For the program: `command_line`, `help` and `task` (what it is asked for), `program`, `check`, `draw` and `overlay`
+//! (its other answers).
 #![tactic(auto)]
 
 mod answer;
@@ -29,6 +29,7 @@ pub mod laws;
 mod limits;
 mod notes;
 mod output;
+mod overlay;
 mod program;
 mod progress;
 mod questions;
@@ -44,6 +45,7 @@ pub use draw::{draw_answer, draw_cells_answer};
 pub use engine::{Tally, run, run_explained, run_promptly};
 pub use fault::RunFault;
 pub use notes::NoteWriter;
+pub use overlay::overlay_answer;
 pub use program::{answer_status, cell_answer, status};
 pub use refusal::Refusal;
 pub use streams::{Sink, Source};

@@ -20,7 +20,7 @@ pub enum Refusal {
     Session,
     /// A file with more states than are kept.
     TooDeep,
-    /// More cells than are allowed.
+    /// More cells, or files in one picture, than are allowed.
     TooMany,
     /// Nothing to undo, or to redo.
     Nothing,

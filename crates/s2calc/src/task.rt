@@ -30,6 +30,13 @@ pub enum Job {
         name: String,
         curve: bool,
     },
+    /// To draw what several files of a folder stand for in one picture, with the line through the cells of each if
+    /// `curve`.
+    Overlay {
+        dir: String,
+        names: Vec<String>,
+        curve: bool,
+    },
     /// To draw the cells that the words name, with the line through them if `curve`.
     DrawCells {
         words: Vec<String>,
