@@ -39,7 +39,12 @@ fn main(rt: HostRuntime) -> ExitCode {
         Ok(Job::Cell { word }) => answer_cell(&rt, &word),
         Ok(Job::Check { dir, name }) => answer_check(&rt, &dir, &name),
         Ok(Job::Draw { dir, name, curve }) => answer_draw(&rt, &dir, &name, curve),
-        Ok(Job::Overlay { dir, names, curve }) => answer_overlay(&rt, &dir, names.as_slice(), curve),
+        Ok(Job::Overlay { dir, names, curve }) => answer_overlay(
+            &rt,
+            &dir,
+            names.as_slice(),
+            curve,
+        ),
         Ok(Job::DrawCells { words, curve }) => answer_draw_cells(&rt, words.as_slice(), curve),
         Err(stop) => report_stop(&rt, &stop),
     }
