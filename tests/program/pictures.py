@@ -207,7 +207,7 @@ class Pictures(unittest.TestCase):
 
     def test_out_of_memory(self):
         def little_memory():
-            resource.setrlimit(resource.RLIMIT_AS, (96 << 20, 96 << 20))
+            resource.setrlimit(resource.RLIMIT_AS, (64 << 20, 64 << 20))
 
         self.write("most", [(9, place) for place in range(0, 6 * 4**9, 2)])
         done = ran("draw", "--dir", self.folder, "most", preexec_fn=little_memory)
