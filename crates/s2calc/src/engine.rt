@@ -184,8 +184,8 @@ pub fn run<R: Source, W: Sink, S: Shelf>(
 /// whole have. In both cases nothing waits in the buffer. After `Output` what was written is as [`run`] says, or a
 /// flush before a read failed, and then it is exactly the answers to the lines that were read whole, or a flush before
 /// or after a command with a file failed, and then it is exactly the answers to the lines that were carried out: those
-/// before the command, or the command too. At most 64 KiB of it wait in the buffer, and are lost when the buffer is
-/// dropped.
+/// before the command, or the command too. What has reached the writer below is a beginning of that: all of it but the
+/// bytes that wait, which are its last ones, at most 64 KiB, and are lost when the buffer is dropped.
 pub fn run_promptly<R: Source, W: Sink, S: Shelf>(
     alloc: Global,
     editor: &mut Editor,
