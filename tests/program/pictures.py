@@ -171,7 +171,8 @@ class Pictures(unittest.TestCase):
             file.truncate(10)
         for names, refusal in (
             (("f", "absent"), b"missing"), (("f", "f", "short", "absent"), b"format"),
-            (("absent", "short"), b"missing"), (("f", "<b>"), b"name"), (("absent", "../f"), b"name"), (("f", "a&b"), b"name"), (("", "f"), b"name"),
+            (("absent", "short"), b"missing"), (("f", "<b>"), b"name"), (("absent", "../f"), b"name"),
+            (("f", "a&b"), b"name"), (("", "f"), b"name"),
         ):
             with self.subTest(names=names):
                 answer = (1, b"error " + refusal + b"\n", b"")
