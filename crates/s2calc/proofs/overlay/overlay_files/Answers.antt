@@ -1,4 +1,5 @@
-use Rattle.std.proofs.Common.{◌+◌, ◌≡◌, ◌∷◌, [], ◌++◌, take, drop, length, sym, ap, refl, subst, ◌∙◌, inl, inr, rules, arith}
+use Rattle.std.proofs.Common.{◌+◌, ◌≡◌, ◌∷◌, [], ◌++◌, take, drop, length}
+use Rattle.std.proofs.Common.{sym, ap, refl, subst, ◌∙◌, inl, inr, rules, arith}
 use Rattle.std.proofs.Common.{length-take, map}
 use Rattle.std.specs.Prelude.{string_bytes}
 use Rattle.std.proofs.lemmas.List.{take_all, take_more}
