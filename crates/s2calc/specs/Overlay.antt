@@ -2,7 +2,7 @@
 use Rattle.std.specs.Prelude.{◌≡◌, ℕ, ◌⊎◌, ◌≤◌, ◌<◌, ◌^◌, Bool, false, true, List, [], ◌∷◌, ◌++◌, length}
 use Rattle.std.specs.Prelude.{Option, Result, Ok, Err}
 use Rattle.std.specs.List.{list_all}
-use Rattle.s2union.specs.Union.{IsNormalForm}
+use Rattle.s2list.specs.Union.{IsNormalForm}
 use Rattle.s2shelf.specs.Shelf.{Files}
 use Rattle.s2draw.specs.Overlay.{Layer, overlay}
 use Rattle.s2script.specs.declared.refusal.Refusal.TheVariants.{Name as NoName}

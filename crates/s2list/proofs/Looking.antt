@@ -117,12 +117,116 @@ leapt_last before looks far size more last l e s rest all k h f =
 abbrev pub Sought : (before after far : ℕ) → Type 0
 Sought before after far = (k : ℕ) → far < 2 ^ k → after ≤ before + 2 * k + 2
 
-pub sought_none : (looks : ℕ) → Sought looks looks 0
-sought_none looks k h = omega arith
+-- the looks of a search on a walk: one that goes by halves pays for the whole list
+abbrev pub SoughtAlong : (before after all at start result : ℕ) → Type 0
+SoughtAlong before after all at start result = (k : ℕ) → result - start < 2 ^ k →
+    (at ≡ 0 → start < result → all < 2 ^ k) → after ≤ before + 2 * k + 2
+
+pub sought_here : (looks all at start : ℕ) → SoughtAlong looks looks all at start start
+sought_here looks all at start k h g = omega arith
+
+-- how far a search on a walk is counted to get: as far as it got, or if it left the beginning of the list, all the way
+pub record Found (before after all at start result : ℕ) : Type 0 where
+  pub far : ℕ
+  pub sought : Sought before after far
+  pub counts : (far ≡ result - start) ⊎ ((at ≡ 0) × (start < result) × (far ≡ all))
+
+pub found_along : (before after all at start result : ℕ) → SoughtAlong before after all at start result → result ≤ all
+    → Found before after all at start result
+found_along before after all at start result s le =
+    ⊎_elim
+    (λ (h : 0 < at). record {
+      far = result - start;
+      sought = λ k f. s k f (λ z l. absurd (omega arith));
+      counts = inl refl;
+    })
+    (λ (h : at ≤ 0). ⊎_elim
+    (λ (l : start < result). record {
+      far = all;
+      sought = λ k f. s k (omega arith) (λ z g. f);
+      counts = inr (omega arith, l, refl);
+    })
+    (λ (l : result ≤ start). record {
+      far = result - start;
+      sought = λ k f. s k f (λ z g. absurd (omega arith));
+      counts = inl refl;
+    })
+    (cases_lt start result))
+    (cases_lt 0 at)
+
+-- how `far` a walk to the places `i` and `j` is counted to get: once in each list a search went all the way
+pub record Way (m n far i j : ℕ) : Type 0 where
+  pub by_x : ℕ
+  pub by_y : ℕ
+  pub most_x : by_x ≤ m
+  pub most_y : by_y ≤ n
+  pub none_x : i ≡ 0 → by_x ≡ 0
+  pub none_y : j ≡ 0 → by_y ≡ 0
+  pub all : far ≤ i + j + by_x + by_y
+
+pub way_none : (m n : ℕ) → Way m n 0 0 0
+way_none m n = record {
+  by_x = 0;
+  by_y = 0;
+  most_x = omega arith;
+  most_y = omega arith;
+  none_x = λ e. refl;
+  none_y = λ e. refl;
+  all = omega arith;
+}
+
+pub way_swap : (m n far i j : ℕ) → Way m n far i j → Way n m far j i
+way_swap m n far i j w = record {
+  by_x = w.by_y;
+  by_y = w.by_x;
+  most_x = w.most_y;
+  most_y = w.most_x;
+  none_x = w.none_y;
+  none_y = w.none_x;
+  all = let a = w.all in omega arith;
+}
+
+-- steps without a search
+pub way_later : (m n far i j next_i next_j : ℕ) → Way m n far i j → i ≤ next_i → j ≤ next_j → Way m n far next_i next_j
+way_later m n far i j next_i next_j w ii jj = record {
+  by_x = w.by_x;
+  by_y = w.by_y;
+  most_x = w.most_x;
+  most_y = w.most_y;
+  none_x = λ z. w.none_x (omega arith);
+  none_y = λ z. w.none_y (omega arith);
+  all = let a = w.all in omega arith;
+}
+
+-- a search in the first list, from the place `i` or one after it, and then perhaps a step
+pub way_on : (m n far i j start result next x : ℕ) → Way m n far i j → i ≤ start → start ≤ result → result ≤ next
+    → (x ≡ result - start) ⊎ ((i ≡ 0) × (start < result) × (x ≡ m)) → Way m n (far + x + (start - i)) next j
+way_on m n far i j start result next x w is sr rn found =
+    let a = w.all in
+    ⊎_elim
+    (λ (e : x ≡ result - start). record {
+      by_x = w.by_x;
+      by_y = w.by_y;
+      most_x = w.most_x;
+      most_y = w.most_y;
+      none_x = λ z. w.none_x (omega arith);
+      none_y = w.none_y;
+      all = omega arith;
+    })
+    (λ (e : (i ≡ 0) × (start < result) × (x ≡ m)). let z = w.none_x e.0 in let l = e.1 in let t = e.2 in record {
+      by_x = m;
+      by_y = w.by_y;
+      most_x = omega arith;
+      most_y = w.most_y;
+      none_x = λ z. absurd (omega arith);
+      none_y = w.none_y;
+      all = omega arith;
+    })
+    found
 
 -- `looks` in `turns` turns, which got `far` places on in both lists together
 pub record Spent (looks turns far : ℕ) : Type 0 where
-  pub most : (k : ℕ) → looks * 2 ^ k ≤ (4 * k + 6) * (2 ^ k * turns) + 2 * far
+  pub most : (k : ℕ) → looks * 2 ^ k + 2 * turns ≤ (4 * k + 6) * (2 ^ k * turns) + 2 * far
 
 -- a power of two is above its exponent
 pub above : (k : ℕ) → k + 1 ≤ 2 ^ k
@@ -144,7 +248,7 @@ sought_line before after far k s =
 
 -- a turn: a look and a search in each list
 spent_turn : (looks turns far a b e f x y next : ℕ) → Spent looks turns far → a ≤ looks + 1 → Sought a b x → e ≤ b + 1
-    → Sought e f y → far + x + y ≤ next → Spent f (turns + 1) next
+    → Sought e f y → far + x + y + 1 ≤ next → Spent f (turns + 1) next
 spent_turn looks turns far a b e f x y next s ea sb ee sf en = record {
   most = λ k.
       let h = s.most k in
@@ -155,17 +259,23 @@ spent_turn looks turns far a b e f x y next s ea sb ee sf en = record {
       omega arith;
 }
 
--- and one that ends the walk
+-- and one that ends the walk, which is counted to get twice through both lists at most
 spent_last : (looks turns far a b x last cells d : ℕ) → Spent looks turns far → a ≤ looks + 1 → Sought a b x
-    → last ≤ b + 1 → turns ≤ d → far + x ≤ cells → FewForTurns cells d last
-spent_last looks turns far a b x last cells d s ea sb el ht hf k h =
-    let p = s.most k in
-    let lb = sought_line a b x k sb in
-    let ma = mul-le-mul_right (2 ^ k) ea in
-    let ml = mul-le-mul_right (2 ^ k) el in
-    let t : turns * ((4 * k + 6) * 2 ^ k) ≤ d * ((4 * k + 6) * 2 ^ k) = mul-le-mul_right ((4 * k + 6) * 2 ^ k) ht in
-    let bound : last * 2 ^ k ≤ 8 * (d + 1) * (1 + k) * 2 ^ k = omega arith in
-    le_of_mul-le-mul_right bound (pow_pos k)
+    → last ≤ b + 1 → turns ≤ d → far + x ≤ 2 * cells → FewForTurns cells d last
+spent_last looks turns far a b x last cells d s ea sb el ht hf zero h =
+    let p : looks * 1 + 2 * turns ≤ 6 * (1 * turns) + 2 * far = s.most zero in
+    let l : b * 1 ≤ a * 1 + 2 * 1 + 2 * x = sought_line a b x zero sb in
+    let g : cells ≤ (d + 1) * 1 = h in
+    omega arith
+spent_last looks turns far a b x last cells d s ea sb el ht hf (suc k) h =
+    let p = s.most (suc k) in
+    let lb = sought_line a b x (suc k) sb in
+    let ma = mul-le-mul_right (2 ^ suc k) ea in
+    let ml = mul-le-mul_right (2 ^ suc k) el in
+    let t : turns * ((4 * suc k + 6) * 2 ^ suc k) ≤ d * ((4 * suc k + 6) * 2 ^ suc k) =
+    mul-le-mul_right ((4 * suc k + 6) * 2 ^ suc k) ht in
+    let bound : last * 2 ^ suc k ≤ 8 * (d + 1) * (1 + suc k) * 2 ^ suc k = omega arith in
+    le_of_mul-le-mul_right bound (pow_pos (suc k))
 
 -- ---- a walk beside a way to cut both lists
 
@@ -182,17 +292,21 @@ pub record Passed (D : ℕ → Type 0) (xs ys : List ℕ) (d a b turns i j : ℕ
 -- the turns of a walk that took `looks` to the places `i` and `j`
 pub record Walked (D : ℕ → Type 0) (xs ys : List ℕ) (looks i j : ℕ) : Type 0 where
   pub turns : ℕ
-  pub spent : Spent looks turns (i + j)
+  pub far : ℕ
+  pub spent : Spent looks turns far
+  pub way : Way (length xs) (length ys) far i j
   pub by_x : turns ≤ i + 1
   pub by_y : turns ≤ j
   pub some_x : 0 < turns → 0 < length xs
-  pub begun : turns ≡ 0 → i + j ≡ 0
+  pub begun : turns ≡ 0 → far + i + j ≡ 0
   pub passed : (d a b : ℕ) (cut : Alternates xs ys d a b) → Known D xs ys a b → Passed D xs ys d a b turns i j cut
 
 pub walked_none : (D : ℕ → Type 0) (xs ys : List ℕ) (looks : ℕ) → looks ≡ 0 → Walked D xs ys looks 0 0
 walked_none D xs ys looks e = record {
   turns = 0;
+  far = 0;
   spent = record { most = λ k. rw e (omega arith) };
+  way = way_none (length xs) (length ys);
   by_x = omega arith;
   by_y = omega arith;
   some_x = λ h. absurd (omega arith);
@@ -217,58 +331,78 @@ not_all D xs ys d a b turns i j cut known e hx hy hi hj live =
     rest)
     known
 
-pub walked_more : (D : ℕ → Type 0) (xs ys : List ℕ) (looks i j a b e f x y next_i next_j : ℕ)
+-- a turn: a search in `xs` from the place `i`, and one in `ys` after the place `j`
+pub walked_more : (D : ℕ → Type 0) (xs ys : List ℕ) (looks i j a b e f p next_i next_j : ℕ)
     → Walked D xs ys looks i j → i < length xs → j < length ys → ((l : ℕ) → l ≤ j → D l → ⊥)
     → ((k : ℕ) → k < length xs → first_leaf (get_or xs k 0) ≤ first_leaf (get_or ys j 0) → k < next_i)
     → (next_j < length ys → (next_i < length xs → first_leaf (get_or ys next_j 0) < first_leaf (get_or xs next_i 0))
     → D next_j)
-    → a ≤ looks + 1 → Sought a b x → e ≤ b + 1 → Sought e f y → i + j + x + y ≤ next_i + next_j
-    → (0 < j → i < next_i) → j < next_j → Walked D xs ys f next_i next_j
-walked_more D xs ys looks i j a b e f x y next_i next_j w hi hj live px dy ea sb ee sf far on_x on_y = record {
-  turns = w.turns + 1;
-  spent = spent_turn looks w.turns (i + j) a b e f x y (next_i + next_j) w.spent ea sb ee sf far;
-  by_x = let t = w.by_x in let s = w.by_y in
-      ⊎_elim (λ (h : 0 < j). let o = on_x h in omega arith) (λ (h : j ≤ 0). omega arith) (cases_lt 0 j);
-  by_y = let t = w.by_y in omega arith;
-  some_x = λ _. omega arith;
-  begun = λ h. absurd (omega arith);
-  passed = λ d p q cut known.
-      let v = w.passed d p q cut known in
-      let few = v.few in
-      let by_y : cut.y_cut w.turns ≤ j =
-      ⊎_elim (λ (h : cut.y_cut w.turns ≤ j). h) (λ (h : D j). absurd (live j (omega arith) h)) v.by_y in
-      let more : w.turns < d =
-      ⊎_elim
-      (λ (h : w.turns < d). h)
-      (λ (h : d ≤ w.turns). absurd (not_all D xs ys d p q w.turns i j cut known (omega arith) v.by_x by_y hi hj live))
-      (cases_lt w.turns d) in
-      let in_x = cut.x_within (w.turns + 1) in
-      let in_y = cut.y_within (w.turns + 1) in
-      let by_x : cut.x_cut (w.turns + 1) ≤ next_i =
-      ⊎_elim
-      (λ (h : next_i < cut.x_cut (w.turns + 1)).
-      let s = px next_i (omega arith) (cut.x_run w.turns next_i j more h by_y hj) in
-      absurd (omega arith))
-      (λ (h : cut.x_cut (w.turns + 1) ≤ next_i). h)
-      (cases_lt next_i (cut.x_cut (w.turns + 1))) in
-      record {
-        few = omega arith;
-        by_x = by_x;
-        by_y = ⊎_elim
-            (λ (h : next_j < cut.y_cut (w.turns + 1)).
-            inr (dy (omega arith) (λ g. cut.y_run w.turns next_i next_j more h by_x g)))
-            (λ (h : cut.y_cut (w.turns + 1) ≤ next_j). inl h)
-            (cases_lt next_j (cut.y_cut (w.turns + 1)));
-      };
-}
+    → a ≤ looks + 1 → SoughtAlong a b (length xs) i i p → i ≤ p → p ≤ next_i → p ≤ length xs
+    → e ≤ b + 1 → SoughtAlong e f (length ys) j (j + 1) next_j → j + 1 ≤ next_j → next_j ≤ length ys
+    → (0 < j → i < next_i) → Walked D xs ys f next_i next_j
+walked_more D xs ys looks i j a b e f place next_i next_j w hi hj live px dy ea sb ip pn in_p ee sf jn in_n on_x =
+    let x = found_along a b (length xs) i i place sb in_p in
+    let y = found_along e f (length ys) j (j + 1) next_j sf in_n in
+    let by_x = way_on (length xs) (length ys) w.far i j i place next_i x.far w.way (omega arith) ip pn x.counts in
+    let by_y = way_on (length ys) (length xs) (w.far + x.far + (i - i)) j next_i (j + 1) next_j next_j y.far
+    (way_swap (length xs) (length ys) (w.far + x.far + (i - i)) next_i j by_x) (omega arith) jn (omega arith)
+    y.counts in
+    record {
+      turns = w.turns + 1;
+      far = w.far + x.far + (i - i) + y.far + (j + 1 - j);
+      spent = spent_turn looks w.turns w.far a b e f x.far y.far _ w.spent ea x.sought ee y.sought (omega arith);
+      way = way_swap (length ys) (length xs) (w.far + x.far + (i - i) + y.far + (j + 1 - j)) next_j next_i by_y;
+      by_x = let t = w.by_x in let s = w.by_y in
+          ⊎_elim (λ (h : 0 < j). let o = on_x h in omega arith) (λ (h : j ≤ 0). omega arith) (cases_lt 0 j);
+      by_y = let t = w.by_y in omega arith;
+      some_x = λ _. omega arith;
+      begun = λ h. absurd (omega arith);
+      passed = λ d p q cut known.
+          let v = w.passed d p q cut known in
+          let few = v.few in
+          let by_y : cut.y_cut w.turns ≤ j =
+          ⊎_elim (λ (h : cut.y_cut w.turns ≤ j). h) (λ (h : D j). absurd (live j (omega arith) h)) v.by_y in
+          let more : w.turns < d =
+          ⊎_elim
+          (λ (h : w.turns < d). h)
+          (λ (h : d ≤ w.turns).
+          absurd (not_all D xs ys d p q w.turns i j cut known (omega arith) v.by_x by_y hi hj live))
+          (cases_lt w.turns d) in
+          let in_x = cut.x_within (w.turns + 1) in
+          let in_y = cut.y_within (w.turns + 1) in
+          let by_x : cut.x_cut (w.turns + 1) ≤ next_i =
+          ⊎_elim
+          (λ (h : next_i < cut.x_cut (w.turns + 1)).
+          let s = px next_i (omega arith) (cut.x_run w.turns next_i j more h by_y hj) in
+          absurd (omega arith))
+          (λ (h : cut.x_cut (w.turns + 1) ≤ next_i). h)
+          (cases_lt next_i (cut.x_cut (w.turns + 1))) in
+          record {
+            few = omega arith;
+            by_x = by_x;
+            by_y = ⊎_elim
+                (λ (h : next_j < cut.y_cut (w.turns + 1)).
+                inr (dy (omega arith) (λ g. cut.y_run w.turns next_i next_j more h by_x g)))
+                (λ (h : cut.y_cut (w.turns + 1) ≤ next_j). inl h)
+                (cases_lt next_j (cut.y_cut (w.turns + 1)));
+          };
+    }
 
 -- the looks of a walk that ends in a turn
-pub walked_last : (D : ℕ → Type 0) (xs ys : List ℕ) (looks i j a b x last : ℕ) → Walked D xs ys looks i j
-    → a ≤ looks + 1 → Sought a b x → last ≤ b + 1 → i + j + x ≤ length xs + length ys
-    → (d p q : ℕ) → Alternates xs ys d p q → Known D xs ys p q → FewForTurns (length xs + length ys) d last
-walked_last D xs ys looks i j a b x last w ea sb el far d p q cut known =
-    spent_last looks w.turns (i + j) a b x last (length xs + length ys) d w.spent ea sb el
-    ((w.passed d p q cut known).few) far
+pub walked_last : (D : ℕ → Type 0) (xs ys : List ℕ) (looks i j a b p last : ℕ) → Walked D xs ys looks i j
+    → a ≤ looks + 1 → SoughtAlong a b (length xs) i i p → i ≤ p → p ≤ length xs → j ≤ length ys → last ≤ b + 1
+    → (d u v : ℕ) → Alternates xs ys d u v → Known D xs ys u v → FewForTurns (length xs + length ys) d last
+walked_last D xs ys looks i j a b p last w ea sb ip in_p in_j el d u v cut known =
+    let x = found_along a b (length xs) i i p sb in_p in
+    let way = way_on (length xs) (length ys) w.far i j i p p x.far w.way (omega arith) ip (omega arith) x.counts in
+    let most_x = way.most_x in
+    let most_y = way.most_y in
+    let all = way.all in
+    spent_last looks w.turns w.far a b x.far last (length xs + length ys) d w.spent ea x.sought el
+    ((w.passed d u v cut known).few) (omega arith)
+
+zero_of_sum : (far i j : ℕ) → far + i + j ≡ 0 → far ≡ 0
+zero_of_sum far i j h = omega arith
 
 -- and by the sizes of the lists
 few_from : (a b d k last : ℕ) → d ≡ min a b → 0 < d → max a b ≤ (d + 1) * 2 ^ k
@@ -280,25 +414,31 @@ few_from a b d k last e some h all =
     let p : 1 * k ≤ d * k = mul-le-mul_right k some in
     omega arith
 
-pub walked_few : (D : ℕ → Type 0) (xs ys : List ℕ) (looks i j a b x last : ℕ) → Walked D xs ys looks i j
-    → a ≤ looks + 1 → Sought a b x → last ≤ b + 1 → i + x ≤ length xs → j ≤ length ys → (j < length ys) ⊎ (x ≡ 0)
-    → FewForUnion (length xs) (length ys) last
-walked_few D xs ys looks i j a b x last w ea sb el hx hy end k h =
+pub walked_few : (D : ℕ → Type 0) (xs ys : List ℕ) (looks i j a b p last : ℕ) → Walked D xs ys looks i j
+    → a ≤ looks + 1 → SoughtAlong a b (length xs) i i p → i ≤ p → p ≤ length xs → j ≤ length ys → last ≤ b + 1
+    → (j < length ys) ⊎ (p ≡ i) → FewForUnion (length xs) (length ys) last
+walked_few D xs ys looks i j a b p last w ea sb ip in_p in_j el end k h =
+    let x = found_along a b (length xs) i i p sb in_p in
+    let way = way_on (length xs) (length ys) w.far i j i p p x.far w.way (omega arith) ip (omega arith) x.counts in
+    let most_x = way.most_x in
+    let most_y = way.most_y in
+    let all = way.all in
     let by_x = w.by_x in
     let by_y = w.by_y in
     ⊎_elim
     (λ (some : 0 < min (length xs) (length ys)).
     few_from (length xs) (length ys) (min (length xs) (length ys)) k last refl some h
-    (spent_last looks w.turns (i + j) a b x last (length xs + length ys) (min (length xs) (length ys) + 1) w.spent ea sb
-    el (omega arith) (omega arith)))
+    (spent_last looks w.turns w.far a b x.far last (length xs + length ys) (min (length xs) (length ys) + 1) w.spent ea
+    x.sought el (omega arith) (omega arith)))
     (λ (none : min (length xs) (length ys) ≤ 0).
     let still : w.turns ≡ 0 =
     ⊎_elim (λ (t : 0 < w.turns). let s = w.some_x t in omega arith) (λ (t : w.turns ≤ 0). omega arith)
     (cases_lt 0 w.turns) in
     let begun = w.begun still in
     let one : 2 ^ 0 ≡ 1 = refl in
-    let spent : looks * 2 ^ 0 ≤ (4 * 0 + 6) * (2 ^ 0 * 0) + 2 * 0 = rw (still, begun) at (w.spent.most 0) in
-    let short : x ≡ 0 = ⊎_elim (λ (l : j < length ys). omega arith) (λ (e : x ≡ 0). e) end in
-    let s = sb 0 (omega arith) in
+    let spent : looks * 2 ^ 0 + 2 * 0 ≤ (4 * 0 + 6) * (2 ^ 0 * 0) + 2 * 0 =
+    rw (still, zero_of_sum w.far i j begun) at (w.spent.most 0) in
+    let short : p ≤ i = ⊎_elim (λ (l : j < length ys). omega arith) (λ (e : p ≡ i). omega arith) end in
+    let s = sb 0 (omega arith) (λ z l. absurd (omega arith)) in
     omega arith)
     (cases_lt 0 (min (length xs) (length ys)))

@@ -141,7 +141,13 @@ pub fn find_between<C: Cells>(cells: &C, start: usize, end: usize, lo: u64) -> u
 }
 
 /// The same, counted. Each look halves what is left.
-fn narrow<C: Cells, K: Count>(cells: &C, start: usize, end: usize, lo: u64, count: &mut K) -> usize
+pub(crate) fn narrow<C: Cells, K: Count>(
+    cells: &C,
+    start: usize,
+    end: usize,
+    lo: u64,
+    count: &mut K,
+) -> usize
     requires order { start ≤ end }
     requires within { end ≤ length (C.ids cells.now) }
     ensures from { start ≤ result }
@@ -222,7 +228,7 @@ pub fn find_near<C: Cells>(cells: &C, near: usize, lo: u64) -> usize
 
 /// Whether a cell ends by the leaf `lo`.
 #[inline(always)]
-fn ends_by(id: u64, lo: u64) -> bool
+pub(crate) fn ends_by(id: u64, lo: u64) -> bool
     ensures { IsCell id → (IsTrue result ↔ (first_leaf id + size_of id ≤ lo)) }
 {
     end_of(id) <= lo

@@ -7,6 +7,7 @@
 //! call that nobody counts has no code for it.
 #![tactic(auto)]
 
+mod along;
 mod ask;
 mod cells;
 mod find;
@@ -16,6 +17,7 @@ mod run;
 mod walk;
 mod whole;
 
+pub use along::find_along;
 pub use ask::{
     contains_cell, contains_cell_at, contains_cell_counted, intersects_cell, intersects_cell_at,
     intersects_cell_counted, place_near,

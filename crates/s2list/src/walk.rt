@@ -5,6 +5,7 @@ ghost use Rattle.s2cell.specs.Cell.{IsCell, first_leaf, size_of};
 ghost use Rattle.s2list.specs.Union.{IsLocal, IsWithin, ShareSome, has_leaf};
 ghost use Rattle.s2list.specs.Looks.{Alternates, FewForTurns, FewForUnion, KnownToHold, KnownToMeet};
 
+use crate::along::find_along;
 use crate::cells::Cells;
 use crate::find::{end_of, find_from_counted, first_of};
 use crate::looks::{Count, Counted, Looks, Uncounted, look};
@@ -85,7 +86,7 @@ fn holds_all<X: Cells, Y: Cells, K: Count>(xs: &X, ys: &Y, count: &mut K) -> boo
     let mut j = 0;
     while j < n {
         let y = look(ys, j, count);
-        i = find_from_counted(xs, i, first_of(y), count);
+        i = find_along(xs, i, i, first_of(y), count);
         if i >= m {
             return false;
         }
@@ -118,7 +119,7 @@ fn meets_any<X: Cells, Y: Cells, K: Count>(xs: &X, ys: &Y, count: &mut K) -> boo
     let mut j = 0;
     while j < n {
         let y = look(ys, j, count);
-        i = find_from_counted(xs, i, first_of(y), count);
+        i = find_along(xs, i, i, first_of(y), count);
         if i >= m {
             return false;
         }
@@ -128,7 +129,7 @@ fn meets_any<X: Cells, Y: Cells, K: Count>(xs: &X, ys: &Y, count: &mut K) -> boo
         if begin < end {
             return true;
         }
-        j = find_from_counted(ys, j + 1, begin, count);
+        j = find_along(ys, j, j + 1, begin, count);
     }
     false
 }

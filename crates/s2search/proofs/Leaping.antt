@@ -12,7 +12,8 @@ use Rattle.s2list.specs.Packed.{EndsAfter, FirstEndBy}
 use Rattle.s2list.proofs.Checking.{packed_from_local}
 use Rattle.s2list.proofs.Finding.{ends_later, starts_later}
 use Rattle.s2list.specs.Looks.{Alternates, FewForTurnsAndCells}
-use Rattle.s2list.proofs.Looking.{Sought, above, sought_line}
+use Rattle.s2list.proofs.Looking.{Sought, SoughtAlong, Way, above, found_along, sought_line, way_later, way_none}
+use Rattle.s2list.proofs.Looking.{way_on, way_swap}
 use Rattle.s2list.proofs.Turns.{ended_next}
 
 -- ---- looks
@@ -46,10 +47,10 @@ paid_run looks written leaps far a b e x next p ea eb s en = record {
 }
 
 -- the looks of the turns are few
-few_turns : (d k : ℕ) → (2 * suc k + 4) * (2 * d + 1) + 2 * (d + 1) ≤ 8 * (d + 1) * (1 + suc k)
+few_turns : (d k : ℕ) → (2 * suc k + 4) * (2 * d + 1) + 4 * (d + 1) ≤ 8 * (d + 1) * (1 + suc k)
 few_turns d k = omega arith
 
-paid_all : (looks written leaps far cells d : ℕ) → Paid looks written leaps far → leaps ≤ 2 * d + 1 → far ≤ cells
+paid_all : (looks written leaps far cells d : ℕ) → Paid looks written leaps far → leaps ≤ 2 * d + 1 → far ≤ 2 * cells
     → FewForTurnsAndCells cells d written looks
 paid_all looks written leaps far cells d p few le zero h =
     let m : looks * 1 + 2 * leaps ≤ 4 * (1 * leaps) + 2 * far + 4 * (written * 1) = p.most zero in
@@ -59,7 +60,7 @@ paid_all looks written leaps far cells d p few le (suc k) h =
     let m = p.most (suc k) in
     let t : leaps * ((2 * suc k + 4) * 2 ^ suc k) ≤ (2 * d + 1) * ((2 * suc k + 4) * 2 ^ suc k) =
     mul-le-mul_right ((2 * suc k + 4) * 2 ^ suc k) few in
-    let f : ((2 * suc k + 4) * (2 * d + 1) + 2 * (d + 1)) * 2 ^ suc k ≤ 8 * (d + 1) * (1 + suc k) * 2 ^ suc k =
+    let f : ((2 * suc k + 4) * (2 * d + 1) + 4 * (d + 1)) * 2 ^ suc k ≤ 8 * (d + 1) * (1 + suc k) * 2 ^ suc k =
     mul-le-mul_right (2 ^ suc k) (few_turns d k) in
     let bound : looks * 2 ^ suc k ≤ (8 * (d + 1) * (1 + suc k) + 4 * written) * 2 ^ suc k = omega arith in
     le_of_mul-le-mul_right bound (pow_pos (suc k))
@@ -199,7 +200,9 @@ ahead_leap xs ys d leaps i j next cut lx ly a hi hj ended apart le ends =
 pub record Stepped (xs ys : List ℕ) (looks written i j : ℕ) : Type 0 where
   pub x_leaps : ℕ
   pub y_leaps : ℕ
-  pub paid : Paid looks written (x_leaps + y_leaps) (i + j)
+  pub far : ℕ
+  pub paid : Paid looks written (x_leaps + y_leaps) far
+  pub way : Way (length xs) (length ys) far i j
   pub ended_x : j < length ys → FirstEndBy xs i (first_leaf (get_or ys j 0))
   pub ended_y : i < length xs → FirstEndBy ys j (first_leaf (get_or xs i 0))
   pub by_x : (d : ℕ) (cut : Cut xs ys d) → Ahead xs ys d x_leaps i j cut
@@ -209,7 +212,9 @@ pub stepped_none : (xs ys : List ℕ) (looks : ℕ) → looks ≡ 0 → Stepped 
 stepped_none xs ys looks e = record {
   x_leaps = 0;
   y_leaps = 0;
+  far = 0;
   paid = record { most = λ k. rw e (omega arith) };
+  way = way_none (length xs) (length ys);
   ended_x = λ h k l. absurd (omega arith);
   ended_y = λ h k l. absurd (omega arith);
   by_x = ahead_none xs ys;
@@ -221,11 +226,12 @@ pub stepped_swap : (xs ys : List ℕ) (looks written i j : ℕ) → Stepped xs y
 stepped_swap xs ys looks written i j s =
     let p = s.paid in
     let l : s.y_leaps + s.x_leaps ≡ s.x_leaps + s.y_leaps = omega arith in
-    let f : j + i ≡ i + j = omega arith in
     record {
       x_leaps = s.y_leaps;
       y_leaps = s.x_leaps;
-      paid = rw (l, f) p;
+      far = s.far;
+      paid = rw l p;
+      way = way_swap (length xs) (length ys) s.far i j s.way;
       ended_x = s.ended_y;
       ended_y = s.ended_x;
       by_x = s.by_y;
@@ -246,15 +252,20 @@ pub stepped_leap : (xs ys : List ℕ) (looks written i j a b e next : ℕ) → I
     → Stepped xs ys looks written i j → i < length xs → j < length ys
     → first_leaf (get_or xs i 0) + size_of (get_or xs i 0) ≤ first_leaf (get_or ys j 0) → i + 1 ≤ next
     → FirstEndBy xs next (first_leaf (get_or ys j 0)) → EndsAfter xs next (first_leaf (get_or ys j 0))
-    → a ≤ looks + 1 → b ≤ a + 1 → Sought b e (next - (i + 1)) → Stepped xs ys e written next j
-stepped_leap xs ys looks written i j a b e next lx ly s hi hj apart le ended ends ea eb sought =
-    let p = paid_leap looks written (s.x_leaps + s.y_leaps) (i + j) a b e (next - (i + 1)) (next + j) s.paid ea eb
-    sought (omega arith) in
+    → a ≤ looks + 1 → b ≤ a + 1 → SoughtAlong b e (length xs) i (i + 1) next → next ≤ length xs
+    → Stepped xs ys e written next j
+stepped_leap xs ys looks written i j a b e next lx ly s hi hj apart le ended ends ea eb sought in_x =
+    let x = found_along b e (length xs) i (i + 1) next sought in_x in
+    let p = paid_leap looks written (s.x_leaps + s.y_leaps) s.far a b e x.far (s.far + x.far + (i + 1 - i)) s.paid ea eb
+    x.sought (omega arith) in
     let l : s.x_leaps + 1 + s.y_leaps ≡ s.x_leaps + s.y_leaps + 1 = omega arith in
     record {
       x_leaps = s.x_leaps + 1;
       y_leaps = s.y_leaps;
+      far = s.far + x.far + (i + 1 - i);
       paid = rw l p;
+      way = way_on (length xs) (length ys) s.far i j (i + 1) next next x.far s.way (omega arith) le (omega arith)
+          x.counts;
       ended_x = λ _. ended;
       ended_y = ended_still xs ys i j next lx s.ended_y (omega arith);
       by_x = λ d cut. ahead_leap xs ys d s.x_leaps i j next cut lx ly (s.by_x d cut) hi hj (s.ended_y hi) apart
@@ -272,13 +283,15 @@ pub stepped_run : (xs ys : List ℕ) (looks written i j a b e next : ℕ) → Is
     → EndsAfter xs next (first_leaf (get_or ys j 0) + size_of (get_or ys j 0))
     → a ≤ looks + 1 → b ≤ a + 1 → Sought b e (next - (i + 1)) → Stepped xs ys e (written + (next - i)) next (j + 1)
 stepped_run xs ys looks written i j a b e next lx ly s hi hj low high le ended ends ea eb sought =
-    let p = paid_run looks written (s.x_leaps + s.y_leaps) (i + j) a b e (next - (i + 1)) (next + (j + 1)) s.paid ea eb
-    sought (omega arith) in
+    let p = paid_run looks written (s.x_leaps + s.y_leaps) s.far a b e (next - (i + 1)) s.far s.paid ea eb sought
+    (omega arith) in
     let w : next - i ≡ next - (i + 1) + 1 = omega arith in
     record {
       x_leaps = s.x_leaps;
       y_leaps = s.y_leaps;
+      far = s.far;
       paid = rw w p;
+      way = way_later (length xs) (length ys) s.far i j next (j + 1) s.way (omega arith) (omega arith);
       ended_x = λ h k l.
           let e = ended k l in
           let c : first_leaf (get_or ys j 0) + size_of (get_or ys j 0) ≤ first_leaf (get_or ys (j + 1) 0) =
@@ -296,4 +309,7 @@ pub stepped_all : (xs ys : List ℕ) (looks written i j d : ℕ) → Stepped xs 
 stepped_all xs ys looks written i j d s hx hy cut =
     let x = (s.by_x d (cut_whole xs ys d cut)).few in
     let y = (s.by_y (d + 1) (cut_swap xs ys d cut)).few in
-    paid_all looks written (s.x_leaps + s.y_leaps) (i + j) (length xs + length ys) d s.paid (omega arith) (omega arith)
+    let most_x = s.way.most_x in
+    let most_y = s.way.most_y in
+    let all = s.way.all in
+    paid_all looks written (s.x_leaps + s.y_leaps) s.far (length xs + length ys) d s.paid (omega arith) (omega arith)

@@ -16,7 +16,7 @@ use Rattle.s2list.proofs.Shared.{Sharing, both, held_else, share_x, sharing_done
 use Rattle.s2list.specs.Looks.{Alternates, FewForTurnsAndCells}
 use Rattle.s2search.specs.Room.{IsPut, PutsOne}
 use Rattle.s2search.proofs.Leaping.{Stepped, stepped_all, stepped_leap, stepped_none, stepped_run, stepped_swap}
-use Rattle.s2list.proofs.Looking.{Sought}
+use Rattle.s2list.proofs.Looking.{Sought, SoughtAlong}
 use Rattle.s2search.proofs.Putting.{put_none, puts_length, puts_normal}
 
 -- a list of what is shared so far is in the room, and `looks` is how often the walk has looked
@@ -59,7 +59,7 @@ pub shared_skip : (S : ℕ → Bool) (xs ys room out : List ℕ) (n looks a b c 
     → y ≡ get_or ys j 0 → (IsCell x → end ≡ first_leaf x + size_of x) → (IsCell y → first ≡ first_leaf y) → end ≤ first
     → i + 1 ≤ next → next ≤ length xs → (IsPacked xs → FirstEndBy xs (i + 1) first → FirstEndBy xs next first)
     → (IsPacked xs → FirstEndBy xs (i + 1) first → EndsAfter xs next first) → a ≤ looks + 1 → b ≤ a + 1
-    → Sought b c (next - (i + 1)) → SharingIn S xs ys room out n c next j
+    → SoughtAlong b c (length xs) i (i + 1) next → SharingIn S xs ys room out n c next j
 shared_skip S xs ys room out n looks a b c i j next x y end first lx ly s h g rx ry ends begins apart le in_x leap past
     ea eb sought =
     let cx : IsCell x = rw rx (lx.cells i 0 h) in
@@ -76,7 +76,7 @@ shared_skip S xs ys room out n looks a b c i j next x y end first lx ly s h g rx
       sharing = skip_x S xs ys s.list i j next (get_or ys j 0) lx ly s.sharing g
           (is_at ys j (get_or ys j 0) g refl) (omega arith) in_x ended;
       stepped = stepped_leap xs ys looks (length s.list) i j a b c next lx ly s.stepped h g (omega arith) le ended later
-          ea eb sought;
+          ea eb sought in_x;
     }
 
 -- the next cell of xs lies in the next of ys, and all up to a place are put into the room

@@ -79,9 +79,9 @@ fn put_shared<X: Cells, Y: Cells, K: Count>(xs: &X, ys: &Y, out: &mut [u64], cou
         let x_end = end_of(x);
         let y_end = end_of(y);
         if x_end <= y_first {
-            i = find_from_counted(xs, i + 1, y_first, count);
+            i = find_along(xs, i, i + 1, y_first, count);
         } else if y_end <= x_first {
-            j = find_from_counted(ys, j + 1, x_first, count);
+            j = find_along(ys, j, j + 1, x_first, count);
         } else if is_within(x_first, x_end, y_first, y_end) {
             let next = find_from_counted(xs, i + 1, y_end, count);
             n = put_run(out, n, xs, i, next);

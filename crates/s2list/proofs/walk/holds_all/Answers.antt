@@ -1,4 +1,4 @@
-use Rattle.std.proofs.Common.{◌≡◌, ◌+◌, ◌-◌, ◌<◌, ◌≤◌, length, get_or, refl, sym, ◌∙◌, arith, inl, inr}
+use Rattle.std.proofs.Common.{◌≡◌, ◌+◌, ◌<◌, ◌≤◌, length, get_or, refl, sym, ◌∙◌, arith, inl, inr}
 use Rattle.std.proofs.Math.Logic.{⊎_elim}
 use Rattle.std.proofs.lemmas.Bool.{cases_lt, false≢true}
 use Rattle.s2cell.specs.Cell.{IsCell, covers, first_leaf, size_of}
@@ -7,7 +7,7 @@ use Rattle.s2list.specs.Packed.{EndsAfter, FirstEndBy}
 use Rattle.s2list.proofs.Checking.{packed_from_local}
 use Rattle.s2list.proofs.Finding.{ended_to, held_at}
 use Rattle.s2list.proofs.Asking.{all_within, part_within}
-use Rattle.s2list.proofs.Looking.{sought_none, walked_few, walked_last, walked_more, walked_none}
+use Rattle.s2list.proofs.Looking.{sought_here, walked_few, walked_last, walked_more, walked_none}
 use Rattle.s2list.proofs.Turns.{begun_up, ended_next, held_more, lacks_next}
 use Rattle.s2list.proofs.walk.holds_all.Goals as goal
 
@@ -30,8 +30,8 @@ loop-j-preserved g c =
     let v = c.loop-j.invariant in
     let j = c.loop-j.j in
     let hj : j < length ys = omega arith in
-    let i = c.find_from_counted-i.result in
-    let fi = c.find_from_counted-i.ensures in
+    let i = c.find_along-i.result in
+    let fi = c.find_along-i.ensures in
     let fj = c.find_from_counted-j.ensures in
     record {
       in_x = omega arith;
@@ -114,12 +114,13 @@ loop-j-preserved g c =
           let more_y = c.look-y.ensures.count in
           let more_x = c.look-x.ensures.count in
           walked_more (λ k. IsWithin (covers (get_or ys k 0)) (has_leaf xs) → ⊥) xs ys _ c.loop-j.i j _ _ _ _
-          (i - c.loop-j.i) (next - (j + 1)) (i + 1) next (v.walked lx ly) (omega arith) hj
+          i (i + 1) next (v.walked lx ly) (omega arith) hj
           (λ l h d. d (held_more xs ys i j next lx ly hi fj.within inside.0 passed (v.held lx ly) l (omega arith)))
           (begun_up xs i (first_leaf (get_or ys j 0)) lx after)
           (lacks_next xs ys (i + 1) next lx ly
           (ended_next xs ys i j next lx ly hi hj (omega arith) inside.0 inside.1 ends))
-          (omega arith) fi.looks (omega arith) fj.looks (omega arith) (λ _. omega arith) (omega arith);
+          (omega arith) fi.looks fi.from (omega arith) fi.within (omega arith) (λ k f _. fj.looks k f) fj.from
+          fj.within (λ _. omega arith);
       some = λ _.
           let more_y = c.look-y.ensures.count in
           let more_x = c.look-x.ensures.count in
@@ -137,8 +138,8 @@ returns-then-i-m-clause-answer g c lx ly =
     let v = c.loop-j.invariant in
     let j = c.loop-j.j in
     let hj : j < length ys = omega arith in
-    let i = c.find_from_counted-i.result in
-    let fi = c.find_from_counted-i.ensures in
+    let i = c.find_along-i.result in
+    let fi = c.find_along-i.ensures in
     let cy : IsCell (get_or ys j 0) = ly.cells j 0 hj in
     let begin : c.first_of.result ≡ first_leaf (get_or ys j 0) = rw c.look-y.ensures.id at
     (c.first_of.ensures (rw c.look-y.ensures.id cy)) in
@@ -161,13 +162,13 @@ returns-then-i-m-clause-looks g c lx ly =
     let v = c.loop-j.invariant in
     let j = c.loop-j.j in
     let hj : j < length ys = omega arith in
-    let i = c.find_from_counted-i.result in
-    let fi = c.find_from_counted-i.ensures in
+    let i = c.find_along-i.result in
+    let fi = c.find_along-i.ensures in
     let on = fi.from in
     let w = fi.within in
     let more_y = c.look-y.ensures.count in
-    walked_last (λ k. IsWithin (covers (get_or ys k 0)) (has_leaf xs) → ⊥) xs ys _ c.loop-j.i j _ _ (i - c.loop-j.i) _
-    (v.walked lx ly) (omega arith) fi.looks (omega arith) (omega arith)
+    walked_last (λ k. IsWithin (covers (get_or ys k 0)) (has_leaf xs) → ⊥) xs ys _ c.loop-j.i j _ _ i _
+    (v.walked lx ly) (omega arith) fi.looks fi.from fi.within (omega arith) (omega arith)
 
 pub returns-then-i-m-clause-sizes : goal.returns-then-i-m-clause-sizes
 returns-then-i-m-clause-sizes g c lx ly =
@@ -178,21 +179,21 @@ returns-then-i-m-clause-sizes g c lx ly =
     let v = c.loop-j.invariant in
     let j = c.loop-j.j in
     let hj : j < length ys = omega arith in
-    let i = c.find_from_counted-i.result in
-    let fi = c.find_from_counted-i.ensures in
+    let i = c.find_along-i.result in
+    let fi = c.find_along-i.ensures in
     let on = fi.from in
     let w = fi.within in
     let more_y = c.look-y.ensures.count in
-    walked_few (λ k. IsWithin (covers (get_or ys k 0)) (has_leaf xs) → ⊥) xs ys _ c.loop-j.i j _ _ (i - c.loop-j.i) _
-    (v.walked lx ly) (omega arith) fi.looks (omega arith) (omega arith) (omega arith) (inl hj)
+    walked_few (λ k. IsWithin (covers (get_or ys k 0)) (has_leaf xs) → ⊥) xs ys _ c.loop-j.i j _ _ i _
+    (v.walked lx ly) (omega arith) fi.looks fi.from fi.within (omega arith) (omega arith) (inl hj)
 
 pub returns-then-i-m-clause-least : goal.returns-then-i-m-clause-least
 returns-then-i-m-clause-least g c hx hy =
     let v = c.loop-j.invariant in
     let more_y = c.look-y.ensures.count in
-    let f = c.find_from_counted-i.ensures.least in
+    let f = c.find_along-i.ensures.least in
     ⊎_elim (λ (h : 0 < c.loop-j.i + c.loop-j.j). let s = v.some h in omega arith)
-    (λ (h : c.loop-j.i + c.loop-j.j ≤ 0). let s = c.find_from_counted-i.ensures.some (omega arith) in omega arith)
+    (λ (h : c.loop-j.i + c.loop-j.j ≤ 0). let s = c.find_along-i.ensures.some (omega arith) in omega arith)
     (cases_lt 0 (c.loop-j.i + c.loop-j.j))
 
 pub returns-then-not-lies_in-clause-answer : goal.returns-then-not-lies_in-clause-answer
@@ -204,8 +205,8 @@ returns-then-not-lies_in-clause-answer g c lx ly =
     let v = c.loop-j.invariant in
     let j = c.loop-j.j in
     let hj : j < length ys = omega arith in
-    let i = c.find_from_counted-i.result in
-    let fi = c.find_from_counted-i.ensures in
+    let i = c.find_along-i.result in
+    let fi = c.find_along-i.ensures in
     let cy : IsCell (get_or ys j 0) = ly.cells j 0 hj in
     let begin : c.first_of.result ≡ first_leaf (get_or ys j 0) = rw c.look-y.ensures.id at
     (c.first_of.ensures (rw c.look-y.ensures.id cy)) in
@@ -231,14 +232,14 @@ returns-then-not-lies_in-clause-looks g c lx ly =
     let v = c.loop-j.invariant in
     let j = c.loop-j.j in
     let hj : j < length ys = omega arith in
-    let i = c.find_from_counted-i.result in
-    let fi = c.find_from_counted-i.ensures in
+    let i = c.find_along-i.result in
+    let fi = c.find_along-i.ensures in
     let on = fi.from in
     let w = fi.within in
     let more_y = c.look-y.ensures.count in
     let more_x = c.look-x.ensures.count in
-    walked_last (λ k. IsWithin (covers (get_or ys k 0)) (has_leaf xs) → ⊥) xs ys _ c.loop-j.i j _ _ (i - c.loop-j.i) _
-    (v.walked lx ly) (omega arith) fi.looks (omega arith) (omega arith)
+    walked_last (λ k. IsWithin (covers (get_or ys k 0)) (has_leaf xs) → ⊥) xs ys _ c.loop-j.i j _ _ i _
+    (v.walked lx ly) (omega arith) fi.looks fi.from fi.within (omega arith) (omega arith)
 
 pub returns-then-not-lies_in-clause-sizes : goal.returns-then-not-lies_in-clause-sizes
 returns-then-not-lies_in-clause-sizes g c lx ly =
@@ -249,20 +250,20 @@ returns-then-not-lies_in-clause-sizes g c lx ly =
     let v = c.loop-j.invariant in
     let j = c.loop-j.j in
     let hj : j < length ys = omega arith in
-    let i = c.find_from_counted-i.result in
-    let fi = c.find_from_counted-i.ensures in
+    let i = c.find_along-i.result in
+    let fi = c.find_along-i.ensures in
     let on = fi.from in
     let w = fi.within in
     let more_y = c.look-y.ensures.count in
     let more_x = c.look-x.ensures.count in
-    walked_few (λ k. IsWithin (covers (get_or ys k 0)) (has_leaf xs) → ⊥) xs ys _ c.loop-j.i j _ _ (i - c.loop-j.i) _
-    (v.walked lx ly) (omega arith) fi.looks (omega arith) (omega arith) (omega arith) (inl hj)
+    walked_few (λ k. IsWithin (covers (get_or ys k 0)) (has_leaf xs) → ⊥) xs ys _ c.loop-j.i j _ _ i _
+    (v.walked lx ly) (omega arith) fi.looks fi.from fi.within (omega arith) (omega arith) (inl hj)
 
 pub returns-then-not-lies_in-clause-least : goal.returns-then-not-lies_in-clause-least
 returns-then-not-lies_in-clause-least g c hx hy =
     let more_y = c.look-y.ensures.count in
     let more_x = c.look-x.ensures.count in
-    let f = c.find_from_counted-i.ensures.least in
+    let f = c.find_along-i.ensures.least in
     omega arith
 
 pub returns-clause-answer : goal.returns-clause-answer
@@ -280,8 +281,10 @@ returns-clause-looks g c lx ly =
     let v = c.loop-j.invariant in
     let in_x = v.in_x in
     let in_y = v.in_y in
-    walked_last (λ k. IsWithin (covers (get_or ys k 0)) (has_leaf xs) → ⊥) xs ys _ c.loop-j.i c.loop-j.j _ _ 0 _
-    (v.walked lx ly) (omega arith) (sought_none (g.K.Count.looks c.loop-j.count)) (omega arith) (omega arith)
+    walked_last (λ k. IsWithin (covers (get_or ys k 0)) (has_leaf xs) → ⊥) xs ys _ c.loop-j.i c.loop-j.j _ _
+    c.loop-j.i _ (v.walked lx ly) (omega arith)
+    (sought_here (g.K.Count.looks c.loop-j.count) (length xs) c.loop-j.i c.loop-j.i)
+    (omega arith) (omega arith) (omega arith) (omega arith)
 
 pub returns-clause-sizes : goal.returns-clause-sizes
 returns-clause-sizes g c lx ly =
@@ -290,9 +293,10 @@ returns-clause-sizes g c lx ly =
     let v = c.loop-j.invariant in
     let in_x = v.in_x in
     let in_y = v.in_y in
-    walked_few (λ k. IsWithin (covers (get_or ys k 0)) (has_leaf xs) → ⊥) xs ys _ c.loop-j.i c.loop-j.j _ _ 0 _
-    (v.walked lx ly) (omega arith) (sought_none (g.K.Count.looks c.loop-j.count)) (omega arith) (omega arith)
-    (omega arith) (inr refl)
+    walked_few (λ k. IsWithin (covers (get_or ys k 0)) (has_leaf xs) → ⊥) xs ys _ c.loop-j.i c.loop-j.j _ _
+    c.loop-j.i _ (v.walked lx ly) (omega arith)
+    (sought_here (g.K.Count.looks c.loop-j.count) (length xs) c.loop-j.i c.loop-j.i)
+    (omega arith) (omega arith) (omega arith) (omega arith) (inr refl)
 
 pub returns-clause-least : goal.returns-clause-least
 returns-clause-least g c hx hy = let n = c.len-n.ensures in c.loop-j.invariant.some (omega arith)

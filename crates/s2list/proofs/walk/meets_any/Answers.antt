@@ -1,4 +1,4 @@
-use Rattle.std.proofs.Common.{◌≡◌, ◌+◌, ◌-◌, ◌<◌, ◌≤◌, length, get_or, refl, ap, arith, inl, inr}
+use Rattle.std.proofs.Common.{◌≡◌, ◌+◌, ◌<◌, ◌≤◌, length, get_or, refl, ap, arith, inl, inr}
 use Rattle.std.proofs.Math.Logic.{⊎_elim}
 use Rattle.std.proofs.lemmas.Bool.{cases_lt, false≢true}
 use Rattle.s2cell.specs.Cell.{IsCell, covers, first_leaf, size_of}
@@ -8,7 +8,7 @@ use Rattle.s2list.specs.Packed.{EndsAfter, FirstEndBy}
 use Rattle.s2list.proofs.Checking.{packed_from_local}
 use Rattle.s2list.proofs.Finding.{ended_to, shared_at}
 use Rattle.s2list.proofs.Asking.{ended_on, none_shares, part_shares}
-use Rattle.s2list.proofs.Looking.{sought_none, walked_few, walked_last, walked_more, walked_none}
+use Rattle.s2list.proofs.Looking.{sought_here, walked_few, walked_last, walked_more, walked_none}
 use Rattle.s2list.proofs.Turns.{begun_before, meets_next, none_left, none_more}
 use Rattle.s2list.proofs.walk.meets_any.Goals as goal
 
@@ -32,9 +32,9 @@ loop-j-preserved g c =
     let v = c.loop-j.invariant in
     let j = c.loop-j.j in
     let hj : j < length ys = omega arith in
-    let i = c.find_from_counted-i.result in
-    let fi = c.find_from_counted-i.ensures in
-    let fj = c.find_from_counted-j.ensures in
+    let i = c.find_along-i.result in
+    let fi = c.find_along-i.ensures in
+    let fj = c.find_along-j.ensures in
     record {
       in_x = fi.within;
       in_y = fj.within;
@@ -44,7 +44,7 @@ loop-j-preserved g c =
           (c.first_of.ensures (rw c.look-y.ensures.id cy)) in
           let placed : FirstEndBy xs i (first_leaf (get_or ys j 0)) =
           rw begin at (fi.ended (packed_from_local xs lx) (rw begin (v.ended lx ly hj))) in
-          ended_on xs ys i j c.find_from_counted-j.result ly (let f = fj.from in omega arith) l placed;
+          ended_on xs ys i j c.find_along-j.result ly (let f = fj.from in omega arith) l placed;
       none = λ lx ly.
           let cy : IsCell (get_or ys j 0) = ly.cells j 0 hj in
           let begin : c.first_of.result ≡ first_leaf (get_or ys j 0) = rw c.look-y.ensures.id at
@@ -57,8 +57,8 @@ loop-j-preserved g c =
           (c.first_of-begin.ensures (rw c.look-x.ensures.id cx)) in
           let stop : c.end_of-end.result ≡ first_leaf (get_or ys j 0) + size_of (get_or ys j 0) =
           rw c.look-y.ensures.id at (c.end_of-end.ensures (rw c.look-y.ensures.id cy)) in
-          let next = c.find_from_counted-j.result in
-          let fj = c.find_from_counted-j.ensures in
+          let next = c.find_along-j.result in
+          let fj = c.find_along-j.ensures in
           let begun : FirstEndBy ys (j + 1) (first_leaf (get_or xs i 0)) =
           ended_to ys j (first_leaf (get_or xs i 0)) (packed_from_local ys ly) hj (omega arith) in
           let passed : FirstEndBy ys next (first_leaf (get_or xs i 0)) =
@@ -76,8 +76,8 @@ loop-j-preserved g c =
           (c.first_of-begin.ensures (rw c.look-x.ensures.id cx)) in
           let stop : c.end_of-end.result ≡ first_leaf (get_or ys j 0) + size_of (get_or ys j 0) =
           rw c.look-y.ensures.id at (c.end_of-end.ensures (rw c.look-y.ensures.id cy)) in
-          let next = c.find_from_counted-j.result in
-          let fj = c.find_from_counted-j.ensures in
+          let next = c.find_along-j.result in
+          let fj = c.find_along-j.ensures in
           let begun : FirstEndBy ys (j + 1) (first_leaf (get_or xs i 0)) =
           ended_to ys j (first_leaf (get_or xs i 0)) (packed_from_local ys ly) hj (omega arith) in
           let passed : FirstEndBy ys next (first_leaf (get_or xs i 0)) =
@@ -90,11 +90,10 @@ loop-j-preserved g c =
           let more_y = c.look-y.ensures.count in
           let more_x = c.look-x.ensures.count in
           walked_more (λ k. ShareSome (covers (get_or ys k 0)) (has_leaf xs)) xs ys _ c.loop-j.i j _ _ _ _
-          (i - c.loop-j.i)
-          (next - (j + 1)) i next (v.walked lx ly) (omega arith) hj
+          i i next (v.walked lx ly) (omega arith) hj
           (λ l h. none_more xs ys i j next lx ly fj.within placed passed (v.none lx ly) l (omega arith))
           (begun_before xs i (first_leaf (get_or ys j 0)) lx (omega arith)) (meets_next xs ys i next lx ly hi ends)
-          (omega arith) fi.looks (omega arith) fj.looks (omega arith)
+          (omega arith) fi.looks fi.from (omega arith) fi.within (omega arith) fj.looks fj.from fj.within
           (λ h.
           ⊎_elim
           (λ (l : c.loop-j.i < i). l)
@@ -104,7 +103,7 @@ loop-j-preserved g c =
           ap (λ k. first_leaf (get_or xs k 0)) e in
           let b = v.after lx ly h hj in
           absurd (omega arith))
-          (cases_lt c.loop-j.i i)) (omega arith);
+          (cases_lt c.loop-j.i i));
       after = λ lx ly _.
           let cy : IsCell (get_or ys j 0) = ly.cells j 0 hj in
           let hi : i < length xs = omega arith in
@@ -133,8 +132,8 @@ returns-then-i-m-clause-answer g c lx ly =
     let v = c.loop-j.invariant in
     let j = c.loop-j.j in
     let hj : j < length ys = omega arith in
-    let i = c.find_from_counted-i.result in
-    let fi = c.find_from_counted-i.ensures in
+    let i = c.find_along-i.result in
+    let fi = c.find_along-i.ensures in
     let cy : IsCell (get_or ys j 0) = ly.cells j 0 hj in
     let begin : c.first_of.result ≡ first_leaf (get_or ys j 0) = rw c.look-y.ensures.id at
     (c.first_of.ensures (rw c.look-y.ensures.id cy)) in
@@ -153,14 +152,13 @@ returns-then-i-m-clause-looks g c lx ly =
     let v = c.loop-j.invariant in
     let j = c.loop-j.j in
     let hj : j < length ys = omega arith in
-    let i = c.find_from_counted-i.result in
-    let fi = c.find_from_counted-i.ensures in
+    let i = c.find_along-i.result in
+    let fi = c.find_along-i.ensures in
     let on = fi.from in
     let w = fi.within in
     let more_y = c.look-y.ensures.count in
-    walked_last (λ k. ShareSome (covers (get_or ys k 0)) (has_leaf xs)) xs ys _ c.loop-j.i j _ _ (i - c.loop-j.i) _
-    (v.walked lx ly)
-    (omega arith) fi.looks (omega arith) (omega arith)
+    walked_last (λ k. ShareSome (covers (get_or ys k 0)) (has_leaf xs)) xs ys _ c.loop-j.i j _ _ i _ (v.walked lx ly)
+    (omega arith) fi.looks fi.from fi.within (omega arith) (omega arith)
 
 pub returns-then-i-m-clause-sizes : goal.returns-then-i-m-clause-sizes
 returns-then-i-m-clause-sizes g c lx ly =
@@ -171,21 +169,21 @@ returns-then-i-m-clause-sizes g c lx ly =
     let v = c.loop-j.invariant in
     let j = c.loop-j.j in
     let hj : j < length ys = omega arith in
-    let i = c.find_from_counted-i.result in
-    let fi = c.find_from_counted-i.ensures in
+    let i = c.find_along-i.result in
+    let fi = c.find_along-i.ensures in
     let on = fi.from in
     let w = fi.within in
     let more_y = c.look-y.ensures.count in
-    walked_few (λ k. ShareSome (covers (get_or ys k 0)) (has_leaf xs)) xs ys _ c.loop-j.i j _ _ (i - c.loop-j.i) _
-    (v.walked lx ly) (omega arith) fi.looks (omega arith) (omega arith) (omega arith) (inl hj)
+    walked_few (λ k. ShareSome (covers (get_or ys k 0)) (has_leaf xs)) xs ys _ c.loop-j.i j _ _ i _
+    (v.walked lx ly) (omega arith) fi.looks fi.from fi.within (omega arith) (omega arith) (inl hj)
 
 pub returns-then-i-m-clause-least : goal.returns-then-i-m-clause-least
 returns-then-i-m-clause-least g c hx hy =
     let v = c.loop-j.invariant in
     let more_y = c.look-y.ensures.count in
-    let f = c.find_from_counted-i.ensures.least in
+    let f = c.find_along-i.ensures.least in
     ⊎_elim (λ (h : 0 < c.loop-j.i + c.loop-j.j). let s = v.some h in omega arith)
-    (λ (h : c.loop-j.i + c.loop-j.j ≤ 0). let s = c.find_from_counted-i.ensures.some (omega arith) in omega arith)
+    (λ (h : c.loop-j.i + c.loop-j.j ≤ 0). let s = c.find_along-i.ensures.some (omega arith) in omega arith)
     (cases_lt 0 (c.loop-j.i + c.loop-j.j))
 
 pub returns-then-begin-end-clause-answer : goal.returns-then-begin-end-clause-answer
@@ -197,8 +195,8 @@ returns-then-begin-end-clause-answer g c lx ly =
     let v = c.loop-j.invariant in
     let j = c.loop-j.j in
     let hj : j < length ys = omega arith in
-    let i = c.find_from_counted-i.result in
-    let fi = c.find_from_counted-i.ensures in
+    let i = c.find_along-i.result in
+    let fi = c.find_along-i.ensures in
     let cy : IsCell (get_or ys j 0) = ly.cells j 0 hj in
     let begin : c.first_of.result ≡ first_leaf (get_or ys j 0) = rw c.look-y.ensures.id at
     (c.first_of.ensures (rw c.look-y.ensures.id cy)) in
@@ -225,15 +223,14 @@ returns-then-begin-end-clause-looks g c lx ly =
     let v = c.loop-j.invariant in
     let j = c.loop-j.j in
     let hj : j < length ys = omega arith in
-    let i = c.find_from_counted-i.result in
-    let fi = c.find_from_counted-i.ensures in
+    let i = c.find_along-i.result in
+    let fi = c.find_along-i.ensures in
     let on = fi.from in
     let w = fi.within in
     let more_y = c.look-y.ensures.count in
     let more_x = c.look-x.ensures.count in
-    walked_last (λ k. ShareSome (covers (get_or ys k 0)) (has_leaf xs)) xs ys _ c.loop-j.i j _ _ (i - c.loop-j.i) _
-    (v.walked lx ly)
-    (omega arith) fi.looks (omega arith) (omega arith)
+    walked_last (λ k. ShareSome (covers (get_or ys k 0)) (has_leaf xs)) xs ys _ c.loop-j.i j _ _ i _ (v.walked lx ly)
+    (omega arith) fi.looks fi.from fi.within (omega arith) (omega arith)
 
 pub returns-then-begin-end-clause-sizes : goal.returns-then-begin-end-clause-sizes
 returns-then-begin-end-clause-sizes g c lx ly =
@@ -244,20 +241,20 @@ returns-then-begin-end-clause-sizes g c lx ly =
     let v = c.loop-j.invariant in
     let j = c.loop-j.j in
     let hj : j < length ys = omega arith in
-    let i = c.find_from_counted-i.result in
-    let fi = c.find_from_counted-i.ensures in
+    let i = c.find_along-i.result in
+    let fi = c.find_along-i.ensures in
     let on = fi.from in
     let w = fi.within in
     let more_y = c.look-y.ensures.count in
     let more_x = c.look-x.ensures.count in
-    walked_few (λ k. ShareSome (covers (get_or ys k 0)) (has_leaf xs)) xs ys _ c.loop-j.i j _ _ (i - c.loop-j.i) _
-    (v.walked lx ly) (omega arith) fi.looks (omega arith) (omega arith) (omega arith) (inl hj)
+    walked_few (λ k. ShareSome (covers (get_or ys k 0)) (has_leaf xs)) xs ys _ c.loop-j.i j _ _ i _
+    (v.walked lx ly) (omega arith) fi.looks fi.from fi.within (omega arith) (omega arith) (inl hj)
 
 pub returns-then-begin-end-clause-least : goal.returns-then-begin-end-clause-least
 returns-then-begin-end-clause-least g c hx hy =
     let more_y = c.look-y.ensures.count in
     let more_x = c.look-x.ensures.count in
-    let f = c.find_from_counted-i.ensures.least in
+    let f = c.find_along-i.ensures.least in
     omega arith
 
 pub returns-clause-answer : goal.returns-clause-answer
@@ -275,9 +272,10 @@ returns-clause-looks g c lx ly =
     let v = c.loop-j.invariant in
     let in_x = v.in_x in
     let in_y = v.in_y in
-    walked_last (λ k. ShareSome (covers (get_or ys k 0)) (has_leaf xs)) xs ys _ c.loop-j.i c.loop-j.j _ _ 0 _
-    (v.walked lx ly)
-    (omega arith) (sought_none (g.K.Count.looks c.loop-j.count)) (omega arith) (omega arith)
+    walked_last (λ k. ShareSome (covers (get_or ys k 0)) (has_leaf xs)) xs ys _ c.loop-j.i c.loop-j.j _ _ c.loop-j.i _
+    (v.walked lx ly) (omega arith)
+    (sought_here (g.K.Count.looks c.loop-j.count) (length xs) c.loop-j.i c.loop-j.i)
+    (omega arith) (omega arith) (omega arith) (omega arith)
 
 pub returns-clause-sizes : goal.returns-clause-sizes
 returns-clause-sizes g c lx ly =
@@ -286,9 +284,10 @@ returns-clause-sizes g c lx ly =
     let v = c.loop-j.invariant in
     let in_x = v.in_x in
     let in_y = v.in_y in
-    walked_few (λ k. ShareSome (covers (get_or ys k 0)) (has_leaf xs)) xs ys _ c.loop-j.i c.loop-j.j _ _ 0 _
-    (v.walked lx ly) (omega arith) (sought_none (g.K.Count.looks c.loop-j.count)) (omega arith) (omega arith)
-    (omega arith) (inr refl)
+    walked_few (λ k. ShareSome (covers (get_or ys k 0)) (has_leaf xs)) xs ys _ c.loop-j.i c.loop-j.j _ _
+    c.loop-j.i _ (v.walked lx ly) (omega arith)
+    (sought_here (g.K.Count.looks c.loop-j.count) (length xs) c.loop-j.i c.loop-j.i)
+    (omega arith) (omega arith) (omega arith) (omega arith) (inr refl)
 
 pub returns-clause-least : goal.returns-clause-least
 returns-clause-least g c hx hy = let n = c.len-n.ensures in c.loop-j.invariant.some (omega arith)

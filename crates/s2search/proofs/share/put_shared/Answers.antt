@@ -29,13 +29,13 @@ loop-i-preserved-then-x_end-y_first g c =
     let looks = g.K.Count.looks c.loop-i.count in
     let a = g.K.Count.looks c.look-x.new.count in
     let b = g.K.Count.looks c.look-y.new.count in
-    let f = c.find_from_counted-i.ensures in
+    let f = c.find_along-i.ensures in
     record {
       in_x = f.within;
       in_y = c.loop-i.invariant.in_y;
       len = c.loop-i.invariant.len;
       so_far = λ lx ly. shared_skip (both xs ys) xs ys c.args.out.now c.loop-i.out c.loop-i.n looks a b _
-          c.loop-i.i c.loop-i.j c.find_from_counted-i.result c.look-x.result c.look-y.result c.end_of-x_end.result
+          c.loop-i.i c.loop-i.j c.find_along-i.result c.look-x.result c.look-y.result c.end_of-x_end.result
           c.first_of-y_first.result lx ly (c.loop-i.invariant.so_far lx ly) h t c.look-x.ensures.id
           c.look-y.ensures.id c.end_of-x_end.ensures
           c.first_of-y_first.ensures c.if-x_end-y_first.true f.from f.within f.ended f.next (omega arith) (omega arith)
@@ -56,15 +56,15 @@ loop-i-preserved-then-y_end-x_first g c =
     let looks = g.K.Count.looks c.loop-i.count in
     let a = g.K.Count.looks c.look-x.new.count in
     let b = g.K.Count.looks c.look-y.new.count in
-    let f = c.find_from_counted-j.ensures in
+    let f = c.find_along-j.ensures in
     record {
       in_x = c.loop-i.invariant.in_x;
       in_y = f.within;
       len = c.loop-i.invariant.len;
       so_far = λ lx ly. shared_swap (both xs ys) ys xs c.args.out.now c.loop-i.out c.loop-i.n _
-          c.find_from_counted-j.result c.loop-i.i
+          c.find_along-j.result c.loop-i.i
           (shared_skip (both xs ys) ys xs c.args.out.now c.loop-i.out c.loop-i.n looks a b _ c.loop-i.j c.loop-i.i
-          c.find_from_counted-j.result c.look-y.result c.look-x.result c.end_of-y_end.result c.first_of-x_first.result
+          c.find_along-j.result c.look-y.result c.look-x.result c.end_of-y_end.result c.first_of-x_first.result
           ly lx
           (shared_swap (both xs ys) xs ys c.args.out.now c.loop-i.out c.loop-i.n looks c.loop-i.i c.loop-i.j
           (c.loop-i.invariant.so_far lx ly)) t h c.look-y.ensures.id c.look-x.ensures.id c.end_of-y_end.ensures
