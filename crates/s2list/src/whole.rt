@@ -138,9 +138,8 @@ pub fn first_wrong<C: Cells>(cells: &C) -> Option<usize>
     ensures { MatchOption result (All IsCell (C.ids cells.now)) (λ k. IsFirstWrong (C.ids cells.now) k) }
 {
     for k in 0..cells.len() {
-        match CellId::from_id(cells.id(k)) {
-            Some(_) => {}
-            None => return Some(k),
+        if !is_cell(cells.id(k)) {
+            return Some(k);
         }
     }
     None

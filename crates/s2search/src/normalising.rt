@@ -14,7 +14,7 @@ ghost use Rattle.s2search.specs.Normalising.{IsNormalisedIn};
 
 use crate::cells::cell_of;
 use s2cell::CellId;
-use s2list::are_children;
+use s2list::{are_children, ends_family};
 
 /// Makes the front of a list of cells the union that has their leaves, and answers how many cells that union has. The
 /// cells may be in any order, and one may lie in another. Takes no memory and can't fail. A sort and one pass. What the
@@ -127,6 +127,9 @@ fn merge_families(front: &[u64], cell: CellId) -> (usize, CellId)
 fn parent_of_family(a: u64, b: u64, c: u64, d: CellId) -> Option<CellId>
     ensures { MatchOption result ((p : ℕ) → IsFamily a b c d p → ⊥) (λ p. IsFamily a b c d p) }
 {
+    if !ends_family(a, b, c, d.id()) {
+        return None;
+    }
     let level = d.level();
     if level == 0 {
         return None;

@@ -12,7 +12,7 @@ loop-k-preserved g c j h =
     (λ (a : j < c.loop-k.k). c.loop-k.invariant j a)
     (λ (a : c.loop-k.k ≤ j).
     let e : j ≡ c.loop-k.k = omega arith in
-    let own : IsCell (get_or u c.loop-k.k 0) = rw c.id.ensures at c.in-Some.ensures.0 in
+    let own : IsCell (get_or u c.loop-k.k 0) = rw c.id.ensures at (c.is_cell.ensures.0 c.if-not-is_cell.false) in
     rw e own)
     (cases_lt j c.loop-k.k)
 
