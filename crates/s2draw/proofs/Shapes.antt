@@ -1,9 +1,9 @@
 -- The rectangle of a cell, from its square.
-use Rattle.std.proofs.Common.{◌≡◌, ℕ, ◌+◌, ◌-◌, ◌*◌, ◌/◌, ◌%◌, ◌^◌, ◌<◌, ◌≤◌, refl, sym}
-use Rattle.std.proofs.Common.{◌∙◌, ap, arith, ◌⊎◌}
+use Rattle.std.proofs.Common.{◌≡◌, ℕ, ◌+◌, ◌-◌, ◌*◌, ◌/◌, ◌%◌, ◌^◌, ◌<◌, ◌≤◌, refl}
+use Rattle.std.proofs.Common.{◌∙◌, ap, arith}
 use Rattle.std.proofs.Math.Logic.{⊎_elim}
 use Rattle.std.proofs.lemmas.Bool.{cases_lt}
-use Rattle.std.proofs.lemmas.Nat.{pow-add, pow_pos, mod_below, div_below}
+use Rattle.std.proofs.lemmas.Nat.{pow-add, mod_below, div_below}
 use Rattle.s2cell.specs.Cell.{IsCell, IsCellAt, level_of, place_of, face_of, parent_of}
 use Rattle.s2cell.specs.Curve.{i_within, j_within}
 use Rattle.s2cell.specs.Square.{IsSquareOf}
@@ -11,7 +11,7 @@ use Rattle.s2cell.proofs.CellLemmas.{own_place, four_pos, level_of_cell}
 use Rattle.s2cell.proofs.Calls.{IsCellAt-parent_of}
 use Rattle.s2cell.proofs.Places.{at_within}
 use Rattle.s2cell.proofs.Squares.{square_from_place, one_square}
-use Rattle.s2draw.specs.Rectangles.{IsRectangleOf, column, row, side_of, left_of, top_of, seen}
+use Rattle.s2draw.specs.Rectangles.{IsRectangleOf, side_of, left_of, top_of, seen}
 
 -- the coordinates of a cell among the squares of its level
 abbrev pub across : ℕ → ℕ
