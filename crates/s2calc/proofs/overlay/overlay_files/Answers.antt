@@ -1,12 +1,10 @@
-use Rattle.std.proofs.Common.{◌+◌, ◌≡◌, ◌∷◌, [], ◌++◌, take, drop, length}
-use Rattle.std.proofs.Common.{sym, ap, refl, subst, ◌∙◌, inl, inr, rules, arith}
-use Rattle.std.proofs.Common.{length-take, map}
+use Rattle.std.proofs.Common.{◌+◌, ◌∷◌, [], ◌++◌, take, drop, length, sym, ap, refl, subst, ◌∙◌, inl, inr, rules, arith}
+use Rattle.std.proofs.Common.{length-take}
 use Rattle.std.specs.Prelude.{string_bytes}
 use Rattle.std.proofs.lemmas.List.{take_all, take_more}
 use Rattle.std.proofs.lemmas.Result.{err_from_is_err_and}
 use Rattle.s2draw.specs.Overlay.{overlay_head}
 use Rattle.s2calc.specs.declared.refusal.Refusal.TheVariants.{Memory}
-use Rattle.s2calc.specs.Overlay.{RefusesFiles}
 use Rattle.s2calc.specs.Replies.{Says}
 use Rattle.s2calc.proofs.ListingLemmas.{cut_round}
 use Rattle.s2calc.proofs.OverlayLemmas.{InPicture, grow, refused_at, stopped_first, stopped_last, finished}
