@@ -6,7 +6,8 @@ use Rattle.s2file.specs.Session.{Moved, Content, session_text}
 use Rattle.s2edit.specs.History.{History}
 use Rattle.s2edit.specs.Diff.{Diff, change_between}
 use Rattle.s2edit.specs.Leads.{list_at, Leads}
-use Rattle.s2edit.specs.Session.{diff, moved, LeadBack, LeadAhead, Records, Text}
+use Rattle.s2edit.specs.Session.{diff, LeadBack, LeadAhead, Records, Text}
+use Rattle.s2edit.specs.Working.Session.{moved}
 
 -- the register in which two tables differ is one
 one_register : (d e : Diff) (t u : List (List ℕ)) → Leads d t u → Leads e t u → d.register ≡ e.register

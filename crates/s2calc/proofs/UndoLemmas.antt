@@ -16,7 +16,7 @@ use Rattle.s2calc.specs.Replies.{Reply, is_refusal}
 use Rattle.s2calc.specs.Edits.{leaves_of, Gets, Moves}
 use Rattle.s2calc.specs.Step.{Step, StepBy, Acts, Loads}
 use Rattle.s2calc.specs.Run.{Steps}
-use Rattle.s2calc.specs.LawsScripts.{GivesRegister, AllUndo, Changes, AllChange, GoesBack, LawOfUndo}
+use Rattle.s2calc.specs.LawsScripts.{GivesRegister, AllUndo, Changes, AllLinesChange, GoesBack, LawOfUndo}
 
 -- now and the earlier tables, the newest first
 abbrev tables : History (List ℕ) → List (List (List ℕ))
@@ -161,7 +161,7 @@ one_further_back old mid r u k e deep few =
     )
 
 changes_further_back : (old mid : World) (ls : List (List ℕ)) (replies : List Reply) (further : ℕ) →
-    AllChange old ls replies mid → length ls + further ≤ old.state.depth → further ≤ length old.state.past
+    AllLinesChange old ls replies mid → length ls + further ≤ old.state.depth → further ≤ length old.state.past
     → FurtherBack old.state mid.state (length ls) further
 changes_further_back old mid [] [] further c deep few =
     let same : mid.state ≡ old.state = ap (λ (w : World). w.state) c in
@@ -183,7 +183,7 @@ changes_further_back old mid (line ∷ ls) (reply ∷ replies) further (next, on
     record { kept = omega arith; table = ap (λ (k : ℕ). table_at (tables mid.state) k) place ∙ more.table ∙ b.2 }
 
 given_back : (old mid new : World) (edits undos : List (List ℕ)) (replies answers : List Reply) (further : ℕ) →
-    AllChange old edits replies mid → AllUndo undos → length undos ≡ length edits + further
+    AllLinesChange old edits replies mid → AllUndo undos → length undos ≡ length edits + further
     → length undos ≤ old.state.depth → further ≤ length old.state.past → Steps mid undos answers new →
     GoesBack (table_at (tables old.state) further) mid answers new
 given_back old mid new edits undos replies answers further c u e deep few s =

@@ -95,12 +95,12 @@ pub record Changes (old : World) (line : List ℕ) (reply : Reply) (new : World)
   pub state : new.state ≡ changed old.state register list
 
 -- the lines were carried out one after another, and each changed a register
-abbrev pub AllChange : World → List (List ℕ) → List Reply → World → Type 0
-AllChange old [] [] new = new ≡ old
-AllChange old (line ∷ ls) (reply ∷ replies) new = (mid : World) × Changes old line reply mid
-    × AllChange mid ls replies new
-AllChange old [] (reply ∷ replies) new = ⊥
-AllChange old (line ∷ ls) [] new = ⊥
+abbrev pub AllLinesChange : World → List (List ℕ) → List Reply → World → Type 0
+AllLinesChange old [] [] new = new ≡ old
+AllLinesChange old (line ∷ ls) (reply ∷ replies) new = (mid : World) × Changes old line reply mid
+    × AllLinesChange mid ls replies new
+AllLinesChange old [] (reply ∷ replies) new = ⊥
+AllLinesChange old (line ∷ ls) [] new = ⊥
 
 -- No line was refused; the present table is `table`, list for list; each register has the same file bytes as the
 -- register of that table; and no file has changed.
@@ -123,7 +123,7 @@ pub record LawOfUndo : Type 0 where
       length ls ≤ length old.state.past → Steps old ls replies new
       → GoesBack (table_at (old.state.now ∷ old.state.past) (length ls)) old replies new
   pub gives_back : (old mid new : World) (edits undos : List (List ℕ)) (replies answers : List Reply)
-      (further : ℕ) → AllChange old edits replies mid
+      (further : ℕ) → AllLinesChange old edits replies mid
       → AllUndo undos → length undos ≡ length edits + further → length undos ≤ old.state.depth →
       further ≤ length old.state.past
       → Steps mid undos answers new → GoesBack (table_at (old.state.now ∷ old.state.past) further) mid answers new

@@ -1,6 +1,6 @@
 -- What a refusal is called.
 use Rattle.std.specs.Prelude.{ℕ, List, codes}
-use Rattle.s2script.specs.Refusals.{name_of as name_of_words}
+use Rattle.s2script.specs.Refusals.{name_of_word_refusal as name_of_words}
 use Rattle.s2calc.specs.declared.refusal.Refusal.{Refusal}
 use Rattle.s2calc.specs.declared.refusal.Refusal.TheVariants.{Words, Missing, File, Format, Session, TooDeep, TooMany}
 use Rattle.s2calc.specs.declared.refusal.Refusal.TheVariants.{Nothing, Memory}

@@ -11,8 +11,8 @@ use Rattle.s2union.proofs.CellLists.{has-cells_without, has-applied, IsAscending
 use Rattle.s2union.proofs.Applied.{local_ascends}
 use Rattle.s2file.specs.Session.{AreApart}
 use Rattle.s2edit.specs.Diff.{IsDiff}
-use Rattle.s2edit.specs.Part.{around, IsWatched, IsPart}
-use Rattle.s2edit.specs.Followed.{joined, both_out, LieApart, LiesApart, LeadsOn}
+use Rattle.s2edit.specs.Working.Part.{around, IsWatched, IsPart}
+use Rattle.s2edit.specs.Working.Followed.{joined, both_out, LieApart, LiesApart, LeadsOn}
 use Rattle.s2edit.proofs.Following.{drop_next}
 use Rattle.s2edit.proofs.InTurn.{length_applied, length_without, follow_on, in_turn, fits_as_one}
 use Rattle.s2edit.proofs.PartLemmas.{by_bool, member_had, is_cell, leaf_there, leaf_around, local_within, fits_part}

@@ -8,9 +8,10 @@ use Rattle.s2union.proofs.Applied.{applied-between, Fits-between}
 use Rattle.s2edit.specs.History.{History, Assigned, changed, cells_lost, numbers}
 use Rattle.s2edit.specs.Diff.{Diff, inverse, change_between}
 use Rattle.s2edit.specs.Leads.{list_at}
-use Rattle.s2edit.specs.Chain.{table_after, tables_after, FitsTable, FitAlong, lists_of}
-use Rattle.s2edit.specs.Chain.{IsLocalWithin, AllWithin, history}
-use Rattle.s2edit.specs.Chain.{union_of}
+use Rattle.s2edit.specs.Working.Chain.{table_after, tables_after, FitsTable, FitAlong, lists_of}
+use Rattle.s2edit.specs.Chain.{IsLocalWithin}
+use Rattle.s2edit.specs.Working.Chain.{AllWithin, history}
+use Rattle.s2edit.specs.Working.Chain.{union_of}
 use Rattle.s2edit.proofs.Tables.{tables_after-take, FitAlong-take, AllWithin-at, within_after, tables_back, along_back}
 use Rattle.s2edit.proofs.Numbers.{out_lost, put_won}
 use Rattle.s2edit.proofs.Moves.{Rewrites, table_is}

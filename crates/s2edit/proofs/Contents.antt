@@ -16,7 +16,8 @@ use Rattle.s2edit.proofs.Sizes.{fewer_without}
 use Rattle.s2edit.specs.History.{History, AllTables}
 use Rattle.s2edit.specs.Diff.{Diff}
 use Rattle.s2edit.specs.Leads.{list_at, Leads}
-use Rattle.s2edit.specs.Chain.{IsLocalWithin, AllWithin}
+use Rattle.s2edit.specs.Chain.{IsLocalWithin}
+use Rattle.s2edit.specs.Working.Chain.{AllWithin}
 use Rattle.s2edit.specs.Session.{diff, LeadBack, LeadAhead, Records}
 use Rattle.s2edit.specs.declared.TheConstants.{REGISTERS}
 use Rattle.s2edit.proofs.Tables.{AllWithin-at}

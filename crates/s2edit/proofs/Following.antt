@@ -10,8 +10,8 @@ use Rattle.s2file.specs.Session.{Moved, IsMoved}
 use Rattle.s2edit.specs.History.{AllLists}
 use Rattle.s2edit.specs.Diff.{Diff}
 use Rattle.s2edit.specs.Leads.{list_at}
-use Rattle.s2edit.specs.Chain.{AllRoomy}
-use Rattle.s2edit.specs.Following.{FailsToFollow, HaveRoom, KeepRoom}
+use Rattle.s2edit.specs.Working.Chain.{AllRoomy}
+use Rattle.s2edit.specs.Working.Following.{FailsToFollow, HaveRoom, KeepRoom}
 use Rattle.s2edit.specs.declared.session.RestoreFault.{RestoreFault}
 use Rattle.s2edit.specs.declared.session.RestoreFault.TheVariants.{Fit, TooDeep, TooMany, Memory}
 use Rattle.s2edit.proofs.Numbers.{cells_lost-self}

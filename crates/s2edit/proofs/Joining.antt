@@ -9,7 +9,7 @@ use Rattle.std.specs.List.Sorted.{IsStrictlyIncreasing}
 use Rattle.s2union.specs.Apply.{has, insert_cell, insert_cells}
 use Rattle.s2union.proofs.CellLists.{AllAbove, IsAscending, has-below, ascends_from}
 use Rattle.s2file.specs.Session.{AreApart}
-use Rattle.s2edit.specs.Followed.{joined}
+use Rattle.s2edit.specs.Working.Followed.{joined}
 use Rattle.s2edit.proofs.Differing.{IsAscending-drop, push_on, at_head, above_rest, above_all}
 
 -- a cell below all others stands first

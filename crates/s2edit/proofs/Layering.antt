@@ -11,9 +11,9 @@ use Rattle.s2union.proofs.CellLists.{IsAscending-cells_without, IsAscending-inse
 use Rattle.s2union.proofs.CellLists.{ascends_from, increasing_from}
 use Rattle.s2union.proofs.Applied.{local_ascends}
 use Rattle.s2edit.specs.Diff.{Diff, IsDiff, apply, FitsList}
-use Rattle.s2edit.specs.Part.{IsWatched, IsPart}
-use Rattle.s2edit.specs.Followed.{joined, LieApart, LiesApart, LeadsOn}
-use Rattle.s2edit.specs.Layers.{FitInTurn, list_after_all, AreChanges, LeadAlike}
+use Rattle.s2edit.specs.Working.Part.{IsWatched, IsPart}
+use Rattle.s2edit.specs.Working.Followed.{joined, LieApart, LiesApart, LeadsOn}
+use Rattle.s2edit.specs.Working.Layers.{FitInTurn, list_after_all, AreChanges, LeadAlike}
 use Rattle.s2edit.proofs.InTurn.{nothing_applied, nothing_fits}
 use Rattle.s2edit.proofs.PartLemmas.{by_bool, member_had, is_cell, local_within, fits_whole}
 use Rattle.s2edit.proofs.Apart.{not_in, spared, fits_after, fits_before, leads_apart}

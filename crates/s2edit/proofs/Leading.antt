@@ -11,8 +11,9 @@ use Rattle.s2list.specs.Union.{Union}
 use Rattle.s2edit.specs.History.{AllLists, AllTables, EachList}
 use Rattle.s2edit.specs.Diff.{Diff, inverse}
 use Rattle.s2edit.specs.Leads.{list_at, table_at, Leads}
-use Rattle.s2edit.specs.Chain.{list_after, table_after, tables_after, FitsTable, FitAlong, lists_of, IsLocalWithin}
-use Rattle.s2edit.specs.Chain.{AllWithin, history}
+use Rattle.s2edit.specs.Working.Chain.{list_after, table_after, tables_after, FitsTable, FitAlong, lists_of}
+use Rattle.s2edit.specs.Chain.{IsLocalWithin}
+use Rattle.s2edit.specs.Working.Chain.{AllWithin, history}
 use Rattle.s2edit.proofs.Tables.{AllWithin-at, list_at-table_after, table_back, fits_back, within_after}
 
 -- a change that fits leads from one table to the next

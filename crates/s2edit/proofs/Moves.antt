@@ -7,8 +7,8 @@ use Rattle.s2union.specs.Apply.{applied}
 use Rattle.s2edit.specs.History.{undone, undone_to, redone, redone_to, cells_lost, numbers}
 use Rattle.s2edit.specs.Diff.{Diff, inverse}
 use Rattle.s2edit.specs.Leads.{list_at}
-use Rattle.s2edit.specs.Chain.{list_after, table_after, tables_after, FitsTable, FitAlong, lists_of, AllWithin}
-use Rattle.s2edit.specs.Chain.{AllRoomy, history, union_of}
+use Rattle.s2edit.specs.Working.Chain.{list_after, table_after, tables_after, FitsTable, FitAlong, lists_of, AllWithin}
+use Rattle.s2edit.specs.Working.Chain.{AllRoomy, history, union_of}
 use Rattle.s2edit.proofs.Tables.{within_after, tables_back, along_back, lists_of-set, AllRoomy-set, AllRoomy-get}
 use Rattle.s2edit.proofs.Numbers.{out_lost, put_won}
 

@@ -14,7 +14,7 @@ use Rattle.s2file.specs.declared.session.Move.{Move}
 use Rattle.s2file.specs.Session.{moved_of}
 use Rattle.s2edit.specs.Diff.{Diff}
 use Rattle.s2edit.specs.Session.{diff}
-use Rattle.s2edit.specs.Layers.{ordered, ordered_diff}
+use Rattle.s2edit.specs.Working.Layers.{ordered, ordered_diff}
 use Rattle.s2edit.proofs.Following.{same_diff}
 
 -- cells are inserted one after another

@@ -15,7 +15,7 @@ use Rattle.s2union.specs.Apply.{has, applied, Fits}
 use Rattle.s2list.proofs.Normal.{member_greatest, greatest_apart, parent_of_child}
 use Rattle.s2union.proofs.CellLists.{IsAscending, has-applied, IsAscending-applied, ascends_from, increasing_from}
 use Rattle.s2union.proofs.Applied.{local_ascends}
-use Rattle.s2edit.specs.Part.{around, IsWatched, IsPart}
+use Rattle.s2edit.specs.Working.Part.{around, IsWatched, IsPart}
 use Rattle.s2edit.proofs.InTurn.{length_applied}
 
 pub by_bool : {A : Type 0} (b : Bool) → (b ≡ true → A) → (b ≡ false → A) → A

@@ -16,7 +16,7 @@ use Rattle.s2union.proofs.CellLists.{IsAscending-cells_without, has-cells_withou
 use Rattle.s2union.proofs.Applied.{local_ascends}
 use Rattle.s2union.specs.Apply.{has, cells_without, Fits}
 use Rattle.s2file.specs.Session.{Moved, AreApart, IsChangeList}
-use Rattle.s2edit.specs.Part.{around, around_both, around_all, IsWatched, IsPart}
+use Rattle.s2edit.specs.Working.Part.{around, around_both, around_all, IsWatched, IsPart}
 use Rattle.s2edit.proofs.InTurn.{length_without}
 use Rattle.s2edit.proofs.PartLemmas.{by_bool, has_member, member_had, leaf_there, is_cell, local_within, one_cell}
 

@@ -11,11 +11,11 @@ use Rattle.s2file.specs.Session.{Moved, IsMoved, moved_of}
 use Rattle.s2file.specs.declared.TheConstants.{SESSION_CELLS}
 use Rattle.s2edit.specs.Diff.{Diff, inverse, apply, FitsList}
 use Rattle.s2edit.specs.Leads.{list_at}
-use Rattle.s2edit.specs.Chain.{list_after, table_after, FitsTable, FitAlong, AllWithin}
+use Rattle.s2edit.specs.Working.Chain.{list_after, table_after, FitsTable, FitAlong, AllWithin}
 use Rattle.s2edit.specs.Session.{diff}
-use Rattle.s2edit.specs.Layers.{FitInTurn, of_register}
-use Rattle.s2edit.specs.Following.{MakesChanges}
-use Rattle.s2edit.specs.Part.{resized, longest}
+use Rattle.s2edit.specs.Working.Layers.{FitInTurn, of_register}
+use Rattle.s2edit.specs.Working.Following.{MakesChanges}
+use Rattle.s2edit.specs.Working.Part.{resized, longest}
 use Rattle.s2edit.specs.declared.TheConstants.{REGISTERS}
 use Rattle.s2edit.proofs.InTurn.{length_applied}
 use Rattle.s2edit.proofs.Following.{applied_differs}

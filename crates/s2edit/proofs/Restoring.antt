@@ -11,9 +11,10 @@ use Rattle.s2file.specs.declared.TheConstants.{SESSION_CELLS}
 use Rattle.s2edit.specs.History.{History, AllLists, AllTables}
 use Rattle.s2edit.specs.Diff.{Diff, inverse}
 use Rattle.s2edit.specs.Leads.{list_at}
-use Rattle.s2edit.specs.Chain.{list_after, table_after, tables_after, FitAlong, lists_of, AllWithin, history}
-use Rattle.s2edit.specs.Session.{diff, moved, Records, Restored, IsTooDeep, IsTooMany, RefusesSession}
-use Rattle.s2edit.specs.Following.{FailsToFollow, MakesChanges}
+use Rattle.s2edit.specs.Working.Chain.{list_after, table_after, tables_after, FitAlong, lists_of, AllWithin, history}
+use Rattle.s2edit.specs.Session.{diff, Records, Restored, IsTooDeep, IsTooMany, RefusesSession}
+use Rattle.s2edit.specs.Working.Session.{moved}
+use Rattle.s2edit.specs.Working.Following.{FailsToFollow, MakesChanges}
 use Rattle.s2edit.specs.declared.session.RestoreFault.{RestoreFault}
 use Rattle.s2edit.specs.declared.session.RestoreFault.TheVariants.{Fit, TooDeep, TooMany, Memory}
 use Rattle.s2edit.proofs.Tables.{list_at-table_after, length-tables_after}

@@ -12,9 +12,10 @@ use Rattle.s2file.specs.Session.{Moved, Content, moved_of, IsMoved, session_text
 use Rattle.s2file.specs.declared.session.Move.{Move}
 use Rattle.s2file.specs.declared.TheConstants.{SESSION_CELLS, SESSION_CHANGES}
 use Rattle.s2edit.specs.Diff.{Diff, inverse}
-use Rattle.s2edit.specs.Chain.{table_after, tables_after, FitAlong, lists_of, AllWithin, history}
+use Rattle.s2edit.specs.Working.Chain.{table_after, tables_after, FitAlong, lists_of, AllWithin, history}
 use Rattle.s2edit.specs.History.{History}
-use Rattle.s2edit.specs.Session.{diff, moved, Records, Text}
+use Rattle.s2edit.specs.Session.{diff, Records, Text}
+use Rattle.s2edit.specs.Working.Session.{moved}
 use Rattle.s2edit.specs.declared.TheConstants.{REGISTERS}
 use Rattle.s2edit.proofs.Contents.{reverse_twice}
 use Rattle.s2edit.proofs.Leading.{none_past}

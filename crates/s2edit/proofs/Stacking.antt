@@ -21,10 +21,10 @@ use Rattle.s2file.specs.declared.session.Move.{Move}
 use Rattle.s2file.specs.Session.{Moved, IsMoved, moved_of}
 use Rattle.s2edit.specs.Diff.{Diff, IsDiff}
 use Rattle.s2edit.specs.Session.{diff}
-use Rattle.s2edit.specs.Part.{around}
-use Rattle.s2edit.specs.Followed.{LieApart}
-use Rattle.s2edit.specs.Layers.{ordered, ordered_diff, AreChanges, LeadAlike, AllNearWatched, IsNearWatched}
-use Rattle.s2edit.specs.Layers.{HavePlaces, ArePlaces, NoneIn, layer_at, IsStacked}
+use Rattle.s2edit.specs.Working.Part.{around}
+use Rattle.s2edit.specs.Working.Followed.{LieApart}
+use Rattle.s2edit.specs.Working.Layers.{ordered, ordered_diff, AreChanges, LeadAlike, AllNearWatched, IsNearWatched}
+use Rattle.s2edit.specs.Working.Layers.{HavePlaces, ArePlaces, NoneIn, layer_at, IsStacked}
 use Rattle.s2edit.proofs.Following.{same_diff}
 use Rattle.s2edit.proofs.PartLemmas.{by_bool, has_member, leaf_there, leaf_around}
 use Rattle.s2edit.proofs.Layering.{AreSeparate, NamesCells, both_changes, alike_empty, alike_placed, both_is_change}

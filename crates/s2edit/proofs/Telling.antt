@@ -7,7 +7,8 @@ use Rattle.s2file.specs.declared.TheConstants.{SESSION_CELLS, SESSION_CHANGES}
 use Rattle.s2edit.specs.History.{History, AllTables}
 use Rattle.s2edit.specs.Diff.{Diff, inverse}
 use Rattle.s2edit.specs.Leads.{list_at, Leads}
-use Rattle.s2edit.specs.Chain.{table_after, tables_after, FitsTable, FitAlong, IsLocalWithin, AllWithin}
+use Rattle.s2edit.specs.Working.Chain.{table_after, tables_after, FitsTable, FitAlong, AllWithin}
+use Rattle.s2edit.specs.Chain.{IsLocalWithin}
 use Rattle.s2edit.specs.Session.{diff, LeadBack, LeadAhead, Records}
 use Rattle.s2edit.specs.declared.TheConstants.{REGISTERS}
 use Rattle.s2edit.proofs.Tables.{AllWithin-at, fits_back, table_back, within_after, length-tables_after}

@@ -8,8 +8,8 @@ use Rattle.s2list.specs.Union.{has_leaf}
 use Rattle.s2file.specs.Session.{Moved, IsMoved, moved_of}
 use Rattle.s2file.specs.declared.session.Move.{Move}
 use Rattle.s2edit.specs.Diff.{Diff, apply}
-use Rattle.s2edit.specs.Layers.{FitInTurn, list_after_all, LeadAlike, of_register}
-use Rattle.s2edit.specs.Part.{around_all, IsWatched, IsPart}
+use Rattle.s2edit.specs.Working.Layers.{FitInTurn, list_after_all, LeadAlike, of_register}
+use Rattle.s2edit.specs.Working.Part.{around_all, IsWatched, IsPart}
 use Rattle.s2edit.specs.Session.{diff}
 use Rattle.s2edit.proofs.Layering.{fit_parts, fit_both, after_both}
 use Rattle.s2edit.proofs.PartLemmas.{by_bool, fits_part, fits_whole, part_after}

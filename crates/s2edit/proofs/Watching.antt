@@ -18,8 +18,8 @@ use Rattle.s2file.specs.declared.session.Move.{Move}
 use Rattle.s2file.specs.Session.{Moved, IsMoved, IsChangeList, moved_of}
 use Rattle.s2edit.specs.Diff.{Diff}
 use Rattle.s2edit.specs.Session.{diff}
-use Rattle.s2edit.specs.Part.{around, around_both, around_all}
-use Rattle.s2edit.specs.Layers.{ordered_diff, of_register, AllNearWatched, IsNearWatched, LiesNear, IsStacked}
+use Rattle.s2edit.specs.Working.Part.{around, around_both, around_all}
+use Rattle.s2edit.specs.Working.Layers.{ordered_diff, of_register, AllNearWatched, IsNearWatched, LiesNear, IsStacked}
 use Rattle.s2edit.proofs.PartLemmas.{by_bool, member_had}
 use Rattle.s2edit.proofs.PartTables.{has_around, leaf_both, leaf_all}
 use Rattle.s2edit.proofs.Stacking.{all_at}

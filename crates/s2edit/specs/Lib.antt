@@ -2,13 +2,8 @@ pub mod History
 pub mod Diff
 pub mod Leads
 pub mod Chain
-pub mod Change
-pub mod Editor
 pub mod Laws
 pub mod Edits
 pub mod Session
-pub mod Following
-pub mod Followed
 pub mod SessionLaws
-pub mod Part
-pub mod Layers
+pub mod Working

@@ -14,10 +14,6 @@ use Rattle.s2edit.specs.declared.session.RestoreFault.TheVariants.{Fit, TooDeep,
 abbrev pub diff : Moved → Diff
 diff m = record { register = m.register; out = m.out; put = m.put }
 
--- a change of the editor as one of a session
-abbrev pub moved : Diff → Moved
-moved d = record { register = d.register; out = d.out; put = d.put }
-
 -- the changes lead from the earlier tables to the table; both lists are in order from the table back
 abbrev pub LeadBack : List Moved → List (List ℕ) → List (List (List ℕ)) → Type 0
 LeadBack [] t [] = Unit {0}

@@ -26,7 +26,7 @@ impl Model for Change {
 
     ghost Value = { Diff };
 
-    ghost use Rattle.s2edit.specs.Change.{diff_of, IsChange};
+    ghost use Rattle.s2edit.specs.Working.Change.{diff_of, IsChange};
 
     ghost view = { diff_of };
 

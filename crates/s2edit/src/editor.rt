@@ -6,7 +6,7 @@ ghost use Rattle.s2list.specs.Union.{has_leaf, IsLocal, IsNormalForm};
 ghost use Rattle.s2union.specs.Apply.{applied, Fits};
 ghost use Rattle.s2edit.specs.History.{untouched, Assigned, sets, undone, redone, numbers, EachList};
 ghost use Rattle.s2edit.specs.Leads.{list_at, table_at, Leads};
-ghost use Rattle.s2edit.specs.Chain.{lists_of, union_of, AllRoomy};
+ghost use Rattle.s2edit.specs.Working.Chain.{lists_of, union_of, AllRoomy};
 
 use crate::change::Change;
 use crate::register::Register;
@@ -49,7 +49,7 @@ impl Model for Editor {
 
     ghost Value = { History (List ℕ) };
 
-    ghost use Rattle.s2edit.specs.Editor.{history_of, IsEditor};
+    ghost use Rattle.s2edit.specs.Working.Editor.{history_of, IsEditor};
 
     ghost view = { history_of };
 

@@ -6,9 +6,9 @@ ghost use Rattle.std.specs.Prelude.{◌≡◌, ◌≤◌, length, map, OnOk, Mat
 ghost use Rattle.std.specs.List.{AllByRecursion};
 ghost use Rattle.s2list.specs.Union.{IsLocal};
 ghost use Rattle.s2file.specs.Session.{moved_of, IsMoved};
-ghost use Rattle.s2edit.specs.Layers.{of_register, list_after_all, AreChanges, FitInTurn};
+ghost use Rattle.s2edit.specs.Working.Layers.{of_register, list_after_all, AreChanges, FitInTurn};
 ghost use Rattle.s2edit.specs.Session.{diff};
-ghost use Rattle.s2edit.specs.Following.{FailsToFollow};
+ghost use Rattle.s2edit.specs.Working.Following.{FailsToFollow};
 
 use crate::followed::Followed;
 use crate::layers::layers_of;

@@ -5,8 +5,8 @@ ghost use Rattle.s2list.specs.Union.{IsLocal};
 ghost use Rattle.s2union.specs.Apply.{applied, Fits};
 ghost use Rattle.s2file.specs.Session.{AreApart};
 ghost use Rattle.s2edit.specs.Diff.{IsDiff};
-ghost use Rattle.s2edit.specs.Followed.{latest, joined, both_out, CanFollowOn, LieApart, LiesApart, LeadsOn};
-ghost use Rattle.s2edit.specs.Following.{FailsToFollow};
+ghost use Rattle.s2edit.specs.Working.Followed.{latest, joined, both_out, CanFollowOn, LieApart, LiesApart, LeadsOn};
+ghost use Rattle.s2edit.specs.Working.Following.{FailsToFollow};
 
 use crate::in_place::applied_in_place;
 use crate::lacking::unshared_cells;
@@ -41,7 +41,7 @@ pub(crate) struct Followed<'a> {
 
 impl<'a> Model for Followed<'a> {
     ghost use Rattle.std.specs.Prelude.{List, ℕ};
-    ghost use Rattle.s2edit.specs.Followed.{list_of, IsFollowed};
+    ghost use Rattle.s2edit.specs.Working.Followed.{list_of, IsFollowed};
 
     ghost Value = { List ℕ };
 

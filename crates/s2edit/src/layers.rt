@@ -13,9 +13,9 @@ ghost use Rattle.s2list.specs.Packed.{EndsAfter, IsPlace};
 ghost use Rattle.s2list.specs.Working.Packed.{EndsAt};
 ghost use Rattle.s2file.specs.Session.{moved_of, IsMoved};
 ghost use Rattle.s2edit.specs.Diff.{Diff};
-ghost use Rattle.s2edit.specs.Layers.{ordered, ordered_diff, of_register, IsNearWatched, IsStacked, LeadAlike};
-ghost use Rattle.s2edit.specs.Layers.{ArePlaces, AreChanges, HavePlaces};
-ghost use Rattle.s2edit.specs.Part.{around_all};
+ghost use Rattle.s2edit.specs.Working.Layers.{ordered, ordered_diff, of_register, IsNearWatched, IsStacked, LeadAlike};
+ghost use Rattle.s2edit.specs.Working.Layers.{ArePlaces, AreChanges, HavePlaces};
+ghost use Rattle.s2edit.specs.Working.Part.{around_all};
 ghost use Rattle.s2edit.specs.Session.{diff};
 
 use s2cell::CellId;

@@ -3,8 +3,8 @@ ghost use Rattle.std.specs.Prelude.{◌≡◌, ◌<◌, length, map, slice_set, 
 ghost use Rattle.std.specs.Prelude.{◌+◌, ◌-◌, ◌^◌, min, slice_index_or};
 ghost use Rattle.std.specs.List.{AllByRecursion};
 ghost use Rattle.s2file.specs.Session.{moved_of, IsMoved};
-ghost use Rattle.s2edit.specs.Chain.{lists_of};
-ghost use Rattle.s2edit.specs.Part.{longest};
+ghost use Rattle.s2edit.specs.Working.Chain.{lists_of};
+ghost use Rattle.s2edit.specs.Working.Part.{longest};
 ghost use Rattle.s2edit.specs.Session.{diff};
 
 use crate::REGISTERS;

@@ -3,9 +3,9 @@ ghost use Rattle.std.specs.Prelude.{◌≡◌, ◌++◌, ℕ, length, map, take,
 ghost use Rattle.std.specs.List.Sorted.{IsStrictlyIncreasing};
 ghost use Rattle.s2list.specs.Union.{has_leaf};
 ghost use Rattle.s2file.specs.Session.{moved_of, AreApart};
-ghost use Rattle.s2edit.specs.Chain.{lists_of};
-ghost use Rattle.s2edit.specs.Followed.{latest};
-ghost use Rattle.s2edit.specs.Part.{around, around_all, IsPart};
+ghost use Rattle.s2edit.specs.Working.Chain.{lists_of};
+ghost use Rattle.s2edit.specs.Working.Followed.{latest};
+ghost use Rattle.s2edit.specs.Working.Part.{around, around_all, IsPart};
 
 use s2cell::CellId;
 use s2file::Move;

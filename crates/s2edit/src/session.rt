@@ -6,9 +6,10 @@ ghost use Rattle.circular_buffer.specs.Buffer.{buffer};
 ghost use Rattle.s2file.specs.Session.{content_of, moved_of, IsContent, IsMoved};
 ghost use Rattle.s2edit.specs.History.{AllLists};
 ghost use Rattle.s2edit.specs.Diff.{inverse};
-ghost use Rattle.s2edit.specs.Chain.{lists_of, AllWithin, FitAlong};
-ghost use Rattle.s2edit.specs.Session.{moved, diff, Records, Text, Restored, RefusesSession};
-ghost use Rattle.s2edit.specs.Following.{FailsToFollow, MakesChanges, HaveRoom, KeepRoom};
+ghost use Rattle.s2edit.specs.Working.Chain.{lists_of, AllWithin, FitAlong};
+ghost use Rattle.s2edit.specs.Working.Session.{moved};
+ghost use Rattle.s2edit.specs.Session.{diff, Records, Text, Restored, RefusesSession};
+ghost use Rattle.s2edit.specs.Working.Following.{FailsToFollow, MakesChanges, HaveRoom, KeepRoom};
 ghost use Rattle.s2edit.specs.declared.session.RestoreFault.TheVariants.{Memory};
 
 use crate::REGISTERS;

@@ -3,7 +3,8 @@ use Rattle.std.proofs.Common.{◌≡◌, ℕ, ◌+◌, Bool, true, false, List, 
 use Rattle.std.proofs.Common.{refl, sym, ap, ◌∙◌, take-append-drop, arith, ◌<◌}
 use Rattle.std.proofs.lemmas.List.Splits.{slice_split-cons_yes, slice_split-cons_no}
 use Rattle.std.specs.List.{AllByRecursion, slice_split, onto_first, filter}
-use Rattle.s2script.specs.Words.{is_blank, is_nonempty, words, EndsWordAt}
+use Rattle.s2script.specs.Words.{is_blank, is_nonempty, words}
+use Rattle.s2script.specs.Working.Words.{EndsWordAt}
 
 split_at : (p : ℕ → Bool) (word : List ℕ) (b : ℕ) (more : List ℕ) → AllByRecursion (λ x. p x ≡ false) word →
     p b ≡ true → slice_split p (word ++ b ∷ more) ≡ word ∷ slice_split p more

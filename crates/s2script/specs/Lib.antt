@@ -11,3 +11,4 @@ pub mod Refusals
 pub mod Forms
 pub mod Table
 pub mod Line
+pub mod Working

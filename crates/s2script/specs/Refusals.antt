@@ -5,13 +5,13 @@ use Rattle.s2script.specs.declared.refusal.Refusal.TheVariants.{Syntax, Cell, Re
 use Rattle.s2script.specs.declared.refusal.Refusal.TheVariants.{Name, Line}
 
 -- the name that is printed
-abbrev pub name_of : Refusal → List ℕ
-name_of Syntax = codes "syntax"
-name_of Cell = codes "cell"
-name_of Register = codes "register"
-name_of Level = codes "level"
-name_of Face = codes "face"
-name_of Rectangle = codes "rectangle"
-name_of Order = codes "order"
-name_of Name = codes "name"
-name_of Line = codes "line"
+abbrev pub name_of_word_refusal : Refusal → List ℕ
+name_of_word_refusal Syntax = codes "syntax"
+name_of_word_refusal Cell = codes "cell"
+name_of_word_refusal Register = codes "register"
+name_of_word_refusal Level = codes "level"
+name_of_word_refusal Face = codes "face"
+name_of_word_refusal Rectangle = codes "rectangle"
+name_of_word_refusal Order = codes "order"
+name_of_word_refusal Name = codes "name"
+name_of_word_refusal Line = codes "line"

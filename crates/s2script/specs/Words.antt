@@ -1,7 +1,7 @@
 -- The words of a line.
-use Rattle.std.specs.Prelude.{◌≡◌, ℕ, ◌+◌, ◌<◌, Bool, false, true, ◌||◌, List, [], ◌∷◌, ◌==◌, length, take}
-use Rattle.std.specs.Prelude.{drop, slice_index, filter}
-use Rattle.std.specs.List.{slice_split, AllByRecursion}
+use Rattle.std.specs.Prelude.{ℕ, Bool, false, true, ◌||◌, List, [], ◌∷◌, ◌==◌}
+use Rattle.std.specs.Prelude.{filter}
+use Rattle.std.specs.List.{slice_split}
 use Rattle.std.specs.Io.BufRead.{strip_last}
 
 -- a space or a tab
@@ -25,10 +25,3 @@ without_cr bytes = strip_last 13 bytes
 abbrev pub is_comment : List ℕ → Bool
 is_comment [] = false
 is_comment (b ∷ bs) = b == 35
-
--- the first blank is at the place `at`
-pub record EndsWordAt (bytes : List ℕ) (at : ℕ) : Type 0 where
-  pub within : at < length bytes
-  pub before : AllByRecursion (λ b. is_blank b ≡ false) (take at bytes)
-  pub blank : is_blank (slice_index bytes at) ≡ true
-  pub here : drop at bytes ≡ slice_index bytes at ∷ drop (at + 1) bytes

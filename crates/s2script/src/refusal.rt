@@ -1,6 +1,6 @@
 //! Why the words of a line are refused.
 ghost use Rattle.std.specs.Prelude.{◌≡◌, ◌≤◌, length};
-ghost use Rattle.s2script.specs.Refusals.{name_of};
+ghost use Rattle.s2script.specs.Refusals.{name_of_word_refusal};
 
 /// Why a line is refused because of its words or its length, before anything is done.
 #[derive(Clone, Copy, Debug, PartialEq, Eq)]
@@ -28,7 +28,7 @@ pub enum Refusal {
 impl Refusal {
     /// The name that is printed.
     pub fn name(self) -> &'static str
-        ensures name { result.now ≡ name_of self }
+        ensures name { result.now ≡ name_of_word_refusal self }
         ensures short { length result.now ≤ 9 }
     {
         match self {

@@ -1,7 +1,8 @@
 //! The words of a line.
 ghost use Rattle.std.specs.Prelude.{◌≡◌, ◌↔◌, IsTrue, [], ◌∷◌, IfSome, IfNone, MatchOption, false};
 ghost use Rattle.std.specs.List.{AllByRecursion};
-ghost use Rattle.s2script.specs.Words.{words, is_blank, EndsWordAt};
+ghost use Rattle.s2script.specs.Words.{words, is_blank};
+ghost use Rattle.s2script.specs.Working.Words.{EndsWordAt};
 
 use std::marker::Model;
 

@@ -14,7 +14,8 @@ use Rattle.s2cell.proofs.Descendants.{descendant, IsCell-descendant_of}
 use Rattle.s2list.specs.Union.{IsLocal}
 use Rattle.s2union.specs.Denorm.{cells_in, cut_level, denormalised}
 use Rattle.s2union.proofs.Items.{Listing, listing_start, listing_more, listing_done, length-denormalised-le}
-use Rattle.s2search.specs.Room.{IsPut, PutsOne}
+use Rattle.s2search.specs.Working.Room.{IsPut}
+use Rattle.s2search.specs.Room.{PutsOne}
 use Rattle.s2search.proofs.Putting.{put_none}
 
 -- the cells of a level in a cell are one step apart

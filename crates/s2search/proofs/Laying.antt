@@ -22,8 +22,8 @@ use Rattle.s2list.proofs.Picking.{Picked, picked_push}
 use Rattle.s2list.proofs.Shared.{run_push}
 use Rattle.s2list.proofs.Tiling.{or_true, or_false, none_between}
 use Rattle.s2list.proofs.Walking.{leaf_at, not_true}
-use Rattle.s2search.specs.Room.{IsPut, PutsGap}
-use Rattle.s2search.specs.Piles.{Piling, PilingIn}
+use Rattle.s2search.specs.Working.Room.{IsPut, PutsGap}
+use Rattle.s2search.specs.Working.Piles.{Piling, PilingIn}
 use Rattle.s2search.proofs.Piling.{pile_free, pile_picked, piling_flush, taken}
 
 or_right_false : (a b : Bool) → (a || b) ≡ false → b ≡ false

@@ -14,7 +14,8 @@ use Rattle.s2list.proofs.Checking.{packed_from_local}
 use Rattle.s2list.proofs.Picking.{picked_none}
 use Rattle.s2list.proofs.Subtracting.{Subtracting, minus, subtract_done, subtracting_free, subtracting_from}
 use Rattle.s2list.proofs.Subtracting.{subtracting_on_x, subtracting_on_y, subtracting_run, subtracting_taken}
-use Rattle.s2search.specs.Room.{IsPut, PutsGap, PutsOne}
+use Rattle.s2search.specs.Working.Room.{IsPut, PutsGap}
+use Rattle.s2search.specs.Room.{PutsOne}
 use Rattle.s2search.proofs.Putting.{put_none, puts_normal}
 
 -- a list of what is left so far is in the room

@@ -4,14 +4,14 @@ use Rattle.std.proofs.lemmas.List.FromFn.{get_or-map-range_with_len, length-map-
 use Rattle.std.proofs.lemmas.List.{ext_get_or}
 use Rattle.byteorder.specs.Endian.{IsRead, little_number}
 use Rattle.s2file.specs.File.{first_number}
-use Rattle.s2search.specs.Numbers.{number_in, numbers}
+use Rattle.s2search.specs.Numbers.{number_in, numbers_in}
 
-pub length-numbers : (bytes : List ℕ) → length (numbers bytes) ≡ length bytes / 8
-unfolding numbers
+pub length-numbers : (bytes : List ℕ) → length (numbers_in bytes) ≡ length bytes / 8
+unfolding numbers_in
 length-numbers bytes = length-map-range_with_len (number_in bytes) 0 (length bytes / 8)
 
-pub get_or-numbers : (bytes : List ℕ) (k : ℕ) → k < length bytes / 8 → get_or (numbers bytes) k 0 ≡ number_in bytes k
-unfolding numbers
+pub get_or-numbers : (bytes : List ℕ) (k : ℕ) → k < length bytes / 8 → get_or (numbers_in bytes) k 0 ≡ number_in bytes k
+unfolding numbers_in
 get_or-numbers bytes k h = get_or-map-range_with_len (number_in bytes) 0 (length bytes / 8) k k 0 h (omega arith)
 
 same_number : (bytes : List ℕ) → little_number 8 bytes ≡ first_number bytes
@@ -20,8 +20,8 @@ same_number bytes = omega arith
 
 -- a list that was read from all bytes has their numbers
 pub read_all : (bytes out : List ℕ) → length bytes ≡ 8 * length out → IsRead little_number 8 bytes out →
-    out ≡ numbers bytes
+    out ≡ numbers_in bytes
 read_all bytes out all read =
     let len = length-numbers bytes in
-    ext_get_or 0 out (numbers bytes) (omega arith)
+    ext_get_or 0 out (numbers_in bytes) (omega arith)
     (λ k h. read k h ∙ same_number (drop (8 * k) bytes) ∙ sym (get_or-numbers bytes k (omega arith)))

@@ -19,8 +19,9 @@ use Rattle.s2list.proofs.Picking.{Picked, IsGap, picked_none, picked_fill, fill_
 use Rattle.s2list.proofs.Tiling.{or_true, or_false, none_between}
 use Rattle.s2list.proofs.Walking.{leaf_at, not_true}
 use Rattle.s2list.proofs.Finding.{starts_later}
-use Rattle.s2search.specs.Piles.{Piling, PilingIn}
-use Rattle.s2search.specs.Room.{PutsGap, PutsOne}
+use Rattle.s2search.specs.Working.Piles.{Piling, PilingIn}
+use Rattle.s2search.specs.Working.Room.{PutsGap}
+use Rattle.s2search.specs.Room.{PutsOne}
 use Rattle.s2search.proofs.Putting.{put_none, puts_normal}
 
 abbrev pub any : List ℕ → List ℕ → ℕ → Bool

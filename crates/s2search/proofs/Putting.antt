@@ -14,7 +14,8 @@ use Rattle.s2list.specs.Packed.{IsPacked}
 use Rattle.s2list.proofs.Checking.{packed_from_local}
 use Rattle.s2list.proofs.Normal.{normal_from_leaves}
 use Rattle.s2list.proofs.Picking.{Picked, picked_local}
-use Rattle.s2search.specs.Room.{IsPut, PutsOne}
+use Rattle.s2search.specs.Working.Room.{IsPut}
+use Rattle.s2search.specs.Room.{PutsOne}
 
 pub put_none : (room : List ℕ) → IsPut [] room room 0
 put_none room = record { same_length = refl; len_is = λ h. refl; front = λ h. refl }

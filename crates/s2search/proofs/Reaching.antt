@@ -15,9 +15,11 @@ use Rattle.s2list.specs.Packed.{IsPacked}
 use Rattle.s2list.proofs.Checking.{member_at}
 use Rattle.s2list.proofs.Normal.{leaf_from, leaf_to}
 use Rattle.s2list.proofs.PackedLocal.{place}
-use Rattle.s2search.specs.Ancestors.{AreHolders, IsHolder, ShareHolder, Gains, IsBefore, IsAfter, LeadsTo}
-use Rattle.s2search.specs.Ancestors.{PutsThose}
-use Rattle.s2search.specs.Room.{IsPut, PutsOne}
+use Rattle.s2search.specs.Ancestors.{AreHolders, IsHolder, ShareHolder}
+use Rattle.s2search.specs.Working.Ancestors.{Gains, IsBefore, IsAfter, LeadsTo}
+use Rattle.s2search.specs.Working.Ancestors.{PutsThose}
+use Rattle.s2search.specs.Working.Room.{IsPut}
+use Rattle.s2search.specs.Room.{PutsOne}
 use Rattle.s2search.proofs.Holders.{rises_more}
 
 -- `c` holds one of the first `k` cells

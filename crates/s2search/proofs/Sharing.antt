@@ -14,7 +14,8 @@ use Rattle.s2list.proofs.Packing.{is_at}
 use Rattle.s2list.proofs.Picking.{picked_none}
 use Rattle.s2list.proofs.Shared.{Sharing, both, held_else, share_x, sharing_done, sharing_swap, skip_x}
 use Rattle.s2list.specs.Looks.{Alternates, FewForTurnsAndCells}
-use Rattle.s2search.specs.Room.{IsPut, PutsOne}
+use Rattle.s2search.specs.Working.Room.{IsPut}
+use Rattle.s2search.specs.Room.{PutsOne}
 use Rattle.s2search.proofs.Leaping.{Stepped, stepped_all, stepped_leap, stepped_none, stepped_run, stepped_swap}
 use Rattle.s2list.proofs.Looking.{Sought, SoughtAlong}
 use Rattle.s2search.proofs.Putting.{put_none, puts_length, puts_normal}

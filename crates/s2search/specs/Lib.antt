@@ -2,4 +2,4 @@ pub mod Numbers
 pub mod Room
 pub mod Ancestors
 pub mod Normalising
-pub mod Piles
+pub mod Working

@@ -8,5 +8,5 @@ abbrev pub number_in : List ℕ → ℕ → ℕ
 number_in bytes i = first_number (drop (8 * i) bytes)
 
 -- all numbers in the bytes, in order
-unfoldable pub numbers : List ℕ → List ℕ
-numbers bytes = map (number_in bytes) (range_with_len 0 (length bytes / 8))
+unfoldable pub numbers_in : List ℕ → List ℕ
+numbers_in bytes = map (number_in bytes) (range_with_len 0 (length bytes / 8))

@@ -2,7 +2,7 @@
 ghost use Rattle.std.specs.Prelude.{◌≡◌, ◌*◌, ◌/◌, ◌<◌, ◌≤◌, length};
 ghost use Rattle.s2cell.specs.Cell.{IsCell};
 ghost use Rattle.s2file.specs.File.{first_number};
-ghost use Rattle.s2search.specs.Numbers.{number_in, numbers};
+ghost use Rattle.s2search.specs.Numbers.{number_in, numbers_in};
 
 use byteorder::{ByteOrder, LittleEndian};
 use s2cell::CellId;
@@ -19,7 +19,7 @@ pub struct FileIds<'a> {
 }
 
 impl<'a> Cells for FileIds<'a> {
-    ghost ids = { λ s. numbers s.bytes.now };
+    ghost ids = { λ s. numbers_in s.bytes.now };
 
     fn len(&self) -> usize {
         self.bytes.len() / NUMBER_SIZE
@@ -50,7 +50,7 @@ pub fn number(bytes: &[u8]) -> u64
 /// Fills a list with the numbers of bytes, eight bytes each, which are as many.
 pub fn read_numbers(bytes: &[u8], out: &mut [u64])
     requires { length bytes.now ≡ 8 * length out.old }
-    ensures { out.new ≡ numbers bytes.now }
+    ensures { out.new ≡ numbers_in bytes.now }
 {
     LittleEndian::read_u64_into(bytes, out);
 }

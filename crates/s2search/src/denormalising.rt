@@ -3,7 +3,8 @@ ghost use Rattle.std.specs.Prelude.{◌≡◌, ◌++◌, ◌-◌, ◌^◌, ◌<�
 ghost use Rattle.s2cell.specs.Cell.{IsCell, level_of};
 ghost use Rattle.s2list.specs.Union.{IsLocal};
 ghost use Rattle.s2union.specs.Denorm.{cells_in, cut_level, denormalised};
-ghost use Rattle.s2search.specs.Room.{IsPut, PutsOne};
+ghost use Rattle.s2search.specs.Working.Room.{IsPut};
+ghost use Rattle.s2search.specs.Room.{PutsOne};
 
 use s2cell::{CellId, GREATEST_LEVEL};
 use s2union::{count_descendants, level_to_cut};

@@ -4,8 +4,9 @@ ghost use Rattle.std.specs.Prelude.{◌≡◌, ◌+◌, ◌-◌, ◌^◌, ◌<�
 ghost use Rattle.s2cell.specs.Cell.{IsCell, first_leaf, size_of};
 ghost use Rattle.s2list.specs.Union.{IsLocal, IsNormalForm, has_leaf};
 ghost use Rattle.s2list.specs.Sets.{either};
-ghost use Rattle.s2search.specs.Piles.{PilingIn};
-ghost use Rattle.s2search.specs.Room.{PutsGap, PutsOne};
+ghost use Rattle.s2search.specs.Working.Piles.{PilingIn};
+ghost use Rattle.s2search.specs.Working.Room.{PutsGap};
+ghost use Rattle.s2search.specs.Room.{PutsOne};
 
 use crate::room::{put_gap, put_run};
 use s2cell::LEAVES;

@@ -7,8 +7,10 @@ ghost use Rattle.std.specs.Prelude.{◌∷◌, ◌++◌, length, slice_index};
 ghost use Rattle.std.specs.List.Sorted.{IsStrictlyIncreasing};
 ghost use Rattle.s2cell.specs.Cell.{IsCell, IsInside, first_leaf, level_of, parent_of};
 ghost use Rattle.s2list.specs.Union.{IsLocal};
-ghost use Rattle.s2search.specs.Ancestors.{AreHolders, IsAfter, IsBefore, LeadsTo, PutsThose};
-ghost use Rattle.s2search.specs.Room.{IsPut, PutsOne};
+ghost use Rattle.s2search.specs.Ancestors.{AreHolders};
+ghost use Rattle.s2search.specs.Working.Ancestors.{IsAfter, IsBefore, LeadsTo, PutsThose};
+ghost use Rattle.s2search.specs.Working.Room.{IsPut};
+ghost use Rattle.s2search.specs.Room.{PutsOne};
 
 use crate::room::put;
 use s2cell::CellId;

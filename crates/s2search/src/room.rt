@@ -1,6 +1,6 @@
 //! Lists of identifiers that grow at the front of a room. What doesn't fit is counted, and not written.
 ghost use Rattle.std.specs.Prelude.{◌≡◌, ◌+◌, ◌-◌, ◌<◌, ◌≤◌, ◌++◌, ◌∷◌, [], ℕ, List, length, take, drop};
-ghost use Rattle.s2search.specs.Room.{IsPut, PutsGap};
+ghost use Rattle.s2search.specs.Working.Room.{IsPut, PutsGap};
 
 use s2cell::{CellId, LEAVES};
 use s2list::Cells;

@@ -6,7 +6,9 @@ ghost use Rattle.s2list.specs.Looks.{Alternates, FewForTurnsAndCells};
 ghost use Rattle.s2search.specs.Room.{PutsOne};
 
 use crate::room::put_run;
-use s2list::{Cells, Count, Looks, Uncounted, end_of, find_along, find_from_counted, first_of, look};
+use s2list::{
+    Cells, Count, Looks, Uncounted, end_of, find_along, find_from_counted, first_of, look,
+};
 
 /// What a set operation answers, with how many looks that took.
 #[derive(Clone, Copy)]

@@ -4,7 +4,8 @@ use Rattle.std.proofs.Common.{get_or, refl, sym}
 use Rattle.std.proofs.Common.{ap, ◌∙◌, arith, add-one}
 use Rattle.std.proofs.Common.{append_assoc, length-append}
 use Rattle.s2cell.specs.Token.{token_of}
-use Rattle.s2union_c.specs.Texts.{piece, tokens_of}
+use Rattle.s2union_c.specs.Working.Texts.{piece}
+use Rattle.s2union_c.specs.Texts.{tokens_of}
 
 next : (u : List ℕ) (k : ℕ) → k < length u
     → tokens_of (take (suc k) u) ≡ tokens_of (take k u) ++ piece k (token_of (get_or u k 0))

@@ -8,7 +8,8 @@ use Rattle.std.proofs.lemmas.List.{drop-drop, length-drop, length-take-le, take_
 use Rattle.std.proofs.lemmas.List.Splits.{slice_split-cons_yes, slice_split-cons_no}
 use Rattle.std.specs.List.{AllByRecursion, slice_split, onto_first, filter}
 use Rattle.std.proofs.Math.ListN.{drop_of_length-le}
-use Rattle.s2union_c.specs.Texts.{EndsTextWordAt, IsNextWord, is_between, is_nonempty, words_of_text}
+use Rattle.s2union_c.specs.Working.Texts.{EndsTextWordAt, IsNextWord}
+use Rattle.s2union_c.specs.Texts.{is_between, is_nonempty, words_of_text}
 
 split_at : (p : ℕ → Bool) (word : List ℕ) (b : ℕ) (more : List ℕ) → AllByRecursion (λ x. p x ≡ false) word → p b ≡ true
     → slice_split p (word ++ b ∷ more) ≡ word ∷ slice_split p more

@@ -1,28 +1,14 @@
 -- What is answered for many cells at once: an entry for each number of a list, at its place.
-use Rattle.std.specs.Prelude.{◌≡◌, ◌+◌, ◌-◌, ◌*◌, ◌<◌, ◌≤◌, ◌⊎◌, ℕ, List, ◌++◌, length}
+use Rattle.std.specs.Prelude.{◌≡◌, ◌-◌, ◌<◌, ◌≤◌, ◌⊎◌, ℕ, List, ◌++◌, length}
 use Rattle.std.specs.Prelude.{◌^◌, slice_index_or, replicate}
-use Rattle.s2cell.specs.Cell.{IsCell, first_leaf, level_of, parent_of, size_of}
+use Rattle.s2cell.specs.Cell.{IsCell, first_leaf, level_of}
 use Rattle.s2cell.specs.Curve.{IsPlaceOf}
 use Rattle.s2cell.specs.Token.{token_of}
 use Rattle.s2union_c.specs.declared.many_cells.FacePoint.{FacePoint}
-use Rattle.s2union_c.specs.declared.many_cells.Relative.{Relative}
-use Rattle.s2union_c.specs.declared.many_cells.Relative.TheVariants.{Parent, FirstLeaf, LastLeaf}
 
 -- the number is a cell whose level is at least `level`
 abbrev pub HasParent : ℕ → ℕ → Type 0
 HasParent level id = IsCell id × (level ≤ level_of id)
-
--- the number is a cell that has the relative
-abbrev pub HasRelative : Relative → ℕ → Type 0
-HasRelative (Parent level) id = HasParent level id
-HasRelative FirstLeaf id = IsCell id
-HasRelative LastLeaf id = IsCell id
-
--- the relative of the cell
-abbrev pub relative_of : Relative → ℕ → ℕ
-relative_of (Parent level) id = parent_of id level
-relative_of FirstLeaf id = 2 * first_leaf id + 1
-relative_of LastLeaf id = 2 * (first_leaf id + size_of id) - 1
 
 -- the entry is `value` if `P` holds, else `otherwise`
 abbrev pub IsValueOr : {X : Type 0} → Type 0 → X → X → X → Type 0

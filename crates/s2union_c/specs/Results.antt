@@ -29,7 +29,7 @@ MadeOne {X} status P old new len = ((xs : List X) × P xs × Made status xs old 
     ⊎ Refused status no_memory old new len
 
 -- the list `xs` is longer than the room: its length is reported, and the room may hold anything
-pub record IsTooLong {X : Type 0} (xs old new : List X) (len : ℕ) : Type 0 where
+pub record ExceedsRoom {X : Type 0} (xs old new : List X) (len : ℕ) : Type 0 where
   pub len_is : len ≡ length xs
   pub short : length old < length xs
   pub same_length : length new ≡ length old
@@ -37,4 +37,4 @@ pub record IsTooLong {X : Type 0} (xs old new : List X) (len : ℕ) : Type 0 whe
 -- a list with the property was written, or is longer than the room, which may then hold anything
 abbrev pub MadeInPlace : {X : Type 0} → ℤ → (List X → Type 0) → List X → List X → ℕ → Type 0
 MadeInPlace {X} status P old new len = (xs : List X) × P xs × (((status ≡ made) × IsWritten xs old new len)
-    ⊎ ((status ≡ no_room) × IsTooLong xs old new len))
+    ⊎ ((status ≡ no_room) × ExceedsRoom xs old new len))

@@ -8,7 +8,7 @@ ghost use Rattle.s2list.specs.Count.{count_below};
 ghost use Rattle.s2file.specs.File.{file_text};
 ghost use Rattle.s2search.specs.Ancestors.{AreHolders};
 ghost use Rattle.s2search.specs.Normalising.{IsNormalisedIn};
-ghost use Rattle.s2search.specs.Numbers.{numbers};
+ghost use Rattle.s2search.specs.Numbers.{numbers_in};
 ghost use Rattle.s2union_c.specs.Files.{Decoded, IsCellFile, IsFrameFault, IsFramed, file_ids};
 ghost use Rattle.s2union_c.specs.Results.{Made, MadeInPlace, MadeOne, Refused};
 ghost use Rattle.s2union_c.specs.Status.{IsAnswerTo, IsAnswer, bad_argument, made, no_cell, no_room, wrong_cell};
@@ -72,9 +72,9 @@ pub extern "C" fn s2u_decode(alloc: Global, bytes: &[u8], out: &mut [u64], len: 
 /// The union of the cells in bytes, as `s2u_decode` answers it.
 fn decode_numbers(alloc: Global, bytes: &[u8], out: &mut [u64], len: &mut usize) -> i32
     requires len { len.old ≡ 0 }
-    requires whole { length bytes.now ≡ 8 * length (numbers bytes.now) }
-    ensures made { All IsCell (numbers bytes.now) → Decoded result (numbers bytes.now) out.old out.new len.new }
-    ensures wrong { (All IsCell (numbers bytes.now) → ⊥) → Refused result wrong_cell out.old out.new len.new }
+    requires whole { length bytes.now ≡ 8 * length (numbers_in bytes.now) }
+    ensures made { All IsCell (numbers_in bytes.now) → Decoded result (numbers_in bytes.now) out.old out.new len.new }
+    ensures wrong { (All IsCell (numbers_in bytes.now) → ⊥) → Refused result wrong_cell out.old out.new len.new }
 {
     let ids = FileIds { bytes };
     if is_union(&ids) {
@@ -93,8 +93,8 @@ fn decode_numbers(alloc: Global, bytes: &[u8], out: &mut [u64], len: &mut usize)
 
 /// Writes the numbers of bytes to the front of the room, if they fit, and tells how many there are.
 fn put_numbers(bytes: &[u8], out: &mut [u64], len: &mut usize) -> i32
-    requires { length bytes.now ≡ 8 * length (numbers bytes.now) }
-    ensures { Made result (numbers bytes.now) out.old out.new len.new }
+    requires { length bytes.now ≡ 8 * length (numbers_in bytes.now) }
+    ensures { Made result (numbers_in bytes.now) out.old out.new len.new }
 {
     let n = FileIds { bytes }.len();
     *len = n;
@@ -109,8 +109,8 @@ fn put_numbers(bytes: &[u8], out: &mut [u64], len: &mut usize) -> i32
 /// answers how many cells that union has.
 fn normalise_numbers(bytes: &[u8], out: &mut [u64]) -> usize
     requires size { length bytes.now ≡ 8 * length out.old }
-    requires cells { All IsCell (numbers bytes.now) }
-    ensures { IsNormalisedIn (numbers bytes.now) out.new result }
+    requires cells { All IsCell (numbers_in bytes.now) }
+    ensures { IsNormalisedIn (numbers_in bytes.now) out.new result }
 {
     read_numbers(bytes, out);
     s2search::normalise(out)
@@ -120,8 +120,8 @@ fn normalise_numbers(bytes: &[u8], out: &mut [u64]) -> usize
 /// memory for all cells of the bytes.
 fn put_normalised(alloc: Global, bytes: &[u8], out: &mut [u64], len: &mut usize) -> i32
     requires len { len.old ≡ 0 }
-    requires cells { All IsCell (numbers bytes.now) }
-    ensures { MadeOne result (IsNormalForm (has_leaf (numbers bytes.now))) out.old out.new len.new }
+    requires cells { All IsCell (numbers_in bytes.now) }
+    ensures { MadeOne result (IsNormalForm (has_leaf (numbers_in bytes.now))) out.old out.new len.new }
 {
     match cells_of(alloc, &FileIds { bytes }) {
         Ok(cells) => put_cells(normalise(cells).cells(), out, len),

@@ -4,7 +4,7 @@ ghost use Rattle.s2cell.specs.Cell.{IsCell, covers, first_leaf};
 ghost use Rattle.s2list.specs.Union.{IsLocal, IsWithin, ShareSome, has_leaf};
 ghost use Rattle.s2list.specs.Packed.{IsPlace};
 ghost use Rattle.s2list.specs.Search.{IsFirstWrong};
-ghost use Rattle.s2union_c.specs.Many.{Holds};
+ghost use Rattle.s2union_c.specs.Working.Many.{Holds};
 ghost use Rattle.s2union_c.specs.Status.{IsBit, made, no_cell, no_room};
 
 use crate::status::{MADE, NO_CELL, NO_ROOM};

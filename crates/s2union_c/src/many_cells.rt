@@ -3,8 +3,10 @@ ghost use Rattle.std.specs.Prelude.{◌≡◌, ◌+◌, ◌-◌, ◌*◌, ◌<�
 ghost use Rattle.std.specs.Prelude.{◌↔◌, IsTrue, slice_index_or};
 ghost use Rattle.std.specs.List.{between};
 ghost use Rattle.s2cell.specs.Cell.{IsCell, first_leaf, level_of, parent_of, size_of};
-ghost use Rattle.s2union_c.specs.ManyCells.{HasParent, HasRelative, IsFirstWithout, IsLeafAt, IsOnFace, IsTokenField};
-ghost use Rattle.s2union_c.specs.ManyCells.{IsValueOr, relative_of};
+ghost use Rattle.s2union_c.specs.ManyCells.{HasParent, IsFirstWithout, IsLeafAt, IsOnFace, IsTokenField};
+ghost use Rattle.s2union_c.specs.Working.ManyCells.{HasRelative};
+ghost use Rattle.s2union_c.specs.ManyCells.{IsValueOr};
+ghost use Rattle.s2union_c.specs.Working.ManyCells.{relative_of};
 ghost use Rattle.s2union_c.specs.Status.{made, no_room};
 
 use crate::status::{MADE, NO_ROOM};

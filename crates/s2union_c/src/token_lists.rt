@@ -7,8 +7,10 @@ ghost use Rattle.s2cell.specs.Cell.{IsCell};
 ghost use Rattle.s2cell.specs.Token.{token_of};
 ghost use Rattle.s2union_c.specs.Results.{Made, Refused};
 ghost use Rattle.s2union_c.specs.Status.{no_cell, too_many};
-ghost use Rattle.s2union_c.specs.Texts.{EndsTextWordAt, IsFilled, IsFirstNameless, IsNextWord, NamesCell};
-ghost use Rattle.s2union_c.specs.Texts.{is_between, piece, tokens_of, words_of_text};
+ghost use Rattle.s2union_c.specs.Working.Texts.{EndsTextWordAt, IsFilled, IsNextWord};
+ghost use Rattle.s2union_c.specs.Texts.{IsFirstNameless, NamesCell};
+ghost use Rattle.s2union_c.specs.Texts.{is_between, tokens_of, words_of_text};
+ghost use Rattle.s2union_c.specs.Working.Texts.{piece};
 
 use crate::status::{MADE, NO_CELL, NO_ROOM, TOO_MANY};
 use s2cell::CellId;

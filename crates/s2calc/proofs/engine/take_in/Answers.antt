@@ -2,7 +2,7 @@ use Rattle.std.proofs.Common.{◌≡◌, ℕ, List, [], ◌∷◌, ◌++◌, ◌
 use Rattle.std.proofs.Common.{◌∙◌, append_assoc, take-append-drop, inl, inr}
 use Rattle.std.proofs.lemmas.List.{take_rest}
 use Rattle.std.proofs.lemmas.Result.{err_from_is_err_and}
-use Rattle.s2script.specs.Lines.{EndsLineAt}
+use Rattle.s2script.specs.Working.Lines.{EndsLineAt}
 use Rattle.s2calc.proofs.CallLemmas.{none_failed_none, none_failed_more, last_failed_after}
 use Rattle.s2calc.proofs.TakeInLemmas.{StandsAfter-none, StandsAfter-line, StandsAfter-rest, StopsInside-line}
 use Rattle.s2calc.proofs.TakeInLemmas.{StopsBeside-line}

@@ -1,5 +1,5 @@
 use Rattle.std.proofs.Common.{◌≡◌, [], replicate}
-use Rattle.s2edit.specs.Chain.{lists_of, AllRoomy}
+use Rattle.s2edit.specs.Working.Chain.{lists_of, AllRoomy}
 use Rattle.s2edit.proofs.editor.empty_registers.Given as goal
 
 abbrev pub invariant-loop-i : goal.invariant-loop-i

@@ -3,8 +3,8 @@ use Rattle.std.proofs.lemmas.Result.{MatchResult-weaker}
 use Rattle.s2file.specs.Session.{moved_of}
 use Rattle.s2file.specs.declared.session.Move.{Move}
 use Rattle.s2edit.specs.Diff.{Diff}
-use Rattle.s2edit.specs.Followed.{latest}
-use Rattle.s2edit.specs.Layers.{FitInTurn, LeadAlike, of_register}
+use Rattle.s2edit.specs.Working.Followed.{latest}
+use Rattle.s2edit.specs.Working.Layers.{FitInTurn, LeadAlike, of_register}
 use Rattle.s2edit.specs.Session.{diff}
 use Rattle.s2edit.proofs.Following.{fails}
 use Rattle.s2edit.proofs.Turns.{layers_give, layers_need}

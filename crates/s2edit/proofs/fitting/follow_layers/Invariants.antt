@@ -1,6 +1,6 @@
 use Rattle.std.proofs.Common.{map, drop}
 use Rattle.s2file.specs.Session.{moved_of}
-use Rattle.s2edit.specs.Layers.{AreChanges}
+use Rattle.s2edit.specs.Working.Layers.{AreChanges}
 use Rattle.s2edit.specs.Session.{diff}
 use Rattle.s2edit.proofs.Turns.{GoesOn}
 use Rattle.s2edit.proofs.fitting.follow_layers.Given as goal

@@ -3,7 +3,7 @@ use Rattle.std.proofs.lemmas.Result.{err_from_is_err_and}
 use Rattle.s2list.specs.Union.{IsLocal}
 use Rattle.s2file.specs.Session.{moved_of}
 use Rattle.s2edit.specs.Diff.{Diff}
-use Rattle.s2edit.specs.Layers.{of_register, FitInTurn}
+use Rattle.s2edit.specs.Working.Layers.{of_register, FitInTurn}
 use Rattle.s2edit.specs.Session.{diff}
 use Rattle.s2edit.proofs.Following.{fails}
 use Rattle.s2edit.proofs.Layering.{local_after}

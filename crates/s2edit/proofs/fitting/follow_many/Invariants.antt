@@ -1,7 +1,7 @@
 use Rattle.std.proofs.Common.{◌≤◌, ◌-◌, length, map, drop}
 use Rattle.s2list.specs.Union.{IsLocal}
 use Rattle.s2file.specs.Session.{moved_of}
-use Rattle.s2edit.specs.Layers.{of_register}
+use Rattle.s2edit.specs.Working.Layers.{of_register}
 use Rattle.s2edit.specs.Session.{diff}
 use Rattle.s2edit.proofs.Turns.{GoesOn}
 use Rattle.s2edit.proofs.fitting.follow_many.Given as goal

@@ -2,7 +2,7 @@ use Rattle.std.proofs.Common.{refl}
 use Rattle.std.proofs.lemmas.Bool.{false≢true}
 use Rattle.std.proofs.lemmas.Result.{err_from_is_err_and}
 use Rattle.s2union.specs.Apply.{applied, Fits}
-use Rattle.s2edit.specs.Followed.{CanFollowOn}
+use Rattle.s2edit.specs.Working.Followed.{CanFollowOn}
 use Rattle.s2edit.proofs.Following.{fails}
 use Rattle.s2edit.proofs.InTurn.{second_needs, outs_increase, puts_increase, one_needs, leads_near}
 use Rattle.s2edit.proofs.Apart.{out_local, put_local}

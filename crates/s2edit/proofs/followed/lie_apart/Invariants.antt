@@ -1,5 +1,5 @@
 use Rattle.std.proofs.Common.{◌≡◌, drop}
-use Rattle.s2edit.specs.Followed.{LieApart}
+use Rattle.s2edit.specs.Working.Followed.{LieApart}
 use Rattle.s2edit.proofs.followed.lie_apart.Given as goal
 
 abbrev pub invariant-loop-cell : goal.invariant-loop-cell

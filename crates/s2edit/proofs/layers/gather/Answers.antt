@@ -3,7 +3,7 @@ use Rattle.std.proofs.lemmas.List.{length-map}
 use Rattle.std.proofs.Common.{Vec, Global}
 use Rattle.s2file.specs.declared.session.Move.{Move}
 use Rattle.s2file.specs.Session.{moved_of}
-use Rattle.s2edit.specs.Layers.{ArePlaces}
+use Rattle.s2edit.specs.Working.Layers.{ArePlaces}
 use Rattle.s2edit.proofs.layers.gather.Goals.{then-height-len+in_ok-push, else-height-len}
 use Rattle.s2edit.proofs.Stacking.{IsHeight, AreHeights, AreOpened, opened_new, opened_same, height_from, heights_from}
 use Rattle.s2edit.proofs.Stacking.{gather_alike, gather_stacked}

@@ -4,7 +4,7 @@ use Rattle.s2file.specs.declared.session.Move.{Move}
 use Rattle.s2file.specs.Session.{moved_of}
 use Rattle.s2edit.specs.Diff.{Diff}
 use Rattle.s2edit.specs.Session.{diff}
-use Rattle.s2edit.specs.Layers.{of_register, ordered_diff, AreChanges, IsNearWatched, IsStacked, LeadAlike}
+use Rattle.s2edit.specs.Working.Layers.{of_register, ordered_diff, AreChanges, IsNearWatched, IsStacked, LeadAlike}
 use Rattle.s2edit.proofs.Layering.{alike_self}
 use Rattle.s2edit.proofs.Watching.{stacked_none, moved_at, near_at, changes_more, changes_same, all_changes}
 use Rattle.s2edit.proofs.Watching.{ordered_whole}

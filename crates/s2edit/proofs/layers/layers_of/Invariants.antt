@@ -1,7 +1,7 @@
 use Rattle.std.proofs.Common.{map, take}
 use Rattle.s2file.specs.Session.{moved_of}
 use Rattle.s2edit.specs.Session.{diff}
-use Rattle.s2edit.specs.Layers.{of_register, ordered_diff, IsStacked, LeadAlike}
+use Rattle.s2edit.specs.Working.Layers.{of_register, ordered_diff, IsStacked, LeadAlike}
 use Rattle.s2edit.proofs.layers.layers_of.Given as goal
 
 abbrev pub invariant-loop-change : goal.invariant-loop-change

@@ -1,6 +1,6 @@
 use Rattle.std.proofs.Common.{get_or, refl, sym, ap, ◌∙◌, arith}
 use Rattle.s2file.specs.declared.session.Move.{Move}
-use Rattle.s2edit.specs.Layers.{ordered}
+use Rattle.s2edit.specs.Working.Layers.{ordered}
 use Rattle.s2edit.proofs.Ordering.{order_next, all_ordered}
 use Rattle.s2edit.proofs.layers.order_layers.Goals as goal
 

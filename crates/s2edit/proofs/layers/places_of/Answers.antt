@@ -1,5 +1,5 @@
 use Rattle.std.proofs.Common.{ℕ, List, ◌+◌, take, subst}
-use Rattle.s2edit.specs.Layers.{HavePlaces}
+use Rattle.s2edit.specs.Working.Layers.{HavePlaces}
 use Rattle.s2edit.proofs.layers.places_of.Goals as goal
 
 pub loop-turn-preserved : goal.loop-turn-preserved

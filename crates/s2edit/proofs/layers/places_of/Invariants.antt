@@ -1,5 +1,5 @@
 use Rattle.std.proofs.Common.{take}
-use Rattle.s2edit.specs.Layers.{HavePlaces}
+use Rattle.s2edit.specs.Working.Layers.{HavePlaces}
 use Rattle.s2edit.proofs.layers.places_of.Given as goal
 
 abbrev pub invariant-loop-turn : goal.invariant-loop-turn

@@ -2,8 +2,8 @@ use Rattle.std.proofs.Common.{◌≡◌, length, map, drop}
 use Rattle.std.specs.Prelude.{max}
 use Rattle.std.specs.List.{AllByRecursion}
 use Rattle.s2file.specs.Session.{moved_of, IsMoved}
-use Rattle.s2edit.specs.Chain.{lists_of}
-use Rattle.s2edit.specs.Part.{longest}
+use Rattle.s2edit.specs.Working.Chain.{lists_of}
+use Rattle.s2edit.specs.Working.Part.{longest}
 use Rattle.s2edit.specs.Session.{diff}
 use Rattle.s2edit.specs.declared.TheConstants.{REGISTERS}
 use Rattle.s2edit.proofs.lengths.longest.Given as goal

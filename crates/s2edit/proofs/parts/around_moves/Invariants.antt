@@ -1,7 +1,7 @@
 use Rattle.std.proofs.Common.{◌≡◌, ◌++◌, ℕ, map, drop}
 use Rattle.s2list.specs.Union.{has_leaf}
 use Rattle.s2file.specs.Session.{moved_of}
-use Rattle.s2edit.specs.Part.{around_all}
+use Rattle.s2edit.specs.Working.Part.{around_all}
 use Rattle.s2edit.proofs.parts.around_moves.Given as goal
 
 abbrev pub invariant-loop-change : goal.invariant-loop-change

@@ -1,6 +1,6 @@
 use Rattle.std.proofs.Common.{◌≡◌, ◌++◌, ℕ, map, take}
 use Rattle.s2list.specs.Union.{has_leaf}
-use Rattle.s2edit.specs.Part.{around}
+use Rattle.s2edit.specs.Working.Part.{around}
 use Rattle.s2edit.proofs.parts.push_around.Given as goal
 
 abbrev pub invariant-loop-turn : goal.invariant-loop-turn

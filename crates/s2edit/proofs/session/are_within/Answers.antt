@@ -2,7 +2,7 @@ use Rattle.std.proofs.Common.{length, ap, refl, arith}
 use Rattle.std.proofs.lemmas.Bool.{false≢true}
 use Rattle.std.proofs.lemmas.List.{length-map}
 use Rattle.s2list.specs.Union.{Union}
-use Rattle.s2edit.specs.Chain.{lists_of}
+use Rattle.s2edit.specs.Working.Chain.{lists_of}
 use Rattle.s2edit.proofs.Tables.{list_read}
 use Rattle.s2edit.proofs.Restoring.{few_at}
 use Rattle.s2edit.proofs.session.are_within.Goals as goal

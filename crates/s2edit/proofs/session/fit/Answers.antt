@@ -7,9 +7,9 @@ use Rattle.std.proofs.lemmas.Result.{err_from_is_err_and}
 use Rattle.s2list.specs.Union.{Union}
 use Rattle.s2file.specs.Session.{moved_of}
 use Rattle.s2file.specs.declared.TheConstants.{SESSION_CELLS}
-use Rattle.s2edit.specs.Chain.{lists_of, FitAlong}
+use Rattle.s2edit.specs.Working.Chain.{lists_of, FitAlong}
 use Rattle.s2edit.specs.Leads.{list_at}
-use Rattle.s2edit.specs.Layers.{of_register, FitInTurn}
+use Rattle.s2edit.specs.Working.Layers.{of_register, FitInTurn}
 use Rattle.s2edit.specs.Session.{diff}
 use Rattle.s2edit.proofs.Following.{fails}
 use Rattle.s2edit.proofs.Registers.{turn_of, not_long, follows}

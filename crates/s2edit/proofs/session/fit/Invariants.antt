@@ -1,8 +1,8 @@
 use Rattle.std.proofs.Common.{ℕ, ◌<◌, map}
 use Rattle.s2file.specs.Session.{moved_of}
-use Rattle.s2edit.specs.Chain.{lists_of}
+use Rattle.s2edit.specs.Working.Chain.{lists_of}
 use Rattle.s2edit.specs.Leads.{list_at}
-use Rattle.s2edit.specs.Layers.{of_register, FitInTurn}
+use Rattle.s2edit.specs.Working.Layers.{of_register, FitInTurn}
 use Rattle.s2edit.specs.Session.{diff}
 use Rattle.s2edit.proofs.session.fit.Given as goal
 

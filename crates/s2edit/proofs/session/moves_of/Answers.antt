@@ -3,7 +3,7 @@ use Rattle.std.proofs.lemmas.List.{length_push}
 use Rattle.std.proofs.lemmas.Option.{slice_get_within}
 use Rattle.s2file.specs.Session.{moved_of}
 use Rattle.s2file.specs.declared.session.Move.{Move}
-use Rattle.s2edit.specs.Session.{moved}
+use Rattle.s2edit.specs.Working.Session.{moved}
 use Rattle.s2edit.proofs.Saving.{copied_one, copied_all}
 use Rattle.s2edit.proofs.session.moves_of.Goals as goal
 

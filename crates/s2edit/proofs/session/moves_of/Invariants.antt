@@ -1,6 +1,6 @@
 use Rattle.std.proofs.Common.{◌≡◌, ◌-◌, length, map, take}
 use Rattle.s2file.specs.Session.{moved_of}
-use Rattle.s2edit.specs.Session.{moved}
+use Rattle.s2edit.specs.Working.Session.{moved}
 use Rattle.s2edit.proofs.session.moves_of.Given as goal
 
 abbrev pub invariant-loop-change : goal.invariant-loop-change

@@ -2,7 +2,7 @@ use Rattle.std.proofs.Common.{◌≡◌, ◌<◌, ◌≤◌, ℕ, List, length, 
 use Rattle.std.proofs.lemmas.List.{length-set, length-map, get_or-set_other}
 use Rattle.s2list.specs.Union.{Union}
 use Rattle.s2edit.specs.Leads.{list_at}
-use Rattle.s2edit.specs.Chain.{lists_of}
+use Rattle.s2edit.specs.Working.Chain.{lists_of}
 use Rattle.s2edit.proofs.Tables.{list_read, lists_of-set}
 use Rattle.s2edit.proofs.Following.{keep_self, keep_set, keep_count, have_count, have_set, room_at, copied_more}
 use Rattle.s2edit.proofs.session.take_all.Goals as goal

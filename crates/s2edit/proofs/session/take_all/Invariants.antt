@@ -1,7 +1,7 @@
 use Rattle.std.proofs.Common.{◌≡◌, ◌≤◌, ℕ, ◌++◌, length, take, drop, get_or}
 use Rattle.s2list.specs.Union.{Union}
-use Rattle.s2edit.specs.Chain.{lists_of}
-use Rattle.s2edit.specs.Following.{KeepRoom, HaveRoom}
+use Rattle.s2edit.specs.Working.Chain.{lists_of}
+use Rattle.s2edit.specs.Working.Following.{KeepRoom, HaveRoom}
 use Rattle.s2edit.proofs.session.take_all.Given as goal
 
 abbrev pub invariant-loop-i : goal.invariant-loop-i

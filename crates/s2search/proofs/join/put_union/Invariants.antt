@@ -1,6 +1,6 @@
 use Rattle.std.proofs.Common.{◌≡◌, ◌<◌, ◌≤◌, ◌+◌, ◌-◌, length}
 use Rattle.s2list.specs.Union.{IsLocal}
-use Rattle.s2search.specs.Piles.{PilingIn}
+use Rattle.s2search.specs.Working.Piles.{PilingIn}
 use Rattle.s2search.proofs.Piling.{any}
 use Rattle.s2search.proofs.join.put_union.Given as goal
 

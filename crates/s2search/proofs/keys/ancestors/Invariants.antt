@@ -1,6 +1,6 @@
 use Rattle.std.proofs.Common.{◌≡◌, ℕ, List, length}
 use Rattle.s2list.specs.Union.{IsLocal}
-use Rattle.s2search.specs.Room.{IsPut}
+use Rattle.s2search.specs.Working.Room.{IsPut}
 use Rattle.s2search.proofs.Reaching.{Reached}
 use Rattle.s2search.proofs.keys.ancestors.Given as goal
 

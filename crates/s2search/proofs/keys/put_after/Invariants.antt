@@ -1,7 +1,7 @@
 use Rattle.std.proofs.Common.{◌≡◌, ◌≤◌, ℕ, List, Contains, length}
 use Rattle.std.specs.List.Sorted.{IsStrictlyIncreasing}
 use Rattle.s2cell.specs.Cell.{level_of}
-use Rattle.s2search.specs.Ancestors.{PutsThose}
+use Rattle.s2search.specs.Working.Ancestors.{PutsThose}
 use Rattle.s2search.proofs.Holders.{AfterTo}
 use Rattle.s2search.proofs.keys.put_after.Given as goal
 

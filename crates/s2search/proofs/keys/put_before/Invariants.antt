@@ -1,6 +1,6 @@
 use Rattle.std.proofs.Common.{◌≡◌, ◌≤◌, ℕ, List, length}
 use Rattle.s2cell.specs.Cell.{first_leaf, level_of, parent_of}
-use Rattle.s2search.specs.Ancestors.{LeadsTo, PutsThose}
+use Rattle.s2search.specs.Working.Ancestors.{LeadsTo, PutsThose}
 use Rattle.s2search.proofs.Holders.{BeforeTo}
 use Rattle.s2search.proofs.keys.put_before.Given as goal
 

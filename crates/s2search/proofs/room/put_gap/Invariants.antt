@@ -1,7 +1,7 @@
 use Rattle.std.proofs.Common.{◌≡◌, ℕ, ◌-◌, ◌<◌, ◌≤◌, List, length}
 use Rattle.s2cell.specs.declared.TheConstants.{LEAVES}
 use Rattle.s2list.proofs.Tiling.{Tiling}
-use Rattle.s2search.specs.Room.{IsPut}
+use Rattle.s2search.specs.Working.Room.{IsPut}
 use Rattle.s2search.proofs.room.put_gap.Given as goal
 
 abbrev pub invariant-loop-first : goal.invariant-loop-first

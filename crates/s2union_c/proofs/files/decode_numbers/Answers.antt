@@ -3,7 +3,7 @@ use Rattle.std.specs.Int.{w32}
 use Rattle.std.proofs.lemmas.Int.{to_z-of_z}
 use Rattle.std.proofs.lemmas.List.{length-take-le}
 use mir.Val.{SFits}
-use Rattle.s2search.specs.Numbers.{numbers}
+use Rattle.s2search.specs.Numbers.{numbers_in}
 use Rattle.s2union_c.proofs.Wrong.{not_all_cells}
 use Rattle.s2union_c.proofs.Decoding.{decoded_whole, decoded_here, decoded_apart}
 use Rattle.s2union_c.proofs.files.decode_numbers.Goals as goal
@@ -12,7 +12,7 @@ pub returns-then-is_union-clause-made : goal.returns-then-is_union-clause-made
 returns-then-is_union-clause-made c cells =
     let fits : SFits w32 c.put_numbers.result = search rules in
     rw (to_z-of_z w32 c.put_numbers.result fits)
-    (decoded_whole (numbers c.args.bytes.now) c.args.out.now c.put_numbers.new.out c.put_numbers.new.len
+    (decoded_whole (numbers_in c.args.bytes.now) c.args.out.now c.put_numbers.new.out c.put_numbers.new.len
     c.put_numbers.result (c.if-is_union.ensures.0 refl) c.put_numbers.ensures)
 
 pub returns-then-is_union-clause-wrong : goal.returns-then-is_union-clause-wrong
@@ -31,7 +31,7 @@ normalise_numbers-requires-clause-size c =
 pub returns-then-n-out-clause-made : goal.returns-then-n-out-clause-made
 returns-then-n-out-clause-made c cells = inl (
   refl,
-  rw c.len-n.ensures (decoded_here (numbers c.args.bytes.now) c.args.out.now c.normalise_numbers.new.out
+  rw c.len-n.ensures (decoded_here (numbers_in c.args.bytes.now) c.args.out.now c.normalise_numbers.new.out
       c.normalise_numbers.result c.normalise_numbers.ensures (omega arith)),
 )
 
@@ -43,7 +43,7 @@ returns-clause-made c cells =
     let many = c.len-n.ensures in
     let fits : SFits w32 c.put_normalised.result = search rules in
     rw (to_z-of_z w32 c.put_normalised.result fits)
-    (decoded_apart (numbers c.args.bytes.now) c.args.out.now c.put_normalised.new.out c.put_normalised.new.len
+    (decoded_apart (numbers_in c.args.bytes.now) c.args.out.now c.put_normalised.new.out c.put_normalised.new.len
     c.put_normalised.result (omega arith) c.put_normalised.ensures)
 
 pub returns-clause-wrong : goal.returns-clause-wrong

@@ -1,7 +1,7 @@
 use Rattle.std.proofs.Common.{rules, arith, ◌∙◌, ◌<◌, ◌≤◌, length}
 use Rattle.std.specs.Prelude.{slice_index}
 use Rattle.std.proofs.lemmas.List.{drop-set-lt}
-use Rattle.s2union_c.specs.Many.{Holds}
+use Rattle.s2union_c.specs.Working.Many.{Holds}
 use Rattle.s2union_c.specs.Status.{IsBit}
 use Rattle.s2union_c.proofs.Asking.{each_more}
 use Rattle.s2union_c.proofs.many.answer_each.Goals as goal

@@ -1,7 +1,7 @@
 use Rattle.std.proofs.Common.{◌≡◌, ◌-◌, ◌<◌, ◌≤◌, ℕ, length, drop}
 use Rattle.std.specs.Prelude.{slice_index}
 use Rattle.s2list.specs.Union.{IsLocal}
-use Rattle.s2union_c.specs.Many.{Holds}
+use Rattle.s2union_c.specs.Working.Many.{Holds}
 use Rattle.s2union_c.specs.Status.{IsBit}
 use Rattle.s2union_c.proofs.many.answer_each.Given as goal
 

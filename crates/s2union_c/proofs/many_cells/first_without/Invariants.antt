@@ -1,6 +1,6 @@
 use Rattle.std.proofs.Common.{◌<◌, ◌≤◌, ℕ, length}
 use Rattle.std.specs.Prelude.{slice_index_or}
-use Rattle.s2union_c.specs.ManyCells.{HasRelative}
+use Rattle.s2union_c.specs.Working.ManyCells.{HasRelative}
 use Rattle.s2union_c.proofs.many_cells.first_without.Given as goal
 
 abbrev pub invariant-loop-k : goal.invariant-loop-k

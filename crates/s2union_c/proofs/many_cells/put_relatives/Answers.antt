@@ -1,7 +1,8 @@
 use Rattle.std.proofs.Common.{rules, arith, ◌∙◌, ◌<◌, length}
 use Rattle.std.specs.Prelude.{slice_index}
 use Rattle.std.proofs.lemmas.List.{drop-set-lt}
-use Rattle.s2union_c.specs.ManyCells.{HasRelative, IsValueOr, relative_of}
+use Rattle.s2union_c.specs.Working.ManyCells.{HasRelative, relative_of}
+use Rattle.s2union_c.specs.ManyCells.{IsValueOr}
 use Rattle.s2union_c.proofs.Asking.{each_more}
 use Rattle.s2union_c.proofs.many_cells.put_relatives.Goals as goal
 

@@ -1,6 +1,7 @@
 use Rattle.std.proofs.Common.{◌≡◌, ◌<◌, ◌≤◌, ℕ, length, drop}
 use Rattle.std.specs.Prelude.{slice_index}
-use Rattle.s2union_c.specs.ManyCells.{HasRelative, IsFirstWithout, IsValueOr, relative_of}
+use Rattle.s2union_c.specs.Working.ManyCells.{HasRelative, relative_of}
+use Rattle.s2union_c.specs.ManyCells.{IsFirstWithout, IsValueOr}
 use Rattle.s2union_c.proofs.many_cells.put_relatives.Given as goal
 
 abbrev pub invariant-loop-k : goal.invariant-loop-k

@@ -1,7 +1,7 @@
 use Rattle.std.proofs.Common.{◌≡◌, ◌∷◌, length, ap, arith}
 use Rattle.std.proofs.lemmas.List.{length-set}
 use Rattle.s2cell.specs.Token.{token_of}
-use Rattle.s2union_c.specs.Texts.{piece}
+use Rattle.s2union_c.specs.Working.Texts.{piece}
 use Rattle.s2union_c.proofs.Joining.{piece_first, piece_later}
 use Rattle.s2union_c.proofs.Pieces.{blank_written}
 use Rattle.s2union_c.proofs.token_lists.append_piece.Goals as goal

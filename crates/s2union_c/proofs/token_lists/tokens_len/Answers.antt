@@ -1,6 +1,7 @@
 use Rattle.std.proofs.Common.{◌+◌, ◌<◌, length, length-append, take, get_or, ap, arith}
 use Rattle.s2cell.specs.Token.{token_of}
-use Rattle.s2union_c.specs.Texts.{piece, tokens_of}
+use Rattle.s2union_c.specs.Working.Texts.{piece}
+use Rattle.s2union_c.specs.Texts.{tokens_of}
 use Rattle.s2union_c.proofs.Joining.{tokens_more, tokens_within}
 use Rattle.s2union_c.proofs.token_lists.tokens_len.Goals as goal
 

@@ -1,5 +1,5 @@
 use Rattle.std.proofs.Common.{ℕ, ◌-◌, List, length}
-use Rattle.s2union_c.specs.Texts.{IsFilled}
+use Rattle.s2union_c.specs.Working.Texts.{IsFilled}
 use Rattle.s2union_c.proofs.Naming.{Naming}
 use Rattle.s2union_c.proofs.token_lists.write_cells.Given as goal
 

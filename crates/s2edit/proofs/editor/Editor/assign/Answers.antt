@@ -6,7 +6,8 @@ use Rattle.std.proofs.lemmas.Option.{get_or_from_slice_get, slice_get-get_or}
 use Rattle.s2edit.specs.History.{History, changed, Assigned}
 use Rattle.s2edit.specs.Diff.{Diff, change_between}
 use Rattle.s2edit.specs.Leads.{list_at}
-use Rattle.s2edit.specs.Chain.{lists_of, IsLocalWithin, history}
+use Rattle.s2edit.specs.Working.Chain.{lists_of, history}
+use Rattle.s2edit.specs.Chain.{IsLocalWithin}
 use Rattle.s2edit.proofs.Tables.{AllWithin-get, AllWithin-at, slice_get-lists_of, read_register, list_read}
 use Rattle.s2edit.proofs.Assigning.{taken_over, Changes, change_leaves, change_within, change_past, change_future}
 use Rattle.s2edit.proofs.Assigning.{change_bound, change_numbers, assigned_same, assigned_other}

@@ -2,7 +2,7 @@ use Rattle.std.proofs.Common.{◌+◌, ℕ, List, ◌∷◌, length, ap, subst, 
 use Rattle.s2edit.specs.History.{History}
 use Rattle.s2edit.specs.Diff.{Diff}
 use Rattle.s2edit.specs.Leads.{table_at, Leads}
-use Rattle.s2edit.specs.Chain.{lists_of}
+use Rattle.s2edit.specs.Working.Chain.{lists_of}
 use Rattle.s2edit.proofs.Leading.{ahead_leads, kept_none, kept_some}
 use Rattle.s2edit.proofs.Tables.{length-tables_after}
 use Rattle.s2edit.proofs.editor.Editor.change_ahead.Goals as goal

@@ -3,7 +3,7 @@ use Rattle.std.proofs.lemmas.List.{length-map}
 use Rattle.s2edit.specs.History.{History}
 use Rattle.s2edit.specs.Diff.{Diff, inverse}
 use Rattle.s2edit.specs.Leads.{table_at, Leads}
-use Rattle.s2edit.specs.Chain.{lists_of}
+use Rattle.s2edit.specs.Working.Chain.{lists_of}
 use Rattle.s2edit.proofs.Leading.{back_leads, kept_none, kept_some}
 use Rattle.s2edit.proofs.Tables.{length-tables_after}
 use Rattle.s2edit.proofs.editor.Editor.change_back.Goals as goal

@@ -2,7 +2,7 @@ use Rattle.std.proofs.Common.{ℕ, List, length, map, ap, arith}
 use Rattle.std.proofs.lemmas.List.{length-map}
 use Rattle.s2edit.specs.History.{History}
 use Rattle.s2edit.specs.Diff.{inverse}
-use Rattle.s2edit.specs.Chain.{lists_of}
+use Rattle.s2edit.specs.Working.Chain.{lists_of}
 use Rattle.s2edit.proofs.Tables.{length-tables_after}
 use Rattle.s2edit.proofs.editor.Editor.redoable.Goals as goal
 

@@ -1,6 +1,6 @@
 use Rattle.std.proofs.Common.{◌<◌, ℕ, List, length, ap, arith}
 use Rattle.s2edit.specs.History.{History}
-use Rattle.s2edit.specs.Chain.{lists_of}
+use Rattle.s2edit.specs.Working.Chain.{lists_of}
 use Rattle.s2edit.proofs.Tables.{AllWithin-get, slice_get-lists_of, read_register}
 use Rattle.s2edit.proofs.editor.Editor.register.Goals as goal
 

@@ -9,9 +9,9 @@ use Rattle.s2file.specs.Session.{Content, moved_of, content_of, IsMoved}
 use Rattle.s2file.specs.declared.TheConstants.{SESSION_CELLS}
 use Rattle.s2edit.specs.History.{History, AllLists}
 use Rattle.s2edit.specs.Diff.{Diff, inverse}
-use Rattle.s2edit.specs.Chain.{lists_of, AllWithin, FitAlong, history}
+use Rattle.s2edit.specs.Working.Chain.{lists_of, AllWithin, FitAlong, history}
 use Rattle.s2edit.specs.Session.{diff, Restored, IsTooDeep, IsTooMany}
-use Rattle.s2edit.specs.Following.{FailsToFollow, MakesChanges}
+use Rattle.s2edit.specs.Working.Following.{FailsToFollow, MakesChanges}
 use Rattle.s2edit.proofs.Contents.{turned, all_reverse}
 use Rattle.s2edit.proofs.Following.{have_room, keep_room, keep_count}
 use Rattle.s2edit.proofs.Restoring.{registers_within, follows, too_deep, too_many, past_fails, future_fails, not_three}

@@ -1,6 +1,6 @@
 use Rattle.std.proofs.Common.{map, reverse, ap, ◌∙◌, subst}
 use Rattle.s2file.specs.Session.{Content, moved_of}
-use Rattle.s2edit.specs.Chain.{lists_of}
+use Rattle.s2edit.specs.Working.Chain.{lists_of}
 use Rattle.s2edit.specs.Session.{Records}
 use Rattle.s2edit.proofs.Contents.{told_content, turned}
 use Rattle.s2edit.proofs.Saving.{session_tells}

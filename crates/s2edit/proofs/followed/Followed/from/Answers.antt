@@ -1,7 +1,7 @@
 use Rattle.std.proofs.Common.{◌≡◌, sym, subst}
 use Rattle.s2list.specs.Union.{IsLocal}
 use Rattle.s2union.specs.Apply.{applied}
-use Rattle.s2edit.specs.Followed.{latest}
+use Rattle.s2edit.specs.Working.Followed.{latest}
 use Rattle.s2edit.proofs.InTurn.{nothing_applied, nothing_fits}
 use Rattle.s2edit.proofs.followed.Followed.from.Goals as goal
 

@@ -1,5 +1,5 @@
 use Rattle.std.proofs.Common.{length, ap, ◌∙◌, arith}
-use Rattle.s2edit.specs.Followed.{latest}
+use Rattle.s2edit.specs.Working.Followed.{latest}
 use Rattle.s2edit.proofs.InTurn.{length_without, length_applied}
 use Rattle.s2edit.proofs.followed.Followed.len.Goals as goal
 

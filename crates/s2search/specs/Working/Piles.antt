@@ -5,7 +5,7 @@ use Rattle.s2cell.specs.declared.TheConstants.{LEAVES}
 use Rattle.s2list.specs.Packed.{EndsBefore}
 use Rattle.s2list.specs.Working.Union.{EndsBy}
 use Rattle.s2list.specs.Union.{IsGreatestIn, between, has_leaf}
-use Rattle.s2search.specs.Room.{IsPut}
+use Rattle.s2search.specs.Working.Room.{IsPut}
 
 -- a pile: `list` and the leaves from `lo` to before `hi` have the leaves of the first `i` cells of `xs` and of the
 -- first `j` of `ys`, and no other cell begins before `lo`. The cells of `list` are greatest in `S`, which is what both

@@ -7,7 +7,7 @@ use Rattle.s2list.specs.Union.{IsLocal, LiesIn}
 use Rattle.s2union.specs.Apply.{has, insert_cells}
 use Rattle.s2file.specs.Session.{Moved}
 use Rattle.s2edit.specs.Diff.{Diff, IsDiff, apply, FitsList}
-use Rattle.s2edit.specs.Part.{around}
+use Rattle.s2edit.specs.Working.Part.{around}
 
 -- the changes can be made in the list, one after another
 abbrev pub FitInTurn : List ℕ → List Diff → Type 0

@@ -2,7 +2,7 @@
 use Rattle.std.specs.Prelude.{◌≡◌, ℕ, ◌+◌, ◌≤◌, List, length, map}
 use Rattle.s2edit.specs.History.{History}
 use Rattle.s2edit.specs.Diff.{inverse}
-use Rattle.s2edit.specs.Chain.{history, lists_of, AllWithin, AllRoomy, FitAlong}
+use Rattle.s2edit.specs.Working.Chain.{history, lists_of, AllWithin, AllRoomy, FitAlong}
 use Rattle.s2edit.specs.declared.editor.Editor.TheInside.{Inside}
 use Rattle.s2edit.specs.declared.TheConstants.{REGISTERS, MOST_CELLS}
 use Rattle.s2file.specs.declared.TheConstants.{SESSION_CHANGES}
