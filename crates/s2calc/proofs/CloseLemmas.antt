@@ -58,11 +58,11 @@ last_line-one (b ∷ bs) h = refl
 module _ (start : Point) (script : List ℕ) (replies : List Reply) (now : Point) (progress : Progress)
     (s : Stands start script replies now progress) where
   -- no line is left
-  lines_none : progress.kept ≡ [] → lines script ≡ s.done
+  pub lines_none : progress.kept ≡ [] → lines script ≡ s.done
   lines_none e = lines_begun script s.done s.rest s.begins s.unbroken
       ∙ ap (λ ls. s.done ++ ls) (last_line-none s.rest (sym s.kept_is ∙ e)) ∙ append-nil s.done
 
-  lines_one : 0 < length progress.kept → lines script ≡ s.done ++ s.rest ∷ []
+  pub lines_one : 0 < length progress.kept → lines script ≡ s.done ++ s.rest ∷ []
   lines_one h =
       let kept_is = s.kept_is in
       let more : 0 < length (take KEPT s.rest) = subst (λ k. 0 < length k) s.kept_is h in

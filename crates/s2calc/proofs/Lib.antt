@@ -9,12 +9,14 @@ pub mod ListingLemmas
 pub mod FetchLemmas
 pub mod NoteLemmas
 pub mod OneRun
+pub mod OrderLemmas
 pub mod OutputLemmas
 pub mod OverlayLemmas
 pub mod ReadLemmas
 pub mod RunLemmas
 pub mod ScriptLemmas
 pub mod SessionLemmas
+pub mod SettledLemmas
 pub mod StepLemmas
 pub mod TakeInLemmas
 pub mod TextLemmas

@@ -185,7 +185,7 @@ but_last-push replies more reply = ap but_last (sym (append_assoc replies more (
     ∙ but_last-append (replies ++ more) reply
 
 -- the script goes on with the line that these bytes end
-begins_line : (script seen bytes more_bytes all : List ℕ) (done : List (List ℕ)) (rest : List ℕ) →
+pub begins_line : (script seen bytes more_bytes all : List ℕ) (done : List (List ℕ)) (rest : List ℕ) →
     BeginsWith ((script ++ seen) ++ bytes) done rest → IsUnbroken rest → all ≡ (seen ++ bytes) ++ 10 ∷ more_bytes →
     BeginsWith (script ++ all) (done ++ rest ∷ []) more_bytes
 begins_line script seen bytes more_bytes all done rest b u whole =

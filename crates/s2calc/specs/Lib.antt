@@ -17,6 +17,9 @@ pub mod Answer
 pub mod Execute
 pub mod Calls
 pub mod CallsOfRun
+pub mod Moments
+pub mod Order
+pub mod Seen
 pub mod Stands
 pub mod Laws
 pub mod LawsScripts

@@ -16,15 +16,19 @@ ghost use Rattle.s2calc.specs.World.{World, world};
 ghost use Rattle.s2calc.specs.Calls.{NoneFailed, LastFlushed, LastFailed};
 ghost use Rattle.s2calc.specs.CallsOfRun.{ReadsOf, CallsOf};
 ghost use Rattle.s2calc.specs.Stands.{Stands, AnswersKept, StandsAfter, StopsInside, StopsBeside, Closes, RunsBy};
+ghost use Rattle.s2calc.specs.Moments.{Adds};
+ghost use Rattle.s2calc.specs.Order.{Ordered};
+ghost use Rattle.s2calc.specs.Seen.{LineSeen, MoreSeen, LastSeen};
 ghost use Rattle.s2calc.specs.Noting.{noted_by};
 ghost use Rattle.s2calc.specs.Explained.{Point, point, RunsExplained};
 
 use crate::answer_buffer::AnswerBuffer;
 use crate::execute::{Outcome, asks_for_file, execute};
 use crate::fault::RunFault;
-use crate::flushing::{AtTheEnd, Flushing, Promptly, around_file_command};
+use crate::flushing::{AtTheEnd, Flushing, Promptly};
 use crate::limits::{MOST_WAITING, READ_SIZE};
 use crate::notes::{NoNotes, NoteWriter, Notes};
+use crate::observer::{Observer, Unobserved, begin_line, end_line};
 use crate::progress::Progress;
 use crate::streams::{Sink, Source};
 use s2edit::Editor;
@@ -67,7 +71,7 @@ fn newline_in(bytes: &[u8]) -> Option<usize>
 }
 
 /// Takes the next bytes of a script, and carries out each line that ends in them.
-fn take_in<W: Sink, S: Shelf, F: Flushing<W>, N: Notes>(
+fn take_in<W: Sink, S: Shelf, F: Flushing<W>, N: Notes, O: Observer<W, S>>(
     alloc: Global,
     editor: &mut Editor,
     progress: &mut Progress,
@@ -75,6 +79,7 @@ fn take_in<W: Sink, S: Shelf, F: Flushing<W>, N: Notes>(
     writer: &mut W,
     shelf: &mut S,
     notes: &mut N,
+    observer: &mut O,
 ) -> Result<(), RunFault>
     ensures ok { OnOk result ((start : Point) (script : List ℕ) (replies : List Reply) →
         Stands start script replies (point (world editor.old (S.files shelf.old)) (N.noted notes.old)) progress.old →
@@ -90,11 +95,15 @@ fn take_in<W: Sink, S: Shelf, F: Flushing<W>, N: Notes>(
     ensures fault { IfErr result (λ fault. fault ≡ RunFault.Output) }
     ensures none_failed { OnOk result (NoneFailed F.may_fail (W.calls writer.old) (W.calls writer.new)) }
     ensures failed { OnErr result (LastFailed F.may_fail (W.calls writer.old) (W.calls writer.new)) }
+    ensures seen { OnOk result ((start : Point) (script : List ℕ) (replies : List Reply) →
+        Stands start script replies (point (world editor.old (S.files shelf.old)) (N.noted notes.old)) progress.old →
+        Adds (O.seen observer.old) (O.seen observer.new) (MoreSeen W.contents W.calls F.is_sent S.files F.may_fail
+        start.world script chunk.now replies writer.old)) }
 {
     let mut rest = chunk;
     while let Some(at) = newline_in(rest) {
         progress.kept.keep(&rest[..at]);
-        answer_kept::<W, S, F, N>(alloc, editor, progress, writer, shelf, notes)?;
+        answer_kept::<W, S, F, N, O>(alloc, editor, progress, writer, shelf, notes, observer)?;
         progress.kept.clear();
         rest = &rest[at + 1..];
     }
@@ -104,13 +113,14 @@ fn take_in<W: Sink, S: Shelf, F: Flushing<W>, N: Notes>(
 
 /// Carries out the line that is kept, writes its answer, counts it, and says why it is refused, if it is. If it asks
 /// for a command with a file, all earlier answers are handed over before it is carried out, and its own after that.
-fn answer_kept<W: Sink, S: Shelf, F: Flushing<W>, N: Notes>(
+fn answer_kept<W: Sink, S: Shelf, F: Flushing<W>, N: Notes, O: Observer<W, S>>(
     alloc: Global,
     editor: &mut Editor,
     progress: &mut Progress,
     writer: &mut W,
     shelf: &mut S,
     notes: &mut N,
+    observer: &mut O,
 ) -> Result<(), RunFault>
     ensures answers { AnswersKept F.may_fail (point (world editor.old (S.files shelf.old)) (N.noted notes.old))
         progress.old (point (world editor.new (S.files shelf.new)) (N.noted notes.new)) progress.new
@@ -118,14 +128,16 @@ fn answer_kept<W: Sink, S: Shelf, F: Flushing<W>, N: Notes>(
     ensures sent { OnOk result (asks_for_file (line_of progress.old.kept) ≡ true → F.is_sent writer.new) }
     ensures none_failed { OnOk result (NoneFailed F.may_fail (W.calls writer.old) (W.calls writer.new)) }
     ensures failed { OnErr result (LastFailed F.may_fail (W.calls writer.old) (W.calls writer.new)) }
+    ensures seen { OnOk result (Adds (O.seen observer.old) (O.seen observer.new) (LineSeen W.contents W.calls F.is_sent
+        S.files F.may_fail (asks_for_file (line_of progress.old.kept)) writer.old writer.new shelf.old shelf.new)) }
 {
     let said = parse(progress.kept.as_slice());
     let has_file = asks_for_file(&said);
-    around_file_command::<W, F>(has_file, writer)?;
+    begin_line::<W, S, F, O>(has_file, writer, shelf, observer)?;
     let outcome = execute::<W, S, F>(alloc, editor, said, writer, shelf)?;
     progress.count(outcome);
     notes.note(progress.lines, progress.kept.as_slice(), outcome);
-    around_file_command::<W, F>(has_file, writer)
+    end_line::<W, S, F, O>(has_file, writer, shelf, observer)
 }
 
 /// Runs a script: its lines come from the reader, its answers go to the writer, and its files are on the shelf.
@@ -161,9 +173,40 @@ pub fn run<R: Source, W: Sink, S: Shelf>(
     ensures before { EachList (λ u. IsNormalForm (has_leaf u) u) editor.old }
     ensures after { EachList (λ u. IsNormalForm (has_leaf u) u) editor.new }
 {
+    run_observed(alloc, editor, reader, writer, shelf, &mut Unobserved)
+}
+
+/// Runs a script as [`run`] does, and an observer sees its reads and its lines in the order in which they come.
+///
+/// A read comes only where exactly the answers to all lines that were read whole have been written. A line is carried
+/// out only where exactly the answers to the lines before it have been written, and with the files that these have
+/// left, so no answer is held back, and no file is touched before all earlier answers are out. After an error of the
+/// output the order isn't stated.
+pub fn run_observed<R: Source, W: Sink, S: Shelf, O: Observer<W, S>>(
+    alloc: Global,
+    editor: &mut Editor,
+    reader: &mut R,
+    writer: &mut W,
+    shelf: &mut S,
+    observer: &mut O,
+) -> Result<Tally, RunFault>
+    ensures runs { Runs (record {
+      input_old = R.remaining reader.old;
+      input_new = R.remaining reader.new;
+      output_old = W.contents writer.old;
+      output_new = W.contents writer.new;
+    }) (world editor.old (S.files shelf.old)) (world editor.new (S.files shelf.new)) result }
+    ensures reads { ReadsOf (R.reads reader.old) (R.reads reader.new) result }
+    ensures calls { CallsOf ⊥ (W.calls writer.old) (W.calls writer.new) result }
+    ensures order { Ordered W.contents W.calls (λ _. Unit {0}) S.files ⊥ (world editor.old (S.files shelf.old))
+        writer.old (R.remaining reader.old) (R.remaining reader.new) (O.seen observer.old) (O.seen observer.new)
+        result }
+    ensures before { EachList (λ u. IsNormalForm (has_leaf u) u) editor.old }
+    ensures after { EachList (λ u. IsNormalForm (has_leaf u) u) editor.new }
+{
     let _ = editor.limit();
     let mut input = input_buffer(alloc)?;
-    let result = run_over::<R, W, S, AtTheEnd, NoNotes>(
+    let result = run_over::<R, W, S, AtTheEnd, NoNotes, O>(
         alloc,
         &mut input,
         editor,
@@ -171,6 +214,7 @@ pub fn run<R: Source, W: Sink, S: Shelf>(
         writer,
         shelf,
         &mut NoNotes,
+        observer,
     );
     let _ = editor.limit();
     result
@@ -208,9 +252,42 @@ pub fn run_promptly<R: Source, W: Sink, S: Shelf>(
     ensures before { EachList (λ u. IsNormalForm (has_leaf u) u) editor.old }
     ensures after { EachList (λ u. IsNormalForm (has_leaf u) u) editor.new }
 {
+    run_promptly_observed(alloc, editor, reader, writer, shelf, &mut Unobserved)
+}
+
+/// Runs a script as [`run_promptly`] does, and an observer sees its reads and its lines in the order in which they
+/// come.
+///
+/// The order is that of [`run_observed`]. Besides, nothing waits in the buffer and the last call of the writer below is
+/// a flush wherever a read comes, and before and after each line that asks for a command with a file.
+pub fn run_promptly_observed<R: Source, W: Sink, S: Shelf, O: Observer<AnswerBuffer<W>, S>>(
+    alloc: Global,
+    editor: &mut Editor,
+    reader: &mut R,
+    writer: &mut AnswerBuffer<W>,
+    shelf: &mut S,
+    observer: &mut O,
+) -> Result<Tally, RunFault>
+    ensures runs { RunsPromptly (record {
+      input_old = R.remaining reader.old;
+      input_new = R.remaining reader.new;
+      output_old = written_to W.contents writer.old;
+      output_new = W.contents writer.new.writer;
+    }) writer.new.waiting (world editor.old (S.files shelf.old)) (world editor.new (S.files shelf.new)) result }
+    ensures nothing_waits { MatchResult result (λ _. writer.new.waiting ≡ []) (λ fault. fault ≡ RunFault.Input →
+        writer.new.waiting ≡ []) }
+    ensures few_wait { length writer.new.waiting ≤ MOST_WAITING }
+    ensures reads { ReadsOf (R.reads reader.old) (R.reads reader.new) result }
+    ensures calls { CallsOf (Unit {0}) (W.calls writer.old.writer) (W.calls writer.new.writer) result }
+    ensures order { Ordered (written_to W.contents) (λ b. W.calls b.writer) (λ b. b.waiting ≡ []) S.files (Unit {0})
+        (world editor.old (S.files shelf.old)) writer.old (R.remaining reader.old) (R.remaining reader.new)
+        (O.seen observer.old) (O.seen observer.new) result }
+    ensures before { EachList (λ u. IsNormalForm (has_leaf u) u) editor.old }
+    ensures after { EachList (λ u. IsNormalForm (has_leaf u) u) editor.new }
+{
     let _ = (editor.limit(), writer.waiting_len());
     let mut input = input_buffer(alloc)?;
-    let result = run_over::<R, AnswerBuffer<W>, S, Promptly, NoNotes>(
+    let result = run_over::<R, AnswerBuffer<W>, S, Promptly, NoNotes, O>(
         alloc,
         &mut input,
         editor,
@@ -218,6 +295,7 @@ pub fn run_promptly<R: Source, W: Sink, S: Shelf>(
         writer,
         shelf,
         &mut NoNotes,
+        observer,
     );
     let _ = (editor.limit(), writer.waiting_len());
     result
@@ -254,8 +332,15 @@ pub fn run_explained<R: Source, W: Sink, S: Shelf, N: Sink>(
 {
     let _ = (editor.limit(), writer.waiting_len());
     let mut input = input_buffer(alloc)?;
-    let result = run_over::<R, AnswerBuffer<W>, S, Promptly, NoteWriter<N>>(
-        alloc, &mut input, editor, reader, writer, shelf, notes,
+    let result = run_over::<R, AnswerBuffer<W>, S, Promptly, NoteWriter<N>, Unobserved>(
+        alloc,
+        &mut input,
+        editor,
+        reader,
+        writer,
+        shelf,
+        notes,
+        &mut Unobserved,
     );
     let _ = (editor.limit(), writer.waiting_len());
     result
@@ -270,7 +355,7 @@ fn input_buffer(alloc: Global) -> Result<Vec<u8>, RunFault>
 }
 
 /// The run, over a buffer for the reader.
-fn run_over<R: Source, W: Sink, S: Shelf, F: Flushing<W>, N: Notes>(
+fn run_over<R: Source, W: Sink, S: Shelf, F: Flushing<W>, N: Notes, O: Observer<W, S>>(
     alloc: Global,
     input: &mut [u8],
     editor: &mut Editor,
@@ -278,6 +363,7 @@ fn run_over<R: Source, W: Sink, S: Shelf, F: Flushing<W>, N: Notes>(
     writer: &mut W,
     shelf: &mut S,
     notes: &mut N,
+    observer: &mut O,
 ) -> Result<Tally, RunFault>
     requires { 0 < length input.old }
     ensures runs { RunsBy F.may_fail (record {
@@ -291,13 +377,18 @@ fn run_over<R: Source, W: Sink, S: Shelf, F: Flushing<W>, N: Notes>(
         F.is_sent writer.new) }
     ensures reads { ReadsOf (R.reads reader.old) (R.reads reader.new) result }
     ensures calls { CallsOf F.may_fail (W.calls writer.old) (W.calls writer.new) result }
+    ensures order { Ordered W.contents W.calls F.is_sent S.files F.may_fail (world editor.old (S.files shelf.old))
+        writer.old (R.remaining reader.old) (R.remaining reader.new) (O.seen observer.old) (O.seen observer.new)
+        result }
 {
     let mut progress = Progress::new();
     for _ in 0..u64::MAX {
         F::in_between(writer)?;
-        match reader.read(input) {
-            Ok(0) => return finish::<W, S, F, N>(alloc, editor, progress, writer, shelf, notes),
-            Ok(count) => take_in::<W, S, F, N>(
+        match observer.read(reader, writer, shelf, input) {
+            Ok(0) => return finish::<W, S, F, N, O>(
+                alloc, editor, progress, writer, shelf, notes, observer,
+            ),
+            Ok(count) => take_in::<W, S, F, N, O>(
                 alloc,
                 editor,
                 &mut progress,
@@ -305,6 +396,7 @@ fn run_over<R: Source, W: Sink, S: Shelf, F: Flushing<W>, N: Notes>(
                 writer,
                 shelf,
                 notes,
+                observer,
             )?,
             Err(_) => return Err(RunFault::Input),
         }
@@ -315,13 +407,14 @@ fn run_over<R: Source, W: Sink, S: Shelf, F: Flushing<W>, N: Notes>(
 }
 
 /// Carries out a last line without a newline, and flushes.
-fn finish<W: Sink, S: Shelf, F: Flushing<W>, N: Notes>(
+fn finish<W: Sink, S: Shelf, F: Flushing<W>, N: Notes, O: Observer<W, S>>(
     alloc: Global,
     editor: &mut Editor,
     mut progress: Progress,
     writer: &mut W,
     shelf: &mut S,
     notes: &mut N,
+    observer: &mut O,
 ) -> Result<Tally, RunFault>
     ensures closes { (start : Point) (script : List ℕ) (replies : List Reply) →
         Stands start script replies (point (world editor.old (S.files shelf.old)) (N.noted notes.old)) progress →
@@ -330,11 +423,15 @@ fn finish<W: Sink, S: Shelf, F: Flushing<W>, N: Notes>(
     ensures sent { MatchResult result (λ _. F.is_sent writer.new) (λ fault. fault ≡ RunFault.Output) }
     ensures flushed { OnOk result (LastFlushed F.may_fail (W.calls writer.old) (W.calls writer.new)) }
     ensures failed { OnErr result (LastFailed F.may_fail (W.calls writer.old) (W.calls writer.new)) }
+    ensures seen { OnOk result ((start : Point) (script : List ℕ) (replies : List Reply) →
+        Stands start script replies (point (world editor.old (S.files shelf.old)) (N.noted notes.old)) progress →
+        Adds (O.seen observer.old) (O.seen observer.new) (LastSeen W.contents W.calls F.is_sent S.files F.may_fail
+        start.world script replies writer.old)) }
 {
     if progress.kept.as_slice().is_empty() {
         return flush_at_the_end::<W, F>(progress.tally, writer);
     }
-    answer_kept::<W, S, F, N>(alloc, editor, &mut progress, writer, shelf, notes)?;
+    answer_kept::<W, S, F, N, O>(alloc, editor, &mut progress, writer, shelf, notes, observer)?;
     flush_at_the_end::<W, F>(progress.tally, writer)
 }
 

@@ -3,6 +3,7 @@ ghost use Rattle.std.specs.Prelude.{◌≡◌, true, [], OnOk, OnErr, IfErr};
 ghost use Rattle.std.specs.Io.KnownBytes.{Keeps};
 ghost use Rattle.s2calc.specs.Buffered.{written_to};
 ghost use Rattle.s2calc.specs.Calls.{NoneFailed, LastFlushed, LastFailed};
+ghost use Rattle.s2calc.specs.Seen.{Settled};
 
 use crate::answer_buffer::AnswerBuffer;
 use crate::fault::RunFault;
@@ -23,7 +24,8 @@ pub(crate) trait Flushing<W: Sink> {
         ensures sent { OnOk result (is_sent writer.new) }
         ensures fault { IfErr result (λ fault. (fault ≡ RunFault.Output) × may_fail) }
         ensures none_failed { OnOk result (NoneFailed may_fail (W.calls writer.old) (W.calls writer.new)) }
-        ensures failed { OnErr result (LastFailed may_fail (W.calls writer.old) (W.calls writer.new)) };
+        ensures failed { OnErr result (LastFailed may_fail (W.calls writer.old) (W.calls writer.new)) }
+        ensures flushes { OnOk result (may_fail → LastFlushed may_fail (W.calls writer.old) (W.calls writer.new)) };
 
     /// The flush at the end.
     fn at_the_end(writer: &mut W) -> Result<(), RunFault>
@@ -83,6 +85,7 @@ fn flush_buffer<W: Sink>(writer: &mut AnswerBuffer<W>) -> Result<(), RunFault>
 }
 
 /// What happens before and after a line, if it asks for a command with a file.
+#[tactic(auto, using(crate::proofs::SettledLemmas::settled_none, crate::proofs::SettledLemmas::settled_flush))]
 pub(crate) fn around_file_command<W: Sink, F: Flushing<W>>(
     has_file: bool,
     writer: &mut W,
@@ -92,6 +95,7 @@ pub(crate) fn around_file_command<W: Sink, F: Flushing<W>>(
     ensures fault { IfErr result (λ fault. (fault ≡ RunFault.Output) × F.may_fail × (has_file ≡ true)) }
     ensures none_failed { OnOk result (NoneFailed F.may_fail (W.calls writer.old) (W.calls writer.new)) }
     ensures failed { OnErr result (LastFailed F.may_fail (W.calls writer.old) (W.calls writer.new)) }
+    ensures settles { OnOk result (Settled W.contents W.calls F.is_sent F.may_fail has_file writer.old writer.new) }
 {
     if has_file {
         F::in_between(writer)

@@ -9,6 +9,10 @@
 //! limits, `laws` laws about the definitions.
 //! For the program: `command_line`, `help` and `task` (what it is asked for), `program`, `check`, `draw` and `overlay`
 //! (its other answers).
+//! what ends a run, `streams` what it reads from and writes to, `flushing` when the writer is flushed, `observer` who
+//! sees in which order a run reads and carries out lines; `limits` are the limits, `laws` laws about the definitions.
+//! For the program: `command_line`, `help` and `task` (what it is asked for), `program`, `check` and `draw` (its other
+//! answers).
 #![tactic(auto)]
 
 mod answer;
@@ -28,6 +32,7 @@ mod kept;
 pub mod laws;
 mod limits;
 mod notes;
+mod observer;
 mod output;
 mod overlay;
 mod program;
@@ -42,10 +47,11 @@ pub use answer_buffer::AnswerBuffer;
 pub use check::check_answer;
 pub use command_line::job;
 pub use draw::{draw_answer, draw_cells_answer};
-pub use engine::{Tally, run, run_explained, run_promptly};
+pub use engine::{Tally, run, run_explained, run_observed, run_promptly, run_promptly_observed};
 pub use fault::RunFault;
 pub use notes::NoteWriter;
 pub use overlay::overlay_answer;
+pub use observer::Observer;
 pub use program::{answer_status, cell_answer, status};
 pub use refusal::Refusal;
 pub use streams::{Sink, Source};

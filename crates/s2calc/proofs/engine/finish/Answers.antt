@@ -1,9 +1,10 @@
-use Rattle.std.proofs.Common.{◌≡◌, ◌<◌, [], length, arith, inl, inr}
+use Rattle.std.proofs.Common.{◌≡◌, ◌<◌, [], length, refl, arith, inl, inr}
 use Rattle.std.proofs.lemmas.Grind.{common_steps}
 use Rattle.std.proofs.lemmas.Result.{err_from_is_err_and, MatchResult-weaker, IfOk-weaker, IfErr-weaker}
 use Rattle.s2calc.proofs.CallLemmas.{last_flushed_after, last_failed_after}
 use Rattle.s2calc.proofs.CloseLemmas.{Ended-none, EndsUnflushed-none, Ended-line, EndsUnflushed-line, EndsInPart-part}
 use Rattle.s2calc.proofs.CloseLemmas.{Ends-unflushed}
+use Rattle.s2calc.proofs.OrderLemmas.{Adds-none, Adds-weaker, LastSeen-none, LastSeen-line}
 use Rattle.s2calc.proofs.engine.finish.Goals as goal
 
 pub returns-then-is_empty-clause-closes : goal.returns-then-is_empty-clause-closes
@@ -47,3 +48,21 @@ returns-clause-flushed g c = IfOk-weaker c.flush_at_the_end-2.result _ _
 pub returns-clause-failed : goal.returns-clause-failed
 returns-clause-failed g c = IfErr-weaker c.flush_at_the_end-2.result _ _
     (λ fault q. last_failed_after _ _ _ _ c.in_ok-answer_kept.ensures.none_failed q) c.flush_at_the_end-2.ensures.failed
+
+pub returns-then-is_empty-clause-seen : goal.returns-then-is_empty-clause-seen
+returns-then-is_empty-clause-seen g c =
+    let none : c.args.progress.kept ≡ [] = grind (arith, common_steps) in
+    IfOk-weaker c.flush_at_the_end.result _ _
+    (λ u q start script replies s. Adds-none _ _ (LastSeen-none g.W.Sink.contents g.W.Sink.calls g.F.Flushing.is_sent
+    g.S.Shelf.files g.F.Flushing.may_fail start script replies _ _ _ s none))
+    c.flush_at_the_end.ensures.sent
+
+pub returns-clause-seen : goal.returns-clause-seen
+returns-clause-seen g c =
+    let some : 0 < length c.args.progress.kept = grind (arith, common_steps) in
+    let done = c.in_ok-answer_kept.ensures.answers in
+    IfOk-weaker c.flush_at_the_end-2.result _ _
+    (λ u q start script replies s. Adds-weaker _ _ _ _ (λ ms l. LastSeen-line g.W.Sink.contents g.W.Sink.calls
+    g.F.Flushing.is_sent g.S.Shelf.files g.F.Flushing.may_fail start script replies _ _ _ _ _ _
+    _ _ ms s some done c.in_ok-answer_kept.ensures.none_failed refl refl l) c.in_ok-answer_kept.ensures.seen)
+    c.flush_at_the_end-2.ensures.sent

@@ -1,11 +1,14 @@
-use Rattle.std.proofs.Common.{ℕ, ◌+◌, [], ◌++◌, None, take, refl, subst, arith, inl, inr}
-use Rattle.std.proofs.KnownBytes.{Keeps-refl, Consumes-nil, Appends-nil, Consumes-trans, Appends-kept}
-use Rattle.std.proofs.lemmas.Result.{err_from_is_err_and, MatchResult-weaker}
+use Rattle.std.proofs.Common.{ℕ, ◌+◌, [], ◌++◌, None, take, ap, refl, subst, arith, inl, inr}
+use Rattle.std.proofs.KnownBytes.{Keeps-refl, Consumes-nil, Appends-nil, Consumes-trans, Consumes-kept, Appends-kept}
+use Rattle.std.proofs.lemmas.Result.{err_from_is_err_and, IfOk-weaker, MatchResult-weaker}
 use Rattle.s2calc.specs.CallsOfRun.{ReadsOn}
 use Rattle.s2calc.proofs.CallLemmas.{none_failed_none, none_failed_more, last_failed_after, calls_of_end, reads_of_end}
 use Rattle.s2calc.proofs.CallLemmas.{reads_on_none, reads_on_more, reads_last, reads_end}
 use Rattle.s2calc.proofs.ReadLemmas.{Consumes-none, StopsReading-here, Faults-inside, Runs-close, Appends-texts}
 use Rattle.s2calc.proofs.TakeInLemmas.{Stands-start}
+use Rattle.s2calc.proofs.OrderLemmas.{Adds-none, Adds-weaker, SeenSoFar-start, SeenSoFar-read, InOrder-here}
+use Rattle.s2calc.proofs.OrderLemmas.{Ordered-end, Ordered-failed}
+use Rattle.s2calc.proofs.SettledLemmas.{settled}
 use Rattle.s2calc.proofs.engine.run_over.Goals as goal
 
 pub loop-init : goal.loop-init
@@ -18,6 +21,8 @@ loop-init g c =
       Appends-nil _,
       none_failed_none _ _,
       reads_on_none _,
+      Adds-none _ _ (SeenSoFar-start g.W.Sink.contents g.W.Sink.calls g.F.Flushing.is_sent g.S.Shelf.files
+          g.F.Flushing.may_fail _ _),
     )
 
 pub returns-in_err-in_between-clause-runs : goal.returns-in_err-in_between-clause-runs
@@ -72,6 +77,11 @@ loop-preserved g c =
       none_failed_more _ _ _ _ (none_failed_more _ _ _ _ i.5 c.in_ok-in_between.ensures.none_failed)
           c.in_ok-take_in-in-Ok.ensures.none_failed,
       reads_on_more _ _ _ _ _ _ i.6 c.in-Ok.ensures.call (omega arith) refl,
+      SeenSoFar-read g.W.Sink.contents g.W.Sink.calls g.F.Flushing.is_sent g.S.Shelf.files g.F.Flushing.may_fail _ i.0
+          i.1 _ _ i.3 _ _ _ _ i.4 i.5 (settled g.W.Sink.contents g.W.Sink.calls g.F.Flushing.is_sent
+          g.F.Flushing.may_fail c.in_between.ensures.kept c.in_ok-in_between.ensures.none_failed
+          c.in_ok-in_between.ensures.flushes c.in_ok-in_between.ensures.sent)
+          _ _ _ _ _ i.7 c.in-Ok.ensures.moment (c.in_ok-take_in-in-Ok.ensures.seen _ i.0 i.1 i.3),
     )
 
 pub returns-in_err-in_between-2-clause-runs : goal.returns-in_err-in_between-2-clause-runs
@@ -157,3 +167,51 @@ returns-clause-reads g c = inr (subst (λ (times : ℕ). ReadsOn (g.R.Source.rea
 
 pub returns-clause-calls : goal.returns-clause-calls
 returns-clause-calls g c = none_failed_more _ _ _ _ c.loop.invariant.5 c.in_ok-in_between-2.ensures.none_failed
+
+pub returns-in_err-in_between-clause-order : goal.returns-in_err-in_between-clause-order
+returns-in_err-in_between-clause-order g c =
+    let p = err_from_is_err_and c.from_residual.result c.from_residual.ensures.1 in
+    let f = c.in_err-in_between.ensures.fault in
+    rw (p.1, p.2, f.0) (λ is_input. absurd cc)
+
+pub returns-in_err-in_between-2-clause-order : goal.returns-in_err-in_between-2-clause-order
+returns-in_err-in_between-2-clause-order g c =
+    let p = err_from_is_err_and c.from_residual-in_err-in_between-2.result
+    c.from_residual-in_err-in_between-2.ensures.1 in
+    let f = c.in_err-in_between-2.ensures.fault in
+    rw (p.1, p.2, f.0) (λ is_input. absurd cc)
+
+pub returns-in_err-take_in-in-Ok-clause-order : goal.returns-in_err-take_in-in-Ok-clause-order
+returns-in_err-take_in-in-Ok-clause-order g c =
+    let p = err_from_is_err_and c.from_residual-in_err-take_in-in-Ok.result
+    c.from_residual-in_err-take_in-in-Ok.ensures.1 in
+    rw (p.1, p.2, c.in_err-take_in-in-Ok.ensures.fault) (λ is_input. absurd cc)
+
+pub returns-in-Ok-eq0-clause-order : goal.returns-in-Ok-eq0-clause-order
+returns-in-Ok-eq0-clause-order g c =
+    let i = c.loop.invariant in
+    let read = c.in-Ok-eq0.ensures.bytes in
+    Ordered-end g.W.Sink.contents g.W.Sink.calls g.F.Flushing.is_sent g.S.Shelf.files g.F.Flushing.may_fail _ i.0 i.1
+    _ _ i.3 _ _ _ _ i.4 i.5 (settled g.W.Sink.contents g.W.Sink.calls g.F.Flushing.is_sent g.F.Flushing.may_fail
+    c.in_between.ensures.kept
+    c.in_ok-in_between.ensures.none_failed c.in_ok-in_between.ensures.flushes c.in_ok-in_between.ensures.sent) _ _ _ _ _
+    _ _ _ c.finish.result i.7 c.in-Ok-eq0.ensures.moment (ap (λ (k : ℕ). take k c.read.new.buf)
+    c.in-Ok-eq0.field-0-test)
+    (Consumes-none _ _ _ i.0 _ c.in-Ok-eq0.field-0 c.in-Ok-eq0.field-0-test i.2 read.0)
+    (IfOk-weaker c.finish.result _ _ (λ t q. q _ i.0 i.1 i.3) c.finish.ensures.seen) c.finish.ensures.sent
+
+pub returns-in-Err-clause-order : goal.returns-in-Err-clause-order
+returns-in-Err-clause-order g c =
+    let i = c.loop.invariant in
+    λ is_input.
+    Ordered-failed g.W.Sink.contents g.W.Sink.calls g.F.Flushing.is_sent g.S.Shelf.files g.F.Flushing.may_fail _ i.0
+    i.1 _ _ i.3 _ _ _ _ i.4 i.5 (settled g.W.Sink.contents g.W.Sink.calls g.F.Flushing.is_sent g.F.Flushing.may_fail
+    c.in_between.ensures.kept
+    c.in_ok-in_between.ensures.none_failed c.in_ok-in_between.ensures.flushes c.in_ok-in_between.ensures.sent) _ _ _ _ _
+    i.7 c.in-Err.ensures.moment (Consumes-kept _ _ _ i.0 i.2 c.in-Err.ensures.bytes)
+
+pub returns-clause-order : goal.returns-clause-order
+returns-clause-order g c =
+    let i = c.loop.invariant in
+    λ is_input. Adds-weaker _ _ _ _ (λ ms seen. InOrder-here g.W.Sink.contents g.W.Sink.calls g.F.Flushing.is_sent
+    g.S.Shelf.files g.F.Flushing.may_fail _ _ _ _ i.0 ms seen i.2) i.7

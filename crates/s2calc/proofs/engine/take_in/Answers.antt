@@ -6,6 +6,7 @@ use Rattle.s2script.specs.Working.Lines.{EndsLineAt}
 use Rattle.s2calc.proofs.CallLemmas.{none_failed_none, none_failed_more, last_failed_after}
 use Rattle.s2calc.proofs.TakeInLemmas.{StandsAfter-none, StandsAfter-line, StandsAfter-rest, StopsInside-line}
 use Rattle.s2calc.proofs.TakeInLemmas.{StopsBeside-line}
+use Rattle.s2calc.proofs.OrderLemmas.{Adds-none, Adds-trans, Adds-weaker, MoreSeen-none, MoreSeen-line, MoreSeen-rest}
 use Rattle.s2calc.proofs.engine.take_in.Goals as goal
 
 -- the chunk, cut at a newline
@@ -27,6 +28,8 @@ loop-at-init g c = (
   refl,
   λ start script replies s. StandsAfter-none start script replies _ _ _ s,
   none_failed_none _ _,
+  λ start script replies s. Adds-none _ _ (MoreSeen-none g.W.Sink.contents g.W.Sink.calls g.F.Flushing.is_sent
+      g.S.Shelf.files g.F.Flushing.may_fail start.world script replies _),
 )
 
 pub returns-in_err-answer_kept-clause-err : goal.returns-in_err-answer_kept-clause-err
@@ -61,6 +64,14 @@ loop-at-preserved g c =
           StandsAfter-line start script replies i.0 (take c.in-Some.at rest) _ _ _ _ _ _ _ _ _
           (i.2 start script replies s) ends.before c.keep.ensures refl refl done c.clear.ensures refl refl,
       none_failed_more _ _ _ _ i.3 c.in_ok-answer_kept.ensures.none_failed,
+      λ start script replies s.
+          Adds-trans _ _ _ _ _ _
+          (λ ms ns p q.
+          MoreSeen-line g.W.Sink.contents g.W.Sink.calls g.F.Flushing.is_sent g.S.Shelf.files g.F.Flushing.may_fail
+          start script replies i.0 (take c.in-Some.at rest) _ _ _ _ _ _ _ _ _ _ ms ns
+          (i.2 start script replies s) ends.before c.keep.ensures refl refl done i.3
+          c.in_ok-answer_kept.ensures.none_failed refl refl p q) (i.4 start script replies s)
+          c.in_ok-answer_kept.ensures.seen,
     )
 
 pub returns-clause-ok : goal.returns-clause-ok
@@ -77,3 +88,11 @@ returns-in_err-answer_kept-clause-failed g c =
 
 pub returns-clause-none_failed : goal.returns-clause-none_failed
 returns-clause-none_failed g c = c.loop-at.invariant.3
+
+pub returns-clause-seen : goal.returns-clause-seen
+returns-clause-seen g c =
+    let i = c.loop-at.invariant in
+    λ start script replies s.
+    Adds-weaker _ _ _ _ (λ ms m. MoreSeen-rest g.W.Sink.contents g.W.Sink.calls g.F.Flushing.is_sent g.S.Shelf.files
+    g.F.Flushing.may_fail start script replies _ i.0 c.loop-at.rest.now _ _ _ _ _ ms
+    (i.2 start script replies s) c.in_default.ensures.none i.1 m) (i.4 start script replies s)

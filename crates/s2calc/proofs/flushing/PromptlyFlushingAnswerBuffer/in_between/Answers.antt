@@ -9,3 +9,7 @@ returns-clause-none_failed g c = IfOk-weaker c.flush_buffer.result _ _
 pub returns-clause-failed : goal.returns-clause-failed
 returns-clause-failed g c = IfErr-weaker c.flush_buffer.result _ _ (λ fault q. last_failed_may _ _ _ q)
     c.flush_buffer.ensures.failed
+
+pub returns-clause-flushes : goal.returns-clause-flushes
+returns-clause-flushes g c = IfOk-weaker c.flush_buffer.result _ _ (λ u q m. last_flushed_may _ _ _ q)
+    c.flush_buffer.ensures.flushed

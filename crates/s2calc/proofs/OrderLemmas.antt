@@ -1,0 +1,526 @@
+-- Lemmas on what an observer sees of a run.
+use Rattle.std.proofs.Common.{◌≡◌, ◌∙◌, ℕ, ◌+◌, ◌<◌, ◌⊎◌, Bool, true, List, [], ◌∷◌, ◌++◌, length, take}
+use Rattle.std.proofs.Common.{Option, None, Some, Result, Ok, Err, OnOk, MatchResult}
+use Rattle.std.proofs.Common.{refl, sym, ap, subst, append_assoc, append-nil, arith, length-append, inl, inr}
+use Rattle.std.proofs.lemmas.List.Concat.{flat_map-append}
+use Rattle.std.specs.Io.KnownBytes.{Appends, Consumes}
+use Rattle.std.proofs.KnownBytes.{Appends-kept, Appends-trans}
+use Rattle.s2shelf.specs.Shelf.{Files}
+use Rattle.s2script.specs.Line.{line_of}
+use Rattle.s2script.specs.Lines.{lines, whole_lines, IsUnbroken, BeginsWith}
+use Rattle.s2calc.specs.declared.engine.Tally.{Tally}
+use Rattle.s2calc.specs.declared.fault.RunFault.{RunFault}
+use Rattle.s2calc.specs.declared.fault.RunFault.TheVariants.{Input, Output}
+use Rattle.s2calc.specs.declared.progress.Progress.{Progress}
+use Rattle.s2calc.specs.declared.limits.TheConstants.{KEPT}
+use Rattle.s2calc.specs.World.{World}
+use Rattle.s2calc.specs.Replies.{Reply, text_of, texts}
+use Rattle.s2calc.specs.Step.{asks_for_file}
+use Rattle.s2calc.specs.Run.{Steps}
+use Rattle.s2calc.specs.Explained.{Point}
+use Rattle.s2calc.specs.Calls.{Call, NoneFailed}
+use Rattle.s2calc.specs.Stands.{Stands, Answered, StandsAfter}
+use Rattle.s2calc.specs.Moments.{Event, Came, NotCame, LineBegins, LineEnds, Moment, moment, bytes_of}
+use Rattle.s2calc.specs.Moments.{bytes_read, begun_in, ended_in, Adds, AddsOne}
+use Rattle.s2calc.specs.Order.{HasEnded, GoneOut, ReadsWhen, LineWhen, EachMay, InOrder, Ordered}
+use Rattle.s2calc.specs.Seen.{Settled, LineSeen, MoreSeen, LastSeen, SeenSoFar}
+use Rattle.s2calc.proofs.CallLemmas.{none_failed_more, last_flushed_after}
+use Rattle.s2calc.proofs.LineLemmas.{every-append, whole_lines_begun, BeginsWith-more}
+use Rattle.s2calc.proofs.CloseLemmas.{lines_one, lines_none}
+use Rattle.s2calc.proofs.ReadLemmas.{Appends-texts}
+use Rattle.s2calc.proofs.StepLemmas.{line_of-kept}
+use Rattle.s2calc.proofs.TakeInLemmas.{Stands-more, Steps-line, begins_line, texts-push}
+
+-- ---- lists of moments
+
+module _ {W S : Type 0} where
+  pub bytes_read-append : (ms ns : List (Moment W S)) → bytes_read (ms ++ ns) ≡ bytes_read ms ++ bytes_read ns
+  bytes_read-append ms ns = flat_map-append (λ (m : Moment W S). bytes_of m.event) ms ns
+
+  -- no byte came in these
+  pub bytes_read-quiet : (ms ns : List (Moment W S)) → bytes_read ns ≡ [] → bytes_read (ms ++ ns) ≡ bytes_read ms
+  bytes_read-quiet ms ns e = bytes_read-append ms ns ∙ ap (λ b. bytes_read ms ++ b) e ∙ append-nil (bytes_read ms)
+
+  pub begun_in-append : (ms ns : List (Moment W S)) → begun_in (ms ++ ns) ≡ begun_in ms + begun_in ns
+  begun_in-append [] ns = let e : begun_in ns ≡ 0 + begun_in ns = omega arith in e
+  begun_in-append (m ∷ ms) ns = let rest = begun_in-append ms ns in omega (arith, rest)
+
+  pub ended_in-append : (ms ns : List (Moment W S)) → ended_in (ms ++ ns) ≡ ended_in ms + ended_in ns
+  ended_in-append [] ns = let e : ended_in ns ≡ 0 + ended_in ns = omega arith in e
+  ended_in-append (m ∷ ms) ns = let rest = ended_in-append ms ns in omega (arith, rest)
+
+  pub Adds-none : (known : Option (List (Moment W S))) (P : List (Moment W S) → Type 0) → P [] → Adds known known P
+  Adds-none None P p = tt
+  Adds-none (Some ms) P p = (ms, [], refl, sym (append-nil ms), p)
+
+  pub Adds-weaker : (a b : Option (List (Moment W S))) (P Q : List (Moment W S) → Type 0) →
+      ((ms : List (Moment W S)) → P ms → Q ms) → Adds a b P → Adds a b Q
+  Adds-weaker a None P Q f p = tt
+  Adds-weaker a (Some ms) P Q f p = (p.0, p.1, p.2, p.3, f p.1 p.4)
+
+  Adds-onto : (a b : Option (List (Moment W S))) (front : List (Moment W S)) (P : List (Moment W S) → Type 0) →
+      Adds a b P → b ≡ Some front → Adds a (Some front) P
+  Adds-onto a b front P p e = subst (λ (k : Option (List (Moment W S))). Adds a k P) e p
+
+  pub Adds-trans : (a b c : Option (List (Moment W S))) (P Q R : List (Moment W S) → Type 0) →
+      ((ms ns : List (Moment W S)) → P ms → Q ns → R (ms ++ ns)) → Adds a b P → Adds b c Q → Adds a c R
+  Adds-trans a b None P Q R f p q = tt
+  Adds-trans a b (Some ms) P Q R f p q =
+      let first = Adds-onto a b q.0 P p q.2 in (
+        first.0,
+        first.1 ++ q.1,
+        first.2,
+        q.3 ∙ ap (λ s. s ++ q.1) first.3 ∙ append_assoc first.0 first.1 q.1,
+        f first.1 q.1 first.4 q.4,
+      )
+
+  pub Adds-three : (a b c d : Option (List (Moment W S))) (P Q R T : List (Moment W S) → Type 0) →
+      ((ms ns ks : List (Moment W S)) → P ms → Q ns → R ks → T ((ms ++ ns) ++ ks)) → Adds a b P → Adds b c Q →
+      Adds c d R → Adds a d T
+  Adds-three a b c d P Q R T f p q r =
+      Adds-trans a c d
+      (λ (all : List (Moment W S)). (ms : List (Moment W S)) × (ns : List (Moment W S)) × (all ≡ ms ++ ns) × P ms × Q
+      ns)
+      R T
+      (λ all ks m k. subst (λ (x : List (Moment W S)). T (x ++ ks)) (sym m.2) (f m.0 m.1 ks m.3 m.4 k))
+      (Adds-trans a b c P Q
+      (λ (all : List (Moment W S)). (ms : List (Moment W S)) × (ns : List (Moment W S)) × (all ≡ ms ++ ns) × P ms × Q
+      ns)
+      (λ ms ns x y. (ms, ns, refl, x, y)) p q)
+      r
+
+  -- the reader was at its end, and still is
+  pub HasEnded-more : (past ms : List (Moment W S)) → HasEnded past → HasEnded (past ++ ms)
+  HasEnded-more past ms h = record {
+    before = h.before;
+    last = h.last;
+    after = h.after ++ ms;
+    is = ap (λ k. k ++ ms) h.is ∙ append_assoc h.before (h.last ∷ h.after) ms;
+    nothing_came = h.nothing_came;
+  }
+
+-- ---- moments in order
+
+module _ {W S : Type 0} (contents : W → Option (List ℕ)) (calls : W → Option (List Call)) (is_sent : W → Type 0)
+    (files : S → Files) (may_flush : Type 0) where
+  module _ (world : World) (first : W) where
+    pub EachMay-append : (past ms ns : List (Moment W S)) →
+        EachMay contents calls is_sent files may_flush world first past ms
+        → EachMay contents calls is_sent files may_flush world first (past ++ ms) ns
+        → EachMay contents calls is_sent files may_flush world first past (ms ++ ns)
+    EachMay-append past [] ns p q =
+        subst (λ (k : List (Moment W S)). EachMay contents calls is_sent files may_flush world first k ns)
+        (append-nil past) q
+    EachMay-append past (m ∷ ms) ns p q = (
+      p.0,
+      EachMay-append (past ++ m ∷ []) ms ns p.1
+          (subst (λ (k : List (Moment W S)). EachMay contents calls is_sent files may_flush world first k ns)
+          (sym (append_assoc past (m ∷ []) ms)) q),
+    )
+
+    -- the line was read to its end, and still is
+    read_more : (past ms : List (Moment W S)) (ls : List (List ℕ)) → bytes_read ms ≡ [] →
+        ((rest : List ℕ) × BeginsWith (bytes_read past) ls rest) ⊎ ((ls ≡ lines (bytes_read past)) × HasEnded past)
+        → ((rest : List ℕ) × BeginsWith (bytes_read (past ++ ms)) ls rest)
+        ⊎ ((ls ≡ lines (bytes_read (past ++ ms))) × HasEnded (past ++ ms))
+    read_more past ms ls e (inl p) =
+        inl (p.0, subst (λ (b : List ℕ). BeginsWith b ls p.0) (sym (bytes_read-quiet past ms e)) p.1)
+    read_more past ms ls e (inr p) =
+        inr (p.0 ∙ ap lines (sym (bytes_read-quiet past ms e)), HasEnded-more past ms p.1)
+
+    -- all that was written has gone out
+    gone_out : (old new : W) (has_file : Bool) → NoneFailed may_flush (calls first) (calls old) →
+        Settled contents calls is_sent may_flush has_file old new → has_file ≡ true
+        → GoneOut contents calls is_sent files may_flush world first new
+    gone_out old new has_file n s h = record {
+      sent = s.sent h;
+      flushed = λ m. last_flushed_after may_flush (calls first) (calls old) (calls new) n (s.flushed h m);
+    }
+
+  module _ (start : Point) (script : List ℕ) (replies : List Reply) (now new : Point) (progress after : Progress)
+      (s : Stands start script replies now progress) (old writer : W) (old_shelf new_shelf : S)
+      (a : Answered now progress new after (contents old) (contents writer))
+      (well : NoneFailed may_flush (calls old) (calls writer)) (files_old : now.world.files ≡ files old_shelf)
+      (files_new : new.world.files ≡ files new_shelf) (ms : List (Moment W S))
+      (l : LineSeen contents calls is_sent files may_flush (asks_for_file (line_of progress.kept)) old writer old_shelf
+      new_shelf ms) where
+    -- what is kept of the line asks for a command with a file if the line does
+    asks_kept : asks_for_file (line_of s.rest) ≡ true → asks_for_file (line_of progress.kept) ≡ true
+    asks_kept h = ap asks_for_file (ap line_of s.kept_is ∙ line_of-kept s.rest) ∙ h
+
+    module _ (first : W) (past : List (Moment W S))
+        (whole : ((rest : List ℕ) × BeginsWith (bytes_read past) (s.done ++ s.rest ∷ []) rest)
+        ⊎ ((s.done ++ s.rest ∷ [] ≡ lines (bytes_read past)) × HasEnded past))
+        (out : Appends (contents first) (contents old) (texts replies))
+        (n : NoneFailed may_flush (calls first) (calls old)) where
+      begins_here : LineWhen contents calls is_sent files may_flush start.world first past
+          (moment LineBegins l.mid old_shelf)
+      begins_here =
+          let settled = l.settled in
+          record {
+            before = s.done;
+            line = s.rest;
+            read_whole = whole;
+            answers = record {
+              replies = replies;
+              now = now.world;
+              steps = s.run;
+              out = Appends-kept (contents first) (contents old) (contents l.mid) (texts replies) out settled.kept;
+              none_failed = none_failed_more may_flush (calls first) (calls old) (calls l.mid) n settled.none_failed;
+            };
+            files_are = files_old;
+            gone_out = λ h. gone_out start.world first old l.mid (asks_for_file (line_of progress.kept)) n settled
+                (asks_kept h);
+          }
+
+      ends_here : LineWhen contents calls is_sent files may_flush start.world first
+          (past ++ moment LineBegins l.mid old_shelf ∷ []) (moment LineEnds writer new_shelf)
+      ends_here =
+          record {
+            before = s.done;
+            line = s.rest;
+            read_whole = read_more start.world first past (moment LineBegins l.mid old_shelf ∷ [])
+                (s.done ++ s.rest ∷ []) refl whole;
+            answers = record {
+              replies = replies ++ a.reply ∷ [];
+              now = new.world;
+              steps = Steps-line start script replies now progress s a.reply new a.step;
+              out = subst (Appends (contents first) (contents writer)) (sym (texts-push replies a.reply))
+                  (Appends-trans (contents first) (contents old) (contents writer) (texts replies) (text_of a.reply)
+                  out a.written);
+              none_failed = none_failed_more may_flush (calls first) (calls old) (calls writer) n well;
+            };
+            files_are = files_new;
+            gone_out = λ h. record {
+              sent = l.sent (asks_kept h);
+              flushed = λ m. last_flushed_after may_flush (calls first) (calls old) (calls writer) n
+                  (l.flushed (asks_kept h) m);
+            };
+          }
+
+      pub line_each : EachMay contents calls is_sent files may_flush start.world first past ms
+      line_each = subst (λ (k : List (Moment W S)).
+          EachMay contents calls is_sent files may_flush start.world first past k) (sym l.is)
+          (begins_here, (ends_here, tt))
+
+    pub one_begun : begun_in ms ≡ 1
+    one_begun = ap begun_in l.is
+
+    pub one_ended : ended_in ms ≡ 1
+    one_ended = ap ended_in l.is
+
+    pub none_came : bytes_read ms ≡ []
+    none_came = ap bytes_read l.is
+
+  pub MoreSeen-none : (world : World) (script : List ℕ) (replies : List Reply) (old : W) →
+      MoreSeen contents calls is_sent files may_flush world script [] replies old []
+  MoreSeen-none world script replies old =
+      let same : length (whole_lines (script ++ [])) ≡ length (whole_lines script) =
+      ap (λ b. length (whole_lines b)) (append-nil script) in
+      let count : length (whole_lines script) + 0 ≡ length (whole_lines (script ++ [])) = omega (arith, same) in
+      record { none_read = refl; begun = count; ended = count; each = λ first past rest e out n. tt }
+
+  -- the moments of one more line
+  pub MoreSeen-line : (start : Point) (script : List ℕ) (replies : List Reply) (seen bytes : List ℕ)
+      (now new : Point) (progress mid after : Progress) (before old writer : W) (old_shelf new_shelf : S)
+      (ms ns : List (Moment W S))
+      → (s : StandsAfter start script replies seen now progress (contents before) (contents old)) → IsUnbroken bytes →
+      mid.kept ≡ take KEPT (progress.kept ++ bytes) → mid.tally ≡ progress.tally → mid.lines ≡ progress.lines →
+      Answered now mid new after (contents old) (contents writer)
+      → NoneFailed may_flush (calls before) (calls old) → NoneFailed may_flush (calls old) (calls writer)
+      → now.world.files ≡ files old_shelf → new.world.files ≡ files new_shelf
+      → MoreSeen contents calls is_sent files may_flush start.world script seen replies before ms
+      → LineSeen contents calls is_sent files may_flush (asks_for_file (line_of mid.kept)) old writer old_shelf
+      new_shelf ns
+      → MoreSeen contents calls is_sent files may_flush start.world script ((seen ++ bytes) ++ 10 ∷ []) replies before
+      (ms ++ ns)
+  MoreSeen-line start script replies seen bytes now new progress mid after before old writer old_shelf new_shelf ms ns
+      s u m mid_tally mid_lines a earlier well files_old files_new seen_before l =
+      let held = Stands-more start (script ++ seen) (replies ++ s.more) now progress mid bytes s.stands u m mid_tally
+      mid_lines in
+      let none = none_came start ((script ++ seen) ++ bytes) (replies ++ s.more) now new mid after held old writer
+      old_shelf new_shelf a well files_old files_new ns l in
+      let begun = one_begun start ((script ++ seen) ++ bytes) (replies ++ s.more) now new mid after held old writer
+      old_shelf new_shelf a well files_old files_new ns l in
+      let ended = one_ended start ((script ++ seen) ++ bytes) (replies ++ s.more) now new mid after held old writer
+      old_shelf new_shelf a well files_old files_new ns l in
+      let begins = begins_line script seen bytes [] ((seen ++ bytes) ++ 10 ∷ []) held.done held.rest held.begins
+      held.unbroken refl in
+      let whole_before : whole_lines (script ++ seen) ≡ s.stands.done = whole_lines_begun (script ++ seen)
+      s.stands.done s.stands.rest s.stands.begins s.stands.unbroken in
+      let whole_after : whole_lines (script ++ ((seen ++ bytes) ++ 10 ∷ [])) ≡ held.done ++ held.rest ∷ [] =
+      whole_lines_begun (script ++ ((seen ++ bytes) ++ 10 ∷ [])) (held.done ++ held.rest ∷ []) [] begins tt in
+      let same_done = ap length (sym (whole_lines_begun ((script ++ seen) ++ bytes) held.done held.rest held.begins
+      held.unbroken) ∙ whole_lines_begun ((script ++ seen) ++ bytes) s.stands.done (s.stands.rest ++ bytes)
+      (BeginsWith-more (script ++ seen) s.stands.done s.stands.rest bytes s.stands.begins)
+      (every-append _ s.stands.rest bytes s.stands.unbroken u)) in
+      let count_before = ap length whole_before in
+      let count_after = ap length whole_after in
+      let one_more = length-append held.done (held.rest ∷ []) in
+      let all_begun = begun_in-append ms ns in
+      let all_ended = ended_in-append ms ns in
+      let first_begun = seen_before.begun in
+      let first_ended = seen_before.ended in
+      record {
+        none_read = bytes_read-quiet ms ns none ∙ seen_before.none_read;
+        begun = omega (arith, same_done, count_before, count_after, one_more, all_begun, first_begun, begun);
+        ended = omega (arith, same_done, count_before, count_after, one_more, all_ended, first_ended, ended);
+        each = λ first past rest e out n.
+            let here : bytes_read past ≡ (script ++ seen) ++ ((bytes ++ 10 ∷ []) ++ rest) = e
+            ∙ (simp append_assoc) in
+            let there : bytes_read (past ++ ms) ≡ script ++ ((seen ++ bytes) ++ 10 ∷ rest) =
+            bytes_read-quiet past ms seen_before.none_read ∙ e ∙ (simp append_assoc) in
+            EachMay-append start.world first past ms ns
+            (seen_before.each first past ((bytes ++ 10 ∷ []) ++ rest) here out n)
+            (line_each start ((script ++ seen) ++ bytes) (replies ++ s.more) now new mid after held old writer
+            old_shelf new_shelf a well files_old files_new ns l first (past ++ ms)
+            (inl (
+              rest,
+              subst (λ (b : List ℕ). BeginsWith b (held.done ++ held.rest ∷ []) rest) (sym there)
+                  (begins_line script seen bytes rest ((seen ++ bytes) ++ 10 ∷ rest) held.done held.rest held.begins
+                  held.unbroken refl),
+            ))
+            (Appends-texts (contents first) (contents before) (contents old) replies s.more out s.written)
+            (none_failed_more may_flush (calls first) (calls before) (calls old) n earlier));
+      }
+
+  -- bytes without a newline end no line
+  pub MoreSeen-rest : (start : Point) (script : List ℕ) (replies : List Reply) (all seen bytes : List ℕ) (now : Point)
+      (progress : Progress) (before : W) (output_old output_new : Option (List ℕ)) (ms : List (Moment W S))
+      → StandsAfter start script replies seen now progress output_old output_new → IsUnbroken bytes →
+      all ≡ seen ++ bytes → MoreSeen contents calls is_sent files may_flush start.world script seen replies before ms
+      → MoreSeen contents calls is_sent files may_flush start.world script all replies before ms
+  MoreSeen-rest start script replies all seen bytes now progress before output_old output_new ms s u whole m =
+      let joined : (script ++ seen) ++ bytes ≡ script ++ all = append_assoc script seen bytes
+      ∙ ap (λ b. script ++ b) (sym whole) in
+      let begins = subst (λ (b : List ℕ). BeginsWith b s.stands.done (s.stands.rest ++ bytes)) joined
+      (BeginsWith-more (script ++ seen) s.stands.done s.stands.rest bytes s.stands.begins) in
+      let same : whole_lines (script ++ all) ≡ whole_lines (script ++ seen) =
+      whole_lines_begun (script ++ all) s.stands.done (s.stands.rest ++ bytes) begins
+      (every-append _ s.stands.rest bytes s.stands.unbroken u)
+      ∙ sym (whole_lines_begun (script ++ seen) s.stands.done s.stands.rest s.stands.begins s.stands.unbroken) in
+      record {
+        none_read = m.none_read;
+        begun = m.begun ∙ ap length (sym same);
+        ended = m.ended ∙ ap length (sym same);
+        each = λ first past rest e out n. m.each first past (bytes ++ rest)
+            (e ∙ ap (λ b. b ++ rest) (sym joined) ∙ append_assoc (script ++ seen) bytes rest) out n;
+      }
+
+  pub LastSeen-none : (start : Point) (script : List ℕ) (replies : List Reply) (now : Point) (progress : Progress)
+      (old : W) → Stands start script replies now progress → progress.kept ≡ []
+      → LastSeen contents calls is_sent files may_flush start.world script replies old []
+  LastSeen-none start script replies now progress old s e =
+      let same : length (whole_lines script) ≡ length (lines script) =
+      ap length (whole_lines_begun script s.done s.rest s.begins s.unbroken
+      ∙ sym (lines_none start script replies now progress s e)) in
+      let count : length (whole_lines script) + 0 ≡ length (lines script) = omega (arith, same) in
+      record { none_read = refl; begun = count; ended = count; each = λ first past read at_end out n. tt }
+
+  pub LastSeen-line : (start : Point) (script : List ℕ) (replies : List Reply) (now new : Point)
+      (progress after : Progress) (old writer : W) (old_shelf new_shelf : S) (ms : List (Moment W S))
+      → Stands start script replies now progress → 0 < length progress.kept →
+      Answered now progress new after (contents old) (contents writer)
+      → NoneFailed may_flush (calls old) (calls writer) → now.world.files ≡ files old_shelf
+      → new.world.files ≡ files new_shelf
+      → LineSeen contents calls is_sent files may_flush (asks_for_file (line_of progress.kept)) old writer old_shelf
+      new_shelf ms
+      → LastSeen contents calls is_sent files may_flush start.world script replies old ms
+  LastSeen-line start script replies now new progress after old writer old_shelf new_shelf ms s h a well files_old
+      files_new l =
+      let all = lines_one start script replies now progress s h in
+      let count_whole = ap length (whole_lines_begun script s.done s.rest s.begins s.unbroken) in
+      let count_all = ap length all in
+      let one_more = length-append s.done (s.rest ∷ []) in
+      let begun = one_begun start script replies now new progress after s old writer old_shelf new_shelf a well
+      files_old files_new ms l in
+      let ended = one_ended start script replies now new progress after s old writer old_shelf new_shelf a well
+      files_old files_new ms l in
+      record {
+        none_read = none_came start script replies now new progress after s old writer old_shelf new_shelf a well
+            files_old files_new ms l;
+        begun = omega (arith, count_whole, count_all, one_more, begun);
+        ended = omega (arith, count_whole, count_all, one_more, ended);
+        each = λ first past read at_end out n.
+            line_each start script replies now new progress after s old writer old_shelf new_shelf a well files_old
+            files_new ms l first past (inr (sym all ∙ ap lines (sym read), at_end)) out n;
+      }
+
+  -- ---- the moments of a run
+
+  module _ (world : World) (first : W) where
+    pub SeenSoFar-start : SeenSoFar contents calls is_sent files may_flush world first [] []
+    SeenSoFar-start = record { each = tt; read = refl; begun = refl; ended = refl }
+
+    pub InOrder-here : (input_old input_new : Option (List ℕ)) (script : List ℕ) (ms : List (Moment W S)) →
+        SeenSoFar contents calls is_sent files may_flush world first script ms → Consumes input_old input_new script
+        → InOrder contents calls is_sent files may_flush world first input_old input_new whole_lines ms
+    InOrder-here input_old input_new script ms seen read =
+        record {
+          each = seen.each;
+          read = subst (Consumes input_old input_new) (sym seen.read) read;
+          begun = seen.begun ∙ ap (λ b. length (whole_lines b)) (sym seen.read);
+          ended = seen.ended ∙ ap (λ b. length (whole_lines b)) (sym seen.read);
+        }
+
+  module _ (start : Point) (script : List ℕ) (replies : List Reply) (now : Point) (progress : Progress)
+      (s : Stands start script replies now progress) (first old writer : W) (shelf : S)
+      (out : Appends (contents first) (contents old) (texts replies))
+      (n : NoneFailed may_flush (calls first) (calls old))
+      (settled : Settled contents calls is_sent may_flush true old writer) where
+    -- the run reads where all is out
+    pub reads_when : (event : Event) (ms : List (Moment W S)) →
+        SeenSoFar contents calls is_sent files may_flush start.world first script ms
+        → ReadsWhen contents calls is_sent files may_flush start.world first ms (moment event writer shelf)
+    reads_when event ms seen =
+        let whole : whole_lines (bytes_read ms) ≡ s.done = ap whole_lines seen.read
+        ∙ whole_lines_begun script s.done s.rest s.begins s.unbroken in
+        record {
+          answers = record {
+            replies = replies;
+            now = now.world;
+            steps = subst (λ (ls : List (List ℕ)). Steps start.world ls replies now.world) (sym whole) s.run;
+            out = Appends-kept (contents first) (contents old) (contents writer) (texts replies) out settled.kept;
+            none_failed = none_failed_more may_flush (calls first) (calls old) (calls writer) n settled.none_failed;
+          };
+          gone_out = gone_out start.world first old writer true n settled refl;
+        }
+
+    -- a read failed
+    pub InOrder-failed : (input_old input_new : Option (List ℕ)) (ms ns : List (Moment W S)) →
+        SeenSoFar contents calls is_sent files may_flush start.world first script ms
+        → ns ≡ moment NotCame writer shelf ∷ [] → Consumes input_old input_new script
+        → InOrder contents calls is_sent files may_flush start.world first input_old input_new whole_lines (ms ++ ns)
+    InOrder-failed input_old input_new ms ns seen e read =
+        let none : bytes_read ns ≡ [] = ap bytes_read e in
+        let begun : begun_in ns ≡ 0 = ap begun_in e in
+        let ended : ended_in ns ≡ 0 = ap ended_in e in
+        let same : bytes_read (ms ++ ns) ≡ script = bytes_read-quiet ms ns none ∙ seen.read in
+        let count = ap (λ b. length (whole_lines b)) same in
+        let all_begun = begun_in-append ms ns in
+        let all_ended = ended_in-append ms ns in
+        let first_begun = seen.begun in
+        let first_ended = seen.ended in
+        record {
+          each = EachMay-append start.world first [] ms ns seen.each
+              (subst (λ (k : List (Moment W S)). EachMay contents calls is_sent files may_flush start.world first ms k)
+              (sym e) (reads_when NotCame ms seen, tt));
+          read = subst (Consumes input_old input_new) (sym same) read;
+          begun = omega (arith, begun, all_begun, first_begun, count);
+          ended = omega (arith, ended, all_ended, first_ended, count);
+        }
+
+    module _ (bytes : List ℕ) (ms ns ks : List (Moment W S))
+        (seen : SeenSoFar contents calls is_sent files may_flush start.world first script ms)
+        (e : ns ≡ moment (Came bytes) writer shelf ∷ []) where
+      came_bytes : bytes_read ns ≡ bytes
+      came_bytes = ap bytes_read e ∙ append-nil bytes
+
+      came_each : EachMay contents calls is_sent files may_flush start.world first [] (ms ++ ns)
+      came_each = EachMay-append start.world first [] ms ns seen.each
+          (subst (λ (k : List (Moment W S)). EachMay contents calls is_sent files may_flush start.world first ms k)
+          (sym e) (reads_when (Came bytes) ms seen, tt))
+
+      came_read : bytes_read (ms ++ ns) ≡ script ++ bytes
+      came_read = bytes_read-append ms ns ∙ ap (λ b. b ++ bytes_read ns) seen.read ∙ ap (λ b. script ++ b) came_bytes
+
+      came_begun : begun_in (ms ++ ns) ≡ length (whole_lines script)
+      came_begun =
+          let none : begun_in ns ≡ 0 = ap begun_in e in
+          let all = begun_in-append ms ns in
+          let before = seen.begun in
+          omega (arith, none, all, before)
+
+      came_ended : ended_in (ms ++ ns) ≡ length (whole_lines script)
+      came_ended =
+          let none : ended_in ns ≡ 0 = ap ended_in e in
+          let all = ended_in-append ms ns in
+          let before = seen.ended in
+          omega (arith, none, all, before)
+
+      out_here : Appends (contents first) (contents writer) (texts replies)
+      out_here = Appends-kept (contents first) (contents old) (contents writer) (texts replies) out settled.kept
+
+      well_here : NoneFailed may_flush (calls first) (calls writer)
+      well_here = none_failed_more may_flush (calls first) (calls old) (calls writer) n settled.none_failed
+
+      -- bytes were read, and the lines that end in them were carried out
+      pub SeenSoFar-more : MoreSeen contents calls is_sent files may_flush start.world script bytes replies writer ks →
+          SeenSoFar contents calls is_sent files may_flush start.world first (script ++ bytes) ((ms ++ ns) ++ ks)
+      SeenSoFar-more more =
+          let begun = came_begun in
+          let ended = came_ended in
+          let more_begun = more.begun in
+          let more_ended = more.ended in
+          let all_begun = begun_in-append (ms ++ ns) ks in
+          let all_ended = ended_in-append (ms ++ ns) ks in
+          record {
+            each = EachMay-append start.world first [] (ms ++ ns) ks came_each
+                (more.each first (ms ++ ns) [] (came_read ∙ sym (append-nil (script ++ bytes))) out_here well_here);
+            read = bytes_read-quiet (ms ++ ns) ks more.none_read ∙ came_read;
+            begun = omega (arith, begun, more_begun, all_begun);
+            ended = omega (arith, ended, more_ended, all_ended);
+          }
+
+      -- the reader is at its end, and a last line was carried out
+      pub InOrder-last : (input_old input_new : Option (List ℕ)) → bytes ≡ [] → Consumes input_old input_new script →
+          LastSeen contents calls is_sent files may_flush start.world script replies writer ks
+          → InOrder contents calls is_sent files may_flush start.world first input_old input_new lines
+          ((ms ++ ns) ++ ks) × HasEnded ((ms ++ ns) ++ ks)
+      InOrder-last input_old input_new none read last =
+          let begun = came_begun in
+          let ended = came_ended in
+          let last_begun = last.begun in
+          let last_ended = last.ended in
+          let all_begun = begun_in-append (ms ++ ns) ks in
+          let all_ended = ended_in-append (ms ++ ns) ks in
+          let here : bytes_read (ms ++ ns) ≡ script = came_read ∙ ap (λ b. script ++ b) none ∙ append-nil script in
+          let all : bytes_read ((ms ++ ns) ++ ks) ≡ script = bytes_read-quiet (ms ++ ns) ks last.none_read ∙ here in
+          let count = ap (λ b. length (lines b)) all in
+          let at_end : HasEnded (ms ++ ns) = record {
+            before = ms;
+            last = moment (Came bytes) writer shelf;
+            after = [];
+            is = ap (λ k. ms ++ k) e;
+            nothing_came = ap Came none;
+          } in (
+            record {
+              each = EachMay-append start.world first [] (ms ++ ns) ks came_each
+                  (last.each first (ms ++ ns) here at_end out_here well_here);
+              read = subst (Consumes input_old input_new) (sym all) read;
+              begun = omega (arith, begun, last_begun, all_begun, count);
+              ended = omega (arith, ended, last_ended, all_ended, count);
+            },
+            HasEnded-more (ms ++ ns) ks at_end,
+          )
+
+    -- bytes were read, and the lines that end in them were carried out
+    pub SeenSoFar-read : (bytes : List ℕ) (a b c d : Option (List (Moment W S))) →
+        Adds a b (SeenSoFar contents calls is_sent files may_flush start.world first script)
+        → AddsOne b c (Came bytes) writer shelf
+        → Adds c d (MoreSeen contents calls is_sent files may_flush start.world script bytes replies writer)
+        → Adds a d (SeenSoFar contents calls is_sent files may_flush start.world first (script ++ bytes))
+    SeenSoFar-read bytes a b c d p q r =
+        Adds-three a b c d _ _ _ _ (λ ms ns ks seen e more. SeenSoFar-more bytes ms ns ks seen e more) p q r
+
+    -- a read failed
+    pub Ordered-failed : (input_old input_new : Option (List ℕ)) (a b c : Option (List (Moment W S))) →
+        Adds a b (SeenSoFar contents calls is_sent files may_flush start.world first script)
+        → AddsOne b c NotCame writer shelf → Consumes input_old input_new script
+        → Adds a c (InOrder contents calls is_sent files may_flush start.world first input_old input_new whole_lines)
+    Ordered-failed input_old input_new a b c p q read =
+        Adds-trans a b c _ _ _ (λ ms ns seen e. InOrder-failed input_old input_new ms ns seen e read) p q
+
+    -- the reader is at its end
+    pub Ordered-end : (X : Type 0) (input_old input_new : Option (List ℕ)) (bytes : List ℕ)
+        (a b c d : Option (List (Moment W S))) (result : Result Tally RunFault) →
+        Adds a b (SeenSoFar contents calls is_sent files may_flush start.world first script)
+        → AddsOne b c (Came bytes) writer shelf → bytes ≡ [] → Consumes input_old input_new script
+        → OnOk result (Adds c d (LastSeen contents calls is_sent files may_flush start.world script replies writer))
+        → MatchResult result (λ _. X) (λ fault. fault ≡ Output)
+        → Ordered contents calls is_sent files may_flush start.world first input_old input_new a d result
+    Ordered-end X input_old input_new bytes a b c d (Ok tally) p q none read last fault =
+        Adds-three a b c d _ _ _ _
+        (λ ms ns ks seen e l. InOrder-last bytes ms ns ks seen e input_old input_new none read l) p q last
+    Ordered-end X input_old input_new bytes a b c d (Err other) p q none read last fault =
+        λ is_input. let bad : Input ≡ Output = sym is_input ∙ fault in absurd cc

@@ -1,0 +1,67 @@
+-- What is seen of a run while it goes on: its reads and its lines in one list, and the writer and the shelf at each.
+use Rattle.std.specs.Prelude.{◌≡◌, ℕ, ◌+◌, List, [], ◌∷◌, ◌++◌, take, flat_map, Option, Some, None, Result, Ok, Err}
+
+-- a read and the bytes that it gave, which are none at the end; a read that failed; that a line is about to be carried
+-- out; and that it is answered
+pub data Event : Type 0 where
+  Came : (bytes : List ℕ) → Event
+  NotCame : Event
+  LineBegins : Event
+  LineEnds : Event
+
+-- what a read was, by its answer and by what its buffer holds after it
+abbrev pub read_event : {E : Type 0} → Result ℕ E → List ℕ → Event
+read_event (Ok count) buffer = Came (take count buffer)
+read_event (Err error) buffer = NotCame
+
+-- the bytes that came, how many lines begin, and how many end
+abbrev pub bytes_of : Event → List ℕ
+bytes_of (Came bytes) = bytes
+bytes_of NotCame = []
+bytes_of LineBegins = []
+bytes_of LineEnds = []
+
+abbrev pub begins_of : Event → ℕ
+begins_of (Came bytes) = 0
+begins_of NotCame = 0
+begins_of LineBegins = 1
+begins_of LineEnds = 0
+
+abbrev pub ends_of : Event → ℕ
+ends_of (Came bytes) = 0
+ends_of NotCame = 0
+ends_of LineBegins = 0
+ends_of LineEnds = 1
+
+-- one of these, and the writer and the shelf as they were then: before the read, and before and after the line
+pub record Moment (W S : Type 0) : Type 0 where
+  pub event : Event
+  pub writer : W
+  pub shelf : S
+
+module _ {W S : Type 0} where
+  abbrev pub moment : Event → W → S → Moment W S
+  moment event writer shelf = record { event = event; writer = writer; shelf = shelf }
+
+  -- all bytes that the reads gave, and the numbers of lines that began and ended
+  abbrev pub bytes_read : List (Moment W S) → List ℕ
+  bytes_read moments = flat_map (λ (m : Moment W S). bytes_of m.event) moments
+
+  abbrev pub begun_in : List (Moment W S) → ℕ
+  begun_in [] = 0
+  begun_in (m ∷ moments) = begins_of m.event + begun_in moments
+
+  abbrev pub ended_in : List (Moment W S) → ℕ
+  ended_in [] = 0
+  ended_in (m ∷ moments) = ends_of m.event + ended_in moments
+
+  -- if the list is known afterwards, it was known before, and it has gained some moments at its end, of this kind
+  abbrev pub Adds : Option (List (Moment W S)) → Option (List (Moment W S)) → (List (Moment W S) → Type 0) → Type 0
+  Adds old None AreThose = Unit {0}
+  Adds old (Some after) AreThose = (before : List (Moment W S)) × (moments : List (Moment W S)) × (old ≡ Some before)
+      × (after ≡ before ++ moments) × AreThose moments
+
+  -- this one moment came to the list
+  abbrev pub AddsOne : Option (List (Moment W S)) → Option (List (Moment W S)) → Event → W → S → Type 0
+  AddsOne old new event writer shelf = Adds old new
+      (λ (moments : List (Moment W S)). moments ≡ moment event writer shelf ∷ [])

@@ -1,0 +1,92 @@
+-- The order in which a run reads, carries out lines, and writes.
+use Rattle.std.specs.Prelude.{◌≡◌, ℕ, ◌⊎◌, true, List, [], ◌∷◌, ◌++◌, length, Option, Result, MatchResult}
+use Rattle.std.specs.Io.KnownBytes.{Appends, Consumes}
+use Rattle.s2shelf.specs.Shelf.{Files}
+use Rattle.s2script.specs.Line.{line_of}
+use Rattle.s2script.specs.Lines.{lines, whole_lines, BeginsWith}
+use Rattle.s2calc.specs.declared.engine.Tally.{Tally}
+use Rattle.s2calc.specs.declared.fault.RunFault.{RunFault}
+use Rattle.s2calc.specs.declared.fault.RunFault.TheVariants.{Input}
+use Rattle.s2calc.specs.World.{World}
+use Rattle.s2calc.specs.Replies.{Reply, texts}
+use Rattle.s2calc.specs.Step.{asks_for_file}
+use Rattle.s2calc.specs.Run.{Steps}
+use Rattle.s2calc.specs.Calls.{Call, NoneFailed, LastFlushed}
+use Rattle.s2calc.specs.Moments.{Event, Came, NotCame, LineBegins, LineEnds, Moment, bytes_read, begun_in}
+use Rattle.s2calc.specs.Moments.{ended_in, Adds}
+
+-- the lines that are carried out where a line begins or ends: those before it, and then the line too
+abbrev pub done_at : Event → List (List ℕ) → List ℕ → List (List ℕ)
+done_at (Came bytes) before line = before
+done_at NotCame before line = before
+done_at LineBegins before line = before
+done_at LineEnds before line = before ++ line ∷ []
+
+-- a read gave nothing: the reader is at its end
+pub record HasEnded {W S : Type 0} (past : List (Moment W S)) : Type 0 where
+  pub before : List (Moment W S)
+  pub last : Moment W S
+  pub after : List (Moment W S)
+  pub is : past ≡ before ++ (last ∷ after)
+  pub nothing_came : last.event ≡ Came []
+
+-- The order of a run that starts in this world with this writer. `contents`, `calls` and `is_sent` say what a writer
+-- holds, which calls it has seen, and that nothing waits in it; `files` says what is known of a shelf; `may_flush` says
+-- whether the run flushes before the end.
+module _ {W S : Type 0} (contents : W → Option (List ℕ)) (calls : W → Option (List Call)) (is_sent : W → Type 0)
+    (files : S → Files) (may_flush : Type 0) (start : World) (first : W) where
+  -- exactly the answers that these lines may have were written, and no call of the writer failed
+  pub record AllOut (ls : List (List ℕ)) (writer : W) : Type 0 where
+    pub replies : List Reply
+    pub now : World
+    pub steps : Steps start ls replies now
+    pub out : Appends (contents first) (contents writer) (texts replies)
+    pub none_failed : NoneFailed may_flush (calls first) (calls writer)
+
+  -- nothing waits in the writer, and if the run flushes before the end, its last call was a flush
+  pub record GoneOut (writer : W) : Type 0 where
+    pub sent : is_sent writer
+    pub flushed : may_flush → LastFlushed may_flush (calls first) (calls writer)
+
+  -- a read comes where the answers to all lines that were read whole are out
+  pub record ReadsWhen (past : List (Moment W S)) (now : Moment W S) : Type 0 where
+    pub answers : AllOut (whole_lines (bytes_read past)) now.writer
+    pub gone_out : GoneOut now.writer
+
+  -- A line begins where it was read to its end, where the answers to all lines before it are out, and with the files
+  -- that these have left. It ends where its own answer is out too. At a command with a file, both have gone out.
+  pub record LineWhen (past : List (Moment W S)) (now : Moment W S) : Type 0 where
+    pub before : List (List ℕ)
+    pub line : List ℕ
+    pub read_whole : ((rest : List ℕ) × BeginsWith (bytes_read past) (before ++ line ∷ []) rest)
+        ⊎ ((before ++ line ∷ [] ≡ lines (bytes_read past)) × HasEnded past)
+    pub answers : AllOut (done_at now.event before line) now.writer
+    pub files_are : answers.now.files ≡ files now.shelf
+    pub gone_out : asks_for_file (line_of line) ≡ true → GoneOut now.writer
+
+  abbrev pub MayCome : Event → List (Moment W S) → Moment W S → Type 0
+  MayCome (Came bytes) past now = ReadsWhen past now
+  MayCome NotCame past now = ReadsWhen past now
+  MayCome LineBegins past now = LineWhen past now
+  MayCome LineEnds past now = LineWhen past now
+
+  -- each of the moments came where it may, after those before it
+  abbrev pub EachMay : List (Moment W S) → List (Moment W S) → Type 0
+  EachMay past [] = Unit {0}
+  EachMay past (now ∷ moments) = MayCome now.event past now × EachMay (past ++ now ∷ []) moments
+
+  -- Each read and each line came where it may; the reads gave what was taken from the reader; and each of these lines
+  -- was seen to begin and to end.
+  pub record InOrder (input_old input_new : Option (List ℕ)) (ls : List ℕ → List (List ℕ))
+      (moments : List (Moment W S)) : Type 0 where
+    pub each : EachMay [] moments
+    pub read : Consumes input_old input_new (bytes_read moments)
+    pub begun : begun_in moments ≡ length (ls (bytes_read moments))
+    pub ended : ended_in moments ≡ length (ls (bytes_read moments))
+
+  -- what an observer saw of a run that ended well, or whose reading stopped, if it keeps a list
+  abbrev pub Ordered : Option (List ℕ) → Option (List ℕ) → Option (List (Moment W S)) → Option (List (Moment W S)) →
+      Result Tally RunFault → Type 0
+  Ordered input_old input_new old new result = MatchResult result
+      (λ tally. Adds old new (λ moments. InOrder input_old input_new lines moments × HasEnded moments))
+      (λ fault. fault ≡ Input → Adds old new (InOrder input_old input_new whole_lines))

@@ -1,0 +1,58 @@
+-- What an observer sees of one line, of the lines that end in the bytes of a read, and of a last line.
+use Rattle.std.specs.Prelude.{◌≡◌, ℕ, ◌+◌, Bool, true, List, [], ◌∷◌, ◌++◌, length, Option}
+use Rattle.std.specs.Io.KnownBytes.{Appends, Keeps}
+use Rattle.s2shelf.specs.Shelf.{Files}
+use Rattle.s2script.specs.Lines.{lines, whole_lines}
+use Rattle.s2calc.specs.World.{World}
+use Rattle.s2calc.specs.Replies.{Reply, texts}
+use Rattle.s2calc.specs.Calls.{Call, NoneFailed, LastFlushed}
+use Rattle.s2calc.specs.Moments.{LineBegins, LineEnds, Moment, moment, bytes_read, begun_in, ended_in}
+use Rattle.s2calc.specs.Order.{HasEnded, EachMay}
+
+-- between these two writers nothing was written, and no call failed; at a command with a file the last call was a
+-- flush, if there are flushes before the end, and nothing waits
+pub record Settled {W : Type 0} (contents : W → Option (List ℕ)) (calls : W → Option (List Call))
+    (is_sent : W → Type 0) (may_flush : Type 0) (has_file : Bool) (old new : W) : Type 0 where
+  pub kept : Keeps (contents old) (contents new)
+  pub none_failed : NoneFailed may_flush (calls old) (calls new)
+  pub flushed : has_file ≡ true → may_flush → LastFlushed may_flush (calls old) (calls new)
+  pub sent : has_file ≡ true → is_sent new
+
+module _ {W S : Type 0} (contents : W → Option (List ℕ)) (calls : W → Option (List Call)) (is_sent : W → Type 0)
+    (files : S → Files) (may_flush : Type 0) where
+  -- the line began when this was settled, with the shelf as it was, and ended
+  pub record LineSeen (has_file : Bool) (old new : W) (old_shelf new_shelf : S) (moments : List (Moment W S)) :
+      Type 0 where
+    pub mid : W
+    pub is : moments ≡ moment LineBegins mid old_shelf ∷ moment LineEnds new new_shelf ∷ []
+    pub settled : Settled contents calls is_sent may_flush has_file old mid
+    pub flushed : has_file ≡ true → may_flush → LastFlushed may_flush (calls old) (calls new)
+    pub sent : has_file ≡ true → is_sent new
+
+  -- the moments of the lines that end in the chunk, after those of a run that has read the script, has written these
+  -- replies, and has reached this writer
+  pub record MoreSeen (world : World) (script chunk : List ℕ) (replies : List Reply) (old : W)
+      (moments : List (Moment W S)) : Type 0 where
+    pub none_read : bytes_read moments ≡ []
+    pub begun : length (whole_lines script) + begun_in moments ≡ length (whole_lines (script ++ chunk))
+    pub ended : length (whole_lines script) + ended_in moments ≡ length (whole_lines (script ++ chunk))
+    pub each : (first : W) (past : List (Moment W S)) (rest : List ℕ) → bytes_read past ≡ (script ++ chunk) ++ rest →
+        Appends (contents first) (contents old) (texts replies) → NoneFailed may_flush (calls first) (calls old)
+        → EachMay contents calls is_sent files may_flush world first past moments
+
+  -- the moments of a last line, after the reader has ended
+  pub record LastSeen (world : World) (script : List ℕ) (replies : List Reply) (old : W)
+      (moments : List (Moment W S)) : Type 0 where
+    pub none_read : bytes_read moments ≡ []
+    pub begun : length (whole_lines script) + begun_in moments ≡ length (lines script)
+    pub ended : length (whole_lines script) + ended_in moments ≡ length (lines script)
+    pub each : (first : W) (past : List (Moment W S)) → bytes_read past ≡ script → HasEnded past →
+        Appends (contents first) (contents old) (texts replies) → NoneFailed may_flush (calls first) (calls old)
+        → EachMay contents calls is_sent files may_flush world first past moments
+
+  -- the moments of a run that has read the script
+  pub record SeenSoFar (world : World) (first : W) (script : List ℕ) (moments : List (Moment W S)) : Type 0 where
+    pub each : EachMay contents calls is_sent files may_flush world first [] moments
+    pub read : bytes_read moments ≡ script
+    pub begun : begun_in moments ≡ length (whole_lines script)
+    pub ended : ended_in moments ≡ length (whole_lines script)

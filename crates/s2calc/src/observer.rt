@@ -1,0 +1,102 @@
+//! Who sees the calls of a run in the order in which they come.
+ghost use Rattle.std.specs.Prelude.{◌≡◌, true, List, Option, None, OnOk, OnErr, IfErr};
+ghost use Rattle.std.specs.Io.{ReadsAtMost};
+ghost use Rattle.std.specs.Io.KnownBytes.{ReadConsumes, Keeps};
+ghost use Rattle.std.specs.Prelude.{[], ◌∷◌};
+ghost use Rattle.s2calc.specs.Calls.{Gains, NoneFailed, LastFailed, what_came};
+ghost use Rattle.s2calc.specs.Seen.{Settled};
+ghost use Rattle.s2calc.specs.Moments.{Moment, LineBegins, LineEnds, read_event, AddsOne};
+
+use crate::fault::RunFault;
+use crate::flushing::{Flushing, around_file_command};
+use crate::streams::{Sink, Source};
+use s2shelf::Shelf;
+use std::io;
+
+/// An observer of a run. It makes the reads, and sees where each line begins and ends, with the writer and the shelf as
+/// they are then. So it may keep one list of the run's reads, its lines, and what was written and stored by then.
+pub trait Observer<W: Sink, S: Shelf> {
+    // what it has seen so far, if it keeps a list
+    ghost seen: { Self → Option (List (Moment W S)) } = { λ _. None };
+
+    /// Reads from the reader of the run.
+    fn read<R: Source>(
+        &mut self,
+        reader: &mut R,
+        writer: &W,
+        shelf: &S,
+        buf: &mut [u8],
+    ) -> io::Result<usize>
+        ensures bound { ReadsAtMost result buf.new }
+        ensures bytes { ReadConsumes (R.remaining reader.old) (R.remaining reader.new) result buf.new }
+        ensures call { Gains (R.reads reader.old) (R.reads reader.new) (what_came result ∷ []) }
+        ensures moment { AddsOne (seen self.old) (seen self.new) (read_event result buf.new) writer.now shelf.now };
+
+    /// A line is about to be carried out.
+    fn line_begins(&mut self, writer: &W, shelf: &S)
+        ensures moment { AddsOne (seen self.old) (seen self.new) LineBegins writer.now shelf.now };
+
+    /// The line is carried out, and its answer is written.
+    fn line_ends(&mut self, writer: &W, shelf: &S)
+        ensures moment { AddsOne (seen self.old) (seen self.new) LineEnds writer.now shelf.now };
+}
+
+/// No one observes the run.
+#[derive(Drop)]
+pub(crate) struct Unobserved;
+
+impl<W: Sink, S: Shelf> Observer<W, S> for Unobserved {
+    fn read<R: Source>(
+        &mut self,
+        reader: &mut R,
+        _writer: &W,
+        _shelf: &S,
+        buf: &mut [u8],
+    ) -> io::Result<usize> {
+        reader.read(buf)
+    }
+
+    fn line_begins(&mut self, _writer: &W, _shelf: &S) {}
+
+    fn line_ends(&mut self, _writer: &W, _shelf: &S) {}
+}
+
+/// What happens before a line is carried out.
+pub(crate) fn begin_line<W: Sink, S: Shelf, F: Flushing<W>, O: Observer<W, S>>(
+    has_file: bool,
+    writer: &mut W,
+    shelf: &S,
+    observer: &mut O,
+) -> Result<(), RunFault>
+    ensures kept { Keeps (W.contents writer.old) (W.contents writer.new) }
+    ensures sent { OnOk result (has_file ≡ true → F.is_sent writer.new) }
+    ensures fault { IfErr result (λ fault. (fault ≡ RunFault.Output) × F.may_fail × (has_file ≡ true)) }
+    ensures none_failed { OnOk result (NoneFailed F.may_fail (W.calls writer.old) (W.calls writer.new)) }
+    ensures failed { OnErr result (LastFailed F.may_fail (W.calls writer.old) (W.calls writer.new)) }
+    ensures seen { OnOk result (Settled W.contents W.calls F.is_sent F.may_fail has_file writer.old writer.new
+        × AddsOne (O.seen observer.old) (O.seen observer.new) LineBegins writer.new shelf.now) }
+{
+    around_file_command::<W, F>(has_file, writer)?;
+    observer.line_begins(writer, shelf);
+    Ok(())
+}
+
+/// What happens after a line was carried out.
+pub(crate) fn end_line<W: Sink, S: Shelf, F: Flushing<W>, O: Observer<W, S>>(
+    has_file: bool,
+    writer: &mut W,
+    shelf: &S,
+    observer: &mut O,
+) -> Result<(), RunFault>
+    ensures kept { Keeps (W.contents writer.old) (W.contents writer.new) }
+    ensures sent { OnOk result (has_file ≡ true → F.is_sent writer.new) }
+    ensures fault { IfErr result (λ fault. (fault ≡ RunFault.Output) × F.may_fail × (has_file ≡ true)) }
+    ensures none_failed { OnOk result (NoneFailed F.may_fail (W.calls writer.old) (W.calls writer.new)) }
+    ensures failed { OnErr result (LastFailed F.may_fail (W.calls writer.old) (W.calls writer.new)) }
+    ensures seen { OnOk result (Settled W.contents W.calls F.is_sent F.may_fail has_file writer.old writer.new
+        × AddsOne (O.seen observer.old) (O.seen observer.new) LineEnds writer.new shelf.now) }
+{
+    around_file_command::<W, F>(has_file, writer)?;
+    observer.line_ends(writer, shelf);
+    Ok(())
+}
