@@ -9,10 +9,9 @@ use Rattle.s2script.specs.declared.limits.TheConstants.{LONGEST_LINE}
 use Rattle.s2calc.specs.declared.limits.TheConstants.{KEPT}
 use Rattle.s2calc.specs.declared.engine.Tally.{Tally}
 use Rattle.s2calc.specs.declared.progress.Progress.{Progress}
-use Rattle.s2script.specs.Line.{line_of}
 use Rattle.s2script.specs.Lines.{but_last, last_line, lines}
 use Rattle.s2calc.specs.Replies.{Reply, text_of, texts, tally_of, IsCutOff}
-use Rattle.s2calc.specs.Step.{Step, asks_for_file}
+use Rattle.s2calc.specs.Step.{Step}
 use Rattle.s2calc.specs.Run.{Steps}
 use Rattle.s2calc.specs.Explained.{Point, Explains}
 use Rattle.s2calc.specs.Stands.{Stands, Answered, AnsweredInPart, AnsweredUnflushed, Ended, EndsInPart}
