@@ -13,7 +13,7 @@ use Rattle.s2calc.specs.Replies.{Reply, text_of, tally_of}
 use Rattle.s2calc.specs.Notes.{WritesNotes, note_of, number_of}
 use Rattle.s2calc.specs.Step.{StepBy, asks_for_file}
 use Rattle.s2calc.specs.Explained.{Point}
-use Rattle.s2calc.specs.Stands.{Answered, AnswersKept}
+use Rattle.s2calc.specs.Working.Stands.{Answered, AnswersKept}
 
 -- a flush, an answer and a flush
 Appends-between : (a b c d : Option (List ℕ)) (bytes : List ℕ) → Keeps a b → Appends b c bytes → Keeps c d →

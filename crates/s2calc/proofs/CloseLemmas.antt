@@ -14,8 +14,8 @@ use Rattle.s2calc.specs.Replies.{Reply, text_of, texts, tally_of, IsCutOff}
 use Rattle.s2calc.specs.Step.{Step}
 use Rattle.s2calc.specs.Run.{Steps}
 use Rattle.s2calc.specs.Explained.{Point, Explains}
-use Rattle.s2calc.specs.Stands.{Stands, Answered, AnsweredInPart, AnsweredUnflushed, Ended, EndsInPart}
-use Rattle.s2calc.specs.Stands.{EndsUnflushed, EndsBefore}
+use Rattle.s2calc.specs.Working.Stands.{Stands, Answered, AnsweredInPart, AnsweredUnflushed, Ended, EndsInPart}
+use Rattle.s2calc.specs.Working.Stands.{EndsUnflushed, EndsBefore}
 use Rattle.s2calc.proofs.LineLemmas.{lines_begun, but_last-append}
 use Rattle.s2calc.proofs.TakeInLemmas.{IsCutOff-part, Explains-line, Explains-cut, Steps-line, has_file-kept}
 

@@ -14,7 +14,8 @@ use Rattle.s2list.proofs.Normal.{leaf_from, normal_form_same}
 use Rattle.s2cover.specs.Coverings.{filled, outer_set, inner_set}
 use Rattle.s2cover.proofs.NormalForms.{outer_has_normal_form, inner_has_normal_form}
 use Rattle.s2calc.specs.declared.refusal.Refusal.{Refusal}
-use Rattle.s2calc.specs.Edits.{IsTooLong, Makes}
+use Rattle.s2calc.specs.Edits.{IsTooLong}
+use Rattle.s2calc.specs.Working.Edits.{Makes}
 
 too_long : (S : ℕ → Bool) (limit : ℕ) → ((u : List ℕ) × IsNormalForm S u) →
     ((u : List ℕ) → IsNormalForm S u → limit < length u) → IsTooLong S limit

@@ -19,11 +19,11 @@ use Rattle.s2calc.specs.Step.{asks_for_file}
 use Rattle.s2calc.specs.Run.{Steps}
 use Rattle.s2calc.specs.Explained.{Point}
 use Rattle.s2calc.specs.Calls.{Call, NoneFailed}
-use Rattle.s2calc.specs.Stands.{Stands, Answered, StandsAfter}
+use Rattle.s2calc.specs.Working.Stands.{Stands, Answered, StandsAfter}
 use Rattle.s2calc.specs.Moments.{Event, Came, NotCame, LineBegins, LineEnds, Moment, moment, bytes_of}
 use Rattle.s2calc.specs.Moments.{bytes_read, begun_in, ended_in, Adds, AddsOne}
 use Rattle.s2calc.specs.Order.{HasEnded, GoneOut, ReadsWhen, LineWhen, EachMay, InOrder, Ordered}
-use Rattle.s2calc.specs.Seen.{Settled, LineSeen, MoreSeen, LastSeen, SeenSoFar}
+use Rattle.s2calc.specs.Working.Seen.{Settled, LineSeen, MoreSeen, LastSeen, SeenSoFar}
 use Rattle.s2calc.proofs.CallLemmas.{none_failed_more, last_flushed_after}
 use Rattle.s2calc.proofs.LineLemmas.{every-append, whole_lines_begun, BeginsWith-more}
 use Rattle.s2calc.proofs.CloseLemmas.{lines_one, lines_none}

@@ -15,8 +15,8 @@ use Rattle.s2calc.specs.Run.{Steps, Ends, Finishes, StopsReading, StopsWriting, 
 use Rattle.s2calc.specs.Run.{RunsPromptly, Faults, PromptFaults, with_waiting}
 use Rattle.s2calc.specs.Explained.{Point, Explains, FinishesExplained, StopsReadingExplained, StopsWritingExplained}
 use Rattle.s2calc.specs.Explained.{StopsFlushingExplained, StopsAtFileExplained, ExplainedFaults, RunsExplained}
-use Rattle.s2calc.specs.Stands.{Stands, StopsInside, StopsBeside, Ended, EndsInPart, EndsUnflushed, EndsBefore}
-use Rattle.s2calc.specs.Stands.{Closes, FaultsBy, RunsBy}
+use Rattle.s2calc.specs.Working.Stands.{Stands, StopsInside, StopsBeside, Ended, EndsInPart, EndsUnflushed, EndsBefore}
+use Rattle.s2calc.specs.Working.Stands.{Closes, FaultsBy, RunsBy}
 use Rattle.s2calc.proofs.LineLemmas.{whole_lines_begun}
 use Rattle.s2calc.proofs.CloseLemmas.{IsCutOff-after}
 

@@ -6,7 +6,7 @@ use Rattle.std.proofs.KnownBytes.{Keeps-refl}
 use Rattle.s2shelf.specs.Shelf.{Files}
 use Rattle.s2calc.specs.Calls.{Call, NoneFailed, LastFlushed}
 use Rattle.s2calc.specs.Moments.{LineBegins, LineEnds, Moment, moment, Adds, AddsOne}
-use Rattle.s2calc.specs.Seen.{Settled, LineSeen}
+use Rattle.s2calc.specs.Working.Seen.{Settled, LineSeen}
 use Rattle.s2calc.proofs.CallLemmas.{none_failed_none, none_failed_more, last_flushed_after}
 use Rattle.s2calc.proofs.OrderLemmas.{Adds-trans}
 

@@ -14,8 +14,8 @@ use Rattle.s2calc.specs.Notes.{WritesNotes, note_of, number_of, notes_of}
 use Rattle.s2calc.specs.Step.{Step, asks_for_file}
 use Rattle.s2calc.specs.Run.{Steps}
 use Rattle.s2calc.specs.Explained.{Point, Explains}
-use Rattle.s2calc.specs.Stands.{Stands, Answered, AnsweredInPart, AnsweredUnflushed, StandsAfter, StopsInside}
-use Rattle.s2calc.specs.Stands.{StopsBeside}
+use Rattle.s2calc.specs.Working.Stands.{Stands, Answered, AnsweredInPart, AnsweredUnflushed, StandsAfter, StopsInside}
+use Rattle.s2calc.specs.Working.Stands.{StopsBeside}
 use Rattle.s2calc.proofs.LineLemmas.{every-append, BeginsWith-more, BeginsWith-line, kept_more, but_last-append}
 use Rattle.s2calc.proofs.NoteLemmas.{WritesNotes-none, WritesNotes-more, notes_from-push, notes_from-cut, note_of-kept}
 use Rattle.s2calc.proofs.RunLemmas.{Steps-push, Steps-lengths}

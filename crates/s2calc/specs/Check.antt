@@ -26,11 +26,6 @@ abbrev pub Checks : List ℕ → Files → Reply → Files → Type 0
 Checks name old reply new = ((is_name name ≡ false) × (reply ≡ Refuses (Words NoName)) × (new ≡ old))
     ⊎ ((is_name name ≡ true) × ChecksFile name old reply new)
 
--- the reply with these numbers of cells and leaves, or the refusal
-abbrev pub check_reply : Result (ℕ × ℕ) Refusal → Reply
-check_reply (Ok counts) = Says (count_line counts.0 counts.1)
-check_reply (Err refusal) = Refuses refusal
-
 -- the file was checked, and the answer was written as far as the writer took it
 pub record ChecksAndTells (name : List ℕ) (old new : Files) (output_old output_new : Option (List ℕ))
     (result : Result Bool RunFault) : Type 0 where

@@ -1,9 +1,8 @@
 -- What an edit does to a register.
 use Rattle.std.specs.Prelude.{◌≡◌, ◌≢◌, ℕ, ◌+◌, ◌<◌, ◌≤◌, ◌⊎◌, ◌&&◌, Bool, false, List, [], length}
-use Rattle.std.specs.Prelude.{Option, Some, None, Result, MatchResult}
+use Rattle.std.specs.Prelude.{Option, Some, None}
 use Rattle.s2cell.specs.Cell.{first_leaf, size_of}
 use Rattle.s2list.specs.Union.{has_leaf, between, IsNormalForm}
-use Rattle.s2list.specs.Union as U
 use Rattle.s2list.specs.Sets.{either, shared, without}
 use Rattle.s2cover.specs.Rectangles.{Rect, rect_set}
 use Rattle.s2cover.specs.Coverings.{outer_set, inner_set}
@@ -13,7 +12,6 @@ use Rattle.s2script.specs.declared.command.RegisterEdit.{RegisterEdit}
 use Rattle.s2script.specs.declared.command.RegisterEdit.TheVariants.{Add, Remove, Keep, Clear, Copy}
 use Rattle.s2script.specs.declared.command.RegisterEdit.TheVariants.{Union, Intersect, Subtract}
 use Rattle.s2script.specs.declared.command.RegisterEdit.TheVariants.{Range, Outer, Inner, OuterOf, InnerOf}
-use Rattle.s2calc.specs.declared.refusal.Refusal.{Refusal}
 use Rattle.s2calc.specs.declared.refusal.Refusal.TheVariants.{TooMany, Memory, Nothing}
 use Rattle.s2calc.specs.Replies.{Reply, Says, Refuses}
 use Rattle.s2calc.specs.Texts.{ok_line}
@@ -63,14 +61,6 @@ pub record IsTooLong (S : ℕ → Bool) (limit : ℕ) : Type 0 where
   pub list : List ℕ
   pub normal : IsNormalForm S list
   pub above : limit < length list
-
--- why the normal form of S is not made: it has too many cells, or there is no memory
-abbrev pub Fails : (ℕ → Bool) → ℕ → Refusal → Type 0
-Fails S limit refusal = ((refusal ≡ TooMany) × IsTooLong S limit) ⊎ (refusal ≡ Memory)
-
--- the normal form of S, or why it is not made
-abbrev pub Makes : (ℕ → Bool) → ℕ → Result U.Union Refusal → Type 0
-Makes S limit result = MatchResult result (λ u. IsNormalForm S u.cells) (Fails S limit)
 
 -- the register r gets the leaves of S; or their normal form has too many cells; or there is no memory
 abbrev pub Gets : (ℕ → Bool) → ℕ → History (List ℕ) → Reply → History (List ℕ) → Type 0

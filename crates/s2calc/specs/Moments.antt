@@ -14,19 +14,21 @@ abbrev pub read_event : {E : Type 0} → Result ℕ E → List ℕ → Event
 read_event (Ok count) buffer = Came (take count buffer)
 read_event (Err error) buffer = NotCame
 
--- the bytes that came, how many lines begin, and how many end
+-- the bytes that came
 abbrev pub bytes_of : Event → List ℕ
 bytes_of (Came bytes) = bytes
 bytes_of NotCame = []
 bytes_of LineBegins = []
 bytes_of LineEnds = []
 
+-- how many lines begin
 abbrev pub begins_of : Event → ℕ
 begins_of (Came bytes) = 0
 begins_of NotCame = 0
 begins_of LineBegins = 1
 begins_of LineEnds = 0
 
+-- how many lines end
 abbrev pub ends_of : Event → ℕ
 ends_of (Came bytes) = 0
 ends_of NotCame = 0
@@ -40,17 +42,20 @@ pub record Moment (W S : Type 0) : Type 0 where
   pub shelf : S
 
 module _ {W S : Type 0} where
+  -- one of these, with the writer and the shelf as they were
   abbrev pub moment : Event → W → S → Moment W S
   moment event writer shelf = record { event = event; writer = writer; shelf = shelf }
 
-  -- all bytes that the reads gave, and the numbers of lines that began and ended
+  -- all bytes that the reads gave
   abbrev pub bytes_read : List (Moment W S) → List ℕ
   bytes_read moments = flat_map (λ (m : Moment W S). bytes_of m.event) moments
 
+  -- how many lines began
   abbrev pub begun_in : List (Moment W S) → ℕ
   begun_in [] = 0
   begun_in (m ∷ moments) = begins_of m.event + begun_in moments
 
+  -- how many lines ended
   abbrev pub ended_in : List (Moment W S) → ℕ
   ended_in [] = 0
   ended_in (m ∷ moments) = ends_of m.event + ended_in moments

@@ -64,6 +64,7 @@ module _ {W S : Type 0} (contents : W → Option (List ℕ)) (calls : W → Opti
     pub files_are : answers.now.files ≡ files now.shelf
     pub gone_out : asks_for_file (line_of line) ≡ true → GoneOut now.writer
 
+  -- this moment may come after those before it
   abbrev pub MayCome : Event → List (Moment W S) → Moment W S → Type 0
   MayCome (Came bytes) past now = ReadsWhen past now
   MayCome NotCame past now = ReadsWhen past now

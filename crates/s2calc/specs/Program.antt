@@ -1,5 +1,5 @@
 -- What the program's own calls answer.
-use Rattle.std.specs.Prelude.{◌≡◌, ◌≢◌, ◌⊎◌, ◌≤◌, ℕ, zero, suc, Bool, true, false, not, List, Option, None, Some}
+use Rattle.std.specs.Prelude.{◌≡◌, ◌≤◌, ℕ, zero, suc, Bool, true, false, not, List, Option, None, Some}
 use Rattle.std.specs.Prelude.{Result, Ok, Err, MatchResult}
 use Rattle.std.specs.Io.KnownBytes.{Appends}
 use Rattle.s2script.specs.declared.refusal.Refusal.TheVariants.{Cell as NoCell}
@@ -13,8 +13,6 @@ use Rattle.s2calc.specs.declared.task.Job.{Job}
 use Rattle.s2calc.specs.declared.task.Job.TheVariants.{Run, Cell, Check, Draw, Overlay, DrawCells}
 use Rattle.s2calc.specs.declared.task.Stop.{Stop}
 use Rattle.s2calc.specs.declared.task.Stop.TheVariants.{Help, Usage, Memory as NoMemory}
-use Rattle.clap.specs.declared.error.kind.ErrorKind.{ErrorKind}
-use Rattle.clap.specs.declared.error.kind.ErrorKind.TheVariants.{DisplayHelp, DisplayVersion}
 use Rattle.s2calc.specs.Output.{AppendsUnflushed}
 use Rattle.s2calc.specs.Replies.{Reply, Says, Refuses, text_of, is_refusal}
 use Rattle.s2calc.specs.Texts.{cell_line}
@@ -58,12 +56,6 @@ abbrev pub status_of_stop : Stop → ℕ
 status_of_stop (Help text) = 0
 status_of_stop (Usage text) = 2
 status_of_stop NoMemory = 3
-
--- what clap's error of this kind stops the program with, where there is memory for its text
-abbrev pub IsStopOf : ErrorKind → Stop → Type 0
-IsStopOf kind (Help text) = (kind ≡ DisplayHelp) ⊎ (kind ≡ DisplayVersion)
-IsStopOf kind (Usage text) = (kind ≢ DisplayHelp) × (kind ≢ DisplayVersion)
-IsStopOf kind NoMemory = Unit {0}
 
 -- the limit and the depth of a run are in range
 abbrev pub IsInRange : Job → Type 0

@@ -9,7 +9,7 @@ ghost use Rattle.s2calc.specs.Output.{AppendsPart};
 ghost use Rattle.s2calc.specs.Calls.{NoneFailed, LastFailed};
 ghost use Rattle.s2calc.specs.Refusals.{name_of};
 ghost use Rattle.s2calc.specs.Replies.{text_of};
-ghost use Rattle.s2calc.specs.Answer.{reply_of, told};
+ghost use Rattle.s2calc.specs.Working.Answer.{reply_of, told};
 ghost use Rattle.s2calc.specs.Texts.{cell_line, square_line, ok_line, count_line, history_line, done_line, token_line};
 ghost use Rattle.s2calc.specs.Texts.{listing};
 

@@ -26,7 +26,8 @@ pub struct AnswerBuffer<W> {
 
 impl<W> Model for AnswerBuffer<W> {
     ghost use Rattle.std.specs.Prelude.{◌≤◌, vec_len, vec_capacity};
-    ghost use Rattle.s2calc.specs.Buffered.{Buffered, buffered_code};
+    ghost use Rattle.s2calc.specs.Buffered.{Buffered};
+    ghost use Rattle.s2calc.specs.Working.Buffered.{buffered_code};
     ghost use Rattle.s2calc.specs.declared.limits.TheConstants.{MOST_WAITING};
 
     ghost Value = { Buffered W };

@@ -1,7 +1,8 @@
 //! The answer about a file.
 ghost use Rattle.std.specs.Prelude.{OnOk, OnErr};
 ghost use Rattle.s2calc.specs.Calls.{LastFlushed, LastFailed};
-ghost use Rattle.s2calc.specs.Check.{Checks, ChecksFile, ChecksAndTells, check_reply};
+ghost use Rattle.s2calc.specs.Check.{Checks, ChecksFile, ChecksAndTells};
+ghost use Rattle.s2calc.specs.Working.Check.{check_reply};
 
 use crate::answer::count_line;
 use crate::fault::RunFault;

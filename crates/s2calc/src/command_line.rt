@@ -1,7 +1,8 @@
 //! The command line.
 ghost use Rattle.std.specs.Prelude.{◌≤◌, ◌↔◌, IsTrue, IfOk, IfSome};
 ghost use Rattle.clap.specs.Values.{kind_of};
-ghost use Rattle.s2calc.specs.Program.{IsInRange, IsStopOf};
+ghost use Rattle.s2calc.specs.Program.{IsInRange};
+ghost use Rattle.s2calc.specs.Working.Program.{IsStopOf};
 
 use crate::help::{ABOUT, AFTER, PICTURE};
 use crate::task::{Job, Stop};

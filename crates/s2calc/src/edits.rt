@@ -5,8 +5,9 @@ ghost use Rattle.s2list.specs.Sets.{either, shared, without};
 ghost use Rattle.s2cover.specs.Rectangles.{rect_set};
 ghost use Rattle.s2cover.specs.Coverings.{outer_set, inner_set};
 ghost use Rattle.s2edit.specs.History.{undone, redone, sets};
-ghost use Rattle.s2calc.specs.Answer.{reply_of};
-ghost use Rattle.s2calc.specs.Edits.{new_set, leaves_of, no_leaf, within, Makes, Gets, Moves};
+ghost use Rattle.s2calc.specs.Working.Answer.{reply_of};
+ghost use Rattle.s2calc.specs.Edits.{new_set, leaves_of, no_leaf, within, Gets, Moves};
+ghost use Rattle.s2calc.specs.Working.Edits.{Makes};
 
 use crate::answer::Answer;
 use crate::refusal::Refusal;

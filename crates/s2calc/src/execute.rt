@@ -1,8 +1,8 @@
 //! Carrying out a line.
 ghost use Rattle.std.specs.Prelude.{◌≡◌, true, OnOk, OnErr, IfErr};
 ghost use Rattle.s2calc.specs.Calls.{NoneFailed, LastFailed};
-ghost use Rattle.s2calc.specs.Execute.{Executes, outcome_of};
-ghost use Rattle.s2calc.specs.Answer.{reply_of};
+ghost use Rattle.s2calc.specs.Working.Execute.{Executes, outcome_of};
+ghost use Rattle.s2calc.specs.Working.Answer.{reply_of};
 ghost use Rattle.s2calc.specs.Step.{StepBy, Acts, uses_file, asks_for_file};
 ghost use Rattle.s2calc.specs.World.{world};
 

@@ -1,5 +1,5 @@
 //! Registers and files.
-ghost use Rattle.s2calc.specs.Answer.{reply_of};
+ghost use Rattle.s2calc.specs.Working.Answer.{reply_of};
 ghost use Rattle.s2calc.specs.Step.{Loads, Saves};
 ghost use Rattle.s2calc.specs.World.{world};
 

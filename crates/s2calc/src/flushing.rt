@@ -3,7 +3,7 @@ ghost use Rattle.std.specs.Prelude.{◌≡◌, true, [], OnOk, OnErr, IfErr};
 ghost use Rattle.std.specs.Io.KnownBytes.{Keeps};
 ghost use Rattle.s2calc.specs.Buffered.{written_to};
 ghost use Rattle.s2calc.specs.Calls.{NoneFailed, LastFlushed, LastFailed};
-ghost use Rattle.s2calc.specs.Seen.{Settled};
+ghost use Rattle.s2calc.specs.Working.Seen.{Settled};
 
 use crate::answer_buffer::AnswerBuffer;
 use crate::fault::RunFault;

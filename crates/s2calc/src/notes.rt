@@ -3,7 +3,7 @@ ghost use Rattle.std.specs.Prelude.{◌≡◌, false, IfOk, [], ◌∷◌, ◌++
 ghost use Rattle.std.specs.Fmt.{WritesOnOk};
 ghost use Rattle.s2script.specs.Line.{misfit_of};
 ghost use Rattle.s2calc.specs.Replies.{Reply};
-ghost use Rattle.s2calc.specs.Execute.{IsOutcome};
+ghost use Rattle.s2calc.specs.Working.Execute.{IsOutcome};
 ghost use Rattle.s2calc.specs.Notes.{WritesNotes, note_of, note_text, reason_of, misfit_reason};
 ghost use Rattle.s2calc.specs.Noting.{noted_by};
 
@@ -104,7 +104,8 @@ pub struct NoteWriter<W> {
 }
 
 impl<W> Model for NoteWriter<W> {
-    ghost use Rattle.s2calc.specs.Noting.{Noting, noting_code};
+    ghost use Rattle.s2calc.specs.Noting.{Noting};
+    ghost use Rattle.s2calc.specs.Working.Noting.{noting_code};
 
     ghost Value = { Noting W };
 

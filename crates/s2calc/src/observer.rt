@@ -4,7 +4,7 @@ ghost use Rattle.std.specs.Io.{ReadsAtMost};
 ghost use Rattle.std.specs.Io.KnownBytes.{ReadConsumes, Keeps};
 ghost use Rattle.std.specs.Prelude.{[], ◌∷◌};
 ghost use Rattle.s2calc.specs.Calls.{Gains, NoneFailed, LastFailed, what_came};
-ghost use Rattle.s2calc.specs.Seen.{Settled};
+ghost use Rattle.s2calc.specs.Working.Seen.{Settled};
 ghost use Rattle.s2calc.specs.Moments.{Moment, LineBegins, LineEnds, read_event, AddsOne};
 
 use crate::fault::RunFault;

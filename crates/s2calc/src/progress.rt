@@ -1,7 +1,7 @@
 //! How far a run has come.
 ghost use Rattle.std.specs.Prelude.{◌≡◌, ◌+◌, List, [], ◌∷◌, ◌++◌};
 ghost use Rattle.s2calc.specs.Replies.{Reply, tally_of};
-ghost use Rattle.s2calc.specs.Execute.{IsOutcome};
+ghost use Rattle.s2calc.specs.Working.Execute.{IsOutcome};
 ghost use Rattle.s2calc.specs.Notes.{number_of};
 
 use crate::engine::Tally;

@@ -1,5 +1,5 @@
 //! Questions about cells and registers.
-ghost use Rattle.s2calc.specs.Answer.{reply_of};
+ghost use Rattle.s2calc.specs.Working.Answer.{reply_of};
 ghost use Rattle.s2calc.specs.Questions.{Answers};
 ghost use Rattle.s2script.specs.declared.command.Comparison.TheVariants.{Covers, Meets};
 ghost use Rattle.s2script.specs.declared.command.Question.TheVariants.{At, Square as OfSquare, Count, Has, Touches};

@@ -3,7 +3,7 @@ ghost use Rattle.std.specs.Prelude.{◌≡◌, List, ℕ, Some, Ok, Err, IfOk, O
 ghost use Rattle.s2file.specs.Session.{content_of, IsContent, Spells};
 ghost use Rattle.s2edit.specs.History.{History};
 ghost use Rattle.s2shelf.specs.Shelf.{Opens};
-ghost use Rattle.s2calc.specs.Answer.{reply_of};
+ghost use Rattle.s2calc.specs.Working.Answer.{reply_of};
 ghost use Rattle.s2calc.specs.Fetch.{Fetches};
 ghost use Rattle.s2calc.specs.Sessions.{TakesOver, RefusesBytes, FetchesNoState};
 ghost use Rattle.s2calc.specs.Step.{Dumps, Restores};

@@ -3,9 +3,9 @@ use Rattle.s2calc.specs.World.{world}
 use Rattle.s2calc.specs.Replies.{Reply}
 use Rattle.s2calc.specs.Calls.{NoneFailed}
 use Rattle.s2calc.specs.Explained.{Point, point}
-use Rattle.s2calc.specs.Stands.{Stands, StandsAfter}
+use Rattle.s2calc.specs.Working.Stands.{Stands, StandsAfter}
 use Rattle.s2calc.specs.Moments.{Adds}
-use Rattle.s2calc.specs.Seen.{MoreSeen}
+use Rattle.s2calc.specs.Working.Seen.{MoreSeen}
 use Rattle.s2calc.proofs.engine.take_in.Given as goal
 
 -- what was seen of the chunk is taken in, no call failed, and the lines that end in it were observed

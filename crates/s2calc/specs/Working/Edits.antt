@@ -1,0 +1,17 @@
+-- What only private contracts need, beside Edits.antt, which has what public contracts need.
+use Rattle.std.specs.Prelude.{◌≡◌, ℕ, ◌⊎◌, Bool}
+use Rattle.std.specs.Prelude.{Result, MatchResult}
+use Rattle.s2list.specs.Union.{IsNormalForm}
+use Rattle.s2list.specs.Union as U
+use Rattle.s2script.specs.declared.command.RegisterEdit.TheVariants.{Union}
+use Rattle.s2calc.specs.declared.refusal.Refusal.{Refusal}
+use Rattle.s2calc.specs.declared.refusal.Refusal.TheVariants.{TooMany, Memory}
+use Rattle.s2calc.specs.Edits.{IsTooLong}
+
+-- why the normal form of S is not made: it has too many cells, or there is no memory
+abbrev pub Fails : (ℕ → Bool) → ℕ → Refusal → Type 0
+Fails S limit refusal = ((refusal ≡ TooMany) × IsTooLong S limit) ⊎ (refusal ≡ Memory)
+
+-- the normal form of S, or why it is not made
+abbrev pub Makes : (ℕ → Bool) → ℕ → Result U.Union Refusal → Type 0
+Makes S limit result = MatchResult result (λ u. IsNormalForm S u.cells) (Fails S limit)
