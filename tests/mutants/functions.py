@@ -27,7 +27,7 @@ from mutant_texts import FUNCTION, functions_of, make
 sys.path.insert(0, str(Path(__file__).resolve().parents[2] / "tools"))
 from over_gate import TOP, crate_of, has_libraries, words_of_check  # noqa: E402
 
-BUDGET = 8 * 60
+BUDGET = 60
 AT_ONCE = 12
 ENDED = re.compile(r"^only=\d+ proved=\d+$")
 OPEN = re.compile(r"^fn \S+: (?:not proved|no proof)\b")
