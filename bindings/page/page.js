@@ -1,0 +1,417 @@
+"use strict";
+// The page: what stands in it, and what keys, pointers and files do. Names and texts of others are shown as text alone.
+
+const COLORS = [[31, 119, 180], [214, 39, 40], [44, 160, 44], [148, 103, 189], [255, 127, 14], [23, 190, 207],
+  [227, 119, 194], [140, 86, 75]];
+const MOST_CELLS = 8_000_000;
+const at = (id) => document.getElementById(id);
+
+/** An element with a text and attributes. */
+function element(kind, text = "", attributes = {}) {
+  const made = document.createElement(kind);
+  made.textContent = text;
+  for (const [name, value] of Object.entries(attributes)) made.setAttribute(name, value);
+  return made;
+}
+
+/** Bytes from base64. */
+const unpacked = (text) => Uint8Array.from(atob(text), (letter) => letter.charCodeAt(0));
+
+class Page {
+  constructor(core) {
+    this.core = core;
+    this.view = new View(at("picture"));
+    this.regions = [];
+    this.past = [];
+    this.future = [];
+    this.made = 0;
+    this.listen();
+    this.resize();
+    this.show();
+    this.say("Drop union files on the page, or add the sample.");
+  }
+
+  say(text) {
+    at("status").textContent = text;
+  }
+
+  /** Does something that may be refused; a refusal is said by its name, and nothing is changed. */
+  attempt(what, action) {
+    try {
+      action();
+    } catch (error) {
+      const where = error.status === -3 && error.place ? ` at place ${error.place}` : "";
+      this.say(`${what}: refused: ${error.message}${where}`);
+    }
+  }
+
+  // ---- the unions and their history
+
+  /** Adds a list of cells under a name. One that is cut is no union, and its union is what operations take. */
+  add(name, ids, isCut = false) {
+    if (ids.length > MOST_CELLS) throw new Error("too many cells for the page");
+    const union = isCut ? this.core.normalise(ids) : ids;
+    if (!this.core.isUnion(union)) throw new Refusal(-4, 0);
+    const region = {
+      name, ids, union, color: COLORS[this.made++ % COLORS.length], isShown: true,
+      leaves: this.core.leafCount(union), drawn: new Drawn(this.core, ids),
+    };
+    this.change([...this.regions, region]);
+    this.say(`${name}: ${describe(region)}.`);
+  }
+
+  change(regions) {
+    this.past.push(this.regions);
+    this.future = [];
+    this.take(regions);
+  }
+
+  take(regions) {
+    this.regions = regions;
+    this.core.keep([...new Set(regions.map((region) => region.union))]);
+    this.show();
+  }
+
+  step(from, to, word) {
+    if (!from.length) return this.say(`Nothing to ${word}.`);
+    to.push(this.regions);
+    this.take(from.pop());
+    this.say(`${word}: ${this.regions.length} unions.`);
+  }
+
+  undo() {
+    this.step(this.past, this.future, "undo");
+  }
+
+  redo() {
+    this.step(this.future, this.past, "redo");
+  }
+
+  chosen(id) {
+    const region = this.regions[at(id).selectedIndex];
+    if (!region) throw new Error("no union is chosen");
+    return region;
+  }
+
+  /** Adds the result of an operation on the chosen unions. */
+  compute(word, operation) {
+    this.attempt(word, () => {
+      const begun = performance.now();
+      const [name, ids, isCut] = operation();
+      const took = performance.now() - begun;
+      this.add(name, ids, isCut);
+      this.say(`${at("status").textContent} Computed in ${took.toFixed(1)} ms.`);
+    });
+  }
+
+  ofTwo(word, call) {
+    this.compute(word, () => {
+      const [a, b] = [this.chosen("first"), this.chosen("second")];
+      return [`${a.name} ${word} ${b.name}`, this.core[call](a.union, b.union)];
+    });
+  }
+
+  ofLevel(word, call) {
+    this.compute(word, () => {
+      const [a, level] = [this.chosen("first"), numberIn("level", 0, 30)];
+      return [`${word} ${level} of ${a.name}`, this.core[call](a.union, level)];
+    });
+  }
+
+  denormalise() {
+    this.compute("denormalized", () => {
+      const [a, level, modulus] = [this.chosen("first"), numberIn("level", 0, 30), numberIn("modulus", 1, 3)];
+      const count = this.core.denormalisedCount(a.union, level, modulus);
+      if (count > BigInt(MOST_CELLS)) throw new Error(`${count} cells are too many for the page`);
+      return [`denormalized ${level}/${modulus} of ${a.name}`, this.core.denormalised(a.union, level, modulus), true];
+    });
+  }
+
+  // ---- files
+
+  async open(files) {
+    for (const file of files) {
+      const bytes = new Uint8Array(await file.arrayBuffer());
+      this.attempt(file.name, () => this.add(file.name, this.core.decode(bytes)));
+    }
+  }
+
+  addTexts() {
+    this.attempt("texts", () => {
+      const ids = this.core.read(at("texts").value);
+      if (!ids.length) throw new Error("there is no cell");
+      this.add(`cells ${this.made + 1}`, ids);
+      at("texts").value = "";
+    });
+  }
+
+  save(region, bytes, ending) {
+    const link = element("a", "", {download: region.name.replace(/[^\w.-]+/g, "_") + ending});
+    link.href = URL.createObjectURL(new Blob([bytes]));
+    link.click();
+    URL.revokeObjectURL(link.href);
+    this.say(`${region.name}: saved.`);
+  }
+
+  // ---- what stands in the page
+
+  show() {
+    at("legend").replaceChildren(...this.regions.map((region) => this.entry(region)));
+    if (!this.regions.length) at("legend").append(element("li", "none yet"));
+    for (const [id, last] of [["first", 2], ["second", 1]]) {
+      at(id).replaceChildren(...this.regions.map((region) => element("option", region.name)));
+      at(id).selectedIndex = Math.max(Math.min(0, this.regions.length - 1), this.regions.length - last);
+    }
+    at("undo").disabled = !this.past.length;
+    at("redo").disabled = !this.future.length;
+    this.view.layers = this.regions;
+    this.draw();
+  }
+
+  /** The line of the legend of a union. */
+  entry(region) {
+    const line = element("li");
+    const shown = element("input", "", {type: "checkbox", "aria-label": `show ${region.name}`});
+    shown.checked = region.isShown;
+    shown.onchange = () => {
+      region.isShown = shown.checked;
+      this.draw();
+    };
+    const swatch = element("span", "", {class: "swatch"});
+    swatch.style.background = `rgb(${region.color})`;
+    const button = (text, action) => {
+      const made = element("button", text, {type: "button", "aria-label": `${text} ${region.name}`});
+      made.onclick = action;
+      return made;
+    };
+    line.append(shown, swatch, element("span", region.name, {class: "name"}), element("span", describe(region)),
+      button("save", () => this.save(region, this.core.encode(region.ids), ".cells")),
+      button("tokens", () => this.save(region, this.core.tokens(region.ids), ".txt")),
+      button("remove", () => this.change(this.regions.filter((other) => other !== region))));
+    return line;
+  }
+
+  draw(step = 1) {
+    this.step_ = Math.min(this.step_ ?? step, step);
+    this.frame ??= requestAnimationFrame(() => {
+      this.frame = undefined;
+      this.view.draw(this.step_);
+      this.step_ = undefined;
+    });
+  }
+
+  /** Draws coarsely at once, and finely when nothing has moved for a moment. */
+  moved() {
+    clearTimeout(this.resting);
+    this.resting = setTimeout(() => this.draw(), 120);
+    this.draw(2);
+  }
+
+  resize() {
+    const ratio = window.devicePixelRatio || 1;
+    const isFirst = !this.view.isPlaced;
+    this.view.canvas.width = Math.max(1, Math.round(this.view.canvas.clientWidth * ratio));
+    this.view.canvas.height = Math.max(1, Math.round(this.view.canvas.clientHeight * ratio));
+    if (isFirst) this.fitBoth();
+    this.paint();
+  }
+
+  fitBoth() {
+    for (const kind of ["map", "faces"]) {
+      this.view.kind = kind;
+      this.view.fit();
+    }
+    this.view.isPlaced = true;
+  }
+
+  /** Takes the colors of the theme. */
+  paint() {
+    const isDark = getComputedStyle(document.documentElement).getPropertyValue("--ground").trim() !== "#fff";
+    this.view.colors = isDark
+      ? {ground: [13, 17, 23], face: [38, 44, 54], line: "#6e7681", text: "#e6edf3", mark: "#fff"}
+      : {ground: [255, 255, 255], face: [234, 238, 242], line: "#8c959f", text: "#1f2328", mark: "#000"};
+    this.draw();
+  }
+
+  turnTheme() {
+    const isDark = this.view.colors.mark === "#fff";
+    document.documentElement.dataset.theme = isDark ? "light" : "dark";
+    this.paint();
+  }
+
+  // ---- the cell under the pointer
+
+  /** The cell at a pixel: that of the topmost union that contains the leaf there, else one about 24 pixels wide. */
+  cellAt(px, py) {
+    const place = this.view.leafAt(px, py);
+    if (!place) return 0n;
+    const leaf = this.core.leafAt(...place);
+    for (const region of this.regions.filter((it) => it.isShown).reverse()) {
+      const found = this.core.holder(region.union, leaf);
+      if (found) return found;
+    }
+    const level = Math.round(Math.log2(this.view.pixelsOf(0) / 24));
+    return this.core.parent(leaf, Math.max(0, Math.min(30, level)));
+  }
+
+  /** What is known of a cell, in pairs of a word and a text. */
+  facts(id) {
+    const {face, i, j, size} = this.core.square(id);
+    const [longitude, latitude] = geographic(face, (i + size / 2) / SIDE, (j + size / 2) / SIDE);
+    const told = (region) => this.core.contains(region.union, id) ? "contains it"
+      : this.core.intersects(region.union, id) ? "shares a part of it" : "has none of it";
+    return [
+      ["token", this.core.token(id)], ["debug text", this.core.debug(id)], ["level", `${this.core.level(id)}`],
+      ["leaves", `${this.core.size(id)}`], ["square", `face ${face}, i ${i}, j ${j}, side ${size}`],
+      ["middle", `${longitude.toFixed(7)}° east, ${latitude.toFixed(7)}° north`],
+      ...this.regions.map((region) => [region.name, told(region)]),
+    ];
+  }
+
+  point(px, py) {
+    const id = this.cellAt(px, py);
+    this.view.marked = id ? this.core.square(id) : null;
+    const facts = id ? this.facts(id) : [];
+    at("cell").replaceChildren(...facts.flatMap(([word, text]) => [element("dt", word), element("dd", text)]));
+    return facts;
+  }
+
+  // ---- keys, pointers and buttons
+
+  listen() {
+    const buttons = {
+      add: () => this.addTexts(), undo: () => this.undo(), redo: () => this.redo(),
+      sample: () => this.attempt("sample", () => this.add("land", this.core.decode(unpacked(SAMPLE)))),
+      union: () => this.ofTwo("or", "union"), intersection: () => this.ofTwo("and", "intersection"),
+      difference: () => this.ofTwo("without", "difference"), outer: () => this.ofLevel("outer", "outer"),
+      inner: () => this.ofLevel("inner", "inner"), denormalise: () => this.denormalise(),
+      in: () => this.zoomBy(2), out: () => this.zoomBy(0.5), fit: () => this.showAll(), theme: () => this.turnTheme(),
+    };
+    for (const [id, action] of Object.entries(buttons)) at(id).onclick = action;
+    at("files").onchange = () => this.open(at("files").files).then(() => (at("files").value = ""));
+    for (const radio of document.getElementsByName("kind")) {
+      radio.onchange = () => {
+        this.view.kind = radio.value;
+        this.draw();
+      };
+    }
+    window.addEventListener("resize", () => this.resize());
+    matchMedia("(prefers-color-scheme: dark)").addEventListener("change", () => this.paint());
+    document.addEventListener("keydown", (event) => this.shortcut(event));
+    this.listenToDrops();
+    this.listenToPointers();
+    at("picture").addEventListener("keydown", (event) => this.key(event));
+  }
+
+  listenToDrops() {
+    const body = document.body;
+    const set = (event, isOver) => {
+      event.preventDefault();
+      body.classList.toggle("dropping", isOver);
+    };
+    body.addEventListener("dragover", (event) => set(event, true));
+    body.addEventListener("dragleave", (event) => set(event, false));
+    body.addEventListener("drop", (event) => {
+      set(event, false);
+      this.open(event.dataTransfer.files);
+    });
+  }
+
+  listenToPointers() {
+    const canvas = at("picture");
+    const down = new Map();
+    const place = (event) => {
+      const ratio = canvas.width / canvas.clientWidth;
+      return [event.offsetX * ratio, event.offsetY * ratio];
+    };
+    canvas.addEventListener("pointerdown", (event) => {
+      canvas.setPointerCapture(event.pointerId);
+      down.set(event.pointerId, place(event));
+    });
+    for (const end of ["pointerup", "pointercancel"]) {
+      canvas.addEventListener(end, (event) => down.delete(event.pointerId));
+    }
+    canvas.addEventListener("pointermove", (event) => {
+      const now = place(event);
+      if (down.has(event.pointerId)) this.drag(down, event.pointerId, now);
+      else {
+        this.point(...now);
+        this.draw();
+      }
+    });
+    canvas.addEventListener("wheel", (event) => {
+      event.preventDefault();
+      this.view.zoom(Math.exp(-event.deltaY / 400), ...place(event));
+      this.moved();
+    }, {passive: false});
+  }
+
+  /** Moves by one finger, or zooms by two. */
+  drag(down, id, now) {
+    const before = down.get(id);
+    const other = [...down].find(([key]) => key !== id)?.[1];
+    down.set(id, now);
+    if (other) {
+      const distance = ([x, y]) => Math.max(1, Math.hypot(x - other[0], y - other[1]));
+      this.view.zoom(distance(now) / distance(before), ...other);
+    } else {
+      this.view.move(now[0] - before[0], now[1] - before[1]);
+    }
+    this.moved();
+  }
+
+  zoomBy(factor) {
+    this.view.zoom(factor, this.view.canvas.width / 2, this.view.canvas.height / 2);
+    this.moved();
+  }
+
+  showAll() {
+    this.view.fit();
+    this.moved();
+  }
+
+  shortcut(event) {
+    if (!(event.ctrlKey || event.metaKey) || event.target.matches("textarea, input")) return;
+    const key = event.key.toLowerCase();
+    if (key === "z" && !event.shiftKey) this.undo();
+    else if (key === "y" || (key === "z" && event.shiftKey)) this.redo();
+    else return;
+    event.preventDefault();
+  }
+
+  key(event) {
+    const moves = {ArrowLeft: [60, 0], ArrowRight: [-60, 0], ArrowUp: [0, 60], ArrowDown: [0, -60]};
+    if (event.ctrlKey || event.metaKey || event.altKey) return;
+    if (event.key in moves) this.view.move(...moves[event.key]);
+    else if (event.key === "+" || event.key === "=") this.zoomBy(2);
+    else if (event.key === "-") this.zoomBy(0.5);
+    else if (event.key === "0") this.showAll();
+    else if (event.key === "Enter") {
+      const facts = this.point(this.view.canvas.width / 2, this.view.canvas.height / 2);
+      this.say(facts.map((pair) => pair.join(" ")).join("; ") || "There is no cell in the middle.");
+    } else return;
+    event.preventDefault();
+    this.moved();
+  }
+}
+
+function describe(region) {
+  return `${region.ids.length} ${region.ids.length === 1 ? "cell" : "cells"}, ${region.leaves} leaves`;
+}
+
+/** The whole number in a field; one out of range is refused. */
+function numberIn(id, least, most) {
+  const number = Number(at(id).value);
+  if (!Number.isInteger(number) || at(id).value === "" || number < least || number > most) throw new Refusal(-5, 0);
+  return number;
+}
+
+async function begin() {
+  try {
+    window.s2page = new Page(await Core.from(unpacked(MODULE)));
+  } catch (error) {
+    at("status").textContent = `This browser can't run the page: it needs WebAssembly with 64-bit memories. ${error.message}`;
+  }
+}
+
+begin();

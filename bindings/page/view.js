@@ -1,0 +1,294 @@
+"use strict";
+// The picture: each pixel shows the cells that share a leaf with the square of about a pixel below it. So a cell that is
+// smaller than a pixel still shows, and the time depends on the pixels and hardly on the number of cells.
+
+/** The column and row of each face of the unfolded cube, rows downward; and the faces by row and column. */
+const PLACES_OF_FACES = [[0, 2], [1, 2], [1, 1], [2, 1], [2, 0], [3, 0]];
+const FACE_AT = [[-1, -1, 4, 5], [-1, 2, 3, -1], [0, 1, -1, -1]];
+const LEAST_EDGE = 7;
+const OPACITY = 0.72;
+const MOST_SCALE = {faces: 64 * SIDE, map: 64 * SIDE / 90};
+
+/** What a list needs to be drawn: the first and the last leaf of each cell, in halves. */
+class Drawn {
+  constructor(core, ids) {
+    this.count = ids.length;
+    this.ids = new Uint32Array(ids.buffer, ids.byteOffset, 2 * ids.length);
+    this.firsts = new Uint32Array(core.rangeMins(ids).buffer);
+    this.lasts = new Uint32Array(core.rangeMaxes(ids).buffer);
+    this.row = new Int32Array(0);
+    this.forget();
+  }
+
+  forget() {
+    this.found = -1;
+    [this.fromUpper, this.fromLower, this.toUpper, this.toLower] = [1, 0, 0, 0];
+  }
+
+  /** The cell that shares a leaf with the range of leaves, or -1. Ranges come in an order that is near the last. */
+  find(upper, lower, endUpper, endLower) {
+    if (isAtLeast(upper, lower, this.fromUpper, this.fromLower)
+        && isAtLeast(this.toUpper, this.toLower, endUpper, endLower)) return this.found;
+    const k = this.firstEndingFrom(upper, lower);
+    const [firsts, lasts] = [this.firsts, this.lasts];
+    const isHit = k < this.count && isAtLeast(endUpper, endLower, firsts[2 * k + 1], firsts[2 * k]);
+    if (isHit) {
+      [this.fromUpper, this.fromLower] = [firsts[2 * k + 1], firsts[2 * k]];
+      [this.toUpper, this.toLower] = [lasts[2 * k + 1], lasts[2 * k]];
+    } else {
+      [this.fromUpper, this.fromLower] = k > 0 ? [lasts[2 * k - 1], lasts[2 * k - 2] + 1] : [0, 0];
+      [this.toUpper, this.toLower] = k < this.count ? [firsts[2 * k + 1], firsts[2 * k] - 1] : [2 ** 32, 0];
+    }
+    return (this.found = isHit ? k : -1);
+  }
+
+  /** The first cell whose last leaf is not before a leaf. */
+  firstEndingFrom(upper, lower) {
+    const lasts = this.lasts;
+    let [low, high] = [0, this.count];
+    while (low < high) {
+      const middle = (low + high) >>> 1;
+      if (isAtLeast(lasts[2 * middle + 1], lasts[2 * middle], upper, lower)) high = middle;
+      else low = middle + 1;
+    }
+    return low;
+  }
+
+  levelOf(k) {
+    const lower = this.ids[2 * k];
+    const bit = lower ? 31 - Math.clz32(lower & -lower) : 63 - Math.clz32(this.ids[2 * k + 1] & -this.ids[2 * k + 1]);
+    return 30 - (bit >> 1);
+  }
+}
+
+const isAtLeast = (upper, lower, otherUpper, otherLower) =>
+  upper > otherUpper || (upper === otherUpper && lower >= otherLower);
+
+class View {
+  constructor(canvas) {
+    this.canvas = canvas;
+    this.context = canvas.getContext("2d");
+    this.hidden = document.createElement("canvas");
+    this.kind = "faces";
+    this.at = {faces: {x: 2, y: 1.5, scale: 100}, map: {x: 0, y: 0, scale: 2}};
+    this.layers = [];
+    this.colors = {ground: [255, 255, 255], face: [240, 242, 245], line: "#888", text: "#333", mark: "#000"};
+    this.marked = null;
+  }
+
+  get place() {
+    return this.at[this.kind];
+  }
+
+  /** Shows all: the middle and the scale that fit. */
+  fit() {
+    const [width, height] = this.kind === "faces" ? [4.1, 3.2] : [364, 184];
+    const scale = Math.min(this.canvas.width / width, this.canvas.height / height);
+    Object.assign(this.place, this.kind === "faces" ? {x: 2, y: 1.5, scale} : {x: 0, y: 0, scale});
+  }
+
+  /** Moves by pixels, and zooms by a factor about a pixel. */
+  move(dx, dy) {
+    const sign = this.kind === "faces" ? 1 : -1;
+    this.place.x -= dx / this.place.scale;
+    this.place.y -= (sign * dy) / this.place.scale;
+    this.hold();
+  }
+
+  zoom(factor, px, py) {
+    const [x, y] = this.worldAt(px, py);
+    const scale = Math.max(this.canvas.width / 16, Math.min(MOST_SCALE[this.kind], this.place.scale * factor));
+    this.place.scale = this.kind === "faces" ? scale : Math.max(this.canvas.width / 1440, Math.min(MOST_SCALE.map,
+      this.place.scale * factor));
+    const [newX, newY] = this.worldAt(px, py);
+    this.place.x += x - newX;
+    this.place.y += y - newY;
+    this.hold();
+  }
+
+  hold() {
+    const [x0, x1, y0, y1] = this.kind === "faces" ? [0, 4, 0, 3] : [-180, 180, -90, 90];
+    this.place.x = Math.min(x1, Math.max(x0, this.place.x));
+    this.place.y = Math.min(y1, Math.max(y0, this.place.y));
+  }
+
+  /** The place of a pixel: columns and rows of faces, or longitude and latitude. */
+  worldAt(px, py) {
+    const {x, y, scale} = this.place;
+    const sign = this.kind === "faces" ? 1 : -1;
+    return [x + (px - this.canvas.width / 2) / scale, y + (sign * (py - this.canvas.height / 2)) / scale];
+  }
+
+  pixelAt(x, y) {
+    const sign = this.kind === "faces" ? 1 : -1;
+    return [
+      (x - this.place.x) * this.place.scale + this.canvas.width / 2,
+      sign * (y - this.place.y) * this.place.scale + this.canvas.height / 2,
+    ];
+  }
+
+  /** The face and the coordinates of the leaf at a pixel, or null. */
+  leafAt(px, py) {
+    const [x, y] = this.worldAt(px, py);
+    if (this.kind === "faces") {
+      const face = FACE_AT[Math.floor(y)]?.[Math.floor(x)] ?? -1;
+      return face < 0 ? null : [face, leafCoordinate(x - Math.floor(x)), leafCoordinate(Math.floor(y) + 1 - y)];
+    }
+    if (Math.abs(x) > 180 || Math.abs(y) > 90) return null;
+    const found = [0, 0, 0];
+    const [longitude, latitude] = [(x * Math.PI) / 180, (y * Math.PI) / 180];
+    faceOf(Math.cos(latitude) * Math.cos(longitude), Math.cos(latitude) * Math.sin(longitude), Math.sin(latitude), found);
+    return [found[0], leafCoordinate(found[1]), leafCoordinate(found[2])];
+  }
+
+  /** How many pixels wide the side of a cell of a level is, about. */
+  pixelsOf(level) {
+    return (this.place.scale * (this.kind === "faces" ? 1 : 90)) / 2 ** level;
+  }
+
+  /** Draws all, each `step` pixels of a row and a column alike. */
+  draw(step = 1) {
+    const width = Math.ceil(this.canvas.width / step);
+    const height = Math.ceil(this.canvas.height / step);
+    if (this.hidden.width !== width || this.hidden.height !== height) {
+      Object.assign(this.hidden, {width, height});
+      this.image = this.hidden.getContext("2d").createImageData(width, height);
+    }
+    for (const layer of this.layers) {
+      layer.drawn.row = new Int32Array(width).fill(-1);
+      layer.drawn.forget();
+    }
+    this.begin(step);
+    if (this.kind === "faces") this.paintFaces(step, width, height);
+    else this.paintMap(step, width, height);
+    this.hidden.getContext("2d").putImageData(this.image, 0, 0);
+    this.context.imageSmoothingEnabled = false;
+    this.context.drawImage(this.hidden, 0, 0, width * step, height * step);
+    this.drawLines();
+    this.drawMark();
+  }
+
+  begin(step) {
+    this.pixels = new Uint32Array(this.image.data.buffer);
+    this.mixed = new Map();
+    this.layersShown = this.layers.filter((layer) => layer.isShown);
+    this.edges = this.layersShown.map(({drawn}) =>
+      Uint8Array.from({length: 31}, (_, level) => this.pixelsOf(level) / step >= LEAST_EDGE));
+    const level = Math.max(0, Math.min(30, Math.floor(Math.log2(this.pixelsOf(0) / step))));
+    this.lastBits = 61 - 2 * level;
+    this.half = new Uint32Array(2);
+  }
+
+  paintFaces(step, width, height) {
+    const columns = Array.from({length: width}, (_, px) => this.worldAt((px + 0.5) * step, 0)[0]);
+    for (let py = 0; py < height; py++) {
+      const y = this.worldAt(0, (py + 0.5) * step)[1];
+      const faces = FACE_AT[Math.floor(y)];
+      const j = leafCoordinate(Math.floor(y) + 1 - y);
+      for (let px = 0; px < width; px++) {
+        const column = Math.floor(columns[px]);
+        const face = faces?.[column] ?? -1;
+        this.paint(py * width + px, px, face, face < 0 ? 0 : leafCoordinate(columns[px] - column), j);
+      }
+    }
+  }
+
+  paintMap(step, width, height) {
+    const longitudes = Array.from({length: width}, (_, px) => this.worldAt((px + 0.5) * step, 0)[0]);
+    const cosines = longitudes.map((x) => Math.cos((x * Math.PI) / 180));
+    const sines = longitudes.map((x) => Math.sin((x * Math.PI) / 180));
+    const found = [0, 0, 0];
+    for (let py = 0; py < height; py++) {
+      const latitude = this.worldAt(0, (py + 0.5) * step)[1];
+      const [across, up] = [Math.cos((latitude * Math.PI) / 180), Math.sin((latitude * Math.PI) / 180)];
+      for (let px = 0; px < width; px++) {
+        const isOutside = Math.abs(latitude) > 90 || Math.abs(longitudes[px]) > 180;
+        if (!isOutside) faceOf(across * cosines[px], across * sines[px], up, found);
+        this.paint(py * width + px, px, isOutside ? -1 : found[0], leafCoordinate(found[1]), leafCoordinate(found[2]));
+      }
+    }
+  }
+
+  /** Paints one pixel, below which the leaf at a place of a face is; there is none on face -1. */
+  paint(at, px, face, i, j) {
+    let mask = 0;
+    if (face >= 0) {
+      leafHalves(face, i, j, this.half);
+      const bits = this.lastBits;
+      const upper = bits >= 32 ? (this.half[1] >>> (bits - 32) << (bits - 32)) >>> 0 : this.half[1];
+      const lower = bits >= 32 ? 0 : (this.half[0] >>> bits << bits) >>> 0;
+      const endUpper = bits >= 32 ? upper + 2 ** (bits - 32) - 1 : upper;
+      const endLower = bits >= 32 ? 2 ** 32 - 1 : lower + 2 ** bits - 1;
+      mask = 1;
+      for (let k = 0; k < this.layersShown.length; k++) {
+        const {drawn} = this.layersShown[k];
+        const cell = drawn.find(upper, lower, endUpper, endLower);
+        const isEdge = (drawn.row[px] !== cell || (px > 0 && drawn.row[px - 1] !== cell))
+          && cell >= 0 && this.edges[k][drawn.levelOf(cell)];
+        drawn.row[px] = cell;
+        mask = mask * 3 + (cell < 0 ? 0 : isEdge ? 2 : 1);
+      }
+    }
+    this.pixels[at] = this.mixed.get(mask) ?? this.mix(mask);
+  }
+
+  /** The color of a pixel: over the ground, each layer that has a cell there. */
+  mix(mask) {
+    let color = mask === 0 ? this.colors.ground : this.colors.face;
+    const digits = mask.toString(3).slice(1);
+    this.layersShown.forEach((layer, k) => {
+      const own = layer.color.map((part) => (digits[k] === "2" ? part * 0.6 : part));
+      if (digits[k] > "0") color = color.map((part, c) => part + (own[c] - part) * OPACITY);
+    });
+    const word = ((255 << 24) | (color[2] << 16) | (color[1] << 8) | color[0]) >>> 0;
+    this.mixed.set(mask, word);
+    return word;
+  }
+
+  drawLines() {
+    const context = this.context;
+    context.strokeStyle = this.colors.line;
+    context.fillStyle = this.colors.text;
+    context.lineWidth = 1;
+    context.font = `${12 * (window.devicePixelRatio || 1)}px sans-serif`;
+    if (this.kind === "faces") {
+      PLACES_OF_FACES.forEach(([column, row], face) => {
+        const [x, y] = this.pixelAt(column, row);
+        context.strokeRect(Math.round(x) + 0.5, Math.round(y) + 0.5, this.place.scale, this.place.scale);
+        context.fillText(`face ${face}`, x + 5, y + 16 * (window.devicePixelRatio || 1));
+      });
+      return;
+    }
+    for (let x = -180; x <= 180; x += 30) this.line([[x, -90], [x, 90]]);
+    for (let y = -90; y <= 90; y += 30) this.line([[-180, y], [180, y]]);
+  }
+
+  line(points) {
+    this.context.beginPath();
+    let last = null;
+    for (const [x, y] of points) {
+      const isJump = last !== null && Math.abs(x - last) > 180;
+      this.context[last === null || isJump ? "moveTo" : "lineTo"](...this.pixelAt(x, y));
+      last = x;
+    }
+    this.context.stroke();
+  }
+
+  /** Draws the outline of the marked square: its face, least coordinates and side, in leaves. */
+  drawMark() {
+    if (!this.marked) return;
+    const {face, i, j, size} = this.marked;
+    const corner = (a, b) => {
+      const [s, t] = [(i + a * size) / SIDE, (j + b * size) / SIDE];
+      if (this.kind === "map") return geographic(face, s, t);
+      const [column, row] = PLACES_OF_FACES[face];
+      return [column + s, row + 1 - t];
+    };
+    const side = Array.from({length: 17}, (_, k) => k / 16);
+    const points = [...side.map((a) => corner(a, 0)), ...side.map((b) => corner(1, b)),
+      ...side.map((a) => corner(1 - a, 1)), ...side.map((b) => corner(0, 1 - b))];
+    this.context.strokeStyle = this.colors.mark;
+    this.context.lineWidth = 2;
+    this.line(points);
+  }
+}

@@ -1,0 +1,328 @@
+"""Drives the page in Chromium and compares what it answers with the library, by its module for Python:
+
+    browser.py FOLDER [--figures] [--pictures] [--save PNG]
+
+FOLDER has the page that tools/page made. The last line is 'N passed, M failed'.
+"""
+import base64
+import random
+import struct
+import sys
+import tempfile
+import time
+import traceback
+from pathlib import Path
+
+from s2union import Union, debug, from_face_ij, level, parent, token
+from selenium import webdriver
+from selenium.webdriver.common.by import By
+from selenium.webdriver.common.keys import Keys
+
+HERE = Path(__file__).resolve().parent
+SIDE = 2**30
+FAULTS = {
+    "short": (b"\1\3\0\0", "bytes are missing"),
+    "other version": (b"\2" + bytes(8), "unknown version"),
+    "trailing": (b"\1" + bytes(9), "bytes after the last cell"),
+    "no cell": (b"\1" + struct.pack("<QQ", 1, 2), "a number that is not a cell"),
+}
+
+
+def browser(downloads):
+    options = webdriver.ChromeOptions()
+    for word in ("--headless=new", "--no-sandbox", "--window-size=1280,800", "--force-device-scale-factor=1",
+                 "--disable-dev-shm-usage"):
+        options.add_argument(word)
+    options.add_experimental_option("prefs", {"download.default_directory": str(downloads)})
+    options.set_capability("goog:loggingPrefs", {"browser": "ALL"})
+    made = webdriver.Chrome(options=options)
+    made.set_script_timeout(300)
+    return made
+
+
+def random_union(choice, count, depth):
+    """A union of random cells, many of them near one another."""
+    leaves = [from_face_ij(choice.randrange(6), choice.randrange(SIDE), choice.randrange(SIDE)) for _ in range(8)]
+    cells = []
+    while len(cells) < count:
+        near = parent(choice.choice(leaves), choice.randrange(1, 8))
+        cells.append(parent(leaf_in(choice, near), choice.randrange(level(near), depth)))
+    return Union(cells)
+
+
+def leaf_in(choice, cell):
+    """A random leaf of a cell: the place of a leaf along the curve is an odd number."""
+    low = cell & -cell
+    return choice.randrange(cell - low + 1, cell + low, 2)
+
+
+class Trial:
+    """The page in a browser, and what it has to answer."""
+
+    def __init__(self, folder, driver, downloads):
+        self.folder, self.driver, self.downloads = folder, driver, downloads
+        self.choice = random.Random(52)
+        self.a, self.b = random_union(self.choice, 300, 20), random_union(self.choice, 300, 24)
+
+    def open(self):
+        self.driver.get((self.folder / "index.html").as_uri())
+        end = time.monotonic() + 30
+        while not self.run("return typeof s2page !== 'undefined'"):
+            assert time.monotonic() < end, self.status()
+            time.sleep(0.05)
+
+    def run(self, code, *arguments):
+        return self.driver.execute_script(code, *arguments)
+
+    def status(self):
+        return self.driver.find_element(By.ID, "status").text
+
+    def click(self, name):
+        self.driver.find_element(By.ID, name).click()
+
+    def drop(self, name, data):
+        """Drops a file on the page, and waits until the page says something of it."""
+        self.run("""document.getElementById('status').textContent = '';
+            const bytes = Uint8Array.from(atob(arguments[1]), (letter) => letter.charCodeAt(0));
+            const dropped = new DataTransfer();
+            dropped.items.add(new File([bytes], arguments[0]));
+            document.body.dispatchEvent(new DragEvent('drop', {dataTransfer: dropped, cancelable: true}));
+            """, name, base64.b64encode(data).decode())
+        while not self.status():
+            time.sleep(0.02)
+
+    def begin(self):
+        """The page anew, with two unions."""
+        self.open()
+        self.drop("a", self.a.to_bytes())
+        self.drop("b", self.b.to_bytes())
+
+    def count(self):
+        return self.run("return s2page.regions.length")
+
+    def last(self):
+        """The bytes of the file of the last union."""
+        return base64.b64decode(self.run("""const region = s2page.regions.at(-1);
+            return btoa(String.fromCharCode(...s2page.core.encode(region.ids)));"""))
+
+    def set(self, name, value):
+        field = self.driver.find_element(By.ID, name)
+        field.clear()
+        field.send_keys(str(value))
+
+    # ---- the tests
+
+    def test_operations(self):
+        wanted = {"union": self.a | self.b, "intersection": self.a & self.b, "difference": self.a - self.b}
+        for name, union in wanted.items():
+            self.begin()
+            self.click(name)
+            assert self.last() == union.to_bytes(), name
+            assert f"{len(union)} cell" in self.status(), self.status()
+
+    def test_coverings(self):
+        for number in (0, 3, 9, 30):
+            self.begin()
+            self.set("level", number)
+            self.run("document.getElementById('first').selectedIndex = 0")
+            self.click("outer")
+            assert self.last() == self.a.outer(number).to_bytes(), number
+            self.run("document.getElementById('first').selectedIndex = 0")
+            self.click("inner")
+            assert self.last() == self.a.inner(number).to_bytes(), number
+
+    def test_denormalised(self):
+        for least, modulus in ((0, 1), (4, 2), (1, 3)):
+            self.begin()
+            self.run("document.getElementById('first').selectedIndex = 0")
+            self.set("level", least)
+            self.set("modulus", modulus)
+            self.click("denormalise")
+            ids = self.a.denormalised(least, modulus)
+            assert self.last() == struct.pack(f"<BQ{len(ids)}Q", 1, len(ids), *ids)
+
+    def test_saving(self):
+        self.begin()
+        self.click("intersection")
+        self.driver.find_elements(By.CSS_SELECTOR, "#legend li button")[-3].click()
+        file, end = self.downloads / "a_and_b.cells", time.monotonic() + 20
+        while not file.exists():
+            assert time.monotonic() < end, list(self.downloads.iterdir())
+            time.sleep(0.05)
+        assert file.read_bytes() == (self.a & self.b).to_bytes()
+
+    def test_a_chosen_file(self):
+        self.open()
+        file = self.downloads / "chosen"
+        file.write_bytes(self.a.to_bytes())
+        self.driver.find_element(By.ID, "files").send_keys(str(file))
+        while not self.count():
+            time.sleep(0.02)
+        assert self.last() == self.a.to_bytes()
+
+    def test_other_orders(self):
+        """A file whose cells are in any order is the union of them."""
+        self.open()
+        ids = [*self.a, *self.a]
+        self.choice.shuffle(ids)
+        self.drop("shuffled", struct.pack(f"<BQ{len(ids)}Q", 1, len(ids), *ids))
+        assert self.last() == self.a.to_bytes()
+
+    def test_refusals(self):
+        self.begin()
+        for name, (data, fault) in FAULTS.items():
+            self.drop(name, data)
+            assert self.status() == f"{name}: refused: union file: {fault}", self.status()
+            assert self.count() == 2
+        self.set("level", 31)
+        self.click("outer")
+        assert "argument out of range" in self.status() and self.count() == 2
+
+    def test_texts(self):
+        self.open()
+        self.set("texts", "64c, 3/021 1")
+        self.click("add")
+        assert self.last() == Union.from_tokens("64c, 3/021 1").to_bytes()
+        self.set("texts", "64c nonsense 1")
+        self.click("add")
+        assert self.status() == "texts: refused: not a cell at place 4" and self.count() == 1, self.status()
+
+    def test_markup(self):
+        """A name with markup is shown as text."""
+        self.open()
+        name = "<img src=x onerror=document.title='bad'>"
+        self.drop(name, self.a.to_bytes())
+        assert self.driver.find_element(By.CSS_SELECTOR, "#legend .name").text == name
+        assert not self.driver.find_elements(By.TAG_NAME, "img") and "bad" not in self.driver.title
+
+    def test_history(self):
+        self.begin()
+        self.click("union")
+        self.click("undo")
+        assert self.count() == 2
+        self.click("redo")
+        assert self.last() == (self.a | self.b).to_bytes()
+        self.driver.find_element(By.ID, "picture").send_keys(Keys.CONTROL, "z")
+        assert self.count() == 2
+
+    def test_pointer(self):
+        self.begin()
+        for kind in ("faces", "map"):
+            self.run("s2page.view.kind = arguments[0]", kind)
+            for _ in range(50):
+                px, py = self.choice.randrange(900), self.choice.randrange(600)
+                facts = dict(self.run("return s2page.point(arguments[0], arguments[1])", px, py))
+                place = self.run("return s2page.view.leafAt(arguments[0], arguments[1])", px, py)
+                assert bool(facts) == bool(place)
+                if place:
+                    leaf = from_face_ij(*place)
+                    cell = parent(leaf, int(facts["level"]))
+                    assert (facts["token"], facts["debug text"]) == (token(cell), debug(cell))
+                    for name, union in (("a", self.a), ("b", self.b)):
+                        said = "contains it" if cell in union else "has none of it"
+                        if said != "contains it" and union.intersects(Union([cell])):
+                            said = "shares a part of it"
+                        assert facts[name] == said
+
+    def test_keys(self):
+        self.begin()
+        self.driver.find_element(By.ID, "picture").send_keys("++", Keys.ARROW_LEFT, "-", Keys.ENTER)
+        assert "token" in self.status() or "no cell" in self.status(), self.status()
+        assert self.driver.find_element(By.ID, "status").get_attribute("aria-live") == "polite"
+        unnamed = self.run("""return [...document.querySelectorAll('button, input, select, textarea')].filter((it) =>
+            !(it.textContent || it.getAttribute('aria-label') || it.labels?.length)).length""")
+        assert unnamed == 0, unnamed
+
+    def test_curve(self):
+        """The page's own way to a leaf, by which it draws, is that of the library."""
+        self.open()
+        places = [[self.choice.randrange(6), *(self.choice.choice([0, SIDE - 1, self.choice.randrange(SIDE)])
+                   for _ in "ij")] for _ in range(2000)]
+        found = self.run("""return arguments[0].map((place) => {
+            const half = new Uint32Array(2);
+            leafHalves(...place, half);
+            return [half[1], half[0]];
+        })""", places)
+        assert [upper << 32 | lower for upper, lower in found] == [from_face_ij(*place) for place in places]
+
+    def test_corners(self):
+        """The corners of cells are where S2 has them, to a nanodegree, and lead back to their leaf."""
+        self.open()
+        rows = [line.split() for line in (HERE / "corners.txt").read_text().splitlines()]
+        corners = [[int(word) for word in row[:3]] for row in rows]
+        found = self.run("""return arguments[0].map(([face, i, j]) => geographic(face, i / SIDE, j / SIDE))""", corners)
+        for row, (longitude, latitude) in zip(rows, found):
+            turn = (longitude - float(row[3]) + 180) % 360 - 180
+            assert abs(latitude - float(row[4])) < 1e-9, row
+            assert abs(turn) < 1e-9 or abs(latitude) > 89.999999, row
+
+    def test_pictures(self):
+        """The pixels of the cells of the sample are those of the stored pictures."""
+        for kind in ("faces", "map"):
+            stored = HERE / f"{kind}.png"
+            self.picture(kind)
+            if "--pictures" in sys.argv:
+                stored.write_bytes(base64.b64decode(self.run("return s2page.view.hidden.toDataURL()").split(",")[1]))
+            wrong = self.driver.execute_async_script("""const [url, done] = arguments;
+                const stored = new Image();
+                stored.onload = () => {
+                  const canvas = document.createElement('canvas');
+                  [canvas.width, canvas.height] = [stored.width, stored.height];
+                  canvas.getContext('2d').drawImage(stored, 0, 0);
+                  const wanted = canvas.getContext('2d').getImageData(0, 0, stored.width, stored.height).data;
+                  const found = s2page.view.image.data;
+                  done(found.length === wanted.length ? found.filter((it, k) => it !== wanted[k]).length : -1);
+                };
+                stored.src = url;""", "data:image/png;base64," + base64.b64encode(stored.read_bytes()).decode())
+            assert 0 <= wrong <= 100, (kind, wrong)
+
+    def picture(self, kind):
+        self.open()
+        self.click("sample")
+        self.run("""const view = s2page.view;
+            document.documentElement.dataset.theme = 'light';
+            s2page.paint();
+            [view.canvas.width, view.canvas.height, view.kind] = [400, 300, arguments[0]];
+            view.fit();
+            view.draw();""", kind)
+
+    def test_no_error(self):
+        """Nothing was said to the console in any test, so nothing was refused by the page's own policy."""
+        wrong = [entry for entry in self.driver.get_log("browser") if entry["level"] == "SEVERE"]
+        assert not wrong, wrong
+
+    # ---- figures
+
+    def figures(self):
+        """The times of a million cells, beside the same in BigInt."""
+        self.open()
+        self.run((HERE / "bigint.js").read_text() + "\nglobalThis.inBigInt = inBigInt;")
+        for line in self.driver.execute_async_script((HERE / "figures.js").read_text()):
+            print(f"figure: {line}")
+
+
+def main(folder):
+    passed = failed = 0
+    with tempfile.TemporaryDirectory() as room:
+        driver = browser(Path(room))
+        try:
+            trial = Trial(folder, driver, Path(room))
+            for name in [name for name in dir(trial) if name.startswith("test_") and name != "test_no_error"] + [
+                    "test_no_error"]:
+                try:
+                    getattr(trial, name)()
+                    passed += 1
+                except Exception:
+                    failed += 1
+                    print(f"FAILED {name}")
+                    traceback.print_exc(file=sys.stdout)
+            if "--figures" in sys.argv:
+                trial.figures()
+        finally:
+            driver.quit()
+    print(f"{passed} passed, {failed} failed")
+    return failed > 0
+
+
+if __name__ == "__main__":
+    sys.exit(main(Path(sys.argv[1]).resolve()))

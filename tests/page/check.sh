@@ -1,0 +1,25 @@
+#!/usr/bin/env bash
+# The page in Chromium without a screen, beside the library: tests/run page. With -- --figures it prints the figures of
+# docs/PAGE.md too, and with -- --pictures it makes the stored pictures anew. It installs the Debian packages that it
+# needs. Its last line is 'N passed, M failed'; the status is 1 if any failed.
+set -uo pipefail
+top=$(cd "$(dirname "$0")/../.." && pwd)
+work=$(mktemp -d)
+trap 'rm -rf "$work"' EXIT
+. "$top/tests/steps.sh"
+
+packages=()
+for command in chromium chromedriver; do
+  command -v "$command" >/dev/null || packages+=("${command/chromedriver/chromium-driver}")
+done
+/usr/bin/python3 -c 'import selenium' 2>/dev/null || packages+=(python3-selenium)
+need_packages
+need_library
+export PYTHONPATH=$work/usr/lib/python PYTHONDONTWRITEBYTECODE=1
+
+step "tools/page" "$top/tools/page" "$work/page" --jobs 1
+[ "$failed" -eq 0 ] || finish
+in_browser() { timeout 600 /usr/bin/python3 "$top/tests/page/browser.py" "$work/page" "$@"; }
+step "the page in Chromium" in_browser "$@"
+grep -E '^figure:' "$work/log" | sed 's/^figure:/       /'
+finish
