@@ -4,6 +4,9 @@
 const COLORS = [[31, 119, 180], [214, 39, 40], [44, 160, 44], [148, 103, 189], [255, 127, 14], [23, 190, 207],
   [227, 119, 194], [140, 86, 75]];
 const MOST_CELLS = 8_000_000;
+/** How many pixels of a row and a column are drawn alike while the picture moves. */
+const LEAST_COARSE = 2;
+const MOST_COARSE = 4;
 const at = (id) => document.getElementById(id);
 
 /** An element with a text and attributes. */
@@ -25,6 +28,7 @@ class Page {
     this.past = [];
     this.future = [];
     this.made = 0;
+    this.coarse = LEAST_COARSE;
     this.listen();
     this.resize();
     this.show();
@@ -192,11 +196,12 @@ class Page {
   }
 
   draw(step = 1) {
-    this.step_ = Math.min(this.step_ ?? step, step);
+    this.drawnStep = Math.min(this.drawnStep ?? step, step);
     this.frame ??= requestAnimationFrame(() => {
-      this.frame = undefined;
-      this.view.draw(this.step_);
-      this.step_ = undefined;
+      const begun = performance.now();
+      this.view.draw(this.drawnStep);
+      if (this.drawnStep > 1) this.adapt(performance.now() - begun);
+      this.frame = this.drawnStep = undefined;
     });
   }
 
@@ -204,7 +209,13 @@ class Page {
   moved() {
     clearTimeout(this.resting);
     this.resting = setTimeout(() => this.draw(), 120);
-    this.draw(2);
+    this.draw(this.coarse);
+  }
+
+  /** How coarse pictures in motion are, so that there are thirty of them a second. */
+  adapt(took) {
+    if (took > 30) this.coarse = Math.min(MOST_COARSE, this.coarse + 1);
+    else if (took < 10) this.coarse = Math.max(LEAST_COARSE, this.coarse - 1);
   }
 
   resize() {

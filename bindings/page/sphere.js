@@ -59,7 +59,9 @@ function geographic(face, s, t) {
 
 /** The face of a direction, and s and t there, in `out`. */
 function faceOf(x, y, z, out) {
-  const [a, b, c] = [Math.abs(x), Math.abs(y), Math.abs(z)];
+  const a = Math.abs(x);
+  const b = Math.abs(y);
+  const c = Math.abs(z);
   if (a > b && a > c) place(x > 0 ? 0 : 3, x > 0 ? y / x : z / x, x > 0 ? z / x : y / x, out);
   else if (b > c) place(y > 0 ? 1 : 4, y > 0 ? -x / y : z / y, y > 0 ? z / y : -x / y, out);
   else place(z > 0 ? 2 : 5, z > 0 ? -x / z : -y / z, z > 0 ? -y / z : -x / z, out);

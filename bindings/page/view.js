@@ -6,8 +6,10 @@
 const PLACES_OF_FACES = [[0, 2], [1, 2], [1, 1], [2, 1], [2, 0], [3, 0]];
 const FACE_AT = [[-1, -1, 4, 5], [-1, 2, 3, -1], [0, 1, -1, -1]];
 const LEAST_EDGE = 7;
+const BITS_OF_TABLE = 18;
 const OPACITY = 0.72;
-const MOST_SCALE = {faces: 64 * SIDE, map: 64 * SIDE / 90};
+/** The least scale for each pixel of the picture's width, and the greatest: a leaf is then 64 pixels wide. */
+const SCALES = {faces: [1 / 16, 64 * SIDE], map: [1 / 1440, (64 * SIDE) / 90]};
 
 /** What a list needs to be drawn: the first and the last leaf of each cell, in halves. */
 class Drawn {
@@ -16,13 +18,23 @@ class Drawn {
     this.ids = new Uint32Array(ids.buffer, ids.byteOffset, 2 * ids.length);
     this.firsts = new Uint32Array(core.rangeMins(ids).buffer);
     this.lasts = new Uint32Array(core.rangeMaxes(ids).buffer);
+    this.table = this.beginnings();
     this.row = new Int32Array(0);
     this.forget();
   }
 
   forget() {
     this.found = -1;
-    [this.fromUpper, this.fromLower, this.toUpper, this.toLower] = [1, 0, 0, 0];
+    this.fromUpper = 1; // an empty range
+    this.fromLower = this.toUpper = this.toLower = 0;
+  }
+
+  /** Where the cells begin whose last leaf has at least these upper bits: a search then takes few steps. */
+  beginnings() {
+    const table = new Uint32Array((1 << BITS_OF_TABLE) + 1).fill(this.count);
+    for (let k = this.count - 1; k >= 0; k--) table[this.lasts[2 * k + 1] >>> (32 - BITS_OF_TABLE)] = k;
+    for (let k = table.length - 2; k >= 0; k--) table[k] = Math.min(table[k], table[k + 1]);
+    return table;
   }
 
   /** The cell that shares a leaf with the range of leaves, or -1. Ranges come in an order that is near the last. */
@@ -30,22 +42,27 @@ class Drawn {
     if (isAtLeast(upper, lower, this.fromUpper, this.fromLower)
         && isAtLeast(this.toUpper, this.toLower, endUpper, endLower)) return this.found;
     const k = this.firstEndingFrom(upper, lower);
-    const [firsts, lasts] = [this.firsts, this.lasts];
-    const isHit = k < this.count && isAtLeast(endUpper, endLower, firsts[2 * k + 1], firsts[2 * k]);
-    if (isHit) {
-      [this.fromUpper, this.fromLower] = [firsts[2 * k + 1], firsts[2 * k]];
-      [this.toUpper, this.toLower] = [lasts[2 * k + 1], lasts[2 * k]];
-    } else {
-      [this.fromUpper, this.fromLower] = k > 0 ? [lasts[2 * k - 1], lasts[2 * k - 2] + 1] : [0, 0];
-      [this.toUpper, this.toLower] = k < this.count ? [firsts[2 * k + 1], firsts[2 * k] - 1] : [2 ** 32, 0];
+    const firsts = this.firsts;
+    const lasts = this.lasts;
+    if (k < this.count && isAtLeast(endUpper, endLower, firsts[2 * k + 1], firsts[2 * k])) {
+      this.fromUpper = firsts[2 * k + 1];
+      this.fromLower = firsts[2 * k];
+      this.toUpper = lasts[2 * k + 1];
+      this.toLower = lasts[2 * k];
+      return (this.found = k);
     }
-    return (this.found = isHit ? k : -1);
+    this.fromUpper = k > 0 ? lasts[2 * k - 1] : 0;
+    this.fromLower = k > 0 ? lasts[2 * k - 2] + 1 : 0;
+    this.toUpper = k < this.count ? firsts[2 * k + 1] : 2 ** 32;
+    this.toLower = k < this.count ? firsts[2 * k] - 1 : 0;
+    return (this.found = -1);
   }
 
   /** The first cell whose last leaf is not before a leaf. */
   firstEndingFrom(upper, lower) {
     const lasts = this.lasts;
-    let [low, high] = [0, this.count];
+    let low = this.table[upper >>> (32 - BITS_OF_TABLE)];
+    let high = this.table[(upper >>> (32 - BITS_OF_TABLE)) + 1];
     while (low < high) {
       const middle = (low + high) >>> 1;
       if (isAtLeast(lasts[2 * middle + 1], lasts[2 * middle], upper, lower)) high = middle;
@@ -97,9 +114,8 @@ class View {
 
   zoom(factor, px, py) {
     const [x, y] = this.worldAt(px, py);
-    const scale = Math.max(this.canvas.width / 16, Math.min(MOST_SCALE[this.kind], this.place.scale * factor));
-    this.place.scale = this.kind === "faces" ? scale : Math.max(this.canvas.width / 1440, Math.min(MOST_SCALE.map,
-      this.place.scale * factor));
+    const [least, most] = SCALES[this.kind];
+    this.place.scale = Math.max(this.canvas.width * least, Math.min(most, this.place.scale * factor));
     const [newX, newY] = this.worldAt(px, py);
     this.place.x += x - newX;
     this.place.y += y - newY;
@@ -198,11 +214,13 @@ class View {
     const cosines = longitudes.map((x) => Math.cos((x * Math.PI) / 180));
     const sines = longitudes.map((x) => Math.sin((x * Math.PI) / 180));
     const found = [0, 0, 0];
+    const isWithin = longitudes.map((x) => Math.abs(x) <= 180);
     for (let py = 0; py < height; py++) {
       const latitude = this.worldAt(0, (py + 0.5) * step)[1];
-      const [across, up] = [Math.cos((latitude * Math.PI) / 180), Math.sin((latitude * Math.PI) / 180)];
+      const across = Math.cos((latitude * Math.PI) / 180);
+      const up = Math.sin((latitude * Math.PI) / 180);
       for (let px = 0; px < width; px++) {
-        const isOutside = Math.abs(latitude) > 90 || Math.abs(longitudes[px]) > 180;
+        const isOutside = Math.abs(latitude) > 90 || !isWithin[px];
         if (!isOutside) faceOf(across * cosines[px], across * sines[px], up, found);
         this.paint(py * width + px, px, isOutside ? -1 : found[0], leafCoordinate(found[1]), leafCoordinate(found[2]));
       }
@@ -221,7 +239,7 @@ class View {
       const endLower = bits >= 32 ? 2 ** 32 - 1 : lower + 2 ** bits - 1;
       mask = 1;
       for (let k = 0; k < this.layersShown.length; k++) {
-        const {drawn} = this.layersShown[k];
+        const drawn = this.layersShown[k].drawn;
         const cell = drawn.find(upper, lower, endUpper, endLower);
         const isEdge = (drawn.row[px] !== cell || (px > 0 && drawn.row[px - 1] !== cell))
           && cell >= 0 && this.edges[k][drawn.levelOf(cell)];
@@ -260,7 +278,7 @@ class View {
       return;
     }
     for (let x = -180; x <= 180; x += 30) this.line([[x, -90], [x, 90]]);
-    for (let y = -90; y <= 90; y += 30) this.line([[-180, y], [180, y]]);
+    for (let y = -90; y <= 90; y += 30) this.line([[-180, y], [0, y], [180, y]]);
   }
 
   line(points) {
