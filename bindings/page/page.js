@@ -421,7 +421,8 @@ async function begin() {
   try {
     window.s2page = new Page(await Core.from(unpacked(MODULE)));
   } catch (error) {
-    at("status").textContent = `This browser can't run the page: it needs WebAssembly with 64-bit memories. ${error.message}`;
+    const need = "This browser can't run the page: it needs WebAssembly with 64-bit memories.";
+    at("status").textContent = `${need} ${error.message}`;
   }
 }
 

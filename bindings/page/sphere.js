@@ -1,5 +1,5 @@
 "use strict";
-// S2's projection in plain floating point, and the curve through the leaves. None of this is proved: it places pictures.
+// S2's projection in plain floating point, and the curve through the leaves. None of it is proved: it is for pictures.
 
 const SIDE = 2 ** 30;
 const SWAP = 1;

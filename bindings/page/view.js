@@ -1,6 +1,6 @@
 "use strict";
-// The picture: each pixel shows the cells that share a leaf with the square of about a pixel below it. So a cell that is
-// smaller than a pixel still shows, and the time depends on the pixels and hardly on the number of cells.
+// The picture: each pixel shows the cells that share a leaf with the square of about a pixel below it. So a cell that
+// is smaller than a pixel still shows, and the time depends on the pixels and hardly on the number of cells.
 
 /** The column and row of each face of the unfolded cube, rows downward; and the faces by row and column. */
 const PLACES_OF_FACES = [[0, 2], [1, 2], [1, 1], [2, 1], [2, 0], [3, 0]];
@@ -153,7 +153,8 @@ class View {
     if (Math.abs(x) > 180 || Math.abs(y) > 90) return null;
     const found = [0, 0, 0];
     const [longitude, latitude] = [(x * Math.PI) / 180, (y * Math.PI) / 180];
-    faceOf(Math.cos(latitude) * Math.cos(longitude), Math.cos(latitude) * Math.sin(longitude), Math.sin(latitude), found);
+    const across = Math.cos(latitude);
+    faceOf(across * Math.cos(longitude), across * Math.sin(longitude), Math.sin(latitude), found);
     return [found[0], leafCoordinate(found[1]), leafCoordinate(found[2])];
   }
 

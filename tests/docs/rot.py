@@ -22,7 +22,7 @@ HOSTS = re.compile(r"\b(?:(?:static\.)?crates[.]io|pypi[.]org|pythonhosted[.]org
 DOUBLES = 25
 WORDS = {"told": 115, "asked about": 18, "so many": 5, "refused where": 0, "exactly if": 80}
 # Files whose lines may be long: pages and tables of rows, which are not wrapped, texts of others, and what pins a line.
-UNWRAPPED = re.compile(r"\.(?:md|svg|outer|sums|edit)$|^LICENSE$|/(?:stdin|stdout)$")
+UNWRAPPED = re.compile(r"\.(?:md|svg|png|outer|cells|sums|edit)$|^LICENSE$|/(?:stdin|stdout)$")
 
 
 def tracked():

@@ -286,6 +286,55 @@ class Trial:
             view.fit();
             view.draw();""", kind)
 
+    def test_touch(self):
+        """One finger moves the picture, and two zoom it; so do the mouse and its wheel."""
+        self.begin()
+        box = self.driver.find_element(By.ID, "picture").rect
+        x, y = box["x"] + box["width"] / 2, box["y"] + box["height"] / 2
+        place = "return [s2page.view.place.x, s2page.view.place.scale]"
+        before = self.run(place)
+        self.touch("touchStart", [(x, y)])
+        self.touch("touchMove", [(x - 50, y)])
+        self.touch("touchEnd", [])
+        after = self.run(place)
+        assert abs(after[0] - before[0] - 50 / before[1]) < 1e-9 and after[1] == before[1], (before, after)
+        self.touch("touchStart", [(x - 20, y), (x + 20, y)])
+        self.touch("touchMove", [(x - 20, y), (x + 60, y)])
+        self.touch("touchEnd", [])
+        assert abs(self.run(place)[1] / after[1] - 2) < 1e-6
+        self.driver.execute_cdp_cmd("Input.dispatchMouseEvent", {"type": "mouseWheel", "x": x, "y": y, "deltaX": 0,
+                                                                 "deltaY": -100})
+        assert self.run(place)[1] > 2 * after[1]
+
+    def touch(self, kind, points):
+        self.driver.execute_cdp_cmd("Input.dispatchTouchEvent", {
+            "type": kind, "touchPoints": [{"x": x, "y": y, "id": k} for k, (x, y) in enumerate(points)]})
+
+    def test_leaves(self):
+        """A leaf is seen alone in the closest picture, and still as a dot in one of all."""
+        self.open()
+        for kind in ("faces", "map"):
+            for _ in range(10):
+                place = [self.choice.randrange(6), self.choice.randrange(SIDE), self.choice.randrange(SIDE)]
+                self.open()
+                self.drop("leaf", Union([from_face_ij(*place)]).to_bytes())
+                near, far, dots = self.run("""const [kind, face, i, j] = arguments;
+                    const view = s2page.view;
+                    view.kind = kind;
+                    view.fit();
+                    view.draw();
+                    const ground = new Set([view.mixed.get(0), view.mixed.get(3)]);
+                    const dots = view.pixels.filter((it) => !ground.has(it)).length;
+                    const [s, t] = [(i + 0.5) / SIDE, (j + 0.5) / SIDE];
+                    const [column, row] = PLACES_OF_FACES[face];
+                    const [x, y] = kind === 'faces' ? [column + s, row + 1 - t] : geographic(face, s, t);
+                    Object.assign(view.place, {x, y, scale: SCALES[kind][1]});
+                    view.draw();
+                    const at = (px, py) => ground.has(view.pixels[py * view.image.width + px]);
+                    const [px, py] = [view.image.width >> 1, view.image.height >> 1];
+                    return [at(px, py), at(px, py - 200), dots];""", kind, *place)
+                assert not near and far and 1 <= dots <= 400, (kind, place, near, far, dots)
+
     def test_no_error(self):
         """Nothing was said to the console in any test, so nothing was refused by the page's own policy."""
         wrong = [entry for entry in self.driver.get_log("browser") if entry["level"] == "SEVERE"]
@@ -299,6 +348,26 @@ class Trial:
         self.run((HERE / "bigint.js").read_text() + "\nglobalThis.inBigInt = inBigInt;")
         for line in self.driver.execute_async_script((HERE / "figures.js").read_text()):
             print(f"figure: {line}")
+        xs, ys = scattered(1), scattered(2)
+        for name, operation in (("union", xs.__or__), ("intersection", xs.__and__), ("difference", xs.__sub__)):
+            print(f"figure: {name} by the module for Python: {min(timed(operation, ys) for _ in range(5)):.1f} ms")
+
+
+def scattered(state):
+    """The union that figures.js makes from this number."""
+    ids, cell = [], 1 << 36
+    while len(ids) < 1_050_000:
+        state = (state * 1664525 + 1013904223) % 2**32
+        if state < 0x40000000:
+            ids.append(cell)
+        cell += 1 << 37
+    return Union(ids)
+
+
+def timed(operation, other):
+    begun = time.perf_counter()
+    operation(other)
+    return 1000 * (time.perf_counter() - begun)
 
 
 def main(folder):
