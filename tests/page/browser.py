@@ -335,6 +335,15 @@ class Trial:
                     return [at(px, py), at(px, py - 200), dots];""", kind, *place)
                 assert not near and far and 1 <= dots <= 400, (kind, place, near, far, dots)
 
+    def test_no_module(self):
+        """A browser that can't run the module says why."""
+        page = (self.folder / "index.html").read_text().replace('const MODULE = "', 'const MODULE = "AAAA')
+        broken = self.downloads / "broken.html"
+        broken.write_text(page)
+        self.driver.get(broken.as_uri())
+        time.sleep(0.5)
+        assert "can't run the page" in self.status(), self.status()
+
     def test_no_error(self):
         """Nothing was said to the console in any test, so nothing was refused by the page's own policy."""
         wrong = [entry for entry in self.driver.get_log("browser") if entry["level"] == "SEVERE"]
