@@ -1,6 +1,6 @@
 """The countries of the earth in PostgreSQL beside PostGIS, and in SQLite: countries.py FOLDER, for bench/databases.
 
-FOLDER has the world of examples/, covered; in now/, both extensions; in before/, if it is there, both over another
+FOLDER has the world of docs/examples/, covered; in now/, both extensions; in before/, if it is there, both over another
 library. A number is the processor time of the session that answers, the least of five rounds, or of two if one takes
 more than a second; those who answer the same question take turns. The answers are in brackets. PostGIS counts points of
 borders where s2union counts cells.

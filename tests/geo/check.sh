@@ -37,7 +37,7 @@ step "a cluster on a socket" begun data
 [ "$failed" -eq 0 ] || finish
 
 export PREFIX=$work/usr PATH=/usr/bin:$PATH PYTHONDONTWRITEBYTECODE=1 PYTHONWARNINGS=ignore
-export PYTHONPATH=$work/usr/lib/python:$top/examples:$top/tests/geo
+export PYTHONPATH=$work/usr/lib/python:$top/docs/examples:$top/tests/geo
 if [ "${1:-}" = --costs ]; then
   mkdir "$work/costs" && /usr/bin/python3 "$top/tests/geo/costs.py" "$work/costs" "${@:2}"
   finish

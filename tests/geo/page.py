@@ -30,7 +30,7 @@ class Page(unittest.TestCase):
         cls.room = tempfile.mkdtemp()
         cls.addClassCleanup(shutil.rmtree, cls.room)
         os.chmod(cls.room, 0o755)  # for the server, which reads files there
-        os.symlink(os.path.join(TOP, "examples"), os.path.join(cls.room, "examples"))
+        os.symlink(os.path.join(TOP, "docs", "examples"), os.path.join(cls.room, "examples"))
         os.symlink(os.environ["S2CALC"], os.path.join(cls.room, "s2calc"))
         cls.output("psql -qc 'DROP DATABASE IF EXISTS regions' -c 'CREATE DATABASE regions'")
         cls.output("psql -qd regions -c 'CREATE EXTENSION s2union'")

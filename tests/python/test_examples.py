@@ -8,7 +8,7 @@ from random import Random
 import numpy
 from s2union import from_face_ij, from_token, tokens
 
-sys.path.append(str(Path(__file__).resolve().parents[2] / "examples"))
+sys.path.append(str(Path(__file__).resolve().parents[2] / "docs" / "examples"))
 
 import to_geojson
 from leaves import leaves
