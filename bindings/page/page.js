@@ -29,8 +29,8 @@ class Page {
     this.future = [];
     this.made = 0;
     this.coarse = LEAST_COARSE;
-    this.listen();
     this.resize();
+    this.listen();
     this.show();
     this.say("Drop union files on the page, or add the sample.");
   }
@@ -306,7 +306,8 @@ class Page {
         this.draw();
       };
     }
-    window.addEventListener("resize", () => this.resize());
+    this.observer = new ResizeObserver(() => this.resize());
+    this.observer.observe(at("picture"));
     matchMedia("(prefers-color-scheme: dark)").addEventListener("change", () => this.paint());
     document.addEventListener("keydown", (event) => this.shortcut(event));
     this.listenToDrops();
@@ -347,7 +348,7 @@ class Page {
       if (down.has(event.pointerId)) this.drag(down, event.pointerId, now);
       else {
         this.point(...now);
-        this.draw();
+        this.frame ?? requestAnimationFrame(() => this.frame ?? this.view.put());
       }
     });
     canvas.addEventListener("wheel", (event) => {

@@ -91,6 +91,7 @@ class View {
     this.layers = [];
     this.colors = {ground: [255, 255, 255], face: [240, 242, 245], line: "#888", text: "#333", mark: "#000"};
     this.marked = null;
+    this.step = 1;
   }
 
   get place() {
@@ -179,8 +180,14 @@ class View {
     if (this.kind === "faces") this.paintFaces(step, width, height);
     else this.paintMap(step, width, height);
     this.hidden.getContext("2d").putImageData(this.image, 0, 0);
+    this.step = step;
+    this.put();
+  }
+
+  /** Puts the lines and the mark over the pixels that were painted last. */
+  put() {
     this.context.imageSmoothingEnabled = false;
-    this.context.drawImage(this.hidden, 0, 0, width * step, height * step);
+    this.context.drawImage(this.hidden, 0, 0, this.hidden.width * this.step, this.hidden.height * this.step);
     this.drawLines();
     this.drawMark();
   }

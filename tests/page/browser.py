@@ -120,6 +120,15 @@ class Trial:
             assert self.last() == union.to_bytes(), name
             assert f"{len(union)} cell" in self.status(), self.status()
 
+    def test_all_and_nothing(self):
+        self.open()
+        self.set("texts", "1 3 5 7 9 b")
+        self.click("add")
+        assert self.last() == Union.from_tokens("1 3 5 7 9 b").to_bytes()
+        self.click("difference")
+        assert self.last() == Union().to_bytes() and "0 cells, 0 leaves" in self.status(), self.status()
+        self.run("s2page.view.draw()")
+
     def test_coverings(self):
         for number in (0, 3, 9, 30):
             self.begin()
@@ -280,6 +289,7 @@ class Trial:
         self.open()
         self.click("sample")
         self.run("""const view = s2page.view;
+            s2page.observer.disconnect();
             document.documentElement.dataset.theme = 'light';
             s2page.paint();
             [view.canvas.width, view.canvas.height, view.kind] = [400, 300, arguments[0]];

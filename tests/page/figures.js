@@ -49,4 +49,22 @@ for (const kind of ["faces", "map"]) {
     }
   }
 }
-done(lines);
+/** How many pictures a second there are while one is moved to and fro. */
+async function moving() {
+  const begun = performance.now();
+  for (let k = 0; k < 90; k++) {
+    view.move(k % 30 < 15 ? 8 : -8, 3 * ((k % 2) - 0.5));
+    s2page.moved();
+    await new Promise(requestAnimationFrame);
+  }
+  return (90_000 / (performance.now() - begun)).toFixed(0);
+}
+
+(async () => {
+  for (const kind of ["faces", "map"]) {
+    view.kind = kind;
+    view.fit();
+    lines.push(`${kind}: ${await moving()} pictures a second in motion`);
+  }
+  done(lines);
+})();
