@@ -269,13 +269,13 @@ class Page {
   facts(id) {
     const {face, i, j, size} = this.core.square(id);
     const [longitude, latitude] = geographic(face, (i + size / 2) / SIDE, (j + size / 2) / SIDE);
-    const told = (region) => this.core.contains(region.union, id) ? "contains it"
+    const said = (region) => this.core.contains(region.union, id) ? "contains it"
       : this.core.intersects(region.union, id) ? "shares a part of it" : "has none of it";
     return [
       ["token", this.core.token(id)], ["debug text", this.core.debug(id)], ["level", `${this.core.level(id)}`],
       ["leaves", `${this.core.size(id)}`], ["square", `face ${face}, i ${i}, j ${j}, side ${size}`],
       ["middle", `${longitude.toFixed(7)}° east, ${latitude.toFixed(7)}° north`],
-      ...this.regions.map((region) => [region.name, told(region)]),
+      ...this.regions.map((region) => [region.name, said(region)]),
     ];
   }
 
