@@ -6,7 +6,6 @@ from pathlib import Path
 
 ROOT = Path(__file__).resolve().parent.parent
 DEFINITION = re.compile(r"^( *)(?:abbrev pub|unfoldable pub|pub record|pub data) (?!mod\b)(\S+)")
-MODULE = re.compile(r"^module _ (.*) where$")
 USE = re.compile(r"^\s*(?:ghost )?use (Rattle\.[\w.]+?)(?:\.\{(.*)\}| as (\w+));?$", re.M)
 WORD = re.compile(r"[^\s(){}\[\],;\"`]+")
 BINDER = re.compile(r"[({]([^(){}:]+?) : ")
@@ -120,12 +119,15 @@ def read_specs(file):
     """The definitions of a file: each with the comment above it."""
     lines = file.read_text().splitlines()
     module = spec_module(file)
-    items, comment, inside = [], [], ""
+    items, comment, header, inside = [], [], [], ""
     for number, line in enumerate(lines, 1):
         definition = DEFINITION.match(line)
-        if MODULE.match(line):
-            inside = line
-        elif line and not line.startswith(" ") and not line.startswith("--") and not definition and not items:
+        if header or line.startswith("module _ "):
+            header.append(line)
+            if line.endswith(" where"):
+                comment, header, inside = [], [], "\n".join([*comment, *header])
+            continue
+        if line and not line.startswith(" ") and not line.startswith("--") and not definition and not items:
             inside = ""
         if line.strip().startswith("--"):
             comment.append(line)
@@ -134,7 +136,7 @@ def read_specs(file):
                 inside = ""
             items.append(Item((module, definition[2]), file, number, line + "\n", comment, inside=inside))
             comment = []
-        elif line.startswith(("use ", "module ")) or not line.strip():
+        elif line.startswith("use ") or not line.strip():
             if items and not line.startswith("use "):
                 items[-1].text += "".join(text + "\n" for text in comment)
             comment = []
