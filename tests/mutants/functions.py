@@ -28,7 +28,7 @@ sys.path.insert(0, str(Path(__file__).resolve().parents[2] / "tools"))
 from over_gate import TOP, crate_of, has_libraries, words_of_check  # noqa: E402
 
 BUDGET = 60
-AT_ONCE = 12
+AT_ONCE = 4
 ENDED = re.compile(r"^only=\d+ proved=\d+$")
 OPEN = re.compile(r"^fn \S+: (?:not proved|no proof)\b")
 REFUSED, NOT_REFUSED, NOT_TRIED = "refused", "NOT REFUSED", "NOT TRIED"
