@@ -1,4 +1,8 @@
-# What the parts in bash share. The caller has set top and work.
+# What the parts in bash share. $top is the repository and $work a folder for this run, which goes at its end.
+set -uo pipefail
+top=$(cd "$(dirname "${BASH_SOURCE[0]}")/.." && pwd)
+work=$(mktemp -d)
+trap 'rm -rf "$work"' EXIT
 passed=0 failed=0
 
 step() { # NAME COMMAND..: its output is shown if it fails
@@ -47,4 +51,37 @@ need_library() {
 
 no_arithmetic() { # FILE
   /usr/bin/python3 "$top/tests/c/no_arithmetic.py" "$1"
+}
+
+block() { # PAGE FENCE: the first block of a page of docs that begins with this fence
+  awk -v start="\`\`\`$2" '$0 == start && !done { on = 1; next } /^```/ { if (on) done = 1; on = 0 } on' "$top/docs/$1"
+}
+
+# ---- mutants, in the form of tests/mutants/mutant_texts.py
+
+mutant() { # EDIT SOURCE..: copies of the sources in $work/mutant, with the mistake if EDIT isn't empty
+  rm -rf "$work/mutant" && mkdir "$work/mutant" && cp -r "${@:2}" "$work/mutant" || return
+  [ -z "$1" ] || /usr/bin/python3 "$top/tests/mutants/mutant_texts.py" "$1" "$work/mutant"
+}
+
+refuse() { # TEST..: status 0 if the tests find nothing, 1 if they do, 2 if they were killed
+  tests "$@"
+  case $? in 0) ;; 137 | 143) echo "not tried: the tests were killed" && return 2 ;; *) return 1 ;; esac
+}
+
+found() { # EDIT
+  survives "$1"
+  [ $? -eq 1 ]
+}
+
+# Tries the mutants of a folder, or those with these names. `survives EDIT` of the caller ends with 0 if the tests find
+# nothing, with 1 if they do, and with 2 if it is no mutant or wasn't tried.
+try_mutants() { # FOLDER [NAME..]
+  local folder=$1 edits=("$1"/*.edit) edit
+  shift
+  [ $# -eq 0 ] || { edits=("${@/#/$folder/}") && edits=("${edits[@]/%/.edit}"); }
+  step "no mistake, no complaint" survives ""
+  [ "$failed" -eq 0 ] || finish
+  for edit in "${edits[@]}"; do step "$(basename "$edit" .edit)" found "$edit"; done
+  finish
 }

@@ -3,12 +3,8 @@
 # fuzzer runs for SECONDS, 20 if none are given.
 # It installs the Debian packages that it needs, but not Go (golang-go) and Rust (cargo, or rustup's): the bindings for
 # these are tested if their commands are there. Its last line is 'N passed, M failed'; the status is 1 if any failed.
-set -uo pipefail
-top=$(cd "$(dirname "$0")/../.." && pwd)
+. "$(dirname "$0")/../steps.sh"
 tests=$top/tests/c
-work=$(mktemp -d)
-trap 'rm -rf "$work"' EXIT
-. "$top/tests/steps.sh"
 
 # ---- what is needed
 
@@ -65,7 +61,11 @@ program() { # NAME LIBRARY FLAGS..: builds a test and runs it
 }
 step "traps" program traps "$static"
 step "traps, under the sanitizers" program traps "$static" -fsanitize=address,undefined -fno-sanitize-recover
-step "each allocation refused in turn" program refuse "$noheap" -fsanitize=address
+refusing() { # what refuses them is built without the sanitizer, which takes memory before it is ready
+  gcc -std=c11 -O2 "${strict[@]}" -c "$top/tests/refuse.c" -o "$work/refuse.o" &&
+    program memory "$static" -fsanitize=address "$work/refuse.o"
+}
+step "each allocation refused in turn" refusing
 step "200,000 lists of garbage" program garbage "$static" -fsanitize=address
 step "8 threads" program threads "$static"
 seconds=${1:-20}
@@ -98,15 +98,12 @@ step "s2union.hpp: what its test executes" covered
 
 # ---- the programs of the docs
 
-extract() { # FILE LANGUAGE: the first block in this language
-  awk -v start="\`\`\`$2" '$0 == start && !done { on = 1; next } /^```/ { if (on) done = 1; on = 0 } on' "$top/docs/$1"
-}
 program_of() { # PAGE LANGUAGE FILE: writes the page's program to a file
-  extract "$1" "$2" >"$3"
+  block "$1" "$2" >"$3"
   [ -s "$3" ] || { echo "docs/$1 has no program in $2"; return 1; }
 }
 says() { # PAGE LANGUAGE COMMAND..: whether a program says what the page says that it does
-  extract "$1" "text $2" >"$work/want-$2"
+  block "$1" "text $2" >"$work/want-$2"
   "${@:3}" >"$work/said-$2" && diff "$work/want-$2" "$work/said-$2"
 }
 documented() { # LANGUAGE COMPILER..

@@ -1,5 +1,5 @@
-"""Runs of the script with every command in which some calls of the program fail: refuse.c, which the loader puts in
-front of the C library, makes them fail. The same run over a shelf in memory is a row of crates/script_rows."""
+"""Runs of the script with every command in which some calls of the program fail: tests/refuse.c, which the loader puts
+in front of the C library, makes them fail. The same run over a shelf in memory is a row of crates/script_rows."""
 import collections
 import os
 import subprocess
@@ -28,7 +28,7 @@ class Refusing:
 
     def __init__(self, room):
         self.room, self.library = room, os.path.join(room, "refuse.so")
-        source = os.path.join(TOP, "tests/faults/refuse.c")
+        source = os.path.join(TOP, "tests/refuse.c")
         subprocess.run(["cc", "-O2", "-shared", "-fPIC", "-o", self.library, source], check=True)
 
     def run(self, refused="", piece=0, options=(), before=None, has_calls=True, script=SCRIPT, swapped=""):

@@ -4,11 +4,7 @@
 # calculator; without it, the one that the gate or tools/prove has built. The Debian packages that it needs are
 # installed, which are over 100 MB. tests/run geo -- --costs [REGIONS POINTS] measures the table of docs/GEO.md, and
 # tests nothing. The last line is 'N passed, M failed'; the status is 1 if any failed.
-set -uo pipefail
-top=$(cd "$(dirname "$0")/../.." && pwd)
-work=$(mktemp -d)
-trap 'rm -rf "$work"' EXIT
-. "$top/tests/steps.sh"
+. "$(dirname "$0")/../steps.sh"
 
 export S2CALC=${S2CALC:-$top/crates/calculator/out/calculator}
 [ -z "${1:-}" ] || [ "$1" = --costs ] || S2CALC=$(realpath "$1")

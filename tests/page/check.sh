@@ -2,11 +2,7 @@
 # The page in Chromium without a screen, beside the library: tests/run page. With -- --figures it prints the figures of
 # docs/PAGE.md too, and with -- --pictures it makes the stored pictures anew. It installs the Debian packages that it
 # needs. Its last line is 'N passed, M failed'; the status is 1 if any failed.
-set -uo pipefail
-top=$(cd "$(dirname "$0")/../.." && pwd)
-work=$(mktemp -d)
-trap 'rm -rf "$work"' EXIT
-. "$top/tests/steps.sh"
+. "$(dirname "$0")/../steps.sh"
 
 packages=()
 for command in chromium chromedriver; do

@@ -3,11 +3,8 @@
 # A copy of the server that Debian ships runs in a folder of its own, on a socket there. Nothing is installed except
 # Debian's packages. --full asks for 10,000 random rows in place of 1,000; --costs measures the costs of this many
 # regions, and tests nothing. The last line is 'N passed, M failed'; the status is 1 if any failed.
-set -uo pipefail
-top=$(cd "$(dirname "$0")/../.." && pwd)
-work=$(mktemp -d)
+. "$(dirname "$0")/../steps.sh"
 [ "${1:-}" != --full ] || export S2UNION_ROUNDS=10000
-. "$top/tests/steps.sh"
 . "$top/tests/postgres/server.sh"
 
 # ---- the extension: as it is, over guarded allocations, and with the sanitizers

@@ -1,6 +1,5 @@
 # What the tests of PostgreSQL, its mutants and tests/geo share: a copy of the server that Debian ships,
-# in $work, with the extension. Nothing is installed except Debian's packages. The caller has set top and work and read
-# steps.
+# in $work, with the extension. Nothing is installed except Debian's packages. The caller has read tests/steps.sh.
 
 packages=()
 command -v gcc >/dev/null || packages+=(gcc libc6-dev)

@@ -2,10 +2,7 @@
 # The tests of docs/SERVERS.md: tests/run servers. Copies of the server that Debian ships run in folders and in
 # network namespaces of their own, so it needs root; the machine's own network is left alone. Nothing is installed
 # except Debian's packages. The last line is 'N passed, M failed'; the status is 1 if any failed.
-set -uo pipefail
-top=$(cd "$(dirname "$0")/../.." && pwd)
-work=$(mktemp -d)
-. "$top/tests/steps.sh"
+. "$(dirname "$0")/../steps.sh"
 packages=()
 command -v ip >/dev/null || packages+=(iproute2)
 need_packages

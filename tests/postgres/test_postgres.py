@@ -328,15 +328,8 @@ class WhatIsRefused(Tests):
         self.all_are([("''::s2union::text = '' and ' , '::s2union = ''", "true")])
 
     def test_files(self):
-        good = model.file([model.identifier(5, k) for k in (1, 7, 60)])
-        faults = [(good[:k], "bytes are missing") for k in range(len(good))]
-        faults += [(bytes([k]) + good[1:], "unknown version") for k in (0, 2, 255)]
-        faults += [(good + bytes(k), "bytes after the last cell") for k in (1, 8, 100)]
-        wrongs = [good[:17] + cell.to_bytes(8, "little") + good[25:] for cell in (0, 2, 2**64 - 1)]
-        faults += [(wrong, "a number that is not a cell") for wrong in wrongs]
-        faults += [(good[:1] + b"\xff" * 8 + good[9:], "bytes are missing")]
-        faults = [(f"('\\x{file.hex()}'::bytea)::s2union", reason) for file, reason in faults]
-        self.all_refused([(expression, f"s2union: union file: {reason}") for expression, reason in faults])
+        self.all_refused([(f"('\\x{file.hex()}'::bytea)::s2union", f"s2union: union file: {reason}")
+                          for file, reason in model.faults_of_files()])
 
     def test_numbers(self):
         self.all_refused([
@@ -443,64 +436,48 @@ class WhatIsRefused(Tests):
 
 
 # By a scan and by an index, in how many questions the answers differ, how many rows match, and in how many lines of the
-# last plan the index stands.
+# last plan the index stands. `asked` is a query of what the questions are about, and a condition has %s in its place.
 DIFFER = """
-CREATE OR REPLACE FUNCTION differ(name text, by text, OUT different int, OUT matches bigint, OUT plans int)
-LANGUAGE plpgsql AS $$
-DECLARE q s2union; query text; line text; a int[]; b int[];
-BEGIN
-    different := 0; matches := 0; plans := 0;
-    query := format('SELECT array_agg(id ORDER BY id) FROM regions WHERE region OPERATOR(%s) $1', name);
-    FOR q IN SELECT region FROM questions ORDER BY id LOOP
-        PERFORM set_config('enable_seqscan', 'on', true), set_config('enable_bitmapscan', 'off', true),
-            set_config('enable_indexscan', 'off', true);
-        EXECUTE query INTO a USING q;
-        PERFORM set_config('enable_seqscan', 'off', true), set_config('enable_bitmapscan', 'on', true),
-            set_config('enable_indexscan', 'on', true);
-        EXECUTE query INTO b USING q;
-        IF a IS DISTINCT FROM b THEN different := different + 1; END IF;
-        matches := matches + coalesce(array_length(a, 1), 0);
-    END LOOP;
-    FOR line IN EXECUTE format('EXPLAIN SELECT * FROM regions WHERE region OPERATOR(%s) %L::s2union', name, q) LOOP
-        IF line LIKE '%' || by || '%' THEN plans := plans + 1; END IF;
-    END LOOP;
-END $$;
-"""
-GIN = """
-SELECT name, (differ(name, by)).* FROM (VALUES ('&&', 'regions_gin'), ('@>', 'regions_gin'), ('<@', 'regions_gin'))
-    v(name, by);
-"""
-# The same for questions about a cell, written in three ways: by an operator, by its commutator, and by the function.
-DIFFER_OF_CELLS = """
-CREATE OR REPLACE FUNCTION differ_of_cells(condition text, by text,
+CREATE OR REPLACE FUNCTION differ(condition text, by text, asked text,
     OUT different int, OUT matches bigint, OUT plans int)
 LANGUAGE plpgsql AS $$
-DECLARE q bigint; query text; line text; a int[]; b int[];
+DECLARE q text; query text; line text; a int[]; b int[];
 BEGIN
     different := 0; matches := 0; plans := 0;
-    query := format('SELECT array_agg(id ORDER BY id) FROM regions WHERE ' || condition, '$1');
-    FOR q IN SELECT (s2_cells(region))[1] FROM questions WHERE s2_count(region) > 0 ORDER BY id LIMIT 200 LOOP
+    FOR q IN EXECUTE asked LOOP
+        query := format('SELECT array_agg(id ORDER BY id) FROM regions WHERE ' || condition, q);
         PERFORM set_config('enable_seqscan', 'on', true), set_config('enable_bitmapscan', 'off', true),
             set_config('enable_indexscan', 'off', true);
-        EXECUTE query INTO a USING q;
+        EXECUTE query INTO a;
         PERFORM set_config('enable_seqscan', 'off', true), set_config('enable_bitmapscan', 'on', true),
             set_config('enable_indexscan', 'on', true);
-        EXECUTE query INTO b USING q;
+        EXECUTE query INTO b;
         IF a IS DISTINCT FROM b THEN different := different + 1; END IF;
         matches := matches + coalesce(array_length(a, 1), 0);
     END LOOP;
-    FOR line IN EXECUTE format('EXPLAIN SELECT * FROM regions WHERE ' || condition, q || '::bigint') LOOP
+    FOR line IN EXECUTE format('EXPLAIN SELECT * FROM regions WHERE ' || condition, q) LOOP
         IF line LIKE '%' || by || '%' THEN plans := plans + 1; END IF;
     END LOOP;
 END $$;
 """
-ABOUT_CELLS = ("region @> {}", "{} <@ region", "region && {}", "{} && region", "s2_contains(region, {})",
-               "s2_within({}, region)", "s2_intersects(region, {})", "s2_intersects({}, region)")
+UNIONS = "SELECT format('%L::s2union', region) FROM questions ORDER BY id"
+CELLS = ("SELECT format('%L::bigint', (s2_cells(region))[1]) FROM questions"
+         " WHERE s2_count(region) > 0 ORDER BY id LIMIT 200")
+# Questions about a cell are written in three ways: by an operator, by its commutator, and by the function.
+ABOUT_CELLS = ("region @> %s", "%s <@ region", "region && %s", "%s && region", "s2_contains(region, %s)",
+               "s2_within(%s, region)", "s2_intersects(region, %s)", "s2_intersects(%s, region)")
 
 
-def of_cells(by):
-    conditions = ", ".join(f"('{condition.format('%s')}')" for condition in ABOUT_CELLS)
-    return f"SELECT condition, (differ_of_cells(condition, '{by}')).* FROM (VALUES {conditions}) v(condition);"
+def differ(conditions, by, asked=CELLS):
+    values = ", ".join(f"('{condition}')" for condition in conditions)
+    return f"SELECT condition, (differ(condition, '{by}', $${asked}$$)).* FROM (VALUES {values}) v(condition);\n"
+
+
+def differ_by(operators, by):
+    return differ([f"region {operator} %s" for operator in operators], by, UNIONS)
+
+
+GIN = differ_by(("&&", "@>", "<@"), "regions_gin")
 
 
 class Indexes(Tests):
@@ -527,19 +504,16 @@ class Indexes(Tests):
             CREATE INDEX regions_btree ON regions (region);
             CREATE INDEX regions_hash ON regions USING hash (region);
             ANALYZE regions;
-        """ + DIFFER + GIN + DIFFER_OF_CELLS + of_cells("regions_gin") + """
+        """ + DIFFER + GIN + differ(ABOUT_CELLS, "regions_gin") + """
             DROP INDEX regions_gin;
             CREATE INDEX regions_gist ON regions USING gist (region);
-            SELECT name, (differ(name, by)).* FROM (VALUES ('&&', 'regions_gist'), ('@>', 'regions_gist')) v(name, by);
-        """ + of_cells("regions_gist") + """
+        """ + differ_by(("&&", "@>"), "regions_gist") + differ(ABOUT_CELLS, "regions_gist") + """
             DROP INDEX regions_gist;
             CREATE EXTENSION IF NOT EXISTS amcheck;
             SELECT 'checked', 0, 1, 1 FROM bt_index_check('regions_btree', true);
-            SELECT name, (differ(name, by)).* FROM (VALUES ('=', 'regions_'), ('<', 'regions_btree'),
-                ('>=', 'regions_btree')) v(name, by);
+        """ + differ_by(("=",), "regions_") + differ_by(("<", ">="), "regions_btree") + """
             DROP INDEX regions_btree;
-            SELECT name, (differ(name, by)).* FROM (VALUES ('=', 'regions_hash')) v(name, by);
-        """
+        """ + differ_by(("=",), "regions_hash")
         said = [line.split("|") for line in psql(script)]
         wanted = {name: 0 for name in ("&&", "@>", "<@")}
         forms = [model.runs(xs) for xs in regions]

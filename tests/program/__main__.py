@@ -25,7 +25,7 @@ class Result(unittest.TextTestResult):
 def main():
     if len(sys.argv) > 1:
         os.environ["S2CALC"] = os.path.realpath(sys.argv[1])
-    sys.path += [FOLDER, os.path.join(TOP, "tests", "peer")]
+    sys.path += [FOLDER, os.path.join(TOP, "tests", "peer"), os.path.join(TOP, "tests", "python")]
     loader = unittest.TestLoader()
     loader.testNamePatterns = [f"*{name}*" for name in sys.argv[2:]] or None
     tests = loader.discover(FOLDER, "[a-z]*.py")

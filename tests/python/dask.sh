@@ -2,11 +2,7 @@
 # The tests of unions on a cluster of worker processes: tests/run dask -- [CELLS]. It installs the Debian packages
 # that it needs, and prints the figures of docs/DASK.md. Its last line is 'N passed, M failed'; the status is 1 if any
 # failed.
-set -uo pipefail
-top=$(cd "$(dirname "$0")/../.." && pwd)
-work=$(mktemp -d)
-trap 'rm -rf "$work"' EXIT
-. "$top/tests/steps.sh"
+. "$(dirname "$0")/../steps.sh"
 [ -z "${1:-}" ] || export S2UNION_CELLS=$1
 
 packages=()
@@ -15,12 +11,8 @@ need_packages
 need_library
 export PYTHONPATH=$work/usr/lib/python:$top/tests/python PYTHONDONTWRITEBYTECODE=1
 
-block() { # FENCE: the page's first block with it
-  awk -v start="\`\`\`$1" '$0 == start && !done { on = 1; next } /^```/ { if (on) done = 1; on = 0 } on' \
-    "$top/docs/DASK.md"
-}
 page() {
-  block python >"$work/page.py" && block text >"$work/wanted" && [ -s "$work/wanted" ] &&
+  block DASK.md python >"$work/page.py" && block DASK.md text >"$work/wanted" && [ -s "$work/wanted" ] &&
     (cd "$work" && timeout 300 /usr/bin/python3 page.py) >"$work/said" && diff "$work/wanted" "$work/said"
 }
 step "docs/DASK.md" page

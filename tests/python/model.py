@@ -76,6 +76,17 @@ def file(cells):
     return b"\x01" + len(cells).to_bytes(8, "little") + b"".join(number.to_bytes(8, "little") for number in cells)
 
 
+def faults_of_files():
+    """Bytes that are no file of cells, each with what is wrong with them."""
+    good = file([identifier(5, k) for k in (1, 7, 60)])
+    faults = [(good[:k], "bytes are missing") for k in range(len(good))]
+    faults += [(bytes([k]) + good[1:], "unknown version") for k in (0, 2, 255)]
+    faults += [(good + bytes(k), "bytes after the last cell") for k in (1, 8, 100)]
+    wrongs = [good[:17] + number.to_bytes(8, "little") + good[25:] for number in (0, 2, 2**64 - 1)]
+    faults += [(wrong, "a number that is not a cell") for wrong in wrongs]
+    return faults + [(good[:1] + b"\xff" * 8 + good[9:], "bytes are missing")]
+
+
 def token(number):
     return f"{number:016x}".rstrip("0")
 

@@ -23,6 +23,7 @@ import model
 import s2union
 from random_cells import FACE, Random
 from s2union import Union, UnionFile
+from worked import CUT, HELD, LEAF, NORMAL
 
 try:
     import numpy
@@ -238,7 +239,6 @@ class AgainstTheModel(unittest.TestCase):
 
 cell_of, union_of = s2union.from_token, Union.from_tokens
 LAST = 2**30 - 1
-LEAF = "0000000000000001"
 FIRST_FOUR = "0000000000000004"  # the parent of the first four leaves of face 0
 FIRST_AND_LAST = FIRST_FOUR + " 000000000000001c"  # and the last of its siblings
 
@@ -319,15 +319,7 @@ class WorkedExamples(unittest.TestCase):
             self.assertEqual(s2union.square(cell_of(token)), square)
 
     def test_siblings_merge_again_and_faces_never(self):
-        for given, normal in (
-            ("", ""),
-            ("04 0c 14 1c", "1"),
-            ("0c 14 1c 01 03 05 07", "1"),
-            ("0c 04 04", "04 0c"),
-            ("04 1 05", "1"),
-            ("0c 14 1c 24", "0c 14 1c 24"),
-            ("b 9 7 5 3 1", "1 3 5 7 9 b"),
-        ):
+        for given, normal in NORMAL:
             self.assertEqual(union_of(given).tokens(), normal.split())
 
     def test_normalized_lists(self):
@@ -372,15 +364,7 @@ class WorkedExamples(unittest.TestCase):
         self.assertEqual(list(rest), model.normal(model.rest(model.runs(leaves))))
 
     def test_inclusion_and_shared_leaves(self):
-        for a, b, contains, intersects in (
-            ("1", "04 0c", True, True),
-            ("04 0c", "1", False, True),
-            ("04 0c", "0c", True, True),
-            ("04 0c", "14", False, False),
-            ("04 0c 14", "1", False, True),
-            ("04 0c 14 24", "04", True, True),
-            ("04 0c 14 24", "24", True, True),
-        ):
+        for a, b, contains, intersects in HELD:
             a, b = union_of(a), union_of(b)
             self.assertEqual((a >= b, a.intersects(b)), (contains, intersects))
             if len(b) == 1:
@@ -397,12 +381,7 @@ class WorkedExamples(unittest.TestCase):
             self.assertEqual((made.tokens(), made.leaf_count()), (range_.split(), leaves))
 
     def test_levels_that_are_wanted(self):
-        for tokens, least, modulus, want in (
-            ("04", 0, 2, "01 03 05 07"),
-            (LEAF, 29, 3, LEAF),
-            ("1 " + LEAF, 1, 3, "04 0c 14 1c"),
-            ("", 5, 1, ""),
-        ):
+        for tokens, least, modulus, want in CUT:
             found = union_of(tokens).denormalised(least, modulus)
             self.assertEqual([s2union.token(cell) for cell in found], want.split())
         face = union_of("1")

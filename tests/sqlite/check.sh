@@ -3,11 +3,7 @@
 # It installs the Debian packages that it needs. --full asks for 10,000 random rows in place of 1,500; --costs measures
 # the time of questions, and tests nothing. The last line is 'N passed, M failed'; the status is 1 if any failed.
 # The tests for PostgreSQL, which need a server, are in tests/postgres.
-set -uo pipefail
-top=$(cd "$(dirname "$0")/../.." && pwd)
-work=$(mktemp -d)
-trap 'rm -rf "$work"' EXIT
-. "$top/tests/steps.sh"
+. "$(dirname "$0")/../steps.sh"
 rounds=1500
 [ "${1:-}" != --full ] || rounds=10000
 
@@ -88,8 +84,9 @@ step "a union that is asked for each row is looked at once" tests counted test_s
 step "under the sanitizers" sanitized test_sqlite.AgainstTheModel test_sqlite.WhatIsRefused
 
 refused() {
-  gcc -std=c11 -D_DEFAULT_SOURCE -Wall -Wextra -Werror "$top/tests/sqlite/refuse.c" -lsqlite3 -o "$work/refuse" &&
-    valgrind -q --error-exitcode=9 --leak-check=full "$work/refuse" "$work/plain/mod_s2union"
+  gcc -std=c11 -D_DEFAULT_SOURCE -Wall -Wextra -Werror "$top"/tests/{sqlite/memory,refuse}.c -lsqlite3 \
+    -o "$work/memory" && valgrind -q --error-exitcode=9 --leak-check=full --soname-synonyms=somalloc=nouserintercepts \
+    "$work/memory" "$work/plain/mod_s2union"
 }
 step "each allocation refused in turn, under valgrind" refused
 
@@ -99,7 +96,7 @@ documented() { # FOLDER
 step "docs/SQLITE.md" documented plain
 covered() {
   build covered CFLAGS="-O0 -g --coverage" && export S2UNION_ROUNDS=300 &&
-    tests covered test_sqlite.AgainstTheModel test_sqlite.WhatIsRefused && "$work/refuse" "$work/covered/mod_s2union" &&
+    tests covered test_sqlite.AgainstTheModel test_sqlite.WhatIsRefused && "$work/memory" "$work/covered/mod_s2union" &&
     documented covered && sqlite3 -batch :memory: ".load $work/covered/mod_s2union sqlite3_sunion_init" &&
     /usr/bin/python3 "$top/tests/c/coverage.py" "$work/covered" s2union.c=databases/sqlite/s2union.c
 }

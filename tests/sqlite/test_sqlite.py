@@ -466,15 +466,8 @@ class WhatIsRefused(Tests):
             self.assertEqual(self.ask("s2_outer(?, 3)", empty), EMPTY)
 
     def test_every_fault_of_a_file(self):
-        good = model.file([model.identifier(5, k) for k in (1, 7, 60)])
-        faults = [(good[:k], "bytes are missing") for k in range(len(good))]
-        faults += [(bytes([k]) + good[1:], "unknown version") for k in (0, 2, 255)]
-        faults += [(good + bytes(k), "bytes after the last cell") for k in (1, 8, 100)]
-        wrongs = [good[:17] + cell.to_bytes(8, "little") + good[25:] for cell in (0, 2, 2**64 - 1)]
-        faults += [(wrong, "a number that is not a cell") for wrong in wrongs]
-        faults += [(good[:1] + b"\xff" * 8 + good[9:], "bytes are missing")]
         self.db.execute("CREATE TABLE faults(file)")
-        for file, reason in faults:
+        for file, reason in model.faults_of_files():
             self.db.execute("DELETE FROM faults")
             self.db.execute("INSERT INTO faults VALUES(?)", (file,))
             for name, letters, values in calls():

@@ -1,10 +1,13 @@
-/* Makes calls of a program fail: LD_PRELOAD=refuse.so REFUSED='CALL FIRST LAST ERROR' program.
+/* Makes calls of a program fail. A program that it is linked into asks for that by refuse.h. For any other it is built
+ * as a shared library: LD_PRELOAD=refuse.so REFUSED='CALL FIRST LAST ERROR' program.
  * The calls from FIRST to LAST of the kind CALL, counted from 1, fail with the number ERROR; a `write` whose ERROR is 0
  * takes nothing. CALL is `memory` (malloc, calloc and realloc), `read`, `write`, `open`, `statx`, `close` or `lseek`.
  * With PIECE=N, a read of standard input and a write to standard output transfer at most N bytes. With CALLS=FILE, the
  * program's calls are written to that file at its end, one a line: their kinds, files (-1: none) and answers. With
  * SWAPPED=PATH, each file becomes a link to PATH just before it is opened. */
 #define _GNU_SOURCE
+#include "refuse.h"
+#include <dlfcn.h>
 #include <errno.h>
 #include <fcntl.h>
 #include <limits.h>
@@ -20,45 +23,80 @@ enum kind { MEMORY, READ, WRITE, OPEN, STATX, CLOSE, LSEEK, KINDS };
 static const char *const names[KINDS] = {"memory", "read", "write", "open", "statx", "close", "lseek"};
 
 static struct { enum kind kind; int file; long answer; } calls[1 << 16];
-static long total, counted[KINDS];
+static long total, counted[KINDS], taken;
 static char refused[16];
 static long first, last, error, piece;
+static const char *log_of_calls, *swapped;
 
-/* glibc's own functions by their other names. */
-extern void *__libc_malloc(size_t), *__libc_calloc(size_t, size_t), *__libc_realloc(void *, size_t);
+/* The C library's own functions, or those of a sanitizer. */
+static void *(*take)(size_t), *(*take_zeros)(size_t, size_t), *(*grow)(void *, size_t), (*give_back)(void *);
 
 static void begin(void) {
   const char *words = getenv("REFUSED"), *number = getenv("PIECE");
   if (words && *words && sscanf(words, "%15s %ld %ld %ld", refused, &first, &last, &error) != 4) abort();
+  log_of_calls = getenv("CALLS");
+  swapped = getenv("SWAPPED");
+  *(void **)&take = dlsym(RTLD_NEXT, "malloc");
+  *(void **)&take_zeros = dlsym(RTLD_NEXT, "calloc");
+  *(void **)&grow = dlsym(RTLD_NEXT, "realloc");
+  *(void **)&give_back = dlsym(RTLD_NEXT, "free");
   piece = number ? atol(number) : LONG_MAX;
 }
 
 /* Counts a call, and tells whether it is to fail. */
 static int is_refused(enum kind kind, int file) {
   if (piece == 0) begin();
-  if (total == sizeof calls / sizeof *calls) abort();
   long number = ++counted[kind];
-  calls[total].kind = kind;
-  calls[total].file = file;
-  calls[total++].answer = -1;
+  if (log_of_calls) {
+    if (total == sizeof calls / sizeof *calls) abort();
+    calls[total].kind = kind;
+    calls[total].file = file;
+    calls[total++].answer = -1;
+  }
   int is = number >= first && number <= last && strcmp(refused, names[kind]) == 0;
   if (is) errno = (int)error;
   return is;
 }
 
 /* Notes what the last call answered. */
-static long noted(long answer) { return calls[total - 1].answer = answer; }
+static long noted(long answer) {
+  if (log_of_calls) calls[total - 1].answer = answer;
+  return answer;
+}
 
 static void *given(void *memory) {
   noted(memory != NULL);
+  taken += memory != NULL;
   return memory;
 }
 
-void *malloc(size_t size) { return is_refused(MEMORY, -1) ? NULL : given(__libc_malloc(size)); }
+void *malloc(size_t size) { return is_refused(MEMORY, -1) ? NULL : given(take(size)); }
 
-void *calloc(size_t count, size_t size) { return is_refused(MEMORY, -1) ? NULL : given(__libc_calloc(count, size)); }
+void *calloc(size_t count, size_t size) { return is_refused(MEMORY, -1) ? NULL : given(take_zeros(count, size)); }
 
-void *realloc(void *old, size_t size) { return is_refused(MEMORY, -1) ? NULL : given(__libc_realloc(old, size)); }
+void *realloc(void *old, size_t size) {
+  if (is_refused(MEMORY, -1)) return NULL;
+  void *grown = given(grow(old, size));
+  taken -= old && (grown || size == 0);
+  return grown;
+}
+
+void free(void *memory) {
+  if (piece == 0) begin();
+  taken -= memory != NULL;
+  give_back(memory);
+}
+
+long refuse_memory(long n) {
+  long before = counted[MEMORY];
+  counted[MEMORY] = 0;
+  strcpy(refused, names[MEMORY]);
+  first = last = n;
+  error = ENOMEM;
+  return before;
+}
+
+long blocks_taken(void) { return taken; }
 
 static size_t least(size_t size) { return size > (size_t)piece ? (size_t)piece : size; }
 
@@ -78,7 +116,6 @@ int open(const char *path, int flags, ...) {
   int mode = flags & O_CREAT ? va_arg(more, int) : 0;
   va_end(more);
   if (is_refused(OPEN, -1)) return -1;
-  const char *swapped = getenv("SWAPPED");
   if (swapped && (unlink(path) || symlink(swapped, path))) abort();
   return (int)noted(syscall(SYS_openat, AT_FDCWD, path, flags, mode));
 }
@@ -94,9 +131,8 @@ off_t lseek(int file, off_t by, int from) {
 }
 
 __attribute__((destructor)) static void tell(void) {
-  const char *name = getenv("CALLS");
   long number = total;
-  FILE *log = name ? fopen(name, "w") : NULL;
+  FILE *log = log_of_calls ? fopen(log_of_calls, "w") : NULL;
   if (!log) return;
   for (long k = 0; k < number; k++) fprintf(log, "%s %d %ld\n", names[calls[k].kind], calls[k].file, calls[k].answer);
   fclose(log);

@@ -1,38 +1,7 @@
 /* Each allocation refused in turn, in each call that takes memory: the status is S2U_MEMORY, or the right result by
- * another way; nothing stays allocated, nothing else has changed. The calls that are [pure] take none. Linked with
- * libs2union_noheap.a. */
+ * another way; nothing stays allocated, nothing else has changed. The calls that are [pure] take none. */
+#include "../refuse.h"
 #include "tests.h"
-
-static long left = -1, taken, live;
-static uint64_t nothing[2];
-
-static int refused(void) {
-  taken++;
-  return left >= 0 && left-- == 0;
-}
-
-s2u_block s2u_heap_take(size_t size, size_t align) {
-  s2u_block got = {0, nothing};
-  if (refused()) return got;
-  got.ok = 1;
-  got.at = malloc(size ? size : align);
-  live++;
-  return got;
-}
-
-s2u_block s2u_heap_grow(void* at, size_t old_size, size_t size, size_t align) {
-  s2u_block got = {0, nothing};
-  (void)old_size;
-  if (refused()) return got;
-  got.ok = 1;
-  got.at = realloc(at, size ? size : align);
-  return got;
-}
-
-void s2u_heap_give_back(void* at) {
-  live--;
-  free(at);
-}
 
 enum { N = 3000, ROOM = 400000 };
 static char text[17 * N];
@@ -77,35 +46,36 @@ int main(void) {
   nx = random_union(xs, N, 6, 12);
   ny = random_union(ys, N, 6, 12);
   for (size_t k = 0; k < N; k++) list[k] = random_cell(6, 12, 6);
-  left = 0; /* the calls that need no memory */
+  refuse_memory(1); /* the calls that need no memory */
   CHECK(s2u_encode(list, N, mixed, sizeof mixed, &len) == S2U_OK && len == sizeof mixed);
-  CHECK(s2u_normalise(list, N, &len) == S2U_OK && s2u_is_union(list, len) == 1 && taken == 0);
+  CHECK(s2u_normalise(list, N, &len) == S2U_OK && s2u_is_union(list, len) == 1);
   nlist = len;
-  CHECK(s2u_tokens(list, len, text, sizeof text, &nfile) == S2U_OK && taken == 0);
-  CHECK(s2u_from_tokens(text, nfile, out, ROOM, &right) == S2U_OK && right == len && taken == 0);
+  CHECK(s2u_tokens(list, len, text, sizeof text, &nfile) == S2U_OK);
+  CHECK(s2u_from_tokens(text, nfile, out, ROOM, &right) == S2U_OK && right == len);
+  CHECK(refuse_memory(0) == 0);
   CHECK(memcmp(out, list, 8 * len) == 0);
-  left = -1;
   CHECK(s2u_encode(xs, nx, file, sizeof file, &nfile) == S2U_OK && nfile == S2U_FILE_SIZE(nx));
   for (size_t k = 0; k < sizeof calls / sizeof *calls; k++) {
-    left = -1;
-    taken = 0;
     memset(out, 0, sizeof out);
-    CHECK(calls[k].call() == S2U_OK && live == 0);
-    long allocations = taken;
+    long blocks = blocks_taken();
+    refuse_memory(0);
+    CHECK(calls[k].call() == S2U_OK && blocks_taken() == blocks);
+    long allocations = refuse_memory(0);
     CHECK((allocations == 0) == calls[k].is_pure);
     right = len;
     memcpy(want, out, sizeof out);
-    for (long turn = 0; turn < allocations; turn++) {
-      left = turn;
+    for (long turn = 1; turn <= allocations; turn++) {
       memset(out, 0, sizeof out);
       len = 77;
+      refuse_memory(turn);
       int32_t status = calls[k].call();
+      refuse_memory(0);
       if (status == S2U_OK) {
         CHECK(len == right && memcmp(out, want, sizeof out) == 0);
       } else {
         CHECK(status == S2U_MEMORY && len == 0 && out[0] == 0);
       }
-      CHECK(live == 0);
+      CHECK(blocks_taken() == blocks);
     }
     printf("%s: %ld allocations refused in turn\n", calls[k].name, allocations);
   }

@@ -1,20 +1,10 @@
 /* Refuses each allocation of SQLite's heap in turn, in queries of the extension: the query is out of memory or has the
- * right answer, and all memory is freed. Usage: refuse EXTENSION. */
+ * right answer, and all memory is freed. Usage: memory EXTENSION. */
+#include "../refuse.h"
 #include <sqlite3.h>
 #include <stdio.h>
 #include <stdlib.h>
 #include <string.h>
-
-static sqlite3_mem_methods system_heap;
-static long left = -1, asked;
-
-static int refused(void) {
-  asked++;
-  return left >= 0 && left-- == 0;
-}
-
-static void* take(int size) { return refused() ? NULL : system_heap.xMalloc(size); }
-static void* grow(void* at, int size) { return refused() ? NULL : system_heap.xRealloc(at, size); }
 
 static const char* const queries[] = {
   "SELECT s2_union('1 04', '3'), s2_intersection('1', '04 0c'), s2_difference('1', '0000000000000001')",
@@ -58,11 +48,6 @@ static char* said(sqlite3* db, const char* query, int* status) {
 int main(int argc, char** argv) {
   size_t passed = 0, failed = 0;
   sqlite3* db;
-  sqlite3_config(SQLITE_CONFIG_GETMALLOC, &system_heap);
-  sqlite3_mem_methods heap = system_heap;
-  heap.xMalloc = take;
-  heap.xRealloc = grow;
-  sqlite3_config(SQLITE_CONFIG_MALLOC, &heap);
   sqlite3_config(SQLITE_CONFIG_LOOKASIDE, 0, 0);
   if (argc != 2 || sqlite3_open(":memory:", &db) != SQLITE_OK) return 2;
   sqlite3_enable_load_extension(db, 1);
@@ -73,16 +58,16 @@ int main(int argc, char** argv) {
                NULL, NULL, NULL);
   for (size_t k = 0; k < sizeof queries / sizeof *queries; k++) {
     int status;
-    left = -1;
     said(db, queries[k], &status);
-    asked = 0;
+    refuse_memory(0);
     char* text = said(db, queries[k], &status);
+    long allocations = refuse_memory(0);
     if (!text) return printf("%s: %s\n", queries[k], sqlite3_errmsg(db)), 2;
     char* right = strdup(text);
-    for (long turn = 0, all = asked; turn < all; turn++) {
-      left = turn;
+    for (long turn = 1; turn <= allocations; turn++) {
+      refuse_memory(turn);
       text = said(db, queries[k], &status);
-      left = -1;
+      refuse_memory(0);
       int holds = text ? strcmp(text, right) == 0 : status == SQLITE_NOMEM;
       if (!holds) printf("FAILED: allocation %ld of %s: %d %s\n", turn, queries[k], status, sqlite3_errmsg(db));
       if (holds) passed++;
