@@ -11,6 +11,17 @@ const FACE_SHIFT: u32 = 61;
 /// A cell, as its identifier (`S2CellId`). Every value is one of the 6 * (4^31 - 1) / 3 cells.
 ///
 /// Cells compare as their identifiers do: by the order of their middles along the curve.
+///
+/// Its methods, and the files that have them:
+///
+/// - made: `from_id`, here; `from_token` (token.rt), `from_debug` (debug.rt), `from_face_ij` (curve.rt), `tile`
+///   (leaf_range.rt)
+/// - its identifier, here: `id`, `face`, `level`, `is_leaf`, `==`, `<`, `Hash`, `Debug`
+/// - cells around it: `parent`, `child`, `contains`, `intersects` (nesting.rt), `descendant` (descendant.rt), `next`,
+///   `prev`, `common_ancestor` (neighbours.rt)
+/// - its leaves: `range_min`, `range_max` (nesting.rt), `leaf_count`, `first_leaf`, `end_leaf` (leaf_range.rt); its
+///   square on the face: `square` (curve.rt)
+/// - its texts: `token`, `token_len`, `write_digits` (token.rt), `debug` (debug.rt)
 #[derive(Clone, Copy, PartialEq, Eq, PartialOrd, Ord, Hash, Debug)]
 pub struct CellId {
     pub(crate) id: u64,

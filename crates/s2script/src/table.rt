@@ -19,21 +19,36 @@ pub const HELP: &str =
     "The script has one command a line. Registers r and s are letters from a to z; a CELL is a token (64c) or a debug
 text (3/021).
 
-  add, remove, keep r CELL..               adds cells, takes them out, keeps what both share
-  union, intersect, subtract, copy r s     the same with another register
-  clear r                                  empties a register
-  range r CELL CELL                        all leaves between two cells
-  outer, inner r LEVEL FACE I0 I1 J0 J1    coverings of a rectangle
-  outerof, innerof r s LEVEL [FACE I0 I1 J0 J1]
-                                           coverings of a register, or of what a rectangle has of it
-  show, count r                            its cells; their number, and that of its leaves
-  denorm r MIN MOD                         its cells, cut to levels
-  has, touches r CELL                      yes or no: all leaves of the cell, or one of them
-  covers, meets r s                        yes or no: the same for another register
-  cell CELL; at FACE I J; square CELL      what is known of a cell, of a leaf by its place, of a cell's square
-  load, save r NAME                        reads and writes a file in S2's own encoding
-  undo, redo, history                      goes back and forth; counts what can be undone and redone
-  dump, restore NAME                       writes all registers and their history, and goes on from there
+  add r CELL..                             adds the cells
+  remove r CELL..                          takes the cells out
+  keep r CELL..                            keeps what the register shares with the cells
+  union r s                                adds register s
+  subtract r s                             takes register s out
+  intersect r s                            keeps what both registers share
+  copy r s                                 holds what register s holds
+  clear r                                  empties the register
+  range r CELL CELL                        holds all leaves from one cell to another
+  outer r LEVEL FACE I0 I1 J0 J1           holds the cells of the level that meet the rectangle
+  inner r LEVEL FACE I0 I1 J0 J1           holds the cells of the level that lie in it
+  outerof r s LEVEL [FACE I0 I1 J0 J1]     holds those that meet register s, or what a rectangle has of it
+  innerof r s LEVEL [FACE I0 I1 J0 J1]     holds those that lie in it
+  show r                                   lists its cells
+  count r                                  counts its cells and their leaves
+  denorm r MIN MOD                         lists its cells, cut to levels MIN, MIN + MOD, ..
+  has r CELL                               yes or no: it has all leaves of the cell
+  touches r CELL                           yes or no: it has a leaf of the cell
+  covers r s                               yes or no: it has all leaves of register s
+  meets r s                                yes or no: it has a leaf of register s
+  cell CELL                                describes the cell
+  at FACE I J                              describes the leaf at a place
+  square CELL                              where the cell's square lies, and how wide it is
+  load r NAME                              holds the union of a file in S2's own encoding
+  save r NAME                              writes the register to such a file
+  undo                                     goes back to the state before the last edit
+  redo                                     goes forward again
+  history                                  counts what can be undone and redone
+  dump NAME                                writes all registers and their history to a file
+  restore NAME                             goes on from what such a file holds
 
 A line that can't be carried out is answered 'error NAME' and changes no register.";
 
