@@ -54,10 +54,10 @@ class Error : public std::runtime_error {
 
 namespace internal {
 
-/// Tells the caller the status of a call: in `told`, or if that is null, by an exception. Whether it succeeded.
-inline bool succeeded(int32_t status, int32_t* told) {
-  if (told != nullptr) {
-    *told = status < 0 ? status : S2U_OK;
+/// Reports the status of a call: in `outcome`, or if that is null, by an exception. Whether it succeeded.
+inline bool succeeded(int32_t status, int32_t* outcome) {
+  if (outcome != nullptr) {
+    *outcome = status < 0 ? status : S2U_OK;
   } else if (status < 0) {
 #if S2UNION_THROWS
     if (status == S2U_MEMORY) throw std::bad_alloc();
@@ -187,10 +187,10 @@ class CellUnionOf {
     Take(cell_ids, status);
   }
   void InitFromMinMax(Id min_id, Id max_id, int32_t* status = nullptr) {
-    Become([&](int32_t* told) { return FromMinMax(min_id, max_id, told); }, status);
+    Become([&](int32_t* outcome) { return FromMinMax(min_id, max_id, outcome); }, status);
   }
   void InitFromBeginEnd(Id begin, Id end, int32_t* status = nullptr) {
-    Become([&](int32_t* told) { return FromBeginEnd(begin, end, told); }, status);
+    Become([&](int32_t* outcome) { return FromBeginEnd(begin, end, outcome); }, status);
   }
 
   /// Makes the union empty, and gives its memory back.
@@ -285,8 +285,8 @@ class CellUnionOf {
   void Encode(Out* out, int32_t* status = nullptr) const {
     if constexpr (internal::is_encoder<Out>) {
       std::string bytes;
-      int32_t told = Appended(&bytes);
-      if (!internal::succeeded(told, status)) return;
+      int32_t outcome = Appended(&bytes);
+      if (!internal::succeeded(outcome, status)) return;
       out->Ensure(bytes.size());
       out->putn(bytes.data(), bytes.size());
     } else {
@@ -450,9 +450,9 @@ class CellUnionOf {
   /// Becomes what a call makes, unless it is refused.
   template <class Call>
   void Become(Call call, int32_t* status) {
-    int32_t told = S2U_OK;
-    CellUnionOf made = call(&told);
-    if (internal::succeeded(told, status)) swap(made);
+    int32_t outcome = S2U_OK;
+    CellUnionOf made = call(&outcome);
+    if (internal::succeeded(outcome, status)) swap(made);
   }
 
   bool IsSame(const CellUnionOf& y) const { return s2u_compare(ids(), size(), y.ids(), y.size()) == 0; }

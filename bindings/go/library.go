@@ -12,12 +12,11 @@
 // # Refusals
 //
 // What comes from outside (lists, texts, files, levels) is refused with an error, which is an Error or wraps one. A
-// method that is asked about one cell or one place has no error to tell, as in golang/geo, and panics with an Error if
-// that is no cell or is out of range, as an index does; CellID.IsValid asks first. A union, an intersection and a
-// difference can't be refused; if memory runs out in the library, they panic with ErrMemory.
+// method for one cell or one place has no error to report, as in golang/geo, and panics with an Error if that is no
+// cell or is out of range, as an index does; CellID.IsValid asks first. A union, an intersection and a difference can't
+// be refused; if memory runs out in the library, they panic with ErrMemory.
 //
-// A call of C takes some 100 ns on top of its own work, so many cells are best asked about in one call, such as
-// ContainsCellIDs.
+// A call of C takes some 100 ns on top of its own work. For many cells there are calls such as ContainsCellIDs.
 package s2union
 
 // #cgo pkg-config: s2union

@@ -368,11 +368,11 @@ func asked(ids []CellID, call func(cells *C.uint64_t, m C.size_t, answers *C.uin
 	} else if status != C.S2U_OK {
 		return nil, Error(status)
 	}
-	told := make([]bool, len(found))
+	holds := make([]bool, len(found))
 	for k, one := range found {
-		told[k] = one == 1
+		holds[k] = one == 1
 	}
-	return told, nil
+	return holds, nil
 }
 
 // sizeOfFile is how many bytes the file of n cells has.

@@ -1,4 +1,4 @@
-/* What PostgreSQL's planner is told of unions: what a function costs, which part of the rows it finds, and that the
+/* What PostgreSQL's planner learns of unions: what a function costs, which part of the rows it finds, and that the
  * index of its operator finds them. ANALYZE keeps what this takes: how large the values are, also those that are
  * compressed or kept out of line, and a sample of them, each as a covering with few cells. */
 #include "postgres.h"
@@ -246,8 +246,8 @@ static Sample* sample_of(PlannerInfo* root, Node* node, int relation, Oid functi
   return s;
 }
 
-/* The part of all pairs for which a question holds. It is asked about all of the values if one of the arguments is a
- * constant, and else about as many pairs, of which those of a value with itself, in one column, say nothing. If it
+/* The part of all pairs for which a question holds. It is asked of all values if one of the arguments is a constant,
+ * and else of as many pairs, of which those of a value with itself, in one column, say nothing. If it
  * holds for none, there may still be some. */
 static const double DEFAULT = 0.001, LEAST = 0.0001;
 

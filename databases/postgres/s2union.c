@@ -829,7 +829,7 @@ static Keys keys_above(const Asked* a) {
   return k;
 }
 
-/* What is asked about, which may be asked again in the next call: a union, or a cell. */
+/* What a question is about, which may be asked again in the next call: a union, or a cell. */
 static const S2Union* question_again(FmgrInfo* call, Datum asked, StrategyNumber strategy) {
   if (strategy != CONTAINS_CELL && strategy != OVERLAPS_CELL) return value_again(call, 0, asked);
   const S2Union* u = s2union_of_cell(DatumGetInt64(asked));

@@ -57,13 +57,13 @@ impl CellId {
     /// The cell of a token, in either case. [`Error::NoCell`].
     pub fn from_token(token: &str) -> Result<CellId, Error> {
         let mut id = 0;
-        CellId::told(calls::from_token(token.as_bytes(), &mut id), id)
+        CellId::from_status(calls::from_token(token.as_bytes(), &mut id), id)
     }
 
     /// The cell of a debug text, such as "4/032212". [`Error::NoCell`].
     pub fn from_debug(text: &str) -> Result<CellId, Error> {
         let mut id = 0;
-        CellId::told(calls::from_debug(text.as_bytes(), &mut id), id)
+        CellId::from_status(calls::from_debug(text.as_bytes(), &mut id), id)
     }
 
     /// The cell of a whole face, 0 to 5. [`Error::Argument`].
@@ -168,7 +168,7 @@ impl CellId {
         NonZeroU64::new(id).map(CellId)
     }
 
-    fn told(status: i32, id: u64) -> Result<CellId, Error> {
+    fn from_status(status: i32, id: u64) -> Result<CellId, Error> {
         Error::of(status, 0)?;
         CellId::made(id).ok_or(Error::NoCell { place: 0 })
     }

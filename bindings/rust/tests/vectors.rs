@@ -221,9 +221,9 @@ fn same<T: Shown>(one: T, other: T) -> String {
 }
 
 /// An answer about one text, which has no place.
-fn alone(told: Result<CellId, Error>) -> String {
-    assert!(!matches!(told, Err(Error::NoCell { place: 1.. })));
-    told.shown().replace(" 0", "")
+fn alone(answer: Result<CellId, Error>) -> String {
+    assert!(!matches!(answer, Err(Error::NoCell { place: 1.. })));
+    answer.shown().replace(" 0", "")
 }
 
 impl Shown for bool {

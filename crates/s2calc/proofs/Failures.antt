@@ -95,7 +95,7 @@ count_write P name a c x h (inl l) = stays a c x h (ap is_failure l.0) l.2.2.fai
 count_write P name a c x h (inr (inl l)) = rises a c x (ap is_failure l.0) l.2.failed
 count_write P name a c x h (inr (inr l)) = stays a c x h (ap is_failure l.0) l.2.1
 
--- a refusal that is told, of what was fetched
+-- a refusal that is answered, of what was fetched
 count_no_state : (name : List ℕ) (a c : World) (refusal : Refusal) (x : Reply) → a.files.failures < 2 ^ 64 →
     FetchesNoState name a.files a.state refusal c.files → x ≡ Refuses refusal → IsCounted a c x
 count_no_state name a c refusal x h (inl (inl l)) e = stays a c x h (ap is_failure e ∙ ap is_of_shelf l.0) l.1.same.1

@@ -153,7 +153,7 @@ files_kept a b c d s t e f g = record {
   failures = f.1 ∙ s.failures ∙ sym g.1;
 }
 
--- a refusal that is told in a plain reply
+-- a refusal that a plain reply gives
 settled : (refusal : Refusal) (x : Reply) → x ≡ Refuses refusal → IsPlain x → IsSettled refusal
 settled refusal x told p = (λ e. p.0 (told ∙ ap (λ r. Refuses r) e), λ e. p.1 (told ∙ ap (λ r. Refuses r) e))
 

@@ -11,7 +11,7 @@ use Rattle.s2calc.specs.Laws.{SameWorld, AllPlain}
 use Rattle.s2calc.specs.LawsScripts.{SameEnd}
 use Rattle.s2calc.proofs.OneRun.{one_run_of}
 
--- a script that was read to its end is all that the reader told
+-- a script that was read to its end is all that the reader gave
 whole : (ends : Ends) (old new : World) (tally : Tally) (script : List ℕ) (f : Finishes ends old new tally) →
     ends.input_old ≡ Some script → f.script ≡ script
 whole ends old new tally script f e =

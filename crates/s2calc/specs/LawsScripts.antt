@@ -25,7 +25,7 @@ pub record SameEnd (ends ends' : Ends) (replies replies' : List Reply) (tally ta
   pub tally_is : tally ≡ tally'
   pub world : SameWorld new new'
 
--- Two runs have the same end if both finished, their readers told the same bytes, their writers held the same bytes,
+-- Two runs have the same end if both finished, their readers gave the same bytes, their writers held the same bytes,
 -- they began with the same state and the same known files, and no line of either was answered `error memory` or `error
 -- file`.
 abbrev pub OneEnd : Type 0
@@ -58,7 +58,7 @@ OneEndOfInput =
     AllPlain other.replies
     → SameStop ends ends' run.replies other.replies new new'
 
--- Two runs whose writers failed inside an answer have the same end if both wrote the same bytes, their readers told the
+-- Two runs whose writers failed inside an answer have the same end if both wrote the same bytes, their readers gave the
 -- same script, they began with the same state and the same known files, and no line of either was answered `error
 -- memory` or `error file`: the same lines were carried out, however the reads were cut.
 abbrev pub OneEndOfOutput : Type 0

@@ -44,7 +44,7 @@ pub enum Job {
     },
 }
 
-/// Why the words of the command line ask for no job. Help and usage are told in clap's words.
+/// Why the words of the command line ask for no job. Help and usage are in clap's words.
 #[derive(Debug, PartialEq, Eq, Drop)]
 pub enum Stop {
     /// The help or the version was asked for: its text.
@@ -67,7 +67,7 @@ impl Stop {
         }
     }
 
-    /// Words that are not UTF-8, told as clap tells it.
+    /// What clap says of words that are not UTF-8.
     pub fn invalid_utf8(alloc: Global) -> Stop {
         match String::from_str(alloc, INVALID_UTF8) {
             Ok(text) => Stop::Usage(text),

@@ -42,7 +42,7 @@ leaf_above k m n hk l =
     (sym p.whole ∙ ap (λ z. n / z) w ∙ l.face)
     (sym p.middle ∙ ap (λ z. n % z / 4 ^ (30 - k)) w ∙ l.within)
 
--- a number in a block of s, told by its quotient
+-- a number in a block of s, found by its quotient
 pub in_block : (x i s : ℕ) → x / s ≡ i → 0 < s → (i * s ≤ x) × (x < i * s + s)
 in_block x i s e hs =
     let a = div-add-mod' x s in

@@ -38,8 +38,8 @@ impl Model for CellId {
 }
 
 impl CellId {
-    /// The cell with this identifier (`S2CellId(id)` and `is_valid`). None exactly if no cell has it: its face is above
-    /// 5, or its lowest set bit is not the marker of a level.
+    /// The cell with this identifier (`S2CellId(id)` and `is_valid`). None if no cell has it: its face is above 5, or
+    /// its lowest set bit is not the marker of a level.
     pub fn from_id(id: u64) -> Option<CellId>
         ensures { SomeIff result (IsCell id) id }
     {

@@ -7,8 +7,8 @@ use crate::digits::value_of_digit;
 use arrayvec::ArrayVec;
 
 impl CellId {
-    /// The cell with this debug text (`FromDebugString`). None exactly if the text is not one. A debug text is a digit
-    /// 0 to 5, a slash, and 0 to 30 digits 0 to 3.
+    /// The cell with this debug text (`FromDebugString`). None if the text is not one. A debug text is a digit 0 to 5,
+    /// a slash, and 0 to 30 digits 0 to 3.
     pub fn from_debug(text: &[u8]) -> Option<CellId>
         ensures { MatchOption result ((n : ℕ) → IsDebug text.now n → ⊥) (λ c. IsDebug text.now c) }
     {

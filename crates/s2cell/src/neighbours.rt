@@ -36,7 +36,7 @@ impl CellId {
     }
 
     /// The cell of the greatest level that contains both cells (`GetCommonAncestorLevel`, and the parent at that
-    /// level). None exactly if their faces differ.
+    /// level). None if their faces differ.
     ///
     /// The highest bit in which the identifiers differ gives the level, unless the marker of one of the cells is
     /// higher; then the marker gives it.

@@ -13,8 +13,8 @@ const TOKEN_LEN: usize = 16;
 
 impl CellId {
     /// The cell that a text of 1 to 16 hexadecimal digits stands for, in either case and with or without the zeros at
-    /// their end (`FromToken`). None exactly if the text has another form, or the identifier that it stands for is not
-    /// a cell's. So the answer is None for `X`, which S2 prints for an invalid identifier.
+    /// their end (`FromToken`). None if the text has another form, or the identifier that it stands for is not a
+    /// cell's. So the answer is None for `X`, which S2 prints for an invalid identifier.
     pub fn from_token(text: &[u8]) -> Option<CellId>
         ensures { MatchOption result ((n : ℕ) → IsReading text.now n → IsCell n → ⊥)
             (λ c. IsReading text.now c) }

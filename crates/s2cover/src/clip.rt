@@ -25,10 +25,9 @@ use std::alloc::{AllocError, Global};
 /// The outer covering of what a union and a rectangle share: the answer of `outer` for a `Clip`. The time
 /// depends on the number of cells of the union and of the answer, not on the size of the rectangle.
 ///
-/// `looks` says how many quadrants were looked at, also after a refusal: at least one for each cell of the answer, and
-/// at most `2 * m + 4 * level * n` for a union of m cells and an answer of n cells, or
-/// `2 * m + 4 * level * (max + 1)` after a refusal. After `TooMany` it is at least `max + 1`, one for each cell that
-/// was found.
+/// `looks` says how many quadrants were looked at, also after a refusal. They are at least one for each cell of the
+/// answer. For a union of m cells and an answer of n cells they are at most `2 * m + 4 * level * n`; after a refusal,
+/// `2 * m + 4 * level * (max + 1)`. After `TooMany` it is at least `max + 1`, one for each cell that was found.
 ///
 /// Takes memory for as many cells as the union has in the rectangle. `TooMany` is answered as by `outer`.
 pub fn clip_outer(

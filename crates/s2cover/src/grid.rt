@@ -16,8 +16,8 @@ use std::alloc::Global;
 /// The outer covering of a rectangle: the answer of `outer`, in time proportional to the number of its cells.
 ///
 /// The rectangle is first rounded outward to the grid of the level, so every cell that lies inside it belongs to the
-/// answer. `looks` says how many quadrants were looked at, also after a refusal: at least one for each cell of the
-/// answer, and at most `1 + 4 * level * n` for an answer of n cells, or `1 + 4 * level * (max + 1)` after a refusal.
+/// answer. `looks` says how many quadrants were looked at, also after a refusal. They are at least one for each cell of
+/// the answer, and at most `1 + 4 * level * n` for an answer of n cells; after a refusal, `1 + 4 * level * (max + 1)`.
 /// After `TooMany` it is at least `max + 1`, one for each cell that was found.
 pub fn rect_outer(
     alloc: Global,

@@ -33,8 +33,8 @@ impl Model for FaceRect {
 }
 
 impl FaceRect {
-    /// The rectangle of a face, 0 to 5, with these least and greatest coordinates, each below 2^30. None exactly if
-    /// there is no such face, a coordinate is too large, or a least one is above its greatest.
+    /// The rectangle of a face, 0 to 5, with these least and greatest coordinates, each below 2^30. None if there is no
+    /// such face, a coordinate is too large, or a least one is above its greatest.
     pub fn new(face: u8, i0: u32, i1: u32, j0: u32, j1: u32) -> Option<FaceRect>
         ensures made { SomeIff result (IsRect (record { face = face; i0 = i0; i1 = i1; j0 = j0; j1 = j1 }))
             (record { face = face; i0 = i0; i1 = i1; j0 = j0; j1 = j1 }) }

@@ -26,7 +26,7 @@ number_text x = little_bytes 8 x
 abbrev pub stated_count : List ℕ → ℕ
 stated_count bytes = first_number (drop 1 bytes)
 
--- the number at the place `i` after the head of nine bytes
+-- the number at index `i` after the head of nine bytes
 abbrev pub number_at : List ℕ → ℕ → ℕ
 number_at bytes i = first_number (drop (8 * i) (drop 9 bytes))
 

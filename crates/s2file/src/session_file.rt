@@ -30,13 +30,12 @@ const SECOND: u8 = 1;
 /// The session that bytes spell: a session file, or a union file. A union file is a session with its union in register
 /// a and nothing else.
 ///
-/// A session file is the bytes 73 and 01, the lists of the 26 registers, the number of changes in the past and these
-/// changes, the oldest first, and the number of changes in the future and these changes, the nearest to now first. A
-/// list is its count and its identifiers. A change is one byte for its register (0 to 25), the list of the cells that
-/// are taken out, and the list of those that are put in. The list of a register is normalized; the lists of a change
-/// ascend, share no cell and are not both empty; no list has more than 1,000,000 cells; and there are at most 10,000
-/// changes. Whether the changes can be made one after another is not checked. If the first byte is 1, the bytes are a
-/// union file.
+/// A session file is the bytes 73 and 01, and the lists of the 26 registers. Then come the number of changes in the
+/// past and these changes, the oldest first, and the same of the future, the nearest to now first. A list is its count
+/// and its identifiers. A change is one byte for its register (0 to 25), the list of the cells that are taken out, and
+/// the list of those that are put in. The list of a register is normalized. The lists of a change ascend, share no cell
+/// and are not both empty. No list has more than 1,000,000 cells, and there are at most 10,000 changes. Whether the
+/// changes can be made one after another is not checked. If the first byte is 1, the bytes are a union file.
 ///
 /// Answers `Form` for all other bytes. One pass over the bytes, as `read_session` makes it.
 pub fn decode_session(alloc: Global, bytes: &[u8]) -> Result<Session, SessionFault>

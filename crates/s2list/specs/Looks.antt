@@ -14,7 +14,7 @@ abbrev pub FewForUnion : ℕ → ℕ → ℕ → Type 0
 FewForUnion a b looks = (k : ℕ) → max a b ≤ (min a b + 1) * 2 ^ k → looks ≤ 42 * min a b * (1 + k) + 42
 
 -- in the order of their first leaves, a cell of `xs` before one of `ys` that begins with it, the cells of both lists up
--- to the places `i` and `j` are `d` runs of `xs` and `d` of `ys` in turns: the `r`-th run of a list goes from its
+-- to the indexes `i` and `j` are `d` runs of `xs` and `d` of `ys` in turns: the `r`-th run of a list goes from its
 -- `r`-th cut to the next
 pub record Alternates (xs ys : List ℕ) (d i j : ℕ) : Type 0 where
   pub x_cut : ℕ → ℕ
@@ -30,13 +30,13 @@ pub record Alternates (xs ys : List ℕ) (d i j : ℕ) : Type 0 where
   pub y_run : (r k l : ℕ) → r < d → l < y_cut (r + 1) → x_cut (r + 1) ≤ k → k < length xs →
       first_leaf (slice_index ys l) < first_leaf (slice_index xs k)
 
--- at the places `i` and `j` it is known whether `xs` has all leaves of `ys`: a list has ended, or `xs` lacks a leaf of
+-- at the indexes `i` and `j` it is known whether `xs` has all leaves of `ys`: a list has ended, or `xs` lacks a leaf of
 -- the cell of `ys` there
 abbrev pub KnownToHold : (xs ys : List ℕ) (i j : ℕ) → Type 0
 KnownToHold xs ys i j = (length xs ≤ i) ⊎ ((length ys ≤ j)
     ⊎ (IsWithin (covers (slice_index ys j)) (has_leaf xs) → ⊥))
 
--- at the places `i` and `j` it is known whether the lists share a leaf: one has ended, or `xs` has a leaf of the cell
+-- at the indexes `i` and `j` it is known whether the lists share a leaf: one has ended, or `xs` has a leaf of the cell
 -- of `ys` there
 abbrev pub KnownToMeet : (xs ys : List ℕ) (i j : ℕ) → Type 0
 KnownToMeet xs ys i j = (length xs ≤ i) ⊎ ((length ys ≤ j) ⊎ ShareSome (covers (slice_index ys j)) (has_leaf xs))

@@ -27,7 +27,7 @@ pub record IsPacked (u : List ℕ) : Type 0 where
 abbrev pub FirstEndBy : List ℕ → ℕ → ℕ → Type 0
 FirstEndBy u n lo = (k : ℕ) → k < n → first_leaf (slice_index u k) + size_of (slice_index u k) ≤ lo
 
--- if there is a cell at the place `n` of `u`, it ends after the leaf `lo`
+-- if there is a cell at index `n` of `u`, it ends after the leaf `lo`
 abbrev pub EndsAfter : List ℕ → ℕ → ℕ → Type 0
 EndsAfter u n lo = n < length u → lo < first_leaf (slice_index u n) + size_of (slice_index u n)
 

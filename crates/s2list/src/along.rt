@@ -6,9 +6,9 @@ use crate::cells::Cells;
 use crate::find::{ends_by, find_from_counted, narrow};
 use crate::looks::{Count, look};
 
-/// How many cells end by the leaf `lo`, on a walk that stands at the place `at`, if the first `start` cells are known
-/// to end by it. At the beginning of a list nothing says how far that is. So the search from there goes by halves,
-/// unless the next cell decides. A later one leaps, and is logarithmic in how far it gets.
+/// How many cells end by the leaf `lo`, on a walk that stands at index `at`, if the first `start` cells are known to
+/// end by it. At the beginning of a list nothing says how far that is. So the search from there goes by halves, unless
+/// the next cell decides. A later one leaps, and is logarithmic in how far it gets.
 #[inline(always)]
 pub fn find_along<C: Cells, K: Count>(
     cells: &C,

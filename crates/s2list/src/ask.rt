@@ -79,15 +79,15 @@ fn meets<C: Cells, K: Count>(cells: &C, cell: CellId, count: &mut K) -> bool
     begins_at(cells, at, cell.end_leaf(), count)
 }
 
-/// How many cells of a union end by the first leaf of the cell: its place. It is found quickly if it is `near`, or at
-/// most `NEARBY` places after it. Any `near` will do. Logarithmic.
+/// How many cells of a union end by the first leaf of the cell: its index. It is found quickly if it is `near`, or at
+/// most `NEARBY` more. Any `near` will do. Logarithmic.
 pub fn place_near<C: Cells>(cells: &C, near: usize, cell: CellId) -> usize
     ensures { IsLocal (C.ids cells.now) → IsPlace (C.ids cells.now) (first_leaf cell) result }
 {
     find_near(cells, near, cell.first_leaf())
 }
 
-/// Whether a union has all leaves of the cell, once its place is known.
+/// Whether a union has all leaves of the cell, once its index is known.
 #[inline(always)]
 pub fn contains_cell_at<C: Cells>(cells: &C, at: usize, cell: CellId) -> bool
     ensures { IsLocal (C.ids cells.now) → IsPlace (C.ids cells.now) (first_leaf cell) at
@@ -96,7 +96,7 @@ pub fn contains_cell_at<C: Cells>(cells: &C, at: usize, cell: CellId) -> bool
     holds_at(cells, at, cell, &mut Uncounted)
 }
 
-/// Whether a union has a leaf of the cell, once its place is known.
+/// Whether a union has a leaf of the cell, once its index is known.
 #[inline(always)]
 pub fn intersects_cell_at<C: Cells>(cells: &C, at: usize, cell: CellId) -> bool
     ensures { IsLocal (C.ids cells.now) → IsPlace (C.ids cells.now) (first_leaf cell) at
@@ -105,7 +105,7 @@ pub fn intersects_cell_at<C: Cells>(cells: &C, at: usize, cell: CellId) -> bool
     begins_at(cells, at, cell.end_leaf(), &mut Uncounted)
 }
 
-/// Whether there is a number at the place `at`, and its cell contains the cell.
+/// Whether there is a number at index `at`, and its cell contains the cell.
 #[inline(always)]
 fn holds_at<C: Cells, K: Count>(cells: &C, at: usize, cell: CellId, count: &mut K) -> bool
     ensures answer { All IsCell (C.ids cells.now)
@@ -122,7 +122,7 @@ fn holds_at<C: Cells, K: Count>(cells: &C, at: usize, cell: CellId, count: &mut 
     }
 }
 
-/// Whether there is a number at the place `at`, and its cell begins before the leaf `end`.
+/// Whether there is a number at index `at`, and its cell begins before the leaf `end`.
 #[inline(always)]
 pub(crate) fn begins_at<C: Cells, K: Count>(cells: &C, at: usize, end: u64, count: &mut K) -> bool
     ensures answer { All IsCell (C.ids cells.now)

@@ -1,9 +1,9 @@
-//! Numbers by their places, and the cells of a list.
+//! Numbers by their indexes, and the cells of a list.
 ghost use Rattle.std.specs.Prelude.{◌≡◌, ◌<◌, ℕ, List, length, slice_index};
 
 use s2cell::CellId;
 
-/// Numbers that can be read by their places.
+/// Numbers that can be read by their indexes.
 pub trait Cells {
     ghost ids: { Self → List ℕ };
 
@@ -11,7 +11,7 @@ pub trait Cells {
     fn len(&self) -> usize
         ensures { result ≡ length (ids self.now) };
 
-    /// The number at the place `k`, counted from 0.
+    /// The number at index `k`, counted from 0.
     fn id(&self, k: usize) -> u64
         requires { k < length (ids self.now) }
         ensures { result ≡ slice_index (ids self.now) k };

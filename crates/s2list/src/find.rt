@@ -1,4 +1,4 @@
-//! The place of a leaf among cells in order.
+//! Where a leaf lies among cells in order.
 ghost use Rattle.std.specs.Prelude.{◌≡◌, ◌+◌, ◌-◌, ◌*◌, ◌/◌, ◌^◌, ◌<◌, ◌≤◌, ◌↔◌, ◌⊎◌};
 ghost use Rattle.std.specs.Prelude.{ℕ, IsTrue, All, min, length};
 ghost use Rattle.s2cell.specs.Cell.{IsCell, first_leaf, size_of};
@@ -9,7 +9,7 @@ ghost use Rattle.s2list.specs.Working.Search.{Brackets, IsFrom};
 use crate::cells::Cells;
 use crate::looks::{Count, Uncounted, look};
 
-/// How far after a place that is thought to be near a search goes on from there. One farther away is looked for among
+/// How far after an index that is thought to be near a search goes on from there. One farther away is looked for among
 /// all cells.
 pub const NEARBY: usize = 15;
 
@@ -41,7 +41,7 @@ pub fn find_counted<C: Cells, K: Count>(cells: &C, lo: u64, count: &mut K) -> us
     narrow(cells, base.saturating_sub(1), base + size, lo, count)
 }
 
-/// The same, if the first `start` cells are known to end by the leaf. Logarithmic in how many more do.
+/// How many cells end by the leaf `lo`, if the first `start` are known to. Logarithmic in how many more do.
 #[inline(always)]
 pub fn find_from<C: Cells>(cells: &C, start: usize, lo: u64) -> usize
     requires { start ≤ length (C.ids cells.now) }
@@ -85,7 +85,7 @@ pub fn find_from_counted<C: Cells, K: Count>(
     leap_on(cells, start, lo, count)
 }
 
-/// Whether there is a number at the place `at`, and its cell ends by the leaf `lo`.
+/// Whether there is a number at index `at`, and its cell ends by the leaf `lo`.
 #[inline(always)]
 fn ends_at<C: Cells, K: Count>(cells: &C, at: usize, lo: u64, count: &mut K) -> bool
     ensures answer { All IsCell (C.ids cells.now) → (IsTrue result ↔ EndsAt (C.ids cells.now) at lo) }
@@ -101,8 +101,8 @@ fn ends_at<C: Cells, K: Count>(cells: &C, at: usize, lo: u64, count: &mut K) -> 
     ends_by(look(cells, at, count), lo)
 }
 
-/// The same, once it is known that two more cells end by the leaf. Leaps ahead, each leap three times as long as all
-/// before it, and then searches what the last leap passed over.
+/// How many cells end by the leaf `lo`, if the first `start + 2` are known to. Leaps ahead, each leap three times as
+/// long as all before it, and then searches what the last leap passed over.
 fn leap_on<C: Cells, K: Count>(cells: &C, start: usize, lo: u64, count: &mut K) -> usize
     requires { start + 2 ≤ length (C.ids cells.now) }
     ensures from { start + 2 ≤ result }
@@ -127,7 +127,7 @@ fn leap_on<C: Cells, K: Count>(cells: &C, start: usize, lo: u64, count: &mut K) 
     narrow(cells, base, len, lo, count)
 }
 
-/// The same, if that place is known to be one from `start` to `end`.
+/// How many cells end by the leaf `lo`, if they are known to be from `start` to `end`.
 pub fn find_between<C: Cells>(cells: &C, start: usize, end: usize, lo: u64) -> usize
     requires order { start ≤ end }
     requires within { end ≤ length (C.ids cells.now) }
@@ -173,9 +173,9 @@ pub(crate) fn narrow<C: Cells, K: Count>(
     first
 }
 
-/// Where the quarter begins that has the place of `mark`, which is one of the next `size` places from `base` on, or
-/// their end. It compares three numbers at once and sums the results, since a branch on each would be mispredicted half
-/// the time.
+/// Where the quarter begins that has the index of `mark`, which is one of the `size` indexes from `base` on, or their
+/// end. It compares three numbers at once and sums the results, since a branch on each would be mispredicted half the
+/// time.
 #[inline(always)]
 pub(crate) fn quarter<C: Cells, K: Count>(
     cells: &C,
@@ -208,8 +208,8 @@ fn is_below(id: u64, mark: u64) -> usize
     (id < mark) as usize
 }
 
-/// The same, and quick if that place is `near` or a little after it. If it isn't, it searches all cells: that search
-/// begins with the same middles as the one before, which are in the cache.
+/// How many cells end by the leaf `lo`. Quick if they are `near` or a few more. If they aren't, all cells are searched:
+/// that search begins with the same middles as the one before, which are in the cache.
 pub fn find_near<C: Cells>(cells: &C, near: usize, lo: u64) -> usize
     ensures within { result ≤ length (C.ids cells.now) }
     ensures ended { IsPacked (C.ids cells.now) → FirstEndBy (C.ids cells.now) result lo }

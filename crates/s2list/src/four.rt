@@ -1,4 +1,4 @@
-//! The places of four leaves among cells in order, searched at once: while one search waits for memory, others go on.
+//! Where four leaves lie among cells in order, searched at once: while one search waits for memory, others go on.
 ghost use Rattle.std.specs.Prelude.{◌≡◌, ◌+◌, ◌-◌, ◌*◌, ◌/◌, ◌^◌, ◌<◌, ◌≤◌, ◌⊎◌, length};
 ghost use Rattle.s2cell.specs.Cell.{first_leaf};
 ghost use Rattle.s2list.specs.Union.{IsLocal};
@@ -10,7 +10,7 @@ use crate::find::{find_between, quarter};
 use crate::looks::Uncounted;
 use s2cell::{CellId, LEAVES};
 
-/// Where the parts of a list begin that have the places of four leaves. Each part has `size` numbers.
+/// Where the parts of a list begin in which four leaves lie. Each part has `size` numbers.
 #[derive(Clone, Copy)]
 struct Parts {
     first: usize,
@@ -20,20 +20,20 @@ struct Parts {
     size: usize,
 }
 
-/// The places of four cells.
+/// The indexes of four cells.
 #[derive(Clone, Copy)]
 pub struct Places {
-    /// The place of the first.
+    /// The index of the first.
     pub first: usize,
-    /// The place of the second.
+    /// The index of the second.
     pub second: usize,
-    /// The place of the third.
+    /// The index of the third.
     pub third: usize,
-    /// The place of the fourth.
+    /// The index of the fourth.
     pub fourth: usize,
 }
 
-/// The places in a union of four cells: for each, how many cells of the union end by its first leaf. Logarithmic. The
+/// The indexes in a union of four cells: for each, how many cells of the union end by its first leaf. Logarithmic. The
 /// four searches take turns.
 pub fn places_of_four<C: Cells>(
     cells: &C,
@@ -60,8 +60,8 @@ pub fn places_of_four<C: Cells>(
     }
 }
 
-/// How many cells end by the leaf `lo`, if the first number from `2 * lo` on is at one of the `size` places from `base`
-/// on, or at their end.
+/// How many cells end by the leaf `lo`, if the first number from `2 * lo` on is at one of the `size` indexes from
+/// `base` on, or at their end.
 fn settle<C: Cells>(cells: &C, base: usize, size: usize, lo: u64) -> usize
     requires fits { length (C.ids cells.now) < 2 ^ 64 }
     requires within { base + size ≤ length (C.ids cells.now) }
@@ -72,7 +72,7 @@ fn settle<C: Cells>(cells: &C, base: usize, size: usize, lo: u64) -> usize
     find_between(cells, base.saturating_sub(1), base + size, lo)
 }
 
-/// The parts of a list that have the places of four numbers: at most three places, or their end.
+/// The parts of a list that have the indexes of four numbers: at most three indexes, or their end.
 fn parts_of_four<C: Cells>(cells: &C, a: u64, b: u64, c: u64, d: u64) -> Parts
     ensures fits { length (C.ids cells.now) < 2 ^ 64 }
     ensures first_within { result.first + result.size ≤ length (C.ids cells.now) }

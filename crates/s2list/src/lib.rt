@@ -1,6 +1,6 @@
-//! Lists of cells by their places: searches and questions, written once for each form that a list may have.
+//! Lists of cells by their indexes: searches and questions, written once for each form that a list may have.
 //!
-//! Anything that gives numbers by their places is a list of cells (`Cells`): numbers in a slice, the cells of a union,
+//! Anything that gives numbers by their indexes is a list of cells (`Cells`): numbers in a slice, the cells of a union,
 //! the bytes of a file at any address. No call copies anything or takes memory, and none has a precondition on the
 //! numbers: whatever they are, the call is safe and returns. The answer is exact if they are the cells of a normalized
 //! union; for other numbers it means nothing. What counts the looks of a call is a type parameter (`Count`), so that a

@@ -52,7 +52,7 @@ impl Count for Uncounted {
     fn look(&mut self) {}
 }
 
-/// The number at a place. A search that is counted sees numbers only through this call.
+/// The number at an index. A search that is counted sees numbers only through this call.
 #[inline(always)]
 pub fn look<C: Cells, K: Count>(cells: &C, at: usize, count: &mut K) -> u64
     requires { at < length (C.ids cells.now) }

@@ -11,9 +11,9 @@ use crate::find::find;
 use crate::looks::Uncounted;
 use s2cell::CellId;
 
-/// The cells of a union that share a leaf with the cell: the place of the first, and how many there are. They follow
-/// each other in the union. If there are none, the place is the one where such a cell would stand. Of numbers that are
-/// not a union these are some places in the list. Logarithmic.
+/// The cells of a union that share a leaf with the cell: the index of the first, and how many there are. They follow
+/// each other in the union. If there are none, the index is the one where such a cell would stand. Of numbers that are
+/// not a union these are some numbers of the list. Logarithmic.
 pub fn cells_at<C: Cells>(cells: &C, cell: CellId) -> (usize, usize)
     ensures within { result.0 + result.1 ≤ length (C.ids cells.now) }
     ensures place { IsLocal (C.ids cells.now) → IsPlace (C.ids cells.now) (first_leaf cell) result.0 }

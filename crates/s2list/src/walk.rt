@@ -18,10 +18,10 @@ pub fn contains<X: Cells, Y: Cells>(whole: &X, part: &Y) -> bool
     holds_all(whole, part, &mut Uncounted)
 }
 
-/// The same, with how often it looks at a number of either list: at most `8 (d + 1) (1 + log2((m + n) / (d + 1)))`
-/// times, the logarithm rounded up, for unions of `m` and `n` cells that in the order of their first leaves are in
-/// turns `d` runs of each up to where the answer is known. So neither list is gone through. By the sizes alone it is at
-/// most `42 m (1 + k) + 42` times if the shorter list has `m` cells and the longer one at most `(m + 1) 2^k`.
+/// The same, with how often it looks at a number of either list. Let unions have `m` and `n` cells, which in the order
+/// of their first leaves are in turns `d` runs of each, up to where the answer is known. Then it looks at most `8 (d +
+/// 1) (1 + log2((m + n) / (d + 1)))` times, the logarithm rounded up: neither list is gone through. By the sizes alone
+/// it is at most `42 m (1 + k) + 42` times if the shorter list has `m` cells and the longer one at most `(m + 1) 2^k`.
 pub fn contains_counted<X: Cells, Y: Cells>(whole: &X, part: &Y) -> Counted
     ensures answer { IsLocal (X.ids whole.now) → IsLocal (Y.ids part.now)
         → (IsTrue result.answer ↔ IsWithin (has_leaf (Y.ids part.now)) (has_leaf (X.ids whole.now))) }

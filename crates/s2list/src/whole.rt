@@ -133,7 +133,7 @@ pub fn are_children(parent: CellId, a: u64, b: u64, c: u64, d: CellId) -> bool
         && b == parent.child(1).id()
 }
 
-/// The place of the first number that is not the identifier of a cell. Linear.
+/// The index of the first number that is not the identifier of a cell. Linear.
 pub fn first_wrong<C: Cells>(cells: &C) -> Option<usize>
     ensures { MatchOption result (All IsCell (C.ids cells.now)) (λ k. IsFirstWrong (C.ids cells.now) k) }
 {

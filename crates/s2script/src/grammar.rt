@@ -25,8 +25,8 @@ pub fn parse(line: &[u8]) -> Parsed<'_>
 }
 
 /// Where a line does not fit: the first word, from the left, that is not what is wanted in its place, and what is
-/// wanted there. `None` exactly if `parse` does not refuse the line; otherwise `parse` refuses it with the refusal of
-/// this misfit. Takes no memory.
+/// wanted there. `None` if `parse` does not refuse the line; otherwise `parse` refuses it with the refusal of this
+/// misfit. Takes no memory.
 #[tactic(auto, unfolding(crate::specs::Line::line_of, crate::specs::Line::misfit_of))]
 pub fn misfit_of(line: &[u8]) -> Option<Misfit<'_>>
     ensures value { result ≡ misfit_of line.now }

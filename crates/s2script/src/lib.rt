@@ -3,13 +3,13 @@
 //! word, from left to right, before anything is done. For a refused line, `misfit_of` tells which word does not fit,
 //! and what is wanted in its place.
 //!
-//! A command refers to the words that it was read from: `Cells` goes over the cells of an `add`, however many there
-//! are, `Name` is the name of a file as it is in the line, and `Word` is a word that does not fit.
+//! A command refers to the words that it was read from. `Cells` goes over the cells of an `add`, however many there
+//! are. `Name` is the name of a file as it is in the line, and `Word` is a word that does not fit.
 //!
-//! Modules: `words` (the words of a line), `number`, `named`, `name`, `cells`, `level`, `place` and `span` (what words
-//! may stand for), `limits`, `forms` (the words that a command may have), `table` (the commands by their names, and the
-//! help on them), `command`, `misfit` and `refusal` (what a line may ask for, where it may not fit, and why it is then
-//! refused), `grammar` (what a line says).
+//! Modules: `words` has the words of a line; `number`, `named`, `name`, `cells`, `level`, `place` and `span` what words
+//! may mean; `forms` the words that a command may have; `table` the commands by their names, and the help on them.
+//! `command`, `misfit` and `refusal` are what a line may ask for, where it may not fit, and why it is then refused;
+//! `grammar` is what a line says. `limits` are the limits.
 #![tactic(auto)]
 
 mod cells;

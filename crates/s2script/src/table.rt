@@ -77,7 +77,7 @@ pub(crate) fn command_of<'a>(name: &'a [u8], words: Words<'a>) -> Result<Command
     }
 }
 
-/// The same, for an edit of a register by another register, or another command.
+/// What a command asks for: an edit of a register by another register, or another command.
 #[tactic(auto, unfolding(crate::specs::Table::combination_of))]
 fn combination_of<'a>(name: &'a [u8], words: Words<'a>) -> Result<Command<'a>, Misfit<'a>>
     ensures { result ≡ combination_of name.now words.entry }
@@ -99,7 +99,7 @@ fn combination_of<'a>(name: &'a [u8], words: Words<'a>) -> Result<Command<'a>, M
     }
 }
 
-/// The same, for an edit of a register by a covering, or another command.
+/// What a command asks for: an edit of a register by a covering, or another command.
 #[tactic(auto, unfolding(crate::specs::Table::covering_of))]
 fn covering_of<'a>(name: &'a [u8], words: Words<'a>) -> Result<Command<'a>, Misfit<'a>>
     ensures { result ≡ covering_of name.now words.entry }
@@ -121,7 +121,7 @@ fn covering_of<'a>(name: &'a [u8], words: Words<'a>) -> Result<Command<'a>, Misf
     }
 }
 
-/// The same, for the commands with files, those that move in the history, and the questions.
+/// What a command asks for: a file, a move in the history, or an answer.
 #[tactic(auto, unfolding(crate::specs::Table::file_or_move_of))]
 fn file_or_move_of<'a>(name: &'a [u8], mut words: Words<'a>) -> Result<Command<'a>, Misfit<'a>>
     ensures { result ≡ file_or_move_of name.now words.entry }
@@ -185,7 +185,7 @@ fn question_of<'a>(name: &'a [u8], words: Words<'a>) -> Result<Question, Misfit<
     }
 }
 
-/// The same, for the questions about a cell, a place or the history.
+/// What a question asks for: a cell, a place or the history.
 #[tactic(auto, unfolding(crate::specs::Table::fact_of))]
 fn fact_of<'a>(name: &'a [u8], mut words: Words<'a>) -> Result<Question, Misfit<'a>>
     ensures { result ≡ fact_of name.now words.entry }

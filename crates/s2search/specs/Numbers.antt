@@ -3,7 +3,7 @@ use Rattle.std.specs.Prelude.{ℕ, ◌*◌, ◌/◌, List, map, length, drop}
 use Rattle.std.specs.List.{range_with_len}
 use Rattle.s2file.specs.File.{first_number}
 
--- the number at the place `i` in the bytes, eight bytes each
+-- the number at index `i` in the bytes, eight bytes each
 abbrev pub number_in : List ℕ → ℕ → ℕ
 number_in bytes i = first_number (drop (8 * i) bytes)
 

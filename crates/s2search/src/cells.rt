@@ -1,4 +1,4 @@
-//! The numbers of a file by their places, in its bytes.
+//! The numbers of a file by their indexes, in its bytes.
 ghost use Rattle.std.specs.Prelude.{◌≡◌, ◌*◌, ◌/◌, ◌<◌, ◌≤◌, length};
 ghost use Rattle.s2cell.specs.Cell.{IsCell};
 ghost use Rattle.s2file.specs.File.{first_number};
@@ -30,7 +30,7 @@ impl<'a> Cells for FileIds<'a> {
     }
 }
 
-/// The number at the place `k`, eight bytes each.
+/// The number at index `k`, eight bytes each.
 fn number_at(bytes: &[u8], k: usize) -> u64
     requires { k < length bytes.now / 8 }
     ensures { result ≡ number_in bytes.now k }

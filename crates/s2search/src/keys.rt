@@ -36,7 +36,7 @@ pub fn ancestors<C: Cells>(cells: &C, out: &mut [u64]) -> usize
     n
 }
 
-/// The number after the one at the place `k`, or the greatest number if that is the last.
+/// The number after the one at index `k`, or the greatest number if that is the last.
 fn id_after<C: Cells>(cells: &C, k: usize) -> u64
     requires within { k < length (C.ids cells.now) }
     ensures next { k + 1 < length (C.ids cells.now) → result ≡ slice_index (C.ids cells.now) (k + 1) }

@@ -20,8 +20,8 @@ pub struct CountedLength {
 }
 
 /// Puts the leaves that two unions share into the room, if there is enough of it, and answers how many cells they are.
-/// Whichever list is behind is searched for the place of the other, in leaps, and the cells of one that lie in a cell
-/// of the other are copied as one run. Its work follows how the two interleave, as `put_intersection_counted` says.
+/// Whichever list is behind is searched for the cell of the other, in leaps, and the cells of one that lie in a cell of
+/// the other are copied as one run. Its work follows how the two interleave, as `put_intersection_counted` says.
 pub fn put_intersection<X: Cells, Y: Cells>(xs: &X, ys: &Y, out: &mut [u64]) -> usize
     ensures len { length out.new ≡ length out.old }
     ensures made { IsLocal (X.ids xs.now) → IsLocal (Y.ids ys.now)
@@ -30,9 +30,9 @@ pub fn put_intersection<X: Cells, Y: Cells>(xs: &X, ys: &Y, out: &mut [u64]) -> 
     put_shared(xs, ys, out, &mut Uncounted)
 }
 
-/// The same, with how often it looks at a number of either list to search or to decide: at most
-/// `8 (d + 1) (1 + log2((m + n) / (d + 1))) + 4 r` times, with the logarithm rounded up, for unions of `m` and `n`
-/// cells that in the order of their first leaves are `d` runs of each, and a result of `r` cells. A cell that it copies
+/// The same, with how often it looks at a number of either list to search or to decide. Let unions have `m` and `n`
+/// cells, which in the order of their first leaves are `d` runs of each, and the result `r` cells. Then it looks at
+/// most `8 (d + 1) (1 + log2((m + n) / (d + 1))) + 4 r` times, with the logarithm rounded up. A cell that it copies
 /// into the room is read once more, which isn't counted: these reads are at most `r`.
 pub fn put_intersection_counted<X: Cells, Y: Cells>(
     xs: &X,
@@ -56,8 +56,8 @@ pub fn put_intersection_counted<X: Cells, Y: Cells>(
     }
 }
 
-/// The same for any counter. Each turn passes the cells of a list that end before the next of the other, or copies
-/// those that lie in it.
+/// As `put_intersection_counted`, for any counter. Each turn passes the cells of a list that end before the next of the
+/// other, or copies those that lie in it.
 fn put_shared<X: Cells, Y: Cells, K: Count>(xs: &X, ys: &Y, out: &mut [u64], count: &mut K) -> usize
     requires { K.looks count.old ≡ 0 }
     ensures len { length out.new ≡ length out.old }

@@ -47,7 +47,7 @@ pub fn put_difference<X: Cells, Y: Cells>(xs: &X, ys: &Y, out: &mut [u64]) -> us
     n
 }
 
-/// Whether there is a number at the place `at`, and its cell begins before the leaf `end`.
+/// Whether there is a number at index `at`, and its cell begins before the leaf `end`.
 #[inline(always)]
 fn begins_before<C: Cells>(cells: &C, at: usize, end: u64) -> bool
     ensures there { IsTrue result → at < length (C.ids cells.now) }
@@ -73,7 +73,7 @@ fn leap_if<C: Cells>(asked: bool, cells: &C, start: usize, lo: u64) -> usize
     start
 }
 
-/// How many cells of `xs` end before the next cell of `ys`, if the one at the place `i` does. More than `i`.
+/// How many cells of `xs` end before the next cell of `ys`, if the one at index `i` does. More than `i`.
 fn free_until<X: Cells, Y: Cells>(xs: &X, i: usize, ys: &Y, j: usize) -> usize
     requires { i < length (X.ids xs.now) }
     ensures more { i < result }

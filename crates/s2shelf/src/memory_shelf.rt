@@ -63,8 +63,8 @@ fn take_turn(failing: &mut u64, failures: &mut u64) -> Result<(), ShelfFault>
 }
 
 impl MemoryShelf {
-    /// A copy of the file of that name. Counts as a call, and answers `Device` exactly if this is the call that was
-    /// made to fail.
+    /// A copy of the file of that name. Counts as a call, and answers `Device` if this is the call that was made to
+    /// fail.
     fn copy_of(&mut self, name: &str) -> Result<Option<Vec<u8>>, ShelfFault>
         ensures answer { MatchResult result
             (λ content. Finds (files_of self.old) name.now (option_map (λ v. v.items) content) (files_of self.new))
@@ -85,7 +85,7 @@ impl Shelf for MemoryShelf {
 
     type Opened = Cursor<Vec<u8>>;
 
-    /// A reader of a copy of the file. Answers `Device` exactly if this is the call that was made to fail.
+    /// A reader of a copy of the file. Answers `Device` if this is the call that was made to fail.
     fn open(&mut self, name: &str) -> Result<Option<Cursor<Vec<u8>>>, ShelfFault>
         ensures answer { MatchResult result
             (λ opened. Opens (files_of self.old) name.now
@@ -110,7 +110,7 @@ impl Shelf for MemoryShelf {
         self.alloc
     }
 
-    /// A copy of the file. Answers `Device` exactly if this is the call that was made to fail.
+    /// A copy of the file. Answers `Device` if this is the call that was made to fail.
     fn get(&mut self, name: &str) -> Result<Option<Vec<u8>>, ShelfFault>
         ensures answer { MatchResult result
             (λ content. Finds (files_of self.old) name.now (option_map (λ v. v.items) content) (files_of self.new))
@@ -121,7 +121,7 @@ impl Shelf for MemoryShelf {
         self.copy_of(name)
     }
 
-    /// The first bytes of a copy of the file. Answers `Device` exactly if this is the call that was made to fail.
+    /// The first bytes of a copy of the file. Answers `Device` if this is the call that was made to fail.
     fn get_beginning(&mut self, name: &str, most: usize) -> Result<Option<Vec<u8>>, ShelfFault>
         ensures answer { MatchResult result
             (λ beginning. FindsBeginning (files_of self.old) name.now most (option_map (λ v. v.items) beginning)
@@ -134,8 +134,8 @@ impl Shelf for MemoryShelf {
         Ok(beginning_of(content, most))
     }
 
-    /// Copies name and bytes first, so that a fault changes no file. Answers `Device` exactly if this is the call that
-    /// was made to fail.
+    /// Copies name and bytes first, so that a fault changes no file. Answers `Device` if this is the call that was made
+    /// to fail.
     fn put(&mut self, name: &str, bytes: &[u8]) -> Result<(), ShelfFault>
         ensures answer { MatchResult result
             (λ _. PutsFile (files_of self.old) (files_of self.new) name.now bytes.now)

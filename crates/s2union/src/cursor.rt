@@ -10,7 +10,7 @@ use crate::union::CellUnion;
 use s2cell::{CellId, LEAVES};
 use std::marker::Model;
 
-/// A union that is asked about one cell after another, and the place where the last search ended.
+/// A union in which one cell after another is searched, and where the last search ended.
 ///
 /// The answers are those of the union itself, whatever the order of the cells. If the cells ascend, each search starts
 /// where the one before ended, and its steps are logarithmic in the distance between the two. A contract sees the cells

@@ -1,4 +1,4 @@
-//! The places of the cells of a short list in a much longer one, and questions about them: a search in the whole longer
+//! Where the cells of a short list lie in a much longer one, and questions about them: a search in the whole longer
 //! list for each cell of the shorter one, for four cells at once.
 //!
 //! The searches for four cells don't wait for each other, so while one waits for memory, the others go on. A walk that
@@ -21,7 +21,7 @@ use s2list::Counted;
 /// than that, so the searches for all cells of the short one take no more than a pass.
 pub(crate) const MUCH_LONGER: usize = 64;
 
-/// Where the parts of a list begin that still have the places of four cells. Each part has `size` cells.
+/// Where the parts of a list begin in which four cells still may lie. Each part has `size` cells.
 #[derive(Clone, Copy)]
 pub(crate) struct Parts {
     first: usize,
@@ -31,7 +31,7 @@ pub(crate) struct Parts {
     size: usize,
 }
 
-/// The places of four cells in a list.
+/// The indexes of four cells in a list.
 #[derive(Clone, Copy)]
 pub(crate) struct Places {
     pub(crate) first: usize,
@@ -86,8 +86,8 @@ pub(crate) fn meets_few(xs: &[CellId], ys: &[CellId]) -> Counted
     answer_with(false, looks, 0)
 }
 
-/// Whether the next cells are asked about by four, from the place `at` of `n` on. The first is asked about alone, since
-/// it may decide.
+/// Whether to search the next four cells together, from index `at` of `n` on. The first is searched alone, since it may
+/// decide.
 pub(crate) fn by_four(at: usize, n: usize) -> bool
     requires { at < n }
     ensures rest { IsTrue result → at + 4 ≤ n }
@@ -96,9 +96,9 @@ pub(crate) fn by_four(at: usize, n: usize) -> bool
     at > 0 && n - at >= 4
 }
 
-/// How many cells of `few` are known to be held by a local list, once the next are asked about, from the place `at` on:
-/// one or four, and those after them that lie in the same cell of the list as the last of these. None if one of them
-/// isn't held.
+/// How many cells of `few` are known to be held by a local list, once the next are searched, from index `at` on: one or
+/// four, and those after them that lie in the same cell of the list as the last of these. None if one of them isn't
+/// held.
 fn holds_next(cells: &[CellId], few: &[CellId], at: usize, looks: &mut u64) -> Option<usize>
     requires local { IsLocal cells.now }
     requires few_packed { IsPacked few.now }
@@ -124,7 +124,7 @@ fn holds_next(cells: &[CellId], few: &[CellId], at: usize, looks: &mut u64) -> O
     }
 }
 
-/// The same, once it is known that four cells are left.
+/// As `holds_next`, if four cells are left.
 fn holds_four(cells: &[CellId], few: &[CellId], at: usize, looks: &mut u64) -> Option<usize>
     requires local { IsLocal cells.now }
     requires few_packed { IsPacked few.now }
@@ -149,9 +149,9 @@ fn holds_four(cells: &[CellId], few: &[CellId], at: usize, looks: &mut u64) -> O
     }
 }
 
-/// How many cells of `few` are known to share no leaf with a local list, once the next are asked about, from the place
-/// `at` on: one or four, and those after them that end before the next cell of the list begins. None if one of them
-/// shares a leaf.
+/// How many cells of `few` are known to share no leaf with a local list, once the next are searched, from index `at`
+/// on: one or four, and those after them that end before the next cell of the list begins. None if one of them shares a
+/// leaf.
 fn meets_next(cells: &[CellId], few: &[CellId], at: usize, looks: &mut u64) -> Option<usize>
     requires local { IsLocal cells.now }
     requires few_packed { IsPacked few.now }
@@ -177,7 +177,7 @@ fn meets_next(cells: &[CellId], few: &[CellId], at: usize, looks: &mut u64) -> O
     }
 }
 
-/// The same, once it is known that four cells are left.
+/// As `meets_next`, if four cells are left.
 fn meets_four(cells: &[CellId], few: &[CellId], at: usize, looks: &mut u64) -> Option<usize>
     requires local { IsLocal cells.now }
     requires few_packed { IsPacked few.now }
@@ -202,8 +202,8 @@ fn meets_four(cells: &[CellId], few: &[CellId], at: usize, looks: &mut u64) -> O
     }
 }
 
-/// Passes over the cells of `few`, from the place `from` on, that end before the cell at the place `at` of the list
-/// begins; over all of them if there is no such cell. So cells of `few` in a gap of the list cost one search.
+/// Passes over the cells of `few`, from index `from` on, that end before the cell at index `at` of the list begins;
+/// over all of them if there is no such cell. So cells of `few` in a gap of the list cost one search.
 pub(crate) fn pass_free(
     few: &[CellId],
     from: usize,
@@ -238,8 +238,8 @@ pub(crate) fn pass_free(
     find_from_counted(few, from + 1, begin, looks)
 }
 
-/// Passes over the cells of `few`, from the place `from` on, that lie in the cell at the place `at` of the list, if the
-/// first of them does. So cells of `few` in a large cell of the list cost one search.
+/// Passes over the cells of `few`, from index `from` on, that lie in the cell at index `at` of the list, if the first
+/// of them does. So cells of `few` in a large cell of the list cost one search.
 pub(crate) fn pass_held(
     few: &[CellId],
     from: usize,
@@ -268,8 +268,8 @@ pub(crate) fn pass_held(
     find_from_counted(few, from + 1, cell.end_leaf(), looks)
 }
 
-/// How many cells end by the first leaf of the cell; its place is one of the next `size` places from `base` on, or
-/// their end.
+/// How many cells end by the first leaf of the cell; its index is one of the `size` indexes from `base` on, or their
+/// end.
 fn settle(cells: &[CellId], base: usize, size: usize, cell: CellId, looks: &mut u64) -> usize
     requires packed { IsPacked cells.now }
     requires few { size ≤ 3 }
@@ -285,7 +285,7 @@ fn settle(cells: &[CellId], base: usize, size: usize, cell: CellId, looks: &mut 
     found.at
 }
 
-/// How many cells end by the first leaf of each of four cells of `few`, from the place `at` on. The four searches take
+/// How many cells end by the first leaf of each of four cells of `few`, from index `at` on. The four searches take
 /// turns.
 pub(crate) fn find_four(cells: &[CellId], few: &[CellId], at: usize, looks: &mut u64) -> Places
     requires packed { IsPacked cells.now }
@@ -307,8 +307,8 @@ pub(crate) fn find_four(cells: &[CellId], few: &[CellId], at: usize, looks: &mut
     }
 }
 
-/// The parts of a list in which the places of the first leaves of four cells are, from the place `at` of `few` on: at
-/// most three places, or their end. The four searches take turns.
+/// The parts of a list in which the first leaves of four cells lie, from index `at` of `few` on: at most three indexes,
+/// or their end. The four searches take turns.
 fn parts_of_four(cells: &[CellId], few: &[CellId], at: usize, looks: &mut u64) -> Parts
     requires packed { IsPacked cells.now }
     requires there { at + 4 ≤ length few.now }

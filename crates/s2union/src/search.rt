@@ -9,14 +9,14 @@ ghost use Rattle.s2list.specs.Working.Search.{Brackets};
 use s2cell::{CellId, LEAVES};
 use s2list::{CellList, Looks, Uncounted};
 
-/// A place in a list, and how many cells were looked at to find it.
+/// An index in a list, and how many cells were looked at to find it.
 #[derive(Clone, Copy)]
 pub(crate) struct Found {
     pub(crate) at: usize,
     pub(crate) looks: u64,
 }
 
-/// The cell at a place. A search sees cells only through this call, which is counted.
+/// The cell at an index. A search sees cells only through this call, which is counted.
 #[inline(always)]
 pub(crate) fn look(cells: &[CellId], at: usize, looks: &mut u64) -> CellId
     requires there { at < length cells.now }
@@ -57,7 +57,7 @@ pub(crate) fn find_counted(cells: &[CellId], lo: u64) -> Found
     }
 }
 
-/// The same, if the first `from` are known to end by it. Logarithmic in how many more do.
+/// How many cells end by the leaf `lo`, if the first `from` are known to. Logarithmic in how many more do.
 #[inline(always)]
 pub(crate) fn find_from(cells: &[CellId], from: usize, lo: u64) -> usize
     requires packed { IsPacked cells.now }
@@ -93,7 +93,8 @@ pub(crate) fn find_from_counted(cells: &[CellId], from: usize, lo: u64, looks: &
     at
 }
 
-/// The same, once it is known how many cells have their middle before `lo`; only the last of these may end after it.
+/// How many cells end by the leaf `lo`, once it is known how many have their middle before it. Only the last of these
+/// may end after it.
 pub(crate) fn without_last(cells: &[CellId], from: usize, begun: Found, lo: u64) -> Found
     requires packed { IsPacked cells.now }
     requires from { from ≤ begun.at }
@@ -179,9 +180,9 @@ fn narrow(cells: &[CellId], low: usize, high: usize, mark: u64, before: u64) -> 
     Found { at, looks }
 }
 
-/// Where the quarter begins that has the place of `mark`, which is one of the next `size` places from `base` on, or
-/// their end. It compares three cells at once and sums the results, since a branch on each would be mispredicted half
-/// the time.
+/// Where the quarter begins that has the index of `mark`, which is one of the `size` indexes from `base` on, or their
+/// end. It compares three cells at once and sums the results, since a branch on each would be mispredicted half the
+/// time.
 #[inline(always)]
 pub(crate) fn quarter(
     cells: &[CellId],
@@ -205,7 +206,7 @@ pub(crate) fn quarter(
     base + quarter * (first + second + third)
 }
 
-/// The place of `mark`, which is one of the next `size` places from `base` on, or their end. Passes cell by cell.
+/// The index of `mark`, which is one of the `size` indexes from `base` on, or their end. Passes cell by cell.
 #[inline(always)]
 pub(crate) fn pass(cells: &[CellId], base: usize, size: usize, mark: u64, looks: &mut u64) -> usize
     requires ascends { IsStrictlyIncreasing cells.now }
@@ -227,7 +228,7 @@ pub(crate) fn pass(cells: &[CellId], base: usize, size: usize, mark: u64, looks:
     at
 }
 
-/// 1 if the identifier of the cell at the place `at` is below `mark`, else 0.
+/// 1 if the identifier of the cell at index `at` is below `mark`, else 0.
 #[inline(always)]
 fn is_below(cells: &[CellId], at: usize, mark: u64, looks: &mut u64) -> usize
     requires there { at < length cells.now }

@@ -69,8 +69,8 @@ impl CellUnion {
         }
     }
 
-    /// The same, if it has at most `limit` cells. Stops as soon as it has made more, so it takes memory for `limit`
-    /// cells and those that fill one gap (fewer than 200), however long the whole difference would be.
+    /// The difference, if it has at most `limit` cells. Stops as soon as it has made more, so it takes memory for
+    /// `limit` cells and those that fill one gap (fewer than 200), however long the whole difference would be.
     ///
     /// Answers `TooMany` only if the whole difference has more than `limit` cells. S2 has no such call.
     pub fn difference_up_to(&self, other: &CellUnion, limit: usize) -> Result<CellUnion, UnionFault>
@@ -107,7 +107,7 @@ fn join(list: &mut Vec<CellId>, xs: &[CellId], ys: &[CellId])
     }
 }
 
-/// The same, cell by cell of both.
+/// Puts the leaves of `xs` and of `ys` into an empty list, cell by cell of both.
 fn join_evenly(list: &mut Vec<CellId>, xs: &[CellId], ys: &[CellId])
     requires empty { list.old.items ≡ [] }
     requires room { length xs.now + length ys.now ≤ vec_capacity list.old }
@@ -134,7 +134,8 @@ fn join_evenly(list: &mut Vec<CellId>, xs: &[CellId], ys: &[CellId])
     }
 }
 
-/// The same, with one search in `xs` for each cell of `ys`: the run of `xs` before it is added as a whole.
+/// Puts the leaves of `xs` and of `ys` into an empty list, with one search in `xs` for each cell of `ys`. The run of
+/// `xs` before it is added as a whole.
 fn join_few(list: &mut Vec<CellId>, xs: &[CellId], ys: &[CellId])
     requires empty { list.old.items ≡ [] }
     requires room { length xs.now + length ys.now ≤ vec_capacity list.old }
@@ -178,8 +179,7 @@ fn add_run(list: &mut Vec<CellId>, cells: &[CellId])
     extend_reserved(list, &cells[i..]);
 }
 
-/// Whether the last three cells of the list, or all if it has fewer, are the cells of `cells` just before the place
-/// `i`.
+/// Whether the last three cells of the list, or all if it has fewer, are the cells of `cells` just before index `i`.
 fn continues(list: &[CellId], cells: &[CellId], i: usize) -> bool
     requires { i ≤ length cells.now }
     ensures { IsTrue result ↔ Continues list.now cells.now i }

@@ -29,7 +29,7 @@ pub(crate) fn share(list: &mut Vec<CellId>, xs: &[CellId], ys: &[CellId]) -> Res
     }
 }
 
-/// The same, by a walk along both lists. Copies the cells of one list that lie in a cell of the other as one run, and
+/// As `share`, by a walk along both lists. Copies the cells of one list that lie in a cell of the other as one run, and
 /// passes over those before the next cell of the other by a search.
 fn share_evenly(list: &mut Vec<CellId>, xs: &[CellId], ys: &[CellId]) -> Result<(), AllocError>
     requires empty { list.old.items ≡ [] }
@@ -62,8 +62,9 @@ fn share_evenly(list: &mut Vec<CellId>, xs: &[CellId], ys: &[CellId]) -> Result<
     Ok(())
 }
 
-/// The same, if `xs` is much shorter. Searches in the whole of `ys` for each cell of `xs`, for four at once, and copies
-/// the cells of `ys` in it as one run. Cells of `xs` in one gap of `ys`, or in one large cell of it, cost one search.
+/// As `share`, if `xs` is much shorter. Searches in the whole of `ys` for each cell of `xs`, for four at once, and
+/// copies the cells of `ys` in it as one run. Cells of `xs` in one gap of `ys`, or in one large cell of it, cost one
+/// search.
 fn share_few(list: &mut Vec<CellId>, xs: &[CellId], ys: &[CellId]) -> Result<(), AllocError>
     requires empty { list.old.items ≡ [] }
     requires x_local { IsLocal xs.now }
@@ -84,8 +85,8 @@ fn share_few(list: &mut Vec<CellId>, xs: &[CellId], ys: &[CellId]) -> Result<(),
     Ok(())
 }
 
-/// Adds the leaves that four cells of `xs` share with `ys`, from the place `i` on, and those of the cells after them
-/// that cost no search. Answers how many cells of `xs` are done then.
+/// Adds the leaves that four cells of `xs` share with `ys`, from index `i` on, and those of the cells after them that
+/// cost no search. Answers how many cells of `xs` are done then.
 fn share_four(
     list: &mut Vec<CellId>,
     xs: &[CellId],
@@ -107,8 +108,8 @@ fn share_four(
     share_near(list, xs, i + 4, ys, places.fourth)
 }
 
-/// Adds the leaves of the next cells of `xs`, from the place `i` on, that end before the cell of `ys` at the place `at`
-/// begins, or lie in it. Answers how many cells of `xs` are done then.
+/// Adds the leaves of the next cells of `xs`, from index `i` on, that end before the cell of `ys` at index `at` begins,
+/// or lie in it. Answers how many cells of `xs` are done then.
 fn share_near(
     list: &mut Vec<CellId>,
     xs: &[CellId],
@@ -130,8 +131,8 @@ fn share_near(
     Ok(next)
 }
 
-/// Adds the leaves of the cell of `xs` at the place `i` that `ys` has, once it is known how many cells of `ys` end by
-/// its first leaf.
+/// Adds the leaves of the cell of `xs` at index `i` that `ys` has, once it is known how many cells of `ys` end by its
+/// first leaf.
 fn share_one(
     list: &mut Vec<CellId>,
     xs: &[CellId],
@@ -156,7 +157,7 @@ fn share_one(
     Ok(())
 }
 
-/// Whether there is a cell at the place `at` that contains the other.
+/// Whether there is a cell at index `at` that contains the other.
 fn is_held_at(cells: &[CellId], at: usize, cell: CellId) -> bool
     ensures { IsTrue result ↔ ((at < length cells.now) × IsInside cell (slice_index cells.now at)) }
 {

@@ -43,8 +43,8 @@ pub(crate) fn subtract(
     }
 }
 
-/// The same, by a walk along both lists. Copies the cells of `xs` before the next cell of `ys` as one run. Passes by a
-/// search over the cells of `ys` before the next cell of `xs`, and over those of `xs` in a cell of `ys`.
+/// As `subtract`, by a walk along both lists. Copies the cells of `xs` before the next cell of `ys` as one run. Passes
+/// by a search over the cells of `ys` before the next cell of `xs`, and over those of `xs` in a cell of `ys`.
 fn subtract_evenly(
     list: &mut Vec<CellId>,
     xs: &[CellId],
@@ -95,7 +95,7 @@ fn subtract_evenly(
     check_limit(list.as_slice(), limit)
 }
 
-/// How many cells of `xs` end before the next cell of `ys`. The cell at the place `i` is one of them.
+/// How many cells of `xs` end before the next cell of `ys`. The cell at index `i` is one of them.
 fn free_until(xs: &[CellId], i: usize, ys: &[CellId], j: usize) -> usize
     requires x_local { IsLocal xs.now }
     requires y_cells { All IsCell ys.now }
@@ -149,8 +149,8 @@ fn subtract_few(
     Ok(())
 }
 
-/// Adds the leaves of the cell of `xs` at the place `i` that `ys` doesn't have, once it is known how many cells of `ys`
-/// end by its first leaf.
+/// Adds the leaves of the cell of `xs` at index `i` that `ys` doesn't have, once it is known how many cells of `ys` end
+/// by its first leaf.
 fn subtract_one(
     list: &mut Vec<CellId>,
     xs: &[CellId],
@@ -189,7 +189,7 @@ fn subtract_one(
     check_limit(list.as_slice(), limit)
 }
 
-/// The cell at the place `at`, if there is one that begins before the leaf `end`.
+/// The cell at index `at`, if there is one that begins before the leaf `end`.
 fn cell_before(cells: &[CellId], at: usize, end: u64) -> Option<CellId>
     ensures { MatchOption result (at < length cells.now → end ≤ first_leaf (slice_index cells.now at))
         (λ c. (at < length cells.now) × (slice_index cells.now at ≡ c) × (first_leaf c < end)) }

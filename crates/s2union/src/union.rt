@@ -122,7 +122,7 @@ impl CellUnion {
         self.cells.as_slice()
     }
 
-    /// The cells by their places.
+    /// The cells by their indexes.
     pub(crate) fn list(&self) -> CellList<'_>
         ensures value { result.cells.now ≡ self.now.cells }
         ensures local { IsLocal self.now.cells }
@@ -220,7 +220,7 @@ impl IntoIterator for CellUnion {
     }
 }
 
-/// Unions are equal exactly if their lists are, and so exactly if they have the same leaves: each set of leaves has one
+/// Unions are equal if their lists are, which is so exactly if they have the same leaves: each set of leaves has one
 /// list. S2: `==`.
 impl PartialEq for CellUnion {
     ghost eq = { λ u v. pointwise nat_eq u.cells v.cells };

@@ -244,7 +244,7 @@ int32_t s2u_inner_of(const uint64_t* ids, size_t n, uint32_t level, size_t most,
  *
  * The bytes that S2's own S2CellUnion::Encode writes in C++, Go and Java: the byte 1, the number of cells in eight
  * bytes, and eight bytes for each, the lowest first. One union has one file: encode is a function of the set, so files
- * may be compared, hashed and used as keys. Any number of cells (S2's decoders take 1,000,000 unless told
+ * may be compared, hashed and used as keys. Any number of cells (S2's decoders take 1,000,000 unless asked
  * otherwise). */
 
 #define S2U_FILE_SIZE(n) (9 + UINT64_C(8) * (n)) /* exactly */

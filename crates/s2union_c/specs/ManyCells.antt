@@ -1,4 +1,4 @@
--- What is answered for many cells at once: an entry for each number of a list, at its place.
+-- What is answered for many cells at once: an entry for each number of a list, at its index.
 use Rattle.std.specs.Prelude.{◌≡◌, ◌-◌, ◌<◌, ◌≤◌, ◌⊎◌, ℕ, List, ◌++◌, length}
 use Rattle.std.specs.Prelude.{◌^◌, slice_index_or, replicate}
 use Rattle.s2cell.specs.Cell.{IsCell, first_leaf, level_of}
@@ -31,7 +31,7 @@ IsLeafAt point id =
     (IsOnFace point × IsCell id × (level_of id ≡ 30) × IsPlaceOf (first_leaf id) point.face point.i point.j)
     ⊎ ((IsOnFace point → ⊥) × (id ≡ 0))
 
--- `at` is the first place of the list at which `P` does not hold, or its length if there is none
+-- `at` is the first index of the list at which `P` does not hold, or its length if there is none
 pub record IsFirstWithout {X : Type 0} (P : X → Type 0) (xs : List X) (at : ℕ) : Type 0 where
   pub within : at ≤ length xs
   pub before : (k : ℕ) (d : X) → k < at → P (slice_index_or xs k d)

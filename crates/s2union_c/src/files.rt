@@ -183,7 +183,7 @@ pub extern "C" fn s2u_file_leaf_count(bytes: &[u8], leaves: &mut u64) -> i32
     }
 }
 
-/// The identifier at the place `k` in a file.
+/// The identifier at index `k` in a file.
 #[unsafe(no_mangle)]
 pub extern "C" fn s2u_file_cell(bytes: &[u8], k: u64, id: &mut u64) -> i32
     ensures made { IsFramed bytes.now → k < length (file_ids bytes.now) → (result ≡ made)

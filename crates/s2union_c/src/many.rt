@@ -14,7 +14,7 @@ use s2list::{
 };
 use s2search::cell_of;
 
-/// What is asked about each cell.
+/// The question about each cell.
 #[derive(Clone, Copy, PartialEq, Eq)]
 pub(crate) enum Question {
     /// Whether the union has all leaves of the cell.
@@ -23,9 +23,9 @@ pub(crate) enum Question {
     Intersects,
 }
 
-/// Whether a union has all leaves of each cell in turn: 1 or 0 for each. `bad` is the place of the first number that is
-/// not a cell, or if there is none, how many answers there are. A search begins at the place of the one before, so
-/// cells in order are quick; cells whose places are far apart are searched four at once.
+/// Whether a union has all leaves of each cell in turn: 1 or 0 for each. `bad` is the index of the first number that is
+/// not a cell, or if there is none, how many answers there are. A search begins at the index of the one before, so
+/// cells in order are quick; cells whose indexes are far apart are searched four at once.
 #[unsafe(no_mangle)]
 pub extern "C" fn s2u_contains_cells(
     ids: &[u64],
@@ -91,8 +91,8 @@ pub extern "C" fn s2u_intersects_cells(
     MADE
 }
 
-/// Answers the question about each cell in turn. If the last two places were far apart, the next four cells are
-/// searched at once; else the search for the next cell begins at the last place.
+/// Answers the question about each cell in turn. If the last two indexes were far apart, the next four cells are
+/// searched at once; else the search for the next cell begins at the last index.
 fn answer_each(question: Question, ids: &[u64], cells: &[u64], answers: &mut [u8])
     requires cells { All IsCell cells.now }
     requires room { length cells.now ≤ length answers.old }
@@ -121,8 +121,8 @@ fn answer_each(question: Question, ids: &[u64], cells: &[u64], answers: &mut [u8
     }
 }
 
-/// Answers the question about the four cells from the place `k` on, whose places in the union are searched at once. The
-/// last two of these places.
+/// Answers the question about the four cells from index `k` on, whose indexes in the union are searched at once. The
+/// last two of these indexes.
 fn answer_four(
     question: Question,
     ids: &[u64],
@@ -153,7 +153,7 @@ fn answer_four(
     (places.third, places.fourth)
 }
 
-/// The answer about a cell, once its place in the union is known: 1 or 0.
+/// The answer about a cell, once its index in the union is known: 1 or 0.
 fn bit(question: Question, ids: &[u64], at: usize, cell: CellId) -> u8
     ensures exact { IsLocal ids.now → IsPlace ids.now (first_leaf cell) at
         → IsBit result (Holds question cell ids.now) }

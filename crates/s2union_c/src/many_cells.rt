@@ -1,4 +1,4 @@
-//! What the calls of `cells` answer about one cell, for many cells at once: an entry for each number, at its place.
+//! What the calls of `cells` answer about one cell, for many cells at once: an entry for each number, at its index.
 ghost use Rattle.std.specs.Prelude.{◌≡◌, ◌+◌, ◌-◌, ◌*◌, ◌<◌, ◌≤◌, ℕ, MatchOption, drop, length, slice_index};
 ghost use Rattle.std.specs.Prelude.{◌↔◌, IsTrue, slice_index_or};
 ghost use Rattle.std.specs.List.{between};
@@ -41,7 +41,7 @@ const NO_LEVEL: u8 = 255;
 /// How many bytes a token's field has.
 const FIELD: usize = 16;
 
-/// For each number the cell of one level that contains it, as `s2u_parent` answers it. `bad` is the first place that
+/// For each number the cell of one level that contains it, as `s2u_parent` answers it. `bad` is the first index that
 /// has none, or how many numbers there are.
 #[unsafe(no_mangle)]
 pub extern "C" fn s2u_parents(ids: &[u64], level: u32, out: &mut [u64], bad: &mut usize) -> i32
@@ -87,7 +87,7 @@ pub extern "C" fn s2u_range_maxes(ids: &[u64], out: &mut [u64], bad: &mut usize)
     put_relatives(Relative::LastLeaf, ids, out, bad)
 }
 
-/// For each number the level of the cell, 0 to 30, or 255 if it is not a cell. `bad` is the place of the first that is
+/// For each number the level of the cell, 0 to 30, or 255 if it is not a cell. `bad` is the index of the first that is
 /// not, or how many numbers there are.
 #[unsafe(no_mangle)]
 pub extern "C" fn s2u_levels(ids: &[u64], out: &mut [u8], bad: &mut usize) -> i32
@@ -134,7 +134,7 @@ pub extern "C" fn s2u_token_fields(ids: &[u64], text: &mut [u8], bad: &mut usize
     MADE
 }
 
-/// For each point its leaf, as `s2u_from_face_ij` answers it, or 0. `bad` is the place in the list of the first point
+/// For each point its leaf, as `s2u_from_face_ij` answers it, or 0. `bad` is the index in the list of the first point
 /// that is on no face, or how many points there are.
 #[unsafe(no_mangle)]
 pub extern "C" fn s2u_from_points(points: &[FacePoint], out: &mut [u64], bad: &mut usize) -> i32
@@ -157,7 +157,7 @@ pub extern "C" fn s2u_from_points(points: &[FacePoint], out: &mut [u64], bad: &m
     MADE
 }
 
-/// The place in the list of the first point that is on no face, or how many points there are.
+/// The index in the list of the first point that is on no face, or how many points there are.
 fn first_off_its_face(points: &[FacePoint]) -> usize
     ensures { IsFirstWithout IsOnFace points.now result }
 {
@@ -223,7 +223,7 @@ fn put_relatives(which: Relative, ids: &[u64], out: &mut [u64], bad: &mut usize)
     MADE
 }
 
-/// The place of the first number that has no such relative, or how many numbers there are.
+/// The index of the first number that has no such relative, or how many numbers there are.
 fn first_without(which: Relative, ids: &[u64]) -> usize
     ensures { IsFirstWithout (HasRelative which) ids.now result }
 {

@@ -56,7 +56,7 @@ pub extern "C" fn s2u_intersects_cell(ids: &[u64], cell: u64) -> i32
     }
 }
 
-/// The cells of a union that share a leaf with a cell: the place of the first, or the one where it would stand if there
+/// The cells of a union that share a leaf with a cell: the index of the first, or the one where it would stand if there
 /// are none, and how many there are. Logarithmic.
 #[unsafe(no_mangle)]
 pub extern "C" fn s2u_cells_at(ids: &[u64], cell: u64, first: &mut usize, count: &mut usize) -> i32

@@ -171,7 +171,7 @@ fn write_cells(text: &[u8], out: &mut [u64])
     }
 }
 
-/// Where the next word, from a place on, begins and ends.
+/// Where the next word, from an index on, begins and ends.
 fn next_word(text: &[u8], from: usize) -> Option<(usize, usize)>
     requires { from ≤ length text.now }
     ensures { MatchOption result (words_of_text (drop from text.now) ≡ []) (λ r. IsNextWord text.now from r.0 r.1) }
@@ -189,7 +189,7 @@ fn next_word(text: &[u8], from: usize) -> Option<(usize, usize)>
     }
 }
 
-/// Whether the byte at a place of a text separates words.
+/// Whether the byte at an index of a text separates words.
 fn stands_between(text: &[u8], place: usize) -> bool
     ensures { IsTrue result ↔ ((place < length text.now) × (is_between (slice_index text.now place) ≡ true)) }
 {

@@ -19,7 +19,7 @@ use s2union::CellUnion;
 use std::alloc::Global;
 
 /// Normalizes a list of cells in place, without taking memory. The cells may be in any order, repeated, or one in
-/// another. `len` is then the number of cells at its front, or the place of the first number that is not a cell. What
+/// another. `len` is then the number of cells at its front, or the index of the first number that is not a cell. What
 /// follows the cells has no meaning.
 #[unsafe(no_mangle)]
 pub extern "C" fn s2u_normalise(ids: &mut [u64], len: &mut usize) -> i32

@@ -131,7 +131,7 @@ fn add_end(
     }
 }
 
-/// What a call told besides the line that it wrote.
+/// What a call answered besides the line that it wrote.
 fn name_of(told: &Result<bool, RunFault>) -> &'static str {
     match told {
         Ok(true) => "true",

@@ -12,13 +12,13 @@ pub record Merges (front : List ℕ) (cell kept merged : ℕ) : Type 0 where
   pub leaves : (x : ℕ) → (has_leaf (take kept front) x || covers merged x) ≡ (has_leaf front x || covers cell x)
   pub start : first_leaf merged ≤ first_leaf cell
 
--- the last three cells of `list`, or all if it has fewer, are the cells of `cells` just before the place `i`
+-- the last three cells of `list`, or all if it has fewer, are the cells of `cells` just before index `i`
 pub record Continues (list cells : List ℕ) (i : ℕ) : Type 0 where
   pub within : (k : ℕ) → length list ≤ k + 3 → k < length list → length list ≤ k + i
   pub same : (k : ℕ) → length list ≤ k + 3 → k < length list →
       slice_index list k ≡ slice_index cells (k + i - length list)
 
--- there is a cell at the place `at` of `u`, and it ends by the leaf `lo`
+-- there is a cell at index `at` of `u`, and it ends by the leaf `lo`
 abbrev pub EndsAt : List ℕ → ℕ → ℕ → Type 0
 EndsAt u at lo = (at < length u) × (first_leaf (slice_index u at) + size_of (slice_index u at) ≤ lo)
 

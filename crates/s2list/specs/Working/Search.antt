@@ -11,12 +11,12 @@ pub record Brackets (u : List ℕ) (mark low high : ℕ) : Type 0 where
   pub below : (k : ℕ) → k < low → slice_index u k < mark
   pub rest : (k : ℕ) → high ≤ k → k < length u → mark ≤ slice_index u k
 
--- `u` is local, and `at` is a place in it or its end
+-- `u` is local, and `at` is an index in it or its end
 pub record IsCursor (u : List ℕ) (at : ℕ) : Type 0 where
   pub local : IsLocal u
   pub within : at ≤ length u
 
--- the first cell that ends after the leaf `lo`, if there is one, is at a place from `start` to `end`
+-- the first cell that ends after the leaf `lo`, if there is one, is at an index from `start` to `end`
 pub record IsFrom (u : List ℕ) (lo start end : ℕ) : Type 0 where
   pub ended : FirstEndBy u start lo
   pub next : end < length u → lo < first_leaf (slice_index u end) + size_of (slice_index u end)

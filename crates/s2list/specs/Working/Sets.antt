@@ -19,12 +19,12 @@ pub record IsShared (xs ys list : List ℕ) (n : ℕ) : Type 0 where
   pub greatest : All (IsGreatestIn (shared (has_leaf xs) (has_leaf ys))) list
   pub leaves : (x : ℕ) → has_leaf list x ≡ (has_leaf (take n xs) x && has_leaf ys x)
 
--- `cells` has the leaves of each cell of `few` from the place `from` on, up to the place `to`
+-- `cells` has the leaves of each cell of `few` from index `from` on, up to index `to`
 abbrev pub HoldsBetween : List ℕ → List ℕ → ℕ → ℕ → Type 0
 HoldsBetween cells few from to = (k : ℕ) → from ≤ k → k < to →
     IsWithin (covers (slice_index few k)) (has_leaf cells)
 
--- `cells` shares no leaf with a cell of `few` from the place `from` on, up to the place `to`
+-- `cells` shares no leaf with a cell of `few` from index `from` on, up to index `to`
 abbrev pub MissesBetween : List ℕ → List ℕ → ℕ → ℕ → Type 0
 MissesBetween cells few from to = (k : ℕ) → from ≤ k → k < to →
     ShareSome (covers (slice_index few k)) (has_leaf cells) → ⊥

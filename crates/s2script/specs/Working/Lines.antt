@@ -3,7 +3,7 @@ use Rattle.std.specs.Prelude.{◌≡◌, ℕ, ◌+◌, ◌<◌, List, ◌∷◌,
 use Rattle.std.specs.Prelude.{drop}
 use Rattle.s2script.specs.Lines.{IsUnbroken}
 
--- the first newline is at the place `at`
+-- the first newline is at index `at`
 pub record EndsLineAt (bytes : List ℕ) (at : ℕ) : Type 0 where
   pub within : at < length bytes
   pub before : IsUnbroken (take at bytes)

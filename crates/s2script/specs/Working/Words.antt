@@ -4,7 +4,7 @@ use Rattle.std.specs.Prelude.{drop, slice_index}
 use Rattle.std.specs.List.{AllByRecursion}
 use Rattle.s2script.specs.Words.{is_blank}
 
--- the first blank is at the place `at`
+-- the first blank is at index `at`
 pub record EndsWordAt (bytes : List ℕ) (at : ℕ) : Type 0 where
   pub within : at < length bytes
   pub before : AllByRecursion (λ b. is_blank b ≡ false) (take at bytes)

@@ -1,4 +1,4 @@
--- What is asked about many cells.
+-- The questions about many cells.
 use Rattle.std.specs.Prelude.{ℕ, List}
 use Rattle.s2cell.specs.Cell.{covers}
 use Rattle.s2list.specs.Union.{IsWithin, ShareSome, has_leaf}

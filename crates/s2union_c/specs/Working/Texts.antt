@@ -10,7 +10,7 @@ abbrev pub piece : ℕ → List ℕ → List ℕ
 piece zero token = token
 piece (suc k) token = 32 ∷ token
 
--- the next word from the place `from` on is from `start` to `end`
+-- the next word from index `from` on is from `start` to `end`
 pub record IsNextWord (text : List ℕ) (from start end : ℕ) : Type 0 where
   pub order : from ≤ start
   pub some : start < end
@@ -19,7 +19,7 @@ pub record IsNextWord (text : List ℕ) (from start end : ℕ) : Type 0 where
   pub same : words_of_text (drop start text) ≡ words_of_text (drop from text)
   pub first : words_of_text (drop start text) ≡ take (end - start) (drop start text) ∷ words_of_text (drop end text)
 
--- the first byte between words is at the place `at`
+-- the first byte between words is at index `at`
 pub record EndsTextWordAt (bytes : List ℕ) (at : ℕ) : Type 0 where
   pub within : at < length bytes
   pub before : AllByRecursion (λ b. is_between b ≡ false) (take at bytes)
