@@ -33,7 +33,7 @@ static void places(Table& table) {
              },
              [&] { return sum_of(a); }},
             {[&](uint32_t) {
-               for (size_t k = 0; k < N; k++) b[k] = s2c_from_face_ij(places[k].face, places[k].i, places[k].j);
+               for (size_t k = 0; k < N; k++) b[k] = s2u_from_face_ij(places[k].face, places[k].i, places[k].j);
              },
              [&] { return sum_of(b); }});
   u64 last_a = 0, last_b = 0;
@@ -47,7 +47,7 @@ static void places(Table& table) {
                chained(&last_a, [](uint8_t f, uint32_t i, uint32_t j) { return S2CellId::FromFaceIJ(f, i, j).id(); });
              },
              [&] { return last_a; }},
-            {[&](uint32_t) { chained(&last_b, s2c_from_face_ij); }, [&] { return last_b; }});
+            {[&](uint32_t) { chained(&last_b, s2u_from_face_ij); }, [&] { return last_b; }});
 }
 
 static void squares(Table& table) {
@@ -63,7 +63,8 @@ static void squares(Table& table) {
                }, [&] { return sum_of(a); }},
               {[&](uint32_t) {
                  for (size_t k = 0; k < N; k++) {
-                   FaceSquare square = s2c_square(ids[k]);
+                   s2u_square square;
+                   must(s2u_square_of(ids[k], &square) == S2U_OK, it.name);
                    b[k] = packed(square.face, square.i, square.j);
                  }
                }, [&] { return sum_of(b); }});
@@ -77,10 +78,13 @@ static void squares(Table& table) {
 
 // Texts side by side, each with room for 32 bytes.
 struct Texts {
-  std::vector<uint8_t> bytes = std::vector<uint8_t>(32 * N);
-  std::vector<uint8_t> lens = std::vector<uint8_t>(N);
+  std::vector<char> bytes = std::vector<char>(32 * N);
+  std::vector<size_t> lens = std::vector<size_t>(N);
 
-  std::string at(size_t k) const { return std::string(reinterpret_cast<const char*>(&bytes[32 * k]), lens[k]); }
+  void read(ToText call, const List& ids) {
+    for (size_t k = 0; k < N; k++) must(call(ids[k], &bytes[32 * k], 32, &lens[k]) == S2U_OK, "text");
+  }
+  std::string at(size_t k) const { return std::string(&bytes[32 * k], lens[k]); }
   u64 sum() const {
     Sum sum;
     for (size_t k = 0; k < N; k++) sum.add_text(at(k));
@@ -102,11 +106,8 @@ static void texts(Table& table) {
                for (size_t k = 0; k < N; k++) peer[k] = S2CellId(ids[k]).ToToken();
              },
              sum_of_texts},
-            {[&](uint32_t) {
-               for (size_t k = 0; k < N; k++) proved.lens[k] = s2c_token(ids[k], &proved.bytes[32 * k], 32);
-             },
-             [&] { return proved.sum(); }});
-  auto back = [&](Row it, auto from_text, auto proved_from_text) {
+            {[&](uint32_t) { proved.read(s2u_token, ids); }, [&] { return proved.sum(); }});
+  auto back = [&](Row it, auto from_text, FromText proved_from_text) {
     table.row(it,
               {[&](uint32_t) {
                  for (size_t k = 0; k < N; k++) a[k] = from_text(peer[k]).id();
@@ -114,28 +115,24 @@ static void texts(Table& table) {
                [&] { return sum_of(a); }},
               {[&](uint32_t) {
                  for (size_t k = 0; k < N; k++)
-                   must(proved_from_text(reinterpret_cast<const uint8_t*>(peer[k].data()), peer[k].size(), &b[k]),
-                        "from_text");
+                   must(proved_from_text(peer[k].data(), peer[k].size(), &b[k]) == S2U_OK, "from_text");
                },
                [&] { return sum_of(b); }});
   };
   for (size_t k = 0; k < N; k++) peer[k] = S2CellId(ids[k]).ToToken();
   back(
       {"from_token", N, 0xe714663334a73aec}, [](const std::string& t) { return S2CellId::FromToken(t); },
-      s2c_from_token);
+      s2u_from_token);
   table.row({"debug_text", N, 0x13a109391df62c77},
             {[&](uint32_t) {
                for (size_t k = 0; k < N; k++) peer[k] = S2CellId(ids[k]).ToString();
              },
              sum_of_texts},
-            {[&](uint32_t) {
-               for (size_t k = 0; k < N; k++) proved.lens[k] = s2c_debug(ids[k], &proved.bytes[32 * k], 32);
-             },
-             [&] { return proved.sum(); }});
+            {[&](uint32_t) { proved.read(s2u_debug, ids); }, [&] { return proved.sum(); }});
   for (size_t k = 0; k < N; k++) peer[k] = S2CellId(ids[k]).ToString();
   back(
       {"from_debug_text", N, 0xe714663334a73aec}, [](const std::string& t) { return S2CellId::FromDebugString(t); },
-      s2c_from_debug);
+      s2u_from_debug);
 }
 
 static void normalising(Table& table) {
@@ -334,8 +331,8 @@ static void coverings(Table& table) {
               [&] { return made.num_cells(); });
   };
   const u64 outer_sum = 0x34e7e225fe88cd2f, inner_sum = 0xb844960511bf68f7;
-  row({"outer_large", 0, outer_sum}, true, covering_by_descent, s2c_outer);
-  row({"inner_large", 0, inner_sum}, false, covering_by_descent, s2c_inner);
+  row({"outer_large", 0, outer_sum}, true, covering_by_descent, covered<s2u_outer>);
+  row({"inner_large", 0, inner_sum}, false, covering_by_descent, covered<s2u_inner>);
   row({"outer_large_any_region", 0, outer_sum}, true, rectangle_by_coverer, s2c_region_outer);
   row({"inner_large_any_region", 0, inner_sum}, false, rectangle_by_coverer, s2c_region_inner);
 
@@ -359,7 +356,7 @@ static void coverings(Table& table) {
                b = Sum();
                cells = 0;
                for (const Bounds& r : small) {
-                 must(s2c_outer(&r, 18, room.at(), room.size(), room.len()), "outer");
+                 must(covered<s2u_outer>(&r, 18, room.at(), room.size(), room.len()), "outer");
                  b.add_all(room);
                  cells += *room.len();
                }
@@ -411,7 +408,7 @@ static void ranges(Table& table) {
                b = Sum();
                cells = 0;
                for (auto& [first, last] : ends) {
-                 must(s2c_range(first, last, room.at(), room.size(), room.len()), "range");
+                 made(s2u_range(first, last, room.at(), room.size(), room.len()), "range");
                  b.add_all(room);
                  cells += *room.len();
                }

@@ -1,6 +1,4 @@
 // Whole calls of the library for C, compared with S2.
-#include <s2union.h>
-
 #include "sides.h"
 #include "table.h"
 
@@ -8,11 +6,6 @@ const size_t N = 1000000;
 
 static u64 sum_of(const List& list) { return Sum().add_all(list).value(); }
 static u64 sum_of(const S2CellUnion& cells) { return sum_of(ids_of(cells)); }
-
-static void made(int32_t status, const char* call) {
-  if (status < 0) fprintf(stderr, "%s\n", s2u_status_text(status));
-  must(status >= 0, call);
-}
 
 using SetCall = int32_t (*)(const u64*, size_t, const u64*, size_t, u64*, size_t, size_t*);
 using CellCall = int32_t (*)(const u64*, size_t, u64);

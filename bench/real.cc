@@ -51,11 +51,6 @@ struct Chain {
 static u64 sum_of(const List& list) { return Sum().add_all(list).value(); }
 static List union_of(const Lists& lists) { return normalised(Chain(lists).ids); }
 
-static void made(int32_t status, const char* call) {
-  if (status < 0) fprintf(stderr, "%s\n", s2u_status_text(status));
-  must(status >= 0, call);
-}
-
 // Pairs of unions, for each way.
 struct Pairs {
   std::vector<std::pair<List, List>> lists;

@@ -4,6 +4,7 @@
 #include <s2/s2cell_id.h>
 #include <s2/s2cell_union.h>
 #include <s2/util/coding/coder.h>
+#include <s2union.h>
 
 #include <cstdio>
 #include <cstdlib>
@@ -15,6 +16,11 @@ inline void must(bool made, const char* call) {
   if (made) return;
   fprintf(stderr, "%s made nothing\n", call);
   exit(1);
+}
+
+inline void made(int32_t status, const char* call) {
+  if (status < 0) fprintf(stderr, "%s\n", s2u_status_text(status));
+  must(status >= 0, call);
 }
 
 inline std::vector<S2CellId> peer_cells(const List& ids) {
@@ -39,6 +45,9 @@ using Operation = bool (*)(const u64*, size_t, const u64*, size_t, uint32_t, u64
 using PeerOperation = S2CellUnion (S2CellUnion::*)(const S2CellUnion&) const;
 using CellQuestions = bool (*)(const u64*, size_t, const u64*, size_t, bool*, size_t);
 using Covering = bool (*)(const Bounds*, uint8_t, u64*, size_t, size_t*);
+using RectangleCall = int32_t (*)(const s2u_rect*, uint32_t, size_t, u64*, size_t, size_t*);
+using ToText = int32_t (*)(u64, char*, size_t, size_t*);
+using FromText = int32_t (*)(const char*, size_t, u64*);
 using UnionQuestion = bool (*)(const u64*, size_t, const u64*, size_t, uint32_t, bool*);
 
 // A list that the proved library fills.
@@ -57,3 +66,10 @@ class Room {
   List list_;
   size_t len_ = 0;
 };
+
+// A covering by libs2union, of at most as many cells as the room has.
+template <RectangleCall call>
+bool covered(const Bounds* bounds, uint8_t level, u64* out, size_t room, size_t* len) {
+  const s2u_rect rect = {bounds->face, bounds->i0, bounds->i1, bounds->j0, bounds->j1};
+  return call(&rect, level, S2U_MOST_COVERING, out, room, len) == S2U_OK;
+}

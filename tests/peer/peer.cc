@@ -33,11 +33,12 @@ static void cells(Random& random) {
   S2CellId leaf = S2CellId::FromFaceIJ(face, i, j);
   std::string place = std::to_string(face) + " " + std::to_string(i) + " " + std::to_string(j);
   question = "from_face_ij";
-  same(s2c_from_face_ij(face, i, j), u64{leaf.id()}, place);
+  same(s2u_from_face_ij(face, i, j), u64{leaf.id()}, place);
 
   S2CellId cell(random.cell(0, 30));
   std::string about = cell.ToString();
-  FaceSquare square = s2c_square(cell.id());
+  s2u_square square;
+  made(s2u_square_of(cell.id(), &square), "square");
   int si, sj, sface = cell.ToFaceIJOrientation(&si, &sj, nullptr), size = cell.GetSizeIJ();
   question = "square";
   same<u64>(square.face, sface, about);
@@ -46,11 +47,9 @@ static void cells(Random& random) {
   same<u64>(square.size, size, about);
 }
 
-using FromText = bool (*)(const uint8_t*, size_t, u64*);
-
 static void read_text(FromText from_text, const std::string& text, S2CellId peer) {
   u64 id = 0;
-  bool found = from_text(reinterpret_cast<const uint8_t*>(text.data()), text.size(), &id);
+  bool found = from_text(text.data(), text.size(), &id) == S2U_OK;
   same(found, peer.is_valid(), "'" + text + "'");
   if (found) same(id, u64{peer.id()}, "'" + text + "'");
 }
@@ -63,24 +62,25 @@ static std::string spoilt(Random& random, std::string text, const std::string& b
 
 static void texts(Random& random) {
   S2CellId cell(random.cell(0, 30));
-  uint8_t text[32];
+  char text[S2U_MOST_DEBUG];
+  size_t len = 0;
   question = "token";
-  size_t len = s2c_token(cell.id(), text, sizeof text);
+  made(s2u_token(cell.id(), text, sizeof text, &len), question);
   std::string token(text, text + len);
   same(token, cell.ToToken(), cell.ToString());
   question = "from_token";
-  read_text(s2c_from_token, token, cell);
+  read_text(s2u_from_token, token, cell);
   std::string other = spoilt(random, token, "0123456789abcdefABCDEF");
-  read_text(s2c_from_token, other, S2CellId::FromToken(other));
+  read_text(s2u_from_token, other, S2CellId::FromToken(other));
 
   question = "debug";
-  len = s2c_debug(cell.id(), text, sizeof text);
+  made(s2u_debug(cell.id(), text, sizeof text, &len), question);
   std::string debug(text, text + len);
   same(debug, cell.ToString(), token);
   question = "from_debug";
-  read_text(s2c_from_debug, debug, cell);
+  read_text(s2u_from_debug, debug, cell);
   other = spoilt(random, debug, "01234567/");
-  read_text(s2c_from_debug, other, S2CellId::FromDebugString(other));
+  read_text(s2u_from_debug, other, S2CellId::FromDebugString(other));
 }
 
 // Cells close to one another, so that some contain others and some are all children of one parent.
@@ -181,7 +181,7 @@ static void ranges(Random& random) {
   if (b >> 61 > 5) b = a;
   u64 first = std::min(a, b), last = std::max(a, b);
   question = "range";
-  must(s2c_range(first, last, room.at(), room.size(), room.len()), question);
+  made(s2u_range(first, last, room.at(), room.size(), room.len()), question);
   same_cells(room, ids_of(S2CellUnion::FromMinMax(S2CellId(first), S2CellId(last))), text_of({first, last}));
 }
 
@@ -205,8 +205,8 @@ static void coverings(Random& random) {
     same_cells(room, ids_of(peer), about);
   };
   S2CellUnion outer = rectangle_by_coverer(r, level, true), inner = covering_by_descent(r, level, false);
-  ask("outer", s2c_outer, outer);
-  ask("inner", s2c_inner, inner);
+  ask("outer", covered<s2u_outer>, outer);
+  ask("inner", covered<s2u_inner>, inner);
   ask("region_outer", s2c_region_outer, outer);
   ask("region_inner", s2c_region_inner, inner);
 }

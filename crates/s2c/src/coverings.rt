@@ -5,9 +5,7 @@ ghost use Rattle.s2cover.specs.Coverings.{inner_set, outer_set};
 ghost use Rattle.s2cover.specs.Rectangles.{clipped, rect_set};
 
 use crate::lists::{put_cells, union_of};
-use s2cover::{
-    FaceRect, Looks, MOST_CELLS, clip_inner, clip_outer, inner, outer, rect_inner, rect_outer,
-};
+use s2cover::{FaceRect, Looks, MOST_CELLS, clip_inner, clip_outer, inner, outer};
 use std::alloc::Global;
 
 /// The leaves of a face, 0 to 5, with coordinates from `i0` to `i1` and from `j0` to `j1`, inclusive.
@@ -26,73 +24,8 @@ pub struct Bounds {
     pub j1: u32,
 }
 
-/// The cells of a level that share a leaf with a rectangle, normalized. At most a million of them.
-#[unsafe(no_mangle)]
-pub extern "C" fn s2c_outer(
-    alloc: Global,
-    bounds: &Bounds,
-    level: u8,
-    out: &mut [u64],
-    len: &mut usize,
-) -> bool
-    ensures within { IsTrue result → len.new ≤ length out.new }
-    ensures normal { IsTrue result
-        → IsNormalForm
-        (outer_set (rect_set (record {
-          face = bounds.now.face;
-          i0 = bounds.now.i0;
-          i1 = bounds.now.i1;
-          j0 = bounds.now.j0;
-          j1 = bounds.now.j1;
-        })) level) (take len.new out.new) }
-{
-    let Some(rect) = rect_of(bounds) else {
-        return false;
-    };
-    if level > 30 {
-        return false;
-    }
-    let mut looks = Looks::default();
-    match rect_outer(alloc, &rect, level, MOST_CELLS, &mut looks) {
-        Ok(union) => put_cells(union.cells(), out, len),
-        Err(_) => false,
-    }
-}
-
-/// The cells of a level that lie inside a rectangle, normalized. At most a million of them.
-#[unsafe(no_mangle)]
-pub extern "C" fn s2c_inner(
-    alloc: Global,
-    bounds: &Bounds,
-    level: u8,
-    out: &mut [u64],
-    len: &mut usize,
-) -> bool
-    ensures within { IsTrue result → len.new ≤ length out.new }
-    ensures normal { IsTrue result
-        → IsNormalForm
-        (inner_set (rect_set (record {
-          face = bounds.now.face;
-          i0 = bounds.now.i0;
-          i1 = bounds.now.i1;
-          j0 = bounds.now.j0;
-          j1 = bounds.now.j1;
-        })) level) (take len.new out.new) }
-{
-    let Some(rect) = rect_of(bounds) else {
-        return false;
-    };
-    if level > 30 {
-        return false;
-    }
-    let mut looks = Looks::default();
-    match rect_inner(alloc, &rect, level, MOST_CELLS, &mut looks) {
-        Ok(union) => put_cells(union.cells(), out, len),
-        Err(_) => false,
-    }
-}
-
-/// The same as `s2c_outer`, by the descent that serves any region.
+/// The cells of a level that share a leaf with a rectangle, normalized, by the descent that serves any region. At most
+/// a million of them.
 #[unsafe(no_mangle)]
 pub extern "C" fn s2c_region_outer(
     alloc: Global,
@@ -124,7 +57,7 @@ pub extern "C" fn s2c_region_outer(
     }
 }
 
-/// The same as `s2c_inner`, by the descent that serves any region.
+/// The cells of a level that lie inside a rectangle, normalized, by that descent. At most a million of them.
 #[unsafe(no_mangle)]
 pub extern "C" fn s2c_region_inner(
     alloc: Global,

@@ -1,12 +1,10 @@
-//! The normal form of a list, the cells of a range, and a union cut to levels.
-ghost use Rattle.std.specs.Prelude.{◌≡◌, ◌+◌, ◌<◌, ◌≤◌, IsTrue, length, take};
-ghost use Rattle.s2cell.specs.Cell.{IsCell, first_leaf, size_of};
-ghost use Rattle.s2list.specs.Union.{IsLocal, IsNormalForm, has_leaf, between};
+//! The normal form of a list, and a union cut to levels.
+ghost use Rattle.std.specs.Prelude.{◌≡◌, ◌≤◌, IsTrue, length, take};
+ghost use Rattle.s2list.specs.Union.{IsLocal, IsNormalForm, has_leaf};
 ghost use Rattle.s2union.specs.Denorm.{denormalised};
 
 use crate::lists::{cells_of, put_cells, union_of};
-use s2cell::CellId;
-use s2union::{CellUnion, normalise};
+use s2union::normalise;
 use std::alloc::Global;
 
 /// The normal form of a list of cells, in any order.
@@ -34,31 +32,6 @@ pub extern "C" fn s2c_normalise(
     }
     match Vec::from_slice(alloc, cells.as_slice()) {
         Ok(copy) => put_cells(normalise(copy).cells(), out, len),
-        Err(_) => false,
-    }
-}
-
-/// The union of all leaves from the first of one cell to the last of another.
-#[unsafe(no_mangle)]
-pub extern "C" fn s2c_range(
-    alloc: Global,
-    first: u64,
-    last: u64,
-    out: &mut [u64],
-    len: &mut usize,
-) -> bool
-    ensures within { IsTrue result → len.new ≤ length out.new }
-    ensures normal { IsTrue result → IsNormalForm (between (first_leaf first) (first_leaf last + size_of last))
-        (take len.new out.new) }
-{
-    let (Some(x), Some(y)) = (CellId::from_id(first), CellId::from_id(last)) else {
-        return false;
-    };
-    if x.first_leaf() >= y.end_leaf() {
-        return false;
-    }
-    match CellUnion::from_range(alloc, x, y) {
-        Ok(union) => put_cells(union.cells(), out, len),
         Err(_) => false,
     }
 }
