@@ -19,19 +19,20 @@ AllWell may_flush (Wrote ∷ calls) = AllWell may_flush calls
 AllWell may_flush (Flushed ∷ calls) = may_flush × AllWell may_flush calls
 AllWell may_flush (Failed ∷ calls) = ⊥
 
--- the writer was called some times, and no call failed
+-- the writer was called some times, and no call failed; flushes are among them only if `may_flush`
 pub record NoneFailed (may_flush : Type 0) (old new : Option (List Call)) : Type 0 where
   pub calls : List Call
   pub gained : Gains old new calls
   pub well : AllWell may_flush calls
 
--- the writer was called some times and then flushed, and no call failed
+-- the writer was called some times and then flushed, and no call failed; flushes come before the last call only if
+-- `may_flush`
 pub record LastFlushed (may_flush : Type 0) (old new : Option (List Call)) : Type 0 where
   pub calls : List Call
   pub gained : Gains old new (calls ++ Flushed ∷ [])
   pub well : AllWell may_flush calls
 
--- the last call of the writer failed, and no other did
+-- the last call of the writer failed, and no other did; flushes come before it only if `may_flush`
 pub record LastFailed (may_flush : Type 0) (old new : Option (List Call)) : Type 0 where
   pub calls : List Call
   pub gained : Gains old new (calls ++ Failed ∷ [])

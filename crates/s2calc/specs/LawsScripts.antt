@@ -128,9 +128,9 @@ pub record LawOfUndo : Type 0 where
       further ≤ length old.state.past
       → Steps mid undos answers new → GoesBack (table_at (old.state.now ∷ old.state.past) further) mid answers new
 
--- If one line dumps a state that keeps to its limit and depth, and another line restores the file, over shelves that
--- expose their contents, and neither is answered `error memory` or `error file`, then the file is restored, and the
--- state is the one dumped.
+-- If one line dumps a state that keeps to its limit and depth, and another line restores the same bytes from a state
+-- with this limit and depth, over shelves that expose their contents, and neither is answered `error memory` or `error
+-- file`, then the file is restored, and the state is the one dumped.
 abbrev pub RestoreGivesBack : Type 0
 RestoreGivesBack =
     (a b c d : World) (line other name : List ℕ) (x y : Reply) → line_of line ≡ Does (Dump name) →

@@ -5,8 +5,8 @@ use Rattle.std.specs.Prelude.{slice_get, slice_set, Some}
 use Rattle.s2list.specs.Union.{has_leaf}
 use Rattle.s2union.specs.Apply.{cells_without}
 
--- The most cells that a register may have and the most tables that are kept; the earlier tables, the present one, and
--- those that were undone. Both sides have the table nearest to now first.
+-- The most cells that a register may have, and the most tables that are kept beside the present one; the earlier
+-- tables, the present one, and those that were undone. Both sides have the table nearest to now first.
 pub record History (X : Type 0) : Type 0 where
   pub limit : ℕ
   pub depth : ℕ
@@ -15,7 +15,7 @@ pub record History (X : Type 0) : Type 0 where
   pub future : List (List X)
 
 module _ {X : Type 0} where
-  -- the register gets x: the present table goes to the past, which keeps the newest ones, and the future is dropped
+  -- the register gets x: the present table goes to the past, which keeps the newest `depth`, and the future is dropped
   abbrev pub changed : History X → ℕ → X → History X
   changed h r x = record h { past = take h.depth (h.now ∷ h.past); now = slice_set h.now r x; future = [] }
 

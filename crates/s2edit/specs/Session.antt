@@ -45,7 +45,7 @@ pub record Text (h : History (List ℕ)) (bytes : List ℕ) : Type 0 where
   pub tells : Records content h
   pub is : bytes ≡ session_text content
 
--- `Stored(b, h)`: the bytes spell a session, as a session file or a union file, that tells the history
+-- the bytes spell a session, as a session file or a union file, that tells the history
 pub record Stored (bytes : List ℕ) (h : History (List ℕ)) : Type 0 where
   pub content : Content
   pub spells : Spells bytes content

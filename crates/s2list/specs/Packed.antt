@@ -23,15 +23,15 @@ pub record IsPacked (u : List ℕ) : Type 0 where
   pub unmerged : (k p : ℕ) → k + 3 < length u →
       IsFamily (slice_index u k) (slice_index u (k + 1)) (slice_index u (k + 2)) (slice_index u (k + 3)) p → ⊥
 
--- the first `n` cells of `u` end by the leaf `lo`
+-- the first `n` cells of `u` end before the leaf `lo`
 abbrev pub FirstEndBy : List ℕ → ℕ → ℕ → Type 0
 FirstEndBy u n lo = (k : ℕ) → k < n → first_leaf (slice_index u k) + size_of (slice_index u k) ≤ lo
 
--- if there is a cell at index `n` of `u`, it ends after the leaf `lo`
+-- if there is a cell at index `n` of `u`, it ends at the leaf `lo` or after it
 abbrev pub EndsAfter : List ℕ → ℕ → ℕ → Type 0
 EndsAfter u n lo = n < length u → lo < first_leaf (slice_index u n) + size_of (slice_index u n)
 
--- the first `at` cells of `u` end by the leaf `lo`, and the others after it
+-- the first `at` cells of `u` end before the leaf `lo`, and the next one, if there is one, does not
 pub record IsPlace (u : List ℕ) (lo at : ℕ) : Type 0 where
   pub within : at ≤ length u
   pub ended : FirstEndBy u at lo

@@ -39,6 +39,7 @@ abbrev pub misfit_in : Result (Option Command) Misfit → Option Misfit
 misfit_in (Ok command) = None
 misfit_in (Err misfit) = Some misfit
 
--- where a line does not fit: the first word from the left that is not what the grammar wants in its place
+-- where a line does not fit: the first word from the left that is not what the grammar wants in its place; or what is
+-- wanted where a word is missing; or that it is too long
 unfoldable pub misfit_of : List ℕ → Option Misfit
 misfit_of line = misfit_in (reading_of line)

@@ -26,17 +26,19 @@ pub record KeepsFiles (old new : Files) : Type 0 where
   pub tells : new.tells ≡ old.tells
   pub at : old.tells ≡ true → (name : List ℕ) → new.at name ≡ old.at name
 
--- nothing changes, the count included
+-- every file stays as it was, if the shelf exposes its contents, and so does the count
 abbrev pub SameFiles : Files → Files → Type 0
 SameFiles old new = KeepsFiles old new × (new.failures ≡ old.failures)
 
--- a call failed on the file `name`: its content is not known, and every other file stays as it was
+-- a call failed on the file `name`, and the count rose: its content is not known, and every other file stays as it was,
+-- if the shelf exposes its contents
 pub record LosesFile (old new : Files) (name : List ℕ) : Type 0 where
   pub tells : new.tells ≡ old.tells
   pub others : old.tells ≡ true → (other : List ℕ) → other ≢ name → new.at other ≡ old.at other
   pub failed : new.failures ≡ one_more old.failures
 
--- the file `name` holds the bytes, and everything else stays as it was
+-- if the shelf exposes its contents, the file `name` holds the bytes and every other file stays as it was; and so does
+-- the count
 pub record PutsFile (old new : Files) (name bytes : List ℕ) : Type 0 where
   pub tells : new.tells ≡ old.tells
   pub there : old.tells ≡ true → new.at name ≡ Some bytes
@@ -77,7 +79,7 @@ FailsToGet old new Device = KeepsFiles old new × (new.failures ≡ one_more old
 FailsToGet old new Memory = SameFiles old new
 
 -- a file was not written: if the fault is `Device`, the count rises and the content of that one file is not known; else
--- nothing changes
+-- no content changes, and neither does the count
 abbrev pub FailsToPut : Files → List ℕ → Files → ShelfFault → Type 0
 FailsToPut old name new Device = LosesFile old new name
 FailsToPut old name new Memory = SameFiles old new

@@ -39,7 +39,7 @@ cut_level level least modulus = min (least + (level - least + (modulus - 1)) / m
 unfoldable pub cells_in : ℕ → ℕ → List ℕ
 cells_in t c = map (descendant_of c t) (range_with_len 0 (4 ^ (t - level_of c)))
 
--- these cells for all cells of `u`: the one list that `IsDenormalised` allows
+-- for each cell of `u` in order, the cells that it is cut into: the one list that `IsDenormalised` allows
 unfoldable pub denormalised : ℕ → ℕ → List ℕ → List ℕ
 unfolding cut_level cells_in
 denormalised least modulus u = flat_map (λ c. cells_in (cut_level (level_of c) least modulus) c) u

@@ -14,7 +14,7 @@ HasParent level id = IsCell id × (level ≤ level_of id)
 abbrev pub IsValueOr : {X : Type 0} → Type 0 → X → X → X → Type 0
 IsValueOr P value otherwise entry = (P × (entry ≡ value)) ⊎ ((P → ⊥) × (entry ≡ otherwise))
 
--- the field has the token of the cell and then zeros, or zeros alone if the number is not a cell
+-- the field has the token of the cell and then zero bytes, or zero bytes alone if the number is not a cell
 abbrev pub IsTokenField : ℕ → List ℕ → Type 0
 IsTokenField id field =
     IsValueOr (IsCell id) (token_of id ++ replicate (16 - length (token_of id)) 0) (replicate 16 0) field

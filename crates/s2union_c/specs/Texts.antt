@@ -7,13 +7,13 @@ use Rattle.s2cell.specs.Cell.{IsCell}
 use Rattle.s2cell.specs.Token.{IsReading, token_of}
 use Rattle.s2cell.specs.Debug.{IsDebug}
 
--- the tokens of the cells, separated by one blank
+-- the tokens of the cells, with one space between two
 abbrev pub tokens_of : List ℕ → List ℕ
 tokens_of [] = []
 tokens_of (id ∷ []) = token_of id
 tokens_of (id ∷ next ∷ ids) = token_of id ++ 32 ∷ tokens_of (next ∷ ids)
 
--- a byte between two words: a blank, a tab, a line end or a comma
+-- a byte between two words: a space, a tab, a newline, a CR or a comma
 abbrev pub is_between : ℕ → Bool
 is_between b = (b == 32) || ((b == 9) || ((b == 10) || ((b == 13) || (b == 44))))
 
