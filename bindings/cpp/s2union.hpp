@@ -355,12 +355,9 @@ class CellUnionOf {
                               int32_t* status = nullptr) {
     if (!internal::succeeded(UnionStatus(x), status) || !internal::succeeded(UnionStatus(y), status)) return;
     std::vector<Id> cells;
-    int32_t found = IsNormalized(x) && IsNormalized(y) ? S2U_OK : S2U_NO_UNION;
-    if (found == S2U_OK) {
-      found = Listed(x.size() + y.size(), &cells, [&](uint64_t* at, size_t room, size_t* len) {
-        return s2u_intersection(Numbers(x), x.size(), Numbers(y), y.size(), at, room, len);
-      });
-    }
+    int32_t found = Listed(x.size() + y.size(), &cells, [&](uint64_t* at, size_t room, size_t* len) {
+      return s2u_intersection(Numbers(x), x.size(), Numbers(y), y.size(), at, room, len);
+    });
     if (internal::succeeded(found, status)) *out = std::move(cells);
   }
 

@@ -190,6 +190,7 @@ static void unions() {
   REFUSES(S2U_NO_CELL, two.Intersection(Id(kLeafEnd), status));
   REFUSES(S2U_NO_UNION, Union::FromNormalized(cells<Id>({second, first}), status));
   REFUSES(S2U_NO_UNION, Union::GetIntersection(cells<Id>({second, first}), list, &list, status));
+  REFUSES(S2U_NO_UNION, Union::GetIntersection(two.cell_ids(), cells<Id>({second, first}), &list, status));
   REFUSES(S2U_NO_UNION, Union::Denormalize(cells<Id>({second, first}), 3, 1, &list, status));
   REFUSES(S2U_NO_CELL, Union::FromMinMax(Id(0), Id(1), status));
   REFUSES(S2U_NO_CELL, Union::FromMinMax(Id(1), Id(kLeafEnd), status));
@@ -198,6 +199,8 @@ static void unions() {
   REFUSES(S2U_ARGUMENT, Union::FromBeginEnd(Id(3), Id(1), status));
   REFUSES(S2U_ARGUMENT, Union::FromBeginEnd(Id(5), Id(3), status));
   REFUSES(S2U_ARGUMENT, Union::FromBeginEnd(Id(kFace), Id(kLeafEnd), status));
+  REFUSES(S2U_ARGUMENT, Union::FromBeginEnd(Id(kFace), Id(kFace), status));
+  REFUSES(S2U_NO_CELL, Union::FromBeginEnd(Id(2), Id(2), status));
   REFUSES(S2U_ARGUMENT, Union::FromBeginEnd(Id(kLeafEnd), Id(1), status));
   REFUSES(S2U_ARGUMENT, Union::FromBeginEnd(Id(kLeafEnd), Id(kLeafEnd - 2), status));
   REFUSES(S2U_ARGUMENT, two.Denormalize(31, 1, &list, status));
@@ -223,7 +226,9 @@ static void unions() {
   has_memory = true;
   std_has_memory = false;
   REFUSES(S2U_MEMORY, Union::WholeSphere(status));
+  REFUSES(S2U_MEMORY, Union::GetIntersection(two.cell_ids(), two.cell_ids(), &list, status));
   std_has_memory = true;
+  CHECK(list.size() == 64);
   has_memory = false;
 #endif
   REFUSES(S2U_OK, two.Union(face, status));

@@ -97,7 +97,7 @@ class AgainstTheModel(unittest.TestCase):
 
     def test_texts_that_name_no_cell(self):
         for text in ("", "X", "c", "2", "0", "0" * 17, "1" + "0" * 15 + "1", "1 ", "0x1", "g", "0/4", "6/", "/",
-                     "0/" + "0" * 31, "\ud800", "é"):
+                     "0/" + "0" * 31, "\ud800", "1\ud800", "é"):
             self.assertRaises(ValueError, s2union.from_token, text)
         for text in ("", "0", "/", "0/4", "0/a", "00/", "6/", "0-1", "0/" + "0" * 31):
             self.assertRaises(ValueError, s2union.from_debug, text)
@@ -698,7 +698,7 @@ class TheModule(unittest.TestCase):
     def test_a_refused_word_ends_only_where_the_library_ends_it(self):
         others = set(range(128)) - set(b" \t\n\r,")
         for word in [b"\f", b"\v"] + [shape % byte for byte in others for shape in (b"%cx", b"x%cy", b"x%c")]:
-            for text, place in ((word, 0), (b"04 " + word + b",0c", 3), (b"04\n" + word + b"\t", 3)):
+            for text, place in ((word, 0), (b"04 " + word + b",0c", 3), (b"04\n" + word + b"\t", 3), (word + b"\r", 0)):
                 with self.assertRaises(ValueError) as refusal:
                     Union.from_tokens(text)
                 self.assertEqual(str(refusal.exception), f"not a cell: {word!r} at place {place}")
@@ -706,7 +706,8 @@ class TheModule(unittest.TestCase):
     def test_buffers(self):
         a = Union.from_tokens("04 0c 14")
         self.assertEqual(Union(a.ids), a)
-        self.assertEqual(Union(array("Q", a)), a)
+        given = array("Q", [3, *a, 1])
+        self.assertEqual((Union(given), given), (a, array("Q", [3, *a, 1])))
         self.assertTrue(a.ids.readonly)
         square = memoryview(array("Q", [1, 2, 3, 4])).cast("B").cast("Q", (2, 2))
         for wrong in (b"12345678", array("d", [1.0]), array("I", [1]), square):
