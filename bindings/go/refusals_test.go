@@ -125,6 +125,9 @@ func TestOtherTypesOfCells(t *testing.T) {
 	list := []theirs{0x1400000000000000, 0x0c00000000000000, 0x1c00000000000000, 0x0400000000000000, 0x1400000000000000}
 	list, err := s2union.Normalize(list)
 	check(t, err == nil && len(list) == 1 && list[0] == theirs(face) && s2union.IsNormalized(list), "Normalize")
+	wrong := []theirs{0x1400000000000000, 3, 2, 1}
+	list, err = s2union.Normalize(wrong)
+	check(t, errors.Is(err, s2union.ErrNoCell) && len(list) == 4 && list[0] == 0x1400000000000000, "Normalize of 2")
 	_, err = s2union.NewCellUnion(int64(face), -1)
 	check(t, errors.Is(err, s2union.ErrNoCell), "-1")
 	_, err = s2union.CellUnionFromNormalized(face, face)

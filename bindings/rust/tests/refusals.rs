@@ -76,6 +76,7 @@ fn files() {
     let bytes = union("04 0c").encode().unwrap();
     let file = UnionFile::new(&bytes).unwrap();
     assert_eq!((file.cell(2), file.cell(usize::MAX), file.is_empty()), (None, None, false));
+    assert_eq!(file.cell(1 << 32), None);
     let mut exchanged = bytes.clone();
     exchanged[9..].rotate_left(8);
     assert_eq!(UnionFile::new(&exchanged).map(|file| file.len()), Err(Error::NotNormalized));
@@ -91,6 +92,7 @@ fn as_collections() {
     assert_eq!([park.clone(), union("14")].into_iter().collect::<CellUnion>(), union("1"));
     assert_eq!(AsRef::<[u64]>::as_ref(&park), [0x04 << 56, 0x0c << 56, 0x1c << 56]);
     assert_eq!((format!("{park:?}"), format!("[{none}]")), ("{0/0, 0/1, 0/3}".into(), "[]".into()));
+    assert_eq!(format!("{:>5}|{:<3}|", union("04"), cell("1")), "   04|1  |");
     assert_eq!(HashSet::from([park.clone(), union("04 0c 1c"), none.clone()]).len(), 2);
     let names = BTreeMap::from([(park.clone(), "park"), (none.clone(), "nothing")]);
     assert_eq!(names.into_values().collect::<Vec<_>>(), ["nothing", "park"]);
