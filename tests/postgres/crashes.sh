@@ -3,10 +3,7 @@
 # turns the server is stopped at once, all of its processes are killed, or one that inserts is. Each time it recovers,
 # and then every answer by an index has to be that of a scan. It is killed TIMES times, 10 if none are given. The last
 # line is 'N passed, M failed'.
-set -uo pipefail
-top=$(cd "$(dirname "$0")/../.." && pwd)
-work=$(mktemp -d)
-. "$top/tests/steps.sh"
+. "$(dirname "$0")/../steps.sh"
 . "$top/tests/postgres/server.sh"
 RANDOM=1
 
