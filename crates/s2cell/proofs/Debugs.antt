@@ -22,11 +22,11 @@ use Rattle.s2cell.proofs.DigitTexts.{digit_below, IsPlain, IsPlain-in_digits, sa
 -- ---- the debug text of a cell
 
 face_small : (n : ℕ) → IsCell n → face_of n < 6
-face_small n c = rw (← face_bits n c) (face_of_cell n c)
+face_small n c = rw (← face_bits c) (face_of_cell n c)
 
-pub IsDebug-debug_of : (n : ℕ) → IsCell n → IsDebug (debug_of n) n
+pub IsDebug-debug_of : {n : ℕ} → IsCell n → IsDebug (debug_of n) n
 unfolding debug_of
-IsDebug-debug_of n c =
+IsDebug-debug_of {n} c =
     let k = level_of n in
     let small = face_small n c in
     let face = digit_char_low (face_of n) (omega arith) in
@@ -52,12 +52,12 @@ two_and_rest (a ∷ []) h = absurd (omega arith)
 two_and_rest (a ∷ b ∷ rest) h = refl
 
 -- no other text is a cell's debug text
-pub debug_unique : (text : List ℕ) (n : ℕ) → IsDebug text n → text ≡ debug_of n
+pub debug_unique : {text : List ℕ} {n : ℕ} → IsDebug text n → text ≡ debug_of n
 unfolding debug_of
-debug_unique text n d =
+debug_unique {text} {n} d =
     let c = d.cell in
     let k = level_of n in
-    let own = IsDebug-debug_of n c in
+    let own = IsDebug-debug_of c in
     let len = d.length_is in
     let small = face_small n c in
     let face : get_or text 0 0 ≡ digit_char (face_of n) = d.face
@@ -65,12 +65,11 @@ debug_unique text n d =
     let rest_len : length (drop 2 text) ≡ length (in_digits 4 k (place_of n)) = length-drop 2 text
     ∙ (let l = length-in_digits 4 k (place_of n) in omega arith) in
     let rest : drop 2 text ≡ in_digits 4 k (place_of n) =
-    same_text 4 (drop 2 text) (in_digits 4 k (place_of n)) (omega arith) (four_plain (drop 2 text) d.digits)
-    (IsPlain-in_digits 4 k (place_of n) (omega arith) (omega arith))
+    same_text
+    (omega arith) (four_plain (drop 2 text) d.digits) (IsPlain-in_digits 4 k (place_of n) (omega arith) (omega arith))
     rest_len (d.value ∙ sym (digits_value-in_digits 4 k (place_of n) (omega arith) (omega arith))) in
     two_and_rest text (omega arith) ∙ ap (λ x. x ∷ get_or text 1 0 ∷ drop 2 text) face
-    ∙ ap (λ x. digit_char (face_of n) ∷ x ∷ drop 2 text) d.slash
-    ∙ ap (λ x. digit_char (face_of n) ∷ 47 ∷ x) rest
+    ∙ ap (λ x. digit_char (face_of n) ∷ x ∷ drop 2 text) d.slash ∙ ap (λ x. digit_char (face_of n) ∷ 47 ∷ x) rest
 
 -- ---- the places that `debug` fills
 
@@ -91,9 +90,9 @@ debug_digit n k h =
     ∙ ap (λ x. x % 4) at in
     ap (λ x. 48 + x) low ∙ sym (digit_char_low (n / 2 / 4 ^ (29 - k) % 4) (omega arith))
 
-pub debug_more : (n k d : ℕ) (digits : List ℕ) → DebugSoFar n k digits → k < 30 →
-    d ≡ 48 + bit_and (n / 2 ^ (59 - 2 * k)) 3 → DebugSoFar n (k + 1) (set digits (k + 2) d)
-debug_more n k d digits so_far h is =
+pub debug_more : {n k : ℕ} (d : ℕ) {digits : List ℕ} → DebugSoFar n k digits →
+    k < 30 → d ≡ 48 + bit_and (n / 2 ^ (59 - 2 * k)) 3 → DebugSoFar n (k + 1) (set digits (k + 2) d)
+debug_more {n} {k} d {digits} so_far h is =
     let size = so_far.size in
     let lt : k + 2 < length digits = omega arith in
     let zeroth : 0 ≢ k + 2 = omega arith in
@@ -118,10 +117,10 @@ take_two n [] h = absurd (omega arith)
 take_two n (a ∷ []) h = absurd (omega arith)
 take_two n (a ∷ b ∷ rest) h = refl
 
-pub debug_done : (n k : ℕ) (digits text : List ℕ) → IsCell n → DebugSoFar n k digits → 30 ≤ k →
-    text ≡ take (level_of n + 2) digits → text ≡ debug_of n
+pub debug_done : {n k : ℕ} {digits : List ℕ} (text : List ℕ) →
+    IsCell n → DebugSoFar n k digits → 30 ≤ k → text ≡ take (level_of n + 2) digits → text ≡ debug_of n
 unfolding debug_of
-debug_done n k digits text c so_far h e =
+debug_done {n} {digits} text c so_far h e =
     let level = level_of n in
     let shallow : level ≤ 30 = shallow n c in
     let size = so_far.size in
@@ -148,9 +147,9 @@ pub record DebugRead (rest : List ℕ) (face i place : ℕ) : Type 0 where
   pub digits : AllDigits 4 (take i rest)
   pub is : place ≡ face * 4 ^ i + digits_value 4 (take i rest)
 
-pub debug_read_more : (rest : List ℕ) (face i place d : ℕ) → i < length rest → DebugRead rest face i place →
+pub debug_read_more : {rest : List ℕ} {face i place : ℕ} (d : ℕ) → i < length rest → DebugRead rest face i place →
     d ≡ digit_value (get_or rest i 0) → d < 4 → DebugRead rest face (i + 1) (4 * place + d)
-debug_read_more rest face i place d h r is small =
+debug_read_more {rest} {i} d h r is small =
     let more : digits_value 4 (take (i + 1) rest) ≡ digits_value 4 (take i rest) * 4
     + digit_value (get_or rest i 0) = digits_value_more 4 rest i h in
     let pw : 4 ^ (i + 1) ≡ 4 ^ i * 4 = pow-add 4 i 1 in
@@ -161,8 +160,8 @@ debug_read_more rest face i place d h r is small =
       is = rw (more, pw) (omega arith);
     }
 
-place_small : (rest : List ℕ) (face i place : ℕ) → i ≤ length rest → DebugRead rest face i place → place < 6 * 4 ^ i
-place_small rest face i place h r =
+place_small : {rest : List ℕ} {face i place : ℕ} → i ≤ length rest → DebugRead rest face i place → place < 6 * 4 ^ i
+place_small {rest} {face} {i} h r =
     let below : digits_value 4 (take i rest) < 4 ^ length (take i rest) = digits_value-lt 4 (take i rest) r.digits in
     let len : length (take i rest) ≡ i = length-take-le i rest h in
     let low : digits_value 4 (take i rest) < 4 ^ i = rw len at below in
@@ -170,33 +169,32 @@ place_small rest face i place h r =
     let v = r.is in
     omega arith
 
-pub place_room : (rest : List ℕ) (face i place : ℕ) → i < length rest → length rest ≤ 30 →
-    DebugRead rest face i place → 4 * place + 3 < 2 ^ 64
-place_room rest face i place h m r =
-    let small = place_small rest face i place (omega arith) r in
+pub place_room : {rest : List ℕ} {face i place : ℕ} →
+    i < length rest → length rest ≤ 30 → DebugRead rest face i place → 4 * place + 3 < 2 ^ 64
+place_room {rest} {face} {i} {place} h m r =
+    let small = place_small (omega arith) r in
     let p : 4 ^ i ≤ 4 ^ 29 = pow-le-pow_right {n = 4} (lit< tt) {i = i} {j = 29} (omega arith) in
     omega arith
 
-pub id_room : (rest : List ℕ) (face i place : ℕ) → i ≤ length rest → length rest ≤ 30 →
-    DebugRead rest face i place → 2 * place + 1 < 2 ^ 64
-id_room rest face i place h m r =
-    let small = place_small rest face i place h r in
+pub id_room : {rest : List ℕ} {face i place : ℕ} →
+    i ≤ length rest → length rest ≤ 30 → DebugRead rest face i place → 2 * place + 1 < 2 ^ 64
+id_room {rest} {face} {i} {place} h m r =
+    let small = place_small h r in
     let p : 4 ^ i ≤ 4 ^ 30 = pow-le-pow_right {n = 4} (lit< tt) {i = i} {j = 30} (omega arith) in
     omega arith
 
-pub face_of_cell_at : (k m n : ℕ) → IsCellAt k m n → face_of n ≡ m / 4 ^ k
+pub face_of_cell_at : {k m n : ℕ} → IsCellAt k m n → face_of n ≡ m / 4 ^ k
 unfolding face_of
-face_of_cell_at k m n c = rw (place_of_cell k m n c, level_of_cell k m n c) refl
+face_of_cell_at {k} {m} {n} c = rw (place_of_cell k m n c, level_of_cell k m n c) refl
 
-pub debug_read_whole : (text rest : List ℕ) (i place id : ℕ) → drop 2 text ≡ rest → 2 ≤ length text →
-    length rest ≤ 30 → length rest ≤ i → i ≤ length rest
-    → DebugRead rest (digit_value (get_or text 0 0)) i place → get_or text 1 0 ≡ 47
-    → id ≡ (2 * place + 1) * 2 ^ (2 * (30 - length rest)) % 2 ^ 64 → IsDebug text id
-debug_read_whole text rest i place id after two most low high r slash e =
+pub debug_read_whole : (text : List ℕ) {rest : List ℕ} {i place : ℕ} (id : ℕ) → drop 2 text ≡ rest → 2 ≤ length text →
+    length rest ≤ 30 → length rest ≤ i → i ≤ length rest → DebugRead rest (digit_value (get_or text 0 0)) i place →
+    get_or text 1 0 ≡ 47 → id ≡ (2 * place + 1) * 2 ^ (2 * (30 - length rest)) % 2 ^ 64 → IsDebug text id
+debug_read_whole text {rest} {i} {place} id after two most low high r slash e =
     let face = digit_value (get_or text 0 0) in
     let same : i ≡ length rest = omega arith in
     let all : take i rest ≡ rest = take_all i rest low in
-    let bound = place_small rest face i place high r in
+    let bound = place_small high r in
     let small : place < 6 * 4 ^ length rest = rw same at bound in
     let s = 4 ^ (30 - length rest) in
     let whole : 4 ^ length rest * s ≡ 4 ^ 30 = all_leaves (length rest) most in
@@ -211,7 +209,7 @@ debug_read_whole text rest i place id after two most low high r slash e =
     ∙ ap (λ x. face * 4 ^ i + digits_value 4 x) all ∙ ap (λ x. face * 4 ^ x + digits_value 4 rest) same in
     let digits : AllDigits 4 rest = rw all at r.digits in
     let tail : digits_value 4 rest < 4 ^ length rest = digits_value-lt 4 rest digits in
-    let faces : face_of id ≡ face = face_of_cell_at (length rest) place id at ∙ ap (λ x. x / 4 ^ length rest) read
+    let faces : face_of id ≡ face = face_of_cell_at at ∙ ap (λ x. x / 4 ^ length rest) read
     ∙ div-mul-add face (4 ^ length rest) (digits_value 4 rest) tail in
     let first : digit_value (get_or text 0 0) + 48 ≡ get_or text 0 0 =
     digit_value_digit (get_or text 0 0) (digit_from_value (get_or text 0 0) (let f = r.face_small in
@@ -229,15 +227,15 @@ debug_read_whole text rest i place id after two most low high r slash e =
 
 -- what a debug text must have
 
-pub debug_face : (text : List ℕ) (n : ℕ) → IsDebug text n → digit_value (get_or text 0 0) < 6
-debug_face text n d =
+pub debug_face : {text : List ℕ} {n : ℕ} → IsDebug text n → digit_value (get_or text 0 0) < 6
+debug_face {text} {n} d =
     let small = face_small n d.cell in
     let low : digit_char (face_of n) ≡ 48 + face_of n = digit_char_low (face_of n) (omega arith) in
     let first : get_or text 0 0 ≡ digit_char (face_of n) = d.face ∙ omega arith in
     rw (first, digit_value-digit_char (face_of n) (omega arith)) small
 
-pub debug_short : (text : List ℕ) (n : ℕ) → IsDebug text n → (2 ≤ length text) × (length (drop 2 text) ≤ 30)
-debug_short text n d =
+pub debug_short : {text : List ℕ} {n : ℕ} → IsDebug text n → (2 ≤ length text) × (length (drop 2 text) ≤ 30)
+debug_short {text} {n} d =
     let s = shallow n d.cell in
     let l = d.length_is in
     let len : length (drop 2 text) ≡ length text - 2 = length-drop 2 text in

@@ -1,6 +1,5 @@
 -- The cells of a level in a cell: their identifiers and their leaves.
-use Rattle.std.proofs.Common.{◌≡◌, ℕ, ◌+◌, ◌-◌, ◌*◌, ◌%◌, ◌^◌, ◌<◌, ◌≤◌, refl, sym, ◌∙◌, ap}
-use Rattle.std.proofs.Common.{arith}
+use Rattle.std.proofs.Common.{◌≡◌, ℕ, ◌+◌, ◌-◌, ◌*◌, ◌%◌, ◌^◌, ◌<◌, ◌≤◌, refl, sym, ◌∙◌, ap, arith}
 use Rattle.std.proofs.Math.Nat.{mul-le-mul_right}
 use Rattle.std.proofs.lemmas.Nat.{pow-add, one_shl}
 use Rattle.s2cell.specs.Cell.{IsCellAt, IsCell, level_of, place_of, size_of, first_leaf}
@@ -17,10 +16,10 @@ pub record Descendant (n k i : ℕ) : Type 0 where
   pub first : first_leaf (descendant_of n k i) ≡ first_leaf n + i * 4 ^ (30 - k)
   pub whole : size_of n ≡ 4 ^ (k - level_of n) * 4 ^ (30 - k)
 
-pub descendant_at : (n k i : ℕ) → IsCell n → level_of n ≤ k → k ≤ 30 → i < 4 ^ (k - level_of n) →
-    IsCellAt k (place_of n * 4 ^ (k - level_of n) + i) (descendant_of n k i)
+pub descendant_at : {n : ℕ} (k i : ℕ) → IsCell n → level_of n ≤ k →
+    k ≤ 30 → i < 4 ^ (k - level_of n) → IsCellAt k (place_of n * 4 ^ (k - level_of n) + i) (descendant_of n k i)
 unfolding descendant_of
-descendant_at n k i c h t q =
+descendant_at {n} k i c h t q =
     let o = own_place n c in
     let d = 4 ^ (k - level_of n) in
     let e : k ≡ level_of n + (k - level_of n) = omega arith in
@@ -34,7 +33,7 @@ descendant n k i c h t q =
     let o = own_place n c in
     let d = 4 ^ (k - level_of n) in
     let s = 4 ^ (30 - k) in
-    let a = descendant_at n k i c h t q in
+    let a = descendant_at k i c h t q in
     let e : 30 - level_of n ≡ (k - level_of n) + (30 - k) = omega arith in
     let pw : 4 ^ (30 - level_of n) ≡ d * s = ap (λ x. 4 ^ x) e ∙ pow-add 4 (k - level_of n) (30 - k) in
     let sn : size_of n ≡ d * s = size_of_cell (level_of n) (place_of n) n o ∙ pw in
@@ -50,10 +49,9 @@ descendant n k i c h t q =
     }
 
 -- its identifier, as it is computed
-pub descendant_bits : (n k i b s : ℕ) → IsCell n → level_of n ≤ k → k ≤ 30 → i < 4 ^ (k - level_of n) →
-    s ≡ size_of n → b ≡ 1 * 2 ^ (2 * (30 - k)) % 2 ^ 64
-    → n - s + (2 * i + 1) * b ≡ descendant_of n k i
-descendant_bits n k i b s c h t q es eb =
+pub descendant_bits : {n : ℕ} (k i b s : ℕ) → IsCell n → level_of n ≤ k → k ≤ 30 → i < 4 ^ (k - level_of n) →
+    s ≡ size_of n → b ≡ 1 * 2 ^ (2 * (30 - k)) % 2 ^ 64 → n - s + (2 * i + 1) * b ≡ descendant_of n k i
+descendant_bits {n} k i b s c h t q es eb =
     let d = descendant n k i c h t q in
     let is : b ≡ 4 ^ (30 - k) = eb ∙ one_shl (2 * (30 - k)) 64 (omega arith) ∙ sym (four_pow (30 - k)) in
     let l = cell_leaves n c in
@@ -66,7 +64,7 @@ descendant_bits n k i b s c h t q es eb =
 
 pub IsCell-descendant_of : (n k i m : ℕ) → IsCell n → level_of n ≤ k → k ≤ 30 → i < 4 ^ (k - level_of n) →
     m ≡ descendant_of n k i → IsCell m
-IsCell-descendant_of n k i m c h t q e = (k, place_of n * 4 ^ (k - level_of n) + i, rw e (descendant_at n k i c h t q))
+IsCell-descendant_of n k i m c h t q e = (k, place_of n * 4 ^ (k - level_of n) + i, rw e (descendant_at k i c h t q))
 
 -- where it is computed nothing exceeds 64 bits
 pub record DescendantFits (n k i b s : ℕ) : Type 0 where
@@ -74,10 +72,10 @@ pub record DescendantFits (n k i b s : ℕ) : Type 0 where
   pub sum : n - s + (2 * i + 1) * b < 2 ^ 64
   pub twice : 2 * i + 1 < 2 ^ 64
 
-pub descendant_fits : (n k i b s : ℕ) → IsCell n → level_of n ≤ k → k ≤ 30 → i < 4 ^ (k - level_of n) →
-    s ≡ size_of n → b ≡ 1 * 2 ^ (2 * (30 - k)) % 2 ^ 64 → DescendantFits n k i b s
-descendant_fits n k i b s c h t q es eb =
-    let e = descendant_bits n k i b s c h t q es eb in
+pub descendant_fits : {n : ℕ} (k i b s : ℕ) → IsCell n → level_of n ≤ k →
+    k ≤ 30 → i < 4 ^ (k - level_of n) → s ≡ size_of n → b ≡ 1 * 2 ^ (2 * (30 - k)) % 2 ^ 64 → DescendantFits n k i b s
+descendant_fits {n} k i b s c h t q es eb =
+    let e = descendant_bits k i b s c h t q es eb in
     let f = fits_u64 (descendant_of n k i) (IsCell-descendant_of n k i _ c h t q refl) in
     let is : b ≡ 4 ^ (30 - k) = eb ∙ one_shl (2 * (30 - k)) 64 (omega arith) ∙ sym (four_pow (30 - k)) in
     let pos : 0 < b = rw is (four_pos (30 - k)) in

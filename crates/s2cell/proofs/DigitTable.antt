@@ -1,7 +1,6 @@
 -- The tables of digits, entry by entry.
-use Rattle.std.proofs.Common.{◌≡◌, ℕ, suc, zero, ◌+◌, ◌-◌, ◌*◌, ◌/◌, ◌%◌, ◌^◌, ◌<◌}
-use Rattle.std.proofs.Common.{Bool, true, ◌&&◌, ◌==◌, List, [], ◌∷◌, length}
-use Rattle.std.proofs.Common.{get_or, refl, sym, ◌∙◌, ap, arith, eqb-true}
+use Rattle.std.proofs.Common.{◌≡◌, ℕ, suc, zero, ◌+◌, ◌-◌, ◌*◌, ◌/◌, ◌%◌, ◌^◌, ◌<◌, Bool, true, ◌&&◌, ◌==◌, List, []}
+use Rattle.std.proofs.Common.{◌∷◌, length, get_or, refl, sym, ◌∙◌, ap, arith, eqb-true}
 use Rattle.std.proofs.lemmas.Bool.{and_parts}
 use Rattle.std.specs.Char.{digit_char, digit_value}
 use Rattle.s2cell.specs.declared.digits.TheConstants.{DIGIT_VALUES, HEX_PAIRS}
@@ -46,8 +45,7 @@ high_in_table b h =
     let half : 2 * b / 2 ≡ b = omega arith in
     let even : 2 * b % 2 ≡ 0 = omega arith in
     let below : b / 16 % 16 ≡ b / 16 = omega arith in
-    entry_in pair_digit HEX_PAIRS pairs_ok (2 * b) (omega arith)
-    ∙ rw (half, even) (ap digit_char below)
+    entry_in pair_digit HEX_PAIRS pairs_ok (2 * b) (omega arith) ∙ rw (half, even) (ap digit_char below)
 
 pub low_in_table : (b : ℕ) → b < 256 → get_or HEX_PAIRS (2 * b + 1) 0 ≡ digit_char (b % 16)
 unfolding pair_digit
@@ -55,5 +53,4 @@ low_in_table b h =
     let half : (2 * b + 1) / 2 ≡ b = omega arith in
     let odd : (2 * b + 1) % 2 ≡ 1 = omega arith in
     let one : b / 1 % 16 ≡ b % 16 = omega arith in
-    entry_in pair_digit HEX_PAIRS pairs_ok (2 * b + 1) (omega arith)
-    ∙ rw (half, odd) (ap digit_char one)
+    entry_in pair_digit HEX_PAIRS pairs_ok (2 * b + 1) (omega arith) ∙ rw (half, odd) (ap digit_char one)

@@ -1,7 +1,6 @@
 -- Texts of digits: the number that they write, and the one text that writes it.
-use Rattle.std.proofs.Common.{◌≡◌, ◌≢◌, ◌⊎◌, inl, inr, ℕ, suc, zero, ◌+◌, ◌-◌, ◌*◌, ◌/◌, ◌%◌}
-use Rattle.std.proofs.Common.{◌^◌, ◌<◌, ◌≤◌, refl, sym, ◌∙◌, ap, arith, List, [], ◌∷◌, ◌++◌, length, take}
-use Rattle.std.proofs.Common.{get_or, All, length-append}
+use Rattle.std.proofs.Common.{◌≡◌, ◌≢◌, ◌⊎◌, inl, inr, ℕ, suc, zero, ◌+◌, ◌-◌, ◌*◌, ◌/◌, ◌%◌, ◌^◌, ◌<◌, ◌≤◌, refl, sym}
+use Rattle.std.proofs.Common.{◌∙◌, ap, arith, List, [], ◌∷◌, ◌++◌, length, take, get_or, All, length-append}
 use Rattle.std.proofs.Math.Arith.{mod-mul}
 use Rattle.std.proofs.Math.Logic.{⊎_elim}
 use Rattle.std.proofs.lemmas.Bool.{cases_lt}
@@ -55,9 +54,8 @@ digits_value-in_digits b (suc len) n some most =
 
 -- a text of digits, each the one that `digit_char` gives, is its value in digits
 pub take-in_digits : (b i : ℕ) (text : List ℕ) → 0 < b → i ≤ length text →
-    ((k : ℕ) → k < length text → digit_value (get_or text k 0) < b) →
-    ((k : ℕ) → k < length text → digit_char (digit_value (get_or text k 0)) ≡ get_or text k 0)
-    → take i text ≡ in_digits b i (digits_value b (take i text))
+    ((k : ℕ) → k < length text → digit_value (get_or text k 0) < b) → ((k : ℕ) → k < length text → digit_char
+    (digit_value (get_or text k 0)) ≡ get_or text k 0) → take i text ≡ in_digits b i (digits_value b (take i text))
 take-in_digits b zero text some h low own = refl
 take-in_digits b (suc i) text some h low own =
     let c = get_or text i 0 in
@@ -75,9 +73,8 @@ take-in_digits b (suc i) text some h low own =
     take-suc text i 0 h ∙ ap (λ x. x ++ c ∷ []) start ∙ whole
 
 -- places that hold the digits of `n`, the one of the greatest of `total` first
-pub filled : (b total i : ℕ) (text : List ℕ) (n : ℕ) → i ≤ total → i ≤ length text →
-    ((k : ℕ) → k < i → get_or text k 0 ≡ digit_char (n / b ^ (total - 1 - k) % b))
-    → take i text ≡ in_digits b i (n / b ^ (total - i))
+pub filled : (b total i : ℕ) (text : List ℕ) (n : ℕ) → i ≤ total → i ≤ length text → ((k : ℕ) → k < i →
+    get_or text k 0 ≡ digit_char (n / b ^ (total - 1 - k) % b)) → take i text ≡ in_digits b i (n / b ^ (total - i))
 filled b total zero text n h l is = refl
 filled b total (suc i) text n h l is =
     let last : total - 1 - i ≡ total - suc i = omega arith in
@@ -104,18 +101,18 @@ digit_below b (c ∷ cs) zero d a h = a.0
 digit_below b (c ∷ cs) (suc k) d a h = digit_below b cs k d a.1 (omega arith)
 
 -- a text of plain digits is its value in digits
-pub plain_text : (b : ℕ) (text : List ℕ) → 0 < b → IsPlain b text →
-    text ≡ in_digits b (length text) (digits_value b text)
-plain_text b text some p =
+pub plain_text : {b : ℕ} {text : List ℕ} →
+    0 < b → IsPlain b text → text ≡ in_digits b (length text) (digits_value b text)
+plain_text {b} {text} some p =
     let whole : take (length text) text ≡ text = take_all (length text) text (omega arith) in
     let front = take-in_digits b (length text) text some (omega arith) (λ k h. digit_below b text k 0 p.digits h)
     (λ k h. p.written k 0 h) in
     sym whole ∙ front ∙ ap (λ t. in_digits b (length text) (digits_value b t)) whole
 
-pub same_text : (b : ℕ) (s t : List ℕ) → 0 < b → IsPlain b s → IsPlain b t → length s ≡ length t →
-    digits_value b s ≡ digits_value b t → s ≡ t
-same_text b s t some p q l v = plain_text b s some p ∙ ap (λ n. in_digits b n (digits_value b s)) l
-    ∙ ap (λ n. in_digits b (length t) n) v ∙ sym (plain_text b t some q)
+pub same_text : {b : ℕ} {s t : List ℕ} →
+    0 < b → IsPlain b s → IsPlain b t → length s ≡ length t → digits_value b s ≡ digits_value b t → s ≡ t
+same_text {b} {s} {t} some p q l v = plain_text some p ∙ ap (λ n. in_digits b n (digits_value b s)) l
+    ∙ ap (λ n. in_digits b (length t) n) v ∙ sym (plain_text some q)
 
 pub IsPlain-in_digits : (b len n : ℕ) → 0 < b → b ≤ 36 → IsPlain b (in_digits b len n)
 IsPlain-in_digits b len n some most = record {

@@ -9,8 +9,8 @@ use Rattle.s2cell.proofs.CellLemmas.{own_place, all_leaves, level_of_cell, place
 use Rattle.s2cell.proofs.Calls.{size_at}
 
 -- two lowest bits up is one place further
-pub next_cell : (n s : ℕ) → IsCell n → s ≡ size_of n → n + 2 * s < 6 * 2 ^ 61 → IsNext n (n + 2 * s)
-next_cell n s c e h =
+pub next_cell : {n : ℕ} (s : ℕ) → IsCell n → s ≡ size_of n → n + 2 * s < 6 * 2 ^ 61 → IsNext n (n + 2 * s)
+next_cell {n} s c e h =
     let o = own_place n c in
     let k = level_of n in
     let m = place_of n in
@@ -28,8 +28,8 @@ next_cell n s c e h =
       place = place_of_cell k (m + 1) (n + 2 * s) i;
     }
 
-pub last_cell : (n s : ℕ) → IsCell n → s ≡ size_of n → 6 * 2 ^ 61 ≤ n + 2 * s → IsLast n
-last_cell n s c e h =
+pub last_cell : {n : ℕ} (s : ℕ) → IsCell n → s ≡ size_of n → 6 * 2 ^ 61 ≤ n + 2 * s → IsLast n
+last_cell {n} s c e h =
     let o = own_place n c in
     let k = level_of n in
     let m = place_of n in
@@ -50,8 +50,8 @@ two_more : (r t : ℕ) → (2 * r + 1 + 2) * t ≡ (2 * r + 1) * t + 2 * t
 two_more r t = omega arith
 
 -- two lowest bits down is one place back
-pub cell_before : (n s : ℕ) → IsCell n → s ≡ size_of n → 2 * s < n → IsCell (n - 2 * s) × IsNext (n - 2 * s) n
-cell_before n s c e h =
+pub cell_before : {n : ℕ} (s : ℕ) → IsCell n → s ≡ size_of n → 2 * s < n → IsCell (n - 2 * s) × IsNext (n - 2 * s) n
+cell_before {n} s c e h =
     let o = own_place n c in
     let k = level_of n in
     let m = place_of n in
@@ -68,8 +68,8 @@ cell_before n s c e h =
     let p = place_of_cell k (m - 1) (n - 2 * s) i in
     ((k, m - 1, i), record { cell = c; level = sym l; place = omega arith })
 
-pub first_cell : (n s : ℕ) → IsCell n → s ≡ size_of n → n ≤ 2 * s → IsFirst n
-first_cell n s c e h =
+pub first_cell : {n : ℕ} (s : ℕ) → IsCell n → s ≡ size_of n → n ≤ 2 * s → IsFirst n
+first_cell {n} s c e h =
     let o = own_place n c in
     let k = level_of n in
     let m = place_of n in

@@ -1,6 +1,5 @@
 -- The cell that tiles a run of leaves is the largest that begins there and fits.
-use Rattle.std.proofs.Common.{◌≡◌, ℕ, suc, ◌+◌, ◌-◌, ◌*◌, ◌/◌, ◌%◌, ◌^◌, ◌<◌, ◌≤◌, sym}
-use Rattle.std.proofs.Common.{◌∙◌, ap, arith, lit<, min}
+use Rattle.std.proofs.Common.{◌≡◌, ℕ, suc, ◌+◌, ◌-◌, ◌*◌, ◌/◌, ◌%◌, ◌^◌, ◌<◌, ◌≤◌, sym, ◌∙◌, ap, arith, lit<, min}
 use Rattle.std.specs.Int.Count.{count_trailing_zeros, count_leading_zeros, trailing_of_zero}
 use Rattle.std.proofs.Math.Nat.{pow-le-pow_right, lt_of_mul-lt-mul_right}
 use Rattle.std.proofs.Math.Logic.{⊎_elim}
@@ -55,11 +54,10 @@ leading_of_large n a some fits h =
     (λ (g : 2 * a ≤ j). omega arith)
     (cases_lt j (2 * a))
 
-pub largest_tile : (first end steps n q : ℕ) → first < end → end ≤ LEAVES →
-    steps ≡ min (min (count_trailing_zeros 64 first / 2) ((63 - count_leading_zeros 64 (end - first)) / 2)) 30
-    → n ≡ 2 * first + 1 * 2 ^ (2 * steps) % 2 ^ 64 → IsCell q → first_leaf q ≡ first →
-    first_leaf q + size_of q ≤ end → size_of q ≤ size_of n
-largest_tile first end steps n q some within es en cq fq eq =
+pub largest_tile : (first end steps n : ℕ) {q : ℕ} → first < end → end ≤ LEAVES → steps ≡ min
+    (min (count_trailing_zeros 64 first / 2) ((63 - count_leading_zeros 64 (end - first)) / 2)) 30 → n ≡ 2 * first + 1 *
+    2 ^ (2 * steps) % 2 ^ 64 → IsCell q → first_leaf q ≡ first → first_leaf q + size_of q ≤ end → size_of q ≤ size_of n
+largest_tile first end steps n {q} some within es en cq fq eq =
     let t = tile_of first end steps n some within (omega arith) (omega arith) (omega arith) en in
     let m = (cell_leaves n t.cell).middle in
     let f = t.first in

@@ -1,6 +1,5 @@
 -- One digit of the curve: the quadrant that it picks, and how it turns the orientation.
-use Rattle.std.proofs.Common.{◌≡◌, ℕ, suc, zero, ◌+◌, ◌*◌, ◌<◌, refl, arith, bit_xor, List, []}
-use Rattle.std.proofs.Common.{◌∷◌, slice_index}
+use Rattle.std.proofs.Common.{◌≡◌, ℕ, suc, zero, ◌+◌, ◌*◌, ◌<◌, refl, arith, bit_xor, List, [], ◌∷◌, slice_index}
 use Rattle.std.proofs.lemmas.Nat.{xor_lt}
 use Rattle.s2cell.specs.Curve.{quadrant, quadrants, turn}
 
@@ -14,8 +13,7 @@ four_cases P a b c d (suc (suc (suc (suc n)))) h = absurd (omega arith)
 
 -- a fact of each two numbers below 4
 pub sixteen_cases : (P : ℕ → ℕ → Type 0) → ((p : ℕ) → p < 4 → P 0 p) → ((p : ℕ) → p < 4 → P 1 p) →
-    ((p : ℕ) → p < 4 → P 2 p) → ((p : ℕ) → p < 4 → P 3 p)
-    → (o p : ℕ) → o < 4 → p < 4 → P o p
+    ((p : ℕ) → p < 4 → P 2 p) → ((p : ℕ) → p < 4 → P 3 p) → (o p : ℕ) → o < 4 → p < 4 → P o p
 sixteen_cases P a b c d o p ho hp = four_cases (λ z. P z p) (a p hp) (b p hp) (c p hp) (d p hp) o ho
 
 pub quadrant_below : (o p : ℕ) → o < 4 → p < 4 → quadrant o p < 4

@@ -1,6 +1,5 @@
 -- The squares of a cell's children: the quarters of its own, in the order that its orientation gives.
-use Rattle.std.proofs.Common.{◌≡◌, ℕ, ◌+◌, ◌-◌, ◌*◌, ◌/◌, ◌%◌, ◌^◌, ◌<◌, refl, sym, ◌∙◌, ap}
-use Rattle.std.proofs.Common.{arith, subst, bit_xor}
+use Rattle.std.proofs.Common.{◌≡◌, ℕ, ◌+◌, ◌-◌, ◌*◌, ◌/◌, ◌%◌, ◌^◌, ◌<◌, refl, sym, ◌∙◌, ap, arith, subst, bit_xor}
 use Rattle.std.proofs.Math.Nat.{div-one}
 use Rattle.std.proofs.lemmas.Nat.{pow-add, mod_below}
 use Rattle.s2cell.specs.Cell.{IsCell, IsCellAt, level_of, place_of, face_of, child_of}
@@ -30,9 +29,9 @@ pub record IsChildOf (c p d : ℕ) : Type 0 where
   pub face : face_of d ≡ face_of c
   pub within : place_of d % 4 ^ level_of d ≡ place_of c % 4 ^ level_of c * 4 + p
 
-pub child_stands : (c p : ℕ) → IsCell c → level_of c < 30 → p < 4 → IsChildOf c p (child_of c p)
+pub child_stands : {c : ℕ} (p : ℕ) → IsCell c → level_of c < 30 → p < 4 → IsChildOf c p (child_of c p)
 unfolding face_of
-child_stands c p ic h hp =
+child_stands {c} p ic h hp =
     let i = IsCellAt-child_of c p ic h hp in
     let d = child_of c p in
     let k = level_of c in
@@ -56,24 +55,21 @@ unfolding orientation_of
 cell_way c x y at = record {
   at = at;
   orientation = refl;
-  below = orientation_below (level_of c) (face_of c % 2) (place_of c % 4 ^ level_of c) (omega arith)
-      (within_face c);
+  below = orientation_below (level_of c) (face_of c % 2) (place_of c % 4 ^ level_of c) (omega arith) (within_face c);
 }
 
-child_way : (c p x y : ℕ) → IsCell c → level_of c < 30 → p < 4 →
-    At (level_of c) (face_of c % 2) (place_of c % 4 ^ level_of c) x y
-    → Way (level_of (child_of c p)) (face_of (child_of c p) % 2) (place_of (child_of c p) % 4 ^ level_of (child_of c p))
-    (2 * x + quadrant (orientation_of c) p / 2) (2 * y + quadrant (orientation_of c) p % 2)
+child_way : {c : ℕ} (p x y : ℕ) → IsCell c → level_of c < 30 → p < 4 → At (level_of c) (face_of c % 2) (place_of
+    c % 4 ^ level_of c) x y → Way (level_of (child_of c p)) (face_of (child_of c p) % 2) (place_of (child_of c p) %
+    4 ^ level_of (child_of c p)) (2 * x + quadrant (orientation_of c) p / 2) (2 * y + quadrant (orientation_of c) p % 2)
     (bit_xor (orientation_of c) (turn p))
-child_way c p x y ic h hp at =
+child_way {c} p x y ic h hp at =
     let o = orientation_of c in
     let q = quadrant o p in
     let ho = orientation_small c in
     let hq = quadrant_below o p ho hp in
-    let s = child_stands c p ic h hp in
+    let s = child_stands p ic h hp in
     let one = way_one o p (q / 2) (q % 2) (bit_xor o (turn p)) ho hp (omega arith) (omega arith) (omega arith) refl in
-    let both = way_join (level_of c) 1 (face_of c % 2) (place_of c % 4 ^ level_of c) x y o p (q / 2) (q % 2)
-    (bit_xor o (turn p)) (cell_way c x y at) one in
+    let both = way_join (cell_way c x y at) one in
     let ex : x * 2 ^ 1 + q / 2 ≡ 2 * x + q / 2 = omega arith in
     let ey : y * 2 ^ 1 + q % 2 ≡ 2 * y + q % 2 = omega arith in
     let en : place_of c % 4 ^ level_of c * 4 ^ 1 + p ≡ place_of (child_of c p) % 4 ^ level_of (child_of c p) =
@@ -89,8 +85,8 @@ pub orientation_of_child : (c p : ℕ) → IsCell c → level_of c < 30 → p < 
     orientation_of (child_of c p) ≡ bit_xor (orientation_of c) (turn p)
 unfolding orientation_of
 orientation_of_child c p ic h hp =
-    sym (child_way c p _ _ ic h hp (at_within (level_of c) (face_of c % 2) (place_of c % 4 ^ level_of c)
-    (omega arith) (within_face c))).orientation
+    sym (child_way p _ _ ic h
+    hp (at_within (level_of c) (face_of c % 2) (place_of c % 4 ^ level_of c) (omega arith) (within_face c))).orientation
 
 -- a child's square is the quadrant of the cell's that its digit picks
 pub square_of_child : (c p face i j size : ℕ) → IsCell c → level_of c < 30 → p < 4 → IsSquareOf c face i j size
@@ -104,7 +100,7 @@ square_of_child c p face i j size ic h hp sq =
     let there = at_within k (face_of c % 2) (place_of c % 4 ^ k) (omega arith) (within_face c) in
     let own = one_square c face i j size (face_of c) (x * 2 ^ (30 - k)) (y * 2 ^ (30 - k)) (2 ^ (30 - k)) ic sq
     (square_from_place c x y ic there) in
-    let s = child_stands c p ic h hp in
+    let s = child_stands p ic h hp in
     let lower : 30 - (k + 1) + 1 ≡ 30 - k = omega arith in
     let two : 2 ^ (30 - k) ≡ 2 ^ (30 - (k + 1)) * 2 = ap (λ z. 2 ^ z) (sym lower) ∙ pow-add 2 (30 - (k + 1)) 1 in
     let half = 2 ^ (30 - (k + 1)) in
@@ -116,7 +112,7 @@ square_of_child c p face i j size ic h hp sq =
     let ei : (2 * x + q / 2) * half ≡ i + q / 2 * half = omega arith in
     let ej : (2 * y + q % 2) * half ≡ j + q % 2 * half = omega arith in
     let made = square_from_place (child_of c p) (2 * x + q / 2) (2 * y + q % 2)
-    (IsCell-child_of c p (child_of c p) ic h hp refl) (child_way c p x y ic h hp there).at in
+    (IsCell-child_of c p (child_of c p) ic h hp refl) (child_way p x y ic h hp there).at in
     let made2 = rw (s.level, ei, ej, s.face) at made in
     rw (eh, own.face) made2
 
@@ -126,9 +122,9 @@ pub orientation_of_face : (c : ℕ) → level_of c ≡ 0 → orientation_of c �
 unfolding orientation_of orientation_after
 orientation_of_face c e = rw e refl
 
-pub square_of_face : (c : ℕ) → IsCell c → level_of c ≡ 0 → IsSquareOf c (face_of c) 0 0 (2 ^ 30)
+pub square_of_face : {c : ℕ} → IsCell c → level_of c ≡ 0 → IsSquareOf c (face_of c) 0 0 (2 ^ 30)
 unfolding At
-square_of_face c ic e =
+square_of_face {c} ic e =
     let way : At 0 (face_of c % 2) (place_of c % 4 ^ 0) 0 0 = (omega arith, refl, refl) in
     let at : At (level_of c) (face_of c % 2) (place_of c % 4 ^ level_of c) 0 0 = rw e way in
     rw e at (square_from_place c 0 0 ic at)
@@ -149,24 +145,24 @@ face_cell f id h e =
 
 -- ---- placed cells
 
-pub placed_face : (f id o : ℕ) → IsFaceCell f id → o ≡ f % 2 → IsPlaced id f 0 0 (2 ^ 30) o
-placed_face f id o c e = record {
+pub placed_face : {f id : ℕ} (o : ℕ) → IsFaceCell f id → o ≡ f % 2 → IsPlaced id f 0 0 (2 ^ 30) o
+placed_face {id} o c e = record {
   cell = c.cell;
-  square = rw c.face at (square_of_face id c.cell c.level);
+  square = rw c.face at (square_of_face c.cell c.level);
   orientation_is = e ∙ ap (λ z. z % 2) (sym c.face) ∙ sym (orientation_of_face id c.level);
 }
 
-pub placed_orientation : (c face i j size o : ℕ) → IsPlaced c face i j size o → o < 4
-placed_orientation c face i j size o p = subst (λ z. z < 4) (sym p.orientation_is) (orientation_small c)
+pub placed_orientation : {c face i j size o : ℕ} → IsPlaced c face i j size o → o < 4
+placed_orientation {c} p = subst (λ z. z < 4) (sym p.orientation_is) (orientation_small c)
 
 -- what an entry says of one level
 record OneLevel (o p e : ℕ) : Type 0 where
   pub picked : held e ≡ quadrant o p
   pub turned : e % 256 / 16 ≡ bit_xor o (turn p)
 
-one_level : (o p e : ℕ) → IsPlaceEntry 1 o p e → OneLevel o p e
+one_level : {o p e : ℕ} → IsPlaceEntry 1 o p e → OneLevel o p e
 unfolding At orientation_after
-one_level o p e entry =
+one_level {o} {p} {e} entry =
     let (hn, hx, hy, q, rest) = entry.place in
     let own = div-one p in
     let next : e % 256 ≡ 16 * bit_xor o (turn p) = entry.next ∙ ap (λ z. 16 * bit_xor o (turn z)) own in
@@ -174,13 +170,13 @@ one_level o p e entry =
     record { picked = omega arith; turned = omega arith }
 
 -- by an entry of the table of one level
-pub placed_child : (c face i j size o p d s t e q u : ℕ) → IsPlaced c face i j size o → level_of c < 30 → p < 4
-    → d ≡ child_of c p → s ≡ o → t ≡ p → IsPlaceEntry 1 (16 * s / 16) t e → q ≡ held e → u ≡ e % 256 / 16
-    → IsPlaced d face (i + size / 2 * (q / 2)) (j + size / 2 * (q % 2)) (size / 2) u
-placed_child c face i j size o p d s t e q u w h hp ed es et entry eq eu =
+pub placed_child : {c face i j size o : ℕ} (p d s : ℕ) {t e : ℕ} (q u : ℕ) → IsPlaced c face i j size o →
+    level_of c < 30 → p < 4 → d ≡ child_of c p → s ≡ o → t ≡ p → IsPlaceEntry 1 (16 * s / 16) t e →
+    q ≡ held e → u ≡ e % 256 / 16 → IsPlaced d face (i + size / 2 * (q / 2)) (j + size / 2 * (q % 2)) (size / 2) u
+placed_child {c} {face} {i} {j} {size} {o} p d s {e} q u w h hp ed es et entry eq eu =
     let own = orientation_of c in
     let shift : 16 * s / 16 ≡ o = omega arith in
-    let one = one_level o p e (rw (shift, et) at entry) in
+    let one = one_level (rw (shift, et) at entry) in
     let turned : u ≡ orientation_of d = eu ∙ one.turned ∙ ap (λ z. bit_xor z (turn p)) w.orientation_is
     ∙ sym (orientation_of_child c p w.cell h hp) ∙ ap orientation_of (sym ed) in
     let picked : q ≡ quadrant own p = eq ∙ one.picked ∙ ap (λ z. quadrant z p) w.orientation_is in

@@ -29,18 +29,16 @@ leaf_below k m n hk e =
     let p = parts n (4 ^ k) (4 ^ (30 - k)) (four_pos k) (four_pos (30 - k)) in
     let w = all_leaves k hk in
     record {
-      face = ap (λ z. n / z) (sym w) ∙ p.whole
-          ∙ ap (λ z. z / 4 ^ k) e;
+      face = ap (λ z. n / z) (sym w) ∙ p.whole ∙ ap (λ z. z / 4 ^ k) e;
       within = ap (λ z. n % z / 4 ^ (30 - k)) (sym w) ∙ p.middle ∙ ap (λ z. z % 4 ^ k) e;
     }
 
-leaf_above : (k m n : ℕ) → k ≤ 30 → IsLeafOf k m n → n / 4 ^ (30 - k) ≡ m
-leaf_above k m n hk l =
+leaf_above : {k m n : ℕ} → k ≤ 30 → IsLeafOf k m n → n / 4 ^ (30 - k) ≡ m
+leaf_above {k} {m} {n} hk l =
     let p = parts n (4 ^ k) (4 ^ (30 - k)) (four_pos k) (four_pos (30 - k)) in
     let w = all_leaves k hk in
-    same_parts (n / 4 ^ (30 - k)) m (4 ^ k)
-    (sym p.whole ∙ ap (λ z. n / z) w ∙ l.face)
-    (sym p.middle ∙ ap (λ z. n % z / 4 ^ (30 - k)) w ∙ l.within)
+    same_parts (n / 4 ^ (30 - k))
+    m (4 ^ k) (sym p.whole ∙ ap (λ z. n / z) w ∙ l.face) (sym p.middle ∙ ap (λ z. n % z / 4 ^ (30 - k)) w ∙ l.within)
 
 -- a number in a block of s, found by its quotient
 pub in_block : (x i s : ℕ) → x / s ≡ i → 0 < s → (i * s ≤ x) × (x < i * s + s)
@@ -123,7 +121,7 @@ square_from_place c x y ic way =
           let rest : (f * 4 ^ 30 + n) % 4 ^ 30 ≡ n = mod-mul-add f (4 ^ 30) n low in
           let l : IsLeafOf k m (f * 4 ^ 30 + n) = record { face = whole; within = ap (λ z. z / 4 ^ b) rest ∙ same } in (
             f * 4 ^ 30 + n,
-            covers_block c k m (f * 4 ^ 30 + n) own (leaf_above k m (f * 4 ^ 30 + n) hk l),
+            covers_block c k m (f * 4 ^ 30 + n) own (leaf_above hk l),
             record { face_is = sym whole; at = rw rest there.1 },
           );
     }
@@ -144,8 +142,8 @@ one_leaf n m f x y a b =
 
 -- ---- a cell has one square
 
-least : (c f i j s g u v t : ℕ) → IsCell c → IsSquareOf c f i j s → IsSquareOf c g u v t → (u ≤ i) × (v ≤ j)
-least c f i j s g u v t ic a b =
+least : {c f i j s g u v t : ℕ} → IsCell c → IsSquareOf c f i j s → IsSquareOf c g u v t → (u ≤ i) × (v ≤ j)
+least {c} {f} {i} {j} {g} ic a b =
     let hs = pow_pos (30 - level_of c) in
     let es = a.size_is in
     let leaf = a.places i j (record { first = (omega arith, omega arith); second = (omega arith, omega arith) }) in
@@ -166,8 +164,8 @@ pub record SameSquare (f i j s g u v t : ℕ) : Type 0 where
 pub one_square : (c f i j s g u v t : ℕ) → IsCell c → IsSquareOf c f i j s → IsSquareOf c g u v t →
     SameSquare f i j s g u v t
 one_square c f i j s g u v t ic a b =
-    let l = least c f i j s g u v t ic a b in
-    let m = least c g u v t f i j s ic b a in
+    let l = least ic a b in
+    let m = least ic b a in
     let l0 = l.0 in
     let l1 = l.1 in
     let m0 = m.0 in
@@ -176,21 +174,20 @@ one_square c f i j s g u v t ic a b =
       face = a.face_is ∙ sym b.face_is;
       first = omega arith;
       second = omega arith;
-      size = a.size_is
-          ∙ sym b.size_is;
+      size = a.size_is ∙ sym b.size_is;
     }
 
 -- a leaf of the face lies in the cell exactly if its place lies in the square
-pub place_in_square : (c f i j s n x y : ℕ) → IsSquareOf c f i j s → IsPlaceOf n f x y → covers c n ≡ true →
-    InSquare i j s x y
-place_in_square c f i j s n x y q p h =
+pub place_in_square : {c f i j s n x y : ℕ} →
+    IsSquareOf c f i j s → IsPlaceOf n f x y → covers c n ≡ true → InSquare i j s x y
+place_in_square {f} {n} {x} {y} q p h =
     let there = q.leaves n h in
     let same = one_place n f x y f there.0 there.1 p there.2 in
     rw (same.1, same.2) there.3
 
-pub leaf_in_cell : (c f i j s n x y : ℕ) → IsSquareOf c f i j s → IsPlaceOf n f x y → InSquare i j s x y →
-    covers c n ≡ true
-leaf_in_cell c f i j s n x y q p h =
+pub leaf_in_cell : {c f i j s n x y : ℕ} →
+    IsSquareOf c f i j s → IsPlaceOf n f x y → InSquare i j s x y → covers c n ≡ true
+leaf_in_cell {f} {n} {x} {y} q p h =
     let there = q.places x y h in
     rw (one_leaf n there.0 f x y p there.2) there.1
 
@@ -220,10 +217,10 @@ pub first_leaf_covered : (c : ℕ) → IsCell c → covers c (first_leaf c) ≡ 
 first_leaf_covered c ic = let s = (cell_leaves c ic).some in covers_there c (first_leaf c) (omega arith) (omega arith)
 
 -- from the place of the cell's first leaf
-pub square_from_leaf : (c x y : ℕ) → IsCell c → At 30 (face_of c % 2) (first_leaf c % 4 ^ 30) x y
-    → IsSquareOf c (face_of c) (x / 2 ^ (30 - level_of c) * 2 ^ (30 - level_of c))
+pub square_from_leaf : {c : ℕ} (x y : ℕ) → IsCell c → At 30 (face_of c % 2) (first_leaf c % 4 ^ 30) x y →
+    IsSquareOf c (face_of c) (x / 2 ^ (30 - level_of c) * 2 ^ (30 - level_of c))
     (y / 2 ^ (30 - level_of c) * 2 ^ (30 - level_of c)) (2 ^ (30 - level_of c))
-square_from_leaf c x y ic at =
+square_from_leaf {c} x y ic at =
     let own = own_place c ic in
     let k = level_of c in
     let b = 30 - k in
@@ -244,9 +241,9 @@ cleared x b size neg hb hx es hn e =
     let en : neg ≡ 2 ^ 32 - 2 ^ b = omega arith in
     rw en (and_high_mask 32 b (omega arith) x (omega arith))
 
-pub square_of_leaf : (c f i j s : ℕ) → IsCell c → IsSquareOf c f i j s → level_of c ≡ 30 →
-    IsPlaceOf (first_leaf c) f i j × (s ≡ 1)
-square_of_leaf c f i j s ic q e =
+pub square_of_leaf : {c f i j s : ℕ} →
+    IsCell c → IsSquareOf c f i j s → level_of c ≡ 30 → IsPlaceOf (first_leaf c) f i j × (s ≡ 1)
+square_of_leaf {c} {i} {j} {s} ic q e =
     let one : s ≡ 1 = q.size_is ∙ ap (λ z. 2 ^ (30 - z)) e in
     let there = q.leaves (first_leaf c) (first_leaf_covered c ic) in
     let x = there.3.first in
@@ -264,14 +261,13 @@ next_beside n f x y u v a b =
     next_to 30 (f % 2) (n % 4 ^ 30) x y u v (omega arith) a.at (rw e at b.at)
 
 -- the square by the calls' results: the face, the first leaf's place and the masks
-pub square_computed : (c f n k x y e g : ℕ) → IsCell c → f ≡ face_of c → n ≡ first_leaf c → k ≡ level_of c → k ≤ 30
-    → At 30 (f % 2) (n % 4 ^ 30) x y → x < 2 ^ 30 → y < 2 ^ 30
-    → e < 2 ^ 32 → (e + 1 * 2 ^ (30 - k) % 2 ^ 32) % 2 ^ 32 ≡ 0 → g < 2 ^ 32 →
-    (g + 1 * 2 ^ (30 - k) % 2 ^ 32) % 2 ^ 32 ≡ 0
-    → IsSquareOf c f (bit_and x e) (bit_and y g) (1 * 2 ^ (30 - k) % 2 ^ 32)
-square_computed c f n k x y e g ic ef en ek hk at hx hy he me hg mg =
+pub square_computed : {c : ℕ} (f n k x y e g : ℕ) → IsCell c → f ≡ face_of c →
+    n ≡ first_leaf c → k ≡ level_of c → k ≤ 30 → At 30 (f % 2) (n % 4 ^ 30) x y → x < 2 ^ 30 → y < 2 ^ 30 → e < 2 ^ 32 →
+    (e + 1 * 2 ^ (30 - k) % 2 ^ 32) % 2 ^ 32 ≡ 0 → g < 2 ^ 32 → (g + 1 * 2 ^ (30 - k) % 2 ^ 32) % 2 ^ 32 ≡ 0 →
+    IsSquareOf c f (bit_and x e) (bit_and y g) (1 * 2 ^ (30 - k) % 2 ^ 32)
+square_computed {c} f n k x y e g ic ef en ek hk at hx hy he me hg mg =
     let b = 30 - k in
     let s : 1 * 2 ^ b % 2 ^ 32 ≡ 2 ^ b = one_shl b 32 (omega arith) in
     let ex = cleared x b (1 * 2 ^ b % 2 ^ 32) e (omega arith) hx s he me in
     let ey = cleared y b (1 * 2 ^ b % 2 ^ 32) g (omega arith) hy s hg mg in
-    rw (s, ex, ey, ef, ek) (square_from_leaf c x y ic (rw (ef, en) at at))
+    rw (s, ex, ey, ef, ek) (square_from_leaf x y ic (rw (ef, en) at at))

@@ -152,10 +152,9 @@ across_step a c b e h y v (inr w) hp ya yr vb vr =
     inr (omega arith)
 
 -- from one quadrant to the next
-crossing : (q r s e h x y u v : ℕ) → Crosses q r s e → 0 < h
-    → x / h ≡ q / 2 → y / h ≡ q % 2 → u / h ≡ r / 2 → v / h ≡ r % 2
-    → x % h ≡ s / 2 * (h - 1) → y % h ≡ s % 2 * (h - 1) → u % h ≡ e * (h - 1) → v % h ≡ e * (h - 1)
-    → AreNeighbours x y u v
+crossing : (q r s e h x y u v : ℕ) →
+    Crosses q r s e → 0 < h → x / h ≡ q / 2 → y / h ≡ q % 2 → u / h ≡ r / 2 → v / h ≡ r % 2 → x % h ≡ s / 2 * (h - 1) →
+    y % h ≡ s % 2 * (h - 1) → u % h ≡ e * (h - 1) → v % h ≡ e * (h - 1) → AreNeighbours x y u v
 crossing q r s e h x y u v (inl w) hp x1 y1 u1 v1 x2 y2 u2 v2 =
     inl (
       same_parts x u h (x1 ∙ w.0 ∙ sym u1) (x2 ∙ ap (λ z. z * (h - 1)) w.1 ∙ sym u2),
@@ -182,8 +181,7 @@ successor_within n d h =
     let f : n + 1 ≡ n / d * d + (n % d + 1) = omega arith in
     record {
       quotient = ap (λ z. z / d) f ∙ div-mul-add (n / d) d (n % d + 1) h;
-      rest = ap (λ z. z % d) f
-          ∙ mod-mul-add (n / d) d (n % d + 1) h;
+      rest = ap (λ z. z % d) f ∙ mod-mul-add (n / d) d (n % d + 1) h;
     }
 
 pub record NewBlock (n d : ℕ) : Type 0 where
@@ -196,8 +194,7 @@ successor_beyond n d hd h =
     let f : n + 1 ≡ suc (n / d) * d + 0 = omega arith in
     record {
       quotient = ap (λ z. z / d) f ∙ div-mul-add (suc (n / d)) d 0 hd;
-      rest = ap (λ z. z % d) f
-          ∙ mod-mul-add (suc (n / d)) d 0 hd;
+      rest = ap (λ z. z % d) f ∙ mod-mul-add (suc (n / d)) d 0 hd;
     }
 
 -- successive leaves share a side

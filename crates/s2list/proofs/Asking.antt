@@ -27,14 +27,11 @@ pub begun_there : (u : List ℕ) (at c : ℕ) → IsLocal u → IsCell c → Fir
     → ((at < length u) × (first_leaf (get_or u at 0) < first_leaf c + size_of c)) ↔ ShareSome (covers c) (has_leaf u)
 begun_there u at c local own ended next = (
   λ h. shared_at u at c local.cells own h.0 (next h.0) h.1,
-  λ s.
-      ⊎_elim
-      (λ (a : at < length u).
-      ⊎_elim
+  λ s. ⊎_elim
+      (λ (a : at < length u). ⊎_elim
       (λ (b : first_leaf (get_or u at 0) < first_leaf c + size_of c). (a, b))
-      (λ (b : first_leaf c + size_of c ≤ first_leaf (get_or u at 0)).
-      absurd (shared_none u at c local ended (λ _. b) s))
-      (cases_lt (first_leaf (get_or u at 0)) (first_leaf c + size_of c)))
+      (λ (b : first_leaf c + size_of c ≤ first_leaf (get_or u at 0)). absurd (shared_none
+      u at c local ended (λ _. b) s)) (cases_lt (first_leaf (get_or u at 0)) (first_leaf c + size_of c)))
       (λ (a : length u ≤ at). absurd (shared_none u at c local ended (λ (h : at < length u). absurd (omega arith)) s))
       (cases_lt at (length u)),
 )

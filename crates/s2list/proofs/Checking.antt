@@ -43,12 +43,9 @@ packed_from_local u l = record {
             absurd (l.apart i j d h le (first_leaf b) (covers_there a (first_leaf b) lo (omega arith))
             (covers_there b (first_leaf b) (omega arith) (omega arith)))
       ];
-  unmerged = λ k p h f.
-      l.unmerged p f.cell f.inner (four_cases (λ i. Contains u (child_of p i))
-      (member_at u k (child_of p 0) (omega arith) f.zero)
-      (member_at u (k + 1) (child_of p 1) (omega arith) f.one)
-      (member_at u (k + 2) (child_of p 2) (omega arith) f.two)
-      (member_at u (k + 3) (child_of p 3) h f.three));
+  unmerged = λ k p h f. l.unmerged p f.cell f.inner (four_cases (λ i. Contains u (child_of p i))
+      (member_at u k (child_of p 0) (omega arith) f.zero) (member_at u (k + 1) (child_of p 1) (omega arith) f.one)
+      (member_at u (k + 2) (child_of p 2) (omega arith) f.two) (member_at u (k + 3) (child_of p 3) h f.three));
 }
 
 pub later_from_test : (a b : ℕ) → false ≡ is_le (nat_cmp a b) → b < a
@@ -58,12 +55,11 @@ pub le_from_true : (a b : ℕ) (r : Bool) → r ≡ is_le (nat_cmp a b) → r �
 le_from_true a b r e t = grind (arith, nat_tests)
 
 -- a cell that comes after the last comes after all
-pub fits : (u : List ℕ) (cell : ℕ) → IsPacked u → IsCell cell →
-    (0 < length u → EndsBefore (get_or u (length u - 1) 0) cell)
-    → ((less p : ℕ) → less + 3 ≡ length u → IsFamily (get_or u less 0) (get_or u (less + 1) 0)
-    (get_or u (less + 2) 0) cell p → ⊥) → IsPacked (u ++ cell ∷ [])
+pub fits : (u : List ℕ) (cell : ℕ) → IsPacked u →
+    IsCell cell → (0 < length u → EndsBefore (get_or u (length u - 1) 0) cell) → ((less p : ℕ) → less + 3 ≡ length u →
+    IsFamily (get_or u less 0) (get_or u (less + 1) 0) (get_or u (less + 2) 0) cell p → ⊥) → IsPacked (u ++ cell ∷ [])
 fits u cell packed c last none =
-    packed_push u cell packed c
+    packed_push packed c
     (λ k h.
     let e : first_leaf (get_or u (length u - 1) 0) + size_of (get_or u (length u - 1) 0) ≤ first_leaf cell =
     last (omega arith) in
@@ -71,8 +67,7 @@ fits u cell packed c last none =
     (λ (g : k < length u - 1). let f : first_leaf (get_or u k 0) + size_of (get_or u k 0)
     ≤ first_leaf (get_or u (length u - 1) 0) = packed.chain k (length u - 1) 0 g (omega arith) in omega arith)
     (λ (g : length u - 1 ≤ k). let s : k ≡ length u - 1 = omega arith in rw s e)
-    (cases_lt k (length u - 1)))
-    none
+    (cases_lt k (length u - 1))) none
 
 pub pushed_after : (u : List ℕ) (cell x : ℕ) → IsPacked (u ++ cell ∷ []) → 0 < length u →
     x ≡ get_or u (length u - 1) x → EndsBefore x cell
@@ -86,9 +81,8 @@ pushed_after u cell x p h r =
     p.chain (length u - 1) (length u) 0 (omega arith) (omega arith) in
     rw (a, b, is) at c
 
-pub pushed_unmerged : (u : List ℕ) (cell x y z p : ℕ) → IsPacked (u ++ cell ∷ []) → 3 ≤ length u
-    → x ≡ get_or u (length u - 3) x → y ≡ get_or u (length u - 2) y → z ≡ get_or u (length u - 1) z →
-    IsFamily x y z cell p → ⊥
+pub pushed_unmerged : (u : List ℕ) (cell x y z p : ℕ) → IsPacked (u ++ cell ∷ []) → 3 ≤ length u → x ≡ get_or
+    u (length u - 3) x → y ≡ get_or u (length u - 2) y → z ≡ get_or u (length u - 1) z → IsFamily x y z cell p → ⊥
 pushed_unmerged u cell x y z p packed h rx ry rz f =
     let len : length (u ++ cell ∷ []) ≡ length u + 1 = length-append u (cell ∷ []) in
     let k = length u - 3 in
@@ -123,10 +117,9 @@ pub not_before : (x cell lo hi : ℕ) (r : Bool) → IsCell cell → hi ≡ 2 * 
     lo ≡ 2 * first_leaf cell + 1 → r ≡ is_le (nat_cmp lo hi) → r ≡ true → EndsBefore x cell → ⊥
 not_before x cell lo hi r c eh el t e b = let le : lo ≤ hi = le_from_true lo hi r t e in absurd (omega arith)
 
-pub no_family_with : (u : List ℕ) (cell x y z : ℕ) → 3 ≤ length u
-    → x ≡ get_or u (length u - 3) x → y ≡ get_or u (length u - 2) y → z ≡ get_or u (length u - 1) z →
-    ((p : ℕ) → IsFamily x y z cell p → ⊥)
-    → (less p : ℕ) → less + 3 ≡ length u → IsFamily (get_or u less 0) (get_or u (less + 1) 0)
+pub no_family_with : (u : List ℕ) (cell x y z : ℕ) → 3 ≤ length u → x ≡ get_or u (length u - 3) x →
+    y ≡ get_or u (length u - 2) y → z ≡ get_or u (length u - 1) z → ((p : ℕ) → IsFamily x y z cell p → ⊥) →
+    (less p : ℕ) → less + 3 ≡ length u → IsFamily (get_or u less 0) (get_or u (less + 1) 0)
     (get_or u (less + 2) 0) cell p → ⊥
 no_family_with u cell x y z h rx ry rz none less p e f =
     let a : get_or u less 0 ≡ x = read_at u (length u - 3) less x (omega arith) (omega arith) rx in

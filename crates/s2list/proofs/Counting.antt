@@ -34,11 +34,9 @@ one_between : (lo hi n : ℕ) → lo ≤ hi → one_if (between lo hi n) + min n
 one_between lo hi n h =
     ⊎_elim
     (λ (a : n < lo). let f : between lo hi n ≡ false = grind (arith, nat_tests) in rw f (omega arith))
-    (λ (a : lo ≤ n).
-    ⊎_elim
+    (λ (a : lo ≤ n). ⊎_elim
     (λ (b : n < hi). let f : between lo hi n ≡ true = grind (arith, nat_tests) in rw f (omega arith))
-    (λ (b : hi ≤ n). let f : between lo hi n ≡ false = grind (arith, nat_tests) in rw f (omega arith))
-    (cases_lt n hi))
+    (λ (b : hi ≤ n). let f : between lo hi n ≡ false = grind (arith, nat_tests) in rw f (omega arith)) (cases_lt n hi))
     (cases_lt n lo)
 
 -- a block of leaves
@@ -69,9 +67,8 @@ count_none S (suc n) e = let a : one_if (S n) ≡ 0 = ap one_if (e n) in let b :
     count_none S n e in omega arith
 
 -- one more cell
-pub count_more : (u : List ℕ) (i n : ℕ) → IsPacked u → i < length u →
-    first_leaf (get_or u i 0) + size_of (get_or u i 0) ≤ n
-    → count_below (has_leaf (take (i + 1) u)) n ≡ count_below (has_leaf (take i u)) n + size_of (get_or u i 0)
+pub count_more : (u : List ℕ) (i n : ℕ) → IsPacked u → i < length u → first_leaf (get_or u i 0) + size_of (get_or u
+    i 0) ≤ n → count_below (has_leaf (take (i + 1) u)) n ≡ count_below (has_leaf (take i u)) n + size_of (get_or u i 0)
 count_more u i n packed h w =
     let c = get_or u i 0 in
     let s = (cell_leaves c (packed.cells i 0 h)).some in
@@ -91,7 +88,6 @@ count_more u i n packed h w =
     let p : first_leaf (get_or u k 0) + size_of (get_or u k 0) ≤ first_leaf c = packed.chain k i 0 (omega arith) h in
     omega arith) in
     let b : count_below (between (first_leaf c) (first_leaf c + size_of c)) n + min n (first_leaf c)
-    ≡ min n (first_leaf c + size_of c) = count_between (first_leaf c) (first_leaf c + size_of c) n
-    (omega arith) in
+    ≡ min n (first_leaf c + size_of c) = count_between (first_leaf c) (first_leaf c + size_of c) n (omega arith) in
     let d : count_below (covers c) n ≡ size_of c = omega arith in
     omega arith

@@ -13,10 +13,9 @@ use Rattle.s2list.specs.Packed.{EndsBefore, IsFamily, IsPacked}
 use Rattle.s2list.proofs.Checking.{fits}
 
 -- a cell that comes after packed cells, and is not the last of four children
-pub packed_more : (u : List ℕ) (k : ℕ) → k < length u → IsPacked (take k u) → IsCell (get_or u k 0)
-    → (0 < k → EndsBefore (get_or u (k - 1) 0) (get_or u k 0))
-    → ((3 ≤ k) × (p : ℕ) × IsFamily (get_or u (k - 3) 0) (get_or u (k - 2) 0) (get_or u (k - 1) 0) (get_or u k 0) p → ⊥)
-    → IsPacked (take (k + 1) u)
+pub packed_more : (u : List ℕ) (k : ℕ) → k < length u → IsPacked (take k u) →
+    IsCell (get_or u k 0) → (0 < k → EndsBefore (get_or u (k - 1) 0) (get_or u k 0)) → ((3 ≤ k) × (p : ℕ) × IsFamily
+    (get_or u (k - 3) 0) (get_or u (k - 2) 0) (get_or u (k - 1) 0) (get_or u k 0) p → ⊥) → IsPacked (take (k + 1) u)
 packed_more u k h packed own follows none =
     let len : length (take k u) ≡ k = length-take-le k u (omega arith) in
     let more : take (k + 1) u ≡ take k u ++ get_or u k 0 ∷ [] = take_more u k 0 h in
@@ -74,12 +73,12 @@ no_cell own =
     absurd (omega arith)
 
 -- so it is no child
-pub no_family_from_zero : (a b c d p : ℕ) → a ≡ 0 → IsFamily a b c d p → ⊥
-no_family_from_zero a b c d p e f = no_cell (rw e at (IsCell-child_of p 0 a f.cell f.inner (omega arith) f.zero))
+pub no_family_from_zero : {a b c d p : ℕ} → a ≡ 0 → IsFamily a b c d p → ⊥
+no_family_from_zero {a} {p} e f = no_cell (rw e at (IsCell-child_of p 0 a f.cell f.inner (omega arith) f.zero))
 
 -- the exclusive-or of the first three of four children is the fourth
-pub family_xor : (a b c d p : ℕ) → IsFamily a b c d p → bit_xor (bit_xor a b) c ≡ d
-family_xor a b c d p f =
+pub family_xor : {a b c d p : ℕ} → IsFamily a b c d p → bit_xor (bit_xor a b) c ≡ d
+family_xor {a} {b} {c} {d} {p} f =
     let m = place_of p in
     let z = 30 - (level_of p + 1) in
     let s = 2 ^ (2 * z) in
@@ -112,9 +111,9 @@ family_xor a b c d p f =
     ∙ ap (λ x. x * s + 0) three)
 
 -- and no four in a row are the children of a cell
-pub no_family : (u : List ℕ) (k p : ℕ) → k < length u → IsPacked (take (k + 1) u) → 3 ≤ k
-    → IsFamily (get_or u (k - 3) 0) (get_or u (k - 2) 0) (get_or u (k - 1) 0) (get_or u k 0) p → ⊥
-no_family u k p h packed three f =
+pub no_family : (u : List ℕ) (k : ℕ) {p : ℕ} → k < length u → IsPacked (take (k + 1) u) →
+    3 ≤ k → IsFamily (get_or u (k - 3) 0) (get_or u (k - 2) 0) (get_or u (k - 1) 0) (get_or u k 0) p → ⊥
+no_family u k {p} h packed three f =
     let len : length (take (k + 1) u) ≡ k + 1 = length-take-le (k + 1) u (omega arith) in
     let e : (k - 3) + 1 ≡ k - 2 = omega arith in
     let g : (k - 3) + 2 ≡ k - 1 = omega arith in

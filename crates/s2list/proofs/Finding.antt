@@ -1,6 +1,5 @@
 -- The place of a leaf among cells in order, and what a local list holds.
-use Rattle.std.proofs.Common.{◌≡◌, ℕ, ◌+◌, ◌-◌, ◌*◌, ◌<◌, ◌≤◌, sym, ◌∙◌, ap, arith, List, length}
-use Rattle.std.proofs.Common.{get_or, All, max}
+use Rattle.std.proofs.Common.{◌≡◌, ℕ, ◌+◌, ◌-◌, ◌*◌, ◌<◌, ◌≤◌, sym, ◌∙◌, ap, arith, List, length, get_or, All, max}
 use Rattle.std.proofs.Math.Logic.{⊎_elim}
 use Rattle.std.proofs.lemmas.Bool.{cases_lt, false≢true}
 use Rattle.s2cell.specs.Cell.{IsCell, level_of, size_of, first_leaf, covers, IsInside}
@@ -66,17 +65,14 @@ pub ascends : (u : List ℕ) → IsPacked u → IsStrictlyIncreasing u
 ascends u p = (local_from_packed u p).ascending
 
 -- the last of them ends by the leaf, or was known to
-pub ended_all : (u : List ℕ) (lo from at : ℕ) → IsPacked u → FirstEndBy u from lo → from ≤ at →
-    Brackets u (2 * lo) at at → (from < at → first_leaf (get_or u (at - 1) 0) + size_of (get_or u (at - 1) 0) ≤ lo) →
-    FirstEndBy u at lo
+pub ended_all : (u : List ℕ) (lo from at : ℕ) → IsPacked u → FirstEndBy u from lo → from ≤ at → Brackets u (2 * lo)
+    at at → (from < at → first_leaf (get_or u (at - 1) 0) + size_of (get_or u (at - 1) 0) ≤ lo) → FirstEndBy u at lo
 ended_all u lo from at p ended f b last k h =
     ⊎_elim
     (λ (a : k < from). ended k a)
-    (λ (a : from ≤ k).
-    ⊎_elim
+    (λ (a : from ≤ k). ⊎_elim
     (λ (l : k + 1 < at). ended_before u lo at k p b l)
-    (λ (l : at ≤ k + 1). let e : k ≡ at - 1 = omega arith in rw e (last (omega arith)))
-    (cases_lt (k + 1) at))
+    (λ (l : at ≤ k + 1). let e : k ≡ at - 1 = omega arith in rw e (last (omega arith))) (cases_lt (k + 1) at))
     (cases_lt k from)
 
 -- ---- what a local list holds
@@ -85,9 +81,8 @@ pub record HeldAt (u : List ℕ) (i c : ℕ) : Type 0 where
   pub there : i < length u
   pub within : Within c (get_or u i 0)
 
-pub held_at : (u : List ℕ) (i c : ℕ) → IsLocal u → IsCell c → FirstEndBy u i (first_leaf c) →
-    (i < length u → first_leaf c < first_leaf (get_or u i 0) + size_of (get_or u i 0)) →
-    IsWithin (covers c) (has_leaf u) → HeldAt u i c
+pub held_at : (u : List ℕ) (i c : ℕ) → IsLocal u → IsCell c → FirstEndBy u i (first_leaf c) → (i < length u →
+    first_leaf c < first_leaf (get_or u i 0) + size_of (get_or u i 0)) → IsWithin (covers c) (has_leaf u) → HeldAt u i c
 held_at u i c local cc ended next lies =
     let lc = cell_leaves c cc in
     let sc = lc.some in
@@ -105,8 +100,7 @@ held_at u i c local cc ended next lies =
           let b = p.below in
           ⊎_elim
           (λ (g : p.at < i). let x = ended p.at g in absurd (omega arith))
-          (λ (g : i ≤ p.at).
-          ⊎_elim
+          (λ (g : i ≤ p.at). ⊎_elim
           (λ (h : i < p.at).
           let x : first_leaf (get_or u i 0) + size_of (get_or u i 0) ≤ first_leaf (get_or u p.at 0) =
           packed.chain i p.at 0 h b in
@@ -136,5 +130,5 @@ pub shared_none : (u : List ℕ) (i c : ℕ) → IsLocal u → FirstEndBy u i (f
     (i < length u → first_leaf c + size_of c ≤ first_leaf (get_or u i 0)) → ShareSome (covers c) (has_leaf u) → ⊥
 shared_none u i c local ended next (x, v, l) =
     let r = covers_from c x v in
-    false≢true (sym (gap u i (first_leaf c) (first_leaf c + size_of c) x (packed_from_local u local) ended next
-    r.0 r.1) ∙ l)
+    false≢true
+    (sym (gap i (first_leaf c) (first_leaf c + size_of c) x (packed_from_local u local) ended next r.0 r.1) ∙ l)

@@ -26,9 +26,9 @@ halved_less size less before looks more k (suc j) h f p e l =
     let g = pow-suc 2 j in
     record { power = j; fits = omega arith; paid = omega arith }
 
-pub halved_more : (size less before looks more k : ℕ) → 0 < size → Halved size before looks k → more ≤ looks + 1
-    → less ≤ size / 2 → Halved less before more k
-halved_more size less before looks more k h l e s =
+pub halved_more : {size : ℕ} (less : ℕ) {before looks : ℕ} (more : ℕ) {k : ℕ} →
+    0 < size → Halved size before looks k → more ≤ looks + 1 → less ≤ size / 2 → Halved less before more k
+halved_more {size} less {before} {looks} more {k} h l e s =
     halved_less size less before looks more k l.power h l.fits l.paid e s
 
 -- a search that has `size` places left fits a power of two, and each step since `2 ^ k` paid for three looks
@@ -79,9 +79,9 @@ pub leapt_two : (before far : ℕ) → far ≡ 2 → Leapt before before far
 leapt_two before far e = let g : 2 ^ (2 * 0 + 1) ≡ 2 = refl in
     record { leaps = 0; paid = omega arith; got = omega arith }
 
-pub leapt_more : (before looks more far leap next : ℕ) → Leapt before looks far → more ≤ looks + 1
-    → leap ≡ 3 * far → next ≡ far + leap → Leapt before more next
-leapt_more before looks more far leap next l e h n =
+pub leapt_more : {before looks : ℕ} (more : ℕ) {far : ℕ} (leap next : ℕ) →
+    Leapt before looks far → more ≤ looks + 1 → leap ≡ 3 * far → next ≡ far + leap → Leapt before more next
+leapt_more more leap next l e h n =
     let g = l.got in
     let p = l.paid in
     let two : 2 * (l.leaps + 1) + 1 ≡ (2 * l.leaps + 1) + 2 = omega arith in
@@ -100,10 +100,9 @@ leaps_few leaps far k h l =
     (cases_lt k (2 * leaps + 2))
 
 -- the part that is left after them is shorter than the next leap
-pub leapt_last : (before looks far size more last : ℕ) → Leapt before looks far → more ≤ looks + 1
-    → size < 3 * far → ((k : ℕ) → size < 2 ^ k → last ≤ more + k)
-    → (all k : ℕ) → far ≤ all → all < 2 ^ k → last ≤ before + 2 * k
-leapt_last before looks far size more last l e s rest all k h f =
+pub leapt_last : {before looks far : ℕ} (size more last : ℕ) → Leapt before looks far → more ≤ looks + 1 → size <
+    3 * far → ((k : ℕ) → size < 2 ^ k → last ≤ more + k) → (all k : ℕ) → far ≤ all → all < 2 ^ k → last ≤ before + 2 * k
+leapt_last {far} size more last l e s rest all k h f =
     let g = l.got in
     let few = leaps_few l.leaps far k (omega arith) (omega arith) in
     let p = l.paid in
@@ -221,8 +220,7 @@ way_on m n far i j start result next x w is sr rn found =
       none_x = λ z. absurd (omega arith);
       none_y = w.none_y;
       all = omega arith;
-    })
-    found
+    }) found
 
 -- `looks` in `turns` turns, which got `far` places on in both lists together
 pub record Spent (looks turns far : ℕ) : Type 0 where
@@ -247,9 +245,9 @@ sought_line before after far k s =
     omega arith
 
 -- a turn: a look and a search in each list
-spent_turn : (looks turns far a b e f x y next : ℕ) → Spent looks turns far → a ≤ looks + 1 → Sought a b x → e ≤ b + 1
-    → Sought e f y → far + x + y + 1 ≤ next → Spent f (turns + 1) next
-spent_turn looks turns far a b e f x y next s ea sb ee sf en = record {
+spent_turn : {looks turns far a b e f x y : ℕ} (next : ℕ) → Spent looks turns far →
+    a ≤ looks + 1 → Sought a b x → e ≤ b + 1 → Sought e f y → far + x + y + 1 ≤ next → Spent f (turns + 1) next
+spent_turn {a} {b} {e} {f} {x} {y} next s ea sb ee sf en = record {
   most = λ k.
       let h = s.most k in
       let lb = sought_line a b x k sb in
@@ -260,14 +258,14 @@ spent_turn looks turns far a b e f x y next s ea sb ee sf en = record {
 }
 
 -- and one that ends the walk, which is counted to get twice through both lists at most
-spent_last : (looks turns far a b x last cells d : ℕ) → Spent looks turns far → a ≤ looks + 1 → Sought a b x
-    → last ≤ b + 1 → turns ≤ d → far + x ≤ 2 * cells → FewForTurns cells d last
-spent_last looks turns far a b x last cells d s ea sb el ht hf zero h =
+spent_last : {looks turns far a b x : ℕ} (last cells d : ℕ) → Spent looks turns far →
+    a ≤ looks + 1 → Sought a b x → last ≤ b + 1 → turns ≤ d → far + x ≤ 2 * cells → FewForTurns cells d last
+spent_last {looks} {turns} {far} {a} {b} {x} last cells d s ea sb el ht hf zero h =
     let p : looks * 1 + 2 * turns ≤ 6 * (1 * turns) + 2 * far = s.most zero in
     let l : b * 1 ≤ a * 1 + 2 * 1 + 2 * x = sought_line a b x zero sb in
     let g : cells ≤ (d + 1) * 1 = h in
     omega arith
-spent_last looks turns far a b x last cells d s ea sb el ht hf (suc k) h =
+spent_last {turns} {a} {b} {x} last cells d s ea sb el ht hf (suc k) h =
     let p = s.most (suc k) in
     let lb = sought_line a b x (suc k) sb in
     let ma = mul-le-mul_right (2 ^ suc k) ea in
@@ -318,29 +316,26 @@ walked_none D xs ys looks e = record {
 }
 
 -- no turn is complete once all runs are passed
-not_all : (D : ℕ → Type 0) (xs ys : List ℕ) (d a b turns i j : ℕ) (cut : Alternates xs ys d a b) → Known D xs ys a b
-    → turns ≡ d → cut.x_cut turns ≤ i → cut.y_cut turns ≤ j → i < length xs → j < length ys
-    → ((l : ℕ) → l ≤ j → D l → ⊥) → ⊥
-not_all D xs ys d a b turns i j cut known e hx hy hi hj live =
+not_all : (D : ℕ → Type 0) {xs ys : List ℕ} {d a b : ℕ} (turns i j : ℕ) (cut : Alternates xs ys d a b) →
+    Known D xs ys a b → turns ≡ d →
+    cut.x_cut turns ≤ i → cut.y_cut turns ≤ j → i < length xs → j < length ys → ((l : ℕ) → l ≤ j → D l → ⊥) → ⊥
+not_all D {xs} {ys} {a} {b} turns i j cut known e hx hy hi hj live =
     let x : cut.x_cut turns ≡ a = ap cut.x_cut e ∙ cut.x_end in
     let y : cut.y_cut turns ≡ b = ap cut.y_cut e ∙ cut.y_end in
     ⊎_elim
     (λ (h : length xs ≤ a). absurd (omega arith))
     (λ (rest : (length ys ≤ b) ⊎ D b). ⊎_elim (λ (h : length ys ≤ b). absurd (omega arith))
-    (λ (h : D b). live b (omega arith) h)
-    rest)
-    known
+    (λ (h : D b). live b (omega arith) h) rest) known
 
 -- a turn: a search in `xs` from the place `i`, and one in `ys` after the place `j`
-pub walked_more : (D : ℕ → Type 0) (xs ys : List ℕ) (looks i j a b e f p next_i next_j : ℕ)
-    → Walked D xs ys looks i j → i < length xs → j < length ys → ((l : ℕ) → l ≤ j → D l → ⊥)
-    → ((k : ℕ) → k < length xs → first_leaf (get_or xs k 0) ≤ first_leaf (get_or ys j 0) → k < next_i)
-    → (next_j < length ys → (next_i < length xs → first_leaf (get_or ys next_j 0) < first_leaf (get_or xs next_i 0))
-    → D next_j)
-    → a ≤ looks + 1 → SoughtAlong a b (length xs) i i p → i ≤ p → p ≤ next_i → p ≤ length xs
-    → e ≤ b + 1 → SoughtAlong e f (length ys) j (j + 1) next_j → j + 1 ≤ next_j → next_j ≤ length ys
-    → (0 < j → i < next_i) → Walked D xs ys f next_i next_j
-walked_more D xs ys looks i j a b e f place next_i next_j w hi hj live px dy ea sb ip pn in_p ee sf jn in_n on_x =
+pub walked_more : {D : ℕ → Type 0} {xs ys : List ℕ} {looks i j : ℕ} (a b e f p next_i next_j : ℕ) →
+    Walked D xs ys looks i j → i < length xs → j < length ys → ((l : ℕ) → l ≤ j → D l → ⊥) → ((k : ℕ) →
+    k < length xs → first_leaf (get_or xs k 0) ≤ first_leaf (get_or ys j 0) → k < next_i) → (next_j < length ys →
+    (next_i < length xs → first_leaf (get_or ys next_j 0) < first_leaf (get_or xs next_i 0)) → D next_j) → a ≤ looks +
+    1 → SoughtAlong a b (length xs) i i p → i ≤ p → p ≤ next_i → p ≤ length xs → e ≤ b + 1 → SoughtAlong e f (length ys)
+    j (j + 1) next_j → j + 1 ≤ next_j → next_j ≤ length ys → (0 < j → i < next_i) → Walked D xs ys f next_i next_j
+walked_more
+    {D} {xs} {ys} {looks} {i} {j} a b e f place next_i next_j w hi hj live px dy ea sb ip pn in_p ee sf jn in_n on_x =
     let x = found_along a b (length xs) i i place sb in_p in
     let y = found_along e f (length ys) j (j + 1) next_j sf in_n in
     let by_x = way_on (length xs) (length ys) w.far i j i place next_i x.far w.way (omega arith) ip pn x.counts in
@@ -350,7 +345,7 @@ walked_more D xs ys looks i j a b e f place next_i next_j w hi hj live px dy ea 
     record {
       turns = w.turns + 1;
       far = w.far + x.far + (i - i) + y.far + (j + 1 - j);
-      spent = spent_turn looks w.turns w.far a b e f x.far y.far _ w.spent ea x.sought ee y.sought (omega arith);
+      spent = spent_turn _ w.spent ea x.sought ee y.sought (omega arith);
       way = way_swap (length ys) (length xs) (w.far + x.far + (i - i) + y.far + (j + 1 - j)) next_j next_i by_y;
       by_x = let t = w.by_x in let s = w.by_y in
           ⊎_elim (λ (h : 0 < j). let o = on_x h in omega arith) (λ (h : j ≤ 0). omega arith) (cases_lt 0 j);
@@ -365,8 +360,7 @@ walked_more D xs ys looks i j a b e f place next_i next_j w hi hj live px dy ea 
           let more : w.turns < d =
           ⊎_elim
           (λ (h : w.turns < d). h)
-          (λ (h : d ≤ w.turns).
-          absurd (not_all D xs ys d p q w.turns i j cut known (omega arith) v.by_x by_y hi hj live))
+          (λ (h : d ≤ w.turns). absurd (not_all D w.turns i j cut known (omega arith) v.by_x by_y hi hj live))
           (cases_lt w.turns d) in
           let in_x = cut.x_within (w.turns + 1) in
           let in_y = cut.y_within (w.turns + 1) in
@@ -389,17 +383,16 @@ walked_more D xs ys looks i j a b e f place next_i next_j w hi hj live px dy ea 
     }
 
 -- the looks of a walk that ends in a turn
-pub walked_last : (D : ℕ → Type 0) (xs ys : List ℕ) (looks i j a b p last : ℕ) → Walked D xs ys looks i j
-    → a ≤ looks + 1 → SoughtAlong a b (length xs) i i p → i ≤ p → p ≤ length xs → j ≤ length ys → last ≤ b + 1
-    → (d u v : ℕ) → Alternates xs ys d u v → Known D xs ys u v → FewForTurns (length xs + length ys) d last
-walked_last D xs ys looks i j a b p last w ea sb ip in_p in_j el d u v cut known =
+pub walked_last : {D : ℕ → Type 0} {xs ys : List ℕ} {looks i j : ℕ} (a b p last : ℕ) → Walked D xs ys looks i j →
+    a ≤ looks + 1 → SoughtAlong a b (length xs) i i p → i ≤ p → p ≤ length xs → j ≤ length ys →
+    last ≤ b + 1 → (d u v : ℕ) → Alternates xs ys d u v → Known D xs ys u v → FewForTurns (length xs + length ys) d last
+walked_last {xs} {ys} {looks} {i} {j} a b p last w ea sb ip in_p in_j el d u v cut known =
     let x = found_along a b (length xs) i i p sb in_p in
     let way = way_on (length xs) (length ys) w.far i j i p p x.far w.way (omega arith) ip (omega arith) x.counts in
     let most_x = way.most_x in
     let most_y = way.most_y in
     let all = way.all in
-    spent_last looks w.turns w.far a b x.far last (length xs + length ys) d w.spent ea x.sought el
-    ((w.passed d u v cut known).few) (omega arith)
+    spent_last last (length xs + length ys) d w.spent ea x.sought el ((w.passed d u v cut known).few) (omega arith)
 
 zero_of_sum : (far i j : ℕ) → far + i + j ≡ 0 → far ≡ 0
 zero_of_sum far i j h = omega arith
@@ -414,10 +407,10 @@ few_from a b d k last e some h all =
     let p : 1 * k ≤ d * k = mul-le-mul_right k some in
     omega arith
 
-pub walked_few : (D : ℕ → Type 0) (xs ys : List ℕ) (looks i j a b p last : ℕ) → Walked D xs ys looks i j
-    → a ≤ looks + 1 → SoughtAlong a b (length xs) i i p → i ≤ p → p ≤ length xs → j ≤ length ys → last ≤ b + 1
-    → (j < length ys) ⊎ (p ≡ i) → FewForUnion (length xs) (length ys) last
-walked_few D xs ys looks i j a b p last w ea sb ip in_p in_j el end k h =
+pub walked_few : {D : ℕ → Type 0} {xs ys : List ℕ} {looks i j : ℕ} (a b p last : ℕ) →
+    Walked D xs ys looks i j → a ≤ looks + 1 → SoughtAlong a b (length xs) i i p → i ≤ p →
+    p ≤ length xs → j ≤ length ys → last ≤ b + 1 → (j < length ys) ⊎ (p ≡ i) → FewForUnion (length xs) (length ys) last
+walked_few {xs} {ys} {looks} {i} {j} a b p last w ea sb ip in_p in_j el end k h =
     let x = found_along a b (length xs) i i p sb in_p in
     let way = way_on (length xs) (length ys) w.far i j i p p x.far w.way (omega arith) ip (omega arith) x.counts in
     let most_x = way.most_x in
@@ -426,11 +419,9 @@ walked_few D xs ys looks i j a b p last w ea sb ip in_p in_j el end k h =
     let by_x = w.by_x in
     let by_y = w.by_y in
     ⊎_elim
-    (λ (some : 0 < min (length xs) (length ys)).
-    few_from (length xs) (length ys) (min (length xs) (length ys)) k last refl some h
-    (spent_last looks w.turns w.far a b x.far last (length xs + length ys) (min (length xs) (length ys) + 1) w.spent ea
-    x.sought el (omega arith) (omega arith)))
-    (λ (none : min (length xs) (length ys) ≤ 0).
+    (λ (some : 0 < min (length xs) (length ys)). few_from (length xs) (length ys) (min (length xs) (length ys))
+    k last refl some h (spent_last last (length xs + length ys) (min (length xs) (length ys) + 1)
+    w.spent ea x.sought el (omega arith) (omega arith))) (λ (none : min (length xs) (length ys) ≤ 0).
     let still : w.turns ≡ 0 =
     ⊎_elim (λ (t : 0 < w.turns). let s = w.some_x t in omega arith) (λ (t : w.turns ≤ 0). omega arith)
     (cases_lt 0 w.turns) in
@@ -442,3 +433,16 @@ walked_few D xs ys looks i j a b p last w ea sb ip in_p in_j el end k h =
     let s = sb 0 (omega arith) (λ z l. absurd (omega arith)) in
     omega arith)
     (cases_lt 0 (min (length xs) (length ys)))
+
+-- both, once
+pub record FewLooks (D : ℕ → Type 0) (xs ys : List ℕ) (last : ℕ) : Type 0 where
+  pub turns : (d u v : ℕ) → Alternates xs ys d u v → Known D xs ys u v → FewForTurns (length xs + length ys) d last
+  pub sizes : FewForUnion (length xs) (length ys) last
+
+pub walked_to_end : {D : ℕ → Type 0} {xs ys : List ℕ} {looks i j a b : ℕ} (p last : ℕ) →
+    Walked D xs ys looks i j → a ≤ looks + 1 → SoughtAlong a b (length xs) i i p →
+    i ≤ p → p ≤ length xs → j ≤ length ys → last ≤ b + 1 → (j < length ys) ⊎ (p ≡ i) → FewLooks D xs ys last
+walked_to_end {D} {xs} {ys} {looks} {i} {j} {a} {b} p last w ea sb ip in_p in_j el end = record {
+  turns = walked_last a b p last w ea sb ip in_p in_j el;
+  sizes = walked_few a b p last w ea sb ip in_p in_j el end;
+}

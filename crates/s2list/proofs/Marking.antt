@@ -64,9 +64,9 @@ pow_marked : (t : ℕ) → bit_and (2 ^ t) 0x1555_5555_5555_5555 ≡ bit (ones 3
 pow_marked t = rw (← markers) (and_comm (2 ^ t) (ones 31) ∙ and_pow (ones 31) t)
 
 -- the lowest bit of a cell is a marker
-pub cell_marked : (n m : ℕ) → IsCell n → m < 2 ^ 64 → (m + n) % 2 ^ 64 ≡ 0
-    → bit_and (bit_and n m) 0x1555_5555_5555_5555 ≡ 0 → ⊥
-cell_marked n m own h e none =
+pub cell_marked : {n : ℕ} (m : ℕ) →
+    IsCell n → m < 2 ^ 64 → (m + n) % 2 ^ 64 ≡ 0 → bit_and (bit_and n m) 0x1555_5555_5555_5555 ≡ 0 → ⊥
+cell_marked {n} m own h e none =
     let z = 30 - level_of n in
     let low : bit_and n m ≡ 2 ^ (2 * z) = size_bits n m own h e ∙ size_at n own ∙ four_pow z in
     let one : bit (ones 31) (2 * z) ≡ 1 = bit_is 31 (2 * z) (omega arith) (omega arith) in
@@ -98,11 +98,9 @@ marked_cell n m face h e some =
     some (rw low (pow_marked t ∙ omega arith)) in
     let found : (t < 2 * 31) × (t % 2 ≡ 0) =
     ⊎_elim
-    (λ (l : t < 2 * 31).
-    ⊎_elim
+    (λ (l : t < 2 * 31). ⊎_elim
     (λ (o : t % 2 < 1). (l, omega arith))
-    (λ (o : 1 ≤ t % 2). absurd (none (bit_not 31 t (λ _ z. absurd (omega arith)))))
-    (cases_lt (t % 2) 1))
+    (λ (o : 1 ≤ t % 2). absurd (none (bit_not 31 t (λ _ z. absurd (omega arith))))) (cases_lt (t % 2) 1))
     (λ (l : 2 * 31 ≤ t). absurd (none (bit_not 31 t (λ z _. absurd (omega arith)))))
     (cases_lt t (2 * 31)) in
     let l = found.0 in

@@ -1,7 +1,6 @@
 -- How the places narrow where a leaf may stand.
-use Rattle.std.proofs.Common.{◌≡◌, ℕ, ◌+◌, ◌-◌, ◌*◌, ◌^◌, ◌<◌, ◌≤◌, ◌↔◌, IsTrue, Bool, false, sym, min}
-use Rattle.std.proofs.Common.{◌∙◌, arith, List}
-use Rattle.std.proofs.Common.{length, get_or}
+use Rattle.std.proofs.Common.{◌≡◌, ℕ, ◌+◌, ◌-◌, ◌*◌, ◌^◌, ◌<◌, ◌≤◌, ◌↔◌, IsTrue, Bool, false, sym, min, ◌∙◌, arith}
+use Rattle.std.proofs.Common.{List, length, get_or}
 use Rattle.std.proofs.Math.Logic.{⊎_elim}
 use Rattle.std.proofs.Math.Nat.{mul-le-mul_right}
 use Rattle.std.proofs.lemmas.Bool.{cases_lt, false≢true}
@@ -18,27 +17,27 @@ later b a lo test e = ⊎_elim (λ (h : lo < a). h) (λ (h : a ≤ lo). absurd (
     (cases_lt lo a)
 
 -- all cells up to one that ends by the leaf end by it
-pub ended_up : (u : List ℕ) (lo k : ℕ) → IsPacked u → k < length u
-    → first_leaf (get_or u k 0) + size_of (get_or u k 0) ≤ lo → FirstEndBy u (k + 1) lo
-ended_up u lo k p h e j l = let a = ends_later u j k p (omega arith) h in omega arith
+pub ended_up : {u : List ℕ} (lo k : ℕ) →
+    IsPacked u → k < length u → first_leaf (get_or u k 0) + size_of (get_or u k 0) ≤ lo → FirstEndBy u (k + 1) lo
+ended_up {u} lo k p h e j l = let a = ends_later u j k p (omega arith) h in omega arith
 
-pub from_up : (u : List ℕ) (lo start end k : ℕ) → IsPacked u → IsFrom u lo start end → k < length u
-    → first_leaf (get_or u k 0) + size_of (get_or u k 0) ≤ lo → IsFrom u lo (k + 1) end
-from_up u lo start end k p f h e = record { ended = ended_up u lo k p h e; next = f.next }
+pub from_up : {u : List ℕ} {lo start end : ℕ} (k : ℕ) → IsPacked u → IsFrom u lo start end →
+    k < length u → first_leaf (get_or u k 0) + size_of (get_or u k 0) ≤ lo → IsFrom u lo (k + 1) end
+from_up {u} {lo} k p f h e = record { ended = ended_up lo k p h e; next = f.next }
 
-pub from_down : (u : List ℕ) (lo start end k : ℕ) → IsFrom u lo start end
-    → lo < first_leaf (get_or u k 0) + size_of (get_or u k 0) → IsFrom u lo start k
-from_down u lo start end k f e = record { ended = f.ended; next = λ _. e }
+pub from_down : {u : List ℕ} {lo start end : ℕ} (k : ℕ) →
+    IsFrom u lo start end → lo < first_leaf (get_or u k 0) + size_of (get_or u k 0) → IsFrom u lo start k
+from_down k f e = record { ended = f.ended; next = λ _. e }
 
 -- where the places have met, the leaf is found
-pub from_met : (u : List ℕ) (lo first last : ℕ) → IsFrom u lo first last → first ≤ last → last ≤ first →
-    IsFrom u lo first first
-from_met u lo first last f a b = let e : last ≡ first = omega arith in rw e at f
+pub from_met : {u : List ℕ} {lo first last : ℕ} →
+    IsFrom u lo first last → first ≤ last → last ≤ first → IsFrom u lo first first
+from_met {first} {last} f a b = let e : last ≡ first = omega arith in rw e at f
 
 -- a cell whose middle comes before a leaf begins before it, so those before it end by the leaf
-pub from_brackets : (u : List ℕ) (lo base high start : ℕ) → IsPacked u → Brackets u (2 * lo) base high
-    → start ≡ base - 1 → IsFrom u lo start high
-from_brackets u lo base high start p b e =
+pub from_brackets : {u : List ℕ} (lo : ℕ) {base high : ℕ} (start : ℕ) →
+    IsPacked u → Brackets u (2 * lo) base high → start ≡ base - 1 → IsFrom u lo start high
+from_brackets {u} lo {base} {high} start p b e =
     let w = b.within in
     let o = b.order in
     record {
@@ -57,9 +56,9 @@ from_brackets u lo base high start p b e =
     }
 
 -- cells are below the greatest number, so a mark that would be greater may be that
-pub brackets_capped : (u : List ℕ) (mark capped base high : ℕ) → IsPacked u → capped ≡ min mark (2 ^ 64 - 1)
-    → Brackets u capped base high → Brackets u mark base high
-brackets_capped u mark capped base high p e b = record {
+pub brackets_capped : {u : List ℕ} (mark : ℕ) {capped base high : ℕ} →
+    IsPacked u → capped ≡ min mark (2 ^ 64 - 1) → Brackets u capped base high → Brackets u mark base high
+brackets_capped {u} mark p e b = record {
   order = b.order;
   within = b.within;
   below = λ k h. let l = b.below k h in omega arith;

@@ -1,7 +1,6 @@
 -- A local list is the normal form of its leaves.
-use Rattle.std.proofs.Common.{◌≡◌, ℕ, suc, zero, ◌+◌, ◌-◌, ◌*◌, ◌/◌, ◌<◌, ◌≤◌, refl, sym, ◌∙◌}
-use Rattle.std.proofs.Common.{ap, arith, subst, ◌⊎◌, inl, inr, Bool, true, List, [], ◌∷◌, length, get_or, All, AllPairs}
-use Rattle.std.proofs.Common.{Contains}
+use Rattle.std.proofs.Common.{◌≡◌, ℕ, suc, zero, ◌+◌, ◌-◌, ◌*◌, ◌/◌, ◌<◌, ◌≤◌, refl, sym, ◌∙◌, ap, arith, subst, ◌⊎◌}
+use Rattle.std.proofs.Common.{inl, inr, Bool, true, List, [], ◌∷◌, length, get_or, All, AllPairs, Contains}
 use Rattle.std.proofs.Math.Logic.{⊎_elim}
 use Rattle.std.proofs.lemmas.Bool.{cases_lt, cases_order}
 use Rattle.std.proofs.lemmas.List.Folds.{Any-from_list_any, list_any_at}
@@ -48,14 +47,14 @@ four_cases P a b c d (suc (suc zero)) h = c
 four_cases P a b c d (suc (suc (suc zero))) h = d
 four_cases P a b c d (suc (suc (suc (suc n)))) h = absurd (omega arith)
 
-child_held : (u : List ℕ) (p i : ℕ) → All IsCell u → IsCell p → level_of p < 30 → i < 4 → Held u (child_of p i) →
-    Held u p ⊎ Contains u (child_of p i)
-child_held u p i all c h q (holder d m w) =
+child_held : {u : List ℕ} {p : ℕ} (i : ℕ) →
+    All IsCell u → IsCell p → level_of p < 30 → i < 4 → Held u (child_of p i) → Held u p ⊎ Contains u (child_of p i)
+child_held {u} {p} i all c h q (holder d m w) =
     ⊎_elim
     (λ (v : Within p d). inl (holder d m v))
     (λ (e : d ≡ child_of p i). inr (subst (λ x. Contains u x) e m))
     (holder_step p i d c h q (All-contains IsCell u d all m) w)
-child_held u p i all c h q (family r cr l f) = inl (family r cr l f)
+child_held i all c h q (family r cr l f) = inl (family r cr l f)
 
 -- a cell whose leaves are all in the list is held, or the list has four siblings
 pub all_held : (fuel : ℕ) (u : List ℕ) (p : ℕ) → All IsCell u → IsCell p → fuel + level_of p ≡ 30 →
@@ -73,18 +72,13 @@ all_held (suc fuel) u p all c e h =
     let one : (i : ℕ) → i < 4 → Held u p ⊎ Contains u (child_of p i) =
     λ i q.
     let lc = level_of_child p i c l q in
-    child_held u p i all c l q
+    child_held i all c l q
     (all_held fuel u (child_of p i) all (IsCell-child_of p i (child_of p i) c l q refl) (omega arith)
     (λ x v. h x (inside_from_within (child_of p i) p (child_within p i c l q) x v))) in
-    ⊎_elim (λ (r : Held u p). r) (λ (a : Contains u (child_of p 0)).
-    ⊎_elim (λ (r : Held u p). r) (λ (b : Contains u (child_of p 1)).
-    ⊎_elim (λ (r : Held u p). r) (λ (d : Contains u (child_of p 2)).
-    ⊎_elim (λ (r : Held u p). r) (λ (f : Contains u (child_of p 3)).
-    family p c l (four_cases (λ i. Contains u (child_of p i)) a b d f))
-    (one 3 (omega arith)))
-    (one 2 (omega arith)))
-    (one 1 (omega arith)))
-    (one 0 (omega arith))
+    ⊎_elim (λ (r : Held u p). r) (λ (a : Contains u (child_of p 0)). ⊎_elim (λ (r : Held u p). r) (λ (b : Contains
+    u (child_of p 1)). ⊎_elim (λ (r : Held u p). r) (λ (d : Contains u (child_of p 2)). ⊎_elim (λ (r : Held u p). r)
+    (λ (f : Contains u (child_of p 3)). family p c l (four_cases (λ i. Contains u (child_of p i)) a b d f))
+    (one 3 (omega arith))) (one 2 (omega arith))) (one 1 (omega arith))) (one 0 (omega arith))
 
 -- two members are one, or share no leaf
 members_apart : (u : List ℕ) (c d : ℕ) → AllPairs ShareNone u → Contains u c → Contains u d → (c ≡ d) ⊎ ShareNone c d
@@ -92,8 +86,7 @@ members_apart u c d apart (i, li, ei) (j, lj, ej) =
     let same_i : get_or u i 0 ≡ c = grind (arith, gets) in
     let same_j : get_or u j 0 ≡ d = grind (arith, gets) in
     ⊎_elim
-    (λ (e : i ≡ j). inl (sym same_i ∙ ap (λ k. get_or u k 0) e ∙ same_j))
-    (⊎_elim
+    (λ (e : i ≡ j). inl (sym same_i ∙ ap (λ k. get_or u k 0) e ∙ same_j)) (⊎_elim
     (λ (h : i < j). inr (λ x hc hd. apart i j 0 h lj x (ap (λ y. covers y x) same_i ∙ hc)
     (ap (λ y. covers y x) same_j ∙ hd)))
     (λ (h : j < i). inr (λ x hc hd. apart j i 0 h li x (ap (λ y. covers y x) same_j ∙ hd)
@@ -101,9 +94,9 @@ members_apart u c d apart (i, li, ei) (j, lj, ej) =
     (cases_order i j)
 
 -- a member around a member is that member
-member_around : (u : List ℕ) (c d : ℕ) → All IsCell u → AllPairs ShareNone u → Contains u c → Contains u d →
-    Within c d → c ≡ d
-member_around u c d all apart mc md w =
+member_around : (u : List ℕ) {c d : ℕ} →
+    All IsCell u → AllPairs ShareNone u → Contains u c → Contains u d → Within c d → c ≡ d
+member_around u {c} {d} all apart mc md w =
     let cc : IsCell c = All-contains IsCell u c all mc in
     let some = (cell_leaves c cc).some in
     let wl = w.low in
@@ -111,8 +104,7 @@ member_around u c d all apart mc md w =
     ⊎_elim
     (λ (e : c ≡ d). e)
     (λ (n : ShareNone c d). absurd (n (first_leaf c) (covers_there c (first_leaf c) (omega arith) (omega arith))
-    (covers_there d (first_leaf c) wl (omega arith))))
-    (members_apart u c d apart mc md)
+    (covers_there d (first_leaf c) wl (omega arith)))) (members_apart u c d apart mc md)
 
 pub member_greatest : (u : List ℕ) → IsLocal u → (c : ℕ) → Contains u c → IsGreatestIn (has_leaf u) c
 member_greatest u l c m =
@@ -128,8 +120,7 @@ member_greatest u l c m =
           let sh = shallow p cp in
           elim (all_held (30 - level_of p) u p l.cells cp (omega arith) h) [
             | holder d md w ↦
-                let e : c ≡ d = member_around u c d l.cells l.apart m md
-                (within_trans c p d (parent_around c k cc le) w) in
+                let e : c ≡ d = member_around u l.cells l.apart m md (within_trans c p d (parent_around c k cc le) w) in
                 let s : size_of d ≡ size_of c = ap size_of (sym e) in
                 let g = parent_larger c cc deep in
                 let wl = w.low in
@@ -139,17 +130,16 @@ member_greatest u l c m =
           ];
     }
 
-greatest_member : (u : List ℕ) → IsLocal u → (c : ℕ) → IsGreatestIn (has_leaf u) c → Contains u c
-greatest_member u l c g =
+greatest_member : {u : List ℕ} → IsLocal u → (c : ℕ) → IsGreatestIn (has_leaf u) c → Contains u c
+greatest_member {u} l c g =
     let cc = g.cell in
     let sh = shallow c cc in
     elim (all_held (30 - level_of c) u c l.cells cc (omega arith) g.inside) [
       | holder d md w ↦
           let cd : IsCell d = All-contains IsCell u d l.cells md in
           ⊎_elim
-          (λ (h : level_of d < level_of c).
-          absurd (g.greatest (omega arith) (λ x v. leaf_to u d x md
-          (inside_from_within (parent_of c (level_of c - 1)) d (parent_within c d cc cd h w) x v))))
+          (λ (h : level_of d < level_of c). absurd (g.greatest (omega arith) (λ x v. leaf_to
+          u d x md (inside_from_within (parent_of c (level_of c - 1)) d (parent_within c d cc cd h w) x v))))
           (λ (h : level_of c ≤ level_of d).
           let s = size_le d c cd cc h in
           let wl = w.low in
@@ -164,24 +154,22 @@ greatest_member u l c g =
 pub normal_from_local : (u : List ℕ) → IsLocal u → IsNormalForm (has_leaf u) u
 normal_from_local u l = record {
   ascending = l.ascending;
-  members = λ c.
-      (member_greatest u l c, greatest_member u l c);
+  members = λ c. (member_greatest u l c, greatest_member l c);
 }
 
 -- ---- the way back
 
-nested_greatest : (S : ℕ → Bool) (c d x : ℕ) → IsGreatestIn S c → IsGreatestIn S d → covers c x ≡ true →
-    covers d x ≡ true → level_of d ≤ level_of c → c ≡ d
-nested_greatest S c d x gc gd hc hd h =
+nested_greatest : {S : ℕ → Bool} {c d : ℕ} (x : ℕ) →
+    IsGreatestIn S c → IsGreatestIn S d → covers c x ≡ true → covers d x ≡ true → level_of d ≤ level_of c → c ≡ d
+nested_greatest {c} {d} x gc gd hc hd h =
     let cc = gc.cell in
     let cd = gd.cell in
     let ic = covers_from c x hc in
     let id = covers_from d x hd in
     let w = deeper_inside c d x cc cd h ic.0 ic.1 id.0 id.1 in
     ⊎_elim
-    (λ (l : level_of d < level_of c).
-    absurd (gc.greatest (omega arith) (λ y v. gd.inside y
-    (inside_from_within (parent_of c (level_of c - 1)) d (parent_within c d cc cd l w) y v))))
+    (λ (l : level_of d < level_of c). absurd (gc.greatest (omega arith)
+    (λ y v. gd.inside y (inside_from_within (parent_of c (level_of c - 1)) d (parent_within c d cc cd l w) y v))))
     (λ (l : level_of c ≤ level_of d).
     let s = size_le d c cd cc l in
     let wl = w.low in
@@ -193,14 +181,13 @@ pub greatest_apart : (S : ℕ → Bool) (c d x : ℕ) → IsGreatestIn S c → I
     covers d x ≡ true → c ≡ d
 greatest_apart S c d x gc gd hc hd =
     ⊎_elim
-    (λ (l : level_of d < level_of c). nested_greatest S c d x gc gd hc hd (omega arith))
-    (λ (l : level_of c ≤ level_of d). sym (nested_greatest S d c x gd gc hd hc l))
-    (cases_lt (level_of d) (level_of c))
+    (λ (l : level_of d < level_of c). nested_greatest x gc gd hc hd (omega arith))
+    (λ (l : level_of c ≤ level_of d). sym (nested_greatest x gd gc hd hc l)) (cases_lt (level_of d) (level_of c))
 
 -- the leaves of a cell are those of its children
-child_of_leaf : (p x : ℕ) → IsCell p → level_of p < 30 → covers p x ≡ true → (i : ℕ) × (i < 4)
+child_of_leaf : {p : ℕ} (x : ℕ) → IsCell p → level_of p < 30 → covers p x ≡ true → (i : ℕ) × (i < 4)
     × (covers (child_of p i) x ≡ true)
-child_of_leaf p x c h v =
+child_of_leaf {p} x c h v =
     let r = covers_from p x v in
     let l0 = child_leaves p 0 c h (omega arith) in
     let q = size_of (child_of p 0) in
@@ -219,9 +206,9 @@ child_of_leaf p x c h v =
     let ceil : x - first_leaf p < i * q + q = lt-div-mul-add some in
     (i, below, covers_there (child_of p i) x (omega arith) (omega arith))
 
-same_level_same : (a b x : ℕ) → IsCell a → IsCell b → level_of a ≡ level_of b → covers a x ≡ true →
-    covers b x ≡ true → a ≡ b
-same_level_same a b x ca cb e ha hb =
+same_level_same : {a b : ℕ} (x : ℕ) →
+    IsCell a → IsCell b → level_of a ≡ level_of b → covers a x ≡ true → covers b x ≡ true → a ≡ b
+same_level_same {a} {b} x ca cb e ha hb =
     let ia = covers_from a x ha in
     let ib = covers_from b x hb in
     same_from_within a b ca cb (deeper_inside a b x ca cb (omega arith) ia.0 ia.1 ib.0 ib.1)
@@ -239,13 +226,13 @@ parent_of_child p i c h q =
     let lp = parent_level d k cd le in
     let some = (cell_leaves d cd).some in
     let here : covers d (first_leaf d) ≡ true = covers_there d (first_leaf d) (omega arith) (omega arith) in
-    same_level_same (parent_of d k) p (first_leaf d) cp c (omega arith)
+    same_level_same (first_leaf d) cp c (omega arith)
     (inside_from_within d (parent_of d k) (parent_around d k cd le) (first_leaf d) here)
     (inside_from_within d p (child_within p i c h q) (first_leaf d) here)
 
-family_inside : (S : ℕ → Bool) (p : ℕ) → IsCell p → level_of p < 30 →
-    ((i : ℕ) → i < 4 → IsGreatestIn S (child_of p i)) → LiesIn S p
-family_inside S p c h all x v = let r = child_of_leaf p x c h v in (all r.0 r.1).inside x r.2
+family_inside : (S : ℕ → Bool) {p : ℕ} →
+    IsCell p → level_of p < 30 → ((i : ℕ) → i < 4 → IsGreatestIn S (child_of p i)) → LiesIn S p
+family_inside S {p} c h all x v = let r = child_of_leaf x c h v in (all r.0 r.1).inside x r.2
 
 -- a normal form is a local list
 pub local_from_normal : (S : ℕ → Bool) (u : List ℕ) → IsNormalForm S u → IsLocal u
@@ -266,7 +253,7 @@ local_from_normal S u n =
           let first = kids 0 (omega arith) in
           let l = level_of_child p 0 c h (omega arith) in
           let e = parent_of_child p 0 c h (omega arith) in
-          first.greatest (omega arith) (rw e (family_inside S p c h kids));
+          first.greatest (omega arith) (rw e (family_inside S c h kids));
     }
 
 -- ---- one list for each set
@@ -304,8 +291,7 @@ rest_member : (x : ℕ) (xs : List ℕ) (y : ℕ) (ys : List ℕ) → x ≡ y �
 rest_member x xs y ys e r f c m =
     ⊎_elim
     (λ (g : c ≡ y). let lt = first_least x xs c r m in absurd (omega arith))
-    (λ (t : Contains ys c). t)
-    (member_cases y ys c (f c (member_later x xs c m)))
+    (λ (t : Contains ys c). t) (member_cases y ys c (f c (member_later x xs c m)))
 
 same_by_members : (xs ys : List ℕ) → Rising xs → Rising ys → ((c : ℕ) → Contains xs c → Contains ys c) →
     ((c : ℕ) → Contains ys c → Contains xs c) → xs ≡ ys
@@ -331,8 +317,8 @@ pub one_normal_form : (S : ℕ → Bool) (u v : List ℕ) → IsNormalForm S u �
 one_normal_form S u v nu nv = same_from_members u v nu.ascending nv.ascending
     (λ c m. (nv.members c).1 ((nu.members c).0 m)) (λ c m. (nu.members c).1 ((nv.members c).0 m))
 
-greatest_same : (S T : ℕ → Bool) → ((x : ℕ) → S x ≡ T x) → (c : ℕ) → IsGreatestIn S c → IsGreatestIn T c
-greatest_same S T e c g = record {
+greatest_same : {S : ℕ → Bool} (T : ℕ → Bool) → ((x : ℕ) → S x ≡ T x) → (c : ℕ) → IsGreatestIn S c → IsGreatestIn T c
+greatest_same T e c g = record {
   cell = g.cell;
   inside = λ x h. sym (e x) ∙ g.inside x h;
   greatest = λ d h. g.greatest d (λ x v. e x ∙ h x v);
@@ -342,9 +328,8 @@ pub normal_form_same : (S T : ℕ → Bool) (u : List ℕ) → ((x : ℕ) → S 
 normal_form_same S T u e n = record {
   ascending = n.ascending;
   members = λ c. (
-    λ m. greatest_same S T e c ((n.members c).0 m),
-    λ g.
-        (n.members c).1 (greatest_same T S (λ x. sym (e x)) c g),
+    λ m. greatest_same T e c ((n.members c).0 m),
+    λ g. (n.members c).1 (greatest_same S (λ x. sym (e x)) c g),
   );
 }
 

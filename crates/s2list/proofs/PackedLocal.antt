@@ -1,6 +1,5 @@
 -- A packed list is local.
-use Rattle.std.proofs.Common.{◌≡◌, ℕ, ◌+◌, ◌*◌, ◌<◌, ◌≤◌, sym, ◌∙◌, ap, arith, List, length, get_or}
-use Rattle.std.proofs.Common.{Contains}
+use Rattle.std.proofs.Common.{◌≡◌, ℕ, ◌+◌, ◌*◌, ◌<◌, ◌≤◌, sym, ◌∙◌, ap, arith, List, length, get_or, Contains}
 use Rattle.std.proofs.Math.Logic.{⊎_elim}
 use Rattle.std.proofs.lemmas.Bool.{cases_lt, cases_order}
 use Rattle.std.proofs.lemmas.Option.{gets}
@@ -21,9 +20,9 @@ pub place : (u : List ℕ) (c : ℕ) → Contains u c → Place u c
 place u c (k, l, e) = record { at = k; below = l; is = grind (arith, gets) }
 
 -- where b begins at a's end, b stands next to a
-next_place : (u : List ℕ) (i j a b : ℕ) → IsPacked u → i < length u → j < length u → get_or u i 0 ≡ a → get_or u j 0 ≡ b
-    → first_leaf b ≡ first_leaf a + size_of a → j ≡ i + 1
-next_place u i j a b p li lj ei ej e =
+next_place : {u : List ℕ} (i j a b : ℕ) → IsPacked u → i < length u →
+    j < length u → get_or u i 0 ≡ a → get_or u j 0 ≡ b → first_leaf b ≡ first_leaf a + size_of a → j ≡ i + 1
+next_place {u} i j a b p li lj ei ej e =
     let sa : 0 < size_of (get_or u i 0) = (cell_leaves (get_or u i 0) (p.cells i 0 li)).some in
     let sb : 0 < size_of (get_or u j 0) = (cell_leaves (get_or u j 0) (p.cells j 0 lj)).some in
     let fa : first_leaf (get_or u i 0) ≡ first_leaf a = ap first_leaf ei in
@@ -31,11 +30,9 @@ next_place u i j a b p li lj ei ej e =
     let ta : size_of (get_or u i 0) ≡ size_of a = ap size_of ei in
     let tb : size_of (get_or u j 0) ≡ size_of b = ap size_of ej in
     ⊎_elim
-    (λ (h : i ≡ j). let same : first_leaf (get_or u i 0)
-    ≡ first_leaf (get_or u j 0) = ap (λ k. first_leaf (get_or u k 0)) h in absurd (omega arith))
-    (⊎_elim
-    (λ (h : i < j).
-    ⊎_elim
+    (λ (h : i ≡ j). let same : first_leaf
+    (get_or u i 0) ≡ first_leaf (get_or u j 0) = ap (λ k. first_leaf (get_or u k 0)) h in absurd (omega arith)) (⊎_elim
+    (λ (h : i < j). ⊎_elim
     (λ (m : i + 1 < j).
     let x : first_leaf (get_or u i 0) + size_of (get_or u i 0) ≤ first_leaf (get_or u (i + 1) 0) =
     p.chain i (i + 1) 0 (omega arith) (omega arith) in
@@ -51,9 +48,9 @@ next_place u i j a b p li lj ei ej e =
     absurd (omega arith)))
     (cases_order i j)
 
-children_next : (p i : ℕ) → IsCell p → level_of p < 30 → i + 1 < 4 →
-    first_leaf (child_of p (i + 1)) ≡ first_leaf (child_of p i) + size_of (child_of p i)
-children_next p i c h q =
+children_next : {p : ℕ} (i : ℕ) → IsCell p →
+    level_of p < 30 → i + 1 < 4 → first_leaf (child_of p (i + 1)) ≡ first_leaf (child_of p i) + size_of (child_of p i)
+children_next {p} i c h q =
     let a = child_leaves p i c h (omega arith) in
     let b = child_leaves p (i + 1) c h q in
     let sa = a.size in
@@ -65,19 +62,19 @@ children_next p i c h q =
     ∙ ap (λ s. first_leaf p + (i + 1) * s) same in
     omega arith
 
-packed_unmerged : (u : List ℕ) → IsPacked u → (p : ℕ) → IsCell p → level_of p < 30 →
-    ((i : ℕ) → i < 4 → Contains u (child_of p i)) → ⊥
-packed_unmerged u k p c h all =
+packed_unmerged : {u : List ℕ} →
+    IsPacked u → (p : ℕ) → IsCell p → level_of p < 30 → ((i : ℕ) → i < 4 → Contains u (child_of p i)) → ⊥
+packed_unmerged {u} k p c h all =
     let a = place u (child_of p 0) (all 0 (omega arith)) in
     let b = place u (child_of p 1) (all 1 (omega arith)) in
     let d = place u (child_of p 2) (all 2 (omega arith)) in
     let e = place u (child_of p 3) (all 3 (omega arith)) in
-    let n0 : b.at ≡ a.at + 1 = next_place u a.at b.at (child_of p 0) (child_of p 1) k a.below b.below a.is b.is
-    (children_next p 0 c h (omega arith)) in
-    let n1 : d.at ≡ b.at + 1 = next_place u b.at d.at (child_of p 1) (child_of p 2) k b.below d.below b.is d.is
-    (children_next p 1 c h (omega arith)) in
-    let n2 : e.at ≡ d.at + 1 = next_place u d.at e.at (child_of p 2) (child_of p 3) k d.below e.below d.is e.is
-    (children_next p 2 c h (omega arith)) in
+    let n0 : b.at ≡ a.at + 1 = next_place
+    a.at b.at (child_of p 0) (child_of p 1) k a.below b.below a.is b.is (children_next 0 c h (omega arith)) in
+    let n1 : d.at ≡ b.at + 1 = next_place
+    b.at d.at (child_of p 1) (child_of p 2) k b.below d.below b.is d.is (children_next 1 c h (omega arith)) in
+    let n2 : e.at ≡ d.at + 1 = next_place
+    d.at e.at (child_of p 2) (child_of p 3) k d.below e.below d.is e.is (children_next 2 c h (omega arith)) in
     let m1 : d.at ≡ a.at + 2 = omega arith in
     let m2 : e.at ≡ a.at + 3 = omega arith in
     let le : e.at < length u = e.below in
@@ -109,5 +106,5 @@ local_from_packed u p = record {
       let r1 = r.1 in
       let s0 = s.0 in
       absurd (omega arith);
-  unmerged = packed_unmerged u p;
+  unmerged = packed_unmerged p;
 }

@@ -1,7 +1,6 @@
 -- One more cell after packed cells.
-use Rattle.std.proofs.Common.{◌≡◌, ℕ, ◌+◌, ◌-◌, ◌*◌, ◌<◌, ◌≤◌, refl, sym, ◌∙◌, ap, arith, Bool, true}
-use Rattle.std.proofs.Common.{false, ◌||◌, ◌&&◌, leb, ltb, List, [], ◌∷◌, ◌++◌, length, take, get_or, AllPairs}
-use Rattle.std.proofs.Common.{length-append}
+use Rattle.std.proofs.Common.{◌≡◌, ℕ, ◌+◌, ◌-◌, ◌*◌, ◌<◌, ◌≤◌, refl, sym, ◌∙◌, ap, arith, Bool, true, false, ◌||◌, ◌&&◌}
+use Rattle.std.proofs.Common.{leb, ltb, List, [], ◌∷◌, ◌++◌, length, take, get_or, AllPairs, length-append}
 use Rattle.std.proofs.Math.Logic.{⊎_elim}
 use Rattle.std.proofs.lemmas.Bool.{cases_lt}
 use Rattle.std.proofs.lemmas.Bool.Decides.{nat_tests}
@@ -43,8 +42,8 @@ pub record FamilyLeaves (a b c d p : ℕ) : Type 0 where
   pub cell_c : IsCell c
   pub cell_b : IsCell b
 
-pub family_leaves : (a b c d p : ℕ) → IsFamily a b c d p → FamilyLeaves a b c d p
-family_leaves a b c d p f =
+pub family_leaves : {a b c d p : ℕ} → IsFamily a b c d p → FamilyLeaves a b c d p
+family_leaves {a} {b} {c} {d} {p} f =
     let l0 = child_leaves p 0 f.cell f.inner (omega arith) in
     let l1 = child_leaves p 1 f.cell f.inner (omega arith) in
     let l2 = child_leaves p 2 f.cell f.inner (omega arith) in
@@ -78,7 +77,7 @@ family_leaves a b c d p f =
 
 pub family_step : (a b c d p : ℕ) → IsFamily a b c d p → c + 2 * size_of d ≡ d
 family_step a b c d p f =
-    let l = family_leaves a b c d p f in
+    let l = family_leaves f in
     let md = (cell_leaves d l.cell_d).middle in
     let mc = (cell_leaves c l.cell_c).middle in
     let x = l.first_c in let y = l.first_d in let z = l.size_c in
@@ -86,7 +85,7 @@ family_step a b c d p f =
 
 pub family_step_before : (a b c d p : ℕ) → IsFamily a b c d p → b + 2 * size_of d ≡ c
 family_step_before a b c d p f =
-    let l = family_leaves a b c d p f in
+    let l = family_leaves f in
     let mc = (cell_leaves c l.cell_c).middle in
     let mb = (cell_leaves b l.cell_b).middle in
     let x = l.first_b in let y = l.first_c in let z = l.size_b in let w = l.size_c in
@@ -100,7 +99,7 @@ two_blocks f s g t x e = grind (arith, nat_tests)
 pub family_covers : (a b c d p x : ℕ) → IsFamily a b c d p →
     (((covers a x || covers b x) || covers c x) || covers d x) ≡ covers p x
 family_covers a b c d p x f =
-    let l = family_leaves a b c d p f in
+    let l = family_leaves f in
     let e0 = l.size in let e1 = l.first_a in let e2 = l.first_b in let e3 = l.first_c in let e4 = l.first_d in
     let e5 = l.size_a in let e6 = l.size_b in let e7 = l.size_c in
     let ab : (covers a x || covers b x) ≡ (leb (first_leaf a) x
@@ -115,8 +114,7 @@ family_covers a b c d p x f =
     ((size_of a + size_of b) + size_of c) (first_leaf d) (size_of d) x (omega arith) in
     let whole : ((size_of a + size_of b) + size_of c) + size_of d ≡ size_of p = omega arith in
     ap (λ v. (v || covers c x) || covers d x) ab ∙ ap (λ v. v || covers d x) abc ∙ abcd
-    ∙ ap (λ v. leb (first_leaf a) x && ltb x (first_leaf a + v)) whole
-    ∙ ap (λ v. leb v x && ltb x (v + size_of p)) e1
+    ∙ ap (λ v. leb (first_leaf a) x && ltb x (first_leaf a + v)) whole ∙ ap (λ v. leb v x && ltb x (v + size_of p)) e1
 
 -- ---- the loop of `merge_families`
 
@@ -132,8 +130,7 @@ or_group : (l a b c d : Bool) → ((((l || a) || b) || c) || d) ≡ (l || (((a |
 or_group true a b c d = refl
 or_group false a b c d = refl
 
-take_three : (front : List ℕ) (k x : ℕ) → k + 3 ≤ length front →
-    has_leaf (take (k + 3) front) x
+take_three : (front : List ℕ) (k x : ℕ) → k + 3 ≤ length front → has_leaf (take (k + 3) front) x
     ≡ (((has_leaf (take k front) x || covers (get_or front k 0) x) || covers (get_or front (k + 1) 0) x)
     || covers (get_or front (k + 2) 0) x)
 take_three front k x h =
@@ -150,13 +147,12 @@ take_three front k x h =
     ∙ ap (λ v. v || p (get_or front (k + 2) 0)) (ap (λ n. list_any p (take n front)) (sym e) ∙ b
     ∙ ap (λ v. v || p (get_or front (k + 1) 0)) a)
 
-pub merging_step : (front : List ℕ) (cell kept last less p : ℕ) → IsPacked front → Merging front cell kept last →
-    less + 3 ≡ kept
-    → IsFamily (get_or front less 0) (get_or front (less + 1) 0) (get_or front (less + 2) 0) last p →
-    Merging front cell less p
-merging_step front cell kept last less p packed m e f =
+pub merging_step : {front : List ℕ} {cell kept last : ℕ} (less : ℕ) {p : ℕ} →
+    IsPacked front → Merging front cell kept last → less + 3 ≡ kept → IsFamily
+    (get_or front less 0) (get_or front (less + 1) 0) (get_or front (less + 2) 0) last p → Merging front cell less p
+merging_step {front} {last} less {p} packed m e f =
     let w = m.within in
-    let fl = family_leaves (get_or front less 0) (get_or front (less + 1) 0) (get_or front (less + 2) 0) last p f in
+    let fl = family_leaves f in
     let fa = fl.first_a in
     let before = m.after less (omega arith) in
     let st = m.start in
@@ -165,15 +161,12 @@ merging_step front cell kept last less p packed m e f =
       after = λ k h. let c : first_leaf (get_or front k 0) + size_of (get_or front k 0)
           ≤ first_leaf (get_or front less 0) = packed.chain k less 0 h (omega arith) in omega arith;
       is_cell = f.cell;
-      leaves = λ x.
-          ap (λ v. has_leaf (take less front) x || v)
-          (sym (family_covers (get_or front less 0) (get_or front (less + 1) 0) (get_or front (less + 2) 0) last
-          p x f))
+      leaves = λ x. ap (λ v. has_leaf (take less front) x || v)
+          (sym (family_covers (get_or front less 0) (get_or front (less + 1) 0) (get_or front (less + 2) 0) last p x f))
           ∙ sym (or_group (has_leaf (take less front) x) (covers (get_or front less 0) x)
           (covers (get_or front (less + 1) 0) x) (covers (get_or front (less + 2) 0) x) (covers last x))
-          ∙ ap (λ v. v || covers last x) (sym (take_three front less x (omega arith))
-          ∙ ap (λ n. has_leaf (take n front) x) e)
-          ∙ m.leaves x;
+          ∙ ap (λ v. v || covers last x)
+          (sym (take_three front less x (omega arith)) ∙ ap (λ n. has_leaf (take n front) x) e) ∙ m.leaves x;
       start = omega arith;
     }
 
@@ -185,12 +178,10 @@ all_pairs_take R n xs w h i j d lt le =
     rw (a, b) (h i j d lt (omega arith))
 
 -- packed cells, and one more that makes no family with the last three
-pub packed_push : (u : List ℕ) (last : ℕ) → IsPacked u → IsCell last →
-    ((k : ℕ) → k < length u → EndsBefore (get_or u k 0) last)
-    → ((less p : ℕ) → less + 3 ≡ length u → IsFamily (get_or u less 0) (get_or u (less + 1) 0)
-    (get_or u (less + 2) 0) last p → ⊥)
-    → IsPacked (u ++ last ∷ [])
-packed_push u last packed c after none = record {
+pub packed_push : {u : List ℕ} {last : ℕ} → IsPacked u →
+    IsCell last → ((k : ℕ) → k < length u → EndsBefore (get_or u k 0) last) → ((less p : ℕ) → less + 3 ≡ length u →
+    IsFamily (get_or u less 0) (get_or u (less + 1) 0) (get_or u (less + 2) 0) last p → ⊥) → IsPacked (u ++ last ∷ [])
+packed_push {u} {last} packed c after none = record {
   cells = All-push IsCell u last packed.cells c;
   chain = all_pairs_push EndsBefore u last packed.chain
       (λ k d h. let e : get_or u k d ≡ get_or u k 0 = grind (arith, gets) in rw e (after k h));
@@ -224,16 +215,15 @@ packed_take n u w packed = record {
       packed.unmerged k p (omega arith) (rw (a, b, e, g) at f);
 }
 
-pub merging_done : (front : List ℕ) (cell kept last : ℕ) → IsPacked front → Merging front cell kept last
-    → ((less p : ℕ) → less + 3 ≡ kept → IsFamily (get_or front less 0) (get_or front (less + 1) 0)
-    (get_or front (less + 2) 0) last p → ⊥)
-    → Merges front cell kept last
+pub merging_done : (front : List ℕ) (cell kept last : ℕ) →
+    IsPacked front → Merging front cell kept last → ((less p : ℕ) → less + 3 ≡ kept → IsFamily (get_or front less 0)
+    (get_or front (less + 1) 0) (get_or front (less + 2) 0) last p → ⊥) → Merges front cell kept last
 merging_done front cell kept last packed m none =
     let w = m.within in
     let len : length (take kept front) ≡ kept = length-take-le kept front w in
     record {
       within = w;
-      packed = packed_push (take kept front) last (packed_take kept front w packed) m.is_cell
+      packed = packed_push (packed_take kept front w packed) m.is_cell
           (λ k h. let e : get_or (take kept front) k 0 ≡ get_or front k 0 = get_or-take kept front k 0
           (omega arith) in rw e (m.after k (omega arith)))
           (λ less p e f.
@@ -256,21 +246,19 @@ pub is_at : (u : List ℕ) (i x : ℕ) → i < length u → x ≡ get_or u i 0 �
 is_at u i x h e = let a : get_or u i 0 ≡ get_or u i x = grind (arith, gets) in e ∙ a
 
 pub step_from_reads : (front : List ℕ) (cell kept last p x y z : ℕ) → IsPacked front →
-    Merging front cell kept last → 3 ≤ kept
-    → x ≡ get_or front (kept - 3) x → y ≡ get_or front (kept - 2) y → z ≡ get_or front (kept - 1) z
-    → IsFamily x y z last p → Merging front cell (kept - 3) p
+    Merging front cell kept last → 3 ≤ kept → x ≡ get_or front (kept - 3) x → y ≡ get_or front (kept - 2) y →
+    z ≡ get_or front (kept - 1) z → IsFamily x y z last p → Merging front cell (kept - 3) p
 step_from_reads front cell kept last p x y z packed m h rx ry rz f =
     let w = m.within in
     let less = kept - 3 in
     let a : get_or front less 0 ≡ x = read_at front (kept - 3) less x (omega arith) refl rx in
     let b : get_or front (less + 1) 0 ≡ y = read_at front (kept - 2) (less + 1) y (omega arith) (omega arith) ry in
     let c : get_or front (less + 2) 0 ≡ z = read_at front (kept - 1) (less + 2) z (omega arith) (omega arith) rz in
-    merging_step front cell kept last less p packed m (omega arith) (rw (a, b, c) f)
+    merging_step less packed m (omega arith) (rw (a, b, c) f)
 
-pub none_from_reads : (front : List ℕ) (cell kept last x y z : ℕ) → Merging front cell kept last → 3 ≤ kept
-    → x ≡ get_or front (kept - 3) x → y ≡ get_or front (kept - 2) y → z ≡ get_or front (kept - 1) z
-    → ((p : ℕ) → IsFamily x y z last p → ⊥)
-    → (less p : ℕ) → less + 3 ≡ kept → IsFamily (get_or front less 0) (get_or front (less + 1) 0)
+pub none_from_reads : (front : List ℕ) (cell kept last x y z : ℕ) → Merging front cell kept last → 3 ≤ kept →
+    x ≡ get_or front (kept - 3) x → y ≡ get_or front (kept - 2) y → z ≡ get_or front (kept - 1) z → ((p : ℕ) → IsFamily
+    x y z last p → ⊥) → (less p : ℕ) → less + 3 ≡ kept → IsFamily (get_or front less 0) (get_or front (less + 1) 0)
     (get_or front (less + 2) 0) last p → ⊥
 none_from_reads front cell kept last x y z m h rx ry rz none less p e f =
     let w = m.within in

@@ -87,8 +87,8 @@ pub record IsGap (S : ℕ → Bool) (lo hi : ℕ) : Type 0 where
   pub inside : (x : ℕ) → between lo hi x ≡ true → S x ≡ true
   pub closed : (p x : ℕ) → IsCell p → LiesIn S p → covers p x ≡ true → between lo hi x ≡ true → LiesIn (between lo hi) p
 
-gap_greatest : (S : ℕ → Bool) (lo hi c : ℕ) → IsGap S lo hi → IsGreatestIn (between lo hi) c → IsGreatestIn S c
-gap_greatest S lo hi c g t =
+gap_greatest : {S : ℕ → Bool} {lo hi c : ℕ} → IsGap S lo hi → IsGreatestIn (between lo hi) c → IsGreatestIn S c
+gap_greatest {c} g t =
     let cc = t.cell in
     let some = (cell_leaves c cc).some in
     let x = first_leaf c in
@@ -156,7 +156,7 @@ picked_fill S old new lo hi p below gap f =
           rw e (omega arith));
       greatest = All-append (IsGreatestIn S) old f.tiles p.greatest (λ k d l.
           let b = bounds k d l in
-          gap_greatest S lo hi (get_or f.tiles k d) (gap (let b0 = b.0 in let b1 = b.1 in omega arith)) (great k d l));
+          gap_greatest (gap (let b0 = b.0 in let b1 = b.1 in omega arith)) (great k d l));
     } in
     subst (Picked S) (sym f.is) made
 

@@ -45,15 +45,13 @@ leaving_step front cell kept x packed l h r i =
           let m : list_any p (take (less + 1) front) ≡ (list_any p (take less front) || p (get_or front less 0)) =
           list_any_more p front less 0 (omega arith) in
           sym (or_within (has_leaf (take less front) y) (covers (get_or front less 0) y) (covers cell y) (j y))
-          ∙ ap (λ v. v || covers cell y) (sym m ∙ ap (λ n. has_leaf (take n front) y) e)
-          ∙ l.leaves y;
+          ∙ ap (λ v. v || covers cell y) (sym m ∙ ap (λ n. has_leaf (take n front) y) e) ∙ l.leaves y;
     }
 
 -- if the last cell that stays does not lie inside, all that stay end before the cell
 pub leaving_done : (front : List ℕ) (cell kept : ℕ) → IsPacked front → All (λ c. 2 * first_leaf c < cell) front →
-    IsCell cell
-    → (0 < length front → IsInside cell (get_or front (length front - 1) 0) → ⊥) → Leaving front cell kept
-    → (0 < kept → IsInside (get_or front (kept - 1) 0) cell → ⊥) → All (λ c. EndsBefore c cell) (take kept front)
+    IsCell cell → (0 < length front → IsInside cell (get_or front (length front - 1) 0) → ⊥) → Leaving front cell kept →
+    (0 < kept → IsInside (get_or front (kept - 1) 0) cell → ⊥) → All (λ c. EndsBefore c cell) (take kept front)
 leaving_done front cell kept packed starts cc held l out k d h =
     let w = l.within in
     let len : length (take kept front) ≡ kept = length-take-le kept front w in
@@ -91,8 +89,7 @@ leaving_done front cell kept packed starts cc held l out k d h =
     let e : get_or (take kept front) k d ≡ get_or front k 0 =
     (let f : get_or (take kept front) k d ≡ get_or front k d = get_or-take kept front k d (omega arith) in
     let g : get_or front k d ≡ get_or front k 0 = grind (arith, gets) in f ∙ g) in
-    rw e
-    (⊎_elim
+    rw e (⊎_elim
     (λ (g : k < less).
     let c : first_leaf (get_or front k 0) + size_of (get_or front k 0) ≤ first_leaf a =
     packed.chain k less 0 g (omega arith) in
@@ -113,12 +110,10 @@ pub record Compacting (xs ys : List ℕ) (n i : ℕ) : Type 0 where
   pub starts : (j : ℕ) → i ≤ j → j < length xs → All (λ c. 2 * first_leaf c < get_or xs j 0) (take n ys)
   pub same_length : length ys ≡ length xs
 
-pub compacting_step : (xs ys zs : List ℕ) (n i m cell : ℕ) → IsNonDecreasing xs → Compacting xs ys n i →
-    i < length xs → cell ≡ get_or ys i cell
-    → m ≤ n + 1 → IsPacked (take m zs) → All (λ c. 2 * first_leaf c < cell) (take m zs)
-    → ((x : ℕ) → has_leaf (take m zs) x ≡ (has_leaf (take n ys) x || covers cell x))
-    → ((k d : ℕ) → n < k → get_or zs k d ≡ get_or ys k d) → length zs ≡ length ys
-    → Compacting xs zs m (i + 1)
+pub compacting_step : (xs ys zs : List ℕ) (n i m cell : ℕ) → IsNonDecreasing xs → Compacting xs ys n i → i < length xs →
+    cell ≡ get_or ys i cell → m ≤ n + 1 → IsPacked (take m zs) → All (λ c. 2 * first_leaf c < cell) (take m zs) →
+    ((x : ℕ) → has_leaf (take m zs) x ≡ (has_leaf (take n ys) x || covers cell x)) →
+    ((k d : ℕ) → n < k → get_or zs k d ≡ get_or ys k d) → length zs ≡ length ys → Compacting xs zs m (i + 1)
 compacting_step xs ys zs n i m cell up c h read w packed starts leaves rest len =
     let cw = c.within in
     let cl = c.same_length in
@@ -140,9 +135,8 @@ compacting_step xs ys zs n i m cell up c h read w packed starts leaves rest len 
       same_length = len ∙ cl;
     }
 
-pub starts_kept : (front : List ℕ) (k v cell : ℕ) → All (λ c. 2 * first_leaf c < cell) front → IsCell cell →
-    first_leaf v ≤ first_leaf cell
-    → All (λ c. 2 * first_leaf c < cell) (take k front ++ v ∷ [])
+pub starts_kept : (front : List ℕ) (k v cell : ℕ) → All (λ c. 2 * first_leaf c < cell) front →
+    IsCell cell → first_leaf v ≤ first_leaf cell → All (λ c. 2 * first_leaf c < cell) (take k front ++ v ∷ [])
 starts_kept front k v cell all c s =
     let l = cell_leaves cell c in
     let m = l.middle in

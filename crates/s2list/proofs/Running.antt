@@ -18,9 +18,9 @@ pub record Between (u : List ℕ) (lo hi start end : ℕ) : Type 0 where
   pub begun : (k : ℕ) → k < end → first_leaf (get_or u k 0) < hi
   pub rest : (k : ℕ) → end ≤ k → k < length u → hi ≤ first_leaf (get_or u k 0)
 
-pub in_order : (u : List ℕ) (lo hi start end : ℕ) → IsPacked u → start ≤ length u → lo < hi →
-    Between u lo hi start end → start ≤ end
-in_order u lo hi start end p w h b =
+pub in_order : {u : List ℕ} {lo hi start end : ℕ} →
+    IsPacked u → start ≤ length u → lo < hi → Between u lo hi start end → start ≤ end
+in_order {u} {start} {end} p w h b =
     ⊎_elim
     (λ (l : end < start).
     let s = (cell_leaves (get_or u end 0) (p.cells end 0 (omega arith))).some in
@@ -30,11 +30,11 @@ in_order u lo hi start end p w h b =
     (λ (l : start ≤ end). l)
     (cases_lt end start)
 
-pub run_at : (u : List ℕ) (c start end count : ℕ) → IsPacked u → IsCell c → start ≤ length u → count ≡ end - start
-    → Between u (first_leaf c) (first_leaf c + size_of c) start end → IsRunAt u c start count
-run_at u c start end count p own w e b =
+pub run_at : {u : List ℕ} {c start end : ℕ} (count : ℕ) → IsPacked u → IsCell c → start ≤ length u →
+    count ≡ end - start → Between u (first_leaf c) (first_leaf c + size_of c) start end → IsRunAt u c start count
+run_at {u} {c} {start} {end} count p own w e b =
     let some = (cell_leaves c own).some in
-    let o : start ≤ end = in_order u (first_leaf c) (first_leaf c + size_of c) start end p w (omega arith) b in
+    let o : start ≤ end = in_order p w (omega arith) b in
     let bw = b.within in
     record {
       within = omega arith;
@@ -73,19 +73,17 @@ run_at u c start end count p own w e b =
         )
 
 -- where the cells that begin before `hi` end, from how many end by it
-pub between_from : (u : List ℕ) (lo hi start ended end : ℕ) → IsPacked u → ended ≤ length u → FirstEndBy u start lo
-    → (start < length u → lo < first_leaf (get_or u start 0) + size_of (get_or u start 0))
-    → FirstEndBy u ended hi → (ended < length u → hi < first_leaf (get_or u ended 0) + size_of (get_or u ended 0))
-    → ((ended < length u) × (first_leaf (get_or u ended 0) < hi) × (end ≡ ended + 1))
-    ⊎ (((ended < length u) → hi ≤ first_leaf (get_or u ended 0)) × (end ≡ ended))
-    → Between u lo hi start end
-between_from u lo hi start ended end p w before next ends later (inl (l, f, e)) =
+pub between_from : {u : List ℕ} (lo hi start ended end : ℕ) → IsPacked u → ended ≤ length u →
+    FirstEndBy u start lo → (start < length u → lo < first_leaf (get_or u start 0) + size_of (get_or u start 0)) →
+    FirstEndBy u ended hi → (ended < length u → hi < first_leaf (get_or u ended 0) + size_of (get_or u ended 0)) →
+    ((ended < length u) × (first_leaf (get_or u ended 0) < hi) × (end ≡ ended + 1))
+    ⊎ (((ended < length u) → hi ≤ first_leaf (get_or u ended 0)) × (end ≡ ended)) → Between u lo hi start end
+between_from {u} lo hi start ended end p w before next ends later (inl (l, f, e)) =
     record {
       within = omega arith;
       ended = before;
       next = next;
-      begun = λ k h.
-          ⊎_elim
+      begun = λ k h. ⊎_elim
           (λ (g : k < ended). let s = (cell_leaves (get_or u k 0) (p.cells k 0 (omega arith))).some in
           let a = ends k g in omega arith)
           (λ (g : ended ≤ k). let i : k ≡ ended = omega arith in rw i f)
@@ -95,15 +93,14 @@ between_from u lo hi start ended end p w before next ends later (inl (l, f, e)) 
           let n = later l in
           omega arith;
     }
-between_from u lo hi start ended end p w before next ends later (inr (f, e)) =
+between_from {u} lo hi start ended end p w before next ends later (inr (f, e)) =
     record {
       within = omega arith;
       ended = before;
       next = next;
       begun = λ k h. let s = (cell_leaves (get_or u k 0) (p.cells k 0 (omega arith))).some in let a =
           ends k (omega arith) in omega arith;
-      rest = λ k h g.
-          ⊎_elim
+      rest = λ k h g. ⊎_elim
           (λ (i : ended < k).
           let c : EndsBefore (get_or u ended 0) (get_or u k 0) = p.chain ended k 0 i g in
           let n = later (omega arith) in

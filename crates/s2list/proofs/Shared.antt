@@ -55,9 +55,9 @@ and_left : (a b : Bool) → (a && b) ≡ true → a ≡ true
 and_left true b e = refl
 and_left false b e = e
 
-next_from : (u : List ℕ) (i : ℕ) → IsPacked u → i < length u → i + 1 < length u
-    → first_leaf (get_or u i 0) + size_of (get_or u i 0) ≤ first_leaf (get_or u (i + 1) 0)
-next_from u i p h g = p.chain i (i + 1) 0 (omega arith) g
+next_from : {u : List ℕ} (i : ℕ) → IsPacked u → i < length u →
+    i + 1 < length u → first_leaf (get_or u i 0) + size_of (get_or u i 0) ≤ first_leaf (get_or u (i + 1) 0)
+next_from i p h g = p.chain i (i + 1) 0 (omega arith) g
 
 pub has_leaf-push : (u : List ℕ) (c x : ℕ) → has_leaf (u ++ c ∷ []) x ≡ (has_leaf u x || covers c x)
 has_leaf-push u c x = list_any-append (λ n. covers n x) u (c ∷ [])
@@ -71,15 +71,13 @@ run_push xs list i n h =
     let more : take (n + 1) (drop i xs) ≡ take n (drop i xs) ++ get_or (drop i xs) n 0 ∷ [] = take_more (drop i xs) n 0
     (let l = length-drop i xs in omega arith) in
     ap (λ k. list ++ take k (drop i xs)) (sym e) ∙ ap (λ l. list ++ l) more
-    ∙ ap (λ c. list ++ (take n (drop i xs) ++ c ∷ []))
-    (get_or-drop i xs n 0)
+    ∙ ap (λ c. list ++ (take n (drop i xs) ++ c ∷ [])) (get_or-drop i xs n 0)
     ∙ sym (append_assoc list (take n (drop i xs)) (get_or xs (i + n) 0 ∷ []))
 
 -- the next cell of xs lies in the next of ys
-pub sharing_push : (S : ℕ → Bool) (xs ys list : List ℕ) (i j c : ℕ) → IsLocal xs → IsLocal ys →
-    Sharing S xs ys list i j → i < length xs
-    → j < length ys
-    → get_or xs i 0 ≡ c → Within c (get_or ys j 0) → Sharing S xs ys (list ++ c ∷ []) (i + 1) j
+pub sharing_push : (S : ℕ → Bool) (xs ys list : List ℕ) (i j c : ℕ) →
+    IsLocal xs → IsLocal ys → Sharing S xs ys list i j → i < length xs →
+    j < length ys → get_or xs i 0 ≡ c → Within c (get_or ys j 0) → Sharing S xs ys (list ++ c ∷ []) (i + 1) j
 sharing_push S xs ys list i j c lx ly s h g e w =
     let px = packed_from_local xs lx in
     let py = packed_from_local ys ly in
@@ -101,35 +99,30 @@ sharing_push S xs ys list i j c lx ly s h g e w =
     record {
       lo = next;
       same = s.same;
-      walk = walk_more S xs ys list (list ++ c ∷ []) i j lo (i + 1) j next (first_leaf c) next s.walk start
-          (omega arith) (omega arith)
-          (λ x. has_leaf-push list c x)
-          (ended_more xs i lo next s.walk.ended_x (omega arith) (omega arith))
+      walk = walk_more (list ++ c ∷ []) (i + 1) j next (first_leaf c) next s.walk start (omega arith) (omega arith)
+          (λ x. has_leaf-push list c x) (ended_more xs i lo next s.walk.ended_x (omega arith) (omega arith))
           (ended_later ys j lo next s.walk.ended_y (omega arith))
-          (λ x a b.
-          ⊎_elim
+          (λ x a b. ⊎_elim
           (λ (m : x < first_leaf c).
           let f : between (first_leaf c) next x ≡ false = grind (arith, nat_tests) in
-          let t : has_leaf xs x ≡ false = gap xs i lo (first_leaf (get_or xs i 0)) x px s.walk.ended_x
-          (λ _. omega arith) a
-          (omega arith) in
+          let t : has_leaf xs x ≡ false = gap i lo (first_leaf (get_or xs i 0)) x px s.walk.ended_x
+          (λ _. omega arith) a (omega arith) in
           f ∙ sym (s.same x ∙ ap (λ v. v && has_leaf ys x) t))
           (λ (m : first_leaf c ≤ x).
           let f : between (first_leaf c) next x ≡ true = grind (arith, nat_tests) in
           f ∙ sym (shared x m b))
           (cases_lt x (first_leaf c)));
-      from = inl (λ k. let n = next_from xs i px h k in omega arith);
-      picked = picked_push S list c lo s.picked (walk_below S xs ys list i j lo lo s.walk (omega arith)) start
-          (greatest_below S xs c lx (member_at xs i c h e)
+      from = inl (λ k. let n = next_from i px h k in omega arith);
+      picked = picked_push S
+          list c lo s.picked (walk_below lo s.walk (omega arith)) start (greatest_below S xs c lx (member_at xs i c h e)
           (λ x t. and_left (has_leaf xs x) (has_leaf ys x) (sym (s.same x) ∙ t))
           (λ x v. let r = covers_from c x v in let r0 = r.0 in let r1 = r.1 in shared x (omega arith) (omega arith)));
     }
 
 -- the next cell of xs ends before the next of ys, if there is one
-pub sharing_skip : (S : ℕ → Bool) (xs ys list : List ℕ) (i j : ℕ) → IsLocal xs → IsLocal ys →
-    Sharing S xs ys list i j → i < length xs
-    → (j < length ys → first_leaf (get_or xs i 0) + size_of (get_or xs i 0) ≤ first_leaf (get_or ys j 0)) →
-    Sharing S xs ys list (i + 1) j
+pub sharing_skip : (S : ℕ → Bool) (xs ys list : List ℕ) (i j : ℕ) →
+    IsLocal xs → IsLocal ys → Sharing S xs ys list i j → i < length xs → (j < length ys →
+    first_leaf (get_or xs i 0) + size_of (get_or xs i 0) ≤ first_leaf (get_or ys j 0)) → Sharing S xs ys list (i + 1) j
 sharing_skip S xs ys list i j lx ly s h e =
     let px = packed_from_local xs lx in
     let py = packed_from_local ys ly in
@@ -140,27 +133,26 @@ sharing_skip S xs ys list i j lx ly s h e =
     record {
       lo = next;
       same = s.same;
-      walk = walk_more S xs ys list list i j lo (i + 1) j next lo lo s.walk (omega arith) (omega arith) (omega arith)
+      walk = walk_more list (i + 1) j next lo lo s.walk (omega arith) (omega arith) (omega arith)
           (λ x. or_false (has_leaf list x) ∙ ap (λ v. has_leaf list x || v) (sym (none_between lo x)))
           (ended_more xs i lo next s.walk.ended_x (omega arith) (omega arith))
           (ended_later ys j lo next s.walk.ended_y (omega arith))
           (λ x a b.
-          let t : has_leaf ys x ≡ false = gap ys j lo end x py s.walk.ended_y e a (omega arith) in
+          let t : has_leaf ys x ≡ false = gap j lo end x py s.walk.ended_y e a (omega arith) in
           none_between lo x ∙ sym (s.same x ∙ ap (λ v. has_leaf xs x && v) t ∙ and_false (has_leaf xs x)));
       from = ⊎_elim
-          (λ (f : i < length xs → lo ≤ first_leaf (get_or xs i 0)).
-          inl (λ k. let n = next_from xs i px h k in let a = f h in omega arith))
-          (λ (f : j < length ys → lo ≤ first_leaf (get_or ys j 0)).
-          inr (λ k. let a = f k in let b = e k in omega arith))
-          s.from;
+          (λ (f : i < length xs → lo ≤ first_leaf (get_or xs i 0)). inl
+          (λ k. let n = next_from i px h k in let a = f h in omega arith))
+          (λ (f : j < length ys → lo ≤ first_leaf (get_or ys j 0)). inr
+          (λ k. let a = f k in let b = e k in omega arith)) s.from;
       picked = s.picked;
     }
 
 -- so do all up to a place
-pub sharing_jump : (S : ℕ → Bool) (xs ys list : List ℕ) (i j next : ℕ) → IsLocal xs → IsLocal ys →
-    Sharing S xs ys list i j → j < length ys
-    → i ≤ next → next ≤ length xs → FirstEndBy xs next (first_leaf (get_or ys j 0)) → Sharing S xs ys list next j
-sharing_jump S xs ys list i j next lx ly s g le in_x ended =
+pub sharing_jump : {S : ℕ → Bool} {xs ys list : List ℕ} {i j : ℕ} (next : ℕ) →
+    IsLocal xs → IsLocal ys → Sharing S xs ys list i j → j < length ys →
+    i ≤ next → next ≤ length xs → FirstEndBy xs next (first_leaf (get_or ys j 0)) → Sharing S xs ys list next j
+sharing_jump {S} {xs} {ys} {list} {i} {j} next lx ly s g le in_x ended =
     let e : i + (next - i) ≡ next = omega arith in
     subst (λ k. Sharing S xs ys list k j) e (steps (next - i) (omega arith))
   where
@@ -173,13 +165,11 @@ sharing_jump S xs ys list i j next lx ly s g le in_x ended =
         (λ _. ended (i + n) (omega arith)))
 
 -- all cells of xs up to a place lie in the next of ys
-pub sharing_run : (S : ℕ → Bool) (xs ys list new : List ℕ) (i j next : ℕ) → IsLocal xs → IsLocal ys →
-    Sharing S xs ys list i j
-    → j < length ys
-    → Within (get_or xs i 0) (get_or ys j 0) → i ≤ next → next ≤ length xs
-    → FirstEndBy xs next (first_leaf (get_or ys j 0) + size_of (get_or ys j 0))
-    → new ≡ list ++ take (next - i) (drop i xs) → Sharing S xs ys new next j
-sharing_run S xs ys list new i j next lx ly s g first le in_x ended is =
+pub sharing_run : {S : ℕ → Bool} {xs ys list : List ℕ} (new : List ℕ) {i j : ℕ} (next : ℕ) →
+    IsLocal xs → IsLocal ys → Sharing S xs ys list i j → j < length ys → Within (get_or xs i 0) (get_or ys j 0) →
+    i ≤ next → next ≤ length xs → FirstEndBy xs next (first_leaf (get_or ys j 0) + size_of (get_or ys j 0)) →
+    new ≡ list ++ take (next - i) (drop i xs) → Sharing S xs ys new next j
+sharing_run {S} {xs} {ys} {list} new {i} {j} next lx ly s g first le in_x ended is =
     let e : i + (next - i) ≡ next = omega arith in
     rw is (subst (λ k. Sharing S xs ys (list ++ take (next - i) (drop i xs)) k j) e (steps (next - i) (omega arith)))
   where
@@ -221,9 +211,8 @@ sharing_done S xs ys list i j s h x =
 -- ---- the steps of the loop, with what was read
 
 -- the same of a cell that was read
-pub ended_up_to : (u : List ℕ) (i x lo : ℕ) → IsLocal u → i < length u → x ≡ get_or u i x →
-    first_leaf x + size_of x ≤ lo
-    → FirstEndBy u (i + 1) lo
+pub ended_up_to : (u : List ℕ) (i x lo : ℕ) →
+    IsLocal u → i < length u → x ≡ get_or u i x → first_leaf x + size_of x ≤ lo → FirstEndBy u (i + 1) lo
 ended_up_to u i x lo local h rx le =
     let ex : get_or u i 0 ≡ x = read_at u i i x h refl rx in
     let f = ap first_leaf ex in
@@ -239,13 +228,10 @@ ended_in ys j x y ly g ry inside =
     (within_from_inside y x (rw ey at (ly.cells j 0 g)) inside).high
 
 -- a cell that held a run holds no more: the cell of ys that stands after the run begins after it
-pub run_over : (xs ys : List ℕ) (i j next x y : ℕ) → IsLocal xs → IsLocal ys → i < length xs → j < next →
-    x ≡ get_or xs i x
-    → y ≡ get_or ys j y → IsInside y x
-    → (next < length ys → first_leaf x + size_of x < first_leaf (get_or ys next 0) + size_of (get_or ys next 0)) →
-    next < length ys
-    → first_leaf x + size_of x ≤ first_leaf (get_or ys next 0)
-run_over xs ys i j next x y lx ly h le rx ry inside later w =
+pub run_over : {xs ys : List ℕ} (i j next x y : ℕ) → IsLocal xs → IsLocal ys → i < length xs → j < next → x ≡ get_or
+    xs i x → y ≡ get_or ys j y → IsInside y x → (next < length ys → first_leaf x + size_of x < first_leaf (get_or ys
+    next 0) + size_of (get_or ys next 0)) → next < length ys → first_leaf x + size_of x ≤ first_leaf (get_or ys next 0)
+run_over {xs} {ys} i j next x y lx ly h le rx ry inside later w =
     let ex : get_or xs i 0 ≡ x = read_at xs i i x h refl rx in
     let ey : get_or ys j 0 ≡ y = read_at ys j j y (omega arith) refl ry in
     let cx : IsCell x = rw ex at (lx.cells i 0 h) in
@@ -266,41 +252,34 @@ run_over xs ys i j next x y lx ly h le rx ry inside later w =
     ]
 
 -- a run of xs lies in the next cell of ys, which holds no more of them
-pub share_x : (S : ℕ → Bool) (xs ys list new : List ℕ) (i j next x y : ℕ) → IsLocal xs → IsLocal ys →
-    Sharing S xs ys list i j
-    → i < length xs → j < length ys
-    → x ≡ get_or xs i x → y ≡ get_or ys j y → IsInside x y → i < next → next ≤ length xs →
-    FirstEndBy xs next (first_leaf y + size_of y)
-    → (next < length xs → first_leaf y + size_of y < first_leaf (get_or xs next 0) + size_of (get_or xs next 0))
-    → new ≡ list ++ take (next - i) (drop i xs) → Sharing S xs ys new next (j + 1)
+pub share_x : (S : ℕ → Bool) (xs ys list new : List ℕ) (i j next x y : ℕ) →
+    IsLocal xs → IsLocal ys → Sharing S xs ys list i j → i < length xs → j < length ys → x ≡ get_or xs i x →
+    y ≡ get_or ys j y → IsInside x y → i < next → next ≤ length xs → FirstEndBy xs next (first_leaf y + size_of y) →
+    (next < length xs → first_leaf y + size_of y < first_leaf (get_or xs next 0) + size_of (get_or xs next 0)) →
+    new ≡ list ++ take (next - i) (drop i xs) → Sharing S xs ys new next (j + 1)
 share_x S xs ys list new i j next x y lx ly s h g rx ry inside le in_x ended later e =
     let ex : get_or xs i 0 ≡ x = read_at xs i i x h refl rx in
     let ey : get_or ys j 0 ≡ y = read_at ys j j y g refl ry in
     let cx : IsCell x = rw ex at (lx.cells i 0 h) in
     let w : Within (get_or xs i 0) (get_or ys j 0) = rw (ex, ey) (within_from_inside x y cx inside) in
-    let run = sharing_run S xs ys list new i j next lx ly s g w (omega arith) in_x (rw ey ended) e in
-    let over = run_over ys xs j i next y x ly lx g le ry rx inside later in
+    let run = sharing_run new next lx ly s g w (omega arith) in_x (rw ey ended) e in
+    let over = run_over j i next y x ly lx g le ry rx inside later in
     sharing_swap S ys xs new (j + 1) next (sharing_skip S ys xs new j next ly lx
     (sharing_swap S xs ys new next j run) g (rw ey over))
 
-pub share_y : (S : ℕ → Bool) (xs ys list new : List ℕ) (i j next x y : ℕ) → IsLocal xs → IsLocal ys →
-    Sharing S xs ys list i j
-    → i < length xs → j < length ys
-    → x ≡ get_or xs i x → y ≡ get_or ys j y → IsInside y x → j < next → next ≤ length ys →
-    FirstEndBy ys next (first_leaf x + size_of x)
-    → (next < length ys → first_leaf x + size_of x < first_leaf (get_or ys next 0) + size_of (get_or ys next 0))
-    → new ≡ list ++ take (next - j) (drop j ys) → Sharing S xs ys new (i + 1) next
+pub share_y : (S : ℕ → Bool) (xs ys list new : List ℕ) (i j next x y : ℕ) →
+    IsLocal xs → IsLocal ys → Sharing S xs ys list i j → i < length xs → j < length ys → x ≡ get_or xs i x →
+    y ≡ get_or ys j y → IsInside y x → j < next → next ≤ length ys → FirstEndBy ys next (first_leaf x + size_of x) →
+    (next < length ys → first_leaf x + size_of x < first_leaf (get_or ys next 0) + size_of (get_or ys next 0)) →
+    new ≡ list ++ take (next - j) (drop j ys) → Sharing S xs ys new (i + 1) next
 share_y S xs ys list new i j next x y lx ly s h g rx ry inside le in_y ended later e =
-    sharing_swap S ys xs new next (i + 1) (share_x S ys xs list new j i next y x ly lx
-    (sharing_swap S xs ys list i j s) g h ry rx inside
-    le in_y ended later e)
+    sharing_swap S ys xs new next (i + 1) (share_x
+    S ys xs list new j i next y x ly lx (sharing_swap S xs ys list i j s) g h ry rx inside le in_y ended later e)
 
 -- of two cells that share a leaf one holds the other
-pub held_else : (xs ys : List ℕ) (i j x y : ℕ) → IsLocal xs → IsLocal ys → i < length xs → j < length ys →
-    x ≡ get_or xs i x
-    → y ≡ get_or ys j y
-    → first_leaf y < first_leaf x + size_of x → first_leaf x < first_leaf y + size_of y → (IsInside x y → ⊥) →
-    IsInside y x
+pub held_else : (xs ys : List ℕ) (i j x y : ℕ) → IsLocal xs → IsLocal ys →
+    i < length xs → j < length ys → x ≡ get_or xs i x → y ≡ get_or ys j y → first_leaf y < first_leaf x + size_of x →
+    first_leaf x < first_leaf y + size_of y → (IsInside x y → ⊥) → IsInside y x
 held_else xs ys i j x y lx ly h g rx ry a b not_in =
     let ex : get_or xs i 0 ≡ x = read_at xs i i x h refl rx in
     let ey : get_or ys j 0 ≡ y = read_at ys j j y g refl ry in
@@ -312,18 +291,16 @@ held_else xs ys i j x y lx ly h g rx ry a b not_in =
     ]
 
 -- the cells of xs up to a place end before the next of ys
-pub skip_x : (S : ℕ → Bool) (xs ys list : List ℕ) (i j next y : ℕ) → IsLocal xs → IsLocal ys →
-    Sharing S xs ys list i j → j < length ys
-    → y ≡ get_or ys j y
-    → i ≤ next → next ≤ length xs → FirstEndBy xs next (first_leaf y) → Sharing S xs ys list next j
+pub skip_x : (S : ℕ → Bool) (xs ys list : List ℕ) (i j next y : ℕ) →
+    IsLocal xs → IsLocal ys → Sharing S xs ys list i j → j < length ys →
+    y ≡ get_or ys j y → i ≤ next → next ≤ length xs → FirstEndBy xs next (first_leaf y) → Sharing S xs ys list next j
 skip_x S xs ys list i j next y lx ly s g ry le in_x ended =
     let ey : get_or ys j 0 ≡ y = read_at ys j j y g refl ry in
-    sharing_jump S xs ys list i j next lx ly s g le in_x (rw ey ended)
+    sharing_jump next lx ly s g le in_x (rw ey ended)
 
-pub skip_y : (S : ℕ → Bool) (xs ys list : List ℕ) (i j next x : ℕ) → IsLocal xs → IsLocal ys →
-    Sharing S xs ys list i j → i < length xs
-    → x ≡ get_or xs i x
-    → j ≤ next → next ≤ length ys → FirstEndBy ys next (first_leaf x) → Sharing S xs ys list i next
+pub skip_y : (S : ℕ → Bool) (xs ys list : List ℕ) (i j next x : ℕ) →
+    IsLocal xs → IsLocal ys → Sharing S xs ys list i j → i < length xs →
+    x ≡ get_or xs i x → j ≤ next → next ≤ length ys → FirstEndBy ys next (first_leaf x) → Sharing S xs ys list i next
 skip_y S xs ys list i j next x lx ly s h rx le in_y ended =
     sharing_swap S ys xs list next i (skip_x S ys xs list j i next x ly lx (sharing_swap S xs ys list i j s) h rx
     le in_y ended)

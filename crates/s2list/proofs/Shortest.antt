@@ -26,8 +26,8 @@ record Hit (v : List ℕ) (d : ℕ) : Type 0 where
   pub within : Within (get_or v at 0) d
 
 -- it is another one for a later cell, and stays where the first one goes
-hit_rest : (v : List ℕ) (d e : ℕ) (h : Hit v d) → EndsBefore d e → Hit v e → Hit (remove v h.at) e
-hit_rest v d e h before g =
+hit_rest : {v : List ℕ} {d e : ℕ} (h : Hit v d) → EndsBefore d e → Hit v e → Hit (remove v h.at) e
+hit_rest {v} {e} h before g =
     let c = h.cell in
     let some = (cell_leaves (get_or v h.at 0) h.cell).some in
     let h_low = h.within.low in
@@ -39,8 +39,7 @@ hit_rest v d e h before g =
     let len : length (remove v h.at) + 1 ≡ length v = length-remove v h.at h.below in
     ⊎_elim
     (λ (same : g.at ≡ h.at). let f : first_leaf (get_or v g.at 0) ≡ first_leaf (get_or v h.at 0) = ap
-    (λ k. first_leaf (get_or v k 0)) same in absurd (omega arith))
-    (⊎_elim
+    (λ k. first_leaf (get_or v k 0)) same in absurd (omega arith)) (⊎_elim
     (λ (less : g.at < h.at).
     let r : get_or v g.at 0 ≡ get_or (remove v h.at) g.at 0 = sym (get_or-remove_below v h.at 0 g.at less h.below) in
     record {
@@ -67,16 +66,14 @@ shorter (d ∷ u) v chain hit =
     let h = hit d (zero, omega arith, refl) in
     let len : length (remove v h.at) + 1 ≡ length v = length-remove v h.at h.below in
     let less = shorter u (remove v h.at) (λ i j x p q. chain (suc i) (suc j) x (omega arith) (omega arith))
-    (λ e m. hit_rest v d e h
-    (let (k, l, is) = m in let b : EndsBefore d (get_or u k e) = chain zero (suc k) e (omega arith)
-    (omega arith) in subst (λ x. EndsBefore d x) is b)
-    (hit e (let (k, l, is) = m in (suc k, omega arith, is)))) in
+    (λ e m. hit_rest h (let (k, l, is) = m in let b : EndsBefore d (get_or u k e) = chain zero (suc k) e (omega arith)
+    (omega arith) in subst (λ x. EndsBefore d x) is b) (hit e (let (k, l, is) = m in (suc k, omega arith, is)))) in
     omega arith
 
 -- each cell of a local list has a cell inside it in every list with the same leaves
-member_hit : (u v : List ℕ) → IsLocal u → All IsCell v → ((x : ℕ) → has_leaf v x ≡ has_leaf u x) → (d : ℕ) →
-    Contains u d → Hit v d
-member_hit u v local all same d m =
+member_hit : {u : List ℕ} (v : List ℕ) →
+    IsLocal u → All IsCell v → ((x : ℕ) → has_leaf v x ≡ has_leaf u x) → (d : ℕ) → Contains u d → Hit v d
+member_hit {u} v local all same d m =
     let cd : IsCell d = All-contains IsCell u d local.cells m in
     let x = first_leaf d in
     let some = (cell_leaves d cd).some in
@@ -100,7 +97,7 @@ member_hit u v local all same d m =
 -- a local list is shortest
 pub shortest : (S : ℕ → Bool) (u : List ℕ) → IsLocal u → ((x : ℕ) → has_leaf u x ≡ S x) → IsShortest S u
 shortest S u local leaves v all same = shorter u v (packed_from_local u local).chain
-    (member_hit u v local all (λ x. same x ∙ sym (leaves x)))
+    (member_hit v local all (λ x. same x ∙ sym (leaves x)))
 
 -- cells of the normal form of a set that follow each other are no more than it has
 pub picked_length : (S : ℕ → Bool) (u v : List ℕ) → Picked S u → IsNormalForm S v → length u ≤ length v

@@ -36,58 +36,47 @@ abbrev pub minus : List ℕ → List ℕ → ℕ → Bool
 minus xs ys x = has_leaf xs x && not (has_leaf ys x)
 
 -- the rest of a cell of xs is free of ys
-pub subtract_free : (xs ys list new : List ℕ) (i j lo start end next : ℕ) → IsPacked xs → IsPacked ys →
-    Walk (minus xs ys) xs ys list i j lo
-    → i < length xs → (j < length ys → end ≤ first_leaf (get_or ys j 0))
-    → start ≡ max (first_leaf (get_or xs i 0)) lo → end ≡ first_leaf (get_or xs i 0) + size_of (get_or xs i 0) →
-    next ≡ max end start
-    → ((x : ℕ) → has_leaf new x ≡ (has_leaf list x || between start end x))
-    → Walk (minus xs ys) xs ys new (i + 1) j next
-subtract_free xs ys list new i j lo start end next px py w h free es ee en leaves =
-    walk_more (minus xs ys) xs ys list new i j lo (i + 1) j next start end w (omega arith) (omega arith)
-    (omega arith) leaves
-    (ended_more xs i lo next w.ended_x (omega arith) (omega arith))
-    (ended_later ys j lo next w.ended_y (omega arith))
-    (λ x a b.
-    ⊎_elim
+pub subtract_free : {xs ys list : List ℕ} (new : List ℕ) {i j lo : ℕ} (start end next : ℕ) →
+    IsPacked xs → IsPacked ys → Walk (minus xs ys) xs ys list i j lo →
+    i < length xs → (j < length ys → end ≤ first_leaf (get_or ys j 0)) → start ≡ max (first_leaf (get_or xs i 0)) lo →
+    end ≡ first_leaf (get_or xs i 0) + size_of (get_or xs i 0) → next ≡ max end start →
+    ((x : ℕ) → has_leaf new x ≡ (has_leaf list x || between start end x)) → Walk (minus xs ys) xs ys new (i + 1) j next
+subtract_free {xs} {ys} {list} new {i} {j} {lo} start end next px py w h free es ee en leaves =
+    walk_more new (i + 1) j next start end w (omega arith) (omega arith) (omega arith) leaves
+    (ended_more xs i lo next w.ended_x (omega arith) (omega arith)) (ended_later ys j lo next w.ended_y (omega arith))
+    (λ x a b. ⊎_elim
     (λ (g : x < start).
     let f : between start end x ≡ false = grind (arith, nat_tests) in
-    let t : has_leaf xs x ≡ false = gap xs i lo (first_leaf (get_or xs i 0)) x px w.ended_x (λ _. omega arith) a
+    let t : has_leaf xs x ≡ false = gap i lo (first_leaf (get_or xs i 0)) x px w.ended_x (λ _. omega arith) a
     (omega arith) in
     f ∙ ap (λ v. v && not (has_leaf ys x)) (sym t))
     (λ (g : start ≤ x).
     let f : between start end x ≡ true = grind (arith, nat_tests) in
     let t : has_leaf xs x ≡ true = leaf_there xs i x h (omega arith) (omega arith) in
-    let n : has_leaf ys x ≡ false = gap ys j lo end x py w.ended_y free a (omega arith) in
+    let n : has_leaf ys x ≡ false = gap j lo end x py w.ended_y free a (omega arith) in
     f ∙ sym (ap (λ v. v && not (has_leaf ys x)) t ∙ ap not n))
     (cases_lt x start))
 
 -- the next cell of ys begins before the cell of xs ends
-pub subtract_taken : (xs ys list new : List ℕ) (i j lo start end next : ℕ) → IsPacked xs → IsPacked ys →
-    Walk (minus xs ys) xs ys list i j lo
-    → i < length xs → j < length ys → end < first_leaf (get_or xs i 0) + size_of (get_or xs i 0)
-    → start ≡ max (first_leaf (get_or xs i 0)) lo → end ≡ first_leaf (get_or ys j 0) →
-    next ≡ max (first_leaf (get_or ys j 0) + size_of (get_or ys j 0)) start
-    → ((x : ℕ) → has_leaf new x ≡ (has_leaf list x || between start end x))
-    → Walk (minus xs ys) xs ys new i (j + 1) next
-subtract_taken xs ys list new i j lo start end next px py w h g before es ee en leaves =
-    walk_more (minus xs ys) xs ys list new i j lo i (j + 1) next start end w (omega arith) (omega arith)
-    (omega arith) leaves
-    (ended_later xs i lo next w.ended_x (omega arith))
-    (ended_more ys j lo next w.ended_y (omega arith) (omega arith))
-    (λ x a b.
-    ⊎_elim
+pub subtract_taken : {xs ys list : List ℕ} (new : List ℕ) {i j lo : ℕ} (start end next : ℕ) →
+    IsPacked xs → IsPacked ys → Walk (minus xs ys) xs ys list i j lo → i < length xs → j < length ys →
+    end < first_leaf (get_or xs i 0) + size_of (get_or xs i 0) → start ≡ max (first_leaf (get_or xs i 0)) lo →
+    end ≡ first_leaf (get_or ys j 0) → next ≡ max (first_leaf (get_or ys j 0) + size_of (get_or ys j 0)) start →
+    ((x : ℕ) → has_leaf new x ≡ (has_leaf list x || between start end x)) → Walk (minus xs ys) xs ys new i (j + 1) next
+subtract_taken {xs} {ys} {list} new {i} {j} {lo} start end next px py w h g before es ee en leaves =
+    walk_more new i (j + 1) next start end w (omega arith) (omega arith) (omega arith) leaves
+    (ended_later xs i lo next w.ended_x (omega arith)) (ended_more ys j lo next w.ended_y (omega arith) (omega arith))
+    (λ x a b. ⊎_elim
     (λ (m : x < start).
     let f : between start end x ≡ false = grind (arith, nat_tests) in
-    let t : has_leaf xs x ≡ false = gap xs i lo (first_leaf (get_or xs i 0)) x px w.ended_x (λ _. omega arith) a
+    let t : has_leaf xs x ≡ false = gap i lo (first_leaf (get_or xs i 0)) x px w.ended_x (λ _. omega arith) a
     (omega arith) in
     f ∙ ap (λ v. v && not (has_leaf ys x)) (sym t))
-    (λ (m : start ≤ x).
-    ⊎_elim
+    (λ (m : start ≤ x). ⊎_elim
     (λ (q : x < end).
     let f : between start end x ≡ true = grind (arith, nat_tests) in
     let t : has_leaf xs x ≡ true = leaf_there xs i x h (omega arith) (omega arith) in
-    let n : has_leaf ys x ≡ false = gap ys j lo end x py w.ended_y (λ _. omega arith) a q in
+    let n : has_leaf ys x ≡ false = gap j lo end x py w.ended_y (λ _. omega arith) a q in
     f ∙ sym (ap (λ v. v && not (has_leaf ys x)) t ∙ ap not n))
     (λ (q : end ≤ x).
     let f : between start end x ≡ false = grind (arith, nat_tests) in
@@ -128,21 +117,19 @@ edge_taken xs ys i j lo start next edge g some es en h =
     let e : next ≡ start = omega arith in
     ⊎_elim
     (λ (b : lo ≤ first_leaf (get_or xs i 0)). inl (omega arith))
-    (λ (b : (0 < lo) × (has_leaf ys (lo - 1) ≡ true)).
-    ⊎_elim
+    (λ (b : (0 < lo) × (has_leaf ys (lo - 1) ≡ true)). ⊎_elim
     (λ (m : lo < first_leaf (get_or xs i 0)). inl (omega arith))
     (λ (m : first_leaf (get_or xs i 0) ≤ lo). let f : lo ≡ next = omega arith in
     inr (let b0 = b.0 in omega arith, subst (λ v. has_leaf ys (v - 1) ≡ true) f b.1))
-    (cases_lt lo (first_leaf (get_or xs i 0))))
-    (edge h))
+    (cases_lt lo (first_leaf (get_or xs i 0)))) (edge h))
     (λ (a : start ≤ first_leaf y + size_of y).
     inr (omega arith, leaf_there ys j (next - 1) g (omega arith) (omega arith)))
     (cases_lt (first_leaf y + size_of y) start)
 
-edge_free : (xs ys : List ℕ) (i lo start next : ℕ) → IsPacked xs → Edge xs ys i lo → i < length xs →
-    start ≡ max (first_leaf (get_or xs i 0)) lo
-    → next ≡ max (first_leaf (get_or xs i 0) + size_of (get_or xs i 0)) start → Edge xs ys (i + 1) next
-edge_free xs ys i lo start next packed edge h es en h2 =
+edge_free : {xs : List ℕ} (ys : List ℕ) (i lo start next : ℕ) →
+    IsPacked xs → Edge xs ys i lo → i < length xs → start ≡ max (first_leaf (get_or xs i 0)) lo →
+    next ≡ max (first_leaf (get_or xs i 0) + size_of (get_or xs i 0)) start → Edge xs ys (i + 1) next
+edge_free {xs} ys i lo start next packed edge h es en h2 =
     let x = get_or xs i 0 in
     let c : first_leaf x + size_of x ≤ first_leaf (get_or xs (i + 1) 0) = packed.chain i (i + 1) 0 (omega arith) h2 in
     let some = (cell_leaves x (packed.cells i 0 h)).some in
@@ -151,9 +138,8 @@ edge_free xs ys i lo start next packed edge h es en h2 =
     let f : lo ≡ next = omega arith in
     ⊎_elim
     (λ (b : lo ≤ first_leaf x). absurd (omega arith))
-    (λ (b : (0 < lo) × (has_leaf ys (lo - 1) ≡ true)).
-    inr (let b0 = b.0 in omega arith, subst (λ v. has_leaf ys (v - 1) ≡ true) f b.1))
-    (edge h))
+    (λ (b : (0 < lo) × (has_leaf ys (lo - 1) ≡ true)). inr
+    (let b0 = b.0 in omega arith, subst (λ v. has_leaf ys (v - 1) ≡ true) f b.1)) (edge h))
     (λ (a : start ≤ first_leaf x + size_of x). inl (omega arith))
     (cases_lt (first_leaf x + size_of x) start)
 
@@ -180,11 +166,10 @@ gap_within xs ys i j end (inl g) = let e = g.0 in omega arith
 gap_within xs ys i j end (inr g) = let e = g.2 in omega arith
 
 -- a cell in the difference that has a leaf of a cell of xs lies in it
-difference_within : (xs ys : List ℕ) (i p x : ℕ) → IsLocal xs → i < length xs → IsCell p → LiesIn (minus xs ys) p →
-    covers p x ≡ true
-    → first_leaf (get_or xs i 0) ≤ x → x < first_leaf (get_or xs i 0) + size_of (get_or xs i 0) →
-    Within p (get_or xs i 0)
-difference_within xs ys i p x local h cp lies hx low high =
+difference_within : {xs : List ℕ} (ys : List ℕ) (i : ℕ) {p : ℕ} (x : ℕ) →
+    IsLocal xs → i < length xs → IsCell p → LiesIn (minus xs ys) p → covers p x ≡ true →
+    first_leaf (get_or xs i 0) ≤ x → x < first_leaf (get_or xs i 0) + size_of (get_or xs i 0) → Within p (get_or xs i 0)
+difference_within {xs} ys i {p} x local h cp lies hx low high =
     let c = get_or xs i 0 in
     let m = member_at xs i c h refl in
     let deep = shallow p cp in
@@ -196,10 +181,10 @@ difference_within xs ys i p x local h cp lies hx low high =
       | family q cq lq f ↦ absurd (local.unmerged q cq lq f)
     ]
 
-difference_gap : (xs ys : List ℕ) (i j lo start end : ℕ) → IsLocal xs → IsLocal ys → FirstEndBy xs i lo →
-    FirstEndBy ys j lo → i < length xs → Edge xs ys i lo
-    → start ≡ max (first_leaf (get_or xs i 0)) lo → GapEnd xs ys i j end → IsGap (minus xs ys) start end
-difference_gap xs ys i j lo start end lx ly bx by h edge es ee =
+difference_gap : {xs ys : List ℕ} (i j lo start end : ℕ) →
+    IsLocal xs → IsLocal ys → FirstEndBy xs i lo → FirstEndBy ys j lo → i < length xs →
+    Edge xs ys i lo → start ≡ max (first_leaf (get_or xs i 0)) lo → GapEnd xs ys i j end → IsGap (minus xs ys) start end
+difference_gap {xs} {ys} i j lo start end lx ly bx by h edge es ee =
     let px = packed_from_local xs lx in
     let py = packed_from_local ys ly in
     let most = gap_within xs ys i j end ee in
@@ -209,13 +194,13 @@ difference_gap xs ys i j lo start end lx ly bx by h edge es ee =
           let r0 = r.0 in
           let r1 = r.1 in
           let t : has_leaf xs x ≡ true = leaf_there xs i x h (omega arith) (omega arith) in
-          let n : has_leaf ys x ≡ false = gap ys j lo end x py by (gap_free xs ys i j end ee) (omega arith) r1 in
+          let n : has_leaf ys x ≡ false = gap j lo end x py by (gap_free xs ys i j end ee) (omega arith) r1 in
           ap (λ v. v && not (has_leaf ys x)) t ∙ ap not n;
       closed = λ p x cp lies hx b.
           let r = between_ends start end x b in
           let r0 = r.0 in
           let r1 = r.1 in
-          let w = difference_within xs ys i p x lx h cp lies hx (omega arith) (omega arith) in
+          let w = difference_within ys i x lx h cp lies hx (omega arith) (omega arith) in
           let wl = w.low in
           let wh = w.high in
           let ends = covers_from p x hx in
@@ -223,17 +208,14 @@ difference_gap xs ys i j lo start end lx ly bx by h edge es ee =
           let e1 = ends.1 in
           let low : start ≤ first_leaf p =
           ⊎_elim
-          (λ (a : first_leaf p < start).
-          ⊎_elim
+          (λ (a : first_leaf p < start). ⊎_elim
           (λ (m : lo ≤ first_leaf (get_or xs i 0)). absurd (omega arith))
-          (λ (m : (0 < lo) × (has_leaf ys (lo - 1) ≡ true)).
-          ⊎_elim
+          (λ (m : (0 < lo) × (has_leaf ys (lo - 1) ≡ true)). ⊎_elim
           (λ (k : lo < start). absurd (omega arith))
           (λ (k : start ≤ lo).
           let m0 = m.0 in
-          absurd (minus_right xs ys (lo - 1) (lies (lo - 1) (covers_there p (lo - 1) (omega arith) (omega arith))) m.1))
-          (cases_lt lo start))
-          (edge h))
+          absurd (minus_right xs ys (lo - 1)
+          (lies (lo - 1) (covers_there p (lo - 1) (omega arith) (omega arith))) m.1)) (cases_lt lo start)) (edge h))
           (λ (a : start ≤ first_leaf p). a)
           (cases_lt (first_leaf p) start) in
           let high : first_leaf p + size_of p ≤ end =
@@ -249,8 +231,7 @@ difference_gap xs ys i j lo start end lx ly bx by h edge es ee =
           absurd (minus_right xs ys end (lies end (covers_there p end (omega arith) a))
           (leaf_there ys j end g.0 (omega arith) (omega arith))))
           (λ (a : first_leaf p + size_of p ≤ end). a)
-          (cases_lt end (first_leaf p + size_of p)))
-          ee in
+          (cases_lt end (first_leaf p + size_of p))) ee in
           λ y v. let q = covers_from p y v in let q0 = q.0 in let q1 = q.1 in grind (arith, nat_tests);
     }
 
@@ -264,11 +245,10 @@ pub record Subtracting (xs ys list : List ℕ) (i j lo : ℕ) : Type 0 where
   pub edge : Edge xs ys i lo
 
 -- the next cell of ys begins before the cell of xs ends
-pub subtracting_taken : (xs ys list new : List ℕ) (i j lo start end next x y : ℕ) → IsLocal xs → IsLocal ys →
-    Subtracting xs ys list i j lo
-    → i < length xs → j < length ys → get_or xs i 0 ≡ x → get_or ys j 0 ≡ y → first_leaf y < first_leaf x + size_of x
-    → start ≡ max (first_leaf x) lo → end ≡ first_leaf y → next ≡ max (first_leaf y + size_of y) start
-    → FillsGap list new start end → Subtracting xs ys new i (j + 1) next
+pub subtracting_taken : (xs ys list new : List ℕ) (i j lo start end next x y : ℕ) →
+    IsLocal xs → IsLocal ys → Subtracting xs ys list i j lo → i < length xs → j < length ys → get_or xs i 0 ≡ x →
+    get_or ys j 0 ≡ y → first_leaf y < first_leaf x + size_of x → start ≡ max (first_leaf x) lo → end ≡ first_leaf y →
+    next ≡ max (first_leaf y + size_of y) start → FillsGap list new start end → Subtracting xs ys new i (j + 1) next
 subtracting_taken xs ys list new i j lo start end next x y lx ly s h g ex ey before es ee en f =
     let fx = ap first_leaf ex in
     let sx = ap size_of ex in
@@ -278,36 +258,32 @@ subtracting_taken xs ys list new i j lo start end next x y lx ly s h g ex ey bef
     record {
       in_x = s.in_x;
       in_y = omega arith;
-      picked = picked_fill (minus xs ys) list new start end s.picked
-          (walk_below (minus xs ys) xs ys list i j lo start s.walk (omega arith))
-          (λ _. difference_gap xs ys i j lo start end lx ly s.walk.ended_x s.walk.ended_y h s.edge (omega arith)
-          (inr (g, omega arith, omega arith))) f;
-      walk = subtract_taken xs ys list new i j lo start end next (packed_from_local xs lx)
+      picked = picked_fill (minus xs ys) list new start end s.picked (walk_below start s.walk (omega arith))
+          (λ _. difference_gap i j lo start
+          end lx ly s.walk.ended_x s.walk.ended_y h s.edge (omega arith) (inr (g, omega arith, omega arith))) f;
+      walk = subtract_taken new start end next (packed_from_local xs lx)
           (packed_from_local ys ly) s.walk h g (omega arith) (omega arith) (omega arith) (omega arith)
           (fill_leaves list new start end f);
       edge = edge_taken xs ys i j lo start next s.edge g some (omega arith) (omega arith);
     }
 
 -- the rest of the cell of xs is free of ys
-pub subtracting_free : (xs ys list new : List ℕ) (i j lo start end next x : ℕ) → IsLocal xs → IsLocal ys →
-    Subtracting xs ys list i j lo
-    → i < length xs → get_or xs i 0 ≡ x → (j < length ys → end ≤ first_leaf (get_or ys j 0))
-    → start ≡ max (first_leaf x) lo → end ≡ first_leaf x + size_of x → next ≡ max end start
-    → FillsGap list new start end → Subtracting xs ys new (i + 1) j next
+pub subtracting_free : (xs ys list new : List ℕ) (i j lo start end next x : ℕ) →
+    IsLocal xs → IsLocal ys → Subtracting xs ys list i j lo → i < length xs → get_or xs i 0 ≡ x →
+    (j < length ys → end ≤ first_leaf (get_or ys j 0)) → start ≡ max (first_leaf x) lo → end ≡ first_leaf
+    x + size_of x → next ≡ max end start → FillsGap list new start end → Subtracting xs ys new (i + 1) j next
 subtracting_free xs ys list new i j lo start end next x lx ly s h ex free es ee en f =
     let fx = ap first_leaf ex in
     let sx = ap size_of ex in
     record {
       in_x = omega arith;
       in_y = s.in_y;
-      picked = picked_fill (minus xs ys) list new start end s.picked
-          (walk_below (minus xs ys) xs ys list i j lo start s.walk (omega arith))
-          (λ _. difference_gap xs ys i j lo start end lx ly s.walk.ended_x s.walk.ended_y h s.edge (omega arith)
-          (inl (omega arith, free))) f;
-      walk = subtract_free xs ys list new i j lo start end next (packed_from_local xs lx) (packed_from_local ys ly)
-          s.walk h free (omega arith) (omega arith) (omega arith)
-          (fill_leaves list new start end f);
-      edge = edge_free xs ys i lo start next (packed_from_local xs lx) s.edge h (omega arith) (omega arith);
+      picked = picked_fill (minus xs ys) list new start end s.picked (walk_below start s.walk (omega arith))
+          (λ _. difference_gap
+          i j lo start end lx ly s.walk.ended_x s.walk.ended_y h s.edge (omega arith) (inl (omega arith, free))) f;
+      walk = subtract_free new start end next (packed_from_local xs lx) (packed_from_local ys ly)
+          s.walk h free (omega arith) (omega arith) (omega arith) (fill_leaves list new start end f);
+      edge = edge_free ys i lo start next (packed_from_local xs lx) s.edge h (omega arith) (omega arith);
     }
 
 -- no leaf of xs lies before the next of its cells
@@ -320,13 +296,12 @@ subtracting_from xs ys list i j lo start x lx s h ex es =
       in_x = s.in_x;
       in_y = s.in_y;
       picked = s.picked;
-      walk = walk_more (minus xs ys) xs ys list list i j lo i j start lo lo s.walk (omega arith) (omega arith)
-          (omega arith)
+      walk = walk_more list i j start lo lo s.walk (omega arith) (omega arith) (omega arith)
           (λ n. or_false (has_leaf list n) ∙ ap (λ v. has_leaf list n || v) (sym (none_between lo n)))
           (ended_later xs i lo start s.walk.ended_x (omega arith))
           (ended_later ys j lo start s.walk.ended_y (omega arith))
           (λ n a b.
-          let t : has_leaf xs n ≡ false = gap xs i lo (first_leaf (get_or xs i 0)) n px s.walk.ended_x
+          let t : has_leaf xs n ≡ false = gap i lo (first_leaf (get_or xs i 0)) n px s.walk.ended_x
           (λ _. omega arith) a (omega arith) in
           none_between lo n ∙ ap (λ v. v && not (has_leaf ys n)) (sym t));
       edge = λ l. ⊎_elim
@@ -358,16 +333,15 @@ subtracting_on_x xs ys list i j lo next lx s le in_x b = record {
   edge = λ l. ⊎_elim
       (λ (a : lo ≤ first_leaf (get_or xs i 0)). let f = starts_later xs i next (packed_from_local xs lx) le l in
       inl (omega arith))
-      (λ (a : (0 < lo) × (has_leaf ys (lo - 1) ≡ true)). inr a)
-      (s.edge (omega arith));
+      (λ (a : (0 < lo) × (has_leaf ys (lo - 1) ≡ true)). inr a) (s.edge (omega arith));
 }
 
 -- a cell of xs that ends before the next of ys
-subtracting_push : (xs ys list : List ℕ) (i j lo : ℕ) → IsLocal xs → IsLocal ys → Subtracting xs ys list i j lo →
-    i < length xs → lo ≤ first_leaf (get_or xs i 0)
-    → (j < length ys → first_leaf (get_or xs i 0) + size_of (get_or xs i 0) ≤ first_leaf (get_or ys j 0))
-    → Subtracting xs ys (list ++ get_or xs i 0 ∷ []) (i + 1) j (first_leaf (get_or xs i 0) + size_of (get_or xs i 0))
-subtracting_push xs ys list i j lo lx ly s h le free =
+subtracting_push : {xs ys list : List ℕ} {i j lo : ℕ} →
+    IsLocal xs → IsLocal ys → Subtracting xs ys list i j lo → i < length xs → lo ≤ first_leaf (get_or xs i 0) →
+    (j < length ys → first_leaf (get_or xs i 0) + size_of (get_or xs i 0) ≤ first_leaf (get_or ys j 0)) →
+    Subtracting xs ys (list ++ get_or xs i 0 ∷ []) (i + 1) j (first_leaf (get_or xs i 0) + size_of (get_or xs i 0))
+subtracting_push {xs} {ys} {list} {i} {j} {lo} lx ly s h le free =
     let x = get_or xs i 0 in
     let px = packed_from_local xs lx in
     let py = packed_from_local ys ly in
@@ -376,26 +350,24 @@ subtracting_push xs ys list i j lo lx ly s h le free =
     let inside : (n : ℕ) → start ≤ n → n < end → minus xs ys n ≡ true =
     (λ n a b.
     let t : has_leaf xs n ≡ true = leaf_there xs i n h a b in
-    let f : has_leaf ys n ≡ false = gap ys j lo end n py s.walk.ended_y free (omega arith) b in
+    let f : has_leaf ys n ≡ false = gap j lo end n py s.walk.ended_y free (omega arith) b in
     ap (λ v. v && not (has_leaf ys n)) t ∙ ap not f) in
     record {
       in_x = omega arith;
       in_y = s.in_y;
-      picked = picked_push (minus xs ys) list x lo s.picked
-          (walk_below (minus xs ys) xs ys list i j lo lo s.walk (omega arith)) le
+      picked = picked_push (minus xs ys) list x lo s.picked (walk_below lo s.walk (omega arith)) le
           (greatest_below (minus xs ys) xs x lx (member_at xs i x h refl) (λ n t. minus_left xs ys n t)
           (λ n v. let r = covers_from x n v in inside n r.0 r.1));
-      walk = subtract_free xs ys list (list ++ x ∷ []) i j lo start end end px py s.walk h free (omega arith) refl
-          (omega arith) (λ n. has_leaf-push list x n);
-      edge = edge_free xs ys i lo start end px s.edge h (omega arith) (omega arith);
+      walk = subtract_free (list ++ x ∷ [])
+          start end end px py s.walk h free (omega arith) refl (omega arith) (λ n. has_leaf-push list x n);
+      edge = edge_free ys i lo start end px s.edge h (omega arith) (omega arith);
     }
 
 -- so do all up to a place
-pub subtracting_run : (xs ys list new : List ℕ) (i j lo next end : ℕ) → IsLocal xs → IsLocal ys →
-    Subtracting xs ys list i j lo → lo ≤ first_leaf (get_or xs i 0)
-    → i < next → next ≤ length xs → (j < length ys → FirstEndBy xs next (first_leaf (get_or ys j 0)))
-    → end ≡ first_leaf (get_or xs (next - 1) 0) + size_of (get_or xs (next - 1) 0) →
-    new ≡ list ++ take (next - i) (drop i xs) → Subtracting xs ys new next j end
+pub subtracting_run : (xs ys list new : List ℕ) (i j lo next end : ℕ) → IsLocal xs →
+    IsLocal ys → Subtracting xs ys list i j lo → lo ≤ first_leaf (get_or xs i 0) → i < next → next ≤ length xs →
+    (j < length ys → FirstEndBy xs next (first_leaf (get_or ys j 0))) → end ≡ first_leaf (get_or xs (next - 1)
+    0) + size_of (get_or xs (next - 1) 0) → new ≡ list ++ take (next - i) (drop i xs) → Subtracting xs ys new next j end
 subtracting_run xs ys list new i j lo next end lx ly s first le in_x free ee is =
     let e : i + suc (next - i - 1) ≡ next = omega arith in
     let f : i + (next - i - 1) ≡ next - 1 = omega arith in
@@ -417,7 +389,7 @@ subtracting_run xs ys list new i j lo next end lx ly s first le in_x free ee is 
         let e : (i + n) + 1 ≡ i + suc n = omega arith in
         subst (λ m. Subtracting xs ys (l ++ get_or xs (i + n) 0 ∷ []) m j
         (first_leaf (get_or xs (i + n) 0) + size_of (get_or xs (i + n) 0))) e
-        (subtracting_push xs ys l (i + n) j k lx ly t (omega arith) b (λ g. free g (i + n) h))
+        (subtracting_push lx ly t (omega arith) b (λ g. free g (i + n) h))
 
     steps : (n : ℕ) → i + n < next → Subtracting xs ys (list ++ take (suc n) (drop i xs)) (i + suc n) j
         (first_leaf (get_or xs (i + n) 0) + size_of (get_or xs (i + n) 0))

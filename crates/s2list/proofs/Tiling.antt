@@ -42,11 +42,10 @@ longer : (lo f e x : ℕ) → lo ≤ f → f ≤ e → (between lo f x || betwee
 longer lo f e x a b = grind (arith, nat_tests)
 
 -- the largest cell that begins where the others end is greatest
-tile_greatest : (old list : List ℕ) (lo hi first cell : ℕ) → Tiling old list lo hi first → IsCell cell →
-    first_leaf cell ≡ first → first_leaf cell + size_of cell ≤ hi
-    → ((q : ℕ) → IsCell q → first_leaf q ≡ first → first_leaf q + size_of q ≤ hi → size_of q ≤ size_of cell) →
-    IsGreatestIn (between lo hi) cell
-tile_greatest old list lo hi first cell t c f e largest =
+tile_greatest : {old list : List ℕ} {lo hi first cell : ℕ} → Tiling old list lo hi first →
+    IsCell cell → first_leaf cell ≡ first → first_leaf cell + size_of cell ≤ hi → ((q : ℕ) → IsCell q →
+    first_leaf q ≡ first → first_leaf q + size_of q ≤ hi → size_of q ≤ size_of cell) → IsGreatestIn (between lo hi) cell
+tile_greatest {lo} {hi} {first} {cell} t c f e largest =
     let s = t.start in
     let some = (cell_leaves cell c).some in
     record {
@@ -72,8 +71,7 @@ tile_greatest old list lo hi first cell t c f e largest =
           let l0 = low.0 in
           let l1 = last.1 in
           ⊎_elim
-          (λ (h : first_leaf p ≡ first). let w = largest p cp h (omega arith) in absurd (omega arith))
-          (⊎_elim
+          (λ (h : first_leaf p ≡ first). let w = largest p cp h (omega arith) in absurd (omega arith)) (⊎_elim
           (λ (h : first_leaf p < first). let w = t.closed p cp l0 (omega arith) h in absurd (omega arith))
           (λ (h : first < first_leaf p). absurd (omega arith)))
           (cases_order (first_leaf p) first);
@@ -93,11 +91,10 @@ tiling_step old list new lo hi first cell t c f e largest is =
       tiles = t.tiles ++ cell ∷ [];
       is = is ∙ ap (λ v. v ++ cell ∷ []) t.is ∙ append_assoc old t.tiles (cell ∷ []);
       picked = picked_push (between lo hi) t.tiles cell first t.picked t.below (omega arith)
-          (tile_greatest old list lo hi first cell t c f e largest);
+          (tile_greatest t c f e largest);
       start = omega arith;
       reach = inr e;
-      below = λ x l.
-          ⊎_elim
+      below = λ x l. ⊎_elim
           (λ (a : has_leaf t.tiles x ≡ true). let b = t.below x a in omega arith)
           (λ (a : covers cell x ≡ true). (covers_from cell x a).1)
           (or_true (has_leaf t.tiles x) (covers cell x) (sym (added x) ∙ l));
@@ -109,11 +106,9 @@ tiling_step old list new lo hi first cell t c f e largest is =
       closed = λ q cq low high h.
           let some_q = (cell_leaves q cq).some in
           ⊎_elim
-          (λ (g : first_leaf q ≡ first). let w = largest q cq g high in omega arith)
-          (⊎_elim
+          (λ (g : first_leaf q ≡ first). let w = largest q cq g high in omega arith) (⊎_elim
           (λ (g : first_leaf q < first). let w = t.closed q cq low high g in omega arith)
-          (λ (g : first < first_leaf q).
-          elim (meeting q cell cq c) [
+          (λ (g : first < first_leaf q). elim (meeting q cell cq c) [
             | before m ↦ absurd (omega arith)
             | after m ↦ absurd (omega arith)
             | within w ↦ w.high

@@ -42,9 +42,9 @@ not_true true h = absurd (h refl)
 not_true false h = refl
 
 -- no leaf lies between the cells that end by `lo` and the next
-pub gap : (u : List ℕ) (n lo hi x : ℕ) → IsPacked u → FirstEndBy u n lo →
-    (n < length u → hi ≤ first_leaf (get_or u n 0)) → lo ≤ x → x < hi → has_leaf u x ≡ false
-gap u n lo hi x packed ended next a b = not_true (has_leaf u x) (λ h.
+pub gap : {u : List ℕ} (n lo hi x : ℕ) → IsPacked u →
+    FirstEndBy u n lo → (n < length u → hi ≤ first_leaf (get_or u n 0)) → lo ≤ x → x < hi → has_leaf u x ≡ false
+gap {u} n lo hi x packed ended next a b = not_true (has_leaf u x) (λ h.
     let l = leaf_at u x h in
     let low = l.low in
     let high = l.high in
@@ -67,9 +67,9 @@ pub record Walk (S : ℕ → Bool) (xs ys list : List ℕ) (i j lo : ℕ) : Type
   pub ended_y : FirstEndBy ys j lo
   pub leaves : (x : ℕ) → has_leaf list x ≡ (ltb x lo && S x)
 
-pub walk_below : (S : ℕ → Bool) (xs ys list : List ℕ) (i j lo start : ℕ) → Walk S xs ys list i j lo → lo ≤ start →
-    EndsBy list start
-walk_below S xs ys list i j lo start w h x l =
+pub walk_below : {S : ℕ → Bool} {xs ys list : List ℕ} {i j lo : ℕ} (start : ℕ) →
+    Walk S xs ys list i j lo → lo ≤ start → EndsBy list start
+walk_below {S} {lo} start w h x l =
     let e : (ltb x lo && S x) ≡ true = sym (w.leaves x) ∙ l in
     ⊎_elim
     (λ (a : x < lo). omega arith)
@@ -105,17 +105,14 @@ walk_bool x lo next l b s w e before after here =
     (cases_lt x lo)
 
 -- the walk goes on to `next`, over the leaves from `start` to `end` that are added
-pub walk_more : (S : ℕ → Bool) (xs ys list new : List ℕ) (i j lo m n next start end : ℕ) →
-    Walk S xs ys list i j lo → lo ≤ start → start ≤ next → end ≤ next
-    → ((x : ℕ) → has_leaf new x ≡ (has_leaf list x || between start end x))
-    → FirstEndBy xs m next → FirstEndBy ys n next
-    → ((x : ℕ) → lo ≤ x → x < next → between start end x ≡ S x)
-    → Walk S xs ys new m n next
-walk_more S xs ys list new i j lo m n next start end w a b c leaves bx by here = record {
+pub walk_more : {S : ℕ → Bool} {xs ys list : List ℕ} (new : List ℕ) {i j lo : ℕ} (m n next start end : ℕ) →
+    Walk S xs ys list i j lo → lo ≤ start → start ≤ next →
+    end ≤ next → ((x : ℕ) → has_leaf new x ≡ (has_leaf list x || between start end x)) → FirstEndBy xs m next →
+    FirstEndBy ys n next → ((x : ℕ) → lo ≤ x → x < next → between start end x ≡ S x) → Walk S xs ys new m n next
+walk_more {S} {list} new {lo} m n next start end w a b c leaves bx by here = record {
   ended_x = bx;
   ended_y = by;
-  leaves = λ x.
-      leaves x ∙ walk_bool x lo next (has_leaf list x) (between start end x) (S x) (omega arith) (w.leaves x)
+  leaves = λ x. leaves x ∙ walk_bool x lo next (has_leaf list x) (between start end x) (S x) (omega arith) (w.leaves x)
       (λ l. grind (arith, nat_tests)) (λ l. grind (arith, nat_tests)) (here x);
 }
 

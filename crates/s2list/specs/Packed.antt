@@ -1,6 +1,5 @@
 -- A list of cells while it is being put together.
-use Rattle.std.specs.Prelude.{◌≡◌, ℕ, ◌+◌, ◌<◌, ◌≤◌, List, length}
-use Rattle.std.specs.Prelude.{All, AllPairs, slice_index}
+use Rattle.std.specs.Prelude.{◌≡◌, ℕ, ◌+◌, ◌<◌, ◌≤◌, List, length, All, AllPairs, slice_index}
 use Rattle.s2cell.specs.Cell.{IsCell, level_of, first_leaf, size_of, child_of}
 
 -- all leaves of `a` come before those of `b`

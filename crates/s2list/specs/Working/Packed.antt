@@ -1,6 +1,5 @@
 -- What only private contracts need, beside Packed.antt, which has what public contracts need.
-use Rattle.std.specs.Prelude.{◌≡◌, ℕ, ◌+◌, ◌-◌, ◌<◌, ◌≤◌, ◌||◌, List, [], ◌∷◌, ◌++◌, length}
-use Rattle.std.specs.Prelude.{take, slice_index}
+use Rattle.std.specs.Prelude.{◌≡◌, ℕ, ◌+◌, ◌-◌, ◌<◌, ◌≤◌, ◌||◌, List, [], ◌∷◌, ◌++◌, length, take, slice_index}
 use Rattle.s2cell.specs.Cell.{first_leaf, size_of, covers}
 use Rattle.s2list.specs.Union.{has_leaf, between, IsNormalForm}
 use Rattle.s2list.specs.Packed.{IsPacked}

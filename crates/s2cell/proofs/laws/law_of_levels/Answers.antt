@@ -7,18 +7,18 @@ use Rattle.s2cell.proofs.CellLemmas.{own_place, four_pos}
 use Rattle.s2cell.proofs.Leaves.{covers_from, covers_there}
 use Rattle.s2cell.proofs.laws.law_of_levels.Goals as goal
 
-cell_there : (k m n : ℕ) → IsCell n → level_of n ≡ k → place_of n ≡ m → IsCellAt k m n
-cell_there k m n i l p = rw (← l, ← p) (own_place n i)
+cell_there : (k m : ℕ) {n : ℕ} → IsCell n → level_of n ≡ k → place_of n ≡ m → IsCellAt k m n
+cell_there k m {n} i l p = rw (← l, ← p) (own_place n i)
 
-covered_place : (k m n x : ℕ) → IsCellAt k m n → covers n x ≡ true → x / 4 ^ (30 - k) ≡ m
-covered_place k m n x at h =
+covered_place : {k m n : ℕ} (x : ℕ) → IsCellAt k m n → covers n x ≡ true → x / 4 ^ (30 - k) ≡ m
+covered_place {k} {m} {n} x at h =
     let size = size_of_cell k m n at in
     let first = first_leaf_of_cell k m n at in
     let ends = covers_from n x h in
     div-eq_of_lt-le {k = m} (4 ^ (30 - k)) (omega arith) (omega arith)
 
-covers_place : (k m n x : ℕ) → IsCellAt k m n → x / 4 ^ (30 - k) ≡ m → covers n x ≡ true
-covers_place k m n x at h =
+covers_place : {k m n : ℕ} (x : ℕ) → IsCellAt k m n → x / 4 ^ (30 - k) ≡ m → covers n x ≡ true
+covers_place {k} {m} {n} x at h =
     let size = size_of_cell k m n at in
     let first = first_leaf_of_cell k m n at in
     let split : m * 4 ^ (30 - k) + x % 4 ^ (30 - k) ≡ x = rw (← h) (div-add-mod' x (4 ^ (30 - k))) in
@@ -28,8 +28,8 @@ covers_place k m n x at h =
 pub returns-clause-level_and_place : goal.returns-clause-level_and_place
 returns-clause-level_and_place c = λ k m n. (
   λ at. ((k, m, at), level_of_cell k m n at, place_of_cell k m n at),
-  λ (i, l, p). cell_there k m n i l p,
+  λ (i, l, p). cell_there k m i l p,
 )
 
 pub returns-clause-leaves : goal.returns-clause-leaves
-returns-clause-leaves c = λ k m n x at. (covered_place k m n x at, covers_place k m n x at)
+returns-clause-leaves c = λ k m n x at. (covered_place x at, covers_place x at)

@@ -7,11 +7,10 @@ returns-clause-one_square c n f i j s g x y t ic a b = let e = one_square n f i 
     (e.face, e.first, e.second, e.size)
 
 pub returns-clause-within : goal.returns-clause-within
-returns-clause-within c cell face i j size n x y sq at =
-    (place_in_square cell face i j size n x y sq at, leaf_in_cell cell face i j size n x y sq at)
+returns-clause-within c cell face i j size n x y sq at = (place_in_square sq at, leaf_in_cell sq at)
 
 pub returns-clause-face : goal.returns-clause-face
-returns-clause-face c n i e = (square_of_face n i e, orientation_of_face n e)
+returns-clause-face c n i e = (square_of_face i e, orientation_of_face n e)
 
 pub returns-clause-quarter : goal.returns-clause-quarter
 returns-clause-quarter c = square_of_child

@@ -3,10 +3,10 @@ use Rattle.s2cell.proofs.Debugs.{debug_unique, debug_one_cell, IsDebug-debug_of}
 use Rattle.s2cell.proofs.laws.law_of_texts.Goals as goal
 
 pub returns-clause-token : goal.returns-clause-token
-returns-clause-token c = λ n text i. (token_unique text n i, λ e. rw e (IsToken-token_of n i))
+returns-clause-token c = λ n text i. (token_unique i, λ e. rw e (IsToken-token_of i))
 
 pub returns-clause-debug : goal.returns-clause-debug
-returns-clause-debug c = λ n text i. (debug_unique text n, λ e. rw e (IsDebug-debug_of n i))
+returns-clause-debug c = λ n text i. (debug_unique, λ e. rw e (IsDebug-debug_of i))
 
 pub returns-clause-cell_of_debug : goal.returns-clause-cell_of_debug
 returns-clause-cell_of_debug c = debug_one_cell

@@ -1,4 +1,4 @@
-use Rattle.std.proofs.Common.{◌≡◌, ℕ, subst, sym, refl, arith, codes}
+use Rattle.std.proofs.Common.{◌≡◌, ℕ, subst, sym, refl, arith}
 use Rattle.std.specs.Int.Count.{count_trailing_zeros}
 use Rattle.s2cell.specs.Cell.{IsCell}
 use Rattle.s2cell.proofs.CellLemmas.{face_of_cell, trailing_even}
@@ -19,4 +19,4 @@ returns-clause-odd_place c = λ n r i.
     omega (arith, zeros_of_2, even.0)
 
 pub returns-clause-face_6_debug : goal.returns-clause-face_6_debug
-returns-clause-face_6_debug c = λ n d. let face = debug_face (codes "6/") n d in omega arith
+returns-clause-face_6_debug c = λ n d. let face = debug_face d in omega arith

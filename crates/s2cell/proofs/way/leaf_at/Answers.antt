@@ -45,8 +45,7 @@ overflow_add-leaf c =
 
 pub loop-level-preserved : goal.loop-level-preserved
 loop-level-preserved c =
-    to_leaf_one c.loop-level.level c.args.start c.loop-level.leaf c.args.i c.args.j c.loop-level.shift
-    c.quadrant_at.result c.leaf_step-entry.result _ _
+    to_leaf_one c.quadrant_at.result _ _
     c.loop-level-test.true c.loop-level.invariant c.quadrant_at.ensures c.leaf_step-entry.ensures
     (ap (λ z. 4 * c.loop-level.leaf + z) (c.from.ensures ∙ c.held_by.ensures)) c.next_shift-shift.ensures
 
@@ -66,9 +65,7 @@ overflow_add-leaf-in-loop-step c =
 
 pub loop-step-preserved : goal.loop-step-preserved
 loop-step-preserved c =
-    to_leaf_four c.loop-step.step c.args.start c.loop-step.leaf c.args.i c.args.j c.loop-step.shift _ _
-    c.four_of_each.result c.leaf_entry-entry.result _ _
-    c.loop-step-test.true c.loop-step.invariant
+    to_leaf_four c.loop-step.step _ _ c.four_of_each.result _ _ c.loop-step-test.true c.loop-step.invariant
     (ap (λ z. 16 * z + c.every_second_four-2.result) c.every_second_four.ensures
     ∙ ap (λ z. 16 * fours (c.args.i / 16) + z) c.every_second_four-2.ensures)
     (ap (λ z. 16 * z + c.every_second_four-4.result) c.every_second_four-3.ensures

@@ -10,47 +10,45 @@ loop-level-init c = to_place_begin c.args.start c.args.leaf _ c.requires.start c
 
 pub overflow_mul-i : goal.overflow_mul-i
 overflow_mul-i c =
-    let h = to_place_levels c.loop-level.level _ _ _ _ _ (omega arith) c.loop-level.invariant in
+    let h = to_place_levels (omega arith) c.loop-level.invariant in
     let i = h.0 in
     omega arith
 
 pub overflow_add-i : goal.overflow_add-i
 overflow_add-i c =
-    let h = to_place_levels c.loop-level.level _ _ _ _ _ (omega arith) c.loop-level.invariant in
+    let h = to_place_levels (omega arith) c.loop-level.invariant in
     let i = h.0 in
     let e = c.held_by-quadrant.ensures in
     omega arith
 
 pub overflow_mul-j : goal.overflow_mul-j
 overflow_mul-j c =
-    let h = to_place_levels c.loop-level.level _ _ _ _ _ (omega arith) c.loop-level.invariant in
+    let h = to_place_levels (omega arith) c.loop-level.invariant in
     let j = h.1 in
     omega arith
 
 pub overflow_add-j : goal.overflow_add-j
 overflow_add-j c =
-    let h = to_place_levels c.loop-level.level _ _ _ _ _ (omega arith) c.loop-level.invariant in
+    let h = to_place_levels (omega arith) c.loop-level.invariant in
     let j = h.1 in
     omega arith
 
 pub loop-level-preserved : goal.loop-level-preserved
 loop-level-preserved c =
     let e = c.held_by-quadrant.ensures in
-    to_place_one c.loop-level.level c.args.start c.args.leaf c.loop-level.i c.loop-level.j c.loop-level.shift
-    (c.without_digits.result % 4) c.place_step-entry.result _ _ _
-    c.loop-level-test.true c.loop-level.invariant (ap (λ z. z % 4) c.without_digits.ensures)
+    to_place_one _ _ _ c.loop-level-test.true c.loop-level.invariant (ap (λ z. z % 4) c.without_digits.ensures)
     c.place_step-entry.ensures.entry (ap (λ z. 2 * c.loop-level.i + z / 2) e) (ap (λ z. 2 * c.loop-level.j + z % 2) e)
     c.next_shift-shift.ensures
 
 pub overflow_mul-last : goal.overflow_mul-last
 overflow_mul-last c =
-    let h = to_place_levels c.loop-level.level _ _ _ _ _ (omega arith) c.loop-level.invariant in
+    let h = to_place_levels (omega arith) c.loop-level.invariant in
     let i = h.0 in
     omega arith
 
 pub overflow_add-last : goal.overflow_add-last
 overflow_add-last c =
-    let h = to_place_levels c.loop-level.level _ _ _ _ _ (omega arith) c.loop-level.invariant in
+    let h = to_place_levels (omega arith) c.loop-level.invariant in
     let i = h.0 in
     let j = h.1 in
     omega arith
@@ -58,13 +56,11 @@ overflow_add-last c =
 pub loop-step-init : goal.loop-step-init
 loop-step-init c =
     let e : c.loop-level.level ≡ 2 = omega arith in
-    to_place_two c.args.start c.args.leaf c.loop-level.i c.loop-level.j c.loop-level.shift _
-    (rw e at c.loop-level.invariant) refl
+    to_place_two _ (rw e at c.loop-level.invariant) refl
 
 pub loop-step-preserved : goal.loop-step-preserved
 loop-step-preserved c =
-    to_place_four c.loop-step.step c.args.start c.args.leaf c.loop-step.before c.loop-step.last c.loop-step.shift
-    (c.without_digits-in-loop-step.result % 256) c.place_entry-entry.result _ _
+    to_place_four _ _
     c.loop-step-test.true c.loop-step.invariant (ap (λ z. z % 256) c.without_digits-in-loop-step.ensures)
     c.place_entry-entry.ensures (ap (λ z. 256 * c.loop-step.before + z) c.held_by.ensures)
     c.next_shift-shift-in-loop-step.ensures
@@ -109,8 +105,7 @@ overflow_add-result-2 c =
     omega arith
 
 -- what is returned are the coordinates in the two numbers
-first : (c : After-every_second_four-4) →
-    16 * c.every_second_four.result + c.every_second_four-2.result
+first : (c : After-every_second_four-4) → 16 * c.every_second_four.result + c.every_second_four-2.result
     ≡ between (c.loop-step.before / 16) (c.loop-step.last / 16)
 unfolding between
 first c =

@@ -16,7 +16,7 @@ returns-clause-ended g c p b =
     let n = c.len-len.ensures in
     let h : c.args.start < length u = omega arith in
     let test = c.ends_by.ensures (rw c.look.ensures.id (p.cells c.args.start 0 h)) in
-    let up : FirstEndBy u (c.args.start + 1) c.args.lo = ended_up u c.args.lo c.args.start p h
+    let up : FirstEndBy u (c.args.start + 1) c.args.lo = ended_up c.args.lo c.args.start p h
     (rw c.look.ensures.id at (test.0 c.if-not-ends_by.false)) in
     let from : IsFrom u c.args.lo (c.args.start + 1) (length u) =
     record { ended = up; next = λ l. absurd (omega arith) } in
@@ -28,7 +28,7 @@ returns-clause-next g c p b =
     let n = c.len-len.ensures in
     let h : c.args.start < length u = omega arith in
     let test = c.ends_by.ensures (rw c.look.ensures.id (p.cells c.args.start 0 h)) in
-    let up : FirstEndBy u (c.args.start + 1) c.args.lo = ended_up u c.args.lo c.args.start p h
+    let up : FirstEndBy u (c.args.start + 1) c.args.lo = ended_up c.args.lo c.args.start p h
     (rw c.look.ensures.id at (test.0 c.if-not-ends_by.false)) in
     let from : IsFrom u c.args.lo (c.args.start + 1) (length u) =
     record { ended = up; next = λ l. absurd (omega arith) } in

@@ -4,6 +4,5 @@ use Rattle.s2list.proofs.ask.holds_at.Goals as goal
 pub returns-in-None-clause-answer : goal.returns-in-None-clause-answer
 returns-in-None-clause-answer g c all = (
   λ e. absurd (false≢true e),
-  λ h.
-      absurd (c.in-None.ensures (rw c.look.ensures.id (all c.args.at 0 h.0))),
+  λ h. absurd (c.in-None.ensures (rw c.look.ensures.id (all c.args.at 0 h.0))),
 )

@@ -17,7 +17,7 @@ loop-size-init g c =
       brackets = λ p. rw n (all_places u _);
       quartered = λ k h. quartered_all _ _ k (omega arith);
       least = omega arith;
-      some = λ h. absurd (omega arith);
+      some = λ h. omega arith;
     }
 
 pub loop-size-preserved : goal.loop-size-preserved
@@ -41,10 +41,8 @@ returns-clause-ended g c p =
     let u = g.C.Cells.ids c.args.cells.now in
     let v = c.loop-size.invariant in
     let from : IsFrom u c.args.lo c.saturating_sub.result (c.loop-size.base + c.loop-size.size) =
-    from_brackets u c.args.lo c.loop-size.base (c.loop-size.base + c.loop-size.size) c.saturating_sub.result p
-    (brackets_capped u (2 * c.args.lo) c.saturating_mul-mark.result c.loop-size.base
-    (c.loop-size.base + c.loop-size.size)
-    p (omega arith) (v.brackets p)) (omega arith) in
+    from_brackets c.args.lo
+    c.saturating_sub.result p (brackets_capped (2 * c.args.lo) p (omega arith) (v.brackets p)) (omega arith) in
     c.narrow.ensures.ended p from
 
 pub returns-clause-next : goal.returns-clause-next
@@ -52,10 +50,8 @@ returns-clause-next g c p =
     let u = g.C.Cells.ids c.args.cells.now in
     let v = c.loop-size.invariant in
     let from : IsFrom u c.args.lo c.saturating_sub.result (c.loop-size.base + c.loop-size.size) =
-    from_brackets u c.args.lo c.loop-size.base (c.loop-size.base + c.loop-size.size) c.saturating_sub.result p
-    (brackets_capped u (2 * c.args.lo) c.saturating_mul-mark.result c.loop-size.base
-    (c.loop-size.base + c.loop-size.size)
-    p (omega arith) (v.brackets p)) (omega arith) in
+    from_brackets c.args.lo
+    c.saturating_sub.result p (brackets_capped (2 * c.args.lo) p (omega arith) (v.brackets p)) (omega arith) in
     c.narrow.ensures.next p from
 
 pub returns-clause-looks : goal.returns-clause-looks

@@ -17,13 +17,12 @@ pub overflow_add-next : goal.overflow_add-next
 overflow_add-next g c = let f = c.ends_at.ensures.fits c.if-not-ends_at.false in omega arith
 
 pub returns-then-not-ends_at-2-clause-within : goal.returns-then-not-ends_at-2-clause-within
-returns-then-not-ends_at-2-clause-within g c =
-    let w = c.ends_at.ensures.within c.if-not-ends_at.false in omega arith
+returns-then-not-ends_at-2-clause-within g c = let w = c.ends_at.ensures.within c.if-not-ends_at.false in omega arith
 
 pub returns-then-not-ends_at-2-clause-ended : goal.returns-then-not-ends_at-2-clause-ended
 returns-then-not-ends_at-2-clause-ended g c p b =
     let e = (c.ends_at.ensures.answer p.cells).0 c.if-not-ends_at.false in
-    ended_up (g.C.Cells.ids c.args.cells.now) c.args.lo c.args.start p e.0 e.1
+    ended_up c.args.lo c.args.start p e.0 e.1
 
 pub returns-then-not-ends_at-2-clause-next : goal.returns-then-not-ends_at-2-clause-next
 returns-then-not-ends_at-2-clause-next g c p b h =
@@ -49,7 +48,7 @@ returns-clause-ended g c p b =
     let e = (c.ends_at-2.ensures.answer p.cells).0 c.if-not-ends_at-2.false in
     let same : (c.args.start + 1) + 1 ≡ c.args.start + 2 = omega arith in
     c.leap_on.ensures.ended p
-    (subst (λ n. FirstEndBy u n c.args.lo) same (ended_up u c.args.lo (c.args.start + 1) p e.0 e.1))
+    (subst (λ n. FirstEndBy u n c.args.lo) same (ended_up c.args.lo (c.args.start + 1) p e.0 e.1))
 
 pub returns-clause-next : goal.returns-clause-next
 returns-clause-next g c p b =
@@ -57,7 +56,7 @@ returns-clause-next g c p b =
     let e = (c.ends_at-2.ensures.answer p.cells).0 c.if-not-ends_at-2.false in
     let same : (c.args.start + 1) + 1 ≡ c.args.start + 2 = omega arith in
     c.leap_on.ensures.next p
-    (subst (λ n. FirstEndBy u n c.args.lo) same (ended_up u c.args.lo (c.args.start + 1) p e.0 e.1))
+    (subst (λ n. FirstEndBy u n c.args.lo) same (ended_up c.args.lo (c.args.start + 1) p e.0 e.1))
 
 pub returns-clause-some : goal.returns-clause-some
 returns-clause-some g c h =

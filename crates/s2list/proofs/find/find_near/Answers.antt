@@ -17,7 +17,7 @@ returns-clause-ended g c p =
           let h : k < length u = omega arith in
           let same : k + 1 ≡ c.min-at.result = omega arith in
           let test = w.ends_by.ensures (rw w.id.ensures (p.cells k 0 h)) in
-          let all : FirstEndBy u (k + 1) c.args.lo = ended_up u c.args.lo k p h
+          let all : FirstEndBy u (k + 1) c.args.lo = ended_up c.args.lo k p h
           (rw w.id.ensures at (test.0 w.if-not-ends_by.false)) in
           rw same at all
       | else-at-gt0-via-else-at-gt0 w ↦ λ j l. absurd (omega arith)
@@ -36,7 +36,7 @@ returns-clause-next g c p =
           let h : k < length u = omega arith in
           let same : k + 1 ≡ c.min-at.result = omega arith in
           let test = w.ends_by.ensures (rw w.id.ensures (p.cells k 0 h)) in
-          let all : FirstEndBy u (k + 1) c.args.lo = ended_up u c.args.lo k p h
+          let all : FirstEndBy u (k + 1) c.args.lo = ended_up c.args.lo k p h
           (rw w.id.ensures at (test.0 w.if-not-ends_by.false)) in
           rw same at all
       | else-at-gt0-via-else-at-gt0 w ↦ λ j l. absurd (omega arith)

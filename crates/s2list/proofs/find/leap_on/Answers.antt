@@ -33,10 +33,10 @@ loop-leap-preserved g c =
       leap = omega arith;
       ended = λ p b.
           let test = c.ends_by.ensures (rw c.look.ensures.id (p.cells k 0 h)) in
-          let all : FirstEndBy u (k + 1) c.args.lo = ended_up u c.args.lo k p h
+          let all : FirstEndBy u (k + 1) c.args.lo = ended_up c.args.lo k p h
           (rw c.look.ensures.id at (test.0 c.if-not-ends_by.false)) in
           rw same at all;
-      leapt = leapt_more _ _ _ _ c.loop-leap.leap _ v.leapt (omega arith) (omega arith) (omega arith);
+      leapt = leapt_more _ c.loop-leap.leap _ v.leapt (omega arith) (omega arith) (omega arith);
       least = omega arith;
     }
 
@@ -52,8 +52,7 @@ returns-then-not-ends_by-clause-ended g c p b =
     let from : IsFrom u c.args.lo c.loop-leap.base k =
     record {
       ended = v.ended p b;
-      next = λ _. rw c.look.ensures.id at
-          (later _ _ _ test c.if-not-ends_by.true);
+      next = λ _. rw c.look.ensures.id at (later _ _ _ test c.if-not-ends_by.true);
     } in
     c.narrow.ensures.ended p from
 
@@ -69,8 +68,7 @@ returns-then-not-ends_by-clause-next g c p b =
     let from : IsFrom u c.args.lo c.loop-leap.base k =
     record {
       ended = v.ended p b;
-      next = λ _. rw c.look.ensures.id at
-          (later _ _ _ test c.if-not-ends_by.true);
+      next = λ _. rw c.look.ensures.id at (later _ _ _ test c.if-not-ends_by.true);
     } in
     c.narrow.ensures.next p from
 
@@ -81,8 +79,8 @@ returns-then-not-ends_by-clause-looks g c k h =
     let leap = v.leap in
     let more = c.look.ensures.count in
     let on = c.narrow.ensures.from in
-    leapt_last _ _ (c.loop-leap.base - c.args.start) (c.loop-leap.leap - 1) (g.K.Count.looks c.look.new.count) _ v.leapt
-    (omega arith) (omega arith) (λ j f. c.narrow.ensures.looks j (omega arith)) _ k (omega arith) h
+    leapt_last (c.loop-leap.leap - 1) (g.K.Count.looks c.look.new.count)
+    _ v.leapt (omega arith) (omega arith) (λ j f. c.narrow.ensures.looks j (omega arith)) _ k (omega arith) h
 
 pub returns-clause-looks : goal.returns-clause-looks
 returns-clause-looks g c k h =
@@ -91,7 +89,6 @@ returns-clause-looks g c k h =
     let leap = v.leap in
     let n = c.len-len.ensures in
     let on = c.narrow-2.ensures.from in
-    leapt_last _ (g.K.Count.looks c.loop-leap.count) (c.loop-leap.base - c.args.start)
-    (c.len-len.result - c.loop-leap.base)
+    leapt_last (c.len-len.result - c.loop-leap.base)
     (g.K.Count.looks c.loop-leap.count) _ v.leapt (omega arith) (omega arith)
     (λ j f. c.narrow-2.ensures.looks j (omega arith)) _ k (omega arith) h

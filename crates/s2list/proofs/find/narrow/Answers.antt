@@ -32,10 +32,8 @@ loop-first-preserved-then-ends_by g c =
       to = t;
       found = λ p f.
           let test = c.ends_by.ensures (rw c.look.ensures.id (p.cells m 0 h)) in
-          from_up u c.args.lo c.loop-first.first c.loop-first.last m p (v.found p f) h
-          (rw c.look.ensures.id at (test.0 c.if-ends_by.true));
-      halved = λ k l. halved_more (c.loop-first.last - c.loop-first.first) _ _ _ _ k (omega arith) (v.halved k l)
-          (omega arith) (omega arith);
+          from_up m p (v.found p f) h (rw c.look.ensures.id at (test.0 c.if-ends_by.true));
+      halved = λ k l. halved_more _ _ (omega arith) (v.halved k l) (omega arith) (omega arith);
       least = omega arith;
       some = λ _. omega arith;
     }
@@ -58,10 +56,8 @@ loop-first-preserved g c =
       to = omega arith;
       found = λ p f.
           let test = c.ends_by.ensures (rw c.look.ensures.id (p.cells m 0 h)) in
-          from_down u c.args.lo c.loop-first.first c.loop-first.last m (v.found p f)
-          (rw c.look.ensures.id at (later _ _ _ test c.if-ends_by.false));
-      halved = λ k l. halved_more (c.loop-first.last - c.loop-first.first) _ _ _ _ k (omega arith) (v.halved k l)
-          (omega arith) (omega arith);
+          from_down m (v.found p f) (rw c.look.ensures.id at (later _ _ _ test c.if-ends_by.false));
+      halved = λ k l. halved_more _ _ (omega arith) (v.halved k l) (omega arith) (omega arith);
       least = omega arith;
       some = λ _. omega arith;
     }
@@ -71,8 +67,7 @@ returns-clause-ended g c p f = (c.loop-first.invariant.found p f).ended
 
 pub returns-clause-next : goal.returns-clause-next
 returns-clause-next g c p f h =
-    (from_met (g.C.Cells.ids c.args.cells.now) c.args.lo c.loop-first.first c.loop-first.last
-    (c.loop-first.invariant.found p f) c.loop-first.invariant.order (omega arith)).next h
+    (from_met (c.loop-first.invariant.found p f) c.loop-first.invariant.order (omega arith)).next h
 
 pub returns-clause-looks : goal.returns-clause-looks
 returns-clause-looks g c k h = let l = (c.loop-first.invariant.halved k h).paid in omega arith

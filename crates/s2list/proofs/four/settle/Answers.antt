@@ -1,11 +1,10 @@
-use Rattle.std.proofs.Common.{◌+◌, arith}
+use Rattle.std.proofs.Common.{arith}
 use Rattle.s2list.proofs.Narrowing.{from_brackets}
 use Rattle.s2list.proofs.four.settle.Goals as goal
 
 pub returns : goal.returns
 returns g c packed brackets =
-    let from = from_brackets (g.C.Cells.ids c.args.cells.now) c.args.lo c.args.base (c.args.base + c.args.size) _ packed
-    brackets (omega arith) in
+    let from = from_brackets c.args.lo _ packed brackets (omega arith) in
     record {
       within = c.find_between.ensures.within;
       ended = c.find_between.ensures.ended packed from;

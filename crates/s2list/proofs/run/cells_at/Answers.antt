@@ -42,8 +42,7 @@ returns-clause-run g c local =
             | else-end-len-via-then-end-len+else-begins_at y ↦
                 let test = rw y.end_leaf-then-end-len.ensures.value at (y.begins_at.ensures.answer local.cells) in
                 inr (
-                  λ h.
-                      ⊎_elim
+                  λ h. ⊎_elim
                       (λ (f : first_leaf (get_or u ended 0) < hi).
                       absurd (false≢true (sym y.if-begins_at.false ∙ test.1 (h, f))))
                       (λ (f : hi ≤ first_leaf (get_or u ended 0)). f)
@@ -53,8 +52,7 @@ returns-clause-run g c local =
             | else-end-len-via-else-end-len y ↦ let f = y.if-end-len.false in inr (λ h. absurd (omega arith), x.end-is)
           ]
     ] in
-    run_at u c.args.cell c.find-first.result end c.saturating_sub.result p c.first_leaf.ensures.own
-    c.find-first.ensures.within c.saturating_sub.ensures
-    (between_from u lo hi c.find-first.result ended end p c.find-end.ensures.within
-    (rw v at (c.find-first.ensures.ended p)) (rw v at (c.find-first.ensures.next p))
+    run_at c.saturating_sub.result p c.first_leaf.ensures.own c.find-first.ensures.within c.saturating_sub.ensures
+    (between_from lo hi c.find-first.result ended
+    end p c.find-end.ensures.within (rw v at (c.find-first.ensures.ended p)) (rw v at (c.find-first.ensures.next p))
     (rw w at (c.find-end.ensures.ended p)) (rw w at (c.find-end.ensures.next p)) stop)

@@ -14,10 +14,9 @@ invariant-loop-j g l = record {
       → FirstEndBy (g.X.Cells.ids l.xs) l.i (first_leaf (slice_index (g.Y.Cells.ids l.ys) l.j));
   held : IsLocal (g.X.Cells.ids l.xs) → IsLocal (g.Y.Cells.ids l.ys) → (k : ℕ) → k < l.j
       → IsWithin (covers (slice_index (g.Y.Cells.ids l.ys) k)) (has_leaf (g.X.Cells.ids l.xs));
-  walked : IsLocal (g.X.Cells.ids l.xs) → IsLocal (g.Y.Cells.ids l.ys)
-      → Walked (λ k. IsWithin (covers (slice_index (g.Y.Cells.ids l.ys) k)) (has_leaf (g.X.Cells.ids l.xs)) → ⊥)
-      (g.X.Cells.ids l.xs)
-      (g.Y.Cells.ids l.ys) (g.K.Count.looks l.count) l.i l.j;
+  walked : IsLocal (g.X.Cells.ids l.xs) → IsLocal (g.Y.Cells.ids l.ys) →
+      Walked (λ k. IsWithin (covers (slice_index (g.Y.Cells.ids l.ys) k)) (has_leaf (g.X.Cells.ids l.xs)) → ⊥)
+      (g.X.Cells.ids l.xs) (g.Y.Cells.ids l.ys) (g.K.Count.looks l.count) l.i l.j;
   some : 0 < l.i + l.j → min 2 g.K.Count.most ≤ g.K.Count.looks l.count;
 }
 

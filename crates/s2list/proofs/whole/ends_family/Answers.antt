@@ -8,6 +8,6 @@ returns-then-fourth-d c = (
   λ e. absurd (false≢true e),
   λ (p, f).
       let x : bit_xor (bit_xor c.args.a c.args.b) c.args.c ≡ c.args.d =
-      family_xor c.args.a c.args.b c.args.c c.args.d p f in
+      family_xor f in
       absurd (omega arith),
 )

@@ -13,7 +13,7 @@ returns-then-id-ge-FACES_END c = (
 pub returns-then-lowest-eq0 : goal.returns-then-lowest-eq0
 returns-then-lowest-eq0 c = (
   λ e. absurd (false≢true e),
-  λ own. absurd (cell_marked c.args.id c.wrapping_neg.result own (search rules) c.wrapping_neg.ensures (omega arith)),
+  λ own. absurd (cell_marked c.wrapping_neg.result own (search rules) c.wrapping_neg.ensures (omega arith)),
 )
 
 pub returns : goal.returns

@@ -65,13 +65,11 @@ returns-then-not-continues g c =
           (λ (s : 0 < k). let e = v.end s in rw (e, c.id-d.ensures) (follows_from u k h p s))
           (λ (s : k ≤ 0). let e = v.no_end (omega arith) in omega arith)
           (cases_lt 0 k) in
-          let none : (q : ℕ) → IsFamily c.loop-k.a c.loop-k.b c.loop-k.c c.id-d.result q → ⊥ = λ q f.
-          ⊎_elim
+          let none : (q : ℕ) → IsFamily c.loop-k.a c.loop-k.b c.loop-k.c c.id-d.result q → ⊥ = λ q f. ⊎_elim
           (λ (s : 2 < k).
           let ea = v.a s in let eb = v.b (omega arith) in let ec = v.c (omega arith) in
-          no_family u k q h p (omega arith) (rw (ea, eb, ec, c.id-d.ensures) at f))
-          (λ (s : k ≤ 2). no_family_from_zero c.loop-k.a c.loop-k.b c.loop-k.c c.id-d.result q (v.no_a (omega arith)) f)
-          (cases_lt 2 k) in
+          no_family u k h p (omega arith) (rw (ea, eb, ec, c.id-d.ensures) at f))
+          (λ (s : k ≤ 2). no_family_from_zero (v.no_a (omega arith)) f) (cases_lt 2 k) in
           absurd (false≢true (sym c.if-not-continues.true ∙ c.continues.ensures.1 (own, follows, none))),
     )
 

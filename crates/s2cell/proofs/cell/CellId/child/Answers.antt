@@ -20,8 +20,7 @@ overflow_add-result-2 c =
     let i : IsCell c.args.self = rw (← c.self.view_is) c.self.invariant in
     let e : c.self.inside.id - c.leaf_count-size.result + (2 * c.args.p + 1) * (c.leaf_count-size.result / 4)
     ≡ child_of c.args.self c.args.p = rw c.self.view_is
-    (child_at c.args.self c.args.p c.leaf_count-size.result i c.requires.inner c.requires.place
-    c.leaf_count-size.ensures.value) in
+    (child_at c.args.p c.leaf_count-size.result i c.requires.inner c.requires.place c.leaf_count-size.ensures.value) in
     let f = fits_u64 (child_of c.args.self c.args.p)
     (IsCell-child_of c.args.self c.args.p _ i c.requires.inner c.requires.place refl) in
     omega arith
@@ -29,12 +28,11 @@ overflow_add-result-2 c =
 pub invariant_of-result : goal.invariant_of-result
 invariant_of-result c =
     let i : IsCell c.args.self = rw (← c.self.view_is) c.self.invariant in
-    IsCell-child_of c.args.self c.args.p _ i c.requires.inner c.requires.place
-    (rw c.self.view_is (child_at c.args.self c.args.p c.leaf_count-size.result i c.requires.inner c.requires.place
-    c.leaf_count-size.ensures.value))
+    IsCell-child_of c.args.self c.args.p _ i c.requires.inner c.requires.place (rw c.self.view_is
+    (child_at c.args.p c.leaf_count-size.result i c.requires.inner c.requires.place c.leaf_count-size.ensures.value))
 
 pub returns : goal.returns
 returns c =
     let i : IsCell c.args.self = rw (← c.self.view_is) c.self.invariant in
-    rw c.self.view_is (child_at c.args.self c.args.p c.leaf_count-size.result i c.requires.inner c.requires.place
-    c.leaf_count-size.ensures.value)
+    rw c.self.view_is
+    (child_at c.args.p c.leaf_count-size.result i c.requires.inner c.requires.place c.leaf_count-size.ensures.value)

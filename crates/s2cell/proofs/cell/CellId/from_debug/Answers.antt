@@ -8,8 +8,8 @@ use Rattle.s2cell.proofs.cell.CellId.from_debug.Goals.{then-place-gt5-via-else-p
 
 pub returns-then-place-gt5 : goal.returns-then-place-gt5
 returns-then-place-gt5 c = λ n d.
-    let face = debug_face c.args.text.now n d in
-    let short = debug_short c.args.text.now n d in
+    let face = debug_face d in
+    let short = debug_short d in
     elim c.then-place-gt5.branch [
       | then-place-gt5-via-then-place-gt5 w ↦
           let large = w.if-place-gt5.true in
@@ -34,14 +34,12 @@ returns-then-digit-gt3 c = λ n d.
 
 pub overflow_mul-place : goal.overflow_mul-place
 overflow_mul-place c =
-    let room = place_room _ _ c.loop-byte.byte-index c.loop-byte.place c.loop-byte-test.true c.if-digits-gt30.false
-    c.loop-byte.invariant in
+    let room = place_room c.loop-byte-test.true c.if-digits-gt30.false c.loop-byte.invariant in
     omega (arith, room)
 
 pub overflow_add-place : goal.overflow_add-place
 overflow_add-place c =
-    let room = place_room _ _ c.loop-byte.byte-index c.loop-byte.place c.loop-byte-test.true c.if-digits-gt30.false
-    c.loop-byte.invariant in
+    let room = place_room c.loop-byte-test.true c.if-digits-gt30.false c.loop-byte.invariant in
     let small = c.if-digit-gt3.false in
     let same = c.from.ensures in
     omega (arith, room, small, same)
@@ -49,25 +47,23 @@ overflow_add-place c =
 pub loop-byte-preserved : goal.loop-byte-preserved
 loop-byte-preserved c =
     let small = c.if-digit-gt3.false in
-    debug_read_more _ _ c.loop-byte.byte-index c.loop-byte.place c.from.result c.loop-byte-test.true
+    debug_read_more c.from.result c.loop-byte-test.true
     c.loop-byte.invariant (c.from.ensures ∙ c.value_of_digit-digit.ensures) (let same = c.from.ensures in
     omega (arith, small, same))
 
 pub overflow_mul-result : goal.overflow_mul-result
 overflow_mul-result c =
-    let room = id_room _ _ c.loop-byte.byte-index c.loop-byte.place (search rules) c.if-digits-gt30.false
-    c.loop-byte.invariant in
+    let room = id_room (search rules) c.if-digits-gt30.false c.loop-byte.invariant in
     omega (arith, room)
 
 pub overflow_add-result : goal.overflow_add-result
 overflow_add-result c =
-    let room = id_room _ _ c.loop-byte.byte-index c.loop-byte.place (search rules) c.if-digits-gt30.false
-    c.loop-byte.invariant in
+    let room = id_room (search rules) c.if-digits-gt30.false c.loop-byte.invariant in
     omega (arith, room)
 
 pub returns : goal.returns
 returns c =
-    debug_read_whole c.args.text.now _ c.loop-byte.byte-index c.loop-byte.place _
+    debug_read_whole c.args.text.now _
     (sym (take_rest c.args.text.now 2)) c.in-47.len_at_least c.if-digits-gt30.false c.loop-byte-test.false
     (search rules) c.loop-byte.invariant (search rules) refl
 

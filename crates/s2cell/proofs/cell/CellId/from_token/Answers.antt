@@ -12,15 +12,14 @@ returns-then-digit-gt15 c = λ n r i.
 
 pub overflow_mul-id : goal.overflow_mul-id
 overflow_mul-id c =
-    let room = read_room c.args.text.now c.loop-byte.byte-index c.loop-byte.id 0 c.loop-byte-test.true
-    c.if-text-gt-TOKEN_LEN.false c.loop-byte.invariant (omega arith) in
+    let room = read_room 0 c.loop-byte-test.true c.if-text-gt-TOKEN_LEN.false c.loop-byte.invariant (omega arith) in
     omega arith
 
 pub overflow_add-id : goal.overflow_add-id
 overflow_add-id c =
     let small : c.value_of_digit-digit.result < 16 = let h = c.if-digit-gt15.false in omega arith in
-    let room = read_room c.args.text.now c.loop-byte.byte-index c.loop-byte.id c.value_of_digit-digit.result
-    c.loop-byte-test.true c.if-text-gt-TOKEN_LEN.false c.loop-byte.invariant small in
+    let room = read_room
+    c.value_of_digit-digit.result c.loop-byte-test.true c.if-text-gt-TOKEN_LEN.false c.loop-byte.invariant small in
     let same = c.from.ensures in
     omega (arith, room, same)
 
@@ -29,11 +28,10 @@ loop-byte-preserved c =
     let is = c.value_of_digit-digit.ensures in
     let small = c.if-digit-gt15.false in
     let low : digit_value (get_or c.args.text.now c.loop-byte.byte-index 0) < 16 = rw (← is) (omega (arith, small)) in
-    read_more c.args.text.now c.loop-byte.byte-index c.loop-byte.id c.from.result _ c.loop-byte-test.true
-    c.loop-byte.invariant refl low (c.from.ensures ∙ is)
+    read_more c.from.result _ c.loop-byte-test.true c.loop-byte.invariant refl low (c.from.ensures ∙ is)
 
 pub returns : goal.returns
 returns c =
-    reading_answer c.from_id.result c.args.text.now _
-    (read_whole c.args.text.now c.loop-byte.byte-index c.loop-byte.id _ (search rules) c.if-text-gt-TOKEN_LEN.false
-    (search rules) (search rules) c.loop-byte.invariant refl) c.from_id.ensures
+    reading_answer c.from_id.result
+    (read_whole _ (search rules) c.if-text-gt-TOKEN_LEN.false (search rules) (search rules) c.loop-byte.invariant refl)
+    c.from_id.ensures

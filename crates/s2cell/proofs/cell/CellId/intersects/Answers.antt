@@ -5,11 +5,16 @@ use Rattle.s2cell.proofs.Calls.{true_and_false}
 use Rattle.s2cell.proofs.Leaves.{shared_from_nested, nested_from_shared}
 use Rattle.s2cell.proofs.cell.CellId.intersects.Goals as goal
 
+pub returns-then-contains-clause-nested : goal.returns-then-contains-clause-nested
+returns-then-contains-clause-nested c = (
+  λ _. inl (c.contains.ensures.value.0 c.if-contains.true),
+  λ _. c.if-contains.true,
+)
+
 pub returns-then-contains-clause-shared : goal.returns-then-contains-clause-shared
 returns-then-contains-clause-shared c =
     let holds = c.contains.ensures in (
-      λ _. shared_from_nested c.args.self c.args.other holds.own holds.others
-          (inl (holds.value.0 c.if-contains.true)),
+      λ _. shared_from_nested holds.own holds.others (inl (holds.value.0 c.if-contains.true)),
       λ _. c.if-contains.true,
     )
 
@@ -27,6 +32,6 @@ pub returns-else-contains-clause-shared : goal.returns-else-contains-clause-shar
 returns-else-contains-clause-shared c =
     let holds = c.contains.ensures in
     let nested = returns-else-contains-clause-nested c in (
-      λ h. shared_from_nested c.args.self c.args.other holds.own holds.others (nested.0 h),
+      λ h. shared_from_nested holds.own holds.others (nested.0 h),
       λ shared. nested.1 (nested_from_shared c.args.self c.args.other holds.own holds.others shared),
     )

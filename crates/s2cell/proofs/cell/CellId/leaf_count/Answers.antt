@@ -21,4 +21,4 @@ returns-clause-some c =
 pub returns-clause-most : goal.returns-clause-most
 returns-clause-most c =
     let e = size_bits _ c.wrapping_neg.result c.self.invariant (search rules) c.wrapping_neg.ensures in
-    rw e (size_most _ c.self.invariant)
+    rw e (size_most c.self.invariant)

@@ -15,16 +15,16 @@ overflow_add-id c =
 pub invariant_of-result : goal.invariant_of-result
 invariant_of-result c =
     let i : IsCell c.args.self = rw (← c.self.view_is) c.self.invariant in
-    rw c.self.view_is (next_cell c.args.self c.leaf_count.result i c.leaf_count.ensures.value
-    (rw c.self.view_is at c.if-id-lt-END.true)).cell
+    rw c.self.view_is
+    (next_cell c.leaf_count.result i c.leaf_count.ensures.value (rw c.self.view_is at c.if-id-lt-END.true)).cell
 
 pub returns-then-id-lt-END : goal.returns-then-id-lt-END
 returns-then-id-lt-END c =
     let i : IsCell c.args.self = rw (← c.self.view_is) c.self.invariant in
-    rw c.self.view_is (next_cell c.args.self c.leaf_count.result i c.leaf_count.ensures.value
-    (rw c.self.view_is at c.if-id-lt-END.true))
+    rw c.self.view_is
+    (next_cell c.leaf_count.result i c.leaf_count.ensures.value (rw c.self.view_is at c.if-id-lt-END.true))
 
 pub returns-else-id-lt-END : goal.returns-else-id-lt-END
 returns-else-id-lt-END c =
     let i : IsCell c.args.self = rw (← c.self.view_is) c.self.invariant in
-    last_cell c.args.self c.leaf_count.result i c.leaf_count.ensures.value (rw c.self.view_is at c.if-id-lt-END.false)
+    last_cell c.leaf_count.result i c.leaf_count.ensures.value (rw c.self.view_is at c.if-id-lt-END.false)

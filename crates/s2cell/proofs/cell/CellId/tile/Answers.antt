@@ -33,5 +33,5 @@ returns-clause-cell c = (tile_of c.args.first c.args.end c.min-steps.result _ c.
 
 pub returns-clause-largest : goal.returns-clause-largest
 returns-clause-largest c q cq fq eq =
-    largest_tile c.args.first c.args.end c.min-steps.result _ q c.requires.some c.requires.within (omega arith)
+    largest_tile c.args.first c.args.end c.min-steps.result _ c.requires.some c.requires.within (omega arith)
     refl cq fq eq

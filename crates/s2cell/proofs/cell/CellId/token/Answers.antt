@@ -10,4 +10,4 @@ returns-clause-value c =
 pub returns-clause-token : goal.returns-clause-token
 returns-clause-token c =
     let i : IsCell c.args.self = (level_of c.args.self, place_of c.args.self, c.id.ensures.cell) in
-    rw (returns-clause-value c) (IsToken-token_of c.args.self i)
+    rw (returns-clause-value c) (IsToken-token_of i)

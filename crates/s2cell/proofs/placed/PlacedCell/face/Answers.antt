@@ -7,7 +7,7 @@ made : (c : After-from) → IsFaceCell c.args.face ((2 * c.from.result + 1) * 2 
 made c = face_cell c.args.face _ c.requires (omega arith)
 
 pub returns-clause-placed : goal.returns-clause-placed
-returns-clause-placed c = placed_face c.args.face _ _ (made c) refl
+returns-clause-placed c = placed_face _ (made c) refl
 
 pub returns-clause-level : goal.returns-clause-level
 returns-clause-level c = (made c).level
