@@ -122,24 +122,21 @@ cut_few S k u = let a = length-map (cells_met S u) (cut_at k) in let b = met_few
 
 -- ---- the inner covering of a clipped union
 
-pub kept_clip : (k : ℕ) (u v : List ℕ) (N : ℕ → Bool) → k ≤ 30 → IsLocal u →
-    ((x : ℕ) → has_leaf v x ≡ has_leaf (cells_met N (cells_kept k u)) x)
-    → (x : ℕ) → inner_set (λ y. has_leaf v y && N y) k x ≡ inner_set (λ y. has_leaf u y && N y) k x
-kept_clip k u v N h l e x =
+pub kept_clip : (k : ℕ) {u : List ℕ} (v : List ℕ) (N : ℕ → Bool) →
+    k ≤ 30 → IsLocal u → ((x : ℕ) → has_leaf v x ≡ has_leaf (cells_met N (cells_kept k u)) x) →
+    (x : ℕ) → inner_set (λ y. has_leaf v y && N y) k x ≡ inner_set (λ y. has_leaf u y && N y) k x
+kept_clip k {u} v N h l e x =
     let w = cells_kept k u in
-    inner_same (λ y. has_leaf v y && N y) (λ y. has_leaf w y && N y) k x h (λ y. ap (λ b. b && N y) (e y)
-    ∙ met_leaves N w y)
-    ∙ inner_both (has_leaf w) N k x
+    inner_same (λ y. has_leaf v y && N y)
+    (λ y. has_leaf w y && N y) k x h (λ y. ap (λ b. b && N y) (e y) ∙ met_leaves N w y) ∙ inner_both (has_leaf w) N k x
     ∙ ap (λ b. b && inner_set N k x) (inner_same (has_leaf w) (inner_set (has_leaf u) k) k x h
-    (λ y. sym (inner_cells k u h l y)) ∙ inner_again (has_leaf u) k x h)
-    ∙ sym (inner_both (has_leaf u) N k x)
+    (λ y. sym (inner_cells k h l y)) ∙ inner_again (has_leaf u) k x h) ∙ sym (inner_both (has_leaf u) N k x)
 
 -- a set may be clipped by the inner covering of another in place of that other
 pub narrow_clip : (k : ℕ) (S N R : ℕ → Bool) → k ≤ 30 → ((x : ℕ) → N x ≡ inner_set R k x) → (x : ℕ) →
     inner_set (λ y. S y && N y) k x ≡ inner_set (λ y. S y && R y) k x
 narrow_clip k S N R h e x =
-    inner_both S N k x
-    ∙ ap (λ b. inner_set S k x && b) (inner_same N (inner_set R k) k x h e ∙ inner_again R k x h)
+    inner_both S N k x ∙ ap (λ b. inner_set S k x && b) (inner_same N (inner_set R k) k x h e ∙ inner_again R k x h)
     ∙ sym (inner_both S R k x)
 
 pub no_clip : (k : ℕ) (S R : ℕ → Bool) → ((x : ℕ) → inner_set R k x ≡ false) → (x : ℕ) →
@@ -149,17 +146,17 @@ no_clip k S R h x = inner_both S R k x ∙ and_right (inner_set S k x) (inner_se
 -- ---- the outer covering of a clipped union
 
 -- of two cells of one level that share a leaf, each has the leaves of the other
-beside : (a b z x : ℕ) → IsCell a → IsCell b → level_of a ≡ level_of b → covers a z ≡ true → covers b z ≡ true →
-    covers a x ≡ true → covers b x ≡ true
-beside a b z x ia ib e va vb v =
+beside : {a b : ℕ} (z x : ℕ) → IsCell a →
+    IsCell b → level_of a ≡ level_of b → covers a z ≡ true → covers b z ≡ true → covers a x ≡ true → covers b x ≡ true
+beside {a} {b} z x ia ib e va vb v =
     let za = covers_from a z va in
     let zb = covers_from b z vb in
     inside_from_within a b (deeper_inside a b z ia ib (omega arith) za.0 za.1 zb.0 zb.1) x v
 
-cut_clip_to : (k : ℕ) (u : List ℕ) (R : ℕ → Bool) (x b z : ℕ) → All IsCell u → IsCell b → level_of b ≡ k →
-    covers b x ≡ true → covers b z ≡ true
-    → IsInOuter (has_leaf (cells_met R u)) k z → IsInOuter R k z → IsInOuter (λ y. has_leaf u y && R y) k x
-cut_clip_to k u R x b z all ib lv vx vz (a, ia, la, az, (w, aw, mw)) (d, id, ld, dz, (s, ds, rs)) =
+cut_clip_to : (k : ℕ) (u : List ℕ) (R : ℕ → Bool) (x : ℕ) {b : ℕ} (z : ℕ) →
+    All IsCell u → IsCell b → level_of b ≡ k → covers b x ≡ true → covers b z ≡ true →
+    IsInOuter (has_leaf (cells_met R u)) k z → IsInOuter R k z → IsInOuter (λ y. has_leaf u y && R y) k x
+cut_clip_to k u R x {b} z all ib lv vx vz (a, ia, la, az, (w, aw, mw)) (d, id, ld, dz, (s, ds, rs)) =
     let r = Any-from_list_any (λ c. meets R c && covers c w) u (sym (filter_any (meets R) w u) ∙ mw) in
     let c = r.1 in
     let mc : Contains u c = (r.0, r.2, r.3) in
@@ -172,14 +169,14 @@ cut_clip_to k u R x b z all ib lv vx vz (a, ia, la, az, (w, aw, mw)) (d, id, ld,
     let t = touched_some R (first_leaf c) (size_of c) both.0 in
     let ct : covers c t.leaf ≡ true = covers_there c t.leaf t.after t.before in
     let inside = deeper_inside c a w ic ia (omega arith) wc.0 wc.1 wa.0 wa.1 in
-    let bt : covers b t.leaf ≡ true = beside a b z t.leaf ia ib (la ∙ sym lv) az vz
+    let bt : covers b t.leaf ≡ true = beside z t.leaf ia ib (la ∙ sym lv) az vz
     (inside_from_within c a inside t.leaf ct) in
     (b, ib, lv, vx, (t.leaf, bt, and_from (has_leaf u t.leaf) (R t.leaf) (leaf_to u c t.leaf mc ct) t.holds)))
     (λ (l : level_of c ≤ k).
     let inside = deeper_inside a c w ia ic (omega arith) wa.0 wa.1 wc.0 wc.1 in
-    let in_a : covers a s ≡ true = beside d a z s id ia (ld ∙ sym la) dz az ds in
+    let in_a : covers a s ≡ true = beside z s id ia (ld ∙ sym la) dz az ds in
     let in_c : covers c s ≡ true = inside_from_within a c inside s in_a in
-    let in_b : covers b s ≡ true = beside d b z s id ib (ld ∙ sym lv) dz vz ds in
+    let in_b : covers b s ≡ true = beside z s id ib (ld ∙ sym lv) dz vz ds in
     (b, ib, lv, vx, (s, in_b, and_from (has_leaf u s) (R s) (leaf_to u c s mc in_c) rs)))
     (cases_lt k (level_of c))
 
@@ -188,12 +185,11 @@ cut_clip_in : (k : ℕ) (u : List ℕ) (R V W : ℕ → Bool) (x : ℕ) → k �
     → IsInOuter (λ y. V y && W y) k x → IsInOuter (λ y. has_leaf u y && R y) k x
 cut_clip_in k u R V W x h all ev ew (b, ib, lv, vx, (z, vz, t)) =
     let both = and_parts (V z) (W z) t in
-    cut_clip_to k u R x b z all ib lv vx vz (outer_in (has_leaf (cells_met R u)) k z h (sym (ev z) ∙ both.0))
+    cut_clip_to k u R x z all ib lv vx vz (outer_in (has_leaf (cells_met R u)) k z h (sym (ev z) ∙ both.0))
     (outer_in R k z h (sym (ew z) ∙ both.1))
 
-cut_clip_out : (k : ℕ) (u : List ℕ) (R V W : ℕ → Bool) (x : ℕ) →
-    ((y : ℕ) → V y ≡ outer_set (has_leaf (cells_met R u)) k y) → ((y : ℕ) → W y ≡ outer_set R k y)
-    → IsInOuter (λ y. has_leaf u y && R y) k x → IsInOuter (λ y. V y && W y) k x
+cut_clip_out : (k : ℕ) (u : List ℕ) (R V W : ℕ → Bool) (x : ℕ) → ((y : ℕ) → V y ≡ outer_set (has_leaf (cells_met R u)) k
+    y) → ((y : ℕ) → W y ≡ outer_set R k y) → IsInOuter (λ y. has_leaf u y && R y) k x → IsInOuter (λ y. V y && W y) k x
 cut_clip_out k u R V W x ev ew (b, ib, lv, vx, (z, vz, t)) =
     let both = and_parts (has_leaf u z) (R z) t in
     let p : V x ≡ true = ev x ∙ outer_from (has_leaf (cells_met R u)) k x
@@ -201,10 +197,10 @@ cut_clip_out k u R V W x ev ew (b, ib, lv, vx, (z, vz, t)) =
     let q : W x ≡ true = ew x ∙ outer_from R k x (b, ib, lv, vx, (z, vz, both.1)) in
     (b, ib, lv, vx, (x, vx, and_from (V x) (W x) p q))
 
-pub cut_clip : (k : ℕ) (u v : List ℕ) (R W : ℕ → Bool) → k ≤ 30 → IsLocal u →
-    ((x : ℕ) → has_leaf v x ≡ has_leaf (cells_cut k (cells_met R u)) x) → ((x : ℕ) → W x ≡ outer_set R k x)
-    → (x : ℕ) → outer_set (λ y. has_leaf v y && W y) k x ≡ outer_set (λ y. has_leaf u y && R y) k x
-cut_clip k u v R W h l e ew x =
+pub cut_clip : (k : ℕ) {u : List ℕ} (v : List ℕ) (R W : ℕ → Bool) → k ≤ 30 → IsLocal u →
+    ((x : ℕ) → has_leaf v x ≡ has_leaf (cells_cut k (cells_met R u)) x) → ((x : ℕ) → W x ≡ outer_set R k x) →
+    (x : ℕ) → outer_set (λ y. has_leaf v y && W y) k x ≡ outer_set (λ y. has_leaf u y && R y) k x
+cut_clip k {u} v R W h l e ew x =
     let ev : (y : ℕ) → has_leaf v y ≡ outer_set (has_leaf (cells_met R u)) k y = λ y. e y
     ∙ sym (outer_cells k (cells_met R u) h (All-filter (meets R) IsCell u l.cells) y) in
     same_bool (outer_set (λ y. has_leaf v y && W y) k x) (outer_set (λ y. has_leaf u y && R y) k x)

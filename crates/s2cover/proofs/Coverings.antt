@@ -42,8 +42,8 @@ around_leaf k x h l =
     let a = all_leaves k h in
     record { level = h; place = div_below x (4 ^ (30 - k)) (6 * 4 ^ k) (four_pos (30 - k)) (omega arith); id = refl }
 
-pub leaf_limit : (c x : ℕ) → IsCell c → covers c x ≡ true → x < LEAVES
-leaf_limit c x i v = let w = (cell_leaves c i).within in let r = covers_from c x v in let b = r.1 in omega arith
+pub leaf_limit : {c : ℕ} (x : ℕ) → IsCell c → covers c x ≡ true → x < LEAVES
+leaf_limit {c} x i v = let w = (cell_leaves c i).within in let r = covers_from c x v in let b = r.1 in omega arith
 
 own_block : (k x : ℕ) → (x / 4 ^ (30 - k) * 4 ^ (30 - k) ≤ x) × (x < x / 4 ^ (30 - k) * 4 ^ (30 - k) + 4 ^ (30 - k))
 own_block k x = let s = div-add-mod' x (4 ^ (30 - k)) in let r = mod_below x (4 ^ (30 - k)) (four_pos (30 - k)) in
@@ -67,7 +67,7 @@ outer_in R k x h t =
 pub outer_from : (R : ℕ → Bool) (k x : ℕ) → IsInOuter R k x → outer_set R k x ≡ true
 unfolding outer_set
 outer_from R k x (c, i, lv, v, (y, w, r)) =
-    let l = lt-ltb x LEAVES (leaf_limit c x i v) in
+    let l = lt-ltb x LEAVES (leaf_limit x i v) in
     let o = own_place c i in
     let bx = covered_block c (level_of c) (place_of c) x o v in
     let by = covered_block c (level_of c) (place_of c) y o w in
@@ -78,9 +78,8 @@ outer_from R k x (c, i, lv, v, (y, w, r)) =
     let o0 = own.0 in
     let o1 = own.1 in
     and_from (nat_lt x LEAVES) (touched R (x / 4 ^ (30 - k) * 4 ^ (30 - k)) (4 ^ (30 - k))) l
-    (true_from_ne_false (touched R (x / 4 ^ (30 - k) * 4 ^ (30 - k)) (4 ^ (30 - k))) (λ f.
-    both_ways (R y) (touched_none R (x / 4 ^ (30 - k) * 4 ^ (30 - k)) (4 ^ (30 - k)) f y (omega arith)
-    (omega arith)) r))
+    (true_from_ne_false (touched R (x / 4 ^ (30 - k) * 4 ^ (30 - k)) (4 ^ (30 - k))) (λ f. both_ways
+    (R y) (touched_none R (x / 4 ^ (30 - k) * 4 ^ (30 - k)) (4 ^ (30 - k)) f y (omega arith) (omega arith)) r))
 
 pub inner_in : (R : ℕ → Bool) (k x : ℕ) → k ≤ 30 → inner_set R k x ≡ true → IsInInner R k x
 unfolding inner_set
@@ -105,10 +104,9 @@ inner_in R k x h t =
 pub inner_from : (R : ℕ → Bool) (k x : ℕ) → IsInInner R k x → inner_set R k x ≡ true
 unfolding inner_set
 inner_from R k x (c, i, lv, v, inside) =
-    let l = lt-ltb x LEAVES (leaf_limit c x i v) in
+    let l = lt-ltb x LEAVES (leaf_limit x i v) in
     let o = own_place c i in
     let bx = ap (λ z. x / 4 ^ (30 - z)) (sym lv) ∙ covered_block c (level_of c) (place_of c) x o v in
     and_from (nat_lt x LEAVES) (filled R (x / 4 ^ (30 - k) * 4 ^ (30 - k)) (4 ^ (30 - k))) l
-    (filled_from R (x / 4 ^ (30 - k) * 4 ^ (30 - k)) (4 ^ (30 - k)) (λ y a b.
-    inside y (covers_block c (level_of c) (place_of c) y o
-    (ap (λ z. y / 4 ^ (30 - z)) lv ∙ block_here y (x / 4 ^ (30 - k)) (30 - k) a b ∙ bx))))
+    (filled_from R (x / 4 ^ (30 - k) * 4 ^ (30 - k)) (4 ^ (30 - k)) (λ y a b. inside y (covers_block c
+    (level_of c) (place_of c) y o (ap (λ z. y / 4 ^ (30 - z)) lv ∙ block_here y (x / 4 ^ (30 - k)) (30 - k) a b ∙ bx))))

@@ -1,6 +1,6 @@
 -- The cells that a descent finds are the greatest in the set, follow each other, and have its leaves.
 use Rattle.std.proofs.Common.{◌≡◌, ℕ, suc, zero, ◌+◌, ◌-◌, ◌*◌, ◌/◌, ◌^◌, ◌<◌, ◌≤◌, Bool, true}
-use Rattle.std.proofs.Common.{false, ◌&&◌, ◌||◌, nat_lt, List, [], ◌∷◌, ◌++◌, length, get_or, All, AllPairs, refl, sym}
+use Rattle.std.proofs.Common.{false, ◌&&◌, ◌||◌, nat_lt, List, [], ◌∷◌, ◌++◌, length, All, AllPairs, refl, sym}
 use Rattle.std.proofs.Common.{◌∙◌, ap, arith, subst, ⊎_elim, length-append}
 use Rattle.std.proofs.lemmas.Bool.{and_right, lt-ltb, cases_Bool, both_ways, cond-false, false_from_ne_true, and_parts}
 use Rattle.std.proofs.lemmas.Bool.Decides.{nat_tests}
@@ -63,20 +63,17 @@ or_and true false true = refl
 or_and true false false = refl
 or_and false b s = refl
 
-pub run_join : (S : ℕ → Bool) (lo mid hi : ℕ) (u v : List ℕ) → lo ≤ mid → mid ≤ hi → Run S lo mid u →
-    Run S mid hi v → Run S lo hi (u ++ v)
-run_join S lo mid hi u v a b r s = record {
+pub run_join : {S : ℕ → Bool} {lo mid hi : ℕ} {u v : List ℕ} →
+    lo ≤ mid → mid ≤ hi → Run S lo mid u → Run S mid hi v → Run S lo hi (u ++ v)
+run_join {S} {lo} {mid} {hi} {u} {v} a b r s = record {
   greatest = All-append (IsGreatestIn S) u v r.greatest s.greatest;
   chain = all_pairs_append EndsBefore u v r.chain s.chain (λ k d h. λ i e l. let x = r.high k d h in
       let y = s.low i e l in omega arith);
   low = All-append (λ c. lo ≤ first_leaf c) u v r.low (λ k d h. let y = s.low k d h in omega arith);
   high = All-append (λ c. first_leaf c + size_of c ≤ hi) u v (λ k d h. let y = r.high k d h in omega arith) s.high;
-  leaves = λ x.
-      list_any-append (λ c. covers c x) u v
-      ∙ ap (λ z. z || has_leaf v x) (r.leaves x)
-      ∙ ap (λ z. (between lo mid x && S x) || z) (s.leaves x)
-      ∙ or_and (between lo mid x) (between mid hi x) (S x)
-      ∙ ap (λ z. z && S x) (sym (between_join lo mid hi x a b));
+  leaves = λ x. list_any-append (λ c. covers c x) u v
+      ∙ ap (λ z. z || has_leaf v x) (r.leaves x) ∙ ap (λ z. (between lo mid x && S x) || z) (s.leaves x)
+      ∙ or_and (between lo mid x) (between mid hi x) (S x) ∙ ap (λ z. z && S x) (sym (between_join lo mid hi x a b));
 }
 
 pub joined_run : (S : ℕ → Bool) (f : ℕ → List ℕ) (lo s n : ℕ) →
@@ -86,8 +83,7 @@ joined_run S f lo s zero h = let e : lo ≡ lo + 0 * s = omega arith in subst (�
 joined_run S f lo s (suc n) h =
     let e : lo + (n + 1) * s ≡ lo + suc n * s = omega arith in
     let r : Run S lo (lo + n * s) (joined f n) = joined_run S f lo s n (λ p l. h p (omega arith)) in
-    run_join S lo (lo + n * s) (lo + suc n * s) (joined f n) (f n) (omega arith) (omega arith) r
-    (subst (λ (z : ℕ). Run S (lo + n * s) z (f n)) e (h n (omega arith)))
+    run_join (omega arith) (omega arith) r (subst (λ (z : ℕ). Run S (lo + n * s) z (f n)) e (h n (omega arith)))
 
 -- ---- one cell
 
@@ -104,10 +100,9 @@ one_all P c p zero d h = p
 one_all P c p (suc k) d h = absurd (omega arith)
 
 -- the whole cell is in the set, and its parent isn't
-whole_run : (S : ℕ → Bool) (c : ℕ) → IsCell c → LiesIn S c →
-    (0 < level_of c → LiesIn S (parent_of c (level_of c - 1)) → ⊥) →
-    Run S (first_leaf c) (first_leaf c + size_of c) (c ∷ [])
-whole_run S c i inside top = record {
+whole_run : (S : ℕ → Bool) {c : ℕ} → IsCell c → LiesIn S c → (0 < level_of
+    c → LiesIn S (parent_of c (level_of c - 1)) → ⊥) → Run S (first_leaf c) (first_leaf c + size_of c) (c ∷ [])
+whole_run S {c} i inside top = record {
   greatest = one_all (IsGreatestIn S) c (record { cell = i; inside = inside; greatest = top });
   chain = λ a b d h l. absurd (omega arith);
   low = one_all (λ d. first_leaf c ≤ first_leaf d) c (omega arith);
@@ -146,35 +141,32 @@ nothing_run S c h = record {
 }
 
 -- a cell that the set holds, as a list
-whole_form : (S : ℕ → Bool) (g e c : ℕ) → IsCell c → depth_of c ≡ g + e →
+whole_form : (S : ℕ → Bool) (g e : ℕ) {c : ℕ} → IsCell c → depth_of c ≡ g + e →
     filled S (place_of c * 4 ^ depth_of c) (4 ^ depth_of c) ≡ true → form S g e (place_of c) ≡ c ∷ []
-whole_form S g e c i d t =
+whole_form S g e {c} i d t =
     form_whole S g e (place_of c) (subst (λ (z : ℕ). filled S (place_of c * 4 ^ z) (4 ^ z) ≡ true) d t)
-    ∙ ap (λ z. z ∷ []) (ap (λ z. cell_at z (place_of c)) (sym d) ∙ id_of c i)
+    ∙ ap (λ z. z ∷ []) (ap (λ z. cell_at z (place_of c)) (sym d) ∙ id_of i)
 
-pub formed : (S : ℕ → Bool) (g e c : ℕ) → IsAligned S g → IsCell c → depth_of c ≡ g + e →
-    (0 < level_of c → LiesIn S (parent_of c (level_of c - 1)) → ⊥)
-    → Run S (first_leaf c) (first_leaf c + size_of c) (form S g e (place_of c))
+pub formed : (S : ℕ → Bool) (g e : ℕ) {c : ℕ} → IsAligned S g → IsCell c → depth_of c ≡ g + e → (0 < level_of c → LiesIn
+    S (parent_of c (level_of c - 1)) → ⊥) → Run S (first_leaf c) (first_leaf c + size_of c) (form S g e (place_of c))
 unfolding form
-formed S g zero c al i d top =
+formed S g zero {c} al i d top =
     let m = place_of c in
     let dg : depth_of c ≡ g = omega arith in
     ⊎_elim
-    (λ (t : filled S (m * 4 ^ depth_of c) (4 ^ depth_of c) ≡ true).
-    subst (λ (u : List ℕ). Run S (first_leaf c) (first_leaf c + size_of c) u) (sym (whole_form S g 0 c i d t))
-    (whole_run S c i (filled_lies S c t) top))
+    (λ (t : filled S (m * 4 ^ depth_of c) (4 ^ depth_of c) ≡ true). subst (λ (u : List ℕ). Run S
+    (first_leaf c) (first_leaf c + size_of c) u) (sym (whole_form S g 0 i d t)) (whole_run S i (filled_lies S c t) top))
     (λ (f : filled S (m * 4 ^ depth_of c) (4 ^ depth_of c) ≡ false).
     let none : form S g 0 m ≡ [] = cond-false (filled S (m * 4 ^ g) (4 ^ g)) (cell_at g m ∷ []) []
     (subst (λ (z : ℕ). filled S (m * 4 ^ z) (4 ^ z) ≡ false) dg f) in
     subst (λ (u : List ℕ). Run S (first_leaf c) (first_leaf c + size_of c) u) (sym none)
     (nothing_run S c (grain_none S g c al dg f)))
     (cases_Bool (filled S (m * 4 ^ depth_of c) (4 ^ depth_of c)))
-formed S g (suc e) c al i d top =
+formed S g (suc e) {c} al i d top =
     let m = place_of c in
     ⊎_elim
-    (λ (t : filled S (m * 4 ^ depth_of c) (4 ^ depth_of c) ≡ true).
-    subst (λ (u : List ℕ). Run S (first_leaf c) (first_leaf c + size_of c) u)
-    (sym (whole_form S g (suc e) c i d t)) (whole_run S c i (filled_lies S c t) top))
+    (λ (t : filled S (m * 4 ^ depth_of c) (4 ^ depth_of c) ≡ true). subst (λ (u : List ℕ). Run S (first_leaf c)
+    (first_leaf c + size_of c) u) (sym (whole_form S g (suc e) i d t)) (whole_run S i (filled_lies S c t) top))
     (λ (f : filled S (m * 4 ^ depth_of c) (4 ^ depth_of c) ≡ false).
     let f2 : filled S (m * 4 ^ (g + suc e)) (4 ^ (g + suc e)) ≡ false =
     subst (λ (z : ℕ). filled S (m * 4 ^ z) (4 ^ z) ≡ false) d f in
@@ -187,7 +179,7 @@ formed S g (suc e) c al i d top =
     let q0 = (child_leaves c 0 i lv (omega arith)).size in
     let one : (p : ℕ) → p < 4 → Run S (first_leaf c + p * s) (first_leaf c + (p + 1) * s)
     (form S g e (4 * m + p)) = λ p l.
-    let k = child_at c p i lv l in
+    let k = child_at p i lv l in
     let dk = k.depth in
     let w = child_leaves c p i lv l in
     let ws = w.size in
@@ -195,13 +187,11 @@ formed S g (suc e) c al i d top =
     let same : size_of (child_of c p) ≡ s = omega arith in
     let start : first_leaf (child_of c p) ≡ first_leaf c + p * s = wf ∙ ap (λ z. first_leaf c + p * z) same in
     let end : first_leaf (child_of c p) + size_of (child_of c p) ≡ first_leaf c + (p + 1) * s = omega arith in
-    let r = formed S g e (child_of c p) al k.cell (omega arith) (λ z h.
-    both_ways (filled S (m * 4 ^ depth_of c) (4 ^ depth_of c)) f
-    (lies_filled S c (subst (λ (y : ℕ). LiesIn S y) (parent_of_child c p i lv l) h))) in
+    let r = formed S g e al k.cell (omega arith) (λ z h. both_ways (filled S (m * 4 ^ depth_of c) (4 ^ depth_of c))
+    f (lies_filled S c (subst (λ (y : ℕ). LiesIn S y) (parent_of_child c p i lv l) h))) in
     subst (λ (z : ℕ). Run S (first_leaf c + p * s) (first_leaf c + (p + 1) * s) (form S g e z)) k.place
-    (subst (λ (z : ℕ). Run S (first_leaf c + p * s) z (form S g e (place_of (child_of c p)))) end
-    (subst (λ (z : ℕ). Run S z (first_leaf (child_of c p) + size_of (child_of c p))
-    (form S g e (place_of (child_of c p)))) start r)) in
+    (subst (λ (z : ℕ). Run S (first_leaf c + p * s) z (form S g e (place_of (child_of c p)))) end (subst (λ (z : ℕ). Run
+    S z (first_leaf (child_of c p) + size_of (child_of c p)) (form S g e (place_of (child_of c p)))) start r)) in
     let end : first_leaf c + 4 * s ≡ first_leaf c + size_of c = omega arith in
     subst (λ (u : List ℕ). Run S (first_leaf c) (first_leaf c + size_of c) u) (sym kids)
     (subst (λ (z : ℕ). Run S (first_leaf c) z (joined (λ p. form S g e (4 * m + p)) 4)) end
@@ -214,8 +204,8 @@ formed S g (suc e) c al i d top =
 abbrev pub Leafy : (ℕ → Bool) → ℕ → Bool
 Leafy S x = nat_lt x LEAVES && S x
 
-greatest_leafy : (S : ℕ → Bool) (c : ℕ) → IsGreatestIn S c → IsGreatestIn (Leafy S) c
-greatest_leafy S c w =
+greatest_leafy : {S : ℕ → Bool} {c : ℕ} → IsGreatestIn S c → IsGreatestIn (Leafy S) c
+greatest_leafy {S} {c} w =
     let l = cell_leaves c w.cell in
     let end = l.within in
     record {
@@ -229,16 +219,16 @@ between_all : (x : ℕ) → between 0 LEAVES x ≡ nat_lt x LEAVES
 between_all x = grind (arith, nat_tests)
 
 -- a run over all leaves is the normal form
-pub run_normal : (S T : ℕ → Bool) (u : List ℕ) → Run S 0 LEAVES u → ((x : ℕ) → T x ≡ Leafy S x) → IsNormalForm T u
-run_normal S T u r same =
+pub run_normal : {S : ℕ → Bool} (T : ℕ → Bool) {u : List ℕ} →
+    Run S 0 LEAVES u → ((x : ℕ) → T x ≡ Leafy S x) → IsNormalForm T u
+run_normal {S} T {u} r same =
     normal_form_same (Leafy S) T u (λ x. sym (same x))
-    (picked_normal (Leafy S) u
-    (record { chain = r.chain; greatest = λ k d h. greatest_leafy S (get_or u k d) (r.greatest k d h) })
+    (picked_normal (Leafy S) u (record { chain = r.chain; greatest = λ k d h. greatest_leafy (r.greatest k d h) })
     (λ x. r.leaves x ∙ ap (λ b. b && S x) (between_all x)))
 
-pub run_leaves : (S T : ℕ → Bool) (u : List ℕ) → Run S 0 LEAVES u → ((x : ℕ) → T x ≡ Leafy S x) → (x : ℕ) →
-    has_leaf u x ≡ T x
-run_leaves S T u r same x = r.leaves x ∙ ap (λ b. b && S x) (between_all x) ∙ sym (same x)
+pub run_leaves : {S : ℕ → Bool} (T : ℕ → Bool) {u : List ℕ} →
+    Run S 0 LEAVES u → ((x : ℕ) → T x ≡ Leafy S x) → (x : ℕ) → has_leaf u x ≡ T x
+run_leaves {S} T r same x = r.leaves x ∙ ap (λ b. b && S x) (between_all x) ∙ sym (same x)
 
 face_cell : (f : ℕ) → f < 6 → IsCellAt 0 f (cell_at 30 f)
 face_cell f h = record { level = omega arith; place = omega arith; id = refl }
@@ -254,7 +244,7 @@ face_run S g f al hg hf =
     let lo : first_leaf c ≡ f * 4 ^ 30 = first_leaf_of_cell 0 f c at in
     let sz : size_of c ≡ 4 ^ 30 = size_of_cell 0 f c at in
     let hi : first_leaf c + size_of c ≡ (f + 1) * 4 ^ 30 = omega arith in
-    let r = formed S g (30 - g) c al (0, f, at) (omega arith) (λ d h. absurd (omega arith)) in
+    let r = formed S g (30 - g) al (0, f, at) (omega arith) (λ d h. absurd (omega arith)) in
     subst (λ (z : ℕ). Run S (f * 4 ^ 30) ((f + 1) * 4 ^ 30) (form S g (30 - g) z)) pl
     (subst (λ (z : ℕ). Run S (f * 4 ^ 30) z (form S g (30 - g) (place_of c))) hi
     (subst (λ (z : ℕ). Run S z (first_leaf c + size_of c) (form S g (30 - g) (place_of c))) lo r))
@@ -278,7 +268,7 @@ leafy_itself S x false e h = e ∙ sym (ap (λ b. nat_lt x LEAVES && b) e ∙ an
 
 -- the greatest cells inside a set of leaves, down to the leaves, are its normal form
 pub set_normal : (S : ℕ → Bool) → ((x : ℕ) → S x ≡ true → x < LEAVES) → IsNormalForm S (form_faces S 0 6)
-set_normal S h = run_normal S S (form_faces S 0 6) (faces_run S 0 (leaf_aligned S) (omega arith))
+set_normal S h = run_normal S (faces_run S 0 (leaf_aligned S) (omega arith))
     (λ x. leafy_itself S x (S x) refl (h x))
 
 -- ---- coverings
@@ -297,14 +287,14 @@ covering_leafy false R k x = refl
 pub covering_normal : (whole : Bool) (R : ℕ → Bool) (k : ℕ) →
     IsNormalForm (covering_set whole R k) (form_faces (blocks whole R (30 - k)) (30 - k) 6)
 covering_normal whole R k =
-    run_normal (blocks whole R (30 - k)) (covering_set whole R k) (form_faces (blocks whole R (30 - k)) (30 - k) 6)
+    run_normal (covering_set whole R k)
     (faces_run (blocks whole R (30 - k)) (30 - k) (blocks_aligned whole R (30 - k)) (omega arith))
     (covering_leafy whole R k)
 
 pub covering_leaves : (whole : Bool) (R : ℕ → Bool) (k x : ℕ) →
     has_leaf (form_faces (blocks whole R (30 - k)) (30 - k) 6) x ≡ covering_set whole R k x
 covering_leaves whole R k =
-    run_leaves (blocks whole R (30 - k)) (covering_set whole R k) (form_faces (blocks whole R (30 - k)) (30 - k) 6)
+    run_leaves (covering_set whole R k)
     (faces_run (blocks whole R (30 - k)) (30 - k) (blocks_aligned whole R (30 - k)) (omega arith))
     (covering_leafy whole R k)
 
@@ -325,8 +315,7 @@ form_of_face S g c f lv ef =
     ap (λ z. form S g (30 - z - g) (place_of c)) lv ∙ ap (form S g (30 - g)) place
 
 pub found_next : (S : ℕ → Bool) (g n c : ℕ) (list new : List ℕ) (len next max : ℕ) → level_of c ≡ 0 →
-    face_of c ≡ n → Found S g n list len max
-    → new ≡ list ++ form_in S g c → next ≤ max → Found S g (n + 1) new next max
+    face_of c ≡ n → Found S g n list len max → new ≡ list ++ form_in S g c → next ≤ max → Found S g (n + 1) new next max
 found_next S g n c list new len next max lv ef f is few = record {
   cells = is ∙ ap (λ z. z ++ form_in S g c) f.cells ∙ ap (λ z. form_faces S g n ++ z) (form_of_face S g c n lv ef)
       ∙ sym (joined_more (λ face. form S g (30 - g) face) n);
@@ -334,9 +323,8 @@ found_next S g n c list new len next max lv ef f is few = record {
 }
 
 -- too many cells in the first faces are too many in all of them
-pub found_many : (whole : Bool) (R : ℕ → Bool) (k n : ℕ) (u : List ℕ) (max : ℕ) → n ≤ 6 →
-    max < length (form_faces (blocks whole R (30 - k)) (30 - k) n) → IsNormalForm (covering_set whole R k) u →
-    max < length u
+pub found_many : (whole : Bool) (R : ℕ → Bool) (k n : ℕ) (u : List ℕ) (max : ℕ) → n ≤ 6 → max < length
+    (form_faces (blocks whole R (30 - k)) (30 - k) n) → IsNormalForm (covering_set whole R k) u → max < length u
 found_many whole R k n u max h m v =
     let S = blocks whole R (30 - k) in
     let e = one_normal_form (covering_set whole R k) (form_faces S (30 - k) 6) u (covering_normal whole R k) v in
@@ -344,9 +332,8 @@ found_many whole R k n u max h m v =
     let len = ap length e in
     omega arith
 
-pub found_stops : (S : ℕ → Bool) (g n c : ℕ) (list : List ℕ) (len max : ℕ) → level_of c ≡ 0 → face_of c ≡ n →
-    len ≡ length list → Found S g n list len max
-    → max < len + length (form_in S g c) → max < length (form_faces S g (n + 1))
+pub found_stops : (S : ℕ → Bool) (g n c : ℕ) (list : List ℕ) (len max : ℕ) → level_of c ≡ 0 → face_of c ≡ n → len ≡
+    length list → Found S g n list len max → max < len + length (form_in S g c) → max < length (form_faces S g (n + 1))
 found_stops S g n c list len max lv ef el f m =
     let more = ap length (joined_more (λ face. form S g (30 - g) face) n)
     ∙ length-append (form_faces S g n) (form S g (30 - g) n) in
@@ -355,11 +342,10 @@ found_stops S g n c list len max lv ef el f m =
     omega arith
 
 -- a list that is too long after a face
-pub found_long : (whole : Bool) (R : ℕ → Bool) (k n c : ℕ) (list new : List ℕ) (len next max : ℕ) (u : List ℕ) →
-    n < 6 → level_of c ≡ 0 → face_of c ≡ n → next ≡ length new →
-    Found (blocks whole R (30 - k)) (30 - k) n list len max
-    → new ≡ list ++ form_in (blocks whole R (30 - k)) (30 - k) c → max < next →
-    IsNormalForm (covering_set whole R k) u → max < length u
+pub found_long : (whole : Bool) (R : ℕ → Bool) (k n c : ℕ) (list new : List ℕ) (len next max : ℕ) (u : List ℕ) → n < 6 →
+    level_of c ≡ 0 → face_of c ≡ n → next ≡ length new → Found (blocks whole R (30 - k)) (30 - k) n list len max →
+    new ≡ list ++ form_in (blocks whole R (30 - k)) (30 - k) c →
+    max < next → IsNormalForm (covering_set whole R k) u → max < length u
 found_long whole R k n c list new len next max u h lv ef en f is many v =
     let S = blocks whole R (30 - k) in
     let cells : new ≡ form_faces S (30 - k) (n + 1) =

@@ -1,7 +1,6 @@
 -- The greatest cells inside a set, as the visit of a cell finds them.
-use Rattle.std.proofs.Common.{◌≡◌, ℕ, suc, zero, ◌+◌, ◌-◌, ◌*◌, ◌^◌, ◌<◌, ◌≤◌, Bool, true, false}
-use Rattle.std.proofs.Common.{◌&&◌, List, [], ◌∷◌, ◌++◌, length, refl, sym, ◌∙◌, ap, arith, subst, ⊎_elim}
-use Rattle.std.proofs.Common.{length-append}
+use Rattle.std.proofs.Common.{◌≡◌, ℕ, suc, zero, ◌+◌, ◌-◌, ◌*◌, ◌^◌, ◌<◌, ◌≤◌, Bool, true, false, ◌&&◌, List, [], ◌∷◌}
+use Rattle.std.proofs.Common.{◌++◌, length, refl, sym, ◌∙◌, ap, arith, subst, ⊎_elim, length-append}
 use Rattle.std.proofs.lemmas.Bool.{cases_lt, cond-true, cond-false}
 use Rattle.std.proofs.Math.Nat.{pow-suc, mul-le-mul_right}
 use Rattle.s2cell.proofs.CellLemmas.{four_pos}
@@ -84,8 +83,7 @@ form_none_at S g d m hg h =
     form_none S g (d - g) m (subst (λ (z : ℕ). (x : ℕ) → m * 4 ^ z ≤ x → x < m * 4 ^ z + 4 ^ z → S x ≡ false) (sym e) h)
 
 -- the first children of a cell are inside the set, and then one more
-pub filled_more : (S : ℕ → Bool) (d m p : ℕ) → p < 4 →
-    filled S (m * 4 ^ suc d) ((p + 1) * 4 ^ d)
+pub filled_more : (S : ℕ → Bool) (d m p : ℕ) → p < 4 → filled S (m * 4 ^ suc d) ((p + 1) * 4 ^ d)
     ≡ (filled S (m * 4 ^ suc d) (p * 4 ^ d) && filled S ((4 * m + p) * 4 ^ d) (4 ^ d))
 filled_more S d m p hp =
     let w = child_run m p d hp in

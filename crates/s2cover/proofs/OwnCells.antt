@@ -65,9 +65,9 @@ cut_parent k c h = cond-false (reaches k c) c (parent_of c k)
     (false_from_ne_true (reaches k c) (λ t. let l = leb-true (level_of c) k t in absurd (omega arith)))
 
 -- a cell of level `k` that shares a leaf with `c` lies inside the cell that stands for `c` there
-pub cut_around : (k c b y x : ℕ) → IsCell c → IsCell b → level_of b ≡ k → covers b y ≡ true → covers c y ≡ true →
-    covers b x ≡ true → covers (cut_at k c) x ≡ true
-cut_around k c b y x i ib lv vb vc vx =
+pub cut_around : (k : ℕ) {c b : ℕ} (y x : ℕ) → IsCell c →
+    IsCell b → level_of b ≡ k → covers b y ≡ true → covers c y ≡ true → covers b x ≡ true → covers (cut_at k c) x ≡ true
+cut_around k {c} {b} y x i ib lv vb vc vx =
     let yb = covers_from b y vb in
     let yc = covers_from c y vc in
     ⊎_elim
@@ -84,11 +84,11 @@ cut_around k c b y x i ib lv vb vc vx =
     subst (λ (z : ℕ). covers z x ≡ true) (sym (cut_same k c l)) (inside_from_within b c w x vx))
     (cases_lt k (level_of c))
 
-cut_to : (c k x : ℕ) → IsCell c → IsInOuter (covers c) k x → covers (cut_at k c) x ≡ true
-cut_to c k x i (b, ib, lv, vx, (y, vb, vc)) = cut_around k c b y x i ib lv vb vc vx
+cut_to : {c : ℕ} (k x : ℕ) → IsCell c → IsInOuter (covers c) k x → covers (cut_at k c) x ≡ true
+cut_to {c} k x i (b, ib, lv, vx, (y, vb, vc)) = cut_around k y x i ib lv vb vc vx
 
-cut_from : (c k x : ℕ) → IsCell c → k ≤ 30 → covers (cut_at k c) x ≡ true → IsInOuter (covers c) k x
-cut_from c k x i h v =
+cut_from : {c : ℕ} (k x : ℕ) → IsCell c → k ≤ 30 → covers (cut_at k c) x ≡ true → IsInOuter (covers c) k x
+cut_from {c} k x i h v =
     ⊎_elim
     (λ (l : k < level_of c).
     let p = parent_of c k in
@@ -105,17 +105,17 @@ cut_from c k x i h v =
     let vc : covers c x ≡ true = subst (λ (z : ℕ). covers z x ≡ true) (cut_same k c l) v in
     let m = x / 4 ^ (30 - k) in
     let b = id_at k m in
-    let at = around_leaf k x h (leaf_limit c x i vc) in
+    let at = around_leaf k x h (leaf_limit x i vc) in
     let vb = covers_block b k m x at refl in
     (b, (k, m, at), level_of_cell k m b at, vb, (x, vb, vc)))
     (cases_lt k (level_of c))
 
 -- the outer covering of a cell is the cell, cut
-pub outer_cell : (c k x : ℕ) → IsCell c → k ≤ 30 → outer_set (covers c) k x ≡ covers (cut_at k c) x
-outer_cell c k x i h =
+pub outer_cell : {c : ℕ} (k x : ℕ) → IsCell c → k ≤ 30 → outer_set (covers c) k x ≡ covers (cut_at k c) x
+outer_cell {c} k x i h =
     same_bool (outer_set (covers c) k x) (covers (cut_at k c) x)
-    (λ t. cut_to c k x i (outer_in (covers c) k x h t))
-    (λ v. outer_from (covers c) k x (cut_from c k x i h v))
+    (λ t. cut_to k x i (outer_in (covers c) k x h t))
+    (λ v. outer_from (covers c) k x (cut_from k x i h v))
 
 -- ---- the cells of a union
 
@@ -124,7 +124,7 @@ pub outer_cells : (k : ℕ) (u : List ℕ) → k ≤ 30 → All IsCell u → (x 
 outer_cells k [] h all x = outer_none (has_leaf []) k x (λ y. refl)
 outer_cells k (c ∷ u) h all x =
     outer_either (covers c) (has_leaf u) k x
-    ∙ ap (λ b. b || outer_set (has_leaf u) k x) (outer_cell c k x (all 0 c (omega arith)) h)
+    ∙ ap (λ b. b || outer_set (has_leaf u) k x) (outer_cell k x (all 0 c (omega arith)) h)
     ∙ ap (λ b. covers (cut_at k c) x || b) (outer_cells k u h (λ i d l. all (suc i) d (omega arith)) x)
 
 pub kept_one : (b : Bool) (c x : ℕ) (v : List ℕ) → has_leaf (cond b (c ∷ v) v) x ≡ ((b && covers c x) || has_leaf v x)
@@ -136,8 +136,8 @@ filter_any p x [] = refl
 filter_any p x (c ∷ u) = kept_one (p c) c x (filter p u) ∙ ap (λ b. (p c && covers c x) || b) (filter_any p x u)
 
 -- a cell around another lies no deeper
-around_level : (b d : ℕ) → IsCell b → IsCell d → Within b d → level_of d ≤ level_of b
-around_level b d ib id w =
+around_level : {b d : ℕ} → IsCell b → IsCell d → Within b d → level_of d ≤ level_of b
+around_level {b} {d} ib id w =
     ⊎_elim
     (λ (l : level_of b < level_of d).
     let own = first_leaf_covered b ib in
@@ -149,17 +149,16 @@ around_level b d ib id w =
     (λ (l : level_of d ≤ level_of b). l)
     (cases_lt (level_of b) (level_of d))
 
-kept_to : (k x : ℕ) (u : List ℕ) → IsLocal u → IsInInner (has_leaf u) k x →
-    list_any (λ c. reaches k c && covers c x) u ≡ true
-kept_to k x u l (b, ib, lv, vx, inside) =
+kept_to : (k x : ℕ) {u : List ℕ} →
+    IsLocal u → IsInInner (has_leaf u) k x → list_any (λ c. reaches k c && covers c x) u ≡ true
+kept_to k x {u} l (b, ib, lv, vx, inside) =
     let sb = shallow b ib in
     elim (all_held (30 - level_of b) u b l.cells ib (omega arith) inside) [
       | holder d md w ↦
           let id : IsCell d = All-contains IsCell u d l.cells md in
-          let lvl = around_level b d ib id w in
+          let lvl = around_level ib id w in
           let both : (reaches k d && covers d x) ≡ true =
-          and_from (reaches k d) (covers d x) (le-leb (level_of d) k (omega arith))
-          (inside_from_within b d w x vx) in
+          and_from (reaches k d) (covers d x) (le-leb (level_of d) k (omega arith)) (inside_from_within b d w x vx) in
           let i = md.0 in
           list_any_at (λ c. reaches k c && covers c x) u i d md.1 (ap (λ c. reaches k c && covers c x) md.2 ∙ both)
       | family q cq lq f ↦ absurd (l.unmerged q cq lq f)
@@ -176,7 +175,7 @@ kept_from k x u h all t =
     let lvl = leb-true (level_of d) k both.0 in
     let m = x / 4 ^ (30 - k) in
     let b = id_at k m in
-    let at = around_leaf k x h (leaf_limit d x id both.1) in
+    let at = around_leaf k x h (leaf_limit x id both.1) in
     let vb = covers_block b k m x at refl in
     let xb = covers_from b x vb in
     let xd = covers_from d x both.1 in
@@ -184,41 +183,40 @@ kept_from k x u h all t =
     let w = deeper_inside b d x (k, m, at) id (omega arith) xb.0 xb.1 xd.0 xd.1 in
     (b, (k, m, at), lb, vb, λ y v. leaf_to u d y md (inside_from_within b d w y v))
 
-pub inner_cells : (k : ℕ) (u : List ℕ) → k ≤ 30 → IsLocal u → (x : ℕ) →
-    inner_set (has_leaf u) k x ≡ has_leaf (cells_kept k u) x
-inner_cells k u h l x =
+pub inner_cells : (k : ℕ) {u : List ℕ} →
+    k ≤ 30 → IsLocal u → (x : ℕ) → inner_set (has_leaf u) k x ≡ has_leaf (cells_kept k u) x
+inner_cells k {u} h l x =
     same_bool (inner_set (has_leaf u) k x) (list_any (λ c. reaches k c && covers c x) u)
-    (λ t. kept_to k x u l (inner_in (has_leaf u) k x h t))
-    (λ v. inner_from (has_leaf u) k x (kept_from k x u h l.cells v))
-    ∙ sym (filter_any (reaches k) x u)
+    (λ t. kept_to k x l (inner_in (has_leaf u) k x h t))
+    (λ v. inner_from (has_leaf u) k x (kept_from k x u h l.cells v)) ∙ sym (filter_any (reaches k) x u)
 
 -- ---- what the calls answer
 
-pub cut_normal : (k : ℕ) (u list v : List ℕ) → k ≤ 30 → IsLocal u → list ≡ cells_cut k u →
-    IsNormalForm (has_leaf list) v → IsNormalForm (outer_set (has_leaf u) k) v
-cut_normal k u list v h l e n = normal_form_same (has_leaf list) (outer_set (has_leaf u) k) v
+pub cut_normal : (k : ℕ) {u : List ℕ} (list : List ℕ) {v : List ℕ} → k ≤ 30 →
+    IsLocal u → list ≡ cells_cut k u → IsNormalForm (has_leaf list) v → IsNormalForm (outer_set (has_leaf u) k) v
+cut_normal k {u} list {v} h l e n = normal_form_same (has_leaf list) (outer_set (has_leaf u) k) v
     (λ x. ap (λ z. has_leaf z x) e ∙ sym (outer_cells k u h l.cells x)) n
 
-pub kept_normal : (k : ℕ) (u list v : List ℕ) → k ≤ 30 → IsLocal u → list ≡ cells_kept k u →
-    IsNormalForm (has_leaf list) v → IsNormalForm (inner_set (has_leaf u) k) v
-kept_normal k u list v h l e n = normal_form_same (has_leaf list) (inner_set (has_leaf u) k) v
-    (λ x. ap (λ z. has_leaf z x) e ∙ sym (inner_cells k u h l x)) n
+pub kept_normal : (k : ℕ) {u : List ℕ} (list : List ℕ) {v : List ℕ} → k ≤ 30 →
+    IsLocal u → list ≡ cells_kept k u → IsNormalForm (has_leaf list) v → IsNormalForm (inner_set (has_leaf u) k) v
+kept_normal k {u} list {v} h l e n = normal_form_same (has_leaf list) (inner_set (has_leaf u) k) v
+    (λ x. ap (λ z. has_leaf z x) e ∙ sym (inner_cells k h l x)) n
 
 pub same_ok : {E : Type 0} (r : Result Union E) (v : List ℕ) (P : List ℕ → Type 0) → P v →
     IfOk r (λ u. u.cells ≡ v) → IfOk r (λ u. P u.cells)
 same_ok r v P p h = IfOk-weaker r (λ u. u.cells ≡ v) (λ u. P u.cells) (λ u e. subst P (sym e) p) h
 
-pub many_err : {T E : Type 0} (r : Result T E) (many : E) (v : List ℕ) (max : ℕ) (S : ℕ → Bool) →
+pub many_err : {T E : Type 0} (r : Result T E) (many : E) {v : List ℕ} (max : ℕ) {S : ℕ → Bool} →
     IsNormalForm S v → IfErr r (λ fault. max < length v) →
     IfErr r (λ fault. fault ≡ many → (u : List ℕ) → IsNormalForm S u → max < length u)
-many_err r many v max S n h =
+many_err r many {v} max {S} n h =
     IfErr-weaker r (λ fault. max < length v) (λ fault. fault ≡ many → (u : List ℕ) → IsNormalForm S u →
     max < length u) (λ y l same u m. let e = ap length (one_normal_form S v u n m) in omega arith) h
 
-pub cut_leaves : (k : ℕ) (u list v : List ℕ) → k ≤ 30 → IsLocal u → list ≡ cells_cut k u →
+pub cut_leaves : (k : ℕ) {u : List ℕ} (list v : List ℕ) → k ≤ 30 → IsLocal u → list ≡ cells_cut k u →
     ((x : ℕ) → has_leaf v x ≡ has_leaf list x) → (x : ℕ) → has_leaf v x ≡ outer_set (has_leaf u) k x
-cut_leaves k u list v h l e same x = same x ∙ ap (λ z. has_leaf z x) e ∙ sym (outer_cells k u h l.cells x)
+cut_leaves k {u} list v h l e same x = same x ∙ ap (λ z. has_leaf z x) e ∙ sym (outer_cells k u h l.cells x)
 
-pub kept_leaves : (k : ℕ) (u list v : List ℕ) → k ≤ 30 → IsLocal u → list ≡ cells_kept k u →
+pub kept_leaves : (k : ℕ) {u : List ℕ} (list v : List ℕ) → k ≤ 30 → IsLocal u → list ≡ cells_kept k u →
     ((x : ℕ) → has_leaf v x ≡ has_leaf list x) → (x : ℕ) → has_leaf v x ≡ inner_set (has_leaf u) k x
-kept_leaves k u list v h l e same x = same x ∙ ap (λ z. has_leaf z x) e ∙ sym (inner_cells k u h l x)
+kept_leaves k {u} list v h l e same x = same x ∙ ap (λ z. has_leaf z x) e ∙ sym (inner_cells k h l x)

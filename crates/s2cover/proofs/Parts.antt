@@ -33,8 +33,7 @@ use Rattle.s2cover.proofs.Formed.{Run, formed, all_pairs_append, or_and}
 
 -- ---- two sets with the same leaves in a cell
 
-filled_same : (S T : ℕ → Bool) (lo n : ℕ) → ((x : ℕ) → lo ≤ x → x < lo + n → S x ≡ T x) →
-    filled S lo n ≡ filled T lo n
+filled_same : (S T : ℕ → Bool) (lo n : ℕ) → ((x : ℕ) → lo ≤ x → x < lo + n → S x ≡ T x) → filled S lo n ≡ filled T lo n
 unfolding filled
 filled_same S T lo zero h = refl
 filled_same S T lo (suc n) h =
@@ -106,14 +105,14 @@ shared_aligned S g u al h x y e =
     ap (λ b. b && S x) (cells_aligned g u h x y e) ∙ ap (λ b. has_leaf u y && b) (al x y e)
 
 -- the cells in one cell of the union
-part_run : (S : ℕ → Bool) (g : ℕ) (u : List ℕ) (c : ℕ) → IsAligned S g → IsLocal u → All (λ c. g ≤ depth_of c) u →
+part_run : (S : ℕ → Bool) (g : ℕ) {u : List ℕ} (c : ℕ) → IsAligned S g → IsLocal u → All (λ c. g ≤ depth_of c) u →
     Contains u c → Run (Shared u S) (first_leaf c) (first_leaf c + size_of c) (form_in S g c)
-part_run S g u c al l h m =
+part_run S g {u} c al l h m =
     let T = Shared u S in
     let hg : g ≤ depth_of c = All-contains (λ c. g ≤ depth_of c) u c h m in
     let i : IsCell c = All-contains IsCell u c l.cells m in
-    let r = formed T g (depth_of c - g) c (shared_aligned S g u al h) i (omega arith) (λ deep p.
-    (member_greatest u l c m).greatest deep (λ x v. (and_parts (has_leaf u x) (S x) (p x v)).0)) in
+    let r = formed T g (depth_of c - g) (shared_aligned S g u al h) i (omega arith)
+    (λ deep p. (member_greatest u l c m).greatest deep (λ x v. (and_parts (has_leaf u x) (S x) (p x v)).0)) in
     subst (λ (v : List ℕ). Run T (first_leaf c) (first_leaf c + size_of c) v)
     (form_in_same T S g c hg (λ x v. ap (λ b. b && S x) (leaf_to u c x m v))) r
 
@@ -147,11 +146,8 @@ parts_join T f (c ∷ u) chain runs =
           let y = j.low (first_leaf c + size_of c) after i e l in omega arith);
       low = λ lo a. All-append (λ d. lo ≤ first_leaf d) (f c) v (λ k d h. let x = r.low k d h in
           let y = a 0 c (omega arith) in omega arith) (j.low lo (λ k d l. a (suc k) d (omega arith)));
-      leaves = λ x.
-          list_any-append (λ c. covers c x) (f c) v
-          ∙ ap (λ z. z || has_leaf v x) (r.leaves x)
-          ∙ ap (λ z. (covers c x && T x) || z) (j.leaves x)
-          ∙ or_and (covers c x) (has_leaf u x) (T x);
+      leaves = λ x. list_any-append (λ c. covers c x) (f c) v ∙ ap (λ z. z || has_leaf v x) (r.leaves x)
+          ∙ ap (λ z. (covers c x && T x) || z) (j.leaves x) ∙ or_and (covers c x) (has_leaf u x) (T x);
     }
 
 and_again : (a b : Bool) → (a && (a && b)) ≡ (a && b)
@@ -165,12 +161,12 @@ pub record Clipped (S : ℕ → Bool) (u v : List ℕ) : Type 0 where
 deep_enough : (k : ℕ) (u : List ℕ) → All (λ c. level_of c ≤ k) u → All (λ c. 30 - k ≤ depth_of c) u
 deep_enough k u h i d l = let a = h i d l in omega arith
 
-pub parts_normal : (S : ℕ → Bool) (k : ℕ) (u : List ℕ) → IsAligned S (30 - k) → IsLocal u →
-    All (λ c. level_of c ≤ k) u → Clipped S u (flat_map (form_in S (30 - k)) u)
-parts_normal S k u al l h =
+pub parts_normal : (S : ℕ → Bool) (k : ℕ) {u : List ℕ} →
+    IsAligned S (30 - k) → IsLocal u → All (λ c. level_of c ≤ k) u → Clipped S u (flat_map (form_in S (30 - k)) u)
+parts_normal S k {u} al l h =
     let T = Shared u S in
-    let p = parts_join T (form_in S (30 - k)) u (packed_from_local u l).chain (λ i d m.
-    part_run S (30 - k) u (get_or u i d) al l (deep_enough k u h) (Contains-get_or u i d m)) in
+    let p = parts_join T (form_in S (30 - k)) u (packed_from_local u l).chain
+    (λ i d m. part_run S (30 - k) (get_or u i d) al l (deep_enough k u h) (Contains-get_or u i d m)) in
     let same : (x : ℕ) → has_leaf (flat_map (form_in S (30 - k)) u) x ≡ T x = λ x. p.leaves x
     ∙ and_again (has_leaf u x) (S x) in
     record {
@@ -179,12 +175,11 @@ parts_normal S k u al l h =
       leaves = same;
     }
 
-pub parts_many : (S : ℕ → Bool) (k : ℕ) (u w : List ℕ) (max : ℕ) → IsAligned S (30 - k) → IsLocal u →
-    All (λ c. level_of c ≤ k) u → max < length (flat_map (form_in S (30 - k)) u) → IsNormalForm (Shared u S) w →
-    max < length w
-parts_many S k u w max al l h m n =
-    let e = ap length (one_normal_form (Shared u S) (flat_map (form_in S (30 - k)) u) w
-    (parts_normal S k u al l h).normal n) in
+pub parts_many : (S : ℕ → Bool) (k : ℕ) {u w : List ℕ} (max : ℕ) → IsAligned S (30 - k) → IsLocal u → All (λ c. level_of
+    c ≤ k) u → max < length (flat_map (form_in S (30 - k)) u) → IsNormalForm (Shared u S) w → max < length w
+parts_many S k {u} {w} max al l h m n =
+    let e = ap length
+    (one_normal_form (Shared u S) (flat_map (form_in S (30 - k)) u) w (parts_normal S k al l h).normal n) in
     omega arith
 
 -- ---- the list on the way
@@ -193,10 +188,10 @@ pub record Gathered (f : ℕ → List ℕ) (u list : List ℕ) (len max : ℕ) :
   pub cells : list ≡ flat_map f u
   pub few : len ≤ max
 
-pub gathered_next : (f : ℕ → List ℕ) (u : List ℕ) (i c d : ℕ) (list new : List ℕ) (len next max : ℕ) →
-    i < length u → c ≡ get_or u i d → Gathered f (take i u) list len max → new ≡ list ++ f c → next ≤ max →
-    Gathered f (take (i + 1) u) new next max
-gathered_next f u i c d list new len next max h e g is few =
+pub gathered_next : {f : ℕ → List ℕ} (u : List ℕ)
+    (i c d : ℕ) {list : List ℕ} (new : List ℕ) {len : ℕ} (next : ℕ) {max : ℕ} → i < length u → c ≡ get_or u i d →
+    Gathered f (take i u) list len max → new ≡ list ++ f c → next ≤ max → Gathered f (take (i + 1) u) new next max
+gathered_next {f} u i c d new next h e g is few =
     let one : i + 1 ≡ suc i = omega arith in
     let more : take (i + 1) u ≡ take i u ++ (c ∷ []) = ap (λ z. take z u) one ∙ take-suc u i d h
     ∙ ap (λ z. take i u ++ (z ∷ [])) (sym e) in
@@ -206,10 +201,10 @@ gathered_next f u i c d list new len next max h e g is few =
       few = few;
     }
 
-pub gathered_many : (f : ℕ → List ℕ) (u : List ℕ) (i c d : ℕ) (list : List ℕ) (len max : ℕ) → i < length u →
-    c ≡ get_or u i d → Gathered f (take i u) list len max → len ≡ length list → max < len + length (f c) →
-    max < length (flat_map f u)
-gathered_many f u i c d list len max h e g el m =
+pub gathered_many : {f : ℕ → List ℕ} (u : List ℕ) (i c d : ℕ) {list : List ℕ} {len max : ℕ} →
+    i < length u → c ≡ get_or u i d →
+    Gathered f (take i u) list len max → len ≡ length list → max < len + length (f c) → max < length (flat_map f u)
+gathered_many {f} u i c d h e g el m =
     let t = length-flat_map-take f u i d h in
     let a = ap length g.cells in
     let b = ap (λ z. length (f z)) e in
@@ -218,9 +213,9 @@ gathered_many f u i c d list len max h e g el m =
 -- ---- the levels of the cells of a union
 
 -- the normal form of cells that reach a level has no deeper cells
-pub normal_above : (k : ℕ) (u v : List ℕ) → IsLocal u → All IsCell v → All (λ c. level_of c ≤ k) v →
-    ((x : ℕ) → has_leaf u x ≡ has_leaf v x) → All (λ c. level_of c ≤ k) u
-normal_above k u v l all h same i d n =
+pub normal_above : (k : ℕ) {u : List ℕ} (v : List ℕ) → IsLocal u →
+    All IsCell v → All (λ c. level_of c ≤ k) v → ((x : ℕ) → has_leaf u x ≡ has_leaf v x) → All (λ c. level_of c ≤ k) u
+normal_above k {u} v l all h same i d n =
     let c = get_or u i d in
     let m : Contains u c = Contains-get_or u i d n in
     let ic : IsCell c = All-contains IsCell u c l.cells m in
@@ -304,19 +299,19 @@ aligned_inner T k x al lim =
     (not_filled T lo n (four_pos (30 - k)) (λ y a b. al y x (block_leaves (30 - k) x y a b) ∙ f))))
     (cases_Bool (T x))
 
-shared_limit : (S : ℕ → Bool) (u : List ℕ) (x : ℕ) → IsLocal u → Shared u S x ≡ true → x < LEAVES
-shared_limit S u x l t =
+shared_limit : (S : ℕ → Bool) {u : List ℕ} (x : ℕ) → IsLocal u → Shared u S x ≡ true → x < LEAVES
+shared_limit S {u} x l t =
     let r = leaf_from u x (and_parts (has_leaf u x) (S x) t).0 in
     let w = (cell_leaves r.cell (All-contains IsCell u r.cell l.cells r.member)).within in
     let h = r.high in
     omega arith
 
-pub shared_outer : (S : ℕ → Bool) (k : ℕ) (u : List ℕ) → IsAligned S (30 - k) → IsLocal u →
-    All (λ c. level_of c ≤ k) u → (x : ℕ) → Shared u S x ≡ outer_set (Shared u S) k x
-shared_outer S k u al l h x = aligned_outer (Shared u S) k x (shared_aligned S (30 - k) u al (deep_enough k u h))
-    (shared_limit S u x l)
+pub shared_outer : (S : ℕ → Bool) (k : ℕ) {u : List ℕ} →
+    IsAligned S (30 - k) → IsLocal u → All (λ c. level_of c ≤ k) u → (x : ℕ) → Shared u S x ≡ outer_set (Shared u S) k x
+shared_outer S k {u}
+    al l h x = aligned_outer (Shared u S) k x (shared_aligned S (30 - k) u al (deep_enough k u h)) (shared_limit S x l)
 
-pub shared_inner : (S : ℕ → Bool) (k : ℕ) (u : List ℕ) → IsAligned S (30 - k) → IsLocal u →
-    All (λ c. level_of c ≤ k) u → (x : ℕ) → Shared u S x ≡ inner_set (Shared u S) k x
-shared_inner S k u al l h x = aligned_inner (Shared u S) k x (shared_aligned S (30 - k) u al (deep_enough k u h))
-    (shared_limit S u x l)
+pub shared_inner : (S : ℕ → Bool) (k : ℕ) {u : List ℕ} →
+    IsAligned S (30 - k) → IsLocal u → All (λ c. level_of c ≤ k) u → (x : ℕ) → Shared u S x ≡ inner_set (Shared u S) k x
+shared_inner S k {u}
+    al l h x = aligned_inner (Shared u S) k x (shared_aligned S (30 - k) u al (deep_enough k u h)) (shared_limit S x l)

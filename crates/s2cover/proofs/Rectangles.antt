@@ -25,9 +25,9 @@ in_rect_from r n h =
       across = (leb-true r.j0 (j_of n) j.0, leb-true (j_of n) r.j1 j.1);
     }
 
-in_rect_to : (r : Rect) (n : ℕ) → IsInRect r (n / 4 ^ 30) (i_of n) (j_of n) → rect_set r n ≡ true
+in_rect_to : {r : Rect} (n : ℕ) → IsInRect r (n / 4 ^ 30) (i_of n) (j_of n) → rect_set r n ≡ true
 unfolding rect_set
-in_rect_to r n w =
+in_rect_to {r} n w =
     and_from ((n / 4 ^ 30 == r.face) && (nat_le r.i0 (i_of n) && nat_le (i_of n) r.i1))
     (nat_le r.j0 (j_of n) && nat_le (j_of n) r.j1)
     (and_from (n / 4 ^ 30 == r.face) (nat_le r.i0 (i_of n) && nat_le (i_of n) r.i1) (eq-eqb (n / 4 ^ 30) r.face w.on)
@@ -40,7 +40,7 @@ in_rect_to r n w =
 pub in_rect : (r : Rect) (n f i j : ℕ) → IsPlaceOf n f i j → (rect_set r n ≡ true) ↔ IsInRect r f i j
 in_rect r n f i j p =
     let same = one_place n f i j (n / 4 ^ 30) (i_of n) (j_of n) p (place_is n) in
-    (λ h. rw (same.0, same.1, same.2) (in_rect_from r n h), λ w. in_rect_to r n (rw (same.0, same.1, same.2) at w))
+    (λ h. rw (same.0, same.1, same.2) (in_rect_from r n h), λ w. in_rect_to n (rw (same.0, same.1, same.2) at w))
 
 -- ---- one side
 
@@ -78,12 +78,12 @@ shared lo hi at size h s n =
 
 -- ---- both sides
 
-pub side_pos : (c f i j s : ℕ) → IsSquareOf c f i j s → 0 < s
-side_pos c f i j s q = let p = pow_pos (30 - level_of c) in let e = q.size_is in omega arith
+pub side_pos : {c f i j s : ℕ} → IsSquareOf c f i j s → 0 < s
+side_pos {c} q = let p = pow_pos (30 - level_of c) in let e = q.size_is in omega arith
 
-pub out_from : (r : Rect) (c f i j s : ℕ) → IsSquareOf c f i j s → (f ≡ r.face → ⊥)
+pub out_from : (r : Rect) {c f i j s : ℕ} → IsSquareOf c f i j s → (f ≡ r.face → ⊥)
     ⊎ (Apart r.i0 r.i1 i s ⊎ Apart r.j0 r.j1 j s) → (x : ℕ) → covers c x ≡ true → rect_set r x ≡ false
-out_from r c f i j s q a x h =
+out_from r {f} {i} {j} {s} q a x h =
     false_from_ne_true (rect_set r x) (λ t.
     let there = q.leaves x h in
     let w = (in_rect r x f there.0 there.1 there.2).0 t in
@@ -97,21 +97,20 @@ out_from r c f i j s q a x h =
     (⊎_elim (⊎_elim (λ (l : r.i1 < i). absurd (omega arith)) (λ (l : i + s ≤ r.i0). absurd (omega arith)))
     (⊎_elim (λ (l : r.j1 < j). absurd (omega arith)) (λ (l : j + s ≤ r.j0). absurd (omega arith)))) a)
 
-pub out_to : (r : Rect) (c f i j s : ℕ) → IsRect r → IsSquareOf c f i j s → f ≡ r.face → (r.i1 < i → ⊥)
+pub out_to : {r : Rect} {c f i j s : ℕ} → IsRect r → IsSquareOf c f i j s → f ≡ r.face → (r.i1 < i → ⊥)
     × (i + s ≤ r.i0 → ⊥) → (r.j1 < j → ⊥) × (j + s ≤ r.j0 → ⊥)
     → ((x : ℕ) → covers c x ≡ true → rect_set r x ≡ false) → ⊥
-out_to r c f i j s ok q e a b h =
-    let p = side_pos c f i j s q in
+out_to {r} {c} {f} {i} {j} {s} ok q e a b h =
+    let p = side_pos q in
     let u = shared r.i0 r.i1 i s ok.i.0 p a in
     let v = shared r.j0 r.j1 j s ok.j.0 p b in
     let leaf = q.places u.at_place v.at_place (record { first = (u.after, u.before); second = (v.after, v.before) }) in
-    both_ways (rect_set r leaf.0) (h leaf.0 leaf.1)
-    ((in_rect r leaf.0 f u.at_place v.at_place leaf.2).1
+    both_ways (rect_set r leaf.0) (h leaf.0 leaf.1) ((in_rect r leaf.0 f u.at_place v.at_place leaf.2).1
     (record { on = e; along = (u.low, u.high); across = (v.low, v.high) }))
 
-pub in_from : (r : Rect) (c f i j s : ℕ) → IsSquareOf c f i j s → f ≡ r.face → Inside r.i0 r.i1 i s →
-    Inside r.j0 r.j1 j s → (x : ℕ) → covers c x ≡ true → rect_set r x ≡ true
-in_from r c f i j s q e a b x h =
+pub in_from : (r : Rect) {c f i j s : ℕ} → IsSquareOf c f i j s →
+    f ≡ r.face → Inside r.i0 r.i1 i s → Inside r.j0 r.j1 j s → (x : ℕ) → covers c x ≡ true → rect_set r x ≡ true
+in_from r {f} q e a b x h =
     let there = q.leaves x h in
     let u = there.3.first in
     let v = there.3.second in
@@ -126,10 +125,10 @@ pub record Within (r : Rect) (f i j s : ℕ) : Type 0 where
   pub along : Inside r.i0 r.i1 i s
   pub across : Inside r.j0 r.j1 j s
 
-pub in_to : (r : Rect) (c f i j s : ℕ) → IsSquareOf c f i j s →
-    ((x : ℕ) → covers c x ≡ true → rect_set r x ≡ true) → Within r f i j s
-in_to r c f i j s q h =
-    let p = side_pos c f i j s q in
+pub in_to : (r : Rect) {c f i j s : ℕ} →
+    IsSquareOf c f i j s → ((x : ℕ) → covers c x ≡ true → rect_set r x ≡ true) → Within r f i j s
+in_to r {c} {f} {i} {j} {s} q h =
+    let p = side_pos q in
     let low = q.places i j (record { first = (omega arith, omega arith); second = (omega arith, omega arith) }) in
     let high = q.places (i + (s - 1)) (j + (s - 1))
     (record { first = (omega arith, omega arith); second = (omega arith, omega arith) }) in

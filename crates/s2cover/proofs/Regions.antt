@@ -7,11 +7,10 @@ use Rattle.s2list.specs.Union.{has_leaf, IsWithin, ShareSome}
 use Rattle.s2list.proofs.Normal.{leaf_from, leaf_to}
 
 -- if the set doesn't hold the whole cell, the cells that share a leaf with it lie inside it
-pub run_inside : (u run : List ℕ) (c x : ℕ) → IsCell c →
+pub run_inside : (u run : List ℕ) {c : ℕ} (x : ℕ) → IsCell c →
     ((y : ℕ) → covers c y ≡ true → has_leaf run y ≡ has_leaf u y) → All (λ d. ShareSome (covers d) (covers c)) run →
-    All IsCell run
-    → (IsWithin (covers c) (has_leaf u) → ⊥) → has_leaf run x ≡ true → covers c x ≡ true
-run_inside u run c x i same sharing cells part h =
+    All IsCell run → (IsWithin (covers c) (has_leaf u) → ⊥) → has_leaf run x ≡ true → covers c x ≡ true
+run_inside u run {c} x i same sharing cells part h =
     let l = leaf_from run x h in
     let d = l.cell in
     let cd : IsCell d = All-contains IsCell run d cells l.member in
@@ -29,10 +28,9 @@ run_inside u run c x i same sharing cells part h =
 -- a cell that crosses the rectangle, and whose leaves in the union are not all outside it
 pub across : (u : List ℕ) (S : ℕ → Bool) (run : List ℕ) (c : ℕ) → IsCell c →
     ((y : ℕ) → covers c y ≡ true → has_leaf run y ≡ has_leaf u y) → All (λ d. ShareSome (covers d) (covers c)) run →
-    All IsCell run
-    → (IsWithin (covers c) (has_leaf u) → ⊥) → (((x : ℕ) → has_leaf run x ≡ true → S x ≡ false) → ⊥) →
+    All IsCell run → (IsWithin (covers c) (has_leaf u) → ⊥) → (((x : ℕ) → has_leaf run x ≡ true → S x ≡ false) → ⊥) →
     ((x : ℕ) → covers c x ≡ true → (has_leaf u x && S x) ≡ false) → ⊥
 across u S run c i same sharing cells part meets h =
     meets (λ x v.
-    let inside = run_inside u run c x i same sharing cells part v in
+    let inside = run_inside u run x i same sharing cells part v in
     sym (ap (λ b. b && S x) (sym (same x inside) ∙ v)) ∙ h x inside)

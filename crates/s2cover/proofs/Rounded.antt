@@ -27,18 +27,17 @@ pub leaf_in_block : (g x y : ℕ) → y / 4 ^ g ≡ x / 4 ^ g → (x / 4 ^ g * 4
 leaf_in_block g x y e = in_block y (x / 4 ^ g) (4 ^ g) e (four_pos g)
 
 -- the rectangle rounded outwards has the leaves of the blocks that share a leaf with it
-pub widened_set : (r t : Rect) (g : ℕ) → g ≤ 30 → IsRect r → t.face ≡ r.face →
-    Rounded r.i0 r.i1 t.i0 t.i1 (2 ^ g) → Rounded r.j0 r.j1 t.j0 t.j1 (2 ^ g) → (x : ℕ) →
-    rect_set t x ≡ blocks true (rect_set r) g x
-widened_set r t g h ok ef ri rj x =
+pub widened_set : {r : Rect} (t : Rect) (g : ℕ) → g ≤ 30 → IsRect r → t.face ≡ r.face → Rounded r.i0
+    r.i1 t.i0 t.i1 (2 ^ g) → Rounded r.j0 r.j1 t.j0 t.j1 (2 ^ g) → (x : ℕ) → rect_set t x ≡ blocks true (rect_set r) g x
+widened_set {r} t g h ok ef ri rj x =
     let s = 2 ^ g in
     let hs = pow_pos g in
     let lo = x / 4 ^ g * 4 ^ g in
     same_bool (rect_set t x) (touched (rect_set r) lo (4 ^ g))
     (λ a.
     let w = (in_rect t x (x / 4 ^ 30) (i_of x) (j_of x) (place_is x)).0 a in
-    let u = out_from r.i0 r.i1 t.i0 t.i1 s (i_of x) hs ok.i.0 ri w.along.0 w.along.1 in
-    let v = out_from r.j0 r.j1 t.j0 t.j1 s (j_of x) hs ok.j.0 rj w.across.0 w.across.1 in
+    let u = out_from (i_of x) hs ok.i.0 ri w.along.0 w.along.1 in
+    let v = out_from (j_of x) hs ok.j.0 rj w.across.0 w.across.1 in
     let oi = ok.i.1 in
     let oj = ok.j.1 in
     let ui = u.high in
@@ -55,8 +54,8 @@ widened_set r t g h ok ef ri rj x =
     let w = (in_rect r y.leaf (y.leaf / 4 ^ 30) (i_of y.leaf) (j_of y.leaf) (place_is y.leaf)).0 y.holds in
     (in_rect t x (x / 4 ^ 30) (i_of x) (j_of x) (place_is x)).1 (record {
       on = sym q.face ∙ w.on ∙ sym ef;
-      along = out_to r.i0 r.i1 t.i0 t.i1 s (i_of y.leaf) (i_of x) hs ri w.along.0 w.along.1 q.first;
-      across = out_to r.j0 r.j1 t.j0 t.j1 s (j_of y.leaf) (j_of x) hs rj w.across.0 w.across.1 q.second;
+      along = out_to (i_of y.leaf) (i_of x) hs ri w.along.0 w.along.1 q.first;
+      across = out_to (j_of y.leaf) (j_of x) hs rj w.across.0 w.across.1 q.second;
     }))
 
 -- the corners of the grid's square around a leaf are places of the face
@@ -74,9 +73,9 @@ pub record Inwards (r : Rect) (i0 i1 j0 j1 g x : ℕ) : Type 0 where
   pub along : (i0 ≤ i_of x) × (i_of x < i1)
   pub across : (j0 ≤ j_of x) × (j_of x < j1)
 
-pub inwards_from : (r : Rect) (i0 i1 j0 j1 g x : ℕ) → g ≤ 30 → Narrowed r.i0 r.i1 i0 i1 (2 ^ g) →
+pub inwards_from : (r : Rect) {i0 i1 j0 j1 : ℕ} (g x : ℕ) → g ≤ 30 → Narrowed r.i0 r.i1 i0 i1 (2 ^ g) →
     Narrowed r.j0 r.j1 j0 j1 (2 ^ g) → blocks false (rect_set r) g x ≡ true → Inwards r i0 i1 j0 j1 g x
-inwards_from r i0 i1 j0 j1 g x h ri rj a =
+inwards_from r {i0} {i1} {j0} {j1} g x h ri rj a =
     let s = 2 ^ g in
     let hs = pow_pos g in
     let lo = x / 4 ^ g * 4 ^ g in
@@ -98,13 +97,13 @@ inwards_from r i0 i1 j0 j1 g x h ri rj a =
     (filled_each (rect_set r) lo (4 ^ g) a high.leaf bh.0 bh.1) in
     record {
       on = wl.on;
-      along = in_to r.i0 r.i1 i0 i1 s (i_of x) hs ri wl.along.0 wh.along.1;
-      across = in_to r.j0 r.j1 j0 j1 s (j_of x) hs rj wl.across.0 wh.across.1;
+      along = in_to (i_of x) hs ri wl.along.0 wh.along.1;
+      across = in_to (j_of x) hs rj wl.across.0 wh.across.1;
     }
 
-pub inwards_to : (r : Rect) (i0 i1 j0 j1 g x : ℕ) → g ≤ 30 → Narrowed r.i0 r.i1 i0 i1 (2 ^ g) →
+pub inwards_to : {r : Rect} {i0 i1 j0 j1 g x : ℕ} → g ≤ 30 → Narrowed r.i0 r.i1 i0 i1 (2 ^ g) →
     Narrowed r.j0 r.j1 j0 j1 (2 ^ g) → Inwards r i0 i1 j0 j1 g x → blocks false (rect_set r) g x ≡ true
-inwards_to r i0 i1 j0 j1 g x h ri rj w =
+inwards_to {r} {i0} {i1} {j0} {j1} {g} {x} h ri rj w =
     let s = 2 ^ g in
     let hs = pow_pos g in
     let lo = x / 4 ^ g * 4 ^ g in
@@ -112,8 +111,8 @@ inwards_to r i0 i1 j0 j1 g x h ri rj w =
     let q = same_square g x y h (block_leaves g x y a b) in
     (in_rect r y (y / 4 ^ 30) (i_of y) (j_of y) (place_is y)).1 (record {
       on = q.face ∙ w.on;
-      along = in_from r.i0 r.i1 i0 i1 s (i_of y) (i_of x) hs ri w.along.0 w.along.1 q.first;
-      across = in_from r.j0 r.j1 j0 j1 s (j_of y) (j_of x) hs rj w.across.0 w.across.1 q.second;
+      along = in_from (i_of y) (i_of x) hs ri w.along.0 w.along.1 q.first;
+      across = in_from (j_of y) (j_of x) hs rj w.across.0 w.across.1 q.second;
     }))
 
 -- the rectangle rounded inwards has the leaves of the blocks that lie inside it
@@ -127,10 +126,9 @@ narrowed_set r t g h ef ri rj x =
     let j = w.across in
     let ih = i.1 in
     let jh = j.1 in
-    inwards_to r t.i0 (t.i1 + 1) t.j0 (t.j1 + 1) g x h ri rj
-    (record { on = w.on ∙ ef; along = (i.0, omega arith); across = (j.0, omega arith) }))
+    inwards_to h ri rj (record { on = w.on ∙ ef; along = (i.0, omega arith); across = (j.0, omega arith) }))
     (λ a.
-    let w = inwards_from r t.i0 (t.i1 + 1) t.j0 (t.j1 + 1) g x h ri rj a in
+    let w = inwards_from r g x h ri rj a in
     let i = w.along in
     let j = w.across in
     let ih = i.1 in
@@ -139,11 +137,11 @@ narrowed_set r t g h ef ri rj x =
     (record { on = w.on ∙ sym ef; along = (i.0, omega arith); across = (j.0, omega arith) }))
 
 -- if nothing is left of a side, no block lies inside
-pub narrowed_none : (r : Rect) (i0 i1 j0 j1 g : ℕ) → g ≤ 30 → Narrowed r.i0 r.i1 i0 i1 (2 ^ g) →
+pub narrowed_none : (r : Rect) {i0 i1 j0 j1 : ℕ} (g : ℕ) → g ≤ 30 → Narrowed r.i0 r.i1 i0 i1 (2 ^ g) →
     Narrowed r.j0 r.j1 j0 j1 (2 ^ g) → (i1 ≤ i0) ⊎ (j1 ≤ j0) → (x : ℕ) → blocks false (rect_set r) g x ≡ false
-narrowed_none r i0 i1 j0 j1 g h ri rj e x =
+narrowed_none r {i0} {i1} {j0} {j1} g h ri rj e x =
     false_from_ne_true (blocks false (rect_set r) g x) (λ a.
-    let w = inwards_from r i0 i1 j0 j1 g x h ri rj a in
+    let w = inwards_from r g x h ri rj a in
     let il = w.along.0 in
     let ih = w.along.1 in
     let jl = w.across.0 in
@@ -168,46 +166,43 @@ same_on_leaves : (t : Rect) (S : ℕ → Bool) (x : ℕ) → t.face ≤ 5 → re
     rect_set t x ≡ (nat_lt x LEAVES && S x)
 same_on_leaves t S x h e = e ∙ bounded (nat_lt x LEAVES) (S x) (λ s. in_limit t x h (e ∙ s))
 
-pub widened_outer : (r t : Rect) (k : ℕ) → IsRect r → t.face ≡ r.face →
-    Rounded r.i0 r.i1 t.i0 t.i1 (2 ^ (30 - k)) → Rounded r.j0 r.j1 t.j0 t.j1 (2 ^ (30 - k)) → (x : ℕ) →
-    rect_set t x ≡ outer_set (rect_set r) k x
+pub widened_outer : {r : Rect} (t : Rect) (k : ℕ) → IsRect r → t.face ≡ r.face → Rounded r.i0 r.i1 t.i0 t.i1
+    (2 ^ (30 - k)) → Rounded r.j0 r.j1 t.j0 t.j1 (2 ^ (30 - k)) → (x : ℕ) → rect_set t x ≡ outer_set (rect_set r) k x
 unfolding outer_set
-widened_outer r t k ok ef ri rj x =
+widened_outer {r} t k ok ef ri rj x =
     let f = ok.face in
     same_on_leaves t (blocks true (rect_set r) (30 - k)) x (omega arith)
-    (widened_set r t (30 - k) (omega arith) ok ef ri rj x)
+    (widened_set t (30 - k) (omega arith) ok ef ri rj x)
 
-pub narrowed_inner : (r t : Rect) (k : ℕ) → r.face ≤ 5 → t.face ≡ r.face →
-    Narrowed r.i0 r.i1 t.i0 (t.i1 + 1) (2 ^ (30 - k)) → Narrowed r.j0 r.j1 t.j0 (t.j1 + 1) (2 ^ (30 - k)) → (x : ℕ) →
-    rect_set t x ≡ inner_set (rect_set r) k x
+pub narrowed_inner : (r t : Rect) (k : ℕ) → r.face ≤ 5 → t.face ≡ r.face → Narrowed r.i0 r.i1 t.i0 (t.i1 + 1) (2 ^
+    (30 - k)) → Narrowed r.j0 r.j1 t.j0 (t.j1 + 1) (2 ^ (30 - k)) → (x : ℕ) → rect_set t x ≡ inner_set (rect_set r) k x
 unfolding inner_set
 narrowed_inner r t k f ef ri rj x =
     same_on_leaves t (blocks false (rect_set r) (30 - k)) x (omega arith)
     (narrowed_set r t (30 - k) (omega arith) ef ri rj x)
 
-pub narrowed_empty : (r : Rect) (i0 i1 j0 j1 k : ℕ) → Narrowed r.i0 r.i1 i0 i1 (2 ^ (30 - k)) →
+pub narrowed_empty : (r : Rect) {i0 i1 j0 j1 : ℕ} (k : ℕ) → Narrowed r.i0 r.i1 i0 i1 (2 ^ (30 - k)) →
     Narrowed r.j0 r.j1 j0 j1 (2 ^ (30 - k)) → (i1 ≤ i0) ⊎ (j1 ≤ j0) → (x : ℕ) → inner_set (rect_set r) k x ≡ false
 unfolding inner_set
-narrowed_empty r i0 i1 j0 j1 k ri rj e x = and_right (nat_lt x LEAVES) (blocks false (rect_set r) (30 - k) x)
-    (narrowed_none r i0 i1 j0 j1 (30 - k) (omega arith) ri rj e x)
+narrowed_empty r {i0} {i1} {j0} {j1} k ri rj e x = and_right
+    (nat_lt x LEAVES) (blocks false (rect_set r) (30 - k) x) (narrowed_none r (30 - k) (omega arith) ri rj e x)
 
 aligned_by : (S T : ℕ → Bool) (g : ℕ) → ((x : ℕ) → S x ≡ T x) → IsAligned T g → IsAligned S g
 aligned_by S T g e al x y h = e x ∙ al x y h ∙ sym (e y)
 
-pub widened_aligned : (r t : Rect) (k : ℕ) → IsRect r → t.face ≡ r.face →
-    Rounded r.i0 r.i1 t.i0 t.i1 (2 ^ (30 - k)) → Rounded r.j0 r.j1 t.j0 t.j1 (2 ^ (30 - k)) →
-    IsAligned (rect_set t) (30 - k)
-widened_aligned r t k ok ef ri rj = aligned_by (rect_set t) (blocks true (rect_set r) (30 - k)) (30 - k)
-    (widened_set r t (30 - k) (omega arith) ok ef ri rj) (blocks_aligned true (rect_set r) (30 - k))
+pub widened_aligned : {r : Rect} (t : Rect) (k : ℕ) → IsRect r → t.face ≡ r.face → Rounded
+    r.i0 r.i1 t.i0 t.i1 (2 ^ (30 - k)) → Rounded r.j0 r.j1 t.j0 t.j1 (2 ^ (30 - k)) → IsAligned (rect_set t) (30 - k)
+widened_aligned {r} t k ok ef ri rj = aligned_by (rect_set t) (blocks true (rect_set r) (30 - k)) (30 - k)
+    (widened_set t (30 - k) (omega arith) ok ef ri rj) (blocks_aligned true (rect_set r) (30 - k))
 
 pub narrowed_aligned : (r t : Rect) (k : ℕ) → t.face ≡ r.face → Narrowed r.i0 r.i1 t.i0 (t.i1 + 1) (2 ^ (30 - k)) →
     Narrowed r.j0 r.j1 t.j0 (t.j1 + 1) (2 ^ (30 - k)) → IsAligned (rect_set t) (30 - k)
 narrowed_aligned r t k ef ri rj = aligned_by (rect_set t) (blocks false (rect_set r) (30 - k)) (30 - k)
     (narrowed_set r t (30 - k) (omega arith) ef ri rj) (blocks_aligned false (rect_set r) (30 - k))
 
-side_rounded : (lo hi lo2 hi2 g : ℕ) → g ≤ 30 → lo ≤ hi → hi < 2 ^ 30 → Rounded lo hi lo2 hi2 (2 ^ g) → (lo2 ≤ hi2)
-    × (hi2 < 2 ^ 30)
-side_rounded lo hi lo2 hi2 g h a b r =
+side_rounded : {lo hi lo2 hi2 : ℕ} (g : ℕ) →
+    g ≤ 30 → lo ≤ hi → hi < 2 ^ 30 → Rounded lo hi lo2 hi2 (2 ^ g) → (lo2 ≤ hi2) × (hi2 < 2 ^ 30)
+side_rounded {lo} {hi} g h a b r =
     let s = 2 ^ g in
     let hs = pow_pos g in
     let elo = div-add-mod' lo s in
@@ -218,12 +213,12 @@ side_rounded lo hi lo2 hi2 g h a b r =
     let u = r.high in
     (omega arith, omega arith)
 
-pub widened_rect : (r t : Rect) (k : ℕ) → IsRect r → t.face ≡ r.face → Rounded r.i0 r.i1 t.i0 t.i1 (2 ^ (30 - k)) →
-    Rounded r.j0 r.j1 t.j0 t.j1 (2 ^ (30 - k)) → IsRect t
-widened_rect r t k ok ef ri rj =
+pub widened_rect : {r : Rect} (t : Rect) (k : ℕ) → IsRect r →
+    t.face ≡ r.face → Rounded r.i0 r.i1 t.i0 t.i1 (2 ^ (30 - k)) → Rounded r.j0 r.j1 t.j0 t.j1 (2 ^ (30 - k)) → IsRect t
+widened_rect {r} t k ok ef ri rj =
     let f = ok.face in
     record {
       face = omega arith;
-      i = side_rounded r.i0 r.i1 t.i0 t.i1 (30 - k) (omega arith) ok.i.0 ok.i.1 ri;
-      j = side_rounded r.j0 r.j1 t.j0 t.j1 (30 - k) (omega arith) ok.j.0 ok.j.1 rj;
+      i = side_rounded (30 - k) (omega arith) ok.i.0 ok.i.1 ri;
+      j = side_rounded (30 - k) (omega arith) ok.j.0 ok.j.1 rj;
     }

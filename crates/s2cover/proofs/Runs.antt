@@ -91,9 +91,8 @@ block_in x m g d hg a b =
     record { after = omega arith; before = omega arith }
 
 -- a region that holds a whole cell, or none of it
-pub cover_all : (whole : Bool) (R : ℕ → Bool) (g d m : ℕ) → g ≤ d →
-    ((x : ℕ) → m * 4 ^ d ≤ x → x < m * 4 ^ d + 4 ^ d → R x ≡ true) → (x : ℕ) → m * 4 ^ d ≤ x →
-    x < m * 4 ^ d + 4 ^ d → blocks whole R g x ≡ true
+pub cover_all : (whole : Bool) (R : ℕ → Bool) (g d m : ℕ) → g ≤ d → ((x : ℕ) → m * 4 ^ d ≤ x →
+    x < m * 4 ^ d + 4 ^ d → R x ≡ true) → (x : ℕ) → m * 4 ^ d ≤ x → x < m * 4 ^ d + 4 ^ d → blocks whole R g x ≡ true
 cover_all true R g d m hg h x a b =
     let w = block_in x m g d hg a b in
     is_touched R (x / 4 ^ g * 4 ^ g) (4 ^ g) (four_pos g) (λ y c e. let u = w.after in let v = w.before in
@@ -103,9 +102,8 @@ cover_all false R g d m hg h x a b =
     filled_from R (x / 4 ^ g * 4 ^ g) (4 ^ g) (λ y c e. let u = w.after in let v = w.before in
     h y (omega arith) (omega arith))
 
-pub cover_none : (whole : Bool) (R : ℕ → Bool) (g d m : ℕ) → g ≤ d →
-    ((x : ℕ) → m * 4 ^ d ≤ x → x < m * 4 ^ d + 4 ^ d → R x ≡ false) → (x : ℕ) → m * 4 ^ d ≤ x →
-    x < m * 4 ^ d + 4 ^ d → blocks whole R g x ≡ false
+pub cover_none : (whole : Bool) (R : ℕ → Bool) (g d m : ℕ) → g ≤ d → ((x : ℕ) → m * 4 ^ d ≤ x →
+    x < m * 4 ^ d + 4 ^ d → R x ≡ false) → (x : ℕ) → m * 4 ^ d ≤ x → x < m * 4 ^ d + 4 ^ d → blocks whole R g x ≡ false
 cover_none true R g d m hg h x a b =
     let w = block_in x m g d hg a b in
     touched_from_none R (x / 4 ^ g * 4 ^ g) (4 ^ g) (λ y c e. let u = w.after in let v = w.before in

@@ -1,18 +1,21 @@
 -- How many looks a search takes.
 use Rattle.std.proofs.Common.{◌≡◌, ℕ, suc, zero, ◌+◌, ◌-◌, ◌*◌, ◌/◌, ◌^◌, ◌<◌, ◌≤◌, Bool, true}
 use Rattle.std.proofs.Common.{false, List, [], ◌∷◌, ◌++◌, length, sym, ◌∙◌, ap, arith, subst, ⊎_elim, length-append}
+use Rattle.std.proofs.Common.{◌↔◌}
 use Rattle.std.proofs.Common.{append-nil, Result, IfOk, IfErr}
 use Rattle.std.proofs.lemmas.Result.{IfOk-weaker, IfErr-weaker}
 use Rattle.std.proofs.lemmas.Bool.{cases_lt, cases_Bool, both_ways, cond-true, cond-false, false_from_ne_true}
 use Rattle.std.proofs.lemmas.Nat.{div-add-mod', mod_below}
 use Rattle.std.proofs.Math.Nat.{pow-suc, mul-le-mul_right}
 use Rattle.s2cell.proofs.CellLemmas.{four_pos}
-use Rattle.s2cover.specs.Coverings.{filled}
+use Rattle.s2list.specs.Union.{LiesIn}
+use Rattle.s2cover.specs.Coverings.{filled, LiesOutside}
+use Rattle.s2cover.specs.declared.region.Part.TheVariants.{Out, In, Cross}
 use Rattle.s2cover.specs.Working.Descent.{form, joined, cell_at, depth_of, IsAligned}
 use Rattle.s2cover.proofs.Runs.{filled_each, filled_from, block_here}
-use Rattle.s2cover.proofs.Visits.{list_next, leaf_at, child_at}
+use Rattle.s2cover.proofs.Visits.{list_next, leaf_at, child_at, covers_at, id_of, whole_from}
 use Rattle.s2cell.specs.Cell.{IsCell, place_of, covers, child_of}
-use Rattle.s2cover.proofs.Forms.{form_children, joined_more, joined_grows}
+use Rattle.s2cover.proofs.Forms.{form_children, form_none_at, joined_more, joined_grows}
 
 -- a list of a part is no longer than all
 joined_part : (f : ℕ → List ℕ) (n p : ℕ) → p < n → length (f p) ≤ length (joined f n)
@@ -58,10 +61,9 @@ form_zero S g zero m al h x a b =
     ⊎_elim
     (λ (t : filled S (m * 4 ^ g) (4 ^ g) ≡ true).
     let k = ap length (cond-true (filled S (m * 4 ^ g) (4 ^ g)) (cell_at g m ∷ []) [] t) in absurd (omega arith))
-    (λ (f : filled S (m * 4 ^ g) (4 ^ g) ≡ false). false_from_ne_true (S x) (λ t.
-    both_ways (filled S (m * 4 ^ g) (4 ^ g)) f
-    (filled_from S (m * 4 ^ g) (4 ^ g) (λ y c d. al y x (block_here y m g c d ∙ sym (block_here x m g a1 b1))
-    ∙ t))))
+    (λ (f : filled S (m * 4 ^ g) (4 ^ g) ≡ false). false_from_ne_true
+    (S x) (λ t. both_ways (filled S (m * 4 ^ g) (4 ^ g))
+    f (filled_from S (m * 4 ^ g) (4 ^ g) (λ y c d. al y x (block_here y m g c d ∙ sym (block_here x m g a1 b1)) ∙ t))))
     (cases_Bool (filled S (m * 4 ^ g) (4 ^ g)))
 form_zero S g (suc e) m al h x a b =
     let e1 : g + suc e ≡ suc (g + e) = omega arith in
@@ -97,20 +99,20 @@ pub record Counted (before looks n cells t : ℕ) : Type 0 where
   pub upper : looks ≤ before + 1 + n + 4 * t * cells
   pub lower : before + cells ≤ looks
 
-pub counted_next : (before looks next n cells more t : ℕ) → Counted before looks n cells t →
+pub counted_next : {before looks : ℕ} (next : ℕ) {n cells : ℕ} (more : ℕ) {t : ℕ} → Counted before looks n cells t →
     next ≤ looks + 1 + 4 * t * more → looks + more ≤ next → Counted before next (n + 1) (cells + more) t
-counted_next before looks next n cells more t c up low = let a = c.upper in let b = c.lower in
+counted_next next more c up low = let a = c.upper in let b = c.lower in
     record { upper = omega arith; lower = omega arith }
 
 -- a cell above the grain that isn't outside: `1 + 4 * (t + 1) * cells`
-pub counted_all : (before looks cells t : ℕ) → 0 < cells → Counted before looks 4 cells t →
-    looks ≤ before + 1 + 4 * (t + 1) * cells
-counted_all before looks cells t h c = let a = c.upper in omega arith
+pub counted_all : {before looks cells t : ℕ} →
+    0 < cells → Counted before looks 4 cells t → looks ≤ before + 1 + 4 * (t + 1) * cells
+counted_all h c = let a = c.upper in omega arith
 
 -- the same if the search stopped in the child after `n` others, with room for `free` more cells
-pub counted_stop : (before looks next n cells t free : ℕ) → n < 4 → cells ≤ free → Counted before looks n cells t →
-    next ≤ looks + 1 + 4 * t * (free + 1 - cells) → next ≤ before + 1 + 4 * (t + 1) * (free + 1)
-counted_stop before looks next n cells t free hn hc c up =
+pub counted_stop : {before looks : ℕ} (next : ℕ) {n cells t : ℕ} (free : ℕ) → n < 4 → cells ≤ free → Counted before
+    looks n cells t → next ≤ looks + 1 + 4 * t * (free + 1 - cells) → next ≤ before + 1 + 4 * (t + 1) * (free + 1)
+counted_stop next {cells} {t} free hn hc c up =
     let a = c.upper in
     let e : cells + (free + 1 - cells) ≡ free + 1 = omega arith in
     let p : 4 * t * (cells + (free + 1 - cells)) ≡ 4 * t * (free + 1) = ap (λ z. 4 * t * z) e in
@@ -123,9 +125,8 @@ pub record Sought (S : ℕ → Bool) (g d m n : ℕ) (old now : List ℕ) (now_l
   pub count : Counted before looks n (length (joined (λ p. form S g (d - 1 - g) (4 * m + p)) n)) (d - 1 - g)
 
 -- a cell that crosses an aligned set lies above the grain
-cross_above : (S : ℕ → Bool) (g c : ℕ) → IsAligned S g → g ≤ depth_of c →
-    (((x : ℕ) → covers c x ≡ true → S x ≡ false) → ⊥) → (((x : ℕ) → covers c x ≡ true → S x ≡ true) → ⊥) →
-    g < depth_of c
+cross_above : (S : ℕ → Bool) (g c : ℕ) → IsAligned S g → g ≤ depth_of c → (((x : ℕ) → covers c x ≡ true → S x ≡ false) →
+    ⊥) → (((x : ℕ) → covers c x ≡ true → S x ≡ true) → ⊥) → g < depth_of c
 cross_above S g c al hg none all =
     let d = depth_of c in
     let m = place_of c in
@@ -145,8 +146,7 @@ cross_above S g c al hg none all =
 not_whole : (S : ℕ → Bool) (c : ℕ) → (((x : ℕ) → covers c x ≡ true → S x ≡ true) → ⊥) →
     filled S (place_of c * 4 ^ depth_of c) (4 ^ depth_of c) ≡ false
 not_whole S c h = false_from_ne_true (filled S (place_of c * 4 ^ depth_of c) (4 ^ depth_of c))
-    (λ f. h (λ x k. let l = leaf_at c x k in filled_each S (place_of c * 4 ^ depth_of c) (4 ^ depth_of c) f x l.0
-    l.1))
+    (λ f. h (λ x k. let l = leaf_at c x k in filled_each S (place_of c * 4 ^ depth_of c) (4 ^ depth_of c) f x l.0 l.1))
 
 some_cells : (S : ℕ → Bool) (g c : ℕ) → IsAligned S g → g ≤ depth_of c →
     (((x : ℕ) → covers c x ≡ true → S x ≡ false) → ⊥) → 0 < length (form S g (depth_of c - g) (place_of c))
@@ -159,14 +159,21 @@ pub record Crossed (S : ℕ → Bool) (g c : ℕ) : Type 0 where
   pub part : filled S (place_of c * 4 ^ depth_of c) (4 ^ depth_of c) ≡ false
   pub some : 0 < length (form S g (depth_of c - g) (place_of c))
 
-pub crossed : (S : ℕ → Bool) (g c : ℕ) → IsAligned S g → g ≤ depth_of c →
-    (((x : ℕ) → covers c x ≡ true → S x ≡ false) → ⊥) → (((x : ℕ) → covers c x ≡ true → S x ≡ true) → ⊥) →
-    Crossed S g c
-crossed S g c al hg none all = record {
-  above = cross_above S g c al hg none all;
-  part = not_whole S c all;
-  some = some_cells S g c al hg none;
-}
+pub crossed : (S : ℕ → Bool) (g c : ℕ) → IsAligned S g → g ≤ depth_of c → (Cross ≡ Out) ↔ LiesOutside S c →
+    (Cross ≡ In) ↔ LiesIn S c → Crossed S g c
+crossed S g c al hg out inside =
+    let none : LiesOutside S c → ⊥ = λ h. let e = out.1 h in cc in
+    let all : LiesIn S c → ⊥ = λ h. let e = inside.1 h in cc in
+    record { above = cross_above S g c al hg none all; part = not_whole S c all; some = some_cells S g c al hg none }
+
+-- the greatest cells in a cell outside the set, and in one inside it
+pub none_in : (S : ℕ → Bool) (g c : ℕ) → g ≤ depth_of c → LiesOutside S c → form S g (depth_of c - g) (place_of c) ≡ []
+none_in S g c hg h = form_none_at S g (depth_of c) (place_of c) hg (λ x a b. h x (covers_at c x a b))
+
+pub one_in : (S : ℕ → Bool) (g c : ℕ) → g ≤ depth_of c → IsCell c → LiesIn S c →
+    form S g (depth_of c - g) (place_of c) ≡ c ∷ []
+one_in S g c hg i h = (whole_from S g (depth_of c) (place_of c) hg (λ x a b. h x (covers_at c x a b))).cells
+    ∙ ap (λ z. z ∷ []) (id_of i)
 
 pub sought_none : (S : ℕ → Bool) (g d m : ℕ) (old : List ℕ) (len before looks max : ℕ) → len ≤ max →
     looks ≡ before + 1 → Sought S g d m 0 old old len before looks max
@@ -174,20 +181,17 @@ unfolding joined
 sought_none S g d m old len before looks max h e =
     record { list = sym (append-nil old); room = h; count = record { upper = omega arith; lower = omega arith } }
 
-pub sought_next : (S : ℕ → Bool) (g d m n : ℕ) (old now new : List ℕ)
-    (now_len new_len before looks next max k p : ℕ) → k + 1 ≡ d → p ≡ 4 * m + n →
-    Sought S g d m n old now now_len before looks max
-    → new ≡ now ++ form S g (k - g) p → new_len ≤ max →
-    next ≤ looks + 1 + 4 * (k - g) * length (form S g (k - g) p) → looks + length (form S g (k - g) p) ≤ next →
-    Sought S g d m (n + 1) old new new_len before next max
-sought_next S g d m n old now new now_len new_len before looks next max k p hk hp s e room up low =
+pub sought_next : {S : ℕ → Bool} {g d m n : ℕ} {old now : List ℕ} (new : List ℕ) {now_len : ℕ} (new_len : ℕ)
+    {before looks : ℕ} (next : ℕ) {max : ℕ} (k p : ℕ) → k + 1 ≡ d → p ≡ 4 * m + n → Sought S g d m n old now now_len
+    before looks max → new ≡ now ++ form S g (k - g) p → new_len ≤ max → next ≤ looks + 1 + 4 * (k - g) * length (form
+    S g (k - g) p) → looks + length (form S g (k - g) p) ≤ next → Sought S g d m (n + 1) old new new_len before next max
+sought_next {S} {g} {d} {m} {n} {old} {now} new new_len {before} {looks} next k p hk hp s e room up low =
     let ek : k ≡ d - 1 = omega arith in
     let f = λ (z : ℕ). form S g (d - 1 - g) (4 * m + z) in
     let len : length (joined f (n + 1)) ≡ length (joined f n) + length (f n) = ap length (joined_more f n)
     ∙ length-append (joined f n) (f n) in
     let list = list_next S g d m n old now new s.list (rw (ek, hp) at e) in
-    let c = counted_next before looks next n (length (joined f n)) (length (f n)) (d - 1 - g) s.count
-    (rw (ek, hp) at up) (rw (ek, hp) at low) in
+    let c = counted_next next (length (f n)) s.count (rw (ek, hp) at up) (rw (ek, hp) at low) in
     record { list = list; room = room; count = rw len c }
 
 pub record Found (S : ℕ → Bool) (g d m : ℕ) (old now : List ℕ) (before looks : ℕ) : Type 0 where
@@ -195,18 +199,20 @@ pub record Found (S : ℕ → Bool) (g d m : ℕ) (old now : List ℕ) (before l
   pub most : looks ≤ before + 1 + 4 * (d - g) * length (form S g (d - g) m)
   pub least : before + length (form S g (d - g) m) ≤ looks
 
-pub sought_all : (S : ℕ → Bool) (g d m n : ℕ) (old now : List ℕ) (now_len before looks max : ℕ) → n ≡ 4 → g < d →
-    filled S (m * 4 ^ d) (4 ^ d) ≡ false → 0 < length (form S g (d - g) m) →
-    Sought S g d m n old now now_len before looks max → Found S g d m old now before looks
-sought_all S g d m n old now now_len before looks max hn hg lacks some s =
-    let kids = form_children S g d m hg lacks in
+pub sought_all : {S : ℕ → Bool} {g c n : ℕ} {old now : List ℕ} {now_len before looks max : ℕ} → n ≡ 4 → Crossed S g c →
+    Sought S g (depth_of c) (place_of c) n old now now_len before looks max →
+    Found S g (depth_of c) (place_of c) old now before looks
+sought_all {S} {g} {c = cell} {old} {before} {looks} hn cross s =
+    let d = depth_of cell in
+    let above = cross.above in
+    let kids = form_children S g d (place_of cell) above cross.part in
     let s4 = rw hn at s in
     let t = d - 1 - g in
     let et : d - g ≡ t + 1 = omega arith in
     let c = s4.count in
     let len = ap length kids in
-    let some4 = rw kids at some in
-    let up = counted_all before looks (length (joined (λ z. form S g (d - 1 - g) (4 * m + z)) 4)) t some4 c in
+    let some4 = rw kids at cross.some in
+    let up = counted_all some4 c in
     let low = c.lower in
     record {
       list = s4.list ∙ ap (λ z. old ++ z) (sym kids);
@@ -215,11 +221,11 @@ sought_all S g d m n old now now_len before looks max hn hg lacks some s =
     }
 
 -- where a child's visit stopped, or is about to begin
-pub sought_stop : (S : ℕ → Bool) (g d m n : ℕ) (old now : List ℕ) (old_len now_len before looks next max k : ℕ) →
-    n < 4 → g < d → k + 1 ≡ d → old_len ≡ length old → now_len ≡ length now →
-    Sought S g d m n old now now_len before looks max
-    → next ≤ looks + 1 + 4 * (k - g) * (max - now_len + 1) → next ≤ before + 1 + 4 * (d - g) * (max - old_len + 1)
-sought_stop S g d m n old now old_len now_len before looks next max k hn hg hk eo en s up =
+pub sought_stop : {S : ℕ → Bool} {g d m n : ℕ}
+    {old now : List ℕ} (old_len : ℕ) {now_len before looks : ℕ} (next : ℕ) {max : ℕ} (k : ℕ) → n < 4 → g < d →
+    k + 1 ≡ d → old_len ≡ length old → now_len ≡ length now → Sought S g d m n old now now_len before looks max →
+    next ≤ looks + 1 + 4 * (k - g) * (max - now_len + 1) → next ≤ before + 1 + 4 * (d - g) * (max - old_len + 1)
+sought_stop {S} {g} {d} {m} {n} {old} {now} old_len {now_len} {before} {looks} next {max} k hn hg hk eo en s up =
     let f = λ (z : ℕ). form S g (d - 1 - g) (4 * m + z) in
     let len : length now ≡ length old + length (joined f n) = ap length s.list ∙ length-append old (joined f n) in
     let room = s.room in
@@ -229,13 +235,13 @@ sought_stop S g d m n old now old_len now_len before looks next max k hn hg hk e
     let ek : k - g ≡ t = omega arith in
     let et : d - g ≡ t + 1 = omega arith in
     let er : max - now_len + 1 ≡ free + 1 - cells = omega arith in
-    rw et (counted_stop before looks next n cells t free hn (omega arith) s.count (rw (ek, er) at up))
+    rw et (counted_stop next free hn (omega arith) s.count (rw (ek, er) at up))
 
-pub sought_many : (S : ℕ → Bool) (g d m n : ℕ) (old now : List ℕ) (old_len now_len before looks max k p : ℕ) →
-    n < 4 → g < d → k + 1 ≡ d → p ≡ 4 * m + n → old_len ≡ length old → now_len ≡ length now →
-    filled S (m * 4 ^ d) (4 ^ d) ≡ false → Sought S g d m n old now now_len before looks max
-    → max < now_len + length (form S g (k - g) p) → max < old_len + length (form S g (d - g) m)
-sought_many S g d m n old now old_len now_len before looks max k p hn hg hk hp eo en lacks s h =
+pub sought_many : {S : ℕ → Bool} {g d m n : ℕ} {old now : List ℕ} (old_len : ℕ)
+    {now_len before looks max : ℕ} (k p : ℕ) → n < 4 → g < d → k + 1 ≡ d → p ≡ 4 * m + n → old_len ≡ length old →
+    now_len ≡ length now → filled S (m * 4 ^ d) (4 ^ d) ≡ false → Sought S g d m n old now now_len before looks max →
+    max < now_len + length (form S g (k - g) p) → max < old_len + length (form S g (d - g) m)
+sought_many {S} {g} {d} {m} {n} {old} {now} old_len k p hn hg hk hp eo en lacks s h =
     let f = λ (z : ℕ). form S g (d - 1 - g) (4 * m + z) in
     let len : length now ≡ length old + length (joined f n) = ap length s.list ∙ length-append old (joined f n) in
     let more : length (joined f (n + 1)) ≡ length (joined f n) + length (f n) = ap length (joined_more f n)
@@ -266,10 +272,10 @@ pub record Kid (c k p : ℕ) : Type 0 where
   pub depth : depth_of k + 1 ≡ depth_of c
   pub place : place_of k ≡ 4 * place_of c + p
 
-pub kid : (S : ℕ → Bool) (g c k p : ℕ) → IsCell c → Crossed S g c → p < 4 → k ≡ child_of c p → Kid c k p
-kid S g c k p i w hp e =
+pub kid : {S : ℕ → Bool} {g c : ℕ} (k p : ℕ) → IsCell c → Crossed S g c → p < 4 → k ≡ child_of c p → Kid c k p
+kid {c} k p i w hp e =
     let above = w.above in
-    let at = child_at c p i (omega arith) hp in
+    let at = child_at p i (omega arith) hp in
     record { depth = rw e at.depth; place = rw e at.place }
 
 -- ---- a search in each cell of a list
@@ -279,10 +285,21 @@ pub record Added (before looks n cells t : ℕ) : Type 0 where
   pub upper : looks ≤ before + n + 4 * t * cells
   pub lower : before + cells ≤ looks
 
-pub added_next : (before looks next n cells more s t : ℕ) → s ≤ t → Added before looks n cells t →
-    next ≤ looks + 1 + 4 * s * more → looks + more ≤ next → Added before next (n + 1) (cells + more) t
-added_next before looks next n cells more s t h c up low =
+pub added_next : {before looks : ℕ} (next : ℕ) {n cells : ℕ} (more s : ℕ) {t : ℕ} → s ≤ t → Added before
+    looks n cells t → next ≤ looks + 1 + 4 * s * more → looks + more ≤ next → Added before next (n + 1) (cells + more) t
+added_next next {n} more s {t} h c up low =
     let a = c.upper in
     let b = c.lower in
     let less = mul-le-mul_right {m = 4 * s} {n = 4 * t} more (omega arith) in
     record { upper = omega arith; lower = omega arith }
+
+-- a search that stops, or is about to begin, with `cells` cells so far
+pub added_stop : {before looks : ℕ} (next : ℕ) {n cells : ℕ} (s : ℕ) {t : ℕ} (max : ℕ) {count : ℕ} → s ≤ t →
+    cells ≤ max → n < count → Added before looks n cells t → next ≤ looks + 1 + 4 * s * (max - cells + 1) →
+    next ≤ before + count + 4 * t * (max + 1)
+added_stop next {cells} s {t} max h hc hn c up =
+    let a = c.upper in
+    let less = mul-le-mul_right {m = 4 * s} {n = 4 * t} (max - cells + 1) (omega arith) in
+    let e : cells + (max - cells + 1) ≡ max + 1 = omega arith in
+    let p : 4 * t * (cells + (max - cells + 1)) ≡ 4 * t * (max + 1) = ap (λ z. 4 * t * z) e in
+    omega arith

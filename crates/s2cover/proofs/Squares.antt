@@ -61,9 +61,9 @@ in_face g x h =
     record { face = ap (λ z. x / z) p ∙ w.whole; block = ap (λ z. x % z / 4 ^ g) p ∙ w.middle }
 
 -- the square of the grid in which a leaf stands
-square_at : (g x f i j : ℕ) → g ≤ 30 → IsPlaceOf x f i j →
-    At (30 - g) (f % 2) (x % 4 ^ 30 / 4 ^ g) (i / 2 ^ g) (j / 2 ^ g)
-square_at g x f i j h p =
+square_at : (g : ℕ) {x f i j : ℕ} →
+    g ≤ 30 → IsPlaceOf x f i j → At (30 - g) (f % 2) (x % 4 ^ 30 / 4 ^ g) (i / 2 ^ g) (j / 2 ^ g)
+square_at g {x} {f} {i} {j} h p =
     let e : 30 ≡ (30 - g) + g = omega arith in
     at_above (30 - g) g (f % 2) (x % 4 ^ 30) i j (subst (λ (z : ℕ). At z (f % 2) (x % 4 ^ 30) i j) e p.at)
 
@@ -73,8 +73,8 @@ same_square g x y h e =
     let fy = in_face g y h in
     let face : y / 4 ^ 30 ≡ x / 4 ^ 30 = fy.face ∙ ap (λ z. z / 4 ^ (30 - g)) e ∙ sym fx.face in
     let block : y % 4 ^ 30 / 4 ^ g ≡ x % 4 ^ 30 / 4 ^ g = fy.block ∙ ap (λ z. z % 4 ^ (30 - g)) e ∙ sym fx.block in
-    let ax = square_at g x (x / 4 ^ 30) (i_of x) (j_of x) h (place_is x) in
-    let ay = square_at g y (y / 4 ^ 30) (i_of y) (j_of y) h (place_is y) in
+    let ax = square_at g h (place_is x) in
+    let ay = square_at g h (place_is y) in
     let s = same_place (30 - g) (x / 4 ^ 30 % 2) (x % 4 ^ 30 / 4 ^ g) (i_of y / 2 ^ g) (j_of y / 2 ^ g)
     (i_of x / 2 ^ g) (j_of x / 2 ^ g) (rw (face, block) at ay) ax in
     record { face = face; first = s.0; second = s.1 }
@@ -92,8 +92,8 @@ block_leaf g x i j h hi hj ei ej =
     let n = leaf_exists 30 (f % 2) i j (omega arith) hi hj in
     let y = 4 ^ 30 * f + n.0 in
     let p : IsPlaceOf y f i j = place_of_leaf f n.0 i j n.1 in
-    let ax = square_at g x f (i_of x) (j_of x) h (place_is x) in
-    let ay = square_at g y f i j h p in
+    let ax = square_at g h (place_is x) in
+    let ay = square_at g h p in
     let block : y % 4 ^ 30 / 4 ^ g ≡ x % 4 ^ 30 / 4 ^ g =
     same_leaf (30 - g) (f % 2) (y % 4 ^ 30 / 4 ^ g) (x % 4 ^ 30 / 4 ^ g) (i_of x / 2 ^ g) (j_of x / 2 ^ g)
     (omega arith) (rw (ei, ej) at ay) ax in
@@ -113,9 +113,13 @@ pub record Rounded (lo hi lo2 hi2 s : ℕ) : Type 0 where
   pub low : lo2 ≡ lo / s * s
   pub high : hi2 ≡ hi / s * s + (s - 1)
 
-pub out_to : (lo hi lo2 hi2 s u v : ℕ) → 0 < s → Rounded lo hi lo2 hi2 s → lo ≤ u → u ≤ hi → u / s ≡ v / s →
-    (lo2 ≤ v) × (v ≤ hi2)
-out_to lo hi lo2 hi2 s u v hs r a b e =
+pub rounded : {lo hi low high side s : ℕ} → side ≡ s → low ≡ lo / side * side → high ≡ hi / side * side →
+    Rounded lo hi low (high + (side - 1)) s
+rounded e low high = record { low = rw e at low; high = rw (high, e) refl }
+
+pub out_to : {lo hi lo2 hi2 s : ℕ} (u v : ℕ) →
+    0 < s → Rounded lo hi lo2 hi2 s → lo ≤ u → u ≤ hi → u / s ≡ v / s → (lo2 ≤ v) × (v ≤ hi2)
+out_to {lo} {hi} {s} u v hs r a b e =
     let x = quotient_mono lo u s hs a in
     let y = quotient_mono u hi s hs b in
     let xs = times (lo / s) (v / s) s (omega arith) in
@@ -132,8 +136,9 @@ pub record Near (lo hi v s : ℕ) : Type 0 where
   pub high : at_place ≤ hi
   pub block : at_place / s ≡ v / s
 
-pub out_from : (lo hi lo2 hi2 s v : ℕ) → 0 < s → lo ≤ hi → Rounded lo hi lo2 hi2 s → lo2 ≤ v → v ≤ hi2 → Near lo hi v s
-out_from lo hi lo2 hi2 s v hs h r a b =
+pub out_from : {lo hi lo2 hi2 s : ℕ} (v : ℕ) →
+    0 < s → lo ≤ hi → Rounded lo hi lo2 hi2 s → lo2 ≤ v → v ≤ hi2 → Near lo hi v s
+out_from {lo} {hi} {s} v hs h r a b =
     let l = r.low in
     let g = r.high in
     let q = v / s in
@@ -160,9 +165,13 @@ pub record Narrowed (lo hi lo2 end s : ℕ) : Type 0 where
   pub low : lo2 ≡ (lo + (s - 1)) / s * s
   pub end_is : end ≡ (hi + 1) / s * s
 
-pub in_to : (lo hi lo2 end s v : ℕ) → 0 < s → Narrowed lo hi lo2 end s → lo ≤ v / s * s →
-    v / s * s + (s - 1) ≤ hi → (lo2 ≤ v) × (v < end)
-in_to lo hi lo2 end s v hs r a b =
+pub narrowed : {lo hi low end side s : ℕ} → side ≡ s → low ≡ (lo + (side - 1)) / side * side →
+    end ≡ (hi + 1) / side * side → Narrowed lo hi low end s
+narrowed e low end = record { low = rw e at low; end_is = rw e at end }
+
+pub in_to : {lo hi lo2 end s : ℕ} (v : ℕ) →
+    0 < s → Narrowed lo hi lo2 end s → lo ≤ v / s * s → v / s * s + (s - 1) ≤ hi → (lo2 ≤ v) × (v < end)
+in_to {lo} {hi} {s} v hs r a b =
     let l = r.low in
     let e = r.end_is in
     let q = v / s in
@@ -174,9 +183,9 @@ in_to lo hi lo2 end s v hs r a b =
     let ys = times (q + 1) ((hi + 1) / s) s y in
     (omega arith, omega arith)
 
-pub in_from : (lo hi lo2 end s u v : ℕ) → 0 < s → Narrowed lo hi lo2 end s → lo2 ≤ v → v < end → u / s ≡ v / s →
-    (lo ≤ u) × (u ≤ hi)
-in_from lo hi lo2 end s u v hs r a b e =
+pub in_from : {lo hi lo2 end s : ℕ} (u v : ℕ) →
+    0 < s → Narrowed lo hi lo2 end s → lo2 ≤ v → v < end → u / s ≡ v / s → (lo ≤ u) × (u ≤ hi)
+in_from {lo} {hi} {s} u v hs r a b e =
     let l = r.low in
     let n = r.end_is in
     let q = v / s in

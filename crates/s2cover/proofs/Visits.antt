@@ -51,8 +51,8 @@ unfolding first_leaf size_of
 leaf_at c x h = covers_from c x h
 
 -- the identifier of a cell, by its depth and place
-pub id_of : (c : ℕ) → IsCell c → cell_at (depth_of c) (place_of c) ≡ c
-id_of c i = sym (own_place c i).id
+pub id_of : {c : ℕ} → IsCell c → cell_at (depth_of c) (place_of c) ≡ c
+id_of {c} i = sym (own_place c i).id
 
 pub in_whole : (whole : Bool) (R : ℕ → Bool) (g c : ℕ) → g ≤ depth_of c →
     ((x : ℕ) → covers c x ≡ true → R x ≡ true) → Whole (blocks whole R g) g (depth_of c) (place_of c)
@@ -73,9 +73,8 @@ cross_whole whole R g c b e h =
     let t : touched R (m * 4 ^ d) (4 ^ d) ≡ true =
     true_from_ne_false (touched R (m * 4 ^ d) (4 ^ d))
     (λ f. h (λ x w. let l = leaf_at c x w in touched_none R (m * 4 ^ d) (4 ^ d) f x l.0 l.1)) in
-    subst (λ (w : Bool). Whole (blocks w R g) g d m) (sym b)
-    (subst (λ (z : ℕ). Whole (blocks true R z) z d m) e
-    (whole_from (blocks true R d) d d m (omega arith) (outer_here R d m t)))
+    subst (λ (w : Bool). Whole (blocks w R g) g d m) (sym b) (subst (λ (z : ℕ). Whole (blocks true R z) z d m)
+    e (whole_from (blocks true R d) d d m (omega arith) (outer_here R d m t)))
 
 pub cross_nothing : (whole : Bool) (R : ℕ → Bool) (g c : ℕ) → whole ≡ false → depth_of c ≡ g →
     (((x : ℕ) → covers c x ≡ true → R x ≡ true) → ⊥) → Nothing (blocks whole R g) g (depth_of c) (place_of c)
@@ -85,9 +84,8 @@ cross_nothing whole R g c b e h =
     let t : filled R (m * 4 ^ d) (4 ^ d) ≡ false =
     false_from_ne_true (filled R (m * 4 ^ d) (4 ^ d))
     (λ f. h (λ x w. let l = leaf_at c x w in filled_each R (m * 4 ^ d) (4 ^ d) f x l.0 l.1)) in
-    subst (λ (w : Bool). Nothing (blocks w R g) g d m) (sym b)
-    (subst (λ (z : ℕ). Nothing (blocks false R z) z d m) e
-    (nothing_from (blocks false R d) d d m (omega arith) (inner_here R d m t)))
+    subst (λ (w : Bool). Nothing (blocks w R g) g d m) (sym b) (subst (λ (z : ℕ). Nothing (blocks false R z) z d m)
+    e (nothing_from (blocks false R d) d d m (omega arith) (inner_here R d m t)))
 
 -- ---- what a call's outcome says then
 
@@ -105,8 +103,7 @@ pub is_full : {E : Type 0} (r : Result Bool E) (P : Type 0) (a b : Bool) → b �
 is_full r P a b e h = IfOk-weaker r (λ full. (full ≡ a) × P) (λ full. full ≡ b) (λ x p. p.0 ∙ sym e) h
 
 pub too_many : {E : Type 0} (r : Result Bool E) (many : E) (b : Bool) (max n : ℕ) (f : List ℕ) → b ≡ false →
-    IfErr r (λ fault. (fault ≡ many) × (max < n)) →
-    IfErr r (λ fault. fault ≡ many → (b ≡ false) × (max < n + length f))
+    IfErr r (λ fault. (fault ≡ many) × (max < n)) → IfErr r (λ fault. fault ≡ many → (b ≡ false) × (max < n + length f))
 too_many r many b max n f e h = IfErr-weaker r (λ fault. (fault ≡ many) × (max < n)) (λ fault. fault ≡ many →
     (b ≡ false) × (max < n + length f)) (λ y p. λ same. (e, let l = p.1 in omega arith)) h
 
@@ -139,22 +136,19 @@ four_at S d m hd =
     let q : 4 * 4 ^ (d - 1) ≡ 4 ^ d = omega arith in
     ap (filled S (m * 4 ^ d)) q
 
-filled_next : (S : ℕ → Bool) (d m n : ℕ) → 0 < d → n < 4 →
-    filled S (m * 4 ^ d) ((n + 1) * 4 ^ (d - 1))
+filled_next : (S : ℕ → Bool) (d m n : ℕ) → 0 < d → n < 4 → filled S (m * 4 ^ d) ((n + 1) * 4 ^ (d - 1))
     ≡ (filled S (m * 4 ^ d) (n * 4 ^ (d - 1)) && filled S ((4 * m + n) * 4 ^ (d - 1)) (4 ^ (d - 1)))
 filled_next S d m n hd hn =
     let e : suc (d - 1) ≡ d = omega arith in
     rw e at (filled_more S (d - 1) m n hn)
 
-pub whole_next : (S : ℕ → Bool) (d m n : ℕ) (full inside result : Bool) → 0 < d → n < 4 →
+pub whole_next : (S : ℕ → Bool) (d m n : ℕ) {full inside result : Bool} → 0 < d → n < 4 →
     full ≡ filled S (m * 4 ^ d) (n * 4 ^ (d - 1)) → inside ≡ filled S ((4 * m + n) * 4 ^ (d - 1)) (4 ^ (d - 1)) →
     Both full inside result → result ≡ filled S (m * 4 ^ d) ((n + 1) * 4 ^ (d - 1))
-whole_next S d m n full inside result hd hn e f (inl w) = w.1 ∙ f
-    ∙ sym (filled_next S d m n hd hn ∙ ap (λ z. z && filled S ((4 * m + n) * 4 ^ (d - 1)) (4 ^ (d - 1)))
-    (sym e ∙ w.0))
-whole_next S d m n full inside result hd hn e f (inr w) = w.1
-    ∙ sym (filled_next S d m n hd hn ∙ ap (λ z. z && filled S ((4 * m + n) * 4 ^ (d - 1)) (4 ^ (d - 1)))
-    (sym e ∙ w.0))
+whole_next S d m n hd hn e f (inl w) = w.1 ∙ f
+    ∙ sym (filled_next S d m n hd hn ∙ ap (λ z. z && filled S ((4 * m + n) * 4 ^ (d - 1)) (4 ^ (d - 1))) (sym e ∙ w.0))
+whole_next S d m n hd hn e f (inr w) = w.1
+    ∙ sym (filled_next S d m n hd hn ∙ ap (λ z. z && filled S ((4 * m + n) * 4 ^ (d - 1)) (4 ^ (d - 1))) (sym e ∙ w.0))
 
 pub list_next : (S : ℕ → Bool) (g d m n : ℕ) (old now new : List ℕ) →
     now ≡ old ++ joined (λ p. form S g (d - 1 - g) (4 * m + p)) n → new ≡ now ++ form S g (d - 1 - g) (4 * m + n) →
@@ -164,17 +158,14 @@ list_next S g d m n old now new e f =
     ∙ append_assoc old (joined (λ p. form S g (d - 1 - g) (4 * m + p)) n) (form S g (d - 1 - g) (4 * m + n))
     ∙ ap (λ z. old ++ z) (sym (joined_more (λ p. form S g (d - 1 - g) (4 * m + p)) n))
 
-pub visited_next : (S : ℕ → Bool) (g d m n : ℕ) (old now new : List ℕ) (old_len now_len new_len : ℕ)
-    (full inside result : Bool) (loose max before : ℕ)
-    → g < d → n < 4 → now_len ≡ length now → new_len ≡ length new →
-    Visited S g d m n old now old_len now_len full loose max before → Child S g d m n now new inside →
-    Both full inside result
-    → (result ≡ false → new_len ≤ max) → Visited S g d m (n + 1) old new old_len new_len result loose max before
-visited_next S g d m n old now new old_len now_len new_len full inside result loose max before hg hn en ew v c both
-    room =
+pub visited_next : {S : ℕ → Bool} {g d m n : ℕ} {old now new : List ℕ} {old_len now_len : ℕ} (new_len : ℕ)
+    {full inside result : Bool} {loose max before : ℕ} → g < d → n < 4 → now_len ≡ length now → new_len ≡ length new →
+    Visited S g d m n old now old_len now_len full loose max before → Child S g d m n now new inside → Both full inside
+    result → (result ≡ false → new_len ≤ max) → Visited S g d m (n + 1) old new old_len new_len result loose max before
+visited_next {S} {g} {d} {m} {n} {old} {now} {new} new_len {full} {inside} {result} hg hn en ew v c both room =
     record {
       list = list_next S g d m n old now new v.list c.list;
-      whole = whole_next S d m n full inside result (omega arith) hn v.whole c.full both;
+      whole = whole_next S d m n (omega arith) hn v.whole c.full both;
       tight = λ r. ⊎_elim
           (λ (w : (full ≡ true) × (result ≡ inside)).
           let one = form_whole_at S g (d - 1) (4 * m + n) (omega arith) (sym c.full ∙ sym w.1 ∙ r) in
@@ -182,19 +173,22 @@ visited_next S g d m n old now new old_len now_len new_len full inside result lo
           ∙ length-append now (cell_at (d - 1) (4 * m + n) ∷ []) in
           let t = v.tight w.0 in
           omega arith)
-          (λ (w : (full ≡ false) × (result ≡ false)). absurd (both_ways result w.1 r))
-          both;
+          (λ (w : (full ≡ false) × (result ≡ false)). absurd (both_ways result w.1 r)) both;
       room = room;
       start = v.start;
       early = v.early;
     }
 
+-- a cell above the level has a greater depth than the grain
+pub deeper : (c : ℕ) {k level : ℕ} →
+    level_of c ≤ k → k ≤ 30 → level ≡ level_of c → (level ≡ k → ⊥) → 30 - k < depth_of c
+deeper c above most is differs = omega arith
+
 -- a list that is too long with some children is too long with all of them
-pub many_next : (S : ℕ → Bool) (g d m n : ℕ) (old new : List ℕ) (old_len max : ℕ) (result : Bool) → g < d → n < 4 →
-    old_len ≡ length old
-    → new ≡ old ++ joined (λ p. form S g (d - 1 - g) (4 * m + p)) (n + 1) →
-    result ≡ filled S (m * 4 ^ d) ((n + 1) * 4 ^ (d - 1)) → result ≡ false → max < length new
-    → (filled S (m * 4 ^ d) (4 ^ d) ≡ false) × (max < old_len + length (form S g (d - g) m))
+pub many_next : (S : ℕ → Bool) (g d m n : ℕ) (old new : List ℕ) (old_len max : ℕ) (result : Bool) →
+    g < d → n < 4 → old_len ≡ length old → new ≡ old ++ joined (λ p. form S g (d - 1 - g) (4 * m + p)) (n + 1) →
+    result ≡ filled S (m * 4 ^ d) ((n + 1) * 4 ^ (d - 1)) → result ≡ false →
+    max < length new → (filled S (m * 4 ^ d) (4 ^ d) ≡ false) × (max < old_len + length (form S g (d - g) m))
 many_next S g d m n old new old_len max result hg hn eo list whole lacks long =
     let f = filled_short S (m * 4 ^ d) ((n + 1) * 4 ^ (d - 1)) (4 ^ d)
     (four_of d (n + 1) (omega arith) (omega arith)) (sym whole ∙ lacks) in
@@ -205,43 +199,40 @@ many_next S g d m n old new old_len max result hg hn eo list whole lacks long =
     (f, omega arith)
 
 -- the same if the visit of a child stopped
-pub many_child : (S : ℕ → Bool) (g d m n : ℕ) (old now : List ℕ) (old_len now_len max : ℕ) (full : Bool) → g < d →
-    n < 4 → old_len ≡ length old → now_len ≡ length now
-    → now ≡ old ++ joined (λ p. form S g (d - 1 - g) (4 * m + p)) n → full ≡ filled S (m * 4 ^ d) (n * 4 ^ (d - 1))
-    → filled S ((4 * m + n) * 4 ^ (d - 1)) (4 ^ (d - 1)) ≡ false →
-    max < now_len + length (form S g (d - 1 - g) (4 * m + n))
-    → (filled S (m * 4 ^ d) (4 ^ d) ≡ false) × (max < old_len + length (form S g (d - g) m))
-many_child S g d m n old now old_len now_len max full hg hn eo en list whole lacks long =
-    let next = list_next S g d m n old now (now ++ form S g (d - 1 - g) (4 * m + n)) list refl in
+pub many_child : {S : ℕ → Bool} {g d m n : ℕ} {old now : List ℕ} {old_len now_len : ℕ} {full : Bool}
+    {loose max before : ℕ} → g < d → n < 4 → old_len ≡ length old → now_len ≡ length now →
+    Visited S g d m n old now old_len now_len full loose max before →
+    filled S ((4 * m + n) * 4 ^ (d - 1)) (4 ^ (d - 1)) ≡ false →
+    max < now_len + length (form S g (d - 1 - g) (4 * m + n)) →
+    (filled S (m * 4 ^ d) (4 ^ d) ≡ false) × (max < old_len + length (form S g (d - g) m))
+many_child {S} {g} {d} {m} {n} {old} {now} {old_len} {max} hg hn eo en v lacks long =
+    let next = list_next S g d m n old now (now ++ form S g (d - 1 - g) (4 * m + n)) v.list refl in
     let no2 = filled_next S d m n (omega arith) hn
-    ∙ and_right (filled S (m * 4 ^ d) (n * 4 ^ (d - 1))) (filled S ((4 * m + n) * 4 ^ (d - 1)) (4 ^ (d - 1)))
-    lacks in
+    ∙ and_right (filled S (m * 4 ^ d) (n * 4 ^ (d - 1))) (filled S ((4 * m + n) * 4 ^ (d - 1)) (4 ^ (d - 1))) lacks in
     let len = length-append now (form S g (d - 1 - g) (4 * m + n)) in
     many_next S g d m n old (now ++ form S g (d - 1 - g) (4 * m + n)) old_len max false hg hn eo next (sym no2)
     refl (omega arith)
 
 -- after four children
-pub all_children : (S : ℕ → Bool) (g d m n : ℕ) (old now : List ℕ) (old_len now_len : ℕ) (full : Bool)
-    (loose max before : ℕ) → g < d → n ≡ 4 → full ≡ true → old_len ≡ length old →
-    Visited S g d m n old now old_len now_len full loose max before → Whole S g d m
-all_children S g d m n old now old_len now_len full loose max before hg hn t eo v =
+pub all_children : {S : ℕ → Bool}
+    {g d m n : ℕ} {old now : List ℕ} {old_len now_len : ℕ} {full : Bool} {loose max before : ℕ} → g < d → n ≡ 4 →
+    full ≡ true → old_len ≡ length old → Visited S g d m n old now old_len now_len full loose max before → Whole S g d m
+all_children {S} {g} {d} {m} hg hn t eo v =
     let h : filled S (m * 4 ^ d) (4 ^ d) ≡ true = sym (four_at S d m (omega arith))
     ∙ ap (λ z. filled S (m * 4 ^ d) (z * 4 ^ (d - 1))) (sym hn) ∙ sym v.whole ∙ t in
     record { holds = h; cells = form_whole_at S g d m (omega arith) h }
 
-pub kept : (S : ℕ → Bool) (g d m n : ℕ) (old now : List ℕ) (old_len now_len : ℕ) (full : Bool)
-    (loose max before : ℕ) → old_len ≡ length old → Visited S g d m n old now old_len now_len full loose max before →
-    take before now ≡ old
-kept S g d m n old now old_len now_len full loose max before eo v =
+pub kept : {S : ℕ → Bool} {g d m n : ℕ} {old now : List ℕ} {old_len now_len : ℕ} {full : Bool} {loose max before : ℕ} →
+    old_len ≡ length old → Visited S g d m n old now old_len now_len full loose max before → take before now ≡ old
+kept {S} {g} {d} {m} {n} {old} {now} {before} eo v =
     let e : before ≡ length old = v.start ∙ eo in
     ap (λ z. take z now) e ∙ ap (take (length old)) v.list
     ∙ take-append_seam old (joined (λ p. form S g (d - 1 - g) (4 * m + p)) n)
 
-pub some_children : (S : ℕ → Bool) (g d m n : ℕ) (old now : List ℕ) (old_len now_len : ℕ) (full : Bool)
-    (loose max before : ℕ) → g < d → n ≡ 4 → full ≡ false →
-    Visited S g d m n old now old_len now_len full loose max before
-    → (false ≡ filled S (m * 4 ^ d) (4 ^ d)) × (now ≡ old ++ form S g (d - g) m)
-some_children S g d m n old now old_len now_len full loose max before hg hn f v =
+pub some_children : {S : ℕ → Bool} {g d m n : ℕ} {old now : List ℕ} {old_len now_len : ℕ}
+    {full : Bool} {loose max before : ℕ} → g < d → n ≡ 4 → full ≡ false → Visited S g d m n old now
+    old_len now_len full loose max before → (false ≡ filled S (m * 4 ^ d) (4 ^ d)) × (now ≡ old ++ form S g (d - g) m)
+some_children {S} {g} {d} {m} {old} hg hn f v =
     let h : filled S (m * 4 ^ d) (4 ^ d) ≡ false = sym (four_at S d m (omega arith))
     ∙ ap (λ z. filled S (m * 4 ^ d) (z * 4 ^ (d - 1))) (sym hn) ∙ sym v.whole ∙ f in (
       sym h,
@@ -256,8 +247,8 @@ pub record ChildAt (c p : ℕ) : Type 0 where
   pub depth : depth_of (child_of c p) + 1 ≡ depth_of c
   pub place : place_of (child_of c p) ≡ 4 * place_of c + p
 
-pub child_at : (c p : ℕ) → IsCell c → level_of c < 30 → p < 4 → ChildAt c p
-child_at c p i h q =
+pub child_at : {c : ℕ} (p : ℕ) → IsCell c → level_of c < 30 → p < 4 → ChildAt c p
+child_at {c} p i h q =
     let w = IsCellAt-child_of c p i h q in
     let l = level_of_cell (level_of c + 1) (4 * place_of c + p) (child_of c p) w in
     record {
@@ -285,21 +276,20 @@ pub record Held (d c loose n held max len : ℕ) : Type 0 where
   pub bound : held ≤ 3 * c
   pub room : len ≤ max + held
 
-pub held_full : (S : ℕ → Bool) (g l d m n : ℕ) (old now : List ℕ) (old_len now_len : ℕ) (full : Bool)
-    (loose max before c held : ℕ) → c ≡ l + 1 → n < 4 → loose ≤ 3 * l → held ≡ loose + n → full ≡ true →
-    Visited S g d m n old now old_len now_len full loose max before → Held l c loose n held max now_len
-held_full S g l d m n old now old_len now_len full loose max before c held hc hn hl hh t v = let a = v.tight t in
+pub held_full : {S : ℕ → Bool} {g : ℕ} (l : ℕ) {d m n : ℕ} {old now : List ℕ} {old_len now_len : ℕ}
+    {full : Bool} {loose max before : ℕ} (c held : ℕ) → c ≡ l + 1 → n < 4 → loose ≤ 3 * l → held ≡ loose + n →
+    full ≡ true → Visited S g d m n old now old_len now_len full loose max before → Held l c loose n held max now_len
+held_full l c held hc hn hl hh t v = let a = v.tight t in
     let b = v.early in record { bound = omega arith; room = omega arith }
 
-pub held_none : (S : ℕ → Bool) (g l d m n : ℕ) (old now : List ℕ) (old_len now_len : ℕ) (full : Bool)
-    (loose max before c held : ℕ) → held ≡ 0 → full ≡ false →
-    Visited S g d m n old now old_len now_len full loose max before → Held l c loose n held max now_len
-held_none S g l d m n old now old_len now_len full loose max before c held hh f v = let a = v.room f in
+pub held_none : {S : ℕ → Bool} {g : ℕ} (l : ℕ)
+    {d m n : ℕ} {old now : List ℕ} {old_len now_len : ℕ} {full : Bool} {loose max before : ℕ} (c held : ℕ) → held ≡ 0 →
+    full ≡ false → Visited S g d m n old now old_len now_len full loose max before → Held l c loose n held max now_len
+held_none l c held hh f v = let a = v.room f in
     record { bound = omega arith; room = omega arith }
 
-pub child_from : (S : ℕ → Bool) (g d m n : ℕ) (now new : List ℕ) (inside : Bool) (k p : ℕ) → k + 1 ≡ d →
-    p ≡ 4 * m + n → new ≡ now ++ form S g (k - g) p → inside ≡ filled S (p * 4 ^ k) (4 ^ k) →
-    Child S g d m n now new inside
+pub child_from : (S : ℕ → Bool) (g d m n : ℕ) (now new : List ℕ) (inside : Bool) (k p : ℕ) → k + 1 ≡ d → p ≡ 4 * m + n →
+    new ≡ now ++ form S g (k - g) p → inside ≡ filled S (p * 4 ^ k) (4 ^ k) → Child S g d m n now new inside
 child_from S g d m n now new inside k p hk hp e f =
     let ek : k ≡ d - 1 = omega arith in
     record { list = rw (ek, hp) at e; full = rw (hp, ek) at f }

@@ -7,60 +7,56 @@ use Rattle.s2draw.specs.Picture.{small_note, small_line, note, rectangles, line}
 use Rattle.s2draw.specs.Overlay.{outlines}
 
 -- what follows the number of cells
-pub noted : (old t u v a d b : List ℕ) (n : ℕ) → t ≡ old ++ a ++ d → u ≡ t ++ b → 0 < n → v ≡ u ++ small_line n →
-    v ≡ old ++ (a ++ d ++ b ++ small_note n)
+pub noted : (old : List ℕ) {t u v : List ℕ} (a d b : List ℕ) (n : ℕ) →
+    t ≡ old ++ a ++ d → u ≡ t ++ b → 0 < n → v ≡ u ++ small_line n → v ≡ old ++ (a ++ d ++ b ++ small_note n)
 unfolding small_note
-noted old t u v a d b zero e1 e2 h e3 = absurd (omega (arith, h))
-noted old t u v a d b (suc n) e1 e2 h e3 = rw (e3, e2, e1) (simp append_assoc)
+noted old a d b zero e1 e2 h e3 = absurd (omega (arith, h))
+noted old a d b (suc n) e1 e2 h e3 = rw (e3, e2, e1) (simp append_assoc)
 
-pub not_noted : (old t u a d b : List ℕ) (n : ℕ) → t ≡ old ++ a ++ d → u ≡ t ++ b → n ≡ 0 →
-    u ≡ old ++ (a ++ d ++ b ++ small_note n)
+pub not_noted : (old : List ℕ) {t u : List ℕ} (a d b : List ℕ) {n : ℕ} →
+    t ≡ old ++ a ++ d → u ≡ t ++ b → n ≡ 0 → u ≡ old ++ (a ++ d ++ b ++ small_note n)
 unfolding small_note
-not_noted old t u a d b n e1 e2 h = rw (h, e2, e1) (simp (append_assoc, append-nil))
+not_noted old a d b e1 e2 h = rw (h, e2, e1) (simp (append_assoc, append-nil))
 
 -- the pieces of a list between two others
-pub around : (f : ℕ → List ℕ) (old t u v a b : List ℕ) (some all : List ℕ) → t ≡ old ++ a →
-    u ≡ t ++ flat_map f some → some ≡ all → v ≡ u ++ b → v ≡ old ++ (a ++ flat_map f all ++ b)
-around f old t u v a b some all e1 e2 e e3 = rw (e3, e2, e1, e) (simp append_assoc)
+pub around : (f : ℕ → List ℕ) (old : List ℕ) {t u v : List ℕ} (a b : List ℕ) {some all : List ℕ} →
+    t ≡ old ++ a → u ≡ t ++ flat_map f some → some ≡ all → v ≡ u ++ b → v ≡ old ++ (a ++ flat_map f all ++ b)
+around f old a b e1 e2 e e3 = rw (e3, e2, e1, e) (simp append_assoc)
 
 -- five numbers between texts
-pub fields : (old t1 t2 t3 t4 t5 t6 a1 a2 a3 a4 a5 b : List ℕ) (n1 n2 n3 n4 n5 m1 m2 m3 m4 m5 : ℕ)
-    → t1 ≡ old ++ a1 ++ decimal n1 → t2 ≡ t1 ++ a2 ++ decimal n2 → t3 ≡ t2 ++ a3 ++ decimal n3 →
-    t4 ≡ t3 ++ a4 ++ decimal n4 → t5 ≡ t4 ++ a5 ++ decimal n5 → t6 ≡ t5 ++ b
-    → n1 ≡ m1 → n2 ≡ m2 → n3 ≡ m3 → n4 ≡ m4 → n5 ≡ m5
-    → t6 ≡ old ++ (a1 ++ decimal m1 ++ a2 ++ decimal m2 ++ a3 ++ decimal m3 ++ a4 ++ decimal m4 ++ a5 ++ decimal m5
-    ++ b)
-fields old t1 t2 t3 t4 t5 t6 a1 a2 a3 a4 a5 b n1 n2 n3 n4 n5 m1 m2 m3 m4 m5 e1 e2 e3 e4 e5 e6 f1 f2 f3 f4 f5 =
+pub fields : (old : List ℕ) {t1 t2 t3 t4 t5 t6 : List ℕ} (a1 a2 a3 a4 a5 b : List ℕ) {n1 n2 n3 n4 n5 m1 m2
+    m3 m4 m5 : ℕ} → t1 ≡ old ++ a1 ++ decimal n1 → t2 ≡ t1 ++ a2 ++ decimal n2 → t3 ≡ t2 ++ a3 ++ decimal n3 → t4 ≡ t3
+    ++ a4 ++ decimal n4 → t5 ≡ t4 ++ a5 ++ decimal n5 → t6 ≡ t5 ++ b → n1 ≡ m1 → n2 ≡ m2 → n3 ≡ m3 → n4 ≡ m4 → n5 ≡ m5 →
+    t6 ≡ old ++ (a1 ++ decimal m1 ++ a2 ++ decimal m2 ++ a3 ++ decimal m3 ++ a4 ++ decimal m4 ++ a5 ++ decimal m5 ++ b)
+fields old a1 a2 a3 a4 a5 b e1 e2 e3 e4 e5 e6 f1 f2 f3 f4 f5 =
     rw (e6, e5, e4, e3, e2, e1, f1, f2, f3, f4, f5) (simp append_assoc)
 
 -- all of a picture, between a head and a foot
-pub whole : (head foot last t u v w x : List ℕ) (curve : Bool) (cells list again : List ℕ) → list ≡ drawn cells →
-    again ≡ drawn cells → last ≡ foot
-    → t ≡ head → u ≡ t ++ note cells → v ≡ u ++ rectangles list → w ≡ v ++ cond curve (line again) [] → x ≡ w ++ last
-    → x ≡ head ++ note cells ++ rectangles (drawn cells) ++ cond curve (line (drawn cells)) [] ++ foot
-whole head foot last t u v w x curve cells list again e d f e1 e2 e3 e4 e5 = rw (e5, e4, e3, e2, e1, e, d, f) refl
+pub whole : {head foot last t u v w x : List ℕ} (curve : Bool) (cells : List ℕ) {list again : List ℕ} →
+    list ≡ drawn cells → again ≡ drawn cells →
+    last ≡ foot → t ≡ head → u ≡ t ++ note cells → v ≡ u ++ rectangles list → w ≡ v ++ cond curve (line again) [] →
+    x ≡ w ++ last → x ≡ head ++ note cells ++ rectangles (drawn cells) ++ cond curve (line (drawn cells)) [] ++ foot
+whole curve cells e d f e1 e2 e3 e4 e5 = rw (e5, e4, e3, e2, e1, e, d, f) refl
 
 -- what comes before the lists of an overlay, from nothing
-pub begun : (t0 t1 t2 t3 t4 t5 t6 a1 a2 a3 b1 b2 b3 s1 s2 s3 : List ℕ) (n1 n2 m1 m2 : ℕ) → t0 ≡ [] →
-    t1 ≡ t0 ++ a1 ++ decimal n1 → t2 ≡ t1 ++ a2 ++ decimal n2 → t3 ≡ t2 ++ a3 → t4 ≡ t3 ++ b1 → t5 ≡ t4 ++ b2 →
-    t6 ≡ t5 ++ b3 → n1 ≡ m1 → n2 ≡ m2 → b1 ≡ s1 → b2 ≡ s2 → b3 ≡ s3
-    → t6 ≡ a1 ++ decimal m1 ++ a2 ++ decimal m2 ++ a3 ++ s1 ++ s2 ++ s3
-begun t0 t1 t2 t3 t4 t5 t6 a1 a2 a3 b1 b2 b3 s1 s2 s3 n1 n2 m1 m2 e0 e1 e2 e3 e4 e5 e6 f1 f2 g1 g2 g3 =
+pub begun : {t0 t1 t2 t3 t4 t5 t6 : List ℕ} (a1 a2 a3 : List ℕ) {b1 b2 b3 s1 s2 s3 : List ℕ} {n1 n2 m1 m2 : ℕ} →
+    t0 ≡ [] → t1 ≡ t0 ++ a1 ++ decimal n1 →
+    t2 ≡ t1 ++ a2 ++ decimal n2 → t3 ≡ t2 ++ a3 → t4 ≡ t3 ++ b1 → t5 ≡ t4 ++ b2 → t6 ≡ t5 ++ b3 →
+    n1 ≡ m1 → n2 ≡ m2 → b1 ≡ s1 → b2 ≡ s2 → b3 ≡ s3 → t6 ≡ a1 ++ decimal m1 ++ a2 ++ decimal m2 ++ a3 ++ s1 ++ s2 ++ s3
+begun a1 a2 a3 e0 e1 e2 e3 e4 e5 e6 f1 f2 g1 g2 g3 =
     rw (e6, e5, e4, e3, e2, e1, e0, f1, f2, g1, g2, g3) (simp append_assoc)
 
 -- a line of a legend
-pub entry : (old t1 t2 t3 t4 t5 t6 a1 a2 a3 name a4 a5 : List ℕ) (n1 n2 n3 m1 m2 m3 : ℕ) →
-    t1 ≡ old ++ a1 ++ decimal n1 → t2 ≡ t1 ++ a2 ++ decimal n2 → t3 ≡ t2 ++ a3 → t4 ≡ t3 ++ name →
-    t5 ≡ t4 ++ a4 ++ decimal n3 → t6 ≡ t5 ++ a5 → n1 ≡ m1 → n2 ≡ m2 → n3 ≡ m3
-    → t6 ≡ old ++ (a1 ++ decimal m1 ++ a2 ++ decimal m2 ++ a3 ++ name ++ a4 ++ decimal m3 ++ a5)
-entry old t1 t2 t3 t4 t5 t6 a1 a2 a3 name a4 a5 n1 n2 n3 m1 m2 m3 e1 e2 e3 e4 e5 e6 f1 f2 f3 =
-    rw (e6, e5, e4, e3, e2, e1, f1, f2, f3) (simp append_assoc)
+pub entry : (old : List ℕ) {t1 t2 t3 t4 t5 t6 : List ℕ} (a1 a2 a3 name a4 a5 : List ℕ) {n1 n2 n3 m1 m2 m3 : ℕ} →
+    t1 ≡ old ++ a1 ++ decimal n1 → t2 ≡ t1 ++ a2 ++ decimal n2 →
+    t3 ≡ t2 ++ a3 → t4 ≡ t3 ++ name → t5 ≡ t4 ++ a4 ++ decimal n3 → t6 ≡ t5 ++ a5 → n1 ≡ m1 →
+    n2 ≡ m2 → n3 ≡ m3 → t6 ≡ old ++ (a1 ++ decimal m1 ++ a2 ++ decimal m2 ++ a3 ++ name ++ a4 ++ decimal m3 ++ a5)
+entry old a1 a2 a3 name a4 a5 e1 e2 e3 e4 e5 e6 f1 f2 f3 = rw (e6, e5, e4, e3, e2, e1, f1, f2, f3) (simp append_assoc)
 
 -- all that is drawn of a list
-pub layered : (old t1 t2 t3 t4 t5 t6 a1 a2 a3 legend : List ℕ) (n m : ℕ) (curve : Bool) (cells list again : List ℕ) →
-    list ≡ drawn cells → again ≡ drawn cells → t1 ≡ old ++ a1 ++ decimal n → t2 ≡ t1 ++ a2 → t3 ≡ t2 ++ outlines list →
-    t4 ≡ t3 ++ cond curve (line again) [] → t5 ≡ t4 ++ legend → t6 ≡ t5 ++ a3 → n ≡ m
-    → t6 ≡ old ++ (a1 ++ decimal m ++ a2 ++ outlines (drawn cells) ++ cond curve (line (drawn cells)) []
-    ++ legend ++ a3)
-layered old t1 t2 t3 t4 t5 t6 a1 a2 a3 legend n m curve cells list again d d2 e1 e2 e3 e4 e5 e6 f =
+pub layered : (old : List ℕ) {t1 t2 t3 t4 t5 t6 : List ℕ} (a1 a2 a3 legend : List ℕ) {n m : ℕ} (curve : Bool) (cells :
+    List ℕ) {list again : List ℕ} → list ≡ drawn cells → again ≡ drawn cells → t1 ≡ old ++ a1 ++ decimal n → t2 ≡ t1 ++
+    a2 → t3 ≡ t2 ++ outlines list → t4 ≡ t3 ++ cond curve (line again) [] → t5 ≡ t4 ++ legend → t6 ≡ t5 ++ a3 → n ≡ m →
+    t6 ≡ old ++ (a1 ++ decimal m ++ a2 ++ outlines (drawn cells) ++ cond curve (line (drawn cells)) [] ++ legend ++ a3)
+layered old a1 a2 a3 legend curve cells d d2 e1 e2 e3 e4 e5 e6 f =
     rw (e6, e5, e4, e3, e2, e1, d, d2, f) (simp append_assoc)

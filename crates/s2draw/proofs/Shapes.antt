@@ -1,6 +1,5 @@
 -- The rectangle of a cell, from its square.
-use Rattle.std.proofs.Common.{◌≡◌, ℕ, ◌+◌, ◌-◌, ◌*◌, ◌/◌, ◌%◌, ◌^◌, ◌<◌, ◌≤◌, refl}
-use Rattle.std.proofs.Common.{◌∙◌, ap, arith}
+use Rattle.std.proofs.Common.{◌≡◌, ℕ, ◌+◌, ◌-◌, ◌*◌, ◌/◌, ◌%◌, ◌^◌, ◌<◌, ◌≤◌, refl, ◌∙◌, ap, arith}
 use Rattle.std.proofs.Math.Logic.{⊎_elim}
 use Rattle.std.proofs.lemmas.Bool.{cases_lt}
 use Rattle.std.proofs.lemmas.Nat.{pow-add, mod_below, div_below}
@@ -21,17 +20,17 @@ abbrev pub along : ℕ → ℕ
 along c = j_within (level_of c) (face_of c % 2) (place_of c % 4 ^ level_of c)
 
 -- the square of a cell, by them
-pub grid_square : (c : ℕ) → IsCell c → IsSquareOf c (face_of c) (across c * 2 ^ (30 - level_of c))
+pub grid_square : {c : ℕ} → IsCell c → IsSquareOf c (face_of c) (across c * 2 ^ (30 - level_of c))
     (along c * 2 ^ (30 - level_of c)) (2 ^ (30 - level_of c))
-grid_square c ic =
+grid_square {c} ic =
     let k = level_of c in
     square_from_place c (across c) (along c) ic (at_within k (face_of c % 2) (place_of c % 4 ^ k) (omega arith)
     (mod_below (place_of c) (4 ^ k) (four_pos k)))
 
-face_small : (c : ℕ) → IsCell c → face_of c < 6
+face_small : {c : ℕ} → IsCell c → face_of c < 6
 unfolding face_of
-face_small c ic = let own = own_place c ic in div_below (place_of c) (4 ^ level_of c) 6 (four_pos (level_of c))
-    own.place
+face_small {c} ic = let own = own_place c ic in
+    div_below (place_of c) (4 ^ level_of c) 6 (four_pos (level_of c)) own.place
 
 -- the leaves along a cell's side are those of its units
 side_leaves : (k : ℕ) → k ≤ 9 → 2 ^ (30 - k) ≡ 1048576 * 2 ^ (10 - k)
@@ -47,15 +46,15 @@ pub record Units (c f i j s : ℕ) : Type 0 where
   pub within : side_of c * across c + side_of c ≤ 1024
   pub below : side_of c * along c + side_of c ≤ 1024
 
-pub units : (c f i j s : ℕ) → IsCell c → level_of c ≤ 9 → IsSquareOf c f i j s → Units c f i j s
-units c f i j s ic h q =
+pub units : {c f i j s : ℕ} → IsCell c → level_of c ≤ 9 → IsSquareOf c f i j s → Units c f i j s
+units {c} {f} {i} {j} {s} ic h q =
     let k = level_of c in
-    let g = grid_square c ic in
+    let g = grid_square ic in
     let same = one_square c f i j s (face_of c) (across c * 2 ^ (30 - k)) (along c * 2 ^ (30 - k)) (2 ^ (30 - k))
     ic q g in
     let e = side_leaves k h in
     let ef = same.face in
-    let low = face_small c ic in
+    let low = face_small ic in
     let ri : i ≡ across c * (1048576 * side_of c) = rw e at same.first in
     let rj : j ≡ along c * (1048576 * side_of c) = rw e at same.second in
     let ei : i ≡ 1048576 * (side_of c * across c) = omega arith in
@@ -83,10 +82,10 @@ pub record Computed (c n i j s : ℕ) : Type 0 where
   pub within : (1024 * ((n + 1) / 2) + i / 1048576 ≤ 4096) × (1024 * (3 - n / 2) - (j + s) / 1048576 ≤ 3072)
       × (s / 1048576 ≤ 1024)
 
-pub computed : (c f n i j s : ℕ) → IsCellAt (level_of c) (place_of c) c → level_of c ≤ 9 → IsSquareOf c f i j s →
-    n ≡ f → Computed c n i j s
-computed c f n i j s own h q en =
-    let u = units c f i j s (level_of c, place_of c, own) h q in
+pub computed : {c f n i j s : ℕ} →
+    IsCellAt (level_of c) (place_of c) c → level_of c ≤ 9 → IsSquareOf c f i j s → n ≡ f → Computed c n i j s
+computed {c} {f} {n} {i} {j} {s} own h q en =
+    let u = units (level_of c, place_of c, own) h q in
     let low = u.low_face in
     let ef : n ≡ face_of c = en ∙ u.face in
     let w = u.within in
@@ -104,10 +103,10 @@ computed c f n i j s own h q en =
     }
 
 -- a cell's rectangle is exactly its square
-pub exact : (c : ℕ) → IsCell c → level_of c ≤ 9 → IsRectangleOf c (left_of c) (top_of c) (side_of c)
-exact c ic h =
-    let g = grid_square c ic in
-    let u = units c (face_of c) _ _ _ ic h g in
+pub exact : {c : ℕ} → IsCell c → level_of c ≤ 9 → IsRectangleOf c (left_of c) (top_of c) (side_of c)
+exact {c} ic h =
+    let g = grid_square ic in
+    let u = units ic h g in
     let e1 = u.side in
     let e2 = u.first in
     let e3 = u.second in
@@ -124,8 +123,8 @@ exact c ic h =
       side_is = omega arith;
     }
 
-pub IsCell-seen : (c : ℕ) → IsCell c → IsCell (seen c) × (level_of (seen c) ≤ 9)
-IsCell-seen c ic =
+pub IsCell-seen : {c : ℕ} → IsCell c → IsCell (seen c) × (level_of (seen c) ≤ 9)
+IsCell-seen {c} ic =
     ⊎_elim
     (λ deep. let p = IsCellAt-parent_of c 9 ic (omega arith) in
     let e : seen c ≡ parent_of c 9 = search (arith, deep) in

@@ -1,8 +1,6 @@
 -- What a descent through the cells finds, by the depth of a cell (how many levels are below it) and its place in its
 -- level.
-use Rattle.std.specs.Prelude.{◌≡◌, ℕ, zero, suc, ◌+◌, ◌-◌, ◌*◌, ◌/◌, ◌^◌, Bool}
-use Rattle.std.specs.Prelude.{true, false, cond, List, [], ◌∷◌}
-use Rattle.std.specs.Prelude.{◌++◌}
+use Rattle.std.specs.Prelude.{◌≡◌, ℕ, zero, suc, ◌+◌, ◌-◌, ◌*◌, ◌/◌, ◌^◌, Bool, true, false, cond, List, [], ◌∷◌, ◌++◌}
 use Rattle.s2cell.specs.Cell.{level_of, place_of}
 use Rattle.s2cover.specs.Coverings.{filled, touched, outer_set, inner_set}
 use Rattle.s2cover.specs.declared.descent.Kind.{Kind}

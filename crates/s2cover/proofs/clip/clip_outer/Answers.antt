@@ -1,4 +1,4 @@
-use Rattle.std.proofs.Common.{◌&&◌, ◌∙◌}
+use Rattle.std.proofs.Common.{◌≡◌, ℕ, ◌&&◌, ◌∙◌}
 use Rattle.s2list.specs.Union.{has_leaf}
 use Rattle.s2cover.specs.Coverings.{outer_set}
 use Rattle.s2cover.specs.Rectangles.{rect_set}
@@ -7,42 +7,21 @@ use Rattle.s2cover.proofs.Clips.{cut_clip, leaves_ok, normal_ok}
 use Rattle.s2cover.proofs.Parts.{shared_outer}
 use Rattle.s2cover.proofs.clip.clip_outer.Goals as goal
 
+-- the leaves of what the two share, once both are made of cells of the level
+leaves : (c : goal.After-drop-whole-inside) (x : ℕ) →
+    (has_leaf c.in_ok-whole.whole.cells x && rect_set c.round_outward.result x)
+    ≡ outer_set (λ y. has_leaf c.args.union.now.cells y && rect_set c.args.rect.now y) c.args.level x
+leaves c x =
+    shared_outer (rect_set c.round_outward.result) c.args.level c.round_outward.ensures.aligned
+    c.in_ok-whole.ensures.local c.in_ok-whole.ensures.above x
+    ∙ cut_clip c.args.level c.in_ok-whole.whole.cells (rect_set c.args.rect.now) (rect_set c.round_outward.result)
+    c.requires.level c.cells.ensures.local c.in_ok-whole.ensures.leaves c.round_outward.ensures.leaves x
+
 pub returns-clause-leaves : goal.returns-clause-leaves
-returns-clause-leaves c =
-    leaves_ok c.clip_aligned.result (λ x. has_leaf c.in_ok-whole.whole.cells x && rect_set c.round_outward.result x)
-    (outer_set (λ y. has_leaf c.args.union.now.cells y && rect_set c.args.rect.now y) c.args.level)
-    (λ x. shared_outer (rect_set c.round_outward.result) c.args.level c.in_ok-whole.whole.cells
-    c.round_outward.ensures.aligned
-    c.in_ok-whole.ensures.local
-    c.in_ok-whole.ensures.above x
-    ∙ cut_clip c.args.level c.args.union.now.cells c.in_ok-whole.whole.cells (rect_set c.args.rect.now)
-    (rect_set c.round_outward.result) c.requires.level c.cells.ensures.local c.in_ok-whole.ensures.leaves
-    c.round_outward.ensures.leaves x)
-    c.clip_aligned.ensures.leaves
+returns-clause-leaves c = leaves_ok c.clip_aligned.result _ _ (leaves c) c.clip_aligned.ensures.leaves
 
 pub returns-clause-normal : goal.returns-clause-normal
-returns-clause-normal c =
-    normal_ok c.clip_aligned.result (λ x. has_leaf c.in_ok-whole.whole.cells x && rect_set c.round_outward.result x)
-    (outer_set (λ y. has_leaf c.args.union.now.cells y && rect_set c.args.rect.now y) c.args.level)
-    (λ x. shared_outer (rect_set c.round_outward.result) c.args.level c.in_ok-whole.whole.cells
-    c.round_outward.ensures.aligned
-    c.in_ok-whole.ensures.local
-    c.in_ok-whole.ensures.above x
-    ∙ cut_clip c.args.level c.args.union.now.cells c.in_ok-whole.whole.cells (rect_set c.args.rect.now)
-    (rect_set c.round_outward.result) c.requires.level c.cells.ensures.local c.in_ok-whole.ensures.leaves
-    c.round_outward.ensures.leaves x)
-    c.clip_aligned.ensures.normal
+returns-clause-normal c = normal_ok c.clip_aligned.result _ _ (leaves c) c.clip_aligned.ensures.normal
 
 pub returns-clause-many : goal.returns-clause-many
-returns-clause-many c =
-    many_same c.clip_aligned.result _ c.args.max
-    (λ x. has_leaf c.in_ok-whole.whole.cells x && rect_set c.round_outward.result x)
-    (outer_set (λ y. has_leaf c.args.union.now.cells y && rect_set c.args.rect.now y) c.args.level)
-    (λ x. shared_outer (rect_set c.round_outward.result) c.args.level c.in_ok-whole.whole.cells
-    c.round_outward.ensures.aligned
-    c.in_ok-whole.ensures.local
-    c.in_ok-whole.ensures.above x
-    ∙ cut_clip c.args.level c.args.union.now.cells c.in_ok-whole.whole.cells (rect_set c.args.rect.now)
-    (rect_set c.round_outward.result) c.requires.level c.cells.ensures.local c.in_ok-whole.ensures.leaves
-    c.round_outward.ensures.leaves x)
-    c.clip_aligned.ensures.many
+returns-clause-many c = many_same c.clip_aligned.result _ c.args.max _ _ (leaves c) c.clip_aligned.ensures.many

@@ -16,7 +16,7 @@ returns-clause-above c =
     let all : All IsCell met = All-filter (meets S) IsCell c.args.union.now.cells c.cells.ensures.local.cells in
     let is : c.in_ok-cut.cut.items ≡ cells_cut k met = c.in_ok-cut.ensures
     ∙ ap (cells_cut k) (c.as_slice.ensures.value ∙ c.in_ok-met.ensures.list ∙ ap (cells_met S) c.cells.ensures.value) in
-    normal_above k c.normalise.result.cells (cells_cut k met) c.normalise.ensures.local (cut_cells k met all)
+    normal_above k (cells_cut k met) c.normalise.ensures.local (cut_cells k met all)
     (cut_above k met all) (λ x. c.normalise.ensures.leaves x ∙ ap (λ v. has_leaf v x) is)
 
 pub returns-clause-few : goal.returns-clause-few

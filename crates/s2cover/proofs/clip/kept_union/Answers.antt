@@ -16,8 +16,7 @@ returns-clause-above c =
     let all : All IsCell kept = All-filter (reaches k) IsCell c.args.union.now.cells c.cells.ensures.local.cells in
     let is : c.in_ok-met.met.items ≡ cells_met S kept = c.in_ok-met.ensures.list
     ∙ ap (cells_met S) (c.as_slice.ensures.value ∙ c.in_ok-kept.ensures ∙ ap (cells_kept k) c.cells.ensures.value) in
-    normal_above k c.normalise.result.cells (cells_met S kept) c.normalise.ensures.local
-    (All-filter (meets S) IsCell kept all)
+    normal_above k (cells_met S kept) c.normalise.ensures.local (All-filter (meets S) IsCell kept all)
     (All-filter (meets S) (λ c. level_of c ≤ k) kept (kept_above k c.args.union.now.cells))
     (λ x. c.normalise.ensures.leaves x ∙ ap (λ v. has_leaf v x) is)
 

@@ -1,4 +1,4 @@
-use Rattle.std.proofs.Common.{rules, arith, ◌≡◌, ◌-◌, ◌<◌, ◌≤◌, true, false, [], ◌∷◌, length, vec_len, refl}
+use Rattle.std.proofs.Common.{rules, arith, ◌≡◌, ◌-◌, ◌≤◌, true, false, [], ◌∷◌, length, vec_len, refl}
 use Rattle.std.proofs.Common.{◌∙◌, ap, sym, inl, inr}
 use Rattle.std.proofs.lemmas.Bool.{both_ways}
 use Rattle.std.proofs.lemmas.Result.{err_from_is_err_and}
@@ -7,7 +7,7 @@ use Rattle.s2cover.specs.Working.Descent.{blocks, depth_of, is_outer}
 use Rattle.s2cover.proofs.Visits.{in_whole, out_nothing, cross_whole, cross_nothing, same_list, one_more, is_full}
 use Rattle.s2cover.proofs.Visits.{too_many, Both, visited_next, whole_next, list_next, many_next, many_child, id_of}
 use Rattle.s2cover.proofs.Visits.{all_children, some_children, kept, child_from, child_stops, visited_none, Held}
-use Rattle.s2cover.proofs.Visits.{held_full, held_none}
+use Rattle.s2cover.proofs.Visits.{held_full, held_none, deeper}
 use Rattle.s2cover.proofs.descent.+visit.Goals as goal
 use Rattle.s2cover.proofs.descent.+visit.Goals.{then-full, else-full, then-full-2, else-full-2}
 use Rattle.s2cover.proofs.descent.+visit.Goals.{else-not-full-via-then-not-full+else-len-max}
@@ -34,14 +34,10 @@ visit-requires g t c κs within =
     let held : Held (level_of c.args.placed.now.cell) (level_of c.child.result.cell) c.args.loose
     c.loop-digit.digit c.if-full.held c.args.max (vec_len c.loop-digit.list) =
     elim c.if-full.branch [
-      | then-full w ↦ held_full S grain (level_of c.args.placed.now.cell) d m c.loop-digit.digit
-          c.args.list.now.items c.loop-digit.list.items (vec_len c.args.list.now) (vec_len c.loop-digit.list)
-          c.loop-digit.full c.args.loose c.args.max c.len-before.result (level_of c.child.result.cell) c.if-full.held
+      | then-full w ↦ held_full (level_of c.args.placed.now.cell) (level_of c.child.result.cell) c.if-full.held
           lv c.loop-digit-test.true c.requires.loose w.held-is w.if-full.true c.loop-digit.invariant
-      | else-full w ↦ held_none S grain (level_of c.args.placed.now.cell) d m c.loop-digit.digit
-          c.args.list.now.items c.loop-digit.list.items (vec_len c.args.list.now) (vec_len c.loop-digit.list)
-          c.loop-digit.full c.args.loose c.args.max c.len-before.result (level_of c.child.result.cell) c.if-full.held
-          w.held-is w.if-full.false c.loop-digit.invariant
+      | else-full w ↦ held_none (level_of c.args.placed.now.cell)
+          (level_of c.child.result.cell) c.if-full.held w.held-is w.if-full.false c.loop-digit.invariant
     ] in
     let bound = held.bound in
     let room = held.room in
@@ -58,11 +54,8 @@ returns-in_err-inside-in-Cross-2-clause-many g t c =
     let s = child_stops S grain d m c.loop-digit.digit (depth_of c.child.result.cell)
     (place_of c.child.result.cell) c.args.max (vec_len c.loop-digit.list) c.child.ensures.depth
     c.child.ensures.place (c.in_err-inside-in-Cross-2.ensures.many e) in
-    many_child S grain d m c.loop-digit.digit c.args.list.now.items c.loop-digit.list.items
-    (vec_len c.args.list.now) (vec_len c.loop-digit.list) c.args.max c.loop-digit.full
-    (let n = c.if-level.false in let v = c.level.ensures.value in let k = c.requires.above in
-    let l = c.requires.level in omega arith) c.loop-digit-test.true c.args.list.now.ok.0 c.loop-digit.list.ok.0
-    c.loop-digit.invariant.list c.loop-digit.invariant.whole s.0 s.1)
+    many_child (deeper c.args.placed.now.cell c.requires.above c.requires.level c.level.ensures.value c.if-level.false)
+    c.loop-digit-test.true c.args.list.now.ok.0 c.loop-digit.list.ok.0 c.loop-digit.invariant s.0 s.1)
 
 pub returns-then-len-max-clause-many : goal.returns-then-len-max-clause-many
 returns-then-len-max-clause-many g t c =
@@ -77,15 +70,14 @@ returns-then-len-max-clause-many g t c =
     let both : Both c.loop-digit.full c.in_ok-inside-in-Cross-2.inside c.if-full-2.full =
     elim c.if-full-2.branch [
       | then-full-2 w ↦ inl (w.if-full-2.true, w.full-is)
-      | else-full-2 w ↦ inr
-          (w.if-full-2.false, w.full-is ∙ w.if-full-2.false)
+      | else-full-2 w ↦ inr (w.if-full-2.false, w.full-is ∙ w.if-full-2.false)
     ] in
     let list = list_next S grain d m c.loop-digit.digit c.args.list.now.items c.loop-digit.list.items
     c.visit.new.list.items c.loop-digit.invariant.list kid.list in
-    let below : grain < d = (let n = c.if-level.false in let v = c.level.ensures.value in
-    let k = c.requires.above in let l = c.requires.level in omega arith) in
-    let whole = whole_next S d m c.loop-digit.digit c.loop-digit.full c.in_ok-inside-in-Cross-2.inside
-    c.if-full-2.full (omega arith) c.loop-digit-test.true c.loop-digit.invariant.whole kid.full both in
+    let below = deeper
+    c.args.placed.now.cell c.requires.above c.requires.level c.level.ensures.value c.if-level.false in
+    let whole = whole_next
+    S d m c.loop-digit.digit (omega arith) c.loop-digit-test.true c.loop-digit.invariant.whole kid.full both in
     let len : vec_len c.visit.new.list ≡ length c.visit.new.list.items = c.visit.new.list.ok.0 in
     many_next S grain d m c.loop-digit.digit c.args.list.now.items c.visit.new.list.items (vec_len c.args.list.now)
     c.args.max c.if-full-2.full below c.loop-digit-test.true c.args.list.now.ok.0 list whole (search rules)
@@ -103,141 +95,88 @@ loop-digit-preserved g t c =
     let both : Both c.loop-digit.full c.in_ok-inside-in-Cross-2.inside c.if-full-2.full =
     elim c.if-full-2.branch [
       | then-full-2 w ↦ inl (w.if-full-2.true, w.full-is)
-      | else-full-2 w ↦ inr
-          (w.if-full-2.false, w.full-is ∙ w.if-full-2.false)
+      | else-full-2 w ↦ inr (w.if-full-2.false, w.full-is ∙ w.if-full-2.false)
     ] in
-    visited_next S grain d m c.loop-digit.digit c.args.list.now.items c.loop-digit.list.items
-    c.visit.new.list.items (vec_len c.args.list.now) (vec_len c.loop-digit.list) (vec_len c.visit.new.list)
-    c.loop-digit.full c.in_ok-inside-in-Cross-2.inside c.if-full-2.full c.args.loose c.args.max c.len-before.result
-    (let n = c.if-level.false in let v = c.level.ensures.value in let k = c.requires.above in
-    let l = c.requires.level in omega arith) c.loop-digit-test.true c.loop-digit.list.ok.0 c.visit.new.list.ok.0
-    c.loop-digit.invariant kid both
+    visited_next (vec_len c.visit.new.list)
+    (deeper c.args.placed.now.cell c.requires.above c.requires.level c.level.ensures.value c.if-level.false)
+    c.loop-digit-test.true c.loop-digit.list.ok.0 c.visit.new.list.ok.0 c.loop-digit.invariant kid both
     (λ f. elim c.else-not-full.branch [
       | else-not-full-via-then-not-full+else-len-max w ↦ omega (arith, w.len.ensures, w.if-len-max.false)
       | else-not-full-via-else-not-full w ↦ absurd (both_ways c.if-full-2.full f w.if-not-full.false)
     ])
 
-pub returns-in-Out-clause-list : goal.returns-in-Out-clause-list
-returns-in-Out-clause-list g t c =
+pub returns-in-Out : goal.returns-in-Out
+returns-in-Out g t c =
     let n = out_nothing (is_outer c.args.kind) (g.R.Region.holds c.args.region.now) (30 - c.args.level)
     c.args.placed.now.cell (let k = c.requires.above in omega arith) (c.in-Out.ensures.out.0 refl) in
-    same_list c.settle.result _ c.args.list.now.items _ n.cells c.settle.ensures.ok
+    record {
+      list = same_list c.settle.result _ c.args.list.now.items _ n.cells c.settle.ensures.ok;
+      full = is_full c.settle.result _ false _ n.holds c.settle.ensures.ok;
+      room = search rules;
+      many = too_many c.settle.result _ _ c.args.max (vec_len c.args.list.now) _ n.holds c.settle.ensures.many;
+    }
 
-pub returns-in-Out-clause-full : goal.returns-in-Out-clause-full
-returns-in-Out-clause-full g t c =
-    let n = out_nothing (is_outer c.args.kind) (g.R.Region.holds c.args.region.now) (30 - c.args.level)
-    c.args.placed.now.cell (let k = c.requires.above in omega arith) (c.in-Out.ensures.out.0 refl) in
-    is_full c.settle.result _ false _ n.holds c.settle.ensures.ok
-
-pub returns-in-Out-clause-many : goal.returns-in-Out-clause-many
-returns-in-Out-clause-many g t c =
-    let n = out_nothing (is_outer c.args.kind) (g.R.Region.holds c.args.region.now) (30 - c.args.level)
-    c.args.placed.now.cell (let k = c.requires.above in omega arith) (c.in-Out.ensures.out.0 refl) in
-    too_many c.settle.result _ _ c.args.max (vec_len c.args.list.now) _ n.holds c.settle.ensures.many
-
-pub returns-in-In-clause-list : goal.returns-in-In-clause-list
-returns-in-In-clause-list g t c =
+pub returns-in-In : goal.returns-in-In
+returns-in-In g t c =
     let n = in_whole (is_outer c.args.kind) (g.R.Region.holds c.args.region.now) (30 - c.args.level)
-    c.args.placed.now.cell
-    (let k = c.requires.above in omega arith) (c.in-In.ensures.inside.0 refl) in
-    one_more c.take.result c.args.list.now.items c.take.new.list.items _ c.args.placed.now.cell
-    (n.cells ∙ ap (λ z. z ∷ []) (id_of c.args.placed.now.cell c.requires.placed.cell)) c.take.ensures.list
+    c.args.placed.now.cell (let k = c.requires.above in omega arith) (c.in-In.ensures.inside.0 refl) in
+    record {
+      list = one_more c.take.result c.args.list.now.items c.take.new.list.items _ c.args.placed.now.cell
+          (n.cells ∙ ap (λ z. z ∷ []) (id_of c.requires.placed.cell)) c.take.ensures.list;
+      full = is_full c.take.result _ true _ n.holds c.take.ensures.list;
+      room = search rules;
+      many = search rules;
+    }
 
-pub returns-in-In-clause-full : goal.returns-in-In-clause-full
-returns-in-In-clause-full g t c =
-    let n = in_whole (is_outer c.args.kind) (g.R.Region.holds c.args.region.now) (30 - c.args.level)
-    c.args.placed.now.cell
-    (let k = c.requires.above in omega arith) (c.in-In.ensures.inside.0 refl) in
-    is_full c.take.result _ true _ n.holds c.take.ensures.list
-
-pub returns-then-whole-clause-list : goal.returns-then-whole-clause-list
-returns-then-whole-clause-list g t c =
+pub returns-then-whole : goal.returns-then-whole
+returns-then-whole g t c =
     let n = cross_whole (is_outer c.args.kind) (g.R.Region.holds c.args.region.now) (30 - c.args.level)
     c.args.placed.now.cell (sym c.has_crossing-whole.ensures ∙ c.if-whole.true)
-    (let e = c.if-level.true in let v = c.level.ensures.value in
-    omega arith) (λ h. let e = c.in-Cross.ensures.out.1 h in cc) in
-    one_more c.take-then-whole.result c.args.list.now.items c.take-then-whole.new.list.items _
-    c.args.placed.now.cell (n.cells ∙ ap (λ z. z ∷ []) (id_of c.args.placed.now.cell c.requires.placed.cell))
-    c.take-then-whole.ensures.list
+    (let e = c.if-level.true in let v = c.level.ensures.value in omega arith)
+    (λ h. let e = c.in-Cross.ensures.out.1 h in cc) in
+    record {
+      list = one_more c.take-then-whole.result c.args.list.now.items c.take-then-whole.new.list.items _
+          c.args.placed.now.cell (n.cells ∙ ap (λ z. z ∷ []) (id_of c.requires.placed.cell))
+          c.take-then-whole.ensures.list;
+      full = is_full c.take-then-whole.result _ true _ n.holds c.take-then-whole.ensures.list;
+      room = search rules;
+      many = search rules;
+    }
 
-pub returns-then-whole-clause-full : goal.returns-then-whole-clause-full
-returns-then-whole-clause-full g t c =
-    let n = cross_whole (is_outer c.args.kind) (g.R.Region.holds c.args.region.now) (30 - c.args.level)
-    c.args.placed.now.cell (sym c.has_crossing-whole.ensures ∙ c.if-whole.true)
-    (let e = c.if-level.true in let v = c.level.ensures.value in
-    omega arith) (λ h. let e = c.in-Cross.ensures.out.1 h in cc) in
-    is_full c.take-then-whole.result _ true _ n.holds c.take-then-whole.ensures.list
-
-pub returns-else-whole-clause-list : goal.returns-else-whole-clause-list
-returns-else-whole-clause-list g t c =
+pub returns-else-whole : goal.returns-else-whole
+returns-else-whole g t c =
     let n = cross_nothing (is_outer c.args.kind) (g.R.Region.holds c.args.region.now) (30 - c.args.level)
     c.args.placed.now.cell (sym c.has_crossing-whole.ensures ∙ c.if-whole.false)
-    (let e = c.if-level.true in let v = c.level.ensures.value in
-    omega arith) (λ h. let e = c.in-Cross.ensures.inside.1 h in cc) in
-    same_list c.settle-else-whole.result _ c.args.list.now.items _ n.cells c.settle-else-whole.ensures.ok
+    (let e = c.if-level.true in let v = c.level.ensures.value in omega arith)
+    (λ h. let e = c.in-Cross.ensures.inside.1 h in cc) in
+    record {
+      list = same_list c.settle-else-whole.result _ c.args.list.now.items _ n.cells c.settle-else-whole.ensures.ok;
+      full = is_full c.settle-else-whole.result _ false _ n.holds c.settle-else-whole.ensures.ok;
+      room = search rules;
+      many = too_many c.settle-else-whole.result _ _ c.args.max (vec_len c.args.list.now) _ n.holds
+          c.settle-else-whole.ensures.many;
+    }
 
-pub returns-else-whole-clause-full : goal.returns-else-whole-clause-full
-returns-else-whole-clause-full g t c =
-    let n = cross_nothing (is_outer c.args.kind) (g.R.Region.holds c.args.region.now) (30 - c.args.level)
-    c.args.placed.now.cell (sym c.has_crossing-whole.ensures ∙ c.if-whole.false)
-    (let e = c.if-level.true in let v = c.level.ensures.value in
-    omega arith) (λ h. let e = c.in-Cross.ensures.inside.1 h in cc) in
-    is_full c.settle-else-whole.result _ false _ n.holds c.settle-else-whole.ensures.ok
+pub returns-then-full-3 : goal.returns-then-full-3
+returns-then-full-3 g t c =
+    let n = all_children
+    (deeper c.args.placed.now.cell c.requires.above c.requires.level c.level.ensures.value c.if-level.false)
+    (let a = c.loop-digit-test.false in let b = c.loop-digit.auto.digit-end in omega arith) c.if-full-3.true
+    c.args.list.now.ok.0 c.loop-digit.invariant in
+    let k = c.truncate.ensures.items ∙ kept c.args.list.now.ok.0 c.loop-digit.invariant in
+    record {
+      list = rw k at (one_more c.take-then-full-3.result c.truncate.new.self.items c.take-then-full-3.new.list.items _
+          c.args.placed.now.cell (n.cells ∙ ap (λ z. z ∷ []) (id_of c.requires.placed.cell))
+          c.take-then-full-3.ensures.list);
+      full = is_full c.take-then-full-3.result _ true _ n.holds c.take-then-full-3.ensures.list;
+      room = search rules;
+      many = search rules;
+    }
 
-pub returns-else-whole-clause-many : goal.returns-else-whole-clause-many
-returns-else-whole-clause-many g t c =
-    let n = cross_nothing (is_outer c.args.kind) (g.R.Region.holds c.args.region.now) (30 - c.args.level)
-    c.args.placed.now.cell (sym c.has_crossing-whole.ensures ∙ c.if-whole.false)
-    (let e = c.if-level.true in let v = c.level.ensures.value in
-    omega arith) (λ h. let e = c.in-Cross.ensures.inside.1 h in cc) in
-    too_many c.settle-else-whole.result _ _ c.args.max (vec_len c.args.list.now) _ n.holds
-    c.settle-else-whole.ensures.many
-
-pub returns-then-full-3-clause-list : goal.returns-then-full-3-clause-list
-returns-then-full-3-clause-list g t c =
-    let S = blocks (is_outer c.args.kind) (g.R.Region.holds c.args.region.now) (30 - c.args.level) in
-    let grain = 30 - c.args.level in
-    let d = depth_of c.args.placed.now.cell in
-    let m = place_of c.args.placed.now.cell in
-    let n = all_children S grain d m c.loop-digit.digit c.args.list.now.items c.loop-digit.list.items
-    (vec_len c.args.list.now) (vec_len c.loop-digit.list) c.loop-digit.full c.args.loose c.args.max
-    c.len-before.result (let n = c.if-level.false in let v = c.level.ensures.value in let k = c.requires.above in
-    let l = c.requires.level in omega arith) (let a = c.loop-digit-test.false in let b =
-    c.loop-digit.auto.digit-end in omega arith) c.if-full-3.true c.args.list.now.ok.0 c.loop-digit.invariant in
-    let k = c.truncate.ensures.items ∙ kept S grain d m c.loop-digit.digit c.args.list.now.items
-    c.loop-digit.list.items (vec_len c.args.list.now) (vec_len c.loop-digit.list) c.loop-digit.full c.args.loose
-    c.args.max c.len-before.result c.args.list.now.ok.0 c.loop-digit.invariant in
-    rw k at (one_more c.take-then-full-3.result c.truncate.new.self.items c.take-then-full-3.new.list.items _
-    c.args.placed.now.cell (n.cells ∙ ap (λ z. z ∷ []) (id_of c.args.placed.now.cell c.requires.placed.cell))
-    c.take-then-full-3.ensures.list)
-
-pub returns-then-full-3-clause-full : goal.returns-then-full-3-clause-full
-returns-then-full-3-clause-full g t c =
-    let S = blocks (is_outer c.args.kind) (g.R.Region.holds c.args.region.now) (30 - c.args.level) in
-    let n = all_children S (30 - c.args.level) (depth_of c.args.placed.now.cell) (place_of c.args.placed.now.cell)
-    c.loop-digit.digit c.args.list.now.items c.loop-digit.list.items (vec_len c.args.list.now)
-    (vec_len c.loop-digit.list) c.loop-digit.full c.args.loose c.args.max c.len-before.result
-    (let n = c.if-level.false in let v = c.level.ensures.value in let k = c.requires.above in
-    let l = c.requires.level in omega arith) (let a = c.loop-digit-test.false in let b =
-    c.loop-digit.auto.digit-end in omega arith) c.if-full-3.true c.args.list.now.ok.0 c.loop-digit.invariant in
-    is_full c.take-then-full-3.result _ true _ n.holds c.take-then-full-3.ensures.list
-
-pub returns-else-full-3-clause-list : goal.returns-else-full-3-clause-list
-returns-else-full-3-clause-list g t c =
-    let S = blocks (is_outer c.args.kind) (g.R.Region.holds c.args.region.now) (30 - c.args.level) in
-    (some_children S (30 - c.args.level) (depth_of c.args.placed.now.cell) (place_of c.args.placed.now.cell)
-    c.loop-digit.digit c.args.list.now.items c.loop-digit.list.items (vec_len c.args.list.now)
-    (vec_len c.loop-digit.list) c.loop-digit.full c.args.loose c.args.max c.len-before.result
-    (let n = c.if-level.false in let v = c.level.ensures.value in let k = c.requires.above in
-    let l = c.requires.level in omega arith) (let a = c.loop-digit-test.false in let b =
-    c.loop-digit.auto.digit-end in omega arith) c.if-full-3.false c.loop-digit.invariant).1
-
-pub returns-else-full-3-clause-full : goal.returns-else-full-3-clause-full
-returns-else-full-3-clause-full g t c =
-    let S = blocks (is_outer c.args.kind) (g.R.Region.holds c.args.region.now) (30 - c.args.level) in
-    (some_children S (30 - c.args.level) (depth_of c.args.placed.now.cell) (place_of c.args.placed.now.cell)
-    c.loop-digit.digit c.args.list.now.items c.loop-digit.list.items (vec_len c.args.list.now)
-    (vec_len c.loop-digit.list) c.loop-digit.full c.args.loose c.args.max c.len-before.result
-    (let n = c.if-level.false in let v = c.level.ensures.value in let k = c.requires.above in
-    let l = c.requires.level in omega arith) (let a = c.loop-digit-test.false in let b =
-    c.loop-digit.auto.digit-end in omega arith) c.if-full-3.false c.loop-digit.invariant).0
+pub returns-else-full-3 : goal.returns-else-full-3
+returns-else-full-3 g t c =
+    let s = some_children
+    (deeper c.args.placed.now.cell c.requires.above c.requires.level c.level.ensures.value c.if-level.false)
+    (let a = c.loop-digit-test.false in let b = c.loop-digit.auto.digit-end in omega arith) c.if-full-3.false
+    c.loop-digit.invariant in
+    record { list = s.1; full = s.0; room = search rules; many = search rules }

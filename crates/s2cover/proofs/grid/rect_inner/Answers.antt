@@ -10,5 +10,4 @@ returns-in-Some-clause-many c = many_same c.cover_aligned.result _ c.args.max (r
 
 pub returns-in-None-clause-normal : goal.returns-in-None-clause-normal
 returns-in-None-clause-normal c = none_normal (inner_set (rect_set c.args.rect.now) c.args.level)
-    c.from_normalized.result.cells (c.in-None.ensures.none refl) (c.from_normalized.ensures.value
-    ∙ c.new.ensures.items)
+    c.from_normalized.result.cells (c.in-None.ensures.none refl) (c.from_normalized.ensures.value ∙ c.new.ensures.items)

@@ -14,5 +14,4 @@ returns c =
       c.as_bytes-2.ensures.value,
       c.as_bytes-3.ensures.value,
       c.as_bytes-4.ensures.value,
-    )
-    (simp append_assoc)
+    ) (simp append_assoc)

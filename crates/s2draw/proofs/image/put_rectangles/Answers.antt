@@ -9,6 +9,5 @@ pub returns : goal.returns
 unfolding rectangles
 returns c =
     IfOk-weaker c.put-2.result _ _
-    (λ u q. around rectangle _ _ _ _ _ _ _ _ c.in_ok-put.ensures c.loop-cell.invariant
-    (take_all c.loop-cell.cell-index c.args.cells.now (search rules)) q)
-    c.put-2.ensures
+    (λ u q. around rectangle _ _ _ c.in_ok-put.ensures
+    c.loop-cell.invariant (take_all c.loop-cell.cell-index c.args.cells.now (search rules)) q) c.put-2.ensures

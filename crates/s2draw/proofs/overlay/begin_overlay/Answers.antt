@@ -6,7 +6,7 @@ use Rattle.s2draw.proofs.overlay.begin_overlay.Goals as goal
 pub returns : goal.returns
 unfolding overlay_head
 returns c =
-    begun _ _ _ _ _ _ _ _ _ _ _ _ _ _ _ _ _ _ _ _ c.new-text.ensures.items
+    begun _ _ _ c.new-text.ensures.items
     c.in_ok-put_field.ensures c.in_ok-put_field-2.ensures c.in_ok-put.ensures c.in_ok-put-2.ensures
     c.in_ok-put-3.ensures c.in_ok-put-4.ensures (omega arith) (omega arith) c.as_bytes.ensures.value
     c.as_bytes-2.ensures.value c.as_bytes-3.ensures.value

@@ -9,13 +9,13 @@ pub returns-then-square-self-clause-out : goal.returns-then-square-self-clause-o
 returns-then-square-self-clause-out c d s =
     let q = c.args.square in
     subst (λ (r : Rect). (Out ≡ Out) ↔ ((x : ℕ) → covers d x ≡ true → rect_set r x ≡ false)) c.self.view_is
-    (λ _. out_from _ d q.face q.i q.j q.size s (inl c.if-square-self.true), λ _. refl)
+    (λ _. out_from _ s (inl c.if-square-self.true), λ _. refl)
 
 pub returns-then-square-self-clause-inside : goal.returns-then-square-self-clause-inside
 returns-then-square-self-clause-inside c d s =
     let q = c.args.square in
     subst (λ (r : Rect). (Out ≡ In) ↔ ((x : ℕ) → covers d x ≡ true → rect_set r x ≡ true)) c.self.view_is
-    (λ e. cc, λ h. absurd (c.if-square-self.true (in_to _ d q.face q.i q.j q.size s h).on))
+    (λ e. cc, λ h. absurd (c.if-square-self.true (in_to _ s h).on))
 
 pub returns-clause-out : goal.returns-clause-out
 returns-clause-out c d s =
@@ -26,15 +26,12 @@ returns-clause-out c d s =
     let both = c.both_parts.ensures.out in
     subst (λ (r : Rect). (c.both_parts.result ≡ Out) ↔ ((x : ℕ) → covers d x ≡ true → rect_set r x ≡ false))
     c.self.view_is (
-      λ e. out_from _ d q.face q.i q.j q.size s
-          (inr (⊎_elim (λ (a : c.span_part-first.result ≡ Out). inl (first.0 a))
+      λ e. out_from _ s (inr (⊎_elim (λ (a : c.span_part-first.result ≡ Out). inl (first.0 a))
           (λ (b : c.span_part-second.result ≡ Out). inr (second.0 b)) (both.0 e))),
-      λ h. both.1
-          (⊎_elim (λ a. inl (first.1 a))
+      λ h. both.1 (⊎_elim (λ a. inl (first.1 a))
           (λ na. ⊎_elim (λ b. inr (second.1 b))
-          (λ nb. absurd (out_to _ d q.face q.i q.j q.size c.self.invariant s c.if-square-self.false na nb h))
-          (apart_or f.j0 f.j1 q.j q.size))
-          (apart_or f.i0 f.i1 q.i q.size)),
+          (λ nb. absurd (out_to c.self.invariant s c.if-square-self.false na nb h))
+          (apart_or f.j0 f.j1 q.j q.size)) (apart_or f.i0 f.i1 q.i q.size)),
     )
 
 pub returns-clause-inside : goal.returns-clause-inside
@@ -45,6 +42,6 @@ returns-clause-inside c d s =
     let both = c.both_parts.ensures.inside in
     subst (λ (r : Rect). (c.both_parts.result ≡ In) ↔ ((x : ℕ) → covers d x ≡ true → rect_set r x ≡ true))
     c.self.view_is (
-      λ e. let b = both.0 e in in_from _ d q.face q.i q.j q.size s c.if-square-self.false (first.0 b.0) (second.0 b.1),
-      λ h. let w = in_to _ d q.face q.i q.j q.size s h in both.1 (first.1 w.along, second.1 w.across),
+      λ e. let b = both.0 e in in_from _ s c.if-square-self.false (first.0 b.0) (second.0 b.1),
+      λ h. let w = in_to _ s h in both.1 (first.1 w.along, second.1 w.across),
     )

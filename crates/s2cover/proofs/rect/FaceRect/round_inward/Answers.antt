@@ -1,20 +1,17 @@
-use Rattle.std.proofs.Common.{◌≡◌, ◌+◌, ◌-◌, ◌^◌, ◌≤◌, ◌⊎◌, inl, inr, ℕ, false, arith, refl, ◌∙◌}
-use Rattle.std.proofs.Common.{subst}
+use Rattle.std.proofs.Common.{◌≡◌, ◌+◌, ◌-◌, ◌≤◌, ◌⊎◌, inl, inr, ℕ, false, arith, refl, ◌∙◌, subst}
 use Rattle.s2cover.specs.Coverings.{inner_set}
 use Rattle.s2cover.specs.Rectangles.{Rect, rect_set}
 use Rattle.s2cover.proofs.Rounded.{narrowed_inner, narrowed_aligned, narrowed_empty}
-use Rattle.s2cover.proofs.Squares.{Narrowed}
+use Rattle.s2cover.proofs.Squares.{narrowed}
 use Rattle.s2cover.proofs.rect.FaceRect.round_inward.Goals as goal
 use Rattle.s2cover.proofs.rect.FaceRect.round_inward.Goals.{else-i0-i_end-via-then-i0-i_end+else-j0-j_end}
 use Rattle.s2cover.proofs.rect.FaceRect.round_inward.Goals.{else-i0-i_end-via-else-i0-i_end}
 
 pub returns-then-j0-j_end-clause-leaves : goal.returns-then-j0-j_end-clause-leaves
 returns-then-j0-j_end-clause-leaves c =
-    let f = c.self.inside in
     let s = c.side_of-side.ensures.value in
-    let r : Rect = record { face = f.face; i0 = f.i0; i1 = f.i1; j0 = f.j0; j1 = f.j1 } in
     let t : Rect = record {
-      face = f.face;
+      face = c.self.inside.face;
       i0 = c.round_down-i0.result;
       i1 = c.round_down-i_end.result - 1;
       j0 = c.round_down-j0.result;
@@ -24,44 +21,25 @@ returns-then-j0-j_end-clause-leaves c =
     let bj = c.if-j0-j_end.true in
     let ei : c.round_down-i_end.result - 1 + 1 ≡ c.round_down-i_end.result = omega arith in
     let ej : c.round_down-j_end.result - 1 + 1 ≡ c.round_down-j_end.result = omega arith in
-    let ri : Narrowed f.i0 f.i1 c.round_down-i0.result (c.round_down-i_end.result - 1 + 1) (2 ^ (30 - c.args.level)) =
-    record { low = rw s at c.round_down-i0.ensures.value; end_is = rw s at (ei ∙ c.round_down-i_end.ensures.value) } in
-    let rj : Narrowed f.j0 f.j1 c.round_down-j0.result (c.round_down-j_end.result - 1 + 1) (2 ^ (30 - c.args.level)) =
-    record { low = rw s at c.round_down-j0.ensures.value; end_is = rw s at (ej ∙ c.round_down-j_end.ensures.value) } in
     subst (λ (v : Rect). (x : ℕ) → rect_set t x ≡ inner_set (rect_set v) c.args.level x) c.self.view_is
-    (narrowed_inner r t c.args.level c.self.invariant.face refl ri rj)
+    (narrowed_inner _ t c.args.level c.self.invariant.face refl
+    (narrowed s c.round_down-i0.ensures.value (ei ∙ c.round_down-i_end.ensures.value))
+    (narrowed s c.round_down-j0.ensures.value (ej ∙ c.round_down-j_end.ensures.value)))
 
 pub returns-then-j0-j_end-clause-aligned : goal.returns-then-j0-j_end-clause-aligned
 returns-then-j0-j_end-clause-aligned c =
-    let f = c.self.inside in
     let s = c.side_of-side.ensures.value in
-    let r : Rect = record { face = f.face; i0 = f.i0; i1 = f.i1; j0 = f.j0; j1 = f.j1 } in
-    let t : Rect = record {
-      face = f.face;
-      i0 = c.round_down-i0.result;
-      i1 = c.round_down-i_end.result - 1;
-      j0 = c.round_down-j0.result;
-      j1 = c.round_down-j_end.result - 1;
-    } in
     let bi = c.if-i0-i_end.true in
     let bj = c.if-j0-j_end.true in
     let ei : c.round_down-i_end.result - 1 + 1 ≡ c.round_down-i_end.result = omega arith in
     let ej : c.round_down-j_end.result - 1 + 1 ≡ c.round_down-j_end.result = omega arith in
-    let ri : Narrowed f.i0 f.i1 c.round_down-i0.result (c.round_down-i_end.result - 1 + 1) (2 ^ (30 - c.args.level)) =
-    record { low = rw s at c.round_down-i0.ensures.value; end_is = rw s at (ei ∙ c.round_down-i_end.ensures.value) } in
-    let rj : Narrowed f.j0 f.j1 c.round_down-j0.result (c.round_down-j_end.result - 1 + 1) (2 ^ (30 - c.args.level)) =
-    record { low = rw s at c.round_down-j0.ensures.value; end_is = rw s at (ej ∙ c.round_down-j_end.ensures.value) } in
-    narrowed_aligned r t c.args.level refl ri rj
+    narrowed_aligned _ _ c.args.level refl
+    (narrowed s c.round_down-i0.ensures.value (ei ∙ c.round_down-i_end.ensures.value))
+    (narrowed s c.round_down-j0.ensures.value (ej ∙ c.round_down-j_end.ensures.value))
 
 pub returns-else-i0-i_end-clause-none : goal.returns-else-i0-i_end-clause-none
 returns-else-i0-i_end-clause-none c e =
-    let f = c.self.inside in
     let s = c.side_of-side.ensures.value in
-    let r : Rect = record { face = f.face; i0 = f.i0; i1 = f.i1; j0 = f.j0; j1 = f.j1 } in
-    let ri : Narrowed f.i0 f.i1 c.round_down-i0.result c.round_down-i_end.result (2 ^ (30 - c.args.level)) =
-    record { low = rw s at c.round_down-i0.ensures.value; end_is = rw s at c.round_down-i_end.ensures.value } in
-    let rj : Narrowed f.j0 f.j1 c.round_down-j0.result c.round_down-j_end.result (2 ^ (30 - c.args.level)) =
-    record { low = rw s at c.round_down-j0.ensures.value; end_is = rw s at c.round_down-j_end.ensures.value } in
     let none : (c.round_down-i_end.result ≤ c.round_down-i0.result)
     ⊎ (c.round_down-j_end.result ≤ c.round_down-j0.result) =
     elim c.else-i0-i_end.branch [
@@ -69,5 +47,6 @@ returns-else-i0-i_end-clause-none c e =
       | else-i0-i_end-via-else-i0-i_end w ↦ let n = w.if-i0-i_end.false in inl (omega arith)
     ] in
     subst (λ (v : Rect). (x : ℕ) → inner_set (rect_set v) c.args.level x ≡ false) c.self.view_is
-    (narrowed_empty r c.round_down-i0.result c.round_down-i_end.result c.round_down-j0.result
-    c.round_down-j_end.result c.args.level ri rj none)
+    (narrowed_empty _ c.args.level
+    (narrowed s c.round_down-i0.ensures.value c.round_down-i_end.ensures.value)
+    (narrowed s c.round_down-j0.ensures.value c.round_down-j_end.ensures.value) none)
