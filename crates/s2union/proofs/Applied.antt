@@ -23,21 +23,18 @@ gone p u o v h t n e = grind (arith, common_steps)
 pub local_ascends : (us : List ℕ) → IsLocal us → IsAscending us
 local_ascends us l = ascends_from us l.ascending
 
-put_is_gone : (out put us : List ℕ) → Fits out put us → (x : ℕ) → has out x ≡ true → has (applied out put us) x ≡ false
-put_is_gone out put us f x h =
+put_is_gone : {out put us : List ℕ} → Fits out put us → (x : ℕ) → has out x ≡ true → has (applied out put us) x ≡ false
+put_is_gone {out} {put} {us} f x h =
     gone (has put x) (has us x) (has out x) (has (applied out put us) x) h (f.out_is_there x) (f.put_is_new x)
     (has-applied out put us x)
 
 -- the inverse gives the list back
 pub applied-inverse : (out put us : List ℕ) → IsLocal us → Fits out put us → applied put out (applied out put us) ≡ us
 applied-inverse out put us a f =
-    same_cells (applied put out (applied out put us)) us
-    (IsAscending-applied put out (applied out put us) (ascends_from out f.out_ascends)
-    (local_ascends (applied out put us) f.local) (put_is_gone out put us f))
-    (local_ascends us a)
-    (λ x. has-applied put out (applied out put us) x
-    ∙ ap (λ b. has out x || (b && not (has put x))) (has-applied out put us x)
-    ∙ back (has out x) (has put x) (has us x) (f.out_is_there x) (f.put_is_new x))
+    same_cells (applied put out (applied out put us)) us (IsAscending-applied put out (applied out put us)
+    (ascends_from out f.out_ascends) (local_ascends (applied out put us) f.local) (put_is_gone f)) (local_ascends us a)
+    (λ x. has-applied put out (applied out put us) x ∙ ap (λ b. has out x || (b && not (has put x)))
+    (has-applied out put us x) ∙ back (has out x) (has put x) (has us x) (f.out_is_there x) (f.put_is_new x))
 
 -- and the inverse fits what the change leaves
 pub Fits-inverse : (out put us : List ℕ) → IsLocal us → Fits out put us → Fits put out (applied out put us)
@@ -45,7 +42,7 @@ Fits-inverse out put us a f = record {
   out_ascends = f.put_ascends;
   put_ascends = f.out_ascends;
   out_is_there = λ x h. has-applied out put us x ∙ ap (λ b. b || (has us x && not (has out x))) h;
-  put_is_new = put_is_gone out put us f;
+  put_is_new = put_is_gone f;
   local = subst IsLocal (sym (applied-inverse out put us a f)) a;
 }
 
@@ -56,8 +53,7 @@ applied-between us vs a b =
     same_cells (applied (cells_without us vs) (cells_without vs us) us) vs
     (IsAscending-applied (cells_without us vs) (cells_without vs us) us
     (IsAscending-cells_without vs us (local_ascends vs b)) (local_ascends us a)
-    (λ x h. grind (arith, common_steps, has-cells_without vs us x)))
-    (local_ascends vs b)
+    (λ x h. grind (arith, common_steps, has-cells_without vs us x))) (local_ascends vs b)
     (λ x. has-applied (cells_without us vs) (cells_without vs us) us x
     ∙ grind (arith, common_steps, has-cells_without us vs x, has-cells_without vs us x))
 

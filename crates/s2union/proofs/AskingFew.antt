@@ -16,26 +16,20 @@ use Rattle.s2union.proofs.Looking.{Sought}
 use Rattle.s2list.proofs.Walking.{leaf_there, leaf_at}
 
 -- what holds at four places in a row
-pub four_places : (P : ℕ → Type 0) (at k : ℕ) → P at → P (at + 1) → P (at + 2) → P (at + 3) →
-    at ≤ k → k < at + 4 → P k
+pub four_places : (P : ℕ → Type 0) (at k : ℕ) → P at → P (at + 1) → P (at + 2) → P (at + 3) → at ≤ k → k < at + 4 → P k
 four_places P at k a b c d h l =
     ⊎_elim
     (λ (m : k < at + 1). let e : k ≡ at = omega arith in rw e a)
-    (λ (m : at + 1 ≤ k).
-    ⊎_elim
+    (λ (m : at + 1 ≤ k). ⊎_elim
     (λ (n : k < at + 2). let e : k ≡ at + 1 = omega arith in rw e b)
-    (λ (n : at + 2 ≤ k).
-    ⊎_elim
+    (λ (n : at + 2 ≤ k). ⊎_elim
     (λ (o : k < at + 3). let e : k ≡ at + 2 = omega arith in rw e c)
-    (λ (o : at + 3 ≤ k). let e : k ≡ at + 3 = omega arith in rw e d)
-    (cases_lt k (at + 3)))
-    (cases_lt k (at + 2)))
+    (λ (o : at + 3 ≤ k). let e : k ≡ at + 3 = omega arith in rw e d) (cases_lt k (at + 3))) (cases_lt k (at + 2)))
     (cases_lt k (at + 1))
 
 -- whether something holds at each of them
-pub all_of_four : (a b c d : Bool) (P : ℕ → Type 0) (at : ℕ) → (IsTrue a ↔ P at) → (IsTrue b ↔ P (at + 1)) →
-    (IsTrue c ↔ P (at + 2)) → (IsTrue d ↔ P (at + 3)) →
-    (IsTrue (((a && b) && c) && d) ↔ ((k : ℕ) → at ≤ k → k < at + 4 → P k))
+pub all_of_four : (a b c d : Bool) (P : ℕ → Type 0) (at : ℕ) → (IsTrue a ↔ P at) → (IsTrue b ↔ P (at + 1)) → (IsTrue
+    c ↔ P (at + 2)) → (IsTrue d ↔ P (at + 3)) → (IsTrue (((a && b) && c) && d) ↔ ((k : ℕ) → at ≤ k → k < at + 4 → P k))
 all_of_four true true true true P at p q r s =
     (λ _ k h l. four_places P at k (p.0 refl) (q.0 refl) (r.0 refl) (s.0 refl) h l, λ _. refl)
 all_of_four false b c d P at p q r s =
@@ -48,9 +42,8 @@ all_of_four true true true false P at p q r s =
     (λ t. absurd (false≢true t), λ all. absurd (false≢true (s.1 (all (at + 3) (omega arith) (omega arith)))))
 
 -- or at one of them
-pub one_of_four : (a b c d : Bool) (P : ℕ → Type 0) (at : ℕ) → (IsTrue a ↔ P at) → (IsTrue b ↔ P (at + 1)) →
-    (IsTrue c ↔ P (at + 2)) → (IsTrue d ↔ P (at + 3)) →
-    (IsTrue (((a || b) || c) || d) ↔ ((k : ℕ) × (at ≤ k) × (k < at + 4) × P k))
+pub one_of_four : (a b c d : Bool) (P : ℕ → Type 0) (at : ℕ) → (IsTrue a ↔ P at) → (IsTrue b ↔ P (at + 1)) → (IsTrue c ↔
+    P (at + 2)) → (IsTrue d ↔ P (at + 3)) → (IsTrue (((a || b) || c) || d) ↔ ((k : ℕ) × (at ≤ k) × (k < at + 4) × P k))
 one_of_four true b c d P at p q r s = (λ _. (at, omega arith, omega arith, p.0 refl), λ _. refl)
 one_of_four false true c d P at p q r s = (λ _. (at + 1, omega arith, omega arith, q.0 refl), λ _. refl)
 one_of_four false false true d P at p q r s = (λ _. (at + 2, omega arith, omega arith, r.0 refl), λ _. refl)
@@ -90,9 +83,9 @@ left_four_less size looks more zero h f p e = let g : 2 ^ zero ≡ 1 = refl in a
 left_four_less size looks more (suc j) h f p e =
     record { power = j; fits = quarter_left size j h f; paid = omega arith }
 
-pub left_four : (size looks more : ℕ) → 4 ≤ size → LeftFour size looks → more ≡ looks + 12 →
-    LeftFour (size - 3 * (size / 4)) more
-left_four size looks more h l e = left_four_less size looks more l.power h l.fits l.paid e
+pub left_four : {size looks : ℕ} (more : ℕ) →
+    4 ≤ size → LeftFour size looks → more ≡ looks + 12 → LeftFour (size - 3 * (size / 4)) more
+left_four {size} {looks} more h l e = left_four_less size looks more l.power h l.fits l.paid e
 
 -- a search that ends near looks at few cells
 pub sought_near : (before after far : ℕ) → Sought before after far → after ≤ before + 16 + 4 * far
@@ -157,21 +150,19 @@ more_places P from at to before after k h l =
     (cases_lt k at)
 
 -- a run of cells that begins in a cell and ends by its end lies in it
-pub run_held : (u : List ℕ) (from next x : ℕ) → IsPacked u → from < length u → IsInside (get_or u from 0) x →
-    next ≤ length u → FirstEndBy u next (first_leaf x + size_of x) → (k : ℕ) → from ≤ k → k < next →
-    IsInside (get_or u k 0) x
-run_held u from next x p there inside within ended k h l =
+pub run_held : {u : List ℕ} (from next x : ℕ) → IsPacked u → from < length u → IsInside (get_or u from 0) x → next ≤
+    length u → FirstEndBy u next (first_leaf x + size_of x) → (k : ℕ) → from ≤ k → k < next → IsInside (get_or u k 0) x
+run_held {u} from next x p there inside within ended k h l =
     let w = (within_from_inside (get_or u from 0) x (p.cells from 0 there) inside).low in
     let s = starts_later u from k p h (omega arith) in
     let e = ended k l in
     inside_from_within (get_or u k 0) x (record { low = omega arith; high = omega arith })
 
 -- cells that end before the next cell of a list begins share nothing with it
-pub run_missed : (u v : List ℕ) (from at next : ℕ) → IsLocal v → IsPacked u → from ≤ next → next ≤ length u →
-    FirstEndBy v at (first_leaf (get_or u from 0)) →
-    ((k : ℕ) → from + 1 ≤ k → k < next → at < length v →
-    first_leaf (get_or u k 0) + size_of (get_or u k 0) ≤ first_leaf (get_or v at 0)) →
-    (k : ℕ) → from + 1 ≤ k → k < next → ShareSome (covers (get_or u k 0)) (has_leaf v) → ⊥
+pub run_missed : (u v : List ℕ) (from at next : ℕ) →
+    IsLocal v → IsPacked u → from ≤ next → next ≤ length u → FirstEndBy v at (first_leaf (get_or u from 0)) →
+    ((k : ℕ) → from + 1 ≤ k → k < next → at < length v → first_leaf (get_or u k 0) + size_of (get_or u k 0) ≤ first_leaf
+    (get_or v at 0)) → (k : ℕ) → from + 1 ≤ k → k < next → ShareSome (covers (get_or u k 0)) (has_leaf v) → ⊥
 run_missed u v from at next lv p le within ended free k h l =
     let s = starts_later u from k p (omega arith) (omega arith) in
     shared_none v at (get_or u k 0) lv (λ i b. let z = ended i b in omega arith) (free k h l)

@@ -28,9 +28,9 @@ steps_of level least modulus some =
     let high : x < x / modulus * modulus + modulus = lt-div-mul-add some in
     record { enough = omega arith; fewest = omega arith }
 
-wanted_later : (level least modulus steps s : ℕ) → 0 < modulus → Steps level least modulus steps →
-    IsWanted level least modulus s → least + steps * modulus ≤ s
-wanted_later level least modulus steps s some st w =
+wanted_later : {level least modulus steps s : ℕ} →
+    0 < modulus → Steps level least modulus steps → IsWanted level least modulus s → least + steps * modulus ≤ s
+wanted_later {least} {modulus} {steps} {s} some st w =
     let own = w.own in
     let high = w.high in
     let rest = w.step in
@@ -42,9 +42,9 @@ wanted_later level least modulus steps s some st w =
     let m : steps * modulus ≤ j * modulus = mul-le-mul_right modulus (omega arith) in
     omega arith
 
-wanted_there : (level least modulus steps : ℕ) → Steps level least modulus steps →
-    IsWanted level least modulus (least + steps * modulus)
-wanted_there level least modulus steps st =
+wanted_there : {level least modulus steps : ℕ} →
+    Steps level least modulus steps → IsWanted level least modulus (least + steps * modulus)
+wanted_there {least} {modulus} {steps} st =
     let e : least + steps * modulus - least ≡ steps * modulus = omega arith in
     record { own = st.enough; high = omega arith; step = ap (λ x. x % modulus) e ∙ mul-mod_left steps modulus }
 
@@ -61,11 +61,13 @@ cut_level_is level least modulus l some =
           ⊎_elim
           (λ (h : 30 < t).
           let e : min t 30 ≡ 30 = omega arith in
-          inr (e, λ s fits w. let later = wanted_later level least modulus steps s some st w in absurd (omega arith)))
-          (λ (h : t ≤ 30). let e : t ≡ min t 30 = omega arith in
-          inl (subst (IsWanted level least modulus) e (wanted_there level least modulus steps st)))
-          (cases_lt 30 t);
-      first = λ s w. let later = wanted_later level least modulus steps s some st w in omega arith;
+          inr (
+            e,
+            λ s fits w. let later = wanted_later
+                some st w in absurd (omega arith),
+          )) (λ (h : t ≤ 30). let e : t ≡ min t 30 = omega arith in
+          inl (subst (IsWanted level least modulus) e (wanted_there st))) (cases_lt 30 t);
+      first = λ s w. let later = wanted_later some st w in omega arith;
     }
 
 pub cut_level_own : (level least modulus : ℕ) → level ≤ 30 → 0 < modulus → level ≤ cut_level level least modulus
@@ -89,9 +91,9 @@ unfolding cells_in
 get_or-cells_in t c i d h = get_or-map-range_with_len (descendant_of c t) 0 (4 ^ (t - level_of c)) i i d h (omega arith)
 
 -- a cell of a level inside another is one of its descendants
-descendant_from : (c t d : ℕ) → IsCell c → level_of c ≤ t → t ≤ 30 → IsCell d → level_of d ≡ t → IsInside d c →
-    (i : ℕ) × (i < 4 ^ (t - level_of c)) × (descendant_of c t i ≡ d)
-descendant_from c t d cc own deep cd e inside =
+descendant_from : {c : ℕ} (t : ℕ) {d : ℕ} → IsCell c → level_of c ≤ t →
+    t ≤ 30 → IsCell d → level_of d ≡ t → IsInside d c → (i : ℕ) × (i < 4 ^ (t - level_of c)) × (descendant_of c t i ≡ d)
+descendant_from {c} t {d} cc own deep cd e inside =
     let w = within_from_inside d c cd inside in
     let lo = w.low in
     let hi = w.high in
@@ -118,9 +120,9 @@ descendant_from c t d cc own deep cd e inside =
     (i, below, same_from_within (descendant_of c t i) d cx cd u v)
 
 -- a descendant lies inside
-descendant_within : (c t i : ℕ) → IsCell c → level_of c ≤ t → t ≤ 30 → i < 4 ^ (t - level_of c) →
-    Within (descendant_of c t i) c
-descendant_within c t i cc own deep h =
+descendant_within : {c : ℕ} (t i : ℕ) →
+    IsCell c → level_of c ≤ t → t ≤ 30 → i < 4 ^ (t - level_of c) → Within (descendant_of c t i) c
+descendant_within {c} t i cc own deep h =
     let x = descendant c t i cc own deep h in
     let first_x = x.first in
     let size_x = x.size in
@@ -130,9 +132,9 @@ descendant_within c t i cc own deep h =
     record { low = omega arith; high = omega arith }
 
 -- a later descendant has a greater identifier
-descendant_rises : (c t i : ℕ) → IsCell c → level_of c ≤ t → t ≤ 30 → i + 1 < 4 ^ (t - level_of c) →
-    descendant_of c t i < descendant_of c t (i + 1)
-descendant_rises c t i cc own deep h =
+descendant_rises : {c : ℕ} (t i : ℕ) →
+    IsCell c → level_of c ≤ t → t ≤ 30 → i + 1 < 4 ^ (t - level_of c) → descendant_of c t i < descendant_of c t (i + 1)
+descendant_rises {c} t i cc own deep h =
     let x = descendant c t i cc own deep (omega arith) in
     let y = descendant c t (i + 1) cc own deep h in
     let lx = cell_leaves (descendant_of c t i) (IsCell-descendant_of c t i _ cc own deep (omega arith) refl) in
@@ -147,8 +149,8 @@ descendant_rises c t i cc own deep h =
     omega arith
 
 -- the cells of a level in a cell are all that it contains, ascending
-pub cells_in_is : (c t : ℕ) → IsCell c → level_of c ≤ t → t ≤ 30 → IsCut c t (cells_in t c)
-cells_in_is c t cc own deep =
+pub cells_in_is : {c : ℕ} (t : ℕ) → IsCell c → level_of c ≤ t → t ≤ 30 → IsCut c t (cells_in t c)
+cells_in_is {c} t cc own deep =
     let n = 4 ^ (t - level_of c) in
     let len : length (cells_in t c) ≡ n = length-cells_in t c in
     record {
@@ -156,7 +158,7 @@ cells_in_is c t cc own deep =
           let a : get_or (cells_in t c) k 0 ≡ descendant_of c t k = get_or-cells_in t c k 0 (omega arith) in
           let b : get_or (cells_in t c) (k + 1) 0 ≡ descendant_of c t (k + 1) =
           get_or-cells_in t c (k + 1) 0 (omega arith) in
-          let r = descendant_rises c t k cc own deep (omega arith) in
+          let r = descendant_rises t k cc own deep (omega arith) in
           omega arith;
       members = λ d. (
         λ (k, l, e).
@@ -164,13 +166,12 @@ cells_in_is c t cc own deep =
             let x = descendant c t k cc own deep below in
             let is : descendant_of c t k ≡ d = sym (get_or-cells_in t c k d below) ∙ e in (
               IsCell-descendant_of c t k d cc own deep below (sym is),
-              ap level_of (sym is)
-                  ∙ x.level,
+              ap level_of (sym is) ∙ x.level,
               subst (λ y. IsInside y c) is
-                  (inside_from_within (descendant_of c t k) c (descendant_within c t k cc own deep below)),
+                  (inside_from_within (descendant_of c t k) c (descendant_within t k cc own deep below)),
             ),
         λ (cd, ld, inside).
-            let r = descendant_from c t d cc own deep cd ld inside in
+            let r = descendant_from t cc own deep cd ld inside in
             (r.0, rw len r.1, get_or-cells_in t c r.0 d r.1 ∙ r.2),
       );
     }

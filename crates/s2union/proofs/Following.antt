@@ -25,11 +25,10 @@ use Rattle.s2list.proofs.Checking.{packed_from_local}
 use Rattle.s2union.proofs.Joining.{Start, Adding, Joining, or_last}
 
 -- the next cell is added
-pub adding_step : (old cells list new : List ℕ) (i x : ℕ) → IsPacked cells → Adding old cells list i →
-    i < length cells → x ≡ get_or cells i x
-    → IsPacked new → Start new x → ((n : ℕ) → has_leaf new n ≡ (has_leaf list n || covers x n)) →
-    Adding old cells new (i + 1)
-adding_step old cells list new i x run a h rx packed start leaves =
+pub adding_step : {old cells list new : List ℕ} {i : ℕ} (x : ℕ) →
+    IsPacked cells → Adding old cells list i → i < length cells → x ≡ get_or cells i x → IsPacked new →
+    Start new x → ((n : ℕ) → has_leaf new n ≡ (has_leaf list n || covers x n)) → Adding old cells new (i + 1)
+adding_step {old} {cells} {new} {i} x run a h rx packed start leaves =
     let ex : get_or cells i 0 ≡ x = read_at cells i i x h refl rx in
     record {
       packed = packed;
@@ -51,10 +50,10 @@ adding_step old cells list new i x run a h rx packed start leaves =
     }
 
 -- after a list that ends as the cells do before place i, the cells from there on follow as they do in their own list
-same_place : (list cells : List ℕ) (i k : ℕ) → i ≤ length cells → Continues list cells i → length list ≤ k + 3 →
-    k < length list + (length cells - i) →
+same_place : {list cells : List ℕ} {i : ℕ} (k : ℕ) →
+    i ≤ length cells → Continues list cells i → length list ≤ k + 3 → k < length list + (length cells - i) →
     (length list ≤ k + i) × (get_or (list ++ drop i cells) k 0 ≡ get_or cells (k + i - length list) 0)
-same_place list cells i k within e last h =
+same_place {list} {cells} {i} k within e last h =
     ⊎_elim
     (λ (l : k < length list). (e.within k last l, get_or_append_left list (drop i cells) 0 k l ∙ e.same k last l))
     (λ (l : length list ≤ k).
@@ -65,8 +64,9 @@ same_place list cells i k within e last h =
     ))
     (cases_lt k (length list))
 
-family_same : (a b c d x y z w p : ℕ) → a ≡ x → b ≡ y → c ≡ z → d ≡ w → IsFamily a b c d p → IsFamily x y z w p
-family_same a b c d x y z w p ea eb ec ed f = record {
+family_same : {a b c d : ℕ} (x y z w : ℕ) {p : ℕ} →
+    a ≡ x → b ≡ y → c ≡ z → d ≡ w → IsFamily a b c d p → IsFamily x y z w p
+family_same x y z w ea eb ec ed f = record {
   cell = f.cell;
   inner = f.inner;
   zero = sym ea ∙ f.zero;
@@ -76,24 +76,23 @@ family_same a b c d x y z w p ea eb ec ed f = record {
 }
 
 -- where four in a row stand as they do at another place of packed cells, they are no family
-unmerged_there : (u v : List ℕ) (k m p : ℕ) → IsPacked u → m + 3 < length u →
-    ((n : ℕ) → n ≤ 3 → get_or v (k + n) 0 ≡ get_or u (m + n) 0)
-    → IsFamily (get_or v k 0) (get_or v (k + 1) 0) (get_or v (k + 2) 0) (get_or v (k + 3) 0) p → ⊥
-unmerged_there u v k m p packed h same f =
+unmerged_there : {u : List ℕ} (v : List ℕ) (k m : ℕ) {p : ℕ} →
+    IsPacked u → m + 3 < length u → ((n : ℕ) → n ≤ 3 → get_or v (k + n) 0 ≡ get_or u (m + n) 0) →
+    IsFamily (get_or v k 0) (get_or v (k + 1) 0) (get_or v (k + 2) 0) (get_or v (k + 3) 0) p → ⊥
+unmerged_there v k m {p} packed h same f =
     let ek : k + 0 ≡ k = omega arith in
     let em : m + 0 ≡ m = omega arith in
-    packed.unmerged m p h (family_same _ _ _ _ _ _ _ _ p (rw (ek, em) at (same 0 (omega arith)))
-    (same 1 (omega arith)) (same 2 (omega arith)) (same 3 (omega arith)) f)
+    packed.unmerged m p h (family_same _ _
+    _ _ (rw (ek, em) at (same 0 (omega arith))) (same 1 (omega arith)) (same 2 (omega arith)) (same 3 (omega arith)) f)
 
 -- one cell ends before another that stands later, whichever value stands for a missing one
 apart_at : (v : List ℕ) → ((i j : ℕ) → i < j → j < length v → EndsBefore (get_or v i 0) (get_or v j 0)) →
     AllPairs EndsBefore v
-apart_at v h i j d l m =
-    rw (get_or_default v i d 0 (omega arith), get_or_default v j d 0 m) (h i j l m)
+apart_at v h i j d l m = rw (get_or_default v i d 0 (omega arith), get_or_default v j d 0 m) (h i j l m)
 
 -- a part of packed cells is packed
-pub part_packed : (u : List ℕ) (i n : ℕ) → IsPacked u → i + n ≤ length u → IsPacked (take n (drop i u))
-part_packed u i n packed h =
+pub part_packed : {u : List ℕ} (i n : ℕ) → IsPacked u → i + n ≤ length u → IsPacked (take n (drop i u))
+part_packed {u} i n packed h =
     let left : length (drop i u) ≡ length u - i = length-drop i u in
     let len : length (take n (drop i u)) ≡ n = length-take-le n (drop i u) (omega arith) in
     let at : (k : ℕ) → k < n → get_or (take n (drop i u)) k 0 ≡ get_or u (i + k) 0 =
@@ -102,24 +101,24 @@ part_packed u i n packed h =
       cells = All-take IsCell n (drop i u) (All-drop IsCell i u packed.cells);
       chain = apart_at (take n (drop i u)) (λ j k l m.
           rw (at j (omega arith), at k (omega arith)) (packed.chain (i + j) (i + k) 0 (omega arith) (omega arith)));
-      unmerged = λ k p l. unmerged_there u (take n (drop i u)) k (i + k) p packed (omega arith)
+      unmerged = λ k p l. unmerged_there (take n (drop i u)) k (i + k) packed (omega arith)
           (λ m b. let e : i + (k + m) ≡ i + k + m = omega arith in at (k + m) (omega arith) ∙ ap (λ x. get_or u x 0) e);
     }
 
-pub rest_packed : (u : List ℕ) (i : ℕ) → IsLocal u → i ≤ length u → IsPacked (take (length u - i) (drop i u))
-rest_packed u i l h = part_packed u i (length u - i) (packed_from_local u l) (omega arith)
+pub rest_packed : {u : List ℕ} (i : ℕ) → IsLocal u → i ≤ length u → IsPacked (take (length u - i) (drop i u))
+rest_packed {u} i l h = part_packed i (length u - i) (packed_from_local u l) (omega arith)
 
 -- so cells that follow this list overlap none of it, and make no family with its last ones
-pub follow_packed : (list cells : List ℕ) (i : ℕ) → IsPacked list → IsPacked cells → i ≤ length cells →
-    Continues list cells i → IsPacked (list ++ drop i cells)
-follow_packed list cells i packed run within e =
+pub follow_packed : {list cells : List ℕ} {i : ℕ} →
+    IsPacked list → IsPacked cells → i ≤ length cells → Continues list cells i → IsPacked (list ++ drop i cells)
+follow_packed {list} {cells} {i} packed run within e =
     let len : length (list ++ drop i cells) ≡ length list + (length cells - i) = length-append list (drop i cells)
     ∙ ap (λ n. length list + n) (length-drop i cells) in
     let front : (k : ℕ) → k < length list → get_or (list ++ drop i cells) k 0 ≡ get_or list k 0 =
     λ k h. get_or_append_left list (drop i cells) 0 k h in
     let back : (k : ℕ) → length list ≤ k + 3 → k < length (list ++ drop i cells) → (length list ≤ k + i)
     × (get_or (list ++ drop i cells) k 0 ≡ get_or cells (k + i - length list) 0) =
-    λ k a h. same_place list cells i k within e a (omega arith) in
+    λ k a h. same_place k within e a (omega arith) in
     let in_list : (j k : ℕ) → j < k → k < length list →
     EndsBefore (get_or (list ++ drop i cells) j 0) (get_or (list ++ drop i cells) k 0) =
     λ j k l m. rw (front j (omega arith), front k m) (packed.chain j k 0 l m) in
@@ -132,14 +131,11 @@ follow_packed list cells i packed run within e =
     (omega (arith, b.0, c.0))) in
     record {
       cells = All-append IsCell list (drop i cells) packed.cells (All-drop IsCell i cells run.cells);
-      chain = apart_at (list ++ drop i cells) (λ j k l m.
-          ⊎_elim
+      chain = apart_at (list ++ drop i cells) (λ j k l m. ⊎_elim
           (λ (a : k < length list). in_list j k l a)
-          (λ (a : length list ≤ k).
-          ⊎_elim
+          (λ (a : length list ≤ k). ⊎_elim
           (λ (b : j + 3 < length list).
-          let x : EndsBefore (get_or (list ++ drop i cells) j 0)
-          (get_or (list ++ drop i cells) (length list - 1) 0) =
+          let x : EndsBefore (get_or (list ++ drop i cells) j 0) (get_or (list ++ drop i cells) (length list - 1) 0) =
           in_list j (length list - 1) (omega arith) (omega arith) in
           let y : EndsBefore (get_or (list ++ drop i cells) (length list - 1) 0)
           (get_or (list ++ drop i cells) k 0) = in_run (length list - 1) k (omega arith) (omega arith) m in
@@ -147,13 +143,12 @@ follow_packed list cells i packed run within e =
           (λ (b : length list ≤ j + 3). in_run j k l b m)
           (cases_lt (j + 3) (length list)))
           (cases_lt k (length list)));
-      unmerged = λ k p h.
-          ⊎_elim
-          (λ (l : k + 3 < length list). unmerged_there list (list ++ drop i cells) k k p packed l
+      unmerged = λ k p h. ⊎_elim
+          (λ (l : k + 3 < length list). unmerged_there (list ++ drop i cells) k k packed l
           (λ n b. front (k + n) (omega arith)))
           (λ (l : length list ≤ k + 3).
           let z = back k l (omega arith) in
-          unmerged_there cells (list ++ drop i cells) k (k + i - length list) p run (omega (arith, z.0))
+          unmerged_there (list ++ drop i cells) k (k + i - length list) run (omega (arith, z.0))
           (λ n b. let e : k + n + i - length list ≡ k + i - length list + n = omega (arith, z.0) in
           (back (k + n) (omega arith) (omega arith)).1 ∙ ap (λ x. get_or cells x 0) e))
           (cases_lt (k + 3) (length list));
@@ -175,10 +170,10 @@ continues_from list cells i n en h within e = record {
       ∙ part_at cells (i - n) (i - (i - n)) j (k + i - length list) (omega arith) (omega arith);
 }
 
-pub continues_to : (list cells : List ℕ) (i n : ℕ) → n ≡ min (length list) 3 → n ≤ i → i ≤ length cells →
-    Continues list cells i →
+pub continues_to : {list cells : List ℕ} {i : ℕ} (n : ℕ) →
+    n ≡ min (length list) 3 → n ≤ i → i ≤ length cells → Continues list cells i →
     take (length list - (length list - n)) (drop (length list - n) list) ≡ take (i - (i - n)) (drop (i - n) cells)
-continues_to list cells i n en h within c =
+continues_to {list} {cells} {i} n en h within c =
     let left : length (take (length list - (length list - n)) (drop (length list - n) list)) ≡ n =
     length-take-le (length list - (length list - n)) (drop (length list - n) list)
     (omega (arith, length-drop (length list - n) list)) ∙ omega arith in
@@ -193,8 +188,8 @@ continues_to list cells i n en h within c =
     ∙ sym (part_at cells (i - n) (i - (i - n)) j (k + i - length list) (omega arith) (omega arith)))
 
 -- a list does not end as the cells do before a place that is nearer to their front than its last cells are many
-pub continues_not : (list cells : List ℕ) (i n : ℕ) → n ≡ min (length list) 3 → i < n → Continues list cells i → ⊥
-continues_not list cells i n en h c = let e = c.within (length list - n) (omega arith) (omega arith) in omega arith
+pub continues_not : {list cells : List ℕ} {i : ℕ} (n : ℕ) → n ≡ min (length list) 3 → i < n → Continues list cells i → ⊥
+continues_not {list} n en h c = let e = c.within (length list - n) (omega arith) (omega arith) in omega arith
 
 -- what is left of the cells is copied
 pub record Added (old cells new : List ℕ) : Type 0 where
@@ -202,10 +197,10 @@ pub record Added (old cells new : List ℕ) : Type 0 where
   pub leaves : (x : ℕ) → has_leaf new x ≡ (has_leaf old x || has_leaf cells x)
   pub later : (n : ℕ) → Start old n → All (λ c. c < n) cells → Start new n
 
-pub adding_done : (old cells list new : List ℕ) (i : ℕ) → IsPacked cells → Adding old cells list i →
-    i ≤ length cells → (i < length cells → Continues list cells i)
-    → new ≡ list ++ take (length cells - i) (drop i cells) → Added old cells new
-adding_done old cells list new i run a within e is =
+pub adding_done : {old cells list : List ℕ} (new : List ℕ) {i : ℕ} →
+    IsPacked cells → Adding old cells list i → i ≤ length cells → (i < length cells → Continues list cells i) →
+    new ≡ list ++ take (length cells - i) (drop i cells) → Added old cells new
+adding_done {old} {cells} {list} new {i} run a within e is =
     let rest : take (length cells - i) (drop i cells) ≡ drop i cells =
     take_all (length cells - i) (drop i cells) (omega (arith, length-drop i cells)) in
     let whole : new ≡ list ++ drop i cells = is ∙ ap (λ l. list ++ l) rest in
@@ -214,9 +209,8 @@ adding_done old cells list new i run a within e is =
     ∙ list_any-append (λ (c : ℕ). covers c x) (take i cells) (drop i cells) in
     record {
       packed = rw whole (⊎_elim
-          (λ (l : i < length cells). follow_packed list cells i a.packed run within (e l))
-          (λ (l : length cells ≤ i). rw (drop_all i cells l, append-nil) a.packed)
-          (cases_lt i (length cells)));
+          (λ (l : i < length cells). follow_packed a.packed run within (e l))
+          (λ (l : length cells ≤ i). rw (drop_all i cells l, append-nil) a.packed) (cases_lt i (length cells)));
       leaves = λ x. ap (λ l. has_leaf l x) whole ∙ list_any-append (λ (c : ℕ). covers c x) list (drop i cells)
           ∙ ap (λ v. v || has_leaf (drop i cells) x) (a.leaves x)
           ∙ or_assoc (has_leaf old x) (has_leaf (take i cells) x) (has_leaf (drop i cells) x)
@@ -241,10 +235,10 @@ take_parts u i n h =
     sym (take-append-drop i (take n u)) ∙ ap (λ l. l ++ drop i (take n u)) front ∙ ap (λ l. take i u ++ l) back
 
 -- a run of xs before the next cell of ys is added
-join_run : (xs ys list new : List ℕ) (i j next : ℕ) → IsLocal xs → Joining xs ys list i j → i ≤ next →
-    next ≤ length xs → (j < length ys → (k : ℕ) → i ≤ k → k < next → get_or xs k 0 < get_or ys j 0)
-    → Added list (take (next - i) (drop i xs)) new → Joining xs ys new next j
-join_run xs ys list new i j next lx s h within below added =
+join_run : {xs ys list new : List ℕ} {i j : ℕ} (next : ℕ) → IsLocal xs → Joining xs ys list i j →
+    i ≤ next → next ≤ length xs → (j < length ys → (k : ℕ) → i ≤ k → k < next → get_or xs k 0 < get_or ys j 0) →
+    Added list (take (next - i) (drop i xs)) new → Joining xs ys new next j
+join_run {xs} {ys} {list} {i} {j} next lx s h within below added =
     let len : length (take (next - i) (drop i xs)) ≡ next - i =
     length-take-le (next - i) (drop i xs) (omega (arith, length-drop i xs)) in
     let at : (k d : ℕ) → k < next - i → get_or (take (next - i) (drop i xs)) k d ≡ get_or xs (i + k) 0 =
@@ -269,14 +263,13 @@ join_run xs ys list new i j next lx s h within below added =
     }
 
 -- the same of the run that a search in xs finds: the cells before `next` are below y, and the others are not
-pub run_joins : (xs ys list new : List ℕ) (i j next y : ℕ) → IsLocal xs → Joining xs ys list i j → i ≤ next →
-    Brackets xs y next next → (j < length ys → y ≡ get_or ys j y)
-    → Added list (take (next - i) (drop i xs)) new → Joining xs ys new next j
-run_joins xs ys list new i j next y lx s h run is added =
-    join_run xs ys list new i j next lx s h run.within
-    (λ g k a b. let e = run.below k b in omega (arith, read_at ys j j y g refl (is g)))
-    added
+pub run_joins : {xs ys list new : List ℕ} {i j next y : ℕ} →
+    IsLocal xs → Joining xs ys list i j → i ≤ next → Brackets xs y next next →
+    (j < length ys → y ≡ get_or ys j y) → Added list (take (next - i) (drop i xs)) new → Joining xs ys new next j
+run_joins {xs} {ys} {list} {new} {i} {j} {next} {y} lx s h run is added =
+    join_run next lx s h run.within
+    (λ g k a b. let e = run.below k b in omega (arith, read_at ys j j y g refl (is g))) added
 
-pub run_starts : (xs ys list new : List ℕ) (next j y : ℕ) → Joining xs ys new next j → j < length ys →
-    y ≡ get_or ys j y → Start new y
-run_starts xs ys list new next j y s h is = rw (← read_at ys j j y h refl is) (s.start_y h)
+pub run_starts : {xs ys : List ℕ} (list : List ℕ) {new : List ℕ} {next j : ℕ} (y : ℕ) →
+    Joining xs ys new next j → j < length ys → y ≡ get_or ys j y → Start new y
+run_starts {ys} list {j} y s h is = rw (← read_at ys j j y h refl is) (s.start_y h)

@@ -44,19 +44,18 @@ denormalised_is least modulus (c ∷ u) all some =
       cells_in t c,
       denormalised least modulus u,
       cut_level_is (level_of c) least modulus deep some,
-      cells_in_is c t cc (cut_level_own (level_of c) least modulus deep some)
-          (cut_level_most (level_of c) least modulus),
+      cells_in_is t cc (cut_level_own (level_of c) least modulus deep some) (cut_level_most (level_of c) least modulus),
       denormalised_is least modulus u (All-tail IsCell c u all) some,
       denormalised-cons least modulus c u,
     )
 
 -- the item where an iterator is, and those after it
-pub items_next : (cells : List ℕ) (least modulus level number count c : ℕ) →
-    IsUnderway cells least modulus level number count → 0 < length cells → c ≡ get_or cells 0 c
-    → drop number (denormalised least modulus cells) ≡ descendant_of c level number
+pub items_next : (cells : List ℕ) {least modulus level number count : ℕ} (c : ℕ) →
+    IsUnderway cells least modulus level number count → 0 < length cells →
+    c ≡ get_or cells 0 c → drop number (denormalised least modulus cells) ≡ descendant_of c level number
     ∷ drop (number + 1) (denormalised least modulus cells)
-items_next [] least modulus level number count c w some e = absurd (omega arith)
-items_next (b ∷ u) least modulus level number count c w some e =
+items_next [] c w some e = absurd (omega arith)
+items_next (b ∷ u) {least} {modulus} {level} {number} {count} c w some e =
     let t : level ≡ cut_level (level_of b) least modulus = w.cut some in
     let n : count ≡ 4 ^ (level - level_of b) = w.items some in
     let h : number < 4 ^ (level - level_of b) = (let x = w.before some in omega arith) in
@@ -74,12 +73,11 @@ drop-cons_one : (b : ℕ) (u : List ℕ) → drop 1 (b ∷ u) ≡ u
 drop-cons_one b u = refl
 
 -- after the last item of a cell come those of the next cells
-pub items_last : (cells : List ℕ) (least modulus level number count : ℕ) →
-    IsUnderway cells least modulus level number count → 0 < length cells → number + 1 ≡ count
-    → drop (number + 1) (denormalised least modulus cells)
+pub items_last : (cells : List ℕ) {least modulus level number count : ℕ} → IsUnderway cells least modulus
+    level number count → 0 < length cells → number + 1 ≡ count → drop (number + 1) (denormalised least modulus cells)
     ≡ denormalised least modulus (take (length cells - 1) (drop 1 cells))
-items_last [] least modulus level number count w some e = absurd (omega arith)
-items_last (b ∷ u) least modulus level number count w some e =
+items_last [] w some e = absurd (omega arith)
+items_last (b ∷ u) {least} {modulus} {level} {number} {count} w some e =
     let t : level ≡ cut_level (level_of b) least modulus = w.cut some in
     let n : count ≡ 4 ^ (level - level_of b) = w.items some in
     let len : length (cells_in level b) ≡ 4 ^ (level - level_of b) = length-cells_in level b in
@@ -91,13 +89,12 @@ items_last (b ∷ u) least modulus level number count w some e =
     ∙ drop-cons_one b u in
     rw (all, k, rest) (drop-append_seam (cells_in level b) (denormalised least modulus u))
 
-pub items_none : (cells : List ℕ) (least modulus level number count : ℕ) →
-    IsUnderway cells least modulus level number count → length cells ≡ 0 →
-    drop number (denormalised least modulus cells) ≡ []
-items_none [] least modulus level number count w none =
+pub items_none : (cells : List ℕ) {least modulus level number count : ℕ} → IsUnderway
+    cells least modulus level number count → length cells ≡ 0 → drop number (denormalised least modulus cells) ≡ []
+items_none [] {least} {modulus} {number} w none =
     let e : number ≡ 0 = w.ended none in
     rw (e, denormalised-nil least modulus) refl
-items_none (b ∷ u) least modulus level number count w none = absurd (omega arith)
+items_none (b ∷ u) w none = absurd (omega arith)
 
 pub none_from_test : (n : ℕ) (r : Bool) → r ≡ (n == 0) → r ≡ true → n ≡ 0
 none_from_test n r e t = grind (arith, nat_tests)
@@ -106,10 +103,9 @@ pub some_from_test : (n : ℕ) (r : Bool) → r ≡ (n == 0) → r ≡ false →
 some_from_test n r e t = grind (arith, nat_tests)
 
 -- where an iterator is at first
-pub underway : (cells : List ℕ) (least modulus own level count c : ℕ) → least ≤ 30 → 0 < modulus → modulus ≤ 3 →
-    0 < length cells → c ≡ get_or cells 0 c
-    → own ≡ level_of c → level ≡ cut_level own least modulus → count ≡ 4 ^ (level - own) →
-    IsUnderway cells least modulus level 0 count
+pub underway : (cells : List ℕ) (least modulus own level count c : ℕ) →
+    least ≤ 30 → 0 < modulus → modulus ≤ 3 → 0 < length cells → c ≡ get_or cells 0 c → own ≡ level_of c →
+    level ≡ cut_level own least modulus → count ≡ 4 ^ (level - own) → IsUnderway cells least modulus level 0 count
 underway [] least modulus own level count c a b d some e o f g = absurd (omega arith)
 underway (x ∷ u) least modulus own level count c a b d some e o f0 g0 =
     let f : level ≡ cut_level (level_of c) least modulus = rw (← o) f0 in
@@ -138,11 +134,10 @@ underway_none cells least modulus level count a b d none = record {
 }
 
 -- the level to cut to is at least that of the cell, and at most 30
-pub underway_level : (cells : List ℕ) (least modulus level number count c : ℕ) →
-    IsUnderway cells least modulus level number count → 0 < length cells → c ≡ get_or cells 0 c →
-    (level_of c ≤ level) × (level ≤ 30)
-underway_level [] least modulus level number count c w some e = absurd (omega arith)
-underway_level (b ∷ u) least modulus level number count c w some e =
+pub underway_level : (cells : List ℕ) {least modulus level number count : ℕ} (c : ℕ) → IsUnderway cells
+    least modulus level number count → 0 < length cells → c ≡ get_or cells 0 c → (level_of c ≤ level) × (level ≤ 30)
+underway_level [] c w some e = absurd (omega arith)
+underway_level (b ∷ u) {least} {modulus} {level} c w some e =
     let t : level ≡ cut_level (level_of b) least modulus = w.cut some in
     let own = cut_level_own (level_of b) least modulus (level_most b) w.modulus_some in
     let same = ap level_of e in
@@ -161,9 +156,8 @@ denormalised-push least modulus c (b ∷ u) =
       denormalised-cons least modulus b (u ++ c ∷ []),
       denormalised-cons least modulus b u,
       denormalised-push least modulus c u,
-    )
-    (sym (append_assoc (cells_in (cut_level (level_of b) least modulus) b) (denormalised least modulus u)
-    (cells_in (cut_level (level_of c) least modulus) c)))
+    ) (sym (append_assoc (cells_in (cut_level (level_of b) least modulus) b)
+    (denormalised least modulus u) (cells_in (cut_level (level_of c) least modulus) c)))
 
 -- the number of the items of the first i cells, which is at most that of the leaves before the next
 pub record Totalling (cells : List ℕ) (least modulus i total : ℕ) : Type 0 where
@@ -174,16 +168,15 @@ pub record Totalling (cells : List ℕ) (least modulus i total : ℕ) : Type 0 w
 pub totalling_start : (cells : List ℕ) (least modulus : ℕ) → Totalling cells least modulus 0 0
 totalling_start cells least modulus = record {
   is = ap length (sym (denormalised-nil least modulus));
-  before = λ h.
-      omega arith;
+  before = λ h. omega arith;
   most = omega arith;
 }
 
-pub totalling_more : (cells : List ℕ) (least modulus i total own_level level count c : ℕ) → IsLocal cells →
-    Totalling cells least modulus i total → i < length cells → c ≡ get_or cells i c → 0 < modulus
-    → own_level ≡ level_of c → level ≡ cut_level own_level least modulus →
+pub totalling_more : {cells : List ℕ} {least modulus i total : ℕ} (own_level level count c : ℕ) →
+    IsLocal cells → Totalling cells least modulus i total → i < length cells →
+    c ≡ get_or cells i c → 0 < modulus → own_level ≡ level_of c → level ≡ cut_level own_level least modulus →
     count ≡ 4 ^ (level - own_level) → Totalling cells least modulus (i + 1) (total + count)
-totalling_more cells least modulus i total own_level level count c local w h e some o t0 n0 =
+totalling_more {cells} {least} {modulus} {i} {total} own_level level count c local w h e some o t0 n0 =
     let t : level ≡ cut_level (level_of c) least modulus = rw (← o) t0 in
     let four : count ≡ 4 ^ (level - level_of c) = rw (← o) n0 in
     let packed = packed_from_local cells local in
@@ -217,36 +210,35 @@ totalling_more cells least modulus i total own_level level count c local w h e s
       most = omega arith;
     }
 
-pub totalling_done : (cells : List ℕ) (least modulus i total : ℕ) → Totalling cells least modulus i total →
-    length cells ≤ i → total ≡ length (denormalised least modulus cells)
-totalling_done cells least modulus i total w h = w.is
+pub totalling_done : {cells : List ℕ} {least modulus i total : ℕ} →
+    Totalling cells least modulus i total → length cells ≤ i → total ≡ length (denormalised least modulus cells)
+totalling_done {cells} {least} {modulus} {i} w h = w.is
     ∙ ap (λ x. length (denormalised least modulus x)) (take_all i cells h)
 
 read_at_place : (u : List ℕ) (i : ℕ) → i < length u → get_or u i 0 ≡ get_or u i (get_or u i 0)
 read_at_place u i h = grind (arith, gets)
 
-totalling_at : (cells : List ℕ) (least modulus i : ℕ) → IsLocal cells → 0 < modulus → i ≤ length cells →
-    (total : ℕ) × Totalling cells least modulus i total
-totalling_at cells least modulus zero local some h = (0, totalling_start cells least modulus)
-totalling_at cells least modulus (suc i) local some h =
-    let w = totalling_at cells least modulus i local some (omega arith) in
+totalling_at : {cells : List ℕ} (least modulus i : ℕ) →
+    IsLocal cells → 0 < modulus → i ≤ length cells → (total : ℕ) × Totalling cells least modulus i total
+totalling_at {cells} least modulus zero local some h = (0, totalling_start cells least modulus)
+totalling_at {cells} least modulus (suc i) local some h =
+    let w = totalling_at least modulus i local some (omega arith) in
     let c = get_or cells i 0 in
     let level = cut_level (level_of c) least modulus in
     let count = 4 ^ (level - level_of c) in
     let e : i + 1 ≡ suc i = omega arith in (
       w.0 + count,
-      subst (λ x. Totalling cells least modulus x (w.0 + count)) e
-          (totalling_more cells least modulus i w.0 (level_of c) level count c local w.1 (omega arith)
-          (read_at_place cells i (omega arith)) some refl refl refl),
+      subst (λ x. Totalling cells least modulus x (w.0 + count)) e (totalling_more (level_of c)
+          level count c local w.1 (omega arith) (read_at_place cells i (omega arith)) some refl refl refl),
     )
 
 -- there are no more items than leaves
 pub length-denormalised-le : (least modulus : ℕ) (cells : List ℕ) → IsLocal cells → 0 < modulus →
     length (denormalised least modulus cells) ≤ LEAVES
 length-denormalised-le least modulus cells local some =
-    let w = totalling_at cells least modulus (length cells) local some (omega arith) in
+    let w = totalling_at least modulus (length cells) local some (omega arith) in
     let most = w.1.most in
-    let e = totalling_done cells least modulus (length cells) w.0 w.1 (omega arith) in
+    let e = totalling_done w.1 (omega arith) in
     omega arith
 
 -- the list of the items, taken from the cells one by one: what is written, and what the cells that are left give
@@ -258,9 +250,8 @@ listing_start cells least modulus = record { rest = refl }
 
 -- the next cell gives its items, which fit the room for all
 pub listing_more : (cells : List ℕ) (least modulus i own level c : ℕ) (list : List ℕ) →
-    Listing cells least modulus i list → i < length cells → c ≡ get_or cells i c
-    → own ≡ level_of c → level ≡ cut_level own least modulus →
-    Listing cells least modulus (i + 1) (list ++ cells_in level c)
+    Listing cells least modulus i list → i < length cells → c ≡ get_or cells i c → own ≡ level_of c →
+    level ≡ cut_level own least modulus → Listing cells least modulus (i + 1) (list ++ cells_in level c)
     × (length list + 4 ^ (level - level_of c) ≤ length (denormalised least modulus cells))
 listing_more cells least modulus i own level c list w h e o t0 =
     let t : level ≡ cut_level (level_of c) least modulus = rw (← o) t0 in

@@ -60,17 +60,15 @@ not_below : (x : ℕ) (ys : List ℕ) → AllAbove x ys → has ys x ≡ true �
 not_below x ys a h = false≢true (sym (has-below x ys a) ∙ h)
 
 -- a cell to be put in that is below all that are left
-pub put_step : (out ps us : List ℕ) (p : ℕ) → Ascend (record { out = out; put = p ∷ ps; cells = us }) →
-    IfHead (λ u. p < u) us →
-    Goes (p ∷ []) (record { out = out; put = p ∷ ps; cells = us }) (record { out = out; put = ps; cells = us })
+pub put_step : (out ps us : List ℕ) (p : ℕ) → Ascend (record { out = out; put = p ∷ ps; cells = us }) → IfHead (λ u. p <
+    u) us → Goes (p ∷ []) (record { out = out; put = p ∷ ps; cells = us }) (record { out = out; put = ps; cells = us })
 put_step out ps us p a h =
     let above : AllAbove p us = all_above p us (ascends_from us (ascends us a.cells)) h in
     record {
       same = (
         λ f. record {
           out_is_there = f.out_is_there;
-          put_is_new = λ x e.
-              f.put_is_new x (or_right (eqb p x) (has ps x) e);
+          put_is_new = λ x e. f.put_is_new x (or_right (eqb p x) (has ps x) e);
         },
         λ f. record {
           out_is_there = f.out_is_there;
@@ -118,9 +116,8 @@ take_step out ps us u a hp =
     record {
       same = (
         λ f. record {
-          out_is_there = λ x e. ⊎_elim (λ q.
-              absurd (not_below u out (ascends_from (u ∷ out) a.out).0
-              (subst (λ (n : ℕ). has out n ≡ true) (sym (eqb-true u x q)) e))) (λ q. q)
+          out_is_there = λ x e. ⊎_elim (λ q. absurd (not_below u out
+              (ascends_from (u ∷ out) a.out).0 (subst (λ (n : ℕ). has out n ≡ true) (sym (eqb-true u x q)) e))) (λ q. q)
               (or_cases (eqb u x) (has us x) (f.out_is_there x (or_right (eqb u x) (has out x) e)));
           put_is_new = λ x e. (or_parts (eqb u x) (has us x) (f.put_is_new x e)).1;
         },
@@ -156,16 +153,18 @@ head_above (x ∷ xs) u h = h
 first_above : (xs ys : List ℕ) (x p : ℕ) → xs ≡ x ∷ ys → p < x → IfHead (λ u. p < u) xs
 first_above xs ys x p e l = subst (IfHead (λ u. p < u)) (sym e) l
 
-pub put_turn : (out put us vs : List ℕ) (u d : ℕ) → us ≡ u ∷ vs →
-    Ascend (record { out = out; put = put; cells = us }) → IsHead Less put u →
-    Goes (get_or put 0 d ∷ []) (record { out = out; put = put; cells = us })
+pub put_turn : (out put us vs : List ℕ) (u d : ℕ) → us ≡ u ∷ vs → Ascend (record { out = out; put = put; cells = us }) →
+    IsHead Less put u → Goes (get_or put 0 d ∷ []) (record { out = out; put = put; cells = us })
     (record { out = out; put = drop 1 put; cells = us })
 put_turn out [] us vs u d e a h = absurd (cc)
 put_turn out (p ∷ ps) us vs u d e a h = put_step out ps us p a (first_above us vs u p e h)
 
-pub last_turn : (out put ps us : List ℕ) (p : ℕ) → put ≡ p ∷ ps → us ≡ [] →
-    Ascend (record { out = out; put = put; cells = us }) →
-    Goes (p ∷ []) (record { out = out; put = put; cells = us }) (record { out = out; put = ps; cells = us })
+pub last_turn : (out put ps us : List ℕ) (p : ℕ) → put ≡ p ∷ ps → us ≡ [] → Ascend (record {
+  out = out;
+  put = put;
+  cells
+      = us;
+}) → Goes (p ∷ []) (record { out = out; put = put; cells = us }) (record { out = out; put = ps; cells = us })
 last_turn out put ps us p e f a =
     subst (λ (xs : List ℕ). Goes (p ∷ []) (record { out = out; put = xs; cells = us })
     (record { out = out; put = ps; cells = us })) (sym e)
@@ -199,9 +198,8 @@ put_misfit out (p ∷ ps) us vs u e h f =
     put_is_there out ps vs p (subst (λ (xs : List ℕ). CanApply (record { out = out; put = p ∷ ps; cells = xs }))
     (e ∙ ap (λ x. x ∷ vs) (sym h)) f)
 
-pub out_misfit : (out put us vs : List ℕ) (u : ℕ) → us ≡ u ∷ vs →
-    Ascend (record { out = out; put = put; cells = us }) → IsHead Less out u →
-    CanApply (record { out = out; put = put; cells = us }) → ⊥
+pub out_misfit : (out put us vs : List ℕ) (u : ℕ) → us ≡ u ∷ vs → Ascend (record { out = out; put = put; cells = us }) →
+    IsHead Less out u → CanApply (record { out = out; put = put; cells = us }) → ⊥
 out_misfit [] put us vs u e a h f = absurd (cc)
 out_misfit (o ∷ os) put us vs u e a h f = out_is_missing os put us o
     (all_above o us (ascends_from us (ascends us a.cells)) (first_above us vs u o e h)) f
@@ -227,10 +225,10 @@ after_first_ascends [] a = a
 after_first_ascends (x ∷ xs) a = rw after_first (rest_ascends (x ∷ xs) xs x refl a)
 
 -- packed cells without the first
-pub rest_packed : (xs ys : List ℕ) (x : ℕ) → xs ≡ x ∷ ys → IsPacked xs → IsPacked ys
-rest_packed xs ys x e p =
+pub rest_packed : {xs : List ℕ} (ys : List ℕ) (x : ℕ) → xs ≡ x ∷ ys → IsPacked xs → IsPacked ys
+rest_packed ys x e p =
     let whole : IsPacked (x ∷ ys) = subst IsPacked e p in
-    subst IsPacked (take_all (length ys) ys (omega arith)) (part_packed (x ∷ ys) 1 (length ys) whole (omega arith))
+    subst IsPacked (take_all (length ys) ys (omega arith)) (part_packed 1 (length ys) whole (omega arith))
 
 -- a run of cells that stay, each below what is put in and taken out
 pub keep_run : (n : ℕ) (out put us : List ℕ) → Ascend (record { out = out; put = put; cells = us }) → n ≤ length us
@@ -242,7 +240,7 @@ keep_run (suc n) out put [] a h hp ho = absurd (omega arith)
 keep_run (suc n) out put (u ∷ us) a h hp ho =
     let step = keep_step out put us u a (hp 0 (omega arith)) (ho 0 (omega arith)) in
     let rest : Ascend (record { out = out; put = put; cells = us }) =
-    record { out = a.out; put = a.put; cells = rest_packed (u ∷ us) us u refl a.cells } in
+    record { out = a.out; put = a.put; cells = rest_packed us u refl a.cells } in
     let more = keep_run n out put us rest (omega arith) (λ k l. hp (suc k) (omega arith))
     (λ k l. ho (suc k) (omega arith)) in
     let less = step.less in
@@ -258,11 +256,13 @@ below_first x n [] f h = tt
 below_first x n (y ∷ ys) f h = omega arith
 
 -- the same of the cells that a search finds below the first of both
-pub keep_found : (len next a b : ℕ) (out put us : List ℕ) → Ascend (record { out = out; put = put; cells = us }) →
-    IsFrontOf a out → IsFrontOf b put → next ≡ min a b → Brackets us next len len
-    → Keeps (take len us) (record { out = out; put = put; cells = us })
-    (record { out = out; put = put; cells = drop len us })
-keep_found len next a b out put us s fa fb e found =
+pub keep_found : {len next : ℕ} (a b : ℕ) (out put : List ℕ) {us : List ℕ} → Ascend (record {
+  out = out;
+  put = put;
+  cells = us;
+}) → IsFrontOf a out → IsFrontOf b put → next ≡ min a b → Brackets us next len len → Keeps
+    (take len us) (record { out = out; put = put; cells = us }) (record { out = out; put = put; cells = drop len us })
+keep_found {len} a b out put {us} s fa fb e found =
     keep_run len out put us s found.within
     (λ k h. below_first (get_or us k 0) b put fb (let l = found.below k h in omega arith))
     (λ k h. below_first (get_or us k 0) a out fa (let l = found.below k h in omega arith))

@@ -28,8 +28,8 @@ run_cells u start end cells h k d l =
 swapped : (S T : ℕ → Bool) → ShareSome S T → ShareSome T S
 swapped S T (x, a, b) = (x, b, a)
 
-pub run_shares : (u : List ℕ) (c start count end : ℕ) → IsRunAt u c start count → end ≡ start + count →
-    All (λ x. ShareSome (covers x) (covers c)) (run u start end)
+pub run_shares : (u : List ℕ) (c start count end : ℕ) →
+    IsRunAt u c start count → end ≡ start + count → All (λ x. ShareSome (covers x) (covers c)) (run u start end)
 run_shares u c start count end r e k d l =
     let w = r.within in
     let len = run_len u start end (omega arith) in
@@ -38,8 +38,8 @@ run_shares u c start count end r e k d l =
     ∙ grind (arith, gets) in
     rw is (swapped (covers c) (covers (get_or u at 0)) ((r.members at (omega arith)).0 (omega arith, omega arith)))
 
-pub run_leaves : (u : List ℕ) (c start count end : ℕ) → IsRunAt u c start count → end ≡ start + count →
-    (x : ℕ) → covers c x ≡ true → has_leaf (run u start end) x ≡ has_leaf u x
+pub run_leaves : (u : List ℕ) (c start count end : ℕ) → IsRunAt u c start count →
+    end ≡ start + count → (x : ℕ) → covers c x ≡ true → has_leaf (run u start end) x ≡ has_leaf u x
 run_leaves u c start count end r z x h =
     let w = r.within in
     let len = run_len u start end (omega arith) in
@@ -54,8 +54,7 @@ run_leaves u c start count end r z x h =
     let e : get_or (run u start end) k 0 ≡ get_or u l.at 0 = run_at u start end k 0 (omega arith)
     ∙ ap (λ i. get_or u i 0) same in
     leaf_there (run u start end) k x (omega arith) (rw e l.low) (rw e l.high) ∙ sym t)
-    (λ (f : has_leaf u x ≡ false).
-    not_true (has_leaf (run u start end) x) (λ t.
+    (λ (f : has_leaf u x ≡ false). not_true (has_leaf (run u start end) x) (λ t.
     let l = leaf_at (run u start end) x t in
     let in_run = l.below in
     let e : get_or (run u start end) l.at 0 ≡ get_or u (start + l.at) 0 = run_at u start end l.at 0 (omega arith) in

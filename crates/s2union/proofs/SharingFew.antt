@@ -1,7 +1,6 @@
 -- The leaves that a short list of cells shares with a much longer one.
-use Rattle.std.proofs.Common.{◌≡◌, ℕ, zero, suc, [], ◌∷◌, ◌++◌, ◌+◌, ◌-◌, ◌<◌, ◌≤◌, refl}
-use Rattle.std.proofs.Common.{sym, ◌∙◌, ap, arith}
-use Rattle.std.proofs.Common.{true, ◌&&◌, ltb, List, length, take, drop, get_or, inl}
+use Rattle.std.proofs.Common.{◌≡◌, ℕ, zero, suc, [], ◌∷◌, ◌++◌, ◌+◌, ◌-◌, ◌<◌, ◌≤◌, refl, sym, ◌∙◌, ap, arith, true}
+use Rattle.std.proofs.Common.{◌&&◌, ltb, List, length, take, drop, get_or, inl}
 use Rattle.std.proofs.Math.Logic.{⊎_elim}
 use Rattle.std.proofs.lemmas.Bool.{and_parts, cases_lt}
 use Rattle.std.proofs.lemmas.Bool.Decides.{nat_tests}
@@ -31,13 +30,13 @@ shared_none xs ys = record {
   leaves = λ x. refl;
 }
 
-pub shared_picked : (xs ys list : List ℕ) (n : ℕ) → IsShared xs ys list n → Picked (both xs ys) list
-shared_picked xs ys list n s = record { chain = s.chain; greatest = s.greatest }
+pub shared_picked : {xs ys list : List ℕ} {n : ℕ} → IsShared xs ys list n → Picked (both xs ys) list
+shared_picked s = record { chain = s.chain; greatest = s.greatest }
 
 -- after the last cell
-pub shared_all : (xs ys list : List ℕ) (n : ℕ) → IsShared xs ys list n → length xs ≤ n → (x : ℕ) →
-    has_leaf list x ≡ both xs ys x
-shared_all xs ys list n s h x = s.leaves x ∙ ap (λ v. has_leaf v x && has_leaf ys x) (take_all n xs h)
+pub shared_all : {xs ys list : List ℕ} {n : ℕ} →
+    IsShared xs ys list n → length xs ≤ n → (x : ℕ) → has_leaf list x ≡ both xs ys x
+shared_all {xs} {ys} {n} s h x = s.leaves x ∙ ap (λ v. has_leaf v x && has_leaf ys x) (take_all n xs h)
 
 -- a walk along both lists begins at a cell of `xs`
 sharing_start : (xs ys list : List ℕ) (i at : ℕ) → IsLocal xs → i < length xs →
@@ -53,18 +52,17 @@ sharing_start xs ys list i at local h place s =
         ended_x = ended;
         ended_y = place.ended;
         leaves = λ x. s.leaves x
-            ∙ ap (λ v. v && has_leaf ys x)
-            (has_leaf-take xs i lo x packed (omega arith) ended (λ _. omega arith))
+            ∙ ap (λ v. v && has_leaf ys x) (has_leaf-take i lo x packed (omega arith) ended (λ _. omega arith))
             ∙ and_group (ltb x lo) (has_leaf xs x) (has_leaf ys x);
       };
       from = inl (λ _. omega arith);
-      picked = shared_picked xs ys list i s;
+      picked = shared_picked s;
     }
 
 -- and stops at another
-sharing_stop : (xs ys list : List ℕ) (n j end : ℕ) → IsLocal xs → IsLocal ys → Sharing (both xs ys) xs ys list n j →
-    n ≤ length xs → FirstEndBy ys j end → (n < length xs → end ≤ first_leaf (get_or xs n 0)) → IsShared xs ys list n
-sharing_stop xs ys list n j end lx ly s in_x ended next =
+sharing_stop : {xs ys list : List ℕ} {n j : ℕ} (end : ℕ) → IsLocal xs → IsLocal ys → Sharing (both xs ys) xs ys list n
+    j → n ≤ length xs → FirstEndBy ys j end → (n < length xs → end ≤ first_leaf (get_or xs n 0)) → IsShared xs ys list n
+sharing_stop {xs} {ys} {n} {j} end lx ly s in_x ended next =
     let px = packed_from_local xs lx in
     let py = packed_from_local ys ly in
     let lo = s.lo in
@@ -128,18 +126,17 @@ shared_held xs ys list new i at x lx ly s h g rx inside place e =
     let start = sharing_start xs ys list i at lx h place s in
     let push = sharing_push (both xs ys) xs ys list i at x lx ly start h g ex
     (within_from_inside x (get_or ys at 0) cx inside) in
-    rw e (sharing_stop xs ys (list ++ x ∷ []) (i + 1) at (first_leaf (get_or xs i 0)) lx ly push (omega arith)
-    place.ended (λ k. starts_later xs i (i + 1) (packed_from_local xs lx) (omega arith) k))
+    rw e (sharing_stop (first_leaf (get_or xs i 0))
+    lx ly push (omega arith) place.ended (λ k. starts_later xs i (i + 1) (packed_from_local xs lx) (omega arith) k))
 
 read_there : (u : List ℕ) (i : ℕ) → i < length u → get_or u i 0 ≡ get_or u i (get_or u i 0)
 read_there u i h = grind (arith, gets)
 
 -- the cells of `ys` up to a place lie in a cell of `xs`
 pub shared_run : (xs ys list new : List ℕ) (i at next x : ℕ) → IsLocal xs → IsLocal ys → IsShared xs ys list i →
-    i < length xs → x ≡ get_or xs i x → IsPlace ys (first_leaf (get_or xs i 0)) at →
-    (at < length ys → IsInside x (get_or ys at 0) → ⊥) → at ≤ next → next ≤ length ys →
-    FirstEndBy ys next (first_leaf x + size_of x) → EndsAfter ys next (first_leaf x + size_of x) →
-    new ≡ list ++ take (next - at) (drop at ys) → IsShared xs ys new (i + 1)
+    i < length xs → x ≡ get_or xs i x → IsPlace ys (first_leaf (get_or xs i 0)) at → (at < length ys → IsInside
+    x (get_or ys at 0) → ⊥) → at ≤ next → next ≤ length ys → FirstEndBy ys next (first_leaf x + size_of x) → EndsAfter
+    ys next (first_leaf x + size_of x) → new ≡ list ++ take (next - at) (drop at ys) → IsShared xs ys new (i + 1)
 shared_run xs ys list new i at next x lx ly s h rx place not_held le in_y ended_y after_it e =
     let ex : get_or xs i 0 ≡ x = read_at xs i i x h refl rx in
     let fx = ap first_leaf ex in
@@ -161,7 +158,7 @@ shared_run xs ys list new i at next x lx ly s h rx place not_held le in_y ended_
       | within k ↦ absurd (not_held (omega arith) (inside_from_within x y k))
       | around k ↦ inside_from_within y x k
     ] in
-    sharing_stop xs ys new (i + 1) next (first_leaf x + size_of x) lx ly
+    sharing_stop (first_leaf x + size_of x) lx ly
     (share_y (both xs ys) xs ys list new i at next x y lx ly start h (omega arith) rx
     (read_there ys at (omega arith)) inside m in_y ended_y after_it e) (omega arith) ended_y ended)
     (λ (m : next ≤ at).
@@ -178,16 +175,14 @@ shared_run xs ys list new i at next x lx ly s h rx place not_held le in_y ended_
       | within k ↦ absurd (not_held g (inside_from_within x y k))
       | around k ↦ (let kh = k.high in absurd (omega arith))
     ]) in
-    rw rest (sharing_stop xs ys list (i + 1) at (first_leaf x + size_of x) lx ly skip (omega arith)
-    (rw same at ended_y) ended))
+    rw rest (sharing_stop (first_leaf x + size_of x) lx ly skip (omega arith) (rw same at ended_y) ended))
     (cases_lt at next)
 
 -- cells of `xs` that end before the next cell of `ys` begins share nothing with it
-pub shared_passed : (xs ys list : List ℕ) (i at next lo : ℕ) → IsLocal xs → IsLocal ys → IsShared xs ys list i →
-    i ≤ next → next ≤ length xs → FirstEndBy ys at lo →
-    ((k : ℕ) → i ≤ k → k < next → lo ≤ first_leaf (get_or xs k 0)) →
-    ((k : ℕ) → i ≤ k → k < next → at < length ys →
-    first_leaf (get_or xs k 0) + size_of (get_or xs k 0) ≤ first_leaf (get_or ys at 0)) → IsShared xs ys list next
+pub shared_passed : (xs ys list : List ℕ) (i at next lo : ℕ) →
+    IsLocal xs → IsLocal ys → IsShared xs ys list i → i ≤ next → next ≤ length xs → FirstEndBy ys at lo →
+    ((k : ℕ) → i ≤ k → k < next → lo ≤ first_leaf (get_or xs k 0)) → ((k : ℕ) → i ≤ k → k < next → at < length
+    ys → first_leaf (get_or xs k 0) + size_of (get_or xs k 0) ≤ first_leaf (get_or ys at 0)) → IsShared xs ys list next
 shared_passed xs ys list i at next lo lx ly s le in_x ended after_it before_it =
     let len : length (take i xs) ≡ i = length-take-le i xs (omega arith) in
     let more : length (take next xs) ≡ next = length-take-le next xs in_x in

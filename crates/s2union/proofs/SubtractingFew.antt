@@ -22,9 +22,9 @@ same_truth false true f g = g refl
 same_truth false false f g = refl
 
 -- the leaves of the first cells are those before a leaf that comes between them and the others
-pub has_leaf-take : (u : List ℕ) (n lo x : ℕ) → IsPacked u → n ≤ length u → FirstEndBy u n lo →
+pub has_leaf-take : {u : List ℕ} (n lo x : ℕ) → IsPacked u → n ≤ length u → FirstEndBy u n lo →
     (n < length u → lo ≤ first_leaf (get_or u n 0)) → has_leaf (take n u) x ≡ (ltb x lo && has_leaf u x)
-has_leaf-take u n lo x packed w ended next =
+has_leaf-take {u} n lo x packed w ended next =
     let len : length (take n u) ≡ n = length-take-le n u w in
     ⊎_elim
     (λ (a : x < lo).
@@ -71,13 +71,13 @@ left_none xs ys = record {
   leaves = λ x. refl;
 }
 
-pub left_picked : (xs ys list : List ℕ) (n : ℕ) → IsLeft xs ys list n → Picked (minus xs ys) list
-left_picked xs ys list n l = record { chain = l.chain; greatest = l.greatest }
+pub left_picked : {xs ys list : List ℕ} {n : ℕ} → IsLeft xs ys list n → Picked (minus xs ys) list
+left_picked l = record { chain = l.chain; greatest = l.greatest }
 
 -- after the last cell
-pub left_all : (xs ys list : List ℕ) (n : ℕ) → IsLeft xs ys list n → length xs ≤ n → (x : ℕ) →
-    has_leaf list x ≡ minus xs ys x
-left_all xs ys list n l h x = l.leaves x ∙ ap (λ v. has_leaf v x && not (has_leaf ys x)) (take_all n xs h)
+pub left_all : {xs ys list : List ℕ} {n : ℕ} →
+    IsLeft xs ys list n → length xs ≤ n → (x : ℕ) → has_leaf list x ≡ minus xs ys x
+left_all {xs} {ys} {n} l h x = l.leaves x ∙ ap (λ v. has_leaf v x && not (has_leaf ys x)) (take_all n xs h)
 
 -- the walk along the cells of `ys` in a cell of `xs`
 pub record Leaving (xs ys list : List ℕ) (i j lo end : ℕ) : Type 0 where
@@ -96,17 +96,16 @@ leaving_start xs ys list i at lo end local h el ee place left =
     λ k l. let c : first_leaf (get_or xs k 0) + size_of (get_or xs k 0) ≤ first_leaf (get_or xs i 0) =
     packed.chain k i 0 l h in omega arith in
     record {
-      picked = left_picked xs ys list i left;
+      picked = left_picked left;
       inside = λ _. record {
         in_x = omega arith;
         in_y = place.within;
-        picked = left_picked xs ys list i left;
+        picked = left_picked left;
         walk = record {
           ended_x = ended;
           ended_y = rw el place.ended;
           leaves = λ x. left.leaves x
-              ∙ ap (λ v. v && not (has_leaf ys x))
-              (has_leaf-take xs i lo x packed (omega arith) ended (λ _. omega arith))
+              ∙ ap (λ v. v && not (has_leaf ys x)) (has_leaf-take i lo x packed (omega arith) ended (λ _. omega arith))
               ∙ and_group (ltb x lo) (has_leaf xs x) (not (has_leaf ys x));
         };
         edge = λ _. inl (omega arith);
@@ -115,17 +114,16 @@ leaving_start xs ys list i at lo end local h el ee place left =
     }
 
 -- past a cell of `ys` that begins in it
-pub leaving_taken : (xs ys list : List ℕ) (i j lo end next y : ℕ) → Subtracting xs ys list i (j + 1) next → lo < end →
-    j < length ys → get_or ys j 0 ≡ y → first_leaf y < end → next ≡ max (first_leaf y + size_of y) lo →
-    Leaving xs ys list i (j + 1) next end
-leaving_taken xs ys list i j lo end next y s some h ey before en =
+pub leaving_taken : {xs ys list : List ℕ} {i : ℕ} (j lo end : ℕ) {next : ℕ} (y : ℕ) →
+    Subtracting xs ys list i (j + 1) next → lo < end → j < length ys → get_or ys j 0 ≡ y →
+    first_leaf y < end → next ≡ max (first_leaf y + size_of y) lo → Leaving xs ys list i (j + 1) next end
+leaving_taken {xs} {ys} j lo end {next} y s some h ey before en =
     let fy = ap first_leaf ey in
     let sy = ap size_of ey in
     record {
       picked = s.picked;
       inside = λ _. s;
-      done = λ g x.
-          ⊎_elim
+      done = λ g x. ⊎_elim
           (λ (a : x < end).
           let t : ltb x end ≡ true = grind (arith, nat_tests) in
           let m : ltb x next ≡ true = grind (arith, nat_tests) in
@@ -149,19 +147,18 @@ leaving_taken xs ys list i j lo end next y s some h ey before en =
         (cases_lt x next)
 
 -- past the last of them
-pub leaving_free : (xs ys list : List ℕ) (i j next end : ℕ) → Subtracting xs ys list (i + 1) j next → next ≡ end →
-    Leaving xs ys list i j end end
-leaving_free xs ys list i j next end s e = record {
+pub leaving_free : {xs ys list : List ℕ} (i : ℕ) {j next : ℕ} (end : ℕ) →
+    Subtracting xs ys list (i + 1) j next → next ≡ end → Leaving xs ys list i j end end
+leaving_free i end s e = record {
   picked = s.picked;
   inside = λ h. absurd (omega arith);
   done = λ g x. rw e at (s.walk.leaves x);
 }
 
 -- the cell is passed
-pub leaving_done : (xs ys list : List ℕ) (i j lo end : ℕ) → IsLocal xs → i < length xs →
-    end ≡ first_leaf (get_or xs i 0) + size_of (get_or xs i 0) → Leaving xs ys list i j lo end → end ≤ lo →
-    IsLeft xs ys list (i + 1)
-leaving_done xs ys list i j lo end local h ee l past =
+pub leaving_done : {xs ys list : List ℕ} {i j lo end : ℕ} → IsLocal xs → i < length xs → end ≡ first_leaf
+    (get_or xs i 0) + size_of (get_or xs i 0) → Leaving xs ys list i j lo end → end ≤ lo → IsLeft xs ys list (i + 1)
+leaving_done {xs} {ys} {i} {end} local h ee l past =
     let packed = packed_from_local xs local in
     let ended : FirstEndBy xs (i + 1) end = ended_to xs i end packed h (omega arith) in
     let next : i + 1 < length xs → end ≤ first_leaf (get_or xs (i + 1) 0) =
@@ -171,6 +168,5 @@ leaving_done xs ys list i j lo end local h ee l past =
       chain = l.picked.chain;
       greatest = l.picked.greatest;
       leaves = λ x. l.done past x ∙ sym (and_group (ltb x end) (has_leaf xs x) (not (has_leaf ys x)))
-          ∙ ap (λ v. v && not (has_leaf ys x))
-          (sym (has_leaf-take xs (i + 1) end x packed (omega arith) ended next));
+          ∙ ap (λ v. v && not (has_leaf ys x)) (sym (has_leaf-take (i + 1) end x packed (omega arith) ended next));
     }

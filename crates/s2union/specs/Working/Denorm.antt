@@ -1,6 +1,5 @@
 -- What only private contracts need, beside Denorm.antt, which has what public contracts need.
-use Rattle.std.specs.Prelude.{◌≡◌, ℕ, ◌-◌, ◌^◌, ◌<◌, ◌≤◌}
-use Rattle.std.specs.Prelude.{List, length, slice_index}
+use Rattle.std.specs.Prelude.{◌≡◌, ℕ, ◌-◌, ◌^◌, ◌<◌, ◌≤◌, List, length, slice_index}
 use Rattle.s2cell.specs.Cell.{level_of}
 use Rattle.s2union.specs.Denorm.{cut_level}
 

@@ -12,38 +12,30 @@ new-merge-requires-clause-cells_packed c = packed_from_local c.args.cells.now c.
 pub returns-then-not-pass : goal.returns-then-not-pass
 returns-then-not-pass c = (
   λ e. absurd (false≢true e),
-  λ f. absurd (unfit_run _ c.args.out.now c.args.put.now c.args.cells.now c.loop-merge.merge c.run.new.self
-      c.loop-merge.tail
-      c.pass.new.self c.run.result.now c.loop-merge.invariant
-      c.run.ensures.keeps c.pass.ensures (λ e. false≢true (sym c.if-not-pass.true ∙ e)) f),
+  λ f. absurd (unfit_run
+      _ c.loop-merge.invariant c.run.ensures.keeps c.pass.ensures (λ e. false≢true (sym c.if-not-pass.true ∙ e)) f),
 )
 
 pub returns-then-not-takes : goal.returns-then-not-takes
 returns-then-not-takes c =
     let start : Left = record { out = c.args.out.now; put = c.args.put.now; cells = c.args.cells.now } in
-    let seen = seen_run _ start c.loop-merge.merge c.run.new.self c.loop-merge.tail c.pass.new.self c.run.result.now
-    c.loop-merge.invariant c.run.ensures.keeps c.pass.ensures c.if-not-pass.false in (
+    let seen = seen_run _ c.loop-merge.invariant c.run.ensures.keeps c.pass.ensures c.if-not-pass.false in (
       λ e. absurd (false≢true e),
-      λ f. absurd (unfit_cell c.args.out.now c.args.put.now c.args.cells.now c.run.new.self c.turn.new.self
-          c.pass.new.self
-          c.in-Write.cell seen c.in-Write.ensures
+      λ f. absurd (unfit_cell c.in-Write.cell seen c.in-Write.ensures
           (λ g. false≢true (sym c.if-not-takes.true ∙ c.takes.ensures.exact.1 g)) f),
     )
 
 pub loop-merge-preserved-in-Write : goal.loop-merge-preserved-in-Write
 loop-merge-preserved-in-Write c =
     let start : Left = record { out = c.args.out.now; put = c.args.put.now; cells = c.args.cells.now } in
-    let seen = seen_run _ start c.loop-merge.merge c.run.new.self c.loop-merge.tail c.pass.new.self c.run.result.now
-    c.loop-merge.invariant c.run.ensures.keeps c.pass.ensures c.if-not-pass.false in
-    rw c.push.ensures (seen_write start c.run.new.self c.turn.new.self c.pass.new.self c.in-Write.cell seen
-    c.in-Write.ensures
-    c.takes.ensures.is_cell (c.takes.ensures.exact.0 c.if-not-takes.false))
+    let seen = seen_run _ c.loop-merge.invariant c.run.ensures.keeps c.pass.ensures c.if-not-pass.false in
+    rw c.push.ensures
+    (seen_write seen c.in-Write.ensures c.takes.ensures.is_cell (c.takes.ensures.exact.0 c.if-not-takes.false))
 
 pub loop-merge-preserved : goal.loop-merge-preserved
 loop-merge-preserved c =
     let start : Left = record { out = c.args.out.now; put = c.args.put.now; cells = c.args.cells.now } in
-    let seen = seen_run _ start c.loop-merge.merge c.run.new.self c.loop-merge.tail c.pass.new.self c.run.result.now
-    c.loop-merge.invariant c.run.ensures.keeps c.pass.ensures c.if-not-pass.false in
+    let seen = seen_run _ c.loop-merge.invariant c.run.ensures.keeps c.pass.ensures c.if-not-pass.false in
     let g = c.in-Skip.ensures in
     record {
       back = seen.back;
@@ -56,18 +48,16 @@ loop-merge-preserved c =
 pub returns-in-Misfit : goal.returns-in-Misfit
 returns-in-Misfit c =
     let start : Left = record { out = c.args.out.now; put = c.args.put.now; cells = c.args.cells.now } in
-    let seen = seen_run _ start c.loop-merge.merge c.run.new.self c.loop-merge.tail c.pass.new.self c.run.result.now
-    c.loop-merge.invariant c.run.ensures.keeps c.pass.ensures c.if-not-pass.false in (
+    let seen = seen_run _ c.loop-merge.invariant c.run.ensures.keeps c.pass.ensures c.if-not-pass.false in (
       λ e. absurd (false≢true e),
-      λ f. absurd (c.in-Misfit.ensures (seen.same.0 (can_from c.args.out.now c.args.put.now c.args.cells.now f))),
+      λ f. absurd (c.in-Misfit.ensures (seen.same.0 (can_from f))),
     )
 
 pub returns-in-End : goal.returns-in-End
 returns-in-End c =
     let start : Left = record { out = c.args.out.now; put = c.args.put.now; cells = c.args.cells.now } in
-    let seen = seen_run _ start c.loop-merge.merge c.run.new.self c.loop-merge.tail c.pass.new.self c.run.result.now
-    c.loop-merge.invariant c.run.ensures.keeps c.pass.ensures c.if-not-pass.false in (
-      λ _. fits_all c.args.out.now c.args.put.now c.args.cells.now c.run.new.self c.pass.new.self c.requires.out_ascends
-          c.requires.put_ascends seen c.in-End.ensures.0 c.in-End.ensures.1,
+    let seen = seen_run _ c.loop-merge.invariant c.run.ensures.keeps c.pass.ensures c.if-not-pass.false in (
+      λ _. fits_all c.args.out.now c.args.put.now
+          c.args.cells.now c.requires.out_ascends c.requires.put_ascends seen c.in-End.ensures.0 c.in-End.ensures.1,
       λ _. refl,
     )

@@ -7,14 +7,13 @@ loop-cell-init c = totalling_start c.args.cells.now c.args.min c.args.modulus
 
 pub loop-cell-preserved : goal.loop-cell-preserved
 loop-cell-preserved c =
-    totalling_more c.args.cells.now c.args.min c.args.modulus c.loop-cell.cell-index c.loop-cell.total
-    c.level-own.result c.level_to_cut-level.result c.count_descendants-total.result c.cell-item.result
+    totalling_more c.level-own.result c.level_to_cut-level.result c.count_descendants-total.result c.cell-item.result
     c.requires.local c.loop-cell.invariant c.loop-cell-test.true c.cell-item.is c.requires.some
     c.level-own.ensures.value c.level_to_cut-level.ensures.value c.count_descendants-total.ensures
 
 pub overflow_add-total : goal.overflow_add-total
 overflow_add-total c =
-    let more = totalling_more c.args.cells.now c.args.min c.args.modulus c.loop-cell.cell-index c.loop-cell.total
+    let more = totalling_more
     c.level-own.result c.level_to_cut-level.result c.count_descendants-total.result c.cell-item.result
     c.requires.local c.loop-cell.invariant c.loop-cell-test.true c.cell-item.is c.requires.some
     c.level-own.ensures.value c.level_to_cut-level.ensures.value c.count_descendants-total.ensures in

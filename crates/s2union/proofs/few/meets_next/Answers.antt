@@ -31,8 +31,7 @@ returns-else-meets_at-clause-answer c =
     let ended : FirstEndBy cells c.find_counted-found.result.at (first_leaf (get_or few c.args.at 0)) =
     rw (← c.look-cell.ensures.cell, ← first) c.find_counted-found.ensures.ended in
     more_places (λ k. ShareSome (covers (get_or few k 0)) (has_leaf cells) → ⊥) c.args.at (c.args.at + 1)
-    c.pass_free.result
-    (one_place (λ k. ShareSome (covers (get_or few k 0)) (has_leaf cells) → ⊥) c.args.at
+    c.pass_free.result (one_place (λ k. ShareSome (covers (get_or few k 0)) (has_leaf cells) → ⊥) c.args.at
     (λ shared. false≢true (sym c.if-meets_at.false
     ∙ c.meets_at.ensures.answer.1 (rw (← c.look-cell.ensures.cell) at shared))))
     (run_missed few cells c.args.at c.find_counted-found.result.at c.pass_free.result c.requires.local

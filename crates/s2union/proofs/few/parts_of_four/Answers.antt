@@ -31,5 +31,5 @@ loop-size-preserved c = record {
   second = c.quarter-second.ensures.brackets;
   third = c.quarter-third.ensures.brackets;
   fourth = c.quarter-fourth.ensures.brackets;
-  left = left_four c.loop-size.size c.loop-size.looks _ c.loop-size-test.true c.loop-size.invariant.left (omega arith);
+  left = left_four _ c.loop-size-test.true c.loop-size.invariant.left (omega arith);
 }

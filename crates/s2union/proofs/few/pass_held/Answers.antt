@@ -25,8 +25,8 @@ returns-clause-held c k h l =
     rw e (c.contains.ensures.value.0 c.if-not-contains.false) in
     let end = c.end_leaf.ensures.value in (
       omega arith,
-      rw (← c.look-cell.ensures.cell) (run_held few c.args.from c.find_from_counted.result c.look-cell.result
-          c.requires.few_packed (omega arith) inside f.within (rw (← end) f.ended) k h l),
+      rw (← c.look-cell.ensures.cell) (run_held c.args.from c.find_from_counted.result
+          c.look-cell.result c.requires.few_packed (omega arith) inside f.within (rw (← end) f.ended) k h l),
     )
 
 pub returns-clause-looks : goal.returns-clause-looks

@@ -8,14 +8,13 @@ use Rattle.s2union.proofs.normalising.fits_after.Goals.{else-n-gt0-via-then-n-gt
 pub returns-then-n-lt3 : goal.returns-then-n-lt3
 returns-then-n-lt3 c =
     let own : IsCell c.args.cell = (level_of c.args.cell, place_of c.args.cell, c.id.ensures.cell) in (
-      λ _. fits c.args.front.now c.args.cell c.requires.packed own
-          (elim c.else-n-gt0.branch [
-            | else-n-gt0-via-then-n-gt0+else-le w ↦ λ h.
-                last_before c.args.front.now c.args.cell w.index-front-n.result w.range_min.result w.range_max.result
-                w.le.result c.requires.packed h w.index-front-n.is w.range_max.ensures.value
-                w.range_min.ensures.value w.le.ensures w.if-le.false
-            | else-n-gt0-via-else-n-gt0 w ↦ λ h. absurd (omega arith)
-          ])
+      λ _. fits c.args.front.now c.args.cell c.requires.packed own (elim c.else-n-gt0.branch [
+        | else-n-gt0-via-then-n-gt0+else-le w ↦ λ h.
+            last_before c.args.front.now c.args.cell w.index-front-n.result w.range_min.result w.range_max.result
+            w.le.result c.requires.packed h w.index-front-n.is w.range_max.ensures.value
+            w.range_min.ensures.value w.le.ensures w.if-le.false
+        | else-n-gt0-via-else-n-gt0 w ↦ λ h. absurd (omega arith)
+      ])
           (λ less p e f. absurd (omega arith)),
       λ _. refl,
     )
@@ -30,16 +29,14 @@ returns-in-Some c = (
 pub returns-in-None : goal.returns-in-None
 returns-in-None c =
     let own : IsCell c.args.cell = (level_of c.args.cell, place_of c.args.cell, c.id.ensures.cell) in (
-      λ _. fits c.args.front.now c.args.cell c.requires.packed own
-          (elim c.else-n-gt0.branch [
-            | else-n-gt0-via-then-n-gt0+else-le w ↦ λ h.
-                last_before c.args.front.now c.args.cell w.index-front-n.result w.range_min.result w.range_max.result
-                w.le.result c.requires.packed h w.index-front-n.is w.range_max.ensures.value
-                w.range_min.ensures.value w.le.ensures w.if-le.false
-            | else-n-gt0-via-else-n-gt0 w ↦ λ h. absurd (omega arith)
-          ])
-          (no_family_with c.args.front.now c.args.cell _ _ _ (omega arith) c.index-front-n-2.is c.index-front-n-3.is
-          c.index-front-n-4.is c.in-None.ensures),
+      λ _. fits c.args.front.now c.args.cell c.requires.packed own (elim c.else-n-gt0.branch [
+        | else-n-gt0-via-then-n-gt0+else-le w ↦ λ h.
+            last_before c.args.front.now c.args.cell w.index-front-n.result w.range_min.result w.range_max.result
+            w.le.result c.requires.packed h w.index-front-n.is w.range_max.ensures.value
+            w.range_min.ensures.value w.le.ensures w.if-le.false
+        | else-n-gt0-via-else-n-gt0 w ↦ λ h. absurd (omega arith)
+      ]) (no_family_with c.args.front.now c.args.cell _ _ _ (omega
+          arith) c.index-front-n-2.is c.index-front-n-3.is c.index-front-n-4.is c.in-None.ensures),
       λ _. refl,
     )
 

@@ -24,9 +24,8 @@ returns-clause-local c = local_from_packed c.compact.new.cells.items c.compact.e
 pub returns-clause-normal : goal.returns-clause-normal
 returns-clause-normal c =
     normal_form_same (has_leaf c.compact.new.cells.items) (has_leaf c.args.cells.items) c.compact.new.cells.items
-    (λ x. c.compact.ensures.leaves x
-    ∙ sym (list_any-IsPermutation (λ n. covers n x) c.args.cells.items c.sort_unstable.new.self.items
-    c.sort_unstable.ensures.permutation))
+    (λ x. c.compact.ensures.leaves x ∙ sym (list_any-IsPermutation
+    (λ n. covers n x) c.args.cells.items c.sort_unstable.new.self.items c.sort_unstable.ensures.permutation))
     (normal_from_local c.compact.new.cells.items (local_from_packed c.compact.new.cells.items c.compact.ensures.packed))
 
 pub returns-clause-shortest : goal.returns-clause-shortest

@@ -7,8 +7,7 @@ use Rattle.s2union.proofs.normalising.outside.Goals as goal
 pub loop-kept-preserved : goal.loop-kept-preserved
 loop-kept-preserved c =
     leaving_step c.args.front.now c.args.cell c.loop-kept.kept c.index-front-kept.result c.requires.packed
-    c.loop-kept.invariant (omega arith) c.index-front-kept.is
-    (c.contains.ensures.value.0 c.if-contains.true)
+    c.loop-kept.invariant (omega arith) c.index-front-kept.is (c.contains.ensures.value.0 c.if-contains.true)
 
 pub returns-else-contains-clause-after : goal.returns-else-contains-clause-after
 returns-else-contains-clause-after c =

@@ -21,8 +21,7 @@ returns-then-at-cells-clause-answer c =
           let h : a < b = grind (arith, nat_tests) in
           shared_at u at c.args.cell q.local.cells q.is_cell c.if-at-cells.true (q.next c.if-at-cells.true)
           (omega arith),
-      λ s.
-          ⊎_elim
+      λ s. ⊎_elim
           (λ (h : a < b). let g : nat_lt a b ≡ true = grind (arith, nat_tests) in g)
           (λ (h : b ≤ a). absurd (shared_none u at c.args.cell q.local q.ended (λ _. omega arith) s))
           (cases_lt a b),

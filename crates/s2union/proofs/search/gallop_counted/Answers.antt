@@ -53,10 +53,8 @@ loop-leap-preserved c =
       leap = omega arith;
       below = leap_on u c.args.mark c.loop-leap.low c.loop-leap.leap c.requires.ascends leap c.loop-leap-test.true
           (is_below (get_or u (c.loop-leap.low + (c.loop-leap.leap - 1)) 0) c.args.mark c.is_below.result
-          c.is_below.ensures.below
-          (let t = small (get_or u (c.loop-leap.low + (c.loop-leap.leap - 1)) 0) c.args.mark c.is_below.result
-          c.is_below.ensures.below
-          in omega arith));
+          c.is_below.ensures.below (let t = small (get_or u (c.loop-leap.low + (c.loop-leap.leap - 1)) 0)
+          c.args.mark c.is_below.result c.is_below.ensures.below in omega arith));
       most = omega arith;
       grows = λ h. omega arith;
       looks = leaps_more c.loop-leap.looks _ d c.loop-leap.leap _ v.looks (omega arith) grows (omega arith);

@@ -21,9 +21,8 @@ loop-size-preserved c =
     let on = c.quarter-base.ensures.from in
     record {
       seeking = record { from = omega arith; brackets = c.quarter-base.ensures.brackets };
-      left = λ k h. quartered_more c.loop-size.size c.args.before c.loop-size.looks _ k c.loop-size-test.true
-          (c.loop-size.invariant.left k h)
-          (omega arith);
+      left = λ k h. quartered_more c.loop-size.size
+          c.args.before c.loop-size.looks _ k c.loop-size-test.true (c.loop-size.invariant.left k h) (omega arith);
     }
 
 pub pass-at-requires-clause-brackets : goal.pass-at-requires-clause-brackets

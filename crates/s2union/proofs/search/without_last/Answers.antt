@@ -6,9 +6,8 @@ use Rattle.s2union.proofs.search.without_last.Goals.{else-from-begun-via-then-fr
 use Rattle.s2union.proofs.search.without_last.Goals.{else-from-begun-via-else-from-begun}
 
 pub returns-then-lo-end_leaf-clause-ended : goal.returns-then-lo-end_leaf-clause-ended
-returns-then-lo-end_leaf-clause-ended c k h = ended_before c.args.cells.now c.args.lo c.args.begun.at k
-    c.requires.packed
-    c.requires.place (omega arith)
+returns-then-lo-end_leaf-clause-ended
+    c k h = ended_before c.args.cells.now c.args.lo c.args.begun.at k c.requires.packed c.requires.place (omega arith)
 
 pub returns-else-from-begun-clause-ended : goal.returns-else-from-begun-clause-ended
 returns-else-from-begun-clause-ended c =

@@ -12,22 +12,19 @@ loop-i-preserved c =
       within = omega arith;
       few = omega arith;
       room = e.room ∙ v.room;
-      adding = adding_step c.args.list.now.items c.args.cells.now c.loop-i.list.items c.add_reserved.new.list.items
-          c.loop-i.i c.index-cells-i.result c.requires.run v.adding (omega arith) c.index-cells-i.is
+      adding = adding_step c.index-cells-i.result c.requires.run v.adding (omega arith) c.index-cells-i.is
           e.packed e.starts e.leaves;
     }
 
 added : (c : goal.After-extend_reserved) → Added c.args.list.now.items c.args.cells.now c.extend_reserved.new.list.items
 added c =
-    adding_done c.args.list.now.items c.args.cells.now c.loop-i.list.items c.extend_reserved.new.list.items
-    c.loop-i.i c.requires.run c.loop-i.invariant.adding c.loop-i.invariant.within
+    adding_done c.extend_reserved.new.list.items c.requires.run c.loop-i.invariant.adding c.loop-i.invariant.within
     (λ l. elim c.loop-i-test.branch [
       | then-loop-i-test+else-not-continues w ↦ subst
           (λ (l : List ℕ). Continues l c.args.cells.now c.loop-i.i) w.as_slice.ensures.value
           (w.continues.ensures.0 w.if-not-continues.false)
       | else-loop-i-test w ↦ absurd (omega arith)
-    ])
-    c.extend_reserved.ensures.items
+    ]) c.extend_reserved.ensures.items
 
 pub returns-clause-packed : goal.returns-clause-packed
 returns-clause-packed c = (added c).packed

@@ -19,13 +19,11 @@ returns-then-n-i c =
     let right : List ℕ = take (c.args.i - (c.args.i - n)) (drop (c.args.i - n) vs) in
     let told = decided c.eq.result left right (told_text left right c.eq.result c.eq.ensures) in (
       λ h. continues_from us vs c.args.i n (omega arith) (omega arith) c.requires (told.0 h),
-      λ h.
-          told.1 (continues_to us vs c.args.i n (omega arith) (omega arith) c.requires h),
+      λ h. told.1 (continues_to n (omega arith) (omega arith) c.requires h),
     )
 
 pub returns-else-n-i : goal.returns-else-n-i
 returns-else-n-i c = (
   λ h. absurd (grind (arith, nat_tests)),
-  λ h.
-      absurd (continues_not c.args.list.now c.args.cells.now c.args.i c.min-n.result (omega arith) (omega arith) h),
+  λ h. absurd (continues_not c.min-n.result (omega arith) (omega arith) h),
 )

@@ -14,21 +14,18 @@ returns-then-i-xs-clause-leaves c =
     let ended : length c.args.ys.now ≤ c.loop-i.j =
     elim c.loop-i-test.branch [
       | then-loop-i-test+else-j-ys w ↦ omega arith
-      | else-loop-i-test w ↦ absurd
-          (omega arith)
+      | else-loop-i-test w ↦ absurd (omega arith)
     ] in
-    joining_rest c.args.xs.now c.args.ys.now c.loop-i.list.items c.add_run.new.list.items c.loop-i.i c.loop-i.j
-    c.loop-i.invariant.joining c.loop-i.invariant.in_x ended
-    c.add_run.ensures.leaves
+    joining_rest
+    c.add_run.new.list.items c.loop-i.invariant.joining c.loop-i.invariant.in_x ended c.add_run.ensures.leaves
 
 pub returns-else-i-xs-clause-local : goal.returns-else-i-xs-clause-local
 returns-else-i-xs-clause-local c = local_from_packed _ c.add_run-else-i-xs.ensures.packed
 
 pub returns-else-i-xs-clause-leaves : goal.returns-else-i-xs-clause-leaves
 returns-else-i-xs-clause-leaves c =
-    joining_rest_swap c.args.xs.now c.args.ys.now c.loop-i.list.items c.add_run-else-i-xs.new.list.items c.loop-i.i
-    c.loop-i.j c.loop-i.invariant.joining c.loop-i.invariant.in_y (omega arith)
-    c.add_run-else-i-xs.ensures.leaves
+    joining_rest_swap c.add_run-else-i-xs.new.list.items
+    c.loop-i.invariant.joining c.loop-i.invariant.in_y (omega arith) c.add_run-else-i-xs.ensures.leaves
 
 pub loop-i-preserved : goal.loop-i-preserved
 loop-i-preserved c =
@@ -40,37 +37,31 @@ loop-i-preserved c =
           let ey : get_or c.args.ys.now c.loop-i.j 0 ≡ c.index-ys-j.result =
           read_at c.args.ys.now c.loop-i.j c.loop-i.j c.index-ys-j.result c.if-j-ys.true refl c.index-ys-j.is in
           let cell = w.add_reserved-is in
-          rw (w.if-is_x.true, add-zero)
-          (record {
+          rw (w.if-is_x.true, add-zero) (record {
             in_x = omega arith;
             in_y = v.in_y;
             few = omega arith;
             room = e.room ∙ v.room;
-            joining = join_x c.args.xs.now c.args.ys.now c.loop-i.list.items c.add_reserved.new.list.items
-                c.loop-i.i c.loop-i.j c.index-xs-i.result c.requires.x_local v.joining c.loop-i-test.true
-                c.index-xs-i.is
+            joining = join_x c.index-xs-i.result c.requires.x_local v.joining c.loop-i-test.true c.index-xs-i.is
                 (λ _. omega arith) e.packed (rw (← cell) e.starts) (rw (← cell) e.leaves);
           })
       | else-is_x w ↦
           let most : c.index-ys-j.result ≤ c.index-xs-i.result = le_from_test _ _ _ c.lt-is_x.ensures w.if-is_x.false in
           let ex : get_or c.args.xs.now c.loop-i.i 0 ≡ c.index-xs-i.result =
-          read_at c.args.xs.now c.loop-i.i c.loop-i.i c.index-xs-i.result c.loop-i-test.true refl
-          c.index-xs-i.is in
+          read_at c.args.xs.now c.loop-i.i c.loop-i.i c.index-xs-i.result c.loop-i-test.true refl c.index-xs-i.is in
           let cell = w.add_reserved-is in
-          rw (w.if-is_x.false, add-zero)
-          (record {
+          rw (w.if-is_x.false, add-zero) (record {
             in_x = v.in_x;
             in_y = omega arith;
             few = omega arith;
             room = e.room ∙ v.room;
-            joining = join_y c.args.xs.now c.args.ys.now c.loop-i.list.items c.add_reserved.new.list.items
-                c.loop-i.i c.loop-i.j c.index-ys-j.result c.requires.y_local v.joining c.if-j-ys.true c.index-ys-j.is
+            joining = join_y c.index-ys-j.result c.requires.y_local v.joining c.if-j-ys.true c.index-ys-j.is
                 (λ _. omega arith) e.packed (rw (← cell) e.starts) (rw (← cell) e.leaves);
           })
     ]
 
 pub add_run-requires-clause-run : goal.add_run-requires-clause-run
-add_run-requires-clause-run c = rest_packed c.args.xs.now c.loop-i.i c.requires.x_local (omega arith)
+add_run-requires-clause-run c = rest_packed c.loop-i.i c.requires.x_local (omega arith)
 
 pub add_run-requires-else-i-xs-clause-run : goal.add_run-requires-else-i-xs-clause-run
-add_run-requires-else-i-xs-clause-run c = rest_packed c.args.ys.now c.loop-i.j c.requires.y_local (omega arith)
+add_run-requires-else-i-xs-clause-run c = rest_packed c.loop-i.j c.requires.y_local (omega arith)

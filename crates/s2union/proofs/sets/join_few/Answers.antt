@@ -8,7 +8,7 @@ use Rattle.s2union.proofs.Following.{part_packed, rest_packed, run_joins, run_st
 use Rattle.s2union.proofs.sets.join_few.Goals as goal
 
 pub add_run-requires-clause-run : goal.add_run-requires-clause-run
-add_run-requires-clause-run c = part_packed c.args.xs.now c.loop-j.done _
+add_run-requires-clause-run c = part_packed c.loop-j.done _
     (packed_from_local c.args.xs.now c.requires.x_local) (omega arith)
 
 pub gallop-next-requires-clause-ascends : goal.gallop-next-requires-clause-ascends
@@ -29,10 +29,7 @@ add_reserved-requires-clause-starts c =
     let a = c.add_run.ensures in
     let r : Brackets c.args.xs.now c.index-ys-j.result c.gallop-next.result c.gallop-next.result =
     rw (← c.id.ensures.value) e.place in
-    run_starts c.args.xs.now c.args.ys.now c.loop-j.list.items c.add_run.new.list.items c.gallop-next.result
-    c.loop-j.j c.index-ys-j.result
-    (run_joins c.args.xs.now c.args.ys.now c.loop-j.list.items c.add_run.new.list.items c.loop-j.done c.loop-j.j
-    c.gallop-next.result c.index-ys-j.result c.requires.x_local c.loop-j.invariant.joining from r
+    run_starts c.loop-j.list.items c.index-ys-j.result (run_joins c.requires.x_local c.loop-j.invariant.joining from r
     (λ _. c.index-ys-j.is) (record { packed = a.packed; leaves = a.leaves; later = a.starts })) (omega arith)
     c.index-ys-j.is
 
@@ -44,8 +41,7 @@ loop-j-preserved c =
     let r : Brackets c.args.xs.now c.index-ys-j.result c.gallop-next.result c.gallop-next.result =
     rw (← c.id.ensures.value) e.place in
     let joined : Joining c.args.xs.now c.args.ys.now c.add_run.new.list.items c.gallop-next.result c.loop-j.j =
-    run_joins c.args.xs.now c.args.ys.now c.loop-j.list.items c.add_run.new.list.items c.loop-j.done c.loop-j.j
-    c.gallop-next.result c.index-ys-j.result c.requires.x_local c.loop-j.invariant.joining from r
+    run_joins c.requires.x_local c.loop-j.invariant.joining from r
     (λ _. c.index-ys-j.is) (record { packed = a.packed; leaves = a.leaves; later = a.starts }) in
     record {
       in_x = omega arith;
@@ -57,20 +53,18 @@ loop-j-preserved c =
           let y : get_or c.args.ys.now c.loop-j.j 0 ≡ c.index-ys-j.result =
           read_at c.args.ys.now c.loop-j.j c.loop-j.j c.index-ys-j.result (omega arith) refl c.index-ys-j.is in
           omega arith;
-      joining = join_y c.args.xs.now c.args.ys.now c.add_run.new.list.items c.add_reserved.new.list.items
-          c.gallop-next.result c.loop-j.j c.index-ys-j.result c.requires.y_local joined (omega arith) c.index-ys-j.is
+      joining = join_y c.index-ys-j.result c.requires.y_local joined (omega arith) c.index-ys-j.is
           (λ h. r.rest c.gallop-next.result (omega arith) h) c.add_reserved.ensures.packed
           c.add_reserved.ensures.starts c.add_reserved.ensures.leaves;
     }
 
 pub add_run-requires-2-clause-run : goal.add_run-requires-2-clause-run
-add_run-requires-2-clause-run c = rest_packed c.args.xs.now c.loop-j.done c.requires.x_local (omega arith)
+add_run-requires-2-clause-run c = rest_packed c.loop-j.done c.requires.x_local (omega arith)
 
 pub returns-clause-local : goal.returns-clause-local
 returns-clause-local c = local_from_packed _ c.add_run-2.ensures.packed
 
 pub returns-clause-leaves : goal.returns-clause-leaves
 returns-clause-leaves c =
-    joining_rest c.args.xs.now c.args.ys.now c.loop-j.list.items c.add_run-2.new.list.items c.loop-j.done
-    c.loop-j.j c.loop-j.invariant.joining (omega arith) (omega arith)
-    c.add_run-2.ensures.leaves
+    joining_rest
+    c.add_run-2.new.list.items c.loop-j.invariant.joining (omega arith) (omega arith) c.add_run-2.ensures.leaves

@@ -57,9 +57,8 @@ find_from-next-requires-clause-packed c = packed_from_local c.args.xs.now c.requ
 
 pub find_from-next-requires-clause-ended : goal.find_from-next-requires-clause-ended
 find_from-next-requires-clause-ended c =
-    rw c.end_leaf-then-contains.ensures.value (ended_in c.args.xs.now c.loop-i.i c.index-ys-j.result
-    c.index-xs-i.result c.requires.x_local c.loop-i-test.true c.index-xs-i.is
-    (c.contains.ensures.value.0 c.if-contains.true))
+    rw c.end_leaf-then-contains.ensures.value (ended_in c.args.xs.now c.loop-i.i c.index-ys-j.result c.index-xs-i.result
+    c.requires.x_local c.loop-i-test.true c.index-xs-i.is (c.contains.ensures.value.0 c.if-contains.true))
 
 pub loop-i-preserved-then-contains : goal.loop-i-preserved-then-contains
 loop-i-preserved-then-contains c =

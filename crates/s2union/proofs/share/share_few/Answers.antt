@@ -15,10 +15,8 @@ pub find-at-requires-clause-packed : goal.find-at-requires-clause-packed
 find-at-requires-clause-packed c = packed_from_local c.args.ys.now c.requires.y_local
 
 pub returns-clause-leaves : goal.returns-clause-leaves
-returns-clause-leaves c = shared_all c.args.xs.now c.args.ys.now c.loop-i.list.items c.loop-i.i
-    c.loop-i.invariant.shared (omega arith)
+returns-clause-leaves c = shared_all c.loop-i.invariant.shared (omega arith)
 
 pub returns-clause-local : goal.returns-clause-local
 returns-clause-local c = picked_local (both c.args.xs.now c.args.ys.now) c.loop-i.list.items
-    (shared_picked c.args.xs.now c.args.ys.now c.loop-i.list.items c.loop-i.i c.loop-i.invariant.shared)
-    (returns-clause-leaves c)
+    (shared_picked c.loop-i.invariant.shared) (returns-clause-leaves c)

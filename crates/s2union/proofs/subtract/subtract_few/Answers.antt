@@ -19,10 +19,8 @@ pub find-at-requires-clause-packed : goal.find-at-requires-clause-packed
 find-at-requires-clause-packed c = packed_from_local c.args.ys.now c.requires.y_local
 
 pub returns-clause-leaves : goal.returns-clause-leaves
-returns-clause-leaves c = left_all c.args.xs.now c.args.ys.now c.loop-i-2.list.items c.loop-i-2.i
-    c.loop-i-2.invariant.left (omega arith)
+returns-clause-leaves c = left_all c.loop-i-2.invariant.left (omega arith)
 
 pub returns-clause-local : goal.returns-clause-local
 returns-clause-local c = picked_local (minus c.args.xs.now c.args.ys.now) c.loop-i-2.list.items
-    (left_picked c.args.xs.now c.args.ys.now c.loop-i-2.list.items c.loop-i-2.i c.loop-i-2.invariant.left)
-    (returns-clause-leaves c)
+    (left_picked c.loop-i-2.invariant.left) (returns-clause-leaves c)

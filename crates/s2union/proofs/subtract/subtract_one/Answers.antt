@@ -49,8 +49,8 @@ loop-lo-preserved-in-Some c =
       leaf = omega arith;
       from = omega arith;
       in_y = omega arith;
-      so_far = leaving_taken c.args.xs.now c.args.ys.now c.fill_gap.new.list.items c.args.i c.loop-lo.j c.loop-lo.lo
-          c.end_leaf-end.result c.max-lo.result c.in-Some.y taken c.loop-lo-test.true below ey before (omega arith);
+      so_far = leaving_taken c.loop-lo.j
+          c.loop-lo.lo c.end_leaf-end.result c.in-Some.y taken c.loop-lo-test.true below ey before (omega arith);
     }
 
 pub loop-lo-preserved : goal.loop-lo-preserved
@@ -72,8 +72,7 @@ loop-lo-preserved c =
       leaf = omega arith;
       from = omega arith;
       in_y = v.in_y;
-      so_far = leaving_free c.args.xs.now c.args.ys.now c.fill_gap-in-None.new.list.items c.args.i c.loop-lo.j
-          c.end_leaf-end.result c.end_leaf-end.result free refl;
+      so_far = leaving_free c.args.i c.end_leaf-end.result free refl;
     }
 
 pub returns-clause-left : goal.returns-clause-left
@@ -88,9 +87,8 @@ returns-clause-left c = on_ok_weaker c.check_limit.result (λ few.
     let fx = ap first_leaf ex in
     let sx = ap size_of ex in
     let last = c.end_leaf-end.ensures.value in
-    leaving_done c.args.xs.now c.args.ys.now c.loop-lo.list.items c.args.i c.loop-lo.j c.loop-lo.lo
-    c.end_leaf-end.result c.requires.x_local c.requires.there (omega arith) c.loop-lo.invariant.so_far past)
-    c.check_limit.ensures.within
+    leaving_done
+    c.requires.x_local c.requires.there (omega arith) c.loop-lo.invariant.so_far past) c.check_limit.ensures.within
 
 pub returns-clause-many : goal.returns-clause-many
 returns-clause-many c = IfErr-weaker c.check_limit.result _ _ (λ fault more is u normal.

@@ -9,17 +9,16 @@ pub returns-clause-keeps : goal.returns-clause-keeps
 returns-clause-keeps c =
     let s = c.self.inside in
     let len = c.gallop-len.result in
-    rw (rest_after s.cells.now len) (subst (λ (o : Left).
-    Keeps (take len s.cells.now) o (record { out = s.out.now; put = s.put.now; cells = drop len s.cells.now }))
-    c.self.view_is
-    (keep_found len c.min-next.result c.first_id.result c.first_id-2.result s.out.now s.put.now s.cells.now
-    c.self.invariant c.first_id.ensures c.first_id-2.ensures (omega arith) c.gallop-len.ensures.place))
+    rw (rest_after s.cells.now len) (subst (λ (o : Left). Keeps
+    (take len s.cells.now) o (record { out = s.out.now; put = s.put.now; cells = drop len s.cells.now }))
+    c.self.view_is (keep_found c.first_id.result c.first_id-2.result s.out.now
+    s.put.now c.self.invariant c.first_id.ensures c.first_id-2.ensures (omega arith) c.gallop-len.ensures.place))
 
 pub gallop-len-requires-clause-ascends : goal.gallop-len-requires-clause-ascends
 gallop-len-requires-clause-ascends c = ascends c.self.inside.cells.now c.self.invariant.cells
 
 pub returns-clause-packed : goal.returns-clause-packed
-returns-clause-packed c = part_packed c.self.inside.cells.now 0 c.gallop-len.result c.self.invariant.cells
+returns-clause-packed c = part_packed 0 c.gallop-len.result c.self.invariant.cells
     (let w = c.gallop-len.ensures.place.within in omega arith)
 
 pub invariant_of-self : goal.invariant_of-self
@@ -30,6 +29,5 @@ invariant_of-self c =
     record {
       out = i.out;
       put = i.put;
-      cells = part_packed u len (length u - len) i.cells
-          (let w = c.gallop-len.ensures.place.within in omega arith);
+      cells = part_packed len (length u - len) i.cells (let w = c.gallop-len.ensures.place.within in omega arith);
     }

@@ -6,12 +6,13 @@ use Rattle.s2union.proofs.apply.Merge.turn_after_cells.Goals as goal
 
 pub returns-in-Some : goal.returns-in-Some
 returns-in-Some c =
-    subst (λ (o : Left). Goes (c.in-Some.field-0-0.now ∷ []) o
-    (record { out = c.self.inside.out.now; put = c.in-Some.rest.now; cells = c.self.inside.cells.now }))
-    c.self.view_is
-    (last_turn c.self.inside.out.now c.self.inside.put.now c.in-Some.rest.now c.self.inside.cells.now
-    c.in-Some.field-0-0.now c.in-Some.ensures.cases.0
-    (ap (λ (l : Left). l.cells) c.self.view_is ∙ c.requires) c.self.invariant)
+    subst (λ (o : Left). Goes (c.in-Some.field-0-0.now ∷ []) o (record {
+      out = c.self.inside.out.now;
+      put = c.in-Some.rest.now;
+      cells = c.self.inside.cells.now;
+    })) c.self.view_is (last_turn
+    c.self.inside.out.now c.self.inside.put.now c.in-Some.rest.now c.self.inside.cells.now c.in-Some.field-0-0.now
+    c.in-Some.ensures.cases.0 (ap (λ (l : Left). l.cells) c.self.view_is ∙ c.requires) c.self.invariant)
 
 pub returns-then-not-is_empty : goal.returns-then-not-is_empty
 returns-then-not-is_empty c f =

@@ -7,8 +7,7 @@ pub returns-then-not-takes : goal.returns-then-not-takes
 returns-then-not-takes c = record {
   exact = λ back i p. (
     λ e. absurd (false≢true e),
-    λ q. absurd (passing_fails c.args.self.now c.loop-k.self c.args.run.now c.loop-k.k c.index-run-k.result
-        c.loop-k.invariant.so_far (omega arith) c.index-run-k.is
+    λ q. absurd (passing_fails c.index-run-k.result c.loop-k.invariant.so_far (omega arith) c.index-run-k.is
         (λ f. false≢true (sym c.if-not-takes.true ∙ c.takes.ensures.exact.1 f)) back i p q),
   );
   ends = λ back i p e. absurd (false≢true e);
@@ -17,9 +16,8 @@ returns-then-not-takes c = record {
 pub loop-k-preserved : goal.loop-k-preserved
 loop-k-preserved c = record {
   within = omega arith;
-  so_far = rw c.push.ensures (passing_more c.args.self.now c.loop-k.self c.args.run.now c.loop-k.k
-      c.index-run-k.result c.loop-k.invariant.so_far (omega arith) c.index-run-k.is
-      c.takes.ensures.is_cell (c.takes.ensures.exact.0 c.if-not-takes.false));
+  so_far = rw c.push.ensures (passing_more c.loop-k.invariant.so_far
+      (omega arith) c.index-run-k.is c.takes.ensures.is_cell (c.takes.ensures.exact.0 c.if-not-takes.false));
 }
 
 pub returns-then-run-gt3 : goal.returns-then-run-gt3
@@ -27,7 +25,6 @@ returns-then-run-gt3 c =
     let w = c.loop-k.invariant.within in
     let least = c.min-k-end.ensures in
     rw (c.push-then-run-gt3-3.ensures, c.push-then-run-gt3-2.ensures, c.push-then-run-gt3.ensures)
-    (passing_rest _ c.args.self.now c.loop-k.self c.args.run.now _ _ _ refl
-    (subst (Passing c.args.self.now c.loop-k.self c.args.run.now) (omega arith) c.loop-k.invariant.so_far)
-    c.if-run-gt3.true c.requires.packed
-    c.index-run-run.is c.index-run-run-then-run-gt3.is c.index-run-run-then-run-gt3-2.is)
+    (passing_rest _ _ _ _ refl (subst
+    (Passing c.args.self.now c.loop-k.self c.args.run.now) (omega arith) c.loop-k.invariant.so_far) c.if-run-gt3.true
+    c.requires.packed c.index-run-run.is c.index-run-run-then-run-gt3.is c.index-run-run-then-run-gt3-2.is)

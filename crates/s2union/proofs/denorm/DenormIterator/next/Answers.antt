@@ -8,19 +8,18 @@ use Rattle.s2union.proofs.denorm.DenormIterator.next.Goals.{then-self, else-self
 pub returns-then-is_empty-clause-steps : goal.returns-then-is_empty-clause-steps
 returns-then-is_empty-clause-steps c =
     let none : length c.self.inside.cells.now ≡ 0 = none_from_test _ _ c.is_empty.ensures c.if-is_empty.true in
-    let e : c.args.self.now ≡ [] = sym c.self.view_is ∙ items_none _ _ _ _ _ _ c.self.invariant none in
+    let e : c.args.self.now ≡ [] = sym c.self.view_is ∙ items_none _ c.self.invariant none in
     (e, e)
 
 pub descendant-item-requires-clause-own : goal.descendant-item-requires-clause-own
 descendant-item-requires-clause-own c =
     let some : 0 < length c.self.inside.cells.now = some_from_test _ _ c.is_empty.ensures c.if-is_empty.false in
-    rw (← c.index-self-0.is) (underway_level _ _ _ _ _ _ c.index-self-0.result c.self.invariant some
-    c.index-self-0.is).0
+    rw (← c.index-self-0.is) (underway_level _ c.index-self-0.result c.self.invariant some c.index-self-0.is).0
 
 pub descendant-item-requires-clause-deepest : goal.descendant-item-requires-clause-deepest
 descendant-item-requires-clause-deepest c =
     let some : 0 < length c.self.inside.cells.now = some_from_test _ _ c.is_empty.ensures c.if-is_empty.false in
-    (underway_level _ _ _ _ _ _ c.index-self-0.result c.self.invariant some c.index-self-0.is).1
+    (underway_level _ c.index-self-0.result c.self.invariant some c.index-self-0.is).1
 
 pub returns-clause-steps : goal.returns-clause-steps
 returns-clause-steps c =
@@ -30,12 +29,12 @@ returns-clause-steps c =
     ∙ sym c.descendant-item.ensures.value in
     let now : c.args.self.now ≡ c.descendant-item.result ∷ drop (c.self.inside.number + 1)
     (denormalised c.self.inside.min c.self.inside.modulus c.self.inside.cells.now) =
-    sym c.self.view_is ∙ items_next _ _ _ _ _ _ c.index-self-0.result c.self.invariant some c.index-self-0.is
+    sym c.self.view_is ∙ items_next _ c.index-self-0.result c.self.invariant some c.index-self-0.is
     ∙ ap (λ x. x ∷ drop (c.self.inside.number + 1)
     (denormalised c.self.inside.min c.self.inside.modulus c.self.inside.cells.now)) item in
     elim c.if-self.branch [
       | then-self w ↦
-          let rest = items_last _ _ _ _ _ _ c.self.invariant some w.if-self.true in
+          let rest = items_last _ c.self.invariant some w.if-self.true in
           now ∙ ap (λ x. c.descendant-item.result ∷ x) (rest ∙ sym w.over.ensures ∙ sym w.self-then-self.view_is
           ∙ sym w.self-is)
       | else-self w ↦ now ∙ ap (λ x. c.descendant-item.result ∷ x) (sym w.self-is)

@@ -9,5 +9,4 @@ returns-clause-meaning c =
 pub returns-clause-most : goal.returns-clause-most
 returns-clause-most c =
     rw (c.over.ensures, c.cells.ensures.value)
-    (length-denormalised-le c.args.min c.args.modulus c.args.self.now.cells c.cells.ensures.local
-    c.requires.some)
+    (length-denormalised-le c.args.min c.args.modulus c.args.self.now.cells c.cells.ensures.local c.requires.some)
