@@ -1,7 +1,6 @@
 -- A walk along two ascending lists that share no cell.
-use Rattle.std.proofs.Common.{◌≡◌, ℕ, zero, suc, ◌+◌, ◌<◌, Bool, true, false, ◌||◌, eqb, List, [], ◌∷◌, length}
-use Rattle.std.proofs.Common.{drop, get_or, refl, sym, ap, ◌∙◌, subst, ⊎_elim, arith, eqb-true, eq-eqb, add-one}
-use Rattle.std.proofs.Common.{drop-cons}
+use Rattle.std.proofs.Common.{◌≡◌, ℕ, zero, suc, ◌+◌, ◌<◌, Bool, true, false, ◌||◌, eqb, List, [], ◌∷◌, length, drop}
+use Rattle.std.proofs.Common.{get_or, refl, sym, ap, ◌∙◌, subst, ⊎_elim, arith, eqb-true, eq-eqb, add-one, drop-cons}
 use Rattle.std.proofs.lemmas.Bool.{or_cases, or_left, or_right, false≢true}
 use Rattle.std.specs.List.Sorted.{IsStrictlyIncreasing}
 use Rattle.s2union.specs.Apply.{has}
@@ -27,20 +26,17 @@ not_from xs k x a l h =
 
 -- past a cell of the first list that is below all that are left of the second
 pub apart_first : (out put : List ℕ) (i j : ℕ) → IsStrictlyIncreasing put → i < length out → j < length put →
-    get_or out i 0 < get_or put j 0
-    → AreApart (drop (i + 1) out) (drop j put) → AreApart (drop i out) (drop j put)
+    get_or out i 0 < get_or put j 0 → AreApart (drop (i + 1) out) (drop j put) → AreApart (drop i out) (drop j put)
 apart_first out put i j a l m h rest x there =
     ⊎_elim
     (λ (e : eqb (get_or out i 0) x ≡ true). subst (λ (y : ℕ). has (drop j put) y ≡ false)
     (eqb-true (get_or out i 0) x e) (not_from put j (get_or out i 0) a m h))
-    (λ (e : has (drop (i + 1) out) x ≡ true). rest x e)
-    (or_cases (eqb (get_or out i 0) x) (has (drop (i + 1) out) x)
-    (sym (ap (λ (ys : List ℕ). has ys x) (at_head out i l)) ∙ there))
+    (λ (e : has (drop (i + 1) out) x ≡ true). rest x e) (or_cases (eqb (get_or out i 0) x)
+    (has (drop (i + 1) out) x) (sym (ap (λ (ys : List ℕ). has ys x) (at_head out i l)) ∙ there))
 
 -- and past one of the second that is below all that are left of the first
 pub apart_second : (out put : List ℕ) (i j : ℕ) → IsStrictlyIncreasing out → i < length out → j < length put →
-    get_or put j 0 < get_or out i 0
-    → AreApart (drop i out) (drop (j + 1) put) → AreApart (drop i out) (drop j put)
+    get_or put j 0 < get_or out i 0 → AreApart (drop i out) (drop (j + 1) put) → AreApart (drop i out) (drop j put)
 apart_second out put i j a l m h rest x there =
     let none : eqb (get_or put j 0) x ≡ false =
     not_true (eqb (get_or put j 0) x) (λ e. false≢true (sym (not_from out i (get_or put j 0) a l h)

@@ -24,15 +24,15 @@ stated-longer (x ∷ xs) ys h = first_number-longer xs ys (omega arith)
 longer : (xs ys : List ℕ) → length xs ≤ length (xs ++ ys)
 longer xs ys = omega (arith, length-append xs ys)
 
-version-longer : (xs ys : List ℕ) → MOST_SIZE < length xs → HasVersion xs → HasVersion (xs ++ ys)
-version-longer xs ys h v = record { some = omega (arith, longer xs ys); version = first-longer xs ys h ∙ v.version }
+version-longer : {xs : List ℕ} (ys : List ℕ) → MOST_SIZE < length xs → HasVersion xs → HasVersion (xs ++ ys)
+version-longer {xs} ys h v = record { some = omega (arith, longer xs ys); version = first-longer xs ys h ∙ v.version }
 
-head-longer : (xs ys : List ℕ) → MOST_SIZE < length xs → HasHead xs → HasHead (xs ++ ys)
-head-longer xs ys h v = record { version = version-longer xs ys h v.version; whole = omega (arith, longer xs ys) }
+head-longer : {xs : List ℕ} (ys : List ℕ) → MOST_SIZE < length xs → HasHead xs → HasHead (xs ++ ys)
+head-longer {xs} ys h v = record { version = version-longer ys h v.version; whole = omega (arith, longer xs ys) }
 
-count-longer : (xs ys : List ℕ) → MOST_SIZE < length xs → HasCount xs → HasCount (xs ++ ys)
-count-longer xs ys h v = record {
-  head = head-longer xs ys h v.head;
+count-longer : {xs : List ℕ} (ys : List ℕ) → MOST_SIZE < length xs → HasCount xs → HasCount (xs ++ ys)
+count-longer {xs} ys h v = record {
+  head = head-longer ys h v.head;
   most = omega (arith, v.most, stated-longer xs ys h);
 }
 
@@ -40,9 +40,9 @@ count-longer xs ys h v = record {
 fault-longer : (xs ys : List ℕ) (fault : FileFault) → MOST_SIZE < length xs → fault ≢ Memory → HasFault xs fault →
     HasFault (xs ++ ys) fault
 fault-longer xs ys Version h n f = (omega (arith, longer xs ys), λ e. f.1 (sym (first-longer xs ys h) ∙ e))
-fault-longer xs ys Count h n f = (head-longer xs ys h f.0, omega (arith, f.1, stated-longer xs ys h))
+fault-longer xs ys Count h n f = (head-longer ys h f.0, omega (arith, f.1, stated-longer xs ys h))
 fault-longer xs ys Trailing h n f = (
-  count-longer xs ys h f.0,
+  count-longer ys h f.0,
   omega (arith, f.0.most, stated-longer xs ys h, longer xs ys),
 )
 fault-longer xs ys Short h n (inl none) = absurd (omega (arith, none))

@@ -11,14 +11,13 @@ use Rattle.s2file.specs.declared.fault.FileFault.TheVariants.{Version, Count, Sh
 use Rattle.s2file.specs.File.{stated_count, IsFileOf, File, HasCount, HasFault}
 
 -- a file has one list of identifiers
-same_ids : (bytes xs ys : List ℕ) → IsFileOf bytes xs → IsFileOf bytes ys → xs ≡ ys
-same_ids bytes xs ys f g =
+same_ids : {bytes xs ys : List ℕ} → IsFileOf bytes xs → IsFileOf bytes ys → xs ≡ ys
+same_ids {xs} {ys} f g =
     ext_get_or 0 xs ys (sym f.count ∙ g.count) (λ i h. f.numbers i h
     ∙ sym (g.numbers i (omega (arith, f.count, g.count))))
 
 pub same_leaves : (bytes : List ℕ) (S T : ℕ → Bool) → File bytes S → File bytes T → (x : ℕ) → S x ≡ T x
-same_leaves bytes S T f g x =
-    f.leaves x ∙ ap (λ (ids : List ℕ). has_leaf ids x) (same_ids bytes f.ids g.ids f.is g.is) ∙ sym (g.leaves x)
+same_leaves bytes S T f g x = f.leaves x ∙ ap (λ (ids : List ℕ). has_leaf ids x) (same_ids f.is g.is) ∙ sym (g.leaves x)
 
 -- a file has no fault
 pub no_fault : (bytes : List ℕ) (S : ℕ → Bool) (fault : FileFault) → File bytes S → HasFault bytes fault
@@ -61,8 +60,8 @@ short_counts bytes h count = elim h [
 ]
 
 -- nor have they as many as they state
-short_ends : (bytes : List ℕ) → HasFault bytes Short → HasCount bytes → 9 + 8 * stated_count bytes ≤ length bytes → ⊥
-short_ends bytes h counted enough = elim h [
+short_ends : {bytes : List ℕ} → HasFault bytes Short → HasCount bytes → 9 + 8 * stated_count bytes ≤ length bytes → ⊥
+short_ends h counted enough = elim h [
   | inl none ↦ absurd (omega (arith, enough))
   | inr more ↦ elim more [
     | inl head ↦ absurd (omega (arith, head.1, enough))
@@ -90,24 +89,24 @@ one_fault bytes Short Memory h g m n = absurd (n refl)
 one_fault bytes Short Version h g m n = absurd (short_begins bytes h g)
 one_fault bytes Short Count h g m n = absurd (short_counts bytes h g)
 one_fault bytes Short Short h g m n = refl
-one_fault bytes Short Trailing h g m n = absurd (short_ends bytes h g.0 (omega (arith, g.1)))
-one_fault bytes Short Cell h g m n = absurd (short_ends bytes h g.0.counted (omega (arith, g.0.length_is)))
+one_fault bytes Short Trailing h g m n = absurd (short_ends h g.0 (omega (arith, g.1)))
+one_fault bytes Short Cell h g m n = absurd (short_ends h g.0.counted (omega (arith, g.0.length_is)))
 one_fault bytes Trailing Memory h g m n = absurd (n refl)
 one_fault bytes Trailing Version h g m n = absurd (g.1 h.0.head.version.version)
 one_fault bytes Trailing Count h g m n = absurd (omega (arith, g.1, h.0.most))
-one_fault bytes Trailing Short h g m n = absurd (short_ends bytes g h.0 (omega (arith, h.1)))
+one_fault bytes Trailing Short h g m n = absurd (short_ends g h.0 (omega (arith, h.1)))
 one_fault bytes Trailing Trailing h g m n = refl
 one_fault bytes Trailing Cell h g m n = absurd (omega (arith, h.1, g.0.length_is))
 one_fault bytes Cell Memory h g m n = absurd (n refl)
 one_fault bytes Cell Version h g m n = absurd (g.1 h.0.counted.head.version.version)
 one_fault bytes Cell Count h g m n = absurd (omega (arith, g.1, h.0.counted.most))
-one_fault bytes Cell Short h g m n = absurd (short_ends bytes g h.0.counted (omega (arith, h.0.length_is)))
+one_fault bytes Cell Short h g m n = absurd (short_ends g h.0.counted (omega (arith, h.0.length_is)))
 one_fault bytes Cell Trailing h g m n = absurd (omega (arith, g.1, h.0.length_is))
 one_fault bytes Cell Cell h g m n = refl
 
 -- an answer that is right for the bytes is the one for each set whose file they are
-pub exact_answer : (bytes : List ℕ) (r : Result Union FileFault) →
-    MatchResult r (λ u. File bytes (has_leaf u.cells)) (HasFault bytes)
-    → (S : ℕ → Bool) → File bytes S → MatchResult r (λ u. (x : ℕ) → has_leaf u.cells x ≡ S x) (λ fault. fault ≡ Memory)
-exact_answer bytes (Ok u) answer S file = λ x. same_leaves bytes (has_leaf u.cells) S answer file x
-exact_answer bytes (Err fault) answer S file = no_fault bytes S fault file answer
+pub exact_answer : {bytes : List ℕ} (r : Result Union FileFault) →
+    MatchResult r (λ u. File bytes (has_leaf u.cells)) (HasFault bytes) →
+    (S : ℕ → Bool) → File bytes S → MatchResult r (λ u. (x : ℕ) → has_leaf u.cells x ≡ S x) (λ fault. fault ≡ Memory)
+exact_answer {bytes} (Ok u) answer S file = λ x. same_leaves bytes (has_leaf u.cells) S answer file x
+exact_answer {bytes} (Err fault) answer S file = no_fault bytes S fault file answer

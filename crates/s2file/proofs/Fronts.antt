@@ -72,25 +72,25 @@ pub one_cell : IsOneWay number_text IsCell
 one_cell = one_within number_text IsCell IsNumber fits_u64 one_number
 
 -- a list of cells: its count, and what follows
-pub list_count : (bytes ids r : List ℕ) → Begins list_text AreCells bytes ids r →
+pub list_count : {bytes ids r : List ℕ} → Begins list_text AreCells bytes ids r →
     Begins number_text IsNumber bytes (length ids) (flat_map number_text ids ++ r)
-list_count bytes ids r f = record {
+list_count {ids} {r} f = record {
   is = f.is ∙ append_assoc (number_text (length ids)) (flat_map number_text ids) r;
   ok = omega (arith, f.ok.few);
 }
 
 pub one_list : IsOneWay list_text AreCells
 one_list bytes a b r q f g =
-    let n = one_number bytes (length a) (length b) (flat_map number_text a ++ r) (flat_map number_text b ++ q)
-    (list_count bytes a r f) (list_count bytes b q g) in
+    let n = one_number bytes
+    (length a) (length b) (flat_map number_text a ++ r) (flat_map number_text b ++ q) (list_count f) (list_count g) in
     one_row number_text IsCell one_cell a b r q (recursion_from_All IsCell a f.ok.valid)
     (recursion_from_All IsCell b g.ok.valid) n.0 n.1
 
 pub register_cells : (cells : List ℕ) → IsRegisterList cells → AreCells cells
 register_cells cells l = record { valid = l.local.cells; few = l.few }
 
-pub change_cells : (cells : List ℕ) → IsChangeList cells → AreCells cells
-change_cells cells l = record { valid = l.valid; few = l.few }
+pub change_cells : {cells : List ℕ} → IsChangeList cells → AreCells cells
+change_cells l = record { valid = l.valid; few = l.few }
 
 pub one_register : IsOneWay list_text IsRegisterList
 one_register = one_within list_text IsRegisterList AreCells register_cells one_list
@@ -111,8 +111,7 @@ same_moved m n e f g =
 
 -- two changes at the front are one if their lists are lists of cells
 pub same_move : (bytes : List ℕ) (m n : Moved) (r q : List ℕ) → bytes ≡ move_text m ++ r →
-    bytes ≡ move_text n ++ q → AreCells m.out → AreCells m.put →
-    AreCells n.out → AreCells n.put → (m ≡ n) × (r ≡ q)
+    bytes ≡ move_text n ++ q → AreCells m.out → AreCells m.put → AreCells n.out → AreCells n.put → (m ≡ n) × (r ≡ q)
 same_move bytes m n r q e f mo mp po pp =
     let b = after_byte _ _ _ _ (sym (move_front bytes m r e) ∙ move_front bytes n q f) in
     let out = one_list (list_text m.out ++ (list_text m.put ++ r)) m.out n.out (list_text m.put ++ r)
@@ -123,12 +122,12 @@ same_move bytes m n r q e f mo mp po pp =
 
 pub one_move : IsOneWay move_text IsMoved
 one_move bytes m n r q f g =
-    same_move bytes m n r q f.is g.is (change_cells m.out f.ok.out) (change_cells m.put f.ok.put)
-    (change_cells n.out g.ok.out) (change_cells n.put g.ok.put)
+    same_move bytes m n r q f.is g.is (change_cells f.ok.out) (change_cells f.ok.put)
+    (change_cells g.ok.out) (change_cells g.ok.put)
 
-pub moves_count : (bytes : List ℕ) (ms : List Moved) (r : List ℕ) → Begins moves_text AreMoves bytes ms r →
-    Begins number_text IsNumber bytes (length ms) (flat_map move_text ms ++ r)
-moves_count bytes ms r f = record {
+pub moves_count : {bytes : List ℕ} {ms : List Moved} {r : List ℕ} →
+    Begins moves_text AreMoves bytes ms r → Begins number_text IsNumber bytes (length ms) (flat_map move_text ms ++ r)
+moves_count {ms} {r} f = record {
   is = f.is ∙ append_assoc (number_text (length ms)) (flat_map move_text ms) r;
   ok = omega (arith, f.ok.few);
 }
@@ -136,7 +135,7 @@ moves_count bytes ms r f = record {
 pub one_moves : IsOneWay moves_text AreMoves
 one_moves bytes a b r q f g =
     let n = one_number bytes (length a) (length b) (flat_map move_text a ++ r) (flat_map move_text b ++ q)
-    (moves_count bytes a r f) (moves_count bytes b q g) in
+    (moves_count f) (moves_count g) in
     one_row move_text IsMoved one_move a b r q f.ok.each g.ok.each n.0 n.1
 
 pub one_registers : IsOneWay registers_text AreRegisters
@@ -150,9 +149,9 @@ pub record Parts (bytes : List ℕ) (s : Content) (after last rest : List ℕ) :
   pub past : Begins moves_text AreMoves after s.past last
   pub future : Begins moves_text AreMoves last s.future rest
 
-pub parts_of : (bytes : List ℕ) (s : Content) → IsContent s → bytes ≡ parts_text s →
-    Parts bytes s (moves_text s.past ++ moves_text s.future) (moves_text s.future) []
-parts_of bytes s c e = record {
+pub parts_of : (bytes : List ℕ) {s : Content} → IsContent s →
+    bytes ≡ parts_text s → Parts bytes s (moves_text s.past ++ moves_text s.future) (moves_text s.future) []
+parts_of bytes {s} c e = record {
   registers = record { is = e; ok = record { count = c.count; each = c.registers } };
   past = record { is = refl; ok = record { few = omega (arith, c.few); each = c.past } };
   future = record {
@@ -167,9 +166,9 @@ same_content s t e f g =
     ∙ ap (λ (x : List Moved). record { registers = t.registers; past = x; future = s.future }) f
     ∙ ap (λ (x : List Moved). record { registers = t.registers; past = t.past; future = x }) g
 
-pub one_session : (bytes : List ℕ) (s t : Content) (b l r b' l' r' : List ℕ) → Parts bytes s b l r →
-    Parts bytes t b' l' r' → (s ≡ t) × (r ≡ r')
-one_session bytes s t b l r b' l' r' f g =
+pub one_session : {bytes : List ℕ} {s t : Content} {b l r b' l' r' : List ℕ} →
+    Parts bytes s b l r → Parts bytes t b' l' r' → (s ≡ t) × (r ≡ r')
+one_session {bytes} {s} {t} {b} {l} {r} {b'} {l'} {r'} f g =
     let regs = one_registers bytes s.registers t.registers b b' f.registers g.registers in
     let past = one_moves b s.past t.past l l' f.past
     (subst (λ (x : List ℕ). Begins moves_text AreMoves x t.past l') (sym regs.1) g.past) in

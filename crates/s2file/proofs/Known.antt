@@ -125,9 +125,8 @@ siblings_leaves x =
     let c = covers 0x1400_0000_0000_0000 x in
     let d = covers 0x1c00_0000_0000_0000 x in
     one_or_none (covers 0x1000_0000_0000_0000 x)
-    ∙ sym (family_covers 0x0400_0000_0000_0000 0x0c00_0000_0000_0000 0x1400_0000_0000_0000 0x1c00_0000_0000_0000
-    0x1000_0000_0000_0000 x family)
-    ∙ reversed a b c d
+    ∙ sym (family_covers 0x0400_0000_0000_0000
+    0x0c00_0000_0000_0000 0x1400_0000_0000_0000 0x1c00_0000_0000_0000 0x1000_0000_0000_0000 x family) ∙ reversed a b c d
 
 -- numbers that are no identifier
 zeros_of_0 : count_trailing_zeros 64 0 ≡ 64

@@ -20,14 +20,12 @@ grown all xs ys start end k n same_list ordered within fits =
     ap (λ j. drop start (take j xs)) parts ∙ drop-take start (end - start) xs in
     let after = ys ++ post_of end k xs in
     ap (take (end + n - start)) (drop-append-le start (take end xs) after (omega arith))
-    ∙ ap (λ j. take j (held ++ after)) sum ∙ take-add (end - start) n (held ++ after)
-    ∙ (rw (
+    ∙ ap (λ j. take j (held ++ after)) sum ∙ take-add (end - start) n (held ++ after) ∙ (rw (
       take_at held after _ len,
       drop_at held after _ len,
       take-append-le n ys (post_of end k xs) fits,
       same,
-    ) refl)
-    ∙ ap (λ (l : List ℕ). slice_range l start end ++ take n ys) same_list
+    ) refl) ∙ ap (λ (l : List ℕ). slice_range l start end ++ take n ys) same_list
 
 pub unchanged : (all xs ys : List ℕ) (start end k : ℕ) → xs ≡ all → start ≤ end → end ≤ length all
     → slice_range (put_mid end k xs ys) start end ≡ slice_range all start end

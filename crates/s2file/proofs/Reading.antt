@@ -19,28 +19,25 @@ pub record ReadsSome (bytes ids rest : List ℕ) : Type 0 where
   pub cells : All IsCell ids
 
 -- the chunk that comes next is the number after those that were read
-next_number : (bytes ids rest chunk more : List ℕ) → ReadsSome bytes ids rest → rest ≡ chunk ++ more → length chunk ≡ 8
-    → number_at bytes (length ids) ≡ first_number chunk
-next_number bytes ids rest chunk more r e h =
-    ap first_number (sym r.rest_is ∙ e) ∙ first_number-append chunk more h
+next_number : {bytes ids rest : List ℕ} (chunk more : List ℕ) → ReadsSome bytes ids rest →
+    rest ≡ chunk ++ more → length chunk ≡ 8 → number_at bytes (length ids) ≡ first_number chunk
+next_number chunk more r e h = ap first_number (sym r.rest_is ∙ e) ∙ first_number-append chunk more h
 
-rest_length : (bytes ids rest : List ℕ) → ReadsSome bytes ids rest → 9 + 8 * length ids + length rest ≡ length bytes
-rest_length bytes ids rest r =
+rest_length : {bytes ids rest : List ℕ} → ReadsSome bytes ids rest → 9 + 8 * length ids + length rest ≡ length bytes
+rest_length {bytes} {ids} r =
     omega (arith, r.within, ap length r.rest_is, length-drop (8 * length ids) (drop 9 bytes), length-drop 9 bytes)
 
-next_within : (bytes ids rest chunk more : List ℕ) → ReadsSome bytes ids rest → rest ≡ chunk ++ more → length chunk ≡ 8
-    → 9 + 8 * length ids + 8 ≤ length bytes
-next_within bytes ids rest chunk more r e h =
-    omega (arith, rest_length bytes ids rest r, ap length e, length-append chunk more)
+next_within : {bytes ids rest : List ℕ} (chunk more : List ℕ) →
+    ReadsSome bytes ids rest → rest ≡ chunk ++ more → length chunk ≡ 8 → 9 + 8 * length ids + 8 ≤ length bytes
+next_within {bytes} {ids} {rest} chunk more r e h = omega (arith, rest_length r, ap length e, length-append chunk more)
 
-pub reads_more : (bytes ids rest chunk more : List ℕ) (n : ℕ) → ReadsSome bytes ids rest → rest ≡ chunk ++ more →
-    length chunk ≡ 8
-    → n ≡ first_number chunk → IsCell n → ReadsSome bytes (ids ++ n ∷ []) more
-reads_more bytes ids rest chunk more n r e h is cell =
+pub reads_more : {bytes ids rest : List ℕ} (chunk more : List ℕ) {n : ℕ} → ReadsSome bytes ids rest →
+    rest ≡ chunk ++ more → length chunk ≡ 8 → n ≡ first_number chunk → IsCell n → ReadsSome bytes (ids ++ n ∷ []) more
+reads_more {bytes} {ids} {rest} chunk more {n} r e h is cell =
     let len : length (ids ++ n ∷ []) ≡ length ids + 1 = length_push ids n in
-    let room = next_within bytes ids rest chunk more r e h in
+    let room = next_within chunk more r e h in
     let here : slice_index (ids ++ n ∷ []) (length ids) ≡ number_at bytes (length ids) =
-    get_or_push ids n 0 (length ids) refl ∙ is ∙ sym (next_number bytes ids rest chunk more r e h) in
+    get_or_push ids n 0 (length ids) refl ∙ is ∙ sym (next_number chunk more r e h) in
     let step : 8 * length ids + 8 ≡ 8 * length (ids ++ n ∷ []) = omega arith in
     record {
       within = omega arith;
@@ -52,15 +49,14 @@ reads_more bytes ids rest chunk more n r e h is cell =
     }
 
 -- a number of no cell
-pub reads_wrong : (bytes ids rest chunk more : List ℕ) → HasFrame bytes → ReadsSome bytes ids rest →
-    rest ≡ chunk ++ more → length chunk ≡ 8
-    → (IsCell (first_number chunk) → ⊥) → HasFault bytes Cell
-reads_wrong bytes ids rest chunk more frame r e h wrong = (
+pub reads_wrong : {bytes ids rest : List ℕ} (chunk more : List ℕ) → HasFrame bytes → ReadsSome bytes ids rest →
+    rest ≡ chunk ++ more → length chunk ≡ 8 → (IsCell (first_number chunk) → ⊥) → HasFault bytes Cell
+reads_wrong {bytes} {ids} {rest} chunk more frame r e h wrong = (
   frame,
   record {
     place = length ids;
-    within = omega (arith, frame.length_is, next_within bytes ids rest chunk more r e h);
-    wrong = λ cell. wrong (subst IsCell (next_number bytes ids rest chunk more r e h) cell);
+    within = omega (arith, frame.length_is, next_within chunk more r e h);
+    wrong = λ cell. wrong (subst IsCell (next_number chunk more r e h) cell);
   },
 )
 

@@ -17,10 +17,8 @@ use Rattle.s2file.specs.File.{first_number, number_text}
 use Rattle.s2file.specs.Session.{list_text, IsRegisterList}
 use Rattle.s2file.specs.Working.SessionParts.{Begins, BeginsNone, Refuses, IsNumber, AreCells}
 use Rattle.s2file.specs.Working.SessionParts.{identifiers_text, AreCounted, SpellsMore, SpellsWrong}
-use Rattle.s2file.proofs.Numbers.{length-number_text, first_number-append}
-use Rattle.s2file.proofs.Numbers.{length-number_texts}
-use Rattle.s2file.proofs.Fronts.{one_number, one_list}
-use Rattle.s2file.proofs.Fronts.{register_cells, list_count}
+use Rattle.s2file.proofs.Numbers.{length-number_text, first_number-append, length-number_texts}
+use Rattle.s2file.proofs.Fronts.{one_number, one_list, register_cells, list_count}
 
 pub refuses : (fault : ReadFault) (P Q : Type 0) → (P → Q) → Refuses fault P → Refuses fault Q
 refuses Form P Q f h = f h
@@ -50,17 +48,15 @@ front_bytes bytes l b i =
       | inr above ↦ let e = get_or_past (take 8 bytes) i 0 (omega (arith, length-take 8 bytes)) in omega (arith, e)
     ]
 
-pub number_begins : (bytes front rest : List ℕ) → front ≡ take 8 bytes → rest ≡ drop 8 bytes → 8 ≤ length bytes →
-    ((i : ℕ) → get_or bytes i 0 < 256)
-    → Begins number_text IsNumber bytes (first_number front) rest
+pub number_begins : (bytes front rest : List ℕ) → front ≡ take 8 bytes → rest ≡ drop 8 bytes →
+    8 ≤ length bytes → ((i : ℕ) → get_or bytes i 0 < 256) → Begins number_text IsNumber bytes (first_number front) rest
 number_begins bytes front rest f r l b =
     let fb : (i : ℕ) → get_or front i 0 < 256 = subst (λ (x : List ℕ). (i : ℕ) → get_or x i 0 < 256) (sym f)
     (front_bytes bytes l b) in
     let fl : length front ≡ 8 = omega (arith, ap length f, length-take 8 bytes) in
     record {
       is = sym (take-append-drop 8 bytes) ∙ ap (λ (x : List ℕ). x ++ drop 8 bytes)
-          (sym f ∙ sym (number_back front fl fb))
-          ∙ ap (λ (x : List ℕ). number_text (first_number front) ++ x) (sym r);
+          (sym f ∙ sym (number_back front fl fb)) ∙ ap (λ (x : List ℕ). number_text (first_number front) ++ x) (sym r);
       ok = number_fits front fb;
     }
 
@@ -73,7 +69,7 @@ module _ (bytes after : List ℕ) (count : ℕ) (n : Begins number_text IsNumber
   counted : (ids rest : List ℕ) → Begins list_text AreCells bytes ids rest → (count ≡ length ids)
       × (after ≡ flat_map number_text ids ++ rest)
   counted ids rest f = one_number bytes count (length ids) after (flat_map number_text ids ++ rest) n
-      (list_count bytes ids rest f)
+      (list_count f)
 
   pub list_counts_many : SESSION_CELLS < count → BeginsNone list_text AreCells bytes
   list_counts_many many ids rest f = absurd (omega (arith, (counted ids rest f).0, f.ok.few))
@@ -89,8 +85,7 @@ pub record SpellsSome (numbers cells rest : List ℕ) : Type 0 where
   pub valid : All IsCell cells
 
 pub row_more : {A : Type 0} (text : A → List ℕ) (xs : List A) (x : A) (bytes mid rest : List ℕ) →
-    bytes ≡ flat_map text xs ++ mid → mid ≡ text x ++ rest
-    → bytes ≡ flat_map text (xs ++ x ∷ []) ++ rest
+    bytes ≡ flat_map text xs ++ mid → mid ≡ text x ++ rest → bytes ≡ flat_map text (xs ++ x ∷ []) ++ rest
 row_more text xs x bytes mid rest e f =
     e ∙ ap (λ (l : List ℕ). flat_map text xs ++ l) f ∙ sym (append_assoc (flat_map text xs) (text x) rest)
     ∙ ap (λ (l : List ℕ). l ++ rest) (flat_map_end text xs x)
@@ -100,10 +95,10 @@ row_more text xs x bytes mid rest e f =
     flat_map_end text xs x =
         ap (λ (l : List ℕ). flat_map text xs ++ l) (sym (append-nil (text x))) ∙ sym (flat_map-append text xs (x ∷ []))
 
-pub spells_more : (numbers cells rest chunk more : List ℕ) (n : ℕ) → SpellsSome numbers cells rest →
-    rest ≡ chunk ++ more → length chunk ≡ 8
-    → ((i : ℕ) → get_or chunk i 0 < 256) → n ≡ first_number chunk → IsCell n → SpellsSome numbers (cells ++ n ∷ []) more
-spells_more numbers cells rest chunk more n s e l b is cell = record {
+pub spells_more : {numbers cells rest : List ℕ} (chunk more : List ℕ) {n : ℕ} →
+    SpellsSome numbers cells rest → rest ≡ chunk ++ more → length chunk ≡ 8 →
+    ((i : ℕ) → get_or chunk i 0 < 256) → n ≡ first_number chunk → IsCell n → SpellsSome numbers (cells ++ n ∷ []) more
+spells_more {numbers} {cells} {rest} chunk more {n} s e l b is cell = record {
   is = row_more number_text cells n numbers rest more s.is
       (e ∙ ap (λ (x : List ℕ). x ++ more) (sym (number_back chunk l b))
       ∙ ap (λ (k : ℕ). number_text k ++ more) (sym is));
@@ -111,10 +106,9 @@ spells_more numbers cells rest chunk more n s e l b is cell = record {
 }
 
 -- the bytes of a chunk are bytes
-pub chunk_bytes : (numbers cells rest chunk more : List ℕ) → SpellsSome numbers cells rest → rest ≡ chunk ++ more →
-    ((i : ℕ) → get_or numbers i 0 < 256)
-    → (i : ℕ) → get_or chunk i 0 < 256
-chunk_bytes numbers cells rest chunk more s e b i =
+pub chunk_bytes : {numbers cells rest : List ℕ} (chunk more : List ℕ) → SpellsSome numbers cells rest →
+    rest ≡ chunk ++ more → ((i : ℕ) → get_or numbers i 0 < 256) → (i : ℕ) → get_or chunk i 0 < 256
+chunk_bytes {numbers} {cells} chunk more s e b i =
     elim (cases_lt i (length chunk)) [
       | inl below ↦
           let front : List ℕ = flat_map number_text cells in
@@ -137,21 +131,18 @@ pub record SpellsPart (numbers old new rest : List ℕ) : Type 0 where
   pub added : new ≡ old ++ good
   pub spells : SpellsSome numbers good rest
 
-pub part_more : (numbers old new rest chunk more : List ℕ) (n : ℕ) → SpellsPart numbers old new rest →
-    rest ≡ chunk ++ more → length chunk ≡ 8
-    → ((i : ℕ) → get_or numbers i 0 < 256) → n ≡ first_number chunk → IsCell n →
-    SpellsPart numbers old (new ++ n ∷ []) more
-part_more numbers old new rest chunk more n s e l b is cell = record {
+pub part_more : {numbers old new rest : List ℕ} (chunk more : List ℕ) {n : ℕ} →
+    SpellsPart numbers old new rest → rest ≡ chunk ++ more → length chunk ≡ 8 → ((i : ℕ) → get_or numbers i 0 < 256) →
+    n ≡ first_number chunk → IsCell n → SpellsPart numbers old (new ++ n ∷ []) more
+part_more {numbers} {old} {rest} chunk more {n} s e l b is cell = record {
   good = s.good ++ n ∷ [];
   added = ap (λ (xs : List ℕ). xs ++ n ∷ []) s.added ∙ append_assoc old s.good (n ∷ []);
-  spells = spells_more numbers s.good rest chunk more n s.spells e l
-      (chunk_bytes numbers s.good rest chunk more s.spells e b) is cell;
+  spells = spells_more chunk more s.spells e l (chunk_bytes chunk more s.spells e b) is cell;
 }
 
-pub part_wrong : (numbers old new rest chunk more : List ℕ) → SpellsPart numbers old new rest →
-    rest ≡ chunk ++ more → length chunk ≡ 8
-    → (IsCell (first_number chunk) → ⊥) → SpellsWrong numbers
-part_wrong numbers old new rest chunk more s e l wrong = record {
+pub part_wrong : {numbers old new rest : List ℕ} (chunk more : List ℕ) → SpellsPart numbers old new rest →
+    rest ≡ chunk ++ more → length chunk ≡ 8 → (IsCell (first_number chunk) → ⊥) → SpellsWrong numbers
+part_wrong {rest} chunk more s e l wrong = record {
   good = s.good;
   rest = rest;
   is = s.spells.is;
@@ -160,14 +151,14 @@ part_wrong numbers old new rest chunk more s e l wrong = record {
   wrong = λ cell. wrong (subst IsCell (ap first_number e ∙ first_number-append chunk more l) cell);
 }
 
-pub part_all : (numbers old new rest : List ℕ) (count : ℕ) → length numbers ≡ 8 * count →
-    SpellsPart numbers old new rest → length rest < 8 → SpellsMore numbers old new
-part_all numbers old new [] count len s short = record {
+pub part_all : {numbers old new : List ℕ} (rest : List ℕ) (count : ℕ) →
+    length numbers ≡ 8 * count → SpellsPart numbers old new rest → length rest < 8 → SpellsMore numbers old new
+part_all [] count len s short = record {
   more = s.good;
   added = s.added;
   spells = record { is = s.spells.is ∙ append-nil (flat_map number_text s.good); valid = s.spells.valid };
 }
-part_all numbers old new (x ∷ rest) count len s short =
+part_all (x ∷ rest) count len s short =
     absurd (omega (
       arith,
       ap length s.spells.is,
@@ -175,8 +166,8 @@ part_all numbers old new (x ∷ rest) count len s short =
       length-number_texts s.good,
     ))
 
-pub register_unmerged : (bytes cells rest : List ℕ) → Begins list_text AreCells bytes cells rest →
-    (IsLocal cells → ⊥) → BeginsNone list_text IsRegisterList bytes
-register_unmerged bytes cells rest f wrong others more g =
+pub register_unmerged : {bytes cells rest : List ℕ} →
+    Begins list_text AreCells bytes cells rest → (IsLocal cells → ⊥) → BeginsNone list_text IsRegisterList bytes
+register_unmerged {bytes} {cells} {rest} f wrong others more g =
     wrong (subst IsLocal (sym (one_list bytes cells others rest more f
     (record { is = g.is; ok = register_cells others g.ok })).0) g.ok.local)

@@ -1,6 +1,5 @@
 -- Changes, rows of registers and of changes, and whole sessions while they are read.
-use Rattle.std.proofs.Common.{◌≡◌, ◌≢◌, ℕ, ◌+◌, ◌<◌, List, [], ◌∷◌, ◌++◌}
-use Rattle.std.proofs.Common.{length, flat_map, sym, ap, ◌∙◌, subst}
+use Rattle.std.proofs.Common.{◌≡◌, ◌≢◌, ℕ, ◌+◌, ◌<◌, List, [], ◌∷◌, ◌++◌, length, flat_map, sym, ap, ◌∙◌, subst}
 use Rattle.std.proofs.Common.{append_assoc, arith}
 use Rattle.std.specs.List.{AllByRecursion}
 use Rattle.s2file.specs.File.{number_text}
@@ -21,14 +20,14 @@ module _ (bytes lists : List ℕ) (r : ℕ) (e : bytes ≡ r ∷ lists) where
 
   pub move_without_out : BeginsNone list_text AreCells lists → BeginsNone move_text IsMoved bytes
   move_without_out none m rest g =
-      none m.out (list_text m.put ++ rest) (record { is = (parts_after m rest g).1; ok = change_cells m.out g.ok.out })
+      none m.out (list_text m.put ++ rest) (record { is = (parts_after m rest g).1; ok = change_cells g.ok.out })
 
   module _ (out after : List ℕ) (o : Begins list_text AreCells lists out after) where
     pub move_without_put : BeginsNone list_text AreCells after → BeginsNone move_text IsMoved bytes
     move_without_put none m rest g =
         let same = one_list lists out m.out after (list_text m.put ++ rest) o
-        (record { is = (parts_after m rest g).1; ok = change_cells m.out g.ok.out }) in
-        none m.put rest (record { is = same.1; ok = change_cells m.put g.ok.put })
+        (record { is = (parts_after m rest g).1; ok = change_cells g.ok.out }) in
+        none m.put rest (record { is = same.1; ok = change_cells g.ok.put })
 
     module _ (put rest : List ℕ) (p : Begins list_text AreCells after put rest) where
       moved : Moved
@@ -42,7 +41,7 @@ module _ (bytes lists : List ℕ) (r : ℕ) (e : bytes ≡ r ∷ lists) where
           BeginsNone move_text IsMoved bytes
       move_wrong wrong m more g =
           let same = same_move bytes (record { register = r; out = out; put = put }) m rest more move_is g.is o.ok
-          p.ok (change_cells m.out g.ok.out) (change_cells m.put g.ok.put) in
+          p.ok (change_cells g.ok.out) (change_cells g.ok.put) in
           wrong (subst IsMoved (sym same.0) g.ok)
 
 -- values one after another: these are the first, and the rest is left
@@ -51,17 +50,16 @@ pub record RowSoFar {A : Type 0} (text : A → List ℕ) (Ok : A → Type 0) (by
   pub is : bytes ≡ flat_map text xs ++ rest
   pub each : AllByRecursion Ok xs
 
-pub registers_none : (bytes : List ℕ) (xs : List (List ℕ)) (mid : List ℕ) →
-    RowSoFar list_text IsRegisterList bytes xs mid → length xs < SESSION_REGISTERS
-    → BeginsNone list_text IsRegisterList mid → BeginsNone registers_text AreRegisters bytes
-registers_none bytes xs mid r few none lists rest f =
+pub registers_none : {bytes : List ℕ} {xs : List (List ℕ)} {mid : List ℕ} →
+    RowSoFar list_text IsRegisterList bytes xs mid → length xs < SESSION_REGISTERS →
+    BeginsNone list_text IsRegisterList mid → BeginsNone registers_text AreRegisters bytes
+registers_none {xs} {mid} r few none lists rest f =
     no_more list_text IsRegisterList one_register xs lists mid rest r.each f.ok.each
     (omega (arith, few, f.ok.count)) (sym r.is ∙ f.is) none
 
-pub row_none : (bytes : List ℕ) (xs : List Moved) (mid : List ℕ) (count : ℕ) →
-    RowSoFar move_text IsMoved bytes xs mid → length xs < count
-    → BeginsNone move_text IsMoved mid → BeginsNone row_text (IsRow count) bytes
-row_none bytes xs mid count r few none ms rest f =
+pub row_none : {bytes : List ℕ} {xs : List Moved} {mid : List ℕ} (count : ℕ) → RowSoFar move_text IsMoved bytes xs mid →
+    length xs < count → BeginsNone move_text IsMoved mid → BeginsNone row_text (IsRow count) bytes
+row_none {xs} {mid} count r few none ms rest f =
     no_more move_text IsMoved one_move xs ms mid rest r.each f.ok.each (omega (arith, few, f.ok.len))
     (sym r.is ∙ f.is) none
 
@@ -70,7 +68,7 @@ module _ (bytes after : List ℕ) (count : ℕ) (n : Begins number_text IsNumber
   counted : (ms : List Moved) (rest : List ℕ) → Begins moves_text AreMoves bytes ms rest → (count ≡ length ms)
       × (after ≡ flat_map move_text ms ++ rest)
   counted ms rest f = one_number bytes count (length ms) after (flat_map move_text ms ++ rest) n
-      (moves_count bytes ms rest f)
+      (moves_count f)
 
   pub moves_count_many : SESSION_CHANGES < count → BeginsNone moves_text AreMoves bytes
   moves_count_many many ms rest f = absurd (omega (arith, many, (counted ms rest f).0, f.ok.few))
@@ -87,7 +85,7 @@ after_two a b c d xs ys e = (after_byte b d xs ys (after_byte a c (b ∷ xs) (d 
 module _ (bytes parts : List ℕ) (e : bytes ≡ 0x73 ∷ 1 ∷ parts) where
   whole : (s : Content) → IsSessionFile bytes s →
       Parts parts s (moves_text s.past ++ moves_text s.future) (moves_text s.future) []
-  whole s f = parts_of parts s f.content (after_two 0x73 1 0x73 1 parts (parts_text s) (sym e ∙ f.text))
+  whole s f = parts_of parts f.content (after_two 0x73 1 0x73 1 parts (parts_text s) (sym e ∙ f.text))
 
   pub file_without_registers : BeginsNone registers_text AreRegisters parts → (s : Content) → IsSessionFile bytes s → ⊥
   file_without_registers none s f = none s.registers (moves_text s.past ++ moves_text s.future) (whole s f).registers
@@ -120,8 +118,7 @@ module _ (bytes parts : List ℕ) (e : bytes ≡ 0x73 ∷ 1 ∷ parts) where
         same_session : (s : Content) → IsSessionFile bytes s →
             (record { registers = registers; past = past; future = future } ≡ s) × (rest ≡ [])
         same_session s f =
-            one_session parts (record { registers = registers; past = past; future = future }) s after last rest
-            (moves_text s.past ++ moves_text s.future) (moves_text s.future) [] read (whole s f)
+            one_session read (whole s f)
 
         pub file_with_more : rest ≢ [] → (s : Content) → IsSessionFile bytes s → ⊥
         file_with_more more s f = more (same_session s f).1

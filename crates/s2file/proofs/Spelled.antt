@@ -1,53 +1,50 @@
 -- What a session file and a union file spell.
-use Rattle.std.proofs.Common.{◌≡◌, ℕ, zero, suc, ◌≤◌, List, [], ◌∷◌, ◌++◌}
-use Rattle.std.proofs.Common.{length, replicate, slice_index, Result, Ok, Err, Vec, Global, inl, inr, refl, sym, ap}
-use Rattle.std.proofs.Common.{◌∙◌, subst, arith}
+use Rattle.std.proofs.Common.{◌≡◌, ℕ, zero, suc, ◌≤◌, List, [], ◌∷◌, length, replicate, slice_index, Result, Ok}
+use Rattle.std.proofs.Common.{Err, Vec, Global, inl, inr, refl, sym, ap, ◌∙◌, subst, arith}
 use Rattle.std.specs.Prelude.{IfOk}
 use Rattle.std.specs.declared.alloc.AllocError.{AllocError}
 use Rattle.std.specs.List.{AllByRecursion}
 use Rattle.s2list.specs.Union.{has_leaf, IsLocal}
 use Rattle.s2list.proofs.Normal.{same_from_leaves}
 use Rattle.s2list.proofs.Shortest.{shortest}
-use Rattle.s2file.specs.Session.{Content, content_of_list, session_text, moves_text, IsRegisterList}
+use Rattle.s2file.specs.Session.{Content, content_of_list, session_text, IsRegisterList}
 use Rattle.s2file.specs.Session.{IsContent, IsSessionFile, IsUnionFile, Spells}
 use Rattle.s2file.proofs.Files.{same_leaves}
 use Rattle.s2file.proofs.Fronts.{parts_of, one_session}
 
 -- a session file spells one session
-file_same : (bytes : List ℕ) (s t : Content) → IsSessionFile bytes s → IsSessionFile bytes t → s ≡ t
-file_same bytes s t f g =
+file_same : {bytes : List ℕ} {s t : Content} → IsSessionFile bytes s → IsSessionFile bytes t → s ≡ t
+file_same {s} {t} f g =
     let parts = tails _ _ _ _ _ _ (sym f.text ∙ g.text) in
-    (one_session _ s t (moves_text s.past ++ moves_text s.future) (moves_text s.future) []
-    (moves_text t.past ++ moves_text t.future) (moves_text t.future) []
-    (parts_of _ s f.content refl) (parts_of _ t g.content parts)).0
+    (one_session (parts_of _ f.content refl) (parts_of _ g.content parts)).0
   where
     tails : (a b c d : ℕ) (xs ys : List ℕ) → a ∷ b ∷ xs ≡ c ∷ d ∷ ys → xs ≡ ys
     tails a b c d xs ys e = cc
 
 -- and so does a union file
-union_same : (bytes : List ℕ) (s t : Content) → IsUnionFile bytes s → IsUnionFile bytes t → s ≡ t
-union_same bytes s t f g =
+union_same : {bytes : List ℕ} {s t : Content} → IsUnionFile bytes s → IsUnionFile bytes t → s ≡ t
+union_same {bytes} f g =
     let cells : f.cells ≡ g.cells = same_from_leaves f.cells g.cells f.local g.local
     (same_leaves bytes (has_leaf f.cells) (has_leaf g.cells) f.file g.file) in
     f.content ∙ ap content_of_list cells ∙ sym g.content
 
-pub first_of_file : (bytes : List ℕ) (s : Content) → IsSessionFile bytes s → slice_index bytes 0 ≡ 0x73
-first_of_file bytes s f = ap (λ (l : List ℕ). slice_index l 0) f.text
+pub first_of_file : {bytes : List ℕ} {s : Content} → IsSessionFile bytes s → slice_index bytes 0 ≡ 0x73
+first_of_file f = ap (λ (l : List ℕ). slice_index l 0) f.text
 
 apart : (bytes : List ℕ) (s t : Content) → IsSessionFile bytes s → IsUnionFile bytes t → ⊥
-apart bytes s t f g = absurd (omega (arith, first_of_file bytes s f, g.file.is.version))
+apart bytes s t f g = absurd (omega (arith, first_of_file f, g.file.is.version))
 
 pub one_spelled : (bytes : List ℕ) (s t : Content) → Spells bytes s → Spells bytes t → s ≡ t
-one_spelled bytes s t (inl f) (inl g) = file_same bytes s t f g
+one_spelled bytes s t (inl f) (inl g) = file_same f g
 one_spelled bytes s t (inl f) (inr g) = absurd (apart bytes s t f g)
 one_spelled bytes s t (inr f) (inl g) = absurd (apart bytes t s g f)
-one_spelled bytes s t (inr f) (inr g) = union_same bytes s t f g
+one_spelled bytes s t (inr f) (inr g) = union_same f g
 
 -- a text spells the session that it is of
-pub text_spells : (r : Result (Vec ℕ Global) AllocError) (s : Content) →
+pub text_spells : (r : Result (Vec ℕ Global) AllocError) {s : Content} →
     IfOk r (λ bytes. bytes.items ≡ session_text s) → IsContent s → IfOk r (λ bytes. Spells bytes.items s)
-text_spells (Ok bytes) s text content = inl (record { content = content; text = text })
-text_spells (Err e) s text content = tt
+text_spells (Ok bytes) text content = inl (record { content = content; text = text })
+text_spells (Err e) text content = tt
 
 -- a union file spells what a session may tell: its union has no more cells than the file
 local_nothing : IsLocal []
@@ -62,8 +59,8 @@ all_empty : (n : ℕ) → AllByRecursion IsRegisterList (replicate n [])
 all_empty zero = tt
 all_empty (suc n) = (record { local = local_nothing; few = omega arith }, all_empty n)
 
-pub union_content : (bytes : List ℕ) (s : Content) → IsUnionFile bytes s → IsContent s
-union_content bytes s f =
+pub union_content : {bytes : List ℕ} {s : Content} → IsUnionFile bytes s → IsContent s
+union_content f =
     let few : length f.cells ≤ length f.file.ids =
     shortest (has_leaf f.cells) f.cells f.local (λ x. refl) f.file.ids f.file.is.cells
     (λ x. sym (f.file.leaves x)) in

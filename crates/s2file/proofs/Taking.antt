@@ -42,8 +42,7 @@ pub front_taken : (old coming : Option (List ℕ)) (held front rest : List ℕ) 
     held ≡ front ++ rest → Consumes old (prepend_known rest coming) front
 front_taken None coming held front rest k e = tt
 front_taken (Some x) None held front rest k e = absurd k
-front_taken (Some x) (Some y) held front rest k e =
-    sym k ∙ ap (λ (l : List ℕ). l ++ y) e ∙ append_assoc front rest y
+front_taken (Some x) (Some y) held front rest k e = sym k ∙ ap (λ (l : List ℕ). l ++ y) e ∙ append_assoc front rest y
 
 -- those that are held are the front
 pub held_front : (old coming : Option (List ℕ)) (held : List ℕ) (Q : List ℕ → Type 0) →

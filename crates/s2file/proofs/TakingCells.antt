@@ -1,7 +1,6 @@
 -- Numbers and lists of cells while they are taken.
-use Rattle.std.proofs.Common.{◌≡◌, ℕ, ◌+◌, ◌*◌, ◌<◌, ◌≤◌, List, [], ◌++◌, length}
-use Rattle.std.proofs.Common.{take, drop, get_or, Option, All, flat_map, refl, sym, ap, ◌∙◌, subst}
-use Rattle.std.proofs.Common.{arith, append_assoc}
+use Rattle.std.proofs.Common.{◌≡◌, ℕ, ◌+◌, ◌*◌, ◌<◌, ◌≤◌, List, [], ◌++◌, length, take, drop, get_or, Option, All}
+use Rattle.std.proofs.Common.{flat_map, refl, sym, ap, ◌∙◌, subst, arith, append_assoc}
 use Rattle.std.proofs.lemmas.List.{length-append, length-take, take-append-drop}
 use Rattle.std.proofs.lemmas.List.Elements.{All-nil, All-append, recursion_from_All}
 use Rattle.std.proofs.lemmas.Grind.{flat_map-append}
@@ -33,10 +32,10 @@ number_spelled bytes n l b is =
     subst (λ (m : ℕ). Begins number_text IsNumber bytes m (drop 8 bytes)) (sym same)
     (number_begins bytes front (drop 8 bytes) refl refl l b)
 
-pub number_taken : (old coming : Option (List ℕ)) (held slice new : List ℕ) (n : ℕ) →
-    Keeps old (prepend_known held coming) → slice ≡ held → new ≡ drop 8 held
-    → Begins number_text IsNumber slice n (drop 8 slice) → Takes number_text IsNumber old n (prepend_known new coming)
-number_taken old coming held slice new n k s d f = record {
+pub number_taken : {old : Option (List ℕ)} (coming : Option (List ℕ)) (held : List ℕ)
+    {slice : List ℕ} (new : List ℕ) {n : ℕ} → Keeps old (prepend_known held coming) → slice ≡ held → new ≡ drop 8 held →
+    Begins number_text IsNumber slice n (drop 8 slice) → Takes number_text IsNumber old n (prepend_known new coming)
+number_taken {old} coming held new {n} k s d f = record {
   is = front_taken old coming held (number_text n) new k
       (sym s ∙ f.is ∙ ap (λ (l : List ℕ). number_text n ++ l) (ap (drop 8) s ∙ sym d));
   ok = f.ok;
@@ -52,10 +51,10 @@ number_lacks old coming held k end short =
 pub no_cells : (old : Option (List ℕ)) → Takes identifiers_text (All IsCell) old [] old
 no_cells old = record { is = Consumes-nil old; ok = All-nil IsCell }
 
-pub cells_more : (old now coming : Option (List ℕ)) (held front rest xs ys : List ℕ) →
-    Takes identifiers_text (All IsCell) old xs now → Keeps now (prepend_known held coming) → held ≡ front ++ rest
-    → SpellsMore front xs ys → Takes identifiers_text (All IsCell) old ys (prepend_known rest coming)
-cells_more old now coming held front rest xs ys t k e s =
+pub cells_more : {old now : Option (List ℕ)} (coming : Option (List ℕ)) (held : List ℕ) {front : List ℕ} (rest : List ℕ)
+    {xs ys : List ℕ} → Takes identifiers_text (All IsCell) old xs now → Keeps now (prepend_known held coming) → held
+    ≡ front ++ rest → SpellsMore front xs ys → Takes identifiers_text (All IsCell) old ys (prepend_known rest coming)
+cells_more {old} {now} coming held {front} rest {xs} t k e s =
     let new : Option (List ℕ) = prepend_known rest coming in
     let all = Consumes-trans old now new (flat_map number_text xs) front t.is
     (front_taken now coming held front rest k e) in
@@ -66,9 +65,9 @@ cells_more old now coming held front rest xs ys t k e s =
       ok = All-append IsCell xs s.more t.ok s.spells.valid;
     })
 
-pub length_more : (front xs ys : List ℕ) (here : ℕ) → length front ≡ 8 * here → SpellsMore front xs ys →
-    length ys ≡ length xs + here
-length_more front xs ys here len s =
+pub length_more : {front xs ys : List ℕ} (here : ℕ) →
+    length front ≡ 8 * here → SpellsMore front xs ys → length ys ≡ length xs + here
+length_more {xs} here len s =
     omega (
       arith,
       len,
@@ -79,10 +78,10 @@ length_more front xs ys here len s =
     )
 
 -- the bytes end before the last of them
-pub cells_end : (old now coming : Option (List ℕ)) (held xs : List ℕ) (count : ℕ) →
-    Takes identifiers_text (All IsCell) old xs now → Keeps now (prepend_known held coming) → IsAtEnd coming
-    → length held < 8 → length xs < count → Lacks identifiers_text (AreCounted count) old
-cells_end old now coming held xs count t k end short few =
+pub cells_end : {old now : Option (List ℕ)} (coming : Option (List ℕ)) (held : List ℕ) {xs : List ℕ} (count : ℕ) →
+    Takes identifiers_text (All IsCell) old xs now → Keeps now (prepend_known held coming) →
+    IsAtEnd coming → length held < 8 → length xs < count → Lacks identifiers_text (AreCounted count) old
+cells_end {old} {now} coming held {xs} count t k end short few =
     known_later old now (flat_map number_text xs) (λ rest. rest ≡ held)
     (λ bytes. BeginsNone identifiers_text (AreCounted count) bytes) t.is
     (λ after e ids rest f. absurd (omega (
@@ -94,14 +93,14 @@ cells_end old now coming held xs count t k end short few =
       length-number_texts ids,
       ap length e,
       f.ok.len,
-    )))
-    (held_all now coming held (λ rest. rest ≡ held) k end refl)
+    ))) (held_all now coming held (λ rest. rest ≡ held) k end refl)
 
 -- one of them is of no cell
-pub cells_wrong : (old now coming : Option (List ℕ)) (held front rest xs : List ℕ) (count : ℕ) →
-    Takes identifiers_text (All IsCell) old xs now → Keeps now (prepend_known held coming) → held ≡ front ++ rest
-    → length front + 8 * length xs ≤ 8 * count → SpellsWrong front → Lacks identifiers_text (AreCounted count) old
-cells_wrong old now coming held front rest xs count t k e room s =
+pub cells_wrong : {old now : Option (List ℕ)}
+    (coming : Option (List ℕ)) (held : List ℕ) {front : List ℕ} (rest : List ℕ) {xs : List ℕ} (count : ℕ) →
+    Takes identifiers_text (All IsCell) old xs now → Keeps now (prepend_known held coming) → held ≡ front ++ rest →
+    length front + 8 * length xs ≤ 8 * count → SpellsWrong front → Lacks identifiers_text (AreCounted count) old
+cells_wrong {old} {now} coming held {front} rest {xs} count t k e room s =
     let new : Option (List ℕ) = prepend_known rest coming in
     let all = Consumes-trans old now new (flat_map number_text xs) front t.is
     (front_taken now coming held front rest k e) in
@@ -114,12 +113,15 @@ cells_wrong old now coming held front rest xs count t k e room s =
     ) in
     known_front old new (flat_map number_text xs ++ front)
     (λ bytes. BeginsNone identifiers_text (AreCounted count) bytes) all
-    (λ after ids more f.
-    no_more number_text IsCell one_cell good ids (s.rest ++ after) more
-    (recursion_from_All IsCell good (All-append IsCell xs s.good t.ok s.valid))
-    (recursion_from_All IsCell ids f.ok.valid)
-    (omega (arith, len, s.whole, room, f.ok.len, length-append xs s.good))
-    (sym (parts xs s.good s.rest front after s.is) ∙ f.is)
+    (λ after ids more f. no_more number_text IsCell one_cell good ids (s.rest ++ after) more (recursion_from_All
+    IsCell good (All-append IsCell xs s.good t.ok s.valid)) (recursion_from_All IsCell ids f.ok.valid) (omega (
+      arith,
+      len,
+      s.whole,
+      room,
+      f.ok.len,
+      length-append xs s.good,
+    )) (sym (parts xs s.good s.rest front after s.is) ∙ f.is)
     (λ n q g. s.wrong (subst IsCell (sym (sym (first_number-longer s.rest after s.whole) ∙ ap first_number g.is
     ∙ first_number-number_text n q (fits_u64 n g.ok))) g.ok)))
   where
@@ -134,24 +136,23 @@ cells_wrong old now coming held front rest xs count t k e room s =
 
 -- ---- lists after their count
 
-pub list_taken : (old mid new : Option (List ℕ)) (count : ℕ) (ids : List ℕ) → Takes number_text IsNumber old count mid →
+pub list_taken : {old mid new : Option (List ℕ)} {count : ℕ} {ids : List ℕ} → Takes number_text IsNumber old count mid →
     Takes identifiers_text (AreCounted count) mid ids new → count ≤ SESSION_CELLS → Takes list_text AreCells old ids new
-list_taken old mid new count ids n t most = record {
+list_taken {old} {mid} {new} {count} {ids} n t most = record {
   is = subst (λ (k : ℕ). Consumes old new (number_text k ++ flat_map number_text ids)) (sym t.ok.len)
       (Consumes-trans old mid new (number_text count) (flat_map number_text ids) n.is t.is);
   ok = record { valid = t.ok.valid; few = omega (arith, t.ok.len, most) };
 }
 
-pub list_of_many : (old mid : Option (List ℕ)) (count : ℕ) → Takes number_text IsNumber old count mid →
-    SESSION_CELLS < count → Lacks list_text AreCells old
-list_of_many old mid count n many =
+pub list_of_many : {old mid : Option (List ℕ)} {count : ℕ} →
+    Takes number_text IsNumber old count mid → SESSION_CELLS < count → Lacks list_text AreCells old
+list_of_many {old} {mid} {count} n many =
     known_front old mid (number_text count) (λ bytes. BeginsNone list_text AreCells bytes) n.is
     (λ after. list_counts_many _ after count (record { is = refl; ok = n.ok }) many)
 
-pub list_refused : (fault : ReadFault) (old mid : Option (List ℕ)) (count : ℕ) →
-    Takes number_text IsNumber old count mid →
-    Refuses fault (Lacks identifiers_text (AreCounted count) mid) → Refuses fault (Lacks list_text AreCells old)
-list_refused fault old mid count n h =
+pub list_refused : (fault : ReadFault) {old mid : Option (List ℕ)} {count : ℕ} → Takes number_text IsNumber old count
+    mid → Refuses fault (Lacks identifiers_text (AreCounted count) mid) → Refuses fault (Lacks list_text AreCells old)
+list_refused fault {old} {mid} {count} n h =
     refuses_later fault old mid (number_text count) (λ rest. BeginsNone identifiers_text (AreCounted count) rest)
     (λ bytes. BeginsNone list_text AreCells bytes) n.is
     (λ after none. list_lacks _ after count (record { is = refl; ok = n.ok }) none) h

@@ -18,29 +18,29 @@ use Rattle.s2file.proofs.Taking.{known_front, refuses_later}
 
 -- ---- the list of a register
 
-pub register_wrong : (old new : Option (List ℕ)) (cells : List ℕ) → Takes list_text AreCells old cells new →
-    (IsLocal cells → ⊥) → Lacks list_text IsRegisterList old
-register_wrong old new cells t wrong =
+pub register_wrong : {old new : Option (List ℕ)} {cells : List ℕ} →
+    Takes list_text AreCells old cells new → (IsLocal cells → ⊥) → Lacks list_text IsRegisterList old
+register_wrong {old} {new} {cells} t wrong =
     known_front old new (list_text cells) (λ bytes. BeginsNone list_text IsRegisterList bytes) t.is
-    (λ rest. register_unmerged _ cells rest (record { is = refl; ok = t.ok }) wrong)
+    (λ rest. register_unmerged (record { is = refl; ok = t.ok }) wrong)
 
 -- ---- rows
 
-pub registers_refused : (fault : ReadFault) (old mid : Option (List ℕ)) (xs : List (List ℕ)) →
-    Takes registers_text (AllByRecursion IsRegisterList) old xs mid → length xs < SESSION_REGISTERS
-    → Refuses fault (Lacks list_text IsRegisterList mid) → Refuses fault (Lacks registers_text AreRegisters old)
-registers_refused fault old mid xs t few h =
+pub registers_refused : (fault : ReadFault) {old mid : Option (List ℕ)} {xs : List (List ℕ)} →
+    Takes registers_text (AllByRecursion IsRegisterList) old xs mid → length xs < SESSION_REGISTERS →
+    Refuses fault (Lacks list_text IsRegisterList mid) → Refuses fault (Lacks registers_text AreRegisters old)
+registers_refused fault {old} {mid} {xs} t few h =
     refuses_later fault old mid (registers_text xs) (λ rest. BeginsNone list_text IsRegisterList rest)
     (λ bytes. BeginsNone registers_text AreRegisters bytes) t.is
-    (λ rest none. registers_none _ xs rest (record { is = refl; each = t.ok }) few none) h
+    (λ rest none. registers_none (record { is = refl; each = t.ok }) few none) h
 
-pub row_refused : (fault : ReadFault) (old mid : Option (List ℕ)) (xs : List Moved) (count : ℕ) →
-    Takes row_text (AllByRecursion IsMoved) old xs mid → length xs < count
-    → Refuses fault (Lacks move_text IsMoved mid) → Refuses fault (Lacks row_text (IsRow count) old)
-row_refused fault old mid xs count t few h =
+pub row_refused : (fault : ReadFault) {old mid : Option (List ℕ)} {xs : List Moved} (count : ℕ) →
+    Takes row_text (AllByRecursion IsMoved) old xs mid →
+    length xs < count → Refuses fault (Lacks move_text IsMoved mid) → Refuses fault (Lacks row_text (IsRow count) old)
+row_refused fault {old} {mid} {xs} count t few h =
     refuses_later fault old mid (row_text xs) (λ rest. BeginsNone move_text IsMoved rest)
     (λ bytes. BeginsNone row_text (IsRow count) bytes) t.is
-    (λ rest none. row_none _ xs rest count (record { is = refl; each = t.ok }) few none) h
+    (λ rest none. row_none count (record { is = refl; each = t.ok }) few none) h
 
 -- ---- a change
 

@@ -7,8 +7,7 @@ use Rattle.std.proofs.KnownBytes.{Consumes-trans, Consumes-whole, prepend_known-
 use Rattle.std.specs.Io.KnownBytes.{Consumes, IsAtEnd, Keeps, prepend_known}
 use Rattle.std.specs.Prelude.{MatchResult}
 use Rattle.std.specs.Option.{option_map}
-use Rattle.s2file.specs.Session.{Moved, Content, content_of, moves_text, IsContent, IsSessionFile}
-use Rattle.s2file.specs.Session.{IsUnionFile, Spells}
+use Rattle.s2file.specs.Session.{Moved, Content, content_of, moves_text, IsContent, IsSessionFile, IsUnionFile, Spells}
 use Rattle.s2file.specs.Working.SessionParts.{BeginsNone, Refuses, Takes, Lacks, AreMoves, AreRegisters, registers_text}
 use Rattle.s2file.specs.Working.Reading.{Finds}
 use Rattle.s2file.specs.Reading.{RefusesToRead}
@@ -21,8 +20,7 @@ use Rattle.s2file.proofs.Beginnings.{longest, all_or_more}
 use Rattle.s2file.proofs.SessionRows.{file_without_registers, file_without_past, file_without_future, file_with_more}
 use Rattle.s2file.proofs.SessionRows.{file_of_many}
 use Rattle.s2file.proofs.Spelled.{first_of_file, union_content}
-use Rattle.s2file.proofs.Taking.{known_later, known_front, refuses_later, known_weaker}
-use Rattle.s2file.proofs.Taking.{held_front}
+use Rattle.s2file.proofs.Taking.{known_later, known_front, refuses_later, known_weaker, held_front}
 
 -- ---- a session file
 
@@ -145,14 +143,13 @@ pub union_found : (coming : Option (List ℕ)) (held bytes : List ℕ) (n : ℕ)
     → MatchResult answer (λ session. IsUnionFile bytes (content_of session))
     (λ fault. Refuses fault ((s : Content) → IsUnionFile bytes s → ⊥)) →
     Finds IsUnionFile (prepend_known held coming) answer
-union_found None held bytes n (Ok session) most e h = (union_content bytes (content_of session) h, tt)
+union_found None held bytes n (Ok session) most e h = (union_content h, tt)
 union_found None held bytes n (Err Form) most e h = tt
 union_found None held bytes n (Err Device) most e h = tt
 union_found None held bytes n (Err Memory) most e h = tt
 union_found (Some rest) held bytes n (Ok session) most e h = (
-  union_content bytes (content_of session) h,
-  union_goes_on held rest n most (content_of session)
-      (subst (λ (l : List ℕ). IsUnionFile l (content_of session)) e h),
+  union_content h,
+  union_goes_on held rest n most (content_of session) (subst (λ (l : List ℕ). IsUnionFile l (content_of session)) e h),
 )
 union_found (Some rest) held bytes n (Err Form) most e h =
     λ s u. h s (subst (λ (l : List ℕ). IsUnionFile l s) (sym e) (union_is_read held rest n most s u))
@@ -187,7 +184,7 @@ module _ (old coming : Option (List ℕ)) (held : List ℕ) (k : Keeps old (prep
     where
       no_file : (rest : List ℕ) → ((s : Content) → IsUnionFile (held ++ rest) s → ⊥) → (s : Content) →
           Spells (held ++ rest) s → ⊥
-      no_file rest none s (inl f) = absurd (omega (arith, first rest, one, first_of_file (held ++ rest) s f))
+      no_file rest none s (inl f) = absurd (omega (arith, first rest, one, first_of_file f))
       no_file rest none s (inr u) = none s u
   spells_union (Err Device) one h = tt
   spells_union (Err Memory) one h = tt

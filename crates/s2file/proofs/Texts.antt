@@ -29,12 +29,13 @@ text_is_file ids cells most =
     }
 
 -- the text of a union's cells is a file of its leaves
-pub file_of_text : (u bytes : List ℕ) → IsLocal u → bytes ≡ file_text u → length u ≤ MOST_CELLS →
-    File bytes (has_leaf u)
-file_of_text u bytes local e most = rw e (record { ids = u; is = text_is_file u local.cells most; leaves = λ x. refl })
+pub file_of_text : {u : List ℕ} (bytes : List ℕ) →
+    IsLocal u → bytes ≡ file_text u → length u ≤ MOST_CELLS → File bytes (has_leaf u)
+file_of_text
+    {u} bytes local e most = rw e (record { ids = u; is = text_is_file u local.cells most; leaves = λ x. refl })
 
-pub bytes_of_text : (u bytes : List ℕ) → IsLocal u → bytes ≡ file_text u → Bytes (has_leaf u) bytes
-bytes_of_text u bytes local e = record { ids = u; normal = normal_from_local u local; is = e }
+pub bytes_of_text : {u : List ℕ} (bytes : List ℕ) → IsLocal u → bytes ≡ file_text u → Bytes (has_leaf u) bytes
+bytes_of_text {u} bytes local e = record { ids = u; normal = normal_from_local u local; is = e }
 
 -- equal sets have equal bytes
 pub same_bytes : (S T : ℕ → Bool) (bytes others : List ℕ) → ((x : ℕ) → S x ≡ T x) → Bytes S bytes →

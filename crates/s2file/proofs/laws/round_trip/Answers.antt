@@ -16,7 +16,6 @@ pub returns : goal.returns
 returns c =
     let u = c.args.union.now.cells in
     let file : File c.in_ok-bytes.bytes.items (has_leaf u) = c.in_ok-bytes.ensures.back c.requires in
-    MatchResult-weaker c.decode.result (with_ok c.decode.result _ _ _
-    (c.decode.ensures.exact (has_leaf u) (subst (λ (b : List ℕ). File b (has_leaf u)) (search rules) file))
-    c.decode.ensures.local)
+    MatchResult-weaker c.decode.result (with_ok c.decode.result _ _ _ (c.decode.ensures.exact
+    (has_leaf u) (subst (λ (b : List ℕ). File b (has_leaf u)) (search rules) file)) c.decode.ensures.local)
     (λ v p. same_from_leaves v.cells u p.1 c.cells.ensures.local p.0) (λ fault p. p)

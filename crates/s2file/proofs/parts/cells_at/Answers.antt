@@ -3,15 +3,12 @@ use Rattle.s2file.proofs.TakingCells.{list_taken, list_of_many, list_refused}
 use Rattle.s2file.proofs.parts.cells_at.Goals as goal
 
 pub returns-then-count : goal.returns-then-count
-returns-then-count g c = list_of_many _ _ c.in_ok-count.count c.in_ok-count.ensures c.if-count.true
+returns-then-count g c = list_of_many c.in_ok-count.ensures c.if-count.true
 
 pub returns-in_err-cells : goal.returns-in_err-cells
 returns-in_err-cells g c =
     let p = err_from_is_err_and c.from_residual-in_err-cells.result c.from_residual-in_err-cells.ensures.1 in
-    rw (p.1, p.2) (list_refused c.in_err-cells.field-0.0 _ _ c.in_ok-count.count c.in_ok-count.ensures
-    c.in_err-cells.ensures)
+    rw (p.1, p.2) (list_refused c.in_err-cells.field-0.0 c.in_ok-count.ensures c.in_err-cells.ensures)
 
 pub returns : goal.returns
-returns g c =
-    list_taken _ _ _ c.in_ok-count.count c.in_ok-cells.cells.items c.in_ok-count.ensures c.in_ok-cells.ensures
-    c.if-count.false
+returns g c = list_taken c.in_ok-count.ensures c.in_ok-cells.ensures c.if-count.false

@@ -11,13 +11,12 @@ use Rattle.s2file.proofs.parts.cells_counted.Goals as goal
 pub returns-then-not-branch : goal.returns-then-not-branch
 returns-then-not-branch g c =
     let few = MatchBool-at_false _ _ c.if-not-branch.true c.in_ok-has.ensures.has in
-    cells_end _ _ _ (held c.has.new.self) c.pieces.cells.items c.args.count c.pieces.invariant.taken
+    cells_end _ (held c.has.new.self) c.args.count c.pieces.invariant.taken
     c.in_ok-has.ensures.kept few.1 few.0 (omega (arith, c.pieces-test.true, c.len.ensures, c.pieces.cells.ok.0))
 
 pub returns-in_err-push_cells : goal.returns-in_err-push_cells
 returns-in_err-push_cells g c =
-    let p = err_from_is_err_and c.from_residual-in_err-push_cells.result
-    c.from_residual-in_err-push_cells.ensures.1 in
+    let p = err_from_is_err_and c.from_residual-in_err-push_cells.result c.from_residual-in_err-push_cells.ensures.1 in
     let xs : List ℕ = c.pieces.cells.items in
     let size : ℕ = 8 * c.min-here.result in
     let slice : List ℕ = c.as_slice-bytes.result.now in
@@ -33,10 +32,9 @@ returns-in_err-push_cells g c =
     ) in
     rw (p.1, p.2) (refuses c.in_err-push_cells.field-0.0 (SpellsWrong front)
     (Lacks identifiers_text (AreCounted c.args.count) (ahead c.args.buffer.now (g.R.Read.remaining c.args.reader.now)))
-    (cells_wrong _ _ (g.R.Read.remaining c.has.new.reader) (held c.has.new.self) front (drop size slice) xs c.args.count
-    c.pieces.invariant.taken c.in_ok-has.ensures.kept
-    (sym c.as_slice-bytes.ensures ∙ sym (take-append-drop size slice)) (omega (arith, len, most)))
-    c.in_err-push_cells.ensures)
+    (cells_wrong (g.R.Read.remaining c.has.new.reader) (held c.has.new.self) (drop size slice) c.args.count
+    c.pieces.invariant.taken c.in_ok-has.ensures.kept (sym c.as_slice-bytes.ensures ∙ sym (take-append-drop size slice))
+    (omega (arith, len, most))) c.in_err-push_cells.ensures)
 
 pub pieces-preserved : goal.pieces-preserved
 pieces-preserved g c =
@@ -55,10 +53,9 @@ pieces-preserved g c =
       c.pieces.invariant.few,
     ) in
     record {
-      taken = cells_more _ _ (g.R.Read.remaining c.has.new.reader) (held c.has.new.self) front _ xs ys
-          c.pieces.invariant.taken c.in_ok-has.ensures.kept
-          (sym c.as_slice-bytes.ensures ∙ sym (take-append-drop size slice)
-          ∙ ap (λ (l : List ℕ). front ++ l) (ap (drop size) c.as_slice-bytes.ensures ∙ sym c.consume.ensures))
-          c.in_ok-push_cells.ensures;
-      few = omega (arith, most, length_more front xs ys c.min-here.result len c.in_ok-push_cells.ensures);
+      taken = cells_more (g.R.Read.remaining c.has.new.reader)
+          (held c.has.new.self) _ c.pieces.invariant.taken c.in_ok-has.ensures.kept
+          (sym c.as_slice-bytes.ensures ∙ sym (take-append-drop size slice) ∙ ap (λ (l : List ℕ). front ++ l)
+          (ap (drop size) c.as_slice-bytes.ensures ∙ sym c.consume.ensures)) c.in_ok-push_cells.ensures;
+      few = omega (arith, most, length_more c.min-here.result len c.in_ok-push_cells.ensures);
     }

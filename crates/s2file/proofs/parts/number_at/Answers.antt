@@ -10,5 +10,5 @@ returns-then-not-branch g c =
 
 pub returns : goal.returns
 returns g c =
-    number_taken _ (g.R.Read.remaining c.has.new.reader) (held c.has.new.self) _ _ _ c.in_ok-has.ensures.kept
-    c.as_slice.ensures c.consume.ensures c.number_spelled-value.ensures
+    number_taken (g.R.Read.remaining c.has.new.reader)
+    (held c.has.new.self) _ c.in_ok-has.ensures.kept c.as_slice.ensures c.consume.ensures c.number_spelled-value.ensures

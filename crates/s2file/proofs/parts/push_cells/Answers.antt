@@ -13,7 +13,7 @@ loop-chunk-preserved c =
     let n : c.in-Some-from_id.cell ≡ first_number c.in-Some.chunk.now = c.in-Some-from_id.ensures.1
     ∙ c.number.ensures in
     record {
-      part = rw c.push_reserved.ensures.items (part_more c.args.numbers.now _ _ _ _ _ _ so_far.part step.1.0 size
+      part = rw c.push_reserved.ensures.items (part_more _ _ so_far.part step.1.0 size
           (λ i. omega (arith, c.type_inv.numbers i)) n (search rules));
       size = step.0 ∙ so_far.size;
       room = omega (
@@ -31,11 +31,10 @@ pub returns-in-None-from_id : goal.returns-in-None-from_id
 returns-in-None-from_id c =
     let step = c.in-Some.ensures.steps in
     let so_far = c.loop-chunk.invariant in
-    part_wrong c.args.numbers.now _ _ _ _ _ so_far.part step.1.0 (step.1.1 ∙ so_far.size)
+    part_wrong _ _ so_far.part step.1.0 (step.1.1 ∙ so_far.size)
     (subst (λ (n : ℕ). IsCell n → ⊥) c.number.ensures c.in-None-from_id.ensures)
 
 pub returns : goal.returns
 returns c =
     let so_far = c.loop-chunk.invariant in
-    part_all c.args.numbers.now _ _ _ c.args.count c.requires.whole so_far.part
-    (omega (arith, so_far.size, c.in-None.ensures.steps.1))
+    part_all _ c.args.count c.requires.whole so_far.part (omega (arith, so_far.size, c.in-None.ensures.steps.1))

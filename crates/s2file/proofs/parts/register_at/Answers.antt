@@ -6,7 +6,5 @@ use Rattle.s2file.proofs.parts.register_at.Goals as goal
 
 pub returns-then-not-is_normalized : goal.returns-then-not-is_normalized
 returns-then-not-is_normalized g c =
-    register_wrong _ _ c.in_ok-cells.cells.items c.in_ok-cells.ensures
-    (subst (λ (l : List ℕ). IsLocal l → ⊥) c.deref.ensures.value
-    (not_test c.is_normalized.result (IsLocal c.deref.result.now) c.is_normalized.ensures.local
-    c.if-not-is_normalized.true))
+    register_wrong c.in_ok-cells.ensures (subst (λ (l : List ℕ). IsLocal l → ⊥) c.deref.ensures.value (not_test
+    c.is_normalized.result (IsLocal c.deref.result.now) c.is_normalized.ensures.local c.if-not-is_normalized.true))

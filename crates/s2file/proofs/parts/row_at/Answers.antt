@@ -9,6 +9,9 @@ pub returns-in_err-move_at : goal.returns-in_err-move_at
 returns-in_err-move_at g c =
     let p = err_from_is_err_and c.from_residual.result c.from_residual.ensures.1 in
     let ms : List Moved = map moved_of c.loop-i.moves.items in
-    rw (p.1, p.2) (row_refused c.in_err-move_at.field-0.0 _ _ ms c.args.count c.loop-i.invariant.taken
-    (omega (arith, c.loop-i.invariant.count, c.loop-i-test.true, length-map c.loop-i.moves.items moved_of))
-    c.in_err-move_at.ensures)
+    rw (p.1, p.2) (row_refused c.in_err-move_at.field-0.0 c.args.count c.loop-i.invariant.taken (omega (
+      arith,
+      c.loop-i.invariant.count,
+      c.loop-i-test.true,
+      length-map c.loop-i.moves.items moved_of,
+    )) c.in_err-move_at.ensures)

@@ -13,4 +13,4 @@ returns-clause-text c =
     c.encode_parts.ensures
 
 pub returns-clause-spells : goal.returns-clause-spells
-returns-clause-spells c = text_spells c.encode_parts.result (content_of c.args.session.now) (returns-clause-text c)
+returns-clause-spells c = text_spells c.encode_parts.result (returns-clause-text c)

@@ -13,6 +13,5 @@ returns-then-as_slice-eq-VERSION-clause-answer g c =
     (fresh start (held c.in_ok-buffer.buffer) c.in_ok-buffer.ensures) c.in_ok-has.ensures.kept in
     let some = MatchBool-at_true _ _ c.if-not-branch.false c.in_ok-has.ensures.has in
     answers start c.session_of_union.result
-    (spells_union start _ (held c.has.new.self) kept some c.session_of_union.result
-    (ap (λ (l : List ℕ). slice_index l 0) (sym c.as_slice.ensures) ∙ c.if-as_slice-eq-VERSION.true)
-    c.session_of_union.ensures)
+    (spells_union start _ (held c.has.new.self) kept some c.session_of_union.result (ap (λ (l : List ℕ). slice_index
+    l 0) (sym c.as_slice.ensures) ∙ c.if-as_slice-eq-VERSION.true) c.session_of_union.ensures)

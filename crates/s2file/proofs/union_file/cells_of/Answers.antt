@@ -13,8 +13,7 @@ loop-chunk-preserved c =
     let n : c.in-Some-from_id.cell ≡ first_number c.in-Some.chunk.now = c.in-Some-from_id.ensures.1
     ∙ c.number.ensures in
     record {
-      reads = rw c.push_reserved.ensures.items (reads_more c.args.bytes.now _ _ _ _ _ so_far.reads step.1.0 size n
-          (search rules));
+      reads = rw c.push_reserved.ensures.items (reads_more _ _ so_far.reads step.1.0 size n (search rules));
       size = step.0 ∙ so_far.size;
       room = omega (
         arith,
@@ -31,5 +30,5 @@ pub returns-in-None-from_id : goal.returns-in-None-from_id
 returns-in-None-from_id c =
     let step = c.in-Some.ensures.steps in
     let so_far = c.loop-chunk.invariant in
-    reads_wrong c.args.bytes.now _ _ _ _ c.requires so_far.reads step.1.0 (step.1.1 ∙ so_far.size)
+    reads_wrong _ _ c.requires so_far.reads step.1.0 (step.1.1 ∙ so_far.size)
     (subst (λ (n : ℕ). IsCell n → ⊥) c.number.ensures c.in-None-from_id.ensures)
