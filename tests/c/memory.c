@@ -40,8 +40,8 @@ int main(void) {
     int is_pure;
   } calls[] = {{"union", unite, 1}, {"intersection", intersect, 1}, {"difference", subtract, 1}, {"range", range, 0},
                {"denormalised", cut, 1}, {"denormalised_len", cut_len, 1}, {"ancestors", ancestors, 1},
-               {"file_ancestors", of_file, 1}, {"outer", outer, 0}, {"inner", inner, 0}, {"outer_of", outer_of, 0},
-               {"inner_of", inner_of, 0}, {"encode", encode, 1}, {"decode of a union", decode, 1},
+               {"file_ancestors", of_file, 1}, {"outer", outer, 0}, {"inner", inner, 0}, {"outer_of", outer_of, 1},
+               {"inner_of", inner_of, 1}, {"encode", encode, 1}, {"decode of a union", decode, 1},
                {"decode in any order", decode_mixed, 1}, {"decode in little room", decode_in_little_room, 0}};
   nx = random_union(xs, N, 6, 12);
   ny = random_union(ys, N, 6, 12);

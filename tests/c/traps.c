@@ -79,8 +79,9 @@ static void lists_that_are_no_union(void) {
       CHECK(s2u_denormalised(ids, n, 2, 1, out, room, &len) == (len > room ? S2U_ROOM : S2U_OK));
       CHECK(s2u_denormalised_len(ids, n, 2, 1, &many) == S2U_OK && many == len);
       CHECK(s2u_denormalised(ids, n, 31, 1, out, room, &len) == S2U_ARGUMENT && len == 0);
-      CHECK(s2u_outer_of(ids, n, 9, 99, out, room, &len) == S2U_NO_UNION && len == 0);
-      CHECK(s2u_inner_of(ids, n, 9, 99, out, room, &len) == S2U_NO_UNION && len == 0);
+      CHECK(s2u_outer_of(ids, n, 9, 9999, out, room, &len) == (len > room ? S2U_ROOM : S2U_OK));
+      CHECK(s2u_inner_of(ids, n, 9, 9999, out, room, &len) == (len > room ? S2U_ROOM : S2U_OK));
+      CHECK(s2u_outer_of(ids, n, 31, 99, out, room, &len) == S2U_ARGUMENT && len == 0);
     }
     CHECK(s2u_encode(ids, n, bytes, sizeof bytes, &len) == S2U_OK && len == S2U_FILE_SIZE(n) && bytes[1] == n);
     memcpy(same, bytes + 9, 8 * n);

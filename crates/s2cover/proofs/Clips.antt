@@ -15,12 +15,14 @@ use Rattle.s2cell.proofs.Leaves.{covers_from, covers_there, inside_from_within}
 use Rattle.s2list.specs.Union.{has_leaf, IsLocal, IsNormalForm, Union}
 use Rattle.s2list.proofs.Normal.{leaf_to, normal_form_same}
 use Rattle.s2cover.specs.Coverings.{filled, outer_set, inner_set, IsInOuter, IsInInner}
-use Rattle.s2cover.specs.Working.Cut.{meets, reaches, cut_at, cells_cut, cells_kept, cells_met}
+use Rattle.s2search.specs.Cut.{reaches, cut_at, cells_cut, cells_kept}
+use Rattle.s2cover.specs.Working.Cut.{meets, cells_met}
 use Rattle.s2cell.specs.declared.TheConstants.{LEAVES}
 use Rattle.s2cover.proofs.Runs.{touched_none, touched_from_none}
 use Rattle.s2cover.proofs.Squares.{same_bool}
 use Rattle.s2cover.proofs.Faces.{and_of}
 use Rattle.s2cover.proofs.Coverings.{outer_in, outer_from, inner_in, inner_from, touched_some}
+use Rattle.s2search.proofs.Levelling.{kept_few}
 use Rattle.s2cover.proofs.OwnCells.{kept_one, filter_any, outer_cells, inner_cells}
 
 -- ---- the inner covering of two sets
@@ -105,9 +107,6 @@ met_some S c h = sym (true_from_ne_false (meets S c)
 
 filter_few : (p : ℕ → Bool) (u : List ℕ) → length (filter p u) ≤ length u
 filter_few p u = let a = length-filter p u in let b = count_by-le-length p u in omega arith
-
-pub kept_few : (k : ℕ) (u : List ℕ) → length (cells_kept k u) ≤ length u
-kept_few k u = filter_few (reaches k) u
 
 -- a look for each cell that is kept
 pub kept_looks : (k : ℕ) (u v : List ℕ) (before looks : ℕ) → before ≡ 0 → v ≡ cells_kept k u →

@@ -1,24 +1,29 @@
 -- The coverings of a union are its cells, cut to the level.
 use Rattle.std.proofs.Common.{◌≡◌, ℕ, suc, zero, ◌+◌, ◌-◌, ◌*◌, ◌/◌, ◌^◌, ◌<◌, ◌≤◌, Bool, true}
 use Rattle.std.proofs.Common.{false, cond, Result, IfOk, IfErr, max, ◌&&◌, ◌||◌, nat_lt, List, [], ◌∷◌, length, All}
+use Rattle.std.proofs.Common.{get_or, inl, inr}
 use Rattle.std.proofs.Common.{Contains, refl, sym, ◌∙◌, ap, arith, subst, ⊎_elim}
 use Rattle.std.specs.List.{filter}
-use Rattle.std.proofs.lemmas.Bool.{cases_lt, cond-true, cond-false, le-leb, leb-true, and_right, and_parts, and_from}
-use Rattle.std.proofs.lemmas.Bool.{false_from_ne_true}
-use Rattle.std.proofs.lemmas.List.Elements.{All-contains}
+use Rattle.std.proofs.lemmas.Bool.{cases_lt, le-leb, leb-true, and_right, and_parts, and_from}
+use Rattle.std.specs.List.Sorted.{IsStrictlyIncreasing}
+use Rattle.std.proofs.lemmas.List.Elements.{All-contains, All-filter, Contains-get_or}
+use Rattle.std.proofs.lemmas.List.Kept.{AllPairs-from_increasing, IsStrictlyIncreasing-filter}
 use Rattle.std.proofs.lemmas.List.Folds.{Any-from_list_any, list_any_at}
-use Rattle.s2cell.specs.Cell.{IsCell, level_of, first_leaf, covers, parent_of, id_at}
+use Rattle.s2cell.specs.Cell.{IsCell, level_of, first_leaf, covers, parent_of, child_of, id_at}
 use Rattle.s2cell.proofs.CellLemmas.{level_of_cell}
 use Rattle.s2cell.proofs.Calls.{IsCell-parent_of, shallow}
 use Rattle.s2cell.proofs.Family.{deeper_inside, parent_level, parent_around, same_from_within}
 use Rattle.s2cell.proofs.Leaves.{Within, covers_from, inside_from_within}
 use Rattle.s2cell.proofs.Squares.{covers_block, first_leaf_covered}
 use Rattle.s2list.specs.Union.{has_leaf, IsLocal, IsNormalForm, Union}
-use Rattle.s2list.proofs.Normal.{all_held, holder, family, leaf_to, normal_form_same, one_normal_form}
+use Rattle.s2list.proofs.Normal.{all_held, holder, family, greatest_apart, leaf_to, member_greatest, normal_form_same}
+use Rattle.s2list.proofs.Normal.{normal_from_leaves, one_normal_form}
 use Rattle.std.proofs.lemmas.Result.{IfOk-weaker, IfErr-weaker}
 use Rattle.std.specs.List.{list_any}
+use Rattle.s2search.specs.Room.{PutsOne, PutsUpTo}
+use Rattle.s2search.proofs.Levelling.{cut_parent, cut_same}
 use Rattle.s2cover.specs.Coverings.{touched, outer_set, inner_set, IsInOuter, IsInInner}
-use Rattle.s2cover.specs.Working.Cut.{reaches, cut_at, cells_cut, cells_kept}
+use Rattle.s2search.specs.Cut.{reaches, cut_at, cells_cut, cells_kept}
 use Rattle.s2cell.specs.declared.TheConstants.{LEAVES}
 use Rattle.s2cover.proofs.Runs.{touched_from_none}
 use Rattle.s2cover.proofs.Squares.{same_bool}
@@ -57,17 +62,10 @@ outer_none S k x h =
 
 -- ---- one cell
 
-pub cut_same : (k c : ℕ) → level_of c ≤ k → cut_at k c ≡ c
-cut_same k c h = cond-true (reaches k c) c (parent_of c k) (le-leb (level_of c) k h)
-
-pub cut_parent : (k c : ℕ) → k < level_of c → cut_at k c ≡ parent_of c k
-cut_parent k c h = cond-false (reaches k c) c (parent_of c k)
-    (false_from_ne_true (reaches k c) (λ t. let l = leb-true (level_of c) k t in absurd (omega arith)))
-
 -- a cell of level `k` that shares a leaf with `c` lies inside the cell that stands for `c` there
-pub cut_around : (k : ℕ) {c b : ℕ} (y x : ℕ) → IsCell c →
-    IsCell b → level_of b ≡ k → covers b y ≡ true → covers c y ≡ true → covers b x ≡ true → covers (cut_at k c) x ≡ true
-cut_around k {c} {b} y x i ib lv vb vc vx =
+pub cut_around : (k c b y x : ℕ) → IsCell c → IsCell b → level_of b ≡ k → covers b y ≡ true → covers c y ≡ true →
+    covers b x ≡ true → covers (cut_at k c) x ≡ true
+cut_around k c b y x i ib lv vb vc vx =
     let yb = covers_from b y vb in
     let yc = covers_from c y vc in
     ⊎_elim
@@ -84,11 +82,11 @@ cut_around k {c} {b} y x i ib lv vb vc vx =
     subst (λ (z : ℕ). covers z x ≡ true) (sym (cut_same k c l)) (inside_from_within b c w x vx))
     (cases_lt k (level_of c))
 
-cut_to : {c : ℕ} (k x : ℕ) → IsCell c → IsInOuter (covers c) k x → covers (cut_at k c) x ≡ true
-cut_to {c} k x i (b, ib, lv, vx, (y, vb, vc)) = cut_around k y x i ib lv vb vc vx
+cut_to : (c k x : ℕ) → IsCell c → IsInOuter (covers c) k x → covers (cut_at k c) x ≡ true
+cut_to c k x i (b, ib, lv, vx, (y, vb, vc)) = cut_around k c b y x i ib lv vb vc vx
 
-cut_from : {c : ℕ} (k x : ℕ) → IsCell c → k ≤ 30 → covers (cut_at k c) x ≡ true → IsInOuter (covers c) k x
-cut_from {c} k x i h v =
+cut_from : (c k x : ℕ) → IsCell c → k ≤ 30 → covers (cut_at k c) x ≡ true → IsInOuter (covers c) k x
+cut_from c k x i h v =
     ⊎_elim
     (λ (l : k < level_of c).
     let p = parent_of c k in
@@ -111,11 +109,11 @@ cut_from {c} k x i h v =
     (cases_lt k (level_of c))
 
 -- the outer covering of a cell is the cell, cut
-pub outer_cell : {c : ℕ} (k x : ℕ) → IsCell c → k ≤ 30 → outer_set (covers c) k x ≡ covers (cut_at k c) x
-outer_cell {c} k x i h =
+pub outer_cell : (c k x : ℕ) → IsCell c → k ≤ 30 → outer_set (covers c) k x ≡ covers (cut_at k c) x
+outer_cell c k x i h =
     same_bool (outer_set (covers c) k x) (covers (cut_at k c) x)
-    (λ t. cut_to k x i (outer_in (covers c) k x h t))
-    (λ v. outer_from (covers c) k x (cut_from k x i h v))
+    (λ t. cut_to c k x i (outer_in (covers c) k x h t))
+    (λ v. outer_from (covers c) k x (cut_from c k x i h v))
 
 -- ---- the cells of a union
 
@@ -124,7 +122,7 @@ pub outer_cells : (k : ℕ) (u : List ℕ) → k ≤ 30 → All IsCell u → (x 
 outer_cells k [] h all x = outer_none (has_leaf []) k x (λ y. refl)
 outer_cells k (c ∷ u) h all x =
     outer_either (covers c) (has_leaf u) k x
-    ∙ ap (λ b. b || outer_set (has_leaf u) k x) (outer_cell k x (all 0 c (omega arith)) h)
+    ∙ ap (λ b. b || outer_set (has_leaf u) k x) (outer_cell c k x (all 0 c (omega arith)) h)
     ∙ ap (λ b. covers (cut_at k c) x || b) (outer_cells k u h (λ i d l. all (suc i) d (omega arith)) x)
 
 pub kept_one : (b : Bool) (c x : ℕ) (v : List ℕ) → has_leaf (cond b (c ∷ v) v) x ≡ ((b && covers c x) || has_leaf v x)
@@ -136,8 +134,8 @@ filter_any p x [] = refl
 filter_any p x (c ∷ u) = kept_one (p c) c x (filter p u) ∙ ap (λ b. (p c && covers c x) || b) (filter_any p x u)
 
 -- a cell around another lies no deeper
-around_level : {b d : ℕ} → IsCell b → IsCell d → Within b d → level_of d ≤ level_of b
-around_level {b} {d} ib id w =
+around_level : (b d : ℕ) → IsCell b → IsCell d → Within b d → level_of d ≤ level_of b
+around_level b d ib id w =
     ⊎_elim
     (λ (l : level_of b < level_of d).
     let own = first_leaf_covered b ib in
@@ -149,16 +147,17 @@ around_level {b} {d} ib id w =
     (λ (l : level_of d ≤ level_of b). l)
     (cases_lt (level_of b) (level_of d))
 
-kept_to : (k x : ℕ) {u : List ℕ} →
-    IsLocal u → IsInInner (has_leaf u) k x → list_any (λ c. reaches k c && covers c x) u ≡ true
-kept_to k x {u} l (b, ib, lv, vx, inside) =
+kept_to : (k x : ℕ) (u : List ℕ) → IsLocal u → IsInInner (has_leaf u) k x →
+    list_any (λ c. reaches k c && covers c x) u ≡ true
+kept_to k x u l (b, ib, lv, vx, inside) =
     let sb = shallow b ib in
     elim (all_held (30 - level_of b) u b l.cells ib (omega arith) inside) [
       | holder d md w ↦
           let id : IsCell d = All-contains IsCell u d l.cells md in
-          let lvl = around_level ib id w in
+          let lvl = around_level b d ib id w in
           let both : (reaches k d && covers d x) ≡ true =
-          and_from (reaches k d) (covers d x) (le-leb (level_of d) k (omega arith)) (inside_from_within b d w x vx) in
+          and_from (reaches k d) (covers d x) (le-leb (level_of d) k (omega arith))
+          (inside_from_within b d w x vx) in
           let i = md.0 in
           list_any_at (λ c. reaches k c && covers c x) u i d md.1 (ap (λ c. reaches k c && covers c x) md.2 ∙ both)
       | family q cq lq f ↦ absurd (l.unmerged q cq lq f)
@@ -187,8 +186,9 @@ pub inner_cells : (k : ℕ) {u : List ℕ} →
     k ≤ 30 → IsLocal u → (x : ℕ) → inner_set (has_leaf u) k x ≡ has_leaf (cells_kept k u) x
 inner_cells k {u} h l x =
     same_bool (inner_set (has_leaf u) k x) (list_any (λ c. reaches k c && covers c x) u)
-    (λ t. kept_to k x l (inner_in (has_leaf u) k x h t))
-    (λ v. inner_from (has_leaf u) k x (kept_from k x u h l.cells v)) ∙ sym (filter_any (reaches k) x u)
+    (λ t. kept_to k x u l (inner_in (has_leaf u) k x h t))
+    (λ v. inner_from (has_leaf u) k x (kept_from k x u h l.cells v))
+    ∙ sym (filter_any (reaches k) x u)
 
 -- ---- what the calls answer
 
@@ -197,10 +197,33 @@ pub cut_normal : (k : ℕ) {u : List ℕ} (list : List ℕ) {v : List ℕ} → k
 cut_normal k {u} list {v} h l e n = normal_form_same (has_leaf list) (outer_set (has_leaf u) k) v
     (λ x. ap (λ z. has_leaf z x) e ∙ sym (outer_cells k u h l.cells x)) n
 
-pub kept_normal : (k : ℕ) {u : List ℕ} (list : List ℕ) {v : List ℕ} → k ≤ 30 →
-    IsLocal u → list ≡ cells_kept k u → IsNormalForm (has_leaf list) v → IsNormalForm (inner_set (has_leaf u) k) v
-kept_normal k {u} list {v} h l e n = normal_form_same (has_leaf list) (inner_set (has_leaf u) k) v
-    (λ x. ap (λ z. has_leaf z x) e ∙ sym (inner_cells k h l x)) n
+-- cells of a union that are some of its cells are those of a union
+kept_local : (k : ℕ) (u : List ℕ) → IsLocal u → IsLocal (cells_kept k u)
+kept_local k u l =
+    let v = cells_kept k u in
+    let among : (c : ℕ) → Contains v c → Contains u c =
+    λ c m. let (i, h, is) = m in All-contains (Contains u) v c
+    (All-filter (reaches k) (Contains u) u (λ j d g. Contains-get_or u j d g)) m in
+    let ascending : IsStrictlyIncreasing v = IsStrictlyIncreasing-filter (reaches k) u l.ascending in
+    record {
+      cells = All-filter (reaches k) IsCell u l.cells;
+      ascending = ascending;
+      apart = λ i j d h g x a b.
+          let mi = Contains-get_or v i d (omega arith) in
+          let mj = Contains-get_or v j d g in
+          let same = greatest_apart (has_leaf u) (get_or v i d) (get_or v j d) x
+          (member_greatest u l (get_or v i d) (among (get_or v i d) mi))
+          (member_greatest u l (get_or v j d) (among (get_or v j d) mj)) a b in
+          let less = AllPairs-from_increasing v ascending i j d h g in
+          absurd (omega arith);
+      unmerged = λ p own deep children. l.unmerged p own deep (λ i h. among (child_of p i) (children i h));
+    }
+
+pub kept_normal : (k : ℕ) (u v : List ℕ) → k ≤ 30 → IsLocal u → v ≡ cells_kept k u →
+    IsNormalForm (inner_set (has_leaf u) k) v
+kept_normal k u v h l e = subst (IsNormalForm (inner_set (has_leaf u) k)) (sym e)
+    (normal_from_leaves (inner_set (has_leaf u) k) (cells_kept k u) (kept_local k u l)
+    (λ x. sym (inner_cells k h l x)))
 
 pub same_ok : {E : Type 0} (r : Result Union E) (v : List ℕ) (P : List ℕ → Type 0) → P v →
     IfOk r (λ u. u.cells ≡ v) → IfOk r (λ u. P u.cells)
@@ -217,6 +240,33 @@ pub cut_leaves : (k : ℕ) {u : List ℕ} (list v : List ℕ) → k ≤ 30 → I
     ((x : ℕ) → has_leaf v x ≡ has_leaf list x) → (x : ℕ) → has_leaf v x ≡ outer_set (has_leaf u) k x
 cut_leaves k {u} list v h l e same x = same x ∙ ap (λ z. has_leaf z x) e ∙ sym (outer_cells k u h l.cells x)
 
-pub kept_leaves : (k : ℕ) {u : List ℕ} (list v : List ℕ) → k ≤ 30 → IsLocal u → list ≡ cells_kept k u →
-    ((x : ℕ) → has_leaf v x ≡ has_leaf list x) → (x : ℕ) → has_leaf v x ≡ inner_set (has_leaf u) k x
-kept_leaves k {u} list v h l e same x = same x ∙ ap (λ z. has_leaf z x) e ∙ sym (inner_cells k h l x)
+-- ---- what is put into a room
+
+puts_as : (P Q : List ℕ → Type 0) (most : ℕ) (old new : List ℕ) (n : ℕ) → ((u : List ℕ) → P u → Q u) →
+    ((u : List ℕ) → Q u → P u) → PutsUpTo most P old new n → PutsUpTo most Q old new n
+puts_as P Q most old new n to from (inl p) = inl (record {
+  list = p.list;
+  is = to p.list p.is;
+  len_is = p.len_is;
+  same_length = p.same_length;
+  front = p.front;
+})
+puts_as P Q most old new n to from (inr (more, long)) = inr (more, λ u q. long u (from u q))
+
+pub outer_puts : (k most : ℕ) (u old new : List ℕ) (n : ℕ) → k ≤ 30 → IsLocal u →
+    PutsUpTo most (IsNormalForm (has_leaf (cells_cut k u))) old new n →
+    PutsUpTo most (IsNormalForm (outer_set (has_leaf u) k)) old new n
+outer_puts k most u old new n h l p =
+    let S = has_leaf (cells_cut k u) in
+    let T = outer_set (has_leaf u) k in
+    puts_as (IsNormalForm S) (IsNormalForm T) most old new n
+    (λ v. normal_form_same S T v (λ x. sym (outer_cells k u h l.cells x)))
+    (λ v. normal_form_same T S v (λ x. outer_cells k u h l.cells x)) p
+
+pub inner_puts : (k most : ℕ) (u old new : List ℕ) (n : ℕ) → k ≤ 30 → IsLocal u →
+    PutsUpTo most (λ list. list ≡ cells_kept k u) old new n →
+    PutsUpTo most (IsNormalForm (inner_set (has_leaf u) k)) old new n
+inner_puts k most u old new n h l p =
+    let T = inner_set (has_leaf u) k in
+    puts_as (λ list. list ≡ cells_kept k u) (IsNormalForm T) most old new n (λ v e. kept_normal k u v h l e)
+    (λ v q. one_normal_form T v (cells_kept k u) q (kept_normal k u (cells_kept k u) h l refl)) p

@@ -21,14 +21,14 @@ use Rattle.s2list.proofs.Picking.{picked_normal}
 use Rattle.s2cover.specs.Coverings.{filled, touched, outer_set, inner_set}
 use Rattle.s2cell.specs.declared.TheConstants.{LEAVES}
 use Rattle.s2cell.proofs.CellLemmas.{cell_leaves, four_pos}
-use Rattle.s2cover.specs.Working.Cut.{reaches, cells_cut, cells_kept}
+use Rattle.s2search.specs.Cut.{reaches, cells_cut, cells_kept}
 use Rattle.s2cover.specs.Working.Descent.{form_in, form, joined, cell_at, depth_of, IsAligned}
 use Rattle.s2cover.proofs.Runs.{block_in, is_touched, touched_from_none, filled_from, not_filled}
 use Rattle.s2cover.proofs.Forms.{child_run}
 use Rattle.s2cover.proofs.Rounded.{leaf_in_block, block_leaves}
 use Rattle.s2cover.proofs.Squares.{same_bool}
 use Rattle.s2cover.proofs.Visits.{covers_at, leaf_at}
-use Rattle.s2cover.proofs.OwnCells.{cut_same, cut_parent}
+use Rattle.s2search.proofs.Levelling.{cut_cell, cut_same, cut_parent}
 use Rattle.s2cover.proofs.Formed.{Run, formed, all_pairs_append, or_and}
 
 -- ---- two sets with the same leaves in a cell
@@ -253,13 +253,7 @@ cut_above k (c ∷ u) h (suc i) d l = cut_above k u (λ j e m. h (suc j) e (omeg
 
 pub cut_cells : (k : ℕ) (u : List ℕ) → All IsCell u → All IsCell (cells_cut k u)
 cut_cells k [] h i d l = absurd (omega arith)
-cut_cells k (c ∷ u) h zero d l =
-    let ic = h 0 c (omega arith) in
-    ⊎_elim
-    (λ (deep : k < level_of c). subst IsCell (sym (cut_parent k c deep))
-    (IsCell-parent_of c k (parent_of c k) ic (omega arith) refl))
-    (λ (fine : level_of c ≤ k). subst IsCell (sym (cut_same k c fine)) ic)
-    (cases_lt k (level_of c))
+cut_cells k (c ∷ u) h zero d l = cut_cell k c (h 0 c (omega arith))
 cut_cells k (c ∷ u) h (suc i) d l = cut_cells k u (λ j e m. h (suc j) e (omega arith)) i d (omega arith)
 
 kept_above_one : (k c : ℕ) (v : List ℕ) (b : Bool) → (b ≡ true → level_of c ≤ k) → All (λ c. level_of c ≤ k) v →

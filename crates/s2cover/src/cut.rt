@@ -2,12 +2,37 @@
 ghost use Rattle.std.specs.Prelude.{◌≡◌, ◌<◌, ◌≤◌, length, IfOk, IfErr};
 ghost use Rattle.s2list.specs.Union.{has_leaf, IsLocal, IsNormalForm};
 ghost use Rattle.s2cover.specs.Coverings.{HasLeavesOf, TooManyMeans, inner_set, outer_set};
-ghost use Rattle.s2cover.specs.Working.Cut.{cells_cut, cells_kept, cut_at};
+ghost use Rattle.s2search.specs.Cut.{cells_cut, cells_kept, cut_at};
+ghost use Rattle.s2search.specs.Room.{PutsUpTo};
 
 use crate::region::CoverFault;
 use s2cell::{CellId, GREATEST_LEVEL};
+use s2list::Cells;
+use s2search::{put_cut, put_kept};
 use s2union::{CellUnion, normalise};
 use std::alloc::{AllocError, Global};
+
+/// Puts the outer covering of a union at the front of a room, and answers how many cells it has. If they are more than
+/// `most`, it may stop as soon as that is known, and the answer is some number above `most`. Takes no memory, and one
+/// pass over the union's cells, in which those in one cell of the level are passed by a search.
+pub fn put_outer<C: Cells>(cells: &C, level: u8, most: usize, out: &mut [u64]) -> usize
+    requires level { level ≤ GREATEST_LEVEL }
+    ensures len { length out.new ≡ length out.old }
+    ensures made { IsLocal (C.ids cells.now)
+        → PutsUpTo most (IsNormalForm (outer_set (has_leaf (C.ids cells.now)) level)) out.old out.new result }
+{
+    put_cut(cells, level, most, out)
+}
+
+/// Puts the inner covering of a union at the front of a room, as `put_outer` does the outer one.
+pub fn put_inner<C: Cells>(cells: &C, level: u8, most: usize, out: &mut [u64]) -> usize
+    requires level { level ≤ GREATEST_LEVEL }
+    ensures len { length out.new ≡ length out.old }
+    ensures made { IsLocal (C.ids cells.now)
+        → PutsUpTo most (IsNormalForm (inner_set (has_leaf (C.ids cells.now)) level)) out.old out.new result }
+{
+    put_kept(cells, level, most, out)
+}
 
 /// The outer covering of a union: the answer of `outer`, in one pass over the union's cells.
 ///
@@ -49,7 +74,7 @@ pub fn union_inner(
     ensures many { IfErr result (TooManyMeans (inner_set (has_leaf union.now.cells) level) max) }
 {
     let cells = kept_cells(alloc, union.cells(), level)?;
-    union_up_to(normalise(cells), max)
+    union_up_to(CellUnion::from_normalized(cells), max)
 }
 
 /// The union, if it has at most `max` cells.

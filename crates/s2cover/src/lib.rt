@@ -26,7 +26,7 @@ mod union;
 
 pub use clip::{clip_inner, clip_outer};
 pub use covering::{covering_sets, inner, normal_forms, outer};
-pub use cut::{union_inner, union_outer};
+pub use cut::{put_inner, put_outer, union_inner, union_outer};
 pub use grid::{rect_inner, rect_outer};
 pub use looks::Looks;
 pub use rect::FaceRect;

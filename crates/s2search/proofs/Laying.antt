@@ -24,7 +24,7 @@ use Rattle.s2list.proofs.Tiling.{or_true, or_false, none_between}
 use Rattle.s2list.proofs.Walking.{leaf_at, not_true}
 use Rattle.s2search.specs.Working.Room.{IsPut, PutsGap}
 use Rattle.s2search.specs.Working.Piles.{Piling, PilingIn}
-use Rattle.s2search.proofs.Piling.{pile_free, pile_picked, piling_flush, taken}
+use Rattle.s2search.proofs.Piling.{begins_local, begins_packed, pile_free, pile_picked, piling_flush, taken}
 
 or_right_false : (a b : Bool) → (a || b) ≡ false → b ≡ false
 or_right_false true b h = absurd (false≢true (sym h))
@@ -44,7 +44,7 @@ run_same : (S : ℕ → Bool) (xs ys list : List ℕ) (i j start mark x : ℕ) �
 run_same S xs ys list i j start mark x py s ny a b =
     let free : has_leaf (take j ys) x ≡ false = or_right_false (has_leaf (take i xs) x) (has_leaf (take j ys) x)
     (sym (s.leaves x) ∙ pile_free list start start x s.below (omega arith) a) in
-    let none : has_leaf ys x ≡ false = taken ys j x py (λ g. let n = ny g in omega arith) ∙ free in
+    let none : has_leaf ys x ≡ false = taken ys j x (begins_packed ys py) (λ g. let n = ny g in omega arith) ∙ free in
     s.same x ∙ ap (λ v. has_leaf xs x || v) none ∙ sym (or_false (has_leaf xs x))
 
 -- the leaf after the run is none of the set
@@ -217,7 +217,8 @@ pile_run S xs ys room out mid new n k m i j lo hi stop mark lx ly s apart h with
     let last = ends_later xs i (stop - 1) px (omega arith) (omega arith) in
     let (longer, fills, put) = gap s.pile.most s.list room s.put in
     let flushed : Piling S xs ys longer i j start start =
-    piling_flush S xs ys s.list longer i j lo hi start lx ly s.pile (λ g. omega arith)
+    piling_flush S xs ys s.list longer i j lo hi start
+    (begins_local xs lx) (begins_local ys ly) s.pile (λ g. omega arith)
     (λ g. let b = ny g in omega arith) apart fills in
     record {
       list = longer ++ take (stop - i) (drop i xs);

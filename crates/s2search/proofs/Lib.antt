@@ -1,5 +1,6 @@
--- Cited by the crate above.
+-- Cited by the crates above.
 pub mod Numbers
+pub mod Levelling
 -- Of this crate alone.
 mod Laying
 mod Leaping

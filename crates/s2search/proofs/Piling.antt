@@ -1,6 +1,6 @@
 -- The leaves of two lists of cells, put together interval by interval.
 use Rattle.std.proofs.Common.{◌≡◌, ℕ, ◌+◌, ◌-◌, ◌<◌, ◌≤◌, ◌⊎◌, inl, inr, refl, sym, ◌∙◌, ap, arith, Bool, true}
-use Rattle.std.proofs.Common.{false, ◌||◌, List, [], length, get_or, take, drop, max}
+use Rattle.std.proofs.Common.{false, ◌||◌, List, [], length, get_or, take, drop, max, All}
 use Rattle.std.proofs.Math.Logic.{⊎_elim}
 use Rattle.std.proofs.lemmas.Bool.{cases_lt, false≢true}
 use Rattle.std.proofs.lemmas.Bool.Decides.{nat_tests}
@@ -26,6 +26,20 @@ use Rattle.s2search.proofs.Putting.{put_none, puts_normal}
 
 abbrev pub any : List ℕ → List ℕ → ℕ → Bool
 any xs ys x = has_leaf xs x || has_leaf ys x
+
+-- the cells of `u` are in the order of their first leaves
+pub record Begins (u : List ℕ) : Type 0 where
+  pub cells : All IsCell u
+  pub order : (j k : ℕ) → j ≤ k → k < length u → first_leaf (get_or u j 0) ≤ first_leaf (get_or u k 0)
+
+pub begins_packed : (u : List ℕ) → IsPacked u → Begins u
+begins_packed u p = record { cells = p.cells; order = λ j k h l. starts_later u j k p h l }
+
+pub begins_none : Begins []
+begins_none = record { cells = λ k d h. absurd (omega arith); order = λ j k l h. absurd (omega arith) }
+
+pub begins_local : (u : List ℕ) → IsLocal u → Begins u
+begins_local u l = begins_packed u (packed_from_local u l)
 
 pub pile_picked : (S : ℕ → Bool) (xs ys list : List ℕ) (i j lo hi : ℕ) → Piling S xs ys list i j lo hi → Picked S list
 pile_picked S xs ys list i j lo hi s = record { chain = s.chain; greatest = s.greatest }
@@ -79,13 +93,12 @@ widen lo hi f e m x a b c d (inl g) = grind (arith, nat_tests)
 widen lo hi f e m x a b c d (inr g) = grind (arith, nat_tests)
 
 -- the next cell of xs begins in the leaves, or at their end
-pub piling_more : (S : ℕ → Bool) (xs ys list : List ℕ) (i j lo hi m : ℕ) → IsLocal xs → Piling S xs ys list i j lo hi →
+pub piling_more : (S : ℕ → Bool) (xs ys list : List ℕ) (i j lo hi m : ℕ) → Begins xs → Piling S xs ys list i j lo hi →
     i < length xs → first_leaf (get_or xs i 0) ≤ hi
     → m ≡ max hi (first_leaf (get_or xs i 0) + size_of (get_or xs i 0)) → Piling S xs ys list (i + 1) j lo m
 piling_more S xs ys list i j lo hi m lx s h meets em =
-    let p = packed_from_local xs lx in
     let c = get_or xs i 0 in
-    let l = cell_leaves c (p.cells i 0 h) in
+    let l = cell_leaves c (lx.cells i 0 h) in
     let some = l.some in
     let within = l.within in
     let order = s.order in
@@ -117,13 +130,13 @@ piling_more S xs ys list i j lo hi m lx s h meets em =
           ∙ ap (λ v. v || between start end x) (s.leaves x) ∙ or_last tx ty (covers c x)
           ∙ ap (λ v. v || ty) (sym more);
       start_x = λ g.
-          let n : first_leaf c + size_of c ≤ first_leaf (get_or xs (i + 1) 0) = p.chain i (i + 1) 0 (omega arith) g in
+          let n : first_leaf c ≤ first_leaf (get_or xs (i + 1) 0) = lx.order i (i + 1) (omega arith) g in
           omega arith;
       start_y = s.start_y;
     }
 
 -- before the next cell a list has the leaves of those before it
-pub taken : (u : List ℕ) (i x : ℕ) → IsPacked u → (i < length u → x < first_leaf (get_or u i 0)) →
+pub taken : (u : List ℕ) (i x : ℕ) → Begins u → (i < length u → x < first_leaf (get_or u i 0)) →
     has_leaf u x ≡ has_leaf (take i u) x
 taken u i x p next =
     let parts : has_leaf u x ≡ (has_leaf (take i u) x || has_leaf (drop i u) x) =
@@ -138,12 +151,12 @@ taken u i x p next =
     let f = ap first_leaf e in
     let low = l.low in
     let n = next (omega arith) in
-    let later = starts_later u i (i + l.at) p (omega arith) w in
+    let later = p.order i (i + l.at) (omega arith) w in
     omega arith) in
     parts ∙ ap (λ v. has_leaf (take i u) x || v) none ∙ sym (or_false (has_leaf (take i u) x))
 
 -- before the next cells the set is what was put together
-pile_is : (S : ℕ → Bool) (xs ys list : List ℕ) (i j lo hi start x : ℕ) → IsPacked xs → IsPacked ys →
+pile_is : (S : ℕ → Bool) (xs ys list : List ℕ) (i j lo hi start x : ℕ) → Begins xs → Begins ys →
     Piling S xs ys list i j lo hi → (i < length xs → start ≤ first_leaf (get_or xs i 0))
     → (j < length ys → start ≤ first_leaf (get_or ys j 0)) → x < start
     → S x ≡ (has_leaf list x || between lo hi x)
@@ -165,7 +178,7 @@ or_right true b h = refl
 or_right false b h = h
 
 -- the leaves from `lo` on are a gap of the set, if the next cells begin after them
-pile_gap : (S : ℕ → Bool) (xs ys list : List ℕ) (i j lo hi start : ℕ) → IsPacked xs → IsPacked ys →
+pile_gap : (S : ℕ → Bool) (xs ys list : List ℕ) (i j lo hi start : ℕ) → Begins xs → Begins ys →
     Piling S xs ys list i j lo hi → (i < length xs → start ≤ first_leaf (get_or xs i 0))
     → (j < length ys → start ≤ first_leaf (get_or ys j 0)) → hi < start → IsGap S lo hi
 pile_gap S xs ys list i j lo hi start px py s nx ny h =
@@ -201,17 +214,15 @@ pile_gap S xs ys list i j lo hi start px py s nx ny h =
     }
 
 -- the next cells begin after the leaves, which are put to the list
-pub piling_flush : (S : ℕ → Bool) (xs ys list new : List ℕ) (i j lo hi start : ℕ) → IsLocal xs → IsLocal ys →
+pub piling_flush : (S : ℕ → Bool) (xs ys list new : List ℕ) (i j lo hi start : ℕ) → Begins xs → Begins ys →
     Piling S xs ys list i j lo hi → (i < length xs → start ≤ first_leaf (get_or xs i 0))
     → (j < length ys → start ≤ first_leaf (get_or ys j 0)) → hi < start → FillsGap list new lo hi
     → Piling S xs ys new i j start start
 piling_flush S xs ys list new i j lo hi start lx ly s nx ny h f =
-    let px = packed_from_local xs lx in
-    let py = packed_from_local ys ly in
     let order = s.order in
     let filled = fill_leaves list new lo hi f in
     let picked : Picked S new = picked_fill S list new lo hi (pile_picked S xs ys list i j lo hi s) s.below
-    (λ _. pile_gap S xs ys list i j lo hi start px py s nx ny h) f in
+    (λ _. pile_gap S xs ys list i j lo hi start lx ly s nx ny h) f in
     record {
       same = s.same;
       chain = picked.chain;
@@ -224,7 +235,7 @@ piling_flush S xs ys list new i j lo hi start lx ly s nx ny h f =
           (cases_lt x start);
       order = omega arith;
       most = λ b. absurd (omega arith);
-      edge = λ x e. pile_is S xs ys list i j lo hi start x px py s nx ny (omega arith)
+      edge = λ x e. pile_is S xs ys list i j lo hi start x lx ly s nx ny (omega arith)
           ∙ pile_free list lo hi x s.below order (omega arith);
       leaves = λ x. ap (λ v. has_leaf new x || v) (none_between start x) ∙ sym (or_false (has_leaf new x)) ∙ filled x
           ∙ s.leaves x;
@@ -233,12 +244,12 @@ piling_flush S xs ys list new i j lo hi start lx ly s nx ny h f =
     }
 
 -- both lists are at their ends
-pub piling_picked : (S : ℕ → Bool) (xs ys list new : List ℕ) (i j lo hi : ℕ) → IsLocal xs → IsLocal ys →
+pub piling_picked : (S : ℕ → Bool) (xs ys list new : List ℕ) (i j lo hi : ℕ) → Begins xs → Begins ys →
     Piling S xs ys list i j lo hi → length xs ≤ i → length ys ≤ j → FillsGap list new lo hi → Picked S new
 piling_picked S xs ys list new i j lo hi lx ly s a b f =
     picked_fill S list new lo hi (pile_picked S xs ys list i j lo hi s) s.below
-    (λ _. pile_gap S xs ys list i j lo hi (hi + 1) (packed_from_local xs lx) (packed_from_local ys ly) s
-    (λ h. absurd (omega arith)) (λ h. absurd (omega arith)) (omega arith)) f
+    (λ _. pile_gap S xs ys list i j lo hi (hi + 1) lx ly s (λ h. absurd (omega arith)) (λ h. absurd (omega arith))
+    (omega arith)) f
 
 pub piling_leaves : (S : ℕ → Bool) (xs ys list new : List ℕ) (i j lo hi : ℕ) →
     Piling S xs ys list i j lo hi → length xs ≤ i → length ys ≤ j → FillsGap list new lo hi → (x : ℕ) →
@@ -264,8 +275,8 @@ le_or_lt : (a b : ℕ) → (a ≤ b) ⊎ (b < a)
 le_or_lt a b = ⊎_elim (λ (h : b < a). inr h) (λ (h : a ≤ b). inl h) (cases_lt b a)
 
 -- the next cell of xs is added to the pile, which is put into the room first if the cell begins after it
-pub pile_add : (S : ℕ → Bool) (xs ys room out new : List ℕ) (n m i j lo hi low high x first end : ℕ) → IsLocal xs →
-    IsLocal ys → PilingIn S xs ys room out n i j lo hi → i < length xs → x ≡ get_or xs i 0
+pub pile_add : (S : ℕ → Bool) (xs ys room out new : List ℕ) (n m i j lo hi low high x first end : ℕ) → Begins xs →
+    Begins ys → PilingIn S xs ys room out n i j lo hi → i < length xs → x ≡ get_or xs i 0
     → (IsCell x → first ≡ first_leaf x) → (IsCell x → end ≡ first_leaf x + size_of x)
     → (j < length ys → first ≤ first_leaf (get_or ys j 0))
     → (first ≤ hi → (new ≡ out) × (m ≡ n) × (low ≡ lo) × (high ≡ max hi end))
@@ -304,8 +315,17 @@ pile_add S xs ys room out new n m i j lo hi low high x first end lx ly s h rx fx
     }))
     (le_or_lt first hi)
 
+-- the leaves that were added end by the end of the pile
+pub pile_end : (out new : List ℕ) (n m lo hi low high first end : ℕ) →
+    (first ≤ hi → (new ≡ out) × (m ≡ n) × (low ≡ lo) × (high ≡ max hi end)) → (hi < first → (lo < hi → hi ≤ LEAVES)
+    → PutsGap out new n m lo hi × (low ≡ first) × (high ≡ end)) → (lo < hi → hi ≤ LEAVES) → end ≤ high
+pile_end out new n m lo hi low high first end more apart most = ⊎_elim
+    (λ (a : first ≤ hi). let (new_is, m_is, low_is, high_is) = more a in omega arith)
+    (λ (a : hi < first). let (puts, low_is, high_is) = apart a most in omega arith)
+    (le_or_lt first hi)
+
 -- both lists are at their ends, and the pile is put into the room
-pub pile_done : (xs ys room out new : List ℕ) (n m i j lo hi : ℕ) (T : ℕ → Bool) → IsLocal xs → IsLocal ys →
+pub pile_done : (xs ys room out new : List ℕ) (n m i j lo hi : ℕ) (T : ℕ → Bool) → Begins xs → Begins ys →
     PilingIn (any xs ys) xs ys room out n i j lo hi → length xs ≤ i → length ys ≤ j
     → ((lo < hi → hi ≤ LEAVES) → PutsGap out new n m lo hi) → ((x : ℕ) → any xs ys x ≡ T x)
     → PutsOne (IsNormalForm T) room new m

@@ -1,5 +1,5 @@
 -- A list that is written to the front of a room.
-use Rattle.std.specs.Prelude.{◌≡◌, ℕ, ◌≤◌, List, ◌++◌, length, drop}
+use Rattle.std.specs.Prelude.{◌≡◌, ℕ, ◌<◌, ◌≤◌, ◌⊎◌, List, ◌++◌, length, drop}
 
 -- a list of `n` numbers that has the property is at the front of `new` if it fits, and what comes after it is as in
 -- `old`
@@ -9,3 +9,7 @@ pub record PutsOne (P : List ℕ → Type 0) (old new : List ℕ) (n : ℕ) : Ty
   pub len_is : n ≡ length list
   pub same_length : length new ≡ length old
   pub front : length list ≤ length old → new ≡ list ++ drop (length list) old
+
+-- the same, or each list that has the property is longer than `most`, and so is `n`
+abbrev pub PutsUpTo : ℕ → (List ℕ → Type 0) → List ℕ → List ℕ → ℕ → Type 0
+PutsUpTo most P old new n = PutsOne P old new n ⊎ ((most < n) × ((list : List ℕ) → P list → most < length list))

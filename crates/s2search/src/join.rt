@@ -1,27 +1,18 @@
 //! The leaves of two lists of cells, written into a room. The set is put together from its intervals, each filled with
 //! the largest cells that fit; many cells of one list before the next of the other are copied as one run.
-ghost use Rattle.std.specs.Prelude.{◌≡◌, ◌+◌, ◌-◌, ◌^◌, ◌<◌, ◌≤◌, ℕ, Bool, IsTrue, List, length, max, slice_index};
+ghost use Rattle.std.specs.Prelude.{◌≡◌, ◌+◌, ◌-◌, ◌^◌, ◌<◌, ◌≤◌, ℕ, Bool, IsTrue, List, length, slice_index};
 ghost use Rattle.s2cell.specs.Cell.{IsCell, first_leaf, size_of};
 ghost use Rattle.s2list.specs.Union.{IsLocal, IsNormalForm, has_leaf};
 ghost use Rattle.s2list.specs.Sets.{either};
 ghost use Rattle.s2search.specs.Working.Piles.{PilingIn};
-ghost use Rattle.s2search.specs.Working.Room.{PutsGap};
 ghost use Rattle.s2search.specs.Room.{PutsOne};
 
+use crate::pile::{Pile, add};
 use crate::room::{put_gap, put_run};
-use s2cell::LEAVES;
 use s2list::{Cells, end_of, find_from, first_of};
 
 /// How many cells a run has at least, before it is looked for.
 const RUN: usize = 8;
-
-/// How many cells are in the room, and the leaves after them that no cell was put for yet.
-#[derive(Clone, Copy)]
-struct Pile {
-    n: usize,
-    lo: u64,
-    hi: u64,
-}
 
 /// A pile to which more cells were added, and the place of the next.
 #[derive(Clone, Copy)]
@@ -116,31 +107,6 @@ fn add_next<X: Cells, Y: Cells>(
     Step {
         pile: more,
         next: i + 1,
-    }
-}
-
-/// Adds the leaves from `first` to before `end` to a pile. If they begin after its end, its leaves are put into the
-/// room first.
-#[inline(always)]
-fn add(out: &mut [u64], pile: Pile, first: u64, end: u64) -> Pile
-    ensures len { length out.new ≡ length out.old }
-    ensures more { first ≤ pile.hi → (out.new ≡ out.old) × (result.n ≡ pile.n) × (result.lo ≡ pile.lo)
-        × (result.hi ≡ max pile.hi end) }
-    ensures apart { pile.hi < first → (pile.lo < pile.hi → pile.hi ≤ LEAVES)
-        → PutsGap out.old out.new pile.n result.n pile.lo pile.hi × (result.lo ≡ first) × (result.hi ≡ end) }
-{
-    if first <= pile.hi {
-        return Pile {
-            n: pile.n,
-            lo: pile.lo,
-            hi: pile.hi.max(end),
-        };
-    }
-    let n = put_gap(out, pile.n, pile.lo, pile.hi);
-    Pile {
-        n,
-        lo: first,
-        hi: end,
     }
 }
 

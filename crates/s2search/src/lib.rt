@@ -10,17 +10,20 @@
 
 mod cells;
 mod copying;
+mod cut;
 mod denormalising;
 mod join;
 mod keys;
 pub mod laws;
 mod normalising;
+mod pile;
 mod room;
 mod share;
 mod subtract;
 
 pub use cells::{FileIds, NUMBER_SIZE, cell_of, number, read_numbers};
 pub use copying::union_of;
+pub use cut::{put_cut, put_kept};
 pub use denormalising::denormalise;
 pub use join::put_union;
 pub use keys::ancestors;

@@ -22,8 +22,7 @@
  * more than the call itself. s2u_is_union checks it, once, when it comes in; what calls make of unions are unions. If a
  * list is not a union, the result means nothing: the status is S2U_OK or S2U_ROOM, or any answer, or what another
  * argument is refused for. Even so the result lies in the room, *len is within the bound that the call gives for such
- * lists, the work is bounded as it says, and the call is as safe as any other. Only s2u_outer_of and s2u_inner_of
- * check, and refuse such a list with S2U_NO_UNION.
+ * lists, the work is bounded as it says, and the call is as safe as any other.
  *
  * HOW LONG A RESULT IS. A call that makes a list takes `out`, `room` (how many elements it has) and `len`.
  *   S2U_OK     out[0 .. *len) is the result. What comes after it is not touched, but by s2u_decode.
@@ -68,7 +67,7 @@ enum {
   S2U_ROOM = -1,           /* the result is longer than room; *len says how long */
   S2U_MEMORY = -2,         /* out of memory */
   S2U_NO_CELL = -3,        /* a number is not the identifier of a cell, or a text names none */
-  S2U_NO_UNION = -4,       /* a list is not normalized: s2u_normalise makes it so */
+  S2U_NO_UNION = -4,       /* a list is not normalized; since 1.0 for callers that check: no call answers it */
   S2U_ARGUMENT = -5,       /* a level, coordinate, modulus or order out of range */
   S2U_MANY = -6,           /* the result would have more cells than `most` */
   S2U_FILE_SHORT = -10,    /* bytes of the file are missing */
@@ -228,10 +227,13 @@ int32_t s2u_ancestors(const uint64_t* ids, size_t n, uint64_t* out, size_t room,
 /* ---- coverings at one level -----------------------------------------------------------------------------------------
  *
  * The outer covering: the cells of the level that share a leaf with the region, normalized; the inner: those that lie
- * in it. S2U_ROOM, S2U_MEMORY, S2U_ARGUMENT, S2U_NO_UNION (s2u_outer_of and s2u_inner_of: the list is not a union),
- * S2U_MANY if it would have more than `most` cells (which bounds the list on the way too). A `most` greater than
- * S2U_MOST_COVERING counts as S2U_MOST_COVERING: a covering that would have more cells is refused with S2U_MANY,
- * whatever `most` and room are. */
+ * in it. S2U_ROOM, S2U_MEMORY, S2U_ARGUMENT, S2U_MANY if it would have more than `most` cells (which bounds the list on
+ * the way too). A `most` greater than S2U_MOST_COVERING counts as S2U_MOST_COVERING: a covering that would have more
+ * cells is refused with S2U_MANY, whatever `most` and room are.
+ *
+ * s2u_outer_of and s2u_inner_of are [pure]: one pass over the union, in which the cells in one cell of the level are
+ * passed by a search. The covering has no more cells than the union; if that has more than `most`, it is counted first.
+ * Of a list that is no union, `out` may have been written when S2U_MANY is answered. */
 #define S2U_MOST_COVERING 1000000
 int32_t s2u_outer(const s2u_rect* rect, uint32_t level, size_t most, uint64_t* out, size_t room, size_t* len);
 int32_t s2u_inner(const s2u_rect* rect, uint32_t level, size_t most, uint64_t* out, size_t room, size_t* len);

@@ -1,4 +1,5 @@
 mod Asking
+mod Covering
 mod Ordering
 mod Wrong
 mod Words

@@ -17,10 +17,6 @@ no_memory = negsuc 1
 abbrev pub no_cell : ℤ
 no_cell = negsuc 2
 
--- a list is not normalized
-abbrev pub no_union : ℤ
-no_union = negsuc 3
-
 -- an argument is out of its range
 abbrev pub bad_argument : ℤ
 bad_argument = negsuc 4

@@ -1,16 +1,19 @@
 //! The coverings of rectangles and of unions at one level.
-ghost use Rattle.std.specs.Prelude.{◌<◌, ◌≤◌, ◌⊎◌, ℕ, List, SomeIff, length, min};
+ghost use Rattle.std.specs.Prelude.{◌≡◌, ◌<◌, ◌≤◌, ◌⊎◌, ℕ, IsTrue, List, SomeIff, length, min};
 ghost use Rattle.s2list.specs.Union.{IsLocal, IsNormalForm, has_leaf};
 ghost use Rattle.s2cover.specs.Coverings.{inner_set, outer_set};
 ghost use Rattle.s2cover.specs.Rectangles.{IsRect, Rect, rect_set};
-ghost use Rattle.s2union_c.specs.Results.{MadeOne, Refused};
-ghost use Rattle.s2union_c.specs.Status.{bad_argument, no_union, too_many};
+ghost use Rattle.s2search.specs.Room.{PutsUpTo};
+ghost use Rattle.s2union_c.specs.Results.{MadeInPlace, MadeOne, Refused};
+ghost use Rattle.s2union_c.specs.Status.{bad_argument, made, no_room, too_many};
+ghost use Rattle.s2union_c.specs.Working.Coverings.{covering_of};
 
-use crate::lists::union_of;
-use crate::results::put_cells;
-use crate::status::{BAD_ARGUMENT, NO_MEMORY, NO_UNION, TOO_MANY};
-use s2cover::{CoverFault, FaceRect, Looks, MOST_CELLS, inner, outer, rect_inner, rect_outer};
-use s2list::{IdList, is_union};
+use crate::results::{put_cells, room_status};
+use crate::status::{BAD_ARGUMENT, NO_MEMORY, TOO_MANY};
+use s2cover::{
+    CoverFault, FaceRect, Looks, MOST_CELLS, put_inner, put_outer, rect_inner, rect_outer,
+};
+use s2list::IdList;
 use std::alloc::Global;
 
 /// The leaves of a face, 0 to 5, with coordinates from `i0` to `i1` and from `j0` to `j1`, bounds included.
@@ -121,9 +124,9 @@ pub extern "C" fn s2u_inner(
 }
 
 /// The cells of a level that share a leaf with a union, normalized: at most `most` of them, and at most `MOST_CELLS`.
+/// Of a list that is not a union the result means nothing.
 #[unsafe(no_mangle)]
 pub extern "C" fn s2u_outer_of(
-    alloc: Global,
     ids: &[u64],
     level: u32,
     most: usize,
@@ -131,35 +134,34 @@ pub extern "C" fn s2u_outer_of(
     len: &mut usize,
 ) -> i32
     ensures made { IsLocal ids.now → level ≤ 30 →
-        MadeOne result (IsNormalForm (outer_set (has_leaf ids.now) level)) out.old out.new len.new
+        MadeInPlace result (IsNormalForm (outer_set (has_leaf ids.now) level)) out.old out.new len.new
         ⊎ (Refused result too_many out.old out.new len.new
         × ((u : List ℕ) → IsNormalForm (outer_set (has_leaf ids.now) level) u →
         min most MOST_CELLS < length u)) }
     ensures most { len.new ≤ min most MOST_CELLS }
-    ensures no_union { (IsLocal ids.now → ⊥) → Refused result no_union out.old out.new len.new }
-    ensures argument { IsLocal ids.now → 30 < level → Refused result bad_argument out.old out.new len.new }
+    ensures status { level ≤ 30 → (result ≡ made) ⊎ ((result ≡ no_room) ⊎ (result ≡ too_many)) }
+    ensures fits { result ≡ made → len.new ≤ length out.new }
+    ensures same_length { length out.new ≡ length out.old }
+    ensures argument { 30 < level → Refused result bad_argument out.old out.new len.new }
 {
     *len = 0;
-    if !is_union(&IdList { ids }) {
-        return NO_UNION;
-    }
     if level > 30 {
         return BAD_ARGUMENT;
     }
-    let Ok(union) = union_of(alloc, ids) else {
-        return NO_MEMORY;
-    };
-    match outer(alloc, &union, level as u8, most.min(MOST_CELLS)) {
-        Ok(covering) => put_cells(covering.cells(), out, len),
-        Err(CoverFault::TooMany) => TOO_MANY,
-        Err(CoverFault::Memory) => NO_MEMORY,
-    }
+    cover(
+        Side::Outer,
+        ids,
+        level as u8,
+        most.min(MOST_CELLS),
+        out,
+        len,
+    )
 }
 
-/// The cells of a level that lie inside a union, normalized: at most `most` of them, and at most `MOST_CELLS`.
+/// The cells of a level that lie inside a union, normalized: at most `most` of them, and at most `MOST_CELLS`. Of a
+/// list that is not a union the result means nothing.
 #[unsafe(no_mangle)]
 pub extern "C" fn s2u_inner_of(
-    alloc: Global,
     ids: &[u64],
     level: u32,
     most: usize,
@@ -167,28 +169,83 @@ pub extern "C" fn s2u_inner_of(
     len: &mut usize,
 ) -> i32
     ensures made { IsLocal ids.now → level ≤ 30 →
-        MadeOne result (IsNormalForm (inner_set (has_leaf ids.now) level)) out.old out.new len.new
+        MadeInPlace result (IsNormalForm (inner_set (has_leaf ids.now) level)) out.old out.new len.new
         ⊎ (Refused result too_many out.old out.new len.new
         × ((u : List ℕ) → IsNormalForm (inner_set (has_leaf ids.now) level) u →
         min most MOST_CELLS < length u)) }
     ensures most { len.new ≤ min most MOST_CELLS }
-    ensures no_union { (IsLocal ids.now → ⊥) → Refused result no_union out.old out.new len.new }
-    ensures argument { IsLocal ids.now → 30 < level → Refused result bad_argument out.old out.new len.new }
+    ensures status { level ≤ 30 → (result ≡ made) ⊎ ((result ≡ no_room) ⊎ (result ≡ too_many)) }
+    ensures fits { result ≡ made → len.new ≤ length out.new }
+    ensures same_length { length out.new ≡ length out.old }
+    ensures argument { 30 < level → Refused result bad_argument out.old out.new len.new }
 {
     *len = 0;
-    if !is_union(&IdList { ids }) {
-        return NO_UNION;
-    }
     if level > 30 {
         return BAD_ARGUMENT;
     }
-    let Ok(union) = union_of(alloc, ids) else {
-        return NO_MEMORY;
-    };
-    match inner(alloc, &union, level as u8, most.min(MOST_CELLS)) {
-        Ok(covering) => put_cells(covering.cells(), out, len),
-        Err(CoverFault::TooMany) => TOO_MANY,
-        Err(CoverFault::Memory) => NO_MEMORY,
+    cover(
+        Side::Inner,
+        ids,
+        level as u8,
+        most.min(MOST_CELLS),
+        out,
+        len,
+    )
+}
+
+/// Which covering of a union is made.
+#[derive(Clone, Copy)]
+enum Side {
+    Outer,
+    Inner,
+}
+
+/// The covering, if it has at most `bound` cells. It is counted before anything is written, unless the union has no
+/// more cells than that: then no covering has.
+fn cover(side: Side, ids: &[u64], level: u8, bound: usize, out: &mut [u64], len: &mut usize) -> i32
+    requires level { level ≤ 30 }
+    requires len { len.old ≡ 0 }
+    ensures made { IsLocal ids.now →
+        MadeInPlace result (IsNormalForm (covering_of side level (has_leaf ids.now))) out.old out.new len.new
+        ⊎ (Refused result too_many out.old out.new len.new
+        × ((u : List ℕ) → IsNormalForm (covering_of side level (has_leaf ids.now)) u → bound < length u)) }
+    ensures most { len.new ≤ bound }
+    ensures status { (result ≡ made) ⊎ ((result ≡ no_room) ⊎ (result ≡ too_many)) }
+    ensures fits { result ≡ made → len.new ≤ length out.new }
+    ensures same_length { length out.new ≡ length out.old }
+{
+    if is_longer(side, ids, level, bound) {
+        return TOO_MANY;
+    }
+    let n = put_covering(side, ids, level, bound, out);
+    if n > bound {
+        return TOO_MANY;
+    }
+    *len = n;
+    room_status(n, out.len())
+}
+
+/// Whether the covering has more than `bound` cells.
+fn is_longer(side: Side, ids: &[u64], level: u8, bound: usize) -> bool
+    requires { level ≤ 30 }
+    ensures longer { IsLocal ids.now → IsTrue result
+        → (u : List ℕ) → IsNormalForm (covering_of side level (has_leaf ids.now)) u → bound < length u }
+    ensures rest { IsLocal ids.now → (IsTrue result → ⊥)
+        → (u : List ℕ) × IsNormalForm (covering_of side level (has_leaf ids.now)) u × (length u ≤ bound) }
+{
+    ids.len() > bound && put_covering(side, ids, level, bound, &mut []) > bound
+}
+
+/// Puts the covering into the room, as `put_outer` and `put_inner` do.
+fn put_covering(side: Side, ids: &[u64], level: u8, most: usize, out: &mut [u64]) -> usize
+    requires { level ≤ 30 }
+    ensures len { length out.new ≡ length out.old }
+    ensures made { IsLocal ids.now
+        → PutsUpTo most (IsNormalForm (covering_of side level (has_leaf ids.now))) out.old out.new result }
+{
+    match side {
+        Side::Outer => put_outer(&IdList { ids }, level, most, out),
+        Side::Inner => put_inner(&IdList { ids }, level, most, out),
     }
 }
 

@@ -14,9 +14,6 @@ pub(crate) const NO_MEMORY: i32 = -2;
 /// A number or a text does not stand for a cell.
 pub(crate) const NO_CELL: i32 = -3;
 
-/// A list is not normalized.
-pub(crate) const NO_UNION: i32 = -4;
-
 /// An argument is out of its range.
 pub(crate) const BAD_ARGUMENT: i32 = -5;
 

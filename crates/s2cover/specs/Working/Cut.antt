@@ -1,24 +1,8 @@
--- A union's cells, cut to a level.
-use Rattle.std.specs.Prelude.{ℕ, Bool, cond, nat_le, List, map}
+-- A union's cells that have a leaf in a set.
+use Rattle.std.specs.Prelude.{ℕ, Bool, List}
 use Rattle.std.specs.List.{filter}
-use Rattle.s2cell.specs.Cell.{level_of, parent_of, first_leaf, size_of}
+use Rattle.s2cell.specs.Cell.{first_leaf, size_of}
 use Rattle.s2cover.specs.Coverings.{touched}
-
--- whether the level of the cell `c` is at most `k`
-abbrev pub reaches : ℕ → ℕ → Bool
-reaches k c = nat_le (level_of c) k
-
--- the cell `c`, or its ancestor at level `k` if it is deeper
-abbrev pub cut_at : ℕ → ℕ → ℕ
-cut_at k c = cond (reaches k c) c (parent_of c k)
-
--- the cells of `u`, with those deeper than level `k` replaced by their ancestors at level `k`
-abbrev pub cells_cut : ℕ → List ℕ → List ℕ
-cells_cut k u = map (cut_at k) u
-
--- the cells of `u` down to level `k`
-abbrev pub cells_kept : ℕ → List ℕ → List ℕ
-cells_kept k u = filter (reaches k) u
 
 -- some leaf of the cell `c` is in `S`
 abbrev pub meets : (ℕ → Bool) → ℕ → Bool

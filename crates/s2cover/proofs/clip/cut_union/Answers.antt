@@ -2,7 +2,8 @@ use Rattle.std.proofs.Common.{arith, ◌≡◌, All, ◌∙◌, ap, sym}
 use Rattle.std.proofs.lemmas.List.Elements.{All-filter}
 use Rattle.s2cell.specs.Cell.{IsCell}
 use Rattle.s2list.specs.Union.{has_leaf}
-use Rattle.s2cover.specs.Working.Cut.{meets, cells_cut, cells_met}
+use Rattle.s2search.specs.Cut.{cells_cut}
+use Rattle.s2cover.specs.Working.Cut.{meets, cells_met}
 use Rattle.s2cover.specs.Rectangles.{rect_set}
 use Rattle.s2cover.proofs.Clips.{cut_few}
 use Rattle.s2cover.proofs.Parts.{normal_above, cut_above, cut_cells}

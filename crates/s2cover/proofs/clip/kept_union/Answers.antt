@@ -2,9 +2,11 @@ use Rattle.std.proofs.Common.{arith, ◌≡◌, All, ◌≤◌, ◌∙◌, ap, s
 use Rattle.std.proofs.lemmas.List.Elements.{All-filter}
 use Rattle.s2cell.specs.Cell.{IsCell, level_of}
 use Rattle.s2list.specs.Union.{has_leaf}
-use Rattle.s2cover.specs.Working.Cut.{meets, reaches, cells_kept, cells_met}
+use Rattle.s2search.specs.Cut.{reaches, cells_kept}
+use Rattle.s2cover.specs.Working.Cut.{meets, cells_met}
 use Rattle.s2cover.specs.Rectangles.{rect_set}
-use Rattle.s2cover.proofs.Clips.{kept_few, kept_looks, met_few}
+use Rattle.s2search.proofs.Levelling.{kept_few}
+use Rattle.s2cover.proofs.Clips.{kept_looks, met_few}
 use Rattle.s2cover.proofs.Parts.{normal_above, kept_above}
 use Rattle.s2cover.proofs.clip.kept_union.Goals as goal
 

@@ -1,5 +1,5 @@
 use Rattle.std.proofs.Common.{◌≡◌, take}
-use Rattle.s2cover.specs.Working.Cut.{cells_kept}
+use Rattle.s2search.specs.Cut.{cells_kept}
 use Rattle.s2cover.proofs.cut.kept_cells.Given as goal
 
 abbrev pub invariant-loop-cell : goal.invariant-loop-cell

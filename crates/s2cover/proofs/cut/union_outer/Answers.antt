@@ -1,6 +1,6 @@
 use Rattle.std.proofs.Common.{◌≡◌, ℕ, ◌∙◌, ap}
 use Rattle.s2list.specs.Union.{has_leaf, IsLocal, IsNormalForm}
-use Rattle.s2cover.specs.Working.Cut.{cells_cut}
+use Rattle.s2search.specs.Cut.{cells_cut}
 use Rattle.s2cover.specs.Coverings.{outer_set}
 use Rattle.s2cover.proofs.OwnCells.{cut_normal, cut_leaves, same_ok, many_err}
 use Rattle.s2cover.proofs.cut.union_outer.Goals as goal

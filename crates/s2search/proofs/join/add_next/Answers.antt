@@ -2,7 +2,7 @@ use Rattle.std.proofs.Common.{◌≡◌, ◌-◌, ◌+◌, ◌∙◌, get_or, ap
 use Rattle.s2cell.specs.Cell.{first_leaf, size_of}
 use Rattle.s2cell.proofs.CellLemmas.{cell_leaves}
 use Rattle.s2search.proofs.Laying.{pile_run}
-use Rattle.s2search.proofs.Piling.{pile_add}
+use Rattle.s2search.proofs.Piling.{begins_local, pile_add}
 use Rattle.s2search.proofs.join.add_next.Goals as goal
 
 pub returns-then-i-stop-clause-piled : goal.returns-then-i-stop-clause-piled
@@ -39,6 +39,7 @@ returns-clause-piled g c lx ly order S room s =
     ∙ ap first_leaf c.id-x.ensures in
     pile_add S xs ys room c.args.out.now c.add-more.new.out c.args.pile.n c.add-more.result.n i c.args.j c.args.pile.lo
     c.args.pile.hi c.add-more.result.lo c.add-more.result.hi c.id-x.result c.first_of-first.result
-    c.end_of-end.result lx
-    ly s c.requires.there c.id-x.ensures c.first_of-first.ensures c.end_of-end.ensures
+    c.end_of-end.result
+    (begins_local xs lx) (begins_local ys ly) s
+    c.requires.there c.id-x.ensures c.first_of-first.ensures c.end_of-end.ensures
     (λ t. let o = order t in omega arith) c.add-more.ensures.more c.add-more.ensures.apart

@@ -2,7 +2,7 @@ use Rattle.std.proofs.Common.{◌≡◌, ◌<◌, ◌∙◌, length, get_or, ref
 use Rattle.s2cell.specs.Cell.{first_leaf}
 use Rattle.s2list.specs.Union.{has_leaf}
 use Rattle.s2list.specs.Sets.{either}
-use Rattle.s2search.proofs.Piling.{any, pile_none, pile_swap, pile_done}
+use Rattle.s2search.proofs.Piling.{any, begins_local, pile_none, pile_swap, pile_done}
 use Rattle.s2search.proofs.join.put_union.Goals as goal
 
 pub loop-i-init : goal.loop-i-init
@@ -106,6 +106,7 @@ returns-clause-made g c lx ly =
     let ys = g.Y.Cells.ids c.args.ys.now in
     let ny = c.len-y_len.ensures in
     pile_done xs ys c.args.out.now c.loop-j.out c.put_gap.new.out c.loop-j.pile.n c.put_gap.result c.loop-i-2.i
-    c.loop-j.j c.loop-j.pile.lo c.loop-j.pile.hi (either (has_leaf xs) (has_leaf ys)) lx ly
+    c.loop-j.j c.loop-j.pile.lo c.loop-j.pile.hi (either (has_leaf xs) (has_leaf ys))
+    (begins_local xs lx) (begins_local ys ly)
     (c.loop-j.invariant.so_far lx ly) c.loop-j.invariant.done (omega (arith, c.loop-j-test.false)) c.put_gap.ensures.put
     (λ x. refl)

@@ -1,0 +1,33 @@
+use Rattle.std.proofs.Common.{◌≡◌, ◌∙◌, inl, inr, length, refl, sym, arith, rules}
+use Rattle.std.specs.Int.{w32}
+use Rattle.std.proofs.lemmas.Bool.{false≢true}
+use Rattle.std.proofs.lemmas.Int.{to_z-of_z}
+use mir.Val.{SFits}
+use Rattle.s2list.specs.Union.{has_leaf}
+use Rattle.s2union_c.specs.Working.Coverings.{covering_of}
+use Rattle.s2union_c.proofs.Covering.{few_put, many_put}
+use Rattle.s2union_c.proofs.Placed.{placed}
+use Rattle.s2union_c.proofs.coverings.cover.Goals as goal
+
+pub returns-then-is_longer-clause-made : goal.returns-then-is_longer-clause-made
+returns-then-is_longer-clause-made c local =
+    inr ((refl, c.requires.len, refl), c.is_longer.ensures.longer local c.if-is_longer.true)
+
+pub returns-then-n-bound-clause-made : goal.returns-then-n-bound-clause-made
+returns-then-n-bound-clause-made c local =
+    let (v, normal, few) = c.is_longer.ensures.rest local (λ t. false≢true (sym c.if-is_longer.false ∙ t)) in
+    let more = many_put (covering_of c.args.side c.args.level (has_leaf c.args.ids.now)) c.args.bound
+    c.put_covering-n.result c.args.out.now c.put_covering-n.new.out (c.put_covering-n.ensures.made local)
+    (omega (arith, c.if-n-bound.true)) v normal in
+    absurd (omega arith)
+
+pub returns-clause-made : goal.returns-clause-made
+returns-clause-made c local =
+    let fits : SFits w32 c.room_status.result = search rules in
+    let put = few_put (covering_of c.args.side c.args.level (has_leaf c.args.ids.now)) c.args.bound
+    c.put_covering-n.result c.args.out.now c.put_covering-n.new.out (c.put_covering-n.ensures.made local)
+    (omega (arith, c.if-n-bound.false)) in
+    rw (to_z-of_z w32 c.room_status.result fits)
+    (inl (placed _ c.args.out.now c.put_covering-n.new.out c.put_covering-n.result
+    (length c.put_covering-n.new.out) c.room_status.result put refl c.room_status.ensures.fits
+    c.room_status.ensures.short))
