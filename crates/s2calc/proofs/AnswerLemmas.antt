@@ -12,7 +12,7 @@ use Rattle.s2script.specs.Line.{line_of}
 use Rattle.s2calc.specs.Replies.{Reply, text_of, tally_of}
 use Rattle.s2calc.specs.Notes.{WritesNotes, note_of, number_of}
 use Rattle.s2calc.specs.Step.{StepBy, asks_for_file}
-use Rattle.s2calc.specs.Explained.{Point}
+use Rattle.s2calc.specs.Working.Stands.{Point}
 use Rattle.s2calc.specs.Working.Stands.{Answered, AnswersKept}
 
 -- a flush, an answer and a flush

@@ -1,10 +1,8 @@
 -- Lemmas on the calls of a reader and of a writer.
-use Rattle.std.proofs.Common.{◌≡◌, ◌<◌, ℕ, ◌+◌, List, [], ◌∷◌, ◌++◌, Option, None, Some, Result, Ok, Err, refl, sym, ap}
-use Rattle.std.proofs.Common.{append_assoc, append-nil, subst, inr, arith, length-append, OnOk, OnErr, MatchResult}
-use Rattle.s2calc.specs.declared.fault.RunFault.{RunFault}
-use Rattle.s2calc.specs.declared.fault.RunFault.TheVariants.{Output}
+use Rattle.std.proofs.Common.{◌≡◌, ◌<◌, ℕ, ◌+◌, List, [], ◌∷◌, ◌++◌, Option, None, Some, refl, sym, ap}
+use Rattle.std.proofs.Common.{append_assoc, append-nil, subst, arith, length-append}
 use Rattle.s2calc.specs.Calls.{Call, Gains, NoneFailed, LastFlushed, LastFailed, AllWell, Wrote, Flushed, Failed}
-use Rattle.s2calc.specs.CallsOfRun.{AllGave, ReadsOn, ReadsLast, ReadsOf, ReadsOfFault, CallsOf, CallsOfFault}
+use Rattle.s2calc.specs.Reads.{AllGave, ReadsOn, ReadsLast}
 
 pub gains_nil : {A : Type 0} (a : Option (List A)) → Gains a a []
 gains_nil None = refl
@@ -110,16 +108,3 @@ pub reads_end : (a b c : Option (List (Option ℕ))) (times n : ℕ) → ReadsOn
     n ≡ 0 → ReadsLast a c (Some 0)
 reads_end a b c times n p g e = reads_last a b c times (Some 0) p
     (subst (λ (k : ℕ). Gains b c (Some k ∷ [])) e g)
-
--- the end of a run, after calls that didn't fail
-pub calls_of_end : {T : Type 0} (S may : Type 0) (a b c : Option (List Call)) (result : Result T RunFault) →
-    NoneFailed may a b → OnOk result (LastFlushed may b c) → OnErr result (LastFailed may b c)
-    → MatchResult result (λ _. S) (λ fault. fault ≡ Output) → CallsOf may a c result
-calls_of_end S may a b c (Ok told) n flushed failed fault = last_flushed_after may a b c n flushed
-calls_of_end S may a b c (Err fault) n flushed failed is =
-    subst (CallsOfFault may a c) (sym is) (last_failed_after may a b c n failed)
-
-pub reads_of_end : {T : Type 0} (S : Type 0) (a b : Option (List (Option ℕ))) (result : Result T RunFault) →
-    ReadsLast a b (Some 0) → MatchResult result (λ _. S) (λ fault. fault ≡ Output) → ReadsOf a b result
-reads_of_end S a b (Ok told) r fault = r
-reads_of_end S a b (Err fault) r is = subst (ReadsOfFault a b) (sym is) (inr r)

@@ -10,10 +10,11 @@ use Rattle.s2calc.specs.declared.limits.TheConstants.{KEPT}
 use Rattle.s2calc.specs.declared.engine.Tally.{Tally}
 use Rattle.s2calc.specs.declared.progress.Progress.{Progress}
 use Rattle.s2script.specs.Lines.{but_last, last_line, lines}
-use Rattle.s2calc.specs.Replies.{Reply, text_of, texts, tally_of, IsCutOff}
+use Rattle.s2calc.specs.Replies.{Reply, text_of, texts, tally_of}
+use Rattle.s2calc.specs.Working.Stands.{IsCutOff}
 use Rattle.s2calc.specs.Step.{Step}
 use Rattle.s2calc.specs.Run.{Steps}
-use Rattle.s2calc.specs.Explained.{Point, Explains}
+use Rattle.s2calc.specs.Working.Stands.{Point, Explains}
 use Rattle.s2calc.specs.Working.Stands.{Stands, Answered, AnsweredInPart, AnsweredUnflushed, Ended, EndsInPart}
 use Rattle.s2calc.specs.Working.Stands.{EndsUnflushed, EndsBefore}
 use Rattle.s2calc.proofs.LineLemmas.{lines_begun, but_last-append}

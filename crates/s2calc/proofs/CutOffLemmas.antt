@@ -8,16 +8,18 @@ use Rattle.std.specs.Io.KnownBytes.{Consumes}
 use Rattle.s2script.specs.Lines.{IsUnbroken, ended, lines, pieces, whole_lines, but_last, last_piece}
 use Rattle.s2script.specs.Lines.{last_line, unended}
 use Rattle.s2calc.specs.World.{World}
-use Rattle.s2calc.specs.Replies.{Reply, text_of, texts, IsCutOff}
+use Rattle.s2calc.specs.Replies.{Reply, text_of, texts}
+use Rattle.s2calc.specs.Working.Stands.{IsCutOff}
 use Rattle.s2script.specs.Line.{line_of}
 use Rattle.s2calc.specs.Step.{Step, StepBy}
-use Rattle.s2calc.specs.Run.{Ends, StopsReading, StopsWriting, Steps, WereReadWhole}
+use Rattle.s2calc.specs.Run.{Known, Ran, WholeLines, InsideAnswer, Steps, WereReadWhole}
 use Rattle.s2calc.specs.Laws.{SameWorld, AllPlain, IsPlain}
-use Rattle.s2calc.specs.LawsScripts.{SameStop}
+use Rattle.s2calc.specs.LawsScripts.{SameStart, SameEnd}
 use Rattle.s2calc.proofs.LineLemmas.{BeginsWith-more, pieces_line}
 use Rattle.s2calc.proofs.CloseLemmas.{but_last-more}
 use Rattle.s2calc.proofs.OneRun.{one_run_of, one_line, unchanged, still_tells}
-use Rattle.s2calc.proofs.ScriptLemmas.{written_is}
+use Rattle.s2calc.proofs.ReadLemmas.{cut_off}
+use Rattle.s2calc.proofs.ScriptLemmas.{written_is, same_written}
 
 -- ---- cut off while reading
 
@@ -27,27 +29,24 @@ read_one : (whole script other : List ℕ) (left : Option (List ℕ)) → Consum
 read_one whole script other None p q = absurd p
 read_one whole script other (Some left) p q = append_cancel_right script other left (sym p ∙ q)
 
-pub one_end_of_input : (ends ends' : Ends) (old old' new new' : World) (script out : List ℕ) →
-    SameWorld old old' → old.files.tells ≡ true → ends.input_old ≡ Some script → ends'.input_old ≡ Some script
-    → ends.input_new ≡ ends'.input_new → ends.output_old ≡ Some out → ends'.output_old ≡ Some out
-    → (run : StopsReading ends old new) (other : StopsReading ends' old' new') → AllPlain run.replies →
-    AllPlain other.replies → SameStop ends ends' run.replies other.replies new new'
-one_end_of_input ends ends' old old' new new' script out a t i i' n o o' run other p p' =
-    let read : Consumes (Some script) ends.input_new run.script =
-    subst (λ (known : Option (List ℕ)). Consumes known ends.input_new run.script) i run.read in
-    let read' : Consumes (Some script) ends'.input_new other.script =
-    subst (λ (known : Option (List ℕ)). Consumes known ends'.input_new other.script) i' other.read in
+pub one_end_of_input : (old old' new new' : Known) (script out : List ℕ) → SameStart old old' script out →
+    new.input ≡ new'.input → (run : Ran old new) (other : Ran old' new') → WholeLines run → WholeLines other
+    → AllPlain run.replies → AllPlain other.replies → SameEnd new new' run.replies other.replies
+one_end_of_input old old' new new' script out start n run other w w' p p' =
+    let read : Consumes (Some script) new.input run.script =
+    subst (λ (known : Option (List ℕ)). Consumes known new.input run.script) start.input run.read in
+    let read' : Consumes (Some script) new'.input other.script =
+    subst (λ (known : Option (List ℕ)). Consumes known new'.input other.script) start.input' other.read in
     let same : run.script ≡ other.script =
-    read_one script run.script other.script ends'.input_new
+    read_one script run.script other.script new'.input
     (subst (λ (left : Option (List ℕ)). Consumes (Some script) left run.script) n read) read' in
-    let steps : Steps old (whole_lines other.script) run.replies new =
-    subst (λ (b : List ℕ). Steps old (whole_lines b) run.replies new) same run.run in
-    let one = one_run_of old old' new new' (whole_lines other.script) run.replies other.replies a t steps
-    other.run p p' in
+    let steps : Steps old.world other.done run.replies new.world =
+    subst (λ (ls : List (List ℕ)). Steps old.world ls run.replies new.world)
+    (w.0 ∙ ap whole_lines same ∙ sym w'.0) run.steps in
+    let one = one_run_of old.world old'.world new.world new'.world other.done run.replies other.replies start.world
+    start.tells steps other.steps p p' in
     record {
-      written = written_is ends.output_old ends.output_new out (texts run.replies) o run.written
-          ∙ ap (λ (rs : List Reply). Some (out ++ texts rs)) one.0
-          ∙ sym (written_is ends'.output_old ends'.output_new out (texts other.replies) o' other.written);
+      written = same_written old old' new new' script out start run other w.1 w'.1 one.0;
       replies_are = one.0;
       world = one.1;
     }
@@ -188,24 +187,22 @@ read_lines whole script (Some left) done c (inl (rest, begins)) =
 read_lines whole script (Some left) done c (inr (are, ends)) =
     ([], append-nil done ∙ are ∙ ap lines (sym (c ∙ ap (λ l. script ++ l) ends ∙ append-nil script)))
 
-pub one_end_of_output : (ends ends' : Ends) (old old' new new' : World) (script out : List ℕ) →
-    SameWorld old old' → old.files.tells ≡ true → ends.input_old ≡ Some script → ends'.input_old ≡ Some script
-    → ends.output_old ≡ Some out → ends'.output_old ≡ Some out → ends.output_new ≡ ends'.output_new
-    → (run : StopsWriting ends old new) (other : StopsWriting ends' old' new') → AllPlain run.replies →
-    AllPlain other.replies → SameStop ends ends' run.replies other.replies new new'
-one_end_of_output ends ends' old old' new new' script out a t i i' o o' n run other p p' =
-    let read : Consumes (Some script) ends.input_new run.script =
-    subst (λ (known : Option (List ℕ)). Consumes known ends.input_new run.script) i run.read in
-    let read' : Consumes (Some script) ends'.input_new other.script =
-    subst (λ (known : Option (List ℕ)). Consumes known ends'.input_new other.script) i' other.read in
-    let d = read_lines script run.script ends.input_new run.done read run.read_whole in
-    let d' = read_lines script other.script ends'.input_new other.done read' other.read_whole in
-    let w = written_is ends.output_old ends.output_new out run.bytes o run.written in
-    let w' = written_is ends'.output_old ends'.output_new out other.bytes o' other.written in
-    let known : Some (out ++ run.bytes) ≡ Some (out ++ other.bytes) = sym w ∙ n ∙ w' in
-    let longer : out ++ run.bytes ≡ out ++ other.bytes = cc in
-    let same : other.bytes ≡ run.bytes = sym (append_cancel_left out run.bytes other.bytes longer) in
-    let one = one_cut old old' new new' run.done other.done d.0 d'.0 run.replies other.replies run.bytes a t
-    (d.1 ∙ sym d'.1) run.run other.run p p' run.cut_off
-    (subst (λ (b : List ℕ). IsCutOff b other.replies) same other.cut_off) in
+pub one_end_of_output : (old old' new new' : Known) (script out : List ℕ) → SameStart old old' script out →
+    new.output ≡ new'.output → (run : Ran old new) (other : Ran old' new') → InsideAnswer run → InsideAnswer other
+    → AllPlain run.replies → AllPlain other.replies → SameEnd new new' run.replies other.replies
+one_end_of_output old old' new new' script out start n run other s s' p p' =
+    let read : Consumes (Some script) new.input run.script =
+    subst (λ (known : Option (List ℕ)). Consumes known new.input run.script) start.input run.read in
+    let read' : Consumes (Some script) new'.input other.script =
+    subst (λ (known : Option (List ℕ)). Consumes known new'.input other.script) start.input' other.read in
+    let d = read_lines script run.script new.input run.done read s.0 in
+    let d' = read_lines script other.script new'.input other.done read' s'.0 in
+    let w = written_is old.output new.output out run.written start.output run.appended in
+    let w' = written_is old'.output new'.output out other.written start.output' other.appended in
+    let known : Some (out ++ run.written) ≡ Some (out ++ other.written) = sym w ∙ n ∙ w' in
+    let longer : out ++ run.written ≡ out ++ other.written = cc in
+    let same : other.written ≡ run.written = sym (append_cancel_left out run.written other.written longer) in
+    let one = one_cut old.world old'.world new.world new'.world run.done other.done d.0 d'.0 run.replies other.replies
+    run.written start.world start.tells (d.1 ∙ sym d'.1) run.steps other.steps p p' (cut_off old new run s.1)
+    (subst (λ (b : List ℕ). IsCutOff b other.replies) same (cut_off old' new' other s'.1)) in
     record { written = n; replies_are = one.0; world = one.1 }

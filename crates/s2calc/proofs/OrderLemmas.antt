@@ -1,33 +1,33 @@
 -- Lemmas on what an observer sees of a run.
 use Rattle.std.proofs.Common.{◌≡◌, ◌∙◌, ℕ, ◌+◌, ◌<◌, ◌⊎◌, Bool, true, List, [], ◌∷◌, ◌++◌, length, take}
-use Rattle.std.proofs.Common.{Option, None, Some, Result, Ok, Err, OnOk, MatchResult}
+use Rattle.std.proofs.Common.{Option, None, Some, Result, Ok, Err, OnOk, OnErr}
 use Rattle.std.proofs.Common.{refl, sym, ap, subst, append_assoc, append-nil, arith, length-append, inl, inr}
 use Rattle.std.proofs.lemmas.List.Concat.{flat_map-append}
-use Rattle.std.specs.Io.KnownBytes.{Appends, Consumes}
+use Rattle.std.specs.Io.KnownBytes.{Appends, Consumes, IsAtEnd}
 use Rattle.std.proofs.KnownBytes.{Appends-kept, Appends-trans}
 use Rattle.s2shelf.specs.Shelf.{Files}
 use Rattle.s2script.specs.Line.{line_of}
 use Rattle.s2script.specs.Lines.{lines, whole_lines, IsUnbroken, BeginsWith}
 use Rattle.s2calc.specs.declared.engine.Tally.{Tally}
 use Rattle.s2calc.specs.declared.fault.RunFault.{RunFault}
-use Rattle.s2calc.specs.declared.fault.RunFault.TheVariants.{Input, Output}
 use Rattle.s2calc.specs.declared.progress.Progress.{Progress}
 use Rattle.s2calc.specs.declared.limits.TheConstants.{KEPT}
 use Rattle.s2calc.specs.World.{World}
 use Rattle.s2calc.specs.Replies.{Reply, text_of, texts}
 use Rattle.s2calc.specs.Step.{asks_for_file}
-use Rattle.s2calc.specs.Run.{Steps}
-use Rattle.s2calc.specs.Explained.{Point}
-use Rattle.s2calc.specs.Calls.{Call, NoneFailed}
-use Rattle.s2calc.specs.Working.Stands.{Stands, Answered, StandsAfter}
+use Rattle.s2calc.specs.Run.{Steps, Known, Runs}
+use Rattle.s2calc.specs.Working.Stands.{Point}
+use Rattle.s2calc.specs.Calls.{Call, NoneFailed, LastFlushed, LastFailed}
+use Rattle.s2calc.specs.Reads.{ReadsLast}
+use Rattle.s2calc.specs.Working.Stands.{point, Stands, Answered, StandsAfter, Closes}
 use Rattle.s2calc.specs.Moments.{Event, Came, NotCame, LineBegins, LineEnds, Moment, moment, bytes_of}
 use Rattle.s2calc.specs.Moments.{bytes_read, begun_in, ended_in, Adds, AddsOne}
 use Rattle.s2calc.specs.Order.{HasEnded, GoneOut, ReadsWhen, LineWhen, EachMay, InOrder, Ordered}
 use Rattle.s2calc.specs.Working.Seen.{Settled, LineSeen, MoreSeen, LastSeen, SeenSoFar}
-use Rattle.s2calc.proofs.CallLemmas.{none_failed_more, last_flushed_after}
+use Rattle.s2calc.proofs.CallLemmas.{none_failed_more, last_flushed_after, last_failed_after}
 use Rattle.s2calc.proofs.LineLemmas.{every-append, whole_lines_begun, BeginsWith-more}
 use Rattle.s2calc.proofs.CloseLemmas.{lines_one, lines_none}
-use Rattle.s2calc.proofs.ReadLemmas.{Appends-texts}
+use Rattle.s2calc.proofs.ReadLemmas.{Appends-texts, finishes, stops_at_end}
 use Rattle.s2calc.proofs.StepLemmas.{line_of-kept}
 use Rattle.s2calc.proofs.TakeInLemmas.{Stands-more, Steps-line, begins_line, texts-push}
 
@@ -350,18 +350,7 @@ module _ {W S : Type 0} (contents : W → Option (List ℕ)) (calls : W → Opti
 
   module _ (world : World) (first : W) where
     pub SeenSoFar-start : SeenSoFar contents calls is_sent files may_flush world first [] []
-    SeenSoFar-start = record { each = tt; read = refl; begun = refl; ended = refl }
-
-    pub InOrder-here : (input_old input_new : Option (List ℕ)) (script : List ℕ) (ms : List (Moment W S)) →
-        SeenSoFar contents calls is_sent files may_flush world first script ms → Consumes input_old input_new script
-        → InOrder contents calls is_sent files may_flush world first input_old input_new whole_lines ms
-    InOrder-here input_old input_new script ms seen read =
-        record {
-          each = seen.each;
-          read = subst (Consumes input_old input_new) (sym seen.read) read;
-          begun = seen.begun ∙ ap (λ b. length (whole_lines b)) (sym seen.read);
-          ended = seen.ended ∙ ap (λ b. length (whole_lines b)) (sym seen.read);
-        }
+    SeenSoFar-start = record { each = tt; read = refl; begins = refl; ends = refl }
 
   module _ (start : Point) (script : List ℕ) (replies : List Reply) (now : Point) (progress : Progress)
       (s : Stands start script replies now progress) (first old writer : W) (shelf : S)
@@ -387,27 +376,25 @@ module _ {W S : Type 0} (contents : W → Option (List ℕ)) (calls : W → Opti
         }
 
     -- a read failed
-    pub InOrder-failed : (input_old input_new : Option (List ℕ)) (ms ns : List (Moment W S)) →
+    pub SeenSoFar-failed : (ms ns : List (Moment W S)) →
         SeenSoFar contents calls is_sent files may_flush start.world first script ms
-        → ns ≡ moment NotCame writer shelf ∷ [] → Consumes input_old input_new script
-        → InOrder contents calls is_sent files may_flush start.world first input_old input_new whole_lines (ms ++ ns)
-    InOrder-failed input_old input_new ms ns seen e read =
+        → ns ≡ moment NotCame writer shelf ∷ []
+        → SeenSoFar contents calls is_sent files may_flush start.world first script (ms ++ ns)
+    SeenSoFar-failed ms ns seen e =
         let none : bytes_read ns ≡ [] = ap bytes_read e in
         let begun : begun_in ns ≡ 0 = ap begun_in e in
         let ended : ended_in ns ≡ 0 = ap ended_in e in
-        let same : bytes_read (ms ++ ns) ≡ script = bytes_read-quiet ms ns none ∙ seen.read in
-        let count = ap (λ b. length (whole_lines b)) same in
         let all_begun = begun_in-append ms ns in
         let all_ended = ended_in-append ms ns in
-        let first_begun = seen.begun in
-        let first_ended = seen.ended in
+        let first_begun = seen.begins in
+        let first_ended = seen.ends in
         record {
           each = EachMay-append start.world first [] ms ns seen.each
               (subst (λ (k : List (Moment W S)). EachMay contents calls is_sent files may_flush start.world first ms k)
               (sym e) (reads_when NotCame ms seen, tt));
-          read = subst (Consumes input_old input_new) (sym same) read;
-          begun = omega (arith, begun, all_begun, first_begun, count);
-          ended = omega (arith, ended, all_ended, first_ended, count);
+          read = bytes_read-quiet ms ns none ∙ seen.read;
+          begins = omega (arith, begun, all_begun, first_begun);
+          ends = omega (arith, ended, all_ended, first_ended);
         }
 
     module _ (bytes : List ℕ) (ms ns ks : List (Moment W S))
@@ -428,14 +415,14 @@ module _ {W S : Type 0} (contents : W → Option (List ℕ)) (calls : W → Opti
       came_begun =
           let none : begun_in ns ≡ 0 = ap begun_in e in
           let all = begun_in-append ms ns in
-          let before = seen.begun in
+          let before = seen.begins in
           omega (arith, none, all, before)
 
       came_ended : ended_in (ms ++ ns) ≡ length (whole_lines script)
       came_ended =
           let none : ended_in ns ≡ 0 = ap ended_in e in
           let all = ended_in-append ms ns in
-          let before = seen.ended in
+          let before = seen.ends in
           omega (arith, none, all, before)
 
       out_here : Appends (contents first) (contents writer) (texts replies)
@@ -458,16 +445,16 @@ module _ {W S : Type 0} (contents : W → Option (List ℕ)) (calls : W → Opti
             each = EachMay-append start.world first [] (ms ++ ns) ks came_each
                 (more.each first (ms ++ ns) [] (came_read ∙ sym (append-nil (script ++ bytes))) out_here well_here);
             read = bytes_read-quiet (ms ++ ns) ks more.none_read ∙ came_read;
-            begun = omega (arith, begun, more_begun, all_begun);
-            ended = omega (arith, ended, more_ended, all_ended);
+            begins = omega (arith, begun, more_begun, all_begun);
+            ends = omega (arith, ended, more_ended, all_ended);
           }
 
       -- the reader is at its end, and a last line was carried out
-      pub InOrder-last : (input_old input_new : Option (List ℕ)) → bytes ≡ [] → Consumes input_old input_new script →
+      pub InOrder-last : bytes ≡ [] →
           LastSeen contents calls is_sent files may_flush start.world script replies writer ks
-          → InOrder contents calls is_sent files may_flush start.world first input_old input_new lines
-          ((ms ++ ns) ++ ks) × HasEnded ((ms ++ ns) ++ ks)
-      InOrder-last input_old input_new none read last =
+          → InOrder contents calls is_sent files may_flush start.world first script (length (lines script))
+          (length (lines script)) ((ms ++ ns) ++ ks) × HasEnded ((ms ++ ns) ++ ks)
+      InOrder-last none last =
           let begun = came_begun in
           let ended = came_ended in
           let last_begun = last.begun in
@@ -475,8 +462,6 @@ module _ {W S : Type 0} (contents : W → Option (List ℕ)) (calls : W → Opti
           let all_begun = begun_in-append (ms ++ ns) ks in
           let all_ended = ended_in-append (ms ++ ns) ks in
           let here : bytes_read (ms ++ ns) ≡ script = came_read ∙ ap (λ b. script ++ b) none ∙ append-nil script in
-          let all : bytes_read ((ms ++ ns) ++ ks) ≡ script = bytes_read-quiet (ms ++ ns) ks last.none_read ∙ here in
-          let count = ap (λ b. length (lines b)) all in
           let at_end : HasEnded (ms ++ ns) = record {
             before = ms;
             last = moment (Came bytes) writer shelf;
@@ -487,9 +472,9 @@ module _ {W S : Type 0} (contents : W → Option (List ℕ)) (calls : W → Opti
             record {
               each = EachMay-append start.world first [] (ms ++ ns) ks came_each
                   (last.each first (ms ++ ns) here at_end out_here well_here);
-              read = subst (Consumes input_old input_new) (sym all) read;
-              begun = omega (arith, begun, last_begun, all_begun, count);
-              ended = omega (arith, ended, last_ended, all_ended, count);
+              read = bytes_read-quiet (ms ++ ns) ks last.none_read ∙ here;
+              begins = omega (arith, begun, last_begun, all_begun);
+              ends = omega (arith, ended, last_ended, all_ended);
             },
             HasEnded-more (ms ++ ns) ks at_end,
           )
@@ -503,24 +488,37 @@ module _ {W S : Type 0} (contents : W → Option (List ℕ)) (calls : W → Opti
     SeenSoFar-read bytes a b c d p q r =
         Adds-three a b c d _ _ _ _ (λ ms ns ks seen e more. SeenSoFar-more bytes ms ns ks seen e more) p q r
 
-    -- a read failed
-    pub Ordered-failed : (input_old input_new : Option (List ℕ)) (a b c : Option (List (Moment W S))) →
-        Adds a b (SeenSoFar contents calls is_sent files may_flush start.world first script)
-        → AddsOne b c NotCame writer shelf → Consumes input_old input_new script
-        → Adds a c (InOrder contents calls is_sent files may_flush start.world first input_old input_new whole_lines)
-    Ordered-failed input_old input_new a b c p q read =
-        Adds-trans a b c _ _ _ (λ ms ns seen e. InOrder-failed input_old input_new ms ns seen e read) p q
-
     -- the reader is at its end
-    pub Ordered-end : (X : Type 0) (input_old input_new : Option (List ℕ)) (bytes : List ℕ)
-        (a b c d : Option (List (Moment W S))) (result : Result Tally RunFault) →
+    pub Ordered-end : {T E : Type 0} (bytes : List ℕ) (a b c d : Option (List (Moment W S))) (result : Result T E) →
         Adds a b (SeenSoFar contents calls is_sent files may_flush start.world first script)
-        → AddsOne b c (Came bytes) writer shelf → bytes ≡ [] → Consumes input_old input_new script
+        → AddsOne b c (Came bytes) writer shelf → bytes ≡ []
         → OnOk result (Adds c d (LastSeen contents calls is_sent files may_flush start.world script replies writer))
-        → MatchResult result (λ _. X) (λ fault. fault ≡ Output)
-        → Ordered contents calls is_sent files may_flush start.world first input_old input_new a d result
-    Ordered-end X input_old input_new bytes a b c d (Ok tally) p q none read last fault =
-        Adds-three a b c d _ _ _ _
-        (λ ms ns ks seen e l. InOrder-last bytes ms ns ks seen e input_old input_new none read l) p q last
-    Ordered-end X input_old input_new bytes a b c d (Err other) p q none read last fault =
-        λ is_input. let bad : Input ≡ Output = sym is_input ∙ fault in absurd cc
+        → OnOk result (Adds a d (λ ks. InOrder contents calls is_sent files may_flush start.world first script
+        (length (lines script)) (length (lines script)) ks × HasEnded ks))
+    Ordered-end bytes a b c d (Ok tally) p q none last =
+        Adds-three a b c d _ _ _ _ (λ ms ns ks seen e l. InOrder-last bytes ms ns ks seen e none l) p q last
+    Ordered-end bytes a b c d (Err other) p q none last = tt
+
+  -- the end of a run that has come to the end of its script
+  pub Runs-end : (old new : Known) (script : List ℕ) (replies : List Reply) (first : W) (output : Option (List ℕ))
+      (a d : Option (List (Moment W S))) (mid : Option (List Call)) (result : Result Tally RunFault) →
+      Consumes old.input new.input script → IsAtEnd new.input → Appends old.output output (texts replies)
+      → ReadsLast old.reads new.reads (Some 0) → NoneFailed may_flush old.calls mid
+      → Closes may_flush (point old.world old.noted) script replies (point new.world new.noted) output new.output result
+      → OnOk result (LastFlushed may_flush mid new.calls) → OnErr result (LastFailed may_flush mid new.calls)
+      → OnOk result (Adds a d (λ ks. InOrder contents calls is_sent files may_flush old.world first script
+      (length (lines script)) (length (lines script)) ks × HasEnded ks))
+      → (run : Runs may_flush old new result)
+      × Ordered contents calls is_sent files may_flush old.world first run.ran a d result
+  Runs-end old new script replies first output a d mid (Ok tally) r e w reads n closes flushed failed order = (
+    finishes old new may_flush script replies output r e w tally closes reads
+        (last_flushed_after may_flush old.calls mid new.calls n flushed),
+    order,
+  )
+  Runs-end old new script replies first output a d mid (Err fault) r e w reads n closes flushed failed order =
+      subst (λ (f : RunFault). (run : Runs may_flush old new (Err f))
+      × Ordered contents calls is_sent files may_flush old.world first run.ran a d (Err f)) (sym closes.0) (
+        stops_at_end old new may_flush script replies output r e w (inr reads)
+            (last_failed_after may_flush old.calls mid new.calls n failed) closes.1,
+        λ is_input. absurd cc,
+      )

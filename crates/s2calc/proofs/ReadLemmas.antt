@@ -1,24 +1,24 @@
 -- Lemmas on a whole run.
-use Rattle.std.proofs.Common.{◌≡◌, ◌∙◌, ℕ, List, [], ◌++◌, Option, None, Some, Result, Ok, Err, MatchResult, take}
-use Rattle.std.proofs.Common.{refl, sym, ap, subst, append-nil, ◌⊎◌, inl, inr}
+use Rattle.std.proofs.Common.{◌≡◌, ◌∙◌, ◌<◌, ℕ, List, [], ◌∷◌, ◌++◌, Option, Some, Ok, Err}
+use Rattle.std.proofs.Common.{length, take, refl, sym, ap, subst, append-nil, arith}
+use Rattle.std.proofs.Common.{◌⊎◌, inl, inr}
 use Rattle.std.proofs.lemmas.List.Concat.{flat_map-append}
-use Rattle.std.proofs.lemmas.Result.{MatchResult-weaker}
-use Rattle.std.specs.Io.KnownBytes.{Appends, Consumes, Keeps, IsAtEnd, append_known}
-use Rattle.std.proofs.KnownBytes.{Appends-trans, Appends-kept, Consumes-trans, Consumes-kept}
+use Rattle.std.specs.Io.KnownBytes.{Appends, Consumes, IsAtEnd}
+use Rattle.std.proofs.KnownBytes.{Appends-nil, Appends-trans, Appends-kept, Consumes-nil, Consumes-trans}
 use Rattle.s2calc.specs.declared.engine.Tally.{Tally}
 use Rattle.s2calc.specs.declared.progress.Progress.{Progress}
-use Rattle.s2calc.specs.declared.fault.RunFault.{RunFault}
 use Rattle.s2calc.specs.declared.fault.RunFault.TheVariants.{Input, Output, Memory}
-use Rattle.s2script.specs.Lines.{lines}
+use Rattle.s2script.specs.Lines.{lines, whole_lines, but_last}
 use Rattle.s2calc.specs.Replies.{Reply, text_of, texts}
-use Rattle.s2calc.specs.Run.{Steps, Ends, Finishes, StopsReading, StopsWriting, StopsFlushing, StopsAtFile, Runs}
-use Rattle.s2calc.specs.Run.{RunsPromptly, Faults, PromptFaults, with_waiting}
-use Rattle.s2calc.specs.Explained.{Point, Explains, FinishesExplained, StopsReadingExplained, StopsWritingExplained}
-use Rattle.s2calc.specs.Explained.{StopsFlushingExplained, StopsAtFileExplained, ExplainedFaults, RunsExplained}
-use Rattle.s2calc.specs.Working.Stands.{Stands, StopsInside, StopsBeside, Ended, EndsInPart, EndsUnflushed, EndsBefore}
-use Rattle.s2calc.specs.Working.Stands.{Closes, FaultsBy, RunsBy}
+use Rattle.s2calc.specs.Notes.{WritesNotes, notes_of}
+use Rattle.s2calc.specs.Calls.{NoneFailed, LastFlushed, LastFailed}
+use Rattle.s2calc.specs.Reads.{ReadsLast, ReadsStop, ReadsWell}
+use Rattle.s2calc.specs.Run.{Steps, Known, Ran, came_out, BesideFile, Runs}
+use Rattle.s2calc.specs.Working.Stands.{Explains, IsCutOff, point, Stands, StopsInside, StopsBeside, Ended}
+use Rattle.s2calc.specs.Working.Stands.{EndsInPart, EndsUnflushed, EndsBefore}
 use Rattle.s2calc.proofs.LineLemmas.{whole_lines_begun}
 use Rattle.s2calc.proofs.CloseLemmas.{IsCutOff-after}
+use Rattle.s2calc.proofs.NoteLemmas.{WritesNotes-none}
 
 pub Consumes-none : (a b c : Option (List ℕ)) (bs buf : List ℕ) (n : ℕ) → n ≡ 0 → Consumes a b bs →
     Consumes b c (take n buf) → Consumes a c bs
@@ -31,201 +31,169 @@ pub Appends-texts : (a b c : Option (List ℕ)) (before more : List Reply) → A
 Appends-texts a b c before more p q = subst (Appends a c) (sym (flat_map-append text_of before more))
     (Appends-trans a b c (texts before) (texts more) p q)
 
-module _ (ends : Ends) (old new : Point) (script : List ℕ) (replies : List Reply) where
-  pub StopsReading-here : (input : Option (List ℕ)) (progress : Progress) →
-      Consumes ends.input_old input script → Keeps input ends.input_new → Stands old script replies new progress
-      → Appends ends.output_old ends.output_new (texts replies) → StopsReadingExplained ends old new
-  StopsReading-here input progress r k s w =
-      let whole = whole_lines_begun script s.done s.rest s.begins s.unbroken in
-      let run : StopsReading ends old.world new.world = record {
-        script = script;
-        replies = replies;
-        read = Consumes-kept ends.input_old input ends.input_new script r k;
-        run = subst (λ ls. Steps old.world ls replies new.world) (sym whole) s.run;
-        written = w;
-      } in (run, subst (λ ls. Explains old new ls replies) (sym whole) s.noted)
+pub came_out-some : (replies : List Reply) (left : List ℕ) → 0 < length left → came_out replies left ≡ but_last replies
+came_out-some replies [] h = absurd (omega arith)
+came_out-some replies (byte ∷ left) h = refl
 
-  pub StopsWriting-inside : (input output : Option (List ℕ)) (chunk : List ℕ) →
-      Consumes ends.input_old input script → Consumes input ends.input_new chunk →
-      Appends ends.output_old output (texts replies)
-      → StopsInside old script replies chunk new output ends.output_new → StopsWritingExplained ends old new
-  StopsWriting-inside input output chunk r q w s =
-      let run : StopsWriting ends old.world new.world = record {
-        script = script ++ chunk;
-        replies = replies ++ s.more;
-        done = s.done;
-        bytes = texts replies ++ s.bytes;
-        read = Consumes-trans ends.input_old input ends.input_new script chunk r q;
-        read_whole = inl (s.rest, s.begins);
-        run = s.run;
-        written = Appends-trans ends.output_old output ends.output_new (texts replies) s.bytes w s.written;
-        cut_off = IsCutOff-after replies s.more s.bytes s.cut_off;
-      } in (run, s.noted)
+module _ (old new : Known) where
+  module _ (script : List ℕ) (done : List (List ℕ)) (replies : List Reply) (read : Consumes old.input new.input script)
+      (steps : Steps old.world done replies new.world) where
+    -- all answers were written
+    abbrev pub all_came : Appends old.output new.output (texts replies) →
+        Explains (point old.world old.noted) (point new.world new.noted) done replies → Ran old new
+    all_came w n = record {
+      script = script;
+      done = done;
+      replies = replies;
+      written = texts replies;
+      left = [];
+      read = read;
+      steps = steps;
+      appended = w;
+      texts_are = sym (append-nil (texts replies));
+      all_but_last = ([], sym (append-nil (texts replies)));
+      noted = n;
+    }
 
-  pub StopsAtFile-beside : (input output : Option (List ℕ)) (chunk : List ℕ) →
-      Consumes ends.input_old input script → Consumes input ends.input_new chunk →
-      Appends ends.output_old output (texts replies)
-      → StopsBeside old script replies chunk new output ends.output_new → StopsAtFileExplained ends old new
-  StopsAtFile-beside input output chunk r q w s =
-      let run : StopsAtFile ends old.world new.world = record {
-        script = script ++ chunk;
-        replies = replies ++ s.more;
-        before = s.before;
-        line = s.line;
-        done = s.done;
-        read = Consumes-trans ends.input_old input ends.input_new script chunk r q;
-        read_whole = inl (s.rest, s.begins);
-        has_file = s.has_file;
-        done_are = s.done_are;
-        run = s.run;
-        written = Appends-texts ends.output_old output ends.output_new replies s.more w s.written;
-      } in (run, s.noted)
+    -- some bytes of the last answer are missing
+    abbrev pub last_cut : (bytes : List ℕ) → Appends old.output new.output bytes → IsCutOff bytes replies →
+        Explains (point old.world old.noted) (point new.world new.noted) done (but_last replies) → Ran old new
+    last_cut bytes w k n =
+        let same = sym (came_out-some replies k.rest k.lacking) in
+        let more = k.all_but_last in
+        record {
+          script = script;
+          done = done;
+          replies = replies;
+          written = bytes;
+          left = k.rest;
+          read = read;
+          steps = steps;
+          appended = w;
+          texts_are = k.beginning;
+          all_but_last = (more.0, subst (λ rs. bytes ≡ texts rs ++ more.0) same more.1);
+          noted = subst (λ rs. WritesNotes old.noted (notes_of done rs) new.noted) same n;
+        }
 
-  -- a line that ends in the chunk stopped the run
-  pub Faults-inside : (may_fail : Type 0) (input output : Option (List ℕ)) (chunk : List ℕ) →
-      Consumes ends.input_old input script → Consumes input ends.input_new chunk →
-      Appends ends.output_old output (texts replies)
-      → StopsInside old script replies chunk new output ends.output_new
-      ⊎ (may_fail × StopsBeside old script replies chunk new output ends.output_new)
-      → FaultsBy may_fail Output ends old new
-  Faults-inside may_fail input output chunk r q w (inl s) = inr (inl (StopsWriting-inside input output chunk r q w s))
-  Faults-inside may_fail input output chunk r q w (inr s) =
-      inr (inr (inr (s.0, StopsAtFile-beside input output chunk r q w s.1)))
+  -- an answer that lacks some bytes
+  pub cut_off : (ran : Ran old new) → 0 < length ran.left → IsCutOff ran.written ran.replies
+  cut_off ran h =
+      let more = ran.all_but_last in
+      record {
+        rest = ran.left;
+        beginning = ran.texts_are;
+        lacking = h;
+        all_but_last = (
+          more.0,
+          subst (λ rs. ran.written ≡ texts rs ++ more.0) (came_out-some ran.replies ran.left h) more.1,
+        );
+      }
 
-  Finishes-here : (output : Option (List ℕ)) (tally : Tally) → Consumes ends.input_old ends.input_new script →
-      IsAtEnd ends.input_new → Appends ends.output_old output (texts replies)
-      → Ended old script replies new output ends.output_new tally → FinishesExplained ends old new tally
-  Finishes-here output tally r e w s =
-      let run : Finishes ends old.world new.world tally = record {
-        script = script;
-        replies = replies ++ s.more;
-        read = r;
-        at_end = e;
-        run = s.run;
-        written = Appends-texts ends.output_old output ends.output_new replies s.more w s.written;
-        tally_is = s.tally_is;
-      } in (run, s.noted)
+  -- nothing is missing
+  pub all_out : (ran : Ran old new) → ran.left ≡ [] → Appends old.output new.output (texts ran.replies)
+  all_out ran e = subst (Appends old.output new.output)
+      (sym (ran.texts_are ∙ ap (λ left. ran.written ++ left) e ∙ append-nil ran.written)) ran.appended
 
-  StopsWriting-here : (output : Option (List ℕ)) → Consumes ends.input_old ends.input_new script →
-      IsAtEnd ends.input_new → Appends ends.output_old output (texts replies)
-      → EndsInPart old script replies new output ends.output_new → StopsWritingExplained ends old new
-  StopsWriting-here output r e w s =
-      let run : StopsWriting ends old.world new.world = record {
-        script = script;
-        replies = replies ++ s.more;
-        done = lines script;
-        bytes = texts replies ++ s.bytes;
-        read = r;
-        read_whole = inr (refl, e);
-        run = s.run;
-        written = Appends-trans ends.output_old output ends.output_new (texts replies) s.bytes w s.written;
-        cut_off = IsCutOff-after replies s.more s.bytes s.cut_off;
-      } in (run, s.noted)
+  module _ (may : Type 0) (script : List ℕ) (replies : List Reply) where
+    module _ (progress : Progress) (read : Consumes old.input new.input script)
+        (s : Stands (point old.world old.noted) script replies (point new.world new.noted) progress)
+        (w : Appends old.output new.output (texts replies)) where
+      pub whole_done : whole_lines script ≡ s.done
+      whole_done = whole_lines_begun script s.done s.rest s.begins s.unbroken
 
-  StopsFlushing-here : (output : Option (List ℕ)) → Consumes ends.input_old ends.input_new script →
-      IsAtEnd ends.input_new → Appends ends.output_old output (texts replies)
-      → EndsUnflushed old script replies new output ends.output_new → StopsFlushingExplained ends old new
-  StopsFlushing-here output r e w s =
-      let run : StopsFlushing ends old.world new.world = record {
-        script = script;
-        replies = replies ++ s.more;
-        read = r;
-        at_end = e;
-        run = s.run;
-        written = Appends-texts ends.output_old output ends.output_new replies s.more w s.written;
-      } in (run, s.noted)
+      -- the lines that were read whole were carried out
+      abbrev whole : Ran old new
+      whole = all_came script (whole_lines script) replies read
+          (subst (λ ls. Steps old.world ls replies new.world) (sym whole_done) s.run) w
+          (subst (λ ls. Explains (point old.world old.noted) (point new.world new.noted) ls replies) (sym whole_done)
+          s.noted)
 
-  StopsAtFile-here : (output : Option (List ℕ)) → Consumes ends.input_old ends.input_new script →
-      IsAtEnd ends.input_new → Appends ends.output_old output (texts replies)
-      → EndsBefore old script replies new output ends.output_new → StopsAtFileExplained ends old new
-  StopsAtFile-here output r e w s =
-      let run : StopsAtFile ends old.world new.world = record {
-        script = script;
-        replies = replies;
-        before = s.before;
-        line = s.line;
-        done = s.before;
-        read = r;
-        read_whole = inr (s.lines_are, e);
-        has_file = s.has_file;
-        done_are = inl refl;
-        run = s.run;
-        written = Appends-kept ends.output_old output ends.output_new (texts replies) w s.kept;
-      } in (run, s.noted)
+      abbrev pub stops_reading : ReadsStop old.reads new.reads → NoneFailed may old.calls new.calls →
+          Runs may old new (Err Input)
+      stops_reading r c = record { ran = whole; ends = ((refl, refl), r, c) }
 
-  StopsClosing : (may_fail : Type 0) (output : Option (List ℕ)) → Consumes ends.input_old ends.input_new script →
-      IsAtEnd ends.input_new → Appends ends.output_old output (texts replies)
-      → EndsInPart old script replies new output ends.output_new
-      ⊎ EndsUnflushed old script replies new output ends.output_new
-      ⊎ (may_fail × EndsBefore old script replies new output ends.output_new) → FaultsBy may_fail Output ends old new
-  StopsClosing may_fail output r e w (inl s) = inr (inl (StopsWriting-here output r e w s))
-  StopsClosing may_fail output r e w (inr (inl s)) = inr (inr (inl (StopsFlushing-here output r e w s)))
-  StopsClosing may_fail output r e w (inr (inr s)) = inr (inr (inr (s.0, StopsAtFile-here output r e w s.1)))
+      -- a flush before a read failed
+      abbrev pub stops_before_read : may → ReadsWell old.reads new.reads → LastFailed may old.calls new.calls →
+          Runs may old new (Err Output)
+      stops_before_read m r c = record { ran = whole; ends = (inr (inr (m, inl (refl, refl))), r, c) }
 
-  pub Runs-close : (may_fail : Type 0) (output : Option (List ℕ)) (result : Result Tally RunFault) →
-      Consumes ends.input_old ends.input_new script → IsAtEnd ends.input_new →
-      Appends ends.output_old output (texts replies)
-      → Closes may_fail old script replies new output ends.output_new result → RunsBy may_fail ends old new result
-  Runs-close may_fail output result r e w closes =
-      MatchResult-weaker result closes (λ tally s. Finishes-here output tally r e w s)
-      (λ fault s. subst (λ f. FaultsBy may_fail f ends old new) (sym s.0)
-      (StopsClosing may_fail output r e w s.1))
+    module _ (reads : ReadsWell old.reads new.reads) (calls : LastFailed may old.calls new.calls) where
+      -- a line that ends in the chunk stopped the run
+      pub stops_in_chunk : (input output : Option (List ℕ)) (chunk : List ℕ) →
+          Consumes old.input input script → Consumes input new.input chunk → Appends old.output output (texts replies)
+          → StopsInside (point old.world old.noted) script replies chunk (point new.world new.noted) output new.output
+          ⊎ (may × StopsBeside (point old.world old.noted) script replies chunk (point new.world new.noted) output
+          new.output)
+          → Runs may old new (Err Output)
+      stops_in_chunk input output chunk r q w (inl s) =
+          let read = Consumes-trans old.input input new.input script chunk r q in
+          let cut = IsCutOff-after replies s.more s.bytes s.cut_off in
+          record {
+            ran = last_cut (script ++ chunk) s.done (replies ++ s.more) read s.run (texts replies ++ s.bytes)
+                (Appends-trans old.output output new.output (texts replies) s.bytes w s.written) cut s.noted;
+            ends = (inl (inl (s.rest, s.begins), cut.lacking), reads, calls);
+          }
+      stops_in_chunk input output chunk r q w (inr f) =
+          let s = f.1 in
+          let read = Consumes-trans old.input input new.input script chunk r q in
+          let ran : Ran old new = all_came (script ++ chunk) s.done (replies ++ s.more) read s.run
+          (Appends-texts old.output output new.output replies s.more w s.written) s.noted in
+          let beside : BesideFile ran = record {
+            before = s.before;
+            line = s.line;
+            read_whole = inl (s.rest, s.begins);
+            has_file = s.has_file;
+            done_are = s.done_are;
+            none_left = refl;
+          } in
+          record { ran = ran; ends = (inr (inr (f.0, inr beside)), reads, calls) }
 
--- ---- the three runs
+    module _ (output : Option (List ℕ)) (read : Consumes old.input new.input script) (at_end : IsAtEnd new.input)
+        (w : Appends old.output output (texts replies)) where
+      abbrev pub finishes : (tally : Tally) →
+          Ended (point old.world old.noted) script replies (point new.world new.noted) output new.output tally
+          → ReadsLast old.reads new.reads (Some 0) → LastFlushed may old.calls new.calls → Runs may old new (Ok tally)
+      finishes tally s r c = record {
+        ran = all_came script (lines script) (replies ++ s.more) read s.run
+            (Appends-texts old.output output new.output replies s.more w s.written) s.noted;
+        ends = ((refl, at_end, refl), s.tally_is, r, c);
+      }
 
-faults_at_the_end : (ends : Ends) (old new : Point) (fault : RunFault) → FaultsBy ⊥ fault ends old new →
-    Faults fault ends old.world new.world
-faults_at_the_end ends old new Input s = s.0
-faults_at_the_end ends old new Output (inl s) = absurd s.0
-faults_at_the_end ends old new Output (inr (inl s)) = inl s.0
-faults_at_the_end ends old new Output (inr (inr (inl s))) = inr s.0
-faults_at_the_end ends old new Output (inr (inr (inr s))) = absurd s.0
-faults_at_the_end ends old new Memory s = s.0
+      -- the last line or the last flush stopped the run
+      pub stops_at_end : ReadsWell old.reads new.reads → LastFailed may old.calls new.calls →
+          EndsInPart (point old.world old.noted) script replies (point new.world new.noted) output new.output
+          ⊎ EndsUnflushed (point old.world old.noted) script replies (point new.world new.noted) output new.output
+          ⊎ (may × EndsBefore (point old.world old.noted) script replies (point new.world new.noted) output new.output)
+          → Runs may old new (Err Output)
+      stops_at_end r c (inl s) =
+          let cut = IsCutOff-after replies s.more s.bytes s.cut_off in
+          record {
+            ran = last_cut script (lines script) (replies ++ s.more) read s.run (texts replies ++ s.bytes)
+                (Appends-trans old.output output new.output (texts replies) s.bytes w s.written) cut s.noted;
+            ends = (inl (inr (refl, at_end), cut.lacking), r, c);
+          }
+      stops_at_end r c (inr (inl s)) = record {
+        ran = all_came script (lines script) (replies ++ s.more) read s.run
+            (Appends-texts old.output output new.output replies s.more w s.written) s.noted;
+        ends = (inr (inl (refl, at_end, refl)), r, c);
+      }
+      stops_at_end r c (inr (inr f)) =
+          let s = f.1 in
+          let ran : Ran old new = all_came script s.before replies read s.run
+          (Appends-kept old.output output new.output (texts replies) w s.kept) s.noted in
+          let beside : BesideFile ran = record {
+            before = s.before;
+            line = s.line;
+            read_whole = inr (s.lines_are, at_end);
+            has_file = s.has_file;
+            done_are = inl refl;
+            none_left = refl;
+          } in
+          record { ran = ran; ends = (inr (inr (f.0, inr beside)), r, c) }
 
--- no flush before the end fails
-pub Runs-at_the_end : (ends : Ends) (old new : Point) (result : Result Tally RunFault) →
-    RunsBy ⊥ ends old new result → Runs ends old.world new.world result
-Runs-at_the_end ends old new result runs = MatchResult-weaker result runs (λ tally s. s.0)
-    (faults_at_the_end ends old new)
-
-append_known-none : (known : Option (List ℕ)) (waiting : List ℕ) → waiting ≡ [] → append_known known waiting ≡ known
-append_known-none None waiting e = refl
-append_known-none (Some xs) waiting e = ap (λ w. Some (xs ++ w)) e ∙ ap Some (append-nil xs)
-
-module _ (ends : Ends) (waiting : List ℕ) (old new : Point) where
-  -- if nothing waits, all that was written has reached the writer
-  with_none : waiting ≡ [] → with_waiting ends waiting ≡ ends
-  with_none e = ap (λ o. record ends { output_new = o }) (append_known-none ends.output_new waiting e)
-
-  faults_explained : (fault : RunFault) → FaultsBy (Unit {0}) fault (with_waiting ends waiting) old new →
-      (fault ≡ Input → waiting ≡ []) → ExplainedFaults fault ends waiting old new
-  faults_explained Input s e = subst (λ x. StopsReadingExplained x old new) (with_none (e refl)) s
-  faults_explained Output (inl s) e = inl s.1
-  faults_explained Output (inr (inl s)) e = inr (inl s)
-  faults_explained Output (inr (inr (inl s))) e = inr (inr (inl s))
-  faults_explained Output (inr (inr (inr s))) e = inr (inr (inr s.1))
-  faults_explained Memory s e = s
-
-  pub RunsExplained-sent : (result : Result Tally RunFault) →
-      RunsBy (Unit {0}) (with_waiting ends waiting) old new result
-      → MatchResult result (λ _. waiting ≡ []) (λ fault. fault ≡ Input → waiting ≡ []) →
-      RunsExplained ends waiting old new result
-  RunsExplained-sent (Ok tally) s e = subst (λ x. FinishesExplained x old new tally) (with_none e) s
-  RunsExplained-sent (Err fault) s e = faults_explained fault s e
-
-  faults_promptly : (fault : RunFault) → ExplainedFaults fault ends waiting old new →
-      PromptFaults fault ends waiting old.world new.world
-  faults_promptly Input s = s.0
-  faults_promptly Output (inl s) = inl s.0
-  faults_promptly Output (inr (inl s)) = inr (inl s.0)
-  faults_promptly Output (inr (inr (inl s))) = inr (inr (inl s.0))
-  faults_promptly Output (inr (inr (inr s))) = inr (inr (inr s.0))
-  faults_promptly Memory s = s.0
-
-  -- a run that says why lines are refused is a run over a buffer
-  pub RunsPromptly-sent : (result : Result Tally RunFault) →
-      RunsBy (Unit {0}) (with_waiting ends waiting) old new result
-      → MatchResult result (λ _. waiting ≡ []) (λ fault. fault ≡ Input → waiting ≡ []) →
-      RunsPromptly ends waiting old.world new.world result
-  RunsPromptly-sent result s e = MatchResult-weaker result (RunsExplained-sent result s e) (λ tally r. r.0)
-      faults_promptly
+-- no memory: nothing has happened
+abbrev pub never_begins : (may : Type 0) (at : Known) → Runs may at at (Err Memory)
+never_begins may at = record {
+  ran = all_came at at [] [] [] (Consumes-nil at.input) refl (Appends-nil at.output) (WritesNotes-none at.noted);
+  ends = (refl, refl);
+}

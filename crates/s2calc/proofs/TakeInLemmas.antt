@@ -9,11 +9,12 @@ use Rattle.s2calc.specs.declared.limits.TheConstants.{KEPT}
 use Rattle.s2calc.specs.declared.progress.Progress.{Progress}
 use Rattle.s2script.specs.Line.{line_of}
 use Rattle.s2script.specs.Lines.{IsUnbroken, BeginsWith, but_last}
-use Rattle.s2calc.specs.Replies.{Reply, text_of, texts, tally_of, IsCutOff}
+use Rattle.s2calc.specs.Replies.{Reply, text_of, texts, tally_of}
+use Rattle.s2calc.specs.Working.Stands.{IsCutOff}
 use Rattle.s2calc.specs.Notes.{WritesNotes, note_of, number_of, notes_of}
 use Rattle.s2calc.specs.Step.{Step, asks_for_file}
 use Rattle.s2calc.specs.Run.{Steps}
-use Rattle.s2calc.specs.Explained.{Point, Explains}
+use Rattle.s2calc.specs.Working.Stands.{Point, Explains}
 use Rattle.s2calc.specs.Working.Stands.{Stands, Answered, AnsweredInPart, AnsweredUnflushed, StandsAfter, StopsInside}
 use Rattle.s2calc.specs.Working.Stands.{StopsBeside}
 use Rattle.s2calc.proofs.LineLemmas.{every-append, BeginsWith-more, BeginsWith-line, kept_more, but_last-append}

@@ -1,24 +1,26 @@
 -- Laws about the definitions.
 use Rattle.std.specs.Prelude.{◌≡◌, ◌≢◌, ℕ, ◌+◌, ◌%◌, ◌^◌, ◌<◌, Bool, true, false, List, [], ◌∷◌}
-use Rattle.std.specs.Prelude.{Some, count_by}
-use Rattle.std.specs.Io.KnownBytes.{Appends}
+use Rattle.std.specs.Prelude.{Option, Some, count_by}
+use Rattle.std.specs.Io.KnownBytes.{Appends, append_known}
 use Rattle.s2calc.specs.World.{World}
-use Rattle.s2calc.specs.declared.engine.Tally.{Tally}
 use Rattle.s2script.specs.Line.{line_of}
 use Rattle.s2script.specs.Lines.{lines}
-use Rattle.s2calc.specs.Replies.{Reply, Silent, Says, Refuses, texts, tally_of}
+use Rattle.s2calc.specs.Replies.{Reply, Silent, Says, Refuses, texts}
 use Rattle.s2calc.specs.declared.refusal.Refusal.{Refusal}
 use Rattle.s2calc.specs.declared.refusal.Refusal.TheVariants.{File, Memory}
 use Rattle.s2calc.specs.Step.{Step, asks_for_file}
-use Rattle.s2calc.specs.Run.{Ends, Finishes, Steps}
+use Rattle.s2calc.specs.Run.{Known, Ran, AllLines, Steps}
 
 -- a run that finishes has answered the lines of all bytes that its reader tells
 abbrev pub TellsWhole : Type 0
 TellsWhole =
-    (ends : Ends) (old new : World) (tally : Tally) (script : List ℕ) → Finishes ends old new tally →
-    ends.input_old ≡ Some script
-    → (replies : List Reply) × Steps old (lines script) replies new
-    × Appends ends.output_old ends.output_new (texts replies) × (tally ≡ tally_of replies)
+    (old new : Known) (ran : Ran old new) (script : List ℕ) → AllLines ran → old.input ≡ Some script
+    → Steps old.world (lines script) ran.replies new.world × Appends old.output new.output (texts ran.replies)
+
+-- where nothing waits in a buffer, all that was written has reached the writer below
+abbrev pub NothingHeld : Type 0
+NothingHeld =
+    (contents : Option (List ℕ)) (waiting : List ℕ) → waiting ≡ [] → append_known contents waiting ≡ contents
 
 -- two worlds with the same state and the same files
 pub record SameWorld (a b : World) : Type 0 where

@@ -10,66 +10,57 @@ use Rattle.s2script.specs.declared.command.Command.TheVariants.{Edit, Load, Save
 use Rattle.s2script.specs.declared.command.Parsed.TheVariants.{Does}
 use Rattle.s2calc.specs.World.{World}
 use Rattle.s2calc.specs.declared.engine.Tally.{Tally}
-use Rattle.s2calc.specs.Replies.{Reply, Says, is_refusal}
+use Rattle.s2calc.specs.Replies.{Reply, Says, is_refusal, tally_of}
 use Rattle.s2calc.specs.Texts.{done_line}
 use Rattle.s2calc.specs.Edits.{leaves_of}
 use Rattle.s2calc.specs.Step.{Step}
-use Rattle.s2calc.specs.Run.{Ends, Finishes, StopsReading, StopsWriting, Steps}
+use Rattle.s2calc.specs.Run.{Known, Ran, AllLines, WholeLines, InsideAnswer, Steps}
 use Rattle.s2calc.specs.Laws.{SameWorld, IsPlain, AllPlain}
 
--- the writer holds the same bytes, the lines had the same replies and tally, and the states and the files are the same
-pub record SameEnd (ends ends' : Ends) (replies replies' : List Reply) (tally tally' : Tally) (new new' : World) :
-    Type 0 where
-  pub written : ends.output_new ≡ ends'.output_new
-  pub replies_are : replies ≡ replies'
-  pub tally_is : tally ≡ tally'
-  pub world : SameWorld new new'
-
--- Two runs have the same end if both finished, their readers gave the same bytes, their writers held the same bytes,
--- they began with the same state and the same known files, and no line of either was answered `error memory` or `error
--- file`.
-abbrev pub OneEnd : Type 0
-OneEnd =
-    (ends ends' : Ends) (old old' new new' : World) (tally tally' : Tally) (script out : List ℕ) →
-    SameWorld old old' → old.files.tells ≡ true
-    → ends.input_old ≡ Some script → ends'.input_old ≡ Some script → ends.output_old ≡ Some out →
-    ends'.output_old ≡ Some out
-    → (run : Finishes ends old new tally) (other : Finishes ends' old' new' tally') → AllPlain run.replies →
-    AllPlain other.replies
-    → SameEnd ends ends' run.replies other.replies tally tally' new new'
+-- Two runs begin alike: with the same state and the same known files, before the same script, and with writers that
+-- hold the same bytes.
+pub record SameStart (old old' : Known) (script out : List ℕ) : Type 0 where
+  pub world : SameWorld old.world old'.world
+  pub tells : old.world.files.tells ≡ true
+  pub input : old.input ≡ Some script
+  pub input' : old'.input ≡ Some script
+  pub output : old.output ≡ Some out
+  pub output' : old'.output ≡ Some out
 
 -- the writer holds the same bytes, the lines that were carried out had the same replies, and the states and the files
 -- are the same
-pub record SameStop (ends ends' : Ends) (replies replies' : List Reply) (new new' : World) : Type 0 where
-  pub written : ends.output_new ≡ ends'.output_new
+pub record SameEnd (new new' : Known) (replies replies' : List Reply) : Type 0 where
+  pub written : new.output ≡ new'.output
   pub replies_are : replies ≡ replies'
-  pub world : SameWorld new new'
+  pub world : SameWorld new.world new'.world
 
--- Two runs whose reading stopped have the same end if both stopped at the same byte of the same script, their writers
--- held the same bytes, they began with the same state and the same known files, and no line of either was answered
+-- Two runs that began alike have the same end if both came to the end of the script, and no line of either was answered
 -- `error memory` or `error file`.
+abbrev pub OneEnd : Type 0
+OneEnd =
+    (old old' new new' : Known) (tally tally' : Tally) (script out : List ℕ) → SameStart old old' script out
+    → (run : Ran old new) (other : Ran old' new') → AllLines run → AllLines other → tally ≡ tally_of run.replies →
+    tally' ≡ tally_of other.replies → AllPlain run.replies → AllPlain other.replies
+    → SameEnd new new' run.replies other.replies × (tally ≡ tally')
+
+-- Two runs that began alike have the same end if the reading of both stopped at the same byte, and no line of either
+-- was answered `error memory` or `error file`.
 abbrev pub OneEndOfInput : Type 0
 OneEndOfInput =
-    (ends ends' : Ends) (old old' new new' : World) (script out : List ℕ) →
-    SameWorld old old' → old.files.tells ≡ true
-    → ends.input_old ≡ Some script → ends'.input_old ≡ Some script → ends.input_new ≡ ends'.input_new →
-    ends.output_old ≡ Some out → ends'.output_old ≡ Some out
-    → (run : StopsReading ends old new) (other : StopsReading ends' old' new') → AllPlain run.replies →
+    (old old' new new' : Known) (script out : List ℕ) → SameStart old old' script out → new.input ≡ new'.input
+    → (run : Ran old new) (other : Ran old' new') → WholeLines run → WholeLines other → AllPlain run.replies →
     AllPlain other.replies
-    → SameStop ends ends' run.replies other.replies new new'
+    → SameEnd new new' run.replies other.replies
 
--- Two runs whose writers failed inside an answer have the same end if both wrote the same bytes, their readers gave the
--- same script, they began with the same state and the same known files, and no line of either was answered `error
--- memory` or `error file`: the same lines were carried out, however the reads were cut.
+-- Two runs that began alike have the same end if the writers of both failed inside an answer, at the same byte, and no
+-- line of either was answered `error memory` or `error file`: the same lines were carried out, however the reads were
+-- cut.
 abbrev pub OneEndOfOutput : Type 0
 OneEndOfOutput =
-    (ends ends' : Ends) (old old' new new' : World) (script out : List ℕ) →
-    SameWorld old old' → old.files.tells ≡ true
-    → ends.input_old ≡ Some script → ends'.input_old ≡ Some script → ends.output_old ≡ Some out →
-    ends'.output_old ≡ Some out → ends.output_new ≡ ends'.output_new
-    → (run : StopsWriting ends old new) (other : StopsWriting ends' old' new') → AllPlain run.replies →
+    (old old' new new' : Known) (script out : List ℕ) → SameStart old old' script out → new.output ≡ new'.output
+    → (run : Ran old new) (other : Ran old' new') → InsideAnswer run → InsideAnswer other → AllPlain run.replies →
     AllPlain other.replies
-    → SameStop ends ends' run.replies other.replies new new'
+    → SameEnd new new' run.replies other.replies
 
 -- each line says `undo`
 abbrev pub AllUndo : List (List ℕ) → Type 0

@@ -10,11 +10,10 @@ pub mod Step
 pub mod Run
 pub mod Notes
 pub mod Noting
-pub mod Explained
 pub mod Output
 pub mod Buffered
 pub mod Calls
-pub mod CallsOfRun
+pub mod Reads
 pub mod Moments
 pub mod Order
 pub mod Laws

@@ -1,6 +1,6 @@
 -- The order in which a run reads, carries out lines, and writes.
 use Rattle.std.specs.Prelude.{◌≡◌, ℕ, ◌⊎◌, true, List, [], ◌∷◌, ◌++◌, length, Option, Result, MatchResult}
-use Rattle.std.specs.Io.KnownBytes.{Appends, Consumes}
+use Rattle.std.specs.Io.KnownBytes.{Appends}
 use Rattle.s2shelf.specs.Shelf.{Files}
 use Rattle.s2script.specs.Line.{line_of}
 use Rattle.s2script.specs.Lines.{lines, whole_lines, BeginsWith}
@@ -10,7 +10,7 @@ use Rattle.s2calc.specs.declared.fault.RunFault.TheVariants.{Input}
 use Rattle.s2calc.specs.World.{World}
 use Rattle.s2calc.specs.Replies.{Reply, texts}
 use Rattle.s2calc.specs.Step.{asks_for_file}
-use Rattle.s2calc.specs.Run.{Steps}
+use Rattle.s2calc.specs.Run.{Steps, Known, Ran}
 use Rattle.s2calc.specs.Calls.{Call, NoneFailed, LastFlushed}
 use Rattle.s2calc.specs.Moments.{Event, Came, NotCame, LineBegins, LineEnds, Moment, bytes_read, begun_in}
 use Rattle.s2calc.specs.Moments.{ended_in, Adds}
@@ -76,18 +76,18 @@ module _ {W S : Type 0} (contents : W → Option (List ℕ)) (calls : W → Opti
   EachMay past [] = Unit {0}
   EachMay past (now ∷ moments) = MayCome now.event past now × EachMay (past ++ now ∷ []) moments
 
-  -- Each read and each line came where it may; the reads gave what was taken from the reader; and each of these lines
-  -- was seen to begin and to end.
-  pub record InOrder (input_old input_new : Option (List ℕ)) (ls : List ℕ → List (List ℕ))
-      (moments : List (Moment W S)) : Type 0 where
+  -- Each read and each line came where it may; the reads gave the script; and this many lines were seen to begin and to
+  -- end.
+  pub record InOrder (script : List ℕ) (begun ended : ℕ) (moments : List (Moment W S)) : Type 0 where
     pub each : EachMay [] moments
-    pub read : Consumes input_old input_new (bytes_read moments)
-    pub begun : begun_in moments ≡ length (ls (bytes_read moments))
-    pub ended : ended_in moments ≡ length (ls (bytes_read moments))
+    pub read : bytes_read moments ≡ script
+    pub begins : begun_in moments ≡ begun
+    pub ends : ended_in moments ≡ ended
 
   -- what an observer saw of a run that ended well, or whose reading stopped, if it keeps a list
-  abbrev pub Ordered : Option (List ℕ) → Option (List ℕ) → Option (List (Moment W S)) → Option (List (Moment W S)) →
+  abbrev pub Ordered : {old new : Known} → Ran old new → Option (List (Moment W S)) → Option (List (Moment W S)) →
       Result Tally RunFault → Type 0
-  Ordered input_old input_new old new result = MatchResult result
-      (λ tally. Adds old new (λ moments. InOrder input_old input_new lines moments × HasEnded moments))
-      (λ fault. fault ≡ Input → Adds old new (InOrder input_old input_new whole_lines))
+  Ordered ran old new result = MatchResult result
+      (λ tally. Adds old new (λ moments. InOrder ran.script (length ran.done) (length ran.done) moments
+      × HasEnded moments))
+      (λ fault. fault ≡ Input → Adds old new (InOrder ran.script (length ran.done) (length ran.done)))

@@ -1,10 +1,9 @@
 -- The answer to a line.
-use Rattle.std.specs.Prelude.{◌≡◌, ℕ, ◌-◌, ◌^◌, ◌<◌, Bool, false, true, min, List, [], ◌∷◌, ◌++◌, length}
+use Rattle.std.specs.Prelude.{ℕ, ◌-◌, ◌^◌, Bool, false, true, min, List, [], ◌∷◌, ◌++◌}
 use Rattle.std.specs.Prelude.{codes, flat_map, count_by}
 use Rattle.s2calc.specs.declared.refusal.Refusal.{Refusal}
 use Rattle.s2calc.specs.Refusals.{name_of}
 use Rattle.s2calc.specs.declared.engine.Tally.{Tally}
-use Rattle.s2script.specs.Lines.{but_last}
 
 -- no answer, an answer, or a refusal
 pub data Reply : Type 0 where
@@ -40,10 +39,3 @@ tally_of replies = record {
   commands = min (count_by is_answer replies) (2 ^ 64 - 1);
   refused = min (count_by is_refusal replies) (2 ^ 64 - 1);
 }
-
--- what was written is all replies but the last, and the last without some bytes at its end
-pub record IsCutOff (written : List ℕ) (replies : List Reply) : Type 0 where
-  pub rest : List ℕ
-  pub beginning : texts replies ≡ written ++ rest
-  pub lacking : 0 < length rest
-  pub all_but_last : (more : List ℕ) × (written ≡ texts (but_last replies) ++ more)

@@ -1,14 +1,18 @@
--- What a run does, in terms of the bytes that it reads and writes.
-use Rattle.std.specs.Prelude.{◌≡◌, ℕ, ◌⊎◌, true, List, [], ◌∷◌, ◌++◌, Option, Result, MatchResult}
-use Rattle.std.specs.Io.KnownBytes.{Appends, Consumes, IsAtEnd, append_known}
+-- What a run does: how far it came, and what its result says of that.
+use Rattle.std.specs.Prelude.{◌≡◌, ◌<◌, ℕ, ◌⊎◌, true, false, List, [], ◌∷◌, ◌++◌, length, Option, None, Some}
+use Rattle.std.specs.Prelude.{Result, Ok, Err}
+use Rattle.std.specs.Io.KnownBytes.{Appends, Consumes, IsAtEnd}
 use Rattle.s2calc.specs.World.{World}
 use Rattle.s2calc.specs.declared.engine.Tally.{Tally}
 use Rattle.s2calc.specs.declared.fault.RunFault.{RunFault}
 use Rattle.s2calc.specs.declared.fault.RunFault.TheVariants.{Input, Output, Memory}
 use Rattle.s2script.specs.Line.{line_of}
-use Rattle.s2script.specs.Lines.{lines, whole_lines, BeginsWith}
-use Rattle.s2calc.specs.Replies.{Reply, texts, tally_of, IsCutOff}
+use Rattle.s2script.specs.Lines.{lines, whole_lines, but_last, BeginsWith}
+use Rattle.s2calc.specs.Replies.{Reply, texts, tally_of}
+use Rattle.s2calc.specs.Notes.{Noted, WritesNotes, notes_of}
 use Rattle.s2calc.specs.Step.{Step, asks_for_file}
+use Rattle.s2calc.specs.Calls.{Call, NoneFailed, LastFlushed, LastFailed}
+use Rattle.s2calc.specs.Reads.{ReadsLast, ReadsStop, ReadsWell}
 
 -- these lines, carried out one after another, may have these replies
 abbrev pub Steps : World → List (List ℕ) → List Reply → World → Type 0
@@ -17,110 +21,89 @@ Steps old (line ∷ ls) (reply ∷ replies) new = (mid : World) × Step old line
 Steps old [] (reply ∷ replies) new = ⊥
 Steps old (line ∷ ls) [] new = ⊥
 
--- what is known of the bytes of a reader and a writer, before and after
-pub record Ends : Type 0 where
-  pub input_old : Option (List ℕ)
-  pub input_new : Option (List ℕ)
-  pub output_old : Option (List ℕ)
-  pub output_new : Option (List ℕ)
+-- What is known of a run before or after it: the state of the editor and the files; the bytes that the reader will
+-- give, and what each read gave; the bytes that were written, and the calls of the writer; and the notes on refused
+-- lines.
+pub record Known : Type 0 where
+  pub world : World
+  pub input : Option (List ℕ)
+  pub reads : Option (List (Option ℕ))
+  pub output : Option (List ℕ)
+  pub calls : Option (List Call)
+  pub noted : Noted
 
--- The whole script was read, each of its lines was carried out, and the answers were written.
-pub record Finishes (ends : Ends) (old new : World) (tally : Tally) : Type 0 where
-  pub script : List ℕ
-  pub replies : List Reply
-  pub read : Consumes ends.input_old ends.input_new script
-  pub at_end : IsAtEnd ends.input_new
-  pub run : Steps old (lines script) replies new
-  pub written : Appends ends.output_old ends.output_new (texts replies)
-  pub tally_is : tally ≡ tally_of replies
+-- what is known, in the order of `Known`
+abbrev pub known : World → Option (List ℕ) → Option (List (Option ℕ)) → Option (List ℕ) → Option (List Call) → Noted →
+    Known
+known world input reads output calls noted =
+    record { world = world; input = input; reads = reads; output = output; calls = calls; noted = noted }
 
--- Reading stopped: the lines that were read whole were carried out, and exactly their answers were written.
-pub record StopsReading (ends : Ends) (old new : World) : Type 0 where
+-- nothing is known of the notes, since none are written
+abbrev pub no_notes : Noted
+no_notes = record { contents = None; stopped = false }
+
+-- the replies that came out whole, if these bytes of their texts are left: all of them, or all but the last
+abbrev pub came_out : List Reply → List ℕ → List Reply
+came_out replies [] = replies
+came_out replies (byte ∷ left) = but_last replies
+
+-- What a run did: it read the script, carried out some of its lines, and wrote the texts of their replies except for
+-- what is left of the last; and the notes are those on the replies that came out whole.
+pub record Ran (old new : Known) : Type 0 where
   pub script : List ℕ
+  pub done : List (List ℕ)
   pub replies : List Reply
-  pub read : Consumes ends.input_old ends.input_new script
-  pub run : Steps old (whole_lines script) replies new
-  pub written : Appends ends.output_old ends.output_new (texts replies)
+  pub written : List ℕ
+  pub left : List ℕ
+  pub read : Consumes old.input new.input script
+  pub steps : Steps old.world done replies new.world
+  pub appended : Appends old.output new.output written
+  pub texts_are : texts replies ≡ written ++ left
+  pub all_but_last : (more : List ℕ) × (written ≡ texts (came_out replies left) ++ more)
+  pub noted : WritesNotes old.noted (notes_of done (came_out replies left)) new.noted
 
 -- the lines are the first of those that were read to their end: each ends in a newline, or they are all lines and the
 -- script has ended
 abbrev pub WereReadWhole : Option (List ℕ) → List ℕ → List (List ℕ) → Type 0
-WereReadWhole left script ls = ((more : List ℕ) × BeginsWith script ls more) ⊎ ((ls ≡ lines script) × IsAtEnd left)
+WereReadWhole input script ls = ((more : List ℕ) × BeginsWith script ls more) ⊎ ((ls ≡ lines script) × IsAtEnd input)
 
--- The writer failed inside an answer: some lines that were read to their end were carried out, and their answers were
--- written except for some bytes of the last.
-pub record StopsWriting (ends : Ends) (old new : World) : Type 0 where
-  pub script : List ℕ
-  pub replies : List Reply
-  pub done : List (List ℕ)
-  pub bytes : List ℕ
-  pub read : Consumes ends.input_old ends.input_new script
-  pub read_whole : WereReadWhole ends.input_new script done
-  pub run : Steps old done replies new
-  pub written : Appends ends.output_old ends.output_new bytes
-  pub cut_off : IsCutOff bytes replies
+module _ {old new : Known} where
+  -- the script has ended, all its lines were carried out, and all answers were written
+  abbrev pub AllLines : Ran old new → Type 0
+  AllLines ran = (ran.done ≡ lines ran.script) × IsAtEnd new.input × (ran.left ≡ [])
 
--- A flush after the last line failed: the whole script was read, each of its lines was carried out, and all answers
--- were written.
-pub record StopsFlushing (ends : Ends) (old new : World) : Type 0 where
-  pub script : List ℕ
-  pub replies : List Reply
-  pub read : Consumes ends.input_old ends.input_new script
-  pub at_end : IsAtEnd ends.input_new
-  pub run : Steps old (lines script) replies new
-  pub written : Appends ends.output_old ends.output_new (texts replies)
+  -- exactly the lines that were read whole were carried out, and exactly their answers were written
+  abbrev pub WholeLines : Ran old new → Type 0
+  WholeLines ran = (ran.done ≡ whole_lines ran.script) × (ran.left ≡ [])
 
--- The flush before or after a command with a file failed: `line` is that command, it was read to its end, the lines
--- before it were carried out, and the command too if it was the flush after it. Exactly the answers to the lines that
--- were carried out were written.
-pub record StopsAtFile (ends : Ends) (old new : World) : Type 0 where
-  pub script : List ℕ
-  pub replies : List Reply
-  pub before : List (List ℕ)
-  pub line : List ℕ
-  pub done : List (List ℕ)
-  pub read : Consumes ends.input_old ends.input_new script
-  pub read_whole : WereReadWhole ends.input_new script (before ++ line ∷ [])
-  pub has_file : asks_for_file (line_of line) ≡ true
-  pub done_are : (done ≡ before) ⊎ (done ≡ before ++ line ∷ [])
-  pub run : Steps old done replies new
-  pub written : Appends ends.output_old ends.output_new (texts replies)
+  -- the last line that was carried out was read to its end, and some bytes of its answer are missing
+  abbrev pub InsideAnswer : Ran old new → Type 0
+  InsideAnswer ran = WereReadWhole new.input ran.script ran.done × (0 < length ran.left)
 
--- There was no memory: nothing was read, written or changed.
-pub record NeverBegins (ends : Ends) (old new : World) : Type 0 where
-  pub input : Consumes ends.input_old ends.input_new []
-  pub output : Appends ends.output_old ends.output_new []
-  pub editor : new ≡ old
+  -- A command with a file was read to its end. The lines before it were carried out, or the command too, and exactly
+  -- their answers were written.
+  pub record BesideFile (ran : Ran old new) : Type 0 where
+    pub before : List (List ℕ)
+    pub line : List ℕ
+    pub read_whole : WereReadWhole new.input ran.script (before ++ line ∷ [])
+    pub has_file : asks_for_file (line_of line) ≡ true
+    pub done_are : (ran.done ≡ before) ⊎ (ran.done ≡ before ++ line ∷ [])
+    pub none_left : ran.left ≡ []
 
--- what a run that ends with this fault leaves
-abbrev pub Faults : RunFault → Ends → World → World → Type 0
-Faults Input ends old new = StopsReading ends old new
-Faults Output ends old new = StopsWriting ends old new ⊎ StopsFlushing ends old new
-Faults Memory ends old new = NeverBegins ends old new
+  -- What a run did that ends with this result, and how its calls ended. After `Output` a write failed inside an answer;
+  -- or a flush failed, the last one, or, if there are flushes before the end, one before a read or beside a command
+  -- with a file. After `Memory` nothing has changed.
+  abbrev pub EndsAs : Type 0 → Ran old new → Result Tally RunFault → Type 0
+  EndsAs may_flush ran (Ok tally) = AllLines ran × (tally ≡ tally_of ran.replies)
+      × ReadsLast old.reads new.reads (Some 0) × LastFlushed may_flush old.calls new.calls
+  EndsAs may_flush ran (Err Input) = WholeLines ran
+      × ReadsStop old.reads new.reads × NoneFailed may_flush old.calls new.calls
+  EndsAs may_flush ran (Err Output) =
+      (InsideAnswer ran ⊎ AllLines ran ⊎ (may_flush × (WholeLines ran ⊎ BesideFile ran)))
+      × ReadsWell old.reads new.reads × LastFailed may_flush old.calls new.calls
+  EndsAs may_flush ran (Err Memory) = (ran.done ≡ []) × (new ≡ old)
 
--- what a run does, by its result
-abbrev pub Runs : Ends → World → World → Result Tally RunFault → Type 0
-Runs ends old new result = MatchResult result (λ tally. Finishes ends old new tally)
-    (λ fault. Faults fault ends old new)
-
--- the same ends, with what waits in the writer's buffer counted as written
-abbrev pub with_waiting : Ends → List ℕ → Ends
-with_waiting ends waiting = record ends { output_new = append_known ends.output_new waiting }
-
--- What a run over a buffer that ends with this fault leaves; `ends` says what has reached the writer below, and
--- `waiting` what is still in the buffer. After `Input`, all answers to the lines that were read whole have reached the
--- writer. After `Output`, what was written, counting the buffer, is as after a run without a buffer; or a flush before
--- a read failed, and then it is exactly the answers to the lines that were read whole; or a flush before or after a
--- command with a file failed, and then it is exactly the answers to the lines that were carried out.
-abbrev pub PromptFaults : RunFault → Ends → List ℕ → World → World → Type 0
-PromptFaults Input ends waiting old new = StopsReading ends old new
-PromptFaults Output ends waiting old new =
-    StopsReading (with_waiting ends waiting) old new ⊎ StopsWriting (with_waiting ends waiting) old new
-    ⊎ StopsFlushing (with_waiting ends waiting) old new ⊎ StopsAtFile (with_waiting ends waiting) old new
-PromptFaults Memory ends waiting old new = NeverBegins (with_waiting ends waiting) old new
-
--- A run over a buffer that is flushed before each read, and before and after each command with a file, by its result:
--- if it ends well, all answers have reached the writer.
-abbrev pub RunsPromptly : Ends → List ℕ → World → World → Result Tally RunFault → Type 0
-RunsPromptly ends waiting old new result = MatchResult result (λ tally. Finishes ends old new tally)
-    (λ fault. PromptFaults fault ends waiting old new)
+-- What a run does, by its result; `may_flush` says whether there are flushes before the end.
+pub record Runs (may_flush : Type 0) (old new : Known) (result : Result Tally RunFault) : Type 0 where
+  pub ran : Ran old new
+  pub ends : EndsAs may_flush ran result

@@ -10,18 +10,16 @@ ghost use Rattle.s2script.specs.Line.{line_of};
 ghost use Rattle.s2script.specs.Lines.{IsUnbroken};
 ghost use Rattle.s2script.specs.Working.Lines.{EndsLineAt};
 ghost use Rattle.s2calc.specs.Step.{asks_for_file};
-ghost use Rattle.s2calc.specs.Run.{Runs, RunsPromptly};
+ghost use Rattle.s2calc.specs.Run.{Runs, known, no_notes};
 ghost use Rattle.s2calc.specs.Buffered.{written_to};
-ghost use Rattle.s2calc.specs.World.{World, world};
+ghost use Rattle.s2calc.specs.World.{world};
 ghost use Rattle.s2calc.specs.Calls.{NoneFailed, LastFlushed, LastFailed};
-ghost use Rattle.s2calc.specs.CallsOfRun.{ReadsOf, CallsOf};
 ghost use Rattle.s2calc.specs.Working.Stands.{Stands, AnswersKept, StandsAfter, StopsInside, StopsBeside, Closes};
-ghost use Rattle.s2calc.specs.Working.Stands.{RunsBy};
+ghost use Rattle.s2calc.specs.Working.Stands.{Point, point};
 ghost use Rattle.s2calc.specs.Moments.{Adds};
 ghost use Rattle.s2calc.specs.Order.{Ordered};
 ghost use Rattle.s2calc.specs.Working.Seen.{LineSeen, MoreSeen, LastSeen};
 ghost use Rattle.s2calc.specs.Noting.{noted_by};
-ghost use Rattle.s2calc.specs.Explained.{Point, point, RunsExplained};
 
 use crate::answer_buffer::AnswerBuffer;
 use crate::execute::{Outcome, asks_for_file, execute};
@@ -163,14 +161,11 @@ pub fn run<R: Source, W: Sink, S: Shelf>(
     writer: &mut W,
     shelf: &mut S,
 ) -> Result<Tally, RunFault>
-    ensures runs { Runs (record {
-      input_old = R.remaining reader.old;
-      input_new = R.remaining reader.new;
-      output_old = W.contents writer.old;
-      output_new = W.contents writer.new;
-    }) (world editor.old (S.files shelf.old)) (world editor.new (S.files shelf.new)) result }
-    ensures reads { ReadsOf (R.reads reader.old) (R.reads reader.new) result }
-    ensures calls { CallsOf ⊥ (W.calls writer.old) (W.calls writer.new) result }
+    ensures runs { Runs ⊥
+        (known (world editor.old (S.files shelf.old)) (R.remaining reader.old) (R.reads reader.old)
+        (W.contents writer.old) (W.calls writer.old) no_notes)
+        (known (world editor.new (S.files shelf.new)) (R.remaining reader.new) (R.reads reader.new)
+        (W.contents writer.new) (W.calls writer.new) no_notes) result }
     ensures before { EachList (λ u. IsNormalForm (has_leaf u) u) editor.old }
     ensures after { EachList (λ u. IsNormalForm (has_leaf u) u) editor.new }
 {
@@ -191,17 +186,13 @@ pub fn run_observed<R: Source, W: Sink, S: Shelf, O: Observer<W, S>>(
     shelf: &mut S,
     observer: &mut O,
 ) -> Result<Tally, RunFault>
-    ensures runs { Runs (record {
-      input_old = R.remaining reader.old;
-      input_new = R.remaining reader.new;
-      output_old = W.contents writer.old;
-      output_new = W.contents writer.new;
-    }) (world editor.old (S.files shelf.old)) (world editor.new (S.files shelf.new)) result }
-    ensures reads { ReadsOf (R.reads reader.old) (R.reads reader.new) result }
-    ensures calls { CallsOf ⊥ (W.calls writer.old) (W.calls writer.new) result }
-    ensures order { Ordered W.contents W.calls (λ _. Unit {0}) S.files ⊥ (world editor.old (S.files shelf.old))
-        writer.old (R.remaining reader.old) (R.remaining reader.new) (O.seen observer.old) (O.seen observer.new)
-        result }
+    ensures runs { (run : Runs ⊥
+        (known (world editor.old (S.files shelf.old)) (R.remaining reader.old) (R.reads reader.old)
+        (W.contents writer.old) (W.calls writer.old) no_notes)
+        (known (world editor.new (S.files shelf.new)) (R.remaining reader.new) (R.reads reader.new)
+        (W.contents writer.new) (W.calls writer.new) no_notes) result)
+        × Ordered W.contents W.calls (λ _. Unit {0}) S.files ⊥ (world editor.old (S.files shelf.old)) writer.old
+        run.ran (O.seen observer.old) (O.seen observer.new) result }
     ensures before { EachList (λ u. IsNormalForm (has_leaf u) u) editor.old }
     ensures after { EachList (λ u. IsNormalForm (has_leaf u) u) editor.new }
 {
@@ -239,17 +230,14 @@ pub fn run_promptly<R: Source, W: Sink, S: Shelf>(
     writer: &mut AnswerBuffer<W>,
     shelf: &mut S,
 ) -> Result<Tally, RunFault>
-    ensures runs { RunsPromptly (record {
-      input_old = R.remaining reader.old;
-      input_new = R.remaining reader.new;
-      output_old = written_to W.contents writer.old;
-      output_new = W.contents writer.new.writer;
-    }) writer.new.waiting (world editor.old (S.files shelf.old)) (world editor.new (S.files shelf.new)) result }
+    ensures runs { Runs (Unit {0})
+        (known (world editor.old (S.files shelf.old)) (R.remaining reader.old) (R.reads reader.old)
+        (written_to W.contents writer.old) (W.calls writer.old.writer) no_notes)
+        (known (world editor.new (S.files shelf.new)) (R.remaining reader.new) (R.reads reader.new)
+        (written_to W.contents writer.new) (W.calls writer.new.writer) no_notes) result }
     ensures nothing_waits { MatchResult result (λ _. writer.new.waiting ≡ []) (λ fault. fault ≡ RunFault.Input →
         writer.new.waiting ≡ []) }
     ensures few_wait { length writer.new.waiting ≤ MOST_WAITING }
-    ensures reads { ReadsOf (R.reads reader.old) (R.reads reader.new) result }
-    ensures calls { CallsOf (Unit {0}) (W.calls writer.old.writer) (W.calls writer.new.writer) result }
     ensures before { EachList (λ u. IsNormalForm (has_leaf u) u) editor.old }
     ensures after { EachList (λ u. IsNormalForm (has_leaf u) u) editor.new }
 {
@@ -269,20 +257,16 @@ pub fn run_promptly_observed<R: Source, W: Sink, S: Shelf, O: Observer<AnswerBuf
     shelf: &mut S,
     observer: &mut O,
 ) -> Result<Tally, RunFault>
-    ensures runs { RunsPromptly (record {
-      input_old = R.remaining reader.old;
-      input_new = R.remaining reader.new;
-      output_old = written_to W.contents writer.old;
-      output_new = W.contents writer.new.writer;
-    }) writer.new.waiting (world editor.old (S.files shelf.old)) (world editor.new (S.files shelf.new)) result }
+    ensures runs { (run : Runs (Unit {0})
+        (known (world editor.old (S.files shelf.old)) (R.remaining reader.old) (R.reads reader.old)
+        (written_to W.contents writer.old) (W.calls writer.old.writer) no_notes)
+        (known (world editor.new (S.files shelf.new)) (R.remaining reader.new) (R.reads reader.new)
+        (written_to W.contents writer.new) (W.calls writer.new.writer) no_notes) result)
+        × Ordered (written_to W.contents) (λ b. W.calls b.writer) (λ b. b.waiting ≡ []) S.files (Unit {0})
+        (world editor.old (S.files shelf.old)) writer.old run.ran (O.seen observer.old) (O.seen observer.new) result }
     ensures nothing_waits { MatchResult result (λ _. writer.new.waiting ≡ []) (λ fault. fault ≡ RunFault.Input →
         writer.new.waiting ≡ []) }
     ensures few_wait { length writer.new.waiting ≤ MOST_WAITING }
-    ensures reads { ReadsOf (R.reads reader.old) (R.reads reader.new) result }
-    ensures calls { CallsOf (Unit {0}) (W.calls writer.old.writer) (W.calls writer.new.writer) result }
-    ensures order { Ordered (written_to W.contents) (λ b. W.calls b.writer) (λ b. b.waiting ≡ []) S.files (Unit {0})
-        (world editor.old (S.files shelf.old)) writer.old (R.remaining reader.old) (R.remaining reader.new)
-        (O.seen observer.old) (O.seen observer.new) result }
     ensures before { EachList (λ u. IsNormalForm (has_leaf u) u) editor.old }
     ensures after { EachList (λ u. IsNormalForm (has_leaf u) u) editor.new }
 {
@@ -316,32 +300,54 @@ pub fn run_explained<R: Source, W: Sink, S: Shelf, N: Sink>(
     shelf: &mut S,
     notes: &mut NoteWriter<N>,
 ) -> Result<Tally, RunFault>
-    ensures runs { RunsExplained (record {
-      input_old = R.remaining reader.old;
-      input_new = R.remaining reader.new;
-      output_old = written_to W.contents writer.old;
-      output_new = W.contents writer.new.writer;
-    }) writer.new.waiting (point (world editor.old (S.files shelf.old)) (noted_by N.contents notes.old))
-        (point (world editor.new (S.files shelf.new)) (noted_by N.contents notes.new)) result }
+    ensures runs { Runs (Unit {0})
+        (known (world editor.old (S.files shelf.old)) (R.remaining reader.old) (R.reads reader.old)
+        (written_to W.contents writer.old) (W.calls writer.old.writer) (noted_by N.contents notes.old))
+        (known (world editor.new (S.files shelf.new)) (R.remaining reader.new) (R.reads reader.new)
+        (written_to W.contents writer.new) (W.calls writer.new.writer) (noted_by N.contents notes.new)) result }
     ensures nothing_waits { MatchResult result (λ _. writer.new.waiting ≡ []) (λ fault. fault ≡ RunFault.Input →
         writer.new.waiting ≡ []) }
     ensures few_wait { length writer.new.waiting ≤ MOST_WAITING }
-    ensures reads { ReadsOf (R.reads reader.old) (R.reads reader.new) result }
-    ensures calls { CallsOf (Unit {0}) (W.calls writer.old.writer) (W.calls writer.new.writer) result }
+    ensures before { EachList (λ u. IsNormalForm (has_leaf u) u) editor.old }
+    ensures after { EachList (λ u. IsNormalForm (has_leaf u) u) editor.new }
+{
+    run_explained_observed(alloc, editor, reader, writer, shelf, notes, &mut Unobserved)
+}
+
+/// Runs a script as [`run_explained`] does, and an observer sees its reads and its lines in the order in which they
+/// come, which is that of [`run_promptly_observed`].
+pub fn run_explained_observed<
+    R: Source,
+    W: Sink,
+    S: Shelf,
+    N: Sink,
+    O: Observer<AnswerBuffer<W>, S>,
+>(
+    alloc: Global,
+    editor: &mut Editor,
+    reader: &mut R,
+    writer: &mut AnswerBuffer<W>,
+    shelf: &mut S,
+    notes: &mut NoteWriter<N>,
+    observer: &mut O,
+) -> Result<Tally, RunFault>
+    ensures runs { (run : Runs (Unit {0})
+        (known (world editor.old (S.files shelf.old)) (R.remaining reader.old) (R.reads reader.old)
+        (written_to W.contents writer.old) (W.calls writer.old.writer) (noted_by N.contents notes.old))
+        (known (world editor.new (S.files shelf.new)) (R.remaining reader.new) (R.reads reader.new)
+        (written_to W.contents writer.new) (W.calls writer.new.writer) (noted_by N.contents notes.new)) result)
+        × Ordered (written_to W.contents) (λ b. W.calls b.writer) (λ b. b.waiting ≡ []) S.files (Unit {0})
+        (world editor.old (S.files shelf.old)) writer.old run.ran (O.seen observer.old) (O.seen observer.new) result }
+    ensures nothing_waits { MatchResult result (λ _. writer.new.waiting ≡ []) (λ fault. fault ≡ RunFault.Input →
+        writer.new.waiting ≡ []) }
+    ensures few_wait { length writer.new.waiting ≤ MOST_WAITING }
     ensures before { EachList (λ u. IsNormalForm (has_leaf u) u) editor.old }
     ensures after { EachList (λ u. IsNormalForm (has_leaf u) u) editor.new }
 {
     let _ = (editor.limit(), writer.waiting_len());
     let mut input = input_buffer(alloc)?;
-    let result = run_over::<R, AnswerBuffer<W>, S, Promptly, NoteWriter<N>, Unobserved>(
-        alloc,
-        &mut input,
-        editor,
-        reader,
-        writer,
-        shelf,
-        notes,
-        &mut Unobserved,
+    let result = run_over::<R, AnswerBuffer<W>, S, Promptly, NoteWriter<N>, O>(
+        alloc, &mut input, editor, reader, writer, shelf, notes, observer,
     );
     let _ = (editor.limit(), writer.waiting_len());
     result
@@ -367,20 +373,15 @@ fn run_over<R: Source, W: Sink, S: Shelf, F: Flushing<W>, N: Notes, O: Observer<
     observer: &mut O,
 ) -> Result<Tally, RunFault>
     requires { 0 < length input.old }
-    ensures runs { RunsBy F.may_fail (record {
-      input_old = R.remaining reader.old;
-      input_new = R.remaining reader.new;
-      output_old = W.contents writer.old;
-      output_new = W.contents writer.new;
-    }) (point (world editor.old (S.files shelf.old)) (N.noted notes.old))
-        (point (world editor.new (S.files shelf.new)) (N.noted notes.new)) result }
+    ensures runs { (run : Runs F.may_fail
+        (known (world editor.old (S.files shelf.old)) (R.remaining reader.old) (R.reads reader.old)
+        (W.contents writer.old) (W.calls writer.old) (N.noted notes.old))
+        (known (world editor.new (S.files shelf.new)) (R.remaining reader.new) (R.reads reader.new)
+        (W.contents writer.new) (W.calls writer.new) (N.noted notes.new)) result)
+        × Ordered W.contents W.calls F.is_sent S.files F.may_fail (world editor.old (S.files shelf.old)) writer.old
+        run.ran (O.seen observer.old) (O.seen observer.new) result }
     ensures sent { MatchResult result (λ _. F.is_sent writer.new) (λ fault. fault ≡ RunFault.Input →
         F.is_sent writer.new) }
-    ensures reads { ReadsOf (R.reads reader.old) (R.reads reader.new) result }
-    ensures calls { CallsOf F.may_fail (W.calls writer.old) (W.calls writer.new) result }
-    ensures order { Ordered W.contents W.calls F.is_sent S.files F.may_fail (world editor.old (S.files shelf.old))
-        writer.old (R.remaining reader.old) (R.remaining reader.new) (O.seen observer.old) (O.seen observer.new)
-        result }
 {
     let mut progress = Progress::new();
     for _ in 0..u64::MAX {

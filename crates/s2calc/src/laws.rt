@@ -1,10 +1,16 @@
 //! Laws about the definitions.
-ghost use Rattle.s2calc.specs.Laws.{TellsWhole, OneRun, CountsFailures, FilesStay};
+ghost use Rattle.s2calc.specs.Laws.{TellsWhole, NothingHeld, OneRun, CountsFailures, FilesStay};
 ghost use Rattle.s2calc.specs.LawsScripts.{OneEnd, OneEndOfInput, OneEndOfOutput, LawOfUndo, RestoreGivesBack};
 
 /// If the reader exposes its bytes, a run that finishes has carried out the lines of exactly these bytes.
 pub fn whole_script()
     ensures { TellsWhole }
+{}
+
+/// Where nothing waits in a buffer, as after a run that ends with Ok or `Input`, what was written has reached the
+/// writer below.
+pub fn nothing_held()
+    ensures { NothingHeld }
 {}
 
 /// If no line runs out of memory or meets a failed shelf, a script has one run from each state and shelf: its answers,

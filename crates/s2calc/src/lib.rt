@@ -8,6 +8,10 @@
 //! ends a run, `streams` what it reads from and writes to, `flushing` when the writer is flushed, `observer` who sees
 //! in which order a run reads and carries out lines. `limits` are the limits, `laws` laws about the definitions.
 //!
+//! (`execute`: `edits`, `files`, `sessions`, `questions`; `fetch` asks the shelf) -> an `answer` -> bytes
+//! (`output`, `answer_buffer`). `refusal` says why a line is refused, `notes` writes that to whoever asks, `fault` is
+//! what ends a run, `streams` what it reads from and writes to, `flushing` when the writer is flushed, `observer` who
+//! sees in which order a run reads and carries out lines; `limits` are the limits, `laws` laws about the definitions.
 //! For the program: `command_line`, `help` and `task` (what it is asked for), `program`, `check`, `draw` and `overlay`
 //! (its other answers).
 #![tactic(auto)]
@@ -44,7 +48,10 @@ pub use answer_buffer::AnswerBuffer;
 pub use check::check_answer;
 pub use command_line::job;
 pub use draw::{draw_answer, draw_cells_answer};
-pub use engine::{Tally, run, run_explained, run_observed, run_promptly, run_promptly_observed};
+pub use engine::{
+    Tally, run, run_explained, run_explained_observed, run_observed, run_promptly,
+    run_promptly_observed,
+};
 pub use fault::RunFault;
 pub use notes::NoteWriter;
 pub use observer::Observer;

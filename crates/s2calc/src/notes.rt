@@ -35,9 +35,9 @@ pub(crate) trait Notes {
 pub(crate) struct NoNotes;
 
 impl Notes for NoNotes {
-    ghost use Rattle.std.specs.Prelude.{None, false};
+    ghost use Rattle.s2calc.specs.Run.{no_notes};
 
-    ghost noted = { λ _. record { contents = None; stopped = false } };
+    ghost noted = { λ _. no_notes };
 
     fn note(&mut self, _number: u64, _line: &[u8], _outcome: Outcome) {}
 }

@@ -3,7 +3,6 @@ use Rattle.std.specs.Prelude.{◌≡◌, ℕ, ◌⊎◌, Bool}
 use Rattle.std.specs.Prelude.{Result, MatchResult}
 use Rattle.s2list.specs.Union.{IsNormalForm}
 use Rattle.s2list.specs.Union as U
-use Rattle.s2script.specs.declared.command.RegisterEdit.TheVariants.{Union}
 use Rattle.s2calc.specs.declared.refusal.Refusal.{Refusal}
 use Rattle.s2calc.specs.declared.refusal.Refusal.TheVariants.{TooMany, Memory}
 use Rattle.s2calc.specs.Edits.{IsTooLong}

@@ -7,7 +7,7 @@ use Rattle.s2calc.specs.World.{World}
 use Rattle.s2calc.specs.Replies.{Reply, texts}
 use Rattle.s2calc.specs.Calls.{Call, NoneFailed, LastFlushed}
 use Rattle.s2calc.specs.Moments.{LineBegins, LineEnds, Moment, moment, bytes_read, begun_in, ended_in}
-use Rattle.s2calc.specs.Order.{HasEnded, EachMay}
+use Rattle.s2calc.specs.Order.{HasEnded, EachMay, InOrder}
 
 -- between these two writers nothing was written, and no call failed; at a command with a file the last call was a
 -- flush, if there are flushes before the end, and nothing waits
@@ -51,8 +51,7 @@ module _ {W S : Type 0} (contents : W → Option (List ℕ)) (calls : W → Opti
         → EachMay contents calls is_sent files may_flush world first past moments
 
   -- the moments of a run that has read the script
-  pub record SeenSoFar (world : World) (first : W) (script : List ℕ) (moments : List (Moment W S)) : Type 0 where
-    pub each : EachMay contents calls is_sent files may_flush world first [] moments
-    pub read : bytes_read moments ≡ script
-    pub begun : begun_in moments ≡ length (whole_lines script)
-    pub ended : ended_in moments ≡ length (whole_lines script)
+  abbrev pub SeenSoFar : World → W → List ℕ → List (Moment W S) → Type 0
+  SeenSoFar world first script moments =
+      let count = length (whole_lines script) in
+      InOrder contents calls is_sent files may_flush world first script count count moments

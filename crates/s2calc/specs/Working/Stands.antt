@@ -1,8 +1,8 @@
 -- How far a run has come in its script.
-use Rattle.std.specs.Prelude.{◌≡◌, ℕ, List, ◌∷◌, [], ◌++◌, ◌⊎◌, ◌+◌, true, Option, Result, MatchResult, length}
+use Rattle.std.specs.Prelude.{◌≡◌, ◌<◌, ℕ, List, ◌∷◌, [], ◌++◌, ◌⊎◌, ◌+◌, true, Option, Result, MatchResult, length}
 use Rattle.std.specs.Prelude.{take}
 use Rattle.s2calc.specs.declared.fault.RunFault.{RunFault}
-use Rattle.s2calc.specs.declared.fault.RunFault.TheVariants.{Input, Output, Memory}
+use Rattle.s2calc.specs.declared.fault.RunFault.TheVariants.{Output}
 use Rattle.std.specs.Io.KnownBytes.{Appends, Keeps}
 use Rattle.s2calc.specs.declared.limits.TheConstants.{KEPT}
 use Rattle.s2calc.specs.declared.engine.Tally.{Tally}
@@ -10,12 +10,31 @@ use Rattle.s2calc.specs.declared.progress.Progress.{Progress}
 use Rattle.s2script.specs.Line.{line_of}
 use Rattle.s2script.specs.Lines.{BeginsWith, IsUnbroken, lines, but_last}
 use Rattle.s2calc.specs.Output.{AppendsPart}
-use Rattle.s2calc.specs.Replies.{Reply, text_of, texts, tally_of, IsCutOff}
-use Rattle.s2calc.specs.Notes.{WritesNotes, note_of, number_of}
+use Rattle.s2calc.specs.World.{World}
+use Rattle.s2calc.specs.Replies.{Reply, text_of, texts, tally_of}
+use Rattle.s2calc.specs.Notes.{Noted, WritesNotes, note_of, notes_of, number_of}
 use Rattle.s2calc.specs.Step.{Step, asks_for_file}
-use Rattle.s2calc.specs.Run.{Steps, Ends}
-use Rattle.s2calc.specs.Explained.{Point, Explains, FinishesExplained, StopsReadingExplained, StopsWritingExplained}
-use Rattle.s2calc.specs.Explained.{StopsFlushingExplained, StopsAtFileExplained, NeverBeginsExplained}
+use Rattle.s2calc.specs.Run.{Steps}
+
+-- what a run has come to: the state and the files, and what was said of refused lines
+pub record Point : Type 0 where
+  pub world : World
+  pub noted : Noted
+
+-- the point with this world and these notes
+abbrev pub point : World → Noted → Point
+point world noted = record { world = world; noted = noted }
+
+-- the notes on lines with these replies were written
+abbrev pub Explains : Point → Point → List (List ℕ) → List Reply → Type 0
+Explains old new ls replies = WritesNotes old.noted (notes_of ls replies) new.noted
+
+-- what was written is all replies but the last, and the last without some bytes at its end
+pub record IsCutOff (written : List ℕ) (replies : List Reply) : Type 0 where
+  pub rest : List ℕ
+  pub beginning : texts replies ≡ written ++ rest
+  pub lacking : 0 < length rest
+  pub all_but_last : (more : List ℕ) × (written ≡ texts (but_last replies) ++ more)
 
 -- Starting from `start`, after these bytes: the lines that end in a newline were carried out with these replies, the
 -- notes on them were written, and the first `KEPT` bytes of the rest are kept.
@@ -148,16 +167,3 @@ Closes may_fail start script replies now output_old output_new result =
     × (EndsInPart start script replies now output_old output_new
     ⊎ EndsUnflushed start script replies now output_old output_new
     ⊎ (may_fail × EndsBefore start script replies now output_old output_new)))
-
--- what a run that ends with this fault leaves; `may_fail` says whether a flush before the end may fail
-abbrev pub FaultsBy : Type 0 → RunFault → Ends → Point → Point → Type 0
-FaultsBy may_fail Input ends old new = StopsReadingExplained ends old new
-FaultsBy may_fail Output ends old new = (may_fail × StopsReadingExplained ends old new)
-    ⊎ StopsWritingExplained ends old new ⊎ StopsFlushingExplained ends old new
-    ⊎ (may_fail × StopsAtFileExplained ends old new)
-FaultsBy may_fail Memory ends old new = NeverBeginsExplained ends old new
-
--- what a run does, by its result; `may_fail` says whether a flush before the end may fail
-abbrev pub RunsBy : Type 0 → Ends → Point → Point → Result Tally RunFault → Type 0
-RunsBy may_fail ends old new result = MatchResult result (λ tally. FinishesExplained ends old new tally)
-    (λ fault. FaultsBy may_fail fault ends old new)

@@ -1,5 +1,8 @@
-use Rattle.s2calc.proofs.ReadLemmas.{Runs-at_the_end}
+use Rattle.std.proofs.lemmas.Result.{err_from_is_err_and}
+use Rattle.s2calc.proofs.ReadLemmas.{never_begins}
 use Rattle.s2calc.proofs.engine.run_observed.Goals as goal
 
-pub returns-clause-runs : goal.returns-clause-runs
-returns-clause-runs g c = Runs-at_the_end _ _ _ c.run_over-result.result c.run_over-result.ensures.runs
+pub returns-in_err-input-clause-runs : goal.returns-in_err-input-clause-runs
+returns-in_err-input-clause-runs g c =
+    let p = err_from_is_err_and c.from_residual.result c.from_residual.ensures.1 in
+    rw (p.1, p.2, c.in_err-input.ensures.fault) (never_begins _ _, λ is_input. absurd cc)

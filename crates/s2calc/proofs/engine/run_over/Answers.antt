@@ -1,13 +1,13 @@
 use Rattle.std.proofs.Common.{ℕ, ◌+◌, [], ◌++◌, None, take, ap, refl, subst, arith, inl, inr}
-use Rattle.std.proofs.KnownBytes.{Keeps-refl, Consumes-nil, Appends-nil, Consumes-trans, Consumes-kept, Appends-kept}
+use Rattle.std.proofs.KnownBytes.{Consumes-nil, Appends-nil, Consumes-trans, Consumes-kept, Appends-kept}
 use Rattle.std.proofs.lemmas.Result.{err_from_is_err_and, IfOk-weaker, MatchResult-weaker}
-use Rattle.s2calc.specs.CallsOfRun.{ReadsOn}
-use Rattle.s2calc.proofs.CallLemmas.{none_failed_none, none_failed_more, last_failed_after, calls_of_end, reads_of_end}
+use Rattle.s2calc.specs.Reads.{ReadsOn}
+use Rattle.s2calc.proofs.CallLemmas.{none_failed_none, none_failed_more, last_failed_after}
 use Rattle.s2calc.proofs.CallLemmas.{reads_on_none, reads_on_more, reads_last, reads_end}
-use Rattle.s2calc.proofs.ReadLemmas.{Consumes-none, StopsReading-here, Faults-inside, Runs-close, Appends-texts}
+use Rattle.s2calc.proofs.ReadLemmas.{Consumes-none, Appends-texts, stops_reading, stops_before_read, stops_in_chunk}
 use Rattle.s2calc.proofs.TakeInLemmas.{Stands-start}
-use Rattle.s2calc.proofs.OrderLemmas.{Adds-none, Adds-weaker, SeenSoFar-start, SeenSoFar-read, InOrder-here}
-use Rattle.s2calc.proofs.OrderLemmas.{Ordered-end, Ordered-failed}
+use Rattle.s2calc.proofs.OrderLemmas.{Adds-none, Adds-trans, SeenSoFar-start, SeenSoFar-read, SeenSoFar-failed}
+use Rattle.s2calc.proofs.OrderLemmas.{Ordered-end, Runs-end}
 use Rattle.s2calc.proofs.SettledLemmas.{settled}
 use Rattle.s2calc.proofs.engine.run_over.Goals as goal
 
@@ -30,20 +30,29 @@ returns-in_err-in_between-clause-runs g c =
     let i = c.loop.invariant in
     let p = err_from_is_err_and c.from_residual.result c.from_residual.ensures.1 in
     let f = c.in_err-in_between.ensures.fault in
-    rw (p.1, p.2, f.0) (inl (
-      f.1,
-      StopsReading-here _ _ _ i.0 i.1 _ _ i.2 (Keeps-refl _) i.3
-          (Appends-kept _ _ _ _ i.4 c.in_between.ensures.kept),
-    ))
+    rw (p.1, p.2, f.0) (
+      stops_before_read _ _ _ i.0 i.1 _ i.2 i.3 (Appends-kept _ _ _ _ i.4 c.in_between.ensures.kept) f.1
+          (inl (c.loop.counter, i.6)) (last_failed_after _ _ _ _ i.5 c.in_err-in_between.ensures.failed),
+      λ is_input. absurd cc,
+    )
 
 pub returns-in-Ok-eq0-clause-runs : goal.returns-in-Ok-eq0-clause-runs
 returns-in-Ok-eq0-clause-runs g c =
     let i = c.loop.invariant in
     let read = c.in-Ok-eq0.ensures.bytes in
-    Runs-close _ _ _ i.0 i.1 _ _ c.finish.result
-    (Consumes-none _ _ _ i.0 _ c.in-Ok-eq0.field-0 c.in-Ok-eq0.field-0-test i.2 read.0)
-    (read.1 c.in-Ok-eq0.field-0-test (omega arith))
-    (Appends-kept _ _ _ _ i.4 c.in_between.ensures.kept) (c.finish.ensures.closes _ i.0 i.1 i.3)
+    let none = c.in-Ok-eq0.field-0-test in
+    Runs-end g.W.Sink.contents g.W.Sink.calls g.F.Flushing.is_sent g.S.Shelf.files g.F.Flushing.may_fail _ _ i.0 i.1 _
+    _ _ _ _ c.finish.result (Consumes-none _ _ _ i.0 _ c.in-Ok-eq0.field-0 none i.2 read.0)
+    (read.1 none (omega arith)) (Appends-kept _ _ _ _ i.4 c.in_between.ensures.kept)
+    (reads_end _ _ _ _ _ i.6 c.in-Ok-eq0.ensures.call none)
+    (none_failed_more _ _ _ _ i.5 c.in_ok-in_between.ensures.none_failed) (c.finish.ensures.closes _ i.0 i.1 i.3)
+    c.finish.ensures.flushed c.finish.ensures.failed
+    (Ordered-end g.W.Sink.contents g.W.Sink.calls g.F.Flushing.is_sent g.S.Shelf.files g.F.Flushing.may_fail _ i.0 i.1
+    _ _ i.3 _ _ _ _ i.4 i.5 (settled g.W.Sink.contents g.W.Sink.calls g.F.Flushing.is_sent g.F.Flushing.may_fail
+    c.in_between.ensures.kept
+    c.in_ok-in_between.ensures.none_failed c.in_ok-in_between.ensures.flushes c.in_ok-in_between.ensures.sent) _ _ _ _ _
+    c.finish.result i.7 c.in-Ok-eq0.ensures.moment (ap (λ (k : ℕ). take k c.read.new.buf) none)
+    (IfOk-weaker c.finish.result _ _ (λ t q. q _ i.0 i.1 i.3) c.finish.ensures.seen))
 
 pub returns-in-Ok-eq0-clause-sent : goal.returns-in-Ok-eq0-clause-sent
 returns-in-Ok-eq0-clause-sent g c = MatchResult-weaker c.finish.result c.finish.ensures.sent (λ _ s. s)
@@ -55,15 +64,29 @@ returns-in_err-take_in-in-Ok-clause-runs g c =
     let p = err_from_is_err_and c.from_residual-in_err-take_in-in-Ok.result
     c.from_residual-in_err-take_in-in-Ok.ensures.1 in
     let done = c.in_err-take_in-in-Ok.ensures in
-    rw (p.1, p.2, done.fault)
-    (Faults-inside _ _ _ i.0 i.1 _ _ _ _ i.2 c.in-Ok.ensures.bytes.0
-    (Appends-kept _ _ _ _ i.4 c.in_between.ensures.kept) (done.err _ i.0 i.1 i.3))
+    rw (p.1, p.2, done.fault) (
+      stops_in_chunk _ _ _ i.0 i.1
+          (inl (c.loop.counter + 1, reads_on_more _ _ _ _ _ _ i.6 c.in-Ok.ensures.call (omega arith) refl))
+          (last_failed_after _ _ _ _ (none_failed_more _ _ _ _ i.5 c.in_ok-in_between.ensures.none_failed) done.failed)
+          _ _ _ i.2 c.in-Ok.ensures.bytes.0 (Appends-kept _ _ _ _ i.4 c.in_between.ensures.kept) (done.err _ i.0 i.1
+          i.3),
+      λ is_input. absurd cc,
+    )
 
 pub returns-in-Err-clause-runs : goal.returns-in-Err-clause-runs
 returns-in-Err-clause-runs g c =
-    let i = c.loop.invariant in
-    StopsReading-here _ _ _ i.0 i.1 _ _ i.2 c.in-Err.ensures.bytes i.3
-    (Appends-kept _ _ _ _ i.4 c.in_between.ensures.kept)
+    let i = c.loop.invariant in (
+      stops_reading _ _ _ i.0 i.1 _ (Consumes-kept _ _ _ i.0 i.2 c.in-Err.ensures.bytes) i.3
+          (Appends-kept _ _ _ _ i.4 c.in_between.ensures.kept)
+          (inl (reads_last _ _ _ _ None i.6 c.in-Err.ensures.call))
+          (none_failed_more _ _ _ _ i.5 c.in_ok-in_between.ensures.none_failed),
+      λ is_input. Adds-trans _ _ _ _ _ _ (λ ms ns seen e. SeenSoFar-failed g.W.Sink.contents g.W.Sink.calls
+          g.F.Flushing.is_sent g.S.Shelf.files g.F.Flushing.may_fail _ i.0 i.1 _ _ i.3 _ _ _ _ i.4 i.5 (settled
+          g.W.Sink.contents g.W.Sink.calls g.F.Flushing.is_sent g.F.Flushing.may_fail c.in_between.ensures.kept
+          c.in_ok-in_between.ensures.none_failed c.in_ok-in_between.ensures.flushes c.in_ok-in_between.ensures.sent)
+          ms ns
+          seen e) i.7 c.in-Err.ensures.moment,
+    )
 
 pub loop-preserved : goal.loop-preserved
 loop-preserved g c =
@@ -90,128 +113,17 @@ returns-in_err-in_between-2-clause-runs g c =
     let p = err_from_is_err_and c.from_residual-in_err-in_between-2.result
     c.from_residual-in_err-in_between-2.ensures.1 in
     let f = c.in_err-in_between-2.ensures.fault in
-    rw (p.1, p.2, f.0) (inl (
-      f.1,
-      StopsReading-here _ _ _ i.0 i.1 _ _ i.2 (Keeps-refl _) i.3
-          (Appends-kept _ _ _ _ i.4 c.in_between-2.ensures.kept),
-    ))
+    rw (p.1, p.2, f.0) (
+      stops_before_read _ _ _ i.0 i.1 _ i.2 i.3 (Appends-kept _ _ _ _ i.4 c.in_between-2.ensures.kept) f.1
+          (inl (c.loop.counter, i.6)) (last_failed_after _ _ _ _ i.5 c.in_err-in_between-2.ensures.failed),
+      λ is_input. absurd cc,
+    )
 
 pub returns-clause-runs : goal.returns-clause-runs
 returns-clause-runs g c =
-    let i = c.loop.invariant in
-    StopsReading-here _ _ _ i.0 i.1 _ _ i.2 (Keeps-refl _) i.3 (Appends-kept _ _ _ _ i.4 c.in_between-2.ensures.kept)
-
-pub returns-in_err-in_between-clause-reads : goal.returns-in_err-in_between-clause-reads
-returns-in_err-in_between-clause-reads g c =
-    let p = err_from_is_err_and c.from_residual.result c.from_residual.ensures.1 in
-    let f = c.in_err-in_between.ensures.fault in
-    rw (p.1, p.2, f.0) (inl (c.loop.counter, c.loop.invariant.6))
-
-pub returns-in_err-in_between-clause-calls : goal.returns-in_err-in_between-clause-calls
-returns-in_err-in_between-clause-calls g c =
-    let p = err_from_is_err_and c.from_residual.result c.from_residual.ensures.1 in
-    let f = c.in_err-in_between.ensures.fault in
-    rw (p.1, p.2, f.0) (last_failed_after _ _ _ _ c.loop.invariant.5 c.in_err-in_between.ensures.failed)
-
-pub returns-in_err-in_between-2-clause-reads : goal.returns-in_err-in_between-2-clause-reads
-returns-in_err-in_between-2-clause-reads g c =
-    let p = err_from_is_err_and c.from_residual-in_err-in_between-2.result
-    c.from_residual-in_err-in_between-2.ensures.1 in
-    let f = c.in_err-in_between-2.ensures.fault in
-    rw (p.1, p.2, f.0) (inl (c.loop.counter, c.loop.invariant.6))
-
-pub returns-in_err-in_between-2-clause-calls : goal.returns-in_err-in_between-2-clause-calls
-returns-in_err-in_between-2-clause-calls g c =
-    let p = err_from_is_err_and c.from_residual-in_err-in_between-2.result
-    c.from_residual-in_err-in_between-2.ensures.1 in
-    let f = c.in_err-in_between-2.ensures.fault in
-    rw (p.1, p.2, f.0) (last_failed_after _ _ _ _ c.loop.invariant.5 c.in_err-in_between-2.ensures.failed)
-
-pub returns-in-Ok-eq0-clause-reads : goal.returns-in-Ok-eq0-clause-reads
-returns-in-Ok-eq0-clause-reads g c =
-    reads_of_end _ _ _ c.finish.result
-    (reads_end _ _ _ _ _ c.loop.invariant.6 c.in-Ok-eq0.ensures.call c.in-Ok-eq0.field-0-test) c.finish.ensures.sent
-
-pub returns-in-Ok-eq0-clause-calls : goal.returns-in-Ok-eq0-clause-calls
-returns-in-Ok-eq0-clause-calls g c =
-    calls_of_end _ _ _ _ _ c.finish.result
-    (none_failed_more _ _ _ _ c.loop.invariant.5 c.in_ok-in_between.ensures.none_failed) c.finish.ensures.flushed
-    c.finish.ensures.failed c.finish.ensures.sent
-
-pub returns-in_err-take_in-in-Ok-clause-reads : goal.returns-in_err-take_in-in-Ok-clause-reads
-returns-in_err-take_in-in-Ok-clause-reads g c =
-    let p = err_from_is_err_and c.from_residual-in_err-take_in-in-Ok.result
-    c.from_residual-in_err-take_in-in-Ok.ensures.1 in
-    rw (p.1, p.2, c.in_err-take_in-in-Ok.ensures.fault) (inl (
-      c.loop.counter + 1,
-      reads_on_more _ _ _ _ _ _ c.loop.invariant.6 c.in-Ok.ensures.call (omega arith) refl,
-    ))
-
-pub returns-in_err-take_in-in-Ok-clause-calls : goal.returns-in_err-take_in-in-Ok-clause-calls
-returns-in_err-take_in-in-Ok-clause-calls g c =
-    let p = err_from_is_err_and c.from_residual-in_err-take_in-in-Ok.result
-    c.from_residual-in_err-take_in-in-Ok.ensures.1 in
-    rw (p.1, p.2, c.in_err-take_in-in-Ok.ensures.fault) (last_failed_after _ _ _ _
-    (none_failed_more _ _ _ _ c.loop.invariant.5 c.in_ok-in_between.ensures.none_failed)
-    c.in_err-take_in-in-Ok.ensures.failed)
-
-pub returns-in-Err-clause-reads : goal.returns-in-Err-clause-reads
-returns-in-Err-clause-reads g c = inl (reads_last _ _ _ _ None c.loop.invariant.6 c.in-Err.ensures.call)
-
-pub returns-in-Err-clause-calls : goal.returns-in-Err-clause-calls
-returns-in-Err-clause-calls g c = none_failed_more _ _ _ _ c.loop.invariant.5 c.in_ok-in_between.ensures.none_failed
-
-pub returns-clause-reads : goal.returns-clause-reads
-returns-clause-reads g c = inr (subst (λ (times : ℕ). ReadsOn (g.R.Source.reads c.args.reader.now)
-    (g.R.Source.reads c.loop.reader) times) (omega arith) c.loop.invariant.6)
-
-pub returns-clause-calls : goal.returns-clause-calls
-returns-clause-calls g c = none_failed_more _ _ _ _ c.loop.invariant.5 c.in_ok-in_between-2.ensures.none_failed
-
-pub returns-in_err-in_between-clause-order : goal.returns-in_err-in_between-clause-order
-returns-in_err-in_between-clause-order g c =
-    let p = err_from_is_err_and c.from_residual.result c.from_residual.ensures.1 in
-    let f = c.in_err-in_between.ensures.fault in
-    rw (p.1, p.2, f.0) (λ is_input. absurd cc)
-
-pub returns-in_err-in_between-2-clause-order : goal.returns-in_err-in_between-2-clause-order
-returns-in_err-in_between-2-clause-order g c =
-    let p = err_from_is_err_and c.from_residual-in_err-in_between-2.result
-    c.from_residual-in_err-in_between-2.ensures.1 in
-    let f = c.in_err-in_between-2.ensures.fault in
-    rw (p.1, p.2, f.0) (λ is_input. absurd cc)
-
-pub returns-in_err-take_in-in-Ok-clause-order : goal.returns-in_err-take_in-in-Ok-clause-order
-returns-in_err-take_in-in-Ok-clause-order g c =
-    let p = err_from_is_err_and c.from_residual-in_err-take_in-in-Ok.result
-    c.from_residual-in_err-take_in-in-Ok.ensures.1 in
-    rw (p.1, p.2, c.in_err-take_in-in-Ok.ensures.fault) (λ is_input. absurd cc)
-
-pub returns-in-Ok-eq0-clause-order : goal.returns-in-Ok-eq0-clause-order
-returns-in-Ok-eq0-clause-order g c =
-    let i = c.loop.invariant in
-    let read = c.in-Ok-eq0.ensures.bytes in
-    Ordered-end g.W.Sink.contents g.W.Sink.calls g.F.Flushing.is_sent g.S.Shelf.files g.F.Flushing.may_fail _ i.0 i.1
-    _ _ i.3 _ _ _ _ i.4 i.5 (settled g.W.Sink.contents g.W.Sink.calls g.F.Flushing.is_sent g.F.Flushing.may_fail
-    c.in_between.ensures.kept
-    c.in_ok-in_between.ensures.none_failed c.in_ok-in_between.ensures.flushes c.in_ok-in_between.ensures.sent) _ _ _ _ _
-    _ _ _ c.finish.result i.7 c.in-Ok-eq0.ensures.moment (ap (λ (k : ℕ). take k c.read.new.buf)
-    c.in-Ok-eq0.field-0-test)
-    (Consumes-none _ _ _ i.0 _ c.in-Ok-eq0.field-0 c.in-Ok-eq0.field-0-test i.2 read.0)
-    (IfOk-weaker c.finish.result _ _ (λ t q. q _ i.0 i.1 i.3) c.finish.ensures.seen) c.finish.ensures.sent
-
-pub returns-in-Err-clause-order : goal.returns-in-Err-clause-order
-returns-in-Err-clause-order g c =
-    let i = c.loop.invariant in
-    λ is_input.
-    Ordered-failed g.W.Sink.contents g.W.Sink.calls g.F.Flushing.is_sent g.S.Shelf.files g.F.Flushing.may_fail _ i.0
-    i.1 _ _ i.3 _ _ _ _ i.4 i.5 (settled g.W.Sink.contents g.W.Sink.calls g.F.Flushing.is_sent g.F.Flushing.may_fail
-    c.in_between.ensures.kept
-    c.in_ok-in_between.ensures.none_failed c.in_ok-in_between.ensures.flushes c.in_ok-in_between.ensures.sent) _ _ _ _ _
-    i.7 c.in-Err.ensures.moment (Consumes-kept _ _ _ i.0 i.2 c.in-Err.ensures.bytes)
-
-pub returns-clause-order : goal.returns-clause-order
-returns-clause-order g c =
-    let i = c.loop.invariant in
-    λ is_input. Adds-weaker _ _ _ _ (λ ms seen. InOrder-here g.W.Sink.contents g.W.Sink.calls g.F.Flushing.is_sent
-    g.S.Shelf.files g.F.Flushing.may_fail _ _ _ _ i.0 ms seen i.2) i.7
+    let i = c.loop.invariant in (
+      stops_reading _ _ _ i.0 i.1 _ i.2 i.3 (Appends-kept _ _ _ _ i.4 c.in_between-2.ensures.kept)
+          (inr (subst (λ (times : ℕ). ReadsOn (g.R.Source.reads c.args.reader.now) (g.R.Source.reads c.loop.reader)
+          times) (omega arith) i.6)) (none_failed_more _ _ _ _ i.5 c.in_ok-in_between-2.ensures.none_failed),
+      λ is_input. i.7,
+    )

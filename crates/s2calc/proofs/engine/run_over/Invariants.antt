@@ -2,10 +2,10 @@ use Rattle.std.proofs.Common.{ℕ, List}
 use Rattle.std.specs.Io.KnownBytes.{Appends, Consumes}
 use Rattle.s2calc.specs.Replies.{Reply, texts}
 use Rattle.s2calc.specs.World.{world}
-use Rattle.s2calc.specs.Explained.{point}
+use Rattle.s2calc.specs.Working.Stands.{point}
 use Rattle.s2calc.specs.Working.Stands.{Stands}
 use Rattle.s2calc.specs.Calls.{NoneFailed}
-use Rattle.s2calc.specs.CallsOfRun.{ReadsOn}
+use Rattle.s2calc.specs.Reads.{ReadsOn}
 use Rattle.s2calc.specs.Moments.{Adds}
 use Rattle.s2calc.specs.Working.Seen.{SeenSoFar}
 use Rattle.s2calc.proofs.engine.run_over.Given as goal

@@ -2,7 +2,7 @@ use Rattle.std.proofs.Common.{◌≡◌, ℕ, List, ◌++◌, length}
 use Rattle.s2calc.specs.World.{world}
 use Rattle.s2calc.specs.Replies.{Reply}
 use Rattle.s2calc.specs.Calls.{NoneFailed}
-use Rattle.s2calc.specs.Explained.{Point, point}
+use Rattle.s2calc.specs.Working.Stands.{Point, point}
 use Rattle.s2calc.specs.Working.Stands.{Stands, StandsAfter}
 use Rattle.s2calc.specs.Moments.{Adds}
 use Rattle.s2calc.specs.Working.Seen.{MoreSeen}
