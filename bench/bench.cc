@@ -81,9 +81,6 @@ struct Texts {
   std::vector<char> bytes = std::vector<char>(32 * N);
   std::vector<size_t> lens = std::vector<size_t>(N);
 
-  void read(ToText call, const List& ids) {
-    for (size_t k = 0; k < N; k++) must(call(ids[k], &bytes[32 * k], 32, &lens[k]) == S2U_OK, "text");
-  }
   std::string at(size_t k) const { return std::string(&bytes[32 * k], lens[k]); }
   u64 sum() const {
     Sum sum;
@@ -106,7 +103,11 @@ static void texts(Table& table) {
                for (size_t k = 0; k < N; k++) peer[k] = S2CellId(ids[k]).ToToken();
              },
              sum_of_texts},
-            {[&](uint32_t) { proved.read(s2u_token, ids); }, [&] { return proved.sum(); }});
+            {[&](uint32_t) {
+               for (size_t k = 0; k < N; k++)
+                 proved.lens[k] = s2c_token(ids[k], reinterpret_cast<uint8_t*>(&proved.bytes[32 * k]), 32);
+             },
+             [&] { return proved.sum(); }});
   auto back = [&](Row it, auto from_text, FromText proved_from_text) {
     table.row(it,
               {[&](uint32_t) {
@@ -128,7 +129,11 @@ static void texts(Table& table) {
                for (size_t k = 0; k < N; k++) peer[k] = S2CellId(ids[k]).ToString();
              },
              sum_of_texts},
-            {[&](uint32_t) { proved.read(s2u_debug, ids); }, [&] { return proved.sum(); }});
+            {[&](uint32_t) {
+               for (size_t k = 0; k < N; k++)
+                 must(s2u_debug(ids[k], &proved.bytes[32 * k], 32, &proved.lens[k]) == S2U_OK, "debug_text");
+             },
+             [&] { return proved.sum(); }});
   for (size_t k = 0; k < N; k++) peer[k] = S2CellId(ids[k]).ToString();
   back(
       {"from_debug_text", N, 0xe714663334a73aec}, [](const std::string& t) { return S2CellId::FromDebugString(t); },

@@ -1,7 +1,8 @@
-// `CellUnion`, the coverings of a clip and by the general descent, and the files of the calculator, for C++: what
-// crates/s2c exports, whose contracts say what each call answers. All else is asked of libs2union. A slice of Rust is a
-// pointer and a length here. `false` says that nothing was made: a list is not a union, there is too little room, or
-// there is no memory. `times` is how often a call does its work, which changes no answer.
+// `CellUnion`, the coverings of a clip and by the general descent, the files of the calculator, and a token that takes
+// sixteen bytes, for C++: what crates/s2c exports, whose contracts say what each call answers. All else is asked of
+// libs2union. A slice of Rust is a pointer and a length here. `false` says that nothing was made: a list is not a
+// union, there is too little room, or there is no memory. `times` is how often a call does its work, which changes no
+// answer.
 #pragma once
 #include <cstddef>
 #include <cstdint>
@@ -12,6 +13,8 @@ struct Bounds {
 };
 
 extern "C" {
+size_t s2c_token(uint64_t id, uint8_t* text, size_t room);
+
 bool s2c_normalise(const uint64_t* ids, size_t n, uint32_t times, uint64_t* out, size_t room, size_t* len);
 bool s2c_denormalised(const uint64_t* ids, size_t n, uint8_t min, uint8_t modulus, uint32_t times, uint64_t* out,
                       size_t room, size_t* len);

@@ -46,7 +46,6 @@ using PeerOperation = S2CellUnion (S2CellUnion::*)(const S2CellUnion&) const;
 using CellQuestions = bool (*)(const u64*, size_t, const u64*, size_t, bool*, size_t);
 using Covering = bool (*)(const Bounds*, uint8_t, u64*, size_t, size_t*);
 using RectangleCall = int32_t (*)(const s2u_rect*, uint32_t, size_t, u64*, size_t, size_t*);
-using ToText = int32_t (*)(u64, char*, size_t, size_t*);
 using FromText = int32_t (*)(const char*, size_t, u64*);
 using UnionQuestion = bool (*)(const u64*, size_t, const u64*, size_t, uint32_t, bool*);
 
