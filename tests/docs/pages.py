@@ -1,17 +1,19 @@
 #!/usr/bin/env python3
 """Checks the pages: docs/STATEMENT.md is what tools/statement makes; each definition has a sentence, and stands in
-specs/Working if no public contract needs it; every relative link of every page leads to a file; if the link's text is
-names of the sources, the file has them; each path in backticks is there; the files that docs/ARCHITECTURE.md walks
-through have the functions that it names; each language has what docs/FROM_S2.md says it has; and what can't read the
-file VERSION has the version that it gives. The last line is 'N passed, M failed', where N counts the definitions, the
-links, the paths, the names and the places of the version."""
+specs/Working if no public contract needs it; every relative link of every page leads to a file, and to its heading; if
+the link's text is names of the sources, the file has them; each path in backticks is there; the files that
+docs/ARCHITECTURE.md walks through have the functions that it names; each language has what docs/FROM_S2.md says it has;
+and what can't read the file VERSION has the version that it gives. The last line is 'N passed, M failed', where N
+counts the definitions, the links, the paths, the names and the places of the version."""
+import functools
 import re
 import subprocess
 import sys
 from pathlib import Path
 
 ROOT = Path(__file__).resolve().parents[2]
-LINK = re.compile(r"\]\((?!https?://|#)([^)#\s]+)[^)]*\)")
+LINK = re.compile(r"\]\((?!https?://)([^)#\s]*)(?:#([^)\s]+))?[^)]*\)")
+BLOCK = re.compile(r"^```.*?^```", re.S | re.M)
 NAMES = re.compile(r"\[((?:`\w+`(?:, | and )?)+)\]\(([^)#\s]+(?<!lib)\.(?:rt|antt))\)")
 CODE = re.compile(r"`([^`\n]+)`")
 PATH = re.compile(r"[\w.*/-]+")
@@ -56,15 +58,23 @@ def broken_links():
     """The number of links and of paths, and those that lead nowhere, as 'page: link'."""
     count, broken = 0, []
     for page in pages():
-        for link in LINK.findall(page.read_text()):
+        for link, heading in LINK.findall(page.read_text()):
             count += 1
-            if not (page.parent / link).exists():
-                broken.append(f"{page.relative_to(ROOT)}: {link}")
+            there = page.parent / link if link else page
+            if not there.exists() or heading and heading not in headings(there):
+                broken.append(f"{page.relative_to(ROOT)}: {link}{'#' if heading else ''}{heading}")
     for page, path, there in paths():
         count += 1
         if not there:
             broken.append(f"{page.relative_to(ROOT)}: {path}")
     return count, broken
+
+
+@functools.cache
+def headings(page):
+    """The headings of a page, as links name them."""
+    lines = re.findall(r"^#+ (.*)$", BLOCK.sub("", page.read_text()), re.M)
+    return {re.sub(r"[^\w -]", "", line.lower()).replace(" ", "-") for line in lines}
 
 
 def paths():
