@@ -236,8 +236,11 @@ class AgainstTheModel(Tests):
             self.assertEqual([unsigned(cell) for (cell,) in said], model.cut(small, least, 1))
             said = self.db.execute("SELECT value FROM s2_prepared(?)", (value,)).fetchall()
             self.assertEqual(said, [(model.file(normal),)])
-        for query in ("s2_cells", "s2_ancestors", "s2_cells WHERE modulus = 1 AND x = '1'", "s2_prepared"):
+        for query in ("s2_cells", "s2_ancestors", "s2_cells WHERE modulus = 1 AND x = '1'", "s2_prepared",
+                      "s2_cells WHERE x > '1'"):
             self.assertRaises(sqlite3.OperationalError, self.db.execute, f"SELECT * FROM {query}")
+        for columns, table in (("x, level, modulus", "s2_cells('1', 0, 1)"), ("x", "s2_prepared('1')")):
+            self.assertEqual(set(*self.db.execute(f"SELECT {columns} FROM {table}")), {None})
 
     def test_long_listings(self):
         """Cells that are cut to more than are ready at once, between cells that are not cut."""
@@ -265,7 +268,8 @@ class AgainstTheModel(Tests):
     def test_texts_that_are_read_in_pieces(self):
         cells = [model.identifier(28, 3 * k) for k in range(12000)]
         for shift in range(0, 40, 3):
-            text = " " * shift + ",".join(self.random.text(cell) for cell in cells)
+            between = ",\n\t\r "[shift % 5]
+            text = " " * shift + between.join(self.random.text(cell) for cell in cells)
             self.assertEqual(self.ask("s2_normalise(?)", text), model.file(cells))
             self.refused("s2: not a cell", "s2_count(?)", text + " park")
             self.refused("s2: not a cell", "s2_count(?)", text[:65500] + " 1/0123" + "0" * shift + "park " + text)
@@ -399,6 +403,14 @@ class WhatIsRefused(Tests):
         rows = self.db.execute("SELECT name, narg FROM pragma_function_list WHERE name LIKE 's2\\_%' ESCAPE '\\'")
         self.assertEqual(sorted(set(rows)), sorted((name, len(letters)) for name, letters, _ in calls()))
 
+    def test_equal_values_give_equal_values(self):
+        """So an index may be made of what a function answers."""
+        self.db.execute("CREATE TABLE regions(region)")
+        for name, letters, values in calls():
+            columns = ", ".join(["region"] * len(values))
+            if not name.endswith("_agg"):
+                self.db.execute(f"CREATE INDEX '{name}{letters}' ON regions({name}({columns}))")
+
     def test_null_gives_null(self):
         for name, letters, values in calls():
             self.assertIsNotNone(self.call(name, values), name)
@@ -499,12 +511,27 @@ class WhatIsRefused(Tests):
                 self.db.execute(query, (leaf, 8)).fetchall()
 
     def test_a_constant_of_the_host_that_changes(self):
-        values = [model.file([FACE]), "1", model.file([FACE]), signed(FACE), model.file([FACE, FACE]), "04 1"] * 9
+        """In a trigger SQLite asks for a constant in each row."""
+        normal, other = model.file([FACE]), model.file([FACE, FACE])
+        large = model.file([FACE] + [model.identifier(9, 4**10 - 3 * k) for k in range(40, 0, -1)])
+        self.db.execute("CREATE TABLE answers(answer)")
         self.db.execute("CREATE TABLE rows(x)")
-        self.db.executemany("INSERT INTO rows VALUES(?)", [("04",)] * 50)
-        for expression in ("s2_contains(lie(), x)", "s2_intersects(x, lie())"):
-            self.db.create_function("lie", 0, iter(values).__next__, deterministic=True)
-            self.assertEqual(self.db.execute(f"SELECT sum({expression}) FROM rows").fetchone(), (50,))
+        self.db.executemany("INSERT INTO rows VALUES(?)", [("04",)] * 6)
+        self.db.execute("CREATE TEMP VIEW asked AS SELECT 1")
+        orders = [normal, "1", normal, signed(FACE), other, "04 1"], [large, "1", other, large, signed(FACE), large]
+        for lies in orders:
+            for expression in ("s2_contains(lie(), x)", "s2_intersects(x, lie())"):
+                left = iter(lies)
+                self.db.create_function("lie", 0, left.__next__, deterministic=True)
+                self.db.executescript(f"""
+                    CREATE TEMP TRIGGER ask INSTEAD OF INSERT ON asked BEGIN
+                        INSERT INTO answers SELECT {expression} FROM rows;
+                    END;
+                    INSERT INTO asked VALUES(1);
+                    DROP TRIGGER ask;
+                """)
+                self.assertEqual(list(left), [])
+        self.assertEqual(self.ask("sum(answer) FROM answers"), 24)
 
     def test_each_bit_of_100_stored_values_flipped(self):
         self.db.execute("CREATE TABLE flipped(id INTEGER PRIMARY KEY, file BLOB)")
