@@ -142,15 +142,13 @@ class AgainstTheModel(Tests):
         self.all_are(pairs)
 
     def test_ancestors(self):
-        pairs = []
-        for _ in range(ROUNDS // 3):
-            xs = self.random.cells()
-            above = set()
-            for cell in model.normal(model.runs(xs)):
-                level, place = model.cell(cell)
-                above |= {model.identifier(k, place // 4 ** (level - k)) for k in range(level + 1)}
-            pairs.append((f"s2_ancestors({u(xs)})", array(sorted(above))))
-        self.all_are(pairs)
+        scattered = [model.identifier(30, face * 4**30) for face in range(6)]
+        unions = [scattered] + [model.normal(model.runs(self.random.cells())) for _ in range(ROUNDS // 3)]
+        self.all_are([(f"s2_ancestors({u(cells)})", array(model.ancestors(cells))) for cells in unions])
+
+    def test_an_array_of_two_dimensions(self):
+        rows = "[s2_cell('24'), s2_cell('0c')], [s2_cell('14'), s2_cell('04')]"
+        self.all_are([(f"(ARRAY[{rows}])::s2union", "04 0c 14 24")])
 
     def test_cells_cut(self):
         pairs = []
@@ -326,6 +324,8 @@ class WhatIsRefused(Tests):
         self.all_refused(wrong)
         self.all_refused([(f"s2_cell('{text}')", "not a cell") for text in ("", "X", "1 1", "6/")])
         self.all_are([("''::s2union::text = '' and ' , '::s2union = ''", "true")])
+        said = f'error: invalid input syntax for type s2union: "{"€" * 13}" names no cell' # psql drops half a sign
+        self.all_are([(f"md5(try($t$SELECT '1 {'€' * 20}'::s2union::text$t$))", md5(said))])
 
     def test_files(self):
         self.all_refused([(f"('\\x{file.hex()}'::bytea)::s2union", f"s2union: union file: {reason}")
@@ -1091,6 +1091,12 @@ class Guarded(Tests):
             (f"('\\x{model.file(cells).hex()}'::bytea)::s2union", "error: s2union: more than 10 cells"),
             ("state_of($s$SELECT '1 X'::s2union$s$)", "22P02"),
         ], limit)
+
+    def test_the_limit_of_a_text_between_two_pieces(self):
+        text = "(SELECT s2_union_agg(10 * k + 1) FROM generate_series(1, {}::bigint) k)::text"
+        self.all_are([
+            (f"length({text.format(65536)})", "1114111"), (f"state_of($s$SELECT {text.format(65537)}$s$)", "54000"),
+        ], "DO $$ BEGIN PERFORM s2_limit(1114112); END $$;")
 
     def test_keys_of_a_question(self):
         """How many keys, how many of them ranges, how many with something that isn't compared, the mode of the search,
