@@ -228,12 +228,13 @@ static void normalising(Lanes& lanes, const std::string& of, const List& cells) 
 static void union_of_many(Lanes& lanes, const std::string& of, const Lists& lists) {
   Chain chain(lists);
   size_t n = chain.ids.size();
-  List spare(n);
+  List spare(n), work(2 * n);
   list_row(lanes, "union_of_many_" + of, n, n,
            {[&] { return ids_of(S2CellUnion(peer_cells(chain.ids))); },
             [&](Room& room) {
-              memcpy(room.at(), chain.ids.data(), 8 * n);
-              made(s2u_normalise(room.at(), n, room.len()), "union_of_many");
+              made(s2u_union_of_many(chain.ids.data(), n, chain.offsets.data() + 1, lists.size(), work.data(),
+                                     work.size(), room.at(), room.size(), room.len()),
+                   "union_of_many");
             },
             [&](Room& room) {
               memcpy(room.at(), chain.ids.data(), 8 * n);

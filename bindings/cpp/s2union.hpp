@@ -248,6 +248,29 @@ class CellUnionOf {
   CellUnionOf Union(const CellUnionOf& y, int32_t* status = nullptr) const {
     return Both(s2u_union, size() + y.size(), y, status);
   }
+  /// The leaves of any of many unions, which are merged in pairs. Takes memory for four times their cells. S2U_MEMORY.
+  static CellUnionOf UnionOf(const std::vector<CellUnionOf>& unions, int32_t* status = nullptr) {
+    CellUnionOf made;
+    std::vector<uint64_t> ids, work;
+    std::vector<size_t> ends;
+    size_t n = 0;
+    for (const CellUnionOf& each : unions) n += each.size();
+    int32_t found = internal::resized(&ids, n);
+    if (found == S2U_OK) found = internal::resized(&work, 2 * n);
+    if (found == S2U_OK) found = internal::resized(&ends, unions.size());
+    if (found == S2U_OK) {
+      n = 0;
+      for (size_t k = 0; k < unions.size(); k++) {
+        std::copy_n(unions[k].ids(), unions[k].size(), ids.begin() + static_cast<ptrdiff_t>(n));
+        ends[k] = n += unions[k].size();
+      }
+      found = Listed(n, &made.cell_ids_, [&](uint64_t* out, size_t room, size_t* len) {
+        return s2u_union_of_many(ids.data(), n, ends.data(), ends.size(), work.data(), work.size(), out, room, len);
+      });
+    }
+    internal::succeeded(found, status);
+    return made;
+  }
   /// The leaves that both have. S2U_MEMORY.
   CellUnionOf Intersection(const CellUnionOf& y, int32_t* status = nullptr) const {
     return Both(s2u_intersection, size() + y.size(), y, status);

@@ -147,6 +147,7 @@ static void unions() {
   CHECK(list == two.cell_ids() && Union::IsNormalized(list));
   Union::GetIntersection(face.cell_ids(), two.cell_ids(), &list);
   CHECK(list == two.cell_ids());
+  CHECK(Union::UnionOf({two, face, two}) == face.Union(two) && Union::UnionOf({}) == Union());
   Union::Denormalize(face.cell_ids(), 3, 2, &list);
   CHECK(list.size() == 64);
 

@@ -235,6 +235,29 @@ static void making(void) {
   made(14, s2u_ancestors(xs, n, fresh(), room, &len), len, S2U_MOST_ANCESTORS(n));
 }
 
+/* Lists in one array that end at any places, with room to work that may be too short. */
+static void many(void) {
+  size_t n = list_before(xs_end, MOST), len = 77, ends[4], lists = byte() % 5, before = 0;
+  const uint64_t* xs = n ? xs_end - n : NULL;
+  static uint64_t work[2 * MOST];
+  size_t work_room = byte() % 8 ? 2 * n : byte() % (2 * MOST);
+  int fit = work_room / 2 >= n && (lists || n == 0);
+  for (size_t k = 0; k < lists; k++) {
+    ends[k] = k + 1 == lists && byte() % 8 ? n : byte() % 4 ? before + byte() % (n + 1) : (size_t)number();
+    fit = fit && ends[k] >= before;
+    before = ends[k];
+  }
+  fit = fit && before == n;
+  uint64_t* out = fresh();
+  int32_t status = s2u_union_of_many(xs, n, ends, lists, work, work_room, out, room, &len);
+  if (status == S2U_NO_CELL) {
+    MUST(fit && len < n && !s2u_is_cell(xs[len]));
+  } else {
+    MUST(fit ? status == S2U_OK || status == S2U_ROOM : status == S2U_ARGUMENT && len == 0);
+    MUST(status != S2U_OK || (len <= room && s2u_is_union(out, len) == 1));
+  }
+}
+
 static void coverings(void) {
   size_t n = list_before(xs_end, MOST), len = 77, most = byte() % 70;
   const uint64_t* xs = n ? xs_end - n : NULL;
@@ -245,7 +268,7 @@ static void coverings(void) {
     out = fresh();
     int32_t status = (call ? s2u_outer_of : s2u_inner_of)(xs, n, level, most, out, room, &len);
     MUST(level > 30 ? status == S2U_ARGUMENT : status == S2U_OK || status == S2U_ROOM || status == S2U_MANY);
-    made(15 + call, status, len, most);
+    if (real || status != S2U_MANY) made(15 + call, status, len, most);
     MUST(!real || status != S2U_OK || s2u_is_union(out, len) == 1);
   }
   uint32_t mask = byte() % 2 ? 0xffffffff : 0x3fffffff;
@@ -320,7 +343,7 @@ static void start(void) {
 }
 
 int LLVMFuzzerTestOneInput(const uint8_t* data, size_t size) {
-  static void (*const groups[])(void) = {cells, texts, questions, sets, making, coverings, files};
+  static void (*const groups[])(void) = {cells, texts, questions, sets, making, many, coverings, files};
   if (!xs_end) start();
   input = data;
   left = size;

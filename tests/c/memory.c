@@ -5,7 +5,7 @@
 
 enum { N = 3000, ROOM = 400000 };
 static char text[17 * N];
-static uint64_t xs[N], ys[N], list[N], out[ROOM], want[ROOM];
+static uint64_t xs[N], ys[N], list[N], work[2 * N], out[ROOM], want[ROOM];
 static uint8_t file[9 + 8 * ROOM], bytes[9 + 8 * ROOM], mixed[9 + 8 * N];
 static size_t nx, ny, nlist, nfile, len;
 static const s2u_rect rect = {1, 126420997, 159450117, 401604613, 434633733};
@@ -13,6 +13,10 @@ static const s2u_rect rect = {1, 126420997, 159450117, 401604613, 434633733};
 static int32_t unite(void) { return s2u_union(xs, nx, ys, ny, out, ROOM, &len); }
 static int32_t intersect(void) { return s2u_intersection(xs, nx, ys, ny, out, ROOM, &len); }
 static int32_t subtract(void) { return s2u_difference(xs, nx, ys, ny, out, ROOM, &len); }
+static int32_t many(void) {
+  size_t ends[2] = {nx / 3, nx};
+  return s2u_union_of_many(xs, nx, ends, 2, work, 2 * N, out, ROOM, &len);
+}
 static int32_t range(void) { return s2u_range(1, xs[nx - 1], out, ROOM, &len); }
 static int32_t cut(void) { return s2u_denormalised(xs, 40, 12, 1, out, ROOM, &len); }
 static int32_t cut_len(void) {
@@ -38,11 +42,12 @@ int main(void) {
     const char* name;
     int32_t (*call)(void);
     int is_pure;
-  } calls[] = {{"union", unite, 1}, {"intersection", intersect, 1}, {"difference", subtract, 1}, {"range", range, 0},
-               {"denormalised", cut, 1}, {"denormalised_len", cut_len, 1}, {"ancestors", ancestors, 1},
-               {"file_ancestors", of_file, 1}, {"outer", outer, 0}, {"inner", inner, 0}, {"outer_of", outer_of, 1},
-               {"inner_of", inner_of, 1}, {"encode", encode, 1}, {"decode of a union", decode, 1},
-               {"decode in any order", decode_mixed, 1}, {"decode in little room", decode_in_little_room, 0}};
+  } calls[] = {{"union", unite, 1}, {"intersection", intersect, 1}, {"difference", subtract, 1},
+               {"union_of_many", many, 1}, {"range", range, 0}, {"denormalised", cut, 1},
+               {"denormalised_len", cut_len, 1}, {"ancestors", ancestors, 1}, {"file_ancestors", of_file, 1},
+               {"outer", outer, 0}, {"inner", inner, 0}, {"outer_of", outer_of, 1}, {"inner_of", inner_of, 1},
+               {"encode", encode, 1}, {"decode of a union", decode, 1}, {"decode in any order", decode_mixed, 1},
+               {"decode in little room", decode_in_little_room, 0}};
   nx = random_union(xs, N, 6, 12);
   ny = random_union(ys, N, 6, 12);
   for (size_t k = 0; k < N; k++) list[k] = random_cell(6, 12, 6);

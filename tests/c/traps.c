@@ -253,6 +253,7 @@ static void nothing_at_all(void) {
   size_t len = 77, first = 77, count = 77;
   uint64_t id = 77;
   CHECK(s2u_normalise(NULL, 0, &len) == S2U_OK && len == 0);
+  CHECK(s2u_union_of_many(NULL, 0, NULL, 0, NULL, 0, NULL, 0, &len) == S2U_OK && len == 0);
   CHECK(s2u_union(NULL, 0, NULL, 0, NULL, 0, &len) == S2U_OK && len == 0);
   CHECK(s2u_union(&face, 1, NULL, 0, NULL, 0, &len) == S2U_ROOM && len == 1);
   CHECK(s2u_is_union(NULL, 0) == 1 && s2u_leaf_count(NULL, 0) == 0 && s2u_compare(NULL, 0, NULL, 0) == 0);

@@ -725,10 +725,12 @@ class Union:
         >>> Union.of([Union.from_tokens("04 0c"), Union(), Union.from_tokens("14"), Union.from_tokens("1c")]).tokens()
         ['1']
         """
-        ids = _array("Q")
+        ids, ends = _array("Q"), _array("Q")
         for union in unions:
             ids.frombytes(_wanted(Union, union)._ids)
-        return cls._normalised(ids)
+            ends.append(len(ids))
+        work = _room(2 * len(ids))
+        return cls._made(_listed(_library.union_of_many, len(ids), *_place(ids), *_place(ends), *_place(work)))
 
     @classmethod
     def from_tokens(cls: type[Self], tokens: str | bytes | Iterable[str]) -> Self:

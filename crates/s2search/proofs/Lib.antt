@@ -5,6 +5,7 @@ pub mod Levelling
 mod Laying
 mod Leaping
 mod Leaving
+mod Merging
 mod Cutting
 mod Holders
 mod Reaching

@@ -1,11 +1,11 @@
-//! Questions and set operations about cells where they lie: in a list of numbers, or in the bytes of a union file at
-//! any address.
+//! Set operations on lists of cells that write into a room that the caller provides, and the bytes of a union file at
+//! any address as a list of cells.
 //!
-//! No question copies anything or takes memory, and none has a precondition: whatever the numbers are, the call is safe
-//! and returns. The answer is exact if the numbers are the cells of a normalized union; for other numbers it means
-//! nothing. So it is with the set operations, with `ancestors`, the keys of an index, and with `denormalise`, which
-//! write into a room that the caller provides. `union_of` tests and copies numbers in one pass. `normalise` makes a
-//! list of cells a union in place.
+//! They copy no list and take no memory, and have no precondition on a list: whatever the numbers are, the call is safe
+//! and returns. The result is exact if the numbers are the cells of normalized unions; for other numbers it means
+//! nothing. So it is with `ancestors`, the keys of an index, with `denormalise`, and with `put_cut` and `put_kept`, the
+//! coverings of a union. `normalise` makes a list of cells a union in place, and `union_of_many` many lists one.
+//! `union_of` tests and copies numbers in one pass, and alone takes memory.
 #![tactic(auto)]
 
 mod cells;
@@ -15,6 +15,7 @@ mod denormalising;
 mod join;
 mod keys;
 pub mod laws;
+mod merge;
 mod normalising;
 mod pile;
 mod room;
@@ -27,6 +28,7 @@ pub use cut::{put_cut, put_kept};
 pub use denormalising::denormalise;
 pub use join::put_union;
 pub use keys::ancestors;
+pub use merge::union_of_many;
 pub use normalising::normalise;
 pub use share::{CountedLength, put_intersection, put_intersection_counted};
 pub use subtract::put_difference;

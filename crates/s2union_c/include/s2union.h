@@ -190,9 +190,17 @@ int32_t s2u_compare(const uint64_t* xs, size_t nx, const uint64_t* ys, size_t ny
 
 /* [pure] Normalizes a list of cells in place; they may be in any order, repeated, or inside one another. *len is then
  * the new length, at most n; what the list holds after that has no meaning. S2U_NO_CELL: a number is not a cell; the
- * list is not touched and *len is the place of the first one that is not. n log n steps, n if it is in order. The union
- * of many lists is their concatenation, normalized. */
+ * list is not touched and *len is the place of the first one that is not. n log n steps, n if it is in order. */
 int32_t s2u_normalise(uint64_t* ids, size_t n, size_t* len);
+
+/* [pure] The union of many lists of cells, which lie one after another in ids: each ends before the place that is next
+ * in `ends`, where the next begins, and the last one ends with ids. Lists that ascend, as unions do, are merged in
+ * pairs: n steps for each doubling of their number. Cells in other orders are sorted too. `work` is room for at least
+ * 2 n numbers, and means nothing afterward. S2U_ROOM (at most n cells; nothing is written to out), S2U_ARGUMENT: `ends`
+ * descends or does not end with n, or work is too short; S2U_NO_CELL: *len is the place of the first number that is not
+ * a cell. */
+int32_t s2u_union_of_many(const uint64_t* ids, size_t n, const size_t* ends, size_t lists, uint64_t* work,
+                          size_t work_room, uint64_t* out, size_t room, size_t* len);
 
 /* [pure] S2U_ROOM. At most nx + ny cells, but for a difference. Of lists that are not unions: at most 256 (nx + ny)
  * cells, in at most twice as many steps. */

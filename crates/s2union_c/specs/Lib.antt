@@ -1,5 +1,6 @@
 pub mod Status
 pub mod Cutting
+pub mod Ends
 pub mod Files
 pub mod ManyCells
 pub mod Order

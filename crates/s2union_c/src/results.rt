@@ -6,15 +6,15 @@ ghost use Rattle.s2union_c.specs.Status.{made, no_room};
 use crate::status::{MADE, NO_ROOM};
 use s2cell::CellId;
 
-/// Writes bytes to the front of the room, if they fit, and tells how many there are.
-pub(crate) fn put(bytes: &[u8], out: &mut [u8], len: &mut usize) -> i32
-    ensures { Made result bytes.now out.old out.new len.new }
+/// Writes bytes or numbers to the front of the room, if they fit, and tells how many there are.
+pub(crate) fn put<T: Copy>(items: &[T], out: &mut [T], len: &mut usize) -> i32
+    ensures { Made result items.now out.old out.new len.new }
 {
-    *len = bytes.len();
-    if bytes.len() > out.len() {
+    *len = items.len();
+    if items.len() > out.len() {
         return NO_ROOM;
     }
-    out[..bytes.len()].copy_from_slice(bytes);
+    out[..items.len()].copy_from_slice(items);
     MADE
 }
 

@@ -1,20 +1,21 @@
 //! Making unions from a list or a range, the ancestors of a union's cells, and its cells cut to levels.
-ghost use Rattle.std.specs.Prelude.{◌≡◌, ◌+◌, ◌<◌, ◌≤◌, ◌⊎◌, ◌↔◌, IsTrue, All, length};
+ghost use Rattle.std.specs.Prelude.{◌≡◌, ◌+◌, ◌*◌, ◌<◌, ◌≤◌, ◌⊎◌, ◌↔◌, ℕ, IsTrue, All, List, length};
 ghost use Rattle.s2cell.specs.Cell.{IsCell, first_leaf, size_of};
 ghost use Rattle.s2list.specs.Union.{IsLocal, IsNormalForm, between, has_leaf};
 ghost use Rattle.s2union.specs.Denorm.{denormalised};
 ghost use Rattle.s2search.specs.Ancestors.{AreHolders};
 ghost use Rattle.s2search.specs.Normalising.{IsNormalisedIn};
 ghost use Rattle.s2list.specs.Search.{IsFirstWrong};
-ghost use Rattle.s2union_c.specs.Results.{MadeInPlace, MadeOne, Refused};
+ghost use Rattle.s2union_c.specs.Ends.{AreEnds};
+ghost use Rattle.s2union_c.specs.Results.{Made, MadeInPlace, MadeOne, Refused};
 ghost use Rattle.s2union_c.specs.Cutting.{IsCutting};
 ghost use Rattle.s2union_c.specs.Status.{bad_argument, made, no_cell, no_room};
 
-use crate::results::{put_cells, room_status};
+use crate::results::{put, put_cells, room_status};
 use crate::status::{BAD_ARGUMENT, MADE, NO_CELL, NO_MEMORY};
 use s2cell::CellId;
 use s2list::{IdList, first_wrong};
-use s2search::{ancestors, denormalise};
+use s2search::{ancestors, denormalise, union_of_many};
 use s2union::CellUnion;
 use std::alloc::Global;
 
@@ -33,6 +34,56 @@ pub extern "C" fn s2u_normalise(ids: &mut [u64], len: &mut usize) -> i32
     }
     *len = s2search::normalise(ids);
     MADE
+}
+
+/// The union of many lists of cells that lie one after another in `ids`: each ends at the next of `ends`, and the last
+/// one with `ids`. Lists that ascend, as those of unions do, are merged; others are sorted too. `work` is room for
+/// twice as many numbers as `ids` has, and means nothing afterward. If a number is not a cell, `len` is the place of
+/// the first.
+#[unsafe(no_mangle)]
+pub extern "C" fn s2u_union_of_many(
+    ids: &[u64],
+    ends: &[usize],
+    work: &mut [u64],
+    out: &mut [u64],
+    len: &mut usize,
+) -> i32
+    ensures made { AreEnds ends.now (length ids.now) → 2 * length ids.now ≤ length work.old → All IsCell ids.now
+        → (xs : List ℕ) × IsNormalForm (has_leaf ids.now) xs × Made result xs out.old out.new len.new }
+    ensures no_cell { AreEnds ends.now (length ids.now) → 2 * length ids.now ≤ length work.old
+        → (All IsCell ids.now → ⊥) → (result ≡ no_cell) × (out.new ≡ out.old) × IsFirstWrong ids.now len.new }
+    ensures argument { (AreEnds ends.now (length ids.now) → 2 * length ids.now ≤ length work.old → ⊥)
+        → Refused result bad_argument out.old out.new len.new }
+{
+    *len = 0;
+    let n = ids.len();
+    if !are_ends(ends, n) {
+        return BAD_ARGUMENT;
+    }
+    if work.len() / 2 < n {
+        return BAD_ARGUMENT;
+    }
+    if let Some(k) = first_wrong(&IdList { ids }) {
+        *len = k;
+        return NO_CELL;
+    }
+    let (room, rest) = work.split_at_mut(n);
+    let made = union_of_many(ids, ends, room, &mut rest[..n]);
+    put(&room[..made], out, len)
+}
+
+/// Whether lists that lie one after another can end at these places, the last one at the place `n`.
+fn are_ends(ends: &[usize], n: usize) -> bool
+    ensures { IsTrue result ↔ AreEnds ends.now n }
+{
+    let mut start = 0;
+    for end in ends {
+        if *end < start {
+            return false;
+        }
+        start = *end;
+    }
+    start == n
 }
 
 /// All leaves from the first of one cell to the last of another, across faces too.
