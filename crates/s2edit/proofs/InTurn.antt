@@ -11,7 +11,7 @@ use Rattle.s2union.proofs.CellLists.{ascends_from, increasing_from}
 use Rattle.s2union.proofs.Applied.{local_ascends}
 use Rattle.s2edit.specs.Diff.{IsDiff}
 use Rattle.s2edit.specs.Working.Followed.{latest, both_out, IsFollowed, CanFollowOn, LeadsOn}
-use Rattle.s2edit.specs.declared.followed.Followed.TheInside.{Inside}
+use Rattle.s2edit.specs.declared.restore.followed.Followed.TheInside.{Inside}
 use Rattle.s2edit.proofs.DiffLemmas.{cells_without-nothing}
 use Rattle.s2edit.proofs.Sizes.{length-insert_cells}
 

@@ -9,15 +9,10 @@
 mod change;
 mod editor;
 mod edits;
-mod fitting;
-mod followed;
-mod in_place;
 mod lacking;
 pub mod laws;
-mod layers;
-mod lengths;
-mod parts;
 mod register;
+mod restore;
 mod session;
 
 pub use change::Change;

@@ -6,19 +6,17 @@ ghost use Rattle.circular_buffer.specs.Buffer.{buffer};
 ghost use Rattle.s2file.specs.Session.{content_of, moved_of, IsContent, IsMoved};
 ghost use Rattle.s2edit.specs.History.{AllLists};
 ghost use Rattle.s2edit.specs.Diff.{inverse};
-ghost use Rattle.s2edit.specs.Working.Chain.{lists_of, AllWithin, FitAlong};
+ghost use Rattle.s2edit.specs.Working.Chain.{lists_of};
 ghost use Rattle.s2edit.specs.Working.Session.{moved};
 ghost use Rattle.s2edit.specs.Session.{diff, Records, Text, Restored, RefusesSession};
-ghost use Rattle.s2edit.specs.Working.Following.{FailsToFollow, MakesChanges, HaveRoom, KeepRoom};
+ghost use Rattle.s2edit.specs.Working.Following.{HaveRoom, KeepRoom};
 ghost use Rattle.s2edit.specs.declared.session.RestoreFault.TheVariants.{Memory};
 
-use crate::REGISTERS;
 use crate::change::Change;
 use crate::editor::Editor;
-use crate::fitting::follow;
-use crate::lengths::longest;
+use crate::restore::fit;
 use circular_buffer::HeapCircularBuffer;
-use s2file::{Move, SESSION_CELLS, Session, encode_parts};
+use s2file::{Move, Session, encode_parts};
 use s2union::CellUnion;
 use std::alloc::{AllocError, Global};
 use std::mem;
@@ -182,33 +180,6 @@ fn invert(moves: &mut Vec<Move>)
     for change in moves.iter_mut() {
         mem::swap(&mut change.out, &mut change.put);
     }
-}
-
-/// Whether each list that the changes make, one after another from these registers, keeps to the limit. Refused as
-/// `Fit` if a change can't be made, or makes a list of more than `SESSION_CELLS` cells.
-///
-/// Follows the changes of each register by themselves, and counts how long the lists get.
-fn fit(
-    alloc: Global,
-    registers: &[CellUnion],
-    moves: &[Move],
-    limit: usize,
-) -> Result<bool, RestoreFault>
-    requires count { length registers.now ≡ REGISTERS }
-    requires within { AllWithin SESSION_CELLS (lists_of registers.now) }
-    requires each { AllByRecursion IsMoved (map moved_of moves.now) }
-    ensures { MatchResult result (λ within. MakesChanges limit (lists_of registers.now)
-        (map diff (map moved_of moves.now)) within) (λ fault.
-        FailsToFollow fault (FitAlong SESSION_CELLS (lists_of registers.now) (map diff (map moved_of moves.now)))) }
-{
-    for register in 0..registers.len() {
-        follow(alloc, &registers[register], moves, register)?;
-    }
-    let most = longest(alloc, registers, moves)?;
-    if most > SESSION_CELLS {
-        return Err(RestoreFault::Fit);
-    }
-    Ok(most <= limit)
 }
 
 /// Whether both hold.

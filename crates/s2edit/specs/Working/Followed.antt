@@ -5,7 +5,7 @@ use Rattle.s2list.specs.Union.{Union, has_leaf, IsLocal}
 use Rattle.s2union.specs.Apply.{has, cells_without, insert_cells, applied, Fits}
 use Rattle.s2file.specs.Session.{AreApart}
 use Rattle.s2edit.specs.Working.Part.{around}
-use Rattle.s2edit.specs.declared.followed.Followed.TheInside.{Inside}
+use Rattle.s2edit.specs.declared.restore.followed.Followed.TheInside.{Inside}
 
 -- the cells of the second union if there is one, and otherwise those of the first
 abbrev pub latest : Union → Option Union → List ℕ

@@ -1,0 +1,62 @@
+//! Whether the changes of a session can be made: what `restore` has to know before it takes one over.
+//!
+//! The changes of each register are followed by themselves, from its present list. Nothing has to be kept of the lists
+//! on the way, so three things save work:
+//!
+//! - **A part.** Whether a change can be made depends only on the cells of the list near those that it names: the cells
+//!   that share a leaf with their parents. If few cells are named, the list is cut to that part once (parts.rt).
+//! - **Layers.** Changes that lie apart can be made in any order, and as one. Each goes into the lowest layer above all
+//!   that it meets, and a layer is one change (layers.rt). Small layers are gathered before the list is changed, in its
+//!   own room (followed.rt, in_place.rt).
+//! - **Batches.** If many cells are named, the changes are followed in batches, so that little is held beside the
+//!   session (fitting.rt).
+//!
+//! How long the lists get on the way is counted, not measured (lengths.rt).
+ghost use Rattle.std.specs.Prelude.{◌≡◌, length, map, MatchResult};
+ghost use Rattle.std.specs.List.{AllByRecursion};
+ghost use Rattle.s2file.specs.Session.{moved_of, IsMoved};
+ghost use Rattle.s2edit.specs.Session.{diff};
+ghost use Rattle.s2edit.specs.Working.Chain.{lists_of, AllWithin, FitAlong};
+ghost use Rattle.s2edit.specs.Working.Following.{FailsToFollow, MakesChanges};
+
+mod fitting;
+mod followed;
+mod in_place;
+mod layers;
+mod lengths;
+mod parts;
+
+use crate::REGISTERS;
+use crate::session::RestoreFault;
+use fitting::follow;
+use lengths::longest;
+use s2file::{Move, SESSION_CELLS};
+use s2union::CellUnion;
+use std::alloc::Global;
+
+/// Whether each list that the changes make, one after another from these registers, keeps to the limit. Refused as
+/// `Fit` if a change can't be made, or makes a list of more than `SESSION_CELLS` cells.
+///
+/// Follows the changes of each register by themselves, and counts how long the lists get.
+pub(crate) fn fit(
+    alloc: Global,
+    registers: &[CellUnion],
+    moves: &[Move],
+    limit: usize,
+) -> Result<bool, RestoreFault>
+    requires count { length registers.now ≡ REGISTERS }
+    requires within { AllWithin SESSION_CELLS (lists_of registers.now) }
+    requires each { AllByRecursion IsMoved (map moved_of moves.now) }
+    ensures { MatchResult result (λ within. MakesChanges limit (lists_of registers.now)
+        (map diff (map moved_of moves.now)) within) (λ fault.
+        FailsToFollow fault (FitAlong SESSION_CELLS (lists_of registers.now) (map diff (map moved_of moves.now)))) }
+{
+    for register in 0..registers.len() {
+        follow(alloc, &registers[register], moves, register)?;
+    }
+    let most = longest(alloc, registers, moves)?;
+    if most > SESSION_CELLS {
+        return Err(RestoreFault::Fit);
+    }
+    Ok(most <= limit)
+}

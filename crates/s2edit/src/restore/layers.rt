@@ -1,0 +1,180 @@
+//! The changes of a register, gathered in layers.
+//!
+//! Changes that lie apart from each other can be made in any order, and as one. So each change goes into the lowest
+//! layer that is above every layer with a cell near one of its own, and a layer is one change. The layers in turn do
+//! what the changes do in turn, and there are often few of them.
+ghost use Rattle.std.specs.Prelude.{◌≡◌, ◌≤◌, ◌<◌, ◌+◌, ◌++◌, ◌∷◌, ◌⊎◌, ℕ, [], List, length, map, max, true};
+ghost use Rattle.std.specs.Prelude.{IfOk, OnOk, slice_index, take};
+ghost use Rattle.std.specs.List.{AllByRecursion};
+ghost use Rattle.s2cell.specs.Cell.{covers, first_leaf};
+ghost use Rattle.s2list.specs.Union.{has_leaf, IsLocal};
+ghost use Rattle.s2union.specs.Apply.{has};
+ghost use Rattle.s2file.specs.Session.{moved_of, IsMoved};
+ghost use Rattle.s2edit.specs.Diff.{Diff};
+ghost use Rattle.s2edit.specs.Working.Layers.{ordered, ordered_diff, of_register, IsNearWatched, IsStacked, LeadAlike};
+ghost use Rattle.s2edit.specs.Working.Layers.{ArePlaces, AreChanges, HavePlaces};
+ghost use Rattle.s2edit.specs.Working.Part.{around_all};
+ghost use Rattle.s2edit.specs.Session.{diff};
+
+use s2cell::CellId;
+use s2file::Move;
+use s2list::{CellList, Uncounted, find_counted};
+use s2union::CellUnion;
+use std::alloc::{AllocError, Global};
+
+/// The changes of a register in layers. The watched cells are those around the cells that the changes name.
+pub(crate) fn layers_of(
+    alloc: Global,
+    moves: &[Move],
+    register: usize,
+    watched: &CellUnion,
+) -> Result<Vec<Move>, AllocError>
+    requires each { AllByRecursion IsMoved (map moved_of moves.now) }
+    requires watched { (x : ℕ) → has_leaf watched.now.cells x
+        ≡ has_leaf (around_all register (map moved_of moves.now)) x }
+    ensures changes { IfOk result (λ layers. AreChanges (map diff (map moved_of layers.items))) }
+    ensures alike { IfOk result (λ layers. LeadAlike (map diff (of_register register (map moved_of moves.now)))
+        (map diff (map moved_of layers.items))) }
+{
+    let mut layers = Vec::new(alloc);
+    let mut heights = vec![in alloc; 0; watched.len()]?;
+    for change in moves {
+        if change.register as usize == register {
+            gather(alloc, &mut layers, &mut heights, watched.cells(), change)?;
+        }
+    }
+    order_layers(&mut layers);
+    Ok(layers)
+}
+
+/// Puts the cells of each layer in ascending order.
+fn order_layers(layers: &mut [Move])
+    ensures { map diff (map moved_of layers.new) ≡ map ordered_diff (map moved_of layers.old) }
+{
+    for layer in layers.iter_mut() {
+        in_order(&mut layer.out);
+        in_order(&mut layer.put);
+    }
+}
+
+/// Puts cells in ascending order.
+fn in_order(cells: &mut Vec<CellId>)
+    ensures { cells.new.items ≡ ordered cells.old.items }
+{
+    cells.sort_unstable();
+}
+
+/// Adds a change to the lowest layer that is above every layer with a cell near one of its own. `heights` tells for
+/// each watched cell how many layers there are up to the highest that has cells in it.
+fn gather(
+    alloc: Global,
+    layers: &mut Vec<Move>,
+    heights: &mut Vec<usize>,
+    watched: &[CellId],
+    change: &Move,
+) -> Result<(), AllocError>
+    requires local { IsLocal watched.now }
+    requires change { IsMoved (moved_of change.now) }
+    requires near { IsNearWatched watched.now (moved_of change.now) }
+    requires stacked { IsStacked watched.now heights.old.items (map moved_of layers.old.items) }
+    ensures stacked { OnOk result (IsStacked watched.now heights.new.items (map moved_of layers.new.items)) }
+    ensures alike { OnOk result ((ds : List Diff) → LeadAlike ds (map ordered_diff (map moved_of layers.old.items)) →
+        LeadAlike (ds ++ diff (moved_of change.now) ∷ []) (map ordered_diff (map moved_of layers.new.items))) }
+{
+    let places = places_of(alloc, watched, change)?;
+    let height = highest(heights, &places);
+    if height == layers.len() {
+        layers.push(Move {
+            register: change.register,
+            out: Vec::new(alloc),
+            put: Vec::new(alloc),
+        })?;
+    }
+    let layer = &mut layers[height];
+    layer.out.extend_from_slice(&change.out)?;
+    layer.put.extend_from_slice(&change.put)?;
+    raise(heights, &places, height + 1);
+    Ok(())
+}
+
+/// The greatest height at the places.
+fn highest(heights: &[usize], places: &[usize]) -> usize
+    ensures each { (p : ℕ) → has places.now p ≡ true → p < length heights.now → slice_index heights.now p ≤ result }
+    ensures bound { (n : ℕ) → ((i : ℕ) → i < length heights.now → slice_index heights.now i ≤ n) → result ≤ n }
+{
+    let mut most = 0;
+    for place in places {
+        if *place < heights.len() {
+            most = heights[*place].max(most);
+        }
+    }
+    most
+}
+
+/// Raises the heights at the places to a height.
+fn raise(heights: &mut Vec<usize>, places: &[usize], height: usize)
+    ensures count { length heights.new.items ≡ length heights.old.items }
+    ensures each { (p : ℕ) → has places.now p ≡ true → p < length heights.new.items →
+        height ≤ slice_index heights.new.items p }
+    ensures kept { (i : ℕ) → slice_index heights.old.items i ≤ slice_index heights.new.items i }
+    ensures bound { (i : ℕ) → slice_index heights.new.items i ≤ max (slice_index heights.old.items i) height }
+{
+    for place in places {
+        if *place < heights.len() {
+            heights[*place] = heights[*place].max(height);
+        }
+    }
+}
+
+/// The places of the watched cells in which the cells lie that a change names.
+///
+/// Takes the cells that go out and those that are put in by turns, since these often lie in one watched cell.
+fn places_of(alloc: Global, watched: &[CellId], change: &Move) -> Result<Vec<usize>, AllocError>
+    requires local { IsLocal watched.now }
+    ensures { IfOk result (λ places. ArePlaces watched.now (moved_of change.now) places.items) }
+{
+    let mut places = Vec::with_capacity(alloc, change.out.len() + change.put.len())?;
+    let mut place = 0;
+    for turn in 0..change.out.len().max(change.put.len()) {
+        place = push_place(&mut places, watched, &change.out, turn, place)?;
+        place = push_place(&mut places, watched, &change.put, turn, place)?;
+    }
+    Ok(places)
+}
+
+/// Adds the place of the watched cell in which the cell of that turn lies, if the list has one. Answers the last place.
+fn push_place(
+    places: &mut Vec<usize>,
+    watched: &[CellId],
+    cells: &[CellId],
+    turn: usize,
+    last: usize,
+) -> Result<usize, AllocError>
+    requires local { IsLocal watched.now }
+    ensures each { OnOk result (HavePlaces watched.now (take turn cells.now) places.old.items →
+        HavePlaces watched.now (take (turn + 1) cells.now) places.new.items) }
+    ensures kept { OnOk result ((p : ℕ) → has places.old.items p ≡ true → has places.new.items p ≡ true) }
+{
+    if turn >= cells.len() {
+        return Ok(last);
+    }
+    let place = place_of(watched, cells[turn], last);
+    places.push(place)?;
+    Ok(place)
+}
+
+/// The place of the watched cell in which a cell lies, if it lies in one. Looks at the place `likely` first.
+fn place_of(watched: &[CellId], cell: CellId, likely: usize) -> usize
+    requires local { IsLocal watched.now }
+    ensures { (i : ℕ) → i < length watched.now → covers (slice_index watched.now i) (first_leaf cell) ≡ true →
+        result ≡ i }
+{
+    if likely < watched.len() && watched[likely].contains(cell) {
+        return likely;
+    }
+    find_counted(
+        &CellList { cells: watched },
+        cell.first_leaf(),
+        &mut Uncounted,
+    )
+}
