@@ -12,8 +12,8 @@ pub fn answer(
     words: &str,
     found: &mut Vec<u8>,
 ) -> Result<bool, AllocError> {
-    if name == "assign" {
-        add_assigned(alloc, editor, words, found)?;
+    if name == "assign" || name == "add" || name == "remove" {
+        add_edited(alloc, editor, name, words, found)?;
     } else if name == "undo" {
         add_moved(alloc, found, editor.undo())?;
     } else if name == "redo" {
@@ -36,10 +36,11 @@ pub fn register_of(word: &str) -> Option<Register> {
     }
 }
 
-/// Adds how an assignment ended, `LETTER CELLS`.
-fn add_assigned(
+/// Adds how an edit of a register by cells ended, `LETTER CELLS`.
+fn add_edited(
     alloc: Global,
     editor: &mut Editor,
+    name: &str,
     words: &str,
     found: &mut Vec<u8>,
 ) -> Result<(), AllocError> {
@@ -47,7 +48,15 @@ fn add_assigned(
     let Some(register) = register_of(letter) else {
         return add_line(found, "no register");
     };
-    match editor.assign(register, union_of(alloc, cells)?) {
+    let union = union_of(alloc, cells)?;
+    let edited = if name == "add" {
+        editor.add(register, &union)
+    } else if name == "remove" {
+        editor.remove(register, &union)
+    } else {
+        editor.assign(register, union)
+    };
+    match edited {
         Ok(numbers) => add_moved(alloc, found, Some(numbers)),
         Err(EditFault::TooMany) => add_line(found, "too many"),
         Err(EditFault::Memory) => add_line(found, "memory"),

@@ -6,13 +6,14 @@ use Rattle.s2list.specs.Union.{Union, IsLocal}
 use Rattle.s2union.specs.Apply.{cells_without, applied, Fits}
 use Rattle.s2union.proofs.Applied.{applied-between, Fits-between}
 use Rattle.s2edit.specs.History.{History, Assigned, changed, cells_lost, numbers}
-use Rattle.s2edit.specs.Diff.{Diff, inverse, change_between}
+use Rattle.s2edit.specs.Diff.{Diff, FitsList, inverse, change_between}
 use Rattle.s2edit.specs.Leads.{list_at}
-use Rattle.s2edit.specs.Working.Chain.{table_after, tables_after, FitsTable, FitAlong, lists_of}
+use Rattle.s2edit.specs.Working.Chain.{list_after, table_after, tables_after, FitsTable, FitAlong, lists_of}
 use Rattle.s2edit.specs.Chain.{IsLocalWithin}
 use Rattle.s2edit.specs.Working.Chain.{AllWithin, history}
 use Rattle.s2edit.specs.Working.Chain.{union_of}
 use Rattle.s2edit.proofs.Tables.{tables_after-take, FitAlong-take, AllWithin-at, within_after, tables_back, along_back}
+use Rattle.s2edit.proofs.DiffLemmas.{only_change}
 use Rattle.s2edit.proofs.Numbers.{out_lost, put_won}
 use Rattle.s2edit.proofs.Moves.{Rewrites, table_is}
 
@@ -65,6 +66,21 @@ pub record Changes (depth : ℕ) (us us' : List Union) (spare spare' : Union) (p
   pub rewrites : Rewrites us us' spare spare' (change_between r (list_at (lists_of us) r) v)
   pub onto : past' ≡ take depth (change_between r (list_at (lists_of us) r) v ∷ past)
   pub cleared : future' ≡ []
+
+-- a change that was made is one between the lists of its register
+pub changes_from : (depth : ℕ) (us us' : List Union) (spare spare' : Union) (past past' future' : List Diff)
+    (d : Diff) →
+    IsLocal (list_at (lists_of us) d.register) → FitsList d (list_at (lists_of us) d.register)
+    → Rewrites us us' spare spare' d → past' ≡ take depth (d ∷ past) → future' ≡ []
+    → Changes depth us us' spare spare' past past' future' d.register (list_after (lists_of us) d)
+changes_from depth us us' spare spare' past past' future' d local fits rewrites onto cleared =
+    let e : d ≡ change_between d.register (list_at (lists_of us) d.register) (list_after (lists_of us) d) =
+    only_change d (list_at (lists_of us) d.register) (list_after (lists_of us) d) local fits refl in
+    record {
+      rewrites = subst (λ (k : Diff). Rewrites us us' spare spare' k) e rewrites;
+      onto = onto ∙ ap (λ (k : Diff). take depth (k ∷ past)) e;
+      cleared = cleared;
+    }
 
 module _ (limit depth : ℕ) (us us' : List Union) (spare spare' : Union) (past past' future' : List Diff)
     (r : ℕ) (v : List ℕ)

@@ -31,3 +31,5 @@ pub mod Placing
 pub mod Stacking
 pub mod Watching
 pub mod InPlace
+pub mod Near
+pub mod Making

@@ -4,6 +4,7 @@ pub mod Leads
 pub mod Chain
 pub mod Laws
 pub mod Edits
+pub mod Named
 pub mod Session
 pub mod SessionLaws
 pub mod Working

@@ -3,6 +3,7 @@
 pub mod Chain
 pub mod Change
 pub mod Editor
+pub mod Named
 pub mod Session
 pub mod Following
 pub mod Followed

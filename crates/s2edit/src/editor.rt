@@ -7,6 +7,7 @@ ghost use Rattle.s2union.specs.Apply.{applied, Fits};
 ghost use Rattle.s2edit.specs.History.{untouched, Assigned, sets, undone, redone, numbers, EachList};
 ghost use Rattle.s2edit.specs.Leads.{list_at, table_at, Leads};
 ghost use Rattle.s2edit.specs.Working.Chain.{lists_of, union_of, AllRoomy};
+ghost use Rattle.s2edit.specs.declared.editor.EditFault.TheVariants.{Memory};
 
 use crate::change::Change;
 use crate::register::Register;
@@ -25,6 +26,14 @@ pub enum EditFault {
     TooMany,
     #[error("out of memory")]
     Memory,
+}
+
+impl From<AllocError> for EditFault {
+    ghost from_gives = { λ _ fault. fault ≡ Memory };
+
+    fn from(_error: AllocError) -> EditFault {
+        EditFault::Memory
+    }
 }
 
 /// Registers that hold unions, and a bounded history of what was assigned to them.
@@ -253,7 +262,7 @@ fn are_same(cells: &[CellId], others: &[CellId]) -> bool
 
 /// Takes cells out of a register's list and puts others in: writes the new list into the spare list, and exchanges
 /// the two.
-fn rewrite(
+pub(crate) fn rewrite(
     registers: &mut Vec<CellUnion>,
     spare: &mut CellUnion,
     register: Register,

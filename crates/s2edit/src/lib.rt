@@ -11,6 +11,7 @@ mod editor;
 mod edits;
 mod lacking;
 pub mod laws;
+mod named;
 mod register;
 mod restore;
 mod session;

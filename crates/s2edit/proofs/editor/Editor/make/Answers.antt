@@ -1,0 +1,304 @@
+use Rattle.std.proofs.Common.{◌≡◌, ◌≢◌, ◌<◌, ◌≤◌, ℕ, List, [], ◌∷◌, length, take, slice_get}
+use Rattle.std.proofs.Common.{ap, refl, sym, ◌∙◌, subst, arith}
+use Rattle.circular_buffer.specs.Buffer.{Buffer}
+use Rattle.std.proofs.lemmas.Option.{slice_get-get_or}
+use Rattle.s2edit.specs.History.{History, changed, Assigned}
+use Rattle.s2edit.specs.Diff.{Diff, FitsList, change_between}
+use Rattle.s2edit.specs.Leads.{list_at}
+use Rattle.s2edit.specs.Chain.{IsLocalWithin}
+use Rattle.s2edit.specs.Working.Chain.{lists_of, list_after, history}
+use Rattle.s2edit.specs.declared.TheConstants.{REGISTERS}
+use Rattle.s2edit.proofs.Tables.{list_read}
+use Rattle.s2edit.proofs.Assigning.{Changes, changes_from, change_leaves, change_within, change_past, change_future}
+use Rattle.s2edit.proofs.Assigning.{change_bound, change_numbers, assigned_other}
+use Rattle.s2edit.proofs.DiffLemmas.{changes_list, only_change}
+use Rattle.s2edit.proofs.Making.{in_table, fits_here, within_here, fewer, sizes, nothing_made, nothing_more}
+use Rattle.s2edit.proofs.Moves.{Rewrites, rewrites_from, rewritten_count, rewritten_roomy}
+use Rattle.s2edit.proofs.Numbers.{numbers-same}
+use Rattle.s2edit.proofs.editor.Editor.make.Goals as goal
+use Rattle.s2edit.proofs.editor.Editor.make.Goals.{else-out-eq0-via-then-out-eq0+else-put-eq0}
+use Rattle.s2edit.proofs.editor.Editor.make.Goals.{else-out-eq0-via-else-out-eq0}
+
+pub returns-then-put-eq0-clause-ok : goal.returns-then-put-eq0-clause-ok
+returns-then-put-eq0-clause-ok c =
+    let i = c.self.inside in
+    nothing_made i.limit i.depth i.registers.items i.past.items i.future.items c.args.self.now c.args.change
+    c.self.view_is c.self.invariant.count c.self.invariant.registers_within c.requires.in_range c.requires.fits
+    (omega (
+      arith,
+      c.len-out.ensures,
+      c.change.inside.out.ok,
+      ap (λ (d : Diff). length d.out) c.change.view_is,
+      c.if-out-eq0.true,
+    ))
+    (omega (
+      arith,
+      c.len-put.ensures,
+      c.change.inside.put.ok,
+      ap (λ (d : Diff). length d.put) c.change.view_is,
+      c.if-put-eq0.true,
+    ))
+
+pub returns-then-put-eq0-clause-numbers : goal.returns-then-put-eq0-clause-numbers
+returns-then-put-eq0-clause-numbers c = numbers-same c.args.self.now.now
+
+pub returns-then-put-eq0-clause-within : goal.returns-then-put-eq0-clause-within
+returns-then-put-eq0-clause-within c =
+    let i = c.self.inside in
+    nothing_more i.limit i.depth i.registers.items i.past.items i.future.items c.args.self.now c.args.change
+    c.self.view_is c.self.invariant.count c.self.invariant.registers_within c.requires.in_range c.requires.fits
+    (omega (
+      arith,
+      c.len-out.ensures,
+      c.change.inside.out.ok,
+      ap (λ (d : Diff). length d.out) c.change.view_is,
+      c.if-out-eq0.true,
+    ))
+    (omega (
+      arith,
+      c.len-put.ensures,
+      c.change.inside.put.ok,
+      ap (λ (d : Diff). length d.put) c.change.view_is,
+      c.if-put-eq0.true,
+    ))
+
+pub overflow_sub-len : goal.overflow_sub-len
+overflow_sub-len c =
+    let i = c.self.inside in
+    let l : c.index.result < length i.registers.items = omega (arith, c.index.ensures.within, c.self.invariant.count) in
+    let old : list_at (lists_of i.registers.items) c.args.change.register ≡ c.index-old.result.now.cells =
+    list_read i.registers.items _ _ _ c.index-old.ensures
+    (c.index.ensures.value ∙ ap (λ (d : Diff). d.register) c.change.view_is) l in
+    let few = fewer i.limit i.depth i.registers.items i.past.items i.future.items c.args.self.now c.args.change
+    c.self.view_is c.self.invariant.count c.self.invariant.registers_within c.requires.in_range c.requires.fits in
+    omega (
+      arith,
+      c.len-out.ensures,
+      c.change.inside.out.ok,
+      ap (λ (d : Diff). length d.out) c.change.view_is,
+      c.len.ensures,
+      ap length old,
+      few,
+    )
+
+pub returns-then-len-out-clause-too_many : goal.returns-then-len-out-clause-too_many
+returns-then-len-out-clause-too_many c =
+    let i = c.self.inside in
+    let l : c.index.result < length i.registers.items = omega (arith, c.index.ensures.within, c.self.invariant.count) in
+    let old : list_at (lists_of i.registers.items) c.args.change.register ≡ c.index-old.result.now.cells =
+    list_read i.registers.items _ _ _ c.index-old.ensures
+    (c.index.ensures.value ∙ ap (λ (d : Diff). d.register) c.change.view_is) l in
+    let s = sizes i.limit i.depth i.registers.items i.past.items i.future.items c.args.self.now c.args.change
+    c.self.view_is c.self.invariant.count c.self.invariant.registers_within c.requires.in_range c.requires.fits in
+    let few = fewer i.limit i.depth i.registers.items i.past.items i.future.items c.args.self.now c.args.change
+    c.self.view_is c.self.invariant.count c.self.invariant.registers_within c.requires.in_range c.requires.fits in
+    omega (
+      arith,
+      few,
+      c.len-out.ensures,
+      c.change.inside.out.ok,
+      ap (λ (d : Diff). length d.out) c.change.view_is,
+      c.len-put.ensures,
+      c.change.inside.put.ok,
+      ap (λ (d : Diff). length d.put) c.change.view_is,
+      c.len.ensures,
+      ap length old,
+      s,
+      c.if-len-out.true,
+      ap (λ (k : History (List ℕ)). k.limit) c.self.view_is,
+    )
+
+pub rewrite-requires-clause-room : goal.rewrite-requires-clause-room
+rewrite-requires-clause-room c =
+    let i = c.self.inside in
+    let l : c.index.result < length i.registers.items = omega (arith, c.index.ensures.within, c.self.invariant.count) in
+    let old : list_at (lists_of i.registers.items) c.args.change.register ≡ c.index-old.result.now.cells =
+    list_read i.registers.items _ _ _ c.index-old.ensures
+    (c.index.ensures.value ∙ ap (λ (d : Diff). d.register) c.change.view_is) l in
+    let s = sizes i.limit i.depth i.registers.items i.past.items i.future.items c.args.self.now c.args.change
+    c.self.view_is c.self.invariant.count c.self.invariant.registers_within c.requires.in_range c.requires.fits in
+    let t : lists_of i.registers.items ≡ c.args.self.now.now =
+    ap (λ (k : History (List ℕ)). k.now) c.self.view_is in
+    let few : length (list_after (lists_of i.registers.items) c.args.change) ≤ i.spare.room =
+    omega (
+      arith,
+      c.len-out.ensures,
+      c.change.inside.out.ok,
+      ap (λ (d : Diff). length d.out) c.change.view_is,
+      c.len-put.ensures,
+      c.change.inside.put.ok,
+      ap (λ (d : Diff). length d.put) c.change.view_is,
+      c.len.ensures,
+      ap length old,
+      s,
+      c.if-len-out.false,
+      c.self.invariant.spare_roomy,
+      ap (λ (k : List (List ℕ)). length (list_after k c.args.change)) t,
+    ) in
+    rw (c.deref.ensures.value, c.deref-2.ensures.value)
+    (subst (λ (d : Diff). length (list_after (lists_of i.registers.items) d) ≤ i.spare.room) (sym c.change.view_is) few)
+
+pub returns-clause-within : goal.returns-clause-within
+returns-clause-within c =
+    let i = c.self.inside in
+    let l : c.index.result < length i.registers.items = omega (arith, c.index.ensures.within, c.self.invariant.count) in
+    let old : list_at (lists_of i.registers.items) c.args.change.register ≡ c.index-old.result.now.cells =
+    list_read i.registers.items _ _ _ c.index-old.ensures
+    (c.index.ensures.value ∙ ap (λ (d : Diff). d.register) c.change.view_is) l in
+    let s = sizes i.limit i.depth i.registers.items i.past.items i.future.items c.args.self.now c.args.change
+    c.self.view_is c.self.invariant.count c.self.invariant.registers_within c.requires.in_range c.requires.fits in
+    omega (
+      arith,
+      c.len-out.ensures,
+      c.change.inside.out.ok,
+      ap (λ (d : Diff). length d.out) c.change.view_is,
+      c.len-put.ensures,
+      c.change.inside.put.ok,
+      ap (λ (d : Diff). length d.put) c.change.view_is,
+      c.len.ensures,
+      ap length old,
+      s,
+      c.if-len-out.false,
+      ap (λ (k : History (List ℕ)). k.limit) c.self.view_is,
+    )
+
+-- the change that is made
+abbrev change : goal.After-clear → Diff
+change c = record {
+  register = c.change.inside.register;
+  out = c.change.inside.out.items;
+  put = c.change.inside.put.items;
+}
+
+in_range : (c : goal.After-clear) → c.change.inside.register < REGISTERS
+in_range c = subst (λ (d : Diff). d.register < REGISTERS) (sym c.change.view_is) c.requires.in_range
+
+fits_now : (c : goal.After-clear) → FitsList (change c) (list_at c.args.self.now.now (change c).register)
+fits_now c = subst (λ (d : Diff). FitsList d (list_at c.args.self.now.now d.register)) (sym c.change.view_is)
+    c.requires.fits
+
+here : (c : goal.After-clear) → (change c).register < length (lists_of c.self.inside.registers.items)
+here c =
+    let i = c.self.inside in
+    in_table i.limit i.depth i.registers.items i.past.items i.future.items c.args.self.now (change c)
+    c.self.view_is c.self.invariant.count c.self.invariant.registers_within (in_range c) (fits_now c)
+
+local_here : (c : goal.After-clear) → IsLocalWithin c.self.inside.limit
+    (list_at (lists_of c.self.inside.registers.items) (change c).register)
+local_here c =
+    let i = c.self.inside in
+    within_here i.limit i.depth i.registers.items i.past.items i.future.items c.args.self.now (change c)
+    c.self.view_is c.self.invariant.count c.self.invariant.registers_within (in_range c) (fits_now c)
+
+fits_table : (c : goal.After-clear) → FitsList (change c)
+    (list_at (lists_of c.self.inside.registers.items) (change c).register)
+fits_table c =
+    let i = c.self.inside in
+    fits_here i.limit i.depth i.registers.items i.past.items i.future.items c.args.self.now (change c)
+    c.self.view_is c.self.invariant.count c.self.invariant.registers_within (in_range c) (fits_now c)
+
+now : (c : goal.After-clear) → lists_of c.self.inside.registers.items ≡ c.args.self.now.now
+now c = ap (λ (k : History (List ℕ)). k.now) c.self.view_is
+
+own : (c : goal.After-clear) → IsLocalWithin c.self.inside.limit
+    (list_after (lists_of c.self.inside.registers.items) (change c))
+own c = record {
+  local = (fits_table c).local;
+  few = omega (
+    arith,
+    returns-clause-within c,
+    ap (λ (k : History (List ℕ)). k.limit) c.self.view_is,
+    ap (λ (d : Diff). length (list_after c.args.self.now.now d)) c.change.view_is,
+    ap (λ (t : List (List ℕ)). length (list_after t (change c))) (now c),
+  );
+}
+
+differs : (c : goal.After-clear) → list_after (lists_of c.self.inside.registers.items) (change c)
+    ≢ list_at (lists_of c.self.inside.registers.items) (change c).register
+differs c =
+    changes_list (change c).out (change c).put (list_at (lists_of c.self.inside.registers.items) (change c).register)
+    (fits_table c)
+    (elim c.else-out-eq0.branch [
+      | else-out-eq0-via-then-out-eq0+else-put-eq0 w ↦
+          omega (arith, w.if-put-eq0.false, c.len-put.ensures, c.change.inside.put.ok)
+      | else-out-eq0-via-else-out-eq0 w ↦
+          omega (arith, w.if-out-eq0.false, c.len-out.ensures, c.change.inside.out.ok)
+    ])
+
+rewrites : (c : goal.After-clear) → Rewrites c.self.inside.registers.items c.rewrite.new.registers.items
+    c.self.inside.spare c.rewrite.new.spare (change c)
+rewrites c =
+    rewrites_from c.self.inside.registers.items c.rewrite.new.registers.items c.self.inside.spare
+    c.rewrite.new.spare (change c) _ _ c.deref.ensures.value c.deref-2.ensures.value c.rewrite.ensures.registers
+    c.rewrite.ensures.spare
+
+changes : (c : goal.After-clear) → Changes c.self.inside.depth c.self.inside.registers.items
+    c.rewrite.new.registers.items c.self.inside.spare c.rewrite.new.spare c.self.inside.past.items
+    c.push_front.new.self.items c.clear.new.self.items (change c).register
+    (list_after (lists_of c.self.inside.registers.items) (change c))
+changes c =
+    changes_from c.self.inside.depth _ _ _ _ _ _ _ (change c) (local_here c).local (fits_table c) (rewrites c)
+    (ap (λ (b : Buffer Diff). b.items) c.push_front.ensures.items
+    ∙ ap (λ (n : ℕ). take n (c.args.change ∷ c.self.inside.past.items)) c.self.invariant.past_room
+    ∙ ap (λ (d : Diff). take c.self.inside.depth (d ∷ c.self.inside.past.items)) (sym c.change.view_is))
+    (ap (λ (b : Buffer Diff). b.items) c.clear.ensures)
+
+assigned : (c : goal.After-clear) → Assigned c.args.self.now (change c).register
+    (list_after (lists_of c.self.inside.registers.items) (change c))
+    (history c.self.inside.limit c.self.inside.depth c.rewrite.new.registers.items c.push_front.new.self.items
+    c.clear.new.self.items)
+assigned c =
+    let v : List ℕ = list_after (lists_of c.self.inside.registers.items) (change c) in
+    assigned_other c.args.self.now _ (change c).register v
+    (list_at (lists_of c.self.inside.registers.items) (change c).register)
+    (ap (λ (k : History (List ℕ)). slice_get k.now (change c).register) (sym c.self.view_is)
+    ∙ slice_get-get_or (lists_of c.self.inside.registers.items) (change c).register [] (here c))
+    (λ e. differs c (sym e))
+    (change_leaves c.self.inside.limit c.self.inside.depth _ _ _ _ _ _ _ (change c).register v
+    c.self.invariant.registers_within c.self.invariant.past_fits (here c) (own c) (differs c) (changes c)
+    c.self.inside.future.items ∙ ap (λ (k : History (List ℕ)). changed k (change c).register v) c.self.view_is)
+
+pub returns-clause-ok : goal.returns-clause-ok
+returns-clause-ok c =
+    let after = history c.self.inside.limit c.self.inside.depth c.rewrite.new.registers.items
+    c.push_front.new.self.items c.clear.new.self.items in
+    subst (λ (d : Diff). Assigned c.args.self.now d.register (list_after c.args.self.now.now d) after)
+    c.change.view_is
+    (subst (λ (t : List (List ℕ)). Assigned c.args.self.now (change c).register (list_after t (change c)) after)
+    (now c) (assigned c))
+
+pub returns-clause-numbers : goal.returns-clause-numbers
+returns-clause-numbers c =
+    let u : List ℕ = list_at (lists_of c.self.inside.registers.items) (change c).register in
+    let v : List ℕ = list_after (lists_of c.self.inside.registers.items) (change c) in
+    let e : change c ≡ change_between (change c).register u v =
+    only_change (change c) u v (local_here c).local (fits_table c) refl in
+    change_numbers c.self.inside.limit c.self.inside.depth _ _ _ _ _ _ _ (change c).register v
+    c.self.invariant.registers_within c.self.invariant.past_fits (here c) (own c) (differs c) (changes c)
+    c.args.self.now.now (c.len-out.result, c.len-put.result) (now c)
+    (omega (arith, c.len-out.ensures, c.change.inside.out.ok, ap (λ (d : Diff). length d.out) e))
+    (omega (arith, c.len-put.ensures, c.change.inside.put.ok, ap (λ (d : Diff). length d.put) e))
+
+pub invariant_of-self : goal.invariant_of-self
+invariant_of-self c =
+    let i = c.self.invariant in
+    let r : ℕ = (change c).register in
+    let v : List ℕ = list_after (lists_of c.self.inside.registers.items) (change c) in
+    let w = rewritten_roomy c.self.inside.limit _ _ _ _ (change c) (rewrites c) i.registers_roomy i.spare_roomy in
+    record {
+      limit_bound = i.limit_bound;
+      depth_most = i.depth_most;
+      count = rewritten_count c.self.inside.limit _ _ _ _ (change c) (rewrites c) ∙ i.count;
+      past_room = ap (λ (b : Buffer Diff). b.capacity) c.push_front.ensures.items ∙ i.past_room;
+      future_room = ap (λ (b : Buffer Diff). b.capacity) c.clear.ensures ∙ i.future_room;
+      depth_bound = change_bound c.self.inside.limit c.self.inside.depth _ _ _ _ _ _ _ r v i.registers_within
+          i.past_fits (here c) (own c) (differs c) (changes c);
+      registers_within = change_within c.self.inside.limit c.self.inside.depth _ _ _ _ _ _ _ r v i.registers_within
+          i.past_fits (here c) (own c) (differs c) (changes c);
+      past_fits = change_past c.self.inside.limit c.self.inside.depth _ _ _ _ _ _ _ r v i.registers_within
+          i.past_fits (here c) (own c) (differs c) (changes c);
+      future_fits = change_future c.self.inside.limit c.self.inside.depth _ _ _ _ _ _ _ r v i.registers_within
+          i.past_fits (here c) (own c) (differs c) (changes c);
+      registers_roomy = w.0;
+      spare_roomy = w.1;
+    }

@@ -1,0 +1,249 @@
+//! Edits by a few named cells: how the change that they make is found near them.
+//!
+//! What the named cells add or take out concerns only a part of the register's list: the cells that they meet, and
+//! those that become one cell with them. So the part alone is joined with the named cells, or cut by them. The change
+//! of the part is then the change of the whole list, if it can be made there. That is tested; so a part that was chosen
+//! too small is found out, and the whole list is taken.
+ghost use Rattle.std.specs.Prelude.{◌≡◌, ℕ, Bool, true, ◌<◌, ◌≤◌, ◌||◌, ◌&&◌, not, List, length};
+ghost use Rattle.std.specs.Prelude.{Err, IfOk, IfSome, OnOk, OnErr};
+ghost use Rattle.s2list.specs.Union.{has_leaf, IsNormalForm};
+ghost use Rattle.s2list.specs.Sets.{either, without};
+ghost use Rattle.s2union.specs.Apply.{has};
+ghost use Rattle.s2edit.specs.History.{numbers, Assigned};
+ghost use Rattle.s2edit.specs.Diff.{FitsList};
+ghost use Rattle.s2edit.specs.Leads.{list_at};
+ghost use Rattle.s2edit.specs.Named.{Becomes};
+ghost use Rattle.s2edit.specs.Working.Chain.{list_after};
+ghost use Rattle.s2edit.specs.Working.Named.{Gives};
+
+use crate::REGISTERS;
+use crate::change::Change;
+use crate::editor::{EditFault, Editor, rewrite};
+use crate::register::Register;
+use s2cell::CellId;
+use s2list::{CellList, find_from};
+use s2union::{CellUnion, UnionFault, normalise};
+use std::alloc::{AllocError, Global};
+
+/// The part is looked for if the register has this many times as many cells as are named.
+const REGISTER_TO_NAMED: usize = 200;
+
+/// How many cells before and after a named one can make a family with it.
+const SIBLINGS: usize = 3;
+
+/// How many cells before and after a named one can become one cell with it: three at each of thirty levels.
+const RELATIVES: usize = 90;
+
+impl Editor {
+    /// Adds the leaves of a union to a register, and answers how many cells were taken out of its list and put in: what
+    /// `assign` of the union of both does.
+    ///
+    /// If few cells are named beside the register's, this takes a few searches for each of them, and moves the cells
+    /// after them. Takes memory for the part of the list that is near the named cells.
+    pub fn add(
+        &mut self,
+        register: Register,
+        named: &CellUnion,
+    ) -> Result<(usize, usize), EditFault>
+        ensures ok { OnOk result (Becomes (either (has_leaf (list_at self.old.now register)) (has_leaf named.now.cells))
+            register self.old self.new) }
+        ensures numbers { IfOk result (λ n. n ≡ numbers self.old.now self.new.now) }
+        ensures too_many { result ≡ Err EditFault.TooMany → (u : List ℕ) →
+            IsNormalForm (either (has_leaf (list_at self.old.now register)) (has_leaf named.now.cells)) u →
+            self.old.limit < length u }
+        ensures err { OnErr result (self.new ≡ self.old) }
+    {
+        let alloc = self.alloc;
+        let union = self.register(register);
+        let _ = union.cells();
+        if let Some(change) = adding(alloc, register, union, named)? {
+            return self.make(change);
+        }
+        let sum = union.union(named)?;
+        self.assign(register, sum)
+    }
+
+    /// Takes the leaves of a union out of a register, and answers how many cells were taken out of its list and put in:
+    /// what `assign` of the difference does. Costs what `add` costs.
+    pub fn remove(
+        &mut self,
+        register: Register,
+        named: &CellUnion,
+    ) -> Result<(usize, usize), EditFault>
+        ensures ok { OnOk result (Becomes
+            (without (has_leaf (list_at self.old.now register)) (has_leaf named.now.cells)) register
+            self.old self.new) }
+        ensures numbers { IfOk result (λ n. n ≡ numbers self.old.now self.new.now) }
+        ensures too_many { result ≡ Err EditFault.TooMany → (u : List ℕ) →
+            IsNormalForm (without (has_leaf (list_at self.old.now register)) (has_leaf named.now.cells)) u →
+            self.old.limit < length u }
+        ensures err { OnErr result (self.new ≡ self.old) }
+    {
+        let alloc = self.alloc;
+        let limit = self.limit;
+        let union = self.register(register);
+        let _ = union.cells();
+        if let Some(change) = removing(alloc, register, union, named)? {
+            return self.make(change);
+        }
+        match union.difference_up_to(named, limit) {
+            Ok(rest) => self.assign(register, rest),
+            Err(UnionFault::TooMany) => Err(EditFault::TooMany),
+            Err(UnionFault::Memory) => Err(EditFault::Memory),
+        }
+    }
+
+    /// Makes a change in its register's list, in which it can be made: does what `assign` of the changed list does.
+    /// Answers `TooMany` if that list has more than `limit` cells. Takes no memory.
+    fn make(&mut self, change: Change) -> Result<(usize, usize), EditFault>
+        requires in_range { change.register < REGISTERS }
+        requires fits { FitsList change (list_at self.old.now change.register) }
+        ensures ok { OnOk result (Assigned self.old change.register (list_after self.old.now change) self.new) }
+        ensures numbers { IfOk result (λ n. n ≡ numbers self.old.now self.new.now) }
+        ensures within { OnOk result (length (list_after self.old.now change) ≤ self.old.limit) }
+        ensures too_many { OnErr result (self.old.limit < length (list_after self.old.now change)) }
+        ensures err { OnErr result (self.new ≡ self.old) }
+    {
+        let old = &self.registers[change.register.index()];
+        let (out, put) = (change.out.len(), change.put.len());
+        if out == 0 && put == 0 {
+            return Ok((0, 0));
+        }
+        if old.len() - out + put > self.limit {
+            return Err(EditFault::TooMany);
+        }
+        rewrite(
+            &mut self.registers,
+            &mut self.spare,
+            change.register,
+            &change.out,
+            &change.put,
+        );
+        self.past.push_front(change);
+        self.future.clear();
+        Ok((out, put))
+    }
+}
+
+/// The change that adds the leaves of the named cells, if it is found near them.
+fn adding(
+    alloc: Global,
+    register: Register,
+    union: &CellUnion,
+    named: &CellUnion,
+) -> Result<Option<Change>, AllocError>
+    ensures { IfOk result (λ found. IfSome found
+        (Gives (either (has_leaf union.now.cells) (has_leaf named.now.cells)) register union.now.cells)) }
+{
+    if union.len() / REGISTER_TO_NAMED < named.len() {
+        return Ok(None);
+    }
+    if let Some(change) = adding_near(alloc, register, union, named, SIBLINGS)? {
+        return Ok(Some(change));
+    }
+    adding_near(alloc, register, union, named, RELATIVES)
+}
+
+/// The same, in the part with `reach` of the union's cells before and after each named one.
+fn adding_near(
+    alloc: Global,
+    register: Register,
+    union: &CellUnion,
+    named: &CellUnion,
+    reach: usize,
+) -> Result<Option<Change>, AllocError>
+    ensures { IfOk result (λ found. IfSome found
+        (Gives (either (has_leaf union.now.cells) (has_leaf named.now.cells)) register union.now.cells)) }
+{
+    let found = part_near(alloc, union, named, reach)?;
+    let Some(part) = found else {
+        return Ok(None);
+    };
+    let joined = part.union(named)?;
+    change_of_part(alloc, register, union, &part, &joined)
+}
+
+/// The change that takes the leaves of the named cells out, if it is found near them.
+fn removing(
+    alloc: Global,
+    register: Register,
+    union: &CellUnion,
+    named: &CellUnion,
+) -> Result<Option<Change>, AllocError>
+    ensures { IfOk result (λ found. IfSome found
+        (Gives (without (has_leaf union.now.cells) (has_leaf named.now.cells)) register union.now.cells)) }
+{
+    if union.len() / REGISTER_TO_NAMED < named.len() {
+        return Ok(None);
+    }
+    let found = part_near(alloc, union, named, 1)?;
+    let Some(part) = found else {
+        return Ok(None);
+    };
+    let shared = union.intersection(named)?;
+    if !part.contains(&shared) {
+        return Ok(None);
+    }
+    let rest = part.difference(named)?;
+    change_of_part(alloc, register, union, &part, &rest)
+}
+
+/// The cells of a union that meet named ones, and others before and after these; none if that can't be told.
+fn part_near(
+    alloc: Global,
+    union: &CellUnion,
+    named: &CellUnion,
+    reach: usize,
+) -> Result<Option<CellUnion>, AllocError>
+    ensures { IfOk result (λ found. IfSome found
+        (λ part. (c : ℕ) → has part.cells c ≡ true → has union.now.cells c ≡ true)) }
+{
+    let part = normalise(cells_near(alloc, union.cells(), named.cells(), reach)?);
+    if union.can_apply(part.cells(), &[]) {
+        Ok(Some(part))
+    } else {
+        Ok(None)
+    }
+}
+
+/// The cells of a list that meet named ones, and `reach` before and after each.
+fn cells_near(
+    alloc: Global,
+    cells: &[CellId],
+    named: &[CellId],
+    reach: usize,
+) -> Result<Vec<CellId>, AllocError> {
+    let mut near = Vec::new(alloc);
+    let mut done = 0;
+    for cell in named {
+        let first = find_from(&CellList { cells }, done, cell.first_leaf());
+        let end = find_from(&CellList { cells }, first, cell.end_leaf());
+        let begin = first.saturating_sub(reach).max(done);
+        done = end.saturating_add(reach).min(cells.len());
+        near.extend_from_slice(&cells[begin..done])?;
+    }
+    Ok(near)
+}
+
+/// The change that puts new cells in the place of a part of the union's list, if it can be made. `S` is the set of
+/// leaves that the list then has.
+fn change_of_part(
+    alloc: Global,
+    register: Register,
+    union: &CellUnion,
+    part: &CellUnion,
+    new: &CellUnion,
+) -> Result<Option<Change>, AllocError>
+    requires { (c : ℕ) → has part.now.cells c ≡ true → has union.now.cells c ≡ true }
+    ensures { (S : ℕ → Bool) → ((x : ℕ) → (has_leaf new.now.cells x
+        || (has_leaf union.now.cells x && not (has_leaf part.now.cells x))) ≡ S x) →
+        IfOk result (λ found. IfSome found (Gives S register union.now.cells)) }
+{
+    let _ = union.cells();
+    let change = Change::between(alloc, register, part, new)?;
+    if change.fits(union) {
+        Ok(Some(change))
+    } else {
+        Ok(None)
+    }
+}
