@@ -1,21 +1,18 @@
 -- Lemmas on sets whose normal form has too many cells.
 use Rattle.std.proofs.Common.{◌≡◌, ℕ, ◌+◌, ◌*◌, ◌/◌, ◌<◌, ◌&&◌, Bool, true, false}
 use Rattle.std.proofs.Common.{List, length, not, ap, arith, refl}
-use Rattle.std.proofs.Common.{◌∙◌, nat_lt, inl, inr, Result, Ok, Err}
-use Rattle.std.proofs.lemmas.Bool.{lt-ltb}
+use Rattle.std.proofs.Common.{◌∙◌, nat_lt, ⊎_elim}
+use Rattle.std.proofs.lemmas.Bool.{lt-ltb, or_cases}
 use Rattle.std.proofs.lemmas.List.Elements.{All-contains}
 use Rattle.s2cell.specs.Cell.{IsCell}
 use Rattle.s2cell.proofs.CellLemmas.{cell_leaves}
 use Rattle.s2cell.specs.declared.TheConstants.{LEAVES}
 use Rattle.s2list.specs.Union.{has_leaf, IsLocal, IsNormalForm}
-use Rattle.s2list.specs.Union as U
-use Rattle.s2list.specs.Sets.{without}
+use Rattle.s2list.specs.Sets.{either, without}
 use Rattle.s2list.proofs.Normal.{leaf_from, normal_form_same}
 use Rattle.s2cover.specs.Coverings.{filled, outer_set, inner_set}
 use Rattle.s2cover.proofs.NormalForms.{outer_has_normal_form, inner_has_normal_form}
-use Rattle.s2calc.specs.declared.refusal.Refusal.{Refusal}
 use Rattle.s2calc.specs.Edits.{IsTooLong}
-use Rattle.s2calc.specs.Working.Edits.{Makes}
 
 too_long : (S : ℕ → Bool) (limit : ℕ) → ((u : List ℕ) × IsNormalForm S u) →
     ((u : List ℕ) → IsNormalForm S u → limit < length u) → IsTooLong S limit
@@ -71,16 +68,20 @@ pub rest_too_long : (u : List ℕ) (T : ℕ → Bool) (limit : ℕ) → IsLocal 
     IsTooLong (without (has_leaf u) T) limit
 rest_too_long u T limit local h = too_long _ limit (rest_has_normal_form u T local) h
 
--- what is made of a set is made of any other with its leaves
-pub makes_same : (S T : ℕ → Bool) (limit : ℕ) (made : Result U.Union Refusal) → ((x : ℕ) → S x ≡ T x) →
-    Makes S limit made → Makes T limit made
-makes_same S T limit (Ok u) same normal = normal_form_same S T u.cells same normal
-makes_same S T limit (Err refusal) same (inl (is, long)) = inl (
-  is,
-  record {
-    list = long.list;
-    normal = normal_form_same S T long.list same long.normal;
-    above = long.above;
-  },
-)
-makes_same S T limit (Err refusal) same (inr is) = inr is
+-- the leaves of cells and of others have a normal form
+either_has_normal_form : (u w : List ℕ) → IsLocal u → IsLocal w →
+    (v : List ℕ) × IsNormalForm (either (has_leaf u) (has_leaf w)) v
+either_has_normal_form u w lu lw =
+    let (v, normal) = inner_has_normal_form (either (has_leaf u) (has_leaf w)) 30 in (
+      v,
+      normal_form_same (inner_set (either (has_leaf u) (has_leaf w)) 30) (either (has_leaf u) (has_leaf w)) v
+          (λ x. inner_leaves (either (has_leaf u) (has_leaf w)) x (λ h.
+          ⊎_elim (λ (e : has_leaf u x ≡ true). leaf_below u x lu e) (λ (e : has_leaf w x ≡ true). leaf_below w x lw e)
+          (or_cases (has_leaf u x) (has_leaf w x) h)))
+          normal,
+    )
+
+pub either_too_long : (u w : List ℕ) (limit : ℕ) → IsLocal u → IsLocal w →
+    ((v : List ℕ) → IsNormalForm (either (has_leaf u) (has_leaf w)) v → limit < length v) →
+    IsTooLong (either (has_leaf u) (has_leaf w)) limit
+either_too_long u w limit lu lw h = too_long _ limit (either_has_normal_form u w lu lw) h

@@ -7,7 +7,7 @@ ghost use Rattle.s2cover.specs.Coverings.{outer_set, inner_set};
 ghost use Rattle.s2edit.specs.History.{undone, redone, sets};
 ghost use Rattle.s2calc.specs.Working.Answer.{reply_of};
 ghost use Rattle.s2calc.specs.Edits.{new_set, leaves_of, no_leaf, within, Gets, Moves};
-ghost use Rattle.s2calc.specs.Working.Edits.{Makes};
+ghost use Rattle.s2calc.specs.Working.Edits.{Makes, answer_of};
 
 use crate::answer::Answer;
 use crate::refusal::Refusal;
@@ -20,7 +20,7 @@ use s2script::{Cells, Level, RegisterEdit};
 use s2union::{CellUnion, UnionFault, normalise};
 use std::alloc::{AllocError, Global};
 
-/// Gives a register the union that an edit makes.
+/// Carries out an edit of a register.
 pub(crate) fn edit_register(
     alloc: Global,
     editor: &mut Editor,
@@ -30,7 +30,66 @@ pub(crate) fn edit_register(
     ensures { Gets (new_set editor.old.now register edit.entry) register editor.old (reply_of result editor.new)
         editor.new }
 {
-    match make(alloc, editor, register, edit) {
+    match edit {
+        RegisterEdit::Add(cells) => add_cells(alloc, editor, register, cells),
+        RegisterEdit::Remove(cells) => remove_cells(alloc, editor, register, cells),
+        RegisterEdit::Keep(cells) => {
+            let kept = intersection_with_cells(alloc, editor.register(register), cells);
+            give(editor, register, in_memory(kept))
+        }
+        RegisterEdit::Clear => assign(editor, register, nothing(alloc)),
+        RegisterEdit::Copy(other) => {
+            let copy = copy_of(editor.register(other));
+            give(editor, register, in_memory(copy))
+        }
+        RegisterEdit::Union(other) => {
+            let union = editor.register(register).union(editor.register(other));
+            give(editor, register, in_memory(union))
+        }
+        RegisterEdit::Intersect(other) => {
+            let shared = editor
+                .register(register)
+                .intersection(editor.register(other));
+            give(editor, register, in_memory(shared))
+        }
+        RegisterEdit::Subtract(other) => {
+            let union = editor.register(register);
+            let rest = difference(union, editor.register(other), editor.limit());
+            give(editor, register, rest)
+        }
+        RegisterEdit::Range(span) => {
+            let (first, last) = span.ends();
+            give(
+                editor,
+                register,
+                in_memory(CellUnion::from_range(alloc, first, last)),
+            )
+        }
+        RegisterEdit::Outer { level, rect } => {
+            let covering = outer_rect(alloc, &rect, level, editor);
+            give(editor, register, covering)
+        }
+        RegisterEdit::Inner { level, rect } => {
+            let covering = inner_rect(alloc, &rect, level, editor);
+            give(editor, register, covering)
+        }
+        RegisterEdit::OuterOf { other, level, rect } => {
+            let covering = outer_of(alloc, editor, other, level, rect);
+            give(editor, register, covering)
+        }
+        RegisterEdit::InnerOf { other, level, rect } => {
+            let covering = inner_of(alloc, editor, other, level, rect);
+            give(editor, register, covering)
+        }
+    }
+}
+
+/// Gives a register the union that was made, or answers why none was.
+fn give(editor: &mut Editor, register: Register, made: Result<CellUnion, Refusal>) -> Answer
+    ensures { (S : ℕ → Bool) → Makes S editor.old.limit made →
+        Gets S register editor.old (reply_of result editor.new) editor.new }
+{
+    match made {
         Ok(union) => assign(editor, register, union),
         Err(refusal) => Answer::Refused(refusal),
     }
@@ -41,7 +100,14 @@ pub(crate) fn assign(editor: &mut Editor, register: Register, union: CellUnion) 
     ensures { (S : ℕ → Bool) → IsNormalForm S union.cells →
         Gets S register editor.old (reply_of result editor.new) editor.new }
 {
-    match editor.assign(register, union) {
+    answer_of(editor.assign(register, union))
+}
+
+/// The answer to an edit that the editor carried out, or refused.
+fn answer_of(edited: Result<(usize, usize), EditFault>) -> Answer
+    ensures { result ≡ answer_of edited }
+{
+    match edited {
         Ok((out, put)) => Answer::Moved { out, put },
         Err(EditFault::TooMany) => Answer::Refused(Refusal::TooMany),
         Err(EditFault::Memory) => Answer::Refused(Refusal::Memory),
@@ -70,34 +136,45 @@ pub(crate) fn redo(editor: &mut Editor) -> Answer
     }
 }
 
-/// The union that an edit gives the register.
-fn make(
-    alloc: Global,
-    editor: &Editor,
-    register: Register,
-    edit: RegisterEdit<'_>,
-) -> Result<CellUnion, Refusal>
-    ensures { Makes (new_set editor.now.now register edit.entry) editor.now.limit result }
+/// Adds cells to a register.
+fn add_cells(alloc: Global, editor: &mut Editor, register: Register, cells: Cells<'_>) -> Answer
+    ensures { Gets (either (leaves_of editor.old.now register) (has_leaf cells.entry)) register editor.old
+        (reply_of result editor.new) editor.new }
 {
-    let union = editor.register(register);
-    match edit {
-        RegisterEdit::Add(cells) => in_memory(union_with_cells(alloc, union, cells)),
-        RegisterEdit::Remove(cells) => difference_with_cells(alloc, union, cells, editor.limit()),
-        RegisterEdit::Keep(cells) => in_memory(intersection_with_cells(alloc, union, cells)),
-        RegisterEdit::Clear => Ok(nothing(alloc)),
-        RegisterEdit::Copy(other) => in_memory(copy_of(editor.register(other))),
-        RegisterEdit::Union(other) => in_memory(union.union(editor.register(other))),
-        RegisterEdit::Intersect(other) => in_memory(union.intersection(editor.register(other))),
-        RegisterEdit::Subtract(other) => difference(union, editor.register(other), editor.limit()),
-        RegisterEdit::Range(span) => {
-            let (first, last) = span.ends();
-            in_memory(CellUnion::from_range(alloc, first, last))
-        }
-        RegisterEdit::Outer { level, rect } => outer_rect(alloc, &rect, level, editor),
-        RegisterEdit::Inner { level, rect } => inner_rect(alloc, &rect, level, editor),
-        RegisterEdit::OuterOf { other, level, rect } => outer_of(alloc, editor, other, level, rect),
-        RegisterEdit::InnerOf { other, level, rect } => inner_of(alloc, editor, other, level, rect),
+    match union_of(alloc, cells) {
+        Ok(named) => add(editor, register, &named),
+        Err(_) => Answer::Refused(Refusal::Memory),
     }
+}
+
+/// Adds the leaves of a union to a register.
+fn add(editor: &mut Editor, register: Register, named: &CellUnion) -> Answer
+    ensures { Gets (either (leaves_of editor.old.now register) (has_leaf named.now.cells)) register editor.old
+        (reply_of result editor.new) editor.new }
+{
+    let _ = named.cells();
+    let _ = editor.register(register).cells();
+    answer_of(editor.add(register, named))
+}
+
+/// Takes cells out of a register.
+fn remove_cells(alloc: Global, editor: &mut Editor, register: Register, cells: Cells<'_>) -> Answer
+    ensures { Gets (without (leaves_of editor.old.now register) (has_leaf cells.entry)) register editor.old
+        (reply_of result editor.new) editor.new }
+{
+    match union_of(alloc, cells) {
+        Ok(named) => remove(editor, register, &named),
+        Err(_) => Answer::Refused(Refusal::Memory),
+    }
+}
+
+/// Takes the leaves of a union out of a register.
+fn remove(editor: &mut Editor, register: Register, named: &CellUnion) -> Answer
+    ensures { Gets (without (leaves_of editor.old.now register) (has_leaf named.now.cells)) register editor.old
+        (reply_of result editor.new) editor.new }
+{
+    let _ = editor.register(register).cells();
+    answer_of(editor.remove(register, named))
 }
 
 /// The union, or out of memory as a refusal.
@@ -134,30 +211,6 @@ fn union_of(alloc: Global, mut cells: Cells<'_>) -> Result<CellUnion, AllocError
         list.push(cell)?;
     }
     Ok(normalise(list))
-}
-
-/// The union with the cells added.
-fn union_with_cells(
-    alloc: Global,
-    union: &CellUnion,
-    cells: Cells<'_>,
-) -> Result<CellUnion, AllocError>
-    ensures { IfOk result (λ u. IsNormalForm (either (has_leaf union.now.cells) (has_leaf cells.entry)) u.cells) }
-{
-    union.union(&union_of(alloc, cells)?)
-}
-
-/// The union without the leaves of the cells.
-fn difference_with_cells(
-    alloc: Global,
-    union: &CellUnion,
-    cells: Cells<'_>,
-    limit: usize,
-) -> Result<CellUnion, Refusal>
-    ensures { Makes (without (has_leaf union.now.cells) (has_leaf cells.entry)) limit result }
-{
-    let taken = union_of(alloc, cells)?;
-    difference(union, &taken, limit)
 }
 
 /// The union without the leaves of another.
