@@ -38,7 +38,7 @@ change_list us vs w l = record {
   few = omega (arith, fewer_without us vs, w.few);
 }
 
-empty_list : (xs : List ℕ) → length xs ≡ 0 → xs ≡ []
+pub empty_list : (xs : List ℕ) → length xs ≡ 0 → xs ≡ []
 empty_list [] h = refl
 empty_list (x ∷ xs) h = absurd (omega arith)
 

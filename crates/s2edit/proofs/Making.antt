@@ -1,5 +1,5 @@
 -- What making a change leaves, and what an edit by named cells is.
-use Rattle.std.proofs.Common.{◌≡◌, ℕ, ◌+◌, ◌<◌, ◌≤◌, Bool, List, [], ◌∷◌, length, slice_get, Some, Ok, Err, Result}
+use Rattle.std.proofs.Common.{◌≡◌, ℕ, ◌+◌, ◌<◌, ◌≤◌, Bool, List, [], length, slice_get, Some, Ok, Err, Result}
 use Rattle.std.proofs.Common.{◌↔◌, OnOk, OnErr, refl, sym, ap, ◌∙◌, subst, ⊎_elim, arith}
 use Rattle.std.proofs.lemmas.Bool.{cases_lt}
 use Rattle.std.proofs.lemmas.List.{length-map}
@@ -17,13 +17,10 @@ use Rattle.s2edit.specs.declared.editor.EditFault.{EditFault}
 use Rattle.s2edit.specs.declared.editor.EditFault.TheVariants.{TooMany}
 use Rattle.s2edit.specs.declared.TheConstants.{REGISTERS}
 use Rattle.s2edit.proofs.Assigning.{assigned_same}
+use Rattle.s2edit.proofs.Contents.{empty_list}
 use Rattle.s2edit.proofs.InTurn.{nothing_applied, length_without, length_applied}
 use Rattle.s2edit.proofs.SetLemmas.{Assigned-sets}
 use Rattle.s2edit.proofs.Tables.{AllWithin-at}
-
-no_cells : (xs : List ℕ) → length xs ≡ 0 → xs ≡ []
-no_cells [] e = refl
-no_cells (x ∷ xs) e = absurd (omega arith)
 
 -- a change of a register, in the state that an editor holds
 module _ (limit depth : ℕ) (us : List Union) (past future : List Diff) (h : History (List ℕ)) (d : Diff)
@@ -51,7 +48,8 @@ module _ (limit depth : ℕ) (us : List Union) (past future : List Diff) (h : Hi
   -- if it names no cell, everything stays
   module _ (no_out : length d.out ≡ 0) (no_put : length d.put ≡ 0) where
     same_list : list_after h.now d ≡ list_at h.now d.register
-    same_list = nothing_applied d.out d.put (list_at h.now d.register) (no_cells d.out no_out) (no_cells d.put no_put)
+    same_list =
+        nothing_applied d.out d.put (list_at h.now d.register) (empty_list d.out no_out) (empty_list d.put no_put)
 
     pub nothing_made : Assigned h d.register (list_after h.now d) h
     nothing_made = assigned_same h d.register (list_after h.now d)

@@ -24,18 +24,11 @@ use Rattle.s2list.proofs.Tiling.{or_true, or_false, none_between}
 use Rattle.s2list.proofs.Walking.{leaf_at, not_true}
 use Rattle.s2search.specs.Working.Room.{IsPut, PutsGap}
 use Rattle.s2search.specs.Working.Piles.{Piling, PilingIn}
-use Rattle.s2search.proofs.Piling.{begins_local, begins_packed, pile_free, pile_picked, piling_flush, taken}
+use Rattle.s2search.proofs.Piling.{begins_local, begins_packed, or_last, pile_free, pile_picked, piling_flush, taken}
 
 or_right_false : (a b : Bool) → (a || b) ≡ false → b ≡ false
 or_right_false true b h = absurd (false≢true (sym h))
 or_right_false false b h = h
-
-or_last : (a b c : Bool) → ((a || b) || c) ≡ ((a || c) || b)
-or_last true b c = refl
-or_last false true true = refl
-or_last false true false = refl
-or_last false false true = refl
-or_last false false false = refl
 
 -- in the leaves up to before `mark` the set is that of xs
 run_same : (S : ℕ → Bool) (xs ys list : List ℕ) (i j start mark x : ℕ) → IsPacked ys →

@@ -7,18 +7,12 @@ use Rattle.std.proofs.lemmas.List.Elements.{All-push}
 use Rattle.s2cell.specs.Cell.{IsCell, covers}
 use Rattle.s2list.specs.Union.{has_leaf}
 use Rattle.s2list.proofs.Shared.{has_leaf-push}
+use Rattle.s2search.proofs.Piling.{or_last}
 
 -- the first `n` cells of `out` have the leaves of the first `i` of `xs` and the first `j` of `ys`
 pub record Merged (xs ys out : List ℕ) (i j n : ℕ) : Type 0 where
   pub cells : All IsCell (take n out)
   pub leaves : (x : ℕ) → has_leaf (take n out) x ≡ (has_leaf (take i xs) x || has_leaf (take j ys) x)
-
-or_first : (a b c : Bool) → ((a || b) || c) ≡ ((a || c) || b)
-or_first true b c = refl
-or_first false true true = refl
-or_first false true false = refl
-or_first false false true = refl
-or_first false false false = refl
 
 or_second : (a b c : Bool) → ((a || b) || c) ≡ (a || (b || c))
 or_second true b c = refl
@@ -51,7 +45,7 @@ pub merged_x : (xs ys out : List ℕ) (i j n c : ℕ) → Merged xs ys out i j n
 merged_x xs ys out i j n c s all h g is = record {
   cells = cells_more out n c g s.cells (subst IsCell (sym is) (all i 0 h));
   leaves = λ x. set_more out n c x g ∙ ap (λ b. b || covers c x) (s.leaves x)
-      ∙ or_first (has_leaf (take i xs) x) (has_leaf (take j ys) x) (covers c x)
+      ∙ or_last (has_leaf (take i xs) x) (has_leaf (take j ys) x) (covers c x)
       ∙ ap (λ b. b || has_leaf (take j ys) x) (sym (taken_more xs i c x h is));
 }
 

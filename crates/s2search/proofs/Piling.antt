@@ -50,7 +50,7 @@ or_swap true false = refl
 or_swap false true = refl
 or_swap false false = refl
 
-or_last : (a b c : Bool) → ((a || b) || c) ≡ ((a || c) || b)
+pub or_last : (a b c : Bool) → ((a || b) || c) ≡ ((a || c) || b)
 or_last true b c = refl
 or_last false b c = or_swap b c
 

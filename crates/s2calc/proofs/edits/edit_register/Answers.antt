@@ -69,7 +69,8 @@ returns-in-Intersect c =
     (subst (λ (k : List ℕ). Gets (shared (has_leaf u) (has_leaf k)) r h reply new)
     (sym (get_or_from_slice_get h.now s v [] c.register-in-Intersect-2.ensures.list))
     (c.give-in-Intersect.ensures (shared (has_leaf u) (has_leaf v))
-    (c.in_memory-in-Intersect.ensures.makes (shared (has_leaf u) (has_leaf v)) h.limit c.intersection-shared.ensures.normal))))
+    (c.in_memory-in-Intersect.ensures.makes (shared (has_leaf u) (has_leaf v)) h.limit
+    c.intersection-shared.ensures.normal))))
 
 pub returns-in-Subtract : goal.returns-in-Subtract
 returns-in-Subtract c =
