@@ -20,7 +20,7 @@ use Rattle.s2list.proofs.Normal.{all_held, holder, family, greatest_apart, leaf_
 use Rattle.s2list.proofs.Normal.{normal_from_leaves, one_normal_form}
 use Rattle.std.proofs.lemmas.Result.{IfOk-weaker, IfErr-weaker}
 use Rattle.std.specs.List.{list_any}
-use Rattle.s2search.specs.Room.{PutsOne, PutsUpTo}
+use Rattle.s2search.specs.Room.{PutsUpTo}
 use Rattle.s2search.proofs.Levelling.{cut_parent, cut_same}
 use Rattle.s2cover.specs.Coverings.{touched, outer_set, inner_set, IsInOuter, IsInInner}
 use Rattle.s2search.specs.Cut.{reaches, cut_at, cells_cut, cells_kept}

@@ -1,9 +1,8 @@
 -- The cells of a union cut to a level, put into a room.
 use Rattle.std.proofs.Common.{◌≡◌, ℕ, zero, suc, ◌+◌, ◌-◌, ◌^◌, ◌<◌, ◌≤◌, ◌⊎◌, inl, inr, refl, sym}
 use Rattle.std.proofs.Common.{◌∙◌, ap, subst, arith}
-use Rattle.std.proofs.Common.{Bool, true, false, cond, max, List, [], ◌∷◌, ◌++◌, length}
-use Rattle.std.proofs.Common.{get_or, take, drop, All}
-use Rattle.std.specs.List.{filter}
+use Rattle.std.proofs.Common.{Bool, true, false, cond, List, [], ◌∷◌, ◌++◌, length}
+use Rattle.std.proofs.Common.{get_or, take, drop}
 use Rattle.std.proofs.Math.Logic.{⊎_elim}
 use Rattle.std.proofs.lemmas.Bool.{cases_lt, cond-true, cond-false, le-leb, leb-true, false_from_ne_true}
 use Rattle.std.proofs.lemmas.List.{append-nil, get_or-map, length-append, length-map, take_all, take-append-drop}
@@ -13,7 +12,7 @@ use Rattle.std.proofs.lemmas.Option.{gets}
 use Rattle.s2cell.specs.Cell.{IsCell, level_of, first_leaf, size_of, parent_of}
 use Rattle.s2cell.proofs.CellLemmas.{cell_leaves}
 use Rattle.s2cell.proofs.Calls.{IsCell-parent_of}
-use Rattle.s2cell.proofs.Family.{deeper_inside, parent_level, parent_around, same_from_within}
+use Rattle.s2cell.proofs.Family.{deeper_inside, parent_level, parent_around}
 use Rattle.s2cell.proofs.Leaves.{Within}
 use Rattle.s2list.specs.Union.{has_leaf, IsLocal, IsNormalForm}
 use Rattle.s2list.specs.Packed.{FirstEndBy, IsPacked}
@@ -23,7 +22,7 @@ use Rattle.s2list.proofs.Normal.{normal_form_same}
 use Rattle.s2list.proofs.Shortest.{picked_length}
 use Rattle.s2list.proofs.Tiling.{or_false}
 use Rattle.s2search.specs.Cut.{reaches, cut_at, cells_cut, cells_kept}
-use Rattle.s2search.specs.Room.{PutsOne, PutsUpTo}
+use Rattle.s2search.specs.Room.{PutsUpTo}
 use Rattle.s2search.specs.Working.Piles.{PilingIn}
 use Rattle.s2search.specs.Working.Room.{IsPut}
 use Rattle.s2search.proofs.Piling.{Begins, any, pile_picked, piling_more}

@@ -1,5 +1,5 @@
 -- The covering of a union, if it has no more cells than are allowed.
-use Rattle.std.proofs.Common.{◌≡◌, ℕ, ◌<◌, ◌≤◌, ◌⊎◌, inl, inr, ap, arith, Bool, List, length}
+use Rattle.std.proofs.Common.{ℕ, ◌<◌, ◌≤◌, inl, inr, ap, arith, Bool, List, length}
 use Rattle.s2list.specs.Union.{IsLocal, IsNormalForm, has_leaf}
 use Rattle.s2list.proofs.Normal.{one_normal_form}
 use Rattle.s2search.specs.Room.{PutsOne, PutsUpTo}

@@ -1,4 +1,4 @@
-use Rattle.std.proofs.Common.{◌≡◌, ℕ, ◌+◌, ◌^◌, ◌<◌, ◌≤◌, ◌∙◌, inl, inr, length, get_or, take, sym, subst, ap, arith}
+use Rattle.std.proofs.Common.{◌≡◌, ◌+◌, ◌<◌, ◌∙◌, inl, inr, length, get_or, take, sym, subst, ap, arith}
 use Rattle.s2cell.specs.Cell.{IsCell, first_leaf, size_of}
 use Rattle.s2list.proofs.Checking.{packed_from_local}
 use Rattle.s2search.specs.Cut.{cells_kept, cut_at}

@@ -1,4 +1,4 @@
-use Rattle.std.proofs.Common.{◌≤◌, sym, subst, arith, rules, take, drop, length, All}
+use Rattle.std.proofs.Common.{◌≤◌, sym, subst, arith, rules, length, All}
 use Rattle.std.proofs.lemmas.List.Elements.{All-drop, All-take}
 use Rattle.s2cell.specs.Cell.{IsCell}
 use Rattle.s2search.proofs.merge.+gather.Goals as goal

@@ -1,4 +1,4 @@
-use Rattle.std.proofs.Common.{◌++◌, sym, subst, arith, take, drop}
+use Rattle.std.proofs.Common.{sym, subst, arith, take, drop}
 use Rattle.std.proofs.lemmas.List.{take-append-le}
 use Rattle.s2list.specs.Union.{IsNormalForm, has_leaf}
 use Rattle.s2list.proofs.Normal.{normal_form_same}
