@@ -1,5 +1,6 @@
-//! The searches that all calls on ordered lists share, and the one function by which they look at a cell. A cell ends
-//! by a leaf if all its leaves come before that leaf.
+//! The searches of cursors, set operations and changes, and of questions about a short list and a much longer one, with
+//! the one function by which these look at a cell. The search in a whole list is that of `s2list`, which answers the
+//! other questions. A cell ends by a leaf if all its leaves come before that leaf.
 ghost use Rattle.std.specs.Prelude.{◌≡◌, ◌≤◌, ◌<◌, ◌+◌, ◌-◌, ◌*◌, ◌^◌, ◌↔◌};
 ghost use Rattle.std.specs.Prelude.{◌/◌, ◌⊎◌, ℕ, IsTrue, length, slice_index};
 ghost use Rattle.std.specs.List.Sorted.{IsStrictlyIncreasing};
