@@ -5,8 +5,8 @@ use Rattle.std.specs.List.{list_all}
 use Rattle.s2script.specs.declared.limits.TheConstants.{MOST_DIGITS}
 
 -- whether the byte is a decimal digit
-abbrev pub is_digit : ℕ → Bool
-is_digit b = nat_le 48 b && nat_le b 57
+abbrev pub is_decimal_digit : ℕ → Bool
+is_decimal_digit b = nat_le 48 b && nat_le b 57
 
 -- ten times the number so far, plus the digit
 abbrev pub with_digit : ℕ → ℕ → ℕ
@@ -14,8 +14,8 @@ with_digit n b = 10 * n + (b - 48)
 
 -- the number that 1 to 10 decimal digits stand for
 abbrev pub number : List ℕ → Option ℕ
-number word = if nat_le 1 (length word) && (nat_le (length word) MOST_DIGITS && list_all is_digit word) then Some
-    (fold with_digit 0 word) else None
+number word = if nat_le 1 (length word) && (nat_le (length word) MOST_DIGITS && list_all is_decimal_digit word)
+    then Some (fold with_digit 0 word) else None
 
 -- the number, if it is from `low` to `high`
 abbrev pub number_from : ℕ → ℕ → Option ℕ → Option ℕ
