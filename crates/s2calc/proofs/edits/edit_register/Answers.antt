@@ -1,4 +1,4 @@
-use Rattle.std.proofs.Common.{◌≡◌, ◌+◌, ℕ, List, [], sym, subst}
+use Rattle.std.proofs.Common.{◌+◌, ℕ, List, [], sym, subst}
 use Rattle.std.proofs.lemmas.Option.{get_or_from_slice_get}
 use Rattle.s2cell.specs.Cell.{first_leaf, size_of}
 use Rattle.s2list.specs.Union.{has_leaf, between}
