@@ -1,9 +1,8 @@
 -- Lemmas on the line that is kept, and the flushes before and after it.
-use Rattle.std.proofs.Common.{◌≡◌, ℕ, ◌+◌, Bool, true, List, [], ◌∷◌, ◌++◌, Option, Result, IfErr}
+use Rattle.std.proofs.Common.{◌≡◌, ℕ, ◌+◌, Bool, true, List, [], ◌∷◌, ◌++◌, Option, Result, Ok, Err, OnErr, IfErr}
 use Rattle.std.proofs.Common.{sym, ◌∙◌, ap, subst, inr}
 use Rattle.std.specs.Io.KnownBytes.{Appends, Keeps}
-use Rattle.std.proofs.KnownBytes.{Appends-kept, Appends-nil, Appends-trans}
-use Rattle.std.proofs.lemmas.Result.{MatchResult-weaker}
+use Rattle.std.proofs.KnownBytes.{Appends-kept, Appends-nil, Appends-trans, Keeps-refl}
 use Rattle.s2calc.specs.declared.fault.RunFault.{RunFault}
 use Rattle.s2calc.specs.declared.fault.RunFault.TheVariants.{Output}
 use Rattle.s2calc.specs.declared.progress.Progress.{Progress}
@@ -13,7 +12,8 @@ use Rattle.s2calc.specs.Replies.{Reply, text_of, tally_of}
 use Rattle.s2calc.specs.Notes.{WritesNotes, note_of, number_of}
 use Rattle.s2calc.specs.Step.{StepBy, asks_for_file}
 use Rattle.s2calc.specs.Working.Stands.{Point}
-use Rattle.s2calc.specs.Working.Stands.{Answered, AnswersKept}
+use Rattle.s2calc.specs.Working.Stands.{Answered, AnsweredInPart, AnswersKept}
+use Rattle.s2calc.specs.Output.{AppendsPart}
 
 -- a flush, an answer and a flush
 Appends-between : (a b c d : Option (List ℕ)) (bytes : List ℕ) → Keeps a b → Appends b c bytes → Keeps c d →
@@ -41,13 +41,35 @@ module _ (old new : Point) (before after : Progress) (said : Parsed) (is : said 
             (subst (λ l. WritesNotes old.noted (note_of after.lines l reply) new.noted) line_is noted);
       }
 
+  -- the line was carried out, and a part of its answer was written
+  pub Answered-in_part : {Begun : Type 0} (a b c : Option (List ℕ)) (reply : Reply) →
+      StepBy said old.world reply new.world → Keeps a b → AppendsPart b c (text_of reply) → new.noted ≡ old.noted
+      → Begun → AnsweredInPart Begun old before new a c
+  Answered-in_part a b c reply step first w quiet begun =
+      record {
+        reply = reply;
+        step = record { by = subst (λ p. StepBy p old.world reply new.world) is step };
+        part = record {
+          part = w.part;
+          rest = w.rest;
+          bytes_are = w.bytes_are;
+          lacking = w.lacking;
+          written = Appends-between a b c c w.part first w.written (Keeps-refl c);
+        };
+        quiet = quiet;
+        begun = begun;
+      }
+
   -- the flush after it may have failed
-  pub AnswersKept-flushed : (may_fail : Type 0) (has_file : Bool) (a d : Option (List ℕ))
+  pub AnswersKept-flushed : (may_fail Unseen Begun : Type 0) (has_file : Bool) (a d : Option (List ℕ))
       (result : Result (Unit {0}) RunFault) → has_file ≡ asks_for_file said
       → IfErr result (λ fault. (fault ≡ Output) × may_fail × (has_file ≡ true)) → Answered old before new after a d
-      → AnswersKept may_fail old before new after a d result
-  AnswersKept-flushed may_fail has_file a d result same fails answered =
-      MatchResult-weaker result fails (λ _ u. answered) (λ fault f. (
-        f.0,
-        inr (f.1, record { has_file = sym (same ∙ ap asks_for_file is) ∙ f.2; flush = inr answered }),
-      ))
+      → OnErr result Begun → AnswersKept may_fail Unseen Begun old before new after a d result
+  AnswersKept-flushed may_fail Unseen Begun has_file a d (Ok t) same fails answered begun = answered
+  AnswersKept-flushed may_fail Unseen Begun has_file a d (Err fault) same fails answered begun = (
+    fails.0,
+    inr (
+      fails.1,
+      record { has_file = sym (same ∙ ap asks_for_file is) ∙ fails.2; flush = inr (answered, begun) },
+    ),
+  )

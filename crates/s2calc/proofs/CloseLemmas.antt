@@ -87,14 +87,18 @@ module _ (start : Point) (script : List ℕ) (replies : List Reply) (now : Point
         noted = noted_none e;
       }
 
-  pub EndsUnflushed-none : (output_old output_new : Option (List ℕ)) → progress.kept ≡ [] →
-      Keeps output_old output_new → EndsUnflushed start script replies now output_old output_new
-  EndsUnflushed-none output_old output_new e k =
+  pub EndsUnflushed-none : (Seen : ℕ → ℕ → Type 0) (output_old output_new : Option (List ℕ)) → progress.kept ≡ [] →
+      Keeps output_old output_new → Seen (length (lines script)) (length (lines script))
+      → EndsUnflushed Seen start script replies now output_old output_new
+  EndsUnflushed-none Seen output_old output_new e k seen =
       record {
         more = [];
         run = run_none e;
         written = Appends-kept output_old output_old output_new [] (Appends-nil output_old) k;
         noted = noted_none e;
+        ended = length (lines script);
+        ended_are = inl refl;
+        seen = seen;
       }
 
   texts-one : (reply : Reply) → texts (reply ∷ []) ≡ text_of reply
@@ -106,10 +110,15 @@ module _ (start : Point) (script : List ℕ) (replies : List Reply) (now : Point
     run_one reply t = subst (λ ls. Steps start.world ls (replies ++ reply ∷ []) new.world) (sym (lines_one h))
         (Steps-line start script replies now progress s reply new t)
 
-    pub EndsInPart-part : (output_old output_new : Option (List ℕ)) →
-        AnsweredInPart now progress new output_old output_new
-        → EndsInPart start script replies new output_old output_new
-    EndsInPart-part output_old output_new p =
+    one_line_more : length s.done + 1 ≡ length (lines script)
+    one_line_more =
+        let long = ap length (lines_one h) in let one = length-append s.done (s.rest ∷ []) in omega (arith, long, one)
+
+    pub EndsInPart-part : (Begun : Type 0) (Seen : ℕ → ℕ → Type 0) (output_old output_new : Option (List ℕ)) →
+        AnsweredInPart Begun now progress new output_old output_new
+        → (Begun → Seen (length (lines script)) (length s.done))
+        → EndsInPart Seen start script replies new output_old output_new
+    EndsInPart-part Begun Seen output_old output_new p count =
         let reply = p.reply in
         let w = p.part in
         let said : Explains start new (s.done ++ s.rest ∷ []) (but_last (replies ++ reply ∷ [])) =
@@ -122,6 +131,9 @@ module _ (start : Point) (script : List ℕ) (replies : List Reply) (now : Point
           written = w.written;
           cut_off = IsCutOff-part [] reply w.part w.rest w.bytes_are w.lacking;
           noted = subst (λ ls. Explains start new ls (but_last (replies ++ reply ∷ []))) (sym (lines_one h)) said;
+          ended = length s.done;
+          one_more = one_line_more;
+          seen = count p.begun;
         }
 
     module _ (after : Progress) (output_old output_mid output_new : Option (List ℕ))
@@ -144,21 +156,28 @@ module _ (start : Point) (script : List ℕ) (replies : List Reply) (now : Point
             noted = noted_one;
           }
 
-      pub EndsUnflushed-line : EndsUnflushed start script replies new output_old output_new
-      EndsUnflushed-line =
+      pub EndsUnflushed-line : (Seen : ℕ → ℕ → Type 0) (ended : ℕ) →
+          (ended ≡ length (lines script)) ⊎ (ended + 1 ≡ length (lines script)) → Seen (length (lines script)) ended
+          → EndsUnflushed Seen start script replies new output_old output_new
+      EndsUnflushed-line Seen ended ended_are seen =
           record {
             more = a.reply ∷ [];
             run = run_one a.reply a.step;
             written = written_one;
             noted = noted_one;
+            ended = ended;
+            ended_are = ended_are;
+            seen = seen;
           }
 
     -- a flush failed before the last line, or after it
-    pub Ends-unflushed : (may_fail : Type 0) (after : Progress) (output_old output_new : Option (List ℕ)) →
-        may_fail → AnsweredUnflushed now progress new after output_old output_new
-        → EndsUnflushed start script replies new output_old output_new
-        ⊎ (may_fail × EndsBefore start script replies new output_old output_new)
-    Ends-unflushed may_fail after output_old output_new m f =
+    pub Ends-unflushed : (Unseen Begun : Type 0) (Seen : ℕ → ℕ → Type 0) (may_fail : Type 0) (after : Progress)
+        (output_old output_new : Option (List ℕ)) →
+        may_fail → AnsweredUnflushed Unseen Begun now progress new after output_old output_new
+        → (Unseen → Seen (length s.done) (length s.done)) → (Begun → Seen (length (lines script)) (length s.done))
+        → EndsUnflushed Seen start script replies new output_old output_new
+        ⊎ (may_fail × EndsBefore Seen start script replies new output_old output_new)
+    Ends-unflushed Unseen Begun Seen may_fail after output_old output_new m f none count =
         elim f.flush [
           | inl p ↦ inr (
             m,
@@ -170,7 +189,9 @@ module _ (start : Point) (script : List ℕ) (replies : List Reply) (now : Point
               run = subst (λ to. Steps start.world s.done replies to.world) (sym p.0) s.run;
               kept = p.1;
               noted = subst (λ to. Explains start to s.done replies) (sym p.0) s.noted;
+              seen = none p.2;
             },
           )
-          | inr a ↦ inl (EndsUnflushed-line after output_old output_new output_new a (Keeps-refl output_new))
+          | inr a ↦ inl (EndsUnflushed-line after output_old output_new output_new a.0 (Keeps-refl output_new) Seen
+              (length s.done) (inr one_line_more) (count a.1))
         ]

@@ -23,7 +23,7 @@ use Rattle.s2calc.specs.Working.Stands.{point, Stands, Answered, StandsAfter, Cl
 use Rattle.s2calc.specs.Moments.{Event, Came, NotCame, LineBegins, LineEnds, Moment, moment, bytes_of}
 use Rattle.s2calc.specs.Moments.{bytes_read, begun_in, ended_in, Adds, AddsOne}
 use Rattle.s2calc.specs.Order.{HasEnded, GoneOut, ReadsWhen, LineWhen, EachMay, InOrder, Ordered}
-use Rattle.s2calc.specs.Working.Seen.{Settled, LineSeen, MoreSeen, LastSeen, SeenSoFar}
+use Rattle.s2calc.specs.Working.Seen.{Settled, LineSeen, LineCut, ManySeen, MoreSeen, EndSeen, LastSeen, SeenSoFar}
 use Rattle.s2calc.proofs.CallLemmas.{none_failed_more, last_flushed_after, last_failed_after}
 use Rattle.s2calc.proofs.LineLemmas.{every-append, whole_lines_begun, BeginsWith-more}
 use Rattle.s2calc.proofs.CloseLemmas.{lines_one, lines_none}
@@ -52,6 +52,10 @@ module _ {W S : Type 0} where
   pub Adds-none : (known : Option (List (Moment W S))) (P : List (Moment W S) → Type 0) → P [] → Adds known known P
   Adds-none None P p = tt
   Adds-none (Some ms) P p = (ms, [], refl, sym (append-nil ms), p)
+
+  pub Adds-same : (a b c : Option (List (Moment W S))) (P : List (Moment W S) → Type 0) → Adds a b P → c ≡ b →
+      Adds a c P
+  Adds-same a b c P p e = subst (λ (k : Option (List (Moment W S))). Adds a k P) (sym e) p
 
   pub Adds-weaker : (a b : Option (List (Moment W S))) (P Q : List (Moment W S) → Type 0) →
       ((ms : List (Moment W S)) → P ms → Q ms) → Adds a b P → Adds a b Q
@@ -137,6 +141,48 @@ module _ {W S : Type 0} (contents : W → Option (List ℕ)) (calls : W → Opti
       flushed = λ m. last_flushed_after may_flush (calls first) (calls old) (calls new) n (s.flushed h m);
     }
 
+  module _ (start : Point) (script : List ℕ) (replies : List Reply) (now : Point) (progress : Progress)
+      (s : Stands start script replies now progress) where
+    -- what is kept of the line asks for a command with a file if the line does
+    asks_kept : asks_for_file (line_of s.rest) ≡ true → asks_for_file (line_of progress.kept) ≡ true
+    asks_kept h = ap asks_for_file (ap line_of s.kept_is ∙ line_of-kept s.rest) ∙ h
+
+    begins_here : (old mid : W) (shelf : S) → now.world.files ≡ files shelf
+        → Settled contents calls is_sent may_flush (asks_for_file (line_of progress.kept)) old mid
+        → (first : W) (past : List (Moment W S))
+        → ((rest : List ℕ) × BeginsWith (bytes_read past) (s.done ++ s.rest ∷ []) rest)
+        ⊎ ((s.done ++ s.rest ∷ [] ≡ lines (bytes_read past)) × HasEnded past)
+        → Appends (contents first) (contents old) (texts replies) → NoneFailed may_flush (calls first) (calls old)
+        → LineWhen contents calls is_sent files may_flush start.world first past (moment LineBegins mid shelf)
+    begins_here old mid shelf files_are settled first past whole out n =
+        record {
+          before = s.done;
+          line = s.rest;
+          read_whole = whole;
+          answers = record {
+            replies = replies;
+            now = now.world;
+            steps = s.run;
+            out = Appends-kept (contents first) (contents old) (contents mid) (texts replies) out settled.kept;
+            none_failed = none_failed_more may_flush (calls first) (calls old) (calls mid) n settled.none_failed;
+          };
+          files_are = files_are;
+          gone_out = λ h. gone_out start.world first old mid (asks_for_file (line_of progress.kept)) n settled
+              (asks_kept h);
+        }
+
+    -- a line was seen to begin, and not to end
+    cut_each : (old : W) (shelf : S) (ms : List (Moment W S)) → now.world.files ≡ files shelf
+        → LineCut contents calls is_sent files may_flush (asks_for_file (line_of progress.kept)) old shelf ms
+        → (first : W) (past : List (Moment W S))
+        → ((rest : List ℕ) × BeginsWith (bytes_read past) (s.done ++ s.rest ∷ []) rest)
+        ⊎ ((s.done ++ s.rest ∷ [] ≡ lines (bytes_read past)) × HasEnded past)
+        → Appends (contents first) (contents old) (texts replies) → NoneFailed may_flush (calls first) (calls old)
+        → EachMay contents calls is_sent files may_flush start.world first past ms
+    cut_each old shelf ms files_are l first past whole out n = subst (λ (k : List (Moment W S)).
+        EachMay contents calls is_sent files may_flush start.world first past k) (sym l.is)
+        (begins_here old l.mid shelf files_are l.settled first past whole out n, tt)
+
   module _ (start : Point) (script : List ℕ) (replies : List Reply) (now new : Point) (progress after : Progress)
       (s : Stands start script replies now progress) (old writer : W) (old_shelf new_shelf : S)
       (a : Answered now progress new after (contents old) (contents writer))
@@ -144,35 +190,11 @@ module _ {W S : Type 0} (contents : W → Option (List ℕ)) (calls : W → Opti
       (files_new : new.world.files ≡ files new_shelf) (ms : List (Moment W S))
       (l : LineSeen contents calls is_sent files may_flush (asks_for_file (line_of progress.kept)) old writer old_shelf
       new_shelf ms) where
-    -- what is kept of the line asks for a command with a file if the line does
-    asks_kept : asks_for_file (line_of s.rest) ≡ true → asks_for_file (line_of progress.kept) ≡ true
-    asks_kept h = ap asks_for_file (ap line_of s.kept_is ∙ line_of-kept s.rest) ∙ h
-
     module _ (first : W) (past : List (Moment W S))
         (whole : ((rest : List ℕ) × BeginsWith (bytes_read past) (s.done ++ s.rest ∷ []) rest)
         ⊎ ((s.done ++ s.rest ∷ [] ≡ lines (bytes_read past)) × HasEnded past))
         (out : Appends (contents first) (contents old) (texts replies))
         (n : NoneFailed may_flush (calls first) (calls old)) where
-      begins_here : LineWhen contents calls is_sent files may_flush start.world first past
-          (moment LineBegins l.mid old_shelf)
-      begins_here =
-          let settled = l.settled in
-          record {
-            before = s.done;
-            line = s.rest;
-            read_whole = whole;
-            answers = record {
-              replies = replies;
-              now = now.world;
-              steps = s.run;
-              out = Appends-kept (contents first) (contents old) (contents l.mid) (texts replies) out settled.kept;
-              none_failed = none_failed_more may_flush (calls first) (calls old) (calls l.mid) n settled.none_failed;
-            };
-            files_are = files_old;
-            gone_out = λ h. gone_out start.world first old l.mid (asks_for_file (line_of progress.kept)) n settled
-                (asks_kept h);
-          }
-
       ends_here : LineWhen contents calls is_sent files may_flush start.world first
           (past ++ moment LineBegins l.mid old_shelf ∷ []) (moment LineEnds writer new_shelf)
       ends_here =
@@ -192,16 +214,19 @@ module _ {W S : Type 0} (contents : W → Option (List ℕ)) (calls : W → Opti
             };
             files_are = files_new;
             gone_out = λ h. record {
-              sent = l.sent (asks_kept h);
+              sent = l.sent (asks_kept start script replies now progress s h);
               flushed = λ m. last_flushed_after may_flush (calls first) (calls old) (calls writer) n
-                  (l.flushed (asks_kept h) m);
+                  (l.flushed (asks_kept start script replies now progress s h) m);
             };
           }
 
       pub line_each : EachMay contents calls is_sent files may_flush start.world first past ms
       line_each = subst (λ (k : List (Moment W S)).
-          EachMay contents calls is_sent files may_flush start.world first past k) (sym l.is)
-          (begins_here, (ends_here, tt))
+          EachMay contents calls is_sent files may_flush start.world first past k) (sym l.is) (
+            begins_here start script replies now progress s old l.mid old_shelf files_old l.settled first past whole out
+                n,
+            (ends_here, tt),
+          )
 
     pub one_begun : begun_in ms ≡ 1
     one_begun = ap begun_in l.is
@@ -284,6 +309,71 @@ module _ {W S : Type 0} (contents : W → Option (List ℕ)) (calls : W → Opti
             (none_failed_more may_flush (calls first) (calls before) (calls old) n earlier));
       }
 
+  -- what was seen before a line that was cut off, and with it
+  module _ (start : Point) (script : List ℕ) (replies : List Reply) (seen bytes more_bytes all : List ℕ) (now : Point)
+      (progress mid : Progress) (before old : W) (ms : List (Moment W S))
+      (s : StandsAfter start script replies seen now progress (contents before) (contents old)) (u : IsUnbroken bytes)
+      (held : Stands start ((script ++ seen) ++ bytes) (replies ++ s.more) now mid)
+      (whole : all ≡ (seen ++ bytes) ++ 10 ∷ more_bytes)
+      (m : MoreSeen contents calls is_sent files may_flush start.world script seen replies before ms) where
+    done_count : length (whole_lines (script ++ seen)) ≡ length held.done
+    done_count = ap length (whole_lines_begun (script ++ seen) s.stands.done s.stands.rest s.stands.begins
+        s.stands.unbroken
+        ∙ sym (whole_lines_begun ((script ++ seen) ++ bytes) s.stands.done (s.stands.rest ++ bytes)
+        (BeginsWith-more (script ++ seen) s.stands.done s.stands.rest bytes s.stands.begins)
+        (every-append _ s.stands.rest bytes s.stands.unbroken u))
+        ∙ whole_lines_begun ((script ++ seen) ++ bytes) held.done held.rest held.begins held.unbroken)
+
+    pub ManySeen-before : ManySeen contents calls is_sent files may_flush start.world script all replies before
+        (length held.done) (length held.done) ms
+    ManySeen-before =
+        record {
+          none_read = m.none_read;
+          begun = m.begun ∙ done_count;
+          ended = m.ended ∙ done_count;
+          each = λ first past rest e out n.
+              let here : bytes_read past ≡ (script ++ seen) ++ ((bytes ++ 10 ∷ more_bytes) ++ rest) = e
+              ∙ ap (λ b. (script ++ b) ++ rest) whole ∙ (simp append_assoc) in
+              m.each first past ((bytes ++ 10 ∷ more_bytes) ++ rest) here out n;
+        }
+
+    pub ManySeen-cut : (shelf : S) (ns : List (Moment W S)) → NoneFailed may_flush (calls before) (calls old)
+        → now.world.files ≡ files shelf
+        → LineCut contents calls is_sent files may_flush (asks_for_file (line_of mid.kept)) old shelf ns
+        → ManySeen contents calls is_sent files may_flush start.world script all replies before
+        (length (held.done ++ held.rest ∷ [])) (length held.done) (ms ++ ns)
+    ManySeen-cut shelf ns earlier files_are l =
+        let none : bytes_read ns ≡ [] = ap bytes_read l.is in
+        let begun : begun_in ns ≡ 1 = ap begun_in l.is in
+        let ended : ended_in ns ≡ 0 = ap ended_in l.is in
+        let all_begun = begun_in-append ms ns in
+        let all_ended = ended_in-append ms ns in
+        let first_begun = m.begun in
+        let first_ended = m.ended in
+        let count = done_count in
+        let one_more = length-append held.done (held.rest ∷ []) in
+        record {
+          none_read = bytes_read-quiet ms ns none ∙ m.none_read;
+          begun = omega (arith, begun, all_begun, first_begun, count, one_more);
+          ended = omega (arith, ended, all_ended, first_ended, count);
+          each = λ first past rest e out n.
+              let there : bytes_read (past ++ ms) ≡ script ++ ((seen ++ bytes) ++ 10 ∷ (more_bytes ++ rest)) =
+              bytes_read-quiet past ms m.none_read ∙ e ∙ ap (λ b. (script ++ b) ++ rest) whole
+              ∙ (simp append_assoc) in
+              EachMay-append start.world first past ms ns (ManySeen-before.each first past rest e out n)
+              (cut_each start ((script ++ seen) ++ bytes) (replies ++ s.more) now mid held old shelf ns files_are l
+              first
+              (past ++ ms)
+              (inl (
+                more_bytes ++ rest,
+                subst (λ (b : List ℕ). BeginsWith b (held.done ++ held.rest ∷ []) (more_bytes ++ rest)) (sym there)
+                    (begins_line script seen bytes (more_bytes ++ rest) ((seen ++ bytes) ++ 10 ∷ (more_bytes ++ rest))
+                    held.done held.rest held.begins held.unbroken refl),
+              ))
+              (Appends-texts (contents first) (contents before) (contents old) replies s.more out s.written)
+              (none_failed_more may_flush (calls first) (calls before) (calls old) n earlier));
+        }
+
   -- bytes without a newline end no line
   pub MoreSeen-rest : (start : Point) (script : List ℕ) (replies : List Reply) (all seen bytes : List ℕ) (now : Point)
       (progress : Progress) (before : W) (output_old output_new : Option (List ℕ)) (ms : List (Moment W S))
@@ -316,6 +406,37 @@ module _ {W S : Type 0} (contents : W → Option (List ℕ)) (calls : W → Opti
       ∙ sym (lines_none start script replies now progress s e)) in
       let count : length (whole_lines script) + 0 ≡ length (lines script) = omega (arith, same) in
       record { none_read = refl; begun = count; ended = count; each = λ first past read at_end out n. tt }
+
+  module _ (start : Point) (script : List ℕ) (replies : List Reply) (now : Point) (progress : Progress) (old : W)
+      (s : Stands start script replies now progress) where
+    -- the last line was not seen to begin
+    pub EndSeen-none : EndSeen contents calls is_sent files may_flush start.world script replies old (length s.done)
+        (length s.done) []
+    EndSeen-none =
+        let whole = ap length (whole_lines_begun script s.done s.rest s.begins s.unbroken) in
+        let count : length (whole_lines script) + 0 ≡ length s.done = omega (arith, whole) in
+        record { none_read = refl; begun = count; ended = count; each = λ first past read at_end out n. tt }
+
+    -- the last line was seen to begin, and not to end
+    pub EndSeen-cut : (shelf : S) (ms : List (Moment W S)) → 0 < length progress.kept → now.world.files ≡ files shelf
+        → LineCut contents calls is_sent files may_flush (asks_for_file (line_of progress.kept)) old shelf ms
+        → EndSeen contents calls is_sent files may_flush start.world script replies old (length (lines script))
+        (length s.done) ms
+    EndSeen-cut shelf ms h files_are l =
+        let all = lines_one start script replies now progress s h in
+        let whole = ap length (whole_lines_begun script s.done s.rest s.begins s.unbroken) in
+        let count = ap length all in
+        let one_more = length-append s.done (s.rest ∷ []) in
+        let begun : begun_in ms ≡ 1 = ap begun_in l.is in
+        let ended : ended_in ms ≡ 0 = ap ended_in l.is in
+        record {
+          none_read = ap bytes_read l.is;
+          begun = omega (arith, whole, count, one_more, begun);
+          ended = omega (arith, whole, ended);
+          each = λ first past read at_end out n.
+              cut_each start script replies now progress s old shelf ms files_are l first past
+              (inr (sym all ∙ ap lines (sym read), at_end)) out n;
+        }
 
   pub LastSeen-line : (start : Point) (script : List ℕ) (replies : List Reply) (now new : Point)
       (progress after : Progress) (old writer : W) (old_shelf new_shelf : S) (ms : List (Moment W S))
@@ -432,9 +553,11 @@ module _ {W S : Type 0} (contents : W → Option (List ℕ)) (calls : W → Opti
       well_here = none_failed_more may_flush (calls first) (calls old) (calls writer) n settled.none_failed
 
       -- bytes were read, and the lines that end in them were carried out
-      pub SeenSoFar-more : MoreSeen contents calls is_sent files may_flush start.world script bytes replies writer ks →
-          SeenSoFar contents calls is_sent files may_flush start.world first (script ++ bytes) ((ms ++ ns) ++ ks)
-      SeenSoFar-more more =
+      InOrder-more : (begins ends : ℕ) →
+          ManySeen contents calls is_sent files may_flush start.world script bytes replies writer begins ends ks →
+          InOrder contents calls is_sent files may_flush start.world first (script ++ bytes) begins ends
+          ((ms ++ ns) ++ ks)
+      InOrder-more begins ends more =
           let begun = came_begun in
           let ended = came_ended in
           let more_begun = more.begun in
@@ -450,11 +573,11 @@ module _ {W S : Type 0} (contents : W → Option (List ℕ)) (calls : W → Opti
           }
 
       -- the reader is at its end, and a last line was carried out
-      pub InOrder-last : bytes ≡ [] →
-          LastSeen contents calls is_sent files may_flush start.world script replies writer ks
-          → InOrder contents calls is_sent files may_flush start.world first script (length (lines script))
-          (length (lines script)) ((ms ++ ns) ++ ks) × HasEnded ((ms ++ ns) ++ ks)
-      InOrder-last none last =
+      InOrder-last : (begins ends : ℕ) → bytes ≡ [] →
+          EndSeen contents calls is_sent files may_flush start.world script replies writer begins ends ks
+          → InOrder contents calls is_sent files may_flush start.world first script begins ends ((ms ++ ns) ++ ks)
+          × HasEnded ((ms ++ ns) ++ ks)
+      InOrder-last begins ends none last =
           let begun = came_begun in
           let ended = came_ended in
           let last_begun = last.begun in
@@ -479,46 +602,48 @@ module _ {W S : Type 0} (contents : W → Option (List ℕ)) (calls : W → Opti
             HasEnded-more (ms ++ ns) ks at_end,
           )
 
-    -- bytes were read, and the lines that end in them were carried out
-    pub SeenSoFar-read : (bytes : List ℕ) (a b c d : Option (List (Moment W S))) →
+    -- bytes were read, and lines that end in them were carried out
+    pub InOrder-read : (bytes : List ℕ) (a b c d : Option (List (Moment W S))) (begins ends : ℕ) →
         Adds a b (SeenSoFar contents calls is_sent files may_flush start.world first script)
         → AddsOne b c (Came bytes) writer shelf
-        → Adds c d (MoreSeen contents calls is_sent files may_flush start.world script bytes replies writer)
-        → Adds a d (SeenSoFar contents calls is_sent files may_flush start.world first (script ++ bytes))
-    SeenSoFar-read bytes a b c d p q r =
-        Adds-three a b c d _ _ _ _ (λ ms ns ks seen e more. SeenSoFar-more bytes ms ns ks seen e more) p q r
+        → Adds c d (ManySeen contents calls is_sent files may_flush start.world script bytes replies writer begins ends)
+        → Adds a d (InOrder contents calls is_sent files may_flush start.world first (script ++ bytes) begins ends)
+    InOrder-read bytes a b c d begins ends p q r =
+        Adds-three a b c d _ _ _ _ (λ ms ns ks seen e more. InOrder-more bytes ms ns ks seen e begins ends more) p q r
 
     -- the reader is at its end
-    pub Ordered-end : {T E : Type 0} (bytes : List ℕ) (a b c d : Option (List (Moment W S))) (result : Result T E) →
+    pub InOrder-end : (bytes : List ℕ) (a b c d : Option (List (Moment W S))) (begins ends : ℕ) →
         Adds a b (SeenSoFar contents calls is_sent files may_flush start.world first script)
         → AddsOne b c (Came bytes) writer shelf → bytes ≡ []
-        → OnOk result (Adds c d (LastSeen contents calls is_sent files may_flush start.world script replies writer))
-        → OnOk result (Adds a d (λ ks. InOrder contents calls is_sent files may_flush start.world first script
-        (length (lines script)) (length (lines script)) ks × HasEnded ks))
-    Ordered-end bytes a b c d (Ok tally) p q none last =
-        Adds-three a b c d _ _ _ _ (λ ms ns ks seen e l. InOrder-last bytes ms ns ks seen e none l) p q last
-    Ordered-end bytes a b c d (Err other) p q none last = tt
+        → Adds c d (EndSeen contents calls is_sent files may_flush start.world script replies writer begins ends)
+        → Adds a d (λ ks. InOrder contents calls is_sent files may_flush start.world first script begins ends ks
+        × HasEnded ks)
+    InOrder-end bytes a b c d begins ends p q none last =
+        Adds-three a b c d _ _ _ _ (λ ms ns ks seen e l. InOrder-last bytes ms ns ks seen e begins ends none l) p q last
 
   -- the end of a run that has come to the end of its script
-  pub Runs-end : (old new : Known) (script : List ℕ) (replies : List Reply) (first : W) (output : Option (List ℕ))
-      (a d : Option (List (Moment W S))) (mid : Option (List Call)) (result : Result Tally RunFault) →
+  pub Runs-end : (Here : ℕ → ℕ → Type 0) (old new : Known) (script : List ℕ) (replies : List Reply) (first : W)
+      (output : Option (List ℕ)) (a d : Option (List (Moment W S))) (mid : Option (List Call))
+      (result : Result Tally RunFault) →
       Consumes old.input new.input script → IsAtEnd new.input → Appends old.output output (texts replies)
       → ReadsLast old.reads new.reads (Some 0) → NoneFailed may_flush old.calls mid
-      → Closes may_flush (point old.world old.noted) script replies (point new.world new.noted) output new.output result
-      → OnOk result (LastFlushed may_flush mid new.calls) → OnErr result (LastFailed may_flush mid new.calls)
-      → OnOk result (Adds a d (λ ks. InOrder contents calls is_sent files may_flush old.world first script
-      (length (lines script)) (length (lines script)) ks × HasEnded ks))
+      → Closes may_flush Here (point old.world old.noted) script replies (point new.world new.noted) output new.output
+      result → OnOk result (LastFlushed may_flush mid new.calls) → OnErr result (LastFailed may_flush mid new.calls)
+      → OnOk result (Here (length (lines script)) (length (lines script)))
+      → ((begins ends : ℕ) → Here begins ends → Adds a d (λ ks. InOrder contents calls is_sent files may_flush old.world
+      first script begins ends ks × HasEnded ks))
       → (run : Runs may_flush old new result)
       × Ordered contents calls is_sent files may_flush old.world first run.ran a d result
-  Runs-end old new script replies first output a d mid (Ok tally) r e w reads n closes flushed failed order = (
-    finishes old new may_flush script replies output r e w tally closes reads
-        (last_flushed_after may_flush old.calls mid new.calls n flushed),
-    order,
-  )
-  Runs-end old new script replies first output a d mid (Err fault) r e w reads n closes flushed failed order =
-      subst (λ (f : RunFault). (run : Runs may_flush old new (Err f))
-      × Ordered contents calls is_sent files may_flush old.world first run.ran a d (Err f)) (sym closes.0) (
-        stops_at_end old new may_flush script replies output r e w (inr reads)
-            (last_failed_after may_flush old.calls mid new.calls n failed) closes.1,
-        λ is_input. absurd cc,
+  Runs-end Here old new script replies first output a d mid (Ok tally) r e w reads n closes flushed failed seen
+      order = (
+        finishes old new may_flush script replies output r e w tally closes reads
+            (last_flushed_after may_flush old.calls mid new.calls n flushed),
+        order (length (lines script)) (length (lines script)) seen,
       )
+  Runs-end Here old new script replies first output a d mid (Err fault) r e w reads n closes flushed failed seen order =
+      subst (λ (f : RunFault). (run : Runs may_flush old new (Err f))
+      × Ordered contents calls is_sent files may_flush old.world first run.ran a d (Err f)) (sym closes.0)
+      (stops_at_end old new may_flush script replies Here
+      (λ b begins ends. Adds a d (InOrder contents calls is_sent files may_flush old.world first b begins ends))
+      output r e w (inr reads) (last_failed_after may_flush old.calls mid new.calls n failed)
+      (λ begins ends here. Adds-weaker a d _ _ (λ ks k. k.0) (order begins ends here)) closes.1)

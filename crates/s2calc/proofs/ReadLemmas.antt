@@ -1,6 +1,6 @@
 -- Lemmas on a whole run.
-use Rattle.std.proofs.Common.{◌≡◌, ◌∙◌, ◌<◌, ℕ, List, [], ◌∷◌, ◌++◌, Option, Some, Ok, Err}
-use Rattle.std.proofs.Common.{length, take, refl, sym, ap, subst, append-nil, arith}
+use Rattle.std.proofs.Common.{◌≡◌, ◌∙◌, ◌<◌, ◌+◌, ℕ, List, [], ◌∷◌, ◌++◌, Option, Some, Ok, Err}
+use Rattle.std.proofs.Common.{length, take, refl, sym, ap, subst, append-nil, length-append, arith}
 use Rattle.std.proofs.Common.{◌⊎◌, inl, inr}
 use Rattle.std.proofs.lemmas.List.Concat.{flat_map-append}
 use Rattle.std.specs.Io.KnownBytes.{Appends, Consumes, IsAtEnd}
@@ -14,7 +14,7 @@ use Rattle.s2calc.specs.Notes.{WritesNotes, notes_of}
 use Rattle.s2calc.specs.Calls.{NoneFailed, LastFlushed, LastFailed}
 use Rattle.s2calc.specs.Reads.{ReadsLast, ReadsStop, ReadsWell}
 use Rattle.s2calc.specs.Run.{Steps, Known, Ran, came_out, BesideFile, Runs}
-use Rattle.s2calc.specs.Working.Stands.{Explains, IsCutOff, point, Stands, StopsInside, StopsBeside, Ended}
+use Rattle.s2calc.specs.Working.Stands.{Explains, IsCutOff, point, Stands, StopsIn, Ended}
 use Rattle.s2calc.specs.Working.Stands.{EndsInPart, EndsUnflushed, EndsBefore}
 use Rattle.s2calc.proofs.LineLemmas.{whole_lines_begun}
 use Rattle.s2calc.proofs.CloseLemmas.{IsCutOff-after}
@@ -34,6 +34,12 @@ Appends-texts a b c before more p q = subst (Appends a c) (sym (flat_map-append 
 pub came_out-some : (replies : List Reply) (left : List ℕ) → 0 < length left → came_out replies left ≡ but_last replies
 came_out-some replies [] h = absurd (omega arith)
 came_out-some replies (byte ∷ left) h = refl
+
+-- the last line that was carried out was seen to begin, and also to end if its answer was written and no flush failed
+-- after it
+abbrev pub Fails : {old new : Known} → (List ℕ → ℕ → ℕ → Type 0) → Ran old new → Type 0
+Fails Seen ran = (ended : ℕ) × Seen ran.script (length ran.done) ended
+    × (((ended ≡ length ran.done) × (ran.left ≡ [])) ⊎ (ended + 1 ≡ length ran.done))
 
 module _ (old new : Known) where
   module _ (script : List ℕ) (done : List (List ℕ)) (replies : List Reply) (read : Consumes old.input new.input script)
@@ -117,23 +123,26 @@ module _ (old new : Known) where
           Runs may old new (Err Output)
       stops_before_read m r c = record { ran = whole; ends = (inr (inr (m, inl (refl, refl))), r, c) }
 
-    module _ (reads : ReadsWell old.reads new.reads) (calls : LastFailed may old.calls new.calls) where
+    module _ (Here : ℕ → ℕ → Type 0) (Seen : List ℕ → ℕ → ℕ → Type 0) where
       -- a line that ends in the chunk stopped the run
-      pub stops_in_chunk : (input output : Option (List ℕ)) (chunk : List ℕ) →
+      pub stops_in_chunk : ReadsWell old.reads new.reads → LastFailed may old.calls new.calls
+          → (input output : Option (List ℕ)) (chunk : List ℕ) →
           Consumes old.input input script → Consumes input new.input chunk → Appends old.output output (texts replies)
-          → StopsInside (point old.world old.noted) script replies chunk (point new.world new.noted) output new.output
-          ⊎ (may × StopsBeside (point old.world old.noted) script replies chunk (point new.world new.noted) output
-          new.output)
-          → Runs may old new (Err Output)
-      stops_in_chunk input output chunk r q w (inl s) =
+          → ((begins ends : ℕ) → Here begins ends → Seen (script ++ chunk) begins ends)
+          → StopsIn may Here (point old.world old.noted) script replies chunk (point new.world new.noted) output
+          new.output
+          → (run : Runs may old new (Err Output)) × Fails Seen run.ran
+      stops_in_chunk reads calls input output chunk r q w seen (inl s) =
           let read = Consumes-trans old.input input new.input script chunk r q in
-          let cut = IsCutOff-after replies s.more s.bytes s.cut_off in
-          record {
-            ran = last_cut (script ++ chunk) s.done (replies ++ s.more) read s.run (texts replies ++ s.bytes)
-                (Appends-trans old.output output new.output (texts replies) s.bytes w s.written) cut s.noted;
-            ends = (inl (inl (s.rest, s.begins), cut.lacking), reads, calls);
-          }
-      stops_in_chunk input output chunk r q w (inr f) =
+          let cut = IsCutOff-after replies s.more s.bytes s.cut_off in (
+            record {
+              ran = last_cut (script ++ chunk) s.done (replies ++ s.more) read s.run (texts replies ++ s.bytes)
+                  (Appends-trans old.output output new.output (texts replies) s.bytes w s.written) cut s.noted;
+              ends = (inl (inl (s.rest, s.begins), cut.lacking), reads, calls);
+            },
+            (s.ended, seen (length s.done) s.ended s.seen, inr s.one_more),
+          )
+      stops_in_chunk reads calls input output chunk r q w seen (inr f) =
           let s = f.1 in
           let read = Consumes-trans old.input input new.input script chunk r q in
           let ran : Ran old new = all_came (script ++ chunk) s.done (replies ++ s.more) read s.run
@@ -146,7 +155,64 @@ module _ (old new : Known) where
             done_are = s.done_are;
             none_left = refl;
           } in
-          record { ran = ran; ends = (inr (inr (f.0, inr beside)), reads, calls) }
+          let which : ((length s.before ≡ length s.done) × ([] ≡ [])) ⊎ (length s.before + 1 ≡ length s.done) =
+          elim s.done_are [
+            | inl e ↦ inl (ap length (sym e), refl)
+            | inr e ↦ inr (
+                let long = ap length e in let one = length-append s.before (s.line ∷ []) in omega (arith, long, one)
+                )
+          ] in (
+            record { ran = ran; ends = (inr (inr (f.0, inr beside)), reads, calls) },
+            (length s.before, seen (length s.done) (length s.before) s.seen, which),
+          )
+
+      -- the last line or the last flush stopped the run
+      pub stops_at_end : (output : Option (List ℕ)) → Consumes old.input new.input script → IsAtEnd new.input →
+          Appends old.output output (texts replies)
+          → ReadsWell old.reads new.reads → LastFailed may old.calls new.calls
+          → ((begins ends : ℕ) → Here begins ends → Seen script begins ends)
+          → EndsInPart Here (point old.world old.noted) script replies (point new.world new.noted) output new.output
+          ⊎ EndsUnflushed Here (point old.world old.noted) script replies (point new.world new.noted) output new.output
+          ⊎ (may × EndsBefore Here (point old.world old.noted) script replies (point new.world new.noted) output
+          new.output)
+          → (run : Runs may old new (Err Output)) × Fails Seen run.ran
+      stops_at_end output read at_end w r c seen (inl s) =
+          let cut = IsCutOff-after replies s.more s.bytes s.cut_off in (
+            record {
+              ran = last_cut script (lines script) (replies ++ s.more) read s.run (texts replies ++ s.bytes)
+                  (Appends-trans old.output output new.output (texts replies) s.bytes w s.written) cut s.noted;
+              ends = (inl (inr (refl, at_end), cut.lacking), r, c);
+            },
+            (s.ended, seen (length (lines script)) s.ended s.seen, inr s.one_more),
+          )
+      stops_at_end output read at_end w r c seen (inr (inl s)) =
+          let which : ((s.ended ≡ length (lines script)) × ([] ≡ [])) ⊎ (s.ended + 1 ≡ length (lines script)) =
+          elim s.ended_are [
+            | inl e ↦ inl (e, refl)
+            | inr e ↦ inr e
+          ] in (
+            record {
+              ran = all_came script (lines script) (replies ++ s.more) read s.run
+                  (Appends-texts old.output output new.output replies s.more w s.written) s.noted;
+              ends = (inr (inl (refl, at_end, refl)), r, c);
+            },
+            (s.ended, seen (length (lines script)) s.ended s.seen, which),
+          )
+      stops_at_end output read at_end w r c seen (inr (inr f)) =
+          let s = f.1 in
+          let ran : Ran old new = all_came script s.before replies read s.run
+          (Appends-kept old.output output new.output (texts replies) w s.kept) s.noted in
+          let beside : BesideFile ran = record {
+            before = s.before;
+            line = s.line;
+            read_whole = inr (s.lines_are, at_end);
+            has_file = s.has_file;
+            done_are = inl refl;
+            none_left = refl;
+          } in (
+            record { ran = ran; ends = (inr (inr (f.0, inr beside)), r, c) },
+            (length s.before, seen (length s.before) (length s.before) s.seen, inl (refl, refl)),
+          )
 
     module _ (output : Option (List ℕ)) (read : Consumes old.input new.input script) (at_end : IsAtEnd new.input)
         (w : Appends old.output output (texts replies)) where
@@ -158,38 +224,6 @@ module _ (old new : Known) where
             (Appends-texts old.output output new.output replies s.more w s.written) s.noted;
         ends = ((refl, at_end, refl), s.tally_is, r, c);
       }
-
-      -- the last line or the last flush stopped the run
-      pub stops_at_end : ReadsWell old.reads new.reads → LastFailed may old.calls new.calls →
-          EndsInPart (point old.world old.noted) script replies (point new.world new.noted) output new.output
-          ⊎ EndsUnflushed (point old.world old.noted) script replies (point new.world new.noted) output new.output
-          ⊎ (may × EndsBefore (point old.world old.noted) script replies (point new.world new.noted) output new.output)
-          → Runs may old new (Err Output)
-      stops_at_end r c (inl s) =
-          let cut = IsCutOff-after replies s.more s.bytes s.cut_off in
-          record {
-            ran = last_cut script (lines script) (replies ++ s.more) read s.run (texts replies ++ s.bytes)
-                (Appends-trans old.output output new.output (texts replies) s.bytes w s.written) cut s.noted;
-            ends = (inl (inr (refl, at_end), cut.lacking), r, c);
-          }
-      stops_at_end r c (inr (inl s)) = record {
-        ran = all_came script (lines script) (replies ++ s.more) read s.run
-            (Appends-texts old.output output new.output replies s.more w s.written) s.noted;
-        ends = (inr (inl (refl, at_end, refl)), r, c);
-      }
-      stops_at_end r c (inr (inr f)) =
-          let s = f.1 in
-          let ran : Ran old new = all_came script s.before replies read s.run
-          (Appends-kept old.output output new.output (texts replies) w s.kept) s.noted in
-          let beside : BesideFile ran = record {
-            before = s.before;
-            line = s.line;
-            read_whole = inr (s.lines_are, at_end);
-            has_file = s.has_file;
-            done_are = inl refl;
-            none_left = refl;
-          } in
-          record { ran = ran; ends = (inr (inr (f.0, inr beside)), r, c) }
 
 -- no memory: nothing has happened
 abbrev pub never_begins : (may : Type 0) (at : Known) → Runs may at at (Err Memory)

@@ -6,9 +6,9 @@ use Rattle.std.proofs.KnownBytes.{Keeps-refl}
 use Rattle.s2shelf.specs.Shelf.{Files}
 use Rattle.s2calc.specs.Calls.{Call, NoneFailed, LastFlushed}
 use Rattle.s2calc.specs.Moments.{LineBegins, LineEnds, Moment, moment, Adds, AddsOne}
-use Rattle.s2calc.specs.Working.Seen.{Settled, LineSeen}
+use Rattle.s2calc.specs.Working.Seen.{Settled, LineSeen, LineCut}
 use Rattle.s2calc.proofs.CallLemmas.{none_failed_none, none_failed_more, last_flushed_after}
-use Rattle.s2calc.proofs.OrderLemmas.{Adds-trans}
+use Rattle.s2calc.proofs.OrderLemmas.{Adds-trans, Adds-weaker}
 
 module _ {W : Type 0} (contents : W → Option (List ℕ)) (calls : W → Option (List Call)) (is_sent : W → Type 0)
     (may_flush : Type 0) where
@@ -39,6 +39,17 @@ module _ {W : Type 0} (contents : W → Option (List ℕ)) (calls : W → Option
 
 module _ {W S : Type 0} (contents : W → Option (List ℕ)) (calls : W → Option (List Call)) (is_sent : W → Type 0)
     (files : S → Files) (may_flush : Type 0) where
+  -- the line began, and was not seen to end
+  pub LineCut-after : (asks has_file : Bool) (old mid : W) (shelf : S) (a b : Option (List (Moment W S))) →
+      asks ≡ has_file → Settled contents calls is_sent may_flush has_file old mid × AddsOne a b LineBegins mid shelf
+      → Adds a b (LineCut contents calls is_sent files may_flush asks old shelf)
+  LineCut-after asks has_file old mid shelf a b same p =
+      Adds-weaker a b _ _ (λ ms e. record {
+        mid = mid;
+        is = e;
+        settled = subst (λ h. Settled contents calls is_sent may_flush h old mid) (sym same) p.0;
+      }) p.1
+
   -- the line was carried out between the two
   pub LineSeen-between : (asks has_file : Bool) (old mid done new : W) (old_shelf new_shelf : S)
       (a b c : Option (List (Moment W S))) → asks ≡ has_file →

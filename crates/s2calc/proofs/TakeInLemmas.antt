@@ -197,15 +197,17 @@ begins_line script seen bytes more_bytes all done rest b u whole =
     (BeginsWith-more _ (done ++ rest ∷ []) [] more_bytes begun)
 
 -- the writer failed at the line that these bytes end
-pub StopsInside-line : (start : Point) (script : List ℕ) (replies : List Reply)
+pub StopsInside-line : (Begun : Type 0) (Seen : ℕ → ℕ → Type 0) (start : Point) (script : List ℕ) (replies : List Reply)
     (all seen bytes more_bytes : List ℕ) (now new : Point) (progress mid : Progress)
     (output_old output_mid output_new : Option (List ℕ))
-    → StandsAfter start script replies seen now progress output_old output_mid → IsUnbroken bytes →
+    → (s : StandsAfter start script replies seen now progress output_old output_mid) → IsUnbroken bytes →
     mid.kept ≡ take KEPT (progress.kept ++ bytes) → mid.tally ≡ progress.tally → mid.lines ≡ progress.lines →
-    AnsweredInPart now mid new output_mid output_new → all ≡ (seen ++ bytes) ++ 10 ∷ more_bytes
-    → StopsInside start script replies all new output_old output_new
-StopsInside-line start script replies all seen bytes more_bytes now new progress mid output_old output_mid
-    output_new s u m mid_tally mid_lines p whole =
+    AnsweredInPart Begun now mid new output_mid output_new → all ≡ (seen ++ bytes) ++ 10 ∷ more_bytes
+    → ((held : Stands start ((script ++ seen) ++ bytes) (replies ++ s.more) now mid) → Begun →
+    Seen (length (held.done ++ held.rest ∷ [])) (length held.done))
+    → StopsInside Seen start script replies all new output_old output_new
+StopsInside-line Begun Seen start script replies all seen bytes more_bytes now new progress mid output_old output_mid
+    output_new s u m mid_tally mid_lines p whole count =
     let reply = p.reply in
     let w = p.part in
     let before = replies ++ s.more in
@@ -224,18 +226,26 @@ StopsInside-line start script replies all seen bytes more_bytes now new progress
       noted = subst (λ rs. Explains start new (held.done ++ held.rest ∷ []) rs)
           (sym (but_last-push replies s.more reply))
           (Explains-cut start ((script ++ seen) ++ bytes) before now mid held reply new p.quiet);
+      ended = length held.done;
+      one_more = let long = length-append held.done (held.rest ∷ []) in omega (arith, long);
+      seen = count held p.begun;
     }
 
 -- a flush failed before the line that these bytes end, or after it
-pub StopsBeside-line : (start : Point) (script : List ℕ) (replies : List Reply)
+pub StopsBeside-line : (Unseen Begun : Type 0) (Seen : ℕ → ℕ → Type 0) (start : Point) (script : List ℕ)
+    (replies : List Reply)
     (all seen bytes more_bytes : List ℕ) (now new : Point) (progress mid after : Progress)
     (output_old output_mid output_new : Option (List ℕ))
-    → StandsAfter start script replies seen now progress output_old output_mid → IsUnbroken bytes →
+    → (s : StandsAfter start script replies seen now progress output_old output_mid) → IsUnbroken bytes →
     mid.kept ≡ take KEPT (progress.kept ++ bytes) → mid.tally ≡ progress.tally → mid.lines ≡ progress.lines →
-    AnsweredUnflushed now mid new after output_mid output_new → all ≡ (seen ++ bytes) ++ 10 ∷ more_bytes
-    → StopsBeside start script replies all new output_old output_new
-StopsBeside-line start script replies all seen bytes more_bytes now new progress mid after output_old output_mid
-    output_new s u m mid_tally mid_lines f whole =
+    AnsweredUnflushed Unseen Begun now mid new after output_mid output_new → all ≡ (seen ++ bytes) ++ 10 ∷ more_bytes
+    → ((held : Stands start ((script ++ seen) ++ bytes) (replies ++ s.more) now mid) → Unseen →
+    Seen (length held.done) (length held.done))
+    → ((held : Stands start ((script ++ seen) ++ bytes) (replies ++ s.more) now mid) → Begun →
+    Seen (length (held.done ++ held.rest ∷ [])) (length held.done))
+    → StopsBeside Seen start script replies all new output_old output_new
+StopsBeside-line Unseen Begun Seen start script replies all seen bytes more_bytes now new progress mid after output_old
+    output_mid output_new s u m mid_tally mid_lines f whole none count =
     let sofar = (script ++ seen) ++ bytes in
     let earlier = replies ++ s.more in
     let held = Stands-more start (script ++ seen) earlier now progress mid bytes s.stands u m mid_tally mid_lines in
@@ -254,8 +264,9 @@ StopsBeside-line start script replies all seen bytes more_bytes now new progress
         run = subst (λ to. Steps start.world held.done earlier to.world) (sym p.0) held.run;
         written = Appends-kept output_old output_mid output_new (texts s.more) s.written p.1;
         noted = subst (λ to. Explains start to held.done earlier) (sym p.0) held.noted;
+        seen = none held p.2;
       }
-      | inr a ↦ record {
+      | inr b ↦ let a = b.0 in record {
         before = held.done;
         line = held.rest;
         done = held.done ++ held.rest ∷ [];
@@ -272,6 +283,7 @@ StopsBeside-line start script replies all seen bytes more_bytes now new progress
         noted = subst (λ rs. Explains start new (held.done ++ held.rest ∷ []) rs)
             (append_assoc replies s.more (a.reply ∷ []))
             (Explains-line start sofar earlier now mid held a.reply new a.noted);
+        seen = count held b.1;
       }
     ]
 

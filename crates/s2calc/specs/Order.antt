@@ -1,12 +1,12 @@
 -- The order in which a run reads, carries out lines, and writes.
-use Rattle.std.specs.Prelude.{◌≡◌, ℕ, ◌⊎◌, true, List, [], ◌∷◌, ◌++◌, length, Option, Result, MatchResult}
+use Rattle.std.specs.Prelude.{◌≡◌, ℕ, ◌⊎◌, true, List, [], ◌∷◌, ◌++◌, length, ◌+◌, Option, Result, Ok, Err}
 use Rattle.std.specs.Io.KnownBytes.{Appends}
 use Rattle.s2shelf.specs.Shelf.{Files}
 use Rattle.s2script.specs.Line.{line_of}
 use Rattle.s2script.specs.Lines.{lines, whole_lines, BeginsWith}
 use Rattle.s2calc.specs.declared.engine.Tally.{Tally}
 use Rattle.s2calc.specs.declared.fault.RunFault.{RunFault}
-use Rattle.s2calc.specs.declared.fault.RunFault.TheVariants.{Input}
+use Rattle.s2calc.specs.declared.fault.RunFault.TheVariants.{Input, Output, Memory}
 use Rattle.s2calc.specs.World.{World}
 use Rattle.s2calc.specs.Replies.{Reply, texts}
 use Rattle.s2calc.specs.Step.{asks_for_file}
@@ -84,10 +84,13 @@ module _ {W S : Type 0} (contents : W → Option (List ℕ)) (calls : W → Opti
     pub begins : begun_in moments ≡ begun
     pub ends : ended_in moments ≡ ended
 
-  -- what an observer saw of a run that ended well, or whose reading stopped, if it keeps a list
+  -- What an observer saw of a run, if it keeps a list. After `Output` each line that was carried out was seen to begin,
+  -- and each but the last to end: the last too, if its answer was written and no flush after it failed.
   abbrev pub Ordered : {old new : Known} → Ran old new → Option (List (Moment W S)) → Option (List (Moment W S)) →
       Result Tally RunFault → Type 0
-  Ordered ran old new result = MatchResult result
-      (λ tally. Adds old new (λ moments. InOrder ran.script (length ran.done) (length ran.done) moments
-      × HasEnded moments))
-      (λ fault. fault ≡ Input → Adds old new (InOrder ran.script (length ran.done) (length ran.done)))
+  Ordered ran old new (Ok tally) = Adds old new
+      (λ moments. InOrder ran.script (length ran.done) (length ran.done) moments × HasEnded moments)
+  Ordered ran old new (Err Input) = Adds old new (InOrder ran.script (length ran.done) (length ran.done))
+  Ordered ran old new (Err Output) = (ended : ℕ) × Adds old new (InOrder ran.script (length ran.done) ended)
+      × (((ended ≡ length ran.done) × (ran.left ≡ [])) ⊎ (ended + 1 ≡ length ran.done))
+  Ordered ran old new (Err Memory) = Adds old new (λ moments. moments ≡ [])

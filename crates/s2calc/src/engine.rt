@@ -14,11 +14,11 @@ ghost use Rattle.s2calc.specs.Run.{Runs, known, no_notes};
 ghost use Rattle.s2calc.specs.Buffered.{written_to};
 ghost use Rattle.s2calc.specs.World.{world};
 ghost use Rattle.s2calc.specs.Calls.{NoneFailed, LastFlushed, LastFailed};
-ghost use Rattle.s2calc.specs.Working.Stands.{Stands, AnswersKept, StandsAfter, StopsInside, StopsBeside, Closes};
+ghost use Rattle.s2calc.specs.Working.Stands.{Stands, AnswersKept, StandsAfter, StopsIn, Closes};
 ghost use Rattle.s2calc.specs.Working.Stands.{Point, point};
 ghost use Rattle.s2calc.specs.Moments.{Adds};
 ghost use Rattle.s2calc.specs.Order.{Ordered};
-ghost use Rattle.s2calc.specs.Working.Seen.{LineSeen, MoreSeen, LastSeen};
+ghost use Rattle.s2calc.specs.Working.Seen.{LineSeen, LineCut, ManySeen, MoreSeen, EndSeen, LastSeen};
 ghost use Rattle.s2calc.specs.Noting.{noted_by};
 
 use crate::answer_buffer::AnswerBuffer;
@@ -86,11 +86,10 @@ fn take_in<W: Sink, S: Shelf, F: Flushing<W>, N: Notes, O: Observer<W, S>>(
         progress.new (W.contents writer.old) (W.contents writer.new)) }
     ensures err { OnErr result ((start : Point) (script : List ℕ) (replies : List Reply) →
         Stands start script replies (point (world editor.old (S.files shelf.old)) (N.noted notes.old)) progress.old →
-        StopsInside start script replies chunk.now (point (world editor.new (S.files shelf.new)) (N.noted notes.new))
-        (W.contents writer.old) (W.contents writer.new)
-        ⊎ (F.may_fail × StopsBeside start script replies chunk.now
-        (point (world editor.new (S.files shelf.new)) (N.noted notes.new))
-        (W.contents writer.old) (W.contents writer.new))) }
+        StopsIn F.may_fail (λ begins ends. Adds (O.seen observer.old) (O.seen observer.new) (ManySeen W.contents W.calls
+        F.is_sent S.files F.may_fail start.world script chunk.now replies writer.old begins ends))
+        start script replies chunk.now (point (world editor.new (S.files shelf.new)) (N.noted notes.new))
+        (W.contents writer.old) (W.contents writer.new)) }
     ensures fault { IfErr result (λ fault. fault ≡ RunFault.Output) }
     ensures none_failed { OnOk result (NoneFailed F.may_fail (W.calls writer.old) (W.calls writer.new)) }
     ensures failed { OnErr result (LastFailed F.may_fail (W.calls writer.old) (W.calls writer.new)) }
@@ -121,8 +120,11 @@ fn answer_kept<W: Sink, S: Shelf, F: Flushing<W>, N: Notes, O: Observer<W, S>>(
     notes: &mut N,
     observer: &mut O,
 ) -> Result<(), RunFault>
-    ensures answers { AnswersKept F.may_fail (point (world editor.old (S.files shelf.old)) (N.noted notes.old))
-        progress.old (point (world editor.new (S.files shelf.new)) (N.noted notes.new)) progress.new
+    ensures answers { AnswersKept F.may_fail (O.seen observer.new ≡ O.seen observer.old)
+        (Adds (O.seen observer.old) (O.seen observer.new) (LineCut W.contents W.calls F.is_sent S.files F.may_fail
+        (asks_for_file (line_of progress.old.kept)) writer.old shelf.old))
+        (point (world editor.old (S.files shelf.old)) (N.noted notes.old)) progress.old
+        (point (world editor.new (S.files shelf.new)) (N.noted notes.new)) progress.new
         (W.contents writer.old) (W.contents writer.new) result }
     ensures sent { OnOk result (asks_for_file (line_of progress.old.kept) ≡ true → F.is_sent writer.new) }
     ensures none_failed { OnOk result (NoneFailed F.may_fail (W.calls writer.old) (W.calls writer.new)) }
@@ -176,8 +178,8 @@ pub fn run<R: Source, W: Sink, S: Shelf>(
 ///
 /// A read comes only where exactly the answers to all lines that were read whole have been written. A line is carried
 /// out only where exactly the answers to the lines before it have been written, and with the files that these have
-/// left, so no answer is held back, and no file is touched before all earlier answers are out. After an error of the
-/// output the order isn't stated.
+/// left, so no answer is held back, and no file is touched before all earlier answers are out. After `Output` this
+/// holds of all reads and lines before the call that failed, and nothing comes after it.
 pub fn run_observed<R: Source, W: Sink, S: Shelf, O: Observer<W, S>>(
     alloc: Global,
     editor: &mut Editor,
@@ -420,7 +422,9 @@ fn finish<W: Sink, S: Shelf, F: Flushing<W>, N: Notes, O: Observer<W, S>>(
 ) -> Result<Tally, RunFault>
     ensures closes { (start : Point) (script : List ℕ) (replies : List Reply) →
         Stands start script replies (point (world editor.old (S.files shelf.old)) (N.noted notes.old)) progress →
-        Closes F.may_fail start script replies (point (world editor.new (S.files shelf.new)) (N.noted notes.new))
+        Closes F.may_fail (λ begins ends. Adds (O.seen observer.old) (O.seen observer.new) (EndSeen W.contents W.calls
+        F.is_sent S.files F.may_fail start.world script replies writer.old begins ends))
+        start script replies (point (world editor.new (S.files shelf.new)) (N.noted notes.new))
         (W.contents writer.old) (W.contents writer.new) result }
     ensures sent { MatchResult result (λ _. F.is_sent writer.new) (λ fault. fault ≡ RunFault.Output) }
     ensures flushed { OnOk result (LastFlushed F.may_fail (W.calls writer.old) (W.calls writer.new)) }

@@ -75,6 +75,7 @@ pub(crate) fn begin_line<W: Sink, S: Shelf, F: Flushing<W>, O: Observer<W, S>>(
     ensures failed { OnErr result (LastFailed F.may_fail (W.calls writer.old) (W.calls writer.new)) }
     ensures seen { OnOk result (Settled W.contents W.calls F.is_sent F.may_fail has_file writer.old writer.new
         × AddsOne (O.seen observer.old) (O.seen observer.new) LineBegins writer.new shelf.now) }
+    ensures unseen { OnErr result (O.seen observer.new ≡ O.seen observer.old) }
 {
     around_file_command::<W, F>(has_file, writer)?;
     observer.line_begins(writer, shelf);
@@ -95,6 +96,7 @@ pub(crate) fn end_line<W: Sink, S: Shelf, F: Flushing<W>, O: Observer<W, S>>(
     ensures failed { OnErr result (LastFailed F.may_fail (W.calls writer.old) (W.calls writer.new)) }
     ensures seen { OnOk result (Settled W.contents W.calls F.is_sent F.may_fail has_file writer.old writer.new
         × AddsOne (O.seen observer.old) (O.seen observer.new) LineEnds writer.new shelf.now) }
+    ensures unseen { OnErr result (O.seen observer.new ≡ O.seen observer.old) }
 {
     around_file_command::<W, F>(has_file, writer)?;
     observer.line_ends(writer, shelf);

@@ -29,26 +29,43 @@ module _ {W S : Type 0} (contents : W → Option (List ℕ)) (calls : W → Opti
     pub flushed : has_file ≡ true → may_flush → LastFlushed may_flush (calls old) (calls new)
     pub sent : has_file ≡ true → is_sent new
 
-  -- the moments of the lines that end in the chunk, after those of a run that has read the script, has written these
-  -- replies, and has reached this writer
-  pub record MoreSeen (world : World) (script chunk : List ℕ) (replies : List Reply) (old : W)
+  -- the line began when this was settled, with the shelf as it was, and was not seen to end
+  pub record LineCut (has_file : Bool) (old : W) (old_shelf : S) (moments : List (Moment W S)) : Type 0 where
+    pub mid : W
+    pub is : moments ≡ moment LineBegins mid old_shelf ∷ []
+    pub settled : Settled contents calls is_sent may_flush has_file old mid
+
+  -- the moments of lines that end in the chunk, after those of a run that has read the script, has written these
+  -- replies, and has reached this writer: then this many lines have begun and ended
+  pub record ManySeen (world : World) (script chunk : List ℕ) (replies : List Reply) (old : W) (begins ends : ℕ)
       (moments : List (Moment W S)) : Type 0 where
     pub none_read : bytes_read moments ≡ []
-    pub begun : length (whole_lines script) + begun_in moments ≡ length (whole_lines (script ++ chunk))
-    pub ended : length (whole_lines script) + ended_in moments ≡ length (whole_lines (script ++ chunk))
+    pub begun : length (whole_lines script) + begun_in moments ≡ begins
+    pub ended : length (whole_lines script) + ended_in moments ≡ ends
     pub each : (first : W) (past : List (Moment W S)) (rest : List ℕ) → bytes_read past ≡ (script ++ chunk) ++ rest →
         Appends (contents first) (contents old) (texts replies) → NoneFailed may_flush (calls first) (calls old)
         → EachMay contents calls is_sent files may_flush world first past moments
 
-  -- the moments of a last line, after the reader has ended
-  pub record LastSeen (world : World) (script : List ℕ) (replies : List Reply) (old : W)
+  -- the moments of all lines that end in the chunk
+  abbrev pub MoreSeen : World → List ℕ → List ℕ → List Reply → W → List (Moment W S) → Type 0
+  MoreSeen world script chunk replies old moments =
+      let count = length (whole_lines (script ++ chunk)) in
+      ManySeen world script chunk replies old count count moments
+
+  -- the moments of a last line, after the reader has ended: then this many lines have begun and ended
+  pub record EndSeen (world : World) (script : List ℕ) (replies : List Reply) (old : W) (begins ends : ℕ)
       (moments : List (Moment W S)) : Type 0 where
     pub none_read : bytes_read moments ≡ []
-    pub begun : length (whole_lines script) + begun_in moments ≡ length (lines script)
-    pub ended : length (whole_lines script) + ended_in moments ≡ length (lines script)
+    pub begun : length (whole_lines script) + begun_in moments ≡ begins
+    pub ended : length (whole_lines script) + ended_in moments ≡ ends
     pub each : (first : W) (past : List (Moment W S)) → bytes_read past ≡ script → HasEnded past →
         Appends (contents first) (contents old) (texts replies) → NoneFailed may_flush (calls first) (calls old)
         → EachMay contents calls is_sent files may_flush world first past moments
+
+  -- the moments of a last line that ended
+  abbrev pub LastSeen : World → List ℕ → List Reply → W → List (Moment W S) → Type 0
+  LastSeen world script replies old moments =
+      let count = length (lines script) in EndSeen world script replies old count count moments
 
   -- the moments of a run that has read the script
   abbrev pub SeenSoFar : World → W → List ℕ → List (Moment W S) → Type 0

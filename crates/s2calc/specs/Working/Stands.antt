@@ -62,28 +62,32 @@ pub record Answered (old : Point) (before : Progress) (new : Point) (after : Pro
   pub lines_are : after.lines ≡ number_of (before.lines + 1)
   pub noted : WritesNotes old.noted (note_of (number_of (before.lines + 1)) before.kept reply) new.noted
 
--- the line that is kept was carried out, and the writer failed inside its answer
-pub record AnsweredInPart (old : Point) (before : Progress) (new : Point) (output_old output_new : Option (List ℕ)) :
-    Type 0 where
+-- the line that is kept was carried out, and the writer failed inside its answer; `Begun` says that the line was seen
+-- to begin
+pub record AnsweredInPart (Begun : Type 0) (old : Point) (before : Progress) (new : Point)
+    (output_old output_new : Option (List ℕ)) : Type 0 where
   pub reply : Reply
   pub step : Step old.world before.kept reply new.world
   pub part : AppendsPart output_old output_new (text_of reply)
   pub quiet : new.noted ≡ old.noted
+  pub begun : Begun
 
--- the line that is kept asks for a command with a file, and the flush before it failed, or that after it
-pub record AnsweredUnflushed (old : Point) (before : Progress) (new : Point) (after : Progress)
+-- the line that is kept asks for a command with a file, and the flush before it failed, or that after it; `Unseen` says
+-- that the line was not seen to begin
+pub record AnsweredUnflushed (Unseen Begun : Type 0) (old : Point) (before : Progress) (new : Point) (after : Progress)
     (output_old output_new : Option (List ℕ)) : Type 0 where
   pub has_file : asks_for_file (line_of before.kept) ≡ true
-  pub flush : ((new ≡ old) × Keeps output_old output_new) ⊎ Answered old before new after output_old output_new
+  pub flush : ((new ≡ old) × Keeps output_old output_new × Unseen)
+      ⊎ (Answered old before new after output_old output_new × Begun)
 
 -- the line that is kept was carried out and answered, or the writer or a flush failed; `may_fail` says whether a flush
 -- before the end may fail
-abbrev pub AnswersKept : Type 0 → Point → Progress → Point → Progress → Option (List ℕ) → Option (List ℕ) →
-    Result (Unit {0}) RunFault → Type 0
-AnswersKept may_fail old before new after output_old output_new result =
+abbrev pub AnswersKept : Type 0 → Type 0 → Type 0 → Point → Progress → Point → Progress → Option (List ℕ) →
+    Option (List ℕ) → Result (Unit {0}) RunFault → Type 0
+AnswersKept may_fail Unseen Begun old before new after output_old output_new result =
     MatchResult result (λ _. Answered old before new after output_old output_new) (λ fault. (fault ≡ Output)
-    × (AnsweredInPart old before new output_old output_new
-    ⊎ (may_fail × AnsweredUnflushed old before new after output_old output_new)))
+    × (AnsweredInPart Begun old before new output_old output_new
+    ⊎ (may_fail × AnsweredUnflushed Unseen Begun old before new after output_old output_new)))
 
 -- the run has gone through the chunk too, and the replies to its lines were written
 pub record StandsAfter (start : Point) (script : List ℕ) (replies : List Reply) (chunk : List ℕ) (now : Point)
@@ -92,9 +96,10 @@ pub record StandsAfter (start : Point) (script : List ℕ) (replies : List Reply
   pub stands : Stands start (script ++ chunk) (replies ++ more) now progress
   pub written : Appends output_old output_new (texts more)
 
--- the writer failed inside the answer to a line that ends in the chunk
-pub record StopsInside (start : Point) (script : List ℕ) (replies : List Reply) (chunk : List ℕ) (now : Point)
-    (output_old output_new : Option (List ℕ)) : Type 0 where
+-- the writer failed inside the answer to a line that ends in the chunk; `Seen` says how many lines were seen to begin
+-- and to end
+pub record StopsInside (Seen : ℕ → ℕ → Type 0) (start : Point) (script : List ℕ) (replies : List Reply)
+    (chunk : List ℕ) (now : Point) (output_old output_new : Option (List ℕ)) : Type 0 where
   pub done : List (List ℕ)
   pub rest : List ℕ
   pub more : List Reply
@@ -104,10 +109,13 @@ pub record StopsInside (start : Point) (script : List ℕ) (replies : List Reply
   pub written : Appends output_old output_new bytes
   pub cut_off : IsCutOff bytes more
   pub noted : Explains start now done (but_last (replies ++ more))
+  pub ended : ℕ
+  pub one_more : ended + 1 ≡ length done
+  pub seen : Seen (length done) ended
 
 -- the flush before or after a line that ends in the chunk and asks for a command with a file failed
-pub record StopsBeside (start : Point) (script : List ℕ) (replies : List Reply) (chunk : List ℕ) (now : Point)
-    (output_old output_new : Option (List ℕ)) : Type 0 where
+pub record StopsBeside (Seen : ℕ → ℕ → Type 0) (start : Point) (script : List ℕ) (replies : List Reply)
+    (chunk : List ℕ) (now : Point) (output_old output_new : Option (List ℕ)) : Type 0 where
   pub before : List (List ℕ)
   pub line : List ℕ
   pub done : List (List ℕ)
@@ -119,6 +127,15 @@ pub record StopsBeside (start : Point) (script : List ℕ) (replies : List Reply
   pub run : Steps start.world done (replies ++ more) now.world
   pub written : Appends output_old output_new (texts more)
   pub noted : Explains start now done (replies ++ more)
+  pub seen : Seen (length done) (length before)
+
+-- the writer failed inside the answer to a line that ends in the chunk, or a flush beside such a line; `may_fail` says
+-- whether a flush before the end may fail
+abbrev pub StopsIn : Type 0 → (ℕ → ℕ → Type 0) → Point → List ℕ → List Reply → List ℕ → Point → Option (List ℕ) →
+    Option (List ℕ) → Type 0
+StopsIn may_fail Seen start script replies chunk now output_old output_new =
+    StopsInside Seen start script replies chunk now output_old output_new
+    ⊎ (may_fail × StopsBeside Seen start script replies chunk now output_old output_new)
 
 -- the last line of the script was carried out too, and all answers were written
 pub record Ended (start : Point) (script : List ℕ) (replies : List Reply) (now : Point)
@@ -130,7 +147,7 @@ pub record Ended (start : Point) (script : List ℕ) (replies : List Reply) (now
   pub noted : Explains start now (lines script) (replies ++ more)
 
 -- the last line was carried out, and the writer failed inside its answer
-pub record EndsInPart (start : Point) (script : List ℕ) (replies : List Reply) (now : Point)
+pub record EndsInPart (Seen : ℕ → ℕ → Type 0) (start : Point) (script : List ℕ) (replies : List Reply) (now : Point)
     (output_old output_new : Option (List ℕ)) : Type 0 where
   pub more : List Reply
   pub bytes : List ℕ
@@ -138,17 +155,23 @@ pub record EndsInPart (start : Point) (script : List ℕ) (replies : List Reply)
   pub written : Appends output_old output_new bytes
   pub cut_off : IsCutOff bytes more
   pub noted : Explains start now (lines script) (but_last (replies ++ more))
+  pub ended : ℕ
+  pub one_more : ended + 1 ≡ length (lines script)
+  pub seen : Seen (length (lines script)) ended
 
 -- the last line was carried out and answered, and a flush failed
-pub record EndsUnflushed (start : Point) (script : List ℕ) (replies : List Reply) (now : Point)
+pub record EndsUnflushed (Seen : ℕ → ℕ → Type 0) (start : Point) (script : List ℕ) (replies : List Reply) (now : Point)
     (output_old output_new : Option (List ℕ)) : Type 0 where
   pub more : List Reply
   pub run : Steps start.world (lines script) (replies ++ more) now.world
   pub written : Appends output_old output_new (texts more)
   pub noted : Explains start now (lines script) (replies ++ more)
+  pub ended : ℕ
+  pub ended_are : (ended ≡ length (lines script)) ⊎ (ended + 1 ≡ length (lines script))
+  pub seen : Seen (length (lines script)) ended
 
 -- the flush before the last line failed, which asks for a command with a file
-pub record EndsBefore (start : Point) (script : List ℕ) (replies : List Reply) (now : Point)
+pub record EndsBefore (Seen : ℕ → ℕ → Type 0) (start : Point) (script : List ℕ) (replies : List Reply) (now : Point)
     (output_old output_new : Option (List ℕ)) : Type 0 where
   pub before : List (List ℕ)
   pub line : List ℕ
@@ -157,13 +180,14 @@ pub record EndsBefore (start : Point) (script : List ℕ) (replies : List Reply)
   pub run : Steps start.world before replies now.world
   pub kept : Keeps output_old output_new
   pub noted : Explains start now before replies
+  pub seen : Seen (length before) (length before)
 
 -- the end of a run: all lines were answered, or the writer or a flush failed; `may_fail` says whether a flush before
 -- the end may fail
-abbrev pub Closes : Type 0 → Point → List ℕ → List Reply → Point → Option (List ℕ) → Option (List ℕ) →
-    Result Tally RunFault → Type 0
-Closes may_fail start script replies now output_old output_new result =
+abbrev pub Closes : Type 0 → (ℕ → ℕ → Type 0) → Point → List ℕ → List Reply → Point → Option (List ℕ) →
+    Option (List ℕ) → Result Tally RunFault → Type 0
+Closes may_fail Seen start script replies now output_old output_new result =
     MatchResult result (Ended start script replies now output_old output_new) (λ fault. (fault ≡ Output)
-    × (EndsInPart start script replies now output_old output_new
-    ⊎ EndsUnflushed start script replies now output_old output_new
-    ⊎ (may_fail × EndsBefore start script replies now output_old output_new)))
+    × (EndsInPart Seen start script replies now output_old output_new
+    ⊎ EndsUnflushed Seen start script replies now output_old output_new
+    ⊎ (may_fail × EndsBefore Seen start script replies now output_old output_new)))

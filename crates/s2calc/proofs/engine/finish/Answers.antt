@@ -4,7 +4,8 @@ use Rattle.std.proofs.lemmas.Result.{err_from_is_err_and, MatchResult-weaker, If
 use Rattle.s2calc.proofs.CallLemmas.{last_flushed_after, last_failed_after}
 use Rattle.s2calc.proofs.CloseLemmas.{Ended-none, EndsUnflushed-none, Ended-line, EndsUnflushed-line, EndsInPart-part}
 use Rattle.s2calc.proofs.CloseLemmas.{Ends-unflushed}
-use Rattle.s2calc.proofs.OrderLemmas.{Adds-none, Adds-weaker, LastSeen-none, LastSeen-line}
+use Rattle.s2calc.proofs.OrderLemmas.{Adds-none, Adds-weaker, Adds-same, LastSeen-none, LastSeen-line, EndSeen-none}
+use Rattle.s2calc.proofs.OrderLemmas.{EndSeen-cut}
 use Rattle.s2calc.proofs.engine.finish.Goals as goal
 
 pub returns-then-is_empty-clause-closes : goal.returns-then-is_empty-clause-closes
@@ -13,7 +14,12 @@ returns-then-is_empty-clause-closes g c =
     λ start script replies s.
     MatchResult-weaker c.flush_at_the_end.result c.flush_at_the_end.ensures.result
     (λ told t. Ended-none start script replies _ _ s told _ _ none c.flush_at_the_end.ensures.kept t)
-    (λ fault f. (f, inr (inl (EndsUnflushed-none start script replies _ _ s _ _ none c.flush_at_the_end.ensures.kept))))
+    (λ fault f. (
+      f,
+      inr (inl (EndsUnflushed-none start script replies _ _ s _ _ _ none c.flush_at_the_end.ensures.kept
+          (Adds-none _ _ (LastSeen-none g.W.Sink.contents g.W.Sink.calls g.F.Flushing.is_sent g.S.Shelf.files
+          g.F.Flushing.may_fail start script replies _ _ _ s none)))),
+    ))
 
 pub returns-in_err-answer_kept-clause-closes : goal.returns-in_err-answer_kept-clause-closes
 returns-in_err-answer_kept-clause-closes g c =
@@ -23,8 +29,15 @@ returns-in_err-answer_kept-clause-closes g c =
     rw (p.1, p.2) (λ start script replies s. (
       done.0,
       elim done.1 [
-        | inl part ↦ inl (EndsInPart-part start script replies _ _ s _ some _ _ part)
-        | inr failed ↦ inr (Ends-unflushed start script replies _ _ s _ some _ _ _ _ failed.0 failed.1)
+        | inl part ↦ inl (EndsInPart-part start script replies _ _ s _ some _ _ _ _ part (λ begun. Adds-weaker _ _ _ _
+            (λ ms l. EndSeen-cut g.W.Sink.contents g.W.Sink.calls g.F.Flushing.is_sent g.S.Shelf.files
+            g.F.Flushing.may_fail start script replies _ _ _ s _ ms some refl l) begun))
+        | inr failed ↦ inr (Ends-unflushed start script replies _ _ s _ some _ _ _ _ _ _ _ failed.0 failed.1
+            (λ unseen. Adds-same _ _ _ _ (Adds-none _ _ (EndSeen-none g.W.Sink.contents g.W.Sink.calls
+            g.F.Flushing.is_sent g.S.Shelf.files g.F.Flushing.may_fail start script replies _ _ c.args.writer.now s))
+            unseen) (λ begun. Adds-weaker _ _ _ _ (λ ms l. EndSeen-cut g.W.Sink.contents g.W.Sink.calls
+            g.F.Flushing.is_sent g.S.Shelf.files g.F.Flushing.may_fail start script replies _ _ _ s _ ms some refl
+            l) begun))
       ],
     ))
 
@@ -37,7 +50,10 @@ returns-clause-closes g c =
     (λ told t. Ended-line start script replies _ _ s _ some _ _ _ _ done c.flush_at_the_end-2.ensures.kept told t)
     (λ fault f. (
       f,
-      inr (inl (EndsUnflushed-line start script replies _ _ s _ some _ _ _ _ done c.flush_at_the_end-2.ensures.kept)),
+      inr (inl (EndsUnflushed-line start script replies _ _ s _ some _ _ _ _ done c.flush_at_the_end-2.ensures.kept _ _
+          (inl refl) (Adds-weaker _ _ _ _ (λ ms l. LastSeen-line g.W.Sink.contents g.W.Sink.calls g.F.Flushing.is_sent
+          g.S.Shelf.files g.F.Flushing.may_fail start script replies _ _ _ _ _ _ _ _ ms s some done
+          c.in_ok-answer_kept.ensures.none_failed refl refl l) c.in_ok-answer_kept.ensures.seen))),
     ))
 
 pub returns-clause-flushed : goal.returns-clause-flushed

@@ -1,13 +1,17 @@
-use Rattle.std.proofs.Common.{ℕ, ◌+◌, [], ◌++◌, None, take, ap, refl, subst, arith, inl, inr}
+use Rattle.std.proofs.Common.{ℕ, ◌+◌, [], ◌++◌, None, length, take, ap, refl, subst, arith, inl, inr}
 use Rattle.std.proofs.KnownBytes.{Consumes-nil, Appends-nil, Consumes-trans, Consumes-kept, Appends-kept}
 use Rattle.std.proofs.lemmas.Result.{err_from_is_err_and, IfOk-weaker, MatchResult-weaker}
+use Rattle.s2script.specs.Lines.{whole_lines}
+use Rattle.s2calc.specs.World.{world}
 use Rattle.s2calc.specs.Reads.{ReadsOn}
+use Rattle.s2calc.specs.Moments.{Adds}
+use Rattle.s2calc.specs.Order.{InOrder}
 use Rattle.s2calc.proofs.CallLemmas.{none_failed_none, none_failed_more, last_failed_after}
 use Rattle.s2calc.proofs.CallLemmas.{reads_on_none, reads_on_more, reads_last, reads_end}
 use Rattle.s2calc.proofs.ReadLemmas.{Consumes-none, Appends-texts, stops_reading, stops_before_read, stops_in_chunk}
 use Rattle.s2calc.proofs.TakeInLemmas.{Stands-start}
-use Rattle.s2calc.proofs.OrderLemmas.{Adds-none, Adds-trans, SeenSoFar-start, SeenSoFar-read, SeenSoFar-failed}
-use Rattle.s2calc.proofs.OrderLemmas.{Ordered-end, Runs-end}
+use Rattle.s2calc.proofs.OrderLemmas.{Adds-none, Adds-trans, SeenSoFar-start, SeenSoFar-failed}
+use Rattle.s2calc.proofs.OrderLemmas.{InOrder-read, InOrder-end, Runs-end}
 use Rattle.s2calc.proofs.SettledLemmas.{settled}
 use Rattle.s2calc.proofs.engine.run_over.Goals as goal
 
@@ -33,7 +37,7 @@ returns-in_err-in_between-clause-runs g c =
     rw (p.1, p.2, f.0) (
       stops_before_read _ _ _ i.0 i.1 _ i.2 i.3 (Appends-kept _ _ _ _ i.4 c.in_between.ensures.kept) f.1
           (inl (c.loop.counter, i.6)) (last_failed_after _ _ _ _ i.5 c.in_err-in_between.ensures.failed),
-      λ is_input. absurd cc,
+      (length (whole_lines i.0), i.7, inl (refl, refl)),
     )
 
 pub returns-in-Ok-eq0-clause-runs : goal.returns-in-Ok-eq0-clause-runs
@@ -41,18 +45,19 @@ returns-in-Ok-eq0-clause-runs g c =
     let i = c.loop.invariant in
     let read = c.in-Ok-eq0.ensures.bytes in
     let none = c.in-Ok-eq0.field-0-test in
-    Runs-end g.W.Sink.contents g.W.Sink.calls g.F.Flushing.is_sent g.S.Shelf.files g.F.Flushing.may_fail _ _ i.0 i.1 _
+    Runs-end g.W.Sink.contents g.W.Sink.calls g.F.Flushing.is_sent g.S.Shelf.files g.F.Flushing.may_fail _ _ _ i.0 i.1 _
     _ _ _ _ c.finish.result (Consumes-none _ _ _ i.0 _ c.in-Ok-eq0.field-0 none i.2 read.0)
     (read.1 none (omega arith)) (Appends-kept _ _ _ _ i.4 c.in_between.ensures.kept)
     (reads_end _ _ _ _ _ i.6 c.in-Ok-eq0.ensures.call none)
     (none_failed_more _ _ _ _ i.5 c.in_ok-in_between.ensures.none_failed) (c.finish.ensures.closes _ i.0 i.1 i.3)
     c.finish.ensures.flushed c.finish.ensures.failed
-    (Ordered-end g.W.Sink.contents g.W.Sink.calls g.F.Flushing.is_sent g.S.Shelf.files g.F.Flushing.may_fail _ i.0 i.1
+    (IfOk-weaker c.finish.result _ _ (λ t q. q _ i.0 i.1 i.3) c.finish.ensures.seen)
+    (λ begins ends here. InOrder-end g.W.Sink.contents g.W.Sink.calls g.F.Flushing.is_sent g.S.Shelf.files
+    g.F.Flushing.may_fail _ i.0 i.1
     _ _ i.3 _ _ _ _ i.4 i.5 (settled g.W.Sink.contents g.W.Sink.calls g.F.Flushing.is_sent g.F.Flushing.may_fail
     c.in_between.ensures.kept
     c.in_ok-in_between.ensures.none_failed c.in_ok-in_between.ensures.flushes c.in_ok-in_between.ensures.sent) _ _ _ _ _
-    c.finish.result i.7 c.in-Ok-eq0.ensures.moment (ap (λ (k : ℕ). take k c.read.new.buf) none)
-    (IfOk-weaker c.finish.result _ _ (λ t q. q _ i.0 i.1 i.3) c.finish.ensures.seen))
+    begins ends i.7 c.in-Ok-eq0.ensures.moment (ap (λ (k : ℕ). take k c.read.new.buf) none) here)
 
 pub returns-in-Ok-eq0-clause-sent : goal.returns-in-Ok-eq0-clause-sent
 returns-in-Ok-eq0-clause-sent g c = MatchResult-weaker c.finish.result c.finish.ensures.sent (λ _ s. s)
@@ -64,14 +69,19 @@ returns-in_err-take_in-in-Ok-clause-runs g c =
     let p = err_from_is_err_and c.from_residual-in_err-take_in-in-Ok.result
     c.from_residual-in_err-take_in-in-Ok.ensures.1 in
     let done = c.in_err-take_in-in-Ok.ensures in
-    rw (p.1, p.2, done.fault) (
-      stops_in_chunk _ _ _ i.0 i.1
-          (inl (c.loop.counter + 1, reads_on_more _ _ _ _ _ _ i.6 c.in-Ok.ensures.call (omega arith) refl))
-          (last_failed_after _ _ _ _ (none_failed_more _ _ _ _ i.5 c.in_ok-in_between.ensures.none_failed) done.failed)
-          _ _ _ i.2 c.in-Ok.ensures.bytes.0 (Appends-kept _ _ _ _ i.4 c.in_between.ensures.kept) (done.err _ i.0 i.1
-          i.3),
-      λ is_input. absurd cc,
-    )
+    rw (p.1, p.2, done.fault) (stops_in_chunk _ _ _ i.0 i.1 _
+    (λ b begins ends. Adds (g.O.Observer.seen c.args.observer.now) (g.O.Observer.seen c.take_in.new.observer)
+    (InOrder g.W.Sink.contents g.W.Sink.calls g.F.Flushing.is_sent g.S.Shelf.files g.F.Flushing.may_fail
+    (world c.args.editor.now (g.S.Shelf.files c.args.shelf.now)) c.args.writer.now b begins ends))
+    (inl (c.loop.counter + 1, reads_on_more _ _ _ _ _ _ i.6 c.in-Ok.ensures.call (omega arith) refl))
+    (last_failed_after _ _ _ _ (none_failed_more _ _ _ _ i.5 c.in_ok-in_between.ensures.none_failed) done.failed)
+    _ _ _ i.2 c.in-Ok.ensures.bytes.0 (Appends-kept _ _ _ _ i.4 c.in_between.ensures.kept)
+    (λ begins ends here. InOrder-read g.W.Sink.contents g.W.Sink.calls g.F.Flushing.is_sent g.S.Shelf.files
+    g.F.Flushing.may_fail _ i.0 i.1 _ _
+    i.3 _ _ _ _ i.4 i.5 (settled g.W.Sink.contents g.W.Sink.calls g.F.Flushing.is_sent g.F.Flushing.may_fail
+    c.in_between.ensures.kept c.in_ok-in_between.ensures.none_failed c.in_ok-in_between.ensures.flushes
+    c.in_ok-in_between.ensures.sent) _ _ _ _ _ begins ends i.7 c.in-Ok.ensures.moment here)
+    (done.err _ i.0 i.1 i.3))
 
 pub returns-in-Err-clause-runs : goal.returns-in-Err-clause-runs
 returns-in-Err-clause-runs g c =
@@ -80,7 +90,7 @@ returns-in-Err-clause-runs g c =
           (Appends-kept _ _ _ _ i.4 c.in_between.ensures.kept)
           (inl (reads_last _ _ _ _ None i.6 c.in-Err.ensures.call))
           (none_failed_more _ _ _ _ i.5 c.in_ok-in_between.ensures.none_failed),
-      λ is_input. Adds-trans _ _ _ _ _ _ (λ ms ns seen e. SeenSoFar-failed g.W.Sink.contents g.W.Sink.calls
+      Adds-trans _ _ _ _ _ _ (λ ms ns seen e. SeenSoFar-failed g.W.Sink.contents g.W.Sink.calls
           g.F.Flushing.is_sent g.S.Shelf.files g.F.Flushing.may_fail _ i.0 i.1 _ _ i.3 _ _ _ _ i.4 i.5 (settled
           g.W.Sink.contents g.W.Sink.calls g.F.Flushing.is_sent g.F.Flushing.may_fail c.in_between.ensures.kept
           c.in_ok-in_between.ensures.none_failed c.in_ok-in_between.ensures.flushes c.in_ok-in_between.ensures.sent)
@@ -100,11 +110,11 @@ loop-preserved g c =
       none_failed_more _ _ _ _ (none_failed_more _ _ _ _ i.5 c.in_ok-in_between.ensures.none_failed)
           c.in_ok-take_in-in-Ok.ensures.none_failed,
       reads_on_more _ _ _ _ _ _ i.6 c.in-Ok.ensures.call (omega arith) refl,
-      SeenSoFar-read g.W.Sink.contents g.W.Sink.calls g.F.Flushing.is_sent g.S.Shelf.files g.F.Flushing.may_fail _ i.0
+      InOrder-read g.W.Sink.contents g.W.Sink.calls g.F.Flushing.is_sent g.S.Shelf.files g.F.Flushing.may_fail _ i.0
           i.1 _ _ i.3 _ _ _ _ i.4 i.5 (settled g.W.Sink.contents g.W.Sink.calls g.F.Flushing.is_sent
           g.F.Flushing.may_fail c.in_between.ensures.kept c.in_ok-in_between.ensures.none_failed
           c.in_ok-in_between.ensures.flushes c.in_ok-in_between.ensures.sent)
-          _ _ _ _ _ i.7 c.in-Ok.ensures.moment (c.in_ok-take_in-in-Ok.ensures.seen _ i.0 i.1 i.3),
+          _ _ _ _ _ _ _ i.7 c.in-Ok.ensures.moment (c.in_ok-take_in-in-Ok.ensures.seen _ i.0 i.1 i.3),
     )
 
 pub returns-in_err-in_between-2-clause-runs : goal.returns-in_err-in_between-2-clause-runs
@@ -116,7 +126,7 @@ returns-in_err-in_between-2-clause-runs g c =
     rw (p.1, p.2, f.0) (
       stops_before_read _ _ _ i.0 i.1 _ i.2 i.3 (Appends-kept _ _ _ _ i.4 c.in_between-2.ensures.kept) f.1
           (inl (c.loop.counter, i.6)) (last_failed_after _ _ _ _ i.5 c.in_err-in_between-2.ensures.failed),
-      λ is_input. absurd cc,
+      (length (whole_lines i.0), i.7, inl (refl, refl)),
     )
 
 pub returns-clause-runs : goal.returns-clause-runs
@@ -125,5 +135,5 @@ returns-clause-runs g c =
       stops_reading _ _ _ i.0 i.1 _ i.2 i.3 (Appends-kept _ _ _ _ i.4 c.in_between-2.ensures.kept)
           (inr (subst (λ (times : ℕ). ReadsOn (g.R.Source.reads c.args.reader.now) (g.R.Source.reads c.loop.reader)
           times) (omega arith) i.6)) (none_failed_more _ _ _ _ i.5 c.in_ok-in_between-2.ensures.none_failed),
-      λ is_input. i.7,
+      i.7,
     )

@@ -6,7 +6,8 @@ use Rattle.s2script.specs.Working.Lines.{EndsLineAt}
 use Rattle.s2calc.proofs.CallLemmas.{none_failed_none, none_failed_more, last_failed_after}
 use Rattle.s2calc.proofs.TakeInLemmas.{StandsAfter-none, StandsAfter-line, StandsAfter-rest, StopsInside-line}
 use Rattle.s2calc.proofs.TakeInLemmas.{StopsBeside-line}
-use Rattle.s2calc.proofs.OrderLemmas.{Adds-none, Adds-trans, Adds-weaker, MoreSeen-none, MoreSeen-line, MoreSeen-rest}
+use Rattle.s2calc.proofs.OrderLemmas.{Adds-none, Adds-trans, Adds-weaker, Adds-same, MoreSeen-none, MoreSeen-line}
+use Rattle.s2calc.proofs.OrderLemmas.{MoreSeen-rest, ManySeen-before, ManySeen-cut}
 use Rattle.s2calc.proofs.engine.take_in.Goals as goal
 
 -- the chunk, cut at a newline
@@ -40,15 +41,30 @@ returns-in_err-answer_kept-clause-err g c =
     let ends = c.in-Some.ensures.some in
     let done = c.in_err-answer_kept.ensures.answers in
     rw p.1 (λ start script replies s.
+    let here = i.2 start script replies s in
+    let earlier = i.4 start script replies s in
+    let whole = cut_at _ i.0 rest c.in-Some.at i.1 ends in
     elim done.1 [
-      | inl part ↦ inl (StopsInside-line start script replies _ i.0 (take c.in-Some.at rest)
-          (drop (c.in-Some.at + 1) rest) _ _ _ _ _ _ _ (i.2 start script replies s) ends.before c.keep.ensures
-          refl refl part (cut_at _ i.0 rest c.in-Some.at i.1 ends))
+      | inl part ↦ inl (StopsInside-line _ _ start script replies _ i.0 (take c.in-Some.at rest)
+          (drop (c.in-Some.at + 1) rest) _ _ _ _ _ _ _ here ends.before c.keep.ensures refl refl part whole
+          (λ held begun. Adds-trans _ _ _ _ _ _ (λ ms ns m l. ManySeen-cut g.W.Sink.contents g.W.Sink.calls
+          g.F.Flushing.is_sent g.S.Shelf.files g.F.Flushing.may_fail start script replies i.0
+          (take c.in-Some.at rest) (drop (c.in-Some.at + 1) rest) _ _ _ _ _ _ ms here ends.before held whole m _ ns i.3
+          refl l) earlier begun))
       | inr failed ↦ inr (
         failed.0,
-        StopsBeside-line start script replies _ i.0 (take c.in-Some.at rest) (drop (c.in-Some.at + 1) rest)
-            _ _ _ _ _ _ _ _ (i.2 start script replies s) ends.before c.keep.ensures refl refl failed.1
-            (cut_at _ i.0 rest c.in-Some.at i.1 ends),
+        StopsBeside-line _ _ _ start script replies _ i.0 (take c.in-Some.at rest) (drop (c.in-Some.at + 1) rest)
+            _ _ _ _ _ _ _ _ here ends.before c.keep.ensures refl refl failed.1 whole
+            (λ held unseen. Adds-same _ _ _ _ (Adds-weaker _ _ _ _ (λ ms m. ManySeen-before g.W.Sink.contents
+            g.W.Sink.calls g.F.Flushing.is_sent g.S.Shelf.files g.F.Flushing.may_fail start script replies i.0
+            (take c.in-Some.at rest) (drop (c.in-Some.at + 1) rest) _ _ _ _ _ c.loop-at.writer ms here ends.before
+            held whole
+            m) earlier) unseen)
+            (λ held begun. Adds-trans _ _ _ _ _ _ (λ ms ns m l. ManySeen-cut g.W.Sink.contents g.W.Sink.calls
+            g.F.Flushing.is_sent g.S.Shelf.files g.F.Flushing.may_fail start script replies i.0
+            (take c.in-Some.at rest) (drop (c.in-Some.at + 1) rest) _ _ _ _ _ _ ms here ends.before held whole m _ ns
+            i.3
+            refl l) earlier begun),
       )
     ])
 
