@@ -2,6 +2,7 @@ pub mod Status
 pub mod Cutting
 pub mod Ends
 pub mod Files
+pub mod Laws
 pub mod ManyCells
 pub mod Order
 pub mod Results

@@ -10,6 +10,7 @@
 mod cells;
 mod coverings;
 mod files;
+pub mod laws;
 mod lists;
 mod many;
 mod many_cells;
