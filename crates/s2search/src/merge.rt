@@ -5,11 +5,14 @@ ghost use Rattle.s2list.specs.Union.{IsNormalForm, has_leaf};
 
 use crate::normalising::normalise;
 
+/// How many lists are merged at most. Merging takes a pass over the cells each time that the lists double, so more
+/// lists are sorted together in less time.
+const MOST_MERGED: usize = 32;
+
 /// Puts the union that has the leaves of all the cells `ids` at the front of a room, and answers how many cells it has.
-/// `ends` says where lists in `ids` end that ascend, each of which begins where the one before ends. These are merged
-/// in pairs, and the merged lists again, by way of a spare room. So the work is in proportion to the cells and the
-/// logarithm of the number of lists. Wrong ends cost time, and change nothing else. What the rooms hold besides has no
-/// meaning.
+/// `ends` says where lists in `ids` end that ascend, each of which begins where the one before ends. If they are at
+/// most 32, they are merged in pairs, and the merged lists again, by way of a spare room; else all cells are sorted.
+/// Wrong ends cost time, and change nothing else. What the rooms hold besides has no meaning.
 pub fn union_of_many(ids: &[u64], ends: &[usize], room: &mut [u64], spare: &mut [u64]) -> usize
     requires cells { All IsCell ids.now }
     requires room { length room.old ≡ length ids.now }
@@ -18,7 +21,8 @@ pub fn union_of_many(ids: &[u64], ends: &[usize], room: &mut [u64], spare: &mut 
     ensures len { length room.new ≡ length room.old }
     ensures normal { IsNormalForm (has_leaf ids.now) (take result room.new) }
 {
-    let n = gather(ids, 0, ends, room, spare);
+    let merged = if ends.len() <= MOST_MERGED { ends } else { &[] };
+    let n = gather(ids, 0, merged, room, spare);
     normalise(&mut room[..n])
 }
 
