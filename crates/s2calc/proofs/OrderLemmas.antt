@@ -23,7 +23,8 @@ use Rattle.s2calc.specs.Working.Stands.{point, Stands, Answered, StandsAfter, Cl
 use Rattle.s2calc.specs.Moments.{Event, Came, NotCame, LineBegins, LineEnds, Moment, moment, bytes_of}
 use Rattle.s2calc.specs.Moments.{bytes_read, begun_in, ended_in, Adds, AddsOne}
 use Rattle.s2calc.specs.Order.{HasEnded, GoneOut, ReadsWhen, LineWhen, EachMay, InOrder, Ordered}
-use Rattle.s2calc.specs.Working.Seen.{Settled, LineSeen, LineCut, ManySeen, MoreSeen, EndSeen, LastSeen, SeenSoFar}
+use Rattle.s2calc.specs.Working.Seen.{Settled, LinesSeen, LineSeen, LineCut, ManySeen, MoreSeen, EndSeen, LastSeen}
+use Rattle.s2calc.specs.Working.Seen.{SeenSoFar}
 use Rattle.s2calc.proofs.CallLemmas.{none_failed_more, last_flushed_after, last_failed_after}
 use Rattle.s2calc.proofs.LineLemmas.{every-append, whole_lines_begun, BeginsWith-more}
 use Rattle.s2calc.proofs.CloseLemmas.{lines_one, lines_none}
@@ -48,6 +49,18 @@ module _ {W S : Type 0} where
   pub ended_in-append : (ms ns : List (Moment W S)) → ended_in (ms ++ ns) ≡ ended_in ms + ended_in ns
   ended_in-append [] ns = let e : ended_in ns ≡ 0 + ended_in ns = omega arith in e
   ended_in-append (m ∷ ms) ns = let rest = ended_in-append ms ns in omega (arith, rest)
+
+  -- more lines have begun and ended
+  lines_more : (past ms : List (Moment W S)) (few many : ℕ) → few + begun_in ms ≡ many → few + ended_in ms ≡ many →
+      LinesSeen few past → LinesSeen many (past ++ ms)
+  lines_more past ms few many begun ended seen =
+      let all_begun = begun_in-append past ms in
+      let all_ended = ended_in-append past ms in
+      let first_begun = seen.0 in
+      let first_ended = seen.1 in (
+        omega (arith, begun, all_begun, first_begun),
+        omega (arith, ended, all_ended, first_ended),
+      )
 
   pub Adds-none : (known : Option (List (Moment W S))) (P : List (Moment W S) → Type 0) → P [] → Adds known known P
   Adds-none None P p = tt
@@ -152,12 +165,16 @@ module _ {W S : Type 0} (contents : W → Option (List ℕ)) (calls : W → Opti
         → (first : W) (past : List (Moment W S))
         → ((rest : List ℕ) × BeginsWith (bytes_read past) (s.done ++ s.rest ∷ []) rest)
         ⊎ ((s.done ++ s.rest ∷ [] ≡ lines (bytes_read past)) × HasEnded past)
-        → Appends (contents first) (contents old) (texts replies) → NoneFailed may_flush (calls first) (calls old)
+        → LinesSeen (length s.done) past → Appends (contents first) (contents old) (texts replies)
+        → NoneFailed may_flush (calls first) (calls old)
         → LineWhen contents calls is_sent files may_flush start.world first past (moment LineBegins mid shelf)
-    begins_here old mid shelf files_are settled first past whole out n =
+    begins_here old mid shelf files_are settled first past whole seen out n =
+        let first_begun = seen.0 in
         record {
           before = s.done;
           line = s.rest;
+          begun = omega (arith, first_begun);
+          ended = seen.1;
           read_whole = whole;
           answers = record {
             replies = replies;
@@ -177,11 +194,12 @@ module _ {W S : Type 0} (contents : W → Option (List ℕ)) (calls : W → Opti
         → (first : W) (past : List (Moment W S))
         → ((rest : List ℕ) × BeginsWith (bytes_read past) (s.done ++ s.rest ∷ []) rest)
         ⊎ ((s.done ++ s.rest ∷ [] ≡ lines (bytes_read past)) × HasEnded past)
-        → Appends (contents first) (contents old) (texts replies) → NoneFailed may_flush (calls first) (calls old)
+        → LinesSeen (length s.done) past → Appends (contents first) (contents old) (texts replies)
+        → NoneFailed may_flush (calls first) (calls old)
         → EachMay contents calls is_sent files may_flush start.world first past ms
-    cut_each old shelf ms files_are l first past whole out n = subst (λ (k : List (Moment W S)).
+    cut_each old shelf ms files_are l first past whole seen out n = subst (λ (k : List (Moment W S)).
         EachMay contents calls is_sent files may_flush start.world first past k) (sym l.is)
-        (begins_here old l.mid shelf files_are l.settled first past whole out n, tt)
+        (begins_here old l.mid shelf files_are l.settled first past whole seen out n, tt)
 
   module _ (start : Point) (script : List ℕ) (replies : List Reply) (now new : Point) (progress after : Progress)
       (s : Stands start script replies now progress) (old writer : W) (old_shelf new_shelf : S)
@@ -193,14 +211,20 @@ module _ {W S : Type 0} (contents : W → Option (List ℕ)) (calls : W → Opti
     module _ (first : W) (past : List (Moment W S))
         (whole : ((rest : List ℕ) × BeginsWith (bytes_read past) (s.done ++ s.rest ∷ []) rest)
         ⊎ ((s.done ++ s.rest ∷ [] ≡ lines (bytes_read past)) × HasEnded past))
-        (out : Appends (contents first) (contents old) (texts replies))
+        (seen : LinesSeen (length s.done) past) (out : Appends (contents first) (contents old) (texts replies))
         (n : NoneFailed may_flush (calls first) (calls old)) where
       ends_here : LineWhen contents calls is_sent files may_flush start.world first
           (past ++ moment LineBegins l.mid old_shelf ∷ []) (moment LineEnds writer new_shelf)
       ends_here =
+          let all_begun = begun_in-append past (moment LineBegins l.mid old_shelf ∷ []) in
+          let all_ended = ended_in-append past (moment LineBegins l.mid old_shelf ∷ []) in
+          let first_begun = seen.0 in
+          let first_ended = seen.1 in
           record {
             before = s.done;
             line = s.rest;
+            begun = omega (arith, all_begun, first_begun);
+            ended = omega (arith, all_ended, first_ended);
             read_whole = read_more start.world first past (moment LineBegins l.mid old_shelf ∷ [])
                 (s.done ++ s.rest ∷ []) refl whole;
             answers = record {
@@ -223,8 +247,8 @@ module _ {W S : Type 0} (contents : W → Option (List ℕ)) (calls : W → Opti
       pub line_each : EachMay contents calls is_sent files may_flush start.world first past ms
       line_each = subst (λ (k : List (Moment W S)).
           EachMay contents calls is_sent files may_flush start.world first past k) (sym l.is) (
-            begins_here start script replies now progress s old l.mid old_shelf files_old l.settled first past whole out
-                n,
+            begins_here start script replies now progress s old l.mid old_shelf files_old l.settled first past whole
+                seen out n,
             (ends_here, tt),
           )
 
@@ -243,7 +267,7 @@ module _ {W S : Type 0} (contents : W → Option (List ℕ)) (calls : W → Opti
       let same : length (whole_lines (script ++ [])) ≡ length (whole_lines script) =
       ap (λ b. length (whole_lines b)) (append-nil script) in
       let count : length (whole_lines script) + 0 ≡ length (whole_lines (script ++ [])) = omega (arith, same) in
-      record { none_read = refl; begun = count; ended = count; each = λ first past rest e out n. tt }
+      record { none_read = refl; begun = count; ended = count; each = λ first past rest e lines_seen out n. tt }
 
   -- the moments of one more line
   pub MoreSeen-line : (start : Point) (script : List ℕ) (replies : List Reply) (seen bytes : List ℕ)
@@ -280,6 +304,7 @@ module _ {W S : Type 0} (contents : W → Option (List ℕ)) (calls : W → Opti
       (BeginsWith-more (script ++ seen) s.stands.done s.stands.rest bytes s.stands.begins)
       (every-append _ s.stands.rest bytes s.stands.unbroken u)) in
       let count_before = ap length whole_before in
+      let count_done : length (whole_lines (script ++ seen)) ≡ length held.done = count_before ∙ sym same_done in
       let count_after = ap length whole_after in
       let one_more = length-append held.done (held.rest ∷ []) in
       let all_begun = begun_in-append ms ns in
@@ -290,13 +315,13 @@ module _ {W S : Type 0} (contents : W → Option (List ℕ)) (calls : W → Opti
         none_read = bytes_read-quiet ms ns none ∙ seen_before.none_read;
         begun = omega (arith, same_done, count_before, count_after, one_more, all_begun, first_begun, begun);
         ended = omega (arith, same_done, count_before, count_after, one_more, all_ended, first_ended, ended);
-        each = λ first past rest e out n.
+        each = λ first past rest e lines_seen out n.
             let here : bytes_read past ≡ (script ++ seen) ++ ((bytes ++ 10 ∷ []) ++ rest) = e
             ∙ (simp append_assoc) in
             let there : bytes_read (past ++ ms) ≡ script ++ ((seen ++ bytes) ++ 10 ∷ rest) =
             bytes_read-quiet past ms seen_before.none_read ∙ e ∙ (simp append_assoc) in
             EachMay-append start.world first past ms ns
-            (seen_before.each first past ((bytes ++ 10 ∷ []) ++ rest) here out n)
+            (seen_before.each first past ((bytes ++ 10 ∷ []) ++ rest) here lines_seen out n)
             (line_each start ((script ++ seen) ++ bytes) (replies ++ s.more) now new mid after held old writer
             old_shelf new_shelf a well files_old files_new ns l first (past ++ ms)
             (inl (
@@ -305,6 +330,8 @@ module _ {W S : Type 0} (contents : W → Option (List ℕ)) (calls : W → Opti
                   (begins_line script seen bytes rest ((seen ++ bytes) ++ 10 ∷ rest) held.done held.rest held.begins
                   held.unbroken refl),
             ))
+            (lines_more past ms (length (whole_lines script)) (length held.done) (first_begun ∙ count_done)
+            (first_ended ∙ count_done) lines_seen)
             (Appends-texts (contents first) (contents before) (contents old) replies s.more out s.written)
             (none_failed_more may_flush (calls first) (calls before) (calls old) n earlier));
       }
@@ -331,10 +358,10 @@ module _ {W S : Type 0} (contents : W → Option (List ℕ)) (calls : W → Opti
           none_read = m.none_read;
           begun = m.begun ∙ done_count;
           ended = m.ended ∙ done_count;
-          each = λ first past rest e out n.
+          each = λ first past rest e lines_seen out n.
               let here : bytes_read past ≡ (script ++ seen) ++ ((bytes ++ 10 ∷ more_bytes) ++ rest) = e
               ∙ ap (λ b. (script ++ b) ++ rest) whole ∙ (simp append_assoc) in
-              m.each first past ((bytes ++ 10 ∷ more_bytes) ++ rest) here out n;
+              m.each first past ((bytes ++ 10 ∷ more_bytes) ++ rest) here lines_seen out n;
         }
 
     pub ManySeen-cut : (shelf : S) (ns : List (Moment W S)) → NoneFailed may_flush (calls before) (calls old)
@@ -356,11 +383,11 @@ module _ {W S : Type 0} (contents : W → Option (List ℕ)) (calls : W → Opti
           none_read = bytes_read-quiet ms ns none ∙ m.none_read;
           begun = omega (arith, begun, all_begun, first_begun, count, one_more);
           ended = omega (arith, ended, all_ended, first_ended, count);
-          each = λ first past rest e out n.
+          each = λ first past rest e lines_seen out n.
               let there : bytes_read (past ++ ms) ≡ script ++ ((seen ++ bytes) ++ 10 ∷ (more_bytes ++ rest)) =
               bytes_read-quiet past ms m.none_read ∙ e ∙ ap (λ b. (script ++ b) ++ rest) whole
               ∙ (simp append_assoc) in
-              EachMay-append start.world first past ms ns (ManySeen-before.each first past rest e out n)
+              EachMay-append start.world first past ms ns (ManySeen-before.each first past rest e lines_seen out n)
               (cut_each start ((script ++ seen) ++ bytes) (replies ++ s.more) now mid held old shelf ns files_are l
               first
               (past ++ ms)
@@ -370,6 +397,8 @@ module _ {W S : Type 0} (contents : W → Option (List ℕ)) (calls : W → Opti
                     (begins_line script seen bytes (more_bytes ++ rest) ((seen ++ bytes) ++ 10 ∷ (more_bytes ++ rest))
                     held.done held.rest held.begins held.unbroken refl),
               ))
+              (lines_more past ms (length (whole_lines script)) (length held.done) (first_begun ∙ count)
+              (first_ended ∙ count) lines_seen)
               (Appends-texts (contents first) (contents before) (contents old) replies s.more out s.written)
               (none_failed_more may_flush (calls first) (calls before) (calls old) n earlier));
         }
@@ -393,8 +422,8 @@ module _ {W S : Type 0} (contents : W → Option (List ℕ)) (calls : W → Opti
         none_read = m.none_read;
         begun = m.begun ∙ ap length (sym same);
         ended = m.ended ∙ ap length (sym same);
-        each = λ first past rest e out n. m.each first past (bytes ++ rest)
-            (e ∙ ap (λ b. b ++ rest) (sym joined) ∙ append_assoc (script ++ seen) bytes rest) out n;
+        each = λ first past rest e lines_seen out n. m.each first past (bytes ++ rest)
+            (e ∙ ap (λ b. b ++ rest) (sym joined) ∙ append_assoc (script ++ seen) bytes rest) lines_seen out n;
       }
 
   pub LastSeen-none : (start : Point) (script : List ℕ) (replies : List Reply) (now : Point) (progress : Progress)
@@ -405,7 +434,7 @@ module _ {W S : Type 0} (contents : W → Option (List ℕ)) (calls : W → Opti
       ap length (whole_lines_begun script s.done s.rest s.begins s.unbroken
       ∙ sym (lines_none start script replies now progress s e)) in
       let count : length (whole_lines script) + 0 ≡ length (lines script) = omega (arith, same) in
-      record { none_read = refl; begun = count; ended = count; each = λ first past read at_end out n. tt }
+      record { none_read = refl; begun = count; ended = count; each = λ first past read at_end lines_seen out n. tt }
 
   module _ (start : Point) (script : List ℕ) (replies : List Reply) (now : Point) (progress : Progress) (old : W)
       (s : Stands start script replies now progress) where
@@ -415,7 +444,7 @@ module _ {W S : Type 0} (contents : W → Option (List ℕ)) (calls : W → Opti
     EndSeen-none =
         let whole = ap length (whole_lines_begun script s.done s.rest s.begins s.unbroken) in
         let count : length (whole_lines script) + 0 ≡ length s.done = omega (arith, whole) in
-        record { none_read = refl; begun = count; ended = count; each = λ first past read at_end out n. tt }
+        record { none_read = refl; begun = count; ended = count; each = λ first past read at_end lines_seen out n. tt }
 
     -- the last line was seen to begin, and not to end
     pub EndSeen-cut : (shelf : S) (ms : List (Moment W S)) → 0 < length progress.kept → now.world.files ≡ files shelf
@@ -433,9 +462,9 @@ module _ {W S : Type 0} (contents : W → Option (List ℕ)) (calls : W → Opti
           none_read = ap bytes_read l.is;
           begun = omega (arith, whole, count, one_more, begun);
           ended = omega (arith, whole, ended);
-          each = λ first past read at_end out n.
+          each = λ first past read at_end lines_seen out n.
               cut_each start script replies now progress s old shelf ms files_are l first past
-              (inr (sym all ∙ ap lines (sym read), at_end)) out n;
+              (inr (sym all ∙ ap lines (sym read), at_end)) (lines_seen.0 ∙ whole, lines_seen.1 ∙ whole) out n;
         }
 
   pub LastSeen-line : (start : Point) (script : List ℕ) (replies : List Reply) (now new : Point)
@@ -462,9 +491,10 @@ module _ {W S : Type 0} (contents : W → Option (List ℕ)) (calls : W → Opti
             files_old files_new ms l;
         begun = omega (arith, count_whole, count_all, one_more, begun);
         ended = omega (arith, count_whole, count_all, one_more, ended);
-        each = λ first past read at_end out n.
+        each = λ first past read at_end lines_seen out n.
             line_each start script replies now new progress after s old writer old_shelf new_shelf a well files_old
-            files_new ms l first past (inr (sym all ∙ ap lines (sym read), at_end)) out n;
+            files_new ms l first past (inr (sym all ∙ ap lines (sym read), at_end))
+            (lines_seen.0 ∙ count_whole, lines_seen.1 ∙ count_whole) out n;
       }
 
   -- ---- the moments of a run
@@ -566,7 +596,8 @@ module _ {W S : Type 0} (contents : W → Option (List ℕ)) (calls : W → Opti
           let all_ended = ended_in-append (ms ++ ns) ks in
           record {
             each = EachMay-append start.world first [] (ms ++ ns) ks came_each
-                (more.each first (ms ++ ns) [] (came_read ∙ sym (append-nil (script ++ bytes))) out_here well_here);
+                (more.each first (ms ++ ns) [] (came_read ∙ sym (append-nil (script ++ bytes)))
+                (came_begun, came_ended) out_here well_here);
             read = bytes_read-quiet (ms ++ ns) ks more.none_read ∙ came_read;
             begins = omega (arith, begun, more_begun, all_begun);
             ends = omega (arith, ended, more_ended, all_ended);
@@ -594,7 +625,7 @@ module _ {W S : Type 0} (contents : W → Option (List ℕ)) (calls : W → Opti
           } in (
             record {
               each = EachMay-append start.world first [] (ms ++ ns) ks came_each
-                  (last.each first (ms ++ ns) here at_end out_here well_here);
+                  (last.each first (ms ++ ns) here at_end (came_begun, came_ended) out_here well_here);
               read = bytes_read-quiet (ms ++ ns) ks last.none_read ∙ here;
               begins = omega (arith, begun, last_begun, all_begun);
               ends = omega (arith, ended, last_ended, all_ended);

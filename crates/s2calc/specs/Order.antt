@@ -12,8 +12,8 @@ use Rattle.s2calc.specs.Replies.{Reply, texts}
 use Rattle.s2calc.specs.Step.{asks_for_file}
 use Rattle.s2calc.specs.Run.{Steps, Known, Ran}
 use Rattle.s2calc.specs.Calls.{Call, NoneFailed, LastFlushed}
-use Rattle.s2calc.specs.Moments.{Event, Came, NotCame, LineBegins, LineEnds, Moment, bytes_read, begun_in}
-use Rattle.s2calc.specs.Moments.{ended_in, Adds}
+use Rattle.s2calc.specs.Moments.{Event, Came, NotCame, LineBegins, LineEnds, Moment, bytes_read, ends_of}
+use Rattle.s2calc.specs.Moments.{begun_in, ended_in, Adds}
 
 -- the lines that are carried out where a line begins or ends: those before it, and then the line too
 abbrev pub done_at : Event → List (List ℕ) → List ℕ → List (List ℕ)
@@ -53,11 +53,14 @@ module _ {W S : Type 0} (contents : W → Option (List ℕ)) (calls : W → Opti
     pub answers : AllOut (whole_lines (bytes_read past)) now.writer
     pub gone_out : GoneOut now.writer
 
-  -- A line begins where it was read to its end, where the answers to all lines before it are out, and with the files
-  -- that these have left. It ends where its own answer is out too. At a command with a file, both have gone out.
+  -- A line begins where it was read to its end, where just the lines before it have begun and ended, where the answers
+  -- to all of these are out, and with the files that they have left. It ends where just it has begun since then, and
+  -- its own answer is out too. At a command with a file, both have gone out.
   pub record LineWhen (past : List (Moment W S)) (now : Moment W S) : Type 0 where
     pub before : List (List ℕ)
     pub line : List ℕ
+    pub begun : begun_in past ≡ length before + ends_of now.event
+    pub ended : ended_in past ≡ length before
     pub read_whole : ((rest : List ℕ) × BeginsWith (bytes_read past) (before ++ line ∷ []) rest)
         ⊎ ((before ++ line ∷ [] ≡ lines (bytes_read past)) × HasEnded past)
     pub answers : AllOut (done_at now.event before line) now.writer

@@ -178,8 +178,9 @@ pub fn run<R: Source, W: Sink, S: Shelf>(
 ///
 /// A read comes only where exactly the answers to all lines that were read whole have been written. A line is carried
 /// out only where exactly the answers to the lines before it have been written, and with the files that these have
-/// left, so no answer is held back, and no file is touched before all earlier answers are out. After `Output` this
-/// holds of all reads and lines before the call that failed, and nothing comes after it.
+/// left, so no answer is held back, and no file is touched before all earlier answers are out. Each line begins once,
+/// and ends once before the next one begins. After `Output` this holds of all reads and lines before the call that
+/// failed, and nothing comes after it.
 pub fn run_observed<R: Source, W: Sink, S: Shelf, O: Observer<W, S>>(
     alloc: Global,
     editor: &mut Editor,

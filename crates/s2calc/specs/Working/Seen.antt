@@ -18,6 +18,10 @@ pub record Settled {W : Type 0} (contents : W → Option (List ℕ)) (calls : W 
   pub flushed : has_file ≡ true → may_flush → LastFlushed may_flush (calls old) (calls new)
   pub sent : has_file ≡ true → is_sent new
 
+-- this many lines have begun, and all of them have ended
+abbrev pub LinesSeen : {W S : Type 0} → ℕ → List (Moment W S) → Type 0
+LinesSeen count past = (begun_in past ≡ count) × (ended_in past ≡ count)
+
 module _ {W S : Type 0} (contents : W → Option (List ℕ)) (calls : W → Option (List Call)) (is_sent : W → Type 0)
     (files : S → Files) (may_flush : Type 0) where
   -- the line began when this was settled, with the shelf as it was, and ended
@@ -43,7 +47,8 @@ module _ {W S : Type 0} (contents : W → Option (List ℕ)) (calls : W → Opti
     pub begun : length (whole_lines script) + begun_in moments ≡ begins
     pub ended : length (whole_lines script) + ended_in moments ≡ ends
     pub each : (first : W) (past : List (Moment W S)) (rest : List ℕ) → bytes_read past ≡ (script ++ chunk) ++ rest →
-        Appends (contents first) (contents old) (texts replies) → NoneFailed may_flush (calls first) (calls old)
+        LinesSeen (length (whole_lines script)) past → Appends (contents first) (contents old) (texts replies) →
+        NoneFailed may_flush (calls first) (calls old)
         → EachMay contents calls is_sent files may_flush world first past moments
 
   -- the moments of all lines that end in the chunk
@@ -59,7 +64,8 @@ module _ {W S : Type 0} (contents : W → Option (List ℕ)) (calls : W → Opti
     pub begun : length (whole_lines script) + begun_in moments ≡ begins
     pub ended : length (whole_lines script) + ended_in moments ≡ ends
     pub each : (first : W) (past : List (Moment W S)) → bytes_read past ≡ script → HasEnded past →
-        Appends (contents first) (contents old) (texts replies) → NoneFailed may_flush (calls first) (calls old)
+        LinesSeen (length (whole_lines script)) past → Appends (contents first) (contents old) (texts replies) →
+        NoneFailed may_flush (calls first) (calls old)
         → EachMay contents calls is_sent files may_flush world first past moments
 
   -- the moments of a last line that ended
