@@ -458,9 +458,9 @@ typedef struct cursor {
 } cursor;
 
 static const kind kinds[] = {
-  {"s2_cells", "CREATE TABLE x(cell, range_min, range_max, x HIDDEN, level HIDDEN, modulus HIDDEN)", 3, 3, CELLS},
-  {"s2_ancestors", "CREATE TABLE x(cell, range_min, range_max, x HIDDEN)", 3, 1, ANCESTORS},
-  {"s2_prepared", "CREATE TABLE x(value, x HIDDEN)", 1, 1, PREPARED_VALUE},
+  {"s2_cells", "CREATE TABLE x(cell, range_min, range_max, x BLOB HIDDEN, level HIDDEN, modulus HIDDEN)", 3, 3, CELLS},
+  {"s2_ancestors", "CREATE TABLE x(cell, range_min, range_max, x BLOB HIDDEN)", 3, 1, ANCESTORS},
+  {"s2_prepared", "CREATE TABLE x(value, x BLOB HIDDEN)", 1, 1, PREPARED_VALUE},
 };
 
 static int connect(sqlite3* db, void* aux, int argc, const char* const* argv, sqlite3_vtab** made, char** error) {
@@ -481,15 +481,15 @@ static int uses(sqlite3_uint64 mask, int column) {
   return mask != mask / 2 * 2;
 }
 
-/* The plan's number is how many arguments are given. They come in order, and are constants in the loop. One that is
- * left out, or isn't known before the loop, is not among the constraints, but its column or a later one is used. */
+/* The plan's number is how many arguments are given: each once, in order, and a constant in the loop. One that is left
+ * out, or isn't known before the loop, is not among the constraints, but its column or a later one is used. */
 static int best_index(sqlite3_vtab* t, sqlite3_index_info* plan) {
   const kind* kind = ((table*)t)->kind;
   for (int a = 0; a < kind->arguments; a++) {
     for (int k = 0; k < plan->nConstraint; k++) {
       const struct sqlite3_index_constraint* given = &plan->aConstraint[k];
       if (given->iColumn != kind->hidden + a || given->op != SQLITE_INDEX_CONSTRAINT_EQ) continue;
-      if (!given->usable) return SQLITE_CONSTRAINT;
+      if (!given->usable || plan->idxNum != a) return SQLITE_CONSTRAINT;
       plan->aConstraintUsage[k].argvIndex = ++plan->idxNum;
       plan->aConstraintUsage[k].omit = 1;
     }

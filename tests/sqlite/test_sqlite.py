@@ -312,6 +312,14 @@ class AgainstTheModel(Tests):
                 with self.assertRaises(sqlite3.OperationalError, msg=tables):
                     self.db.execute(f"SELECT count(*) FROM {tables}").fetchall()
 
+    def test_an_argument_as_a_condition(self):
+        """The hidden columns of a table are its arguments. One that is given twice, or before another, has no plan."""
+        for where, rows in (("x = '1' AND level = 2", 16), ("level = 2 AND x IN ('04', '1')", 20)):
+            self.assertEqual(self.ask(f"count(*) FROM s2_cells WHERE {where}"), rows, where)
+        for call in ("s2_cells('1', 2) WHERE level = 1", "s2_cells('1') WHERE x = 1", "s2_ancestors('1') WHERE x = '3'",
+                     "s2_cells WHERE level = 1 AND level = 2", "s2_cells WHERE x = '1' AND modulus = 2"):
+            self.refused("no query solution", f"* FROM {call}")
+
     def test_views_and_triggers_of_an_untrusted_schema(self):
         self.db.executescript("""
             PRAGMA trusted_schema = OFF;
