@@ -971,8 +971,9 @@ class Union:
 
     def denormalised(self, min_level: SupportsIndex, modulus: SupportsIndex = 1,
                      most: SupportsIndex | None = None) -> list[int]:
-        """The cells, each cut to the least level that is at least its own and at least `min_level` and differs from it
-        by a multiple of `modulus` (1 to 3). ValueError if there are more than `most`; a face has 4**30 leaves."""
+        """The cells, each cut to the least level that is at least its own and is `min_level` or above it by a multiple
+        of `modulus` (1 to 3); to leaves if there is none. ValueError if there are more than `most`; a face has 4**30
+        leaves."""
         arguments = (*_place(self._ids), _number(min_level, 30, "a level"), _number(modulus, 3, "a modulus"))
         need = _c.c_uint64()
         status = _library.denormalised_len(*arguments, _c.byref(need))
