@@ -1,10 +1,11 @@
 #!/usr/bin/env python3
 """Checks the pages: docs/STATEMENT.md is what tools/statement makes; each definition has a sentence, and stands in
 specs/Working if no public contract needs it; every relative link of every page leads to a file, and to its heading; if
-the link's text is names of the sources, the file has them; each path in backticks is there; the files that
-docs/ARCHITECTURE.md walks through have the functions that it names; each language has what docs/FROM_S2.md says it has;
-and what can't read the file VERSION has the version that it gives. The last line is 'N passed, M failed', where N
-counts the definitions, the links, the paths, the names and the places of the version."""
+the link's text is names of the sources, the file has them, as it has those that a page says are in it; each path in
+backticks is there; the files that docs/ARCHITECTURE.md walks through have the functions that it names; each language
+has what docs/FROM_S2.md says it has; and what can't read the file VERSION has the version that it gives. The last line
+is 'N passed, M failed', where N counts the definitions, the links, the paths, the names and the places of the version.
+"""
 import functools
 import re
 import subprocess
@@ -14,6 +15,7 @@ from pathlib import Path
 ROOT = Path(__file__).resolve().parents[2]
 LINK = re.compile(r"\]\((?!https?://)([^)#\s]*)(?:#([^)\s]+))?[^)]*\)")
 BLOCK = re.compile(r"^```.*?^```", re.S | re.M)
+PLACED = re.compile(r"`(\w+)`(?: and `(\w+)`)? (?:in|of) `([\w./-]+\.(?:rt|antt|py|rs|h|c))`")
 NAMES = re.compile(r"\[((?:`\w+`(?:, | and )?)+)\]\(([^)#\s]+(?<!lib)\.(?:rt|antt))\)")
 CODE = re.compile(r"`([^`\n]+)`")
 PATH = re.compile(r"[\w.*/-]+")
@@ -107,6 +109,17 @@ def names_in_links():
                 yield page, name, [page.parent / link]
 
 
+def names_in_files():
+    """Each name that a page says is in a file, with whether that file, or one that ends so, has the word."""
+    listed = subprocess.run(["git", "ls-files"], cwd=ROOT, capture_output=True, text=True, check=True)
+    files = listed.stdout.splitlines()
+    for page in pages():
+        for *names, path in PLACED.findall(page.read_text()):
+            texts = [(ROOT / file).read_text() for file in files if f"/{file}".endswith(f"/{path}")]
+            for name in filter(None, names):
+                yield page, name, any(re.search(rf"\b{name}\b", text) for text in texts)
+
+
 def names_on_the_walk():
     """Each function that docs/ARCHITECTURE.md names on the way of a line, with the files of its step."""
     page = ROOT / "docs" / "ARCHITECTURE.md"
@@ -142,6 +155,10 @@ def lost_names():
         count += 1
         if not re.search(defines, text, re.M):
             lost.append(f"docs/FROM_S2.md: {name}")
+    for page, name, there in names_in_files():
+        count += 1
+        if not there:
+            lost.append(f"{page.relative_to(ROOT)}: {name}")
     for page, name, files in [*names_in_links(), *names_on_the_walk()]:
         count += 1
         texts = [file.read_text() if file.exists() else "" for file in files]
