@@ -16,10 +16,10 @@
 //! ```
 //!
 //! A [`CellId`] is always a cell, and a [`CellUnion`] is always normalized and never changes, so only what comes from
-//! outside can be refused: numbers, lists, texts, files, levels. The operators `|`, `&`, `-` and `^`, `collect`, and
-//! whatever else has no [`Error`] to tell take memory as [`Vec`] does; the methods `union`, `intersection`,
-//! `difference` and `symmetric_difference` answer [`Error::Memory`] if there is none. There is no geometry: no points,
-//! areas or bounds.
+//! outside can be refused: numbers, lists, texts, files, levels. If there is no memory, the methods `union`,
+//! `intersection`, `difference` and `symmetric_difference` answer [`Error::Memory`]; the operators `|`, `&`, `-` and
+//! `^`, and texts, panic; `collect`, and calls for many cells, end the program, as [`Vec`] does. There is no geometry:
+//! no points, areas or bounds.
 #![warn(missing_docs)]
 
 mod calls;

@@ -8,7 +8,7 @@ use crate::union::CellUnion;
 
 macro_rules! operator {
     ($trait:ident, $name:ident, $method:ident) => {
-        /// Takes memory as [`Vec`] does.
+        /// Panics if there is no memory, where the method answers [`Error::Memory`].
         impl $trait for &CellUnion {
             type Output = CellUnion;
             fn $name(self, other: &CellUnion) -> CellUnion {
