@@ -75,6 +75,12 @@ fuzzed() { # each call of the header with what libFuzzer makes up, from a fixed 
     "$work/fuzz" -seed=1 -max_len=1200 -len_control=0 -max_total_time="$seconds" -artifact_prefix="$work/found/" \
       || { od -An -tx1 "$work"/found/* | head -40; return 1; }
 }
+all_fuzzed() {
+  local others='^s2u_\(heap_.*\|status_text\|version\)$'
+  ! comm -23 <(grep -o '\bs2u_[a-z_]*(' "$include/s2union.h" | tr -d '(' | grep -v "$others" | sort -u) \
+    <(grep -o '\bs2u_[a-z_]*' "$tests/fuzz.c" | sort -u) | grep .
+}
+step "the fuzzer knows each call of the header" all_fuzzed
 if [ -e "$(clang --print-runtime-dir)/libclang_rt.fuzzer-x86_64.a" ]; then
   step "fuzzer, $seconds seconds" fuzzed
 else

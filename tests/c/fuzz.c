@@ -1,7 +1,7 @@
 /* Each call of the header with lists, texts, files and arguments that libFuzzer makes: real unions, unions with a
  * number spoiled, cells in any order, numbers that are no cells, lengths of 0 with no pointer. Whatever they are, what
  * the header promises has to hold: the statuses, the bounds on *len, what is not touched, and not a byte read or
- * written past a list: each ends at a page which may not be touched. Built by bindings/check. */
+ * written past a list: each ends at a page which may not be touched. tests/c/check.sh builds it. */
 #include "tests.h"
 
 enum { MOST = 48, BYTES = 9 + 8 * MOST, TEXT = 17 * MOST };
@@ -258,6 +258,78 @@ static void many(void) {
   }
 }
 
+/* The cells or the leaves that a call answers for each number of a list, beside those of the call for one. */
+static void relatives(const uint64_t* xs, size_t n, uint32_t level) {
+  for (int call = 0; call < 3; call++) {
+    uint64_t* out = fresh();
+    size_t bad = 77, first = 0;
+    int32_t status = call == 0   ? s2u_parents(xs, n, level, out, room, &bad)
+                     : call == 1 ? s2u_range_mins(xs, n, out, room, &bad)
+                                 : s2u_range_maxes(xs, n, out, room, &bad);
+    MUST(status == (n > room ? S2U_ROOM : S2U_OK));
+    left_alone(status, n);
+    seen(23 + call, status, bad);
+    for (size_t k = n; status == S2U_OK && k-- > 0;) {
+      uint64_t one = call == 0 ? s2u_parent(xs[k], level) : call == 1 ? s2u_range_min(xs[k]) : s2u_range_max(xs[k]);
+      MUST(out[k] == one);
+      first = one == 0 ? k + 1 : first;
+    }
+    MUST(bad == (first ? first - 1 : n));
+  }
+}
+
+/* The levels, and the tokens in their fields. */
+static void levels_and_fields(const uint64_t* xs, size_t n) {
+  size_t space = byte() % (MOST + 1), bytes = (size_t)(number() % (TEXT + 1)), bad = 77, len, first = n;
+  uint8_t* levels = answers_end - space;
+  memset(answers_end - MOST, 254, MOST);
+  int32_t status = s2u_levels(xs, n, space ? levels : NULL, space, &bad);
+  MUST(status == (n > space ? S2U_ROOM : S2U_OK));
+  seen(26, status, bad);
+  for (size_t k = n; k-- > 0;) first = s2u_is_cell(xs[k]) ? first : k;
+  MUST(bad == (status == S2U_OK ? first : n));
+  for (size_t k = 0; k < space; k++) {
+    int level = status == S2U_OK && k < n ? s2u_level(xs[k]) : 254;
+    MUST(levels[k] == (level < 0 ? S2U_NO_LEVEL : level));
+  }
+  char* text = text_end - bytes;
+  memset(text_end - TEXT, '?', TEXT);
+  status = s2u_token_fields(xs, n, bytes ? text : NULL, bytes, &bad);
+  MUST(status == (n > bytes / S2U_MOST_TOKEN ? S2U_ROOM : S2U_OK));
+  seen(27, status, bad);
+  MUST(bad == (status == S2U_OK ? first : n));
+  for (size_t k = 0; k < bytes / S2U_MOST_TOKEN; k++) {
+    char field[S2U_MOST_TOKEN] = {0};
+    if (status != S2U_OK || k >= n) memset(field, '?', sizeof field);
+    else if (s2u_token(xs[k], field, sizeof field, &len) != S2U_OK) memset(field, 0, sizeof field);
+    MUST(memcmp(text + S2U_MOST_TOKEN * k, field, sizeof field) == 0);
+  }
+}
+
+/* Calls for many cells or points. */
+static void each(void) {
+  size_t n = list_before(xs_end, MOST), bad = 77, first = 0;
+  const uint64_t* xs = n ? xs_end - n : NULL;
+  relatives(xs, n, byte() % 33);
+  levels_and_fields(xs, n);
+  n = byte() % (8 * MOST / sizeof(s2u_point) + 1);
+  s2u_point* points = (s2u_point*)ys_end - n;
+  uint32_t mask = byte() % 2 ? 0xffffffff : 0x3fffffff;
+  for (size_t k = 0; k < n; k++) {
+    points[k] = (s2u_point){byte() % 7, (uint32_t)number() & mask, (uint32_t)number() & mask};
+  }
+  uint64_t* out = fresh();
+  int32_t status = s2u_from_points(n ? points : NULL, n, out, room, &bad);
+  MUST(status == (n > room ? S2U_ROOM : S2U_OK));
+  left_alone(status, n);
+  seen(28, status, bad);
+  for (size_t k = n; status == S2U_OK && k-- > 0;) {
+    MUST(out[k] == s2u_from_face_ij(points[k].face, points[k].i, points[k].j));
+    first = out[k] == 0 ? k + 1 : first;
+  }
+  MUST(bad == (first ? first - 1 : n));
+}
+
 static void coverings(void) {
   size_t n = list_before(xs_end, MOST), len = 77, most = byte() % 70;
   const uint64_t* xs = n ? xs_end - n : NULL;
@@ -343,7 +415,7 @@ static void start(void) {
 }
 
 int LLVMFuzzerTestOneInput(const uint8_t* data, size_t size) {
-  static void (*const groups[])(void) = {cells, texts, questions, sets, making, many, coverings, files};
+  static void (*const groups[])(void) = {cells, texts, questions, sets, making, many, each, coverings, files};
   if (!xs_end) start();
   input = data;
   left = size;
