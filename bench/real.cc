@@ -192,28 +192,31 @@ static void both(Lanes& lanes, const std::string& of, const Pairs& pairs, size_t
   pair_questions(lanes, of, pairs);
 }
 
-// A row whose work makes one list. Each way writes to its own room.
+using PeerCells = std::vector<S2CellId>;
+
+// A row whose work makes one list. Each way writes to its own room; what S2 makes is turned into numbers when it is
+// summed, which isn't timed.
 struct ListWays {
-  std::function<List()> peer;
+  std::function<PeerCells()> peer;
   std::function<void(Room&)> call, limit;
 };
 
 static void list_row(Lanes& lanes, const std::string& name, size_t units, size_t most, const ListWays& ways) {
-  List peer;
+  PeerCells peer;
   Room room(most), best(most);
   lanes.row({name.c_str(), units, 0},
-            {Side{[&](uint32_t) { peer = ways.peer(); }, [&] { return sum_of(peer); }}, Side{},
+            {Side{[&](uint32_t) { peer = ways.peer(); }, [&] { return sum_of(ids_of(peer)); }}, Side{},
              Side{[&](uint32_t) { ways.call(room); }, [&] { return sum_of(room.made()); }},
              Side{[&](uint32_t) { ways.limit(best); }, [&] { return sum_of(best.made()); }}},
             [&] { return units > 0 ? units : *room.len(); });
 }
 
 static void normalising(Lanes& lanes, const std::string& of, const List& cells) {
-  std::vector<S2CellId> peer = peer_cells(cells);
+  PeerCells peer = peer_cells(cells);
   List spare(cells.size());
   bool sorted = std::is_sorted(cells.begin(), cells.end());
   list_row(lanes, "normalise_" + of, cells.size(), cells.size(),
-           {[&] { return ids_of(S2CellUnion(peer)); },
+           {[&] { return S2CellUnion(peer).Release(); },
             [&](Room& room) {
               memcpy(room.at(), cells.data(), 8 * cells.size());
               made(s2u_normalise(room.at(), cells.size(), room.len()), "normalise");
@@ -227,10 +230,11 @@ static void normalising(Lanes& lanes, const std::string& of, const List& cells) 
 
 static void union_of_many(Lanes& lanes, const std::string& of, const Lists& lists) {
   Chain chain(lists);
+  PeerCells peer = peer_cells(chain.ids);
   size_t n = chain.ids.size();
   List spare(n), work(2 * n);
   list_row(lanes, "union_of_many_" + of, n, n,
-           {[&] { return ids_of(S2CellUnion(peer_cells(chain.ids))); },
+           {[&] { return S2CellUnion(peer).Release(); },
             [&](Room& room) {
               made(s2u_union_of_many(chain.ids.data(), n, chain.offsets.data() + 1, lists.size(), work.data(),
                                      work.size(), room.at(), room.size(), room.len()),
@@ -248,9 +252,9 @@ static void denormalising(Lanes& lanes, const std::string& of, const List& list,
   made(s2u_denormalised_len(list.data(), list.size(), level, step, &most), "denormalised_len");
   list_row(lanes, "denormalise_" + of, most, most,
            {[&] {
-              std::vector<S2CellId> cells;
+              PeerCells cells;
               peer.Denormalize(level, step, &cells);
-              return ids_of(cells);
+              return cells;
             },
             [&](Room& room) {
               made(s2u_denormalised(list.data(), list.size(), level, step, room.at(), room.size(), room.len()),
@@ -260,12 +264,13 @@ static void denormalising(Lanes& lanes, const std::string& of, const List& list,
 }
 
 static void outer_of(Lanes& lanes, const std::string& of, const List& list, int level) {
+  PeerCells peer = peer_cells(list);
   list_row(lanes, "outer_of_" + of, list.size(), list.size(),
            {[&] {
-              std::vector<S2CellId> cells;
-              for (S2CellId cell : peer_cells(list))
-                cells.push_back(cell.level() > level ? cell.parent(level) : cell);
-              return ids_of(S2CellUnion(std::move(cells)));
+              PeerCells cells;
+              cells.reserve(peer.size());
+              for (S2CellId cell : peer) cells.push_back(cell.level() > level ? cell.parent(level) : cell);
+              return S2CellUnion(std::move(cells)).Release();
             },
             [&](Room& room) {
               made(s2u_outer_of(list.data(), list.size(), level, list.size(), room.at(), room.size(), room.len()),
@@ -296,9 +301,9 @@ static void files(Lanes& lanes, const std::string& of, const List& list) {
            {[&] {
               Decoder decoder(bytes.data(), bytes.size());
               peer_back.Decode(&decoder);
-              std::vector<S2CellId> cells = peer_back.Release();
+              PeerCells cells = peer_back.Release();
               S2CellUnion::Normalize(&cells);
-              return ids_of(cells);
+              return cells;
             },
             [&](Room& room) { made(s2u_decode(bytes.data(), bytes.size(), room.at(), n, room.len()), "decode"); },
             [&](Room& room) { *room.len() = limit::decode(bytes.data(), bytes.size(), room.at()); }});
