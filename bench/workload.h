@@ -1,4 +1,4 @@
-// The random inputs and the checksum, which bench/README.md describes.
+// The random inputs and the checksum of the rows of bench/README.md. All arithmetic is on 64 bits and wraps.
 #pragma once
 #include <algorithm>
 #include <cstddef>
