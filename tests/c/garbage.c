@@ -60,6 +60,27 @@ static void many_points(uint64_t* out, size_t room) {
     CHECK(out[k] == s2u_from_face_ij(points[k].face, points[k].i, points[k].j));
 }
 
+/* Coverings of what a list and a rectangle share; some bounds are out of order or of range. */
+static void clipped(const uint64_t* ids, size_t n, uint64_t* out, size_t room) {
+  typedef int32_t call(const uint64_t*, size_t, const s2u_rect*, uint32_t, size_t, uint64_t*, size_t, size_t*);
+  static call* const calls[] = {s2u_outer_in, s2u_inner_in};
+  const uint32_t least = (uint32_t)(draw() % (1u << 30)), more = (uint32_t)(1u << draw() % 31);
+  s2u_rect rect = {(uint32_t)(draw() % 7), least, least + more, (uint32_t)(draw() % (1u << 30)), 1u << 30};
+  rect.j1 = draw() % 9 ? rect.j0 | more : rect.j1;
+  uint32_t level = (uint32_t)(draw() % 33);
+  size_t most = draw() % (2 * MOST), len = 77;
+  int fit = level <= 30 && rect.face <= 5 && rect.i1 >> 30 == 0 && rect.j1 >> 30 == 0;
+  for (size_t k = 0; k < room; k++) out[k] = 7;
+  for (size_t which = 0; which < 2; which++) {
+    int32_t status = calls[which](ids, n, &rect, level, most, out, room, &len);
+    CHECK(fit ? status == (len > room ? S2U_ROOM : S2U_OK) || (status == S2U_MANY && len == 0)
+              : status == S2U_ARGUMENT && len == 0);
+    CHECK(len <= most && (status != S2U_OK || s2u_is_union(out, len)));
+    for (size_t k = status == S2U_OK ? len : 0; k < room; k++) CHECK(out[k] == 7);
+    for (size_t k = 0; k < room; k++) out[k] = 7;
+  }
+}
+
 int main(void) {
   uint64_t *xs_end = (uint64_t*)at_the_edge(8 * MOST) + MOST, *ys_end = (uint64_t*)at_the_edge(8 * MOST) + MOST;
   uint64_t* out_end = (uint64_t*)at_the_edge(8 * MOST) + MOST;
@@ -112,6 +133,7 @@ int main(void) {
     CHECK(many == len && (status != S2U_ARGUMENT || len == 0));
     many_cells(xs, nx, (uint32_t)(draw() % 33), out, room);
     many_points(out, room);
+    clipped(xs, nx, out, room);
     status = s2u_encode(xs, nx, bytes_end - 9 - 8 * nx, 9 + 8 * nx, &len);
     CHECK(status == S2U_OK && len == S2U_FILE_SIZE(nx) && memcmp(bytes_end - 8 * nx, xs, 8 * nx) == 0);
     char* text = text_end - draw() % (17 * MOST);

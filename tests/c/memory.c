@@ -31,6 +31,8 @@ static int32_t outer(void) { return s2u_outer(&rect, 14, 1000000, out, ROOM, &le
 static int32_t inner(void) { return s2u_inner(&rect, 14, 1000000, out, ROOM, &len); }
 static int32_t outer_of(void) { return s2u_outer_of(xs, nx, 7, 1000000, out, ROOM, &len); }
 static int32_t inner_of(void) { return s2u_inner_of(xs, nx, 10, 1000000, out, ROOM, &len); }
+static int32_t outer_in(void) { return s2u_outer_in(xs, nx, &rect, 9, 1000000, out, ROOM, &len); }
+static int32_t inner_in(void) { return s2u_inner_in(xs, nx, &rect, 10, 1000000, out, ROOM, &len); }
 static int32_t encode(void) { return s2u_encode(xs, nx, bytes, sizeof bytes, &len); }
 static int32_t decode(void) { return s2u_decode(file, nfile, out, ROOM, &len); }
 static int32_t decode_mixed(void) { return s2u_decode(mixed, sizeof mixed, out, N, &len); }
@@ -46,6 +48,7 @@ int main(void) {
                {"union_of_many", many, 1}, {"range", range, 0}, {"denormalised", cut, 1},
                {"denormalised_len", cut_len, 1}, {"ancestors", ancestors, 1}, {"file_ancestors", of_file, 1},
                {"outer", outer, 0}, {"inner", inner, 0}, {"outer_of", outer_of, 1}, {"inner_of", inner_of, 1},
+               {"outer_in", outer_in, 0}, {"inner_in", inner_in, 0},
                {"encode", encode, 1}, {"decode of a union", decode, 1}, {"decode in any order", decode_mixed, 1},
                {"decode in little room", decode_in_little_room, 0}};
   nx = random_union(xs, N, 6, 12);

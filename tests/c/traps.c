@@ -4,6 +4,7 @@
 static const uint64_t face = 0x1000000000000000u;
 static const uint64_t wrong[] = {0, 2, 8, 0xc000000000000000u, 0xffffffffffffffffu, 0x8000000000000000u};
 static const uint64_t unordered[] = {0x0c00000000000000u, 0x0400000000000000u};
+static const s2u_rect edge = {0, 0, (1u << 30) - 1, 0, 0};
 static const uint64_t siblings[] = {0x0400000000000000u, 0x0c00000000000000u, 0x1400000000000000u, 0x1c00000000000000u};
 
 static void numbers_that_are_no_cell(void) {
@@ -82,6 +83,9 @@ static void lists_that_are_no_union(void) {
       CHECK(s2u_outer_of(ids, n, 9, 9999, out, room, &len) == (len > room ? S2U_ROOM : S2U_OK));
       CHECK(s2u_inner_of(ids, n, 9, 9999, out, room, &len) == (len > room ? S2U_ROOM : S2U_OK));
       CHECK(s2u_outer_of(ids, n, 31, 99, out, room, &len) == S2U_ARGUMENT && len == 0);
+      CHECK(s2u_outer_in(ids, n, &edge, 9, 9999, out, room, &len) == (len > room ? S2U_ROOM : S2U_OK));
+      CHECK(s2u_inner_in(ids, n, &edge, 9, 9999, out, room, &len) == (len > room ? S2U_ROOM : S2U_OK));
+      CHECK(s2u_outer_in(ids, n, &edge, 31, 99, out, room, &len) == S2U_ARGUMENT && len == 0);
     }
     CHECK(s2u_encode(ids, n, bytes, sizeof bytes, &len) == S2U_OK && len == S2U_FILE_SIZE(n) && bytes[1] == n);
     memcpy(same, bytes + 9, 8 * n);

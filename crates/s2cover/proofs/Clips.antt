@@ -54,7 +54,7 @@ inner_both S T k x =
 inner_more : (S T : ℕ → Bool) (k x : ℕ) → ((y : ℕ) → S y ≡ true → T y ≡ true) → IsInInner S k x → IsInInner T k x
 inner_more S T k x h (b, ib, lv, vx, inside) = (b, ib, lv, vx, λ y v. h y (inside y v))
 
-inner_same : (S T : ℕ → Bool) (k x : ℕ) → k ≤ 30 → ((y : ℕ) → S y ≡ T y) → inner_set S k x ≡ inner_set T k x
+pub inner_same : (S T : ℕ → Bool) (k x : ℕ) → k ≤ 30 → ((y : ℕ) → S y ≡ T y) → inner_set S k x ≡ inner_set T k x
 inner_same S T k x h e =
     same_bool (inner_set S k x) (inner_set T k x)
     (λ t. inner_from T k x (inner_more S T k x (λ y s. sym (e y) ∙ s) (inner_in S k x h t)))
@@ -143,6 +143,15 @@ pub no_clip : (k : ℕ) (S R : ℕ → Bool) → ((x : ℕ) → inner_set R k x 
 no_clip k S R h x = inner_both S R k x ∙ and_right (inner_set S k x) (inner_set R k x) (h x)
 
 -- ---- the outer covering of a clipped union
+
+outer_more : (S T : ℕ → Bool) (k x : ℕ) → ((y : ℕ) → S y ≡ true → T y ≡ true) → IsInOuter S k x → IsInOuter T k x
+outer_more S T k x h (b, ib, lv, vx, (y, v, s)) = (b, ib, lv, vx, (y, v, h y s))
+
+pub outer_same : (S T : ℕ → Bool) (k x : ℕ) → k ≤ 30 → ((y : ℕ) → S y ≡ T y) → outer_set S k x ≡ outer_set T k x
+outer_same S T k x h e =
+    same_bool (outer_set S k x) (outer_set T k x)
+    (λ t. outer_from T k x (outer_more S T k x (λ y s. sym (e y) ∙ s) (outer_in S k x h t)))
+    (λ t. outer_from S k x (outer_more T S k x (λ y s. e y ∙ s) (outer_in T k x h t)))
 
 -- of two cells of one level that share a leaf, each has the leaves of the other
 beside : {a b : ℕ} (z x : ℕ) → IsCell a →

@@ -36,7 +36,7 @@ one_face S g {c} al hg i lv within =
     }
 
 -- the leaves of a rectangle lie in its face
-on_face : (r : Rect) {c : ℕ} (f x : ℕ) →
+pub on_face : (r : Rect) {c : ℕ} (f x : ℕ) →
     IsCell c → level_of c ≡ 0 → face_of c ≡ f → f ≡ r.face → rect_set r x ≡ true → covers c x ≡ true
 unfolding face_of
 on_face r {c} f x i lv ef er t =

@@ -13,4 +13,5 @@ mod Squares
 mod Rounded
 mod Faces
 mod Clips
+mod Near
 pub mod NormalForms

@@ -246,7 +246,7 @@ fn met_cells(
 }
 
 /// Whether a leaf of the cell is in the rectangle.
-fn meets_rect(cell: CellId, rect: &FaceRect, looks: &mut Looks) -> bool
+pub(crate) fn meets_rect(cell: CellId, rect: &FaceRect, looks: &mut Looks) -> bool
     requires looks { looks.old.count + 1 < 2 ^ 64 }
     ensures value { result ≡ meets (rect_set rect.now) cell }
     ensures count { looks.new.count ≡ looks.old.count + 1 }

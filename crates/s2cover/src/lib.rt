@@ -9,7 +9,7 @@
 //!
 //! A rectangle on a face needs less: once its sides are rounded to the grid of the level, each cell inside it belongs
 //! to the answer, and the number of looks is bounded by the number of cells of the answer. The coverings of a union are
-//! its own cells, cut to the level; those of a clipped union use both.
+//! its own cells, cut to the level; those of a clipped union use both, also if the union is numbers in a slice.
 #![tactic(auto)]
 
 mod clip;
@@ -17,6 +17,7 @@ mod covering;
 mod cut;
 mod descent;
 mod grid;
+mod listed;
 mod looks;
 mod placing;
 mod rect;
@@ -28,6 +29,7 @@ pub use clip::{clip_inner, clip_outer};
 pub use covering::{covering_sets, inner, normal_forms, outer};
 pub use cut::{put_inner, put_outer, union_inner, union_outer};
 pub use grid::{rect_inner, rect_outer};
+pub use listed::{clip_inner_of, clip_outer_of};
 pub use looks::Looks;
 pub use rect::FaceRect;
 pub use region::{CoverFault, Part, Region};

@@ -21,8 +21,9 @@
  * LISTS ARE NOT CHECKED (since 0.2). A call that takes a union does not check that the list is one, which would cost
  * more than the call itself. s2u_is_union checks it, once, when it comes in; what calls make of unions are unions. If a
  * list is not a union, the result means nothing: the status is S2U_OK or S2U_ROOM, or any answer, or what another
- * argument is refused for. Even so the result lies in the room, *len is within the bound that the call gives for such
- * lists, the work is bounded as it says, and the call is as safe as any other.
+ * argument is refused for, or S2U_MEMORY of a call that takes memory. Even so the result lies in the room, *len is
+ * within the bound that the call gives for such lists, the work is bounded as it says, and the call is as safe as any
+ * other.
  *
  * HOW LONG A RESULT IS. A call that makes a list takes `out`, `room` (how many elements it has) and `len`.
  *   S2U_OK     out[0 .. *len) is the result. What comes after it is not touched, but by s2u_decode.
@@ -241,7 +242,11 @@ int32_t s2u_ancestors(const uint64_t* ids, size_t n, uint64_t* out, size_t room,
  *
  * s2u_outer_of and s2u_inner_of are [pure]: one pass over the union, in which the cells in one cell of the level are
  * passed by a search. The covering has no more cells than the union; if that has more than `most`, it is counted first.
- * Of a list that is no union, `out` may have been written when S2U_MANY is answered. */
+ * Of a list that is no union, `out` may have been written when S2U_MANY is answered.
+ *
+ * s2u_outer_in and s2u_inner_in cover what a union and a rectangle share. Of the union they read the cells in the least
+ * cell around the rectangle, which are found in log n steps, and take memory for those that have a leaf in the
+ * rectangle. `out` is touched by S2U_OK alone. Of a list that is no union they cover some union. */
 #define S2U_MOST_COVERING 1000000
 int32_t s2u_outer(const s2u_rect* rect, uint32_t level, size_t most, uint64_t* out, size_t room, size_t* len);
 int32_t s2u_inner(const s2u_rect* rect, uint32_t level, size_t most, uint64_t* out, size_t room, size_t* len);
@@ -249,6 +254,10 @@ int32_t s2u_outer_of(const uint64_t* ids, size_t n, uint32_t level, size_t most,
                      size_t* len);
 int32_t s2u_inner_of(const uint64_t* ids, size_t n, uint32_t level, size_t most, uint64_t* out, size_t room,
                      size_t* len);
+int32_t s2u_outer_in(const uint64_t* ids, size_t n, const s2u_rect* rect, uint32_t level, size_t most, uint64_t* out,
+                     size_t room, size_t* len);
+int32_t s2u_inner_in(const uint64_t* ids, size_t n, const s2u_rect* rect, uint32_t level, size_t most, uint64_t* out,
+                     size_t room, size_t* len);
 
 /* ---- files ----------------------------------------------------------------------------------------------------------
  *

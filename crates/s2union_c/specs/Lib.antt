@@ -5,6 +5,7 @@ pub mod Files
 pub mod Laws
 pub mod ManyCells
 pub mod Order
+pub mod Rectangles
 pub mod Results
 pub mod Texts
 pub mod Working

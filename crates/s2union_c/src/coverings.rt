@@ -1,9 +1,11 @@
-//! The coverings of rectangles and of unions at one level.
-ghost use Rattle.std.specs.Prelude.{◌≡◌, ◌<◌, ◌≤◌, ◌⊎◌, ℕ, IsTrue, List, SomeIff, length, min};
+//! The coverings of rectangles, of unions, and of what a union and a rectangle share, at one level.
+ghost use Rattle.std.specs.Prelude.{◌≡◌, ◌<◌, ◌≤◌, ◌⊎◌, ℕ, Bool, IfErr, IfOk, IsTrue, List, SomeIff};
+ghost use Rattle.std.specs.Prelude.{length, min};
 ghost use Rattle.s2list.specs.Union.{IsLocal, IsNormalForm, has_leaf};
-ghost use Rattle.s2cover.specs.Coverings.{inner_set, outer_set};
-ghost use Rattle.s2cover.specs.Rectangles.{IsRect, Rect, rect_set};
+ghost use Rattle.s2cover.specs.Coverings.{TooManyMeans, inner_set, outer_set};
+ghost use Rattle.s2cover.specs.Rectangles.{IsRect, Rect, clipped, rect_set};
 ghost use Rattle.s2search.specs.Room.{PutsUpTo};
+ghost use Rattle.s2union_c.specs.Rectangles.{rect_with};
 ghost use Rattle.s2union_c.specs.Results.{MadeInPlace, MadeOne, Refused};
 ghost use Rattle.s2union_c.specs.Status.{bad_argument, made, no_room, too_many};
 ghost use Rattle.s2union_c.specs.Working.Coverings.{covering_of};
@@ -11,9 +13,11 @@ ghost use Rattle.s2union_c.specs.Working.Coverings.{covering_of};
 use crate::results::{put_cells, room_status};
 use crate::status::{BAD_ARGUMENT, NO_MEMORY, TOO_MANY};
 use s2cover::{
-    CoverFault, FaceRect, Looks, MOST_CELLS, put_inner, put_outer, rect_inner, rect_outer,
+    CoverFault, FaceRect, Looks, MOST_CELLS, clip_inner_of, clip_outer_of, put_inner, put_outer,
+    rect_inner, rect_outer,
 };
 use s2list::IdList;
+use s2union::CellUnion;
 use std::alloc::Global;
 
 /// The leaves of a face, 0 to 5, with coordinates from `i0` to `i1` and from `j0` to `j1`, bounds included.
@@ -193,6 +197,58 @@ pub extern "C" fn s2u_inner_of(
     )
 }
 
+/// The cells of a level that share a leaf with what a union and a rectangle share, normalized: at most `most` of them,
+/// and at most `MOST_CELLS`. Of a list that is not a union the result is some union, which means nothing.
+#[unsafe(no_mangle)]
+pub extern "C" fn s2u_outer_in(
+    alloc: Global,
+    ids: &[u64],
+    bounds: &Bounds,
+    level: u32,
+    most: usize,
+    out: &mut [u64],
+    len: &mut usize,
+) -> i32
+    ensures made { let S : ℕ → Bool = outer_set (clipped ids.now (rect_with bounds.now)) level in
+        IsLocal ids.now → IsRect (rect_with bounds.now) → level ≤ 30 →
+        MadeOne result (IsNormalForm S) out.old out.new len.new
+        ⊎ (Refused result too_many out.old out.new len.new
+        × ((u : List ℕ) → IsNormalForm S u → min most MOST_CELLS < length u)) }
+    ensures any { IsRect (rect_with bounds.now) → level ≤ 30 → MadeOne result IsLocal out.old out.new len.new
+        ⊎ Refused result too_many out.old out.new len.new }
+    ensures most { len.new ≤ min most MOST_CELLS }
+    ensures argument { (IsRect (rect_with bounds.now) → 30 < level)
+        → Refused result bad_argument out.old out.new len.new }
+{
+    cover_in(alloc, Side::Outer, ids, bounds, level, most, out, len)
+}
+
+/// The cells of a level that lie inside what a union and a rectangle share, normalized: at most `most` of them, and at
+/// most `MOST_CELLS`. Of a list that is not a union the result is some union, which means nothing.
+#[unsafe(no_mangle)]
+pub extern "C" fn s2u_inner_in(
+    alloc: Global,
+    ids: &[u64],
+    bounds: &Bounds,
+    level: u32,
+    most: usize,
+    out: &mut [u64],
+    len: &mut usize,
+) -> i32
+    ensures made { let S : ℕ → Bool = inner_set (clipped ids.now (rect_with bounds.now)) level in
+        IsLocal ids.now → IsRect (rect_with bounds.now) → level ≤ 30 →
+        MadeOne result (IsNormalForm S) out.old out.new len.new
+        ⊎ (Refused result too_many out.old out.new len.new
+        × ((u : List ℕ) → IsNormalForm S u → min most MOST_CELLS < length u)) }
+    ensures any { IsRect (rect_with bounds.now) → level ≤ 30 → MadeOne result IsLocal out.old out.new len.new
+        ⊎ Refused result too_many out.old out.new len.new }
+    ensures most { len.new ≤ min most MOST_CELLS }
+    ensures argument { (IsRect (rect_with bounds.now) → 30 < level)
+        → Refused result bad_argument out.old out.new len.new }
+{
+    cover_in(alloc, Side::Inner, ids, bounds, level, most, out, len)
+}
+
 /// Which covering of a union is made.
 #[derive(Clone, Copy)]
 enum Side {
@@ -246,6 +302,66 @@ fn put_covering(side: Side, ids: &[u64], level: u8, most: usize, out: &mut [u64]
     match side {
         Side::Outer => put_outer(&IdList { ids }, level, most, out),
         Side::Inner => put_inner(&IdList { ids }, level, most, out),
+    }
+}
+
+/// The covering of what a union and a rectangle share.
+fn cover_in(
+    alloc: Global,
+    side: Side,
+    ids: &[u64],
+    bounds: &Bounds,
+    level: u32,
+    most: usize,
+    out: &mut [u64],
+    len: &mut usize,
+) -> i32
+    ensures made { let S : ℕ → Bool = covering_of side level (clipped ids.now (rect_with bounds.now)) in
+        IsLocal ids.now → IsRect (rect_with bounds.now) → level ≤ 30 →
+        MadeOne result (IsNormalForm S) out.old out.new len.new
+        ⊎ (Refused result too_many out.old out.new len.new
+        × ((u : List ℕ) → IsNormalForm S u → min most MOST_CELLS < length u)) }
+    ensures any { IsRect (rect_with bounds.now) → level ≤ 30 → MadeOne result IsLocal out.old out.new len.new
+        ⊎ Refused result too_many out.old out.new len.new }
+    ensures most { len.new ≤ min most MOST_CELLS }
+    ensures argument { (IsRect (rect_with bounds.now) → 30 < level)
+        → Refused result bad_argument out.old out.new len.new }
+{
+    *len = 0;
+    let Some(rect) = rect_of(bounds) else {
+        return BAD_ARGUMENT;
+    };
+    if level > 30 {
+        return BAD_ARGUMENT;
+    }
+    match clipped_covering(alloc, side, ids, &rect, level as u8, most.min(MOST_CELLS)) {
+        Ok(union) => put_cells(union.cells(), out, len),
+        Err(CoverFault::TooMany) => TOO_MANY,
+        Err(CoverFault::Memory) => NO_MEMORY,
+    }
+}
+
+/// The covering of what a union and a rectangle share, in a list of its own.
+fn clipped_covering(
+    alloc: Global,
+    side: Side,
+    ids: &[u64],
+    rect: &FaceRect,
+    level: u8,
+    bound: usize,
+) -> Result<CellUnion, CoverFault>
+    requires level { level ≤ 30 }
+    requires bound { bound ≤ MOST_CELLS }
+    ensures local { IfOk result (λ u. IsLocal u.cells) }
+    ensures normal { IsLocal ids.now → IfOk result (λ u.
+        IsNormalForm (covering_of side level (clipped ids.now rect.now)) u.cells) }
+    ensures within { IfOk result (λ u. length u.cells ≤ bound) }
+    ensures many { IsLocal ids.now → IfErr result
+        (TooManyMeans (covering_of side level (clipped ids.now rect.now)) bound) }
+{
+    match side {
+        Side::Outer => clip_outer_of(alloc, &IdList { ids }, rect, level, bound),
+        Side::Inner => clip_inner_of(alloc, &IdList { ids }, rect, level, bound),
     }
 }
 
