@@ -45,6 +45,26 @@ func (cu CellUnion) InteriorCovering(level, most int) (CellUnion, error) {
 	})
 }
 
+// CoveringIn is the union of the cells of a level that share a leaf with what the union and a rectangle share, as
+// Covering of a Rect. Only the union's cells near the rectangle are read.
+func (cu CellUnion) CoveringIn(rect Rect, level, most int) (CellUnion, error) {
+	at, n := place(cu.ids)
+	corners := rect.corners()
+	return made(64, func(out *C.uint64_t, room C.size_t, length *C.size_t) C.int32_t {
+		return C.s2u_outer_in(at, n, &corners, narrowed(level), atLeastZero(most), out, room, length)
+	})
+}
+
+// InteriorCoveringIn is the union of the cells of a level that lie in what the union and a rectangle share, as
+// CoveringIn.
+func (cu CellUnion) InteriorCoveringIn(rect Rect, level, most int) (CellUnion, error) {
+	at, n := place(cu.ids)
+	corners := rect.corners()
+	return made(64, func(out *C.uint64_t, room C.size_t, length *C.size_t) C.int32_t {
+		return C.s2u_inner_in(at, n, &corners, narrowed(level), atLeastZero(most), out, room, length)
+	})
+}
+
 func (rect Rect) corners() C.s2u_rect {
 	return C.s2u_rect{narrowed(rect.Face), narrowed(rect.I0), narrowed(rect.I1), narrowed(rect.J0), narrowed(rect.J1)}
 }

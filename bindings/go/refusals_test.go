@@ -82,6 +82,8 @@ func TestNumbersOutOfRange(t *testing.T) {
 		check(t, err == s2union.ErrArgument, "a level of a covering")
 		_, err = s2union.Rect{Face: 0, I0: 0, I1: wrong - 31, J0: 0, J1: 0}.Covering(30, most)
 		check(t, wrong == 31 || err == s2union.ErrArgument, "a corner")
+		_, err = union.CoveringIn(s2union.Rect{}, wrong, most)
+		check(t, err == s2union.ErrArgument, "a level of a covering in a rectangle")
 		_, err = s2union.CellIDFromFace(wrong)
 		check(t, err == s2union.ErrArgument, "a face")
 	}

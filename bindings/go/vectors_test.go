@@ -229,6 +229,12 @@ var questions = map[string]func(given) string{
 		}
 		return shown(s2union.CellIDsFromPoints(points))
 	},
+	"outer_in": func(g given) string {
+		return shown(g.union(0).CoveringIn(g.rect(1), g.numbers(2)[0], most))
+	},
+	"inner_in": func(g given) string {
+		return shown(g.union(0).InteriorCoveringIn(g.rect(1), g.numbers(2)[0], most))
+	},
 }
 
 func level(g given) string {

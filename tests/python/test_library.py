@@ -179,11 +179,17 @@ class AgainstTheModel(unittest.TestCase):
             place = (face, i, i + side - 1, j, j + side - 1, level)
             self.assertEqual(list(Union.covering(*place)), model.normal(model.around(square, level)))
             self.assertEqual(list(Union.covering(*place, inner=True)), model.normal(model.within(square, level)))
+            part = Union(self.random.cells(9, [2 * self.random.choice(leaves)[0] + 1]) + list(xs))
+            both = model.common(model.runs(part), square)
+            for made, want in ((part.outer, model.around), (part.inner, model.within)):
+                self.assertEqual(list(made(level, rectangle=place[:5])), model.normal(want(both, level)))
         self.assertRaises(ValueError, Union.covering, 0, 0, 2**30 - 1, 3, 3, 30, most=1000)
         # Too many cells, answered as out of memory, would be proved: every contract allows that.
         self.assertRaises(ValueError, Union.covering, 0, 0, 2**30 - 1, 3, 3, 30, inner=True, most=1000)
         self.assertRaises(ValueError, Union([FACE, 5 * FACE]).outer, 3, most=1)
         self.assertRaises(ValueError, Union([FACE, 5 * FACE]).inner, 3, most=1)
+        for made in (Union([FACE]).outer, Union([FACE]).inner):
+            self.assertRaises(ValueError, made, 30, most=1000, rectangle=(0, 0, 2**30 - 1, 3, 3))
         self.assertRaises(ValueError, Union.covering, 0, 5, 4, 0, 0, 30)
 
     def test_ancestors(self):
@@ -405,6 +411,12 @@ class WorkedExamples(unittest.TestCase):
         for wrong in ((6, 0, 0, 0, 0), (0, 1, 0, 0, 0), (0, 0, 0, 3, 2), (0, 0, LAST + 1, 0, 0),
                       (0, 0, 0, 0, LAST + 1)):
             self.assertRaises(ValueError, Union.covering, *wrong, 30)
+            self.assertRaises(ValueError, leaf.outer, 30, rectangle=wrong)
+        self.assertRaises(ValueError, leaf.inner, 30, rectangle=(0, 0, 0, 0))
+        self.assertRaises(TypeError, leaf.inner, 30, rectangle=7)
+        self.assertRaises(TypeError, leaf.outer, 30, rectangle=(0, 0, 0, 0, 0.5))
+        self.assertEqual(leaf.outer(29, rectangle=(0, 0, 2, 0, 2)).tokens(), [FIRST_FOUR])
+        self.assertEqual(leaf.outer(29, rectangle=[0, 0, 0, 0, 0]).tokens(), [])
 
 
 class Park(Union):

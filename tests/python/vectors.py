@@ -178,6 +178,18 @@ def coverings(a):
     place = numbers(face, i, i + side - 1, j, j + side - 1)
     say("outer_of_rectangle", place, str(level), model.normal(model.around(square, level)))
     say("inner_of_rectangle", place, str(level), model.normal(model.within(square, level)))
+    part = some_near(square)
+    both = model.common(model.runs(part), square)
+    say("outer_in", part, place, str(level), model.normal(model.around(both, level)))
+    say("inner_in", part, place, str(level), model.normal(model.within(both, level)))
+
+
+def some_near(square):
+    """A union of cells around leaves of a square, beside it, and of any others."""
+    leaves = [2 * random.choice(square)[0] + 1 for _ in range(random.randrange(5))]
+    given = [random.near(leaf) for leaf in leaves]
+    given += [model.identifier(k, (leaf >> 1) // 4 ** (30 - k)) for leaf in leaves for k in (random.randint(24, 30),)]
+    return model.normal(model.runs(given + [random.cell() for _ in range(random.randrange(3))]))
 
 
 def refusals():
@@ -190,8 +202,13 @@ def refusals():
     for place in ((6, 0, 0, 0, 0), (0, 1, 0, 0, 0), (0, 0, 0, 3, 2), (0, 0, LAST + 1, 0, 0), (0, 0, 0, 0, LAST + 1)):
         say("outer_of_rectangle", numbers(*place), "30", "!argument")
         say("inner_of_rectangle", numbers(*place), "30", "!argument")
+        say("outer_in", face, numbers(*place), "30", "!argument")
+        say("inner_in", face, numbers(*place), "30", "!argument")
     say("outer_of_rectangle", numbers(0, 0, LAST, 3, 3), "30", "!many")
     say("inner_of_rectangle", numbers(0, 0, LAST, 3, 3), "30", "!many")
+    for call in ("outer_in", "inner_in"):
+        say(call, face, numbers(0, 0, LAST, 3, 3), "30", "!many")
+        say(call, face, numbers(0, 0, 0, 0, 0), "31", "!argument")
     for place in ((6, 0, 0), (0, LAST + 1, 0), (0, 0, LAST + 1)):
         say("from_face_ij", numbers(*place), "!argument")
     for text in ("", "x", "0", "00000000000000001", "0c ", "0/", "1/4"):

@@ -478,6 +478,18 @@ def _place(ids: _array[int] | bytes) -> tuple[Any, int]:
     return (ids, len(ids) // 8) if isinstance(ids, bytes) else ids.buffer_info()
 
 
+def _rectangle(bounds: Iterable[SupportsIndex]) -> Any:
+    """What the library takes for a rectangle: the place of its bounds."""
+    face, i0, i1, j0, j1 = bounds
+    return _c.byref(_library.Rectangle(_number(face, 5, "a face"),
+                                       *(_number(x, 2**30 - 1, "a coordinate") for x in (i0, i1, j0, j1))))
+
+
+def _up_to(level: SupportsIndex, most: SupportsIndex) -> tuple[int, int]:
+    """The level of a covering, and the most cells that it may have."""
+    return _number(level, 30, "a level"), _number(most, 2**63 - 1, "most")
+
+
 def _listed(call: Callable[..., int], room: int, *arguments: Any) -> _array[int]:
     """The result of a call: tries room that may suffice, and calls again with what is needed if it doesn't."""
     out, length = _room(room), _c.c_size_t()
@@ -754,21 +766,26 @@ class Union:
                  j1: SupportsIndex, level: SupportsIndex, inner: bool = False,
                  most: SupportsIndex = _library.MOST_COVERING) -> Self:
         """The cells of a level that share a leaf with a rectangle of a face (with `inner`, that lie in it)."""
-        rectangle = _library.Rectangle(_number(face, 5, "a face"),
-                                       *(_number(x, 2**30 - 1, "a coordinate") for x in (i0, i1, j0, j1)))
         call = _library.inner if inner else _library.outer
-        return cls._made(_listed(call, 64, _c.byref(rectangle), _number(level, 30, "a level"),
-                                 _number(most, 2**63 - 1, "most")))
+        return cls._made(_listed(call, 64, _rectangle((face, i0, i1, j0, j1)), *_up_to(level, most)))
 
-    def outer(self: Self, level: SupportsIndex, most: SupportsIndex = _library.MOST_COVERING) -> Self:
-        """The cells of a level that share a leaf with the union."""
-        return self._made(_listed(_library.outer_of, len(self), *_place(self._ids), _number(level, 30, "a level"),
-                                  _number(most, 2**63 - 1, "most")))
+    def outer(self: Self, level: SupportsIndex, most: SupportsIndex = _library.MOST_COVERING,
+              rectangle: Iterable[SupportsIndex] | None = None) -> Self:
+        """The cells of a level that share a leaf with the union; with a rectangle (face, i0, i1, j0, j1), those that
+        share a leaf with what the two share."""
+        return self._covered(_library.outer_of, _library.outer_in, rectangle, *_up_to(level, most))
 
-    def inner(self: Self, level: SupportsIndex, most: SupportsIndex = _library.MOST_COVERING) -> Self:
-        """The cells of a level that lie in the union."""
-        return self._made(_listed(_library.inner_of, len(self), *_place(self._ids), _number(level, 30, "a level"),
-                                  _number(most, 2**63 - 1, "most")))
+    def inner(self: Self, level: SupportsIndex, most: SupportsIndex = _library.MOST_COVERING,
+              rectangle: Iterable[SupportsIndex] | None = None) -> Self:
+        """The cells of a level that lie in the union; with a rectangle, as `outer`, those that lie in both."""
+        return self._covered(_library.inner_of, _library.inner_in, rectangle, *_up_to(level, most))
+
+    def _covered(self: Self, whole: Callable[..., int], part: Callable[..., int],
+                 rectangle: Iterable[SupportsIndex] | None, *bounds: int) -> Self:
+        """The covering that one call makes of the union, or the other of its part in a rectangle."""
+        if rectangle is None:
+            return self._made(_listed(whole, len(self), *_place(self._ids), *bounds))
+        return self._made(_listed(part, 64, *_place(self._ids), _rectangle(rectangle), *bounds))
 
     def to_bytes(self) -> bytes:
         """The union file: the bytes that S2's own S2CellUnion::Encode writes. Equal unions have equal files."""

@@ -135,6 +135,8 @@ makers! {
     inner: s2u_inner(; rect: &Corners, level: u32, most: usize) -> [u64] in 64;
     outer_of: s2u_outer_of(ids: [u64]; level: u32, most: usize) -> [u64] in ids.len();
     inner_of: s2u_inner_of(ids: [u64]; level: u32, most: usize) -> [u64] in ids.len();
+    outer_in: s2u_outer_in(ids: [u64]; rect: &Corners, level: u32, most: usize) -> [u64] in 64;
+    inner_in: s2u_inner_in(ids: [u64]; rect: &Corners, level: u32, most: usize) -> [u64] in 64;
     encode: s2u_encode(ids: [u64];) -> [u8] in 9 + 8 * ids.len();
     decode: s2u_decode(bytes: [u8];) -> [u64] in bytes.len() / 8;
     file_ancestors: s2u_file_ancestors(bytes: [u8];) -> [u64] in bytes.len() / 4 + 30;

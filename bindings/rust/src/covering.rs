@@ -56,4 +56,25 @@ impl CellUnion {
     pub fn inner(&self, level: u32, most: usize) -> Result<CellUnion, Error> {
         CellUnion::made(calls::inner_of(self.as_ref(), level, most))
     }
+
+    /// The cells of a level that share a leaf with what the union and a rectangle share, as that of a [`Rect`]. Only
+    /// the union's cells near the rectangle are read.
+    ///
+    /// ```
+    /// use s2union::{CellUnion, Rect};
+    ///
+    /// let face: CellUnion = "1".parse()?;
+    /// let edge = Rect { face: 0, i0: 0, i1: (1 << 30) - 1, j0: 0, j1: 0 };
+    /// assert_eq!(face.outer_in(&edge, 1, 10)?.to_string(), "04 1c");
+    /// assert!(face.inner_in(&edge, 1, 10)?.is_empty());
+    /// # Ok::<(), s2union::Error>(())
+    /// ```
+    pub fn outer_in(&self, rect: &Rect, level: u32, most: usize) -> Result<CellUnion, Error> {
+        CellUnion::made(calls::outer_in(self.as_ref(), &rect.corners(), level, most))
+    }
+
+    /// The cells of a level that lie in what the union and a rectangle share, as `outer_in`.
+    pub fn inner_in(&self, rect: &Rect, level: u32, most: usize) -> Result<CellUnion, Error> {
+        CellUnion::made(calls::inner_in(self.as_ref(), &rect.corners(), level, most))
+    }
 }

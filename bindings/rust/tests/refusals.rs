@@ -45,6 +45,9 @@ fn numbers_out_of_range() {
     let row = Rect { face: 0, i0: 0, i1: (1 << 30) - 1, j0: 0, j1: 0 };
     assert_eq!((row.outer(30, usize::MAX), row.outer(3, MOST_COVERING).unwrap().len()), (Err(Error::Many), 8));
     assert_eq!(Rect { face: 6, ..row }.inner(3, 9), Err(Error::Argument));
+    assert_eq!((face.outer_in(&row, 31, 9), face.outer_in(&row, 3, 7)), (Err(Error::Argument), Err(Error::Many)));
+    assert_eq!(face.inner_in(&Rect { j0: 1, ..row }, 3, 9), Err(Error::Argument));
+    assert_eq!(face.outer_in(&row, 3, 8).unwrap().len(), 8);
 }
 
 #[test]

@@ -6,7 +6,7 @@ use std::{env, fs};
 use s2union::{CellId, CellUnion, Error, FacePoint, Rect, UnionFile};
 
 const MOST: usize = 100_000; // cells of a list
-const CALLS: usize = 53; // that vectors.py asks
+const CALLS: usize = 55; // that vectors.py asks
 
 #[test]
 fn vectors() {
@@ -57,8 +57,8 @@ impl Given<'_> {
         self.numbers(place)[0]
     }
 
-    fn rect(&self) -> Rect {
-        let corners = self.numbers(0);
+    fn rect(&self, place: usize) -> Rect {
+        let corners = self.numbers(place);
         Rect { face: corners[0], i0: corners[1], i1: corners[2], j0: corners[3], j1: corners[4] }
     }
 
@@ -199,8 +199,10 @@ impl Given<'_> {
             "denormalised" => self.union(0).denormalized(self.number(1), self.numbers(1)[1], MOST).shown(),
             "outer" => self.union(0).outer(self.number(1), MOST).shown(),
             "inner" => self.union(0).inner(self.number(1), MOST).shown(),
-            "outer_of_rectangle" => self.rect().outer(self.number(1), MOST).shown(),
-            "inner_of_rectangle" => self.rect().inner(self.number(1), MOST).shown(),
+            "outer_of_rectangle" => self.rect(0).outer(self.number(1), MOST).shown(),
+            "inner_of_rectangle" => self.rect(0).inner(self.number(1), MOST).shown(),
+            "outer_in" => self.union(0).outer_in(&self.rect(1), self.number(2), MOST).shown(),
+            "inner_in" => self.union(0).inner_in(&self.rect(1), self.number(2), MOST).shown(),
             _ => panic!("there is no call {call}"),
         }
     }
