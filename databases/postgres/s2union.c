@@ -367,6 +367,8 @@ MAKER(make_outer, s2u_outer, &j->rect, j->level, S2U_MOST_COVERING)
 MAKER(make_inner, s2u_inner, &j->rect, j->level, S2U_MOST_COVERING)
 MAKER(make_outer_of, s2u_outer_of, LIST(j->x), j->level, S2U_MOST_COVERING)
 MAKER(make_inner_of, s2u_inner_of, LIST(j->x), j->level, S2U_MOST_COVERING)
+MAKER(make_outer_in, s2u_outer_in, LIST(j->x), &j->rect, j->level, S2U_MOST_COVERING)
+MAKER(make_inner_in, s2u_inner_in, LIST(j->x), &j->rect, j->level, S2U_MOST_COVERING)
 
 static Datum made(maker* make, const Job* j, size_t room) {
   size_t n = 0;
@@ -404,11 +406,12 @@ static Datum of_two_unions(FunctionCallInfo fcinfo, maker* make) {
   return made(make, &j, Min(count_of(j.x) + count_of(j.y), MOST_CELLS));
 }
 
-/* A number in SQL's integer. Numbers below 0 are out of range for the library too. */
-static Datum of_rectangle(FunctionCallInfo fcinfo, maker* make) {
+/* The covering of a rectangle at a level, whose six numbers are the arguments from `first` on; before it there may be a
+ * union that clips it. Numbers of SQL's integer that are below 0 are out of range for the library too. */
+static Datum of_rectangle(FunctionCallInfo fcinfo, int first, maker* make) {
   uint32_t a[6];
-  for (int k = 0; k < 6; k++) a[k] = (uint32_t)PG_GETARG_INT32(k);
-  Job j = {.rect = {a[0], a[1], a[2], a[3], a[4]}, .level = a[5]};
+  for (int k = 0; k < 6; k++) a[k] = (uint32_t)PG_GETARG_INT32(first + k);
+  Job j = {.x = first ? ARGUMENT(0) : NULL, .rect = {a[0], a[1], a[2], a[3], a[4]}, .level = a[5]};
   return made(make, &j, S2U_MOST_RANGE);
 }
 
@@ -425,8 +428,10 @@ FUNCTION(s2union_union, of_two_unions(fcinfo, make_union))
 FUNCTION(s2union_intersection, of_two_unions(fcinfo, make_intersection))
 FUNCTION(s2union_difference, of_two_unions(fcinfo, make_difference))
 FUNCTION(s2union_symmetric_difference, of_two_unions(fcinfo, make_symmetric_difference))
-FUNCTION(s2union_outer, of_rectangle(fcinfo, make_outer))
-FUNCTION(s2union_inner, of_rectangle(fcinfo, make_inner))
+FUNCTION(s2union_outer, of_rectangle(fcinfo, 0, make_outer))
+FUNCTION(s2union_inner, of_rectangle(fcinfo, 0, make_inner))
+FUNCTION(s2union_outer_in, of_rectangle(fcinfo, 1, make_outer_in))
+FUNCTION(s2union_inner_in, of_rectangle(fcinfo, 1, make_inner_in))
 FUNCTION(s2union_outer_of, of_level(fcinfo, make_outer_of))
 FUNCTION(s2union_inner_of, of_level(fcinfo, make_inner_of))
 

@@ -197,7 +197,7 @@ typedef struct function {
 
 /* PREPARED is the subtype of s2_prepared.value, which is always made in normal form. A file of no more bytes than
  * WORTH_KEEPING is checked as fast as SQLite looks up that it was checked. */
-enum { MOST_ARGUMENTS = 6, PREPARED = 0x53, WORTH_KEEPING = 250 };
+enum { MOST_ARGUMENTS = 7, PREPARED = 0x53, WORTH_KEEPING = 250 };
 
 /* What is made of a constant is kept for all rows: SQLite drops it after the last row, or at once. */
 static int32_t hold(sqlite3_context* c, sqlite3_value** v, int k, int32_t (*of)(sqlite3_value*, block**), argument* a) {
@@ -262,10 +262,10 @@ MAKER(make_union, s2u_union, LIST(a[0]), LIST(a[1]))
 MAKER(make_intersection, s2u_intersection, LIST(a[0]), LIST(a[1]))
 MAKER(make_difference, s2u_difference, LIST(a[0]), LIST(a[1]))
 MAKER(make_range, s2u_range, a[0].cell, a[1].cell)
-MAKER(make_outer, s2u_outer, RECT(a), a[5].number, S2U_MOST_COVERING)
-MAKER(make_inner, s2u_inner, RECT(a), a[5].number, S2U_MOST_COVERING)
-MAKER(make_outer_of, s2u_outer_of, LIST(a[0]), a[1].number, S2U_MOST_COVERING)
-MAKER(make_inner_of, s2u_inner_of, LIST(a[0]), a[1].number, S2U_MOST_COVERING)
+#define COVERS(e, ...) MAKER(make_outer##e, s2u_outer##e, __VA_ARGS__) MAKER(make_inner##e, s2u_inner##e, __VA_ARGS__)
+COVERS(, RECT(a), a[5].number, S2U_MOST_COVERING)
+COVERS(_of, LIST(a[0]), a[1].number, S2U_MOST_COVERING)
+COVERS(_in, LIST(a[0]), RECT(a + 1), a[6].number, S2U_MOST_COVERING)
 MAKER(make_ancestors, s2u_ancestors, LIST(a[0]))
 
 /* The list that a maker makes. The caller drops it, even after a refusal. */
@@ -364,12 +364,12 @@ CALL(level) { return answer_number(c, s2u_level(a->cell)); }
 CALL(face) { return answer_number(c, s2u_face(a->cell)); }
 CALL(version) { return sqlite3_result_text(c, S2U_VERSION_TEXT, -1, SQLITE_STATIC), S2U_OK; }
 
+#define COVERINGS(l, e) {"s2_outer", l, makes, .make = make_outer##e}, {"s2_inner", l, makes, .make = make_inner##e}
 static const function functions[] = {
   {"s2_union", "ll", makes, .make = make_union}, {"s2_intersection", "ll", makes, .make = make_intersection},
   {"s2_difference", "ll", makes, .make = make_difference}, {"s2_range", "cc", makes, .make = make_range},
   {"s2_symmetric_difference", "ll", makes, .make = make_symmetric_difference}, {"s2_within", "qf", within},
-  {"s2_outer", "nnnnnn", makes, .make = make_outer}, {"s2_inner", "nnnnnn", makes, .make = make_inner},
-  {"s2_outer", "ln", makes, .make = make_outer_of}, {"s2_inner", "ln", makes, .make = make_inner_of},
+  COVERINGS("nnnnnn", ), COVERINGS("ln", _of), COVERINGS("lnnnnnn", _in),
   {"s2_normalise", "l", normalise}, {"s2_is_union", "b", is_union}, {"s2_contains", "fq", contains},
   {"s2_intersects", "fq", intersects}, {"s2_count", "f", count}, {"s2_leaves", "f", leaves}, {"s2_tokens", "l", tokens},
   {"s2_cell", "c", cell}, {"s2_token", "c", text, .text = s2u_token}, {"s2_debug", "c", text, .text = s2u_debug},

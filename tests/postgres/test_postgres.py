@@ -211,6 +211,12 @@ class AgainstTheModel(Tests):
             pairs.append((f"s2_outer({box}, 30) = {leaf}::s2union and s2_inner({box}, 30) = {leaf}::s2union", "true"))
             pairs.append((f"s2_outer({box}, {level}) = s2_parent({leaf}, {level})::s2union", "true"))
             pairs.append((f"s2_inner({box}, {min(level, 29)}) = ''::s2union", "true"))
+            last, one = 2**30 - 1, model.plain.leaf_at(*place)[1]
+            whole = f"{place[0]}, 0, {last}, 0, {last}"
+            for bounds, region in ((box, (one, one + 1)), (whole, model.run(model.identifier(0, place[0])))):
+                both = model.common(x, [region])
+                for name, want in (("s2_outer", model.around), ("s2_inner", model.within)):
+                    pairs.append((f"{name}({u(xs)}, {bounds}, {level})", tokens(model.normal(want(both, level)))))
         self.all_are(pairs)
 
     def test_version(self):
@@ -336,7 +342,9 @@ class WhatIsRefused(Tests):
             ("s2_outer(6, 0, 0, 0, 0, 5)", "argument"), ("s2_outer(0, 1, 0, 0, 0, 5)", "argument"),
             ("s2_outer(0, 0, 0, 0, 0, 31)", "argument"),
             ("s2_outer(0, -1, 0, 0, 0, 5)", "argument"), ("s2_inner('1'::s2union, -1)", "argument"),
-            ("s2_leaf(0, 0, -1)", "argument"),
+            ("s2_leaf(0, 0, -1)", "argument"), ("s2_outer('1'::s2union, 0, 1, 0, 0, 0, 5)", "argument"),
+            ("s2_inner('1'::s2union, 0, 0, 0, 0, 0, 31)", "argument"),
+            ("s2_inner('1'::s2union, 0, 0, 1073741823, 5, 5, 30)", "too many cells"),
             ("s2_outer(0, 0, 1073741823, 5, 5, 30)", "too many cells"),
             ("(2::bigint)::s2union", "not a cell"), ("s2_level(0)", "not a cell"),
             ("s2_token(0)", "not a cell"), ("s2_parent(0, 0)", "not a cell"), ("s2_range_max(0)", "not a cell"),
@@ -1006,6 +1014,7 @@ class Guarded(Tests):
             "s2_tokens(part)", "s2_cells(part, 20)", "part::bigint[]::s2union", "s2_cell('0401') <@ part",
             "part && s2_cell('0401')", "s2_cell('0401') && part",
             "s2_cells(part)", "s2_ancestors(part)", "s2_outer(part, 3)", "s2_inner(part, 3)", "part @> '04'",
+            "s2_outer(part, 0, 5, 9000, 7, 9000, 24)", "s2_inner(part, 0, 5, 9000000, 7, 9000000, 12)",
             "'1'::s2union <@ part",
             "part && '1c'", "part @> s2_cell('0401')", "part < '1'", "s2union_cmp(part, '04 0c')", "s2union_hash(part)",
             "s2union_hash_extended(part, 3)", "s2_count(part) + s2_leaves(part)", "part",

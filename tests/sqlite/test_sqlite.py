@@ -39,6 +39,7 @@ def calls():
     for name in COVERINGS:
         yield name, "ln", ["0c 14", 3]
         yield name, "nnnnnn", [0, 5, 900, 7, 1000, 25]
+        yield name, "lnnnnnn", ["0c 14", 0, 5, 900, 7, 1000, 25]
 
 
 class Random(random_cells.Random):
@@ -215,10 +216,17 @@ class AgainstTheModel(Tests):
             for name, want in (("s2_outer", model.around), ("s2_inner", model.within)):
                 said = self.call(name, [face, i, i + side - 1, j, j + 1, level])
                 self.assertEqual(said, model.file(model.normal(want(square, level))))
+                part = self.random.cells(5, [2 * leaf + 1 for leaf in leaves])
+                said = self.call(name, [self.random.form(part), face, i, i + side - 1, j, j + 1, level])
+                both = model.common(model.runs(part), square)
+                self.assertEqual(said, model.file(model.normal(want(both, level))))
         self.refused("s2: too many cells", "s2_outer(0, 0, 1073741823, 5, 5, 30)")
         self.refused("s2: argument out of range", "s2_inner('1', 31)")
         self.refused("s2: argument out of range", "s2_outer(0, 9, 8, 5, 5, 20)")
         self.refused("s2: argument out of range", "s2_outer(6, 8, 9, 5, 5, 20)")
+        self.refused("s2: argument out of range", "s2_inner('1', 6, 8, 9, 5, 5, 20)")
+        self.refused("s2: argument out of range", "s2_outer('1', 0, 8, 9, 5, 5, 31)")
+        self.refused("s2: too many cells", "s2_outer('1', 0, 0, 1073741823, 5, 5, 30)")
 
     def test_tables_of_cells(self):
         for _ in range(ROUNDS // 3):
