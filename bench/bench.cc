@@ -376,19 +376,16 @@ static void clipped_coverings(Table& table) {
   List ids = ids_of(cells);
   Room room(300000);
   S2CellUnion made;
-  auto row = [&](Row it, bool outer, auto proved) {
+  auto row = [&](Row it, bool outer, ClippedCall proved) {
     table.row(it,
               {[&](uint32_t) { made = covering_by_coverer(ClippedRegion(&cells, bounds), level, outer); },
                [&] { return sum_of(made); }},
-              {[&](uint32_t times) {
-                 must(proved(ids.data(), ids.size(), &bounds, level, times, room.at(), room.size(), room.len()),
-                      it.name);
-               },
-               [&] { return sum_of(room.made()); }, 2},
+              {[&](uint32_t) { cover_clipped(proved, ids, bounds, level, room); },
+               [&] { return sum_of(room.made()); }},
               [&] { return made.num_cells(); });
   };
-  row({"outer_clipped", 0, 0x9ca6eabf3cadbabe}, true, s2c_clip_outer);
-  row({"inner_clipped", 0, 0x2cd6df40491cb689}, false, s2c_clip_inner);
+  row({"outer_clipped", 0, 0x9ca6eabf3cadbabe}, true, s2u_outer_in);
+  row({"inner_clipped", 0, 0x2cd6df40491cb689}, false, s2u_inner_in);
 }
 
 static void ranges(Table& table) {

@@ -1,8 +1,7 @@
-// `CellUnion`, the coverings of a clip and by the general descent, the files of the calculator, and a token that takes
-// sixteen bytes, for C++: what crates/s2c exports, whose contracts say what each call answers. All else is asked of
-// libs2union. A slice of Rust is a pointer and a length here. `false` says that nothing was made: a list is not a
-// union, there is too little room, or there is no memory. `times` is how often a call does its work, which changes no
-// answer.
+// `CellUnion`, the coverings by the general descent, the files of the calculator, and a token that takes sixteen bytes,
+// for C++: what crates/s2c exports, whose contracts say what each call answers. All else is asked of libs2union. A
+// slice of Rust is a pointer and a length here. `false` says that nothing was made: a list is not a union, there is too
+// little room, or there is no memory. `times` is how often a call does its work, which changes no answer.
 #pragma once
 #include <cstddef>
 #include <cstdint>
@@ -39,8 +38,4 @@ bool s2c_decode(const uint8_t* bytes, size_t n, uint32_t times, uint64_t* out, s
 
 bool s2c_region_outer(const Bounds* bounds, uint8_t level, uint64_t* out, size_t room, size_t* len);
 bool s2c_region_inner(const Bounds* bounds, uint8_t level, uint64_t* out, size_t room, size_t* len);
-bool s2c_clip_outer(const uint64_t* ids, size_t n, const Bounds* bounds, uint8_t level, uint32_t times, uint64_t* out,
-                    size_t room, size_t* len);
-bool s2c_clip_inner(const uint64_t* ids, size_t n, const Bounds* bounds, uint8_t level, uint32_t times, uint64_t* out,
-                    size_t room, size_t* len);
 }

@@ -46,6 +46,7 @@ using PeerOperation = S2CellUnion (S2CellUnion::*)(const S2CellUnion&) const;
 using CellQuestions = bool (*)(const u64*, size_t, const u64*, size_t, bool*, size_t);
 using Covering = bool (*)(const Bounds*, uint8_t, u64*, size_t, size_t*);
 using RectangleCall = int32_t (*)(const s2u_rect*, uint32_t, size_t, u64*, size_t, size_t*);
+using ClippedCall = int32_t (*)(const u64*, size_t, const s2u_rect*, uint32_t, size_t, u64*, size_t, size_t*);
 using FromText = int32_t (*)(const char*, size_t, u64*);
 using UnionQuestion = bool (*)(const u64*, size_t, const u64*, size_t, uint32_t, bool*);
 
@@ -66,9 +67,19 @@ class Room {
   size_t len_ = 0;
 };
 
+inline s2u_rect rect_of(const Bounds& bounds) {
+  return {bounds.face, bounds.i0, bounds.i1, bounds.j0, bounds.j1};
+}
+
 // A covering by libs2union, of at most as many cells as the room has.
 template <RectangleCall call>
 bool covered(const Bounds* bounds, uint8_t level, u64* out, size_t room, size_t* len) {
-  const s2u_rect rect = {bounds->face, bounds->i0, bounds->i1, bounds->j0, bounds->j1};
+  const s2u_rect rect = rect_of(*bounds);
   return call(&rect, level, S2U_MOST_COVERING, out, room, len) == S2U_OK;
+}
+
+// The covering of what a union and a rectangle share.
+inline void cover_clipped(ClippedCall call, const List& ids, const Bounds& bounds, int level, Room& room) {
+  const s2u_rect rect = rect_of(bounds);
+  made(call(ids.data(), ids.size(), &rect, level, S2U_MOST_COVERING, room.at(), room.size(), room.len()), "clipped");
 }

@@ -185,6 +185,32 @@ static void ranges(Random& random) {
   same_cells(room, ids_of(S2CellUnion::FromMinMax(S2CellId(first), S2CellId(last))), text_of({first, last}));
 }
 
+// The coverings of what a rectangle shares with a union of cells around cells of its outer covering and in them. By S2
+// they are the shared cells of the rectangle's and the union's, and around each deeper cell that meets the rectangle.
+static void clipped_coverings(Random& random, const Bounds& r, int level, const S2CellUnion& outer,
+                              const S2CellUnion& inner, const std::string& rectangle) {
+  List given;
+  for (uint32_t k = random.below(5); k > 0; k--) {
+    S2CellId cell = outer.cell_id(random.below(outer.num_cells()));
+    List near = near_cells(random, cell.parent(std::max(0, cell.level() - int(random.below(3)))).id());
+    given.insert(given.end(), near.begin(), near.end());
+  }
+  List ids = normal(given);
+  std::vector<S2CellId> whole, cut;
+  for (S2CellId cell : peer_cells(ids)) {
+    if (cell.level() <= level) whole.push_back(cell);
+    else if (part_of(r, cell) != Part::Out) cut.push_back(cell.parent(level));
+  }
+  S2CellUnion kept(std::move(whole));
+  std::string about = rectangle + " in " + text_of(ids);
+  question = "outer_in";
+  cover_clipped(s2u_outer_in, ids, r, level, room);
+  same_cells(room, ids_of(kept.Intersection(outer).Union(S2CellUnion(std::move(cut)))), about);
+  question = "inner_in";
+  cover_clipped(s2u_inner_in, ids, r, level, room);
+  same_cells(room, ids_of(kept.Intersection(inner)), about);
+}
+
 static void coverings(Random& random) {
   int bits = 1 + random.below(30);
   uint32_t side = 1u << 30, most = 1u << bits;
@@ -209,6 +235,7 @@ static void coverings(Random& random) {
   ask("inner", covered<s2u_inner>, inner);
   ask("region_outer", s2c_region_outer, outer);
   ask("region_inner", s2c_region_inner, inner);
+  clipped_coverings(random, r, level, outer, inner, about);
 }
 
 int main(int argc, char** argv) {

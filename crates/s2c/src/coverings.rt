@@ -1,11 +1,11 @@
-//! The coverings of a rectangle, and of a union clipped by one.
+//! The coverings of a rectangle by the descent that serves any region.
 ghost use Rattle.std.specs.Prelude.{◌≡◌, ◌≤◌, IsTrue, IfSome, length, take};
-ghost use Rattle.s2list.specs.Union.{IsLocal, IsNormalForm};
+ghost use Rattle.s2list.specs.Union.{IsNormalForm};
 ghost use Rattle.s2cover.specs.Coverings.{inner_set, outer_set};
-ghost use Rattle.s2cover.specs.Rectangles.{clipped, rect_set};
+ghost use Rattle.s2cover.specs.Rectangles.{rect_set};
 
-use crate::lists::{put_cells, union_of};
-use s2cover::{FaceRect, Looks, MOST_CELLS, clip_inner, clip_outer, inner, outer};
+use crate::lists::put_cells;
+use s2cover::{FaceRect, MOST_CELLS, inner, outer};
 use std::alloc::Global;
 
 /// The leaves of a face, 0 to 5, with coordinates from `i0` to `i1` and from `j0` to `j1`, inclusive.
@@ -85,96 +85,6 @@ pub extern "C" fn s2c_region_inner(
     }
     match inner(alloc, &rect, level, MOST_CELLS) {
         Ok(union) => put_cells(union.cells(), out, len),
-        Err(_) => false,
-    }
-}
-
-/// The cells of a level that share a leaf with what a union and a rectangle share, normalized.
-/// At most a million of them.
-#[unsafe(no_mangle)]
-pub extern "C" fn s2c_clip_outer(
-    alloc: Global,
-    ids: &[u64],
-    bounds: &Bounds,
-    level: u8,
-    times: u32,
-    out: &mut [u64],
-    len: &mut usize,
-) -> bool
-    ensures within { IsTrue result → len.new ≤ length out.new }
-    ensures normal { IsTrue result
-        → IsNormalForm
-        (outer_set (clipped ids.now (record {
-          face = bounds.now.face;
-          i0 = bounds.now.i0;
-          i1 = bounds.now.i1;
-          j0 = bounds.now.j0;
-          j1 = bounds.now.j1;
-        })) level) (take len.new out.new) }
-    ensures local { IsTrue result → IsLocal ids.now }
-{
-    let Some(rect) = rect_of(bounds) else {
-        return false;
-    };
-    if level > 30 {
-        return false;
-    }
-    let Some(union) = union_of(alloc, ids) else {
-        return false;
-    };
-    let mut looks = Looks::default();
-    for _ in 1..times {
-        if clip_outer(alloc, &union, &rect, level, MOST_CELLS, &mut looks).is_err() {
-            return false;
-        }
-    }
-    match clip_outer(alloc, &union, &rect, level, MOST_CELLS, &mut looks) {
-        Ok(made) => put_cells(made.cells(), out, len),
-        Err(_) => false,
-    }
-}
-
-/// The cells of a level that lie inside what a union and a rectangle share, normalized.
-/// At most a million of them.
-#[unsafe(no_mangle)]
-pub extern "C" fn s2c_clip_inner(
-    alloc: Global,
-    ids: &[u64],
-    bounds: &Bounds,
-    level: u8,
-    times: u32,
-    out: &mut [u64],
-    len: &mut usize,
-) -> bool
-    ensures within { IsTrue result → len.new ≤ length out.new }
-    ensures normal { IsTrue result
-        → IsNormalForm
-        (inner_set (clipped ids.now (record {
-          face = bounds.now.face;
-          i0 = bounds.now.i0;
-          i1 = bounds.now.i1;
-          j0 = bounds.now.j0;
-          j1 = bounds.now.j1;
-        })) level) (take len.new out.new) }
-    ensures local { IsTrue result → IsLocal ids.now }
-{
-    let Some(rect) = rect_of(bounds) else {
-        return false;
-    };
-    if level > 30 {
-        return false;
-    }
-    let Some(union) = union_of(alloc, ids) else {
-        return false;
-    };
-    let mut looks = Looks::default();
-    for _ in 1..times {
-        if clip_inner(alloc, &union, &rect, level, MOST_CELLS, &mut looks).is_err() {
-            return false;
-        }
-    }
-    match clip_inner(alloc, &union, &rect, level, MOST_CELLS, &mut looks) {
-        Ok(made) => put_cells(made.cells(), out, len),
         Err(_) => false,
     }
 }
