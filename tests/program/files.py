@@ -7,7 +7,7 @@ import tempfile
 import unittest
 
 from process import FACE, PROGRAM, ran
-from sessions import number
+from sessions import most_resident_after, number
 
 NOBODY = 65534
 
@@ -69,11 +69,17 @@ class UnionFiles(unittest.TestCase):
         self.assertEqual(ran("run", "--limit", "1000000", "--dir", self.folder, script=script), (1, answers, b""))
 
     def test_a_file_longer_than_any_union_is_not_read_whole(self):
-        # 3 GB without a block on the disk.
-        self.write("long", b"")
-        os.truncate(self.path("long"), 3_000_000_000)
+        # 300 MB without a block on the disk, which begin as a union file does.
+        self.write("long", b"\x01")
+        os.truncate(self.path("long"), 300_000_000)
         self.checks("long", "error format")
-        self.answers("add a 3\nload a long\nshow a\n", "ok 0 1\nerror format\n3\nend\n")
+        words = [PROGRAM, "run", "--dir", self.folder]
+        lines = ((b"add a 3\n", FACE), (b"load a long\n", b"error format\n"), (b"restore long\n", b"error session\n"),
+                 (b"show a\n", b"3\nend\n"))
+        with subprocess.Popen(words, stdin=subprocess.PIPE, stdout=subprocess.PIPE) as program:
+            held = [most_resident_after(program, line, answer) for line, answer in lines]
+            program.stdin.close()
+        self.assertLess(max(held), 200_000_000)
 
 
 class Permissions(unittest.TestCase):
