@@ -67,6 +67,7 @@ refusing() { # what refuses them is built without the sanitizer, which takes mem
 }
 step "each allocation refused in turn" refusing
 step "200,000 lists of garbage" program garbage "$static" -fsanitize=address
+step "few pages read of the cells that a search passes" program pages "$static"
 step "8 threads" program threads "$static"
 seconds=${1:-20}
 fuzzed() { # each call of the header with what libFuzzer makes up, from a fixed seed

@@ -1,0 +1,53 @@
+/* Calls that pass over many cells of a list by a search read few of its pages. The pages of the list are shut, and a
+ * handler counts each that is read. */
+#include "tests.h"
+#include <signal.h>
+
+enum { N = 1 << 20, LEVEL = 11, FEW = 80 };
+static const uint64_t face = 1ull << 60, next_face = 3ull << 60;
+static uint64_t* list;
+static size_t page, len, first, count;
+static volatile sig_atomic_t pages_read;
+
+static void open_page(int signal, siginfo_t* info, void* context) {
+  char* at = info->si_addr;
+  (void)signal, (void)context;
+  if (at < (char*)list || at >= (char*)(list + N)) abort();
+  if (mprotect(at - (size_t)at % page, page, PROT_READ)) abort();
+  pages_read++;
+}
+
+/* Shuts the list before a call. */
+static const uint64_t* shut(void) {
+  pages_read = 0;
+  if (mprotect(list, 8 * N, PROT_NONE)) abort();
+  return list;
+}
+
+static int reads_few(void) { return pages_read > 0 && pages_read <= FEW; }
+
+int main(void) {
+  struct sigaction action = {0};
+  uint64_t out[4];
+  page = (size_t)sysconf(_SC_PAGESIZE);
+  list = at_the_edge(8 * N);
+  /* Every second cell of a level: half of face 0. */
+  for (size_t k = 0; k < N; k++) list[k] = (4 * k + 1) << (2 * (30 - LEVEL));
+  CHECK(s2u_is_union(list, N) == 1);
+  action.sa_sigaction = open_page, action.sa_flags = SA_SIGINFO;
+  sigaction(SIGSEGV, &action, NULL);
+  CHECK(s2u_difference(shut(), N, &face, 1, out, 4, &len) == S2U_OK && len == 0 && reads_few());
+  CHECK(s2u_difference(shut(), N, &next_face, 1, out, 0, &len) == S2U_ROOM && len == N && reads_few());
+  CHECK(s2u_intersection(shut(), N, &next_face, 1, out, 4, &len) == S2U_OK && len == 0 && reads_few());
+  CHECK(s2u_intersection(shut(), N, &face, 1, out, 0, &len) == S2U_ROOM && len == N && reads_few());
+  CHECK(s2u_union(shut(), N, &next_face, 1, out, 0, &len) == S2U_ROOM && len == N + 1 && reads_few());
+  CHECK(s2u_outer_of(shut(), N, 0, 9, out, 4, &len) == S2U_OK && len == 1 && out[0] == face && reads_few());
+  CHECK(s2u_inner_of(shut(), N, 0, 9, out, 4, &len) == S2U_OK && len == 0 && reads_few());
+  CHECK(s2u_contains(&face, 1, shut(), N) == 1 && reads_few());
+  CHECK(s2u_intersects(shut(), N, &next_face, 1) == 0 && reads_few());
+  CHECK(s2u_contains_cell(shut(), N, 1) == 1 && reads_few());
+  CHECK(s2u_intersects_cell(shut(), N, next_face) == 0 && reads_few());
+  CHECK(s2u_cells_at(shut(), N, face, &first, &count) == S2U_OK && first == 0 && count == N && reads_few());
+  printf("%d pages read by the last call, of %zu\n", (int)pages_read, 8 * N / page);
+  return report();
+}
