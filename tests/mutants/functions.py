@@ -2,8 +2,9 @@
 
 Each is tried by the functions that it changes. Only these and those that they call are checked, over the libraries that
 `rt ci` has just proved. Mutants of different functions are made in one copy of the crate and checked together, since
-what is proved of a function says nothing of the text of another; the next check of the copy begins with what this one
-proved. A mutant that changes no function, or whose function is proved with it, is checked with the whole crate.
+what is proved of a function says nothing of the text of another; but one that calls a function that isn't proved is
+checked again alone. The next check of the copy begins with what this one proved. A mutant that changes no function, or
+whose function is proved with it, is checked with the whole crate.
 
 `.ci/run` tries those that name their function, which are those that were asked for, and then some of the others, in an
 order that the commit's hash gives, for BUDGET seconds of processor time. --all tries all, also those in must-fail/,
@@ -72,8 +73,9 @@ class Copy:
                     together.append(mutant)
                     functions.update(mutant.functions)
             waiting = [mutant for mutant in waiting if mutant not in together]
-            verdicts = self.checked(together) or {it: verdict for each in together
-                                                  for it, verdict in (self.checked([each]) or {each: None}).items()}
+            verdicts = self.checked(together) or {}
+            for each in [it for it in together if not verdicts.get(it)]:
+                verdicts.update(self.checked([each]) or {each: None})
             left += [it for it, verdict in verdicts.items() if verdict != REFUSED and not it.is_named]
             found += [it.says(verdict or NOT_TRIED) for it, verdict in verdicts.items() if it not in left]
         return found + [self.alone(mutant) for mutant in left]
@@ -89,7 +91,7 @@ class Copy:
         if not ENDED.match(lines[-1]):
             print(f"{together[0].crate}: {len(together)} together: {lines[-1][:120]}", flush=True)
             return None
-        return {mutant: verdict_on(mutant, lines) for mutant in together}
+        return {mutant: verdict_on(mutant, lines, len(together) == 1) for mutant in together}
 
     def alone(self, mutant):
         """What was found of a mutant that its functions alone don't refuse: those that call them may do."""
@@ -123,12 +125,14 @@ def restore(texts):
         path.write_text(text)
 
 
-def verdict_on(mutant, lines):
-    """What a check said of a mutant's functions."""
+def verdict_on(mutant, lines, is_alone):
+    """What a check said of a mutant's functions. None if they only call one that isn't proved: unless the mutant is
+    alone, that may be the mistake of another."""
     names = "|".join(map(re.escape, mutant.functions))
     said = [match[1] for line in lines if (match := re.match(rf"^fn (?:\S*::)?(?:{names}): (.*)", line))]
-    if any(it.startswith(("not proved", "no proof")) for it in said):
-        return REFUSED
+    wrong = [it for it in said if it.startswith(("not proved", "no proof"))]
+    if wrong:
+        return None if not is_alone and all(it.startswith("no proof: it calls") for it in wrong) else REFUSED
     return NOT_REFUSED if said and all(it.startswith("proved") for it in said) else NOT_TRIED
 
 
