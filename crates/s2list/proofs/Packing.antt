@@ -11,11 +11,9 @@ use Rattle.std.proofs.lemmas.List.Quantifiers.{all_pairs_push}
 use Rattle.std.proofs.lemmas.List.Folds.{list_any_more}
 use Rattle.std.specs.List.{list_any}
 use Rattle.s2cell.specs.Cell.{IsCell, level_of, size_of, first_leaf, covers, child_of, parent_of}
-use Rattle.s2cell.proofs.CellLemmas.{cell_leaves}
 use Rattle.s2cell.proofs.Calls.{child_leaves, IsCell-child_of}
 use Rattle.s2list.specs.Union.{has_leaf}
-use Rattle.s2list.specs.Packed.{EndsBefore, IsFamily, IsPacked}
-use Rattle.s2list.specs.Working.Packed.{Merges}
+use Rattle.s2list.specs.Packed.{EndsBefore, IsFamily, IsPacked, Merges}
 use Rattle.s2cell.proofs.Family.{level_of_child}
 use Rattle.s2list.proofs.Normal.{parent_of_child}
 
@@ -74,22 +72,6 @@ family_leaves {a} {b} {c} {d} {p} f =
       cell_c = IsCell-child_of p 2 c f.cell f.inner (omega arith) f.two;
       cell_b = IsCell-child_of p 1 b f.cell f.inner (omega arith) f.one;
     }
-
-pub family_step : (a b c d p : ℕ) → IsFamily a b c d p → c + 2 * size_of d ≡ d
-family_step a b c d p f =
-    let l = family_leaves f in
-    let md = (cell_leaves d l.cell_d).middle in
-    let mc = (cell_leaves c l.cell_c).middle in
-    let x = l.first_c in let y = l.first_d in let z = l.size_c in
-    omega arith
-
-pub family_step_before : (a b c d p : ℕ) → IsFamily a b c d p → b + 2 * size_of d ≡ c
-family_step_before a b c d p f =
-    let l = family_leaves f in
-    let mc = (cell_leaves c l.cell_c).middle in
-    let mb = (cell_leaves b l.cell_b).middle in
-    let x = l.first_b in let y = l.first_c in let z = l.size_b in let w = l.size_c in
-    omega arith
 
 -- four blocks in a row and the one that they make
 two_blocks : (f s g t x : ℕ) → g ≡ f + s → ((leb f x && ltb x (f + s)) || (leb g x && ltb x (g + t)))
@@ -242,27 +224,12 @@ pub read_at : (u : List ℕ) (i j x : ℕ) → i < length u → j ≡ i → x �
 read_at u i j x h e r = let a : get_or u i 0 ≡ get_or u i x = grind (arith, gets) in ap (λ k. get_or u k 0) e ∙ a
     ∙ sym r
 
+pub reads : (u : List ℕ) (i : ℕ) → i < length u → get_or u i 0 ≡ get_or u i (get_or u i 0)
+reads u i h = grind (arith, gets)
+
 pub is_at : (u : List ℕ) (i x : ℕ) → i < length u → x ≡ get_or u i 0 → x ≡ get_or u i x
 is_at u i x h e = let a : get_or u i 0 ≡ get_or u i x = grind (arith, gets) in e ∙ a
 
-pub step_from_reads : (front : List ℕ) (cell kept last p x y z : ℕ) → IsPacked front →
-    Merging front cell kept last → 3 ≤ kept → x ≡ get_or front (kept - 3) x → y ≡ get_or front (kept - 2) y →
-    z ≡ get_or front (kept - 1) z → IsFamily x y z last p → Merging front cell (kept - 3) p
-step_from_reads front cell kept last p x y z packed m h rx ry rz f =
-    let w = m.within in
-    let less = kept - 3 in
-    let a : get_or front less 0 ≡ x = read_at front (kept - 3) less x (omega arith) refl rx in
-    let b : get_or front (less + 1) 0 ≡ y = read_at front (kept - 2) (less + 1) y (omega arith) (omega arith) ry in
-    let c : get_or front (less + 2) 0 ≡ z = read_at front (kept - 1) (less + 2) z (omega arith) (omega arith) rz in
-    merging_step less packed m (omega arith) (rw (a, b, c) f)
-
-pub none_from_reads : (front : List ℕ) (cell kept last x y z : ℕ) → Merging front cell kept last → 3 ≤ kept →
-    x ≡ get_or front (kept - 3) x → y ≡ get_or front (kept - 2) y → z ≡ get_or front (kept - 1) z → ((p : ℕ) → IsFamily
-    x y z last p → ⊥) → (less p : ℕ) → less + 3 ≡ kept → IsFamily (get_or front less 0) (get_or front (less + 1) 0)
-    (get_or front (less + 2) 0) last p → ⊥
-none_from_reads front cell kept last x y z m h rx ry rz none less p e f =
-    let w = m.within in
-    let a : get_or front less 0 ≡ x = read_at front (kept - 3) less x (omega arith) (omega arith) rx in
-    let b : get_or front (less + 1) 0 ≡ y = read_at front (kept - 2) (less + 1) y (omega arith) (omega arith) ry in
-    let c : get_or front (less + 2) 0 ≡ z = read_at front (kept - 1) (less + 2) z (omega arith) (omega arith) rz in
-    none p (rw (a, b, c) at f)
+-- one of the first `n`, at another spelling of its index
+pub front_at : (u : List ℕ) (n i j x : ℕ) → i < n → j ≡ i → x ≡ get_or u i 0 → x ≡ get_or (take n u) j 0
+front_at u n i j x h e r = r ∙ sym (get_or-take n u i 0 h) ∙ ap (λ k. get_or (take n u) k 0) (sym e)

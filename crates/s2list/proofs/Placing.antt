@@ -11,10 +11,12 @@ use Rattle.std.proofs.lemmas.List.Elements.{All-push, All-take, All-weaker}
 use Rattle.std.specs.List.Sorted.{IsNonDecreasing}
 use Rattle.s2cell.specs.Cell.{IsCell, size_of, first_leaf, covers, IsInside}
 use Rattle.s2cell.proofs.CellLemmas.{cell_leaves}
-use Rattle.s2cell.proofs.Leaves.{Within, inside_from_within, within_from_inside, before, after, within, around, meeting}
+use Rattle.s2cell.proofs.Leaves.{Within, covers_from, inside_from_within, within_from_inside}
+use Rattle.s2cell.proofs.Leaves.{before, after, within, around, meeting}
 use Rattle.s2list.specs.Union.{has_leaf}
 use Rattle.s2list.specs.Packed.{EndsBefore, IsPacked}
 use Rattle.s2list.proofs.Packing.{read_at}
+use Rattle.s2list.proofs.Walking.{leaf_there}
 
 -- the cells from `kept` on lie inside the cell
 pub record Leaving (front : List ℕ) (cell kept : ℕ) : Type 0 where
@@ -27,6 +29,21 @@ or_within : (l a b : Bool) → (a ≡ true → b ≡ true) → ((l || a) || b) �
 or_within true a b h = refl
 or_within false true b h = sym (h refl)
 or_within false false b h = refl
+
+or_held : (l a : Bool) → (a ≡ true → l ≡ true) → l ≡ (l || a)
+or_held true a h = refl
+or_held false true h = h refl
+or_held false false h = refl
+
+-- a cell in one of the front adds no leaf
+pub leaves_held : (front : List ℕ) {cell : ℕ} (k : ℕ) → k < length front → Within cell (get_or front k 0) →
+    (x : ℕ) → has_leaf front x ≡ (has_leaf front x || covers cell x)
+leaves_held front {cell} k h w x = or_held (has_leaf front x) (covers cell x) (λ v.
+    let r = covers_from cell x v in
+    let (low, high) = r in
+    let wl = w.low in
+    let wh = w.high in
+    leaf_there front k x h (omega arith) (omega arith))
 
 pub leaving_step : (front : List ℕ) (cell kept x : ℕ) → IsPacked front → Leaving front cell kept → 0 < kept →
     x ≡ get_or front (kept - 1) x → IsInside x cell → Leaving front cell (kept - 1)

@@ -1,6 +1,8 @@
 -- A list of cells while it is being put together.
-use Rattle.std.specs.Prelude.{◌≡◌, ℕ, ◌+◌, ◌<◌, ◌≤◌, List, length, All, AllPairs, slice_index}
-use Rattle.s2cell.specs.Cell.{IsCell, level_of, first_leaf, size_of, child_of}
+use Rattle.std.specs.Prelude.{◌≡◌, ℕ, ◌+◌, ◌<◌, ◌≤◌, ◌||◌, List, [], ◌∷◌, ◌++◌, length, take, All, AllPairs}
+use Rattle.std.specs.Prelude.{slice_index}
+use Rattle.s2cell.specs.Cell.{IsCell, level_of, first_leaf, size_of, child_of, covers}
+use Rattle.s2list.specs.Union.{has_leaf}
 
 -- all leaves of `a` come before those of `b`
 abbrev pub EndsBefore : ℕ → ℕ → Type 0
@@ -21,6 +23,13 @@ pub record IsPacked (u : List ℕ) : Type 0 where
   pub chain : AllPairs EndsBefore u
   pub unmerged : (k p : ℕ) → k + 3 < length u →
       IsFamily (slice_index u k) (slice_index u (k + 1)) (slice_index u (k + 2)) (slice_index u (k + 3)) p → ⊥
+
+-- the first `kept` cells of `front`, followed by `merged`, are packed, and have the leaves of `front` and `cell`
+pub record Merges (front : List ℕ) (cell kept merged : ℕ) : Type 0 where
+  pub within : kept ≤ length front
+  pub packed : IsPacked (take kept front ++ merged ∷ [])
+  pub leaves : (x : ℕ) → (has_leaf (take kept front) x || covers merged x) ≡ (has_leaf front x || covers cell x)
+  pub start : first_leaf merged ≤ first_leaf cell
 
 -- the first `n` cells of `u` end before the leaf `lo`
 abbrev pub FirstEndBy : List ℕ → ℕ → ℕ → Type 0

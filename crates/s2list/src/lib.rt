@@ -1,13 +1,15 @@
-//! Lists of cells by their indexes: searches and questions, written once for each form that a list may have.
+//! Lists of cells by their indexes: searches, questions and the step of normalizing, written once for each form that a
+//! list may have.
 //!
 //! Anything that gives numbers by their indexes is a list of cells (`Cells`): numbers in a slice, the cells of a union,
-//! the bytes of a file at any address. No call copies anything or takes memory, and none has a precondition on the
-//! numbers: whatever they are, the call is safe and returns. The answer is exact if they are the cells of a normalized
-//! union; for other numbers it means nothing. What counts the looks of a call is a type parameter (`Count`), so that a
-//! call that nobody counts has no code for it.
+//! the bytes of a file at any address. No call copies anything or takes memory. Only `new_end` has a precondition on
+//! the numbers: whatever they are, any other call is safe and returns. The answer is exact if they are the cells of a
+//! normalized union; for other numbers it means nothing. What counts the looks of a call is a type parameter (`Count`),
+//! so that a call that nobody counts has no code for it.
 #![tactic(auto)]
 
 mod along;
+mod appending;
 mod ask;
 mod cells;
 mod find;
@@ -18,6 +20,7 @@ mod walk;
 mod whole;
 
 pub use along::find_along;
+pub use appending::new_end;
 pub use ask::{
     contains_cell, contains_cell_at, contains_cell_counted, intersects_cell, intersects_cell_at,
     intersects_cell_counted, place_near,
@@ -28,4 +31,4 @@ pub use four::{Places, places_of_four};
 pub use looks::{Count, Counted, Looks, Uncounted, look};
 pub use run::cells_at;
 pub use walk::{contains, contains_counted, intersects, intersects_counted};
-pub use whole::{are_children, ends_family, first_wrong, is_union, leaf_count};
+pub use whole::{ends_family, first_wrong, is_union, leaf_count, parent_of_family};

@@ -136,7 +136,7 @@ fn meets_any<X: Cells, Y: Cells, K: Count>(xs: &X, ys: &Y, count: &mut K) -> boo
 
 /// Whether the cell with the identifier `y` lies in the one with the identifier `x`. Doesn't check that they are cells.
 #[inline(always)]
-fn lies_in(y: u64, x: u64) -> bool
+pub(crate) fn lies_in(y: u64, x: u64) -> bool
     ensures { IsCell x → IsCell y → (IsTrue result ↔ ((first_leaf x ≤ first_leaf y)
         × (first_leaf y + size_of y ≤ first_leaf x + size_of x))) }
 {

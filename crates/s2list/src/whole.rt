@@ -113,16 +113,42 @@ fn are_siblings(a: u64, b: u64, c: u64, d: u64) -> bool
     let Some(cell) = CellId::from_id(d) else {
         return false;
     };
-    let level = cell.level();
-    if level == 0 {
-        return false;
+    match parent_of_siblings(a, b, c, cell) {
+        Some(_) => true,
+        None => false,
     }
-    let parent = cell.parent(level - 1);
-    are_children(parent, a, b, c, cell)
+}
+
+/// The cell whose children a cell and the three numbers before it are, in order. Begins as `ends_family`.
+#[inline(always)]
+pub fn parent_of_family(a: u64, b: u64, c: u64, d: CellId) -> Option<CellId>
+    ensures { MatchOption result ((p : ℕ) → IsFamily a b c d p → ⊥) (λ p. IsFamily a b c d p) }
+{
+    let fourth = a ^ b ^ c;
+    if fourth != d.id() {
+        return None;
+    }
+    parent_of_siblings(a, b, c, d)
+}
+
+/// The same, without that beginning.
+fn parent_of_siblings(a: u64, b: u64, c: u64, d: CellId) -> Option<CellId>
+    ensures { MatchOption result ((p : ℕ) → IsFamily a b c d p → ⊥) (λ p. IsFamily a b c d p) }
+{
+    let level = d.level();
+    if level == 0 {
+        return None;
+    }
+    let parent = d.parent(level - 1);
+    if are_children(parent, a, b, c, d) {
+        Some(parent)
+    } else {
+        None
+    }
 }
 
 /// Whether these four are the children of a cell, in order.
-pub fn are_children(parent: CellId, a: u64, b: u64, c: u64, d: CellId) -> bool
+fn are_children(parent: CellId, a: u64, b: u64, c: u64, d: CellId) -> bool
     requires { level_of parent < GREATEST_LEVEL }
     ensures { IsTrue result ↔ IsFamily a b c d parent }
 {

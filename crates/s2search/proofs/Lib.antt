@@ -11,5 +11,4 @@ mod Holders
 mod Reaching
 mod Piling
 mod Putting
-mod Reading
 mod Sharing

@@ -1,20 +1,14 @@
-//! Normalizing identifiers in place.
-//!
-//! The pass is that of `s2union::normalise`, over numbers. The front of the list is a stack of packed cells. Each next
-//! cell lies in the last of them, or around some at the end, or after all; there it may complete a family.
-ghost use Rattle.std.specs.Prelude.{◌≡◌, ◌+◌, ◌-◌, ◌*◌, ◌<◌, ◌≤◌, ◌||◌, ℕ, All, IfNone, IfSome};
-ghost use Rattle.std.specs.Prelude.{MatchOption, [], ◌∷◌};
-ghost use Rattle.std.specs.Prelude.{◌++◌, length, take, slice_index, slice_index_or};
+//! Normalizing identifiers in place. How one more cell follows packed cells is in `s2list`.
+ghost use Rattle.std.specs.Prelude.{◌≡◌, ◌+◌, ◌*◌, ◌<◌, ◌≤◌, ◌||◌, ℕ, All, length, take, slice_index_or};
 ghost use Rattle.std.specs.List.Sorted.{IsNonDecreasing};
-ghost use Rattle.s2cell.specs.Cell.{IsCell, IsInside, covers, first_leaf};
+ghost use Rattle.s2cell.specs.Cell.{IsCell, covers, first_leaf};
 ghost use Rattle.s2list.specs.Union.{has_leaf};
-ghost use Rattle.s2list.specs.Packed.{EndsBefore, IsFamily, IsPacked};
-ghost use Rattle.s2list.specs.Working.Packed.{Merges};
+ghost use Rattle.s2list.specs.Packed.{IsPacked};
 ghost use Rattle.s2search.specs.Normalising.{IsNormalisedIn};
 
 use crate::cells::cell_of;
 use s2cell::CellId;
-use s2list::{are_children, ends_family};
+use s2list::{IdList, new_end};
 
 /// Makes the front of a list of cells the union that has their leaves, and answers how many cells that union has. The
 /// cells may be in any order, and one may lie in another. Takes no memory and can't fail. A sort and one pass. What the
@@ -56,88 +50,11 @@ fn place_after(ids: &mut [u64], n: usize, cell: CellId) -> usize
     ensures rest { (k d : ℕ) → n < k → slice_index_or ids.new k d ≡ slice_index_or ids.old k d }
     ensures len { length ids.new ≡ length ids.old }
 {
-    match new_end(&ids[..n], cell) {
+    match new_end(&IdList { ids: &ids[..n] }, cell) {
         Some((kept, last)) => {
             ids[kept] = last.id();
             kept + 1
         }
         None => n,
-    }
-}
-
-/// What packed cells become if a cell is added: how many of them stay, and the cell that follows these. None if the
-/// last of them contains the cell.
-fn new_end(front: &[u64], cell: CellId) -> Option<(usize, CellId)>
-    requires packed { IsPacked front.now }
-    requires starts { All (λ c. 2 * first_leaf c < cell) front.now }
-    ensures held { IfNone result ((x : ℕ) → has_leaf front.now x ≡ (has_leaf front.now x || covers cell x)) }
-    ensures merged { IfSome result (λ r. Merges front.now cell r.0 r.1) }
-    ensures starts { IfSome result (λ r. All (λ c. 2 * first_leaf c < cell) (take r.0 front.now ++ r.1 ∷ [])) }
-{
-    let n = front.len();
-    if n > 0 && cell_of(front[n - 1]).contains(cell) {
-        return None;
-    }
-    let _ = cell.id();
-    let kept = outside(front, cell);
-    let (kept, last) = merge_families(&front[..kept], cell);
-    Some((kept, last))
-}
-
-/// How many of the packed cells lie outside the cell; these come first.
-fn outside(front: &[u64], cell: CellId) -> usize
-    requires packed { IsPacked front.now }
-    requires starts { All (λ c. 2 * first_leaf c < cell) front.now }
-    requires is_cell { IsCell cell }
-    requires not_held { 0 < length front.now → IsInside cell (slice_index front.now (length front.now - 1)) → ⊥ }
-    ensures within { result ≤ length front.now }
-    ensures after { All (λ c. EndsBefore c cell) (take result front.now) }
-    ensures leaves { (x : ℕ)
-        → (has_leaf (take result front.now) x || covers cell x) ≡ (has_leaf front.now x || covers cell x) }
-{
-    let mut kept = front.len();
-    while kept > 0 && cell.contains(cell_of(front[kept - 1])) {
-        kept -= 1;
-    }
-    kept
-}
-
-/// What packed cells become if a cell after all of them is added: only families are merged.
-fn merge_families(front: &[u64], cell: CellId) -> (usize, CellId)
-    requires packed { IsPacked front.now }
-    requires after { All (λ c. EndsBefore c cell) front.now }
-    requires is_cell { IsCell cell }
-    ensures { Merges front.now cell result.0 result.1 }
-{
-    let mut kept = front.len();
-    let mut last = cell;
-    while kept >= 3 {
-        match parent_of_family(front[kept - 3], front[kept - 2], front[kept - 1], last) {
-            Some(parent) => {
-                last = parent;
-                kept -= 3;
-            }
-            None => break,
-        }
-    }
-    (kept, last)
-}
-
-/// The cell whose children these four are, in order.
-fn parent_of_family(a: u64, b: u64, c: u64, d: CellId) -> Option<CellId>
-    ensures { MatchOption result ((p : ℕ) → IsFamily a b c d p → ⊥) (λ p. IsFamily a b c d p) }
-{
-    if !ends_family(a, b, c, d.id()) {
-        return None;
-    }
-    let level = d.level();
-    if level == 0 {
-        return None;
-    }
-    let parent = d.parent(level - 1);
-    if are_children(parent, a, b, c, d) {
-        Some(parent)
-    } else {
-        None
     }
 }

@@ -12,11 +12,11 @@ ghost use Rattle.s2union.specs.Working.Merge.{IsTurn, IsHead, IsFrontOf, Keeps};
 ghost use Rattle.s2list.specs.Packed.{IsPacked};
 ghost use Rattle.s2union.specs.Working.Tail.{Follows, Passes};
 
-use crate::normalising::parent_of_family;
 use crate::search::gallop;
 use crate::sets::extend_reserved;
 use crate::union::CellUnion;
 use s2cell::CellId;
+use s2list::parent_of_family;
 use std::alloc::{AllocError, Global};
 use std::cmp::Ordering;
 use std::marker::Model;
@@ -304,7 +304,7 @@ impl Tail {
         let Some(third) = self.third else {
             return true;
         };
-        match parent_of_family(third, second, last, cell) {
+        match parent_of_family(third.id(), second.id(), last.id(), cell) {
             Some(_) => false,
             None => true,
         }

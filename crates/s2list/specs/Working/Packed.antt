@@ -1,15 +1,7 @@
 -- What only private contracts need, beside Packed.antt, which has what public contracts need.
-use Rattle.std.specs.Prelude.{◌≡◌, ℕ, ◌+◌, ◌-◌, ◌<◌, ◌≤◌, ◌||◌, List, [], ◌∷◌, ◌++◌, length, take, slice_index}
-use Rattle.s2cell.specs.Cell.{first_leaf, size_of, covers}
+use Rattle.std.specs.Prelude.{◌≡◌, ℕ, ◌+◌, ◌-◌, ◌<◌, ◌≤◌, List, ◌++◌, length, slice_index}
+use Rattle.s2cell.specs.Cell.{first_leaf, size_of}
 use Rattle.s2list.specs.Union.{has_leaf, between, IsNormalForm}
-use Rattle.s2list.specs.Packed.{IsPacked}
-
--- the first `kept` cells of `front`, followed by `merged`, are packed, and have the leaves of `front` and `cell`
-pub record Merges (front : List ℕ) (cell kept merged : ℕ) : Type 0 where
-  pub within : kept ≤ length front
-  pub packed : IsPacked (take kept front ++ merged ∷ [])
-  pub leaves : (x : ℕ) → (has_leaf (take kept front) x || covers merged x) ≡ (has_leaf front x || covers cell x)
-  pub start : first_leaf merged ≤ first_leaf cell
 
 -- the last three cells of `list`, or all if it has fewer, are the cells of `cells` just before index `i`
 pub record Continues (list cells : List ℕ) (i : ℕ) : Type 0 where

@@ -1,6 +1,6 @@
 use Rattle.std.proofs.Common.{◌∙◌, refl, get_or, arith}
 use Rattle.s2search.proofs.Cutting.{put_first_none, put_first_more, put_first_all}
-use Rattle.s2search.proofs.Reading.{reads}
+use Rattle.s2list.proofs.Packing.{reads}
 use Rattle.s2search.proofs.denormalising.denormalise.Goals as goal
 
 pub loop-id-init : goal.loop-id-init

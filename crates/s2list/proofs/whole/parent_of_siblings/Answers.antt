@@ -3,7 +3,7 @@ use Rattle.std.proofs.lemmas.Bool.{false≢true}
 use Rattle.s2cell.specs.Cell.{level_of, parent_of}
 use Rattle.s2list.specs.Packed.{IsFamily}
 use Rattle.s2list.proofs.Packing.{family_deep, family_parent}
-use Rattle.s2search.proofs.normalising.parent_of_family.Goals as goal
+use Rattle.s2list.proofs.whole.parent_of_siblings.Goals as goal
 
 pub returns-then-level-eq0 : goal.returns-then-level-eq0
 returns-then-level-eq0 c p f =

@@ -1,8 +1,0 @@
-use Rattle.s2list.proofs.Placing.{Leaving}
-use Rattle.s2union.proofs.normalising.outside.Given as goal
-
-abbrev pub invariant-loop-kept : goal.invariant-loop-kept
-invariant-loop-kept l = Leaving l.front l.fn.cell l.kept
-
-abbrev pub decreases-loop-kept : goal.decreases-loop-kept
-decreases-loop-kept l = l.kept
