@@ -3,7 +3,6 @@ use Rattle.std.proofs.Common.{◌≡◌, ℕ, suc, zero, ◌+◌, ◌-◌, ◌*�
 use Rattle.std.proofs.Common.{false, Result, IfOk, ◌&&◌, ◌||◌, nat_lt, List, [], ◌∷◌, length, All, Contains, refl}
 use Rattle.std.proofs.Common.{sym, ◌∙◌, ap, arith, ⊎_elim}
 use Rattle.std.specs.List.{filter}
-use Rattle.std.proofs.lemmas.List.{length-map}
 use Rattle.std.proofs.lemmas.Bool.{cases_lt, cases_Bool, and_right, and_parts, and_from, both_ways, true_from_ne_false}
 use Rattle.std.proofs.lemmas.List.Elements.{All-contains, All-filter}
 use Rattle.std.proofs.lemmas.List.Folds.{Any-from_list_any}
@@ -15,7 +14,7 @@ use Rattle.s2cell.proofs.Leaves.{covers_from, covers_there, inside_from_within}
 use Rattle.s2list.specs.Union.{has_leaf, IsLocal, IsNormalForm, Union}
 use Rattle.s2list.proofs.Normal.{leaf_to, normal_form_same}
 use Rattle.s2cover.specs.Coverings.{filled, outer_set, inner_set, IsInOuter, IsInInner}
-use Rattle.s2search.specs.Cut.{cut_at, cells_cut, cells_kept}
+use Rattle.s2search.specs.Cut.{cells_cut, cells_kept}
 use Rattle.s2cover.specs.Working.Cut.{meets, cells_met}
 use Rattle.s2cell.specs.declared.TheConstants.{LEAVES}
 use Rattle.s2cover.proofs.Runs.{touched_none, touched_from_none}
@@ -115,9 +114,6 @@ kept_looks k u v before looks none e h = let a = kept_few k u in let b = ap leng
 
 pub met_few : (S : ℕ → Bool) (u : List ℕ) → length (cells_met S u) ≤ length u
 met_few S u = filter_few (meets S) u
-
-pub cut_few : (S : ℕ → Bool) (k : ℕ) (u : List ℕ) → length (cells_cut k (cells_met S u)) ≤ length u
-cut_few S k u = let a = length-map (cells_met S u) (cut_at k) in let b = met_few S u in omega arith
 
 -- ---- the inner covering of a clipped union
 

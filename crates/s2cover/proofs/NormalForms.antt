@@ -3,7 +3,7 @@ use Rattle.std.proofs.Common.{◌-◌, ◌≤◌, ℕ, Bool, true, false, List, 
 use Rattle.std.proofs.lemmas.List.{length-map}
 use Rattle.s2list.specs.Union.{IsLocal, IsNormalForm, has_leaf}
 use Rattle.s2list.proofs.Checking.{packed_from_local}
-use Rattle.s2list.proofs.Normal.{local_from_normal}
+use Rattle.s2list.proofs.Normal.{local_from_normal, normal_form_same}
 use Rattle.s2list.proofs.Shortest.{shortest}
 use Rattle.s2search.specs.Cut.{cells_cut, cells_kept, cut_at}
 use Rattle.s2search.proofs.Levelling.{begins_cut, kept_few}
@@ -32,3 +32,11 @@ outer_few k u h l =
 pub inner_few : (k : ℕ) (u : List ℕ) → k ≤ 30 → IsLocal u →
     (v : List ℕ) × IsNormalForm (inner_set (has_leaf u) k) v × (length v ≤ length u)
 inner_few k u h l = (cells_kept k u, kept_normal k u (cells_kept k u) h l refl, kept_few k u)
+
+-- so have the cells of a union, cut
+pub cut_few : (k : ℕ) (u : List ℕ) → k ≤ 30 → IsLocal u →
+    (v : List ℕ) × IsNormalForm (has_leaf (cells_cut k u)) v × (length v ≤ length u)
+cut_few k u h l =
+    let (v, normal, few) = outer_few k u h l in
+    let same = outer_cells k u h l.cells in
+    (v, normal_form_same (outer_set (has_leaf u) k) (has_leaf (cells_cut k u)) v same normal, few)

@@ -1,27 +1,25 @@
 -- The coverings of a union are its cells, cut to the level.
 use Rattle.std.proofs.Common.{◌≡◌, ℕ, suc, zero, ◌+◌, ◌-◌, ◌*◌, ◌/◌, ◌^◌, ◌<◌, ◌≤◌, Bool, true}
 use Rattle.std.proofs.Common.{false, cond, Result, IfOk, IfErr, max, ◌&&◌, ◌||◌, nat_lt, List, [], ◌∷◌, length, All}
-use Rattle.std.proofs.Common.{get_or, inl, inr}
+use Rattle.std.proofs.Common.{inl, inr}
 use Rattle.std.proofs.Common.{Contains, refl, sym, ◌∙◌, ap, arith, subst, ⊎_elim}
 use Rattle.std.specs.List.{filter}
 use Rattle.std.proofs.lemmas.Bool.{cases_lt, le-leb, leb-true, and_right, and_parts, and_from}
-use Rattle.std.specs.List.Sorted.{IsStrictlyIncreasing}
-use Rattle.std.proofs.lemmas.List.Elements.{All-contains, All-filter, Contains-get_or}
-use Rattle.std.proofs.lemmas.List.Kept.{AllPairs-from_increasing, IsStrictlyIncreasing-filter}
+use Rattle.std.proofs.lemmas.List.Elements.{All-contains}
 use Rattle.std.proofs.lemmas.List.Folds.{Any-from_list_any, list_any_at}
-use Rattle.s2cell.specs.Cell.{IsCell, level_of, first_leaf, covers, parent_of, child_of, id_at}
+use Rattle.s2cell.specs.Cell.{IsCell, level_of, first_leaf, covers, parent_of, id_at}
 use Rattle.s2cell.proofs.CellLemmas.{level_of_cell}
 use Rattle.s2cell.proofs.Calls.{IsCell-parent_of, shallow}
 use Rattle.s2cell.proofs.Family.{deeper_inside, parent_level, parent_around, same_from_within}
 use Rattle.s2cell.proofs.Leaves.{Within, covers_from, inside_from_within}
 use Rattle.s2cell.proofs.Squares.{covers_block, first_leaf_covered}
 use Rattle.s2list.specs.Union.{has_leaf, IsLocal, IsNormalForm, Union}
-use Rattle.s2list.proofs.Normal.{all_held, holder, family, greatest_apart, leaf_to, member_greatest, normal_form_same}
+use Rattle.s2list.proofs.Normal.{all_held, holder, family, leaf_to, normal_form_same}
 use Rattle.s2list.proofs.Normal.{normal_from_leaves, one_normal_form}
 use Rattle.std.proofs.lemmas.Result.{IfOk-weaker, IfErr-weaker}
 use Rattle.std.specs.List.{list_any}
 use Rattle.s2search.specs.Room.{PutsUpTo}
-use Rattle.s2search.proofs.Levelling.{cut_parent, cut_same}
+use Rattle.s2search.proofs.Levelling.{cut_parent, cut_same, filter_local}
 use Rattle.s2cover.specs.Coverings.{touched, outer_set, inner_set, IsInOuter, IsInInner}
 use Rattle.s2search.specs.Cut.{reaches, cut_at, cells_cut, cells_kept}
 use Rattle.s2cell.specs.declared.TheConstants.{LEAVES}
@@ -197,32 +195,10 @@ pub cut_normal : (k : ℕ) {u : List ℕ} (list : List ℕ) {v : List ℕ} → k
 cut_normal k {u} list {v} h l e n = normal_form_same (has_leaf list) (outer_set (has_leaf u) k) v
     (λ x. ap (λ z. has_leaf z x) e ∙ sym (outer_cells k u h l.cells x)) n
 
--- cells of a union that are some of its cells are those of a union
-kept_local : (k : ℕ) (u : List ℕ) → IsLocal u → IsLocal (cells_kept k u)
-kept_local k u l =
-    let v = cells_kept k u in
-    let among : (c : ℕ) → Contains v c → Contains u c =
-    λ c m. let (i, h, is) = m in All-contains (Contains u) v c
-    (All-filter (reaches k) (Contains u) u (λ j d g. Contains-get_or u j d g)) m in
-    let ascending : IsStrictlyIncreasing v = IsStrictlyIncreasing-filter (reaches k) u l.ascending in
-    record {
-      cells = All-filter (reaches k) IsCell u l.cells;
-      ascending = ascending;
-      apart = λ i j d h g x a b.
-          let mi = Contains-get_or v i d (omega arith) in
-          let mj = Contains-get_or v j d g in
-          let same = greatest_apart (has_leaf u) (get_or v i d) (get_or v j d) x
-          (member_greatest u l (get_or v i d) (among (get_or v i d) mi))
-          (member_greatest u l (get_or v j d) (among (get_or v j d) mj)) a b in
-          let less = AllPairs-from_increasing v ascending i j d h g in
-          absurd (omega arith);
-      unmerged = λ p own deep children. l.unmerged p own deep (λ i h. among (child_of p i) (children i h));
-    }
-
 pub kept_normal : (k : ℕ) (u v : List ℕ) → k ≤ 30 → IsLocal u → v ≡ cells_kept k u →
     IsNormalForm (inner_set (has_leaf u) k) v
 kept_normal k u v h l e = subst (IsNormalForm (inner_set (has_leaf u) k)) (sym e)
-    (normal_from_leaves (inner_set (has_leaf u) k) (cells_kept k u) (kept_local k u l)
+    (normal_from_leaves (inner_set (has_leaf u) k) (cells_kept k u) (filter_local (reaches k) u l)
     (λ x. sym (inner_cells k h l x)))
 
 pub same_ok : {E : Type 0} (r : Result Union E) (v : List ℕ) (P : List ℕ → Type 0) → P v →
@@ -235,10 +211,6 @@ pub many_err : {T E : Type 0} (r : Result T E) (many : E) {v : List ℕ} (max : 
 many_err r many {v} max {S} n h =
     IfErr-weaker r (λ fault. max < length v) (λ fault. fault ≡ many → (u : List ℕ) → IsNormalForm S u →
     max < length u) (λ y l same u m. let e = ap length (one_normal_form S v u n m) in omega arith) h
-
-pub cut_leaves : (k : ℕ) {u : List ℕ} (list v : List ℕ) → k ≤ 30 → IsLocal u → list ≡ cells_cut k u →
-    ((x : ℕ) → has_leaf v x ≡ has_leaf list x) → (x : ℕ) → has_leaf v x ≡ outer_set (has_leaf u) k x
-cut_leaves k {u} list v h l e same x = same x ∙ ap (λ z. has_leaf z x) e ∙ sym (outer_cells k u h l.cells x)
 
 -- ---- what is put into a room
 

@@ -14,12 +14,14 @@ ghost use Rattle.s2cover.specs.Working.Descent.{IsAligned, form_in};
 ghost use Rattle.s2cover.specs.Rectangles.{clipped, rect_set};
 
 use crate::MOST_CELLS;
-use crate::cut::{cut_cells, kept_cells};
+use crate::cut::kept_cells;
 use crate::looks::{Looks, look, seek};
 use crate::placing::placed_cell;
 use crate::rect::FaceRect;
 use crate::region::{CoverFault, Part};
 use s2cell::{CellId, GREATEST_LEVEL};
+use s2list::CellList;
+use s2search::union_cut;
 use s2union::{CellUnion, normalise};
 use std::alloc::{AllocError, Global};
 
@@ -199,8 +201,13 @@ fn cut_union(
     ensures most { looks.new.count ≤ length union.now.cells }
 {
     let met = met_cells(alloc, union.cells(), rect, looks)?;
-    let cut = cut_cells(alloc, met.as_slice(), level)?;
-    Ok(normalise(cut))
+    let list = CellList {
+        cells: met.as_slice(),
+    };
+    let Some(cut) = union_cut(alloc, &list, level, met.len())? else {
+        unreachable!();
+    };
+    Ok(cut)
 }
 
 /// The union's cells down to the level that meet the rectangle.

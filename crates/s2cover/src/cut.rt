@@ -2,14 +2,14 @@
 ghost use Rattle.std.specs.Prelude.{◌≡◌, ◌<◌, ◌≤◌, length, IfOk, IfErr};
 ghost use Rattle.s2list.specs.Union.{has_leaf, IsLocal, IsNormalForm};
 ghost use Rattle.s2cover.specs.Coverings.{HasLeavesOf, TooManyMeans, inner_set, outer_set};
-ghost use Rattle.s2search.specs.Cut.{cells_cut, cells_kept, cut_at};
+ghost use Rattle.s2search.specs.Cut.{cells_kept};
 ghost use Rattle.s2search.specs.Room.{PutsUpTo};
 
 use crate::region::CoverFault;
 use s2cell::{CellId, GREATEST_LEVEL};
-use s2list::Cells;
-use s2search::{put_cut, put_kept};
-use s2union::{CellUnion, normalise};
+use s2list::{CellList, Cells};
+use s2search::{put_cut, put_kept, union_cut};
+use s2union::CellUnion;
 use std::alloc::{AllocError, Global};
 
 /// Puts the outer covering of a union at the front of a room, and answers how many cells it has. If they are more than
@@ -52,8 +52,13 @@ pub fn union_outer(
     ensures within { IfOk result (λ u. length u.cells ≤ max) }
     ensures many { IfErr result (TooManyMeans (outer_set (has_leaf union.now.cells) level) max) }
 {
-    let cells = cut_cells(alloc, union.cells(), level)?;
-    union_up_to(normalise(cells), max)
+    let list = CellList {
+        cells: union.cells(),
+    };
+    match union_cut(alloc, &list, level, max)? {
+        Some(covering) => Ok(covering),
+        None => Err(CoverFault::TooMany),
+    }
 }
 
 /// The inner covering of a union: the answer of `inner`, in one pass over the union's cells.
@@ -90,22 +95,6 @@ fn union_up_to(union: CellUnion, max: usize) -> Result<CellUnion, CoverFault>
     }
 }
 
-/// The cells, with those deeper than the level replaced by their ancestors at the level.
-pub(crate) fn cut_cells(
-    alloc: Global,
-    cells: &[CellId],
-    level: u8,
-) -> Result<Vec<CellId>, AllocError>
-    requires { level ≤ GREATEST_LEVEL }
-    ensures { IfOk result (λ list. list.items ≡ cells_cut level cells.now) }
-{
-    let mut list = Vec::with_capacity(alloc, cells.len())?;
-    for cell in cells {
-        list.push(cut(*cell, level))?;
-    }
-    Ok(list)
-}
-
 /// The cells down to the level.
 pub(crate) fn kept_cells(
     alloc: Global,
@@ -122,16 +111,4 @@ pub(crate) fn kept_cells(
         }
     }
     Ok(list)
-}
-
-/// The cell, or its ancestor at the level if it is deeper.
-fn cut(cell: CellId, level: u8) -> CellId
-    requires { level ≤ GREATEST_LEVEL }
-    ensures { result ≡ cut_at level cell }
-{
-    if cell.level() <= level {
-        cell
-    } else {
-        cell.parent(level)
-    }
 }

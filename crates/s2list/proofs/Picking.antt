@@ -16,8 +16,7 @@ use Rattle.s2cell.proofs.Leaves.{covers_there, inside_from_within}
 use Rattle.s2cell.proofs.Family.{parent_around}
 use Rattle.s2list.specs.Union.{has_leaf, between, LiesIn, IsGreatestIn, IsLocal, IsNormalForm}
 use Rattle.s2list.specs.Working.Union.{EndsBy}
-use Rattle.s2list.specs.Packed.{EndsBefore}
-use Rattle.s2list.specs.Working.Packed.{FillsGap}
+use Rattle.s2list.specs.Packed.{EndsBefore, FillsGap}
 use Rattle.s2list.proofs.Normal.{leaf_from, greatest_apart, local_from_normal, member_greatest}
 use Rattle.s2list.proofs.Checking.{packed_from_local}
 use Rattle.s2list.proofs.Walking.{leaf_there}

@@ -10,8 +10,7 @@ use Rattle.s2cell.proofs.CellLemmas.{cell_leaves}
 use Rattle.s2cell.proofs.Calls.{shallow}
 use Rattle.s2cell.proofs.Leaves.{Within, covers_there, covers_from, inside_from_within}
 use Rattle.s2list.specs.Union.{has_leaf, between, LiesIn, IsLocal}
-use Rattle.s2list.specs.Packed.{IsPacked, FirstEndBy}
-use Rattle.s2list.specs.Working.Packed.{FillsGap}
+use Rattle.s2list.specs.Packed.{IsPacked, FirstEndBy, FillsGap}
 use Rattle.s2list.proofs.Normal.{holder, family, all_held, member_greatest, greatest_apart}
 use Rattle.s2list.proofs.Checking.{packed_from_local, member_at}
 use Rattle.s2list.proofs.Walking.{Walk, walk_more, walk_below, ended_more, ended_later, gap, leaf_there, leaf_at}

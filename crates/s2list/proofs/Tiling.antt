@@ -12,7 +12,7 @@ use Rattle.s2cell.proofs.Leaves.{before, after, within, around, meeting, covers_
 use Rattle.s2cell.proofs.Family.{parent_around, parent_larger}
 use Rattle.s2list.specs.Union.{has_leaf, between, IsGreatestIn}
 use Rattle.s2list.specs.Working.Union.{EndsBy}
-use Rattle.s2list.specs.Working.Packed.{FillsGap}
+use Rattle.s2list.specs.Packed.{FillsGap}
 use Rattle.s2list.proofs.Picking.{Picked, picked_push, picked_normal, between_ends}
 
 -- `list` is `old` and then the greatest cells between `lo` and `hi` that end by `first`

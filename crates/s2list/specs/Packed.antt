@@ -2,7 +2,7 @@
 use Rattle.std.specs.Prelude.{◌≡◌, ℕ, ◌+◌, ◌<◌, ◌≤◌, ◌||◌, List, [], ◌∷◌, ◌++◌, length, take, All, AllPairs}
 use Rattle.std.specs.Prelude.{slice_index}
 use Rattle.s2cell.specs.Cell.{IsCell, level_of, first_leaf, size_of, child_of, covers}
-use Rattle.s2list.specs.Union.{has_leaf}
+use Rattle.s2list.specs.Union.{has_leaf, between, IsNormalForm}
 
 -- all leaves of `a` come before those of `b`
 abbrev pub EndsBefore : ℕ → ℕ → Type 0
@@ -44,3 +44,10 @@ pub record IsPlace (u : List ℕ) (lo at : ℕ) : Type 0 where
   pub within : at ≤ length u
   pub ended : FirstEndBy u at lo
   pub next : EndsAfter u at lo
+
+-- `new` is `old`, and then the normal form of the leaves from `lo` to before `hi`
+pub record FillsGap (old new : List ℕ) (lo hi : ℕ) : Type 0 where
+  pub tiles : List ℕ
+  pub is : new ≡ old ++ tiles
+  pub normal : IsNormalForm (between lo hi) tiles
+  pub leaves : (x : ℕ) → has_leaf tiles x ≡ between lo hi x

@@ -2,30 +2,30 @@
 use Rattle.std.proofs.Common.{◌≡◌, ℕ, zero, suc, ◌+◌, ◌-◌, ◌^◌, ◌<◌, ◌≤◌, ◌⊎◌, inl, inr, refl, sym}
 use Rattle.std.proofs.Common.{◌∙◌, ap, subst, arith}
 use Rattle.std.proofs.Common.{Bool, true, false, cond, List, [], ◌∷◌, ◌++◌, length}
-use Rattle.std.proofs.Common.{get_or, take, drop}
+use Rattle.std.proofs.Common.{get_or, take, drop, Contains}
 use Rattle.std.proofs.Math.Logic.{⊎_elim}
 use Rattle.std.proofs.lemmas.Bool.{cases_lt, cond-true, cond-false, le-leb, leb-true, false_from_ne_true}
 use Rattle.std.proofs.lemmas.List.{append-nil, get_or-map, length-append, length-map, take_all, take-append-drop}
 use Rattle.std.proofs.lemmas.List.Sums.{count_by-le-length, length-filter}
-use Rattle.std.proofs.lemmas.List.Elements.{filter_more, filter-append}
+use Rattle.std.proofs.lemmas.List.Elements.{All-contains, All-filter, Contains-get_or, filter_more, filter-append}
+use Rattle.std.proofs.lemmas.List.Kept.{AllPairs-from_increasing, IsStrictlyIncreasing-filter}
+use Rattle.std.specs.List.{filter}
+use Rattle.std.specs.List.Sorted.{IsStrictlyIncreasing}
 use Rattle.std.proofs.lemmas.Option.{gets}
-use Rattle.s2cell.specs.Cell.{IsCell, level_of, first_leaf, size_of, parent_of}
+use Rattle.s2cell.specs.Cell.{IsCell, level_of, first_leaf, size_of, parent_of, child_of}
 use Rattle.s2cell.proofs.CellLemmas.{cell_leaves}
 use Rattle.s2cell.proofs.Calls.{IsCell-parent_of}
 use Rattle.s2cell.proofs.Family.{deeper_inside, parent_level, parent_around}
 use Rattle.s2cell.proofs.Leaves.{Within}
-use Rattle.s2list.specs.Union.{has_leaf, IsLocal, IsNormalForm}
+use Rattle.s2list.specs.Union.{has_leaf, IsLocal}
 use Rattle.s2list.specs.Packed.{FirstEndBy, IsPacked}
 use Rattle.s2list.proofs.Checking.{packed_from_local}
 use Rattle.s2list.proofs.Finding.{ends_later, starts_later}
-use Rattle.s2list.proofs.Normal.{normal_form_same}
-use Rattle.s2list.proofs.Shortest.{picked_length}
-use Rattle.s2list.proofs.Tiling.{or_false}
+use Rattle.s2list.proofs.Normal.{greatest_apart, member_greatest}
 use Rattle.s2search.specs.Cut.{reaches, cut_at, cells_cut, cells_kept}
 use Rattle.s2search.specs.Room.{PutsUpTo}
-use Rattle.s2search.specs.Working.Piles.{PilingIn}
 use Rattle.s2search.specs.Working.Room.{IsPut}
-use Rattle.s2search.proofs.Piling.{Begins, any, pile_picked, piling_more}
+use Rattle.s2search.proofs.Piling.{Begins}
 
 -- ---- a cell, cut
 
@@ -156,59 +156,29 @@ passed_cut k u i j end p le h e by =
     cut_within k (get_or u j 0) (cut_at k (get_or u i 0)) (p.cells j 0 h) t.cell t.least
     (record { low = omega arith; high = omega arith })
 
--- ---- a pile of one list
-
--- cells that lie in the leaves of a pile are passed
-pile_passed : (S : ℕ → Bool) (v room out : List ℕ) (n i lo hi d : ℕ) → Begins v →
-    PilingIn S v [] room out n i 0 lo hi → i + d ≤ length v → ((j : ℕ) → i ≤ j → j < i + d →
-    first_leaf (get_or v j 0) + size_of (get_or v j 0) ≤ hi) → PilingIn S v [] room out n (i + d) 0 lo hi
-pile_passed S v room out n i lo hi zero b s within ends =
-    let e : i + 0 ≡ i = omega arith in
-    subst (λ k. PilingIn S v [] room out n k 0 lo hi) (sym e) s
-pile_passed S v room out n i lo hi (suc d) b s within ends =
-    let t = pile_passed S v room out n i lo hi d b s (omega arith) (λ j l h. ends j l (omega arith)) in
-    let end = ends (i + d) (omega arith) (omega arith) in
-    let e : i + d + 1 ≡ i + suc d = omega arith in
-    subst (λ k. PilingIn S v [] room out n k 0 lo hi) e
-    (record {
-      list = t.list;
-      put = t.put;
-      pile = piling_more S v [] t.list (i + d) 0 lo hi hi b t.pile (omega arith) (omega arith) (omega arith);
-    })
-
-pub pile_cut : (k : ℕ) (S : ℕ → Bool) (u room out : List ℕ) (n i next lo hi end : ℕ) → IsLocal u →
-    PilingIn S (cells_cut k u) [] room out n (i + 1) 0 lo hi → i < next → next ≤ length u → end ≤ hi
-    → end ≡ first_leaf (cut_at k (get_or u i 0)) + size_of (cut_at k (get_or u i 0)) → FirstEndBy u next end
-    → PilingIn S (cells_cut k u) [] room out n next 0 lo hi
-pile_cut k S u room out n i next lo hi end local s more within by e ended =
-    let p = packed_from_local u local in
-    let len = length-map u (cut_at k) in
-    let at : i + 1 + (next - (i + 1)) ≡ next = omega arith in
-    subst (λ m. PilingIn S (cells_cut k u) [] room out n m 0 lo hi) at
-    (pile_passed S (cells_cut k u) room out n (i + 1) lo hi (next - (i + 1)) (begins_cut k u p) s (omega arith)
-    (λ j l h.
-    let w = passed_cut k u i j end p (omega arith) (omega arith) e (ended j (omega arith)) in
-    let g = ap (λ c. first_leaf c + size_of c) (get_or-map (cut_at k) u j 0 0 (omega arith)) in
-    let high = w.high in
-    omega arith))
-
--- a pile with more cells than are allowed
-pub pile_over : (v room out : List ℕ) (n i lo hi most : ℕ) → PilingIn (any v []) v [] room out n i 0 lo hi →
-    most < n → most < 2 ^ 64 → PutsUpTo most (IsNormalForm (has_leaf v)) room out n
-pile_over v room out n i lo hi most s more fits =
-    let S = any v [] in
-    inr (
-      more,
-      λ u normal.
-          let le = picked_length S s.list u (pile_picked S v [] s.list i 0 lo hi s.pile)
-          (normal_form_same (has_leaf v) S u (λ x. or_false (has_leaf v x)) normal) in
-          ⊎_elim
-          (λ (h : length s.list < 2 ^ 64). let e = s.put.len_is h in omega arith)
-          (λ (h : 2 ^ 64 ≤ length s.list). omega arith)
-          (cases_lt (length s.list) (2 ^ 64)),
-    )
-
 -- ---- the cells down to a level
+
+-- cells of a union that are some of its cells are those of a union
+pub filter_local : (p : ℕ → Bool) (u : List ℕ) → IsLocal u → IsLocal (filter p u)
+filter_local p u l =
+    let v = filter p u in
+    let among : (c : ℕ) → Contains v c → Contains u c =
+    λ c m. let (i, h, is) = m in All-contains (Contains u) v c
+    (All-filter p (Contains u) u (λ j d g. Contains-get_or u j d g)) m in
+    let ascending : IsStrictlyIncreasing v = IsStrictlyIncreasing-filter p u l.ascending in
+    record {
+      cells = All-filter p IsCell u l.cells;
+      ascending = ascending;
+      apart = λ i j d h g x a b.
+          let mi = Contains-get_or v i d (omega arith) in
+          let mj = Contains-get_or v j d g in
+          let same = greatest_apart (has_leaf u) (get_or v i d) (get_or v j d) x
+          (member_greatest u l (get_or v i d) (among (get_or v i d) mi))
+          (member_greatest u l (get_or v j d) (among (get_or v j d) mj)) a b in
+          let less = AllPairs-from_increasing v ascending i j d h g in
+          absurd (omega arith);
+      unmerged = λ q own deep children. l.unmerged q own deep (λ i h. among (child_of q i) (children i h));
+    }
 
 kept_passed : (k : ℕ) (u : List ℕ) (i d : ℕ) → i + d ≤ length u → ((j : ℕ) → i ≤ j → j < i + d →
     k < level_of (get_or u j 0)) → cells_kept k (take (i + d) u) ≡ cells_kept k (take i u)

@@ -10,5 +10,6 @@ mod Cutting
 mod Holders
 mod Reaching
 mod Piling
+mod Rows
 mod Putting
 mod Sharing

@@ -12,8 +12,7 @@ use Rattle.s2cell.proofs.CellLemmas.{cell_leaves}
 use Rattle.s2cell.proofs.Leaves.{covers_there, covers_from}
 use Rattle.s2list.specs.Union.{has_leaf, between, IsLocal, IsNormalForm}
 use Rattle.s2list.specs.Working.Union.{EndsBy}
-use Rattle.s2list.specs.Packed.{IsPacked}
-use Rattle.s2list.specs.Working.Packed.{FillsGap}
+use Rattle.s2list.specs.Packed.{IsPacked, FillsGap}
 use Rattle.s2list.proofs.Checking.{packed_from_local}
 use Rattle.s2list.proofs.Picking.{Picked, IsGap, picked_none, picked_fill, fill_leaves, between_ends}
 use Rattle.s2list.proofs.Tiling.{or_true, or_false, none_between}
@@ -54,7 +53,7 @@ pub or_last : (a b c : Bool) → ((a || b) || c) ≡ ((a || c) || b)
 or_last true b c = refl
 or_last false b c = or_swap b c
 
-or_join : (a b c : Bool) → (a || (b || c)) ≡ ((a || b) || c)
+pub or_join : (a b c : Bool) → (a || (b || c)) ≡ ((a || b) || c)
 or_join true b c = refl
 or_join false b c = refl
 
@@ -87,7 +86,7 @@ piling_none xs ys = record {
   start_y = λ h. omega arith;
 }
 
-widen : (lo hi f e m x : ℕ) → lo ≤ f → f ≤ hi → hi ≤ m → e ≤ m → (m ≡ hi) ⊎ (m ≡ e)
+pub widen : (lo hi f e m x : ℕ) → lo ≤ f → f ≤ hi → hi ≤ m → e ≤ m → (m ≡ hi) ⊎ (m ≡ e)
     → between lo m x ≡ (between lo hi x || between f e x)
 widen lo hi f e m x a b c d (inl g) = grind (arith, nat_tests)
 widen lo hi f e m x a b c d (inr g) = grind (arith, nat_tests)
@@ -313,15 +312,6 @@ pile_add S xs ys room out new n m i j lo hi low high x first end lx ly s h rx fx
       put = put;
       pile = piling_more S xs ys longer i j first first high lx flushed h (omega arith) high_max;
     }))
-    (le_or_lt first hi)
-
--- the leaves that were added end by the end of the pile
-pub pile_end : (out new : List ℕ) (n m lo hi low high first end : ℕ) →
-    (first ≤ hi → (new ≡ out) × (m ≡ n) × (low ≡ lo) × (high ≡ max hi end)) → (hi < first → (lo < hi → hi ≤ LEAVES)
-    → PutsGap out new n m lo hi × (low ≡ first) × (high ≡ end)) → (lo < hi → hi ≤ LEAVES) → end ≤ high
-pile_end out new n m lo hi low high first end more apart most = ⊎_elim
-    (λ (a : first ≤ hi). let (new_is, m_is, low_is, high_is) = more a in omega arith)
-    (λ (a : hi < first). let (puts, low_is, high_is) = apart a most in omega arith)
     (le_or_lt first hi)
 
 -- both lists are at their ends, and the pile is put into the room

@@ -1,14 +1,27 @@
-//! The cells of a union cut to a level, written into a room: they are the coverings of the union at that level.
-ghost use Rattle.std.specs.Prelude.{◌≡◌, ◌≤◌, length};
-ghost use Rattle.s2cell.specs.Cell.{IsCell};
+//! The cells of a union cut to a level, written into a room or a list of their own: they are the coverings of the union
+//! at that level. Those that are replaced by ancestors are put together row by row.
+ghost use Rattle.std.specs.Prelude.{◌≡◌, ◌<◌, ◌≤◌, ℕ, List, IfNone, IfOk, IfSome, length, slice_index};
+ghost use Rattle.s2cell.specs.Cell.{IsCell, first_leaf};
 ghost use Rattle.s2list.specs.Union.{IsLocal, IsNormalForm, has_leaf};
 ghost use Rattle.s2search.specs.Cut.{cells_cut, cells_kept, cut_at};
 ghost use Rattle.s2search.specs.Room.{PutsUpTo};
+ghost use Rattle.s2search.specs.Working.Piles.{HasRow};
 
-use crate::pile::{Pile, add};
 use crate::room::{put, put_gap};
 use s2cell::{CellId, GREATEST_LEVEL};
 use s2list::{Cells, end_of, find_from, first_of};
+use s2union::{CellUnion, fill_gap};
+use std::alloc::{AllocError, Global};
+
+/// Leaves in a row, from `lo` to before `hi`, the place of the cell after those that have them, and that cell, cut to
+/// the level.
+#[derive(Clone, Copy)]
+struct Row {
+    lo: u64,
+    hi: u64,
+    next: usize,
+    after: u64,
+}
 
 /// Puts the cells of a union, with those deeper than the level replaced by their ancestors at the level, normalized, at
 /// the front of a room, and answers how many they are. If they are more than `most`, it may stop as soon as that is
@@ -20,19 +33,103 @@ pub fn put_cut<C: Cells>(cells: &C, level: u8, most: usize, out: &mut [u64]) -> 
     ensures made { IsLocal (C.ids cells.now)
         → PutsUpTo most (IsNormalForm (has_leaf (cells_cut level (C.ids cells.now)))) out.old out.new result }
 {
-    let len = cells.len();
-    let mut pile = Pile { n: 0, lo: 0, hi: 0 };
+    let mut n = 0;
     let mut i = 0;
-    while i < len && pile.n <= most {
-        let id = cut(cells.id(i), level);
+    let mut first = first_cut(cells, level);
+    while i < cells.len() && n <= most {
+        let row = row_at(cells, i, first, level);
+        n = put_gap(out, n, row.lo, row.hi);
+        i = row.next;
+        first = row.after;
+    }
+    n
+}
+
+/// The same as a union of its own, if they are at most `most`. Takes memory for as many cells as the union has, and
+/// fails only if there is none.
+pub fn union_cut<C: Cells>(
+    alloc: Global,
+    cells: &C,
+    level: u8,
+    most: usize,
+) -> Result<Option<CellUnion>, AllocError>
+    requires level { level ≤ GREATEST_LEVEL }
+    requires local { IsLocal (C.ids cells.now) }
+    ensures normal { IfOk result (λ union. IfSome union (λ u.
+        IsNormalForm (has_leaf (cells_cut level (C.ids cells.now))) u.cells)) }
+    ensures leaves { IfOk result (λ union. IfSome union (λ u. (x : ℕ) →
+        has_leaf u.cells x ≡ has_leaf (cells_cut level (C.ids cells.now)) x)) }
+    ensures within { IfOk result (λ union. IfSome union (λ u. length u.cells ≤ most)) }
+    ensures many { IfOk result (λ union. IfNone union ((u : List ℕ) →
+        IsNormalForm (has_leaf (cells_cut level (C.ids cells.now))) u → most < length u)) }
+{
+    let mut list = Vec::with_capacity(alloc, cells.len())?;
+    let mut i = 0;
+    let mut first = first_cut(cells, level);
+    while i < cells.len() && list.len() <= most {
+        let row = row_at(cells, i, first, level);
+        fill_gap(&mut list, row.lo, row.hi)?;
+        i = row.next;
+        first = row.after;
+    }
+    if list.len() > most {
+        return Ok(None);
+    }
+    Ok(Some(CellUnion::from_normalized(list)))
+}
+
+/// The first cell, cut to the level; 0 if there is none.
+fn first_cut<C: Cells>(cells: &C, level: u8) -> u64
+    requires level { level ≤ GREATEST_LEVEL }
+    ensures { IsLocal (C.ids cells.now) → 0 < length (C.ids cells.now)
+        → result ≡ cut_at level (slice_index (C.ids cells.now) 0) }
+{
+    if cells.len() == 0 {
+        return 0;
+    }
+    cut(cells.id(0), level)
+}
+
+/// The leaves in a row that begin with the cell at index `i`, of the cells of a union cut to a level. That cell, cut,
+/// is `first`. The cells in one cell of the level are passed by a search, in steps that leap.
+#[inline(always)]
+fn row_at<C: Cells>(cells: &C, i: usize, first: u64, level: u8) -> Row
+    requires level { level ≤ GREATEST_LEVEL }
+    requires there { i < length (C.ids cells.now) }
+    requires first { IsLocal (C.ids cells.now) → first ≡ cut_at level (slice_index (C.ids cells.now) i) }
+    ensures from { i < result.next }
+    ensures within { result.next ≤ length (C.ids cells.now) }
+    ensures row { IsLocal (C.ids cells.now)
+        → HasRow (cells_cut level (C.ids cells.now)) i result.next result.lo result.hi }
+    ensures apart { IsLocal (C.ids cells.now) → result.next < length (C.ids cells.now)
+        → result.hi < first_leaf (cut_at level (slice_index (C.ids cells.now) result.next)) }
+    ensures after { IsLocal (C.ids cells.now) → result.next < length (C.ids cells.now)
+        → result.after ≡ cut_at level (slice_index (C.ids cells.now) result.next) }
+{
+    let len = cells.len();
+    let lo = first_of(first);
+    let mut hi = end_of(first);
+    let mut next = find_from(cells, i + 1, hi);
+    while next < len {
+        let id = cut(cells.id(next), level);
+        if hi < first_of(id) {
+            return Row {
+                lo,
+                hi,
+                next,
+                after: id,
+            };
+        }
         let end = end_of(id);
-        pile = add(out, pile, first_of(id), end);
-        i = find_from(cells, i + 1, end);
+        hi = hi.max(end);
+        next = find_from(cells, next + 1, end);
     }
-    if i < len {
-        return pile.n;
+    Row {
+        lo,
+        hi,
+        next,
+        after: 0,
     }
-    put_gap(out, pile.n, pile.lo, pile.hi)
 }
 
 /// Puts the cells of a union down to the level at the front of a room, and answers how many they are. If they are more

@@ -8,8 +8,7 @@ ghost use Rattle.s2cell.specs.Cell.{IsCell, first_leaf, size_of};
 ghost use Rattle.s2list.specs.Union.{IsLocal, IsNormalForm, has_leaf};
 ghost use Rattle.s2list.specs.Sets.{without};
 ghost use Rattle.s2list.specs.Working.Sets.{IsLeft};
-ghost use Rattle.s2list.specs.Packed.{FirstEndBy, IsPlace};
-ghost use Rattle.s2list.specs.Working.Packed.{FillsGap};
+ghost use Rattle.s2list.specs.Packed.{FirstEndBy, IsPlace, FillsGap};
 
 use crate::fault::UnionFault;
 use crate::few::{MUCH_LONGER, find_four};
@@ -206,8 +205,9 @@ fn cell_before(cells: &[CellId], at: usize, end: u64) -> Option<CellId>
 }
 
 /// Adds the normal form of the leaves from `lo` to before `hi`: the largest cell that begins at `lo` and fits, then the
-/// largest that begins after it, and so on.
-pub(crate) fn fill_gap(list: &mut Vec<CellId>, lo: u64, hi: u64) -> Result<(), AllocError>
+/// largest that begins after it, and so on. Takes memory if the list has no room for them; refuses only if there is
+/// none. A few steps for each cell.
+pub fn fill_gap(list: &mut Vec<CellId>, lo: u64, hi: u64) -> Result<(), AllocError>
     requires { hi ≤ LEAVES }
     ensures { OnOk result (FillsGap list.old.items list.new.items lo hi) }
 {

@@ -22,6 +22,14 @@ pub record Piling (S : ℕ → Bool) (xs ys list : List ℕ) (i j lo hi : ℕ) :
   pub start_x : i < length xs → lo ≤ first_leaf (slice_index xs i)
   pub start_y : j < length ys → lo ≤ first_leaf (slice_index ys j)
 
+-- a row: the first `next` cells of `v` have the leaves of its first `i` cells and those from `lo` to before `hi`, with
+-- which the cell at index `i` begins
+pub record HasRow (v : List ℕ) (i next lo hi : ℕ) : Type 0 where
+  pub first : lo ≡ first_leaf (slice_index v i)
+  pub order : lo ≤ hi
+  pub most : hi ≤ LEAVES
+  pub leaves : (x : ℕ) → has_leaf (take next v) x ≡ (has_leaf (take i v) x || between lo hi x)
+
 -- the list of a pile is in the room `out`, which was `room` at first
 pub record PilingIn (S : ℕ → Bool) (xs ys room out : List ℕ) (n i j lo hi : ℕ) : Type 0 where
   pub list : List ℕ

@@ -1,6 +1,6 @@
 -- What only private contracts need, beside Room.antt, which has what public contracts need.
 use Rattle.std.specs.Prelude.{◌≡◌, ℕ, ◌^◌, ◌<◌, ◌≤◌, List, ◌++◌, length, drop}
-use Rattle.s2list.specs.Working.Packed.{FillsGap}
+use Rattle.s2list.specs.Packed.{FillsGap}
 
 -- `list` is at the front of `new` if it fits, and what comes after it is as in `old`; `n` is its length, if that is a
 -- number of 64 bits

@@ -1,30 +1,32 @@
-use Rattle.std.proofs.Common.{◌≡◌, ℕ, ◌∙◌, ap}
-use Rattle.s2list.specs.Union.{has_leaf, IsLocal, IsNormalForm}
+use Rattle.std.proofs.Common.{◌∙◌, ap, sym}
+use Rattle.s2list.specs.Union.{has_leaf}
+use Rattle.s2list.proofs.Normal.{local_from_normal, normal_form_same}
 use Rattle.s2search.specs.Cut.{cells_cut}
 use Rattle.s2cover.specs.Coverings.{outer_set}
-use Rattle.s2cover.proofs.OwnCells.{cut_normal, cut_leaves, same_ok, many_err}
+use Rattle.s2cover.proofs.OwnCells.{cut_normal, outer_cells}
 use Rattle.s2cover.proofs.cut.union_outer.Goals as goal
 
-pub returns-clause-leaves : goal.returns-clause-leaves
-returns-clause-leaves c =
-    same_ok c.union_up_to.result c.normalise.result.cells (λ v. (x : ℕ) →
-    has_leaf v x ≡ outer_set (has_leaf c.args.union.now.cells) c.args.level x)
-    (cut_leaves c.args.level _ c.normalise.result.cells c.requires.level c.cells.ensures.local (c.in_ok-cells.ensures
-    ∙ ap (cells_cut c.args.level) c.cells.ensures.value) c.normalise.ensures.leaves) c.union_up_to.ensures.same
+pub returns-in-Some-clause-leaves : goal.returns-in-Some-clause-leaves
+returns-in-Some-clause-leaves c x =
+    let u = c.args.union.now.cells in
+    let k = c.args.level in
+    (rw c.in-Some.is at c.in_ok-covering.ensures.leaves) x ∙ ap (λ v. has_leaf (cells_cut k v) x) c.cells.ensures.value
+    ∙ sym (outer_cells k u c.requires.level c.cells.ensures.local.cells x)
 
-pub returns-clause-local : goal.returns-clause-local
-returns-clause-local c = same_ok c.union_up_to.result c.normalise.result.cells IsLocal c.normalise.ensures.local
-    c.union_up_to.ensures.same
+pub returns-in-Some-clause-local : goal.returns-in-Some-clause-local
+returns-in-Some-clause-local c = local_from_normal (has_leaf (cells_cut c.args.level c.cells.result.now)) _
+    (rw c.in-Some.is at c.in_ok-covering.ensures.normal)
 
-pub returns-clause-normal : goal.returns-clause-normal
-returns-clause-normal c =
-    same_ok c.union_up_to.result c.normalise.result.cells
-    (IsNormalForm (outer_set (has_leaf c.args.union.now.cells) c.args.level))
-    (cut_normal c.args.level _ c.requires.level c.cells.ensures.local (c.in_ok-cells.ensures
-    ∙ ap (cells_cut c.args.level) c.cells.ensures.value) c.normalise.ensures.normal) c.union_up_to.ensures.same
+pub returns-in-Some-clause-normal : goal.returns-in-Some-clause-normal
+returns-in-Some-clause-normal c = cut_normal c.args.level (cells_cut c.args.level c.cells.result.now) c.requires.level
+    c.cells.ensures.local (ap (cells_cut c.args.level) c.cells.ensures.value)
+    (rw c.in-Some.is at c.in_ok-covering.ensures.normal)
 
-pub returns-clause-many : goal.returns-clause-many
-returns-clause-many c =
-    many_err c.union_up_to.result _ c.args.max
-    (cut_normal c.args.level _ c.requires.level c.cells.ensures.local (c.in_ok-cells.ensures
-    ∙ ap (cells_cut c.args.level) c.cells.ensures.value) c.normalise.ensures.normal) c.union_up_to.ensures.many
+pub returns-in-None-clause-many : goal.returns-in-None-clause-many
+returns-in-None-clause-many c _ v normal =
+    let u = c.args.union.now.cells in
+    let k = c.args.level in
+    (rw c.in-None.is at c.in_ok-covering.ensures.many) v (normal_form_same (outer_set (has_leaf u) k)
+    (has_leaf (cells_cut k c.cells.result.now)) v (λ x.
+    outer_cells k u c.requires.level c.cells.ensures.local.cells x
+    ∙ ap (λ w. has_leaf (cells_cut k w) x) (sym c.cells.ensures.value)) normal)

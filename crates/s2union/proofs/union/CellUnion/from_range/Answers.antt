@@ -1,6 +1,6 @@
 use Rattle.std.proofs.Common.{◌+◌, []}
 use Rattle.s2cell.specs.Cell.{first_leaf, size_of}
-use Rattle.s2list.specs.Working.Packed.{FillsGap}
+use Rattle.s2list.specs.Packed.{FillsGap}
 use Rattle.s2list.proofs.Normal.{local_from_normal}
 use Rattle.s2list.proofs.Picking.{fill_alone, fill_alone_leaves}
 use Rattle.s2union.proofs.union.CellUnion.from_range.Goals as goal
