@@ -8,6 +8,7 @@ use Rattle.s2list.specs.Union.{IsLocal}
 use Rattle.s2union.specs.Apply.{cells_without}
 use Rattle.s2union.proofs.Applied.{only_out, only_put}
 use Rattle.s2list.specs.Union.{Union}
+use Rattle.s2file.proofs.Places.{none_past}
 use Rattle.s2edit.specs.History.{AllLists, AllTables, EachList}
 use Rattle.s2edit.specs.Diff.{Diff, inverse}
 use Rattle.s2edit.specs.Leads.{list_at, table_at, Leads}
@@ -64,11 +65,6 @@ pub slice_get-inverse : (cs : List Diff) (n : ℕ) (c : Diff) → slice_get cs n
 slice_get-inverse [] n c h = absurd (cc)
 slice_get-inverse (e ∷ cs) zero c h = let q : e ≡ c = cc in ap (λ (x : Diff). Some (inverse x)) q
 slice_get-inverse (e ∷ cs) (suc n) c h = slice_get-inverse cs n c h
-
-pub none_past : {X : Type 0} (xs : List X) (n : ℕ) → slice_get xs n ≡ None → length xs ≤ n
-none_past [] n h = omega arith
-none_past (x ∷ xs) zero h = absurd (cc)
-none_past (x ∷ xs) (suc n) h = let l : length xs ≤ n = none_past xs n h in omega arith
 
 pub back_leads : (limit : ℕ) (t : List (List ℕ)) (cs : List Diff) (n : ℕ) (c : Diff) → AllWithin limit t →
     FitAlong limit t (map inverse cs) → slice_get cs n ≡ Some c →

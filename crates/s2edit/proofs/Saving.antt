@@ -1,16 +1,20 @@
 -- What an editor's session tells.
-use Rattle.std.proofs.Common.{◌≡◌, ℕ, zero, suc, ◌+◌, ◌≤◌, List, [], ◌∷◌, ◌++◌, length, map, reverse, take}
+use Rattle.std.proofs.Common.{◌≡◌, ℕ, ◌+◌, ◌≤◌, List, [], ◌∷◌, ◌++◌, length, map, reverse, take}
 use Rattle.std.proofs.Common.{slice_get, Some, None, append_assoc, Result, Ok, Err, Vec, Global, refl, sym, ap, ◌∙◌}
-use Rattle.std.proofs.Common.{subst, arith}
+use Rattle.std.proofs.Common.{◌-◌, ◌<◌, nat_lt, if◌then◌else◌, inl, inr, subst, arith}
 use Rattle.std.specs.Prelude.{IfOk}
 use Rattle.std.specs.declared.alloc.AllocError.{AllocError}
+use Rattle.std.proofs.lemmas.Bool.{lt-ltb, le-ltb}
 use Rattle.std.proofs.lemmas.List.{length-map, length-reverse, length_push, map-append, append-nil, take_all}
+use Rattle.std.proofs.lemmas.List.{get_or-reverse}
+use Rattle.std.proofs.lemmas.Option.{slice_get_cases, slice_get-get_or}
 use Rattle.circular_buffer.specs.Buffer.{Buffer, buffer}
 use Rattle.std.specs.List.{AllByRecursion}
 use Rattle.s2list.specs.Union.{Union}
 use Rattle.s2file.specs.Session.{Moved, Content, moved_of, IsMoved, session_text}
 use Rattle.s2file.specs.declared.session.Move.{Move}
 use Rattle.s2file.specs.declared.TheConstants.{SESSION_CELLS, SESSION_CHANGES}
+use Rattle.s2file.proofs.Places.{take_one, none_past}
 use Rattle.s2edit.specs.Diff.{Diff, inverse}
 use Rattle.s2edit.specs.Working.Chain.{table_after, tables_after, FitAlong, lists_of, AllWithin, history}
 use Rattle.s2edit.specs.History.{History}
@@ -18,7 +22,6 @@ use Rattle.s2edit.specs.Session.{diff, Records, Text}
 use Rattle.s2edit.specs.Working.Session.{moved}
 use Rattle.s2edit.specs.declared.TheConstants.{REGISTERS}
 use Rattle.s2edit.proofs.Contents.{reverse_twice}
-use Rattle.s2edit.proofs.Leading.{none_past}
 use Rattle.s2edit.proofs.Telling.{CanFollow, history_told, tells_it}
 
 more_within : (limit n : ℕ) (t : List (List ℕ)) → limit ≤ n → AllWithin limit t → AllWithin n t
@@ -110,26 +113,30 @@ text_told (Ok bytes) s h t is = record { content = s; tells = t; is = is }
 text_told (Err e) s h t is = tt
 
 -- one more copy of a change
-take_one : (ds : List Diff) (n : ℕ) (d : Diff) → slice_get ds n ≡ Some d → take (n + 1) ds ≡ take n ds ++ d ∷ []
-take_one [] n d h = absurd (cc)
-take_one (e ∷ ds) zero d h = let q : e ≡ d = cc in ap (λ (x : Diff). x ∷ []) q
-take_one (e ∷ ds) (suc n) d h =
-    let one : suc n + 1 ≡ suc (n + 1) = omega arith in
-    ap (λ (k : ℕ). take k (e ∷ ds)) one ∙ ap (λ (l : List Diff). e ∷ l) (take_one ds n d h)
-
-pub copied_one : (ms : List Move) (m : Move) (ds : List Diff) (d : Diff) (n : ℕ) →
-    map moved_of ms ≡ map moved (take (length ms) ds) → n ≡ length ms → Some d ≡ slice_get ds n
-    → moved_of m ≡ moved d → map moved_of (ms ++ m ∷ []) ≡ map moved (take (length (ms ++ m ∷ [])) ds)
+pub copied_one : (ms : List Move) (m : Move) (ds : List Moved) (d : Moved) (n : ℕ) →
+    map moved_of ms ≡ take (length ms) ds → n ≡ length ms → Some d ≡ slice_get ds n
+    → moved_of m ≡ d → map moved_of (ms ++ m ∷ []) ≡ take (length (ms ++ m ∷ [])) ds
 copied_one ms m ds d n e l h c =
     map-append moved_of ms (m ∷ []) ∙ ap (λ (xs : List Moved). xs ++ moved_of m ∷ []) e
-    ∙ ap (λ (x : Moved). map moved (take (length ms) ds) ++ x ∷ []) c
-    ∙ sym (map-append moved (take (length ms) ds) (d ∷ []))
-    ∙ ap (map moved) (sym (take_one ds (length ms) d (ap (slice_get ds) (sym l) ∙ sym h)))
-    ∙ ap (λ (k : ℕ). map moved (take k ds)) (sym (length_push ms m))
+    ∙ ap (λ (x : Moved). take (length ms) ds ++ x ∷ []) c
+    ∙ sym (take_one ds (length ms) d (ap (slice_get ds) (sym l) ∙ sym h))
+    ∙ ap (λ (k : ℕ). take k ds) (sym (length_push ms m))
 
-pub copied_all : (ms : List Move) (ds : List Diff) (n : ℕ) → map moved_of ms ≡ map moved (take (length ms) ds) →
-    n ≡ length ms → None ≡ slice_get ds n → map moved_of ms ≡ map moved ds
-copied_all ms ds n e l h = e ∙ ap (map moved) (take_all (length ms) ds (omega (arith, l, none_past ds n (sym h))))
+pub copied_all : (ms : List Move) (ds : List Moved) (n : ℕ) → map moved_of ms ≡ take (length ms) ds →
+    n ≡ length ms → None ≡ slice_get ds n → map moved_of ms ≡ ds
+copied_all ms ds n e l h = e ∙ take_all (length ms) ds (omega (arith, l, none_past ds n (sym h)))
+
+-- the item at a place, counted from the back
+pub from_the_back : {X : Type 0} (xs : List X) (k : ℕ) → slice_get (reverse xs) k
+    ≡ (if nat_lt k (length xs) then slice_get xs (length xs - k - 1) else None)
+from_the_back {X} xs k = elim (slice_get_cases (reverse xs) k).1 [
+  | inl at ↦
+      let below : k < length xs = omega (arith, at.1, length-reverse xs) in
+      let same : length xs - k - 1 ≡ length xs - 1 - k = omega arith in
+      rw (lt-ltb k (length xs) below, same) (at.2 ∙ ap (λ (x : X). Some x) (sym at.3
+      ∙ get_or-reverse xs k at.0 below) ∙ sym (slice_get-get_or xs (length xs - 1 - k) at.0 (omega (arith, below))))
+  | inr past ↦ rw (le-ltb k (length xs) (omega (arith, past.0, length-reverse xs))) past.1
+]
 
 -- one more change that is taken over, from the back
 pub filled_one : (ms ms' : List Move) (m : Move) (ds : List Diff) → ms ≡ ms' ++ m ∷ [] →

@@ -15,6 +15,7 @@ mod named;
 mod register;
 mod restore;
 mod session;
+mod sides;
 
 pub use change::Change;
 pub use editor::{EditFault, Editor};

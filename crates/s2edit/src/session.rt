@@ -7,7 +7,6 @@ ghost use Rattle.s2file.specs.Session.{content_of, moved_of, IsContent, IsMoved}
 ghost use Rattle.s2edit.specs.History.{AllLists};
 ghost use Rattle.s2edit.specs.Diff.{inverse};
 ghost use Rattle.s2edit.specs.Working.Chain.{lists_of};
-ghost use Rattle.s2edit.specs.Working.Session.{moved};
 ghost use Rattle.s2edit.specs.Session.{diff, Records, Text, Restored, RefusesSession};
 ghost use Rattle.s2edit.specs.Working.Following.{HaveRoom, KeepRoom};
 ghost use Rattle.s2edit.specs.declared.session.RestoreFault.TheVariants.{Memory};
@@ -15,8 +14,9 @@ ghost use Rattle.s2edit.specs.declared.session.RestoreFault.TheVariants.{Memory}
 use crate::change::Change;
 use crate::editor::Editor;
 use crate::restore::fit;
+use crate::sides::{Future, Past};
 use circular_buffer::HeapCircularBuffer;
-use s2file::{Move, Session, encode_parts};
+use s2file::{BorrowedMove, Changes, Move, Session, encode_parts};
 use s2union::CellUnion;
 use std::alloc::{AllocError, Global};
 use std::mem;
@@ -54,9 +54,8 @@ impl Editor {
         ensures content { IfOk result (λ session. IsContent (content_of session)) }
     {
         let registers = copies_of(self.alloc, &self.registers)?;
-        let mut past = moves_of(self.alloc, &self.past)?;
-        past.reverse();
-        let future = moves_of(self.alloc, &self.future)?;
+        let past = moves_of(self.alloc, &Past { ring: &self.past })?;
+        let future = moves_of(self.alloc, &Future { ring: &self.future })?;
         Ok(Session {
             registers,
             past,
@@ -66,14 +65,13 @@ impl Editor {
 
     /// The session file of the registers and of both sides of the history: what `encode_session` makes of `session`.
     ///
-    /// Copies the changes, and takes memory for the file. The registers are copied only into the file.
+    /// Takes one list of as many bytes as the file has. Nothing else is copied.
     pub fn session_file(&self) -> Result<Vec<u8>, AllocError>
         ensures { IfOk result (λ bytes. Text self.now bytes.items) }
     {
-        let mut past = moves_of(self.alloc, &self.past)?;
-        past.reverse();
-        let ahead = moves_of(self.alloc, &self.future)?;
-        encode_parts(self.alloc, &self.registers, &past, &ahead)
+        let past = Past { ring: &self.past };
+        let future = Future { ring: &self.future };
+        encode_parts(self.alloc, &self.registers, &past, &future)
     }
 
     /// Takes over a session: its registers, and its changes as past and future. Nothing that the editor held stays.
@@ -200,24 +198,24 @@ fn copies_of(alloc: Global, unions: &[CellUnion]) -> Result<Vec<CellUnion>, Allo
     Ok(copies)
 }
 
-/// Copies of the changes of a ring, from front to back.
-fn moves_of(alloc: Global, ring: &HeapCircularBuffer<Change>) -> Result<Vec<Move>, AllocError>
-    ensures { IfOk result (λ moves. map moved_of moves.items ≡ map moved ring.now.items) }
+/// Changes with lists of their own.
+fn moves_of<C: Changes>(alloc: Global, changes: &C) -> Result<Vec<Move>, AllocError>
+    ensures { IfOk result (λ moves. map moved_of moves.items ≡ C.list changes.now) }
 {
-    let mut moves = Vec::with_capacity(alloc, ring.len())?;
-    while let Some(change) = ring.get(moves.len()) {
-        moves.push(copy_of(alloc, change)?)?;
+    let mut moves = Vec::with_capacity(alloc, changes.count())?;
+    while let Some(change) = changes.at(moves.len()) {
+        moves.push(copy_of(alloc, &change)?)?;
     }
     Ok(moves)
 }
 
 /// A copy of a change.
-fn copy_of(alloc: Global, change: &Change) -> Result<Move, AllocError>
-    ensures { IfOk result (λ copy. moved_of copy ≡ moved change.now) }
+fn copy_of(alloc: Global, change: &BorrowedMove<'_>) -> Result<Move, AllocError>
+    ensures { IfOk result (λ copy. moved_of copy ≡ change.now) }
 {
     Ok(Move {
-        register: change.register.index() as u8,
-        out: Vec::from_slice(alloc, &change.out)?,
-        put: Vec::from_slice(alloc, &change.put)?,
+        register: change.register,
+        out: Vec::from_slice(alloc, change.out)?,
+        put: Vec::from_slice(alloc, change.put)?,
     })
 }

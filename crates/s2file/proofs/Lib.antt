@@ -2,6 +2,7 @@ pub mod Numbers
 pub mod Reading
 pub mod Files
 pub mod Texts
+pub mod Places
 pub mod Beginnings
 pub mod Known
 pub mod Fronts

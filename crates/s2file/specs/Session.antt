@@ -102,13 +102,13 @@ abbrev pub moved_of : Move → Moved
 moved_of m = record { register = m.register; out = m.out.items; put = m.put.items }
 
 -- what registers, a past with the oldest change first, and a future with the nearest first say
-abbrev pub content_of_parts : List Union → List Move → List Move → Content
+abbrev pub content_of_parts : List Union → List Moved → List Moved → Content
 content_of_parts registers past future = record {
   registers = map (λ (u : Union). u.cells) registers;
-  past = map moved_of past;
-  future = map moved_of future;
+  past = past;
+  future = future;
 }
 
 -- what a `Session` says
 abbrev pub content_of : Session → Content
-content_of s = content_of_parts s.registers.items s.past.items s.future.items
+content_of s = content_of_parts s.registers.items (map moved_of s.past.items) (map moved_of s.future.items)

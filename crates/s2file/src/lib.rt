@@ -10,6 +10,7 @@
 //! reads a union file as a session with one register. `decode_session` does the same with bytes in memory.
 #![tactic(auto)]
 
+pub mod changes;
 pub mod fault;
 pub mod laws;
 mod parts;
@@ -18,6 +19,7 @@ pub mod session_file;
 mod source;
 pub mod union_file;
 
+pub use crate::changes::{BorrowedMove, Changes};
 pub use crate::fault::FileFault;
 pub use crate::session::{Move, ReadFault, Session, SessionFault};
 pub use crate::session_file::{decode_session, encode_parts, encode_session, read_session};

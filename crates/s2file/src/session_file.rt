@@ -4,16 +4,17 @@ ghost use Rattle.std.specs.Prelude.{MatchResult, IfOk, IfSome, OnOk};
 ghost use Rattle.std.specs.Io.KnownBytes.{Consumes};
 ghost use Rattle.s2list.specs.Union.{Union};
 ghost use Rattle.s2file.specs.Session.{Content, content_of, content_of_parts, content_of_list, list_text, move_text};
-ghost use Rattle.s2file.specs.Session.{moves_text, moved_of, session_text, IsContent, IsSessionFile, IsUnionFile};
+ghost use Rattle.s2file.specs.Session.{moves_text, session_text, IsContent, IsSessionFile, IsUnionFile};
 ghost use Rattle.s2file.specs.Session.{Spells};
 ghost use Rattle.s2file.specs.Working.SessionParts.{Refuses, registers_text};
 ghost use Rattle.s2file.specs.Working.Source.{ahead};
 ghost use Rattle.s2file.specs.Working.Reading.{Finds};
 ghost use Rattle.s2file.specs.Reading.{RefusesToRead};
 
+use crate::changes::{BorrowedMove, Changes};
 use crate::fault::FileFault;
 use crate::parts::{byte_at, moves_at, registers_at};
-use crate::session::{Move, ReadFault, Session, SessionFault};
+use crate::session::{ReadFault, Session, SessionFault};
 use crate::source::{Buffer, fault_of_read};
 use crate::union_file::{MOST_SIZE, NUMBER_SIZE, VERSION, decode, put_number};
 use crate::{SESSION_CHANGES, SESSION_REGISTERS};
@@ -193,22 +194,25 @@ pub fn encode_session(alloc: Global, session: &Session) -> Result<Vec<u8>, Alloc
     encode_parts(alloc, &session.registers, &session.past, &session.future)
 }
 
-/// The same for borrowed registers, a past with the oldest change first, and a future with the nearest to now first:
-/// their lists are copied only into the file.
-pub fn encode_parts(
+/// The session file of registers, of a past with the oldest change first, and of a future with the nearest to now
+/// first, which stay where they are.
+///
+/// Takes one list of as many bytes as the file has. Reads each change twice.
+pub fn encode_parts<P: Changes, F: Changes>(
     alloc: Global,
     registers: &[CellUnion],
-    past: &[Move],
-    future: &[Move],
+    past: &P,
+    future: &F,
 ) -> Result<Vec<u8>, AllocError>
-    ensures { IfOk result (λ bytes. bytes.items ≡ session_text (content_of_parts registers.now past.now future.now)) }
+    ensures { IfOk result (λ bytes. bytes.items
+        ≡ session_text (content_of_parts registers.now (P.list past.now) (F.list future.now))) }
 {
     let mut bytes = Vec::with_capacity(alloc, text_size(registers, past, future))?;
     bytes.push(FIRST)?;
     bytes.push(SECOND)?;
     put_registers(&mut bytes, registers)?;
-    put_moves(&mut bytes, past)?;
-    put_moves(&mut bytes, future)?;
+    put_changes(&mut bytes, past)?;
+    put_changes(&mut bytes, future)?;
     Ok(bytes)
 }
 
@@ -224,23 +228,26 @@ fn put_registers(bytes: &mut Vec<u8>, registers: &[CellUnion]) -> Result<(), All
 }
 
 /// Adds a count and the changes.
-fn put_moves(bytes: &mut Vec<u8>, moves: &[Move]) -> Result<(), AllocError>
-    ensures { OnOk result (bytes.new.items ≡ bytes.old.items ++ moves_text (map moved_of moves.now)) }
+fn put_changes<C: Changes>(bytes: &mut Vec<u8>, changes: &C) -> Result<(), AllocError>
+    ensures { OnOk result (bytes.new.items ≡ bytes.old.items ++ moves_text (C.list changes.now)) }
 {
-    put_number(bytes, moves.len() as u64)?;
-    for change in moves {
-        put_move(bytes, change)?;
+    let count = changes.count();
+    put_number(bytes, count as u64)?;
+    let mut k = 0usize;
+    while let Some(change) = changes.at(k) {
+        put_change(bytes, &change)?;
+        k += 1;
     }
     Ok(())
 }
 
 /// Adds a change.
-fn put_move(bytes: &mut Vec<u8>, change: &Move) -> Result<(), AllocError>
-    ensures { OnOk result (bytes.new.items ≡ bytes.old.items ++ move_text (moved_of change.now)) }
+fn put_change(bytes: &mut Vec<u8>, change: &BorrowedMove<'_>) -> Result<(), AllocError>
+    ensures { OnOk result (bytes.new.items ≡ bytes.old.items ++ move_text change.now) }
 {
     bytes.push(change.register)?;
-    put_cells(bytes, &change.out)?;
-    put_cells(bytes, &change.put)
+    put_cells(bytes, change.out)?;
+    put_cells(bytes, change.put)
 }
 
 /// Adds a count and the identifiers of the cells.
@@ -255,23 +262,25 @@ fn put_cells(bytes: &mut Vec<u8>, cells: &[CellId]) -> Result<(), AllocError>
 }
 
 /// How many bytes the file has.
-fn text_size(registers: &[CellUnion], past: &[Move], future: &[Move]) -> usize {
-    let mut size = 2 + 2 * NUMBER_SIZE;
+fn text_size<P: Changes, F: Changes>(registers: &[CellUnion], past: &P, future: &F) -> usize {
+    let mut size = 2usize;
     for union in registers {
         size = size.saturating_add(list_size(union.cells()));
     }
-    size.saturating_add(moves_size(past))
-        .saturating_add(moves_size(future))
+    size.saturating_add(changes_size(past))
+        .saturating_add(changes_size(future))
 }
 
-/// How many bytes changes take.
-fn moves_size(moves: &[Move]) -> usize {
-    let mut size = 0usize;
-    for change in moves {
-        size = size
-            .saturating_add(1)
-            .saturating_add(list_size(&change.out))
-            .saturating_add(list_size(&change.put));
+/// How many bytes changes take, with their count.
+fn changes_size<C: Changes>(changes: &C) -> usize {
+    let mut size = NUMBER_SIZE;
+    for k in 0..changes.count() {
+        if let Some(change) = changes.at(k) {
+            size = size
+                .saturating_add(1)
+                .saturating_add(list_size(change.out))
+                .saturating_add(list_size(change.put));
+        }
     }
     size
 }

@@ -1,8 +1,8 @@
-use Rattle.std.proofs.Common.{map, reverse, ap, ◌∙◌, subst}
-use Rattle.s2file.specs.Session.{Content, moved_of, content_of_parts}
+use Rattle.std.proofs.Common.{map, reverse, refl, ap, subst}
+use Rattle.s2file.specs.Session.{Content, content_of_parts}
 use Rattle.s2edit.specs.Working.Chain.{lists_of}
+use Rattle.s2edit.specs.Working.Session.{moved}
 use Rattle.s2edit.specs.Session.{Records}
-use Rattle.s2edit.proofs.Contents.{turned}
 use Rattle.s2edit.proofs.Saving.{session_tells, text_told}
 use Rattle.s2edit.proofs.editor.Editor.session_file.Goals as goal
 
@@ -10,13 +10,10 @@ pub returns : goal.returns
 returns c =
     let e = c.self.inside in
     let i = c.self.invariant in
-    let s : Content = content_of_parts c.deref.result.now c.deref-2.result.now c.deref-3.result.now in
+    let s : Content = content_of_parts c.deref.result.now (reverse (map moved e.past.items))
+    (map moved e.future.items) in
     text_told c.encode_parts.result s c.args.self.now
     (subst (Records s) c.self.view_is
-    (session_tells e.limit e.depth e.registers.items e.past.items e.future.items s
-    (ap lists_of c.deref.ensures.value)
-    (ap (map moved_of) c.deref-2.ensures.value ∙ turned c.in_ok-past.past.items c.reverse.new.self.items
-    c.reverse.ensures.items ∙ ap reverse c.in_ok-past.ensures)
-    (ap (map moved_of) c.deref-3.ensures.value ∙ c.in_ok-ahead.ensures) i.limit_bound i.depth_most i.count
-    i.depth_bound i.registers_within i.past_fits i.future_fits))
+    (session_tells e.limit e.depth e.registers.items e.past.items e.future.items s (ap lists_of c.deref.ensures.value)
+    refl refl i.limit_bound i.depth_most i.count i.depth_bound i.registers_within i.past_fits i.future_fits))
     c.encode_parts.ensures
