@@ -141,13 +141,17 @@ fn take_all(alloc: Global, unions: &mut Vec<CellUnion>, others: &mut Vec<CellUni
     }
 }
 
-/// Replaces a union by another one, for whose list it has room. That list isn't copied if its own block of memory can
-/// be given as much room.
+/// Replaces a union by another one, for whose list it has room. That list isn't copied if its own block of memory has
+/// no more room than the union's, and can be given as much. Of the two blocks, the one that isn't kept is given back.
 fn take_over(union: &mut CellUnion, other: CellUnion)
     requires { length other.cells ≤ union.old.room }
     ensures cells { union.new.cells ≡ other.cells }
     ensures room { union.old.room ≤ union.new.room }
 {
+    if other.room() > union.room() {
+        union.copy_from(&other);
+        return;
+    }
     let mut cells = other.into_cells();
     let lacking = union.room() - cells.len();
     let has_room = cells.reserve_exact(lacking).is_ok();
