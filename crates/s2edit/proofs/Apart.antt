@@ -9,8 +9,7 @@ use Rattle.s2union.specs.Apply.{has, cells_without, applied, Fits}
 use Rattle.s2list.proofs.Normal.{leaf_to}
 use Rattle.s2union.proofs.CellLists.{has-cells_without, has-applied, IsAscending-cells_without, ascends_from}
 use Rattle.s2union.proofs.Applied.{local_ascends}
-use Rattle.s2file.specs.Session.{AreApart}
-use Rattle.s2edit.specs.Diff.{IsDiff}
+use Rattle.s2file.specs.Session.{IsDiff, AreApart}
 use Rattle.s2edit.specs.Working.Part.{around, IsWatched, IsPart}
 use Rattle.s2edit.specs.Working.Followed.{joined, both_out, LieApart, LiesApart, LeadsOn}
 use Rattle.s2edit.proofs.Following.{drop_next}

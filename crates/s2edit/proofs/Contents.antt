@@ -1,24 +1,23 @@
 -- What a history tells is what a session file may hold.
 use Rattle.std.proofs.Common.{◌≡◌, ◌≢◌, ℕ, ◌+◌, ◌<◌, List, [], ◌∷◌, ◌++◌, length, map, reverse, inl, inr}
 use Rattle.std.proofs.Common.{refl, sym, ap, ◌∙◌, subst, arith}
-use Rattle.std.proofs.lemmas.List.{length-set, reverse-append, map-append}
+use Rattle.std.proofs.lemmas.List.{length-set, reverse-append, reverse-reverse, map-append}
 use Rattle.std.proofs.lemmas.List.Elements.{recursion_from_All, All-from_recursion}
 use Rattle.std.proofs.lemmas.Bool.{cond_both, cases_lt}
 use Rattle.std.specs.List.{AllByRecursion}
 use Rattle.s2cell.specs.Cell.{IsCell}
 use Rattle.s2list.specs.Union.{IsLocal}
 use Rattle.s2union.specs.Apply.{has, cells_without, applied}
-use Rattle.s2union.proofs.Applied.{applied-between, Fits-between}
+use Rattle.s2union.proofs.Applied.{applied-between}
 use Rattle.s2file.specs.declared.session.Move.{Move}
-use Rattle.s2file.specs.Session.{Moved, Content, moved_of, IsMoved, IsContent, IsRegisterList, IsChangeList}
+use Rattle.s2file.specs.Session.{Diff, Content, diff_of, IsMove, IsContent, IsRegisterList, AreCells, IsDiff}
 use Rattle.s2file.specs.declared.TheConstants.{SESSION_CELLS}
 use Rattle.s2edit.proofs.Sizes.{fewer_without}
 use Rattle.s2edit.specs.History.{History, AllTables}
-use Rattle.s2edit.specs.Diff.{Diff}
 use Rattle.s2edit.specs.Leads.{list_at, Leads}
 use Rattle.s2edit.specs.Chain.{IsLocalWithin}
 use Rattle.s2edit.specs.Working.Chain.{AllWithin}
-use Rattle.s2edit.specs.Session.{diff, LeadBack, LeadAhead, Records}
+use Rattle.s2edit.specs.Session.{LeadBack, LeadAhead, Records}
 use Rattle.s2edit.specs.declared.TheConstants.{REGISTERS}
 use Rattle.s2edit.proofs.Tables.{AllWithin-at}
 use Rattle.s2edit.proofs.DiffLemmas.{IsDiff-between}
@@ -30,11 +29,10 @@ cells_of_without (u ∷ us) vs a =
     cond_both (has vs u) (cells_without us vs) (u ∷ cells_without us vs) (AllByRecursion IsCell)
     (λ _. cells_of_without us vs a.1) (λ _. (a.0, cells_of_without us vs a.1))
 
-change_list : (us vs : List ℕ) → IsLocalWithin SESSION_CELLS us → IsLocal vs → IsChangeList (cells_without us vs)
-change_list us vs w l = record {
+change_cells : (us vs : List ℕ) → IsLocalWithin SESSION_CELLS us → AreCells (cells_without us vs)
+change_cells us vs w = record {
   valid = All-from_recursion IsCell (cells_without us vs)
       (cells_of_without us vs (recursion_from_All IsCell us w.local.cells));
-  ascending = (Fits-between us vs w.local l).out_ascends;
   few = omega (arith, fewer_without us vs, w.few);
 }
 
@@ -59,8 +57,8 @@ some_differ us vs a b n = elim (cases_lt 0 (length (cells_without us vs) + lengt
     without_none (u ∷ us) = ap (λ vs. u ∷ vs) (without_none us)
 
 -- a change between two tables is one that a file may hold
-good_change : (d : Moved) (t u : List (List ℕ)) → AllWithin SESSION_CELLS t → AllWithin SESSION_CELLS u →
-    length t ≡ REGISTERS → Leads (diff d) t u → IsMoved d
+good_change : (d : Diff) (t u : List (List ℕ)) → AllWithin SESSION_CELLS t → AllWithin SESSION_CELLS u →
+    length t ≡ REGISTERS → Leads d t u → IsMove d
 good_change d t u a b count l =
     let old : List ℕ = list_at t d.register in
     let new : List ℕ = list_at u d.register in
@@ -72,16 +70,15 @@ good_change d t u a b count l =
     let put : d.put ≡ cells_without new old = ap (λ (x : Diff). x.put) l.change in
     record {
       register = omega (arith, l.in_range, count);
-      out = subst IsChangeList (sym out) (change_list old new w v.local);
-      put = subst IsChangeList (sym put) (change_list new old v w.local);
-      apart = λ x h. ap (λ (y : List ℕ). has y x) put
-          ∙ (IsDiff-between old new w.local v.local).apart x (sym (ap (λ (y : List ℕ). has y x) out) ∙ h);
+      out = subst AreCells (sym out) (change_cells old new w);
+      put = subst AreCells (sym put) (change_cells new old v);
+      lists = subst (λ (x : Diff). IsDiff x.out x.put) (sym l.change) (IsDiff-between old new w.local v.local);
       some = omega (arith, ap length out, ap length put, some_differ old new w.local v.local l.differs);
     }
 
-good_ahead : (t : List (List ℕ)) (ms : List Moved) (ts : List (List (List ℕ))) → AllWithin SESSION_CELLS t →
+good_ahead : (t : List (List ℕ)) (ms : List Diff) (ts : List (List (List ℕ))) → AllWithin SESSION_CELLS t →
     AllTables (IsLocalWithin SESSION_CELLS) ts → length t ≡ REGISTERS
-    → LeadAhead ms t ts → AllByRecursion IsMoved ms
+    → LeadAhead ms t ts → AllByRecursion IsMove ms
 good_ahead t [] [] a b n l = tt
 good_ahead t [] (u ∷ us) a b n l = absurd l
 good_ahead t (m ∷ ms) [] a b n l = absurd l
@@ -89,9 +86,9 @@ good_ahead t (m ∷ ms) (u ∷ us) a b n l =
     let len : length u ≡ length t = ap length l.0.only ∙ length-set t m.register (list_at u m.register) in
     (good_change m t u a b.0 n l.0, good_ahead u ms us b.0 b.1 (len ∙ n) l.1)
 
-good_back : (t : List (List ℕ)) (ms : List Moved) (ts : List (List (List ℕ))) → AllWithin SESSION_CELLS t →
+good_back : (t : List (List ℕ)) (ms : List Diff) (ts : List (List (List ℕ))) → AllWithin SESSION_CELLS t →
     AllTables (IsLocalWithin SESSION_CELLS) ts → length t ≡ REGISTERS
-    → LeadBack ms t ts → AllByRecursion IsMoved ms
+    → LeadBack ms t ts → AllByRecursion IsMove ms
 good_back t [] [] a b n l = tt
 good_back t [] (u ∷ us) a b n l = absurd l
 good_back t (m ∷ ms) [] a b n l = absurd l
@@ -109,11 +106,6 @@ all_reverse P [] a = tt
 all_reverse P (x ∷ xs) a = subst (AllByRecursion P) (sym (reverse-append (x ∷ []) xs))
     (all_append P (reverse xs) (x ∷ []) (all_reverse P xs a.1) (a.0, tt))
 
-pub reverse_twice : {A : Type 0} (xs : List A) → reverse (reverse xs) ≡ xs
-reverse_twice [] = refl
-reverse_twice (x ∷ xs) = ap reverse (reverse-append (x ∷ []) xs) ∙ reverse-append (reverse xs) (x ∷ [])
-    ∙ ap (λ ys. x ∷ ys) (reverse_twice xs)
-
 register_lists : (t : List (List ℕ)) → AllWithin SESSION_CELLS t → AllByRecursion IsRegisterList t
 register_lists [] a = tt
 register_lists (u ∷ t) a = (record { local = a.0.local; few = a.0.few }, register_lists t a.1)
@@ -123,8 +115,8 @@ pub told_content : (s : Content) (h : History (List ℕ)) → Records s h → Is
 told_content s h w = record {
   count = ap length (sym w.now) ∙ w.count;
   registers = register_lists s.registers (subst (AllWithin SESSION_CELLS) w.now w.lists.now);
-  past = subst (AllByRecursion IsMoved) (reverse_twice s.past)
-      (all_reverse IsMoved (reverse s.past) (good_back h.now (reverse s.past) h.past w.lists.now w.lists.past w.count
+  past = subst (AllByRecursion IsMove) (reverse-reverse s.past)
+      (all_reverse IsMove (reverse s.past) (good_back h.now (reverse s.past) h.past w.lists.now w.lists.past w.count
       w.past));
   future = good_ahead h.now s.future h.future w.lists.now w.lists.future w.count w.future;
   few = omega (arith, told_past s h w, told_future s h w, w.few);
@@ -138,5 +130,5 @@ map-reverse f (x ∷ xs) =
     ∙ sym (reverse-append (f x ∷ []) (map f xs))
 
 -- the past of a session, turned around
-pub turned : (ms ms' : List Move) → ms' ≡ reverse ms → map moved_of ms' ≡ reverse (map moved_of ms)
-turned ms ms' e = ap (map moved_of) e ∙ map-reverse moved_of ms
+pub turned : (ms ms' : List Move) → ms' ≡ reverse ms → map diff_of ms' ≡ reverse (map diff_of ms)
+turned ms ms' e = ap (map diff_of) e ∙ map-reverse diff_of ms

@@ -6,9 +6,8 @@ use Rattle.std.proofs.lemmas.Bool.{true≢false}
 use Rattle.s2list.specs.Union.{Union, IsLocal}
 use Rattle.s2union.specs.Apply.{has, cells_without, applied, Fits}
 use Rattle.s2union.proofs.Applied.{only_out, only_put}
-use Rattle.s2file.specs.Session.{Moved, IsMoved}
+use Rattle.s2file.specs.Session.{Diff, IsMove}
 use Rattle.s2edit.specs.History.{AllLists}
-use Rattle.s2edit.specs.Diff.{Diff}
 use Rattle.s2edit.specs.Leads.{list_at}
 use Rattle.s2edit.specs.Working.Chain.{AllRoomy}
 use Rattle.s2edit.specs.Working.Following.{FailsToFollow, HaveRoom, KeepRoom}
@@ -37,12 +36,16 @@ keep_room limit (u ∷ us) [] k a = absurd k
 keep_room limit (u ∷ us) (v ∷ vs) k a = (omega (arith, k.0, a.0), keep_room limit us vs k.1 a.1)
 
 -- the change that takes one back is one that a file may hold
-pub swapped : (m : Moved) → IsMoved m → IsMoved (record { register = m.register; out = m.put; put = m.out })
+pub swapped : (m : Diff) → IsMove m → IsMove (record { register = m.register; out = m.put; put = m.out })
 swapped m g = record {
   register = g.register;
   out = g.put;
   put = g.out;
-  apart = λ x h. not_true (has m.out x) (λ e. true≢false (sym h ∙ g.apart x e));
+  lists = record {
+    out_ascends = g.lists.put_ascends;
+    put_ascends = g.lists.out_ascends;
+    apart = λ x h. not_true (has m.out x) (λ e. true≢false (sym h ∙ g.lists.apart x e));
+  };
   some = omega (arith, g.some);
 }
   where
@@ -56,13 +59,6 @@ pub drop_next : {A : Type 0} (xs : List A) (i : ℕ) (x : A) → i < length xs �
 drop_next {A} xs i x l e =
     let h : drop i xs ≡ get_or xs i x ∷ drop (i + 1) xs = rw (add-one, drop-cons xs i x) refl in
     h ∙ ap (λ (y : A). y ∷ drop (i + 1) xs) (sym e)
-
--- a change whose lists were lent
-pub same_diff : (d e : Diff) → d.register ≡ e.register → d.out ≡ e.out → d.put ≡ e.put → d ≡ e
-same_diff d e r o p =
-    ap (λ (x : ℕ). record { register = x; out = d.out; put = d.put }) r
-    ∙ ap (λ (x : List ℕ). record { register = e.register; out = x; put = d.put }) o
-    ∙ ap (λ (x : List ℕ). record { register = e.register; out = e.out; put = x }) p
 
 -- following that fails because a part of it does
 pub fails : (fault : RestoreFault) (P Q : Type 0) → (Q → P) → FailsToFollow fault P → FailsToFollow fault Q

@@ -9,7 +9,7 @@ use Rattle.s2union.proofs.CellLists.{IsAscending, same_cells, has-cells_without,
 use Rattle.s2union.proofs.CellLists.{IsAscending-cells_without, IsAscending-insert_cells, IsAscending-applied}
 use Rattle.s2union.proofs.CellLists.{ascends_from, increasing_from}
 use Rattle.s2union.proofs.Applied.{local_ascends}
-use Rattle.s2edit.specs.Diff.{IsDiff}
+use Rattle.s2file.specs.Session.{IsDiff}
 use Rattle.s2edit.specs.Working.Followed.{latest, both_out, IsFollowed, CanFollowOn, LeadsOn}
 use Rattle.s2edit.specs.declared.restore.followed.Followed.TheInside.{Inside}
 use Rattle.s2edit.proofs.DiffLemmas.{cells_without-nothing}

@@ -10,7 +10,8 @@ use Rattle.s2union.proofs.CellLists.{same_cells, has-cells_without, has-insert_c
 use Rattle.s2union.proofs.CellLists.{IsAscending-cells_without, IsAscending-insert_cells, IsAscending-applied}
 use Rattle.s2union.proofs.CellLists.{ascends_from, increasing_from}
 use Rattle.s2union.proofs.Applied.{local_ascends}
-use Rattle.s2edit.specs.Diff.{Diff, IsDiff, apply, FitsList}
+use Rattle.s2file.specs.Session.{Diff, IsDiff}
+use Rattle.s2edit.specs.Diff.{apply, FitsList}
 use Rattle.s2edit.specs.Working.Part.{IsWatched, IsPart}
 use Rattle.s2edit.specs.Working.Followed.{joined, LieApart, LiesApart, LeadsOn}
 use Rattle.s2edit.specs.Working.Layers.{FitInTurn, list_after_all, AreChanges, LeadAlike}

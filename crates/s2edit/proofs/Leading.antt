@@ -9,8 +9,9 @@ use Rattle.s2union.specs.Apply.{cells_without}
 use Rattle.s2union.proofs.Applied.{only_out, only_put}
 use Rattle.s2list.specs.Union.{Union}
 use Rattle.s2file.proofs.Places.{none_past}
+use Rattle.s2file.specs.Session.{Diff}
 use Rattle.s2edit.specs.History.{AllLists, AllTables, EachList}
-use Rattle.s2edit.specs.Diff.{Diff, inverse}
+use Rattle.s2edit.specs.Diff.{inverse}
 use Rattle.s2edit.specs.Leads.{list_at, table_at, Leads}
 use Rattle.s2edit.specs.Working.Chain.{list_after, table_after, tables_after, FitsTable, FitAlong, lists_of}
 use Rattle.s2edit.specs.Chain.{IsLocalWithin}

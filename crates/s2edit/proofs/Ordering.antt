@@ -11,11 +11,9 @@ use Rattle.std.proofs.lemmas.List.{length-set, get_or-set_other, get_or_default}
 use Rattle.s2union.specs.Apply.{has, insert_cell, insert_cells}
 use Rattle.s2union.proofs.CellLists.{has-insert_cells}
 use Rattle.s2file.specs.declared.session.Move.{Move}
-use Rattle.s2file.specs.Session.{moved_of}
-use Rattle.s2edit.specs.Diff.{Diff}
-use Rattle.s2edit.specs.Session.{diff}
+use Rattle.s2file.specs.Session.{Diff, diff_of}
+use Rattle.s2file.proofs.Fronts.{same_diff}
 use Rattle.s2edit.specs.Working.Layers.{ordered, ordered_diff}
-use Rattle.s2edit.proofs.Following.{same_diff}
 
 -- cells are inserted one after another
 pub insert_append : (xs ys u : List ℕ) → insert_cells (xs ++ ys) u ≡ insert_cells ys (insert_cells xs u)
@@ -133,7 +131,7 @@ sorted_is xs ys p up = same_rising ys (ordered xs) (rising_from ys up) (rising_o
 pub record AreOrdered (old now : List Move) (n : ℕ) : Type 0 where
   pub count : length now ≡ length old
   pub before : (k : ℕ) (d : Move) → k < n → k < length old →
-      diff (moved_of (get_or now k d)) ≡ ordered_diff (moved_of (get_or old k d))
+      diff_of (get_or now k d) ≡ ordered_diff (diff_of (get_or old k d))
   pub after : (k : ℕ) (d : Move) → n ≤ k → get_or now k d ≡ get_or old k d
 
 pub order_next : (old now : List Move) (n : ℕ) (e m : Move) → AreOrdered old now n → n < length now
@@ -146,11 +144,11 @@ order_next old now n e m a l is r o p = record {
       let here : get_or (slice_set now n m) k d ≡ m = get_or-set_at now n k m d s l in
       let was : get_or old k d ≡ e =
       sym (a.after k d (omega arith)) ∙ ap (λ (j : ℕ). get_or now j d) s ∙ get_or_default now n d e l ∙ sym is in
-      ap (λ (x : Move). diff (moved_of x)) here
-      ∙ same_diff (diff (moved_of m)) (ordered_diff (moved_of e)) r o p
-      ∙ ap (λ (x : Move). ordered_diff (moved_of x)) (sym was))
+      ap (λ (x : Move). diff_of x) here
+      ∙ same_diff (diff_of m) (ordered_diff (diff_of e)) r o p
+      ∙ ap (λ (x : Move). ordered_diff (diff_of x)) (sym was))
       (⊎_elim
-      (λ (b : k < n). ap (λ (x : Move). diff (moved_of x)) (get_or-set_other now n k m d (λ s. absurd (omega arith)))
+      (λ (b : k < n). ap (λ (x : Move). diff_of x) (get_or-set_other now n k m d (λ s. absurd (omega arith)))
       ∙ a.before k d b lo)
       (λ (b : n < k). absurd (omega arith)))
       (cases_order k n);
@@ -158,19 +156,19 @@ order_next old now n e m a l is r o p = record {
 }
 
 pub all_ordered : (old now : List Move) (n : ℕ) → AreOrdered old now n → length old ≤ n →
-    map diff (map moved_of now) ≡ map ordered_diff (map moved_of old)
+    map diff_of now ≡ map ordered_diff (map diff_of old)
 all_ordered old now n a l = pointwise now old a.count (λ k d lt. a.before k d (omega arith) lt)
   where
     pointwise : (us vs : List Move) → length us ≡ length vs
         → ((k : ℕ) (d : Move) → k < length vs →
-        diff (moved_of (get_or us k d)) ≡ ordered_diff (moved_of (get_or vs k d)))
-        → map diff (map moved_of us) ≡ map ordered_diff (map moved_of vs)
+        diff_of (get_or us k d) ≡ ordered_diff (diff_of (get_or vs k d)))
+        → map diff_of us ≡ map ordered_diff (map diff_of vs)
     pointwise [] [] e h = refl
     pointwise [] (v ∷ vs) e h = absurd (omega arith)
     pointwise (u ∷ us) [] e h = absurd (omega arith)
     pointwise (u ∷ us) (v ∷ vs) e h =
-        let head : diff (moved_of u) ≡ ordered_diff (moved_of v) = h 0 u (omega arith) in
-        let tail : map diff (map moved_of us) ≡ map ordered_diff (map moved_of vs) =
+        let head : diff_of u ≡ ordered_diff (diff_of v) = h 0 u (omega arith) in
+        let tail : map diff_of us ≡ map ordered_diff (map diff_of vs) =
         pointwise us vs (omega arith) (λ k d l. h (suc k) d (omega arith)) in
-        ap (λ (x : Diff). x ∷ map diff (map moved_of us)) head
-        ∙ ap (λ (xs : List Diff). ordered_diff (moved_of v) ∷ xs) tail
+        ap (λ (x : Diff). x ∷ map diff_of us) head
+        ∙ ap (λ (xs : List Diff). ordered_diff (diff_of v) ∷ xs) tail

@@ -15,7 +15,7 @@ use Rattle.s2list.proofs.Picking.{greatest_below}
 use Rattle.s2union.proofs.CellLists.{IsAscending-cells_without, has-cells_without, increasing_from}
 use Rattle.s2union.proofs.Applied.{local_ascends}
 use Rattle.s2union.specs.Apply.{has, cells_without, Fits}
-use Rattle.s2file.specs.Session.{Moved, AreApart, IsChangeList}
+use Rattle.s2file.specs.Session.{Diff, AreApart, AreCells}
 use Rattle.s2edit.specs.Working.Part.{around, around_both, around_all, IsWatched, IsPart}
 use Rattle.s2edit.proofs.InTurn.{length_without}
 use Rattle.s2edit.proofs.PartLemmas.{by_bool, has_member, member_had, leaf_there, is_cell, local_within, one_cell}
@@ -30,15 +30,15 @@ has_around (y ∷ ys) c x h v = by_bool (eqb y c)
     ∙ ap (λ b. b || has_leaf (map around ys) x) v)
     (λ n. grind (arith, common_steps, has_around ys c x (grind (arith, common_steps, n, h)) v))
 
-pub watched_in : (S : ℕ → Bool) (xs : List ℕ) → IsChangeList xs
+pub watched_in : (S : ℕ → Bool) (xs : List ℕ) → AreCells xs
     → ((x : ℕ) → has_leaf (map around xs) x ≡ true → S x ≡ true) → IsWatched S xs
 watched_in S xs g w c h = (All-contains IsCell xs c g.valid (member_had xs c h), λ x v. w x (has_around xs c x h v))
 
-pub leaf_both : (m : Moved) (x : ℕ) → has_leaf (around_both m) x
+pub leaf_both : (m : Diff) (x : ℕ) → has_leaf (around_both m) x
     ≡ (has_leaf (map around m.out) x || has_leaf (map around m.put) x)
 leaf_both m x = list_any-append (λ c. covers c x) (map around m.out) (map around m.put)
 
-pub leaf_all : (r x : ℕ) (m : Moved) (ms : List Moved) → has_leaf (around_all r (m ∷ ms)) x
+pub leaf_all : (r x : ℕ) (m : Diff) (ms : List Diff) → has_leaf (around_all r (m ∷ ms)) x
     ≡ ((eqb m.register r && has_leaf (around_both m) x) || has_leaf (around_all r ms) x)
 leaf_all r x m ms = by_bool (eqb m.register r)
     (λ e. rw e (list_any-append (λ c. covers c x) (around_both m) (around_all r ms)))

@@ -5,15 +5,14 @@ use Rattle.std.proofs.lemmas.List.{length-map, length-set, length-reverse}
 use Rattle.std.specs.List.{AllByRecursion}
 use Rattle.s2list.specs.Union.{Union}
 use Rattle.std.proofs.lemmas.Bool.{false≢true, true≢false}
-use Rattle.s2file.specs.Session.{Moved, Content, moved_of, IsContent, IsMoved, IsRegisterList}
+use Rattle.s2file.specs.Session.{Diff, Content, diff_of, IsContent, IsMove, IsRegisterList}
 use Rattle.s2file.specs.declared.session.Move.{Move}
 use Rattle.s2file.specs.declared.TheConstants.{SESSION_CELLS}
 use Rattle.s2edit.specs.History.{History, AllLists, AllTables}
-use Rattle.s2edit.specs.Diff.{Diff, inverse}
+use Rattle.s2edit.specs.Diff.{inverse}
 use Rattle.s2edit.specs.Leads.{list_at}
 use Rattle.s2edit.specs.Working.Chain.{list_after, table_after, tables_after, FitAlong, lists_of, AllWithin, history}
-use Rattle.s2edit.specs.Session.{diff, Records, Restored, IsTooDeep, IsTooMany, RefusesSession}
-use Rattle.s2edit.specs.Working.Session.{moved}
+use Rattle.s2edit.specs.Session.{Records, Restored, IsTooDeep, IsTooMany, RefusesSession}
 use Rattle.s2edit.specs.Working.Following.{FailsToFollow, MakesChanges}
 use Rattle.s2edit.specs.declared.session.RestoreFault.{RestoreFault}
 use Rattle.s2edit.specs.declared.session.RestoreFault.TheVariants.{Fit, TooDeep, TooMany, Memory}
@@ -57,24 +56,24 @@ along_limit limit t (d ∷ ds) f a =
 
 module _ (s : Content) (content : IsContent s) where
   pasts : List Diff
-  pasts = map inverse (map diff (reverse s.past))
+  pasts = map inverse (reverse s.past)
 
   futures : List Diff
-  futures = map diff s.future
+  futures = s.future
 
   lists : AllWithin SESSION_CELLS s.registers
   lists = registers_within s.registers content.registers
 
-  pub follows : (limit : ℕ) (p f : Bool) → MakesChanges limit s.registers (map inverse (map diff (reverse s.past))) p →
-      MakesChanges limit s.registers (map diff s.future) f → CanFollow s
+  pub follows : (limit : ℕ) (p f : Bool) → MakesChanges limit s.registers (map inverse (reverse s.past)) p →
+      MakesChanges limit s.registers s.future f → CanFollow s
   follows limit p f a b = record { count = content.count; within = lists; past = a.fit; future = b.fit }
 
-  past_count : (t : List (List ℕ)) → length (tables_after t (map inverse (map diff (reverse s.past)))) ≡ length s.past
-  past_count t = length-tables_after t (map inverse (map diff (reverse s.past)))
-      ∙ length-map (map diff (reverse s.past)) inverse ∙ length-map (reverse s.past) diff ∙ length-reverse s.past
+  past_count : (t : List (List ℕ)) → length (tables_after t (map inverse (reverse s.past))) ≡ length s.past
+  past_count t = length-tables_after t (map inverse (reverse s.past))
+      ∙ length-map (reverse s.past) inverse ∙ length-reverse s.past
 
-  future_count : (t : List (List ℕ)) → length (tables_after t (map diff s.future)) ≡ length s.future
-  future_count t = length-tables_after t (map diff s.future) ∙ length-map s.future diff
+  future_count : (t : List (List ℕ)) → length (tables_after t s.future) ≡ length s.future
+  future_count t = length-tables_after t s.future
 
   pub too_deep : (h : History (List ℕ)) → CanFollow s → h.depth < length s.past + length s.future → IsTooDeep s h
   too_deep h can deep = record {
@@ -85,22 +84,22 @@ module _ (s : Content) (content : IsContent s) where
 
   pub too_many : (h : History (List ℕ)) → CanFollow s → length s.past + length s.future ≤ h.depth
       → (AllLists (λ u. length u ≤ h.limit) s.registers →
-      FitAlong h.limit s.registers (map inverse (map diff (reverse s.past))) →
-      FitAlong h.limit s.registers (map diff s.future) → ⊥)
+      FitAlong h.limit s.registers (map inverse (reverse s.past)) →
+      FitAlong h.limit s.registers s.future → ⊥)
       → IsTooMany s h
   too_many h can kept none = record {
     history = history_told h.limit h.depth s;
     tells = tells_it h.limit h.depth s can content.few;
     kept = omega (arith, kept, past_count s.registers, future_count s.registers);
     many = λ e. none e.now
-        (along_limit h.limit s.registers (map inverse (map diff (reverse s.past))) can.past e.past)
-        (along_limit h.limit s.registers (map diff s.future) can.future e.future);
+        (along_limit h.limit s.registers (map inverse (reverse s.past)) can.past e.past)
+        (along_limit h.limit s.registers s.future can.future e.future);
   }
 
   pub restored : (old new : History (List ℕ)) → new ≡ history_told old.limit old.depth s → CanFollow s →
       length s.past + length s.future ≤ old.depth
       → AllWithin old.limit s.registers → FitAlong old.limit s.registers
-      (map inverse (map diff (reverse s.past))) → FitAlong old.limit s.registers (map diff s.future)
+      (map inverse (reverse s.past)) → FitAlong old.limit s.registers s.future
       → Restored s old new
   restored old new is can kept a p f = subst (Restored s old) (sym is) (record {
     tells = tells_it old.limit old.depth s can content.few;
@@ -108,10 +107,10 @@ module _ (s : Content) (content : IsContent s) where
     depth = refl;
     few = record {
       past = AllTables-within (λ u. length u ≤ old.limit) old.limit (λ u w. w.few) s.registers
-          (map inverse (map diff (reverse s.past))) a p;
+          (map inverse (reverse s.past)) a p;
       now = AllLists-within (λ u. length u ≤ old.limit) old.limit (λ u w. w.few) s.registers a;
       future = AllTables-within (λ u. length u ≤ old.limit) old.limit (λ u w. w.few) s.registers
-          (map diff s.future) a f;
+          s.future a f;
     };
     kept = omega (arith, kept, past_count s.registers, future_count s.registers);
   })
@@ -122,7 +121,7 @@ tells_none s none h w = none (can_follow s h w)
 
 -- a side that can't be followed
 pub past_fails : (s : Content) (h : History (List ℕ)) (fault : RestoreFault) →
-    FailsToFollow fault (FitAlong SESSION_CELLS s.registers (map inverse (map diff (reverse s.past)))) →
+    FailsToFollow fault (FitAlong SESSION_CELLS s.registers (map inverse (reverse s.past))) →
     RefusesSession s h fault
 past_fails s h Fit n = tells_none s (λ can. n can.past)
 past_fails s h TooDeep n = absurd n
@@ -130,7 +129,7 @@ past_fails s h TooMany n = absurd n
 past_fails s h Memory n = tt
 
 pub future_fails : (s : Content) (h : History (List ℕ)) (fault : RestoreFault) →
-    FailsToFollow fault (FitAlong SESSION_CELLS s.registers (map diff s.future)) → RefusesSession s h fault
+    FailsToFollow fault (FitAlong SESSION_CELLS s.registers s.future) → RefusesSession s h fault
 future_fails s h Fit n = tells_none s (λ can. n can.future)
 future_fails s h TooDeep n = absurd n
 future_fails s h TooMany n = absurd n
@@ -152,61 +151,54 @@ not_three false f r e a b c = false≢true a
 -- the sides as they are followed
 pub ahead_side : (X : List (List ℕ) → List Diff → Type 0) (us us' : List Union) (ms ms' : List Move) → us' ≡ us →
     ms' ≡ ms
-    → X (lists_of us') (map diff (map moved_of ms')) → X (lists_of us) (map diff (map moved_of ms))
+    → X (lists_of us') (map diff_of ms') → X (lists_of us) (map diff_of ms)
 ahead_side X us us' ms ms' e f x =
-    subst (λ (ns : List Move). X (lists_of us) (map diff (map moved_of ns))) f
-    (subst (λ (vs : List Union). X (lists_of vs) (map diff (map moved_of ms'))) e x)
+    subst (λ (ns : List Move). X (lists_of us) (map diff_of ns)) f
+    (subst (λ (vs : List Union). X (lists_of vs) (map diff_of ms')) e x)
 
 pub back_side : (X : List (List ℕ) → List Diff → Type 0) (us us' : List Union) (ms ms' back past : List Move) →
     us' ≡ us → ms' ≡ ms → back ≡ reverse past
-    → map diff (map moved_of ms) ≡ map inverse (map diff (map moved_of back))
-    → X (lists_of us') (map diff (map moved_of ms')) →
-    X (lists_of us) (map inverse (map diff (reverse (map moved_of past))))
+    → map diff_of ms ≡ map inverse (map diff_of back)
+    → X (lists_of us') (map diff_of ms') →
+    X (lists_of us) (map inverse (reverse (map diff_of past)))
 back_side X us us' ms ms' back past e f g h x =
-    subst (X (lists_of us)) (h ∙ ap (λ (ns : List Moved). map inverse (map diff ns)) (turned past back g))
+    subst (X (lists_of us)) (h ∙ ap (map inverse) (turned past back g))
     (ahead_side X us us' ms ms' e f x)
 
 -- changes of which what they take out and put in was exchanged
-moved_diffs : (ms : List Moved) → map moved (map diff ms) ≡ ms
-moved_diffs [] = refl
-moved_diffs (m ∷ ms) = ap (λ (ns : List Moved). m ∷ ns) (moved_diffs ms)
-
 inverse_twice : (ds : List Diff) → map inverse (map inverse ds) ≡ ds
 inverse_twice [] = refl
 inverse_twice (d ∷ ds) = ap (λ (es : List Diff). d ∷ es) (inverse_twice ds)
 
-all_swapped : (ms : List Moved) → AllByRecursion IsMoved ms →
-    AllByRecursion IsMoved (map moved (map inverse (map diff ms)))
+all_swapped : (ms : List Diff) → AllByRecursion IsMove ms →
+    AllByRecursion IsMove (map inverse ms)
 all_swapped [] a = tt
 all_swapped (m ∷ ms) a = (swapped m a.0, all_swapped ms a.1)
 
-pub inverted_moved : (ms ms' : List Moved) → map diff ms' ≡ map inverse (map diff ms) → AllByRecursion IsMoved ms →
-    AllByRecursion IsMoved ms'
-inverted_moved ms ms' e a = subst (AllByRecursion IsMoved) (ap (map moved) (sym e) ∙ moved_diffs ms')
-    (all_swapped ms a)
+pub inverted_moved : (ms ms' : List Diff) → ms' ≡ map inverse ms → AllByRecursion IsMove ms →
+    AllByRecursion IsMove ms'
+inverted_moved ms ms' e a = subst (AllByRecursion IsMove) (sym e) (all_swapped ms a)
 
 -- and exchanged again
 pub inverted_twice : (past back once twice : List Move) → back ≡ reverse past
-    → map diff (map moved_of once) ≡ map inverse (map diff (map moved_of back))
-    → map diff (map moved_of twice) ≡ map inverse (map diff (map moved_of once))
-    → map moved_of twice ≡ reverse (map moved_of past)
+    → map diff_of once ≡ map inverse (map diff_of back)
+    → map diff_of twice ≡ map inverse (map diff_of once)
+    → map diff_of twice ≡ reverse (map diff_of past)
 inverted_twice past back once twice e f g =
-    sym (moved_diffs (map moved_of twice))
-    ∙ ap (map moved) (g ∙ ap (map inverse) f ∙ inverse_twice (map diff (map moved_of back)))
-    ∙ moved_diffs (map moved_of back) ∙ turned past back e
+    g ∙ ap (map inverse) f ∙ inverse_twice (map diff_of back) ∙ turned past back e
 
-pub inverted_count : (past twice : List Move) → map moved_of twice ≡ reverse (map moved_of past) →
-    length twice ≡ length (map moved_of past)
+pub inverted_count : (past twice : List Move) → map diff_of twice ≡ reverse (map diff_of past) →
+    length twice ≡ length (map diff_of past)
 inverted_count past twice e =
-    sym (length-map twice moved_of) ∙ ap length e ∙ length-reverse (map moved_of past)
+    sym (length-map twice diff_of) ∙ ap length e ∙ length-reverse (map diff_of past)
 
 -- what a session that passed every test leaves
 module _ (limit depth : ℕ) (us us' : List Union) (past' future' : List Diff) (s : Content) (content : IsContent s)
-    (lists : lists_of us' ≡ s.registers) (past_is : past' ≡ map diff (reverse s.past))
-    (future_is : future' ≡ map diff s.future)
+    (lists : lists_of us' ≡ s.registers) (past_is : past' ≡ reverse s.past)
+    (future_is : future' ≡ s.future)
     (p f r : Bool) (passed : ((p && f) && r) ≡ true)
-    (a : MakesChanges limit s.registers (map inverse (map diff (reverse s.past))) p)
-    (b : MakesChanges limit s.registers (map diff s.future) f)
+    (a : MakesChanges limit s.registers (map inverse (reverse s.past)) p)
+    (b : MakesChanges limit s.registers s.future f)
     (few : r ≡ true → AllLists (λ u. length u ≤ limit) s.registers)
     (kept : length s.past + length s.future ≤ depth) where
   all_few : AllLists (λ u. length u ≤ limit) s.registers
@@ -236,9 +228,7 @@ module _ (limit depth : ℕ) (us us' : List Union) (past' future' : List Diff) (
         kept,
         ap length past_is,
         ap length future_is,
-        length-map (reverse s.past) diff,
         length-reverse s.past,
-        length-map s.future diff,
       )
 
   left_is : history limit depth us' past' future' ≡ history_told limit depth s
@@ -261,7 +251,7 @@ module _ (limit depth : ℕ) (us us' : List Union) (past' future' : List Diff) (
       ∙ ap (λ (ds : List Diff). record {
         limit = limit;
         depth = depth;
-        past = tables_after s.registers (map inverse (map diff (reverse s.past)));
+        past = tables_after s.registers (map inverse (reverse s.past));
         now = s.registers;
         future =
             tables_after s.registers ds;

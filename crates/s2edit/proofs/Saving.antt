@@ -1,27 +1,25 @@
 -- What an editor's session tells.
 use Rattle.std.proofs.Common.{◌≡◌, ℕ, ◌+◌, ◌≤◌, List, [], ◌∷◌, ◌++◌, length, map, reverse, take}
-use Rattle.std.proofs.Common.{slice_get, Some, None, append_assoc, Result, Ok, Err, Vec, Global, refl, sym, ap, ◌∙◌}
+use Rattle.std.proofs.Common.{slice_get, Some, None, append_assoc, Result, Ok, Err, Vec, Global, sym, ap, ◌∙◌}
 use Rattle.std.proofs.Common.{◌-◌, ◌<◌, nat_lt, if◌then◌else◌, inl, inr, subst, arith}
 use Rattle.std.specs.Prelude.{IfOk}
 use Rattle.std.specs.declared.alloc.AllocError.{AllocError}
 use Rattle.std.proofs.lemmas.Bool.{lt-ltb, le-ltb}
 use Rattle.std.proofs.lemmas.List.{length-map, length-reverse, length_push, map-append, append-nil, take_all}
-use Rattle.std.proofs.lemmas.List.{get_or-reverse}
+use Rattle.std.proofs.lemmas.List.{get_or-reverse, reverse-reverse}
 use Rattle.std.proofs.lemmas.Option.{slice_get_cases, slice_get-get_or}
 use Rattle.circular_buffer.specs.Buffer.{Buffer, buffer}
 use Rattle.std.specs.List.{AllByRecursion}
 use Rattle.s2list.specs.Union.{Union}
-use Rattle.s2file.specs.Session.{Moved, Content, moved_of, IsMoved, session_text}
+use Rattle.s2file.specs.Session.{Diff, Content, diff_of, IsMove, session_text}
 use Rattle.s2file.specs.declared.session.Move.{Move}
 use Rattle.s2file.specs.declared.TheConstants.{SESSION_CELLS, SESSION_CHANGES}
 use Rattle.s2file.proofs.Places.{take_one, none_past}
-use Rattle.s2edit.specs.Diff.{Diff, inverse}
+use Rattle.s2edit.specs.Diff.{inverse}
 use Rattle.s2edit.specs.Working.Chain.{table_after, tables_after, FitAlong, lists_of, AllWithin, history}
 use Rattle.s2edit.specs.History.{History}
-use Rattle.s2edit.specs.Session.{diff, Records, Text}
-use Rattle.s2edit.specs.Working.Session.{moved}
+use Rattle.s2edit.specs.Session.{Records, Text}
 use Rattle.s2edit.specs.declared.TheConstants.{REGISTERS}
-use Rattle.s2edit.proofs.Contents.{reverse_twice}
 use Rattle.s2edit.proofs.Telling.{CanFollow, history_told, tells_it}
 
 more_within : (limit n : ℕ) (t : List (List ℕ)) → limit ≤ n → AllWithin limit t → AllWithin n t
@@ -38,36 +36,27 @@ more_along limit n t (d ∷ ds) l f = (
   more_along limit n (table_after t d) ds l f.1,
 )
 
-pub diff_moved : (ds : List Diff) → map diff (map moved ds) ≡ ds
-diff_moved [] = refl
-diff_moved (d ∷ ds) = ap (λ es. d ∷ es) (diff_moved ds)
-
 module _ (limit depth : ℕ) (us : List Union) (past future : List Diff) (s : Content)
-    (r : s.registers ≡ lists_of us) (p : s.past ≡ reverse (map moved past)) (f : s.future ≡ map moved future) where
-  past_is : map inverse (map diff (reverse s.past)) ≡ map inverse past
-  past_is = ap (λ (ms : List Moved). map inverse (map diff (reverse ms))) p
-      ∙ ap (λ (ms : List Moved). map inverse (map diff ms)) (reverse_twice (map moved past))
-      ∙ ap (map inverse) (diff_moved past)
-
-  future_is : map diff s.future ≡ future
-  future_is = ap (map diff) f ∙ diff_moved future
+    (r : s.registers ≡ lists_of us) (p : s.past ≡ reverse past) (f : s.future ≡ future) where
+  past_is : map inverse (reverse s.past) ≡ map inverse past
+  past_is = ap (λ (ds : List Diff). map inverse (reverse ds)) p ∙ ap (map inverse) (reverse-reverse past)
 
   same_history : history_told limit depth s ≡ history limit depth us past future
   same_history =
       ap (λ (t : List (List ℕ)). record {
         limit = limit;
         depth = depth;
-        past = tables_after t (map inverse (map diff (reverse s.past)));
+        past = tables_after t (map inverse (reverse s.past));
         now = t;
         future =
-            tables_after t (map diff s.future);
+            tables_after t s.future;
       }) r
       ∙ ap (λ (ds : List Diff). record {
         limit = limit;
         depth = depth;
         past = tables_after (lists_of us) ds;
         now = lists_of us;
-        future = tables_after (lists_of us) (map diff s.future);
+        future = tables_after (lists_of us) s.future;
       }) past_is
       ∙ ap (λ (ds : List Diff). record {
         limit = limit;
@@ -76,7 +65,7 @@ module _ (limit depth : ℕ) (us : List Union) (past future : List Diff) (s : Co
         now = lists_of us;
         future =
             tables_after (lists_of us) ds;
-      }) future_is
+      }) f
 
   pub session_tells : limit ≤ SESSION_CELLS → depth ≤ SESSION_CHANGES → length us ≡ REGISTERS →
       length past + length future ≤ depth
@@ -90,7 +79,7 @@ module _ (limit depth : ℕ) (us : List Union) (past future : List Diff) (s : Co
         past = subst (λ (ds : List Diff). FitAlong SESSION_CELLS s.registers ds) (sym past_is)
             (subst (λ (t : List (List ℕ)). FitAlong SESSION_CELLS t (map inverse past)) (sym r)
             (more_along limit SESSION_CELLS (lists_of us) (map inverse past) cells b));
-        future = subst (λ (ds : List Diff). FitAlong SESSION_CELLS s.registers ds) (sym future_is)
+        future = subst (λ (ds : List Diff). FitAlong SESSION_CELLS s.registers ds) (sym f)
             (subst (λ (t : List (List ℕ)). FitAlong SESSION_CELLS t future) (sym r)
             (more_along limit SESSION_CELLS (lists_of us) future cells g));
       } in
@@ -99,10 +88,8 @@ module _ (limit depth : ℕ) (us : List Union) (past future : List Diff) (s : Co
         changes,
         kept,
         ap length p,
-        length-reverse (map moved past),
-        length-map past moved,
+        length-reverse past,
         ap length f,
-        length-map future moved,
       )))
 
 -- the text of a session that tells the history
@@ -113,17 +100,17 @@ text_told (Ok bytes) s h t is = record { content = s; tells = t; is = is }
 text_told (Err e) s h t is = tt
 
 -- one more copy of a change
-pub copied_one : (ms : List Move) (m : Move) (ds : List Moved) (d : Moved) (n : ℕ) →
-    map moved_of ms ≡ take (length ms) ds → n ≡ length ms → Some d ≡ slice_get ds n
-    → moved_of m ≡ d → map moved_of (ms ++ m ∷ []) ≡ take (length (ms ++ m ∷ [])) ds
+pub copied_one : (ms : List Move) (m : Move) (ds : List Diff) (d : Diff) (n : ℕ) →
+    map diff_of ms ≡ take (length ms) ds → n ≡ length ms → Some d ≡ slice_get ds n
+    → diff_of m ≡ d → map diff_of (ms ++ m ∷ []) ≡ take (length (ms ++ m ∷ [])) ds
 copied_one ms m ds d n e l h c =
-    map-append moved_of ms (m ∷ []) ∙ ap (λ (xs : List Moved). xs ++ moved_of m ∷ []) e
-    ∙ ap (λ (x : Moved). take (length ms) ds ++ x ∷ []) c
+    map-append diff_of ms (m ∷ []) ∙ ap (λ (xs : List Diff). xs ++ diff_of m ∷ []) e
+    ∙ ap (λ (x : Diff). take (length ms) ds ++ x ∷ []) c
     ∙ sym (take_one ds (length ms) d (ap (slice_get ds) (sym l) ∙ sym h))
     ∙ ap (λ (k : ℕ). take k ds) (sym (length_push ms m))
 
-pub copied_all : (ms : List Move) (ds : List Moved) (n : ℕ) → map moved_of ms ≡ take (length ms) ds →
-    n ≡ length ms → None ≡ slice_get ds n → map moved_of ms ≡ ds
+pub copied_all : (ms : List Move) (ds : List Diff) (n : ℕ) → map diff_of ms ≡ take (length ms) ds →
+    n ≡ length ms → None ≡ slice_get ds n → map diff_of ms ≡ ds
 copied_all ms ds n e l h = e ∙ take_all (length ms) ds (omega (arith, l, none_past ds n (sym h)))
 
 -- the item at a place, counted from the back
@@ -140,36 +127,34 @@ from_the_back {X} xs k = elim (slice_get_cases (reverse xs) k).1 [
 
 -- one more change that is taken over, from the back
 pub filled_one : (ms ms' : List Move) (m : Move) (ds : List Diff) → ms ≡ ms' ++ m ∷ [] →
-    map diff (map moved_of ms') ++ (diff (moved_of m) ∷ ds) ≡ map diff (map moved_of ms) ++ ds
+    map diff_of ms' ++ (diff_of m ∷ ds) ≡ map diff_of ms ++ ds
 filled_one ms ms' m ds e =
-    sym (append_assoc (map diff (map moved_of ms')) (diff (moved_of m) ∷ []) ds)
-    ∙ ap (λ (xs : List Diff). xs ++ ds) (sym (map-append diff (map moved_of ms') (moved_of m ∷ []))
-    ∙ ap (map diff) (sym (map-append moved_of ms' (m ∷ [])))
-    ∙ ap (λ (xs : List Move). map diff (map moved_of xs)) (sym e))
+    sym (append_assoc (map diff_of ms') (diff_of m ∷ []) ds)
+    ∙ ap (λ (xs : List Diff). xs ++ ds) (sym (map-append diff_of ms' (m ∷ [])) ∙ ap (map diff_of) (sym e))
 
 all_front : {A : Type 0} (P : A → Type 0) (xs : List A) (x : A) → AllByRecursion P (xs ++ x ∷ []) →
     AllByRecursion P xs × P x
 all_front P [] x a = (tt, a.0)
 all_front P (y ∷ xs) x a = let rest = all_front P xs x a.1 in ((a.0, rest.0), rest.1)
 
-pub good_front : (ms ms' : List Move) (m : Move) → ms ≡ ms' ++ m ∷ [] → AllByRecursion IsMoved (map moved_of ms) →
-    AllByRecursion IsMoved (map moved_of ms') × IsMoved (moved_of m)
+pub good_front : (ms ms' : List Move) (m : Move) → ms ≡ ms' ++ m ∷ [] → AllByRecursion IsMove (map diff_of ms) →
+    AllByRecursion IsMove (map diff_of ms') × IsMove (diff_of m)
 good_front ms ms' m e a =
-    all_front IsMoved (map moved_of ms') (moved_of m)
-    (subst (AllByRecursion IsMoved) (ap (map moved_of) e ∙ map-append moved_of ms' (m ∷ [])) a)
+    all_front IsMove (map diff_of ms') (diff_of m)
+    (subst (AllByRecursion IsMove) (ap (map diff_of) e ∙ map-append diff_of ms' (m ∷ [])) a)
 
 -- a ring that is filled from the back of the moves that are left
 pub record Filled (left : List Move) (ring : Buffer Diff) (whole : List Diff) (capacity : ℕ) : Type 0 where
-  pub items : map diff (map moved_of left) ++ ring.items ≡ whole
+  pub items : map diff_of left ++ ring.items ≡ whole
   pub capacity_is : ring.capacity ≡ capacity
-  pub each : AllByRecursion IsMoved (map moved_of left)
+  pub each : AllByRecursion IsMove (map diff_of left)
   pub room : length left + length ring.items ≤ capacity
 
-pub fill_start : (ms : List Move) (ring : Buffer Diff) (capacity : ℕ) → AllByRecursion IsMoved (map moved_of ms) →
+pub fill_start : (ms : List Move) (ring : Buffer Diff) (capacity : ℕ) → AllByRecursion IsMove (map diff_of ms) →
     length ms ≤ capacity → ring ≡ buffer [] capacity
-    → Filled ms ring (map diff (map moved_of ms)) capacity
+    → Filled ms ring (map diff_of ms) capacity
 fill_start ms ring capacity a l e = record {
-  items = ap (λ (b : Buffer Diff). map diff (map moved_of ms) ++ b.items) e ∙ append-nil (map diff (map moved_of ms));
+  items = ap (λ (b : Buffer Diff). map diff_of ms ++ b.items) e ∙ append-nil (map diff_of ms);
   capacity_is = ap (λ (b : Buffer Diff). b.capacity) e;
   each = a;
   room = omega (arith, l, ap (λ (b : Buffer Diff). length b.items) e);
@@ -177,15 +162,15 @@ fill_start ms ring capacity a l e = record {
 
 pub fill_step : (ms ms' : List Move) (m : Move) (ring ring' : Buffer Diff) (item : Diff) (whole : List Diff)
     (capacity : ℕ) → Filled ms ring whole capacity → ms ≡ ms' ++ m ∷ []
-    → item ≡ diff (moved_of m) → ring' ≡ buffer (take ring.capacity (item ∷ ring.items)) ring.capacity →
+    → item ≡ diff_of m → ring' ≡ buffer (take ring.capacity (item ∷ ring.items)) ring.capacity →
     Filled ms' ring' whole capacity
 fill_step ms ms' m ring ring' item whole capacity f e i p =
     let count : length ms ≡ length ms' + 1 = ap length e ∙ length_push ms' m in
-    let new : ring'.items ≡ diff (moved_of m) ∷ ring.items =
+    let new : ring'.items ≡ diff_of m ∷ ring.items =
     ap (λ (b : Buffer Diff). b.items) p ∙ take_all ring.capacity (item ∷ ring.items)
     (omega (arith, f.room, f.capacity_is, count)) ∙ ap (λ (d : Diff). d ∷ ring.items) i in
     record {
-      items = ap (λ (xs : List Diff). map diff (map moved_of ms') ++ xs) new ∙ filled_one ms ms' m ring.items e
+      items = ap (λ (xs : List Diff). map diff_of ms' ++ xs) new ∙ filled_one ms ms' m ring.items e
           ∙ f.items;
       capacity_is = ap (λ (b : Buffer Diff). b.capacity) p ∙ f.capacity_is;
       each = (good_front ms ms' m e f.each).0;

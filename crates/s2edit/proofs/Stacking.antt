@@ -18,14 +18,12 @@ use Rattle.s2list.specs.Union.{has_leaf, IsLocal}
 use Rattle.s2list.proofs.Normal.{leaf_from}
 use Rattle.s2union.specs.Apply.{has}
 use Rattle.s2file.specs.declared.session.Move.{Move}
-use Rattle.s2file.specs.Session.{Moved, IsMoved, moved_of}
-use Rattle.s2edit.specs.Diff.{Diff, IsDiff}
-use Rattle.s2edit.specs.Session.{diff}
+use Rattle.s2file.specs.Session.{IsDiff, Diff, IsMove, diff_of}
+use Rattle.s2file.proofs.Fronts.{same_diff}
 use Rattle.s2edit.specs.Working.Part.{around}
 use Rattle.s2edit.specs.Working.Followed.{LieApart}
 use Rattle.s2edit.specs.Working.Layers.{ordered, ordered_diff, AreChanges, LeadAlike, AllNearWatched, IsNearWatched}
 use Rattle.s2edit.specs.Working.Layers.{HavePlaces, ArePlaces, NoneIn, layer_at, IsStacked}
-use Rattle.s2edit.proofs.Following.{same_diff}
 use Rattle.s2edit.proofs.PartLemmas.{by_bool, has_member, leaf_there, leaf_around}
 use Rattle.s2edit.proofs.Layering.{AreSeparate, NamesCells, both_changes, alike_empty, alike_placed, both_is_change}
 use Rattle.s2edit.proofs.Ordering.{insert_append, has_ordered, has_append}
@@ -190,11 +188,11 @@ all_set P (y ∷ xs) zero x a p = (p, a.1)
 all_set P (y ∷ xs) (suc i) x a p = (a.0, all_set P xs i x a.1 p)
 
 -- the change of a layer with the cells of `m` in it as well
-abbrev pub with_cells : Moved → Moved → Moved
+abbrev pub with_cells : Diff → Diff → Diff
 with_cells e m = record { register = e.register; out = e.out ++ m.out; put = e.put ++ m.put }
 
-ordered_both : (e m : Moved) → ordered_diff (with_cells e m) ≡ both_changes (ordered_diff e) (diff m)
-ordered_both e m = same_diff (ordered_diff (with_cells e m)) (both_changes (ordered_diff e) (diff m)) refl
+ordered_both : (e m : Diff) → ordered_diff (with_cells e m) ≡ both_changes (ordered_diff e) m
+ordered_both e m = same_diff (ordered_diff (with_cells e m)) (both_changes (ordered_diff e) m) refl
     (insert_append e.out m.out []) (insert_append e.put m.put [])
 
 -- the watched cells in which the cells lie are at most so high
@@ -208,25 +206,25 @@ EachAbove watched heights cells h = (c i : ℕ) → has cells c ≡ true → i <
     covers (get_or watched i 0) (first_leaf c) ≡ true → h ≤ get_or heights i 0
 
 -- the height of a change is at least that of each watched cell near it
-pub record IsHeight (watched heights : List ℕ) (m : Moved) (h : ℕ) : Type 0 where
+pub record IsHeight (watched heights : List ℕ) (m : Diff) (h : ℕ) : Type 0 where
   pub out : EachBelow watched heights m.out h
   pub put : EachBelow watched heights m.put h
 
 -- the heights after the cells of the change went into the layer `h`
-pub record AreHeights (watched heights : List ℕ) (m : Moved) (h : ℕ) (next : List ℕ) : Type 0 where
+pub record AreHeights (watched heights : List ℕ) (m : Diff) (h : ℕ) (next : List ℕ) : Type 0 where
   pub count : length next ≡ length watched
   pub kept : (i : ℕ) → i < length watched → get_or heights i 0 ≤ get_or next i 0
   pub bound : (i : ℕ) → i < length watched → get_or next i 0 ≤ max (get_or heights i 0) (h + 1)
   pub out : EachAbove watched next m.out (h + 1)
   pub put : EachAbove watched next m.put (h + 1)
 
-abbrev no_layer : Moved
+abbrev no_layer : Diff
 no_layer = record { register = 0; out = []; put = [] }
 
 -- an empty layer on top
-module _ (watched heights : List ℕ) (layers : List Moved) (e : Moved) (no_out : e.out ≡ []) (no_put : e.put ≡ [])
+module _ (watched heights : List ℕ) (layers : List Diff) (e : Diff) (no_out : e.out ≡ []) (no_put : e.put ≡ [])
     (s : IsStacked watched heights layers) where
-  none_more : (f : Moved → List ℕ) → f e ≡ []
+  none_more : (f : Diff → List ℕ) → f e ≡ []
       → ((i k : ℕ) → i < length watched → get_or heights i 0 ≤ k → k < length layers →
       NoneIn (get_or watched i 0) (f (layer_at layers k)))
       → (i k : ℕ) → i < length watched → get_or heights i 0 ≤ k → k < length (layers ++ e ∷ []) →
@@ -234,20 +232,20 @@ module _ (watched heights : List ℕ) (layers : List Moved) (e : Moved) (no_out 
   none_more f empty old i k l le lt c h =
       ⊎_elim
       (λ (a : k < length layers). old i k l le a c
-      (subst (λ (x : Moved). has (f x) c ≡ true) (get_or_append_left layers (e ∷ []) no_layer k a) h))
+      (subst (λ (x : Diff). has (f x) c ≡ true) (get_or_append_left layers (e ∷ []) no_layer k a) h))
       (λ (b : length layers ≤ k).
       let top : k ≡ length layers = omega (arith, b, lt, length_push layers e) in
       let same : layer_at (layers ++ e ∷ []) k ≡ e =
       ap (layer_at (layers ++ e ∷ [])) top ∙ get_or-append_seam layers e [] no_layer in
-      absurd (false≢true (sym (ap (λ (x : Moved). has (f x) c) same ∙ ap (λ (xs : List ℕ). has xs c) empty) ∙ h)))
+      absurd (false≢true (sym (ap (λ (x : Diff). has (f x) c) same ∙ ap (λ (xs : List ℕ). has xs c) empty) ∙ h)))
       (cases_lt k (length layers))
 
   pub stacked_empty : IsStacked watched heights (layers ++ e ∷ [])
   stacked_empty = record {
     count = s.count;
     bound = λ i h. omega (arith, s.bound i h, length_push layers e);
-    no_out = none_more (λ (x : Moved). x.out) no_out s.no_out;
-    no_put = none_more (λ (x : Moved). x.put) no_put s.no_put;
+    no_out = none_more (λ (x : Diff). x.out) no_out s.no_out;
+    no_put = none_more (λ (x : Diff). x.put) no_put s.no_put;
     near = all_push (IsNearWatched watched) layers e s.near (record {
       out = λ c h. absurd (false≢true (sym (ap (λ (xs : List ℕ). has xs c) no_out) ∙ h));
       put = λ c h. absurd (false≢true (sym (ap (λ (xs : List ℕ). has xs c) no_put) ∙ h));
@@ -268,10 +266,10 @@ module _ (watched heights : List ℕ) (layers : List Moved) (e : Moved) (no_out 
       (alike_empty ds (map ordered_diff layers) (ordered_diff e) (ap ordered no_out) (ap ordered no_put) a)
 
 -- a change goes into a layer
-module _ (watched heights : List ℕ) (layers : List Moved) (e m : Moved) (h : ℕ) (l : IsLocal watched)
-    (g : IsMoved m) (near : IsNearWatched watched m) (s : IsStacked watched heights layers)
+module _ (watched heights : List ℕ) (layers : List Diff) (e m : Diff) (h : ℕ) (l : IsLocal watched)
+    (g : IsMove m) (near : IsNearWatched watched m) (s : IsStacked watched heights layers)
     (high : IsHeight watched heights m h) (low : h < length layers) (is : e ≡ layer_at layers h) where
-  separate : (k : ℕ) → h ≤ k → k < length layers → AreSeparate (ordered_diff (layer_at layers k)) (diff m)
+  separate : (k : ℕ) → h ≤ k → k < length layers → AreSeparate (ordered_diff (layer_at layers k)) m
   separate k le lt =
       let b = layer_at layers k in
       let n : IsNearWatched watched b = all_at (IsNearWatched watched) layers k no_layer s.near lt in
@@ -304,14 +302,11 @@ module _ (watched heights : List ℕ) (layers : List Moved) (e m : Moved) (h : �
         };
       }
 
-  is_diff : IsDiff m.out m.put
-  is_diff = record { out_ascends = g.out.ascending; put_ascends = g.put.ascending; apart = g.apart }
-
-  names : NamesCells (diff m)
+  names : NamesCells m
   names = record { out = λ c hc. (near.out c hc).valid; put = λ c hc. (near.put c hc).valid }
 
   made : map ordered_diff (slice_set layers h (with_cells e m))
-      ≡ slice_set (map ordered_diff layers) h (both_changes (ordered_diff e) (diff m))
+      ≡ slice_set (map ordered_diff layers) h (both_changes (ordered_diff e) m)
   made = map-set ordered_diff layers h (with_cells e m)
       ∙ ap (slice_set (map ordered_diff layers) h) (ordered_both e m)
 
@@ -319,17 +314,17 @@ module _ (watched heights : List ℕ) (layers : List Moved) (e m : Moved) (h : �
   layer_is = ap ordered_diff is ∙ sym (get_or-map ordered_diff layers h no_layer (ordered_diff e) low)
 
   pub alike_gathered : (ds : List Diff) → LeadAlike ds (map ordered_diff layers) →
-      LeadAlike (ds ++ diff m ∷ []) (map ordered_diff (slice_set layers h (with_cells e m)))
+      LeadAlike (ds ++ m ∷ []) (map ordered_diff (slice_set layers h (with_cells e m)))
   alike_gathered ds a =
-      subst (LeadAlike (ds ++ diff m ∷ [])) (sym made)
-      (alike_placed ds (map ordered_diff layers) h (ordered_diff e) (diff m) a
-      (omega (arith, low, length-map layers ordered_diff)) layer_is s.changes is_diff names
+      subst (LeadAlike (ds ++ m ∷ [])) (sym made)
+      (alike_placed ds (map ordered_diff layers) h (ordered_diff e) m a
+      (omega (arith, low, length-map layers ordered_diff)) layer_is s.changes g.lists names
       (λ k b le lt b_is. let lk : k < length layers = omega (arith, lt, length-map layers ordered_diff) in
-      subst (λ (x : Diff). AreSeparate x (diff m))
+      subst (λ (x : Diff). AreSeparate x m)
       (sym (b_is ∙ get_or-map ordered_diff layers k no_layer b lk)) (separate k le lk)))
 
   module _ (next : List ℕ) (kept : (i : ℕ) → i < length watched → get_or heights i 0 ≤ get_or next i 0) where
-    none_gathered : (f : Moved → List ℕ) → f (with_cells e m) ≡ f e ++ f m
+    none_gathered : (f : Diff → List ℕ) → f (with_cells e m) ≡ f e ++ f m
         → ((i k : ℕ) → i < length watched → get_or heights i 0 ≤ k → k < length layers →
         NoneIn (get_or watched i 0) (f (layer_at layers k)))
         → EachAbove watched next (f m) (h + 1)
@@ -340,16 +335,16 @@ module _ (watched heights : List ℕ) (layers : List Moved) (e m : Moved) (h : �
         let up = kept i li in
         let other : k ≢ h → covers (get_or watched i 0) (first_leaf c) ≡ false =
         λ n. old i k li (omega (arith, up, le)) lk c
-        (subst (λ (x : Moved). has (f x) c ≡ true) (get_or-set_other layers h k (with_cells e m) no_layer n) hc) in
+        (subst (λ (x : Diff). has (f x) c ≡ true) (get_or-set_other layers h k (with_cells e m) no_layer n) hc) in
         ⊎_elim
         (λ (same : k ≡ h).
         let now : layer_at (slice_set layers h (with_cells e m)) k ≡ with_cells e m =
         get_or-set_at layers h k (with_cells e m) no_layer same low in
         let there : (has (f e) c || has (f m) c) ≡ true =
-        sym (ap (λ (x : Moved). has (f x) c) now ∙ ap (λ (xs : List ℕ). has xs c) both ∙ has_append (f e) (f m) c)
+        sym (ap (λ (x : Diff). has (f x) c) now ∙ ap (λ (xs : List ℕ). has xs c) both ∙ has_append (f e) (f m) c)
         ∙ hc in
         by_bool (has (f e) c)
-        (λ t. old i h li (omega (arith, up, le, same)) low c (sym (ap (λ (x : Moved). has (f x) c) is) ∙ t))
+        (λ t. old i h li (omega (arith, up, le, same)) low c (sym (ap (λ (x : Diff). has (f x) c) is) ∙ t))
         (λ n. by_bool (covers (get_or watched i 0) (first_leaf c))
         (λ v. let up_to = raised c i (grind (arith, common_steps, n, there)) li v in
         absurd (omega (arith, up_to, le, same)))
@@ -366,26 +361,26 @@ module _ (watched heights : List ℕ) (layers : List Moved) (e m : Moved) (h : �
       subst (λ (x : Diff). IsDiff x.out x.put) (sym layer_is)
       (all_at (λ (x : Diff). IsDiff x.out x.put) (map ordered_diff layers) h (ordered_diff e) s.changes
       (omega (arith, low, length-map layers ordered_diff))) in
-      let apart : AreSeparate (ordered_diff e) (diff m) =
-      subst (λ (x : Moved). AreSeparate (ordered_diff x) (diff m)) (sym is) (separate h (omega arith) low) in
+      let apart : AreSeparate (ordered_diff e) m =
+      subst (λ (x : Diff). AreSeparate (ordered_diff x) m) (sym is) (separate h (omega arith) low) in
       record {
         count = r.count;
         bound = λ i li. omega (arith, r.bound i li, s.bound i li, low, length-set layers h (with_cells e m));
-        no_out = none_gathered next r.kept (λ (x : Moved). x.out) refl s.no_out r.out;
-        no_put = none_gathered next r.kept (λ (x : Moved). x.put) refl s.no_put r.put;
+        no_out = none_gathered next r.kept (λ (x : Diff). x.out) refl s.no_out r.out;
+        no_put = none_gathered next r.kept (λ (x : Diff). x.put) refl s.no_put r.put;
         near = all_set (IsNearWatched watched) layers h (with_cells e m) s.near (record {
           out = near_append watched e.out m.out n.out near.out;
           put = near_append watched e.put m.put n.put near.put;
         });
         changes = subst AreChanges (sym made)
             (all_set (λ (x : Diff). IsDiff x.out x.put) (map ordered_diff layers) h
-            (both_changes (ordered_diff e) (diff m)) s.changes
-            (both_is_change (ordered_diff e) (diff m) d is_diff names apart));
+            (both_changes (ordered_diff e) m) s.changes
+            (both_is_change (ordered_diff e) m d g.lists names apart));
       }
 
 -- ---- what the code does
 
-module _ (watched heights places : List ℕ) (m : Moved) (h : ℕ) (a : ArePlaces watched m places)
+module _ (watched heights places : List ℕ) (m : Diff) (h : ℕ) (a : ArePlaces watched m places)
     (count : length heights ≡ length watched) where
   pub height_from : ((p : ℕ) → has places p ≡ true → p < length heights → get_or heights p 0 ≤ h)
       → IsHeight watched heights m h
@@ -408,23 +403,23 @@ module _ (watched heights places : List ℕ) (m : Moved) (h : ℕ) (a : ArePlace
 
 -- the layers with one more on top where the change needs it
 pub record AreOpened (watched heights : List ℕ) (ms ns : List Move) (h : ℕ) : Type 0 where
-  pub stacked : IsStacked watched heights (map moved_of ns)
-  pub alike : (ds : List Diff) → LeadAlike ds (map ordered_diff (map moved_of ms)) →
-      LeadAlike ds (map ordered_diff (map moved_of ns))
+  pub stacked : IsStacked watched heights (map diff_of ns)
+  pub alike : (ds : List Diff) → LeadAlike ds (map ordered_diff (map diff_of ms)) →
+      LeadAlike ds (map ordered_diff (map diff_of ns))
   pub low : h < length ns
 
 module _ (watched heights : List ℕ) (ms ns : List Move) (h : ℕ)
-    (s : IsStacked watched heights (map moved_of ms)) where
+    (s : IsStacked watched heights (map diff_of ms)) where
   pub opened_new : (e : Move) → ns ≡ ms ++ e ∷ [] → e.out.items ≡ [] → e.put.items ≡ [] → h ≡ length ms →
       AreOpened watched heights ms ns h
   opened_new e is o p top =
-      let same : map moved_of ns ≡ map moved_of ms ++ moved_of e ∷ [] =
-      ap (map moved_of) is ∙ map-append moved_of ms (e ∷ []) in
+      let same : map diff_of ns ≡ map diff_of ms ++ diff_of e ∷ [] =
+      ap (map diff_of) is ∙ map-append diff_of ms (e ∷ []) in
       record {
         stacked = subst (IsStacked watched heights) (sym same)
-            (stacked_empty watched heights (map moved_of ms) (moved_of e) o p s);
-        alike = λ ds a. subst (λ (xs : List Moved). LeadAlike ds (map ordered_diff xs)) (sym same)
-            (alike_more watched heights (map moved_of ms) (moved_of e) o p s ds a);
+            (stacked_empty watched heights (map diff_of ms) (diff_of e) o p s);
+        alike = λ ds a. subst (λ (xs : List Diff). LeadAlike ds (map ordered_diff xs)) (sym same)
+            (alike_more watched heights (map diff_of ms) (diff_of e) o p s ds a);
         low = omega (arith, top, ap length is, length_push ms e);
       }
 
@@ -436,37 +431,31 @@ module _ (watched heights : List ℕ) (ms ns : List Move) (h : ℕ)
         low = omega (arith, le, other);
       })
 
-moved_same : (d e : Moved) → d.register ≡ e.register → d.out ≡ e.out → d.put ≡ e.put → d ≡ e
-moved_same d e r o p =
-    ap (λ (x : ℕ). record { register = x; out = d.out; put = d.put }) r
-    ∙ ap (λ (x : List ℕ). record { register = e.register; out = x; put = d.put }) o
-    ∙ ap (λ (x : List ℕ). record { register = e.register; out = e.out; put = x }) p
-
 module _ (watched heights : List ℕ) (ms ns : List Move) (m e n : Move) (h : ℕ) (l : IsLocal watched)
-    (g : IsMoved (moved_of m)) (near : IsNearWatched watched (moved_of m)) (o : AreOpened watched heights ms ns h)
-    (high : IsHeight watched heights (moved_of m) h) (is : e ≡ get_or ns h e) (register : n.register ≡ e.register)
+    (g : IsMove (diff_of m)) (near : IsNearWatched watched (diff_of m)) (o : AreOpened watched heights ms ns h)
+    (high : IsHeight watched heights (diff_of m) h) (is : e ≡ get_or ns h e) (register : n.register ≡ e.register)
     (out : n.out.items ≡ e.out.items ++ m.out.items) (put : n.put.items ≡ e.put.items ++ m.put.items) where
-  low_now : h < length (map moved_of ns)
-  low_now = omega (arith, o.low, length-map ns moved_of)
+  low_now : h < length (map diff_of ns)
+  low_now = omega (arith, o.low, length-map ns diff_of)
 
-  layer_now : moved_of e ≡ layer_at (map moved_of ns) h
-  layer_now = ap moved_of is ∙ sym (get_or-map moved_of ns h e no_layer o.low)
+  layer_now : diff_of e ≡ layer_at (map diff_of ns) h
+  layer_now = ap diff_of is ∙ sym (get_or-map diff_of ns h e no_layer o.low)
 
-  layers_now : map moved_of (slice_set ns h n)
-      ≡ slice_set (map moved_of ns) h (with_cells (moved_of e) (moved_of m))
-  layers_now = map-set moved_of ns h n
-      ∙ ap (slice_set (map moved_of ns) h)
-      (moved_same (moved_of n) (with_cells (moved_of e) (moved_of m)) register out put)
+  layers_now : map diff_of (slice_set ns h n)
+      ≡ slice_set (map diff_of ns) h (with_cells (diff_of e) (diff_of m))
+  layers_now = map-set diff_of ns h n
+      ∙ ap (slice_set (map diff_of ns) h)
+      (same_diff (diff_of n) (with_cells (diff_of e) (diff_of m)) register out put)
 
-  pub gather_alike : (ds : List Diff) → LeadAlike ds (map ordered_diff (map moved_of ms)) →
-      LeadAlike (ds ++ diff (moved_of m) ∷ []) (map ordered_diff (map moved_of (slice_set ns h n)))
-  gather_alike ds a = subst (λ (xs : List Moved). LeadAlike (ds ++ diff (moved_of m) ∷ []) (map ordered_diff xs))
+  pub gather_alike : (ds : List Diff) → LeadAlike ds (map ordered_diff (map diff_of ms)) →
+      LeadAlike (ds ++ diff_of m ∷ []) (map ordered_diff (map diff_of (slice_set ns h n)))
+  gather_alike ds a = subst (λ (xs : List Diff). LeadAlike (ds ++ diff_of m ∷ []) (map ordered_diff xs))
       (sym layers_now)
-      (alike_gathered watched heights (map moved_of ns) (moved_of e) (moved_of m) h l g near o.stacked high low_now
+      (alike_gathered watched heights (map diff_of ns) (diff_of e) (diff_of m) h l g near o.stacked high low_now
       layer_now ds (o.alike ds a))
 
-  pub gather_stacked : (next : List ℕ) → AreHeights watched heights (moved_of m) h next →
-      IsStacked watched next (map moved_of (slice_set ns h n))
+  pub gather_stacked : (next : List ℕ) → AreHeights watched heights (diff_of m) h next →
+      IsStacked watched next (map diff_of (slice_set ns h n))
   gather_stacked next r = subst (IsStacked watched next) (sym layers_now)
-      (stacked_gathered watched heights (map moved_of ns) (moved_of e) (moved_of m) h l g near o.stacked high low_now
+      (stacked_gathered watched heights (map diff_of ns) (diff_of e) (diff_of m) h l g near o.stacked high low_now
       layer_now next r)

@@ -2,35 +2,35 @@
 use Rattle.std.proofs.Common.{◌≡◌, ℕ, ◌+◌, ◌≤◌, List, [], ◌∷◌, length, map, reverse, refl, sym, ap, ◌∙◌}
 use Rattle.std.proofs.Common.{subst, arith}
 use Rattle.std.proofs.lemmas.List.{length-set, length-map, length-reverse}
-use Rattle.s2file.specs.Session.{Moved, Content}
+use Rattle.s2file.specs.Session.{Diff, Content}
 use Rattle.s2file.specs.declared.TheConstants.{SESSION_CELLS, SESSION_CHANGES}
 use Rattle.s2edit.specs.History.{History, AllTables}
-use Rattle.s2edit.specs.Diff.{Diff, inverse}
+use Rattle.s2edit.specs.Diff.{inverse}
 use Rattle.s2edit.specs.Leads.{list_at, Leads}
 use Rattle.s2edit.specs.Working.Chain.{table_after, tables_after, FitsTable, FitAlong, AllWithin}
 use Rattle.s2edit.specs.Chain.{IsLocalWithin}
-use Rattle.s2edit.specs.Session.{diff, LeadBack, LeadAhead, Records}
+use Rattle.s2edit.specs.Session.{LeadBack, LeadAhead, Records}
 use Rattle.s2edit.specs.declared.TheConstants.{REGISTERS}
 use Rattle.s2edit.proofs.Tables.{AllWithin-at, fits_back, table_back, within_after, length-tables_after}
 use Rattle.s2edit.proofs.Assigning.{fits_table, between_table}
 use Rattle.s2edit.proofs.Leading.{lead_ahead, lead_back, AllTables-within}
 
 -- changes that can be made one after another lead along the tables that they make
-pub all_ahead : (limit : ℕ) (t : List (List ℕ)) (ms : List Moved) → AllWithin limit t →
-    FitAlong limit t (map diff ms) → LeadAhead ms t (tables_after t (map diff ms))
+pub all_ahead : (limit : ℕ) (t : List (List ℕ)) (ms : List Diff) → AllWithin limit t →
+    FitAlong limit t ms → LeadAhead ms t (tables_after t ms)
 all_ahead limit t [] a f = tt
 all_ahead limit t (m ∷ ms) a f = (
-  lead_ahead limit t (diff m) a f.0,
-  all_ahead limit (table_after t (diff m)) ms (within_after limit t (diff m) a f.0) f.1,
+  lead_ahead limit t m a f.0,
+  all_ahead limit (table_after t m) ms (within_after limit t m a f.0) f.1,
 )
 
-pub all_back : (limit : ℕ) (t : List (List ℕ)) (ms : List Moved) → AllWithin limit t →
-    FitAlong limit t (map inverse (map diff ms)) → LeadBack ms t (tables_after t (map inverse (map diff ms)))
+pub all_back : (limit : ℕ) (t : List (List ℕ)) (ms : List Diff) → AllWithin limit t →
+    FitAlong limit t (map inverse ms) → LeadBack ms t (tables_after t (map inverse ms))
 all_back limit t [] a f = tt
 all_back limit t (m ∷ ms) a f = (
-  lead_back limit t (diff m) a f.0,
-  all_back limit (table_after t (inverse (diff m))) ms
-      (within_after limit t (inverse (diff m)) a f.0) f.1,
+  lead_back limit t m a f.0,
+  all_back limit (table_after t (inverse m)) ms
+      (within_after limit t (inverse m) a f.0) f.1,
 )
 
 -- a change that leads from one table to another can be made in it
@@ -70,51 +70,51 @@ along_more limit d ds t u us m r = record {
   are = ap (λ (xs : List (List (List ℕ))). u ∷ xs) r.are ∙ ap (λ (x : List (List ℕ)). x ∷ tables_after x ds) m.is;
 }
 
-pub along_ahead : (limit : ℕ) (t : List (List ℕ)) (ms : List Moved) (ts : List (List (List ℕ))) →
-    AllWithin limit t → AllTables (IsLocalWithin limit) ts → LeadAhead ms t ts → Along limit (map diff ms) t ts
+pub along_ahead : (limit : ℕ) (t : List (List ℕ)) (ms : List Diff) (ts : List (List (List ℕ))) →
+    AllWithin limit t → AllTables (IsLocalWithin limit) ts → LeadAhead ms t ts → Along limit ms t ts
 along_ahead limit t [] [] a b l = record { fits = tt; are = refl }
 along_ahead limit t [] (u ∷ us) a b l = absurd l
 along_ahead limit t (m ∷ ms) [] a b l = absurd l
 along_ahead limit t (m ∷ ms) (u ∷ us) a b l =
-    along_more limit (diff m) (map diff ms) t u us (from_lead limit (diff m) t u a b.0 l.0)
+    along_more limit m ms t u us (from_lead limit m t u a b.0 l.0)
     (along_ahead limit u ms us b.0 b.1 l.1)
 
-pub along_back : (limit : ℕ) (t : List (List ℕ)) (ms : List Moved) (ts : List (List (List ℕ))) →
+pub along_back : (limit : ℕ) (t : List (List ℕ)) (ms : List Diff) (ts : List (List (List ℕ))) →
     AllWithin limit t → AllTables (IsLocalWithin limit) ts → LeadBack ms t ts →
-    Along limit (map inverse (map diff ms)) t ts
+    Along limit (map inverse ms) t ts
 along_back limit t [] [] a b l = record { fits = tt; are = refl }
 along_back limit t [] (u ∷ us) a b l = absurd l
 along_back limit t (m ∷ ms) [] a b l = absurd l
 along_back limit t (m ∷ ms) (u ∷ us) a b l =
-    along_more limit (inverse (diff m)) (map inverse (map diff ms)) t u us
-    (back_from_lead limit (diff m) t u a b.0 l.0) (along_back limit u ms us b.0 b.1 l.1)
+    along_more limit (inverse m) (map inverse ms) t u us
+    (back_from_lead limit m t u a b.0 l.0) (along_back limit u ms us b.0 b.1 l.1)
 
 -- the history that a session tells, in an editor of that limit and depth
 abbrev pub history_told : ℕ → ℕ → Content → History (List ℕ)
 history_told limit depth s = record {
   limit = limit;
   depth = depth;
-  past = tables_after s.registers (map inverse (map diff (reverse s.past)));
+  past = tables_after s.registers (map inverse (reverse s.past));
   now = s.registers;
-  future = tables_after s.registers (map diff s.future);
+  future = tables_after s.registers s.future;
 }
 
 -- its changes can be made
 pub record CanFollow (s : Content) : Type 0 where
   pub count : length s.registers ≡ REGISTERS
   pub within : AllWithin SESSION_CELLS s.registers
-  pub past : FitAlong SESSION_CELLS s.registers (map inverse (map diff (reverse s.past)))
-  pub future : FitAlong SESSION_CELLS s.registers (map diff s.future)
+  pub past : FitAlong SESSION_CELLS s.registers (map inverse (reverse s.past))
+  pub future : FitAlong SESSION_CELLS s.registers s.future
 
 module _ (s : Content) (h : History (List ℕ)) (w : Records s h) where
   within : AllWithin SESSION_CELLS s.registers
   within = subst (AllWithin SESSION_CELLS) w.now w.lists.now
 
-  back : Along SESSION_CELLS (map inverse (map diff (reverse s.past))) s.registers h.past
+  back : Along SESSION_CELLS (map inverse (reverse s.past)) s.registers h.past
   back = along_back SESSION_CELLS s.registers (reverse s.past) h.past within w.lists.past
       (subst (λ (t : List (List ℕ)). LeadBack (reverse s.past) t h.past) w.now w.past)
 
-  ahead : Along SESSION_CELLS (map diff s.future) s.registers h.future
+  ahead : Along SESSION_CELLS s.future s.registers h.future
   ahead = along_ahead SESSION_CELLS s.registers s.future h.future within w.lists.future
       (subst (λ (t : List (List ℕ)). LeadAhead s.future t h.future) w.now w.future)
 
@@ -138,7 +138,7 @@ module _ (s : Content) (h : History (List ℕ)) (w : Records s h) where
       ∙ ap (λ (t : List (List ℕ)). record {
         limit = h.limit;
         depth = h.depth;
-        past = tables_after s.registers (map inverse (map diff (reverse s.past)));
+        past = tables_after s.registers (map inverse (reverse s.past));
         now = t;
         future = h.future;
       })
@@ -146,18 +146,18 @@ module _ (s : Content) (h : History (List ℕ)) (w : Records s h) where
       ∙ ap (λ (ts : List (List (List ℕ))). record {
         limit = h.limit;
         depth = h.depth;
-        past = tables_after s.registers (map inverse (map diff (reverse s.past)));
+        past = tables_after s.registers (map inverse (reverse s.past));
         now = s.registers;
         future =
             ts;
       }) ahead.are
 
   pub told_past : length h.past ≡ length s.past
-  told_past = ap length back.are ∙ length-tables_after s.registers (map inverse (map diff (reverse s.past)))
-      ∙ length-map (map diff (reverse s.past)) inverse ∙ length-map (reverse s.past) diff ∙ length-reverse s.past
+  told_past = ap length back.are ∙ length-tables_after s.registers (map inverse (reverse s.past))
+      ∙ length-map (reverse s.past) inverse ∙ length-reverse s.past
 
   pub told_future : length h.future ≡ length s.future
-  told_future = ap length ahead.are ∙ length-tables_after s.registers (map diff s.future) ∙ length-map s.future diff
+  told_future = ap length ahead.are ∙ length-tables_after s.registers s.future
 
 -- a session tells one history in an editor of one limit and depth
 pub one_told : (s : Content) (h k : History (List ℕ)) → Records s h → Records s k → h.limit ≡ k.limit →
@@ -171,14 +171,14 @@ pub tells_it : (limit depth : ℕ) (s : Content) → CanFollow s → length s.pa
     Records s (history_told limit depth s)
 tells_it limit depth s f few =
     let past : LeadBack (reverse s.past) s.registers
-    (tables_after s.registers (map inverse (map diff (reverse s.past)))) =
+    (tables_after s.registers (map inverse (reverse s.past))) =
     all_back SESSION_CELLS s.registers (reverse s.past) f.within f.past in
-    let p : length (tables_after s.registers (map inverse (map diff (reverse s.past)))) ≡ length s.past =
-    length-tables_after s.registers (map inverse (map diff (reverse s.past)))
-    ∙ length-map (map diff (reverse s.past)) inverse ∙ length-map (reverse s.past) diff
+    let p : length (tables_after s.registers (map inverse (reverse s.past))) ≡ length s.past =
+    length-tables_after s.registers (map inverse (reverse s.past))
+    ∙ length-map (reverse s.past) inverse
     ∙ length-reverse s.past in
-    let q : length (tables_after s.registers (map diff s.future)) ≡ length s.future =
-    length-tables_after s.registers (map diff s.future) ∙ length-map s.future diff in
+    let q : length (tables_after s.registers s.future) ≡ length s.future =
+    length-tables_after s.registers s.future in
     record {
       now = refl;
       count = f.count;
@@ -186,9 +186,9 @@ tells_it limit depth s f few =
       future = all_ahead SESSION_CELLS s.registers s.future f.within f.future;
       lists = record {
         past = AllTables-within (IsLocalWithin SESSION_CELLS) SESSION_CELLS (λ u w. w) s.registers
-            (map inverse (map diff (reverse s.past))) f.within f.past;
+            (map inverse (reverse s.past)) f.within f.past;
         now = f.within;
-        future = AllTables-within (IsLocalWithin SESSION_CELLS) SESSION_CELLS (λ u w. w) s.registers (map diff s.future)
+        future = AllTables-within (IsLocalWithin SESSION_CELLS) SESSION_CELLS (λ u w. w) s.registers s.future
             f.within f.future;
       };
       few = omega (arith, p, q, few);

@@ -5,12 +5,11 @@ use Rattle.std.proofs.lemmas.Grind.{common_steps}
 use Rattle.std.proofs.lemmas.List.{map-append, take-append-drop, drop-drop}
 use Rattle.std.specs.List.{AllByRecursion}
 use Rattle.s2list.specs.Union.{has_leaf}
-use Rattle.s2file.specs.Session.{Moved, IsMoved, moved_of}
+use Rattle.s2file.specs.Session.{Diff, IsMove, diff_of}
 use Rattle.s2file.specs.declared.session.Move.{Move}
-use Rattle.s2edit.specs.Diff.{Diff, apply}
+use Rattle.s2edit.specs.Diff.{apply}
 use Rattle.s2edit.specs.Working.Layers.{FitInTurn, list_after_all, LeadAlike, of_register}
 use Rattle.s2edit.specs.Working.Part.{around_all, IsWatched, IsPart}
-use Rattle.s2edit.specs.Session.{diff}
 use Rattle.s2edit.proofs.Layering.{fit_parts, fit_both, after_both}
 use Rattle.s2edit.proofs.PartLemmas.{by_bool, fits_part, fits_whole, part_after}
 use Rattle.s2edit.proofs.PartTables.{watched_in, leaf_both, leaf_all}
@@ -39,8 +38,8 @@ turn_whole S u s (d ∷ ds) p a f = (
 )
 
 -- the changes of a register name cells whose parents lie in the leaves of all these parents
-register_watched : (S : ℕ → Bool) (r : ℕ) (ms : List Moved) → AllByRecursion IsMoved ms
-    → ((x : ℕ) → has_leaf (around_all r ms) x ≡ true → S x ≡ true) → AllWatched S (map diff (of_register r ms))
+register_watched : (S : ℕ → Bool) (r : ℕ) (ms : List Diff) → AllByRecursion IsMove ms
+    → ((x : ℕ) → has_leaf (around_all r ms) x ≡ true → S x ≡ true) → AllWatched S (of_register r ms)
 register_watched S r [] a w = tt
 register_watched S r (m ∷ ms) a w =
     let rest = register_watched S r ms a.1 (λ x h. w x (grind (arith, common_steps, leaf_all r x m ms, h))) in
@@ -57,19 +56,19 @@ register_watched S r (m ∷ ms) a w =
     (λ n. rw n rest)
 
 -- a walk along the layers of a part says what a walk along the changes of the list would
-module _ (r : ℕ) (ms : List Moved) (each : AllByRecursion IsMoved ms) (watched u s : List ℕ) (es : List Diff)
+module _ (r : ℕ) (ms : List Diff) (each : AllByRecursion IsMove ms) (watched u s : List ℕ) (es : List Diff)
     (leaves : (x : ℕ) → has_leaf watched x ≡ has_leaf (around_all r ms) x) (p : IsPart (has_leaf watched) u s)
-    (alike : LeadAlike (map diff (of_register r ms)) es) where
-  all_watched : AllWatched (has_leaf watched) (map diff (of_register r ms))
+    (alike : LeadAlike (of_register r ms) es) where
+  all_watched : AllWatched (has_leaf watched) (of_register r ms)
   all_watched = register_watched (has_leaf watched) r ms each (λ x h. leaves x ∙ h)
 
-  pub layers_give : FitInTurn s es → FitInTurn u (map diff (of_register r ms))
-  layers_give f = turn_whole (has_leaf watched) u s (map diff (of_register r ms)) p all_watched
+  pub layers_give : FitInTurn s es → FitInTurn u (of_register r ms)
+  layers_give f = turn_whole (has_leaf watched) u s (of_register r ms) p all_watched
       (alike.back s p.part_local f)
 
-  pub layers_need : FitInTurn u (map diff (of_register r ms)) → FitInTurn s es
+  pub layers_need : FitInTurn u (of_register r ms) → FitInTurn s es
   layers_need f = alike.there s p.part_local
-      (turn_part (has_leaf watched) u s (map diff (of_register r ms)) p all_watched f)
+      (turn_part (has_leaf watched) u s (of_register r ms) p all_watched f)
 
 -- the changes that are left can be made from here exactly if all can from the start, and they lead to the same list
 pub record GoesOn (u : List ℕ) (ds : List Diff) (here : List ℕ) (left : List Diff) : Type 0 where
@@ -88,66 +87,61 @@ goes_over u ds here there firsts rest g f e = record {
 }
 
 -- the changes of a register, of changes in two parts
-of_register-append : (r : ℕ) (ms ns : List Moved) → of_register r (ms ++ ns) ≡ of_register r ms ++ of_register r ns
+of_register-append : (r : ℕ) (ms ns : List Diff) → of_register r (ms ++ ns) ≡ of_register r ms ++ of_register r ns
 of_register-append r [] ns = refl
 of_register-append r (m ∷ ms) ns = by_bool (eqb m.register r)
-    (λ e. rw e (ap (λ (l : List Moved). m ∷ l) (of_register-append r ms ns)))
+    (λ e. rw e (ap (λ (l : List Diff). m ∷ l) (of_register-append r ms ns)))
     (λ n. rw n (of_register-append r ms ns))
 
-pub diffs_in_parts : (r : ℕ) (ms ns : List Moved) →
-    map diff (of_register r (ms ++ ns)) ≡ map diff (of_register r ms) ++ map diff (of_register r ns)
-diffs_in_parts r ms ns = ap (map diff) (of_register-append r ms ns) ∙ map-append diff (of_register r ms)
-    (of_register r ns)
-
 -- some of the changes of a session
-each_after : (ms : List Move) (i : ℕ) → AllByRecursion IsMoved (map moved_of ms) →
-    AllByRecursion IsMoved (map moved_of (drop i ms))
+each_after : (ms : List Move) (i : ℕ) → AllByRecursion IsMove (map diff_of ms) →
+    AllByRecursion IsMove (map diff_of (drop i ms))
 each_after [] zero a = a
 each_after [] (suc i) a = a
 each_after (m ∷ ms) zero a = a
 each_after (m ∷ ms) (suc i) a = each_after ms i a.1
 
-each_before : (ms : List Move) (i : ℕ) → AllByRecursion IsMoved (map moved_of ms) →
-    AllByRecursion IsMoved (map moved_of (take i ms))
+each_before : (ms : List Move) (i : ℕ) → AllByRecursion IsMove (map diff_of ms) →
+    AllByRecursion IsMove (map diff_of (take i ms))
 each_before [] zero a = a
 each_before [] (suc i) a = a
 each_before (m ∷ ms) zero a = tt
 each_before (m ∷ ms) (suc i) a = (a.0, each_before ms i a.1)
 
-pub each_between : (ms : List Move) (i n : ℕ) → AllByRecursion IsMoved (map moved_of ms) →
-    AllByRecursion IsMoved (map moved_of (take n (drop i ms)))
+pub each_between : (ms : List Move) (i n : ℕ) → AllByRecursion IsMove (map diff_of ms) →
+    AllByRecursion IsMove (map diff_of (take n (drop i ms)))
 each_between ms i n a = each_before (drop i ms) n (each_after ms i a)
 
 -- a batch of the changes of a session: those from the place `i` to the place `i + k`, which are `n`
 module _ (u : List ℕ) (r : ℕ) (ms : List Move) (here : List ℕ) (i k n : ℕ) (count : n ≡ k)
-    (g : GoesOn u (map diff (of_register r (map moved_of ms))) here
-    (map diff (of_register r (map moved_of (drop i ms))))) where
+    (g : GoesOn u (of_register r (map diff_of ms)) here
+    (of_register r (map diff_of (drop i ms)))) where
   parts : drop i ms ≡ take n (drop i ms) ++ drop (i + k) ms
   parts = sym (take-append-drop n (drop i ms)) ∙ ap (λ (l : List Move). take n (drop i ms) ++ l)
       (drop-drop n i ms ∙ ap (λ (j : ℕ). drop j ms) (omega (arith, count)))
 
-  in_parts : map diff (of_register r (map moved_of (drop i ms)))
-      ≡ map diff (of_register r (map moved_of (take n (drop i ms))))
-      ++ map diff (of_register r (map moved_of (drop (i + k) ms)))
-  in_parts = ap (λ (l : List Move). map diff (of_register r (map moved_of l))) parts
-      ∙ ap (λ (l : List Moved). map diff (of_register r l))
-      (map-append moved_of (take n (drop i ms)) (drop (i + k) ms))
-      ∙ diffs_in_parts r (map moved_of (take n (drop i ms))) (map moved_of (drop (i + k) ms))
+  in_parts : of_register r (map diff_of (drop i ms))
+      ≡ of_register r (map diff_of (take n (drop i ms)))
+      ++ of_register r (map diff_of (drop (i + k) ms))
+  in_parts = ap (λ (l : List Move). of_register r (map diff_of l)) parts
+      ∙ ap (λ (l : List Diff). of_register r l)
+      (map-append diff_of (take n (drop i ms)) (drop (i + k) ms))
+      ∙ of_register-append r (map diff_of (take n (drop i ms))) (map diff_of (drop (i + k) ms))
 
-  goes_parts : GoesOn u (map diff (of_register r (map moved_of ms))) here
-      (map diff (of_register r (map moved_of (take n (drop i ms))))
-      ++ map diff (of_register r (map moved_of (drop (i + k) ms))))
-  goes_parts = subst (GoesOn u (map diff (of_register r (map moved_of ms))) here) in_parts g
+  goes_parts : GoesOn u (of_register r (map diff_of ms)) here
+      (of_register r (map diff_of (take n (drop i ms)))
+      ++ of_register r (map diff_of (drop (i + k) ms)))
+  goes_parts = subst (GoesOn u (of_register r (map diff_of ms)) here) in_parts g
 
-  pub batch_goes : (there : List ℕ) → FitInTurn here (map diff (of_register r (map moved_of (take n (drop i ms))))) →
-      there ≡ list_after_all here (map diff (of_register r (map moved_of (take n (drop i ms))))) →
-      GoesOn u (map diff (of_register r (map moved_of ms))) there
-      (map diff (of_register r (map moved_of (drop (i + k) ms))))
-  batch_goes there f e = goes_over u (map diff (of_register r (map moved_of ms))) here there
-      (map diff (of_register r (map moved_of (take n (drop i ms)))))
-      (map diff (of_register r (map moved_of (drop (i + k) ms)))) goes_parts f e
+  pub batch_goes : (there : List ℕ) → FitInTurn here (of_register r (map diff_of (take n (drop i ms)))) →
+      there ≡ list_after_all here (of_register r (map diff_of (take n (drop i ms)))) →
+      GoesOn u (of_register r (map diff_of ms)) there
+      (of_register r (map diff_of (drop (i + k) ms)))
+  batch_goes there f e = goes_over u (of_register r (map diff_of ms)) here there
+      (of_register r (map diff_of (take n (drop i ms))))
+      (of_register r (map diff_of (drop (i + k) ms))) goes_parts f e
 
-  pub batch_needs : FitInTurn u (map diff (of_register r (map moved_of ms))) →
-      FitInTurn here (map diff (of_register r (map moved_of (take n (drop i ms)))))
-  batch_needs f = (fit_parts here (map diff (of_register r (map moved_of (take n (drop i ms)))))
-      (map diff (of_register r (map moved_of (drop (i + k) ms)))) (goes_parts.back f)).0
+  pub batch_needs : FitInTurn u (of_register r (map diff_of ms)) →
+      FitInTurn here (of_register r (map diff_of (take n (drop i ms))))
+  batch_needs f = (fit_parts here (of_register r (map diff_of (take n (drop i ms))))
+      (of_register r (map diff_of (drop (i + k) ms))) (goes_parts.back f)).0

@@ -1,19 +1,7 @@
--- A change of one register, as a contract sees it.
-use Rattle.std.specs.Prelude.{◌≡◌, ℕ, true, false, List}
-use Rattle.std.specs.List.Sorted.{IsStrictlyIncreasing}
-use Rattle.s2union.specs.Apply.{has, cells_without, applied, Fits}
-
--- a register, the cells that are taken out of its list, and those that are put in
-pub record Diff : Type 0 where
-  pub register : ℕ
-  pub out : List ℕ
-  pub put : List ℕ
-
--- two ascending lists that share no cell
-pub record IsDiff (out put : List ℕ) : Type 0 where
-  pub out_ascends : IsStrictlyIncreasing out
-  pub put_ascends : IsStrictlyIncreasing put
-  pub apart : (x : ℕ) → has out x ≡ true → has put x ≡ false
+-- What a change of one register does.
+use Rattle.std.specs.Prelude.{ℕ, List}
+use Rattle.s2union.specs.Apply.{cells_without, applied, Fits}
+use Rattle.s2file.specs.Session.{Diff}
 
 -- the list that the change makes from `u`
 abbrev pub apply : Diff → List ℕ → List ℕ

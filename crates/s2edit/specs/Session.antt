@@ -1,32 +1,27 @@
 -- What a session says about a history, and the bytes that stand for one.
 use Rattle.std.specs.Prelude.{◌≡◌, ℕ, ◌+◌, ◌<◌, ◌≤◌, Bool, List, [], ◌∷◌, length, reverse}
-use Rattle.s2file.specs.Session.{Moved, Content, session_text, Spells}
+use Rattle.s2file.specs.Session.{Diff, Content, session_text, Spells}
 use Rattle.s2file.specs.declared.TheConstants.{SESSION_CELLS, SESSION_CHANGES}
 use Rattle.s2edit.specs.History.{History, EachList, sets}
-use Rattle.s2edit.specs.Diff.{Diff}
 use Rattle.s2edit.specs.Leads.{Leads}
 use Rattle.s2edit.specs.Chain.{IsLocalWithin}
 use Rattle.s2edit.specs.declared.TheConstants.{REGISTERS}
 use Rattle.s2edit.specs.declared.session.RestoreFault.{RestoreFault}
 use Rattle.s2edit.specs.declared.session.RestoreFault.TheVariants.{Fit, TooDeep, TooMany, Memory}
 
--- a change of a session as a change of the editor
-abbrev pub diff : Moved → Diff
-diff m = record { register = m.register; out = m.out; put = m.put }
-
 -- the changes lead from the earlier tables to the table; both lists are in order from the table back
-abbrev pub LeadBack : List Moved → List (List ℕ) → List (List (List ℕ)) → Type 0
+abbrev pub LeadBack : List Diff → List (List ℕ) → List (List (List ℕ)) → Type 0
 LeadBack [] t [] = Unit {0}
 LeadBack [] t (u ∷ us) = ⊥
-LeadBack (m ∷ ms) t [] = ⊥
-LeadBack (m ∷ ms) t (u ∷ us) = Leads (diff m) u t × LeadBack ms u us
+LeadBack (d ∷ ds) t [] = ⊥
+LeadBack (d ∷ ds) t (u ∷ us) = Leads d u t × LeadBack ds u us
 
 -- the changes lead from the table to the later ones
-abbrev pub LeadAhead : List Moved → List (List ℕ) → List (List (List ℕ)) → Type 0
+abbrev pub LeadAhead : List Diff → List (List ℕ) → List (List (List ℕ)) → Type 0
 LeadAhead [] t [] = Unit {0}
 LeadAhead [] t (u ∷ us) = ⊥
-LeadAhead (m ∷ ms) t [] = ⊥
-LeadAhead (m ∷ ms) t (u ∷ us) = Leads (diff m) t u × LeadAhead ms u us
+LeadAhead (d ∷ ds) t [] = ⊥
+LeadAhead (d ∷ ds) t (u ∷ us) = Leads d t u × LeadAhead ds u us
 
 -- The session tells the history: its registers are the present table, and its changes are those between adjacent
 -- tables, the past oldest first, each in the one register that differs. Every list is normalized and not too long for a

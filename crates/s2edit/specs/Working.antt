@@ -4,7 +4,6 @@ pub mod Chain
 pub mod Change
 pub mod Editor
 pub mod Named
-pub mod Session
 pub mod Following
 pub mod Followed
 pub mod Part

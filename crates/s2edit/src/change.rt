@@ -1,8 +1,7 @@
 //! Changes of a register.
 ghost use Rattle.std.specs.Prelude.{◌≡◌, [], IfOk, IsOk, ◌↔◌, IsTrue};
-ghost use Rattle.s2file.specs.Session.{moved_of, IsMoved};
+ghost use Rattle.s2file.specs.Session.{diff_of, IsMove};
 ghost use Rattle.s2edit.specs.Diff.{FitsList};
-ghost use Rattle.s2edit.specs.Session.{diff};
 
 use crate::lacking::unshared_cells;
 use crate::register::Register;
@@ -22,13 +21,13 @@ pub struct Change {
 }
 
 impl Model for Change {
-    ghost use Rattle.s2edit.specs.Diff.{Diff};
+    ghost use Rattle.s2file.specs.Session.{Diff};
 
     ghost Value = { Diff };
 
-    ghost use Rattle.s2edit.specs.Working.Change.{diff_of, IsChange};
+    ghost use Rattle.s2edit.specs.Working.Change.{diff_inside, IsChange};
 
-    ghost view = { diff_of };
+    ghost view = { diff_inside };
 
     ghost invariant = { IsChange };
 }
@@ -76,8 +75,8 @@ impl Change {
 
     /// The change that a session tells, with its lists.
     pub(crate) fn of_move(change: Move) -> Change
-        requires { IsMoved (moved_of change) }
-        ensures { result ≡ diff (moved_of change) }
+        requires { IsMove (diff_of change) }
+        ensures { result ≡ diff_of change }
     {
         let Move { register, out, put } = change;
         Change {

@@ -14,8 +14,7 @@
 //! How long the lists get on the way is counted, not measured (lengths.rt).
 ghost use Rattle.std.specs.Prelude.{◌≡◌, length, map, MatchResult};
 ghost use Rattle.std.specs.List.{AllByRecursion};
-ghost use Rattle.s2file.specs.Session.{moved_of, IsMoved};
-ghost use Rattle.s2edit.specs.Session.{diff};
+ghost use Rattle.s2file.specs.Session.{diff_of, IsMove};
 ghost use Rattle.s2edit.specs.Working.Chain.{lists_of, AllWithin, FitAlong};
 ghost use Rattle.s2edit.specs.Working.Following.{FailsToFollow, MakesChanges};
 
@@ -46,10 +45,10 @@ pub(crate) fn fit(
 ) -> Result<bool, RestoreFault>
     requires count { length registers.now ≡ REGISTERS }
     requires within { AllWithin SESSION_CELLS (lists_of registers.now) }
-    requires each { AllByRecursion IsMoved (map moved_of moves.now) }
+    requires each { AllByRecursion IsMove (map diff_of moves.now) }
     ensures { MatchResult result (λ within. MakesChanges limit (lists_of registers.now)
-        (map diff (map moved_of moves.now)) within) (λ fault.
-        FailsToFollow fault (FitAlong SESSION_CELLS (lists_of registers.now) (map diff (map moved_of moves.now)))) }
+        (map diff_of moves.now) within) (λ fault.
+        FailsToFollow fault (FitAlong SESSION_CELLS (lists_of registers.now) (map diff_of moves.now))) }
 {
     for register in 0..registers.len() {
         follow(alloc, &registers[register], moves, register)?;

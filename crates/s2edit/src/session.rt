@@ -3,11 +3,11 @@ ghost use Rattle.std.specs.Prelude.{◌≡◌, ◌≤◌, ◌↔◌, ◌&&◌, l
 ghost use Rattle.std.specs.List.{AllByRecursion};
 ghost use Rattle.std.specs.Vec.{vec_len};
 ghost use Rattle.circular_buffer.specs.Buffer.{buffer};
-ghost use Rattle.s2file.specs.Session.{content_of, moved_of, IsContent, IsMoved};
+ghost use Rattle.s2file.specs.Session.{content_of, diff_of, IsContent, IsMove};
 ghost use Rattle.s2edit.specs.History.{AllLists};
 ghost use Rattle.s2edit.specs.Diff.{inverse};
 ghost use Rattle.s2edit.specs.Working.Chain.{lists_of};
-ghost use Rattle.s2edit.specs.Session.{diff, Records, Text, Restored, RefusesSession};
+ghost use Rattle.s2edit.specs.Session.{Records, Text, Restored, RefusesSession};
 ghost use Rattle.s2edit.specs.Working.Following.{HaveRoom, KeepRoom};
 ghost use Rattle.s2edit.specs.declared.session.RestoreFault.TheVariants.{Memory};
 
@@ -165,9 +165,9 @@ fn take_over(union: &mut CellUnion, other: CellUnion)
 
 /// Makes a ring hold just these changes, the first at its front.
 fn fill(ring: &mut HeapCircularBuffer<Change>, mut moves: Vec<Move>)
-    requires each { AllByRecursion IsMoved (map moved_of moves.items) }
+    requires each { AllByRecursion IsMove (map diff_of moves.items) }
     requires room { vec_len moves ≤ ring.old.capacity }
-    ensures { ring.new ≡ buffer (map diff (map moved_of moves.items)) ring.old.capacity }
+    ensures { ring.new ≡ buffer (map diff_of moves.items) ring.old.capacity }
 {
     ring.clear();
     while let Some(change) = moves.pop() {
@@ -177,7 +177,7 @@ fn fill(ring: &mut HeapCircularBuffer<Change>, mut moves: Vec<Move>)
 
 /// Exchanges what each change takes out and puts in.
 fn invert(moves: &mut Vec<Move>)
-    ensures { map diff (map moved_of moves.new.items) ≡ map inverse (map diff (map moved_of moves.old.items)) }
+    ensures { map diff_of moves.new.items ≡ map inverse (map diff_of moves.old.items) }
 {
     for change in moves.iter_mut() {
         mem::swap(&mut change.out, &mut change.put);
@@ -204,7 +204,7 @@ fn copies_of(alloc: Global, unions: &[CellUnion]) -> Result<Vec<CellUnion>, Allo
 
 /// Changes with lists of their own.
 fn moves_of<C: Changes>(alloc: Global, changes: &C) -> Result<Vec<Move>, AllocError>
-    ensures { IfOk result (λ moves. map moved_of moves.items ≡ C.list changes.now) }
+    ensures { IfOk result (λ moves. map diff_of moves.items ≡ C.list changes.now) }
 {
     let mut moves = Vec::with_capacity(alloc, changes.count())?;
     while let Some(change) = changes.at(moves.len()) {
@@ -215,7 +215,7 @@ fn moves_of<C: Changes>(alloc: Global, changes: &C) -> Result<Vec<Move>, AllocEr
 
 /// A copy of a change.
 fn copy_of(alloc: Global, change: &BorrowedMove<'_>) -> Result<Move, AllocError>
-    ensures { IfOk result (λ copy. moved_of copy ≡ change.now) }
+    ensures { IfOk result (λ copy. diff_of copy ≡ change.now) }
 {
     Ok(Move {
         register: change.register,

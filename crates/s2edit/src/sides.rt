@@ -1,6 +1,5 @@
 //! Both sides of a history as changes, in the order of a session.
-ghost use Rattle.std.specs.Prelude.{◌≡◌, map, reverse, option_map, option_copied};
-ghost use Rattle.s2edit.specs.Working.Session.{moved};
+ghost use Rattle.std.specs.Prelude.{◌≡◌, reverse, option_copied};
 
 use crate::change::Change;
 use circular_buffer::HeapCircularBuffer;
@@ -19,7 +18,7 @@ pub(crate) struct Future<'a> {
 }
 
 impl<'a> Changes for Past<'a> {
-    ghost list = { λ s. reverse (map moved s.ring.now.items) };
+    ghost list = { λ s. reverse s.ring.now.items };
 
     fn count(&self) -> usize {
         self.ring.len()
@@ -31,7 +30,7 @@ impl<'a> Changes for Past<'a> {
 }
 
 impl<'a> Changes for Future<'a> {
-    ghost list = { λ s. map moved s.ring.now.items };
+    ghost list = { λ s. s.ring.now.items };
 
     fn count(&self) -> usize {
         self.ring.len()
@@ -44,7 +43,7 @@ impl<'a> Changes for Future<'a> {
 
 /// A change as one of a session, with its lists where they are.
 fn borrowed<'a>(change: Option<&'a Change>) -> Option<BorrowedMove<'a>>
-    ensures { result ≡ option_map moved (option_copied change.entry) }
+    ensures { result ≡ option_copied change.entry }
 {
     let change = change?;
     Some(BorrowedMove {

@@ -7,9 +7,9 @@ use Rattle.std.specs.List.{AllByRecursion}
 use Rattle.s2cell.specs.Cell.{IsCell}
 use Rattle.s2cell.proofs.Calls.{fits_u64}
 use Rattle.s2file.specs.File.{first_number, number_text}
-use Rattle.s2file.specs.Session.{Moved, Content, list_text, move_text, moves_text, parts_text, IsRegisterList}
-use Rattle.s2file.specs.Session.{IsChangeList, IsMoved, IsContent}
-use Rattle.s2file.specs.Working.SessionParts.{Begins, IsNumber, AreCells, AreMoves, AreRegisters, registers_text}
+use Rattle.s2file.specs.Session.{Diff, Content, list_text, move_text, moves_text, parts_text, IsRegisterList}
+use Rattle.s2file.specs.Session.{AreCells, IsMove, IsContent}
+use Rattle.s2file.specs.Working.SessionParts.{Begins, IsNumber, AreMoves, AreRegisters, registers_text}
 use Rattle.s2file.proofs.Numbers.{first_number-number_text, length-number_text}
 
 -- two values at the front of the same bytes are one, and the same bytes follow
@@ -89,28 +89,25 @@ one_list bytes a b r q f g =
 pub register_cells : (cells : List ℕ) → IsRegisterList cells → AreCells cells
 register_cells cells l = record { valid = l.local.cells; few = l.few }
 
-pub change_cells : {cells : List ℕ} → IsChangeList cells → AreCells cells
-change_cells l = record { valid = l.valid; few = l.few }
-
 pub one_register : IsOneWay list_text IsRegisterList
 one_register = one_within list_text IsRegisterList AreCells register_cells one_list
 
 -- a change: the byte of its register, and what follows
-pub move_front : (bytes : List ℕ) (m : Moved) (r : List ℕ) → bytes ≡ move_text m ++ r →
+pub move_front : (bytes : List ℕ) (m : Diff) (r : List ℕ) → bytes ≡ move_text m ++ r →
     bytes ≡ m.register ∷ (list_text m.out ++ (list_text m.put ++ r))
 move_front bytes m r e = e ∙ ap (λ (l : List ℕ). m.register ∷ l) (append_assoc (list_text m.out) (list_text m.put) r)
 
 pub after_byte : (x y : ℕ) (xs ys : List ℕ) → x ∷ xs ≡ y ∷ ys → (x ≡ y) × (xs ≡ ys)
 after_byte x y xs ys e = (cc, cc)
 
-same_moved : (m n : Moved) → m.register ≡ n.register → m.out ≡ n.out → m.put ≡ n.put → m ≡ n
-same_moved m n e f g =
+pub same_diff : (m n : Diff) → m.register ≡ n.register → m.out ≡ n.out → m.put ≡ n.put → m ≡ n
+same_diff m n e f g =
     ap (λ (x : ℕ). record { register = x; out = m.out; put = m.put }) e
     ∙ ap (λ (x : List ℕ). record { register = n.register; out = x; put = m.put }) f
     ∙ ap (λ (x : List ℕ). record { register = n.register; out = n.out; put = x }) g
 
 -- two changes at the front are one if their lists are lists of cells
-pub same_move : (bytes : List ℕ) (m n : Moved) (r q : List ℕ) → bytes ≡ move_text m ++ r →
+pub same_move : (bytes : List ℕ) (m n : Diff) (r q : List ℕ) → bytes ≡ move_text m ++ r →
     bytes ≡ move_text n ++ q → AreCells m.out → AreCells m.put → AreCells n.out → AreCells n.put → (m ≡ n) × (r ≡ q)
 same_move bytes m n r q e f mo mp po pp =
     let b = after_byte _ _ _ _ (sym (move_front bytes m r e) ∙ move_front bytes n q f) in
@@ -118,14 +115,13 @@ same_move bytes m n r q e f mo mp po pp =
     (list_text n.put ++ q) (record { is = refl; ok = mo }) (record { is = b.1; ok = po }) in
     let put = one_list (list_text m.put ++ r) m.put n.put r q (record { is = refl; ok = mp })
     (record { is = out.1; ok = pp }) in
-    (same_moved m n b.0 out.0 put.0, put.1)
+    (same_diff m n b.0 out.0 put.0, put.1)
 
-pub one_move : IsOneWay move_text IsMoved
+pub one_move : IsOneWay move_text IsMove
 one_move bytes m n r q f g =
-    same_move bytes m n r q f.is g.is (change_cells f.ok.out) (change_cells f.ok.put)
-    (change_cells g.ok.out) (change_cells g.ok.put)
+    same_move bytes m n r q f.is g.is f.ok.out f.ok.put g.ok.out g.ok.put
 
-pub moves_count : {bytes : List ℕ} {ms : List Moved} {r : List ℕ} →
+pub moves_count : {bytes : List ℕ} {ms : List Diff} {r : List ℕ} →
     Begins moves_text AreMoves bytes ms r → Begins number_text IsNumber bytes (length ms) (flat_map move_text ms ++ r)
 moves_count {ms} {r} f = record {
   is = f.is ∙ append_assoc (number_text (length ms)) (flat_map move_text ms) r;
@@ -136,7 +132,7 @@ pub one_moves : IsOneWay moves_text AreMoves
 one_moves bytes a b r q f g =
     let n = one_number bytes (length a) (length b) (flat_map move_text a ++ r) (flat_map move_text b ++ q)
     (moves_count f) (moves_count g) in
-    one_row move_text IsMoved one_move a b r q f.ok.each g.ok.each n.0 n.1
+    one_row move_text IsMove one_move a b r q f.ok.each g.ok.each n.0 n.1
 
 pub one_registers : IsOneWay registers_text AreRegisters
 one_registers bytes a b r q f g =
@@ -163,8 +159,8 @@ parts_of bytes {s} c e = record {
 pub same_content : (s t : Content) → s.registers ≡ t.registers → s.past ≡ t.past → s.future ≡ t.future → s ≡ t
 same_content s t e f g =
     ap (λ (x : List (List ℕ)). record { registers = x; past = s.past; future = s.future }) e
-    ∙ ap (λ (x : List Moved). record { registers = t.registers; past = x; future = s.future }) f
-    ∙ ap (λ (x : List Moved). record { registers = t.registers; past = t.past; future = x }) g
+    ∙ ap (λ (x : List Diff). record { registers = t.registers; past = x; future = s.future }) f
+    ∙ ap (λ (x : List Diff). record { registers = t.registers; past = t.past; future = x }) g
 
 pub one_session : {bytes : List ℕ} {s t : Content} {b l r b' l' r' : List ℕ} →
     Parts bytes s b l r → Parts bytes t b' l' r' → (s ≡ t) × (r ≡ r')

@@ -9,8 +9,8 @@ use Rattle.std.specs.Io.KnownBytes.{Consumes, IsAtEnd, Keeps, prepend_known}
 use Rattle.s2cell.specs.Cell.{IsCell}
 use Rattle.s2cell.proofs.Calls.{fits_u64}
 use Rattle.s2file.specs.File.{first_number, number_text}
-use Rattle.s2file.specs.Session.{list_text}
-use Rattle.s2file.specs.Working.SessionParts.{Begins, BeginsNone, Refuses, Takes, Lacks, IsNumber, AreCells, AreCounted}
+use Rattle.s2file.specs.Session.{list_text, AreCells}
+use Rattle.s2file.specs.Working.SessionParts.{Begins, BeginsNone, Refuses, Takes, Lacks, IsNumber, AreCounted}
 use Rattle.s2file.specs.Working.SessionParts.{identifiers_text, SpellsMore, SpellsWrong}
 use Rattle.s2file.specs.declared.TheConstants.{SESSION_CELLS}
 use Rattle.s2file.specs.declared.session.ReadFault.{ReadFault}

@@ -6,8 +6,8 @@ use Rattle.std.specs.Io.KnownBytes.{Consumes}
 use Rattle.std.specs.List.{AllByRecursion}
 use Rattle.s2list.specs.Union.{IsLocal}
 use Rattle.s2file.specs.File.{number_text}
-use Rattle.s2file.specs.Session.{Moved, list_text, move_text, moves_text, IsRegisterList, IsMoved}
-use Rattle.s2file.specs.Working.SessionParts.{BeginsNone, Refuses, Takes, Lacks, IsByte, IsNumber, AreCells, AreMoves}
+use Rattle.s2file.specs.Session.{Diff, list_text, move_text, moves_text, AreCells, IsRegisterList, IsMove}
+use Rattle.s2file.specs.Working.SessionParts.{BeginsNone, Refuses, Takes, Lacks, IsByte, IsNumber, AreMoves}
 use Rattle.s2file.specs.Working.SessionParts.{AreRegisters, IsRow, byte_text, registers_text, row_text}
 use Rattle.s2file.specs.declared.TheConstants.{SESSION_REGISTERS, SESSION_CHANGES}
 use Rattle.s2file.specs.declared.session.ReadFault.{ReadFault}
@@ -34,11 +34,11 @@ registers_refused fault {old} {mid} {xs} t few h =
     (λ bytes. BeginsNone registers_text AreRegisters bytes) t.is
     (λ rest none. registers_none (record { is = refl; each = t.ok }) few none) h
 
-pub row_refused : (fault : ReadFault) {old mid : Option (List ℕ)} {xs : List Moved} (count : ℕ) →
-    Takes row_text (AllByRecursion IsMoved) old xs mid →
-    length xs < count → Refuses fault (Lacks move_text IsMoved mid) → Refuses fault (Lacks row_text (IsRow count) old)
+pub row_refused : (fault : ReadFault) {old mid : Option (List ℕ)} {xs : List Diff} (count : ℕ) →
+    Takes row_text (AllByRecursion IsMove) old xs mid →
+    length xs < count → Refuses fault (Lacks move_text IsMove mid) → Refuses fault (Lacks row_text (IsRow count) old)
 row_refused fault {old} {mid} {xs} count t few h =
-    refuses_later fault old mid (row_text xs) (λ rest. BeginsNone move_text IsMoved rest)
+    refuses_later fault old mid (row_text xs) (λ rest. BeginsNone move_text IsMove rest)
     (λ bytes. BeginsNone row_text (IsRow count) bytes) t.is
     (λ rest none. row_none count (record { is = refl; each = t.ok }) few none) h
 
@@ -46,17 +46,17 @@ row_refused fault {old} {mid} {xs} count t few h =
 
 module _ (old mid : Option (List ℕ)) (r : ℕ) (b : Takes byte_text IsByte old r mid) where
   pub out_refused : (fault : ReadFault) → Refuses fault (Lacks list_text AreCells mid) →
-      Refuses fault (Lacks move_text IsMoved old)
+      Refuses fault (Lacks move_text IsMove old)
   out_refused fault h =
       refuses_later fault old mid (r ∷ []) (λ rest. BeginsNone list_text AreCells rest)
-      (λ bytes. BeginsNone move_text IsMoved bytes) b.is (λ rest none. move_without_out (r ∷ rest) rest r refl none) h
+      (λ bytes. BeginsNone move_text IsMove bytes) b.is (λ rest none. move_without_out (r ∷ rest) rest r refl none) h
 
   module _ (more : Option (List ℕ)) (out : List ℕ) (o : Takes list_text AreCells mid out more) where
     pub put_refused : (fault : ReadFault) → Refuses fault (Lacks list_text AreCells more) →
-        Refuses fault (Lacks move_text IsMoved old)
+        Refuses fault (Lacks move_text IsMove old)
     put_refused fault h =
         refuses_later fault old more (r ∷ list_text out) (λ rest. BeginsNone list_text AreCells rest)
-        (λ bytes. BeginsNone move_text IsMoved bytes) (Consumes-trans old mid more (r ∷ []) (list_text out) b.is o.is)
+        (λ bytes. BeginsNone move_text IsMove bytes) (Consumes-trans old mid more (r ∷ []) (list_text out) b.is o.is)
         (λ rest none. move_without_put (r ∷ (list_text out ++ rest)) (list_text out ++ rest) r refl out rest
         (record { is = refl; ok = o.ok }) none) h
 
@@ -65,13 +65,13 @@ module _ (old mid : Option (List ℕ)) (r : ℕ) (b : Takes byte_text IsByte old
       whole = Consumes-trans old mid new (r ∷ []) (list_text out ++ list_text put) b.is
           (Consumes-trans mid more new (list_text out) (list_text put) o.is p.is)
 
-      pub move_taken : IsMoved (record { register = r; out = out; put = put }) →
-          Takes move_text IsMoved old (record { register = r; out = out; put = put }) new
+      pub move_taken : IsMove (record { register = r; out = out; put = put }) →
+          Takes move_text IsMove old (record { register = r; out = out; put = put }) new
       move_taken ok = record { is = whole; ok = ok }
 
-      pub change_wrong : (IsMoved (record { register = r; out = out; put = put }) → ⊥) → Lacks move_text IsMoved old
+      pub change_wrong : (IsMove (record { register = r; out = out; put = put }) → ⊥) → Lacks move_text IsMove old
       change_wrong wrong =
-          known_front old new (r ∷ (list_text out ++ list_text put)) (λ bytes. BeginsNone move_text IsMoved bytes)
+          known_front old new (r ∷ (list_text out ++ list_text put)) (λ bytes. BeginsNone move_text IsMove bytes)
           whole
           (λ rest. move_wrong _ ((list_text out ++ list_text put) ++ rest) r refl out (list_text put ++ rest)
           (record { is = append_assoc (list_text out) (list_text put) rest; ok = o.ok }) put rest
@@ -92,7 +92,7 @@ module _ (old mid : Option (List ℕ)) (count : ℕ) (n : Takes number_text IsNu
       (λ bytes. BeginsNone moves_text AreMoves bytes) n.is
       (λ after none. moves_none _ after count (record { is = refl; ok = n.ok }) none) h
 
-  pub moves_taken : (new : Option (List ℕ)) (ms : List Moved) → Takes row_text (IsRow count) mid ms new →
+  pub moves_taken : (new : Option (List ℕ)) (ms : List Diff) → Takes row_text (IsRow count) mid ms new →
       count ≤ SESSION_CHANGES → Takes moves_text AreMoves old ms new
   moves_taken new ms t few = record {
     is = subst (λ (k : ℕ). Consumes old new (number_text k ++ flat_map move_text ms)) (sym t.ok.len)

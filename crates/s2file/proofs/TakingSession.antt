@@ -7,7 +7,7 @@ use Rattle.std.proofs.KnownBytes.{Consumes-trans, Consumes-whole, prepend_known-
 use Rattle.std.specs.Io.KnownBytes.{Consumes, IsAtEnd, Keeps, prepend_known}
 use Rattle.std.specs.Prelude.{MatchResult}
 use Rattle.std.specs.Option.{option_map}
-use Rattle.s2file.specs.Session.{Moved, Content, content_of, moves_text, IsContent, IsSessionFile, IsUnionFile, Spells}
+use Rattle.s2file.specs.Session.{Diff, Content, content_of, moves_text, IsContent, IsSessionFile, IsUnionFile, Spells}
 use Rattle.s2file.specs.Working.SessionParts.{BeginsNone, Refuses, Takes, Lacks, AreMoves, AreRegisters, registers_text}
 use Rattle.s2file.specs.Working.Reading.{Finds}
 use Rattle.s2file.specs.Reading.{RefusesToRead}
@@ -56,7 +56,7 @@ module _ (old m1 : Option (List ℕ)) (h : Consumes old m1 (0x73 ∷ 1 ∷ [])) 
         (λ rest none. file_without_past _ (registers_text lists ++ rest) refl lists rest
         (record { is = refl; ok = r.ok }) none) p
 
-    module _ (m3 : Option (List ℕ)) (past : List Moved) (p : Takes moves_text AreMoves m2 past m3) where
+    module _ (m3 : Option (List ℕ)) (past : List Diff) (p : Takes moves_text AreMoves m2 past m3) where
       pub no_future : (fault : ReadFault) → Refuses fault (Lacks moves_text AreMoves m3) →
           Refuses fault (IfSome old NoFile)
       no_future fault f =
@@ -69,7 +69,7 @@ module _ (old m1 : Option (List ℕ)) (h : Consumes old m1 (0x73 ∷ 1 ∷ [])) 
           (record { is = append_assoc (registers_text lists) (moves_text past) rest; ok = r.ok }) past rest
           (record { is = refl; ok = p.ok }) none) f
 
-      module _ (m4 : Option (List ℕ)) (future : List Moved) (f : Takes moves_text AreMoves m3 future m4) where
+      module _ (m4 : Option (List ℕ)) (future : List Diff) (f : Takes moves_text AreMoves m3 future m4) where
         whole : Consumes old m4 (0x73 ∷ 1 ∷ (registers_text lists ++ (moves_text past ++ moves_text future)))
         whole = Consumes-trans old m1 m4 (0x73 ∷ 1 ∷ [])
             (registers_text lists ++ (moves_text past ++ moves_text future)) h

@@ -14,7 +14,7 @@ use Rattle.s2file.specs.declared.session.Session.{Session}
 
 -- a change of one register: the number of the register, the cells that are taken out of its list, and those that are
 -- put in
-pub record Moved : Type 0 where
+pub record Diff : Type 0 where
   pub register : ℕ
   pub out : List ℕ
   pub put : List ℕ
@@ -23,20 +23,20 @@ pub record Moved : Type 0 where
 -- nearest first
 pub record Content : Type 0 where
   pub registers : List (List ℕ)
-  pub past : List Moved
-  pub future : List Moved
+  pub past : List Diff
+  pub future : List Diff
 
 -- a list of cells: how many, and the identifier of each
 abbrev pub list_text : List ℕ → List ℕ
 list_text cells = number_text (length cells) ++ flat_map number_text cells
 
 -- a change: a byte for the register, the cells that are taken out, and those that are put in
-abbrev pub move_text : Moved → List ℕ
-move_text m = m.register ∷ (list_text m.out ++ list_text m.put)
+abbrev pub move_text : Diff → List ℕ
+move_text d = d.register ∷ (list_text d.out ++ list_text d.put)
 
 -- changes: how many, and one after another
-abbrev pub moves_text : List Moved → List ℕ
-moves_text ms = number_text (length ms) ++ flat_map move_text ms
+abbrev pub moves_text : List Diff → List ℕ
+moves_text ds = number_text (length ds) ++ flat_map move_text ds
 
 -- the registers, the past and the future
 abbrev pub parts_text : Content → List ℕ
@@ -51,30 +51,35 @@ pub record IsRegisterList (cells : List ℕ) : Type 0 where
   pub local : IsLocal cells
   pub few : length cells ≤ SESSION_CELLS
 
--- a list that a change may take out or put in
-pub record IsChangeList (cells : List ℕ) : Type 0 where
+-- identifiers of cells, in any order, no more than a list of a session may have
+pub record AreCells (cells : List ℕ) : Type 0 where
   pub valid : All IsCell cells
-  pub ascending : IsStrictlyIncreasing cells
   pub few : length cells ≤ SESSION_CELLS
 
 -- no cell is in both lists
 abbrev pub AreApart : List ℕ → List ℕ → Type 0
 AreApart out put = (x : ℕ) → has out x ≡ true → has put x ≡ false
 
+-- two ascending lists that share no cell
+pub record IsDiff (out put : List ℕ) : Type 0 where
+  pub out_ascends : IsStrictlyIncreasing out
+  pub put_ascends : IsStrictlyIncreasing put
+  pub apart : AreApart out put
+
 -- a change that a session may have: its lists ascend, share no cell, and are not both empty
-pub record IsMoved (m : Moved) : Type 0 where
-  pub register : m.register < SESSION_REGISTERS
-  pub out : IsChangeList m.out
-  pub put : IsChangeList m.put
-  pub apart : AreApart m.out m.put
-  pub some : 0 < length m.out + length m.put
+pub record IsMove (d : Diff) : Type 0 where
+  pub register : d.register < SESSION_REGISTERS
+  pub out : AreCells d.out
+  pub put : AreCells d.put
+  pub lists : IsDiff d.out d.put
+  pub some : 0 < length d.out + length d.put
 
 -- what a session may say, except that its changes need not fit one after another
 pub record IsContent (s : Content) : Type 0 where
   pub count : length s.registers ≡ SESSION_REGISTERS
   pub registers : AllByRecursion IsRegisterList s.registers
-  pub past : AllByRecursion IsMoved s.past
-  pub future : AllByRecursion IsMoved s.future
+  pub past : AllByRecursion IsMove s.past
+  pub future : AllByRecursion IsMove s.future
   pub few : length s.past + length s.future ≤ SESSION_CHANGES
 
 -- register a has the list, all others are empty, and nothing was changed
@@ -98,11 +103,11 @@ abbrev pub Spells : List ℕ → Content → Type 0
 Spells bytes s = IsSessionFile bytes s ⊎ IsUnionFile bytes s
 
 -- the change that a `Move` stands for
-abbrev pub moved_of : Move → Moved
-moved_of m = record { register = m.register; out = m.out.items; put = m.put.items }
+abbrev pub diff_of : Move → Diff
+diff_of m = record { register = m.register; out = m.out.items; put = m.put.items }
 
 -- what registers, a past with the oldest change first, and a future with the nearest first say
-abbrev pub content_of_parts : List Union → List Moved → List Moved → Content
+abbrev pub content_of_parts : List Union → List Diff → List Diff → Content
 content_of_parts registers past future = record {
   registers = map (λ (u : Union). u.cells) registers;
   past = past;
@@ -111,4 +116,4 @@ content_of_parts registers past future = record {
 
 -- what a `Session` says
 abbrev pub content_of : Session → Content
-content_of s = content_of_parts s.registers.items (map moved_of s.past.items) (map moved_of s.future.items)
+content_of s = content_of_parts s.registers.items (map diff_of s.past.items) (map diff_of s.future.items)

@@ -1,6 +1,6 @@
 //! Changes of registers, wherever they lie in memory.
 ghost use Rattle.std.specs.Prelude.{◌≡◌, List, length, map, slice_get};
-ghost use Rattle.s2file.specs.Session.{Moved, moved_of};
+ghost use Rattle.s2file.specs.Session.{Diff, diff_of};
 
 use crate::session::Move;
 use s2cell::CellId;
@@ -18,16 +18,16 @@ pub struct BorrowedMove<'a> {
 }
 
 impl<'a> Model for BorrowedMove<'a> {
-    ghost use Rattle.s2file.specs.Session.{Moved};
+    ghost use Rattle.s2file.specs.Session.{Diff};
 
-    ghost Value = { Moved };
+    ghost Value = { Diff };
 
     ghost view = { λ m. record { register = m.register; out = m.out.now; put = m.put.now } };
 }
 
 /// Changes that can be read by their places.
 pub trait Changes {
-    ghost list: { Self → List Moved };
+    ghost list: { Self → List Diff };
 
     /// How many changes there are.
     fn count(&self) -> usize
@@ -39,7 +39,7 @@ pub trait Changes {
 }
 
 impl Changes for Vec<Move> {
-    ghost list = { λ v. map moved_of v.items };
+    ghost list = { λ v. map diff_of v.items };
 
     fn count(&self) -> usize {
         self.len()

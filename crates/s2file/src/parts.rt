@@ -6,8 +6,9 @@ ghost use Rattle.std.specs.List.Sorted.{IsStrictlyIncreasing};
 ghost use Rattle.s2cell.specs.Cell.{IsCell};
 ghost use Rattle.s2list.specs.Union.{Union};
 ghost use Rattle.s2file.specs.File.{number_text};
-ghost use Rattle.s2file.specs.Session.{list_text, move_text, moves_text, moved_of, AreApart, IsMoved, IsRegisterList};
-ghost use Rattle.s2file.specs.Working.SessionParts.{Begins, Reads, Refuses, AreCells, AreCounted, AreMoves};
+ghost use Rattle.s2file.specs.Session.{list_text, move_text, moves_text, diff_of, AreApart, AreCells, IsMove};
+ghost use Rattle.s2file.specs.Session.{IsRegisterList};
+ghost use Rattle.s2file.specs.Working.SessionParts.{Begins, Reads, Refuses, AreCounted, AreMoves};
 ghost use Rattle.s2file.specs.Working.SessionParts.{AreRegisters};
 ghost use Rattle.s2file.specs.Working.SessionParts.{IsRow};
 ghost use Rattle.s2file.specs.Working.SessionParts.{registers_text, row_text, byte_text, identifiers_text, IsByte};
@@ -172,7 +173,7 @@ pub(crate) fn registers_at<R: Read>(
 
 /// The next change.
 fn move_at<R: Read>(alloc: Global, buffer: &mut Buffer, reader: &mut R) -> Result<Move, ReadFault>
-    ensures { Reads move_text IsMoved moved_of (ahead buffer.old (R.remaining reader.old))
+    ensures { Reads move_text IsMove diff_of (ahead buffer.old (R.remaining reader.old))
         (ahead buffer.new (R.remaining reader.new)) result }
 {
     let register = byte_at(buffer, reader)?;
@@ -189,8 +190,8 @@ fn move_at<R: Read>(alloc: Global, buffer: &mut Buffer, reader: &mut R) -> Resul
 fn is_change(register: u8, out: &[CellId], put: &[CellId]) -> bool
     requires out { AreCells out.now }
     requires put { AreCells put.now }
-    ensures { MatchBool result (IsMoved (record { register = register; out = out.now; put = put.now }))
-        (IsMoved (record { register = register; out = out.now; put = put.now }) → ⊥) }
+    ensures { MatchBool result (IsMove (record { register = register; out = out.now; put = put.now }))
+        (IsMove (record { register = register; out = out.now; put = put.now }) → ⊥) }
 {
     if (register as usize) >= SESSION_REGISTERS {
         return false;
@@ -213,7 +214,7 @@ pub(crate) fn moves_at<R: Read>(
     buffer: &mut Buffer,
     reader: &mut R,
 ) -> Result<Vec<Move>, ReadFault>
-    ensures { Reads moves_text AreMoves (λ moves. map moved_of moves.items)
+    ensures { Reads moves_text AreMoves (λ moves. map diff_of moves.items)
         (ahead buffer.old (R.remaining reader.old)) (ahead buffer.new (R.remaining reader.new)) result }
 {
     let count = number_at(buffer, reader)?;
@@ -231,7 +232,7 @@ fn row_at<R: Read>(
     buffer: &mut Buffer,
     reader: &mut R,
 ) -> Result<Vec<Move>, ReadFault>
-    ensures { Reads row_text (IsRow count) (λ moves. map moved_of moves.items)
+    ensures { Reads row_text (IsRow count) (λ moves. map diff_of moves.items)
         (ahead buffer.old (R.remaining reader.old)) (ahead buffer.new (R.remaining reader.new)) result }
 {
     let mut moves = Vec::new(alloc);

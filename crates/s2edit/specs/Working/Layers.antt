@@ -5,8 +5,8 @@ use Rattle.std.specs.List.{AllByRecursion}
 use Rattle.s2cell.specs.Cell.{IsCell, covers, first_leaf}
 use Rattle.s2list.specs.Union.{IsLocal, LiesIn}
 use Rattle.s2union.specs.Apply.{has, insert_cells}
-use Rattle.s2file.specs.Session.{Moved}
-use Rattle.s2edit.specs.Diff.{Diff, IsDiff, apply, FitsList}
+use Rattle.s2file.specs.Session.{IsDiff, Diff}
+use Rattle.s2edit.specs.Diff.{apply, FitsList}
 use Rattle.s2edit.specs.Working.Part.{around}
 
 -- the changes can be made in the list, one after another
@@ -20,7 +20,7 @@ list_after_all u [] = u
 list_after_all u (d ∷ ds) = list_after_all (apply d u) ds
 
 -- the changes of one register
-abbrev pub of_register : ℕ → List Moved → List Moved
+abbrev pub of_register : ℕ → List Diff → List Diff
 of_register r [] = []
 of_register r (m ∷ ms) = if m.register == r then m ∷ of_register r ms else of_register r ms
 
@@ -29,7 +29,7 @@ abbrev pub ordered : List ℕ → List ℕ
 ordered cells = insert_cells cells []
 
 -- the change that takes out and puts in these cells, which may be in any order
-abbrev pub ordered_diff : Moved → Diff
+abbrev pub ordered_diff : Diff → Diff
 ordered_diff m = record { register = m.register; out = ordered m.out; put = ordered m.put }
 
 -- the lists of each change ascend and share no cell
@@ -55,7 +55,7 @@ abbrev pub AllNearWatched : List ℕ → List ℕ → Type 0
 AllNearWatched watched cells = (c : ℕ) → has cells c ≡ true → LiesNear watched c
 
 -- the same for each cell that a change names
-pub record IsNearWatched (watched : List ℕ) (m : Moved) : Type 0 where
+pub record IsNearWatched (watched : List ℕ) (m : Diff) : Type 0 where
   pub out : AllNearWatched watched m.out
   pub put : AllNearWatched watched m.put
 
@@ -65,7 +65,7 @@ HavePlaces watched cells places = (c : ℕ) → has cells c ≡ true → (i : �
     covers (slice_index watched i) (first_leaf c) ≡ true → has places i ≡ true
 
 -- the same for each cell that a change names
-pub record ArePlaces (watched : List ℕ) (m : Moved) (places : List ℕ) : Type 0 where
+pub record ArePlaces (watched : List ℕ) (m : Diff) (places : List ℕ) : Type 0 where
   pub out : HavePlaces watched m.out places
   pub put : HavePlaces watched m.put places
 
@@ -74,11 +74,11 @@ abbrev pub NoneIn : ℕ → List ℕ → Type 0
 NoneIn w cells = (c : ℕ) → has cells c ≡ true → covers w (first_leaf c) ≡ false
 
 -- the layer at a height
-abbrev pub layer_at : List Moved → ℕ → Moved
+abbrev pub layer_at : List Diff → ℕ → Diff
 layer_at layers l = slice_index_or layers l (record { register = 0; out = []; put = [] })
 
 -- `heights` tells for each watched cell how many layers there are up to the highest that has cells in it
-pub record IsStacked (watched heights : List ℕ) (layers : List Moved) : Type 0 where
+pub record IsStacked (watched heights : List ℕ) (layers : List Diff) : Type 0 where
   pub count : length heights ≡ length watched
   pub bound : (i : ℕ) → i < length watched → slice_index heights i ≤ length layers
   pub no_out : (i l : ℕ) → i < length watched → slice_index heights i ≤ l → l < length layers →

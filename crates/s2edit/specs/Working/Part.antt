@@ -5,8 +5,7 @@ use Rattle.std.specs.Prelude.{length, map, min, max, slice_set, slice_index_or}
 use Rattle.s2cell.specs.Cell.{IsCell, level_of, covers, parent_of}
 use Rattle.s2list.specs.Union.{IsLocal, LiesIn}
 use Rattle.s2union.specs.Apply.{has}
-use Rattle.s2file.specs.Session.{Moved}
-use Rattle.s2edit.specs.Diff.{Diff}
+use Rattle.s2file.specs.Session.{Diff}
 
 -- the parent of a cell, or the cell itself if it is a face
 abbrev pub around : ℕ → ℕ
@@ -25,11 +24,11 @@ pub record IsPart (S : ℕ → Bool) (u part : List ℕ) : Type 0 where
   pub rest : (c x : ℕ) → has u c ≡ true → covers c x ≡ true → S x ≡ true → has part c ≡ true
 
 -- the parents of the cells that a change names
-abbrev pub around_both : Moved → List ℕ
+abbrev pub around_both : Diff → List ℕ
 around_both m = map around m.out ++ map around m.put
 
 -- the parents of the cells that changes of the register name
-abbrev pub around_all : ℕ → List Moved → List ℕ
+abbrev pub around_all : ℕ → List Diff → List ℕ
 around_all r [] = []
 around_all r (m ∷ ms) = if m.register == r then around_both m ++ around_all r ms else around_all r ms
 

@@ -5,9 +5,8 @@
 ghost use Rattle.std.specs.Prelude.{◌≡◌, ◌≤◌, length, map, OnOk, MatchResult};
 ghost use Rattle.std.specs.List.{AllByRecursion};
 ghost use Rattle.s2list.specs.Union.{IsLocal};
-ghost use Rattle.s2file.specs.Session.{moved_of, IsMoved};
+ghost use Rattle.s2file.specs.Session.{diff_of, IsMove};
 ghost use Rattle.s2edit.specs.Working.Layers.{of_register, list_after_all, AreChanges, FitInTurn};
-ghost use Rattle.s2edit.specs.Session.{diff};
 ghost use Rattle.s2edit.specs.Working.Following.{FailsToFollow};
 
 use crate::restore::followed::Followed;
@@ -34,11 +33,11 @@ pub(crate) fn follow(
     moves: &[Move],
     register: usize,
 ) -> Result<(), RestoreFault>
-    requires each { AllByRecursion IsMoved (map moved_of moves.now) }
+    requires each { AllByRecursion IsMove (map diff_of moves.now) }
     ensures { MatchResult result
-        (λ _. FitInTurn union.now.cells (map diff (of_register register (map moved_of moves.now))))
+        (λ _. FitInTurn union.now.cells (of_register register (map diff_of moves.now)))
         (λ fault. FailsToFollow fault
-        (FitInTurn union.now.cells (map diff (of_register register (map moved_of moves.now))))) }
+        (FitInTurn union.now.cells (of_register register (map diff_of moves.now)))) }
 {
     let few = (union.len() / LIST_TO_FEW).max(FEW);
     if count_naming(moves, register, few) == moves.len() {
@@ -74,11 +73,11 @@ fn follow_few(
     moves: &[Move],
     register: usize,
 ) -> Result<(), RestoreFault>
-    requires each { AllByRecursion IsMoved (map moved_of moves.now) }
+    requires each { AllByRecursion IsMove (map diff_of moves.now) }
     ensures { MatchResult result
-        (λ _. FitInTurn union.now.cells (map diff (of_register register (map moved_of moves.now))))
+        (λ _. FitInTurn union.now.cells (of_register register (map diff_of moves.now)))
         (λ fault. FailsToFollow fault
-        (FitInTurn union.now.cells (map diff (of_register register (map moved_of moves.now))))) }
+        (FitInTurn union.now.cells (of_register register (map diff_of moves.now)))) }
 {
     let watched = normalise(around_moves(alloc, moves, register)?);
     let layers = layers_of(alloc, moves, register, &watched)?;
@@ -94,11 +93,11 @@ fn follow_many(
     moves: &[Move],
     register: usize,
 ) -> Result<(), RestoreFault>
-    requires each { AllByRecursion IsMoved (map moved_of moves.now) }
+    requires each { AllByRecursion IsMove (map diff_of moves.now) }
     ensures { MatchResult result
-        (λ _. FitInTurn union.now.cells (map diff (of_register register (map moved_of moves.now))))
+        (λ _. FitInTurn union.now.cells (of_register register (map diff_of moves.now)))
         (λ fault. FailsToFollow fault
-        (FitInTurn union.now.cells (map diff (of_register register (map moved_of moves.now))))) }
+        (FitInTurn union.now.cells (of_register register (map diff_of moves.now)))) }
 {
     let mut list = Followed::from(alloc, union, None);
     let mut done = 0;
@@ -119,13 +118,13 @@ fn follow_batch(
     register: usize,
 ) -> Result<(), RestoreFault>
     requires local { IsLocal list.old }
-    requires each { AllByRecursion IsMoved (map moved_of moves.now) }
+    requires each { AllByRecursion IsMove (map diff_of moves.now) }
     ensures after { OnOk result
-        (list.new ≡ list_after_all list.old (map diff (of_register register (map moved_of moves.now)))) }
+        (list.new ≡ list_after_all list.old (of_register register (map diff_of moves.now))) }
     ensures answer { MatchResult result
-        (λ _. FitInTurn list.old (map diff (of_register register (map moved_of moves.now))))
+        (λ _. FitInTurn list.old (of_register register (map diff_of moves.now)))
         (λ fault. FailsToFollow fault
-        (FitInTurn list.old (map diff (of_register register (map moved_of moves.now))))) }
+        (FitInTurn list.old (of_register register (map diff_of moves.now)))) }
 {
     if moves.len() == 1 {
         let change = &moves[0];
@@ -145,10 +144,10 @@ fn follow_layers(
     list: &mut Followed<'_>,
     layers: &[Move],
 ) -> Result<(), RestoreFault>
-    requires { AreChanges (map diff (map moved_of layers.now)) }
-    ensures after { OnOk result (list.new ≡ list_after_all list.old (map diff (map moved_of layers.now))) }
-    ensures answer { MatchResult result (λ _. FitInTurn list.old (map diff (map moved_of layers.now)))
-        (λ fault. FailsToFollow fault (FitInTurn list.old (map diff (map moved_of layers.now)))) }
+    requires { AreChanges (map diff_of layers.now) }
+    ensures after { OnOk result (list.new ≡ list_after_all list.old (map diff_of layers.now)) }
+    ensures answer { MatchResult result (λ _. FitInTurn list.old (map diff_of layers.now))
+        (λ fault. FailsToFollow fault (FitInTurn list.old (map diff_of layers.now))) }
 {
     for layer in layers {
         list.follow(alloc, &layer.out, &layer.put)?;

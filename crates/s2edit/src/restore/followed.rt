@@ -3,8 +3,7 @@ ghost use Rattle.std.specs.Prelude.{◌≡◌, ◌≤◌, ◌↔◌, length, OnO
 ghost use Rattle.std.specs.List.Sorted.{IsStrictlyIncreasing};
 ghost use Rattle.s2list.specs.Union.{IsLocal};
 ghost use Rattle.s2union.specs.Apply.{applied, Fits};
-ghost use Rattle.s2file.specs.Session.{AreApart};
-ghost use Rattle.s2edit.specs.Diff.{IsDiff};
+ghost use Rattle.s2file.specs.Session.{IsDiff, AreApart};
 ghost use Rattle.s2edit.specs.Working.Followed.{latest, joined, both_out, CanFollowOn, LieApart, LiesApart, LeadsOn};
 ghost use Rattle.s2edit.specs.Working.Following.{FailsToFollow};
 

@@ -9,12 +9,10 @@ ghost use Rattle.std.specs.List.{AllByRecursion};
 ghost use Rattle.s2cell.specs.Cell.{covers, first_leaf};
 ghost use Rattle.s2list.specs.Union.{has_leaf, IsLocal};
 ghost use Rattle.s2union.specs.Apply.{has};
-ghost use Rattle.s2file.specs.Session.{moved_of, IsMoved};
-ghost use Rattle.s2edit.specs.Diff.{Diff};
+ghost use Rattle.s2file.specs.Session.{Diff, diff_of, IsMove};
 ghost use Rattle.s2edit.specs.Working.Layers.{ordered, ordered_diff, of_register, IsNearWatched, IsStacked, LeadAlike};
 ghost use Rattle.s2edit.specs.Working.Layers.{ArePlaces, AreChanges, HavePlaces};
 ghost use Rattle.s2edit.specs.Working.Part.{around_all};
-ghost use Rattle.s2edit.specs.Session.{diff};
 
 use s2cell::CellId;
 use s2file::Move;
@@ -29,12 +27,12 @@ pub(crate) fn layers_of(
     register: usize,
     watched: &CellUnion,
 ) -> Result<Vec<Move>, AllocError>
-    requires each { AllByRecursion IsMoved (map moved_of moves.now) }
+    requires each { AllByRecursion IsMove (map diff_of moves.now) }
     requires watched { (x : ℕ) → has_leaf watched.now.cells x
-        ≡ has_leaf (around_all register (map moved_of moves.now)) x }
-    ensures changes { IfOk result (λ layers. AreChanges (map diff (map moved_of layers.items))) }
-    ensures alike { IfOk result (λ layers. LeadAlike (map diff (of_register register (map moved_of moves.now)))
-        (map diff (map moved_of layers.items))) }
+        ≡ has_leaf (around_all register (map diff_of moves.now)) x }
+    ensures changes { IfOk result (λ layers. AreChanges (map diff_of layers.items)) }
+    ensures alike { IfOk result (λ layers. LeadAlike (of_register register (map diff_of moves.now))
+        (map diff_of layers.items)) }
 {
     let mut layers = Vec::new(alloc);
     let mut heights = vec![in alloc; 0; watched.len()]?;
@@ -49,7 +47,7 @@ pub(crate) fn layers_of(
 
 /// Puts the cells of each layer in ascending order.
 fn order_layers(layers: &mut [Move])
-    ensures { map diff (map moved_of layers.new) ≡ map ordered_diff (map moved_of layers.old) }
+    ensures { map diff_of layers.new ≡ map ordered_diff (map diff_of layers.old) }
 {
     for layer in layers.iter_mut() {
         in_order(&mut layer.out);
@@ -74,12 +72,12 @@ fn gather(
     change: &Move,
 ) -> Result<(), AllocError>
     requires local { IsLocal watched.now }
-    requires change { IsMoved (moved_of change.now) }
-    requires near { IsNearWatched watched.now (moved_of change.now) }
-    requires stacked { IsStacked watched.now heights.old.items (map moved_of layers.old.items) }
-    ensures stacked { OnOk result (IsStacked watched.now heights.new.items (map moved_of layers.new.items)) }
-    ensures alike { OnOk result ((ds : List Diff) → LeadAlike ds (map ordered_diff (map moved_of layers.old.items)) →
-        LeadAlike (ds ++ diff (moved_of change.now) ∷ []) (map ordered_diff (map moved_of layers.new.items))) }
+    requires change { IsMove (diff_of change.now) }
+    requires near { IsNearWatched watched.now (diff_of change.now) }
+    requires stacked { IsStacked watched.now heights.old.items (map diff_of layers.old.items) }
+    ensures stacked { OnOk result (IsStacked watched.now heights.new.items (map diff_of layers.new.items)) }
+    ensures alike { OnOk result ((ds : List Diff) → LeadAlike ds (map ordered_diff (map diff_of layers.old.items)) →
+        LeadAlike (ds ++ diff_of change.now ∷ []) (map ordered_diff (map diff_of layers.new.items))) }
 {
     let places = places_of(alloc, watched, change)?;
     let height = highest(heights, &places);
@@ -131,7 +129,7 @@ fn raise(heights: &mut Vec<usize>, places: &[usize], height: usize)
 /// Takes the cells that go out and those that are put in by turns, since these often lie in one watched cell.
 fn places_of(alloc: Global, watched: &[CellId], change: &Move) -> Result<Vec<usize>, AllocError>
     requires local { IsLocal watched.now }
-    ensures { IfOk result (λ places. ArePlaces watched.now (moved_of change.now) places.items) }
+    ensures { IfOk result (λ places. ArePlaces watched.now (diff_of change.now) places.items) }
 {
     let mut places = Vec::with_capacity(alloc, change.out.len() + change.put.len())?;
     let mut place = 0;

@@ -2,10 +2,9 @@
 ghost use Rattle.std.specs.Prelude.{◌≡◌, ◌<◌, length, map, slice_set, IfOk};
 ghost use Rattle.std.specs.Prelude.{◌+◌, ◌-◌, ◌^◌, min, slice_index_or};
 ghost use Rattle.std.specs.List.{AllByRecursion};
-ghost use Rattle.s2file.specs.Session.{moved_of, IsMoved};
+ghost use Rattle.s2file.specs.Session.{diff_of, IsMove};
 ghost use Rattle.s2edit.specs.Working.Chain.{lists_of};
 ghost use Rattle.s2edit.specs.Working.Part.{longest};
-ghost use Rattle.s2edit.specs.Session.{diff};
 
 use crate::REGISTERS;
 use crate::register::Register;
@@ -21,9 +20,9 @@ pub(crate) fn longest(
     moves: &[Move],
 ) -> Result<usize, AllocError>
     requires count { length registers.now ≡ REGISTERS }
-    requires each { AllByRecursion IsMoved (map moved_of moves.now) }
+    requires each { AllByRecursion IsMove (map diff_of moves.now) }
     ensures { IfOk result (λ most. most ≡ longest (map length (lists_of registers.now))
-        (map diff (map moved_of moves.now))) }
+        (map diff_of moves.now)) }
 {
     let mut lengths = lengths_of(alloc, registers)?;
     let mut most = 0;

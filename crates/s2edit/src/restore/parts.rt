@@ -2,7 +2,7 @@
 ghost use Rattle.std.specs.Prelude.{◌≡◌, ◌++◌, ℕ, length, map, take, drop, IfOk, MatchBool, OnOk};
 ghost use Rattle.std.specs.List.Sorted.{IsStrictlyIncreasing};
 ghost use Rattle.s2list.specs.Union.{has_leaf};
-ghost use Rattle.s2file.specs.Session.{moved_of, AreApart};
+ghost use Rattle.s2file.specs.Session.{diff_of, AreApart};
 ghost use Rattle.s2edit.specs.Working.Chain.{lists_of};
 ghost use Rattle.s2edit.specs.Working.Followed.{latest};
 ghost use Rattle.s2edit.specs.Working.Part.{around, around_all, IsPart};
@@ -59,7 +59,7 @@ pub(crate) fn around_moves(
     register: usize,
 ) -> Result<Vec<CellId>, AllocError>
     ensures { IfOk result (λ cells. (x : ℕ) → has_leaf cells.items x
-        ≡ has_leaf (around_all register (map moved_of moves.now)) x) }
+        ≡ has_leaf (around_all register (map diff_of moves.now)) x) }
 {
     let mut cells = Vec::new(alloc);
     for change in moves {

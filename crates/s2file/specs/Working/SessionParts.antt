@@ -6,8 +6,8 @@ use Rattle.std.specs.declared.result.Result.{Result}
 use Rattle.std.specs.List.{AllByRecursion}
 use Rattle.s2cell.specs.Cell.{IsCell}
 use Rattle.s2file.specs.File.{first_number, number_text}
-use Rattle.s2file.specs.Session.{Moved, list_text, move_text, IsRegisterList, IsMoved}
-use Rattle.s2file.specs.declared.TheConstants.{SESSION_REGISTERS, SESSION_CELLS, SESSION_CHANGES}
+use Rattle.s2file.specs.Session.{Diff, list_text, move_text, IsRegisterList, IsMove}
+use Rattle.s2file.specs.declared.TheConstants.{SESSION_REGISTERS, SESSION_CHANGES}
 use Rattle.s2file.specs.declared.session.ReadFault.{ReadFault}
 use Rattle.s2file.specs.declared.session.ReadFault.TheVariants.{Form, Device, Memory}
 
@@ -56,11 +56,6 @@ IsByte n = n < 256
 abbrev pub IsNumber : ℕ → Type 0
 IsNumber n = n < 2 ^ 64
 
--- identifiers of cells, in any order, no more than a list of a session may have
-pub record AreCells (cells : List ℕ) : Type 0 where
-  pub valid : All IsCell cells
-  pub few : length cells ≤ SESSION_CELLS
-
 -- identifiers one after another, as bytes
 abbrev pub identifiers_text : List ℕ → List ℕ
 identifiers_text ids = flat_map number_text ids
@@ -80,18 +75,18 @@ pub record AreRegisters (lists : List (List ℕ)) : Type 0 where
   pub each : AllByRecursion IsRegisterList lists
 
 -- changes one after another, as bytes
-abbrev pub row_text : List Moved → List ℕ
+abbrev pub row_text : List Diff → List ℕ
 row_text ms = flat_map move_text ms
 
 -- changes of a session, as many as were counted
-pub record IsRow (count : ℕ) (ms : List Moved) : Type 0 where
+pub record IsRow (count : ℕ) (ms : List Diff) : Type 0 where
   pub len : length ms ≡ count
-  pub each : AllByRecursion IsMoved ms
+  pub each : AllByRecursion IsMove ms
 
 -- all changes of one side of a session's history
-pub record AreMoves (ms : List Moved) : Type 0 where
+pub record AreMoves (ms : List Diff) : Type 0 where
   pub few : length ms ≤ SESSION_CHANGES
-  pub each : AllByRecursion IsMoved ms
+  pub each : AllByRecursion IsMove ms
 
 -- the bytes are the identifiers of these cells, one after another
 pub record SpellsCells (bytes cells : List ℕ) : Type 0 where

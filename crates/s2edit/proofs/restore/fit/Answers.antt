@@ -5,12 +5,11 @@ use Rattle.std.proofs.lemmas.Bool.{cases_lt, leb-true, le-leb}
 use Rattle.std.proofs.lemmas.List.{length-map}
 use Rattle.std.proofs.lemmas.Result.{err_from_is_err_and}
 use Rattle.s2list.specs.Union.{Union}
-use Rattle.s2file.specs.Session.{moved_of}
+use Rattle.s2file.specs.Session.{diff_of}
 use Rattle.s2file.specs.declared.TheConstants.{SESSION_CELLS}
 use Rattle.s2edit.specs.Working.Chain.{lists_of, FitAlong}
 use Rattle.s2edit.specs.Leads.{list_at}
 use Rattle.s2edit.specs.Working.Layers.{of_register, FitInTurn}
-use Rattle.s2edit.specs.Session.{diff}
 use Rattle.s2edit.proofs.Following.{fails}
 use Rattle.s2edit.proofs.Registers.{turn_of, not_long, follows}
 use Rattle.s2edit.proofs.Tables.{list_read}
@@ -24,13 +23,13 @@ returns-in_err-follow c =
     let us : List Union = c.args.registers.now in
     let i = c.loop-register.register in
     let u = c.index-registers-register.result in
-    let ms = map moved_of c.args.moves.now in
+    let ms = map diff_of c.args.moves.now in
     let read : list_at (lists_of us) i ≡ u.cells =
     list_read us i i u c.index-registers-register.is refl c.loop-register-test.true in
     let p = err_from_is_err_and c.from_residual.result c.from_residual.ensures.1 in
-    rw (p.1, p.2) (fails c.in_err-follow.field-0.0 (FitInTurn u.cells (map diff (of_register i ms)))
-    (FitAlong SESSION_CELLS (lists_of us) (map diff ms))
-    (λ f. subst (λ (x : List ℕ). FitInTurn x (map diff (of_register i ms))) read
+    rw (p.1, p.2) (fails c.in_err-follow.field-0.0 (FitInTurn u.cells (of_register i ms))
+    (FitAlong SESSION_CELLS (lists_of us) ms)
+    (λ f. subst (λ (x : List ℕ). FitInTurn x (of_register i ms)) read
     (turn_of SESSION_CELLS (lists_of us) ms i f))
     c.in_err-follow.ensures)
 
@@ -39,25 +38,25 @@ loop-register-preserved c =
     let us : List Union = c.args.registers.now in
     let i = c.loop-register.register in
     let u = c.index-registers-register.result in
-    let ms = map moved_of c.args.moves.now in
+    let ms = map diff_of c.args.moves.now in
     let read : list_at (lists_of us) i ≡ u.cells =
     list_read us i i u c.index-registers-register.is refl c.loop-register-test.true in
     λ r l. ⊎_elim (c.loop-register.invariant r)
     (λ (b : i ≤ r). let e : i ≡ r = omega (arith, b, l) in
-    subst (λ (k : ℕ). FitInTurn (list_at (lists_of us) k) (map diff (of_register k ms))) e
-    (subst (λ (x : List ℕ). FitInTurn x (map diff (of_register i ms))) (sym read) c.in_ok-follow.ensures))
+    subst (λ (k : ℕ). FitInTurn (list_at (lists_of us) k) (of_register k ms)) e
+    (subst (λ (x : List ℕ). FitInTurn x (of_register i ms)) (sym read) c.in_ok-follow.ensures))
     (cases_lt r i)
 
 pub returns-then-most-gt-SESSION_CELLS : goal.returns-then-most-gt-SESSION_CELLS
 returns-then-most-gt-SESSION_CELLS c =
-    not_long (lists_of c.args.registers.now) (map moved_of c.args.moves.now) c.requires.within c.requires.each
+    not_long (lists_of c.args.registers.now) (map diff_of c.args.moves.now) c.requires.within c.requires.each
     c.in_ok-most.most c.in_ok-most.ensures c.if-most-gt-SESSION_CELLS.true
 
 pub returns : goal.returns
 returns c =
     let us : List Union = c.args.registers.now in
     let count : length (lists_of us) ≡ length us = length-map us (λ (u : Union). u.cells) in
-    follows (lists_of us) (map moved_of c.args.moves.now) c.requires.within c.requires.each
+    follows (lists_of us) (map diff_of c.args.moves.now) c.requires.within c.requires.each
     c.in_ok-most.most c.in_ok-most.ensures c.args.limit (leb c.in_ok-most.most c.args.limit)
     (count ∙ c.requires.count)
     (λ r l. c.loop-register.invariant r (omega (arith, l, count, c.loop-register-test.false)))

@@ -1,6 +1,5 @@
 use Rattle.std.proofs.Common.{map, arith}
-use Rattle.s2file.specs.Session.{moved_of}
-use Rattle.s2edit.specs.Session.{diff}
+use Rattle.s2file.specs.Session.{diff_of}
 use Rattle.s2edit.proofs.Saving.{good_front, fill_start, fill_step, fill_end}
 use Rattle.s2edit.proofs.session.fill.Goals as goal
 
@@ -15,17 +14,17 @@ of_move-requires c = (good_front c.loop-change.moves.items c.pop.new.self.items 
 pub loop-change-preserved : goal.loop-change-preserved
 loop-change-preserved c =
     fill_step c.loop-change.moves.items c.pop.new.self.items c.in-Some.change c.loop-change.ring
-    c.push_front.new.self c.of_move.result (map diff (map moved_of c.args.moves.items)) c.args.ring.now.capacity
+    c.push_front.new.self c.of_move.result (map diff_of c.args.moves.items) c.args.ring.now.capacity
     c.loop-change.invariant c.in-Some.ensures.items c.of_move.ensures c.push_front.ensures.items
 
 pub loop-change-preserved-in-Some : goal.loop-change-preserved-in-Some
 loop-change-preserved-in-Some c =
     fill_step c.loop-change.moves.items c.pop.new.self.items c.in-Some.change c.loop-change.ring
-    c.push_front.new.self c.of_move.result (map diff (map moved_of c.args.moves.items)) c.args.ring.now.capacity
+    c.push_front.new.self c.of_move.result (map diff_of c.args.moves.items) c.args.ring.now.capacity
     c.loop-change.invariant c.in-Some.ensures.items c.of_move.ensures c.push_front.ensures.items
 
 pub returns : goal.returns
 returns c =
-    fill_end c.loop-change.moves.items c.loop-change.ring (map diff (map moved_of c.args.moves.items))
+    fill_end c.loop-change.moves.items c.loop-change.ring (map diff_of c.args.moves.items)
     c.args.ring.now.capacity c.loop-change.invariant
     (omega (arith, c.in_default.ensures.cases.0, c.loop-change.moves.ok))

@@ -2,9 +2,8 @@ use Rattle.std.proofs.Common.{◌≡◌, ◌<◌, ◌≤◌, ◌++◌, List, len
 use Rattle.std.proofs.Common.{◌∙◌, append-nil, arith}
 use Rattle.std.proofs.lemmas.List.{take_all, take_at, drop_all}
 use Rattle.std.proofs.lemmas.List.Edits.{map_over_more}
-use Rattle.s2file.specs.Session.{moved_of}
+use Rattle.s2file.specs.Session.{diff_of}
 use Rattle.s2file.specs.declared.session.Move.{Move}
-use Rattle.s2edit.specs.Session.{diff}
 use Rattle.s2edit.proofs.Registers.{turned_round, all_turned}
 use Rattle.s2edit.proofs.session.invert.Goals as goal
 
@@ -32,5 +31,5 @@ returns c =
     let done : ys ≡ map turned_round xs = c.loop-change.invariant
     ∙ ap (λ (zs : List Move). map turned_round zs ++ drop i xs) (take_all i xs all)
     ∙ ap (λ (zs : List Move). map turned_round xs ++ zs) (drop_all i xs all) ∙ append-nil (map turned_round xs) in
-    ap (λ (zs : List Move). map diff (map moved_of zs))
+    ap (λ (zs : List Move). map diff_of zs)
     (take_at ys (drop (length ys) xs) c.args.moves.now.len count ∙ done) ∙ all_turned xs

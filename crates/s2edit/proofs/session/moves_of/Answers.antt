@@ -1,7 +1,7 @@
 use Rattle.std.proofs.Common.{◌≡◌, ◌+◌, ◌-◌, ◌<◌, List, length, map, take, sym, ap, ◌∙◌, subst, arith}
 use Rattle.std.proofs.lemmas.List.{length_push}
 use Rattle.std.proofs.lemmas.Option.{slice_get_within}
-use Rattle.s2file.specs.Session.{moved_of}
+use Rattle.s2file.specs.Session.{diff_of}
 use Rattle.s2file.specs.declared.session.Move.{Move}
 use Rattle.s2edit.proofs.Saving.{copied_one, copied_all}
 use Rattle.s2edit.proofs.session.moves_of.Goals as goal
@@ -9,7 +9,7 @@ use Rattle.s2edit.proofs.session.moves_of.Goals as goal
 pub loop-change-preserved : goal.loop-change-preserved
 loop-change-preserved g c =
     let changes = g.C.Changes.list c.args.changes.now in
-    subst (λ (ms : List Move). map moved_of ms ≡ take (length ms) changes) (sym c.in_ok-push.ensures.items)
+    subst (λ (ms : List Move). map diff_of ms ≡ take (length ms) changes) (sym c.in_ok-push.ensures.items)
     (copied_one c.loop-change.moves.items c.in_ok-copy_of.field-0 changes c.in-Some.change
     c.len.result c.loop-change.invariant
     (omega (arith, c.len.ensures, c.loop-change.moves.ok)) c.in-Some.ensures c.in_ok-copy_of.ensures)

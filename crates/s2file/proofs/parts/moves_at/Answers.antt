@@ -1,6 +1,6 @@
 use Rattle.std.proofs.Common.{map}
 use Rattle.std.proofs.lemmas.Result.{err_from_is_err_and}
-use Rattle.s2file.specs.Session.{moved_of}
+use Rattle.s2file.specs.Session.{diff_of}
 use Rattle.s2file.proofs.TakingRows.{moves_of_many, moves_refused, moves_taken}
 use Rattle.s2file.proofs.parts.moves_at.Goals as goal
 
@@ -15,5 +15,5 @@ returns-in_err-moves g c =
 
 pub returns : goal.returns
 returns g c =
-    moves_taken _ _ c.in_ok-count.count c.in_ok-count.ensures _ (map moved_of c.in_ok-moves.moves.items)
+    moves_taken _ _ c.in_ok-count.count c.in_ok-count.ensures _ (map diff_of c.in_ok-moves.moves.items)
     c.in_ok-moves.ensures c.if-count.false

@@ -1,7 +1,8 @@
 use Rattle.std.proofs.Common.{◌+◌, ℕ, List, ◌∷◌, length, map, ap, subst, arith}
 use Rattle.std.proofs.lemmas.List.{length-map}
+use Rattle.s2file.specs.Session.{Diff}
 use Rattle.s2edit.specs.History.{History}
-use Rattle.s2edit.specs.Diff.{Diff, inverse}
+use Rattle.s2edit.specs.Diff.{inverse}
 use Rattle.s2edit.specs.Leads.{table_at, Leads}
 use Rattle.s2edit.specs.Working.Chain.{lists_of}
 use Rattle.s2edit.proofs.Leading.{back_leads, kept_none, kept_some}

@@ -2,8 +2,9 @@ use Rattle.std.proofs.Common.{◌≡◌, ◌≢◌, ◌<◌, ◌≤◌, ℕ, Lis
 use Rattle.std.proofs.Common.{ap, refl, sym, ◌∙◌, subst, arith}
 use Rattle.circular_buffer.specs.Buffer.{Buffer}
 use Rattle.std.proofs.lemmas.Option.{slice_get-get_or}
+use Rattle.s2file.specs.Session.{Diff}
 use Rattle.s2edit.specs.History.{History, changed, Assigned}
-use Rattle.s2edit.specs.Diff.{Diff, FitsList, change_between}
+use Rattle.s2edit.specs.Diff.{FitsList, change_between}
 use Rattle.s2edit.specs.Leads.{list_at}
 use Rattle.s2edit.specs.Chain.{IsLocalWithin}
 use Rattle.s2edit.specs.Working.Chain.{lists_of, list_after, history}

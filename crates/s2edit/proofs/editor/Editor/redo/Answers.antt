@@ -1,7 +1,7 @@
 use Rattle.std.proofs.Common.{ℕ, List, ◌∷◌, Some, take, ap, sym, ◌∙◌, arith}
 use Rattle.circular_buffer.specs.Buffer.{Buffer}
 use Rattle.s2edit.specs.History.{History, redone, sets}
-use Rattle.s2edit.specs.Diff.{Diff}
+use Rattle.s2file.specs.Session.{Diff}
 use Rattle.s2edit.proofs.Moves.{Shifts, Rewrites, rewrites_from, rewritten_count, rewritten_roomy, still_bound}
 use Rattle.s2edit.proofs.Moves.{redo_leaves, redo_within, redo_past, redo_future, redo_numbers}
 use Rattle.s2edit.proofs.SetLemmas.{sets-redone}

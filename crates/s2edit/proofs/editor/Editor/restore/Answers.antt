@@ -5,12 +5,12 @@ use Rattle.std.proofs.lemmas.Result.{err_from_is_err_and}
 use Rattle.circular_buffer.specs.Buffer.{Buffer}
 use Rattle.std.specs.List.{AllByRecursion}
 use Rattle.s2list.specs.Union.{Union}
-use Rattle.s2file.specs.Session.{Content, moved_of, content_of, IsMoved}
+use Rattle.s2file.specs.Session.{Diff, Content, diff_of, content_of, IsMove}
 use Rattle.s2file.specs.declared.TheConstants.{SESSION_CELLS}
 use Rattle.s2edit.specs.History.{History, AllLists}
-use Rattle.s2edit.specs.Diff.{Diff, inverse}
+use Rattle.s2edit.specs.Diff.{inverse}
 use Rattle.s2edit.specs.Working.Chain.{lists_of, AllWithin, FitAlong, history}
-use Rattle.s2edit.specs.Session.{diff, Restored, IsTooDeep, IsTooMany}
+use Rattle.s2edit.specs.Session.{Restored, IsTooDeep, IsTooMany}
 use Rattle.s2edit.specs.Working.Following.{FailsToFollow, MakesChanges}
 use Rattle.s2edit.proofs.Contents.{turned, all_reverse}
 use Rattle.s2edit.proofs.Following.{have_room, keep_room, keep_count}
@@ -26,10 +26,10 @@ fit-requires-clause-within c =
 pub fit-requires-clause-each : goal.fit-requires-clause-each
 fit-requires-clause-each c =
     let s = c.args.session in
-    rw c.deref-2.ensures.value (inverted_moved (map moved_of c.reverse.new.self.items)
-    (map moved_of c.invert.new.moves.items) c.invert.ensures (subst (AllByRecursion IsMoved)
+    rw c.deref-2.ensures.value (inverted_moved (map diff_of c.reverse.new.self.items)
+    (map diff_of c.invert.new.moves.items) c.invert.ensures (subst (AllByRecursion IsMove)
     (sym (turned s.past.items c.reverse.new.self.items c.reverse.ensures.items))
-    (all_reverse IsMoved (map moved_of s.past.items) c.requires.past)))
+    (all_reverse IsMove (map diff_of s.past.items) c.requires.past)))
 
 pub fit-requires-2-clause-within : goal.fit-requires-2-clause-within
 fit-requires-2-clause-within c =
@@ -72,7 +72,7 @@ returns-then-len-self-clause-answer c =
     c.deref-3.ensures.value c.deref-4.ensures.value c.in_ok-future_within.ensures in
     let past_is = inverted_twice s.past.items c.reverse.new.self.items c.invert.new.moves.items
     c.invert-2.new.moves.items c.reverse.ensures.items c.invert.ensures c.invert-2.ensures in
-    let deep : e.depth < length (map moved_of s.past.items) + length (map moved_of s.future.items) =
+    let deep : e.depth < length (map diff_of s.past.items) + length (map diff_of s.future.items) =
     omega (
       arith,
       c.if-len-self.true,
@@ -81,7 +81,7 @@ returns-then-len-self-clause-answer c =
       inverted_count s.past.items c.invert-2.new.moves.items past_is,
       s.future.ok,
       c.invert-2.new.moves.ok,
-      length-map s.future.items moved_of,
+      length-map s.future.items diff_of,
     ) in
     subst (IsTooDeep (content_of s)) c.self.view_is
     (too_deep (content_of s) c.requires (history e.limit e.depth e.registers.items e.past.items e.future.items)
@@ -103,7 +103,7 @@ returns-then-not-both-clause-answer c =
     c.deref-3.ensures.value c.deref-4.ensures.value c.in_ok-future_within.ensures in
     let past_is = inverted_twice s.past.items c.reverse.new.self.items c.invert.new.moves.items
     c.invert-2.new.moves.items c.reverse.ensures.items c.invert.ensures c.invert-2.ensures in
-    let kept : length (map moved_of s.past.items) + length (map moved_of s.future.items) ≤ e.depth =
+    let kept : length (map diff_of s.past.items) + length (map diff_of s.future.items) ≤ e.depth =
     omega (
       arith,
       c.if-len-self.false,
@@ -112,7 +112,7 @@ returns-then-not-both-clause-answer c =
       inverted_count s.past.items c.invert-2.new.moves.items past_is,
       s.future.ok,
       c.invert-2.new.moves.ok,
-      length-map s.future.items moved_of,
+      length-map s.future.items diff_of,
     ) in
     let failed = sym (c.both.ensures ∙ ap (λ (x : Bool). x && c.are_within.result) c.both-changes_within.ensures)
     ∙ c.if-not-both.true in
@@ -140,9 +140,9 @@ take_all-requires c =
 pub fill-requires-clause-each : goal.fill-requires-clause-each
 fill-requires-clause-each c =
     let s = c.args.session in
-    subst (AllByRecursion IsMoved) (sym (inverted_twice s.past.items c.reverse.new.self.items
+    subst (AllByRecursion IsMove) (sym (inverted_twice s.past.items c.reverse.new.self.items
     c.invert.new.moves.items c.invert-2.new.moves.items c.reverse.ensures.items c.invert.ensures c.invert-2.ensures))
-    (all_reverse IsMoved (map moved_of s.past.items) c.requires.past)
+    (all_reverse IsMove (map diff_of s.past.items) c.requires.past)
 
 -- what is known once everything was taken over
 pub record Taken (limit depth : ℕ) (us us' : List Union) (past' future' : List Diff) (s : Content) : Type 0 where
@@ -174,7 +174,7 @@ taken c =
     c.deref-3.ensures.value c.deref-4.ensures.value c.in_ok-future_within.ensures in
     let past_is = inverted_twice s.past.items c.reverse.new.self.items c.invert.new.moves.items
     c.invert-2.new.moves.items c.reverse.ensures.items c.invert.ensures c.invert-2.ensures in
-    let kept : length (map moved_of s.past.items) + length (map moved_of s.future.items) ≤ e.depth =
+    let kept : length (map diff_of s.past.items) + length (map diff_of s.future.items) ≤ e.depth =
     omega (
       arith,
       c.if-len-self.false,
@@ -183,13 +183,13 @@ taken c =
       inverted_count s.past.items c.invert-2.new.moves.items past_is,
       s.future.ok,
       c.invert-2.new.moves.ok,
-      length-map s.future.items moved_of,
+      length-map s.future.items diff_of,
     ) in
     let passed = sym (c.both.ensures ∙ ap (λ (x : Bool). x && r) c.both-changes_within.ensures) ∙ c.if-not-both.false in
     let few = λ (h : r ≡ true). subst (λ (us : List Union). AllLists (λ u. length u ≤ e.limit) (lists_of us))
     c.deref-5.ensures.value (c.are_within.ensures.0 h) in
     let lists = c.take_all.ensures.lists in
-    let past_filled = ap (λ (b : Buffer Diff). b.items) c.fill.ensures ∙ ap (map diff) past_is in
+    let past_filled = ap (λ (b : Buffer Diff). b.items) c.fill.ensures ∙ past_is in
     let future_is = ap (λ (b : Buffer Diff). b.items) c.fill-2.ensures in
     record {
       within = left_within e.limit e.depth e.registers.items us' past' future' (content_of s) c.requires lists

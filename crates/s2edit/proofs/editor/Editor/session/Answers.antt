@@ -1,5 +1,5 @@
 use Rattle.std.proofs.Common.{map, ap, ◌∙◌, subst}
-use Rattle.s2file.specs.Session.{Content, moved_of, content_of_parts}
+use Rattle.s2file.specs.Session.{Content, diff_of, content_of_parts}
 use Rattle.s2edit.specs.Working.Chain.{lists_of}
 use Rattle.s2edit.specs.Session.{Records}
 use Rattle.s2edit.proofs.Contents.{told_content}
@@ -10,8 +10,8 @@ pub returns-clause-tells : goal.returns-clause-tells
 returns-clause-tells c =
     let e = c.self.inside in
     let i = c.self.invariant in
-    let s : Content = content_of_parts c.in_ok-registers.registers.items (map moved_of c.in_ok-past.past.items)
-    (map moved_of c.in_ok-future.future.items) in
+    let s : Content = content_of_parts c.in_ok-registers.registers.items (map diff_of c.in_ok-past.past.items)
+    (map diff_of c.in_ok-future.future.items) in
     subst (Records s) c.self.view_is
     (session_tells e.limit e.depth e.registers.items e.past.items e.future.items s
     (c.in_ok-registers.ensures ∙ ap lists_of c.deref.ensures.value) c.in_ok-past.ensures c.in_ok-future.ensures

@@ -1,7 +1,6 @@
-use Rattle.std.proofs.Common.{map, reverse, refl, ap, subst}
+use Rattle.std.proofs.Common.{reverse, refl, ap, subst}
 use Rattle.s2file.specs.Session.{Content, content_of_parts}
 use Rattle.s2edit.specs.Working.Chain.{lists_of}
-use Rattle.s2edit.specs.Working.Session.{moved}
 use Rattle.s2edit.specs.Session.{Records}
 use Rattle.s2edit.proofs.Saving.{session_tells, text_told}
 use Rattle.s2edit.proofs.editor.Editor.session_file.Goals as goal
@@ -10,8 +9,8 @@ pub returns : goal.returns
 returns c =
     let e = c.self.inside in
     let i = c.self.invariant in
-    let s : Content = content_of_parts c.deref.result.now (reverse (map moved e.past.items))
-    (map moved e.future.items) in
+    let s : Content = content_of_parts c.deref.result.now (reverse e.past.items)
+    e.future.items in
     text_told c.encode_parts.result s c.args.self.now
     (subst (Records s) c.self.view_is
     (session_tells e.limit e.depth e.registers.items e.past.items e.future.items s (ap lists_of c.deref.ensures.value)

@@ -1,7 +1,8 @@
 use Rattle.std.proofs.Common.{ℕ, List, ◌∷◌, Some, take, ap, sym, ◌∙◌, arith}
 use Rattle.circular_buffer.specs.Buffer.{Buffer}
+use Rattle.s2file.specs.Session.{Diff}
 use Rattle.s2edit.specs.History.{History, undone, sets}
-use Rattle.s2edit.specs.Diff.{Diff, inverse}
+use Rattle.s2edit.specs.Diff.{inverse}
 use Rattle.s2edit.proofs.Moves.{Shifts, Rewrites, rewrites_from, rewritten_count, rewritten_roomy, still_bound}
 use Rattle.s2edit.proofs.Moves.{undo_leaves, undo_within, undo_past, undo_future, undo_numbers}
 use Rattle.s2edit.proofs.SetLemmas.{sets-undone}

@@ -1,10 +1,8 @@
 use Rattle.std.proofs.Common.{◌+◌, ◌-◌, List, map, take, drop, sym, subst, length-drop, arith}
 use Rattle.std.proofs.lemmas.Result.{err_from_is_err_and}
 use Rattle.s2list.specs.Union.{IsLocal}
-use Rattle.s2file.specs.Session.{moved_of}
-use Rattle.s2edit.specs.Diff.{Diff}
+use Rattle.s2file.specs.Session.{Diff, diff_of}
 use Rattle.s2edit.specs.Working.Layers.{of_register, FitInTurn}
-use Rattle.s2edit.specs.Session.{diff}
 use Rattle.s2edit.proofs.Following.{fails}
 use Rattle.s2edit.proofs.Layering.{local_after}
 use Rattle.s2edit.proofs.Turns.{each_between, batch_goes, batch_needs}
@@ -22,8 +20,8 @@ returns-in_err-follow_batch c =
     let r = c.args.register in
     let p = err_from_is_err_and c.from_residual.result c.from_residual.ensures.1 in
     rw (p.1, p.2) (fails c.in_err-follow_batch.field-0.0
-    (FitInTurn c.loop-done.list (map diff (of_register r (map moved_of (take n (drop i ms))))))
-    (FitInTurn c.args.union.now.cells (map diff (of_register r (map moved_of ms))))
+    (FitInTurn c.loop-done.list (of_register r (map diff_of (take n (drop i ms)))))
+    (FitInTurn c.args.union.now.cells (of_register r (map diff_of ms)))
     (batch_needs c.args.union.now.cells r ms c.loop-done.list i c.max.result n (omega arith) c.loop-done.invariant.goes)
     c.in_err-follow_batch.ensures.answer)
 
@@ -33,7 +31,7 @@ loop-done-preserved c =
     let n = i + c.max.result - i in
     let ms = c.args.moves.now in
     let r = c.args.register in
-    let firsts : List Diff = map diff (of_register r (map moved_of (take n (drop i ms)))) in
+    let firsts : List Diff = of_register r (map diff_of (take n (drop i ms))) in
     record {
       within = omega (arith, c.count_naming.ensures, c.max.ensures, length-drop i ms, c.loop-done-test.true);
       local = subst IsLocal (sym c.in_ok-follow_batch.ensures.after)

@@ -1,8 +1,7 @@
 use Rattle.std.proofs.Common.{◌≤◌, ◌-◌, length, map, drop}
 use Rattle.s2list.specs.Union.{IsLocal}
-use Rattle.s2file.specs.Session.{moved_of}
+use Rattle.s2file.specs.Session.{diff_of}
 use Rattle.s2edit.specs.Working.Layers.{of_register}
-use Rattle.s2edit.specs.Session.{diff}
 use Rattle.s2edit.proofs.Turns.{GoesOn}
 use Rattle.s2edit.proofs.restore.fitting.follow_many.Given as goal
 
@@ -10,8 +9,8 @@ abbrev pub invariant-loop-done : goal.invariant-loop-done
 invariant-loop-done l = record {
   within : l.done ≤ length l.moves;
   local : IsLocal l.list;
-  goes : GoesOn l.union.cells (map diff (of_register l.register (map moved_of l.moves))) l.list
-      (map diff (of_register l.register (map moved_of (drop l.done l.moves))));
+  goes : GoesOn l.union.cells (of_register l.register (map diff_of l.moves)) l.list
+      (of_register l.register (map diff_of (drop l.done l.moves)));
 }
 
 abbrev pub decreases-loop-done : goal.decreases-loop-done

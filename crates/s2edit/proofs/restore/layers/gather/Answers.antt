@@ -2,7 +2,7 @@ use Rattle.std.proofs.Common.{◌≡◌, ℕ, ◌<◌, ◌≤◌, List, ◌++◌
 use Rattle.std.proofs.lemmas.List.{length-map}
 use Rattle.std.proofs.Common.{Vec, Global}
 use Rattle.s2file.specs.declared.session.Move.{Move}
-use Rattle.s2file.specs.Session.{moved_of}
+use Rattle.s2file.specs.Session.{diff_of}
 use Rattle.s2edit.specs.Working.Layers.{ArePlaces}
 use Rattle.s2edit.proofs.restore.layers.gather.Goals.{then-height-len+in_ok-push, else-height-len}
 use Rattle.s2edit.proofs.Stacking.{IsHeight, AreHeights, AreOpened, opened_new, opened_same, height_from, heights_from}
@@ -13,7 +13,7 @@ use Rattle.s2edit.proofs.restore.layers.gather.Goals as goal
 not_too_high : (c : goal.After-drop-places-2) → c.highest-height.result ≤ length c.args.layers.now.items
 not_too_high c =
     let n = length c.args.layers.now.items in
-    let m = length-map c.args.layers.now.items moved_of in
+    let m = length-map c.args.layers.now.items diff_of in
     let each : (i : ℕ) → i < length c.args.heights.now.items → get_or c.args.heights.now.items i 0 ≤ n =
     λ i l. omega (arith, m, c.requires.stacked.bound i (omega (arith, l, c.requires.stacked.count))) in
     c.highest-height.ensures.bound n (subst (λ (xs : List ℕ). (i : ℕ) → i < length xs → get_or xs i 0 ≤ n)
@@ -39,10 +39,10 @@ opened c =
 
 -- the height is at least that of each watched cell near the change
 high : (c : goal.After-drop-places-2) → IsHeight c.args.watched.now c.args.heights.now.items
-    (moved_of c.args.change.now) c.highest-height.result
+    (diff_of c.args.change.now) c.highest-height.result
 high c =
     let watched = c.args.watched.now in
-    let m = moved_of c.args.change.now in
+    let m = diff_of c.args.change.now in
     subst (λ (hs : List ℕ). IsHeight watched hs m c.highest-height.result) c.deref.ensures.value
     (height_from watched c.deref.result.now c.deref-2.result.now m c.highest-height.result
     (subst (ArePlaces watched m) (sym c.deref-2.ensures.value) c.in_ok-places.ensures)
@@ -50,10 +50,10 @@ high c =
 
 -- the heights that the watched cells near the change then have
 raised : (c : goal.After-drop-places-2) → AreHeights c.args.watched.now c.args.heights.now.items
-    (moved_of c.args.change.now) c.highest-height.result c.raise.new.heights.items
+    (diff_of c.args.change.now) c.highest-height.result c.raise.new.heights.items
 raised c =
     let watched = c.args.watched.now in
-    let m = moved_of c.args.change.now in
+    let m = diff_of c.args.change.now in
     heights_from watched c.args.heights.now.items c.deref-5.result.now m c.highest-height.result
     (subst (ArePlaces watched m) (sym c.deref-5.ensures.value) c.in_ok-places.ensures) c.requires.stacked.count
     c.raise.new.heights.items c.raise.ensures.count c.raise.ensures.each c.raise.ensures.kept c.raise.ensures.bound

@@ -1,17 +1,16 @@
 use Rattle.std.proofs.Common.{◌≡◌, length, map, drop}
 use Rattle.std.specs.Prelude.{max}
 use Rattle.std.specs.List.{AllByRecursion}
-use Rattle.s2file.specs.Session.{moved_of, IsMoved}
+use Rattle.s2file.specs.Session.{diff_of, IsMove}
 use Rattle.s2edit.specs.Working.Chain.{lists_of}
 use Rattle.s2edit.specs.Working.Part.{longest}
-use Rattle.s2edit.specs.Session.{diff}
 use Rattle.s2edit.specs.declared.TheConstants.{REGISTERS}
 use Rattle.s2edit.proofs.restore.lengths.longest.Given as goal
 
 abbrev pub invariant-loop-change : goal.invariant-loop-change
 invariant-loop-change l = record {
-  rest : max l.most (longest l.lengths.items (map diff (map moved_of (drop l.change-index l.moves))))
-      ≡ longest (map length (lists_of l.registers)) (map diff (map moved_of l.moves));
+  rest : max l.most (longest l.lengths.items (map diff_of (drop l.change-index l.moves)))
+      ≡ longest (map length (lists_of l.registers)) (map diff_of l.moves);
   count : length l.lengths.items ≡ REGISTERS;
-  each : AllByRecursion IsMoved (map moved_of (drop l.change-index l.moves));
+  each : AllByRecursion IsMove (map diff_of (drop l.change-index l.moves));
 }
