@@ -12,11 +12,11 @@ use Rattle.s2edit.specs.declared.edits.EditTally.{EditTally}
 module _ {X : Type 0} (f : List ℕ → X) where
   -- the edit, made in the history h, may have this outcome and leave the history h'
   abbrev pub Edited : History X → Edit → EditOutcome → History X → Type 0
-  -- an assignment is refused exactly if the list is above the limit
+  -- an assignment is refused if and only if the list is above the limit
   Edited h (Assign r u) Done h' = (length u.cells ≤ h.limit) × Assigned h r (f u.cells) h'
   Edited h (Assign r u) Refused h' = (h.limit < length u.cells) × (h' ≡ h)
   Edited h (Assign r u) NoMemory h' = (length u.cells ≤ h.limit) × (h' ≡ h)
-  -- an undo or redo is refused exactly if its side is empty, and takes no memory
+  -- an undo or redo is refused if and only if its side is empty, and takes no memory
   Edited h Undo Done h' = (h.past ≢ []) × (h' ≡ undone h)
   Edited h Undo Refused h' = (h.past ≡ []) × (h' ≡ h)
   Edited h Undo NoMemory h' = ⊥

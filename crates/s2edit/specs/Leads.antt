@@ -7,7 +7,7 @@ use Rattle.s2edit.specs.Diff.{change_between}
 abbrev pub list_at : List (List ℕ) → ℕ → List ℕ
 list_at t r = slice_index_or t r []
 
--- the table n places away from now, in a list of tables that begins with now
+-- the table n steps away from now, in a list of tables that begins with now
 abbrev pub table_at : List (List (List ℕ)) → ℕ → List (List ℕ)
 table_at ts n = slice_index_or ts n []
 

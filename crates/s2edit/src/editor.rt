@@ -146,8 +146,8 @@ impl Editor {
     /// Goes back to the newest state of the past, and answers how many cells were taken out and put in.
     /// The present state goes to the future.
     ///
-    /// Answers None, and changes nothing, exactly if the past is empty. Two passes over the register's list; takes no
-    /// memory.
+    /// Answers None if and only if the past is empty; then nothing changes. Two passes over the register's list; takes
+    /// no memory.
     pub fn undo(&mut self) -> Option<(usize, usize)>
         ensures after { self.new ≡ undone self.old }
         ensures after_sets { sets self.new ≡ undone (sets self.old) }
@@ -170,7 +170,7 @@ impl Editor {
     /// Goes forward again to the state that was undone last, and answers how many cells were taken out and
     /// put in. The present state goes to the past.
     ///
-    /// Answers None, and changes nothing, exactly if the future is empty. Costs what `undo` costs.
+    /// Answers None if and only if the future is empty; then nothing changes. Costs what `undo` costs.
     pub fn redo(&mut self) -> Option<(usize, usize)>
         ensures after { self.new ≡ redone self.old }
         ensures after_sets { sets self.new ≡ redone (sets self.old) }
@@ -190,8 +190,8 @@ impl Editor {
         Some(numbers)
     }
 
-    /// The kept change that undo number `n` from now would reverse, counted from 0; None exactly if fewer states can be
-    /// undone. It leads from the earlier state to the later one.
+    /// The kept change that undo number `n` from now would reverse, counted from 0. It leads from the earlier state to
+    /// the later one. None if and only if at most `n` states can be undone.
     pub fn change_back(&self, n: usize) -> Option<&Change>
         ensures none { IsNone result ↔ (length self.now.past ≤ n) }
         ensures leads { IfSome result
@@ -201,8 +201,8 @@ impl Editor {
         self.past.get(n)
     }
 
-    /// The kept change that redo number `n` from now would make again, counted from 0; None exactly if fewer states can
-    /// be redone. It leads from the earlier state to the later one.
+    /// The kept change that redo number `n` from now would make again, counted from 0. It leads from the earlier state
+    /// to the later one. None if and only if at most `n` states can be redone.
     pub fn change_ahead(&self, n: usize) -> Option<&Change>
         ensures none { IsNone result ↔ (length self.now.future ≤ n) }
         ensures leads { IfSome result

@@ -44,7 +44,7 @@ impl Register {
         Register { number }
     }
 
-    /// Its number, which is the place of its union in the table of registers.
+    /// Its number, which is the index of its union in the table of registers.
     pub fn index(self) -> usize
         ensures value { result ≡ self }
         ensures within { result < REGISTERS }

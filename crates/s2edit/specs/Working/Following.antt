@@ -14,13 +14,13 @@ FailsToFollow TooDeep P = ⊥
 FailsToFollow TooMany P = ⊥
 FailsToFollow Memory P = Unit {0}
 
--- the changes can be made one after another, and `within` tells whether each list made keeps to the limit
+-- the changes can be made one after another, and `within` says whether each list made keeps to the limit
 pub record MakesChanges (limit : ℕ) (t : List (List ℕ)) (ds : List Diff) (within : Bool) : Type 0 where
   pub fit : FitAlong SESSION_CELLS t ds
   pub few : within ≡ true → FitAlong limit t ds
   pub many : FitAlong limit t ds → within ≡ true
 
--- each union has room for the list at its place
+-- each union has room for the list at its index
 abbrev pub HaveRoom : List (List ℕ) → List Union → Type 0
 HaveRoom [] [] = Unit {0}
 HaveRoom [] (v ∷ vs) = ⊥

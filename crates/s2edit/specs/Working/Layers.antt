@@ -36,8 +36,8 @@ ordered_diff m = record { register = m.register; out = ordered m.out; put = orde
 abbrev pub AreChanges : List Diff → Type 0
 AreChanges ds = AllByRecursion (λ (d : Diff). IsDiff d.out d.put) ds
 
--- In each local list the changes `es` can be made in turn exactly if the changes `ds` can, and then they lead to the
--- same list.
+-- In each local list the changes `es` can be made in turn if and only if the changes `ds` can, and then both lead to
+-- one list.
 pub record LeadAlike (ds es : List Diff) : Type 0 where
   pub there : (u : List ℕ) → IsLocal u → FitInTurn u ds → FitInTurn u es
   pub back : (u : List ℕ) → IsLocal u → FitInTurn u es → FitInTurn u ds
@@ -59,7 +59,7 @@ pub record IsNearWatched (watched : List ℕ) (m : Diff) : Type 0 where
   pub out : AllNearWatched watched m.out
   pub put : AllNearWatched watched m.put
 
--- for each cell of a list, and each watched cell that covers its first leaf, `places` has the place of the watched cell
+-- for each cell of a list, and each watched cell that covers its first leaf, `places` has the index of the watched cell
 abbrev pub HavePlaces : List ℕ → List ℕ → List ℕ → Type 0
 HavePlaces watched cells places = (c : ℕ) → has cells c ≡ true → (i : ℕ) → i < length watched →
     covers (slice_index watched i) (first_leaf c) ≡ true → has places i ≡ true
@@ -77,7 +77,7 @@ NoneIn w cells = (c : ℕ) → has cells c ≡ true → covers w (first_leaf c) 
 abbrev pub layer_at : List Diff → ℕ → Diff
 layer_at layers l = slice_index_or layers l (record { register = 0; out = []; put = [] })
 
--- `heights` tells for each watched cell how many layers there are up to the highest that has cells in it
+-- `heights` has, for each watched cell, the number of layers up to the highest that has cells in it
 pub record IsStacked (watched heights : List ℕ) (layers : List Diff) : Type 0 where
   pub count : length heights ≡ length watched
   pub bound : (i : ℕ) → i < length watched → slice_index heights i ≤ length layers

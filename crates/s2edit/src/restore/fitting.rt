@@ -17,13 +17,13 @@ use s2file::Move;
 use s2union::{CellUnion, normalise};
 use std::alloc::Global;
 
-/// Changes are followed together if they name at most one in so many of the list's cells.
+/// Changes are followed together if they name at most an eighth of the list's cells.
 const LIST_TO_FEW: usize = 8;
 
-/// A batch of changes names at most one in so many of the list's cells.
+/// The changes of a batch together name at most a thirty-second of the list's cells.
 const LIST_TO_BATCH: usize = 32;
 
-/// So many cells are few beside any list.
+/// Up to this number of cells, changes are followed together whatever the list.
 const FEW: usize = 4096;
 
 /// Follows the changes of one register from its union. Refused as `Fit` if one can't be made.
@@ -46,7 +46,7 @@ pub(crate) fn follow(
     follow_many(alloc, union, moves, register)
 }
 
-/// How many of the changes, from the first on, together name at most so many cells of the register.
+/// How many of the changes, from the first on, together name at most `most` cells of the register.
 fn count_naming(moves: &[Move], register: usize, most: usize) -> usize
     ensures { result ≤ length moves.now }
 {
@@ -110,7 +110,7 @@ fn follow_many(
     Ok(())
 }
 
-/// Follows a batch of changes: one as it is, several in layers.
+/// Follows a batch of changes: a single one unaltered, several in layers.
 fn follow_batch(
     alloc: Global,
     list: &mut Followed<'_>,

@@ -21,7 +21,7 @@ use std::mem;
 /// How many cells can be copied in the time that checking one cell of a change takes.
 const COPIES_A_CHECK: usize = 128;
 
-/// How many cells can be copied in the time that one cell takes when two changes are joined.
+/// How many cells can be copied in the time that joining one cell of two changes takes.
 const COPIES_A_JOIN: usize = 12;
 
 /// A list that is followed along changes: the list at some earlier point, and the change that leads from there to the
@@ -222,7 +222,7 @@ fn joined_apart(
     ))
 }
 
-/// The same for any change. Checks the gathered cells too.
+/// What leads from the start to the list after any change, if it can be made. Checks the gathered cells too.
 fn joined_near(
     alloc: Global,
     start: &CellUnion,

@@ -62,8 +62,8 @@ fn in_order(cells: &mut Vec<CellId>)
     cells.sort_unstable();
 }
 
-/// Adds a change to the lowest layer that is above every layer with a cell near one of its own. `heights` tells for
-/// each watched cell how many layers there are up to the highest that has cells in it.
+/// Adds a change to the lowest layer that is above every layer with a cell near one of its own. `heights` has, for each
+/// watched cell, the number of layers up to the highest that has cells in it.
 fn gather(
     alloc: Global,
     layers: &mut Vec<Move>,
@@ -95,7 +95,7 @@ fn gather(
     Ok(())
 }
 
-/// The greatest height at the places.
+/// The greatest of the heights at these indexes.
 fn highest(heights: &[usize], places: &[usize]) -> usize
     ensures each { (p : ℕ) → has places.now p ≡ true → p < length heights.now → slice_index heights.now p ≤ result }
     ensures bound { (n : ℕ) → ((i : ℕ) → i < length heights.now → slice_index heights.now i ≤ n) → result ≤ n }
@@ -109,7 +109,7 @@ fn highest(heights: &[usize], places: &[usize]) -> usize
     most
 }
 
-/// Raises the heights at the places to a height.
+/// Raises the heights at these indexes to a height.
 fn raise(heights: &mut Vec<usize>, places: &[usize], height: usize)
     ensures count { length heights.new.items ≡ length heights.old.items }
     ensures each { (p : ℕ) → has places.now p ≡ true → p < length heights.new.items →
@@ -124,9 +124,9 @@ fn raise(heights: &mut Vec<usize>, places: &[usize], height: usize)
     }
 }
 
-/// The places of the watched cells in which the cells lie that a change names.
+/// The indexes of the watched cells in which the cells lie that a change names.
 ///
-/// Takes the cells that go out and those that are put in by turns, since these often lie in one watched cell.
+/// Takes the cells that go out and those that are put in alternately, since these often lie in one watched cell.
 fn places_of(alloc: Global, watched: &[CellId], change: &Move) -> Result<Vec<usize>, AllocError>
     requires local { IsLocal watched.now }
     ensures { IfOk result (λ places. ArePlaces watched.now (diff_of change.now) places.items) }
@@ -140,7 +140,7 @@ fn places_of(alloc: Global, watched: &[CellId], change: &Move) -> Result<Vec<usi
     Ok(places)
 }
 
-/// Adds the place of the watched cell in which the cell of that turn lies, if the list has one. Answers the last place.
+/// Adds the index of the watched cell in which the cell at index `turn` lies, if there is one. Answers the last index.
 fn push_place(
     places: &mut Vec<usize>,
     watched: &[CellId],
@@ -161,7 +161,7 @@ fn push_place(
     Ok(place)
 }
 
-/// The place of the watched cell in which a cell lies, if it lies in one. Looks at the place `likely` first.
+/// The index of the watched cell in which a cell lies, if it lies in one. Looks at the index `likely` first.
 fn place_of(watched: &[CellId], cell: CellId, likely: usize) -> usize
     requires local { IsLocal watched.now }
     ensures { (i : ℕ) → i < length watched.now → covers (slice_index watched.now i) (first_leaf cell) ≡ true →

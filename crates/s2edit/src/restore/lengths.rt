@@ -1,4 +1,4 @@
-//! How long the registers' lists get along changes.
+//! The length of each register's list after each change.
 ghost use Rattle.std.specs.Prelude.{◌≡◌, ◌<◌, length, map, slice_set, IfOk};
 ghost use Rattle.std.specs.Prelude.{◌+◌, ◌-◌, ◌^◌, min, slice_index_or};
 ghost use Rattle.std.specs.List.{AllByRecursion};

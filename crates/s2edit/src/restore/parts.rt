@@ -13,9 +13,11 @@ use s2union::{CellUnion, normalise};
 use std::alloc::{AllocError, Global};
 use std::cmp::Ordering;
 
-/// The cells of a union that share a leaf with the watched cells; none to say all its cells, if one of them is larger
-/// than a watched cell in it. If the watched cells are those around the cells that changes name, the changes can be
-/// made in this part exactly if they can in the union: they can take out, overlap or form a family with no other cell.
+/// The cells of a union that share a leaf with the watched cells. `None` means all its cells, if one of them is larger
+/// than a watched cell in it.
+///
+/// If the watched cells are those around the cells that changes name, the changes can be made in this part if and only
+/// if they can be made in the union. They can take out, overlap or form a family with no other cell.
 pub(crate) fn part_of(
     union: &CellUnion,
     watched: &CellUnion,
@@ -72,7 +74,7 @@ pub(crate) fn around_moves(
 
 /// Appends the parents of the cells of two lists.
 ///
-/// Takes the cells of the lists by turns, since those of one turn often have one parent.
+/// Takes cells of the two lists alternately, since those at one index often have one parent.
 fn push_around(list: &mut Vec<CellId>, out: &[CellId], put: &[CellId]) -> Result<(), AllocError>
     ensures { OnOk result ((x : ℕ) → has_leaf list.new.items x
         ≡ has_leaf (list.old.items ++ map around out.now ++ map around put.now) x) }
@@ -84,7 +86,7 @@ fn push_around(list: &mut Vec<CellId>, out: &[CellId], put: &[CellId]) -> Result
     Ok(())
 }
 
-/// Appends the parent of the cell of that turn, if `cells` has one, unless it is the last of the list already.
+/// Appends the parent of the cell at index `turn`, if `cells` has one there, unless the list already ends in it.
 fn push_parent(list: &mut Vec<CellId>, cells: &[CellId], turn: usize) -> Result<(), AllocError>
     ensures { OnOk result ((x : ℕ) → has_leaf list.new.items x
         ≡ has_leaf (list.old.items ++ map around (take 1 (drop turn cells.now))) x) }
