@@ -16,7 +16,7 @@ use Rattle.s2edit.specs.Working.Chain.{union_of}
 use Rattle.s2edit.proofs.Tables.{tables_after-take, FitAlong-take, AllWithin-at, within_after, tables_back, along_back}
 use Rattle.s2edit.proofs.DiffLemmas.{only_change}
 use Rattle.s2edit.proofs.Numbers.{out_lost, put_won}
-use Rattle.s2edit.proofs.Moves.{Rewrites, table_is}
+use Rattle.s2edit.proofs.Moves.{Rewrites}
 
 -- the register's own list changes nothing
 pub assigned_same : (h : History (List ℕ)) (r : ℕ) (x : List ℕ) → slice_get h.now r ≡ Some x → Assigned h r x h
@@ -62,37 +62,32 @@ module _ (limit : ℕ) (t : List (List ℕ)) (r : ℕ) (v : List ℕ) (a : AllWi
   }
 
 -- what an assignment leaves
-pub record Changes (depth : ℕ) (us us' : List Union) (spare spare' : Union) (past past' future' : List Diff)
-    (r : ℕ) (v : List ℕ) : Type 0 where
-  pub rewrites : Rewrites us us' spare spare' (change_between r (list_at (lists_of us) r) v)
+pub record Changes (depth : ℕ) (us us' : List Union) (past past' future' : List Diff) (r : ℕ) (v : List ℕ) :
+    Type 0 where
+  pub table : lists_of us' ≡ table_after (lists_of us) (change_between r (list_at (lists_of us) r) v)
   pub onto : past' ≡ take depth (change_between r (list_at (lists_of us) r) v ∷ past)
   pub cleared : future' ≡ []
 
 -- a change that was made is one between the lists of its register
-pub changes_from : (depth : ℕ) (us us' : List Union) (spare spare' : Union) (past past' future' : List Diff)
-    (d : Diff) →
+pub changes_from : (depth : ℕ) (us us' : List Union) (past past' future' : List Diff) (d : Diff) →
     IsLocal (list_at (lists_of us) d.register) → FitsList d (list_at (lists_of us) d.register)
-    → Rewrites us us' spare spare' d → past' ≡ take depth (d ∷ past) → future' ≡ []
-    → Changes depth us us' spare spare' past past' future' d.register (list_after (lists_of us) d)
-changes_from depth us us' spare spare' past past' future' d local fits rewrites onto cleared =
+    → lists_of us' ≡ table_after (lists_of us) d → past' ≡ take depth (d ∷ past) → future' ≡ []
+    → Changes depth us us' past past' future' d.register (list_after (lists_of us) d)
+changes_from depth us us' past past' future' d local fits table onto cleared =
     let e : d ≡ change_between d.register (list_at (lists_of us) d.register) (list_after (lists_of us) d) =
     only_change d (list_at (lists_of us) d.register) (list_after (lists_of us) d) local fits refl in
     record {
-      rewrites = subst (λ (k : Diff). Rewrites us us' spare spare' k) e rewrites;
+      table = table ∙ ap (table_after (lists_of us)) e;
       onto = onto ∙ ap (λ (k : Diff). take depth (k ∷ past)) e;
       cleared = cleared;
     }
 
-module _ (limit depth : ℕ) (us us' : List Union) (spare spare' : Union) (past past' future' : List Diff)
-    (r : ℕ) (v : List ℕ)
+module _ (limit depth : ℕ) (us us' : List Union) (past past' future' : List Diff) (r : ℕ) (v : List ℕ)
     (a : AllWithin limit (lists_of us)) (f : FitAlong limit (lists_of us) (map inverse past))
     (l : r < length (lists_of us)) (w : IsLocalWithin limit v) (n : v ≢ list_at (lists_of us) r)
-    (m : Changes depth us us' spare spare' past past' future' r v) where
+    (m : Changes depth us us' past past' future' r v) where
   change_is : Diff
   change_is = change_between r (list_at (lists_of us) r) v
-
-  change_table : lists_of us' ≡ table_after (lists_of us) (change_between r (list_at (lists_of us) r) v)
-  change_table = table_is limit us us' spare spare' (change_between r (list_at (lists_of us) r) v) m.rewrites
 
   turned : map inverse past' ≡ take depth (inverse (change_between r (list_at (lists_of us) r) v) ∷ map inverse past)
   turned = ap (map inverse) m.onto ∙ sym (take-map inverse depth (change_between r (list_at (lists_of us) r) v ∷ past))
@@ -107,7 +102,7 @@ module _ (limit depth : ℕ) (us us' : List Union) (spare spare' : Union) (past 
       ∙ tables_after-take depth (lists_of us') (inverse (change_between r (list_at (lists_of us) r) v)
       ∷ map inverse past)
       ∙ ap (λ (t : List (List ℕ)). take depth
-      (tables_after t (inverse (change_between r (list_at (lists_of us) r) v) ∷ map inverse past))) change_table
+      (tables_after t (inverse (change_between r (list_at (lists_of us) r) v) ∷ map inverse past))) m.table
       ∙ ap (take depth) (tables_back limit (lists_of us) (change_between r (list_at (lists_of us) r) v) a fits_it
       (map inverse past))
 
@@ -129,10 +124,10 @@ module _ (limit depth : ℕ) (us us' : List Union) (spare spare' : Union) (past 
         now = t;
         future = [];
       })
-      (change_table ∙ between_table limit (lists_of us) r v a l w)
+      (m.table ∙ between_table limit (lists_of us) r v a l w)
 
   pub change_within : AllWithin limit (lists_of us')
-  change_within = subst (AllWithin limit) (sym change_table)
+  change_within = subst (AllWithin limit) (sym m.table)
       (within_after limit (lists_of us) (change_between r (list_at (lists_of us) r) v) a fits_it)
 
   pub change_past : FitAlong limit (lists_of us') (map inverse past')
@@ -141,7 +136,7 @@ module _ (limit depth : ℕ) (us us' : List Union) (spare spare' : Union) (past 
       (FitAlong-take limit depth (lists_of us') (inverse (change_between r (list_at (lists_of us) r) v)
       ∷ map inverse past)
       (subst (λ (t : List (List ℕ)). FitAlong limit t
-      (inverse (change_between r (list_at (lists_of us) r) v) ∷ map inverse past)) (sym change_table)
+      (inverse (change_between r (list_at (lists_of us) r) v) ∷ map inverse past)) (sym m.table)
       (along_back limit (lists_of us) (change_between r (list_at (lists_of us) r) v) a fits_it (map inverse past) f)))
 
   pub change_future : FitAlong limit (lists_of us') future'
@@ -168,5 +163,5 @@ module _ (limit depth : ℕ) (us us' : List Union) (spare spare' : Union) (past 
         x,
       ))
       (k ∙ put_won limit (lists_of us) (change_between r (list_at (lists_of us) r) v) a fits_it)
-      ∙ ap (λ (v' : List (List ℕ)). numbers (lists_of us) v') (sym change_table)
+      ∙ ap (λ (v' : List (List ℕ)). numbers (lists_of us) v') (sym m.table)
       ∙ ap (λ (v' : List (List ℕ)). numbers v' (lists_of us')) h

@@ -30,7 +30,7 @@ none_out us [] e = sym (cells_without-nothing us)
 none_out us (o ∷ os) e = absurd (omega arith)
 
 -- a cell of a list is above what is below all its cells
-above_one : (x y : ℕ) (ys : List ℕ) → AllAbove x ys → has ys y ≡ true → x < y
+pub above_one : (x y : ℕ) (ys : List ℕ) → AllAbove x ys → has ys y ≡ true → x < y
 above_one x y [] a h = absurd (false≢true h)
 above_one x y (z ∷ zs) a h =
     ⊎_elim (λ e. let s : z ≡ y = eqb-true z y e in let l = a.0 in omega arith) (λ e. above_one x y zs a.1 e)
@@ -114,7 +114,7 @@ abbrev NoneAbove : ℕ → List ℕ → Type 0
 NoneAbove x [] = Unit {0}
 NoneAbove x (y ∷ ys) = (y ≤ x) × NoneAbove x ys
 
-above_at : (x : ℕ) (ys : List ℕ) (k : ℕ) → AllAbove x ys → k < length ys → x < get_or ys k 0
+pub above_at : (x : ℕ) (ys : List ℕ) (k : ℕ) → AllAbove x ys → k < length ys → x < get_or ys k 0
 above_at x [] k a l = absurd (omega arith)
 above_at x (y ∷ ys) zero a l = a.0
 above_at x (y ∷ ys) (suc k) a l = above_at x ys k a.1 (omega arith)

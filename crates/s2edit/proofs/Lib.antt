@@ -31,5 +31,6 @@ pub mod Placing
 pub mod Stacking
 pub mod Watching
 pub mod InPlace
+pub mod Exchanging
 pub mod Near
 pub mod Making

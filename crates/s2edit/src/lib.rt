@@ -9,6 +9,7 @@
 mod change;
 mod editor;
 mod edits;
+mod handful;
 mod lacking;
 pub mod laws;
 mod named;

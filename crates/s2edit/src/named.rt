@@ -18,14 +18,15 @@ ghost use Rattle.s2edit.specs.Working.Named.{Gives};
 
 use crate::REGISTERS;
 use crate::change::Change;
-use crate::editor::{EditFault, Editor, rewrite};
+use crate::editor::{EditFault, Editor};
+use crate::handful::change_register;
 use crate::register::Register;
 use s2cell::CellId;
 use s2list::{CellList, find_from};
 use s2union::{CellUnion, UnionFault, normalise};
 use std::alloc::{AllocError, Global};
 
-/// The part is looked for if the register has this many times as many cells as are named.
+/// The part is looked for if the register has at least this number of cells for each named one.
 const REGISTER_TO_NAMED: usize = 200;
 
 /// How many cells before and after a named one can make a family with it.
@@ -112,13 +113,7 @@ impl Editor {
         if old.len() - out + put > self.limit {
             return Err(EditFault::TooMany);
         }
-        rewrite(
-            &mut self.registers,
-            &mut self.spare,
-            change.register,
-            &change.out,
-            &change.put,
-        );
+        change_register(self.alloc, &mut self.registers, &mut self.spare, &change);
         self.past.push_front(change);
         self.future.clear();
         Ok((out, put))
@@ -144,7 +139,8 @@ fn adding(
     adding_near(alloc, register, union, named, RELATIVES)
 }
 
-/// The same, in the part with `reach` of the union's cells before and after each named one.
+/// The change that adds the leaves of the named cells, if it is found in the part of the union that has `reach` cells
+/// before and after each named one.
 fn adding_near(
     alloc: Global,
     register: Register,
@@ -188,7 +184,8 @@ fn removing(
     change_of_part(alloc, register, union, &part, &rest)
 }
 
-/// The cells of a union that meet named ones, and others before and after these; none if that can't be told.
+/// The cells of a union that meet named ones, and others before and after these. `None` if they can't be taken out of
+/// the union.
 fn part_near(
     alloc: Global,
     union: &CellUnion,

@@ -12,7 +12,7 @@ use Rattle.s2edit.specs.Chain.{IsLocalWithin}
 use Rattle.s2edit.proofs.Tables.{AllWithin-get, AllWithin-at, slice_get-lists_of, read_register, list_read}
 use Rattle.s2edit.proofs.Assigning.{taken_over, Changes, change_leaves, change_within, change_past, change_future}
 use Rattle.s2edit.proofs.Assigning.{change_bound, change_numbers, assigned_same, assigned_other}
-use Rattle.s2edit.proofs.Moves.{rewritten_count, rewritten_roomy}
+use Rattle.s2edit.proofs.Moves.{Rewrites, table_is, rewritten_count, rewritten_roomy}
 use Rattle.s2edit.proofs.Numbers.{numbers-same}
 use Rattle.s2edit.proofs.SetLemmas.{Assigned-sets}
 use Rattle.s2edit.proofs.editor.Editor.assign.Goals as goal
@@ -101,14 +101,19 @@ differs : (c : goal.After-clear) → c.args.union.cells ≡ list_at (lists_of c.
     c.args.register → ⊥
 differs c e = c.if-are_same.ensures (c.cells.ensures.value ∙ sym (old_is c) ∙ sym e ∙ sym c.cells-2.ensures.value)
 
+rewrites : (c : goal.After-clear) → Rewrites c.self.inside.registers.items c.exchange.new.registers.items
+    c.copy_from.new.self c.exchange.new.spare (change_between c.args.register
+    (list_at (lists_of c.self.inside.registers.items) c.args.register) c.args.union.cells)
+rewrites c = taken_over c.self.inside.limit (lists_of c.self.inside.registers.items) c.args.register
+    c.args.union.cells c.self.invariant.registers_within (in_table c) (own c)
+    c.self.inside.registers.items c.exchange.new.registers.items c.copy_from.new.self c.exchange.new.spare refl
+    c.copy_from.ensures.cells c.exchange.ensures.registers c.exchange.ensures.spare
+
 changes : (c : goal.After-clear) → Changes c.self.inside.depth c.self.inside.registers.items
-    c.exchange.new.registers.items c.copy_from.new.self c.exchange.new.spare c.self.inside.past.items
-    c.push_front.new.self.items c.clear.new.self.items c.args.register c.args.union.cells
+    c.exchange.new.registers.items c.self.inside.past.items c.push_front.new.self.items c.clear.new.self.items
+    c.args.register c.args.union.cells
 changes c = record {
-  rewrites = taken_over c.self.inside.limit (lists_of c.self.inside.registers.items) c.args.register
-      c.args.union.cells c.self.invariant.registers_within (in_table c) (own c)
-      c.self.inside.registers.items c.exchange.new.registers.items c.copy_from.new.self c.exchange.new.spare refl
-      c.copy_from.ensures.cells c.exchange.ensures.registers c.exchange.ensures.spare;
+  table = table_is c.self.inside.limit _ _ _ _ _ (rewrites c);
   onto = ap (λ (b : Buffer Diff). b.items) c.push_front.ensures.items
       ∙ ap (λ (n : ℕ). take n (c.in-Ok.change ∷ c.self.inside.past.items)) c.self.invariant.past_room
       ∙ ap (λ (d : Diff). take c.self.inside.depth (d ∷ c.self.inside.past.items)) (sym c.change.view_is ∙ change_is c);
@@ -127,7 +132,7 @@ assigned : (c : goal.After-clear) → Assigned c.args.self.now c.args.register c
 assigned c =
     assigned_other c.args.self.now _ c.args.register c.args.union.cells
     (list_at (lists_of c.self.inside.registers.items) c.args.register) (there c) (λ e. differs c (sym e))
-    (change_leaves c.self.inside.limit c.self.inside.depth _ _ _ _ _ _ _ c.args.register c.args.union.cells
+    (change_leaves c.self.inside.limit c.self.inside.depth _ _ _ _ _ c.args.register c.args.union.cells
     c.self.invariant.registers_within c.self.invariant.past_fits (in_table c) (own c) (differs c) (changes c)
     c.self.inside.future.items ∙ ap (λ (k : History (List ℕ)). changed k c.args.register c.args.union.cells)
     c.self.view_is)
@@ -145,7 +150,7 @@ returns-clause-ok_sets c =
 
 pub returns-clause-numbers : goal.returns-clause-numbers
 returns-clause-numbers c =
-    change_numbers c.self.inside.limit c.self.inside.depth _ _ _ _ _ _ _ c.args.register c.args.union.cells
+    change_numbers c.self.inside.limit c.self.inside.depth _ _ _ _ _ c.args.register c.args.union.cells
     c.self.invariant.registers_within c.self.invariant.past_fits (in_table c) (own c) (differs c) (changes c)
     c.args.self.now.now (c.len-2.result, c.len-3.result) (ap (λ (h : History (List ℕ)). h.now) c.self.view_is)
     (omega (arith, c.len-2.ensures, c.change.inside.out.ok, ap (λ (d : Diff). length d.out) (change_is c)))
@@ -156,24 +161,24 @@ invariant_of-self-2 c =
     let i = c.self.invariant in
     let d : Diff = change_between c.args.register (list_at (lists_of c.self.inside.registers.items) c.args.register)
     c.args.union.cells in
-    let w = rewritten_roomy c.self.inside.limit _ _ _ _ d (changes c).rewrites i.registers_roomy
+    let w = rewritten_roomy c.self.inside.limit _ _ _ _ d (rewrites c) i.registers_roomy
     (omega (arith, c.copy_from.ensures.room, i.spare_roomy)) in
     record {
       limit_bound = i.limit_bound;
       depth_most = i.depth_most;
-      count = rewritten_count c.self.inside.limit _ _ _ _ d (changes c).rewrites ∙ i.count;
+      count = rewritten_count c.self.inside.limit _ _ _ _ d (rewrites c) ∙ i.count;
       past_room = ap (λ (b : Buffer Diff). b.capacity) c.push_front.ensures.items ∙ i.past_room;
       future_room = ap (λ (b : Buffer Diff). b.capacity) c.clear.ensures ∙ i.future_room;
-      depth_bound = change_bound c.self.inside.limit c.self.inside.depth _ _ _ _ _ _ _ c.args.register
+      depth_bound = change_bound c.self.inside.limit c.self.inside.depth _ _ _ _ _ c.args.register
           c.args.union.cells c.self.invariant.registers_within c.self.invariant.past_fits (in_table c) (own c)
           (differs c) (changes c);
-      registers_within = change_within c.self.inside.limit c.self.inside.depth _ _ _ _ _ _ _ c.args.register
+      registers_within = change_within c.self.inside.limit c.self.inside.depth _ _ _ _ _ c.args.register
           c.args.union.cells c.self.invariant.registers_within c.self.invariant.past_fits (in_table c) (own c)
           (differs c) (changes c);
-      past_fits = change_past c.self.inside.limit c.self.inside.depth _ _ _ _ _ _ _ c.args.register
+      past_fits = change_past c.self.inside.limit c.self.inside.depth _ _ _ _ _ c.args.register
           c.args.union.cells c.self.invariant.registers_within c.self.invariant.past_fits (in_table c) (own c)
           (differs c) (changes c);
-      future_fits = change_future c.self.inside.limit c.self.inside.depth _ _ _ _ _ _ _ c.args.register
+      future_fits = change_future c.self.inside.limit c.self.inside.depth _ _ _ _ _ c.args.register
           c.args.union.cells c.self.invariant.registers_within c.self.invariant.past_fits (in_table c) (own c)
           (differs c) (changes c);
       registers_roomy = w.0;

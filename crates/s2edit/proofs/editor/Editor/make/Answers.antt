@@ -1,20 +1,22 @@
 use Rattle.std.proofs.Common.{◌≡◌, ◌≢◌, ◌<◌, ◌≤◌, ℕ, List, [], ◌∷◌, length, take, slice_get}
-use Rattle.std.proofs.Common.{ap, refl, sym, ◌∙◌, subst, arith}
+use Rattle.std.proofs.Common.{ap, refl, sym, ◌∙◌, subst, arith, rules}
+use Rattle.std.specs.Vec.{vec_len}
 use Rattle.circular_buffer.specs.Buffer.{Buffer}
+use Rattle.std.proofs.lemmas.List.{length-map, length-set}
 use Rattle.std.proofs.lemmas.Option.{slice_get-get_or}
+use Rattle.s2list.specs.Union.{Union}
 use Rattle.s2file.specs.Session.{Diff}
 use Rattle.s2edit.specs.History.{History, changed, Assigned}
 use Rattle.s2edit.specs.Diff.{FitsList, change_between}
 use Rattle.s2edit.specs.Leads.{list_at}
 use Rattle.s2edit.specs.Chain.{IsLocalWithin}
-use Rattle.s2edit.specs.Working.Chain.{lists_of, list_after, history}
+use Rattle.s2edit.specs.Working.Chain.{lists_of, list_after, table_after, history}
 use Rattle.s2edit.specs.declared.TheConstants.{REGISTERS}
-use Rattle.s2edit.proofs.Tables.{list_read}
+use Rattle.s2edit.proofs.Tables.{list_read, AllRoomy-get}
 use Rattle.s2edit.proofs.Assigning.{Changes, changes_from, change_leaves, change_within, change_past, change_future}
 use Rattle.s2edit.proofs.Assigning.{change_bound, change_numbers, assigned_other}
 use Rattle.s2edit.proofs.DiffLemmas.{changes_list, only_change}
 use Rattle.s2edit.proofs.Making.{in_table, fits_here, within_here, fewer, sizes, nothing_made, nothing_more}
-use Rattle.s2edit.proofs.Moves.{Rewrites, rewrites_from, rewritten_count, rewritten_roomy}
 use Rattle.s2edit.proofs.Numbers.{numbers-same}
 use Rattle.s2edit.proofs.editor.Editor.make.Goals as goal
 use Rattle.s2edit.proofs.editor.Editor.make.Goals.{else-out-eq0-via-then-out-eq0+else-put-eq0}
@@ -109,9 +111,10 @@ returns-then-len-out-clause-too_many c =
       ap (λ (k : History (List ℕ)). k.limit) c.self.view_is,
     )
 
-pub rewrite-requires-clause-room : goal.rewrite-requires-clause-room
-rewrite-requires-clause-room c =
+pub change_register-requires : goal.change_register-requires
+change_register-requires c =
     let i = c.self.inside in
+    let whole : vec_len i.registers ≡ length i.registers.items = search rules in
     let l : c.index.result < length i.registers.items = omega (arith, c.index.ensures.within, c.self.invariant.count) in
     let old : list_at (lists_of i.registers.items) c.args.change.register ≡ c.index-old.result.now.cells =
     list_read i.registers.items _ _ _ c.index-old.ensures
@@ -120,7 +123,7 @@ rewrite-requires-clause-room c =
     c.self.view_is c.self.invariant.count c.self.invariant.registers_within c.requires.in_range c.requires.fits in
     let t : lists_of i.registers.items ≡ c.args.self.now.now =
     ap (λ (k : History (List ℕ)). k.now) c.self.view_is in
-    let few : length (list_after (lists_of i.registers.items) c.args.change) ≤ i.spare.room =
+    let few : length (list_after (lists_of i.registers.items) c.args.change) ≤ i.limit =
     omega (
       arith,
       c.len-out.ensures,
@@ -133,11 +136,18 @@ rewrite-requires-clause-room c =
       ap length old,
       s,
       c.if-len-out.false,
-      c.self.invariant.spare_roomy,
       ap (λ (k : List (List ℕ)). length (list_after k c.args.change)) t,
     ) in
-    rw (c.deref.ensures.value, c.deref-2.ensures.value)
-    (subst (λ (d : Diff). length (list_after (lists_of i.registers.items) d) ≤ i.spare.room) (sym c.change.view_is) few)
+    record {
+      in_range = omega (arith, whole, c.self.invariant.count, c.requires.in_range);
+      fits = fits_here i.limit i.depth i.registers.items i.past.items i.future.items c.args.self.now c.args.change
+          c.self.view_is c.self.invariant.count c.self.invariant.registers_within c.requires.in_range c.requires.fits;
+      room = omega (arith, few, c.self.invariant.spare_roomy);
+      own_room = λ u e.
+          let roomy = AllRoomy-get i.limit i.registers.items c.args.change.register u
+          c.self.invariant.registers_roomy e in
+          omega (arith, few);
+    }
 
 pub returns-clause-within : goal.returns-clause-within
 returns-clause-within c =
@@ -226,19 +236,17 @@ differs c =
           omega (arith, w.if-out-eq0.false, c.len-out.ensures, c.change.inside.out.ok)
     ])
 
-rewrites : (c : goal.After-clear) → Rewrites c.self.inside.registers.items c.rewrite.new.registers.items
-    c.self.inside.spare c.rewrite.new.spare (change c)
-rewrites c =
-    rewrites_from c.self.inside.registers.items c.rewrite.new.registers.items c.self.inside.spare
-    c.rewrite.new.spare (change c) _ _ c.deref.ensures.value c.deref-2.ensures.value c.rewrite.ensures.registers
-    c.rewrite.ensures.spare
+table : (c : goal.After-clear) → lists_of c.change_register.new.registers.items
+    ≡ table_after (lists_of c.self.inside.registers.items) (change c)
+table c = c.change_register.ensures.table
+    ∙ ap (λ (d : Diff). table_after (lists_of c.self.inside.registers.items) d) (sym c.change.view_is)
 
 changes : (c : goal.After-clear) → Changes c.self.inside.depth c.self.inside.registers.items
-    c.rewrite.new.registers.items c.self.inside.spare c.rewrite.new.spare c.self.inside.past.items
-    c.push_front.new.self.items c.clear.new.self.items (change c).register
+    c.change_register.new.registers.items c.self.inside.past.items c.push_front.new.self.items
+    c.clear.new.self.items (change c).register
     (list_after (lists_of c.self.inside.registers.items) (change c))
 changes c =
-    changes_from c.self.inside.depth _ _ _ _ _ _ _ (change c) (local_here c).local (fits_table c) (rewrites c)
+    changes_from c.self.inside.depth _ _ _ _ _ (change c) (local_here c).local (fits_table c) (table c)
     (ap (λ (b : Buffer Diff). b.items) c.push_front.ensures.items
     ∙ ap (λ (n : ℕ). take n (c.args.change ∷ c.self.inside.past.items)) c.self.invariant.past_room
     ∙ ap (λ (d : Diff). take c.self.inside.depth (d ∷ c.self.inside.past.items)) (sym c.change.view_is))
@@ -246,7 +254,7 @@ changes c =
 
 assigned : (c : goal.After-clear) → Assigned c.args.self.now (change c).register
     (list_after (lists_of c.self.inside.registers.items) (change c))
-    (history c.self.inside.limit c.self.inside.depth c.rewrite.new.registers.items c.push_front.new.self.items
+    (history c.self.inside.limit c.self.inside.depth c.change_register.new.registers.items c.push_front.new.self.items
     c.clear.new.self.items)
 assigned c =
     let v : List ℕ = list_after (lists_of c.self.inside.registers.items) (change c) in
@@ -255,13 +263,13 @@ assigned c =
     (ap (λ (k : History (List ℕ)). slice_get k.now (change c).register) (sym c.self.view_is)
     ∙ slice_get-get_or (lists_of c.self.inside.registers.items) (change c).register [] (here c))
     (λ e. differs c (sym e))
-    (change_leaves c.self.inside.limit c.self.inside.depth _ _ _ _ _ _ _ (change c).register v
+    (change_leaves c.self.inside.limit c.self.inside.depth _ _ _ _ _ (change c).register v
     c.self.invariant.registers_within c.self.invariant.past_fits (here c) (own c) (differs c) (changes c)
     c.self.inside.future.items ∙ ap (λ (k : History (List ℕ)). changed k (change c).register v) c.self.view_is)
 
 pub returns-clause-ok : goal.returns-clause-ok
 returns-clause-ok c =
-    let after = history c.self.inside.limit c.self.inside.depth c.rewrite.new.registers.items
+    let after = history c.self.inside.limit c.self.inside.depth c.change_register.new.registers.items
     c.push_front.new.self.items c.clear.new.self.items in
     subst (λ (d : Diff). Assigned c.args.self.now d.register (list_after c.args.self.now.now d) after)
     c.change.view_is
@@ -274,7 +282,7 @@ returns-clause-numbers c =
     let v : List ℕ = list_after (lists_of c.self.inside.registers.items) (change c) in
     let e : change c ≡ change_between (change c).register u v =
     only_change (change c) u v (local_here c).local (fits_table c) refl in
-    change_numbers c.self.inside.limit c.self.inside.depth _ _ _ _ _ _ _ (change c).register v
+    change_numbers c.self.inside.limit c.self.inside.depth _ _ _ _ _ (change c).register v
     c.self.invariant.registers_within c.self.invariant.past_fits (here c) (own c) (differs c) (changes c)
     c.args.self.now.now (c.len-out.result, c.len-put.result) (now c)
     (omega (arith, c.len-out.ensures, c.change.inside.out.ok, ap (λ (d : Diff). length d.out) e))
@@ -285,20 +293,29 @@ invariant_of-self c =
     let i = c.self.invariant in
     let r : ℕ = (change c).register in
     let v : List ℕ = list_after (lists_of c.self.inside.registers.items) (change c) in
-    let w = rewritten_roomy c.self.inside.limit _ _ _ _ (change c) (rewrites c) i.registers_roomy i.spare_roomy in
+    let us = c.self.inside.registers.items in
+    let us' = c.change_register.new.registers.items in
+    let w = c.change_register.ensures.roomy c.self.inside.limit i.registers_roomy i.spare_roomy in
     record {
       limit_bound = i.limit_bound;
       depth_most = i.depth_most;
-      count = rewritten_count c.self.inside.limit _ _ _ _ (change c) (rewrites c) ∙ i.count;
+      count = omega (
+        arith,
+        i.count,
+        ap length (table c),
+        length-set (lists_of us) r v,
+        length-map us (λ (u : Union). u.cells),
+        length-map us' (λ (u : Union). u.cells),
+      );
       past_room = ap (λ (b : Buffer Diff). b.capacity) c.push_front.ensures.items ∙ i.past_room;
       future_room = ap (λ (b : Buffer Diff). b.capacity) c.clear.ensures ∙ i.future_room;
-      depth_bound = change_bound c.self.inside.limit c.self.inside.depth _ _ _ _ _ _ _ r v i.registers_within
+      depth_bound = change_bound c.self.inside.limit c.self.inside.depth _ _ _ _ _ r v i.registers_within
           i.past_fits (here c) (own c) (differs c) (changes c);
-      registers_within = change_within c.self.inside.limit c.self.inside.depth _ _ _ _ _ _ _ r v i.registers_within
+      registers_within = change_within c.self.inside.limit c.self.inside.depth _ _ _ _ _ r v i.registers_within
           i.past_fits (here c) (own c) (differs c) (changes c);
-      past_fits = change_past c.self.inside.limit c.self.inside.depth _ _ _ _ _ _ _ r v i.registers_within
+      past_fits = change_past c.self.inside.limit c.self.inside.depth _ _ _ _ _ r v i.registers_within
           i.past_fits (here c) (own c) (differs c) (changes c);
-      future_fits = change_future c.self.inside.limit c.self.inside.depth _ _ _ _ _ _ _ r v i.registers_within
+      future_fits = change_future c.self.inside.limit c.self.inside.depth _ _ _ _ _ r v i.registers_within
           i.past_fits (here c) (own c) (differs c) (changes c);
       registers_roomy = w.0;
       spare_roomy = w.1;
