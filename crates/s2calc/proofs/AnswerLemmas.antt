@@ -1,6 +1,6 @@
 -- Lemmas on the line that is kept, and the flushes before and after it.
-use Rattle.std.proofs.Common.{◌≡◌, ℕ, ◌+◌, Bool, true, List, [], ◌∷◌, ◌++◌, Option, Result, Ok, Err, OnErr, IfErr}
-use Rattle.std.proofs.Common.{sym, ◌∙◌, ap, subst, inr}
+use Rattle.std.proofs.Common.{◌≡◌, ℕ, ◌+◌, ◌⊎◌, Bool, List, [], ◌∷◌, ◌++◌, Option, Result, Ok, Err, MatchResult}
+use Rattle.std.proofs.Common.{◌∙◌, subst, inr}
 use Rattle.std.specs.Io.KnownBytes.{Appends, Keeps}
 use Rattle.std.proofs.KnownBytes.{Appends-kept, Appends-nil, Appends-trans, Keeps-refl}
 use Rattle.s2calc.specs.declared.fault.RunFault.{RunFault}
@@ -9,10 +9,12 @@ use Rattle.s2calc.specs.declared.progress.Progress.{Progress}
 use Rattle.s2script.specs.declared.command.Parsed.{Parsed}
 use Rattle.s2script.specs.Line.{line_of}
 use Rattle.s2calc.specs.Replies.{Reply, text_of, tally_of}
+use Rattle.s2calc.specs.Calls.{Call}
 use Rattle.s2calc.specs.Notes.{WritesNotes, note_of, number_of}
 use Rattle.s2calc.specs.Step.{StepBy, asks_for_file}
 use Rattle.s2calc.specs.Working.Stands.{Point}
-use Rattle.s2calc.specs.Working.Stands.{Answered, AnsweredInPart, AnswersKept}
+use Rattle.s2calc.specs.Working.Stands.{Answered, AnsweredInPart, AnsweredUnflushed}
+use Rattle.s2calc.specs.Working.Seen.{Settled, Unsettled}
 use Rattle.s2calc.specs.Output.{AppendsPart}
 
 -- a flush, an answer and a flush
@@ -61,15 +63,19 @@ module _ (old new : Point) (before after : Progress) (said : Parsed) (is : said 
       }
 
   -- the flush after it may have failed
-  pub AnswersKept-flushed : (may_fail Unseen Begun : Type 0) (has_file : Bool) (a d : Option (List ℕ))
-      (result : Result (Unit {0}) RunFault) → has_file ≡ asks_for_file said
-      → IfErr result (λ fault. (fault ≡ Output) × may_fail × (has_file ≡ true)) → Answered old before new after a d
-      → OnErr result Begun → AnswersKept may_fail Unseen Begun old before new after a d result
-  AnswersKept-flushed may_fail Unseen Begun has_file a d (Ok t) same fails answered begun = answered
-  AnswersKept-flushed may_fail Unseen Begun has_file a d (Err fault) same fails answered begun = (
-    fails.0,
-    inr (
-      fails.1,
-      record { has_file = sym (same ∙ ap asks_for_file is) ∙ fails.2; flush = inr (answered, begun) },
-    ),
-  )
+  pub AnswersKept-flushed : {W : Type 0} (Unseen Begun Seen P Q : Type 0) (contents : W → Option (List ℕ))
+      (calls : W → Option (List Call)) (is_sent : W → Type 0) (may_flush : Type 0) (has_file : Bool) (done writer : W)
+      (a d : Option (List ℕ)) (result : Result (Unit {0}) RunFault) → asks_for_file (line_of before.kept) ≡ has_file
+      → MatchResult result (λ _. Settled contents calls is_sent may_flush has_file done writer × P)
+      (λ fault. Unsettled contents calls may_flush has_file done writer fault × Q) → Answered old before new after a d
+      → (Settled contents calls is_sent may_flush has_file done writer × P → Seen) → (Q → Begun)
+      → MatchResult result (λ _. Answered old before new after a d × Seen) (λ fault. (fault ≡ Output)
+      × (AnsweredInPart Begun old before new a d
+      ⊎ (may_flush × AnsweredUnflushed Unseen Begun old before new after a d)))
+  AnswersKept-flushed Unseen Begun Seen P Q contents calls is_sent may_flush has_file done writer a d (Ok t) same s
+      answered seen begun = (answered, seen s)
+  AnswersKept-flushed Unseen Begun Seen P Q contents calls is_sent may_flush has_file done writer a d (Err fault) same s
+      answered seen begun = (
+        s.0.is_output,
+        inr (s.0.may, record { has_file = same ∙ s.0.asked; flush = inr (answered, begun s.1) }),
+      )

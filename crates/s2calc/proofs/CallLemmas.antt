@@ -1,8 +1,9 @@
 -- Lemmas on the calls of a reader and of a writer.
 use Rattle.std.proofs.Common.{◌≡◌, ◌<◌, ℕ, ◌+◌, List, [], ◌∷◌, ◌++◌, Option, None, Some, refl, sym, ap}
-use Rattle.std.proofs.Common.{append_assoc, append-nil, subst, arith, length-append}
+use Rattle.std.proofs.Common.{append_assoc, append-nil, subst, arith, length-append, Result, Ok, Err}
 use Rattle.s2calc.specs.Calls.{Call, Gains, NoneFailed, LastFlushed, LastFailed, AllWell, Wrote, Flushed, Failed}
 use Rattle.s2calc.specs.Reads.{AllGave, ReadsOn, ReadsLast}
+use Rattle.s2calc.specs.Working.Calls.{FailedIfErr, FlushedIfOk}
 
 pub gains_nil : {A : Type 0} (a : Option (List A)) → Gains a a []
 gains_nil None = refl
@@ -79,6 +80,21 @@ none_failed_flushed may a b m p =
     }
 
 -- ---- the calls of a run
+
+pub failed_if_err_after : {T E : Type 0} (may : Type 0) (a b c : Option (List Call)) (result : Result T E) →
+    NoneFailed may a b → FailedIfErr may b c result → FailedIfErr may a c result
+failed_if_err_after may a b c (Ok t) p q = none_failed_more may a b c p q
+failed_if_err_after may a b c (Err e) p q = last_failed_after may a b c p q
+
+pub flushed_if_ok_after : {T E : Type 0} (may : Type 0) (a b c : Option (List Call)) (result : Result T E) →
+    NoneFailed may a b → FlushedIfOk may b c result → FlushedIfOk may a c result
+flushed_if_ok_after may a b c (Ok t) p q = last_flushed_after may a b c p q
+flushed_if_ok_after may a b c (Err e) p q = last_failed_after may a b c p q
+
+pub flushed_if_ok_may : {T E : Type 0} (may : Type 0) (a b : Option (List Call)) (result : Result T E) →
+    FlushedIfOk ⊥ a b result → FlushedIfOk may a b result
+flushed_if_ok_may may a b (Ok t) p = last_flushed_may may a b p
+flushed_if_ok_may may a b (Err e) p = last_failed_may may a b p
 
 pub reads_on_none : (a : Option (List (Option ℕ))) → ReadsOn a a 0
 reads_on_none a = record { reads = []; gained = gains_nil a; gave = tt; count = refl }

@@ -3,6 +3,7 @@ pub mod CallLemmas
 pub mod CloseLemmas
 pub mod CoveringLemmas
 pub mod CutOffLemmas
+pub mod DeskLemmas
 pub mod EditLemmas
 pub mod Failures
 pub mod LineLemmas

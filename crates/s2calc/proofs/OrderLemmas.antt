@@ -1,6 +1,6 @@
 -- Lemmas on what an observer sees of a run.
 use Rattle.std.proofs.Common.{◌≡◌, ◌∙◌, ℕ, ◌+◌, ◌<◌, ◌⊎◌, Bool, true, List, [], ◌∷◌, ◌++◌, length, take}
-use Rattle.std.proofs.Common.{Option, None, Some, Result, Ok, Err, OnOk, OnErr}
+use Rattle.std.proofs.Common.{Option, None, Some, Result, Ok, Err, OnOk}
 use Rattle.std.proofs.Common.{refl, sym, ap, subst, append_assoc, append-nil, arith, length-append, inl, inr}
 use Rattle.std.proofs.lemmas.List.Concat.{flat_map-append}
 use Rattle.std.specs.Io.KnownBytes.{Appends, Consumes, IsAtEnd}
@@ -17,8 +17,9 @@ use Rattle.s2calc.specs.Replies.{Reply, text_of, texts}
 use Rattle.s2calc.specs.Step.{asks_for_file}
 use Rattle.s2calc.specs.Run.{Steps, Known, Runs}
 use Rattle.s2calc.specs.Working.Stands.{Point}
-use Rattle.s2calc.specs.Calls.{Call, NoneFailed, LastFlushed, LastFailed}
+use Rattle.s2calc.specs.Calls.{Call, NoneFailed}
 use Rattle.s2calc.specs.Reads.{ReadsLast}
+use Rattle.s2calc.specs.Working.Calls.{FlushedIfOk}
 use Rattle.s2calc.specs.Working.Stands.{point, Stands, Answered, StandsAfter, Closes}
 use Rattle.s2calc.specs.Moments.{Event, Came, NotCame, LineBegins, LineEnds, Moment, moment, bytes_of}
 use Rattle.s2calc.specs.Moments.{bytes_read, begun_in, ended_in, Adds, AddsOne}
@@ -659,19 +660,18 @@ module _ {W S : Type 0} (contents : W → Option (List ℕ)) (calls : W → Opti
       Consumes old.input new.input script → IsAtEnd new.input → Appends old.output output (texts replies)
       → ReadsLast old.reads new.reads (Some 0) → NoneFailed may_flush old.calls mid
       → Closes may_flush Here (point old.world old.noted) script replies (point new.world new.noted) output new.output
-      result → OnOk result (LastFlushed may_flush mid new.calls) → OnErr result (LastFailed may_flush mid new.calls)
+      result → FlushedIfOk may_flush mid new.calls result
       → OnOk result (Here (length (lines script)) (length (lines script)))
       → ((begins ends : ℕ) → Here begins ends → Adds a d (λ ks. InOrder contents calls is_sent files may_flush old.world
       first script begins ends ks × HasEnded ks))
       → (run : Runs may_flush old new result)
       × Ordered contents calls is_sent files may_flush old.world first run.ran a d result
-  Runs-end Here old new script replies first output a d mid (Ok tally) r e w reads n closes flushed failed seen
-      order = (
-        finishes old new may_flush script replies output r e w tally closes reads
-            (last_flushed_after may_flush old.calls mid new.calls n flushed),
-        order (length (lines script)) (length (lines script)) seen,
-      )
-  Runs-end Here old new script replies first output a d mid (Err fault) r e w reads n closes flushed failed seen order =
+  Runs-end Here old new script replies first output a d mid (Ok tally) r e w reads n closes flushed seen order = (
+    finishes old new may_flush script replies output r e w tally closes reads
+        (last_flushed_after may_flush old.calls mid new.calls n flushed),
+    order (length (lines script)) (length (lines script)) seen,
+  )
+  Runs-end Here old new script replies first output a d mid (Err fault) r e w reads n closes failed seen order =
       subst (λ (f : RunFault). (run : Runs may_flush old new (Err f))
       × Ordered contents calls is_sent files may_flush old.world first run.ran a d (Err f)) (sym closes.0)
       (stops_at_end old new may_flush script replies Here

@@ -1,31 +1,54 @@
 -- Lemmas on what is settled between two lines.
-use Rattle.std.proofs.Common.{◌≡◌, ℕ, Bool, true, false, List, ◌∷◌, ◌++◌, Option, Result, Ok, Err, OnOk}
-use Rattle.std.proofs.Common.{sym, subst, ap, ◌∙◌}
+use Rattle.std.proofs.Common.{◌≡◌, ℕ, Bool, true, false, List, ◌∷◌, ◌++◌, Option, Result, Ok, Err, OnOk, IfErr}
+use Rattle.std.proofs.Common.{MatchResult, refl, sym, subst, ap, ◌∙◌}
 use Rattle.std.specs.Io.KnownBytes.{Keeps}
 use Rattle.std.proofs.KnownBytes.{Keeps-refl}
 use Rattle.s2shelf.specs.Shelf.{Files}
-use Rattle.s2calc.specs.Calls.{Call, NoneFailed, LastFlushed}
+use Rattle.s2calc.specs.declared.fault.RunFault.{RunFault}
+use Rattle.s2calc.specs.declared.fault.RunFault.TheVariants.{Output}
+use Rattle.s2calc.specs.Calls.{Call, NoneFailed}
+use Rattle.s2calc.specs.Working.Calls.{FailedIfErr, FlushedIfOk}
 use Rattle.s2calc.specs.Moments.{LineBegins, LineEnds, Moment, moment, Adds, AddsOne}
-use Rattle.s2calc.specs.Working.Seen.{Settled, LineSeen, LineCut}
-use Rattle.s2calc.proofs.CallLemmas.{none_failed_none, none_failed_more, last_flushed_after}
+use Rattle.s2calc.specs.Working.Seen.{Settled, Unsettled, Settles, LineSeen, LineCut}
+use Rattle.s2calc.proofs.CallLemmas.{none_failed_none, none_failed_more, none_failed_flushed, last_flushed_after}
+use Rattle.s2calc.proofs.CallLemmas.{last_flushed_may, last_failed_may}
 use Rattle.s2calc.proofs.OrderLemmas.{Adds-trans, Adds-weaker}
 
 module _ {W : Type 0} (contents : W → Option (List ℕ)) (calls : W → Option (List Call)) (is_sent : W → Type 0)
     (may_flush : Type 0) where
-  -- after a flush, if there is one before the end
-  pub settled : {old new : W} {has_file : Bool} → Keeps (contents old) (contents new) →
-      NoneFailed may_flush (calls old) (calls new) → (may_flush → LastFlushed may_flush (calls old) (calls new))
-      → is_sent new → Settled contents calls is_sent may_flush has_file old new
-  settled k n f s = record { kept = k; none_failed = n; flushed = λ h m. f m; sent = λ h. s }
+  -- a flush
+  pub settles_flush : (old new : W) (result : Result (Unit {0}) RunFault) → may_flush →
+      Keeps (contents old) (contents new) → FlushedIfOk ⊥ (calls old) (calls new) result → OnOk result (is_sent new) →
+      IfErr result (λ fault. fault ≡ Output) → Settles contents calls is_sent may_flush true old new result
+  settles_flush old new (Ok t) m k f s e =
+      let flushed = last_flushed_may may_flush (calls old) (calls new) f in
+      record {
+        kept = k;
+        none_failed = none_failed_flushed may_flush (calls old) (calls new) m flushed;
+        flushed = λ h n. flushed;
+        sent = λ h. s;
+      }
+  settles_flush old new (Err fault) m k f s e = record {
+    is_output = e;
+    may = m;
+    asked = refl;
+    kept = k;
+    failed = last_failed_may may_flush (calls old) (calls new) f;
+  }
 
-  -- the same, if the flush didn't fail
-  pub settled_flush : {T E : Type 0} (has_file : Bool) (old new : W) (result : Result T E) →
-      Keeps (contents old) (contents new) → OnOk result (NoneFailed may_flush (calls old) (calls new))
-      → OnOk result (may_flush → LastFlushed may_flush (calls old) (calls new)) → OnOk result (is_sent new)
-      → OnOk result (Settled contents calls is_sent may_flush has_file old new)
-  settled_flush has_file old new (Ok t) k n f s =
-      settled k n f s
-  settled_flush has_file old new (Err e) k n f s = tt
+  -- whatever becomes of the flush, nothing is written
+  pub keeps_beside : (has_file : Bool) (old new : W) (P Q : Type 0) (result : Result (Unit {0}) RunFault) →
+      MatchResult result (λ _. Settled contents calls is_sent may_flush has_file old new × P)
+      (λ fault. Unsettled contents calls may_flush has_file old new fault × Q) → Keeps (contents old) (contents new)
+  keeps_beside has_file old new P Q (Ok t) s = s.0.kept
+  keeps_beside has_file old new P Q (Err fault) s = s.0.kept
+
+  pub calls_beside : (has_file : Bool) (old new : W) (P Q : Type 0) (result : Result (Unit {0}) RunFault) →
+      MatchResult result (λ _. Settled contents calls is_sent may_flush has_file old new × P)
+      (λ fault. Unsettled contents calls may_flush has_file old new fault × Q)
+      → FailedIfErr may_flush (calls old) (calls new) result
+  calls_beside has_file old new P Q (Ok t) s = s.0.none_failed
+  calls_beside has_file old new P Q (Err fault) s = s.0.failed
 
   -- nothing happens
   pub settled_none : (has_file : Bool) (w : W) → has_file ≡ false →

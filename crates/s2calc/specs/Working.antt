@@ -4,8 +4,10 @@ pub mod Edits
 pub mod Noting
 pub mod Buffered
 pub mod Answer
+pub mod Calls
 pub mod Execute
 pub mod Seen
 pub mod Stands
+pub mod Desk
 pub mod Program
 pub mod Check

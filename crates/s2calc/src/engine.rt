@@ -1,27 +1,23 @@
 //! The run of a script.
-ghost use Rattle.std.specs.Prelude.{◌≡◌, ℕ, ◌⊎◌, List, [], ◌∷◌, ◌++◌, OnOk, OnErr, IfOk, IfErr, IfSome, IfNone};
-ghost use Rattle.std.specs.Prelude.{◌<◌, ◌≤◌, true, length, MatchResult};
+ghost use Rattle.std.specs.Prelude.{◌≡◌, ◌<◌, ◌≤◌, List, [], ◌∷◌, ◌++◌, OnOk, IfOk, IfErr, IfSome, IfNone};
+ghost use Rattle.std.specs.Prelude.{length, MatchResult};
 ghost use Rattle.std.specs.Io.KnownBytes.{Keeps};
 ghost use Rattle.s2list.specs.Union.{IsNormalForm, has_leaf};
 ghost use Rattle.s2edit.specs.History.{EachList};
 ghost use Rattle.s2calc.specs.Replies.{Reply, tally_of};
 ghost use Rattle.s2calc.specs.Working.Execute.{IsOutcome};
-ghost use Rattle.s2script.specs.Line.{line_of};
 ghost use Rattle.s2script.specs.Lines.{IsUnbroken};
 ghost use Rattle.s2script.specs.Working.Lines.{EndsLineAt};
-ghost use Rattle.s2calc.specs.Step.{asks_for_file};
 ghost use Rattle.s2calc.specs.Run.{Runs, known, no_notes};
 ghost use Rattle.s2calc.specs.Buffered.{written_to};
 ghost use Rattle.s2calc.specs.World.{world};
-ghost use Rattle.s2calc.specs.Calls.{NoneFailed, LastFlushed, LastFailed};
-ghost use Rattle.s2calc.specs.Working.Stands.{Stands, AnswersKept, StandsAfter, StopsIn, Closes};
-ghost use Rattle.s2calc.specs.Working.Stands.{Point, point};
-ghost use Rattle.s2calc.specs.Moments.{Adds};
+ghost use Rattle.s2calc.specs.Working.Calls.{FailedIfErr, FlushedIfOk};
+ghost use Rattle.s2calc.specs.Working.Desk.{SameReferences, AnswersKept, TakesIn, Finishes, RunsOver};
 ghost use Rattle.s2calc.specs.Order.{Ordered};
-ghost use Rattle.s2calc.specs.Working.Seen.{LineSeen, LineCut, ManySeen, MoreSeen, EndSeen, LastSeen};
 ghost use Rattle.s2calc.specs.Noting.{noted_by};
 
 use crate::answer_buffer::AnswerBuffer;
+use crate::desk::Desk;
 use crate::execute::{Outcome, asks_for_file, execute};
 use crate::fault::RunFault;
 use crate::flushing::{AtTheEnd, Flushing, Promptly};
@@ -71,37 +67,19 @@ fn newline_in(bytes: &[u8]) -> Option<usize>
 
 /// Takes the next bytes of a script, and carries out each line that ends in them.
 fn take_in<W: Sink, S: Shelf, F: Flushing<W>, N: Notes, O: Observer<W, S>>(
-    alloc: Global,
-    editor: &mut Editor,
+    desk: &mut Desk<'_, '_, '_, '_, '_, W, S, N, O>,
     progress: &mut Progress,
     chunk: &[u8],
-    writer: &mut W,
-    shelf: &mut S,
-    notes: &mut N,
-    observer: &mut O,
 ) -> Result<(), RunFault>
-    ensures ok { OnOk result ((start : Point) (script : List ℕ) (replies : List Reply) →
-        Stands start script replies (point (world editor.old (S.files shelf.old)) (N.noted notes.old)) progress.old →
-        StandsAfter start script replies chunk.now (point (world editor.new (S.files shelf.new)) (N.noted notes.new))
-        progress.new (W.contents writer.old) (W.contents writer.new)) }
-    ensures err { OnErr result ((start : Point) (script : List ℕ) (replies : List Reply) →
-        Stands start script replies (point (world editor.old (S.files shelf.old)) (N.noted notes.old)) progress.old →
-        StopsIn F.may_fail (λ begins ends. Adds (O.seen observer.old) (O.seen observer.new) (ManySeen W.contents W.calls
-        F.is_sent S.files F.may_fail start.world script chunk.now replies writer.old begins ends))
-        start script replies chunk.now (point (world editor.new (S.files shelf.new)) (N.noted notes.new))
-        (W.contents writer.old) (W.contents writer.new)) }
-    ensures fault { IfErr result (λ fault. fault ≡ RunFault.Output) }
-    ensures none_failed { OnOk result (NoneFailed F.may_fail (W.calls writer.old) (W.calls writer.new)) }
-    ensures failed { OnErr result (LastFailed F.may_fail (W.calls writer.old) (W.calls writer.new)) }
-    ensures seen { OnOk result ((start : Point) (script : List ℕ) (replies : List Reply) →
-        Stands start script replies (point (world editor.old (S.files shelf.old)) (N.noted notes.old)) progress.old →
-        Adds (O.seen observer.old) (O.seen observer.new) (MoreSeen W.contents W.calls F.is_sent S.files F.may_fail
-        start.world script chunk.now replies writer.old)) }
+    ensures same { SameReferences desk.old desk.new }
+    ensures takes_in { TakesIn W.contents W.calls F.is_sent F.may_fail S.files N.noted O.seen desk.old progress.old
+        chunk.now desk.new progress.new result }
+    ensures calls { FailedIfErr F.may_fail (W.calls desk.old.writer.now) (W.calls desk.new.writer.now) result }
 {
     let mut rest = chunk;
     while let Some(at) = newline_in(rest) {
         progress.kept.keep(&rest[..at]);
-        answer_kept::<W, S, F, N, O>(alloc, editor, progress, writer, shelf, notes, observer)?;
+        answer_kept::<W, S, F, N, O>(desk, progress)?;
         progress.kept.clear();
         rest = &rest[at + 1..];
     }
@@ -112,33 +90,22 @@ fn take_in<W: Sink, S: Shelf, F: Flushing<W>, N: Notes, O: Observer<W, S>>(
 /// Carries out the line that is kept, writes its answer, counts it, and says why it is refused, if it is. If it asks
 /// for a command with a file, all earlier answers are handed over before it is carried out, and its own after that.
 fn answer_kept<W: Sink, S: Shelf, F: Flushing<W>, N: Notes, O: Observer<W, S>>(
-    alloc: Global,
-    editor: &mut Editor,
+    desk: &mut Desk<'_, '_, '_, '_, '_, W, S, N, O>,
     progress: &mut Progress,
-    writer: &mut W,
-    shelf: &mut S,
-    notes: &mut N,
-    observer: &mut O,
 ) -> Result<(), RunFault>
-    ensures answers { AnswersKept F.may_fail (O.seen observer.new ≡ O.seen observer.old)
-        (Adds (O.seen observer.old) (O.seen observer.new) (LineCut W.contents W.calls F.is_sent S.files F.may_fail
-        (asks_for_file (line_of progress.old.kept)) writer.old shelf.old))
-        (point (world editor.old (S.files shelf.old)) (N.noted notes.old)) progress.old
-        (point (world editor.new (S.files shelf.new)) (N.noted notes.new)) progress.new
-        (W.contents writer.old) (W.contents writer.new) result }
-    ensures sent { OnOk result (asks_for_file (line_of progress.old.kept) ≡ true → F.is_sent writer.new) }
-    ensures none_failed { OnOk result (NoneFailed F.may_fail (W.calls writer.old) (W.calls writer.new)) }
-    ensures failed { OnErr result (LastFailed F.may_fail (W.calls writer.old) (W.calls writer.new)) }
-    ensures seen { OnOk result (Adds (O.seen observer.old) (O.seen observer.new) (LineSeen W.contents W.calls F.is_sent
-        S.files F.may_fail (asks_for_file (line_of progress.old.kept)) writer.old writer.new shelf.old shelf.new)) }
+    ensures same { SameReferences desk.old desk.new }
+    ensures answers { AnswersKept W.contents W.calls F.is_sent F.may_fail S.files N.noted O.seen desk.old progress.old
+        desk.new progress.new result }
+    ensures calls { FailedIfErr F.may_fail (W.calls desk.old.writer.now) (W.calls desk.new.writer.now) result }
 {
     let said = parse(progress.kept.as_slice());
     let has_file = asks_for_file(&said);
-    begin_line::<W, S, F, O>(has_file, writer, shelf, observer)?;
-    let outcome = execute::<W, S, F>(alloc, editor, said, writer, shelf)?;
+    begin_line::<W, S, F, O>(has_file, desk.writer, desk.shelf, desk.observer)?;
+    let outcome = execute::<W, S, F>(desk.alloc, desk.editor, said, desk.writer, desk.shelf)?;
     progress.count(outcome);
-    notes.note(progress.lines, progress.kept.as_slice(), outcome);
-    end_line::<W, S, F, O>(has_file, writer, shelf, observer)
+    let line = progress.kept.as_slice();
+    desk.notes.note(progress.lines, line, outcome);
+    end_line::<W, S, F, O>(has_file, desk.writer, desk.shelf, desk.observer)
 }
 
 /// Runs a script: its lines come from the reader, its answers go to the writer, and its files are on the shelf.
@@ -200,10 +167,8 @@ pub fn run_observed<R: Source, W: Sink, S: Shelf, O: Observer<W, S>>(
     ensures after { EachList (λ u. IsNormalForm (has_leaf u) u) editor.new }
 {
     let _ = editor.limit();
-    let mut input = input_buffer(alloc)?;
-    let result = run_over::<R, W, S, AtTheEnd, NoNotes, O>(
+    let result = run_with::<R, W, S, AtTheEnd, NoNotes, O>(
         alloc,
-        &mut input,
         editor,
         reader,
         writer,
@@ -274,10 +239,8 @@ pub fn run_promptly_observed<R: Source, W: Sink, S: Shelf, O: Observer<AnswerBuf
     ensures after { EachList (λ u. IsNormalForm (has_leaf u) u) editor.new }
 {
     let _ = (editor.limit(), writer.waiting_len());
-    let mut input = input_buffer(alloc)?;
-    let result = run_over::<R, AnswerBuffer<W>, S, Promptly, NoNotes, O>(
+    let result = run_with::<R, AnswerBuffer<W>, S, Promptly, NoNotes, O>(
         alloc,
-        &mut input,
         editor,
         reader,
         writer,
@@ -348,12 +311,46 @@ pub fn run_explained_observed<
     ensures after { EachList (λ u. IsNormalForm (has_leaf u) u) editor.new }
 {
     let _ = (editor.limit(), writer.waiting_len());
-    let mut input = input_buffer(alloc)?;
-    let result = run_over::<R, AnswerBuffer<W>, S, Promptly, NoteWriter<N>, O>(
-        alloc, &mut input, editor, reader, writer, shelf, notes, observer,
+    let result = run_with::<R, AnswerBuffer<W>, S, Promptly, NoteWriter<N>, O>(
+        alloc, editor, reader, writer, shelf, notes, observer,
     );
     let _ = (editor.limit(), writer.waiting_len());
     result
+}
+
+/// The run. Takes room for what is read, and lays on a desk what it works with.
+fn run_with<R: Source, W: Sink, S: Shelf, F: Flushing<W>, N: Notes, O: Observer<W, S>>(
+    alloc: Global,
+    editor: &mut Editor,
+    reader: &mut R,
+    writer: &mut W,
+    shelf: &mut S,
+    notes: &mut N,
+    observer: &mut O,
+) -> Result<Tally, RunFault>
+    ensures runs { (run : Runs F.may_fail
+        (known (world editor.old (S.files shelf.old)) (R.remaining reader.old) (R.reads reader.old)
+        (W.contents writer.old) (W.calls writer.old) (N.noted notes.old))
+        (known (world editor.new (S.files shelf.new)) (R.remaining reader.new) (R.reads reader.new)
+        (W.contents writer.new) (W.calls writer.new) (N.noted notes.new)) result)
+        × Ordered W.contents W.calls F.is_sent S.files F.may_fail (world editor.old (S.files shelf.old)) writer.old
+        run.ran (O.seen observer.old) (O.seen observer.new) result }
+    ensures sent { MatchResult result (λ _. F.is_sent writer.new) (λ fault. fault ≡ RunFault.Input →
+        F.is_sent writer.new) }
+{
+    let mut input = input_buffer(alloc)?;
+    run_over::<R, W, S, F, N, O>(
+        &mut input,
+        reader,
+        &mut Desk {
+            alloc,
+            editor,
+            writer,
+            shelf,
+            notes,
+            observer,
+        },
+    )
 }
 
 /// A buffer for the reader.
@@ -366,80 +363,47 @@ fn input_buffer(alloc: Global) -> Result<Vec<u8>, RunFault>
 
 /// The run, over a buffer for the reader.
 fn run_over<R: Source, W: Sink, S: Shelf, F: Flushing<W>, N: Notes, O: Observer<W, S>>(
-    alloc: Global,
     input: &mut [u8],
-    editor: &mut Editor,
     reader: &mut R,
-    writer: &mut W,
-    shelf: &mut S,
-    notes: &mut N,
-    observer: &mut O,
+    desk: &mut Desk<'_, '_, '_, '_, '_, W, S, N, O>,
 ) -> Result<Tally, RunFault>
     requires { 0 < length input.old }
-    ensures runs { (run : Runs F.may_fail
-        (known (world editor.old (S.files shelf.old)) (R.remaining reader.old) (R.reads reader.old)
-        (W.contents writer.old) (W.calls writer.old) (N.noted notes.old))
-        (known (world editor.new (S.files shelf.new)) (R.remaining reader.new) (R.reads reader.new)
-        (W.contents writer.new) (W.calls writer.new) (N.noted notes.new)) result)
-        × Ordered W.contents W.calls F.is_sent S.files F.may_fail (world editor.old (S.files shelf.old)) writer.old
-        run.ran (O.seen observer.old) (O.seen observer.new) result }
-    ensures sent { MatchResult result (λ _. F.is_sent writer.new) (λ fault. fault ≡ RunFault.Input →
-        F.is_sent writer.new) }
+    ensures same { SameReferences desk.old desk.new }
+    ensures runs { RunsOver W.contents W.calls F.is_sent F.may_fail S.files N.noted O.seen desk.old
+        (R.remaining reader.old) (R.reads reader.old) desk.new (R.remaining reader.new) (R.reads reader.new) result }
+    ensures sent { MatchResult result (λ _. F.is_sent desk.new.writer.now) (λ fault. fault ≡ RunFault.Input →
+        F.is_sent desk.new.writer.now) }
 {
     let mut progress = Progress::new();
     for _ in 0..u64::MAX {
-        F::in_between(writer)?;
-        match observer.read(reader, writer, shelf, input) {
-            Ok(0) => return finish::<W, S, F, N, O>(
-                alloc, editor, progress, writer, shelf, notes, observer,
-            ),
-            Ok(count) => take_in::<W, S, F, N, O>(
-                alloc,
-                editor,
-                &mut progress,
-                &input[..count],
-                writer,
-                shelf,
-                notes,
-                observer,
-            )?,
+        F::in_between(desk.writer)?;
+        match desk.observer.read(reader, desk.writer, desk.shelf, input) {
+            Ok(0) => return finish::<W, S, F, N, O>(desk, progress),
+            Ok(count) => take_in::<W, S, F, N, O>(desk, &mut progress, &input[..count])?,
             Err(_) => return Err(RunFault::Input),
         }
     }
     // 2^64 - 1 reads have not come to the end.
-    F::in_between(writer)?;
+    F::in_between(desk.writer)?;
     Err(RunFault::Input)
 }
 
 /// Carries out a last line without a newline, and flushes.
 fn finish<W: Sink, S: Shelf, F: Flushing<W>, N: Notes, O: Observer<W, S>>(
-    alloc: Global,
-    editor: &mut Editor,
+    desk: &mut Desk<'_, '_, '_, '_, '_, W, S, N, O>,
     mut progress: Progress,
-    writer: &mut W,
-    shelf: &mut S,
-    notes: &mut N,
-    observer: &mut O,
 ) -> Result<Tally, RunFault>
-    ensures closes { (start : Point) (script : List ℕ) (replies : List Reply) →
-        Stands start script replies (point (world editor.old (S.files shelf.old)) (N.noted notes.old)) progress →
-        Closes F.may_fail (λ begins ends. Adds (O.seen observer.old) (O.seen observer.new) (EndSeen W.contents W.calls
-        F.is_sent S.files F.may_fail start.world script replies writer.old begins ends))
-        start script replies (point (world editor.new (S.files shelf.new)) (N.noted notes.new))
-        (W.contents writer.old) (W.contents writer.new) result }
-    ensures sent { MatchResult result (λ _. F.is_sent writer.new) (λ fault. fault ≡ RunFault.Output) }
-    ensures flushed { OnOk result (LastFlushed F.may_fail (W.calls writer.old) (W.calls writer.new)) }
-    ensures failed { OnErr result (LastFailed F.may_fail (W.calls writer.old) (W.calls writer.new)) }
-    ensures seen { OnOk result ((start : Point) (script : List ℕ) (replies : List Reply) →
-        Stands start script replies (point (world editor.old (S.files shelf.old)) (N.noted notes.old)) progress →
-        Adds (O.seen observer.old) (O.seen observer.new) (LastSeen W.contents W.calls F.is_sent S.files F.may_fail
-        start.world script replies writer.old)) }
+    ensures same { SameReferences desk.old desk.new }
+    ensures finishes { Finishes W.contents W.calls F.is_sent F.may_fail S.files N.noted O.seen desk.old progress
+        desk.new result }
+    ensures sent { MatchResult result (λ _. F.is_sent desk.new.writer.now) (λ fault. fault ≡ RunFault.Output) }
+    ensures calls { FlushedIfOk F.may_fail (W.calls desk.old.writer.now) (W.calls desk.new.writer.now) result }
 {
     if progress.kept.as_slice().is_empty() {
-        return flush_at_the_end::<W, F>(progress.tally, writer);
+        return flush_at_the_end::<W, F>(progress.tally, desk.writer);
     }
-    answer_kept::<W, S, F, N, O>(alloc, editor, &mut progress, writer, shelf, notes, observer)?;
-    flush_at_the_end::<W, F>(progress.tally, writer)
+    answer_kept::<W, S, F, N, O>(desk, &mut progress)?;
+    flush_at_the_end::<W, F>(progress.tally, desk.writer)
 }
 
 /// Flushes the writer, and answers how many lines were answered.
@@ -450,8 +414,7 @@ fn flush_at_the_end<W: Sink, F: Flushing<W>>(
     ensures kept { Keeps (W.contents writer.old) (W.contents writer.new) }
     ensures result { MatchResult result (λ told. told ≡ tally) (λ fault. fault ≡ RunFault.Output) }
     ensures sent { OnOk result (F.is_sent writer.new) }
-    ensures flushed { OnOk result (LastFlushed F.may_fail (W.calls writer.old) (W.calls writer.new)) }
-    ensures failed { OnErr result (LastFailed F.may_fail (W.calls writer.old) (W.calls writer.new)) }
+    ensures calls { FlushedIfOk F.may_fail (W.calls writer.old) (W.calls writer.new) result }
 {
     F::at_the_end(writer)?;
     Ok(tally)

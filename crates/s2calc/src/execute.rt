@@ -1,6 +1,6 @@
 //! Carrying out a line.
-ghost use Rattle.std.specs.Prelude.{◌≡◌, true, OnOk, OnErr, IfErr};
-ghost use Rattle.s2calc.specs.Calls.{NoneFailed, LastFailed};
+ghost use Rattle.std.specs.Prelude.{◌≡◌, true};
+ghost use Rattle.s2calc.specs.Working.Calls.{FailedIfErr};
 ghost use Rattle.s2calc.specs.Working.Execute.{Executes, outcome_of};
 ghost use Rattle.s2calc.specs.Working.Answer.{reply_of};
 ghost use Rattle.s2calc.specs.Step.{StepBy, Acts, uses_file, asks_for_file};
@@ -43,9 +43,7 @@ pub(crate) fn execute<W: Sink, S: Shelf, F: Flushing<W>>(
     requires { asks_for_file said ≡ true → F.is_sent writer.old }
     ensures executes { Executes (world editor.old (S.files shelf.old)) said.entry
         (world editor.new (S.files shelf.new)) (W.contents writer.old) (W.contents writer.new) result }
-    ensures fault { IfErr result (λ fault. fault ≡ RunFault.Output) }
-    ensures none_failed { OnOk result (NoneFailed ⊥ (W.calls writer.old) (W.calls writer.new)) }
-    ensures failed { OnErr result (LastFailed ⊥ (W.calls writer.old) (W.calls writer.new)) }
+    ensures calls { FailedIfErr ⊥ (W.calls writer.old) (W.calls writer.new) result }
 {
     let answer = carry_out(alloc, editor, said, shelf);
     write_answer(writer, &answer, editor)?;

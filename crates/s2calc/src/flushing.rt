@@ -1,9 +1,9 @@
 //! When a run flushes its writer.
-ghost use Rattle.std.specs.Prelude.{◌≡◌, true, [], OnOk, OnErr, IfErr};
+ghost use Rattle.std.specs.Prelude.{◌≡◌, true, [], OnOk, IfErr};
 ghost use Rattle.std.specs.Io.KnownBytes.{Keeps};
 ghost use Rattle.s2calc.specs.Buffered.{written_to};
-ghost use Rattle.s2calc.specs.Calls.{NoneFailed, LastFlushed, LastFailed};
-ghost use Rattle.s2calc.specs.Working.Seen.{Settled};
+ghost use Rattle.s2calc.specs.Working.Calls.{FlushedIfOk};
+ghost use Rattle.s2calc.specs.Working.Seen.{Settles};
 
 use crate::answer_buffer::AnswerBuffer;
 use crate::fault::RunFault;
@@ -20,20 +20,14 @@ pub(crate) trait Flushing<W: Sink> {
 
     /// What happens before each read, and before and after each command with a file.
     fn in_between(writer: &mut W) -> Result<(), RunFault>
-        ensures kept { Keeps (W.contents writer.old) (W.contents writer.new) }
-        ensures sent { OnOk result (is_sent writer.new) }
-        ensures fault { IfErr result (λ fault. (fault ≡ RunFault.Output) × may_fail) }
-        ensures none_failed { OnOk result (NoneFailed may_fail (W.calls writer.old) (W.calls writer.new)) }
-        ensures failed { OnErr result (LastFailed may_fail (W.calls writer.old) (W.calls writer.new)) }
-        ensures flushes { OnOk result (may_fail → LastFlushed may_fail (W.calls writer.old) (W.calls writer.new)) };
+        ensures settles { Settles W.contents W.calls is_sent may_fail true writer.old writer.new result };
 
     /// The flush at the end.
     fn at_the_end(writer: &mut W) -> Result<(), RunFault>
         ensures kept { Keeps (W.contents writer.old) (W.contents writer.new) }
         ensures sent { OnOk result (is_sent writer.new) }
         ensures fault { IfErr result (λ fault. fault ≡ RunFault.Output) }
-        ensures flushed { OnOk result (LastFlushed may_fail (W.calls writer.old) (W.calls writer.new)) }
-        ensures failed { OnErr result (LastFailed may_fail (W.calls writer.old) (W.calls writer.new)) };
+        ensures calls { FlushedIfOk may_fail (W.calls writer.old) (W.calls writer.new) result };
 }
 
 /// Nothing happens before the end. It isn't known what waits in a writer of any kind.
@@ -75,8 +69,7 @@ fn flush_buffer<W: Sink>(writer: &mut AnswerBuffer<W>) -> Result<(), RunFault>
     ensures kept { Keeps (written_to W.contents writer.old) (written_to W.contents writer.new) }
     ensures sent { OnOk result (writer.new.waiting ≡ []) }
     ensures fault { IfErr result (λ fault. fault ≡ RunFault.Output) }
-    ensures flushed { OnOk result (LastFlushed ⊥ (W.calls writer.old.writer) (W.calls writer.new.writer)) }
-    ensures failed { OnErr result (LastFailed ⊥ (W.calls writer.old.writer) (W.calls writer.new.writer)) }
+    ensures calls { FlushedIfOk ⊥ (W.calls writer.old.writer) (W.calls writer.new.writer) result }
 {
     match writer.flush() {
         Ok(()) => Ok(()),
@@ -85,17 +78,11 @@ fn flush_buffer<W: Sink>(writer: &mut AnswerBuffer<W>) -> Result<(), RunFault>
 }
 
 /// What happens before and after a line, if it asks for a command with a file.
-#[tactic(auto, using(crate::proofs::SettledLemmas::settled_none, crate::proofs::SettledLemmas::settled_flush))]
 pub(crate) fn around_file_command<W: Sink, F: Flushing<W>>(
     has_file: bool,
     writer: &mut W,
 ) -> Result<(), RunFault>
-    ensures kept { Keeps (W.contents writer.old) (W.contents writer.new) }
-    ensures sent { OnOk result (has_file ≡ true → F.is_sent writer.new) }
-    ensures fault { IfErr result (λ fault. (fault ≡ RunFault.Output) × F.may_fail × (has_file ≡ true)) }
-    ensures none_failed { OnOk result (NoneFailed F.may_fail (W.calls writer.old) (W.calls writer.new)) }
-    ensures failed { OnErr result (LastFailed F.may_fail (W.calls writer.old) (W.calls writer.new)) }
-    ensures settles { OnOk result (Settled W.contents W.calls F.is_sent F.may_fail has_file writer.old writer.new) }
+    ensures settles { Settles W.contents W.calls F.is_sent F.may_fail has_file writer.old writer.new result }
 {
     if has_file {
         F::in_between(writer)

@@ -1,10 +1,10 @@
 //! Who sees the calls of a run in the order in which they come.
-ghost use Rattle.std.specs.Prelude.{◌≡◌, true, List, Option, None, OnOk, OnErr, IfErr};
+ghost use Rattle.std.specs.Prelude.{◌≡◌, List, Option, None, MatchResult};
 ghost use Rattle.std.specs.Io.{ReadsAtMost};
-ghost use Rattle.std.specs.Io.KnownBytes.{ReadConsumes, Keeps};
+ghost use Rattle.std.specs.Io.KnownBytes.{ReadConsumes};
 ghost use Rattle.std.specs.Prelude.{[], ◌∷◌};
-ghost use Rattle.s2calc.specs.Calls.{Gains, NoneFailed, LastFailed, what_came};
-ghost use Rattle.s2calc.specs.Working.Seen.{Settled};
+ghost use Rattle.s2calc.specs.Calls.{Gains, what_came};
+ghost use Rattle.s2calc.specs.Working.Seen.{Settled, Unsettled};
 ghost use Rattle.s2calc.specs.Moments.{Moment, LineBegins, LineEnds, read_event, AddsOne};
 
 use crate::fault::RunFault;
@@ -68,14 +68,11 @@ pub(crate) fn begin_line<W: Sink, S: Shelf, F: Flushing<W>, O: Observer<W, S>>(
     shelf: &S,
     observer: &mut O,
 ) -> Result<(), RunFault>
-    ensures kept { Keeps (W.contents writer.old) (W.contents writer.new) }
-    ensures sent { OnOk result (has_file ≡ true → F.is_sent writer.new) }
-    ensures fault { IfErr result (λ fault. (fault ≡ RunFault.Output) × F.may_fail × (has_file ≡ true)) }
-    ensures none_failed { OnOk result (NoneFailed F.may_fail (W.calls writer.old) (W.calls writer.new)) }
-    ensures failed { OnErr result (LastFailed F.may_fail (W.calls writer.old) (W.calls writer.new)) }
-    ensures seen { OnOk result (Settled W.contents W.calls F.is_sent F.may_fail has_file writer.old writer.new
-        × AddsOne (O.seen observer.old) (O.seen observer.new) LineBegins writer.new shelf.now) }
-    ensures unseen { OnErr result (O.seen observer.new ≡ O.seen observer.old) }
+    ensures begins { MatchResult result
+        (λ _. Settled W.contents W.calls F.is_sent F.may_fail has_file writer.old writer.new
+        × AddsOne (O.seen observer.old) (O.seen observer.new) LineBegins writer.new shelf.now)
+        (λ fault. Unsettled W.contents W.calls F.may_fail has_file writer.old writer.new fault
+        × (O.seen observer.new ≡ O.seen observer.old)) }
 {
     around_file_command::<W, F>(has_file, writer)?;
     observer.line_begins(writer, shelf);
@@ -89,14 +86,11 @@ pub(crate) fn end_line<W: Sink, S: Shelf, F: Flushing<W>, O: Observer<W, S>>(
     shelf: &S,
     observer: &mut O,
 ) -> Result<(), RunFault>
-    ensures kept { Keeps (W.contents writer.old) (W.contents writer.new) }
-    ensures sent { OnOk result (has_file ≡ true → F.is_sent writer.new) }
-    ensures fault { IfErr result (λ fault. (fault ≡ RunFault.Output) × F.may_fail × (has_file ≡ true)) }
-    ensures none_failed { OnOk result (NoneFailed F.may_fail (W.calls writer.old) (W.calls writer.new)) }
-    ensures failed { OnErr result (LastFailed F.may_fail (W.calls writer.old) (W.calls writer.new)) }
-    ensures seen { OnOk result (Settled W.contents W.calls F.is_sent F.may_fail has_file writer.old writer.new
-        × AddsOne (O.seen observer.old) (O.seen observer.new) LineEnds writer.new shelf.now) }
-    ensures unseen { OnErr result (O.seen observer.new ≡ O.seen observer.old) }
+    ensures ends { MatchResult result
+        (λ _. Settled W.contents W.calls F.is_sent F.may_fail has_file writer.old writer.new
+        × AddsOne (O.seen observer.old) (O.seen observer.new) LineEnds writer.new shelf.now)
+        (λ fault. Unsettled W.contents W.calls F.may_fail has_file writer.old writer.new fault
+        × (O.seen observer.new ≡ O.seen observer.old)) }
 {
     around_file_command::<W, F>(has_file, writer)?;
     observer.line_ends(writer, shelf);

@@ -80,15 +80,6 @@ pub record AnsweredUnflushed (Unseen Begun : Type 0) (old : Point) (before : Pro
   pub flush : ((new ≡ old) × Keeps output_old output_new × Unseen)
       ⊎ (Answered old before new after output_old output_new × Begun)
 
--- the line that is kept was carried out and answered, or the writer or a flush failed; `may_fail` says whether a flush
--- before the end may fail
-abbrev pub AnswersKept : Type 0 → Type 0 → Type 0 → Point → Progress → Point → Progress → Option (List ℕ) →
-    Option (List ℕ) → Result (Unit {0}) RunFault → Type 0
-AnswersKept may_fail Unseen Begun old before new after output_old output_new result =
-    MatchResult result (λ _. Answered old before new after output_old output_new) (λ fault. (fault ≡ Output)
-    × (AnsweredInPart Begun old before new output_old output_new
-    ⊎ (may_fail × AnsweredUnflushed Unseen Begun old before new after output_old output_new)))
-
 -- the run has gone through the chunk too, and the replies to its lines were written
 pub record StandsAfter (start : Point) (script : List ℕ) (replies : List Reply) (chunk : List ℕ) (now : Point)
     (progress : Progress) (output_old output_new : Option (List ℕ)) : Type 0 where

@@ -1,84 +1,75 @@
 use Rattle.std.proofs.Common.{◌≡◌, ◌<◌, [], length, refl, arith, inl, inr}
 use Rattle.std.proofs.lemmas.Grind.{common_steps}
-use Rattle.std.proofs.lemmas.Result.{err_from_is_err_and, MatchResult-weaker, IfOk-weaker, IfErr-weaker}
-use Rattle.s2calc.proofs.CallLemmas.{last_flushed_after, last_failed_after}
+use Rattle.std.proofs.lemmas.Result.{err_from_is_err_and, MatchResult-weaker, IfOk-weaker}
+use Rattle.s2calc.proofs.CallLemmas.{flushed_if_ok_after}
 use Rattle.s2calc.proofs.CloseLemmas.{Ended-none, EndsUnflushed-none, Ended-line, EndsUnflushed-line, EndsInPart-part}
 use Rattle.s2calc.proofs.CloseLemmas.{Ends-unflushed}
 use Rattle.s2calc.proofs.OrderLemmas.{Adds-none, Adds-weaker, Adds-same, LastSeen-none, LastSeen-line, EndSeen-none}
 use Rattle.s2calc.proofs.OrderLemmas.{EndSeen-cut}
 use Rattle.s2calc.proofs.engine.finish.Goals as goal
 
-pub returns-then-is_empty-clause-closes : goal.returns-then-is_empty-clause-closes
-returns-then-is_empty-clause-closes g c =
+pub returns-then-is_empty-clause-finishes : goal.returns-then-is_empty-clause-finishes
+returns-then-is_empty-clause-finishes g c =
     let none : c.args.progress.kept ≡ [] = grind (arith, common_steps) in
-    λ start script replies s.
-    MatchResult-weaker c.flush_at_the_end.result c.flush_at_the_end.ensures.result
-    (λ told t. Ended-none start script replies _ _ s told _ _ none c.flush_at_the_end.ensures.kept t)
-    (λ fault f. (
-      f,
-      inr (inl (EndsUnflushed-none start script replies _ _ s _ _ _ none c.flush_at_the_end.ensures.kept
-          (Adds-none _ _ (LastSeen-none g.W.Sink.contents g.W.Sink.calls g.F.Flushing.is_sent g.S.Shelf.files
-          g.F.Flushing.may_fail start script replies _ _ _ s none)))),
-    ))
+    λ start script replies s. (
+      MatchResult-weaker c.flush_at_the_end.result c.flush_at_the_end.ensures.result
+          (λ told t. Ended-none start script replies _ _ s told _ _ none c.flush_at_the_end.ensures.kept t)
+          (λ fault f. (
+            f,
+            inr (inl (EndsUnflushed-none start script replies _ _ s _ _ _ none c.flush_at_the_end.ensures.kept
+                (Adds-none _ _ (LastSeen-none g.W.Sink.contents g.W.Sink.calls g.F.Flushing.is_sent g.S.Shelf.files
+                g.F.Flushing.may_fail start script replies _ _ _ s none)))),
+          )),
+      IfOk-weaker c.flush_at_the_end.result _ _
+          (λ u q. Adds-none _ _ (LastSeen-none g.W.Sink.contents g.W.Sink.calls g.F.Flushing.is_sent g.S.Shelf.files
+          g.F.Flushing.may_fail start script replies _ _ _ s none)) c.flush_at_the_end.ensures.sent,
+    )
 
-pub returns-in_err-answer_kept-clause-closes : goal.returns-in_err-answer_kept-clause-closes
-returns-in_err-answer_kept-clause-closes g c =
+pub returns-in_err-answer_kept-clause-finishes : goal.returns-in_err-answer_kept-clause-finishes
+returns-in_err-answer_kept-clause-finishes g c =
     let some : 0 < length c.args.progress.kept = grind (arith, common_steps) in
     let p = err_from_is_err_and c.from_residual.result c.from_residual.ensures.1 in
     let done = c.in_err-answer_kept.ensures.answers in
     rw (p.1, p.2) (λ start script replies s. (
-      done.0,
-      elim done.1 [
-        | inl part ↦ inl (EndsInPart-part start script replies _ _ s _ some _ _ _ _ part (λ begun. Adds-weaker _ _ _ _
-            (λ ms l. EndSeen-cut g.W.Sink.contents g.W.Sink.calls g.F.Flushing.is_sent g.S.Shelf.files
-            g.F.Flushing.may_fail start script replies _ _ _ s _ ms some refl l) begun))
-        | inr failed ↦ inr (Ends-unflushed start script replies _ _ s _ some _ _ _ _ _ _ _ failed.0 failed.1
-            (λ unseen. Adds-same _ _ _ _ (Adds-none _ _ (EndSeen-none g.W.Sink.contents g.W.Sink.calls
-            g.F.Flushing.is_sent g.S.Shelf.files g.F.Flushing.may_fail start script replies _ _ c.args.writer.now s))
-            unseen) (λ begun. Adds-weaker _ _ _ _ (λ ms l. EndSeen-cut g.W.Sink.contents g.W.Sink.calls
-            g.F.Flushing.is_sent g.S.Shelf.files g.F.Flushing.may_fail start script replies _ _ _ s _ ms some refl
-            l) begun))
-      ],
+      (
+        done.0,
+        elim done.1 [
+          | inl part ↦ inl (EndsInPart-part start script replies _ _ s _ some _ _ _ _ part (λ begun. Adds-weaker _ _ _ _
+              (λ ms l. EndSeen-cut g.W.Sink.contents g.W.Sink.calls g.F.Flushing.is_sent g.S.Shelf.files
+              g.F.Flushing.may_fail start script replies _ _ _ s _ ms some refl l) begun))
+          | inr failed ↦ inr (Ends-unflushed start script replies _ _ s _ some _ _ _ _ _ _ _ failed.0 failed.1
+              (λ unseen. Adds-same _ _ _ _ (Adds-none _ _ (EndSeen-none g.W.Sink.contents g.W.Sink.calls
+              g.F.Flushing.is_sent g.S.Shelf.files g.F.Flushing.may_fail start script replies _ _
+              c.args.desk.now.writer.now s)) unseen) (λ begun. Adds-weaker _ _ _ _ (λ ms l. EndSeen-cut
+              g.W.Sink.contents g.W.Sink.calls g.F.Flushing.is_sent g.S.Shelf.files g.F.Flushing.may_fail start script
+              replies _ _ _ s _ ms some refl l) begun))
+        ],
+      ),
+      tt,
     ))
 
-pub returns-clause-closes : goal.returns-clause-closes
-returns-clause-closes g c =
+pub returns-clause-finishes : goal.returns-clause-finishes
+returns-clause-finishes g c =
     let some : 0 < length c.args.progress.kept = grind (arith, common_steps) in
     let done = c.in_ok-answer_kept.ensures.answers in
-    λ start script replies s.
-    MatchResult-weaker c.flush_at_the_end-2.result c.flush_at_the_end-2.ensures.result
-    (λ told t. Ended-line start script replies _ _ s _ some _ _ _ _ done c.flush_at_the_end-2.ensures.kept told t)
-    (λ fault f. (
-      f,
-      inr (inl (EndsUnflushed-line start script replies _ _ s _ some _ _ _ _ done c.flush_at_the_end-2.ensures.kept _ _
-          (inl refl) (Adds-weaker _ _ _ _ (λ ms l. LastSeen-line g.W.Sink.contents g.W.Sink.calls g.F.Flushing.is_sent
-          g.S.Shelf.files g.F.Flushing.may_fail start script replies _ _ _ _ _ _ _ _ ms s some done
-          c.in_ok-answer_kept.ensures.none_failed refl refl l) c.in_ok-answer_kept.ensures.seen))),
-    ))
+    let well = c.in_ok-answer_kept.ensures.calls in
+    λ start script replies s. (
+      MatchResult-weaker c.flush_at_the_end-2.result c.flush_at_the_end-2.ensures.result
+          (λ told t. Ended-line start script replies _ _ s _ some _ _ _ _ done.0 c.flush_at_the_end-2.ensures.kept told
+          t)
+          (λ fault f. (
+            f,
+            inr (inl (EndsUnflushed-line start script replies _ _ s _ some _ _ _ _ done.0
+                c.flush_at_the_end-2.ensures.kept _ _ (inl refl) (Adds-weaker _ _ _ _ (λ ms l. LastSeen-line
+                g.W.Sink.contents g.W.Sink.calls g.F.Flushing.is_sent g.S.Shelf.files g.F.Flushing.may_fail start script
+                replies _ _ _ _ _ _ _ _ ms s some done.0 well refl refl l) done.1))),
+          )),
+      IfOk-weaker c.flush_at_the_end-2.result _ _
+          (λ u q. Adds-weaker _ _ _ _ (λ ms l. LastSeen-line g.W.Sink.contents g.W.Sink.calls g.F.Flushing.is_sent
+          g.S.Shelf.files g.F.Flushing.may_fail start script replies _ _ _ _ _ _ _ _ ms s some done.0 well refl refl l)
+          done.1) c.flush_at_the_end-2.ensures.sent,
+    )
 
-pub returns-clause-flushed : goal.returns-clause-flushed
-returns-clause-flushed g c = IfOk-weaker c.flush_at_the_end-2.result _ _
-    (λ told q. last_flushed_after _ _ _ _ c.in_ok-answer_kept.ensures.none_failed q)
-    c.flush_at_the_end-2.ensures.flushed
-
-pub returns-clause-failed : goal.returns-clause-failed
-returns-clause-failed g c = IfErr-weaker c.flush_at_the_end-2.result _ _
-    (λ fault q. last_failed_after _ _ _ _ c.in_ok-answer_kept.ensures.none_failed q) c.flush_at_the_end-2.ensures.failed
-
-pub returns-then-is_empty-clause-seen : goal.returns-then-is_empty-clause-seen
-returns-then-is_empty-clause-seen g c =
-    let none : c.args.progress.kept ≡ [] = grind (arith, common_steps) in
-    IfOk-weaker c.flush_at_the_end.result _ _
-    (λ u q start script replies s. Adds-none _ _ (LastSeen-none g.W.Sink.contents g.W.Sink.calls g.F.Flushing.is_sent
-    g.S.Shelf.files g.F.Flushing.may_fail start script replies _ _ _ s none))
-    c.flush_at_the_end.ensures.sent
-
-pub returns-clause-seen : goal.returns-clause-seen
-returns-clause-seen g c =
-    let some : 0 < length c.args.progress.kept = grind (arith, common_steps) in
-    let done = c.in_ok-answer_kept.ensures.answers in
-    IfOk-weaker c.flush_at_the_end-2.result _ _
-    (λ u q start script replies s. Adds-weaker _ _ _ _ (λ ms l. LastSeen-line g.W.Sink.contents g.W.Sink.calls
-    g.F.Flushing.is_sent g.S.Shelf.files g.F.Flushing.may_fail start script replies _ _ _ _ _ _
-    _ _ ms s some done c.in_ok-answer_kept.ensures.none_failed refl refl l) c.in_ok-answer_kept.ensures.seen)
-    c.flush_at_the_end-2.ensures.sent
+pub returns-clause-calls : goal.returns-clause-calls
+returns-clause-calls g c = flushed_if_ok_after _ _ _ _ c.flush_at_the_end-2.result c.in_ok-answer_kept.ensures.calls
+    c.flush_at_the_end-2.ensures.calls

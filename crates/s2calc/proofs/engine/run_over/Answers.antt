@@ -1,18 +1,18 @@
 use Rattle.std.proofs.Common.{ℕ, ◌+◌, [], ◌++◌, None, length, take, ap, refl, subst, arith, inl, inr}
 use Rattle.std.proofs.KnownBytes.{Consumes-nil, Appends-nil, Consumes-trans, Consumes-kept, Appends-kept}
-use Rattle.std.proofs.lemmas.Result.{err_from_is_err_and, IfOk-weaker, MatchResult-weaker}
+use Rattle.std.proofs.lemmas.Result.{err_from_is_err_and, MatchResult-weaker}
 use Rattle.s2script.specs.Lines.{whole_lines}
-use Rattle.s2calc.specs.World.{world}
 use Rattle.s2calc.specs.Reads.{ReadsOn}
 use Rattle.s2calc.specs.Moments.{Adds}
 use Rattle.s2calc.specs.Order.{InOrder}
+use Rattle.s2calc.specs.Working.Desk.{world_at}
 use Rattle.s2calc.proofs.CallLemmas.{none_failed_none, none_failed_more, last_failed_after}
 use Rattle.s2calc.proofs.CallLemmas.{reads_on_none, reads_on_more, reads_last, reads_end}
+use Rattle.s2calc.proofs.DeskLemmas.{SameReferences-trans}
 use Rattle.s2calc.proofs.ReadLemmas.{Consumes-none, Appends-texts, stops_reading, stops_before_read, stops_in_chunk}
 use Rattle.s2calc.proofs.TakeInLemmas.{Stands-start}
 use Rattle.s2calc.proofs.OrderLemmas.{Adds-none, Adds-trans, SeenSoFar-start, SeenSoFar-failed}
 use Rattle.s2calc.proofs.OrderLemmas.{InOrder-read, InOrder-end, Runs-end}
-use Rattle.s2calc.proofs.SettledLemmas.{settled}
 use Rattle.s2calc.proofs.engine.run_over.Goals as goal
 
 pub loop-init : goal.loop-init
@@ -27,94 +27,106 @@ loop-init g c =
       reads_on_none _,
       Adds-none _ _ (SeenSoFar-start g.W.Sink.contents g.W.Sink.calls g.F.Flushing.is_sent g.S.Shelf.files
           g.F.Flushing.may_fail _ _),
+      (refl, refl, refl, refl, refl),
     )
 
 pub returns-in_err-in_between-clause-runs : goal.returns-in_err-in_between-clause-runs
 returns-in_err-in_between-clause-runs g c =
     let i = c.loop.invariant in
     let p = err_from_is_err_and c.from_residual.result c.from_residual.ensures.1 in
-    let f = c.in_err-in_between.ensures.fault in
-    rw (p.1, p.2, f.0) (
-      stops_before_read _ _ _ i.0 i.1 _ i.2 i.3 (Appends-kept _ _ _ _ i.4 c.in_between.ensures.kept) f.1
-          (inl (c.loop.counter, i.6)) (last_failed_after _ _ _ _ i.5 c.in_err-in_between.ensures.failed),
+    let f = c.in_err-in_between.ensures.settles in
+    rw (p.1, p.2, f.is_output) (
+      stops_before_read _ _ _ i.0 i.1 _ i.2 i.3 (Appends-kept _ _ _ _ i.4 f.kept) f.may (inl (c.loop.counter, i.6))
+          (last_failed_after _ _ _ _ i.5 f.failed),
       (length (whole_lines i.0), i.7, inl (refl, refl)),
     )
 
 pub returns-in-Ok-eq0-clause-runs : goal.returns-in-Ok-eq0-clause-runs
 returns-in-Ok-eq0-clause-runs g c =
     let i = c.loop.invariant in
+    let gone_out = c.in_ok-in_between.ensures.settles in
     let read = c.in-Ok-eq0.ensures.bytes in
     let none = c.in-Ok-eq0.field-0-test in
+    let ended = c.finish.ensures.finishes _ i.0 i.1 i.3 in
     Runs-end g.W.Sink.contents g.W.Sink.calls g.F.Flushing.is_sent g.S.Shelf.files g.F.Flushing.may_fail _ _ _ i.0 i.1 _
     _ _ _ _ c.finish.result (Consumes-none _ _ _ i.0 _ c.in-Ok-eq0.field-0 none i.2 read.0)
-    (read.1 none (omega arith)) (Appends-kept _ _ _ _ i.4 c.in_between.ensures.kept)
-    (reads_end _ _ _ _ _ i.6 c.in-Ok-eq0.ensures.call none)
-    (none_failed_more _ _ _ _ i.5 c.in_ok-in_between.ensures.none_failed) (c.finish.ensures.closes _ i.0 i.1 i.3)
-    c.finish.ensures.flushed c.finish.ensures.failed
-    (IfOk-weaker c.finish.result _ _ (λ t q. q _ i.0 i.1 i.3) c.finish.ensures.seen)
+    (read.1 none (omega arith)) (Appends-kept _ _ _ _ i.4 gone_out.kept)
+    (reads_end _ _ _ _ _ i.6 c.in-Ok-eq0.ensures.call none) (none_failed_more _ _ _ _ i.5 gone_out.none_failed) ended.0
+    c.finish.ensures.calls ended.1
     (λ begins ends here. InOrder-end g.W.Sink.contents g.W.Sink.calls g.F.Flushing.is_sent g.S.Shelf.files
-    g.F.Flushing.may_fail _ i.0 i.1
-    _ _ i.3 _ _ _ _ i.4 i.5 (settled g.W.Sink.contents g.W.Sink.calls g.F.Flushing.is_sent g.F.Flushing.may_fail
-    c.in_between.ensures.kept
-    c.in_ok-in_between.ensures.none_failed c.in_ok-in_between.ensures.flushes c.in_ok-in_between.ensures.sent) _ _ _ _ _
-    begins ends i.7 c.in-Ok-eq0.ensures.moment (ap (λ (k : ℕ). take k c.read.new.buf) none) here)
+    g.F.Flushing.may_fail _ i.0 i.1 _ _ i.3 _ _ _ _ i.4 i.5 gone_out _ _ _ _ _ begins ends i.7
+    c.in-Ok-eq0.ensures.moment (ap (λ (k : ℕ). take k c.read.new.buf) none) here)
 
 pub returns-in-Ok-eq0-clause-sent : goal.returns-in-Ok-eq0-clause-sent
 returns-in-Ok-eq0-clause-sent g c = MatchResult-weaker c.finish.result c.finish.ensures.sent (λ _ s. s)
     (λ fault is_output is_input. absurd cc)
 
+pub returns-in-Ok-eq0-clause-same : goal.returns-in-Ok-eq0-clause-same
+returns-in-Ok-eq0-clause-same g c =
+    SameReferences-trans c.args.desk.now c.loop.desk c.finish.new.desk c.loop.invariant.8 c.finish.ensures.same
+
 pub returns-in_err-take_in-in-Ok-clause-runs : goal.returns-in_err-take_in-in-Ok-clause-runs
 returns-in_err-take_in-in-Ok-clause-runs g c =
     let i = c.loop.invariant in
+    let gone_out = c.in_ok-in_between.ensures.settles in
     let p = err_from_is_err_and c.from_residual-in_err-take_in-in-Ok.result
     c.from_residual-in_err-take_in-in-Ok.ensures.1 in
     let done = c.in_err-take_in-in-Ok.ensures in
-    rw (p.1, p.2, done.fault) (stops_in_chunk _ _ _ i.0 i.1 _
-    (λ b begins ends. Adds (g.O.Observer.seen c.args.observer.now) (g.O.Observer.seen c.take_in.new.observer)
+    let stopped = done.takes_in _ i.0 i.1 i.3 in
+    rw (p.1, p.2, stopped.0) (stops_in_chunk _ _ _ i.0 i.1 _
+    (λ b begins ends. Adds (g.O.Observer.seen c.args.desk.now.observer.now)
+    (g.O.Observer.seen c.take_in.new.desk.observer.now)
     (InOrder g.W.Sink.contents g.W.Sink.calls g.F.Flushing.is_sent g.S.Shelf.files g.F.Flushing.may_fail
-    (world c.args.editor.now (g.S.Shelf.files c.args.shelf.now)) c.args.writer.now b begins ends))
+    (world_at g.S.Shelf.files c.args.desk.now) c.args.desk.now.writer.now b begins ends))
     (inl (c.loop.counter + 1, reads_on_more _ _ _ _ _ _ i.6 c.in-Ok.ensures.call (omega arith) refl))
-    (last_failed_after _ _ _ _ (none_failed_more _ _ _ _ i.5 c.in_ok-in_between.ensures.none_failed) done.failed)
-    _ _ _ i.2 c.in-Ok.ensures.bytes.0 (Appends-kept _ _ _ _ i.4 c.in_between.ensures.kept)
+    (last_failed_after _ _ _ _ (none_failed_more _ _ _ _ i.5 gone_out.none_failed) done.calls)
+    _ _ _ i.2 c.in-Ok.ensures.bytes.0 (Appends-kept _ _ _ _ i.4 gone_out.kept)
     (λ begins ends here. InOrder-read g.W.Sink.contents g.W.Sink.calls g.F.Flushing.is_sent g.S.Shelf.files
-    g.F.Flushing.may_fail _ i.0 i.1 _ _
-    i.3 _ _ _ _ i.4 i.5 (settled g.W.Sink.contents g.W.Sink.calls g.F.Flushing.is_sent g.F.Flushing.may_fail
-    c.in_between.ensures.kept c.in_ok-in_between.ensures.none_failed c.in_ok-in_between.ensures.flushes
-    c.in_ok-in_between.ensures.sent) _ _ _ _ _ begins ends i.7 c.in-Ok.ensures.moment here)
-    (done.err _ i.0 i.1 i.3))
+    g.F.Flushing.may_fail _ i.0 i.1 _ _ i.3 _ _ _ _ i.4 i.5 gone_out _ _ _ _ _ begins ends i.7 c.in-Ok.ensures.moment
+    here) stopped.1)
+
+pub returns-in_err-take_in-in-Ok-clause-sent : goal.returns-in_err-take_in-in-Ok-clause-sent
+returns-in_err-take_in-in-Ok-clause-sent g c =
+    let i = c.loop.invariant in
+    let p = err_from_is_err_and c.from_residual-in_err-take_in-in-Ok.result
+    c.from_residual-in_err-take_in-in-Ok.ensures.1 in
+    let same = p.2 in
+    let stopped = c.in_err-take_in-in-Ok.ensures.takes_in _ i.0 i.1 i.3 in
+    let is_output = stopped.0 in
+    rw p.1 (λ is_input. absurd cc)
+
+pub returns-in_err-take_in-in-Ok-clause-same : goal.returns-in_err-take_in-in-Ok-clause-same
+returns-in_err-take_in-in-Ok-clause-same g c =
+    SameReferences-trans c.args.desk.now c.loop.desk c.take_in.new.desk c.loop.invariant.8 c.take_in.ensures.same
 
 pub returns-in-Err-clause-runs : goal.returns-in-Err-clause-runs
 returns-in-Err-clause-runs g c =
-    let i = c.loop.invariant in (
+    let i = c.loop.invariant in
+    let gone_out = c.in_ok-in_between.ensures.settles in (
       stops_reading _ _ _ i.0 i.1 _ (Consumes-kept _ _ _ i.0 i.2 c.in-Err.ensures.bytes) i.3
-          (Appends-kept _ _ _ _ i.4 c.in_between.ensures.kept)
-          (inl (reads_last _ _ _ _ None i.6 c.in-Err.ensures.call))
-          (none_failed_more _ _ _ _ i.5 c.in_ok-in_between.ensures.none_failed),
+          (Appends-kept _ _ _ _ i.4 gone_out.kept) (inl (reads_last _ _ _ _ None i.6 c.in-Err.ensures.call))
+          (none_failed_more _ _ _ _ i.5 gone_out.none_failed),
       Adds-trans _ _ _ _ _ _ (λ ms ns seen e. SeenSoFar-failed g.W.Sink.contents g.W.Sink.calls
-          g.F.Flushing.is_sent g.S.Shelf.files g.F.Flushing.may_fail _ i.0 i.1 _ _ i.3 _ _ _ _ i.4 i.5 (settled
-          g.W.Sink.contents g.W.Sink.calls g.F.Flushing.is_sent g.F.Flushing.may_fail c.in_between.ensures.kept
-          c.in_ok-in_between.ensures.none_failed c.in_ok-in_between.ensures.flushes c.in_ok-in_between.ensures.sent)
-          ms ns
+          g.F.Flushing.is_sent g.S.Shelf.files g.F.Flushing.may_fail _ i.0 i.1 _ _ i.3 _ _ _ _ i.4 i.5 gone_out ms ns
           seen e) i.7 c.in-Err.ensures.moment,
     )
 
 pub loop-preserved : goal.loop-preserved
 loop-preserved g c =
     let i = c.loop.invariant in
-    let s = c.in_ok-take_in-in-Ok.ensures.ok _ i.0 i.1 i.3 in (
+    let gone_out = c.in_ok-in_between.ensures.settles in
+    let done = c.in_ok-take_in-in-Ok.ensures in
+    let s = done.takes_in _ i.0 i.1 i.3 in (
       i.0 ++ take c.in-Ok.count c.read.new.buf,
-      i.1 ++ s.more,
+      i.1 ++ s.0.more,
       Consumes-trans _ _ _ i.0 _ i.2 c.in-Ok.ensures.bytes.0,
-      s.stands,
-      Appends-texts _ _ _ i.1 s.more (Appends-kept _ _ _ _ i.4 c.in_between.ensures.kept) s.written,
-      none_failed_more _ _ _ _ (none_failed_more _ _ _ _ i.5 c.in_ok-in_between.ensures.none_failed)
-          c.in_ok-take_in-in-Ok.ensures.none_failed,
+      s.0.stands,
+      Appends-texts _ _ _ i.1 s.0.more (Appends-kept _ _ _ _ i.4 gone_out.kept) s.0.written,
+      none_failed_more _ _ _ _ (none_failed_more _ _ _ _ i.5 gone_out.none_failed) done.calls,
       reads_on_more _ _ _ _ _ _ i.6 c.in-Ok.ensures.call (omega arith) refl,
       InOrder-read g.W.Sink.contents g.W.Sink.calls g.F.Flushing.is_sent g.S.Shelf.files g.F.Flushing.may_fail _ i.0
-          i.1 _ _ i.3 _ _ _ _ i.4 i.5 (settled g.W.Sink.contents g.W.Sink.calls g.F.Flushing.is_sent
-          g.F.Flushing.may_fail c.in_between.ensures.kept c.in_ok-in_between.ensures.none_failed
-          c.in_ok-in_between.ensures.flushes c.in_ok-in_between.ensures.sent)
-          _ _ _ _ _ _ _ i.7 c.in-Ok.ensures.moment (c.in_ok-take_in-in-Ok.ensures.seen _ i.0 i.1 i.3),
+          i.1 _ _ i.3 _ _ _ _ i.4 i.5 gone_out _ _ _ _ _ _ _ i.7 c.in-Ok.ensures.moment s.1,
+      SameReferences-trans c.args.desk.now c.loop.desk c.take_in.new.desk i.8 c.take_in.ensures.same,
     )
 
 pub returns-in_err-in_between-2-clause-runs : goal.returns-in_err-in_between-2-clause-runs
@@ -122,18 +134,19 @@ returns-in_err-in_between-2-clause-runs g c =
     let i = c.loop.invariant in
     let p = err_from_is_err_and c.from_residual-in_err-in_between-2.result
     c.from_residual-in_err-in_between-2.ensures.1 in
-    let f = c.in_err-in_between-2.ensures.fault in
-    rw (p.1, p.2, f.0) (
-      stops_before_read _ _ _ i.0 i.1 _ i.2 i.3 (Appends-kept _ _ _ _ i.4 c.in_between-2.ensures.kept) f.1
-          (inl (c.loop.counter, i.6)) (last_failed_after _ _ _ _ i.5 c.in_err-in_between-2.ensures.failed),
+    let f = c.in_err-in_between-2.ensures.settles in
+    rw (p.1, p.2, f.is_output) (
+      stops_before_read _ _ _ i.0 i.1 _ i.2 i.3 (Appends-kept _ _ _ _ i.4 f.kept) f.may (inl (c.loop.counter, i.6))
+          (last_failed_after _ _ _ _ i.5 f.failed),
       (length (whole_lines i.0), i.7, inl (refl, refl)),
     )
 
 pub returns-clause-runs : goal.returns-clause-runs
 returns-clause-runs g c =
-    let i = c.loop.invariant in (
-      stops_reading _ _ _ i.0 i.1 _ i.2 i.3 (Appends-kept _ _ _ _ i.4 c.in_between-2.ensures.kept)
+    let i = c.loop.invariant in
+    let gone_out = c.in_ok-in_between-2.ensures.settles in (
+      stops_reading _ _ _ i.0 i.1 _ i.2 i.3 (Appends-kept _ _ _ _ i.4 gone_out.kept)
           (inr (subst (λ (times : ℕ). ReadsOn (g.R.Source.reads c.args.reader.now) (g.R.Source.reads c.loop.reader)
-          times) (omega arith) i.6)) (none_failed_more _ _ _ _ i.5 c.in_ok-in_between-2.ensures.none_failed),
+          times) (omega arith) i.6)) (none_failed_more _ _ _ _ i.5 gone_out.none_failed),
       i.7,
     )

@@ -1,8 +1,7 @@
 use Rattle.std.proofs.Common.{ℕ, List}
 use Rattle.std.specs.Io.KnownBytes.{Appends, Consumes}
 use Rattle.s2calc.specs.Replies.{Reply, texts}
-use Rattle.s2calc.specs.World.{world}
-use Rattle.s2calc.specs.Working.Stands.{point}
+use Rattle.s2calc.specs.Working.Desk.{SameReferences, world_at, point_at}
 use Rattle.s2calc.specs.Working.Stands.{Stands}
 use Rattle.s2calc.specs.Calls.{NoneFailed}
 use Rattle.s2calc.specs.Reads.{ReadsOn}
@@ -16,11 +15,12 @@ abbrev pub invariant-loop : goal.invariant-loop
 invariant-loop g l =
     (script : List ℕ) × (replies : List Reply) × Consumes (g.R.Source.remaining l.fn.reader)
     (g.R.Source.remaining l.reader) script
-    × Stands (point (world l.fn.editor (g.S.Shelf.files l.fn.shelf)) (g.N.Notes.noted l.fn.notes)) script replies
-    (point (world l.editor (g.S.Shelf.files l.shelf)) (g.N.Notes.noted l.notes)) l.progress
-    × Appends (g.W.Sink.contents l.fn.writer) (g.W.Sink.contents l.writer) (texts replies)
-    × NoneFailed g.F.Flushing.may_fail (g.W.Sink.calls l.fn.writer) (g.W.Sink.calls l.writer)
+    × Stands (point_at g.S.Shelf.files g.N.Notes.noted l.fn.desk) script replies
+    (point_at g.S.Shelf.files g.N.Notes.noted l.desk) l.progress
+    × Appends (g.W.Sink.contents l.fn.desk.writer.now) (g.W.Sink.contents l.desk.writer.now) (texts replies)
+    × NoneFailed g.F.Flushing.may_fail (g.W.Sink.calls l.fn.desk.writer.now) (g.W.Sink.calls l.desk.writer.now)
     × ReadsOn (g.R.Source.reads l.fn.reader) (g.R.Source.reads l.reader) l.counter
-    × Adds (g.O.Observer.seen l.fn.observer) (g.O.Observer.seen l.observer) (SeenSoFar g.W.Sink.contents g.W.Sink.calls
-    g.F.Flushing.is_sent g.S.Shelf.files g.F.Flushing.may_fail (world l.fn.editor (g.S.Shelf.files l.fn.shelf))
-    l.fn.writer script)
+    × Adds (g.O.Observer.seen l.fn.desk.observer.now) (g.O.Observer.seen l.desk.observer.now)
+    (SeenSoFar g.W.Sink.contents g.W.Sink.calls g.F.Flushing.is_sent g.S.Shelf.files g.F.Flushing.may_fail
+    (world_at g.S.Shelf.files l.fn.desk) l.fn.desk.writer.now script)
+    × SameReferences l.fn.desk l.desk

@@ -4,6 +4,7 @@ use Rattle.std.proofs.lemmas.List.{take_rest}
 use Rattle.std.proofs.lemmas.Result.{err_from_is_err_and}
 use Rattle.s2script.specs.Working.Lines.{EndsLineAt}
 use Rattle.s2calc.proofs.CallLemmas.{none_failed_none, none_failed_more, last_failed_after}
+use Rattle.s2calc.proofs.DeskLemmas.{SameReferences-trans}
 use Rattle.s2calc.proofs.TakeInLemmas.{StandsAfter-none, StandsAfter-line, StandsAfter-rest, StopsInside-line}
 use Rattle.s2calc.proofs.TakeInLemmas.{StopsBeside-line}
 use Rattle.s2calc.proofs.OrderLemmas.{Adds-none, Adds-trans, Adds-weaker, Adds-same, MoreSeen-none, MoreSeen-line}
@@ -27,88 +28,92 @@ pub loop-at-init : goal.loop-at-init
 loop-at-init g c = (
   [],
   refl,
-  λ start script replies s. StandsAfter-none start script replies _ _ _ s,
+  λ start script replies s. (
+    StandsAfter-none start script replies _ _ _ s,
+    Adds-none _ _ (MoreSeen-none g.W.Sink.contents g.W.Sink.calls g.F.Flushing.is_sent g.S.Shelf.files
+        g.F.Flushing.may_fail start.world script replies _),
+  ),
   none_failed_none _ _,
-  λ start script replies s. Adds-none _ _ (MoreSeen-none g.W.Sink.contents g.W.Sink.calls g.F.Flushing.is_sent
-      g.S.Shelf.files g.F.Flushing.may_fail start.world script replies _),
+  (refl, refl, refl, refl, refl),
 )
 
-pub returns-in_err-answer_kept-clause-err : goal.returns-in_err-answer_kept-clause-err
-returns-in_err-answer_kept-clause-err g c =
+pub returns-in_err-answer_kept-clause-takes_in : goal.returns-in_err-answer_kept-clause-takes_in
+returns-in_err-answer_kept-clause-takes_in g c =
     let p = err_from_is_err_and c.from_residual.result c.from_residual.ensures.1 in
     let i = c.loop-at.invariant in
     let rest = c.loop-at.rest.now in
     let ends = c.in-Some.ensures.some in
     let done = c.in_err-answer_kept.ensures.answers in
-    rw p.1 (λ start script replies s.
+    rw (p.1, p.2) (λ start script replies s.
     let here = i.2 start script replies s in
-    let earlier = i.4 start script replies s in
-    let whole = cut_at _ i.0 rest c.in-Some.at i.1 ends in
-    elim done.1 [
-      | inl part ↦ inl (StopsInside-line _ _ start script replies _ i.0 (take c.in-Some.at rest)
-          (drop (c.in-Some.at + 1) rest) _ _ _ _ _ _ _ here ends.before c.keep.ensures refl refl part whole
-          (λ held begun. Adds-trans _ _ _ _ _ _ (λ ms ns m l. ManySeen-cut g.W.Sink.contents g.W.Sink.calls
-          g.F.Flushing.is_sent g.S.Shelf.files g.F.Flushing.may_fail start script replies i.0
-          (take c.in-Some.at rest) (drop (c.in-Some.at + 1) rest) _ _ _ _ _ _ ms here ends.before held whole m _ ns i.3
-          refl l) earlier begun))
-      | inr failed ↦ inr (
-        failed.0,
-        StopsBeside-line _ _ _ start script replies _ i.0 (take c.in-Some.at rest) (drop (c.in-Some.at + 1) rest)
-            _ _ _ _ _ _ _ _ here ends.before c.keep.ensures refl refl failed.1 whole
-            (λ held unseen. Adds-same _ _ _ _ (Adds-weaker _ _ _ _ (λ ms m. ManySeen-before g.W.Sink.contents
-            g.W.Sink.calls g.F.Flushing.is_sent g.S.Shelf.files g.F.Flushing.may_fail start script replies i.0
-            (take c.in-Some.at rest) (drop (c.in-Some.at + 1) rest) _ _ _ _ _ c.loop-at.writer ms here ends.before
-            held whole
-            m) earlier) unseen)
+    let whole = cut_at _ i.0 rest c.in-Some.at i.1 ends in (
+      done.0,
+      elim done.1 [
+        | inl part ↦ inl (StopsInside-line _ _ start script replies _ i.0 (take c.in-Some.at rest)
+            (drop (c.in-Some.at + 1) rest) _ _ _ _ _ _ _ here.0 ends.before c.keep.ensures refl refl part whole
             (λ held begun. Adds-trans _ _ _ _ _ _ (λ ms ns m l. ManySeen-cut g.W.Sink.contents g.W.Sink.calls
             g.F.Flushing.is_sent g.S.Shelf.files g.F.Flushing.may_fail start script replies i.0
-            (take c.in-Some.at rest) (drop (c.in-Some.at + 1) rest) _ _ _ _ _ _ ms here ends.before held whole m _ ns
-            i.3
-            refl l) earlier begun),
-      )
-    ])
+            (take c.in-Some.at rest) (drop (c.in-Some.at + 1) rest) _ _ _ _ _ _ ms here.0 ends.before held whole m _ ns
+            i.3 refl l) here.1 begun))
+        | inr failed ↦ inr (
+          failed.0,
+          StopsBeside-line _ _ _ start script replies _ i.0 (take c.in-Some.at rest) (drop (c.in-Some.at + 1) rest)
+              _ _ _ _ _ _ _ _ here.0 ends.before c.keep.ensures refl refl failed.1 whole
+              (λ held unseen. Adds-same _ _ _ _ (Adds-weaker _ _ _ _ (λ ms m. ManySeen-before g.W.Sink.contents
+              g.W.Sink.calls g.F.Flushing.is_sent g.S.Shelf.files g.F.Flushing.may_fail start script replies i.0
+              (take c.in-Some.at rest) (drop (c.in-Some.at + 1) rest) _ _ _ _ _ c.loop-at.desk.writer.now ms here.0
+              ends.before held whole m) here.1) unseen)
+              (λ held begun. Adds-trans _ _ _ _ _ _ (λ ms ns m l. ManySeen-cut g.W.Sink.contents g.W.Sink.calls
+              g.F.Flushing.is_sent g.S.Shelf.files g.F.Flushing.may_fail start script replies i.0
+              (take c.in-Some.at rest) (drop (c.in-Some.at + 1) rest) _ _ _ _ _ _ ms here.0 ends.before held whole m _
+              ns i.3 refl l) here.1 begun),
+        )
+      ],
+    ))
+
+pub returns-in_err-answer_kept-clause-calls : goal.returns-in_err-answer_kept-clause-calls
+returns-in_err-answer_kept-clause-calls g c =
+    let p = err_from_is_err_and c.from_residual.result c.from_residual.ensures.1 in
+    rw p.1 (last_failed_after _ _ _ _ c.loop-at.invariant.3 c.in_err-answer_kept.ensures.calls)
+
+pub returns-in_err-answer_kept-clause-same : goal.returns-in_err-answer_kept-clause-same
+returns-in_err-answer_kept-clause-same g c =
+    SameReferences-trans c.args.desk.now c.loop-at.desk c.answer_kept.new.desk c.loop-at.invariant.4
+    c.answer_kept.ensures.same
 
 pub loop-at-preserved : goal.loop-at-preserved
 loop-at-preserved g c =
     let i = c.loop-at.invariant in
     let rest = c.loop-at.rest.now in
     let ends = c.in-Some.ensures.some in
-    let done = c.in_ok-answer_kept.ensures.answers in (
+    let done = c.in_ok-answer_kept.ensures.answers in
+    let well = c.in_ok-answer_kept.ensures.calls in (
       (i.0 ++ take c.in-Some.at rest) ++ 10 ∷ [],
       cut_after _ i.0 rest c.in-Some.at i.1 ends,
-      λ start script replies s.
-          StandsAfter-line start script replies i.0 (take c.in-Some.at rest) _ _ _ _ _ _ _ _ _
-          (i.2 start script replies s) ends.before c.keep.ensures refl refl done c.clear.ensures refl refl,
-      none_failed_more _ _ _ _ i.3 c.in_ok-answer_kept.ensures.none_failed,
-      λ start script replies s.
-          Adds-trans _ _ _ _ _ _
-          (λ ms ns p q.
-          MoreSeen-line g.W.Sink.contents g.W.Sink.calls g.F.Flushing.is_sent g.S.Shelf.files g.F.Flushing.may_fail
-          start script replies i.0 (take c.in-Some.at rest) _ _ _ _ _ _ _ _ _ _ ms ns
-          (i.2 start script replies s) ends.before c.keep.ensures refl refl done i.3
-          c.in_ok-answer_kept.ensures.none_failed refl refl p q) (i.4 start script replies s)
-          c.in_ok-answer_kept.ensures.seen,
+      λ start script replies s. let here = i.2 start script replies s in (
+        StandsAfter-line start script replies i.0 (take c.in-Some.at rest) _ _ _ _ _ _ _ _ _ here.0 ends.before
+            c.keep.ensures refl refl done.0 c.clear.ensures refl refl,
+        Adds-trans _ _ _ _ _ _ (λ ms ns p q. MoreSeen-line g.W.Sink.contents g.W.Sink.calls g.F.Flushing.is_sent
+            g.S.Shelf.files g.F.Flushing.may_fail start script replies i.0 (take c.in-Some.at rest) _ _ _ _ _ _ _ _ _ _
+            ms ns here.0 ends.before c.keep.ensures refl refl done.0 i.3 well refl refl p q) here.1 done.1,
+      ),
+      none_failed_more _ _ _ _ i.3 well,
+      SameReferences-trans c.args.desk.now c.loop-at.desk c.answer_kept.new.desk i.4 c.answer_kept.ensures.same,
     )
 
-pub returns-clause-ok : goal.returns-clause-ok
-returns-clause-ok g c =
+pub returns-clause-takes_in : goal.returns-clause-takes_in
+returns-clause-takes_in g c =
     let i = c.loop-at.invariant in
-    λ start script replies s.
-    StandsAfter-rest start script replies _ i.0 c.loop-at.rest.now _ _ _ _ _ (i.2 start script replies s)
-    c.in_default.ensures.none c.keep-2.ensures refl refl i.1
+    λ start script replies s. let here = i.2 start script replies s in (
+      StandsAfter-rest start script replies _ i.0 c.loop-at.rest.now _ _ _ _ _ here.0 c.in_default.ensures.none
+          c.keep-2.ensures refl refl i.1,
+      Adds-weaker _ _ _ _ (λ ms m. MoreSeen-rest g.W.Sink.contents g.W.Sink.calls g.F.Flushing.is_sent g.S.Shelf.files
+          g.F.Flushing.may_fail start script replies _ i.0 c.loop-at.rest.now _ _ _ _ _ ms here.0
+          c.in_default.ensures.none i.1 m) here.1,
+    )
 
-pub returns-in_err-answer_kept-clause-failed : goal.returns-in_err-answer_kept-clause-failed
-returns-in_err-answer_kept-clause-failed g c =
-    let p = err_from_is_err_and c.from_residual.result c.from_residual.ensures.1 in
-    rw p.1 (last_failed_after _ _ _ _ c.loop-at.invariant.3 c.in_err-answer_kept.ensures.failed)
+pub returns-clause-calls : goal.returns-clause-calls
+returns-clause-calls g c = c.loop-at.invariant.3
 
-pub returns-clause-none_failed : goal.returns-clause-none_failed
-returns-clause-none_failed g c = c.loop-at.invariant.3
-
-pub returns-clause-seen : goal.returns-clause-seen
-returns-clause-seen g c =
-    let i = c.loop-at.invariant in
-    λ start script replies s.
-    Adds-weaker _ _ _ _ (λ ms m. MoreSeen-rest g.W.Sink.contents g.W.Sink.calls g.F.Flushing.is_sent g.S.Shelf.files
-    g.F.Flushing.may_fail start script replies _ i.0 c.loop-at.rest.now _ _ _ _ _ ms
-    (i.2 start script replies s) c.in_default.ensures.none i.1 m) (i.4 start script replies s)
+pub returns-clause-same : goal.returns-clause-same
+returns-clause-same g c = c.loop-at.invariant.4

@@ -2,7 +2,7 @@ use Rattle.std.proofs.Common.{refl}
 use Rattle.std.proofs.lemmas.Result.{err_from_is_err_and}
 use Rattle.s2calc.proofs.OrderLemmas.{Adds-none}
 use Rattle.s2calc.proofs.ReadLemmas.{never_begins}
-use Rattle.s2calc.proofs.engine.run_promptly_observed.Goals as goal
+use Rattle.s2calc.proofs.engine.run_with.Goals as goal
 
 pub returns-in_err-input-clause-runs : goal.returns-in_err-input-clause-runs
 returns-in_err-input-clause-runs g c =
