@@ -24,40 +24,40 @@ tables h = h.now ∷ h.past
 
 -- ---- one edit
 
--- the state is as it was, or a register was given a list
-abbrev KeepsOrGives : History (List ℕ) → History (List ℕ) → Type 0
-KeepsOrGives old new = (new ≡ old) ⊎ ((r : ℕ) × (u : List ℕ) × (new ≡ changed old r u))
+-- the state is as it was, or this register was given a list
+abbrev KeepsOrGives : ℕ → History (List ℕ) → History (List ℕ) → Type 0
+KeepsOrGives r old new = (new ≡ old) ⊎ ((u : List ℕ) × (new ≡ changed old r u))
 
 gets_gives : (S : ℕ → Bool) (r : ℕ) (old new : History (List ℕ)) (reply : Reply) → Gets S r old reply new →
-    KeepsOrGives old new
-gets_gives S r old new reply (inl h) = ⊎_elim (λ e. inl (h.state.same e)) (λ n. inr (r, h.list, h.state.differs n))
+    KeepsOrGives r old new
+gets_gives S r old new reply (inl h) = ⊎_elim (λ e. inl (h.state.same e)) (λ n. inr (h.list, h.state.differs n))
     (is_there old.now r h.list)
 gets_gives S r old new reply (inr (inl h)) = inl h.2
 gets_gives S r old new reply (inr (inr h)) = inl h.1
 
 loads_gives : (r : ℕ) (name : List ℕ) (old new : World) (reply : Reply) → Loads r name old reply new →
-    KeepsOrGives old.state new.state
+    KeepsOrGives r old.state new.state
 loads_gives r name old new reply (inl h) = gets_gives h.0 r old.state new.state reply h.2
 loads_gives r name old new reply (inr h) = inl h.3
 
-acts_gives : (command : Command) (old new : World) (reply : Reply) → GivesRegister command →
-    Acts command old reply new → KeepsOrGives old.state new.state
-acts_gives (Edit r edit) old new reply g h = gets_gives _ r old.state new.state reply h.0
-acts_gives (Load r name) old new reply g h = loads_gives r name old new reply h
-acts_gives (Save r name) old new reply g h = absurd g
-acts_gives (Dump name) old new reply g h = absurd g
-acts_gives (Restore name) old new reply g h = absurd g
-acts_gives Undo old new reply g h = absurd g
-acts_gives Redo old new reply g h = absurd g
-acts_gives (Ask question) old new reply g h = absurd g
+acts_gives : (command : Command) (register : ℕ) (old new : World) (reply : Reply) → GivesRegister command register →
+    Acts command old reply new → KeepsOrGives register old.state new.state
+acts_gives (Edit r edit) register old new reply g h = rw g (gets_gives _ r old.state new.state reply h.0)
+acts_gives (Load r name) register old new reply g h = rw g (loads_gives r name old new reply h)
+acts_gives (Save r name) register old new reply g h = absurd g
+acts_gives (Dump name) register old new reply g h = absurd g
+acts_gives (Restore name) register old new reply g h = absurd g
+acts_gives Undo register old new reply g h = absurd g
+acts_gives Redo register old new reply g h = absurd g
+acts_gives (Ask question) register old new reply g h = absurd g
 
-edits_change : (old new : World) (line : List ℕ) (reply : Reply) (command : Command) →
-    line_of line ≡ Does command → GivesRegister command → Step old line reply new
-    → (new.state ≡ old.state) ⊎ Changes old line reply new
-edits_change old new line reply command e g s =
+edits_change : (old new : World) (line : List ℕ) (reply : Reply) (command : Command) (register : ℕ) →
+    line_of line ≡ Does command → GivesRegister command register → Step old line reply new
+    → (new.state ≡ old.state) ⊎ Changes register old line reply new
+edits_change old new line reply command register e g s =
     let acts : Acts command old reply new = subst (λ p. StepBy p old reply new) e s.by in
-    ⊎_elim (λ k. inl k) (λ c. inr (record { step = s; register = c.0; list = c.1; state = c.2 }))
-    (acts_gives command old new reply g acts)
+    ⊎_elim (λ k. inl k) (λ c. inr (record { step = s; list = c.0; state = c.1 }))
+    (acts_gives command register old new reply g acts)
 
 -- ---- one undo
 
@@ -173,8 +173,8 @@ changes_further_back old mid [] [] further c deep few =
     }
 changes_further_back old mid [] (reply ∷ replies) further c deep few = absurd c
 changes_further_back old mid (line ∷ ls) [] further c deep few = absurd c
-changes_further_back old mid (line ∷ ls) (reply ∷ replies) further (next, one, c) deep few =
-    let b = one_further_back old.state next.state one.register one.list further one.state (omega arith) few in
+changes_further_back old mid (line ∷ ls) (reply ∷ replies) further (next, (r, one), c) deep few =
+    let b = one_further_back old.state next.state r one.list further one.state (omega arith) few in
     let depths = b.0 in
     let long = b.1 in
     let more = changes_further_back next mid ls replies (suc further) c (omega arith) b.1 in

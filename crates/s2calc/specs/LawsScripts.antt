@@ -67,29 +67,28 @@ abbrev pub AllUndo : List (List ℕ) → Type 0
 AllUndo [] = Unit {0}
 AllUndo (line ∷ ls) = (line_of line ≡ Does Undo) × AllUndo ls
 
--- the command is an edit or a `load`, which give a register a new set of leaves
-abbrev pub GivesRegister : Command → Type 0
-GivesRegister (Edit r edit) = Unit {0}
-GivesRegister (Load r name) = Unit {0}
-GivesRegister (Save r name) = ⊥
-GivesRegister (Dump name) = ⊥
-GivesRegister (Restore name) = ⊥
-GivesRegister Undo = ⊥
-GivesRegister Redo = ⊥
-GivesRegister (Ask question) = ⊥
+-- the command is an edit or a `load`, which give this register a new set of leaves
+abbrev pub GivesRegister : Command → ℕ → Type 0
+GivesRegister (Edit r edit) register = register ≡ r
+GivesRegister (Load r name) register = register ≡ r
+GivesRegister (Save r name) register = ⊥
+GivesRegister (Dump name) register = ⊥
+GivesRegister (Restore name) register = ⊥
+GivesRegister Undo register = ⊥
+GivesRegister Redo register = ⊥
+GivesRegister (Ask question) register = ⊥
 
--- the line changed a register: the table before it went to the front of the past, which keeps the newest ones
-pub record Changes (old : World) (line : List ℕ) (reply : Reply) (new : World) : Type 0 where
+-- the line changed this register: the table before it went to the front of the past, which keeps the newest ones
+pub record Changes (register : ℕ) (old : World) (line : List ℕ) (reply : Reply) (new : World) : Type 0 where
   pub step : Step old line reply new
-  pub register : ℕ
   pub list : List ℕ
   pub state : new.state ≡ changed old.state register list
 
 -- the lines were carried out one after another, and each changed a register
 abbrev pub AllLinesChange : World → List (List ℕ) → List Reply → World → Type 0
 AllLinesChange old [] [] new = new ≡ old
-AllLinesChange old (line ∷ ls) (reply ∷ replies) new = (mid : World) × Changes old line reply mid
-    × AllLinesChange mid ls replies new
+AllLinesChange old (line ∷ ls) (reply ∷ replies) new = (mid : World)
+    × ((register : ℕ) × Changes register old line reply mid) × AllLinesChange mid ls replies new
 AllLinesChange old [] (reply ∷ replies) new = ⊥
 AllLinesChange old (line ∷ ls) [] new = ⊥
 
@@ -102,14 +101,14 @@ pub record GoesBack (table : List (List ℕ)) (old : World) (replies : List Repl
       Bytes (leaves_of table r) others → bytes ≡ others
   pub files : new.files ≡ old.files
 
--- An edit or a `load` changes its register by the rule of the history, or leaves the state as it was. From every state,
--- n undos lead to the table n places back, if there are that many earlier tables. So after n lines that each changed a
--- register, with n at most the depth, n undos give back the table before the first of these lines, and further undos
--- the tables before that one, as far as they are kept.
+-- An edit or a `load` changes its own register by the rule of the history, or leaves the state as it was. From every
+-- state, n undos lead to the table n places back, if there are that many earlier tables. So after n lines that each
+-- changed a register, with n at most the depth, n undos give back the table before the first of these lines, and
+-- further undos the tables before that one, as far as they are kept.
 pub record LawOfUndo : Type 0 where
-  pub edits : (old new : World) (line : List ℕ) (reply : Reply) (command : Command) → line_of line ≡ Does command →
-      GivesRegister command
-      → Step old line reply new → (new.state ≡ old.state) ⊎ Changes old line reply new
+  pub edits : (old new : World) (line : List ℕ) (reply : Reply) (command : Command) (register : ℕ) →
+      line_of line ≡ Does command → GivesRegister command register → Step old line reply new
+      → (new.state ≡ old.state) ⊎ Changes register old line reply new
   pub back : (old new : World) (ls : List (List ℕ)) (replies : List Reply) → AllUndo ls →
       length ls ≤ length old.state.past → Steps old ls replies new
       → GoesBack (table_at (old.state.now ∷ old.state.past) (length ls)) old replies new
