@@ -1,6 +1,7 @@
 //! Questions of `s2union` about two unions, and how many cells they look at.
 ghost use Rattle.std.specs.Prelude.{◌<◌};
 
+use crate::changes::add_looks;
 use crate::texts::{cut, numbers_of, union_of, yes_or_no};
 use row_table::add_line;
 use s2cell::CellId;
@@ -17,6 +18,10 @@ pub fn answer(
 ) -> Result<bool, AllocError> {
     if name == "spaced" {
         add_spaced(alloc, words, found)?;
+        return Ok(true);
+    }
+    if name == "spaced_change" {
+        add_spaced_change(alloc, words, found)?;
         return Ok(true);
     }
     let (one, other) = cut(words);
@@ -73,6 +78,18 @@ fn add_spaced(alloc: Global, words: &str, found: &mut Vec<u8>) -> Result<(), All
     add_few(alloc, found, spaced.intersects_counted(&leaves))?;
     let shared = spaced.intersection(&leaves)?.len();
     add_line(found, &format!(in alloc; "{shared}")?)
+}
+
+/// Adds how many of the spaced cells are looked at to test and to make the change that takes a hundred leaves of the
+/// n-th cell from them.
+fn add_spaced_change(alloc: Global, words: &str, found: &mut Vec<u8>) -> Result<(), AllocError> {
+    let [n, ..] = numbers_of(words);
+    if n >= 65536 {
+        return add_line(found, "out of range");
+    }
+    let spaced = spaced_cells(alloc)?;
+    let rest = spaced.difference(&leaves_of(alloc, n)?)?;
+    add_looks(alloc, &spaced, &rest, found)
 }
 
 /// Adds an answer, and whether fewer than a hundred cells were looked at, or how many.

@@ -1,6 +1,6 @@
 -- What the last three cells tell of a list whose cells go by one after another.
 use Rattle.std.proofs.Common.{◌≡◌, ℕ, suc, ◌+◌, ◌-◌, ◌<◌, ◌↔◌, refl, sym, ap, ◌∙◌, subst, arith, List, [], ◌∷◌, ◌++◌}
-use Rattle.std.proofs.Common.{length, take, reverse, get_or, slice_get, Some, append_assoc, length-append}
+use Rattle.std.proofs.Common.{length, take, reverse, get_or, slice_get, Some, None, append_assoc, length-append}
 use Rattle.std.proofs.lemmas.List.{get_or-reverse, length-reverse, reverse-append, append-nil}
 use Rattle.std.proofs.lemmas.Option.{slice_get-get_or, get_or_from_slice_get, slice_get_within}
 use Rattle.std.specs.List.Sorted.{IsStrictlyIncreasing}
@@ -85,6 +85,19 @@ pub record Seen (start now : Left) (tail : Tail) : Type 0 where
   pub packed : IsPacked (reverse back)
   pub same : CanApply start ↔ CanApply now
   pub gives : CanApply start → reverse back ++ made_list now ≡ made_list start
+
+pub seen_none : (start : Left) → Seen start start (record { last = None; second = None; third = None })
+seen_none start = record {
+  back = [];
+  ends = record { last = refl; second = refl; third = refl };
+  packed = record {
+    cells = λ k d h. absurd (omega arith);
+    chain = λ i j d h l. absurd (omega arith);
+    unmerged = λ k p h. absurd (omega arith);
+  };
+  same = (λ h. h, λ h. h);
+  gives = λ h. refl;
+}
 
 pub seen_write : {start now next : Left} {tail : Tail} {cell : ℕ} →
     Seen start now tail → Goes (cell ∷ []) now next → IsCell cell →

@@ -10,7 +10,7 @@ use Rattle.s2union.specs.Working.Tail.{Follows, IsTail, Passes}
 use Rattle.s2union.specs.declared.apply.Tail.{Tail}
 use Rattle.s2union.specs.Apply.{applied, Fits}
 use Rattle.s2union.specs.Working.Merge.{Left, CanApply, Keeps, made_list}
-use Rattle.s2list.proofs.Packing.{packed_take, read_at}
+use Rattle.s2list.proofs.Packing.{packed_take}
 use Rattle.s2list.proofs.Checking.{packed_from_local}
 use Rattle.s2union.proofs.Following.{follow_packed}
 use Rattle.s2union.proofs.Ending.{Seen, can_from, from_end, packed_front, packed_with, follows_packed, tail_with}
@@ -30,11 +30,11 @@ passed : {old now : Tail} {run : List ℕ} {n : ℕ} {back : List ℕ} → Passi
 passed {run} {n} {back} s i p = subst IsPacked (sym (reverse_back (take n run) back)) (s.packed back i p)
 
 pub passing_more : {old now : Tail} {run : List ℕ} {n cell : ℕ} →
-    Passing old now run n → n < length run → cell ≡ get_or run n cell → IsCell cell →
+    Passing old now run n → n < length run → cell ≡ get_or run n 0 → IsCell cell →
     Follows now cell → Passing old (record { last = Some cell; second = now.last; third = now.second }) run (n + 1)
 passing_more {old} {now} {run} {n} {cell} s h r c f =
-    let e : get_or run n 0 ≡ cell = read_at run n n cell h refl r in
-    let more : take (n + 1) run ≡ take n run ++ cell ∷ [] = take_more run n 0 h ∙ ap (λ x. take n run ++ x ∷ []) e in
+    let more : take (n + 1) run ≡ take n run ++ cell ∷ [] = take_more run n 0 h
+    ∙ ap (λ x. take n run ++ x ∷ []) (sym r) in
     record {
       packed = λ back i p.
           let back_now = reverse (take n run) ++ back in
@@ -54,12 +54,11 @@ passing_more {old} {now} {run} {n} {cell} s h r c f =
 
 -- a cell of the run that may not come next
 pub passing_fails : {old now : Tail} {run : List ℕ} {n : ℕ} (cell : ℕ) →
-    Passing old now run n → n < length run → cell ≡ get_or run n cell → (Follows now cell → ⊥) →
+    Passing old now run n → n < length run → cell ≡ get_or run n 0 → (Follows now cell → ⊥) →
     (back : List ℕ) → IsTail old back → IsPacked (reverse back) → IsPacked (reverse back ++ run) → ⊥
 passing_fails {now} {run} {n} cell s h r fails back i p q =
-    let e : get_or run n 0 ≡ cell = read_at run n n cell h refl r in
     let rest : run ≡ take n run ++ cell ∷ drop (n + 1) run = sym (take-append-drop n run)
-    ∙ ap (λ l. take n run ++ l) (drop_more run n 0 h ∙ ap (λ x. x ∷ drop (n + 1) run) e) in
+    ∙ ap (λ l. take n run ++ l) (drop_more run n 0 h ∙ ap (λ x. x ∷ drop (n + 1) run) (sym r)) in
     let whole : reverse back ++ run ≡ reverse (reverse (take n run) ++ back) ++ cell ∷ drop (n + 1) run =
     ap (λ l. reverse back ++ l) rest ∙ sym (append_assoc (reverse back) (take n run) (cell ∷ drop (n + 1) run))
     ∙ ap (λ l. l ++ cell ∷ drop (n + 1) run) (sym (reverse_back (take n run) back)) in
@@ -67,11 +66,10 @@ passing_fails {now} {run} {n} cell s h r fails back i p q =
     (packed_front (reverse (reverse (take n run) ++ back)) (drop (n + 1) run) cell (subst IsPacked whole q)))
 
 -- a cell near the end of a run, by its place from the end
-near_end : (run back : List ℕ) (k x : ℕ) → k < length run → x ≡ get_or run (length run - 1 - k) x →
+near_end : (run back : List ℕ) (k x : ℕ) → k < length run → x ≡ get_or run (length run - 1 - k) 0 →
     Some x ≡ slice_get (reverse run ++ back) k
 near_end run back k x h r =
     let m = length run - 1 - k in
-    let e : get_or run m 0 ≡ x = read_at run m m x (omega arith) refl r in
     let nb : length (reverse back) ≡ length back = length-reverse back in
     let nr : length (reverse run) ≡ length run = length-reverse run in
     let n : length (reverse run ++ back) ≡ length run + length back = length-append (reverse run) back
@@ -81,13 +79,13 @@ near_end run back k x h r =
     let at : get_or (reverse (reverse run ++ back)) j 0 ≡ x =
     ap (λ l. get_or l j 0) (reverse_back run back)
     ∙ get_or-append_right (reverse back) run (length (reverse back)) j 0 refl (omega arith)
-    ∙ ap (λ i. get_or run i 0) there ∙ e in
+    ∙ ap (λ i. get_or run i 0) there ∙ sym r in
     sym (from_end (reverse run ++ back) k j (omega arith) ∙ ap (λ (i : ℕ). Some i) at)
 
 -- once its first three cells went by, the others follow as in the list
 pub passing_rest : (passes : Type 0) {old now : Tail} {run : List ℕ} (third second last : ℕ) →
-    passes → Passing old now run 3 → 3 < length run → IsPacked run → third ≡ get_or run (length run - 3) third →
-    second ≡ get_or run (length run - 2) second → last ≡ get_or run (length run - 1) last →
+    passes → Passing old now run 3 → 3 < length run → IsPacked run → third ≡ get_or run (length run - 3) 0 →
+    second ≡ get_or run (length run - 2) 0 → last ≡ get_or run (length run - 1) 0 →
     Passes passes old (record { last = Some last; second = Some second; third = Some third }) run
 passing_rest passes {run} third second last passed_by s h packed r3 r2 r1 =
     let e3 : length run - 3 ≡ length run - 1 - 2 = omega arith in
@@ -113,9 +111,9 @@ passing_rest passes {run} third second last passed_by s h packed r3 r2 r1 =
         λ _. passed_by,
       );
       ends = λ back i p _. record {
-        last = near_end run back 0 last (omega arith) (subst (λ k. last ≡ get_or run k last) e1 r1);
-        second = near_end run back 1 second (omega arith) (subst (λ k. second ≡ get_or run k second) e2 r2);
-        third = near_end run back 2 third (omega arith) (subst (λ k. third ≡ get_or run k third) e3 r3);
+        last = near_end run back 0 last (omega arith) (subst (λ k. last ≡ get_or run k 0) e1 r1);
+        second = near_end run back 1 second (omega arith) (subst (λ k. second ≡ get_or run k 0) e2 r2);
+        third = near_end run back 2 third (omega arith) (subst (λ k. third ≡ get_or run k 0) e3 r3);
       };
     }
 

@@ -1,22 +1,24 @@
 //! Changes of a union's list: cells are taken out of it and others put in.
 //!
 //! [`Merge`] walks along the list and the two lists of a change, and gives the changed list by runs and single cells.
-//! [`Tail`] tells from the last three cells that it gave whether the next one may come after them.
-ghost use Rattle.std.specs.Prelude.{◌≡◌, ◌≤◌, ◌+◌, ◌++◌, ◌↔◌, [], length, IfOk, IsTrue, Some, None};
+//! [`Tail`] tells from the last three cells that it gave whether the next one may come after them. What counts looks at
+//! the list is a type parameter; looks at the cells of a change aren't counted.
+ghost use Rattle.std.specs.Prelude.{◌≡◌, ◌≤◌, ◌<◌, ◌+◌, ◌-◌, ◌*◌, ◌^◌, ◌++◌, ◌↔◌, ℕ};
+ghost use Rattle.std.specs.Prelude.{[], length, min, slice_index, IfOk, IsTrue, Some, None};
 ghost use Rattle.std.specs.List.Sorted.{IsStrictlyIncreasing};
 ghost use Rattle.std.specs.Vec.{vec_len, vec_capacity};
 ghost use Rattle.s2cell.specs.Cell.{IsCell};
 ghost use Rattle.s2list.specs.Union.{IsLocal};
-ghost use Rattle.s2union.specs.Apply.{applied, Fits};
-ghost use Rattle.s2union.specs.Working.Merge.{IsTurn, IsHead, IsFrontOf, Keeps};
+ghost use Rattle.s2union.specs.Apply.{applied, Fits, FewForChange};
+ghost use Rattle.s2union.specs.Working.Merge.{IsTurn, IsHead, IsFrontOf, Keeps, Uses, AtChange, TakesOne};
 ghost use Rattle.s2list.specs.Packed.{IsPacked};
 ghost use Rattle.s2union.specs.Working.Tail.{Follows, Passes};
 
-use crate::search::gallop;
+use crate::search::gallop_counted;
 use crate::sets::extend_reserved;
 use crate::union::CellUnion;
 use s2cell::CellId;
-use s2list::parent_of_family;
+use s2list::{Count, Counted, Looks, Uncounted, parent_of_family};
 use std::alloc::{AllocError, Global};
 use std::cmp::Ordering;
 use std::marker::Model;
@@ -58,7 +60,27 @@ impl CellUnion {
         requires put_ascends { IsStrictlyIncreasing put.now }
         ensures { IsTrue result ↔ Fits out.now put.now self.now.cells }
     {
-        fits_cells(self.cells(), out, put)
+        fits_cells(self.cells(), out, put, &mut Uncounted)
+    }
+
+    /// The same, with how often it looks at a cell of the list. If that has `n` cells, and `out` and `put` together
+    /// `m`, it looks at most `4 (m + 1) (k + 6)` times, for each `k` with `n` at most `(m + 1) 2^k`. If the list has a
+    /// cell, it looks at least once, and if the change fits, once for each cell of `out`. A count too large for a `u64`
+    /// is answered as the greatest `u64`.
+    pub fn can_apply_counted(&self, out: &[CellId], put: &[CellId]) -> Counted
+        requires out_ascends { IsStrictlyIncreasing out.now }
+        requires put_ascends { IsStrictlyIncreasing put.now }
+        ensures answer { IsTrue result.answer ↔ Fits out.now put.now self.now.cells }
+        ensures looks { FewForChange (length self.now.cells) (length out.now + length put.now) result.looks }
+        ensures least { IsTrue result.answer → length out.now ≤ result.looks }
+        ensures some { 0 < length self.now.cells → 0 < result.looks }
+    {
+        let mut count = Looks { looks: 0 };
+        let answer = fits_cells(self.cells(), out, put, &mut count);
+        Counted {
+            answer,
+            looks: count.looks,
+        }
     }
 
     /// Writes this list without `out` and with `put` into another union, which must have room for it and keeps that
@@ -72,9 +94,70 @@ impl CellUnion {
         ensures cells { into.new.cells ≡ applied out.now put.now self.now.cells }
         ensures room { into.new.room ≡ into.old.room }
     {
+        self.write_applied(out, put, into, &mut Uncounted);
+    }
+
+    /// The same, with how often it looks at a cell of this list: at least once at each, and at most `4 (m + 1) (k + 6)`
+    /// times more, if `out` and `put` together have `m` cells, for each `k` with at most `(m + 1) 2^k` cells in the
+    /// list. A count too large for a `u64` is answered as the greatest `u64`.
+    pub fn apply_into_counted(&self, out: &[CellId], put: &[CellId], into: &mut CellUnion) -> u64
+        requires fits { Fits out.now put.now self.now.cells }
+        requires room { length (applied out.now put.now self.now.cells) ≤ into.old.room }
+        ensures cells { into.new.cells ≡ applied out.now put.now self.now.cells }
+        ensures room { into.new.room ≡ into.old.room }
+        ensures looks { FewForChange (length self.now.cells) (length out.now + length put.now)
+            (result - length self.now.cells) }
+        ensures least { length self.now.cells ≤ result }
+    {
+        let _ = self.len();
+        let mut count = Looks { looks: 0 };
+        self.write_applied(out, put, into, &mut count);
+        count.looks
+    }
+
+    /// As `apply_into_counted`, for any counter.
+    fn write_applied<K: Count>(
+        &self,
+        out: &[CellId],
+        put: &[CellId],
+        into: &mut CellUnion,
+        count: &mut K,
+    )
+        requires fits { Fits out.now put.now self.now.cells }
+        requires room { length (applied out.now put.now self.now.cells) ≤ into.old.room }
+        requires count { K.looks count.old ≡ 0 }
+        ensures cells { into.new.cells ≡ applied out.now put.now self.now.cells }
+        ensures room { into.new.room ≡ into.old.room }
+        ensures looks { FewForChange (length self.now.cells) (length out.now + length put.now)
+            (K.looks count.new - length self.now.cells) }
+        ensures least { min (length self.now.cells) K.most ≤ K.looks count.new }
+    {
         let none = Vec::new(*into.cells.allocator());
         let room = mem::replace(&mut into.cells, none);
-        into.cells = applied_in(room, self.cells(), out, put);
+        into.cells = applied_in(room, self.cells(), out, put, count);
+    }
+}
+
+/// The cell of a list at an index. A change that is counted sees the cells of the list only through this call and
+/// `gallop_counted`.
+#[inline(always)]
+fn look<K: Count>(cells: &[CellId], at: usize, count: &mut K) -> CellId
+    requires { at < length cells.now }
+    ensures cell { result ≡ slice_index cells.now at }
+    ensures count { K.looks count.new ≡ min (K.looks count.old + 1) K.most }
+{
+    count.look();
+    cells[at]
+}
+
+/// Counts the looks of a search.
+#[inline(always)]
+fn count_looks<K: Count>(looks: u64, count: &mut K)
+    ensures looks { K.looks count.new ≤ K.looks count.old + looks }
+    ensures least { min (K.looks count.old) K.most ≤ K.looks count.new }
+{
+    for _ in 0..looks {
+        count.look();
     }
 }
 
@@ -82,23 +165,29 @@ impl CellUnion {
 ///
 /// The list is handed over and back: the copy of a run is several times as fast if the length of the list is the
 /// function's own and not behind a reference.
-fn applied_in(
+fn applied_in<K: Count>(
     mut list: Vec<CellId>,
     cells: &[CellId],
     out: &[CellId],
     put: &[CellId],
+    count: &mut K,
 ) -> Vec<CellId>
     requires local { IsLocal cells.now }
     requires fits { Fits out.now put.now cells.now }
     requires room { length (applied out.now put.now cells.now) ≤ vec_capacity list }
+    requires count { K.looks count.old ≡ 0 }
     ensures items { result.items ≡ applied out.now put.now cells.now }
     ensures capacity { vec_capacity result ≡ vec_capacity list }
+    ensures looks { FewForChange (length cells.now) (length out.now + length put.now)
+        (K.looks count.new - length cells.now) }
+    ensures least { min (length cells.now) K.most ≤ K.looks count.new }
 {
     list.clear();
     let mut merge = Merge::new(cells, out, put);
     loop {
-        list = with_cells(list, merge.run());
-        match merge.turn() {
+        let run = merge.run(count);
+        list = with_cells(list, run, count);
+        match merge.turn(count) {
             Turn::Write(cell) => list.push_reserved(cell),
             Turn::Skip => {}
             Turn::Misfit | Turn::End => return list,
@@ -106,33 +195,45 @@ fn applied_in(
     }
 }
 
-/// A list with cells after it, for which it has room, in the room that it has.
-fn with_cells(mut list: Vec<CellId>, cells: &[CellId]) -> Vec<CellId>
+/// A list with cells after it, for which it has room, in the room that it has. Looks at each once.
+fn with_cells<K: Count>(mut list: Vec<CellId>, cells: &[CellId], count: &mut K) -> Vec<CellId>
     requires { vec_len list + length cells.now ≤ vec_capacity list }
     ensures items { result.items ≡ list.items ++ cells.now }
     ensures capacity { vec_capacity result ≡ vec_capacity list }
+    ensures looks { K.looks count.new ≤ K.looks count.old + length cells.now }
+    ensures least { min (K.looks count.old + length cells.now) K.most ≤ K.looks count.new }
 {
     for k in 0..cells.len() {
-        list.push_reserved(cells[k]);
+        list.push_reserved(look(cells, k, count));
     }
     list
 }
 
 /// Whether the change fits the cells: the walk finds no misfit, and the cells that it gives are packed. Skips runs of
 /// cells that stay.
-fn fits_cells<'a>(cells: &'a [CellId], out: &'a [CellId], put: &'a [CellId]) -> bool
+fn fits_cells<'a, K: Count>(
+    cells: &'a [CellId],
+    out: &'a [CellId],
+    put: &'a [CellId],
+    count: &mut K,
+) -> bool
     requires local { IsLocal cells.now }
     requires out_ascends { IsStrictlyIncreasing out.now }
     requires put_ascends { IsStrictlyIncreasing put.now }
-    ensures { IsTrue result ↔ Fits out.now put.now cells.now }
+    requires count { K.looks count.old ≡ 0 }
+    ensures answer { IsTrue result ↔ Fits out.now put.now cells.now }
+    ensures looks { FewForChange (length cells.now) (length out.now + length put.now) (K.looks count.new) }
+    ensures least { IsTrue result → min (length out.now) K.most ≤ K.looks count.new }
+    ensures some { 0 < length cells.now → min 1 K.most ≤ K.looks count.new }
 {
     let mut merge = Merge::new(cells, out, put);
     let mut tail = Tail::new();
     loop {
-        if !tail.pass(merge.run()) {
+        let run = merge.run(count);
+        if !tail.pass(run, count) {
             return false;
         }
-        match merge.turn() {
+        match merge.turn(count) {
             Turn::Write(cell) => {
                 if !tail.takes(cell) {
                     return false;
@@ -189,21 +290,28 @@ impl<'a> Merge<'a> {
     }
 
     /// The cells of the list before the next one that is taken out or put in, which stay. The walk goes on after them.
-    pub(crate) fn run(&mut self) -> &'a [CellId]
+    /// The number of looks is logarithmic in theirs.
+    pub(crate) fn run<K: Count>(&mut self, count: &mut K) -> &'a [CellId]
         ensures keeps { Keeps result.now self.old self.new }
         ensures packed { IsPacked result.now }
+        ensures uses { Uses 0 0 (length result.now) self.old self.new }
+        ensures at_change { AtChange self.new }
+        ensures looks { (k : ℕ) → length result.now < 2 ^ k → K.looks count.new ≤ K.looks count.old + 4 * k + 13 }
+        ensures least { min (K.looks count.old) K.most ≤ K.looks count.new }
     {
         let next = first_id(self.out).min(first_id(self.put));
-        let len = gallop(self.cells, 0, next);
+        let found = gallop_counted(self.cells, 0, next);
+        count_looks(found.looks, count);
         let cells = self.cells;
-        self.cells = &cells[len..];
-        &cells[..len]
+        self.cells = &cells[found.at..];
+        &cells[..found.at]
     }
 
     /// The step if no cell of the list is left.
     fn turn_after_cells(&mut self) -> Turn
         requires { self.old.cells ≡ [] }
-        ensures { IsTurn result self.old self.new }
+        ensures turn { IsTurn result self.old self.new }
+        ensures takes { TakesOne result self.old self.new }
     {
         if let Some((&put, rest)) = self.put.split_first() {
             self.put = rest;
@@ -215,13 +323,18 @@ impl<'a> Merge<'a> {
         Turn::End
     }
 
-    /// Takes one step.
-    pub(crate) fn turn(&mut self) -> Turn
-        ensures { IsTurn result self.old self.new }
+    /// Takes one step. After a run it's one by a cell of the change.
+    pub(crate) fn turn<K: Count>(&mut self, count: &mut K) -> Turn
+        ensures turn { IsTurn result self.old self.new }
+        ensures takes { AtChange self.old → TakesOne result self.old self.new }
+        ensures looks { K.looks count.new ≤ K.looks count.old + 1 }
+        ensures least { min (K.looks count.old) K.most ≤ K.looks count.new }
+        ensures some { 0 < length self.old.cells → min (K.looks count.old + 1) K.most ≤ K.looks count.new }
     {
-        let Some((&cell, cells)) = self.cells.split_first() else {
+        if self.cells.is_empty() {
             return self.turn_after_cells();
-        };
+        }
+        let cell = look(self.cells, 0, count);
         match head_order(self.put, cell) {
             Ordering::Less => {
                 let put = self.put[0];
@@ -233,11 +346,11 @@ impl<'a> Merge<'a> {
                 Ordering::Less => Turn::Misfit,
                 Ordering::Equal => {
                     self.out = &self.out[1..];
-                    self.cells = cells;
+                    self.cells = &self.cells[1..];
                     Turn::Skip
                 }
                 Ordering::Greater => {
-                    self.cells = cells;
+                    self.cells = &self.cells[1..];
                     Turn::Write(cell)
                 }
             },
@@ -312,21 +425,24 @@ impl Tail {
 
     /// Whether the cells of a run of a list may come next, one after another; if so, they are passed. Only the first
     /// three of them can share leaves or make a family with those before; the others follow each other as in the list.
-    pub(crate) fn pass(&mut self, run: &[CellId]) -> bool
+    pub(crate) fn pass<K: Count>(&mut self, run: &[CellId], count: &mut K) -> bool
         requires packed { IsPacked run.now }
-        ensures { Passes (IsTrue result) self.old self.new run.now }
+        ensures passes { Passes (IsTrue result) self.old self.new run.now }
+        ensures looks { K.looks count.new ≤ K.looks count.old + 6 }
+        ensures least { min (K.looks count.old) K.most ≤ K.looks count.new }
+        ensures some { (IsTrue result → 0 < length run.now) → min (K.looks count.old + 1) K.most ≤ K.looks count.new }
     {
         for k in 0..run.len().min(3) {
-            let cell = run[k];
+            let cell = look(run, k, count);
             if !self.takes(cell) {
                 return false;
             }
             self.push(cell);
         }
         if run.len() > 3 {
-            self.push(run[run.len() - 3]);
-            self.push(run[run.len() - 2]);
-            self.push(run[run.len() - 1]);
+            self.push(look(run, run.len() - 3, count));
+            self.push(look(run, run.len() - 2, count));
+            self.push(look(run, run.len() - 1, count));
         }
         true
     }

@@ -139,7 +139,7 @@ pub(crate) fn gallop(cells: &[CellId], from: usize, mark: u64) -> usize
 ///
 /// Starts at `from` and leaps ahead, each leap eight times as long as the one before, and then searches what the last
 /// leap passed over. So the number of looks is logarithmic in how far it gets, however long the list is.
-fn gallop_counted(cells: &[CellId], from: usize, mark: u64) -> Found
+pub(crate) fn gallop_counted(cells: &[CellId], from: usize, mark: u64) -> Found
     requires ascends { IsStrictlyIncreasing cells.now }
     requires within { from ≤ length cells.now }
     requires below { (k : ℕ) → k < from → slice_index cells.now k < mark }

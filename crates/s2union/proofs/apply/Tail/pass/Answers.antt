@@ -3,28 +3,36 @@ use Rattle.std.proofs.Common.{sym, ◌∙◌, refl, subst, arith}
 use Rattle.s2union.proofs.Passing.{Passing, passing_more, passing_fails, passing_rest}
 use Rattle.s2union.proofs.apply.Tail.pass.Goals as goal
 
-pub returns-then-not-takes : goal.returns-then-not-takes
-returns-then-not-takes c = record {
+pub returns-then-not-takes-clause-passes : goal.returns-then-not-takes-clause-passes
+returns-then-not-takes-clause-passes g c = record {
   exact = λ back i p. (
     λ e. absurd (false≢true e),
-    λ q. absurd (passing_fails c.index-run-k.result c.loop-k.invariant.so_far (omega arith) c.index-run-k.is
+    λ q. absurd (passing_fails c.look-cell.result c.loop-k.invariant.so_far (omega arith) c.look-cell.ensures.cell
         (λ f. false≢true (sym c.if-not-takes.true ∙ c.takes.ensures.exact.1 f)) back i p q),
   );
   ends = λ back i p e. absurd (false≢true e);
 }
 
 pub loop-k-preserved : goal.loop-k-preserved
-loop-k-preserved c = record {
-  within = omega arith;
-  so_far = rw c.push.ensures (passing_more c.loop-k.invariant.so_far
-      (omega arith) c.index-run-k.is c.takes.ensures.is_cell (c.takes.ensures.exact.0 c.if-not-takes.false));
-}
+loop-k-preserved g c =
+    let v = c.loop-k.invariant in
+    let looks = v.looks in
+    let least = v.least in
+    let more = c.look-cell.ensures.count in
+    record {
+      within = omega arith;
+      so_far = rw c.push.ensures (passing_more v.so_far (omega arith) c.look-cell.ensures.cell
+          c.takes.ensures.is_cell (c.takes.ensures.exact.0 c.if-not-takes.false));
+      looks = omega arith;
+      least = omega arith;
+    }
 
-pub returns-then-run-gt3 : goal.returns-then-run-gt3
-returns-then-run-gt3 c =
+pub returns-then-run-gt3-clause-passes : goal.returns-then-run-gt3-clause-passes
+returns-then-run-gt3-clause-passes g c =
     let w = c.loop-k.invariant.within in
     let least = c.min-k-end.ensures in
     rw (c.push-then-run-gt3-3.ensures, c.push-then-run-gt3-2.ensures, c.push-then-run-gt3.ensures)
     (passing_rest _ _ _ _ refl (subst
     (Passing c.args.self.now c.loop-k.self c.args.run.now) (omega arith) c.loop-k.invariant.so_far) c.if-run-gt3.true
-    c.requires.packed c.index-run-run.is c.index-run-run-then-run-gt3.is c.index-run-run-then-run-gt3-2.is)
+    c.requires.packed c.look.ensures.cell c.look-then-run-gt3.ensures.cell
+    c.look-then-run-gt3-2.ensures.cell)
