@@ -88,7 +88,7 @@ module _ {W S : Type 0} (contents : W → Option (List ℕ)) (calls : W → Opti
     pub ends : ended_in moments ≡ ended
 
   -- What an observer saw of a run, if it keeps a list. After `Output` each line that was carried out was seen to begin,
-  -- and each but the last to end: the last too, if its answer was written and no flush after it failed.
+  -- and each but the last to end; the last may have ended only if its answer was written.
   abbrev pub Ordered : {old new : Known} → Ran old new → Option (List (Moment W S)) → Option (List (Moment W S)) →
       Result Tally RunFault → Type 0
   Ordered ran old new (Ok tally) = Adds old new

@@ -34,7 +34,7 @@ text (3/021).
   innerof r s LEVEL [FACE I0 I1 J0 J1]     holds those that lie in it
   show r                                   lists its cells
   count r                                  counts its cells and their leaves
-  denorm r MIN MOD                         lists its cells, cut to levels MIN, MIN + MOD, ..
+  denorm r MIN MOD                         lists its cells, cut to levels MIN, MIN + MOD, .. or 30
   has r CELL                               yes or no: it has all leaves of the cell
   touches r CELL                           yes or no: it has a leaf of the cell
   covers r s                               yes or no: it has all leaves of register s

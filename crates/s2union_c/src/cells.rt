@@ -67,7 +67,7 @@ pub extern "C" fn s2u_face(id: u64) -> i32
     }
 }
 
-/// The cell of the level that contains the cell. 0 if the number is not a cell, or its own level is lower.
+/// The cell of the level that contains the cell. 0 if the number is not a cell, or the level is deeper than its own.
 #[unsafe(no_mangle)]
 pub extern "C" fn s2u_parent(id: u64, level: u32) -> u64
     ensures parent { IsCell id → level ≤ level_of id → result ≡ parent_of id level }
