@@ -3,8 +3,8 @@
 Each is tried by the functions that it changes. Only these and those that they call are checked, over the libraries that
 `rt ci` has just proved. Mutants of different functions are made in one copy of the crate and checked together, since
 what is proved of a function says nothing of the text of another; but one that calls a function that isn't proved is
-checked again alone. The next check of the copy begins with what this one proved. A mutant that changes no function, or
-whose function is proved with it, is checked with the whole crate.
+checked again without that one. The next check of the copy begins with what this one proved. A mutant that changes no
+function, or whose function is proved with it, is checked with the whole crate.
 
 `.ci/run` tries those that name their function, which are those that were asked for, and then some of the others, in an
 order that the commit's hash gives, for BUDGET seconds of processor time. --all tries all, also those in must-fail/,
@@ -52,6 +52,18 @@ def mutants(*folders):
     return [Mutant(file) for file in sorted(files)]
 
 
+def rounds(mutants):
+    """The mutants in groups, each of mutants of different functions."""
+    while mutants:
+        together, functions = [], set()
+        for mutant in mutants:
+            if functions.isdisjoint(mutant.functions):
+                together.append(mutant)
+                functions.update(mutant.functions)
+        yield together
+        mutants = [mutant for mutant in mutants if mutant not in together]
+
+
 class Copy:
     """A copy of a crate, in which mutants are made."""
 
@@ -67,18 +79,20 @@ class Copy:
         found, left = [], [mutant for mutant in waiting if not mutant.functions]
         waiting = [mutant for mutant in waiting if mutant.functions]
         while waiting:
-            together, functions = [], set()
-            for mutant in waiting:
-                if functions.isdisjoint(mutant.functions):
-                    together.append(mutant)
-                    functions.update(mutant.functions)
-            waiting = [mutant for mutant in waiting if mutant not in together]
-            verdicts = self.checked(together) or {}
-            for each in [it for it in together if not verdicts.get(it)]:
-                verdicts.update(self.checked([each]) or {each: None})
+            verdicts = self.judged(waiting)
             left += [it for it, verdict in verdicts.items() if verdict != REFUSED and not it.is_named]
-            found += [it.says(verdict or NOT_TRIED) for it, verdict in verdicts.items() if it not in left]
+            found += [it.says(verdict) for it, verdict in verdicts.items() if it not in left]
+            waiting = [mutant for mutant in waiting if mutant not in verdicts]
         return found + [self.alone(mutant) for mutant in left]
+
+    def judged(self, waiting):
+        """The verdicts on those mutants that could be judged together; on each by itself, if there is none."""
+        verdicts = {}
+        for together in rounds(waiting):
+            verdicts.update(self.checked(together) or {})
+        verdicts = {it: verdict for it, verdict in verdicts.items() if verdict}
+        return verdicts or {it: verdict or NOT_TRIED for each in waiting
+                            for it, verdict in (self.checked([each]) or {each: None}).items()}
 
     def checked(self, together):
         """What the functions of mutants of different functions say of each, or None if the check came to no end."""
