@@ -80,7 +80,7 @@ loop-i-preserved c =
           let e = w.index-out-i.is ∙ get_or_default_zero out i w.index-out-i.result m in
           let all : take i put ≡ take (i + 1) put =
           take_all i put (omega (arith, w.if-i-put.true))
-              ∙ sym (take_all (i + 1) put (omega (arith, w.if-i-put.true))) in
+          ∙ sym (take_all (i + 1) put (omega (arith, w.if-i-put.true))) in
           rw w.cells-is (record {
             items = w.take_out.ensures.items ∙ takes_next up f i i is w.index-out-i.result m e
                 ∙ ap (λ (xs : List ℕ). applied (take (i + 1) out) xs old) all;
@@ -91,7 +91,7 @@ loop-i-preserved c =
           let e = w.index-put-i.is ∙ get_or_default_zero put i w.index-put-i.result m in
           let all : take i out ≡ take (i + 1) out =
           take_all i out (omega (arith, w.if-i-out.true))
-              ∙ sym (take_all (i + 1) out (omega (arith, w.if-i-out.true))) in
+          ∙ sym (take_all (i + 1) out (omega (arith, w.if-i-out.true))) in
           rw w.cells-is (record {
             items = w.put_in.ensures.items ∙ puts_next up f i i is w.index-put-i.result m e
                 ∙ ap (λ (xs : List ℕ). applied xs (take (i + 1) put) old) all;
