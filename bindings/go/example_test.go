@@ -39,6 +39,16 @@ func ExampleCellUnionFromDifference() {
 	// true false true
 }
 
+func ExampleCellUnionFromUnion() {
+	var quarters []s2union.CellUnion
+	for _, token := range []string{"04", "0c", "14", "1c"} {
+		quarter, _ := s2union.CellUnionFromTokens(token)
+		quarters = append(quarters, quarter)
+	}
+	fmt.Println(s2union.CellUnionFromUnion(quarters...), s2union.CellUnionFromUnion(quarters[1:]...))
+	// Output: 1 0c 14 1c
+}
+
 func ExampleCellUnion_ContainsCellID() {
 	lawn, _ := s2union.CellUnionFromTokens("04 0c 1c")
 	tree, _ := s2union.CellIDFromToken("0401")

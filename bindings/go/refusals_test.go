@@ -162,6 +162,32 @@ func TestUnionsNeverChange(t *testing.T) {
 	all.Wait()
 }
 
+// scattered is a union of some cells on two faces, which a number picks; the empty union for each fifth one.
+func scattered(number int) CellUnion {
+	var ids []CellID
+	for k := 0; k < number%5*3; k++ {
+		place := int(uint32(16*number+k) * 0x9e3779b9 >> 2)
+		leaf := must(s2union.CellIDFromFaceIJ(place%2, place, int(uint32(place)*13>>2)))
+		ids = append(ids, leaf.Parent(3+place%4))
+	}
+	return must(s2union.NewCellUnion(ids...))
+}
+
+func TestTheUnionOfMany(t *testing.T) {
+	var unions []CellUnion
+	var inPairs CellUnion
+	for count := 0; count <= 40; count++ {
+		check(t, s2union.CellUnionFromUnion(unions...).Equal(inPairs), "of many, as in pairs")
+		next := scattered(count + 1)
+		unions, inPairs = append(unions, next), s2union.CellUnionFromUnion(inPairs, next)
+	}
+	check(t, inPairs.Len() > 50, "there are many cells")
+	check(t, s2union.CellUnionFromUnion(make([]CellUnion, 40)...).Len() == 0, "of empty unions")
+	for k, union := range unions {
+		check(t, union.Equal(scattered(k+1)), "what is given stays")
+	}
+}
+
 func TestFiles(t *testing.T) {
 	union := must(s2union.CellUnionFromTokens("04 0c"))
 	file := must(union.MarshalBinary())

@@ -84,20 +84,23 @@ func RangeUnion(first, last CellID) (CellUnion, error) {
 // WholeSphere is the union of all leaves.
 func WholeSphere() CellUnion { return always(RangeUnion(firstFace, lastFace)) }
 
-// CellUnionFromUnion is the union of unions.
+// CellUnionFromUnion is the union of any number of unions, in one call: up to 32 are merged in pairs, and the cells of
+// more are sorted together. If there are more than two, it takes memory for four times their cells.
 func CellUnionFromUnion(unions ...CellUnion) CellUnion {
-	if len(unions) == 2 {
+	switch len(unions) {
+	case 0:
+		return CellUnion{}
+	case 1:
+		return unions[0]
+	case 2:
 		x, y := unions[0], unions[1]
 		return x.with(y, len(x.ids)+len(y.ids), func(xs *C.uint64_t, nx C.size_t, ys *C.uint64_t, ny C.size_t,
 			out *C.uint64_t, room C.size_t, length *C.size_t) C.int32_t {
 			return C.s2u_union(xs, nx, ys, ny, out, room, length)
 		})
+	default:
+		return unionOfMany(unions)
 	}
-	var all []CellID
-	for _, union := range unions {
-		all = append(all, union.ids...)
-	}
-	return always(normalized(all))
 }
 
 // CellUnionFromIntersection is the union of the leaves that two unions share.
@@ -354,6 +357,24 @@ func (cu CellUnion) with(other CellUnion, room int, call func(xs *C.uint64_t, nx
 	ys, ny := place(other.ids)
 	return always(made(room, func(out *C.uint64_t, room C.size_t, length *C.size_t) C.int32_t {
 		return call(xs, nx, ys, ny, out, room, length)
+	}))
+}
+
+// unionOfMany is the union of unions, of which there is at least one: their lists go to the library one after another.
+func unionOfMany(unions []CellUnion) CellUnion {
+	count := 0
+	for _, union := range unions {
+		count += len(union.ids)
+	}
+	ids, ends := make([]CellID, 0, count), make([]C.size_t, len(unions))
+	for k, union := range unions {
+		ids = append(ids, union.ids...)
+		ends[k] = C.size_t(len(ids))
+	}
+	at, n := place(ids)
+	work, workRoom := place(make([]CellID, 2*count))
+	return always(made(count, func(out *C.uint64_t, room C.size_t, length *C.size_t) C.int32_t {
+		return C.s2u_union_of_many(at, n, &ends[0], C.size_t(len(ends)), work, workRoom, out, room, length)
 	}))
 }
 

@@ -147,7 +147,7 @@ var questions = map[string]func(given) string{
 	"cells_at":     func(g given) string { return shown(g.union(0).CellIDsAt(g.cell(1))) },
 	"range":        func(g given) string { return shown(s2union.RangeUnion(g.cell(0), g.cell(1))) },
 	"leaves":       func(g given) string { return shown(s2union.CellUnionFromRange(g.cell(0), g.cell(1))) },
-	"union":        func(g given) string { return shown(s2union.CellUnionFromUnion(g.union(0), g.union(1))) },
+	"union":        union,
 	"intersection": func(g given) string { return shown(s2union.CellUnionFromIntersection(g.union(0), g.union(1))) },
 	"difference":   func(g given) string { return shown(s2union.CellUnionFromDifference(g.union(0), g.union(1))) },
 	"outer":        func(g given) string { return shown(g.union(0).Covering(g.numbers(1)[0], most)) },
@@ -243,6 +243,11 @@ func level(g given) string {
 		return "no level"
 	}
 	return shown(id.Level())
+}
+
+func union(g given) string {
+	x, y := g.union(0), g.union(1)
+	return same(shown(s2union.CellUnionFromUnion(x, y)), shown(s2union.CellUnionFromUnion(x, CellUnion{}, y)))
 }
 
 // twice asks a union and its file the same.

@@ -167,8 +167,36 @@ pub fn roomy<T>(room: usize) -> Result<Vec<T>, Error> {
     Ok(made)
 }
 
+/// Puts elements at the end of a list.
+pub fn append<T: Copy>(list: &mut Vec<T>, more: &[T]) -> Result<(), Error> {
+    list.try_reserve(more.len()).map_err(|_| Error::Memory)?;
+    list.extend_from_slice(more);
+    Ok(())
+}
+
 extern "C" {
+    fn s2u_union_of_many(
+        ids: *const u64,
+        n: usize,
+        ends: *const usize,
+        lists: usize,
+        work: *mut u64,
+        work_room: usize,
+        out: *mut u64,
+        room: usize,
+        len: *mut usize,
+    ) -> i32;
     fn s2u_normalise(ids: *mut u64, n: usize, len: *mut usize) -> i32;
+}
+
+/// The union of lists that lie one after another, each of which ends at the next of `ends`.
+pub fn union_of_many(ids: &[u64], ends: &[usize]) -> Result<Vec<u64>, Error> {
+    let mut work = roomy(2 * ids.len())?;
+    let (at, size) = (work.as_mut_ptr(), work.capacity());
+    // SAFETY: as above.
+    listed(ids.len(), |out, room, len| unsafe {
+        s2u_union_of_many(ids.as_ptr(), ids.len(), ends.as_ptr(), ends.len(), at, size, out, room, len)
+    })
 }
 
 /// Normalizes a list in place.

@@ -16,10 +16,10 @@
 //! ```
 //!
 //! A [`CellId`] is always a cell, and a [`CellUnion`] is always normalized and never changes, so only what comes from
-//! outside can be refused: numbers, lists, texts, files, levels. If there is no memory, the methods `union`,
+//! outside can be refused: numbers, lists, texts, files, levels. If there is no memory, `union`, `union_of`,
 //! `intersection`, `difference` and `symmetric_difference` answer [`Error::Memory`]; the operators `|`, `&`, `-` and
-//! `^`, and texts, panic; `collect`, and calls for many cells, end the program, as [`Vec`] does. There is no geometry:
-//! no points, areas or bounds.
+//! `^`, `collect` of unions, and texts, panic; `collect` of cells, and calls for many cells, end the program, as
+//! [`Vec`] does. There is no geometry: no points, areas or bounds.
 #![warn(missing_docs)]
 
 mod calls;

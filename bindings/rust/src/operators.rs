@@ -12,7 +12,7 @@ macro_rules! operator {
         impl $trait for &CellUnion {
             type Output = CellUnion;
             fn $name(self, other: &CellUnion) -> CellUnion {
-                self.$method(other).unwrap_or_else(|error: Error| panic!("{error}"))
+                always(self.$method(other))
             }
         }
         impl $trait for CellUnion {
@@ -28,6 +28,11 @@ operator!(BitAnd, bitand, intersection);
 operator!(Sub, sub, difference);
 operator!(BitXor, bitxor, symmetric_difference);
 
+/// What a call made that is refused only if there is no memory.
+fn always(made: Result<CellUnion, Error>) -> CellUnion {
+    made.unwrap_or_else(|error| panic!("{error}"))
+}
+
 /// Takes memory as [`Vec`] does.
 impl FromIterator<CellId> for CellUnion {
     fn from_iter<I: IntoIterator<Item = CellId>>(cells: I) -> CellUnion {
@@ -35,17 +40,19 @@ impl FromIterator<CellId> for CellUnion {
     }
 }
 
-/// The union of unions, made at once.
+/// The union of unions, made at once. Panics if there is no memory, where [`CellUnion::union_of`] answers
+/// [`Error::Memory`].
 impl<'a> FromIterator<&'a CellUnion> for CellUnion {
     fn from_iter<I: IntoIterator<Item = &'a CellUnion>>(unions: I) -> CellUnion {
-        unions.into_iter().flatten().collect()
+        always(CellUnion::union_of(unions))
     }
 }
 
-/// The union of unions, made at once.
+/// The union of unions, made at once. Panics if there is no memory, where [`CellUnion::union_of`] answers
+/// [`Error::Memory`].
 impl FromIterator<CellUnion> for CellUnion {
     fn from_iter<I: IntoIterator<Item = CellUnion>>(unions: I) -> CellUnion {
-        unions.into_iter().flatten().collect()
+        always(CellUnion::union_of(unions))
     }
 }
 

@@ -1,3 +1,4 @@
+use std::borrow::Borrow;
 use std::fmt;
 use std::str::FromStr;
 
@@ -175,6 +176,30 @@ impl CellUnion {
     /// The leaves of both. [`Error::Memory`].
     pub fn union(&self, other: &CellUnion) -> Result<CellUnion, Error> {
         CellUnion::made(calls::union(self.as_ref(), other.as_ref()))
+    }
+
+    /// The leaves of any of many unions, in one call: up to 32 are merged in pairs, and the cells of more are sorted
+    /// together. It takes memory for about four times their cells. [`Error::Memory`], where `collect` panics.
+    ///
+    /// ```
+    /// use s2union::CellUnion;
+    ///
+    /// let quarters: Vec<CellUnion> = ["04", "0c", "14", "1c"].map(|token| token.parse().unwrap()).into();
+    /// assert_eq!(CellUnion::union_of(&quarters)?.to_string(), "1");
+    /// assert_eq!(CellUnion::union_of(&quarters[1..])?.to_string(), "0c 14 1c");
+    /// # Ok::<(), s2union::Error>(())
+    /// ```
+    pub fn union_of<I>(unions: I) -> Result<CellUnion, Error>
+    where
+        I: IntoIterator,
+        I::Item: Borrow<CellUnion>,
+    {
+        let (mut ids, mut ends) = (Vec::new(), Vec::new());
+        for union in unions {
+            calls::append(&mut ids, union.borrow().as_ref())?;
+            calls::append(&mut ends, &[ids.len()])?;
+        }
+        CellUnion::made(calls::union_of_many(&ids, &ends))
     }
 
     /// The leaves that both have. [`Error::Memory`].

@@ -103,6 +103,31 @@ fn as_collections() {
     assert_eq!(park.into_cells(), [cell("04"), cell("0c"), cell("1c")]);
 }
 
+/// A union of some cells on two faces, which a number picks; the empty union for each fifth one.
+fn scattered(number: u32) -> CellUnion {
+    let cells = (0..number % 5 * 3).map(|k| {
+        let place = (16 * number + k).wrapping_mul(0x9e37_79b9) >> 2;
+        let leaf = CellId::from_face_ij(place % 2, place, place.wrapping_mul(13) >> 2).unwrap();
+        leaf.parent(3 + place % 4).unwrap()
+    });
+    cells.collect()
+}
+
+#[test]
+fn the_union_of_many() {
+    let (mut unions, mut in_pairs) = (Vec::new(), CellUnion::new());
+    for count in 0..=40 {
+        assert_eq!(CellUnion::union_of(&unions).as_ref(), Ok(&in_pairs), "{count}");
+        assert_eq!(unions.iter().collect::<CellUnion>(), in_pairs);
+        assert_eq!(unions.iter().cloned().collect::<CellUnion>(), in_pairs);
+        let next = scattered(count + 1);
+        in_pairs = in_pairs.union(&next).unwrap();
+        unions.push(next);
+    }
+    assert!(in_pairs.len() > 50);
+    assert_eq!(CellUnion::union_of(vec![CellUnion::new(); 40]), Ok(CellUnion::new()));
+}
+
 #[test]
 fn shared_by_threads() {
     let park = union("04 0c 1c");
