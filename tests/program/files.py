@@ -69,9 +69,9 @@ class UnionFiles(unittest.TestCase):
         self.assertEqual(ran("run", "--limit", "1000000", "--dir", self.folder, script=script), (1, answers, b""))
 
     def test_a_file_longer_than_any_union_is_not_read_whole(self):
-        # 300 MB without a block on the disk, which begin as a union file does.
+        # 3 GB without a block on the disk, which begin as a union file does.
         self.write("long", b"\x01")
-        os.truncate(self.path("long"), 300_000_000)
+        os.truncate(self.path("long"), 3_000_000_000)
         self.checks("long", "error format")
         words = [PROGRAM, "run", "--dir", self.folder]
         lines = ((b"add a 3\n", FACE), (b"load a long\n", b"error format\n"), (b"restore long\n", b"error session\n"),

@@ -39,6 +39,13 @@ class Unions(unittest.TestCase):
         for tokens, least, modulus, want in CUT:
             self.assertEqual(said(tokens, "", f"denorm a {least} {modulus}"), shown(want))
 
+    def test_a_million_cells_are_listed_and_one_more_is_refused(self):
+        for leaves in (1_000_000, 1_000_001):
+            script = f"range a {1:016x} {2 * leaves - 1:016x}\ndenorm a 30 1\n"
+            out = ran("run", script=script.encode())[1].decode().splitlines()[1:]
+            cells = [f"{2 * leaf + 1:016x}" for leaf in range(leaves)]
+            self.assertTrue(out == ([*cells, "end"] if leaves == 1_000_000 else ["error too-many"]), out[:3])
+
     def test_how_many_cells_of_a_level(self):
         self.assertEqual(len(said("1", "", "denorm a 7 1")), 4**7 + 1)
         for level in (10, 30):
