@@ -13,7 +13,7 @@ use Rattle.std.proofs.lemmas.List.Kept.{AllPairs-from_increasing}
 use Rattle.std.proofs.lemmas.List.Sorted.{searched}
 use Rattle.std.specs.List.{insert, remove, copy_within}
 use Rattle.std.specs.List.Sorted.{IsStrictlyIncreasing, IsBinarySearchResult}
-use Rattle.s2list.specs.Working.Search.{Brackets}
+use Rattle.s2list.specs.Search.{Brackets}
 use Rattle.s2union.specs.Apply.{applied, cells_without, has, insert_cell, insert_cells, Fits}
 use Rattle.s2union.proofs.CellLists.{AllAbove, IsAscending, has-applied, has-cells_without}
 use Rattle.s2union.proofs.CellLists.{IsAscending-applied, IsAscending-cells_without, same_cells}

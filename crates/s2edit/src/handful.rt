@@ -2,7 +2,7 @@
 ghost use Rattle.std.specs.Prelude.{◌≡◌, ◌≤◌, ◌<◌, ℕ, [], ◌∷◌, true, false, length, slice_get, Some};
 ghost use Rattle.std.specs.List.Sorted.{IsStrictlyIncreasing};
 ghost use Rattle.std.specs.Vec.{vec_len, vec_capacity};
-ghost use Rattle.s2list.specs.Working.Search.{Brackets};
+ghost use Rattle.s2list.specs.Search.{Brackets};
 ghost use Rattle.s2list.specs.Union.{Union};
 ghost use Rattle.s2union.specs.Apply.{applied, cells_without, has, insert_cell, Fits};
 ghost use Rattle.s2edit.specs.Diff.{FitsList};

@@ -1,5 +1,5 @@
 -- The place of a leaf among cells in order, and what a local list holds.
-use Rattle.std.proofs.Common.{◌≡◌, ℕ, ◌+◌, ◌-◌, ◌*◌, ◌<◌, ◌≤◌, sym, ◌∙◌, ap, arith, List, length, get_or, All, max}
+use Rattle.std.proofs.Common.{◌≡◌, ℕ, ◌+◌, ◌-◌, ◌/◌, ◌<◌, ◌≤◌, sym, ◌∙◌, ap, arith, List, length, get_or, All, max}
 use Rattle.std.proofs.Math.Logic.{⊎_elim}
 use Rattle.std.proofs.lemmas.Bool.{cases_lt, false≢true}
 use Rattle.s2cell.specs.Cell.{IsCell, level_of, size_of, first_leaf, covers, IsInside}
@@ -7,8 +7,9 @@ use Rattle.s2cell.proofs.CellLemmas.{cell_leaves}
 use Rattle.s2cell.proofs.Leaves.{Within, covers_there, covers_from}
 use Rattle.s2list.specs.Union.{has_leaf, IsLocal, IsWithin, ShareSome}
 use Rattle.std.specs.List.Sorted.{IsStrictlyIncreasing}
-use Rattle.s2list.specs.Packed.{IsPacked, FirstEndBy}
-use Rattle.s2list.specs.Working.Search.{Brackets}
+use Rattle.s2list.specs.Packed.{IsPacked, FirstEndBy, EndsAfter}
+use Rattle.s2list.specs.Search.{Brackets}
+use Rattle.s2list.proofs.Galloping.{rises}
 use Rattle.s2list.proofs.Normal.{holder, family, all_held, leaf_to}
 use Rattle.s2list.proofs.PackedLocal.{place, local_from_packed}
 use Rattle.s2list.proofs.Checking.{packed_from_local, member_at}
@@ -40,40 +41,49 @@ pub ended_to : (u : List ℕ) (i lo : ℕ) → IsPacked u → i < length u →
     first_leaf (get_or u i 0) + size_of (get_or u i 0) ≤ lo → FirstEndBy u (i + 1) lo
 ended_to u i lo packed h le k l = let e = ends_later u k i packed (omega arith) h in omega arith
 
--- of the cells with their middle before a leaf all but the last end by it
-pub ended_before : (u : List ℕ) (lo at k : ℕ) → IsPacked u → Brackets u (2 * lo) at at → k + 1 < at →
-    first_leaf (get_or u k 0) + size_of (get_or u k 0) ≤ lo
-ended_before u lo at k p b h =
-    let w = b.within in
-    let c : first_leaf (get_or u k 0) + size_of (get_or u k 0) ≤ first_leaf (get_or u (at - 1) 0) =
-    p.chain k (at - 1) 0 (omega arith) (omega arith) in
-    let m = (cell_leaves (get_or u (at - 1) 0) (p.cells (at - 1) 0 (omega arith))).middle in
-    let l = b.below (at - 1) (omega arith) in
-    omega arith
+-- where the first number isn't below a mark, none is
+pub none_below : {u : List ℕ} (mark : ℕ) → IsStrictlyIncreasing u → ((0 < length u) × (get_or u 0 0 < mark) → ⊥) →
+    Brackets u mark 0 0
+none_below {u} mark up none = record {
+  order = omega arith;
+  within = omega arith;
+  below = λ k h. absurd (omega arith);
+  rest = λ k a b. ⊎_elim
+      (λ (l : get_or u 0 0 < mark). absurd (none (omega arith, l)))
+      (λ (l : mark ≤ get_or u 0 0). let c = rises u 0 k up a b in omega arith)
+      (cases_lt (get_or u 0 0) mark);
+}
 
--- and the others end after it
-pub ends_after : (u : List ℕ) (lo at : ℕ) → IsPacked u → Brackets u (2 * lo) at at → at < length u →
-    lo < first_leaf (get_or u at 0) + size_of (get_or u at 0)
-ends_after u lo at p b h =
-    let c = cell_leaves (get_or u at 0) (p.cells at 0 h) in
-    let m = c.middle in
-    let s = c.some in
-    let r = b.rest at (omega arith) h in
-    omega arith
+-- the cells that end by half of a mark are below it, and of the others only the first may be
+pub bracketed : {u : List ℕ} (mark at : ℕ) {next : ℕ} → IsPacked u → at ≤ length u → FirstEndBy u at (mark / 2) →
+    EndsAfter u at (mark / 2) → at ≤ next → next ≤ at + 1 → next ≤ length u → (at < next → get_or u at 0 < mark) →
+    (next ≤ at → at < length u → get_or u at 0 < mark → ⊥) → Brackets u mark next next
+bracketed {u} mark at {next} p in_u ended after from to within below above = record {
+  order = omega arith;
+  within = within;
+  below = λ k h.
+      let m = (cell_leaves (get_or u k 0) (p.cells k 0 (omega arith))).middle in
+      let s = (cell_leaves (get_or u k 0) (p.cells k 0 (omega arith))).some in
+      ⊎_elim
+      (λ (a : k < at). let e = ended k a in omega arith)
+      (λ (a : at ≤ k). let e : k ≡ at = omega arith in rw e (below (omega arith)))
+      (cases_lt k at);
+  rest = λ k a b.
+      let m = (cell_leaves (get_or u k 0) (p.cells k 0 b)).middle in
+      ⊎_elim
+      (λ (h : at < k).
+      let c : first_leaf (get_or u at 0) + size_of (get_or u at 0) ≤ first_leaf (get_or u k 0) = p.chain at k 0 h b in
+      let e = after (omega arith) in
+      omega arith)
+      (λ (h : k ≤ at). let e : k ≡ at = omega arith in ⊎_elim
+      (λ (l : get_or u at 0 < mark). absurd (above (omega arith) (omega arith) l))
+      (λ (l : mark ≤ get_or u at 0). rw e l)
+      (cases_lt (get_or u at 0) mark))
+      (cases_lt at k);
+}
 
 pub ascends : (u : List ℕ) → IsPacked u → IsStrictlyIncreasing u
 ascends u p = (local_from_packed u p).ascending
-
--- the last of them ends by the leaf, or was known to
-pub ended_all : (u : List ℕ) (lo from at : ℕ) → IsPacked u → FirstEndBy u from lo → from ≤ at → Brackets u (2 * lo)
-    at at → (from < at → first_leaf (get_or u (at - 1) 0) + size_of (get_or u (at - 1) 0) ≤ lo) → FirstEndBy u at lo
-ended_all u lo from at p ended f b last k h =
-    ⊎_elim
-    (λ (a : k < from). ended k a)
-    (λ (a : from ≤ k). ⊎_elim
-    (λ (l : k + 1 < at). ended_before u lo at k p b l)
-    (λ (l : at ≤ k + 1). let e : k ≡ at - 1 = omega arith in rw e (last (omega arith))) (cases_lt (k + 1) at))
-    (cases_lt k from)
 
 -- ---- what a local list holds
 

@@ -1,10 +1,10 @@
 -- The place of an identifier in an ascending list of cells.
-use Rattle.std.proofs.Common.{◌≡◌, ℕ, ◌+◌, ◌-◌, ◌*◌, ◌<◌, ◌≤◌, refl, subst, arith, List, length, get_or, ◌⊎◌, inl, inr}
+use Rattle.std.proofs.Common.{◌≡◌, ℕ, ◌+◌, ◌-◌, ◌*◌, ◌<◌, ◌≤◌, refl, arith, List, length, get_or, ◌⊎◌, inl, inr}
 use Rattle.std.proofs.Math.Logic.{⊎_elim}
 use Rattle.std.proofs.lemmas.Bool.{cases_lt}
 use Rattle.std.proofs.lemmas.List.Kept.{AllPairs-from_increasing}
 use Rattle.std.specs.List.Sorted.{IsStrictlyIncreasing}
-use Rattle.s2list.specs.Working.Search.{Brackets}
+use Rattle.s2list.specs.Search.{Brackets}
 
 -- cells are above those before them
 pub rises : (u : List ℕ) (i j : ℕ) → IsStrictlyIncreasing u → i ≤ j → j < length u → get_or u i 0 ≤ get_or u j 0
@@ -14,47 +14,29 @@ rises u i j up h l =
     (λ (a : j ≤ i). let e : i ≡ j = omega arith in rw e (omega arith))
     (cases_lt i j)
 
--- the place of `mark` is from `base` to `base + size`, and no less than `low`
-pub record Seeking (u : List ℕ) (mark low base size : ℕ) : Type 0 where
-  pub from : low ≤ base
-  pub brackets : Brackets u mark base (base + size)
-
-pub seeking_all : (u : List ℕ) (mark low high : ℕ) → Brackets u mark low high → Seeking u mark low low (high - low)
-seeking_all u mark low high b =
-    let o = b.order in
-    let e : high ≡ low + (high - low) = omega arith in
-    record { from = omega arith; brackets = subst (Brackets u mark low) e b }
-
 -- all cells up to one that is below are below
-pub seeking_up : {u : List ℕ} {mark low base size : ℕ} (m less : ℕ) → IsStrictlyIncreasing u → Seeking u mark low base
-    size → 0 < m → m ≤ size → less ≡ size - m → get_or u (base + (m - 1)) 0 < mark → Seeking u mark low (base + m) less
-seeking_up {u} {base} {size} m less up s z h el e =
-    let f = s.from in
-    let w = s.brackets.within in
-    let same : base + size ≡ (base + m) + less = omega arith in
+seeking_up : {u : List ℕ} {mark base size : ℕ} (m less : ℕ) → IsStrictlyIncreasing u →
+    Brackets u mark base (base + size) → 0 < m → m ≤ size → less ≡ size - m → get_or u (base + (m - 1)) 0 < mark →
+    Brackets u mark (base + m) (base + m + less)
+seeking_up {u} {base} {size} m less up b z h el e =
+    let w = b.within in
     record {
-      from = omega arith;
-      brackets = record {
-        order = omega arith;
-        within = omega arith;
-        below = λ k l. let a = rises u k (base + (m - 1)) up (omega arith) (omega arith) in omega arith;
-        rest = λ k a b. s.brackets.rest k (omega arith) b;
-      };
+      order = omega arith;
+      within = omega arith;
+      below = λ k l. let a = rises u k (base + (m - 1)) up (omega arith) (omega arith) in omega arith;
+      rest = λ k a c. b.rest k (omega arith) c;
     }
 
 -- all cells from one on that is not are not
-pub seeking_down : {u : List ℕ} {mark low base size : ℕ} (m : ℕ) → IsStrictlyIncreasing u → Seeking u mark
-    low base size → m < size → mark ≤ get_or u (base + m) 0 → (n : ℕ) → m ≤ n → n ≤ size → Seeking u mark low base n
-seeking_down {u} {base} m up s h e n a b =
-    let w = s.brackets.within in
+seeking_down : {u : List ℕ} {mark base size : ℕ} (m : ℕ) → IsStrictlyIncreasing u → Brackets u mark base (base + size) →
+    m < size → mark ≤ get_or u (base + m) 0 → (n : ℕ) → m ≤ n → n ≤ size → Brackets u mark base (base + n)
+seeking_down {u} {base} m up b h e n a c =
+    let w = b.within in
     record {
-      from = s.from;
-      brackets = record {
-        order = omega arith;
-        within = omega arith;
-        below = s.brackets.below;
-        rest = λ k l g. let c = rises u (base + m) k up (omega arith) g in omega arith;
-      };
+      order = omega arith;
+      within = omega arith;
+      below = b.below;
+      rest = λ k l g. let d = rises u (base + m) k up (omega arith) g in omega arith;
     }
 
 -- what one look at a cell says
@@ -82,12 +64,13 @@ small x mark s (inl a) = let z = a.0 in omega arith
 small x mark s (inr a) = let z = a.0 in omega arith
 
 -- three looks leave a quarter
-pub seeking_quarter : (u : List ℕ) (mark low base size q s t r : ℕ) →
-    IsStrictlyIncreasing u → Seeking u mark low base size →
+pub seeking_quarter : (u : List ℕ) (mark base size q s t r : ℕ) →
+    IsStrictlyIncreasing u → Brackets u mark base (base + size) →
     0 < q → 4 * q ≤ size → Look (get_or u (base + (q - 1)) 0) mark s → Look (get_or u (base + (2 * q - 1)) 0) mark t →
-    Look (get_or u (base + (3 * q - 1)) 0) mark r → Seeking u mark low (base + q * ((s + t) + r)) (size - 3 * q)
-seeking_quarter u mark low base size q s t r p f z h a b c =
-    let w = f.brackets.within in
+    Look (get_or u (base + (3 * q - 1)) 0) mark r →
+    Brackets u mark (base + q * ((s + t) + r)) (base + q * ((s + t) + r) + (size - 3 * q))
+seeking_quarter u mark base size q s t r p f z h a b c =
+    let w = f.within in
     let st = looks_order u mark (base + (q - 1)) (base + (2 * q - 1)) s t p (omega arith) (omega arith) a b in
     let tr = looks_order u mark (base + (2 * q - 1)) (base + (3 * q - 1)) t r p (omega arith) (omega arith) b c in
     let ms = small _ mark s a in
@@ -126,22 +109,6 @@ seeking_quarter u mark low base size q s t r p f z h a b c =
     (cases_lt r 1))
     (cases_lt t 1))
     (cases_lt s 1)
-
--- a leap from `low` to the place after a cell that is below
-pub leap_on : (u : List ℕ) (mark low leap : ℕ) → IsStrictlyIncreasing u → 0 < leap → leap ≤ length u - low
-    → get_or u (low + (leap - 1)) 0 < mark → (k : ℕ) → k < low + leap → get_or u k 0 < mark
-leap_on u mark low leap up z h e k l = let a = rises u k (low + (leap - 1)) up (omega arith) (omega arith) in
-    omega arith
-
--- a leap that went too far
-pub leap_ends : (u : List ℕ) (mark low leap : ℕ) → IsStrictlyIncreasing u → ((k : ℕ) → k < low → get_or u k 0 < mark) →
-    0 < leap → leap ≤ length u - low → mark ≤ get_or u (low + (leap - 1)) 0 → Brackets u mark low (low + (leap - 1))
-leap_ends u mark low leap up below z h e = record {
-  order = omega arith;
-  within = omega arith;
-  below = below;
-  rest = λ k a b. let c = rises u (low + (leap - 1)) k up a b in omega arith;
-}
 
 -- a whole list
 pub all_places : (u : List ℕ) (mark : ℕ) → Brackets u mark 0 (0 + length u)

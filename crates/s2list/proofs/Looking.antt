@@ -31,17 +31,17 @@ pub halved_more : {size : ℕ} (less : ℕ) {before looks : ℕ} (more : ℕ) {k
 halved_more {size} less {before} {looks} more {k} h l e s =
     halved_less size less before looks more k l.power h l.fits l.paid e s
 
--- a search that has `size` places left fits a power of two, and each step since `2 ^ k` paid for three looks
-pub record Quartered (size before looks k : ℕ) : Type 0 where
+-- a search that has `size` places left fits a power of two, and each step since `2 ^ k` paid for `step` looks
+pub record Quartered (step size before looks k : ℕ) : Type 0 where
   pub power : ℕ
   pub fits : size ≤ 2 ^ power
-  pub paid : looks + 3 * power ≤ before + 3 * k
+  pub paid : looks + step * power ≤ before + step * k
 
-pub quartered_all : (size before k : ℕ) → size ≤ 2 ^ k → Quartered size before before k
-quartered_all size before k h = record { power = k; fits = h; paid = omega arith }
+pub quartered_all : (step size before k : ℕ) → size ≤ 2 ^ k → Quartered step size before before k
+quartered_all step size before k h = record { power = k; fits = h; paid = omega arith }
 
 -- three looks leave half at most
-pub quarter_left : (size j : ℕ) → 4 ≤ size → size ≤ 2 ^ suc j → size - 3 * (size / 4) ≤ 2 ^ j
+quarter_left : (size j : ℕ) → 4 ≤ size → size ≤ 2 ^ suc j → size - 3 * (size / 4) ≤ 2 ^ j
 quarter_left size zero h f = let e : 2 ^ suc zero ≡ 2 = refl in absurd (omega arith)
 quarter_left size (suc zero) h f =
     let e : 2 ^ suc (suc zero) ≡ 4 = refl in
@@ -59,15 +59,16 @@ quarter_left size (suc (suc (suc j))) h f =
     let e4 = pow-suc 2 (suc (suc (suc j))) in
     omega arith
 
-quartered_less : (size before looks more k j : ℕ) → 4 ≤ size → size ≤ 2 ^ j → looks + 3 * j ≤ before + 3 * k →
-    more ≤ looks + 3 → Quartered (size - 3 * (size / 4)) before more k
-quartered_less size before looks more k zero h f p e = let g : 2 ^ zero ≡ 1 = refl in absurd (omega arith)
-quartered_less size before looks more k (suc j) h f p e =
+quartered_less : (step size before looks more k j : ℕ) → 4 ≤ size → size ≤ 2 ^ j → looks + step * j ≤ before + step * k
+    → more ≤ looks + step → Quartered step (size - 3 * (size / 4)) before more k
+quartered_less step size before looks more k zero h f p e = let g : 2 ^ zero ≡ 1 = refl in absurd (omega arith)
+quartered_less step size before looks more k (suc j) h f p e =
     record { power = j; fits = quarter_left size j h f; paid = omega arith }
 
-pub quartered_more : (size before looks more k : ℕ) → 4 ≤ size → Quartered size before looks k → more ≤ looks + 3 →
-    Quartered (size - 3 * (size / 4)) before more k
-quartered_more size before looks more k h l e = quartered_less size before looks more k l.power h l.fits l.paid e
+pub quartered_more : (step size before looks more k : ℕ) → 4 ≤ size → Quartered step size before looks k →
+    more ≤ looks + step → Quartered step (size - 3 * (size / 4)) before more k
+quartered_more step size before looks more k h l e =
+    quartered_less step size before looks more k l.power h l.fits l.paid e
 
 -- the looks of leaps that got `far` places on, each three times as long as all before it and the first two
 pub record Leapt (before looks far : ℕ) : Type 0 where

@@ -3,6 +3,13 @@ use Rattle.std.specs.Prelude.{ℕ, ◌+◌, ◌<◌, ◌≤◌, ◌↔◌, List,
 use Rattle.s2cell.specs.Cell.{IsCell, covers}
 use Rattle.s2list.specs.Union.{ShareSome}
 
+-- the first `low` cells of `u` are below `mark`, and those from `high` on are not
+pub record Brackets (u : List ℕ) (mark low high : ℕ) : Type 0 where
+  pub order : low ≤ high
+  pub within : high ≤ length u
+  pub below : (k : ℕ) → k < low → slice_index u k < mark
+  pub rest : (k : ℕ) → high ≤ k → k < length u → mark ≤ slice_index u k
+
 -- the cells of `u` that share a leaf with `cell` are the `count` cells from index `first` on
 pub record IsRunAt (u : List ℕ) (cell first count : ℕ) : Type 0 where
   pub within : first + count ≤ length u

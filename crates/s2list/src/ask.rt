@@ -42,7 +42,7 @@ fn holds<C: Cells, K: Count>(cells: &C, cell: CellId, count: &mut K) -> bool
     ensures some { 0 < length (C.ids cells.now) → min (K.looks count.old + 1) K.most ≤ K.looks count.new }
 {
     let at = find_counted(cells, cell.first_leaf(), count);
-    holds_at(cells, at, cell, count)
+    contains_cell_at_counted(cells, at, cell, count)
 }
 
 /// Whether a union has a leaf of the cell. Logarithmic.
@@ -76,7 +76,7 @@ fn meets<C: Cells, K: Count>(cells: &C, cell: CellId, count: &mut K) -> bool
     ensures some { 0 < length (C.ids cells.now) → min (K.looks count.old + 1) K.most ≤ K.looks count.new }
 {
     let at = find_counted(cells, cell.first_leaf(), count);
-    begins_at(cells, at, cell.end_leaf(), count)
+    intersects_cell_at_counted(cells, at, cell, count)
 }
 
 /// How many cells of a union end by the first leaf of the cell: its index. It is found quickly if it is `near`, or at
@@ -93,7 +93,23 @@ pub fn contains_cell_at<C: Cells>(cells: &C, at: usize, cell: CellId) -> bool
     ensures { IsLocal (C.ids cells.now) → IsPlace (C.ids cells.now) (first_leaf cell) at
         → (IsTrue result ↔ IsWithin (covers cell) (has_leaf (C.ids cells.now))) }
 {
-    holds_at(cells, at, cell, &mut Uncounted)
+    contains_cell_at_counted(cells, at, cell, &mut Uncounted)
+}
+
+/// The same, counted.
+#[inline(always)]
+pub fn contains_cell_at_counted<C: Cells, K: Count>(
+    cells: &C,
+    at: usize,
+    cell: CellId,
+    count: &mut K,
+) -> bool
+    ensures answer { IsLocal (C.ids cells.now) → IsPlace (C.ids cells.now) (first_leaf cell) at
+        → (IsTrue result ↔ IsWithin (covers cell) (has_leaf (C.ids cells.now))) }
+    ensures looks { K.looks count.new ≤ K.looks count.old + 1 }
+    ensures least { min (K.looks count.old) K.most ≤ K.looks count.new }
+{
+    holds_at(cells, at, cell, count)
 }
 
 /// Whether a union has a leaf of the cell, once its index is known.
@@ -102,7 +118,23 @@ pub fn intersects_cell_at<C: Cells>(cells: &C, at: usize, cell: CellId) -> bool
     ensures { IsLocal (C.ids cells.now) → IsPlace (C.ids cells.now) (first_leaf cell) at
         → (IsTrue result ↔ ShareSome (covers cell) (has_leaf (C.ids cells.now))) }
 {
-    begins_at(cells, at, cell.end_leaf(), &mut Uncounted)
+    intersects_cell_at_counted(cells, at, cell, &mut Uncounted)
+}
+
+/// The same, counted.
+#[inline(always)]
+pub fn intersects_cell_at_counted<C: Cells, K: Count>(
+    cells: &C,
+    at: usize,
+    cell: CellId,
+    count: &mut K,
+) -> bool
+    ensures answer { IsLocal (C.ids cells.now) → IsPlace (C.ids cells.now) (first_leaf cell) at
+        → (IsTrue result ↔ ShareSome (covers cell) (has_leaf (C.ids cells.now))) }
+    ensures looks { K.looks count.new ≤ K.looks count.old + 1 }
+    ensures least { min (K.looks count.old) K.most ≤ K.looks count.new }
+{
+    begins_at(cells, at, cell.end_leaf(), count)
 }
 
 /// Whether there is a number at index `at`, and its cell contains the cell.

@@ -1,10 +1,11 @@
 //! Where a leaf lies among cells in order.
 ghost use Rattle.std.specs.Prelude.{◌≡◌, ◌+◌, ◌-◌, ◌*◌, ◌/◌, ◌^◌, ◌<◌, ◌≤◌, ◌↔◌, ◌⊎◌};
-ghost use Rattle.std.specs.Prelude.{ℕ, IsTrue, All, min, length};
+ghost use Rattle.std.specs.Prelude.{ℕ, IsTrue, All, min, length, slice_index};
 ghost use Rattle.s2cell.specs.Cell.{IsCell, first_leaf, size_of};
 ghost use Rattle.s2list.specs.Packed.{EndsAfter, FirstEndBy, IsPacked};
 ghost use Rattle.s2list.specs.Working.Packed.{EndsAt};
-ghost use Rattle.s2list.specs.Working.Search.{Brackets, IsFrom};
+ghost use Rattle.s2list.specs.Search.{Brackets};
+ghost use Rattle.s2list.specs.Working.Search.{IsFrom};
 
 use crate::cells::Cells;
 use crate::looks::{Count, Uncounted, look};
@@ -85,6 +86,41 @@ pub fn find_from_counted<C: Cells, K: Count>(
     leap_on(cells, start, lo, count)
 }
 
+/// How many numbers are below `mark`; these come first. So it is the index of the cell with that identifier, or the one
+/// where it would stand. Logarithmic in how many there are. A cell that ends by the leaf in the middle of the mark is
+/// below it, and of the others only the first may be.
+#[inline(always)]
+pub fn find_id_counted<C: Cells, K: Count>(cells: &C, mark: u64, count: &mut K) -> usize
+    ensures within { result ≤ length (C.ids cells.now) }
+    ensures place { IsPacked (C.ids cells.now) → Brackets (C.ids cells.now) mark result result }
+    ensures looks { (k : ℕ) → result < 2 ^ k → K.looks count.new ≤ K.looks count.old + 2 * k + 4 }
+    ensures least { min (K.looks count.old) K.most ≤ K.looks count.new }
+{
+    // Where many cells are searched for, it is often the first.
+    if !is_below_at(cells, 0, mark, count) {
+        return 0;
+    }
+    let at = find_from_counted(cells, 0, mark / 2, count);
+    if is_below_at(cells, at, mark, count) {
+        return at + 1;
+    }
+    at
+}
+
+/// Whether there is a number at index `at`, and it is below `mark`.
+#[inline(always)]
+fn is_below_at<C: Cells, K: Count>(cells: &C, at: usize, mark: u64, count: &mut K) -> bool
+    ensures answer { IsTrue result ↔ (at < length (C.ids cells.now) × slice_index (C.ids cells.now) at < mark) }
+    ensures fits { IsTrue result → at + 1 < 2 ^ 64 }
+    ensures looks { K.looks count.new ≤ K.looks count.old + 1 }
+    ensures least { min (K.looks count.old) K.most ≤ K.looks count.new }
+{
+    if at >= cells.len() {
+        return false;
+    }
+    look(cells, at, count) < mark
+}
+
 /// Whether there is a number at index `at`, and its cell ends by the leaf `lo`.
 #[inline(always)]
 fn ends_at<C: Cells, K: Count>(cells: &C, at: usize, lo: u64, count: &mut K) -> bool
@@ -127,20 +163,7 @@ fn leap_on<C: Cells, K: Count>(cells: &C, start: usize, lo: u64, count: &mut K) 
     narrow(cells, base, len, lo, count)
 }
 
-/// How many cells end by the leaf `lo`, if they are known to be from `start` to `end`.
-pub fn find_between<C: Cells>(cells: &C, start: usize, end: usize, lo: u64) -> usize
-    requires order { start ≤ end }
-    requires within { end ≤ length (C.ids cells.now) }
-    ensures within { result ≤ length (C.ids cells.now) }
-    ensures ended { IsPacked (C.ids cells.now) → IsFrom (C.ids cells.now) lo start end
-        → FirstEndBy (C.ids cells.now) result lo }
-    ensures next { IsPacked (C.ids cells.now) → IsFrom (C.ids cells.now) lo start end
-        → EndsAfter (C.ids cells.now) result lo }
-{
-    narrow(cells, start, end, lo, &mut Uncounted)
-}
-
-/// The same, counted. Each look halves what is left.
+/// How many cells end by the leaf `lo`, if they are known to be from `start` to `end`. Each look halves what is left.
 pub(crate) fn narrow<C: Cells, K: Count>(
     cells: &C,
     start: usize,

@@ -22,12 +22,15 @@ mod whole;
 pub use along::find_along;
 pub use appending::new_end;
 pub use ask::{
-    contains_cell, contains_cell_at, contains_cell_counted, intersects_cell, intersects_cell_at,
-    intersects_cell_counted, place_near,
+    contains_cell, contains_cell_at, contains_cell_at_counted, contains_cell_counted,
+    intersects_cell, intersects_cell_at, intersects_cell_at_counted, intersects_cell_counted,
+    place_near,
 };
 pub use cells::{CellList, Cells, IdList};
-pub use find::{NEARBY, end_of, find_counted, find_from, find_from_counted, first_of};
-pub use four::{Places, places_of_four};
+pub use find::{
+    NEARBY, end_of, find_counted, find_from, find_from_counted, find_id_counted, first_of,
+};
+pub use four::{Places, places_of_four, places_of_four_counted};
 pub use looks::{Count, Counted, Looks, Uncounted, look};
 pub use run::cells_at;
 pub use walk::{contains, contains_counted, intersects, intersects_counted};

@@ -1,5 +1,5 @@
 -- Questions about a short list in a much longer one.
-use Rattle.std.proofs.Common.{◌≡◌, ℕ, zero, suc, ◌+◌, ◌-◌, ◌*◌, ◌/◌, ◌^◌, ◌<◌, ◌≤◌, refl, ap, arith}
+use Rattle.std.proofs.Common.{◌≡◌, ℕ, ◌+◌, ◌*◌, ◌^◌, ◌<◌, ◌≤◌, refl, ap, arith}
 use Rattle.std.proofs.Common.{Bool, true, false, ◌&&◌, ◌||◌, ◌↔◌, IsTrue, List, length, get_or, min, max}
 use Rattle.std.proofs.Math.Logic.{⊎_elim}
 use Rattle.std.proofs.Math.Nat.{mul-le-mul_right}
@@ -11,8 +11,7 @@ use Rattle.s2list.specs.Union.{has_leaf, IsLocal, IsWithin, ShareSome}
 use Rattle.s2list.specs.Packed.{IsPacked, FirstEndBy}
 use Rattle.s2list.specs.Looks.{FewForUnion}
 use Rattle.s2list.proofs.Finding.{shared_none, starts_later}
-use Rattle.s2list.proofs.Looking.{above, quarter_left}
-use Rattle.s2union.proofs.Looking.{Sought}
+use Rattle.s2list.proofs.Looking.{above, Sought}
 use Rattle.s2list.proofs.Walking.{leaf_there, leaf_at}
 
 -- what holds at four places in a row
@@ -68,27 +67,8 @@ power_five m n k some few fits =
     (λ (a : 5 ≤ k). a)
     (cases_lt k 5)
 
--- what is left of four searches in parts of `size` cells
-pub record LeftFour (size looks : ℕ) : Type 0 where
-  pub power : ℕ
-  pub fits : size ≤ 2 ^ power
-  pub paid : looks + 12 * power ≤ 772
-
-pub left_four_all : (size looks : ℕ) → size ≤ 2 ^ 64 → looks ≤ 4 → LeftFour size looks
-left_four_all size looks h l = record { power = 64; fits = h; paid = omega arith }
-
-left_four_less : (size looks more j : ℕ) → 4 ≤ size → size ≤ 2 ^ j → looks + 12 * j ≤ 772 → more ≡ looks + 12 →
-    LeftFour (size - 3 * (size / 4)) more
-left_four_less size looks more zero h f p e = let g : 2 ^ zero ≡ 1 = refl in absurd (omega arith)
-left_four_less size looks more (suc j) h f p e =
-    record { power = j; fits = quarter_left size j h f; paid = omega arith }
-
-pub left_four : {size looks : ℕ} (more : ℕ) →
-    4 ≤ size → LeftFour size looks → more ≡ looks + 12 → LeftFour (size - 3 * (size / 4)) more
-left_four {size} {looks} more h l e = left_four_less size looks more l.power h l.fits l.paid e
-
 -- a search that ends near looks at few cells
-pub sought_near : (before after far : ℕ) → Sought before after far → after ≤ before + 16 + 4 * far
+pub sought_near : (before after far : ℕ) → Sought before after far → after ≤ before + 2 + 2 * far
 sought_near before after far sought =
     let a = above far in
     let s = sought far (omega arith) in

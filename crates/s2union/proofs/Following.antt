@@ -12,7 +12,7 @@ use Rattle.std.proofs.lemmas.List.{append-nil, take-take, drop-take}
 use Rattle.std.proofs.lemmas.List.Folds.{list_any_more, list_any-append}
 use Rattle.std.specs.List.{list_any}
 use Rattle.std.proofs.lemmas.List.Kept.{AllPairs-from_increasing}
-use Rattle.s2list.specs.Working.Search.{Brackets}
+use Rattle.s2list.specs.Search.{Brackets}
 use Rattle.s2list.proofs.Galloping.{rises}
 use Rattle.s2cell.specs.Cell.{IsCell, first_leaf, covers}
 use Rattle.s2cell.proofs.CellLemmas.{cell_leaves}
@@ -107,6 +107,33 @@ part_packed {u} i n packed h =
 
 pub rest_packed : {u : List ℕ} (i : ℕ) → IsLocal u → i ≤ length u → IsPacked (take (length u - i) (drop i u))
 rest_packed {u} i l h = part_packed i (length u - i) (packed_from_local u l) (omega arith)
+
+-- what is found in the rest of a list is found in the list
+pub rest_found : {u : List ℕ} {mark at : ℕ} (from : ℕ) → from ≤ length u → ((k : ℕ) → k < from → get_or u k 0 < mark) →
+    Brackets (take (length u - from) (drop from u)) mark at at → Brackets u mark (from + at) (from + at)
+rest_found {u} {mark} {at} from h below b =
+    let left = length-drop from u in
+    let len : length (take (length u - from) (drop from u)) ≡ length u - from =
+    length-take-le (length u - from) (drop from u) (omega arith) in
+    let there : (k : ℕ) → from ≤ k → k < length u →
+    get_or (take (length u - from) (drop from u)) (k - from) 0 ≡ get_or u k 0 = λ k a l.
+    let e : from + (k - from) ≡ k = omega arith in
+    get_or-take (length u - from) (drop from u) (k - from) 0 (omega arith) ∙ get_or-drop from u (k - from) 0
+    ∙ ap (λ i. get_or u i 0) e in
+    let w = b.within in
+    record {
+      order = omega arith;
+      within = omega arith;
+      below = λ k l. ⊎_elim
+          (λ (a : k < from). below k a)
+          (λ (a : from ≤ k). let t = there k a (omega arith) in
+          let s = b.below (k - from) (omega arith) in omega arith)
+          (cases_lt k from);
+      rest = λ k l m.
+          let t = there k (omega arith) m in
+          let r = b.rest (k - from) (omega arith) (omega arith) in
+          omega arith;
+    }
 
 -- so cells that follow this list overlap none of it, and make no family with its last ones
 pub follow_packed : {list cells : List ℕ} {i : ℕ} →

@@ -12,7 +12,7 @@ use Rattle.s2union.specs.Working.Merge.{Left, CanApply, Goes, Keeps, made_list, 
 use Rattle.s2union.specs.Working.Merge.{IsHead, IsFrontOf, AtChange, Uses}
 use Rattle.s2cell.specs.Cell.{IsCell}
 use Rattle.s2cell.proofs.CellLemmas.{cell_leaves}
-use Rattle.s2list.specs.Working.Search.{Brackets}
+use Rattle.s2list.specs.Search.{Brackets}
 use Rattle.s2list.specs.Packed.{IsPacked}
 use Rattle.s2list.proofs.Finding.{ascends}
 use Rattle.s2union.proofs.Following.{part_packed}

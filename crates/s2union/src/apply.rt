@@ -14,11 +14,11 @@ ghost use Rattle.s2union.specs.Working.Merge.{IsTurn, IsHead, IsFrontOf, Keeps, 
 ghost use Rattle.s2list.specs.Packed.{IsPacked};
 ghost use Rattle.s2union.specs.Working.Tail.{Follows, Passes};
 
-use crate::search::gallop_counted;
+use crate::search::look;
 use crate::sets::extend_reserved;
 use crate::union::CellUnion;
 use s2cell::CellId;
-use s2list::{Count, Counted, Looks, Uncounted, parent_of_family};
+use s2list::{CellList, Count, Counted, Looks, Uncounted, find_id_counted, parent_of_family};
 use std::alloc::{AllocError, Global};
 use std::cmp::Ordering;
 use std::marker::Model;
@@ -135,29 +135,6 @@ impl CellUnion {
         let none = Vec::new(*into.cells.allocator());
         let room = mem::replace(&mut into.cells, none);
         into.cells = applied_in(room, self.cells(), out, put, count);
-    }
-}
-
-/// The cell of a list at an index. A change that is counted sees the cells of the list only through this call and
-/// `gallop_counted`.
-#[inline(always)]
-fn look<K: Count>(cells: &[CellId], at: usize, count: &mut K) -> CellId
-    requires { at < length cells.now }
-    ensures cell { result ≡ slice_index cells.now at }
-    ensures count { K.looks count.new ≡ min (K.looks count.old + 1) K.most }
-{
-    count.look();
-    cells[at]
-}
-
-/// Counts the looks of a search.
-#[inline(always)]
-fn count_looks<K: Count>(looks: u64, count: &mut K)
-    ensures looks { K.looks count.new ≤ K.looks count.old + looks }
-    ensures least { min (K.looks count.old) K.most ≤ K.looks count.new }
-{
-    for _ in 0..looks {
-        count.look();
     }
 }
 
@@ -296,15 +273,14 @@ impl<'a> Merge<'a> {
         ensures packed { IsPacked result.now }
         ensures uses { Uses 0 0 (length result.now) self.old self.new }
         ensures at_change { AtChange self.new }
-        ensures looks { (k : ℕ) → length result.now < 2 ^ k → K.looks count.new ≤ K.looks count.old + 4 * k + 13 }
+        ensures looks { (k : ℕ) → length result.now < 2 ^ k → K.looks count.new ≤ K.looks count.old + 2 * k + 4 }
         ensures least { min (K.looks count.old) K.most ≤ K.looks count.new }
     {
         let next = first_id(self.out).min(first_id(self.put));
-        let found = gallop_counted(self.cells, 0, next);
-        count_looks(found.looks, count);
         let cells = self.cells;
-        self.cells = &cells[found.at..];
-        &cells[..found.at]
+        let at = find_id_counted(&CellList { cells }, next, count);
+        self.cells = &cells[at..];
+        &cells[..at]
     }
 
     /// The step if no cell of the list is left.

@@ -4,10 +4,10 @@ ghost use Rattle.s2cell.specs.Cell.{covers, first_leaf};
 ghost use Rattle.s2list.specs.Union.{has_leaf, IsWithin, ShareSome};
 ghost use Rattle.s2list.specs.Packed.{IsPacked, FirstEndBy, EndsAfter};
 
-use crate::questions::{holds_at, meets_at};
 use crate::search::{find, find_from};
 use crate::union::CellUnion;
 use s2cell::{CellId, LEAVES};
+use s2list::{CellList, contains_cell_at, intersects_cell_at};
 use std::marker::Model;
 
 /// A union in which one cell after another is searched, and where the last search ended.
@@ -52,8 +52,7 @@ impl<'a> Cursor<'a> {
     {
         let at = find_near(self.cells, self.at, cell.first_leaf());
         self.at = at;
-        let mut looks = 0;
-        holds_at(self.cells, at, cell, &mut looks)
+        contains_cell_at(&CellList { cells: self.cells }, at, cell)
     }
 
     /// Whether the union has a leaf of the cell.
@@ -63,8 +62,7 @@ impl<'a> Cursor<'a> {
     {
         let at = find_near(self.cells, self.at, cell.first_leaf());
         self.at = at;
-        let mut looks = 0;
-        meets_at(self.cells, at, cell, &mut looks)
+        intersects_cell_at(&CellList { cells: self.cells }, at, cell)
     }
 }
 

@@ -1,13 +1,10 @@
 //! Whether a union has the leaves of a cell or of another union, and which of its cells share a leaf with a cell.
-ghost use Rattle.std.specs.Prelude.{◌≡◌, ◌≤◌, ◌<◌, ◌+◌, ◌-◌, ◌^◌, ◌↔◌, ℕ, IsTrue};
-ghost use Rattle.std.specs.Prelude.{min, length, slice_index, All, true};
-ghost use Rattle.s2cell.specs.Cell.{IsCell, covers, first_leaf};
+ghost use Rattle.std.specs.Prelude.{◌≡◌, ◌≤◌, ◌<◌, ◌↔◌, ℕ, IsTrue, length, All, true};
+ghost use Rattle.s2cell.specs.Cell.{IsCell, covers};
 ghost use Rattle.s2list.specs.Union.{IsLocal, has_leaf, IsWithin, ShareSome};
-ghost use Rattle.s2list.specs.Packed.{FirstEndBy, EndsAfter};
 ghost use Rattle.s2list.specs.Looks.{FewForCell, FewForUnion};
 
 use crate::few::{MUCH_LONGER, holds_few, meets_few};
-use crate::search::look;
 use crate::union::CellUnion;
 use s2cell::CellId;
 use s2list::{CellList, Counted};
@@ -96,38 +93,6 @@ impl CellUnion {
     }
 }
 
-/// Whether a local list has all leaves of the cell, once it is known how many of its cells end by the first leaf of the
-/// cell.
-pub(crate) fn holds_at(cells: &[CellId], at: usize, cell: CellId, looks: &mut u64) -> bool
-    requires local { IsLocal cells.now }
-    requires is_cell { IsCell cell }
-    requires ended { FirstEndBy cells.now at (first_leaf cell) }
-    requires next { EndsAfter cells.now at (first_leaf cell) }
-    requires before { looks.old ≤ 1000 }
-    ensures answer { IsTrue result ↔ IsWithin (covers cell) (has_leaf cells.now) }
-    ensures looks { looks.new ≤ looks.old + 1 }
-    ensures least { looks.old ≤ looks.new }
-    ensures some { at < length cells.now → looks.old < looks.new }
-{
-    at < cells.len() && look(cells, at, looks).contains(cell)
-}
-
-/// Whether a local list has a leaf of the cell, once it is known how many of its cells end by the first leaf of the
-/// cell.
-pub(crate) fn meets_at(cells: &[CellId], at: usize, cell: CellId, looks: &mut u64) -> bool
-    requires local { IsLocal cells.now }
-    requires is_cell { IsCell cell }
-    requires ended { FirstEndBy cells.now at (first_leaf cell) }
-    requires next { EndsAfter cells.now at (first_leaf cell) }
-    requires before { looks.old ≤ 1000 }
-    ensures answer { IsTrue result ↔ ShareSome (covers cell) (has_leaf cells.now) }
-    ensures looks { looks.new ≤ looks.old + 1 }
-    ensures least { looks.old ≤ looks.new }
-    ensures some { at < length cells.now → looks.old < looks.new }
-{
-    at < cells.len() && look(cells, at, looks).first_leaf() < cell.end_leaf()
-}
-
 /// Whether `xs` has all leaves of `ys`.
 fn holds_all(xs: &[CellId], ys: &[CellId]) -> Counted
     requires x_local { IsLocal xs.now }
@@ -157,15 +122,4 @@ fn meets_any(xs: &[CellId], ys: &[CellId]) -> Counted
         return meets_few(ys, xs);
     }
     s2list::intersects_counted(&CellList { cells: xs }, &CellList { cells: ys })
-}
-
-/// An answer with its looks, and `more`.
-pub(crate) fn answer_with(answer: bool, looks: u64, more: u64) -> Counted
-    ensures answer { result.answer ≡ answer }
-    ensures looks { result.looks ≡ min (looks + more) (2 ^ 64 - 1) }
-{
-    Counted {
-        answer,
-        looks: looks.saturating_add(more),
-    }
 }

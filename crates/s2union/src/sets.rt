@@ -13,11 +13,11 @@ ghost use Rattle.s2list.specs.Working.Packed.{Continues};
 use crate::fault::UnionFault;
 use crate::few::MUCH_LONGER;
 use crate::normalising::add_reserved;
-use crate::search::gallop;
 use crate::share::share;
 use crate::subtract::subtract;
 use crate::union::CellUnion;
 use s2cell::CellId;
+use s2list::{CellList, Uncounted, find_id_counted};
 use std::alloc::AllocError;
 
 impl CellUnion {
@@ -147,7 +147,9 @@ fn join_few(list: &mut Vec<CellId>, xs: &[CellId], ys: &[CellId])
     let mut done = 0;
     for j in 0..ys.len() {
         let y = ys[j];
-        let next = gallop(xs, done, y.id());
+        let rest = CellList { cells: &xs[done..] };
+        let more = find_id_counted(&rest, y.id(), &mut Uncounted);
+        let next = done + more;
         add_run(list, &xs[done..next]);
         add_reserved(list, y);
         done = next;

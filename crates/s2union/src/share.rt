@@ -6,10 +6,11 @@ ghost use Rattle.s2list.specs.Union.{IsLocal, has_leaf};
 ghost use Rattle.s2list.specs.Working.Sets.{IsShared};
 ghost use Rattle.s2list.specs.Packed.{FirstEndBy, IsPlace};
 
-use crate::few::{MUCH_LONGER, by_four, find_four, pass_free, pass_held};
+use crate::few::{MUCH_LONGER, by_four, pass_free, pass_held};
 use crate::search::{find, find_from};
 use crate::sets::extend;
 use s2cell::CellId;
+use s2list::{CellList, Uncounted, places_of_four};
 use std::alloc::AllocError;
 
 /// Puts the leaves that `xs` and `ys` share into an empty list.
@@ -100,7 +101,13 @@ fn share_four(
     ensures within { IfOk result (λ next. (i < next) × (next ≤ length xs.now)) }
     ensures shared { IfOk result (λ next. IsShared xs.now ys.now list.new.items next) }
 {
-    let places = find_four(ys, xs, i, &mut 0);
+    let places = places_of_four(
+        &CellList { cells: ys },
+        xs[i],
+        xs[i + 1],
+        xs[i + 2],
+        xs[i + 3],
+    );
     share_one(list, xs, i, ys, places.first)?;
     share_one(list, xs, i + 1, ys, places.second)?;
     share_one(list, xs, i + 2, ys, places.third)?;
@@ -125,8 +132,8 @@ fn share_near(
     ensures within { IfOk result (λ next. (i ≤ next) × (next ≤ length xs.now)) }
     ensures shared { IfOk result (λ next. IsShared xs.now ys.now list.new.items next) }
 {
-    let free = pass_free(xs, i, ys, at, &mut 0);
-    let next = pass_held(xs, free, ys, at, &mut 0);
+    let free = pass_free(xs, i, ys, at, &mut Uncounted);
+    let next = pass_held(xs, free, ys, at, &mut Uncounted);
     extend(list, &xs[free..next])?;
     Ok(next)
 }

@@ -11,10 +11,11 @@ ghost use Rattle.s2list.specs.Working.Sets.{IsLeft};
 ghost use Rattle.s2list.specs.Packed.{FirstEndBy, IsPlace, FillsGap};
 
 use crate::fault::UnionFault;
-use crate::few::{MUCH_LONGER, find_four};
+use crate::few::MUCH_LONGER;
 use crate::search::{find, find_from};
 use crate::sets::extend;
 use s2cell::{CellId, LEAVES};
+use s2list::{CellList, places_of_four};
 use std::alloc::AllocError;
 
 /// Puts the leaves of `xs` that `ys` doesn't have into an empty list. Stops once it has made more than `limit` cells:
@@ -133,7 +134,13 @@ fn subtract_few(
 {
     let mut i = 0;
     while xs.len() - i >= 4 {
-        let places = find_four(ys, xs, i, &mut 0);
+        let places = places_of_four(
+            &CellList { cells: ys },
+            xs[i],
+            xs[i + 1],
+            xs[i + 2],
+            xs[i + 3],
+        );
         subtract_one(list, xs, i, ys, places.first, limit)?;
         subtract_one(list, xs, i + 1, ys, places.second, limit)?;
         subtract_one(list, xs, i + 2, ys, places.third, limit)?;

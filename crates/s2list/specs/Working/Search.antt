@@ -4,13 +4,6 @@ use Rattle.s2cell.specs.Cell.{first_leaf, size_of}
 use Rattle.s2list.specs.Union.{IsLocal}
 use Rattle.s2list.specs.Packed.{FirstEndBy}
 
--- the first `low` cells of `u` are below `mark`, and those from `high` on are not
-pub record Brackets (u : List ℕ) (mark low high : ℕ) : Type 0 where
-  pub order : low ≤ high
-  pub within : high ≤ length u
-  pub below : (k : ℕ) → k < low → slice_index u k < mark
-  pub rest : (k : ℕ) → high ≤ k → k < length u → mark ≤ slice_index u k
-
 -- `u` is local, and `at` is an index in it or its end
 pub record IsCursor (u : List ℕ) (at : ℕ) : Type 0 where
   pub local : IsLocal u

@@ -1,6 +1,6 @@
 use Rattle.std.proofs.Common.{◌≡◌, ◌≤◌, ◌+◌, ◌-◌, ℕ, List, length, slice_set, ap, ◌∙◌, subst, arith, rules}
 use Rattle.std.specs.Vec.{vec_len}
-use Rattle.s2list.specs.Working.Search.{Brackets}
+use Rattle.s2list.specs.Search.{Brackets}
 use Rattle.s2edit.proofs.Exchanging.{found_there, exchanged_back, exchanged_on}
 use Rattle.s2edit.proofs.handful.exchange.Goals as goal
 

@@ -1,6 +1,6 @@
 use Rattle.std.proofs.Common.{ℕ, List, subst, arith}
 use Rattle.std.proofs.lemmas.Grind.{common_steps}
-use Rattle.s2list.specs.Working.Search.{Brackets}
+use Rattle.s2list.specs.Search.{Brackets}
 use Rattle.s2edit.proofs.Exchanging.{inserted}
 use Rattle.s2edit.proofs.handful.put_in.Goals as goal
 

@@ -1,6 +1,6 @@
 use Rattle.std.proofs.Common.{◌≡◌, ℕ, List, length, ◌∙◌, subst, arith, rules}
 use Rattle.std.specs.Vec.{vec_len}
-use Rattle.s2list.specs.Working.Search.{Brackets}
+use Rattle.s2list.specs.Search.{Brackets}
 use Rattle.s2edit.proofs.Exchanging.{found_there, taken_out}
 use Rattle.s2edit.proofs.handful.take_out.Goals as goal
 

@@ -15,7 +15,7 @@ loop-size-init g c =
       fits = omega arith;
       within = omega arith;
       brackets = λ p. rw n (all_places u _);
-      quartered = λ k h. quartered_all _ _ k (omega arith);
+      quartered = λ k h. quartered_all _ _ _ k (omega arith);
       least = omega arith;
       some = λ h. omega arith;
     }
@@ -31,7 +31,7 @@ loop-size-preserved g c =
       fits = v.fits;
       within = q.within;
       brackets = λ p. q.brackets p (v.brackets p);
-      quartered = λ k h. quartered_more c.loop-size.size _ _ _ k c.loop-size-test.true (v.quartered k h) m;
+      quartered = λ k h. quartered_more _ c.loop-size.size _ _ _ k c.loop-size-test.true (v.quartered k h) m;
       least = omega arith;
       some = λ _. omega arith;
     }

@@ -1,6 +1,6 @@
 use Rattle.std.proofs.Common.{ℕ, ◌+◌, ◌^◌, ◌<◌, ◌≤◌, length, min}
 use Rattle.s2list.specs.Packed.{IsPacked}
-use Rattle.s2list.specs.Working.Search.{Brackets}
+use Rattle.s2list.specs.Search.{Brackets}
 use Rattle.s2list.proofs.Looking.{Quartered}
 use Rattle.s2list.proofs.find.find_counted.Given as goal
 
@@ -9,7 +9,7 @@ invariant-loop-size g l = record {
   fits : length (g.C.Cells.ids l.cells) < 2 ^ 64;
   within : l.base + l.size ≤ length (g.C.Cells.ids l.cells);
   brackets : IsPacked (g.C.Cells.ids l.cells) → Brackets (g.C.Cells.ids l.cells) l.mark l.base (l.base + l.size);
-  quartered : (k : ℕ) → length (g.C.Cells.ids l.cells) ≤ 2 ^ k → Quartered l.size (g.K.Count.looks l.initial.count)
+  quartered : (k : ℕ) → length (g.C.Cells.ids l.cells) ≤ 2 ^ k → Quartered 3 l.size (g.K.Count.looks l.initial.count)
       (g.K.Count.looks l.count) k;
   least : min (g.K.Count.looks l.initial.count) g.K.Count.most ≤ g.K.Count.looks l.count;
   some : l.size < length (g.C.Cells.ids l.cells) →

@@ -15,8 +15,7 @@ pub returns-clause-brackets : goal.returns-clause-brackets
 returns-clause-brackets g c packed brackets =
     let u = g.C.Cells.ids c.args.cells.now in
     let size = c.args.size in
-    (seeking_quarter u c.args.mark c.args.base c.args.base size (size / 4) c.is_below-first.result
-    c.is_below-second.result c.is_below-third.result (ascends u packed)
-    (record { from = omega arith; brackets = brackets }) (omega arith) (omega arith)
+    seeking_quarter u c.args.mark c.args.base size (size / 4) c.is_below-first.result c.is_below-second.result
+    c.is_below-third.result (ascends u packed) brackets (omega arith) (omega arith)
     (rw c.look.ensures.id at c.is_below-first.ensures.below) (rw c.look-2.ensures.id at c.is_below-second.ensures.below)
-    (rw c.look-3.ensures.id at c.is_below-third.ensures.below)).brackets
+    (rw c.look-3.ensures.id at c.is_below-third.ensures.below)

@@ -1,5 +1,6 @@
 use Rattle.std.proofs.Common.{◌≡◌, length, arith}
 use Rattle.s2list.proofs.Galloping.{all_places}
+use Rattle.s2list.proofs.Looking.{quartered_all, quartered_more}
 use Rattle.s2list.proofs.four.parts_of_four.Goals as goal
 
 pub loop-size-init : goal.loop-size-init
@@ -16,11 +17,22 @@ loop-size-init g c =
       second = λ p. rw n (all_places u _);
       third = λ p. rw n (all_places u _);
       fourth = λ p. rw n (all_places u _);
+      quartered = λ k h. quartered_all _ _ _ k (omega arith);
+      least = omega arith;
     }
 
 pub loop-size-preserved : goal.loop-size-preserved
 loop-size-preserved g c =
     let v = c.loop-size.invariant in
+    let z = v.least in
+    let a = c.quarter-first.ensures.looks in
+    let b = c.quarter-second.ensures.looks in
+    let d = c.quarter-third.ensures.looks in
+    let e = c.quarter-fourth.ensures.looks in
+    let least_a = c.quarter-first.ensures.least in
+    let least_b = c.quarter-second.ensures.least in
+    let least_d = c.quarter-third.ensures.least in
+    let least_e = c.quarter-fourth.ensures.least in
     record {
       fits = v.fits;
       first_within = c.quarter-first.ensures.within;
@@ -31,4 +43,10 @@ loop-size-preserved g c =
       second = λ p. c.quarter-second.ensures.brackets p (v.second p);
       third = λ p. c.quarter-third.ensures.brackets p (v.third p);
       fourth = λ p. c.quarter-fourth.ensures.brackets p (v.fourth p);
+      quartered = λ k h. quartered_more _ c.loop-size.size _ _ _ k c.loop-size-test.true (v.quartered k h)
+          (omega arith);
+      least = omega arith;
     }
+
+pub returns-clause-looks : goal.returns-clause-looks
+returns-clause-looks g c k h = let l = (c.loop-size.invariant.quartered k h).paid in omega arith

@@ -1,6 +1,7 @@
-use Rattle.std.proofs.Common.{◌+◌, ◌^◌, ◌<◌, ◌≤◌, length}
+use Rattle.std.proofs.Common.{ℕ, ◌+◌, ◌^◌, ◌<◌, ◌≤◌, length, min}
 use Rattle.s2list.specs.Packed.{IsPacked}
-use Rattle.s2list.specs.Working.Search.{Brackets}
+use Rattle.s2list.specs.Search.{Brackets}
+use Rattle.s2list.proofs.Looking.{Quartered}
 use Rattle.s2list.proofs.four.parts_of_four.Given as goal
 
 abbrev pub invariant-loop-size : goal.invariant-loop-size
@@ -14,6 +15,9 @@ invariant-loop-size g l = record {
   second : IsPacked (g.C.Cells.ids l.cells) → Brackets (g.C.Cells.ids l.cells) l.b l.second (l.second + l.size);
   third : IsPacked (g.C.Cells.ids l.cells) → Brackets (g.C.Cells.ids l.cells) l.c l.third (l.third + l.size);
   fourth : IsPacked (g.C.Cells.ids l.cells) → Brackets (g.C.Cells.ids l.cells) l.d l.fourth (l.fourth + l.size);
+  quartered : (k : ℕ) → length (g.C.Cells.ids l.cells) ≤ 2 ^ k → Quartered 12 l.size (g.K.Count.looks l.initial.count)
+      (g.K.Count.looks l.count) k;
+  least : min (g.K.Count.looks l.initial.count) g.K.Count.most ≤ g.K.Count.looks l.count;
 }
 
 abbrev pub decreases-loop-size : goal.decreases-loop-size

@@ -6,8 +6,8 @@ abbrev pub invariant-loop-j : goal.invariant-loop-j
 invariant-loop-j l = record {
   in_y : l.j ≤ length l.ys;
   held : HoldsBetween l.xs l.ys 0 l.j;
-  few : l.looks ≤ 250 * l.j;
-  some : 0 < l.j → 2 ≤ l.looks;
+  few : l.count.looks ≤ 250 * l.j;
+  some : 0 < l.j → 2 ≤ l.count.looks;
 }
 
 abbrev pub decreases-loop-j : goal.decreases-loop-j

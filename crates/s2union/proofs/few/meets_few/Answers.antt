@@ -21,7 +21,6 @@ loop-j-preserved c =
     let few = c.loop-j.invariant.few in
     let within = c.in-Some.ensures.within in
     let looks = c.in-Some.ensures.looks in
-    let sum = c.saturating_add-looks.ensures in
     record {
       in_y = within.1;
       missed = more_places (λ k. ShareSome (covers (get_or c.args.ys.now k 0)) (has_leaf c.args.xs.now) → ⊥) 0
