@@ -67,9 +67,9 @@ pub fn intersects_counted<X: Cells, Y: Cells>(xs: &X, ys: &Y) -> Counted
     }
 }
 
-/// Whether `xs` has all leaves of `ys`. Each turn passes the cells of `xs` before the next of `ys`, and then the cells
-/// of `ys` in the one of `xs` that holds it.
-fn holds_all<X: Cells, Y: Cells, K: Count>(xs: &X, ys: &Y, count: &mut K) -> bool
+/// Whether `xs` has all leaves of `ys`, for any counter. Each turn passes the cells of `xs` before the next of `ys`,
+/// and then the cells of `ys` in the one of `xs` that holds it.
+pub fn holds_all<X: Cells, Y: Cells, K: Count>(xs: &X, ys: &Y, count: &mut K) -> bool
     requires { K.looks count.old ≡ 0 }
     ensures answer { IsLocal (X.ids xs.now) → IsLocal (Y.ids ys.now)
         → (IsTrue result ↔ IsWithin (has_leaf (Y.ids ys.now)) (has_leaf (X.ids xs.now))) }
@@ -100,9 +100,9 @@ fn holds_all<X: Cells, Y: Cells, K: Count>(xs: &X, ys: &Y, count: &mut K) -> boo
     true
 }
 
-/// Whether `xs` and `ys` share a leaf. Each turn passes the cells of `xs` before the next of `ys`, and then the cells
-/// of `ys` before the next of `xs`.
-fn meets_any<X: Cells, Y: Cells, K: Count>(xs: &X, ys: &Y, count: &mut K) -> bool
+/// Whether `xs` and `ys` share a leaf, for any counter. Each turn passes the cells of `xs` before the next of `ys`, and
+/// then the cells of `ys` before the next of `xs`.
+pub fn meets_any<X: Cells, Y: Cells, K: Count>(xs: &X, ys: &Y, count: &mut K) -> bool
     requires { K.looks count.old ≡ 0 }
     ensures answer { IsLocal (X.ids xs.now) → IsLocal (Y.ids ys.now)
         → (IsTrue result ↔ ShareSome (has_leaf (X.ids xs.now)) (has_leaf (Y.ids ys.now))) }

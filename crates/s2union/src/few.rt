@@ -14,7 +14,7 @@ ghost use Rattle.s2list.specs.Looks.{FewForUnion};
 use crate::search::look;
 use s2cell::CellId;
 use s2list::{
-    CellList, Count, Counted, Looks, contains_cell_at_counted, find_counted, find_from_counted,
+    CellList, Count, contains_cell_at_counted, find_counted, find_from_counted,
     intersects_cell_at_counted, places_of_four_counted,
 };
 
@@ -24,55 +24,44 @@ pub(crate) const MUCH_LONGER: usize = 64;
 
 /// Whether `xs` has all leaves of `ys`, which is much shorter.
 #[inline(never)]
-pub(crate) fn holds_few(xs: &[CellId], ys: &[CellId]) -> Counted
+pub(crate) fn holds_few<K: Count>(xs: &[CellId], ys: &[CellId], count: &mut K) -> bool
     requires x_local { IsLocal xs.now }
     requires y_local { IsLocal ys.now }
     requires few { 64 * length ys.now ≤ length xs.now }
-    ensures answer { IsTrue result.answer ↔ IsWithin (has_leaf ys.now) (has_leaf xs.now) }
-    ensures looks { FewForUnion (length xs.now) (length ys.now) result.looks }
-    ensures least { 0 < length ys.now → 2 ≤ result.looks }
+    requires count { K.looks count.old ≡ 0 }
+    ensures answer { IsTrue result ↔ IsWithin (has_leaf ys.now) (has_leaf xs.now) }
+    ensures looks { FewForUnion (length xs.now) (length ys.now) (K.looks count.new) }
+    ensures least { 0 < length ys.now → min 2 K.most ≤ K.looks count.new }
 {
-    let mut count = Looks { looks: 0 };
     let mut j = 0;
     while j < ys.len() {
-        match holds_next(xs, ys, j, &mut count) {
+        match holds_next(xs, ys, j, count) {
             Some(next) => j = next,
-            None => return answer_with(false, count),
+            None => return false,
         }
     }
-    answer_with(true, count)
+    true
 }
 
 /// Whether `xs` and `ys`, which is much shorter, share a leaf.
 #[inline(never)]
-pub(crate) fn meets_few(xs: &[CellId], ys: &[CellId]) -> Counted
+pub(crate) fn meets_few<K: Count>(xs: &[CellId], ys: &[CellId], count: &mut K) -> bool
     requires x_local { IsLocal xs.now }
     requires y_local { IsLocal ys.now }
     requires few { 64 * length ys.now ≤ length xs.now }
-    ensures answer { IsTrue result.answer ↔ ShareSome (has_leaf xs.now) (has_leaf ys.now) }
-    ensures looks { FewForUnion (length xs.now) (length ys.now) result.looks }
-    ensures least { 0 < length ys.now → 2 ≤ result.looks }
+    requires count { K.looks count.old ≡ 0 }
+    ensures answer { IsTrue result ↔ ShareSome (has_leaf xs.now) (has_leaf ys.now) }
+    ensures looks { FewForUnion (length xs.now) (length ys.now) (K.looks count.new) }
+    ensures least { 0 < length ys.now → min 2 K.most ≤ K.looks count.new }
 {
-    let mut count = Looks { looks: 0 };
     let mut j = 0;
     while j < ys.len() {
-        match meets_next(xs, ys, j, &mut count) {
+        match meets_next(xs, ys, j, count) {
             Some(next) => j = next,
-            None => return answer_with(true, count),
+            None => return true,
         }
     }
-    answer_with(false, count)
-}
-
-/// An answer with the looks for it.
-fn answer_with(answer: bool, count: Looks) -> Counted
-    ensures answer { result.answer ≡ answer }
-    ensures looks { result.looks ≡ count.looks }
-{
-    Counted {
-        answer,
-        looks: count.looks,
-    }
+    false
 }
 
 /// Whether to search the next four cells together, from index `at` of `n` on. The first is searched alone, since it may
@@ -88,16 +77,16 @@ pub(crate) fn by_four(at: usize, n: usize) -> bool
 /// How many cells of `few` are known to be held by a local list, once the next are searched, from index `at` on: one or
 /// four, and those after them that lie in the same cell of the list as the last of these. None if one of them isn't
 /// held.
-fn holds_next(cells: &[CellId], few: &[CellId], at: usize, count: &mut Looks) -> Option<usize>
+fn holds_next<K: Count>(cells: &[CellId], few: &[CellId], at: usize, count: &mut K) -> Option<usize>
     requires local { IsLocal cells.now }
     requires few_packed { IsPacked few.now }
     requires there { at < length few.now }
     ensures answer { MatchOption result (IsWithin (has_leaf few.now) (has_leaf cells.now) → ⊥)
         (λ next. HoldsBetween cells.now few.now at next) }
     ensures within { IfSome result (λ next. (at < next) × (next ≤ length few.now)) }
-    ensures most { count.new.looks ≤ count.old.looks + 250 * (length few.now - at) }
-    ensures looks { IfSome result (λ next. count.new.looks ≤ count.old.looks + 250 * (next - at)) }
-    ensures least { 0 < length cells.now → 2 ≤ count.new.looks }
+    ensures most { K.looks count.new ≤ K.looks count.old + 250 * (length few.now - at) }
+    ensures looks { IfSome result (λ next. K.looks count.new ≤ K.looks count.old + 250 * (next - at)) }
+    ensures least { 0 < length cells.now → min 2 K.most ≤ K.looks count.new }
 {
     if by_four(at, few.len()) {
         return holds_four(cells, few, at, count);
@@ -113,16 +102,16 @@ fn holds_next(cells: &[CellId], few: &[CellId], at: usize, count: &mut Looks) ->
 }
 
 /// As `holds_next`, if four cells are left.
-fn holds_four(cells: &[CellId], few: &[CellId], at: usize, count: &mut Looks) -> Option<usize>
+fn holds_four<K: Count>(cells: &[CellId], few: &[CellId], at: usize, count: &mut K) -> Option<usize>
     requires local { IsLocal cells.now }
     requires few_packed { IsPacked few.now }
     requires there { at + 4 ≤ length few.now }
     ensures answer { MatchOption result (IsWithin (has_leaf few.now) (has_leaf cells.now) → ⊥)
         (λ next. HoldsBetween cells.now few.now at next) }
     ensures within { IfSome result (λ next. (at < next) × (next ≤ length few.now)) }
-    ensures most { count.new.looks ≤ count.old.looks + 250 * (length few.now - at) }
-    ensures looks { IfSome result (λ next. count.new.looks ≤ count.old.looks + 250 * (next - at)) }
-    ensures least { 0 < length cells.now → 2 ≤ count.new.looks }
+    ensures most { K.looks count.new ≤ K.looks count.old + 250 * (length few.now - at) }
+    ensures looks { IfSome result (λ next. K.looks count.new ≤ K.looks count.old + 250 * (next - at)) }
+    ensures least { 0 < length cells.now → min 2 K.most ≤ K.looks count.new }
 {
     let list = CellList { cells };
     let a = look(few, at, count);
@@ -144,16 +133,16 @@ fn holds_four(cells: &[CellId], few: &[CellId], at: usize, count: &mut Looks) ->
 /// How many cells of `few` are known to share no leaf with a local list, once the next are searched, from index `at`
 /// on: one or four, and those after them that end before the next cell of the list begins. None if one of them shares a
 /// leaf.
-fn meets_next(cells: &[CellId], few: &[CellId], at: usize, count: &mut Looks) -> Option<usize>
+fn meets_next<K: Count>(cells: &[CellId], few: &[CellId], at: usize, count: &mut K) -> Option<usize>
     requires local { IsLocal cells.now }
     requires few_packed { IsPacked few.now }
     requires there { at < length few.now }
     ensures answer { MatchOption result (ShareSome (has_leaf cells.now) (has_leaf few.now))
         (λ next. MissesBetween cells.now few.now at next) }
     ensures within { IfSome result (λ next. (at < next) × (next ≤ length few.now)) }
-    ensures most { count.new.looks ≤ count.old.looks + 250 * (length few.now - at) }
-    ensures looks { IfSome result (λ next. count.new.looks ≤ count.old.looks + 250 * (next - at)) }
-    ensures least { 0 < length cells.now → 2 ≤ count.new.looks }
+    ensures most { K.looks count.new ≤ K.looks count.old + 250 * (length few.now - at) }
+    ensures looks { IfSome result (λ next. K.looks count.new ≤ K.looks count.old + 250 * (next - at)) }
+    ensures least { 0 < length cells.now → min 2 K.most ≤ K.looks count.new }
 {
     if by_four(at, few.len()) {
         return meets_four(cells, few, at, count);
@@ -169,16 +158,16 @@ fn meets_next(cells: &[CellId], few: &[CellId], at: usize, count: &mut Looks) ->
 }
 
 /// As `meets_next`, if four cells are left.
-fn meets_four(cells: &[CellId], few: &[CellId], at: usize, count: &mut Looks) -> Option<usize>
+fn meets_four<K: Count>(cells: &[CellId], few: &[CellId], at: usize, count: &mut K) -> Option<usize>
     requires local { IsLocal cells.now }
     requires few_packed { IsPacked few.now }
     requires there { at + 4 ≤ length few.now }
     ensures answer { MatchOption result (ShareSome (has_leaf cells.now) (has_leaf few.now))
         (λ next. MissesBetween cells.now few.now at next) }
     ensures within { IfSome result (λ next. (at < next) × (next ≤ length few.now)) }
-    ensures most { count.new.looks ≤ count.old.looks + 250 * (length few.now - at) }
-    ensures looks { IfSome result (λ next. count.new.looks ≤ count.old.looks + 250 * (next - at)) }
-    ensures least { 0 < length cells.now → 2 ≤ count.new.looks }
+    ensures most { K.looks count.new ≤ K.looks count.old + 250 * (length few.now - at) }
+    ensures looks { IfSome result (λ next. K.looks count.new ≤ K.looks count.old + 250 * (next - at)) }
+    ensures least { 0 < length cells.now → min 2 K.most ≤ K.looks count.new }
 {
     let list = CellList { cells };
     let a = look(few, at, count);

@@ -1,5 +1,5 @@
 //! Whether a union has the leaves of a cell or of another union, and which of its cells share a leaf with a cell.
-ghost use Rattle.std.specs.Prelude.{◌≡◌, ◌≤◌, ◌<◌, ◌↔◌, ℕ, IsTrue, length, All, true};
+ghost use Rattle.std.specs.Prelude.{◌≡◌, ◌≤◌, ◌<◌, ◌↔◌, ℕ, IsTrue, min, length, All, true};
 ghost use Rattle.s2cell.specs.Cell.{IsCell, covers};
 ghost use Rattle.s2list.specs.Union.{IsLocal, has_leaf, IsWithin, ShareSome};
 ghost use Rattle.s2list.specs.Looks.{FewForCell, FewForUnion};
@@ -7,7 +7,7 @@ ghost use Rattle.s2list.specs.Looks.{FewForCell, FewForUnion};
 use crate::few::{MUCH_LONGER, holds_few, meets_few};
 use crate::union::CellUnion;
 use s2cell::CellId;
-use s2list::{CellList, Counted};
+use s2list::{CellList, Count, Counted, Looks, Uncounted};
 
 impl CellUnion {
     /// Whether it has all leaves of the cell. Logarithmic in the number of its cells. S2 calls it `Contains`.
@@ -50,7 +50,7 @@ impl CellUnion {
     pub fn contains(&self, other: &CellUnion) -> bool
         ensures { IsTrue result ↔ IsWithin (has_leaf other.now.cells) (has_leaf self.now.cells) }
     {
-        self.contains_counted(other).answer
+        holds_all(self.cells(), other.cells(), &mut Uncounted)
     }
 
     /// The same, with the number of cells of both lists that it looks at: at least 2 if neither list is empty, and at
@@ -61,7 +61,12 @@ impl CellUnion {
         ensures looks { FewForUnion (length self.now.cells) (length other.now.cells) result.looks }
         ensures least { 0 < length self.now.cells → 0 < length other.now.cells → 2 ≤ result.looks }
     {
-        holds_all(self.cells(), other.cells())
+        let mut count = Looks { looks: 0 };
+        let answer = holds_all(self.cells(), other.cells(), &mut count);
+        Counted {
+            answer,
+            looks: count.looks,
+        }
     }
 
     /// Whether the two share a leaf; stops by the third cell after the first with a shared leaf. As many steps as
@@ -69,7 +74,7 @@ impl CellUnion {
     pub fn intersects(&self, other: &CellUnion) -> bool
         ensures { IsTrue result ↔ ShareSome (has_leaf self.now.cells) (has_leaf other.now.cells) }
     {
-        self.intersects_counted(other).answer
+        meets_any(self.cells(), other.cells(), &mut Uncounted)
     }
 
     /// The same, with the number of cells of both lists that it looks at, bounded as for `contains_counted`.
@@ -78,7 +83,12 @@ impl CellUnion {
         ensures looks { FewForUnion (length self.now.cells) (length other.now.cells) result.looks }
         ensures least { 0 < length self.now.cells → 0 < length other.now.cells → 2 ≤ result.looks }
     {
-        meets_any(self.cells(), other.cells())
+        let mut count = Looks { looks: 0 };
+        let answer = meets_any(self.cells(), other.cells(), &mut count);
+        Counted {
+            answer,
+            looks: count.looks,
+        }
     }
 
     /// The cells of the union that share a leaf with the cell. They are one run of its list. Logarithmic in the size of
@@ -94,32 +104,34 @@ impl CellUnion {
 }
 
 /// Whether `xs` has all leaves of `ys`.
-fn holds_all(xs: &[CellId], ys: &[CellId]) -> Counted
+fn holds_all<K: Count>(xs: &[CellId], ys: &[CellId], count: &mut K) -> bool
     requires x_local { IsLocal xs.now }
     requires y_local { IsLocal ys.now }
-    ensures answer { IsTrue result.answer ↔ IsWithin (has_leaf ys.now) (has_leaf xs.now) }
-    ensures looks { FewForUnion (length xs.now) (length ys.now) result.looks }
-    ensures least { 0 < length xs.now → 0 < length ys.now → 2 ≤ result.looks }
+    requires count { K.looks count.old ≡ 0 }
+    ensures answer { IsTrue result ↔ IsWithin (has_leaf ys.now) (has_leaf xs.now) }
+    ensures looks { FewForUnion (length xs.now) (length ys.now) (K.looks count.new) }
+    ensures least { 0 < length xs.now → 0 < length ys.now → min 2 K.most ≤ K.looks count.new }
 {
     if ys.len() <= xs.len() / MUCH_LONGER {
-        return holds_few(xs, ys);
+        return holds_few(xs, ys, count);
     }
-    s2list::contains_counted(&CellList { cells: xs }, &CellList { cells: ys })
+    s2list::holds_all(&CellList { cells: xs }, &CellList { cells: ys }, count)
 }
 
 /// Whether `xs` and `ys` share a leaf.
-fn meets_any(xs: &[CellId], ys: &[CellId]) -> Counted
+fn meets_any<K: Count>(xs: &[CellId], ys: &[CellId], count: &mut K) -> bool
     requires x_local { IsLocal xs.now }
     requires y_local { IsLocal ys.now }
-    ensures answer { IsTrue result.answer ↔ ShareSome (has_leaf xs.now) (has_leaf ys.now) }
-    ensures looks { FewForUnion (length xs.now) (length ys.now) result.looks }
-    ensures least { 0 < length xs.now → 0 < length ys.now → 2 ≤ result.looks }
+    requires count { K.looks count.old ≡ 0 }
+    ensures answer { IsTrue result ↔ ShareSome (has_leaf xs.now) (has_leaf ys.now) }
+    ensures looks { FewForUnion (length xs.now) (length ys.now) (K.looks count.new) }
+    ensures least { 0 < length xs.now → 0 < length ys.now → min 2 K.most ≤ K.looks count.new }
 {
     if ys.len() <= xs.len() / MUCH_LONGER {
-        return meets_few(xs, ys);
+        return meets_few(xs, ys, count);
     }
     if xs.len() <= ys.len() / MUCH_LONGER {
-        return meets_few(ys, xs);
+        return meets_few(ys, xs, count);
     }
-    s2list::intersects_counted(&CellList { cells: xs }, &CellList { cells: ys })
+    s2list::meets_any(&CellList { cells: xs }, &CellList { cells: ys }, count)
 }

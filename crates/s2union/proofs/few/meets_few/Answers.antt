@@ -7,17 +7,16 @@ use Rattle.s2list.proofs.Checking.{packed_from_local}
 use Rattle.s2union.proofs.few.meets_few.Goals as goal
 
 pub meets_next-requires-clause-few_packed : goal.meets_next-requires-clause-few_packed
-meets_next-requires-clause-few_packed c = packed_from_local c.args.ys.now c.requires.y_local
+meets_next-requires-clause-few_packed g c = packed_from_local c.args.ys.now c.requires.y_local
 
 pub returns-in-None-clause-looks : goal.returns-in-None-clause-looks
-returns-in-None-clause-looks c =
+returns-in-None-clause-looks g c =
     let few = c.loop-j.invariant.few in
     let most = c.in-None.ensures.most in
-    let told = c.answer_with.ensures.looks in
     few_looks _ _ _ c.requires.few (omega arith)
 
 pub loop-j-preserved : goal.loop-j-preserved
-loop-j-preserved c =
+loop-j-preserved g c =
     let few = c.loop-j.invariant.few in
     let within = c.in-Some.ensures.within in
     let looks = c.in-Some.ensures.looks in
@@ -32,15 +31,14 @@ loop-j-preserved c =
     }
 
 pub returns-clause-answer : goal.returns-clause-answer
-returns-clause-answer c = rw c.answer_with-2.ensures.answer (
+returns-clause-answer g c = (
   λ e. absurd (false≢true e),
   λ s. absurd (none_of_each c.args.xs.now c.args.ys.now (λ k h. c.loop-j.invariant.missed k (omega arith)
       (omega arith)) s),
 )
 
 pub returns-clause-looks : goal.returns-clause-looks
-returns-clause-looks c =
+returns-clause-looks g c =
     let few = c.loop-j.invariant.few in
     let in_y = c.loop-j.invariant.in_y in
-    let told = c.answer_with-2.ensures.looks in
     few_looks _ _ _ c.requires.few (omega arith)

@@ -1,14 +1,14 @@
-use Rattle.std.proofs.Common.{◌-◌, ◌*◌, ◌<◌, ◌≤◌, length}
+use Rattle.std.proofs.Common.{◌-◌, ◌*◌, ◌<◌, ◌≤◌, length, min}
 use Rattle.s2list.specs.Working.Sets.{MissesBetween}
 use Rattle.s2union.proofs.few.meets_few.Given as goal
 
 abbrev pub invariant-loop-j : goal.invariant-loop-j
-invariant-loop-j l = record {
+invariant-loop-j g l = record {
   in_y : l.j ≤ length l.ys;
   missed : MissesBetween l.xs l.ys 0 l.j;
-  few : l.count.looks ≤ 250 * l.j;
-  some : 0 < l.j → 2 ≤ l.count.looks;
+  few : g.K.Count.looks l.count ≤ 250 * l.j;
+  some : 0 < l.j → min 2 g.K.Count.most ≤ g.K.Count.looks l.count;
 }
 
 abbrev pub decreases-loop-j : goal.decreases-loop-j
-decreases-loop-j l = length l.ys - l.j
+decreases-loop-j g l = length l.ys - l.j

@@ -3,17 +3,18 @@ use Rattle.std.proofs.lemmas.Bool.{false≢true}
 use Rattle.s2cell.specs.Cell.{covers}
 use Rattle.s2list.specs.Union.{has_leaf, ShareSome}
 use Rattle.s2union.proofs.AskingFew.{more_places, one_of_each, one_of_four, run_missed}
+use Rattle.s2union.proofs.few.meets_four.Given.{Over}
 use Rattle.s2union.proofs.few.meets_four.Goals as goal
 use Rattle.s2union.proofs.few.meets_four.Goals.{After-intersects_cell_at_counted-fourth}
 
 -- whether one of the four shares a leaf with the list
-four : (c : After-intersects_cell_at_counted-fourth) →
+four : (g : Over) (c : After-intersects_cell_at_counted-fourth g) →
     IsTrue
     (((c.intersects_cell_at_counted-first.result || c.intersects_cell_at_counted-second.result)
     || c.intersects_cell_at_counted-third.result) || c.intersects_cell_at_counted-fourth.result)
     ↔ ((k : ℕ) × (c.args.at ≤ k) × (k < c.args.at + 4) ×
     ShareSome (covers (get_or c.args.few.now k 0)) (has_leaf c.args.cells.now))
-four c =
+four g c =
     let places = c.places_of_four_counted-places.ensures in
     one_of_four c.intersects_cell_at_counted-first.result c.intersects_cell_at_counted-second.result
     c.intersects_cell_at_counted-third.result c.intersects_cell_at_counted-fourth.result
@@ -28,17 +29,18 @@ four c =
     (places.fourth c.requires.local)))
 
 pub returns-then-first-second-clause-answer : goal.returns-then-first-second-clause-answer
-returns-then-first-second-clause-answer c =
+returns-then-first-second-clause-answer g c =
     let (k, from, to, shared) =
-    (four (goal.at.returns-then-first-second-clause-answer c).After-intersects_cell_at_counted-fourth).0
+    (four g (goal.at.returns-then-first-second-clause-answer g c).After-intersects_cell_at_counted-fourth).0
     c.if-first-second.true in
     one_of_each c.args.cells.now c.args.few.now k (omega arith) shared
 
 pub returns-else-first-second-clause-answer : goal.returns-else-first-second-clause-answer
-returns-else-first-second-clause-answer c =
+returns-else-first-second-clause-answer g c =
     let cells = c.args.cells.now in
     let few = c.args.few.now in
-    let none = (four (goal.at.returns-else-first-second-clause-answer c).After-intersects_cell_at_counted-fourth).1 in
+    let none = (four g
+    (goal.at.returns-else-first-second-clause-answer g c).After-intersects_cell_at_counted-fourth).1 in
     let from = c.pass_free.ensures.from in
     more_places (λ k. ShareSome (covers (get_or few k 0)) (has_leaf cells) → ⊥) c.args.at (c.args.at + 4)
     c.pass_free.result (λ k h l shared. false≢true (sym c.if-first-second.false ∙ none (k, h, l, shared)))
@@ -48,12 +50,12 @@ returns-else-first-second-clause-answer c =
     (λ n a b. c.pass_free.ensures.free n (omega arith) b) k (omega arith) l)
 
 pub returns-then-first-second-clause-most : goal.returns-then-first-second-clause-most
-returns-then-first-second-clause-most c =
+returns-then-first-second-clause-most g c =
     let found = c.places_of_four_counted-places.ensures.looks 64 (omega arith) in
     omega arith
 
 pub returns-else-first-second-clause-most : goal.returns-else-first-second-clause-most
-returns-else-first-second-clause-most c =
+returns-else-first-second-clause-most g c =
     let found = c.places_of_four_counted-places.ensures.looks 64 (omega arith) in
     let from = c.pass_free.ensures.from in
     let in_few = c.pass_free.ensures.within in
@@ -61,7 +63,7 @@ returns-else-first-second-clause-most c =
     omega arith
 
 pub returns-else-first-second-clause-looks : goal.returns-else-first-second-clause-looks
-returns-else-first-second-clause-looks c =
+returns-else-first-second-clause-looks g c =
     let found = c.places_of_four_counted-places.ensures.looks 64 (omega arith) in
     let from = c.pass_free.ensures.from in
     let in_few = c.pass_free.ensures.within in
