@@ -8,6 +8,7 @@ import re
 import string
 
 LEAVES = 6 * 4**30
+SIZES = [4 ** (30 - level) for level in range(31)]
 SIDE = 2**30
 QUADRANT = ((0, 1, 3, 2), (0, 2, 3, 1), (3, 2, 0, 1), (3, 1, 0, 2))
 TURN = (1, 0, 0, 3)
@@ -42,7 +43,7 @@ class Refused(Exception):
 
 
 def size(cell):
-    return 4 ** (30 - cell[0])
+    return SIZES[cell[0]]
 
 
 def run_of(cell):
@@ -57,8 +58,7 @@ def identifier(cell):
 
 def cell_of(number):
     """The cell with this identifier, or None."""
-    for level in range(31):
-        step = 4 ** (30 - level)
+    for level, step in enumerate(SIZES):
         if number % step == 0 and number // step % 2 == 1 and number // step // 2 < 6 * 4**level:
             return (level, number // step // 2)
     return None
@@ -138,10 +138,10 @@ def normal_form(runs):
     for first, end in runs:
         while first < end:
             level = 0
-            while first % 4 ** (30 - level) or first + 4 ** (30 - level) > end:
+            while first % SIZES[level] or first + SIZES[level] > end:
                 level += 1
-            cells.append((level, first // 4 ** (30 - level)))
-            first += 4 ** (30 - level)
+            cells.append((level, first // SIZES[level]))
+            first += SIZES[level]
     return cells
 
 

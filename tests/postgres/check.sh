@@ -23,6 +23,10 @@ rebuilt() { # if the header or the archive has changed, and only then
 }
 step "built again after the library has changed" rebuilt
 step "build, guarded" guarded guarded "$source" COPT=-Werror
+counted() { # sessions write their counts beside it
+  guarded counted "$source" COPT="-O0 --coverage" && { [ "$(id -u)" -ne 0 ] || chown -R postgres "$work/counted"; }
+}
+step "build, guarded, counting what is executed" counted
 step "build, guarded, with the sanitizers" guarded sanitized "$source" \
   COPT="-O1 -Werror -fsanitize=address,undefined -fno-sanitize-recover"
 [ "$failed" -eq 0 ] || finish
@@ -57,14 +61,13 @@ step "docs/SCALE.md" page SCALE.md scale
 step "200 questions over two servers" tests Servers
 
 export S2UNION_ROUNDS=150
-put_in guarded
 again() { tests Guarded AgainstTheModel WhatIsRefused Indexes Exclusion Aggregates "$@"; }
+put_in counted
 step "guarded: each allocation refused in turn, nothing written over, nothing left" again Planner
 covered() {
   local sources=databases/postgres
-  guarded covered "$source" COPT="-O0 --coverage" && { [ "$(id -u)" -ne 0 ] || chown -R postgres "$work/covered"; } &&
-    put_in covered && again Planner LargeQuestions &&
-    /usr/bin/python3 "$top/tests/c/coverage.py" "$work/covered" rewritten.c=$sources/s2union.c \
+  tests LargeQuestions &&
+    /usr/bin/python3 "$top/tests/c/coverage.py" "$work/counted" rewritten.c=$sources/s2union.c \
       planner.c=$sources/planner.c value.h=$sources/value.h
 }
 step "what these tests execute" covered

@@ -48,6 +48,7 @@ put_in() { # FOLDER: sessions that begin from now on have the extension built th
 }
 
 # A cluster's server under valgrind, with findings in $work/valgrind, or with the sanitizers, with findings in its log.
+# Neither looks for leaks: a session ends with memory that it has not freed, and with -q valgrind says nothing of it.
 start_under() { # FOLDER COMMAND..
   local folder=$work/$1
   shift
@@ -57,7 +58,8 @@ start_under() { # FOLDER COMMAND..
 
 with_valgrind() { # FOLDER
   mkdir -p "$work/valgrind" && chmod 777 "$work/valgrind" &&
-    start_under "$1" valgrind -q --trace-children=yes --undef-value-errors=no --log-file="$work/valgrind/%p"
+    start_under "$1" valgrind -q --trace-children=yes --undef-value-errors=no --leak-check=no \
+      --log-file="$work/valgrind/%p"
 }
 
 with_sanitizers() { # FOLDER

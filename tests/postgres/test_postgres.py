@@ -58,9 +58,9 @@ def psql(script, database=DATABASE):
 
 
 def ask(expressions, before="", database=DATABASE):
-    """What each expression is, as text, or its error."""
-    lines = "".join(f"SELECT coalesce(try($q$SELECT ({sql})::text$q$), 'null');\n" for sql in expressions)
-    answers = psql(before + lines, database)
+    """What each expression is, as text, or its error. One statement asks for all, each as a query of its own."""
+    rows = ",\n".join(f"($q$SELECT ({sql})::text$q$)" for sql in expressions)
+    answers = psql(f"{before}SELECT coalesce(try(query), 'null') FROM (VALUES {rows}) asked(query);\n", database)
     assert len(answers) == len(expressions), answers
     return answers
 
@@ -299,6 +299,13 @@ def flips_of(value):
     return good, bits - good
 
 
+OF_A_STORED_VALUE = (
+    "region", "region @> s2_cell('04')", "region && '1'", "'1' - region", "region | '3'", "region::bytea",
+    "s2_cells(region)", "s2_ancestors(region)", "region < '1'", "s2union_hash(region)", "s2_outer(region, 3)",
+    "s2_union_agg(region)",
+)
+
+
 class WhatIsRefused(Tests):
     @classmethod
     def setUpClass(cls):
@@ -323,15 +330,14 @@ class WhatIsRefused(Tests):
 
     def test_texts(self):
         texts = ("X", "2", "g", "1 g", "1,0/4", "0" * 17, "é" * 60)
-        self.all_refused([(f"'{text}'::s2union", "names no cell") for text in texts])
-        wrong = [("'1 04,park 3 X'::s2union", '"park" names no cell'), ("' 0/5\t1'::s2union", '"0/5" names no cell')]
+        wrong = [(f"'{text}'::s2union", "names no cell") for text in texts]
+        wrong += [("'1 04,park 3 X'::s2union", '"park" names no cell'), ("' 0/5\t1'::s2union", '"0/5" names no cell')]
         ends = ("\\n", "\\r", "\\t", "\\r\\n", ",")
         wrong += [(f"E'1 park{end}04'::s2union", '"park" names no cell') for end in ends]
-        self.all_refused(wrong)
-        self.all_refused([(f"s2_cell('{text}')", "not a cell") for text in ("", "X", "1 1", "6/")])
-        self.all_are([("''::s2union::text = '' and ' , '::s2union = ''", "true")])
+        self.all_refused(wrong + [(f"s2_cell('{text}')", "not a cell") for text in ("", "X", "1 1", "6/")])
         said = f'error: invalid input syntax for type s2union: "{"€" * 13}" names no cell' # psql drops half a sign
-        self.all_are([(f"md5(try($t$SELECT '1 {'€' * 20}'::s2union::text$t$))", md5(said))])
+        self.all_are([("''::s2union::text = '' and ' , '::s2union = ''", "true"),
+                      (f"md5(try($t$SELECT '1 {'€' * 20}'::s2union::text$t$))", md5(said))])
 
     def test_files(self):
         self.all_refused([(f"('\\x{file.hex()}'::bytea)::s2union", f"s2union: union file: {reason}")
@@ -380,12 +386,11 @@ class WhatIsRefused(Tests):
                 values = [f"NULL::{t.replace('_int8', 'bigint[]')}" if n == k else good[t] for n, t in enumerate(types)]
                 pairs.append((f"{name}({', '.join(values)})", "null"))
         self.assertGreater(len(pairs), 80)
-        self.all_are(pairs)
         operators = ("|", "&", "-", "#", "@>", "<@", "&&", "=", "<>", "<", "<=", ">", ">=")
-        self.all_are([(f"NULL::s2union {name} '1'::s2union", "null") for name in operators])
-        self.all_are([(f"'1'::s2union {name} NULL", "null") for name in operators])
-        self.all_are([("NULL::s2union", "null"), ("s2_union_agg(NULL::bigint)", "null"),
-                      ("s2_intersection_agg(NULL::s2union)", "null")])
+        pairs += [(f"NULL::s2union {name} '1'::s2union", "null") for name in operators]
+        pairs += [(f"'1'::s2union {name} NULL", "null") for name in operators]
+        self.all_are(pairs + [("NULL::s2union", "null"), ("s2_union_agg(NULL::bigint)", "null"),
+                              ("s2_intersection_agg(NULL::s2union)", "null")])
 
     def test_the_code_of_each_refusal(self):
         file = model.file([model.identifier(5, k) for k in (1, 7)])
@@ -407,30 +412,28 @@ class WhatIsRefused(Tests):
         for _ in range(FLIPPED):
             cells = model.normal(model.runs(self.random.cells(6)))
             values.append(stored(cells))
-        flips = "".join(f"SELECT (flip('\\x{value.hex()}')).*;\n" for value in values)
+        flips = "".join(f"SELECT * FROM flip('\\x{value.hex()}');\n" for value in values)
+        tries = "".join(f"""
+                    BEGIN
+                        SELECT ({query})::text INTO STRICT said FROM flipped;
+                        IF said IS NULL THEN others := others + 1; ELSE answers := answers + 1; END IF;
+                    EXCEPTION WHEN OTHERS THEN
+                        IF SQLERRM = 's2union: not a normalized list of cells' THEN refusals := refusals + 1;
+                        ELSE others := others + 1;
+                        END IF;
+                    END;""" for query in OF_A_STORED_VALUE)
         said = psql(f"""
             SET client_min_messages = error;
             DROP TABLE IF EXISTS flipped;
             CREATE TABLE flipped(id int, region s2union);
             CREATE OR REPLACE FUNCTION flip(file bytea, OUT answers int, OUT refusals int, OUT others int)
             LANGUAGE plpgsql AS $$
-            DECLARE query text; said text;
+            DECLARE said text;
             BEGIN
                 answers := 0; refusals := 0; others := 0;
                 FOR bit IN 0 .. 8 * length(file) - 1 LOOP
-                    EXECUTE format('UPDATE flipped SET region = %L::raw8::s2union',
-                        set_bit(file, bit, 1 - get_bit(file, bit)));
-                    FOREACH query IN ARRAY ARRAY['region', 'region @> s2_cell($t$04$t$)', 'region && $t$1$t$',
-                        '$t$1$t$ - region',
-                        'region | $t$3$t$', 'region::bytea', 's2_cells(region)', 's2_ancestors(region)',
-                        'region < $t$1$t$',
-                        's2union_hash(region)', 's2_outer(region, 3)', 's2_union_agg(region)'] LOOP
-                        said := try(format('SELECT (%s)::text FROM flipped', query));
-                        IF said NOT LIKE 'error: %' THEN answers := answers + 1;
-                        ELSIF said LIKE 'error: s2union: not a normalized list of cells' THEN refusals := refusals + 1;
-                        ELSE others := others + 1;
-                        END IF;
-                    END LOOP;
+                    UPDATE flipped SET region = set_bit(file, bit, 1 - get_bit(file, bit))::text::raw8::s2union;
+                    {tries}
                 END LOOP;
             END $$;
             INSERT INTO flipped VALUES (1, NULL);
@@ -438,39 +441,47 @@ class WhatIsRefused(Tests):
             DROP TABLE flipped;
         """)
         counts = [[int(word) for word in line.split("|")] for line in said]
-        wanted = [[12 * good, 12 * bad, 0] for good, bad in map(flips_of, values)]
+        times = len(OF_A_STORED_VALUE)
+        wanted = [[times * good, times * bad, 0] for good, bad in map(flips_of, values)]
         self.assertEqual(counts, wanted)
         self.assertGreater(sum(answers for answers, _, _ in wanted), 10 * FLIPPED)
 
 
 # By a scan and by an index, in how many questions the answers differ, how many rows match, and in how many lines of the
-# last plan the index stands. `asked` is a query of what the questions are about, and a condition has %s in its place.
+# last plan the index stands. `asked` is a query of what the questions are about, q; a condition has %s in its place.
+# The answers of a scan come from one query over all questions, and are kept for the next index, since the regions stay.
+# The index gets each question as a query of its own. Functions like this one stand in FROM, where they are called once;
+# (differ(..)).* would call it for each of its columns.
 DIFFER = """
+DROP TABLE IF EXISTS scanned;
+CREATE TABLE scanned(condition text, question text, ids int[]);
 CREATE OR REPLACE FUNCTION differ(condition text, by text, asked text,
     OUT different int, OUT matches bigint, OUT plans int)
 LANGUAGE plpgsql AS $$
-DECLARE q text; query text; line text; a int[]; b int[];
+DECLARE scan scanned; line text; ids int[];
 BEGIN
     different := 0; matches := 0; plans := 0;
-    FOR q IN EXECUTE asked LOOP
-        query := format('SELECT array_agg(id ORDER BY id) FROM regions WHERE ' || condition, q);
+    IF NOT EXISTS (SELECT FROM scanned s WHERE s.condition = differ.condition) THEN
         PERFORM set_config('enable_seqscan', 'on', true), set_config('enable_bitmapscan', 'off', true),
             set_config('enable_indexscan', 'off', true);
-        EXECUTE query INTO a;
-        PERFORM set_config('enable_seqscan', 'off', true), set_config('enable_bitmapscan', 'on', true),
-            set_config('enable_indexscan', 'on', true);
-        EXECUTE query INTO b;
-        IF a IS DISTINCT FROM b THEN different := different + 1; END IF;
-        matches := matches + coalesce(array_length(a, 1), 0);
+        EXECUTE format('INSERT INTO scanned SELECT %L, format(''%%L::%%s'', q, pg_typeof(q)),
+            (SELECT array_agg(id ORDER BY id) FROM regions WHERE %s) FROM (%s) asked',
+            condition, format(condition, 'q'), asked);
+    END IF;
+    PERFORM set_config('enable_seqscan', 'off', true), set_config('enable_bitmapscan', 'on', true),
+        set_config('enable_indexscan', 'on', true);
+    FOR scan IN SELECT * FROM scanned s WHERE s.condition = differ.condition LOOP
+        EXECUTE format('SELECT array_agg(id ORDER BY id) FROM regions WHERE ' || condition, scan.question) INTO ids;
+        IF ids IS DISTINCT FROM scan.ids THEN different := different + 1; END IF;
+        matches := matches + coalesce(array_length(scan.ids, 1), 0);
     END LOOP;
-    FOR line IN EXECUTE format('EXPLAIN SELECT * FROM regions WHERE ' || condition, q) LOOP
+    FOR line IN EXECUTE format('EXPLAIN SELECT * FROM regions WHERE ' || condition, scan.question) LOOP
         IF line LIKE '%' || by || '%' THEN plans := plans + 1; END IF;
     END LOOP;
 END $$;
 """
-UNIONS = "SELECT format('%L::s2union', region) FROM questions ORDER BY id"
-CELLS = ("SELECT format('%L::bigint', (s2_cells(region))[1]) FROM questions"
-         " WHERE s2_count(region) > 0 ORDER BY id LIMIT 200")
+UNIONS = "SELECT region AS q FROM questions ORDER BY id"
+CELLS = "SELECT (s2_cells(region))[1] AS q FROM questions WHERE s2_count(region) > 0 ORDER BY id LIMIT 200"
 # Questions about a cell are written in three ways: by an operator, by its commutator, and by the function.
 ABOUT_CELLS = ("region @> %s", "%s <@ region", "region && %s", "%s && region", "s2_contains(region, %s)",
                "s2_within(%s, region)", "s2_intersects(region, %s)", "s2_intersects(%s, region)")
@@ -478,7 +489,7 @@ ABOUT_CELLS = ("region @> %s", "%s <@ region", "region && %s", "%s && region", "
 
 def differ(conditions, by, asked=CELLS):
     values = ", ".join(f"('{condition}')" for condition in conditions)
-    return f"SELECT condition, (differ(condition, '{by}', $${asked}$$)).* FROM (VALUES {values}) v(condition);\n"
+    return f"SELECT * FROM (VALUES {values}) v(condition), differ(condition, '{by}', $${asked}$$);\n"
 
 
 def differ_by(operators, by):
@@ -527,7 +538,7 @@ class Indexes(Tests):
         forms = [model.runs(xs) for xs in regions]
         for ys in questions[:100]:
             y = model.runs(ys)
-            wanted["&&"] += sum(bool(model.common(x, y)) for x in forms)
+            wanted["&&"] += sum(model.meet(x, y) for x in forms)
         self.assertEqual(len(said), 10 + 2 * len(ABOUT_CELLS))
         for name, different, found, plans in said:
             self.assertEqual(different, "0", name)
@@ -949,7 +960,7 @@ class Exclusion(Tests):
             regions.append(self.random.cells(30, near=near, low=5))
         said = psql("".join(f"SELECT put({u(xs)});\n" for xs in regions[1:]))
         for xs, answer in zip(regions[1:], said):
-            free = not model.common(model.runs(xs), taken)
+            free = not model.meet(model.runs(xs), taken)
             self.assertEqual(answer, "t" if free else "f")
             if free:
                 taken = model.joined(taken + model.runs(xs))
@@ -1032,7 +1043,7 @@ class Guarded(Tests):
         script = """SET parallel_setup_cost = 0; SET parallel_tuple_cost = 0; SET min_parallel_table_scan_size = 0;
             SET max_parallel_workers = 0; SET enable_seqscan = off; SET client_min_messages = error;
             ANALYZE parts; ALTER TABLE parts SET (parallel_workers = 1);\n"""
-        script += "".join(f"SELECT (refused_in_turn($q${query}$q$)).*;\n" for query in queries)
+        script += "".join(f"SELECT * FROM refused_in_turn($q${query}$q$);\n" for query in queries)
         said = [line.split("|", 2) for line in psql(script)]
         self.assertEqual(len(said), len(queries))
         for query, (allocations, errors, wrong) in zip(queries, said):

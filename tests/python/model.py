@@ -1,5 +1,6 @@
 """The plain model of cells and unions, tests/peer/model.py, by identifiers: a union is the sorted list of its runs."""
 
+from functools import cache
 from pathlib import Path
 from runpy import run_path
 from types import SimpleNamespace
@@ -7,7 +8,7 @@ from types import SimpleNamespace
 plain = SimpleNamespace(**run_path(str(Path(__file__).resolve().parents[1] / "peer" / "model.py")))
 LEAVES = plain.LEAVES
 VERSION = (Path(__file__).resolve().parents[2] / "VERSION").read_text().strip()
-cell = plain.cell_of
+cell = cache(plain.cell_of)
 joined = plain.joined
 
 
@@ -31,6 +32,11 @@ def runs(cells):
 
 def common(xs, ys):
     return joined([(max(a, c), min(b, d)) for a, b in xs for c, d in ys])
+
+
+def meet(xs, ys):
+    """Whether there is a leaf in both."""
+    return any(a < d and c < b for a, b in xs for c, d in ys)
 
 
 def rest(xs):
@@ -87,9 +93,11 @@ def faults_of_files():
     return faults + [(good[:1] + b"\xff" * 8 + good[9:], "bytes are missing")]
 
 
+@cache
 def token(number):
     return f"{number:016x}".rstrip("0")
 
 
+@cache
 def debug(number):
     return plain.debug(cell(number))
