@@ -22,12 +22,12 @@ FOLDER = os.path.join(TOP, "tests", "faults", "let-through")
 ASKED = [
     "assignments_count_as_out_of_memory+decode_always_out_of_memory+folder_always_fails",
     "folder_has_no_file",
-    "every_edit_answers_memory",
-    "save_always_out_of_memory",
+    "every_edit_answers_memory+save_always_out_of_memory",
     "run_ends_at_once",
 ]
-sys.path.insert(0, os.path.join(TOP, "tests", "mutants"))
+sys.path += [os.path.join(TOP, "tests", "mutants"), os.path.join(TOP, "tools")]
 from mutant_texts import make  # noqa: E402
+from over_gate import crate_of, words_of_trial  # noqa: E402
 
 
 def copy_of_the_sources(room):
@@ -38,14 +38,16 @@ def copy_of_the_sources(room):
 
 
 def built(copy, to):
-    """Builds the program of the copy, unproved. `rt try` deletes what it built, so a link is made to it in time."""
+    """Builds the program of the copy, unproved. The trial deletes what it built, so a link is made to it in time."""
+    crate = crate_of("calculator", copy)
     with tempfile.TemporaryDirectory(dir=copy) as room:
         trial = subprocess.Popen(
-            ["rt", "try", "--", "run"], cwd=os.path.join(copy, "crates/calculator"), env={**os.environ, "TMPDIR": room},
-            stdin=subprocess.DEVNULL, stdout=subprocess.DEVNULL, stderr=subprocess.DEVNULL,
+            words_of_trial(crate, "--stdin", os.devnull, "--arg", "run"), cwd=crate.folder,
+            env={**os.environ, "TMPDIR": room}, stdin=subprocess.DEVNULL, stdout=subprocess.DEVNULL,
+            stderr=subprocess.DEVNULL,
         )
         while trial.poll() is None and not os.path.exists(to):
-            for program in glob.glob(os.path.join(room, "*", "*", "program")):
+            for program in glob.glob(os.path.join(room, "*", "program")):
                 try:
                     os.link(program, to)
                 except FileNotFoundError:
@@ -55,10 +57,9 @@ def built(copy, to):
     return os.path.exists(to)
 
 
-def said_by(command, folder, read=""):
-    done = subprocess.run(
-        command, cwd=folder, input=read, capture_output=True, encoding="utf-8", errors="replace"
-    )
+def said_by(command, folder):
+    done = subprocess.run(command, cwd=folder, stdin=subprocess.DEVNULL, capture_output=True, encoding="utf-8",
+                          errors="replace")
     return done.stdout + done.stderr
 
 
@@ -97,8 +98,10 @@ def said_of(copy, mutants):
     if not first.crate:
         program = os.path.join(copy, first.name)
         return said_by(words_of_tests(program, first.test), TOP) if built(copy, program) else "not built"
-    crate = os.path.join(copy, "crates", first.crate)
-    return said_by(["rt", "try"], crate, "".join(row_of(crate, mutant.test) for mutant in mutants))
+    crate, rows = crate_of(first.crate, copy), os.path.join(copy, "rows")
+    with open(rows, "w", encoding="utf-8") as it:
+        it.writelines(row_of(crate.folder, mutant.test) for mutant in mutants)
+    return said_by(words_of_trial(crate, "--stdin", rows), crate.folder)
 
 
 def tried(copy, mutants):
