@@ -649,6 +649,8 @@ class Planner(Tests):
         ):
             rows = int(psql(f"SELECT count(*) FROM {table} WHERE {condition}")[0])
             expected = self.expected(self.plan(f"SELECT * FROM {table} WHERE {condition}"))
+            if factor == 30 and expected > factor * max(rows, 1): # once in 200 times the sample has such a row
+                expected = self.expected(self.plan(f"SELECT * FROM {table} WHERE {condition}", f"ANALYZE {table};"))
             self.assertLessEqual(rows, factor * expected, condition)
             self.assertLessEqual(expected, factor * max(rows, 1), condition)
         for condition in ("region @> leaf", "region && leaf", "leaf <@ region", "region @> leaf::s2union"):
