@@ -1,4 +1,5 @@
 //! Calls of `s2cell`.
+use crate::texts;
 use crate::texts::{add_token, cells_of, numbers_of};
 use row_table::add_line;
 use s2cell::{CellId, FACE_LEAVES, SIDE};
@@ -110,10 +111,7 @@ fn add_described(
 /// Adds the number of a cell's first leaf on its face.
 fn add_number(alloc: Global, found: &mut Vec<u8>, cell: Option<CellId>) -> Result<(), AllocError> {
     match cell {
-        Some(cell) => {
-            let number = cell.first_leaf() % FACE_LEAVES;
-            add_line(found, &format!(in alloc; "{number}")?)
-        }
+        Some(cell) => texts::add_number(alloc, found, cell.first_leaf() % FACE_LEAVES),
         None => add_line(found, "none"),
     }
 }

@@ -1,6 +1,7 @@
 //! Changes of a register: those that an editor keeps, and those between two unions.
 use crate::edits::register_of;
-use crate::texts::{add_cells, add_tokens, cut, union_of};
+use crate::texts;
+use crate::texts::{add_cells, cut, union_of};
 use row_table::add_line;
 use s2edit::{Change, Editor, Register};
 use s2union::CellUnion;
@@ -55,17 +56,14 @@ fn add_change(
     name: &str,
     change: Option<&Change>,
 ) -> Result<(), AllocError> {
-    let Some(change) = change else {
-        return add_line(found, &format!(in alloc; "{name} none")?);
-    };
-    let register = change.register.index();
-    let head = format!(in alloc; "{name} register {register} out")?;
-    found.extend_from_slice(head.as_bytes())?;
-    add_tokens(found, &change.out)?;
-    found.extend_from_slice(b" put")?;
-    add_tokens(found, &change.put)?;
-    found.push(b'\n')?;
-    Ok(())
+    found.extend_from_slice(name.as_bytes())?;
+    match change {
+        Some(change) => {
+            let register = change.register.index() as u64;
+            texts::add_change(alloc, found, register, &change.out, &change.put)
+        }
+        None => add_line(found, " none"),
+    }
 }
 
 /// Adds the change of register a from one union to another, `CELLS / CELLS`, which of the two it fits, and what it

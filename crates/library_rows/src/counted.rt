@@ -2,7 +2,7 @@
 ghost use Rattle.std.specs.Prelude.{◌<◌};
 
 use crate::changes::add_looks;
-use crate::texts::{cut, numbers_of, union_of, yes_or_no};
+use crate::texts::{add_number, cut, numbers_of, union_of, yes_or_no};
 use row_table::add_line;
 use s2cell::CellId;
 use s2list::Counted;
@@ -32,9 +32,7 @@ pub fn answer(
     } else if name == "intersects" {
         add_line(found, yes_or_no(one.intersects(&other)))?;
     } else if name == "contains_counted" {
-        let counted = one.contains_counted(&other);
-        let (answer, looks) = (yes_or_no(counted.answer), counted.looks);
-        add_line(found, &format!(in alloc; "{answer} looks {looks}")?)?;
+        add_counted(alloc, found, one.contains_counted(&other))?;
     } else {
         return Ok(false);
     }
@@ -77,7 +75,7 @@ fn add_spaced(alloc: Global, words: &str, found: &mut Vec<u8>) -> Result<(), All
     add_few(alloc, found, spaced.contains_counted(&leaves))?;
     add_few(alloc, found, spaced.intersects_counted(&leaves))?;
     let shared = spaced.intersection(&leaves)?.len();
-    add_line(found, &format!(in alloc; "{shared}")?)
+    add_number(alloc, found, shared as u64)
 }
 
 /// Adds how many of the spaced cells are looked at to test and to make the change that takes a hundred leaves of the
@@ -94,9 +92,18 @@ fn add_spaced_change(alloc: Global, words: &str, found: &mut Vec<u8>) -> Result<
 
 /// Adds an answer, and whether fewer than a hundred cells were looked at, or how many.
 fn add_few(alloc: Global, found: &mut Vec<u8>, counted: Counted) -> Result<(), AllocError> {
-    let (answer, looks) = (yes_or_no(counted.answer), counted.looks);
-    if looks < 100 {
-        return add_line(found, &format!(in alloc; "{answer} few looks")?);
+    if counted.looks >= 100 {
+        return add_counted(alloc, found, counted);
     }
+    if counted.answer {
+        add_line(found, "yes few looks")
+    } else {
+        add_line(found, "no few looks")
+    }
+}
+
+/// Adds an answer, and how many cells were looked at.
+fn add_counted(alloc: Global, found: &mut Vec<u8>, counted: Counted) -> Result<(), AllocError> {
+    let (answer, looks) = (yes_or_no(counted.answer), counted.looks);
     add_line(found, &format!(in alloc; "{answer} looks {looks}")?)
 }

@@ -1,5 +1,5 @@
 //! Sessions: the calls of `s2file` on session files, and those of `s2edit` that make and take sessions.
-use crate::texts::{add_bytes, add_tokens};
+use crate::texts::{add_bytes, add_change, add_tokens};
 use row_table::{add_line, bytes_of};
 use s2edit::{Editor, RestoreFault};
 use s2file::{Move, Session, SessionFault, decode_session, encode_session};
@@ -75,13 +75,9 @@ fn add_moves(
     found: &mut Vec<u8>,
 ) -> Result<(), AllocError> {
     for change in moves {
-        let register = change.register;
-        let head = format!(in alloc; "{side} register {register} out")?;
-        found.extend_from_slice(head.as_bytes())?;
-        add_tokens(found, &change.out)?;
-        found.extend_from_slice(b" put")?;
-        add_tokens(found, &change.put)?;
-        found.push(b'\n')?;
+        found.extend_from_slice(side.as_bytes())?;
+        let register = u64::from(change.register);
+        add_change(alloc, found, register, &change.out, &change.put)?;
     }
     Ok(())
 }

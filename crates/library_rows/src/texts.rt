@@ -77,6 +77,28 @@ pub fn add_cells(found: &mut Vec<u8>, cells: &[CellId]) -> Result<(), AllocError
     Ok(())
 }
 
+/// Adds the number of a register, and the tokens of the cells that a change takes out and puts in.
+pub fn add_change(
+    alloc: Global,
+    found: &mut Vec<u8>,
+    register: u64,
+    out: &[CellId],
+    put: &[CellId],
+) -> Result<(), AllocError> {
+    let head = format!(in alloc; " register {register} out")?;
+    found.extend_from_slice(head.as_bytes())?;
+    add_tokens(found, out)?;
+    found.extend_from_slice(b" put")?;
+    add_tokens(found, put)?;
+    found.push(b'\n')?;
+    Ok(())
+}
+
+/// Adds a line of a number.
+pub fn add_number(alloc: Global, found: &mut Vec<u8>, number: u64) -> Result<(), AllocError> {
+    add_line(found, &format!(in alloc; "{number}")?)
+}
+
 /// Adds a line of the hexadecimal digits of bytes.
 pub fn add_bytes(found: &mut Vec<u8>, bytes: &[u8]) -> Result<(), AllocError> {
     for byte in bytes {

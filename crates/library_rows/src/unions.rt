@@ -1,5 +1,7 @@
 //! Calls of `s2union` on unions and lists of cells.
-use crate::texts::{add_cells, add_token, cells_of, cut, numbers_of, union_of, yes_or_no};
+use crate::texts::{
+    add_cells, add_number, add_token, cells_of, cut, numbers_of, union_of, yes_or_no,
+};
 use row_table::add_line;
 use s2cell::CellId;
 use s2union::{CellUnion, is_normalized};
@@ -58,7 +60,7 @@ fn add_denormalized(alloc: Global, words: &str, found: &mut Vec<u8>) -> Result<(
     }
     let union = union_of(alloc, tokens)?;
     let count = union.denormalized_len(min as u8, modulus as u8);
-    add_line(found, &format!(in alloc; "{count}")?)?;
+    add_number(alloc, found, count)?;
     if count > 1000 {
         return Ok(());
     }
@@ -86,8 +88,7 @@ fn add_collected(alloc: Global, found: &mut Vec<u8>, union: CellUnion) -> Result
     }
     add_line(found, yes_or_no(union.is_empty()))?;
     add_token(found, last)?;
-    let count = union.iter().count();
-    add_line(found, &format!(in alloc; "{count}")?)?;
+    add_number(alloc, found, union.iter().count() as u64)?;
     let cells: Vec<CellId> = union.into_iter().collect(alloc)?;
     add_cells(found, &cells)
 }
