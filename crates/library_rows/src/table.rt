@@ -26,19 +26,36 @@ impl<R: Files + AllocGlobal> Table for Libraries<R> {
         let mut memory = MemoryShelf::new(alloc);
         for line in lines {
             if let Some(call) = line.strip_prefix("? ") {
-                let (name, words) = call.split_once(" ").unwrap_or((call, ""));
-                if name == "folder" {
-                    shelves::add_answer(alloc, &mut self.folder, words, &mut found)?;
-                } else if name == "memory" {
-                    shelves::add_answer(alloc, &mut memory, words, &mut found)?;
-                } else if name == "fail" {
-                    shelves::fail(&mut memory, words);
-                } else if !answer_of_editor(alloc, &mut editor, name, words, &mut found)? {
-                    add_answer(alloc, name, words, &mut found)?;
-                }
+                self.make(alloc, call, &mut editor, &mut memory, &mut found)?;
             }
         }
         Ok(found)
+    }
+}
+
+impl<R: Files + AllocGlobal> Libraries<R> {
+    /// Makes a call, and adds its answer.
+    fn make(
+        &mut self,
+        alloc: Global,
+        call: &str,
+        editor: &mut Editor,
+        memory: &mut MemoryShelf,
+        found: &mut Vec<u8>,
+    ) -> Result<(), AllocError> {
+        let (name, words) = call.split_once(" ").unwrap_or((call, ""));
+        if name == "folder" {
+            shelves::add_answer(alloc, &mut self.folder, words, found)
+        } else if name == "memory" {
+            shelves::add_answer(alloc, memory, words, found)
+        } else if name == "fail" {
+            shelves::fail(memory, words);
+            Ok(())
+        } else if answer_of_editor(alloc, editor, name, words, found)? {
+            Ok(())
+        } else {
+            add_answer(alloc, name, words, found)
+        }
     }
 }
 
