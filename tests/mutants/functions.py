@@ -1,10 +1,10 @@
 """Tries mutants of the crates, which the prover has to refuse: tests/run mutants -- [--all | NAME..].
 
-Each is tried by the functions that it changes. Only these and those that they call are checked, over the libraries that
-`rt ci` has just proved. Mutants of different functions are made in one copy of the crate and checked together, since
-what is proved of a function says nothing of the text of another; but one that calls a function that isn't proved is
-checked again without that one. The next check of the copy begins with what this one proved. A mutant that changes no
-function, or whose function is proved with it, is checked with the whole crate.
+Each is tried by the functions that it changes, over the libraries that `rt ci` has just proved. Mutants of different
+functions are made in one copy of the crate and checked together, since what is proved of a function says nothing of the
+text of another. There the functions that they call have a hole in place of a proof, as a proof rests on the statements
+of these alone. A mutant that isn't refused so is checked by itself, with those that it calls; and if it names no
+function, with the whole crate. The next check of the copy begins with what this one proved.
 
 `.ci/run` tries those that name their function, which are those that were asked for, and then some of the others, in an
 order that the commit's hash gives, for BUDGET seconds of processor time. --all tries all, also those in must-fail/,
@@ -23,14 +23,21 @@ import sys
 import tempfile
 from pathlib import Path
 
-from mutant_texts import FUNCTION, functions_of, make
+from mutant_texts import FUNCTION, all_functions, functions_at, functions_of, make
 
 sys.path.insert(0, str(Path(__file__).resolve().parents[2] / "tools"))
 from over_gate import TOP, crate_of, has_libraries, words_of_check  # noqa: E402
 
 BUDGET = 60
 AT_ONCE = 4
-ENDED = re.compile(r"^only=\d+ proved=\d+$")
+ENDED = re.compile(r"^only=\d+ (?:proved|holes)=\d+$")
+HOLE = """use Rattle.{crate}.proofs.{path}.Statement.{{statement}}
+
+pub {name}_spec : {{M : Type 1}} → statement M
+{name}_spec = ?
+"""
+SAID = re.compile(r"^fn \w+::(\S+): (.*)")
+DEPENDS = "depends on a hole"
 OPEN = re.compile(r"^fn \S+: (?:not proved|no proof)\b")
 REFUSED, NOT_REFUSED, NOT_TRIED = "refused", "NOT REFUSED", "NOT TRIED"
 
@@ -41,6 +48,7 @@ class Mutant:
         self.crate, self.name = self.folder.name, file.stem
         self.is_named = bool(FUNCTION.search(file.read_text()))
         self.functions = functions_of(file, self.folder)
+        self.changed = {*(self.functions or ()), *(functions_at(file, self.folder) or ())}
 
     def says(self, verdict, more=""):
         print(f"{self.crate}/{self.name}: {verdict}{more}", flush=True)
@@ -68,7 +76,7 @@ class Copy:
     """A copy of a crate, in which mutants are made."""
 
     def __init__(self, crate, words, room):
-        self.words, self.folder = words, os.path.join(room, crate)
+        self.crate, self.words, self.folder = crate, words, os.path.join(room, crate)
         for part in ("src", "specs", "proofs"):
             source = os.path.join(TOP, "crates", crate, part)
             if os.path.isdir(source):
@@ -76,36 +84,58 @@ class Copy:
 
     def tried(self, waiting):
         """What was found of each mutant."""
-        found, left = [], [mutant for mutant in waiting if not mutant.functions]
-        waiting = [mutant for mutant in waiting if mutant.functions]
-        while waiting:
-            verdicts = self.judged(waiting)
-            left += [it for it, verdict in verdicts.items() if verdict != REFUSED and not it.is_named]
-            found += [it.says(verdict) for it, verdict in verdicts.items() if it not in left]
-            waiting = [mutant for mutant in waiting if mutant not in verdicts]
-        return found + [self.alone(mutant) for mutant in left]
+        found, is_more = [], True
+        while is_more:
+            refused = [it for together in rounds([it for it in waiting if it.functions])
+                       for it in self.refused(together)]
+            found += [it.says(REFUSED) for it in refused]
+            waiting = [it for it in waiting if it not in refused]
+            is_more = bool(refused)
+        return found + [self.by_itself(mutant) for mutant in waiting]
 
-    def judged(self, waiting):
-        """The verdicts on those mutants that could be judged together; on each by itself, if there is none."""
-        verdicts = {}
-        for together in rounds(waiting):
-            verdicts.update(self.checked(together) or {})
-        verdicts = {it: verdict for it, verdict in verdicts.items() if verdict}
-        return verdicts or {it: verdict or NOT_TRIED for each in waiting
-                            for it, verdict in (self.checked([each]) or {each: None}).items()}
+    def refused(self, together):
+        """Those of these mutants of different functions that are refused if what these call is taken as proved."""
+        changed = set().union(*(mutant.changed for mutant in together))
+        others = [words for words in all_functions(self.folder) if not any(ends_in(words, it) for it in changed)]
+        proofs = [self.put_hole(words) for words in others]
+        try:
+            lines = self.checked(together, "--allow-holes", "--short-goals")
+        finally:
+            for proof in proofs:
+                proof.unlink()
+        said = dict(match.groups() for line in lines if (match := SAID.match(line)))
+        taken = [said.get("::".join(words), DEPENDS) for words in others]
+        if not all(it.startswith(DEPENDS) for it in taken):
+            return []
+        return [mutant for mutant in together if verdict_on(mutant, lines, len(together) == 1) == REFUSED]
 
-    def checked(self, together):
-        """What the functions of mutants of different functions say of each, or None if the check came to no end."""
+    def put_hole(self, words):
+        """Puts a hole in place of the proof of a function."""
+        proof = Path(self.folder, "proofs", *words, "Proof.antt")
+        proof.parent.mkdir(parents=True, exist_ok=True)
+        proof.write_text(HOLE.format(crate=self.crate, path=".".join(words), name=words[-1]))
+        return proof
+
+    def by_itself(self, mutant):
+        """What was found of a mutant, first with the functions that those which it changes call."""
+        if mutant.functions:
+            verdict = verdict_on(mutant, self.checked([mutant]), True)
+            if verdict == REFUSED or mutant.is_named:
+                return mutant.says(verdict)
+        return self.alone(mutant)
+
+    def checked(self, together, *more):
+        """What a check says of the functions of mutants; no lines if it came to no end."""
         originals = {}
         for mutant in together:
             originals = {**(made(mutant, self.folder) or {}), **originals}
         only = [word for mutant in together for function in mutant.functions for word in ("--only", function)]
-        _, lines = self.check("--incremental", "proved", *only)
+        _, lines = self.check("--incremental", "proved", *more, *only)
         restore(originals)
-        if not ENDED.match(lines[-1]):
-            print(f"{together[0].crate}: {len(together)} together: {lines[-1][:120]}", flush=True)
-            return None
-        return {mutant: verdict_on(mutant, lines, len(together) == 1) for mutant in together}
+        if ENDED.match(lines[-1]):
+            return lines
+        print(f"{self.crate}: {len(together)} together: {lines[-1][:120]}", flush=True)
+        return []
 
     def alone(self, mutant):
         """What was found of a mutant that its functions alone don't refuse: those that call them may do."""
@@ -124,6 +154,11 @@ class Copy:
         done = subprocess.run([*self.words, *more], cwd=self.folder, stdin=subprocess.DEVNULL, stdout=subprocess.PIPE,
                               stderr=subprocess.STDOUT, encoding="utf-8", errors="replace")
         return done.returncode, done.stdout.rstrip().split("\n")
+
+
+def ends_in(words, name):
+    """Whether the words of a function's name end in this name."""
+    return f"::{'::'.join(words)}".endswith(f"::{name}")
 
 
 def made(mutant, folder):

@@ -17,6 +17,8 @@ from pathlib import Path
 LINE = re.compile(r"^(file|old|new): ?(.*)$", re.M)
 FUNCTION = re.compile(r"^function: (\S+)$", re.M)
 FN = re.compile(r'^ *(?:pub(?:\([a-z]+\))? )?(?:const )?(?:extern "C" )?fn (\w+)')
+TYPE = re.compile(r"^(?:pub(?:\([a-z]+\))? )?(?:struct|enum) (\w+)", re.M)
+TRAIT = ("trait ", "pub trait ")
 BLOCK = re.compile(r"^(?:pub )?(?:impl(?:<.*?>)? (?:(\w+)(?:<(.*?)>)? for )?|trait )(?:&(?:mut )?)?(\w+)")
 
 
@@ -54,8 +56,11 @@ def functions_of(mutant, folder):
     """The functions that a mutant of a crate changes, by the ends of their names: the one that it names, or else those
     in which its old texts stand. None if one of them stands in no function."""
     named = FUNCTION.search(Path(mutant).read_text())
-    if named:
-        return [named[1]]
+    return [named[1]] if named else functions_at(mutant, folder)
+
+
+def functions_at(mutant, folder):
+    """Those in which the old texts of a mutant of a crate stand. None if one of them stands in no function."""
     places = [(Path(folder) / file, olds) for file, olds, _ in changes(mutant) if not olds[0].startswith("use ")]
     texts = [(path, text_before(path, olds)) for path, olds in places]
     found = {function_at(path, before) for path, before in texts if before is not None}
@@ -78,20 +83,46 @@ def function_at(path, before):
     prints, or None. A method of a trait's impl is printed as of the type's name and the trait's in one word."""
     if path.suffix != ".rt":
         return None
+    *_, (block, name) = places_of_lines(before)
+    if name is None:
+        return None
+    if block:
+        trait, arguments, kind = block.groups()
+        return f"{kind}{trait or ''}{arguments or '' if trait == 'From' else ''}::{name}"
+    return f"{path.stem}::{name}" if path.stem not in ("lib", "main") else name
+
+
+def places_of_lines(text):
+    """For each line of a source the match of the impl or trait that it is in, or None, and the function, or None."""
     name = block = None
-    lines = before.split("\n")
+    lines = text.split("\n")
     for line, earlier in zip(lines, [""] + lines):
         if earlier == "}":
             name = block = None
         fn, outer = FN.match(line), BLOCK.match(line)
         if outer:
-            trait, kind, block = outer.groups()
-            block, name = block + (trait or "") + (kind or "" if trait == "From" else ""), None
+            block, name = outer, None
         elif fn:
             name = fn[1]
-    if name is None:
-        return None
-    return f"{block or path.stem}::{name}" if block or path.stem not in ("lib", "main") else name
+        yield block, name
+
+
+def all_functions(folder):
+    """The functions of a crate's sources, each as the words of the name that a check prints after the crate's; but
+    not those of traits with arguments, which may stand in these names too. A method is in the module of its type."""
+    root = Path(folder, "src")
+    texts = {modules_of(path.relative_to(root)): path.read_text() for path in sorted(root.rglob("*.rt"))}
+    homes = {kind: modules for modules, text in texts.items() for kind in TYPE.findall(text)}
+    places = {(modules, *place) for modules, text in texts.items() for place in places_of_lines(text) if place[1]}
+    free = {(*modules, name) for modules, block, name in places if not block}
+    blocks = {(*block.groups(), name) for _, block, name in places if block and not block[0].startswith(TRAIT)}
+    return free | {(*homes[kind], kind + (trait or ""), name)
+                   for trait, arguments, kind, name in blocks if kind in homes and not arguments}
+
+
+def modules_of(path):
+    """The words of a source's module, by its path below src/."""
+    return tuple(word for word in path.with_suffix("").parts if word not in ("lib", "main", "mod"))
 
 
 def make(mutant, folder):
