@@ -6,10 +6,10 @@ text of another. There the functions that they call have a hole in place of a pr
 of these alone. A mutant that isn't refused so is checked by itself, with those that it calls; and if it names no
 function, with the whole crate. The next check of the copy begins with what this one proved.
 
-`.ci/run` tries those that name their function, which are those that were asked for, and then some of the others, in an
-order that the commit's hash gives, for BUDGET seconds of processor time. --all tries all, also those in must-fail/,
-which `rt ci` tries too. The last line is 'N passed, M failed'. A mutant whose check was killed, or judged nothing, was
-not tried: that is another thing than one that isn't refused, and fails too.
+`.ci/run` always tries the gravest, which say so, and then some of the others, in an order that the commit's hash gives,
+for BUDGET seconds of processor time. --all tries all, also those in must-fail/, which `rt ci` tries too. The last line
+is 'N passed, M failed'. A mutant whose check was killed, or judged nothing, was not tried: that is another thing than
+one that isn't refused, and fails too.
 """
 import collections
 import concurrent.futures
@@ -23,12 +23,12 @@ import sys
 import tempfile
 from pathlib import Path
 
-from mutant_texts import FUNCTION, all_functions, functions_at, functions_of, make
+from mutant_texts import ALWAYS, FUNCTION, all_functions, functions_at, functions_of, make
 
 sys.path.insert(0, str(Path(__file__).resolve().parents[2] / "tools"))
 from over_gate import TOP, crate_of, has_libraries, words_of_check  # noqa: E402
 
-BUDGET = 60
+BUDGET = 180
 AT_ONCE = 4
 ENDED = re.compile(r"^only=\d+ (?:proved|holes)=\d+$")
 HOLE = """use Rattle.{crate}.proofs.{path}.Statement.{{statement}}
@@ -46,7 +46,8 @@ class Mutant:
     def __init__(self, file):
         self.file, self.folder = file, file.parent.parent
         self.crate, self.name = self.folder.name, file.stem
-        self.is_named = bool(FUNCTION.search(file.read_text()))
+        text = file.read_text()
+        self.is_named, self.is_grave = bool(FUNCTION.search(text)), bool(ALWAYS.search(text))
         self.functions = functions_of(file, self.folder)
         self.changed = {*(self.functions or ()), *(functions_at(file, self.folder) or ())}
 
@@ -231,9 +232,9 @@ def main():
     elif names:
         found = tried([it for it in mutants("must-fail", "more-must-fail") if it.name in names])
     else:
-        asked = mutants("more-must-fail")
-        found = tried([it for it in asked if it.is_named])
-        found += drawn([it for it in asked if not it.is_named and it.functions])
+        waiting = mutants("more-must-fail")
+        found = tried([it for it in waiting if it.is_grave])
+        found += drawn([it for it in waiting if not it.is_grave and it.functions])
     failed = found[NOT_REFUSED] + found[NOT_TRIED]
     print(f"{found[REFUSED]} refused, {found[NOT_REFUSED]} not refused, {found[NOT_TRIED]} not tried,"
           f" in {processor_time() / 60:.0f} minutes of processor time")

@@ -1,9 +1,10 @@
 """The one form of a mutant, and what makes it: mutant_texts.py MUTANT FOLDER makes it in a copy of the sources.
 
 A mutant is a file with lines 'file: PATH', and after each such line pairs of one or more lines 'old: TEXT' and one or
-more lines 'new: TEXT'. The old text stands in that file of the folder once. Beside them it may have one of these lines:
+more lines 'new: TEXT'. The old text stands in that file of the folder once. Beside them it may have these lines:
 
     function: PATH    the function that the prover has to refuse, if it isn't the one in which the old text stands
+    gate: always      `.ci/run` tries it each time, and not by lot
     test: NAME        the test that has to refuse it, since no contract can
     crate: NAME       the test is a row of this crate's table
 
@@ -16,6 +17,7 @@ from pathlib import Path
 
 LINE = re.compile(r"^(file|old|new): ?(.*)$", re.M)
 FUNCTION = re.compile(r"^function: (\S+)$", re.M)
+ALWAYS = re.compile(r"^gate: always$", re.M)
 FN = re.compile(r'^ *(?:pub(?:\([a-z]+\))? )?(?:const )?(?:extern "C" )?fn (\w+)')
 TYPE = re.compile(r"^(?:pub(?:\([a-z]+\))? )?(?:struct|enum) (\w+)", re.M)
 TRAIT = ("trait ", "pub trait ")
