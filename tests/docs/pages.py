@@ -97,7 +97,7 @@ def paths():
 def is_there(page, path):
     crate, _, name = path.partition("/")
     places = [(ROOT, path), (ROOT / "crates", path), (page.parent, path),
-              (ROOT / "crates" / crate, f"*must-fail/{name}.edit")]
+              (ROOT / "crates" / crate, f"mutants/{name}.edit")]
     return any(next(folder.glob(it.replace("NAME", "*")), None) for folder, it in places)
 
 

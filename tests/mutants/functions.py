@@ -7,9 +7,8 @@ of these alone. A mutant that isn't refused so is checked by itself, with those 
 function, with the whole crate. The next check of the copy begins with what this one proved.
 
 `.ci/run` always tries the gravest, which say so, and then some of the others, in an order that the commit's hash gives,
-for BUDGET seconds of processor time. --all tries all, also those in must-fail/, which `rt ci` tries too. The last line
-is 'N passed, M failed'. A mutant whose check was killed, or judged nothing, was not tried: that is another thing than
-one that isn't refused, and fails too.
+for BUDGET seconds of processor time. --all tries all. The last line is 'N passed, M failed'. A mutant whose check was
+killed, or judged nothing, was not tried: that is another thing than one that isn't refused, and fails too.
 """
 import collections
 import concurrent.futures
@@ -56,9 +55,8 @@ class Mutant:
         return verdict
 
 
-def mutants(*folders):
-    files = [file for folder in folders for file in Path(TOP, "crates").glob(f"*/{folder}/*.edit")]
-    return [Mutant(file) for file in sorted(files)]
+def mutants():
+    return [Mutant(file) for file in sorted(Path(TOP, "crates").glob("*/mutants/*.edit"))]
 
 
 def rounds(mutants):
@@ -228,11 +226,11 @@ def drawn(others):
 def main():
     names = sys.argv[1:]
     if names == ["--all"]:
-        found = tried(mutants("must-fail", "more-must-fail"))
+        found = tried(mutants())
     elif names:
-        found = tried([it for it in mutants("must-fail", "more-must-fail") if it.name in names])
+        found = tried([it for it in mutants() if it.name in names])
     else:
-        waiting = mutants("more-must-fail")
+        waiting = mutants()
         found = tried([it for it in waiting if it.is_grave])
         found += drawn([it for it in waiting if not it.is_grave and it.functions])
     failed = found[NOT_REFUSED] + found[NOT_TRIED]

@@ -24,9 +24,7 @@ def misfit(mutant, folder):
 
 def misfits():
     """The number of mutants, and those that can't be made, as 'mutant: why'."""
-    files = [*ROOT.glob("crates/*/*must-fail/*.edit"), *ROOT.glob("databases/*/mutants/*.edit"),
-             *ROOT.glob("bindings/*/mutants/*.edit")]
-    mutants = [(mutant, mutant.parent.parent) for mutant in sorted(files)]
+    mutants = [(mutant, mutant.parent.parent) for mutant in sorted(ROOT.glob("*/*/mutants/*.edit"))]
     mutants += [(mutant, ROOT) for mutant in sorted(ROOT.glob("tests/faults/let-through/*.edit"))]
     found = [(mutant, misfit(mutant, folder)) for mutant, folder in mutants]
     return len(found), [f"{mutant.relative_to(ROOT)}: {why}" for mutant, why in found if why]
@@ -47,7 +45,7 @@ def missing_names():
     """The number of names of mutants in docs/MUTANTS.md, and those that their crates don't have, as 'crate/name'."""
     names = list(named())
     return len(names), [f"{crate}/{name}" for crate, name in names
-                        if not any((ROOT / "crates" / crate).glob(f"*must-fail/{name}.edit"))]
+                        if not (ROOT / "crates" / crate / "mutants" / f"{name}.edit").exists()]
 
 
 def main():
