@@ -96,24 +96,33 @@ class Copy:
         """Those of these mutants of different functions that are refused if what these call is taken as proved."""
         changed = set().union(*(mutant.changed for mutant in together))
         others = [words for words in all_functions(self.folder) if not any(ends_in(words, it) for it in changed)]
-        proofs = [self.put_hole(words) for words in others]
-        try:
-            lines = self.checked(together, "--allow-holes", "--short-goals")
-        finally:
-            for proof in proofs:
-                proof.unlink()
+        others = [words for words in others if not self.folder_of(words, "+").exists()]
+        written = {}
+        for words in others:
+            written.update(self.put_hole(words))
+        lines = self.checked(together, "--allow-holes", "--short-goals")
+        for words in others:
+            (self.folder_of(words) / "Proof.antt").unlink()
+        restore(written)
         said = dict(match.groups() for line in lines if (match := SAID.match(line)))
         taken = [said.get("::".join(words), DEPENDS) for words in others]
         if not all(it.startswith(DEPENDS) for it in taken):
             return []
         return [mutant for mutant in together if verdict_on(mutant, lines, len(together) == 1) == REFUSED]
 
+    def folder_of(self, words, cycle=""):
+        """The folder with what is written of the proof of a function; with a sign for one that calls itself."""
+        return Path(self.folder, "proofs", *words[:-1], cycle + words[-1])
+
     def put_hole(self, words):
-        """Puts a hole in place of the proof of a function."""
-        proof = Path(self.folder, "proofs", *words, "Proof.antt")
-        proof.parent.mkdir(parents=True, exist_ok=True)
-        proof.write_text(HOLE.format(crate=self.crate, path=".".join(words), name=words[-1]))
-        return proof
+        """Puts a hole in place of the proof of a function, and answers the texts that were there."""
+        folder = self.folder_of(words)
+        folder.mkdir(parents=True, exist_ok=True)
+        written = {path: path.read_text() for path in folder.glob("*.antt")}
+        for path in written:
+            path.unlink()
+        (folder / "Proof.antt").write_text(HOLE.format(crate=self.crate, path=".".join(words), name=words[-1]))
+        return written
 
     def by_itself(self, mutant):
         """What was found of a mutant, first with the functions that those which it changes call."""
