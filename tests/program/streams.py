@@ -27,6 +27,8 @@ class Streams(unittest.TestCase):
             self.failed_output(ran("cell", "1", stdout=full))
             self.failed_output(ran("cell", "X", stdout=full))
             self.failed_output(ran("check", "absent", stdout=full))
+            self.failed_output(ran("draw", "absent", stdout=full))
+            self.failed_output(ran("draw", "absent", "absent", stdout=full))
             self.failed_output(ran("draw", "--cells", "1", stdout=full))
             self.failed_output(ran("--help", stdout=full))
 
