@@ -3,19 +3,24 @@
 
 One call of malloc, calloc or realloc of the proved program is refused in each run, and then all from one on. Answers,
 status, standard error and files must be what docs/SCRIPT.md says of a run that finds no memory. Then the same for a few
-lines with notes on standard error, and for the same script on `run` itself, over a shelf in memory and a writer that
-takes all answers. The last line is 'N passed, M failed'.
+lines with notes on standard error, for the same script on `run` itself, over a shelf in memory and a writer that takes
+all answers, and for each command that has one answer. The last line is 'N passed, M failed'.
 """
 import collections
 import errno
+import os
 import sys
 import tempfile
 
-from every_command import ANSWERS, ESCAPED, FILES, LINES, STEPS, lines_answered, ways_through
+from every_command import ANSWERS, ESCAPED, FILES, LINES, PROGRAM, STEPS, fill, lines_answered, ways_through
 from refusing import ROWS, Refusing, has_program
 
 # Few lines with a long note.
 NOTED = [*LINES[:12], ESCAPED]
+
+# The commands that have one answer, over the files of the folder that comes after `--dir`.
+CALLS = [["cell", "3/021"], ["draw", "--curve", "--cells", "64c", "3/021"]]
+CALLS += [["check", "f", "--dir"], ["draw", "f", "--dir"], ["draw", "--curve", "f", "f", "--dir"]]
 
 # Where an allocation lies that comes before the script is read.
 BEFORE = b"before the script"
@@ -30,6 +35,14 @@ def verdict(ended, lines=LINES, most=1, has_notes=False):
     if ended.status != 1 or not ways:
         return None
     return "refused in an answer" if all(way.failed for way in ways) else "no answer changed"
+
+
+def verdict_of_call(end, whole):
+    """What the refusal changed in the status, the answer and standard error of a command that has one answer, or None
+    if it changed more than it may."""
+    allowed = {(3, b"", b"s2calc: memory\n"): "refused at the start",
+               (1, b"error memory\n", b""): "refused in an answer"}
+    return {**allowed, whole: "no answer changed"}.get(end)
 
 
 def wrong_ends(whole):
@@ -98,6 +111,20 @@ class Judge:
             ended = run(f"memory {number} {10 * len(within)} {errno.ENOMEM}", has_calls=False)
             self.judge(ended, verdict(ended, most=len(LINES)), number, "the last", within[number - 1])
 
+    def refuse_each_of_a_call(self, refusing, words):
+        """Refuses each allocation of a command that has one answer. It may do without one of them."""
+
+        def ended(refused):
+            done, calls = refusing.started([PROGRAM, *words], b"", refused)
+            return (done.returncode, done.stdout, done.stderr), sum(call.kind == "memory" for call in calls)
+
+        whole, count = ended("")
+        ends = [ended(f"memory {number} {number} {errno.ENOMEM}")[0] for number in range(1, count + 1)]
+        said = [verdict_of_call(end, whole) for end in ends]
+        self.counts.update(said)
+        if None in said or said.count("no answer changed") > 1:
+            self.wrong(f"{words}: {said} {[end for end in ends if end != whole]}")
+
 
 def main():
     has_program("tests/run allocations")
@@ -114,6 +141,10 @@ def main():
         judge.refuse_each(
             lambda refused, **how: refusing.run(refused, options=["--explain"], script=script, **how), NOTED, True
         )
+        folder = os.path.join(room, "folder")
+        fill(folder)
+        for words in CALLS:
+            judge.refuse_each_of_a_call(refusing, [*words, folder] if words[-1] == "--dir" else words)
     for said in ("refused at the start", "refused in an answer", "no answer changed"):
         print(f"{judge.counts[said]} {said}")
         if judge.counts[said] == 0:
