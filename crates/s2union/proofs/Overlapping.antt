@@ -20,6 +20,16 @@ run_len u start end h = let d = length-drop start u in length-take-le (end - sta
 run_at : (u : List ℕ) (start end k d : ℕ) → k < end - start → get_or (run u start end) k d ≡ get_or u (start + k) d
 run_at u start end k d h = get_or-take (end - start) (drop start u) k d h ∙ get_or-drop start u k d
 
+-- the run, by its own length
+pub run_itself : (u : List ℕ) (c start count end : ℕ) → IsRunAt u c start count → end ≡ start + count →
+    (first : ℕ) × IsRunAt u c first (length (run u start end))
+    × (run u start end ≡ take (length (run u start end)) (drop first u))
+run_itself u c start count end r e =
+    let w = r.within in
+    let len : length (run u start end) ≡ end - start = run_len u start end (omega arith) in
+    let same : length (run u start end) ≡ count = omega arith in
+    (start, rw same r, sym (ap (λ n. take n (drop start u)) len))
+
 pub run_cells : (u : List ℕ) (start end : ℕ) → All IsCell u → end ≤ length u → All IsCell (run u start end)
 run_cells u start end cells h k d l =
     let len = run_len u start end h in

@@ -1,8 +1,9 @@
 //! Whether a union has the leaves of a cell or of another union, and which of its cells share a leaf with a cell.
-ghost use Rattle.std.specs.Prelude.{◌≡◌, ◌≤◌, ◌<◌, ◌↔◌, ℕ, IsTrue, min, length, All, true};
+ghost use Rattle.std.specs.Prelude.{◌≡◌, ◌≤◌, ◌<◌, ◌↔◌, ℕ, IsTrue, min, length, take, drop, All, true};
 ghost use Rattle.s2cell.specs.Cell.{IsCell, covers};
 ghost use Rattle.s2list.specs.Union.{IsLocal, has_leaf, IsWithin, ShareSome};
 ghost use Rattle.s2list.specs.Looks.{FewForCell, FewForUnion};
+ghost use Rattle.s2list.specs.Search.{IsRunAt};
 
 use crate::few::{MUCH_LONGER, holds_few, meets_few};
 use crate::union::CellUnion;
@@ -94,6 +95,8 @@ impl CellUnion {
     /// The cells of the union that share a leaf with the cell. They are one run of its list. Logarithmic in the size of
     /// the union.
     pub fn cells_at(&self, cell: CellId) -> &[CellId]
+        ensures run { (first : ℕ) × IsRunAt self.now.cells cell first (length result.now)
+            × (result.now ≡ take (length result.now) (drop first self.now.cells)) }
         ensures leaves { (x : ℕ) → covers cell x ≡ true → has_leaf result.now x ≡ has_leaf self.now.cells x }
         ensures sharing { All (λ c. ShareSome (covers c) (covers cell)) result.now }
         ensures cells { All IsCell result.now }
