@@ -125,6 +125,11 @@ SoughtAlong before after all at start result = (k : ℕ) → result - start < 2 
 pub sought_here : (looks all at start : ℕ) → SoughtAlong looks looks all at start start
 sought_here looks all at start k h g = omega arith
 
+-- the same, if the count goes on from `old`
+pub sought_from : (old before after all at start result : ℕ) → SoughtAlong before after all at start result →
+    SoughtAlong (before - old) (after - old) all at start result
+sought_from old before after all at start result s k h g = let l = s k h g in omega arith
+
 -- how far a search on a walk is counted to get: as far as it got, or if it left the beginning of the list, all the way
 pub record Found (before after all at start result : ℕ) : Type 0 where
   pub far : ℕ

@@ -39,6 +39,7 @@ fn holds<C: Cells, K: Count>(cells: &C, cell: CellId, count: &mut K) -> bool
     ensures answer { IsLocal (C.ids cells.now)
         → (IsTrue result ↔ IsWithin (covers cell) (has_leaf (C.ids cells.now))) }
     ensures looks { (k : ℕ) → length (C.ids cells.now) ≤ 2 ^ k → K.looks count.new ≤ K.looks count.old + 3 * k + 4 }
+    ensures least { min (K.looks count.old) K.most ≤ K.looks count.new }
     ensures some { 0 < length (C.ids cells.now) → min (K.looks count.old + 1) K.most ≤ K.looks count.new }
 {
     let at = find_counted(cells, cell.first_leaf(), count);
@@ -73,6 +74,7 @@ fn meets<C: Cells, K: Count>(cells: &C, cell: CellId, count: &mut K) -> bool
     ensures answer { IsLocal (C.ids cells.now)
         → (IsTrue result ↔ ShareSome (covers cell) (has_leaf (C.ids cells.now))) }
     ensures looks { (k : ℕ) → length (C.ids cells.now) ≤ 2 ^ k → K.looks count.new ≤ K.looks count.old + 3 * k + 4 }
+    ensures least { min (K.looks count.old) K.most ≤ K.looks count.new }
     ensures some { 0 < length (C.ids cells.now) → min (K.looks count.old + 1) K.most ≤ K.looks count.new }
 {
     let at = find_counted(cells, cell.first_leaf(), count);

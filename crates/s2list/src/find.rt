@@ -29,6 +29,7 @@ pub fn find_counted<C: Cells, K: Count>(cells: &C, lo: u64, count: &mut K) -> us
     ensures ended { IsPacked (C.ids cells.now) → FirstEndBy (C.ids cells.now) result lo }
     ensures next { IsPacked (C.ids cells.now) → EndsAfter (C.ids cells.now) result lo }
     ensures looks { (k : ℕ) → length (C.ids cells.now) ≤ 2 ^ k → K.looks count.new ≤ K.looks count.old + 3 * k + 3 }
+    ensures least { min (K.looks count.old) K.most ≤ K.looks count.new }
     ensures some { 0 < length (C.ids cells.now) → min (K.looks count.old + 1) K.most ≤ K.looks count.new }
 {
     let mark = lo.saturating_mul(2);

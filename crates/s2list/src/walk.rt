@@ -1,6 +1,6 @@
 //! Whether a union has the leaves of another: by a walk along both, in which whichever is behind leaps to where the
 //! other one stands.
-ghost use Rattle.std.specs.Prelude.{◌≡◌, ◌+◌, ◌<◌, ◌≤◌, ◌↔◌, ℕ, IsTrue, min, length};
+ghost use Rattle.std.specs.Prelude.{◌≡◌, ◌+◌, ◌-◌, ◌<◌, ◌≤◌, ◌↔◌, ℕ, IsTrue, min, length};
 ghost use Rattle.s2cell.specs.Cell.{IsCell, first_leaf, size_of};
 ghost use Rattle.s2list.specs.Union.{IsLocal, IsWithin, ShareSome, has_leaf};
 ghost use Rattle.s2list.specs.Looks.{Alternates, FewForTurns, FewForUnion, KnownToHold, KnownToMeet};
@@ -67,18 +67,19 @@ pub fn intersects_counted<X: Cells, Y: Cells>(xs: &X, ys: &Y) -> Counted
     }
 }
 
-/// Whether `xs` has all leaves of `ys`, for any counter. Each turn passes the cells of `xs` before the next of `ys`,
-/// and then the cells of `ys` in the one of `xs` that holds it.
+/// Whether `xs` has all leaves of `ys`, for any counter, which counts on from where it is. Each turn passes the cells
+/// of `xs` before the next of `ys`, and then the cells of `ys` in the one of `xs` that holds it.
 pub fn holds_all<X: Cells, Y: Cells, K: Count>(xs: &X, ys: &Y, count: &mut K) -> bool
-    requires { K.looks count.old ≡ 0 }
     ensures answer { IsLocal (X.ids xs.now) → IsLocal (Y.ids ys.now)
         → (IsTrue result ↔ IsWithin (has_leaf (Y.ids ys.now)) (has_leaf (X.ids xs.now))) }
     ensures looks { IsLocal (X.ids xs.now) → IsLocal (Y.ids ys.now) → (d i j : ℕ)
         → Alternates (X.ids xs.now) (Y.ids ys.now) d i j → KnownToHold (X.ids xs.now) (Y.ids ys.now) i j
-        → FewForTurns (length (X.ids xs.now) + length (Y.ids ys.now)) d (K.looks count.new) }
+        → FewForTurns (length (X.ids xs.now) + length (Y.ids ys.now)) d (K.looks count.new - K.looks count.old) }
     ensures sizes { IsLocal (X.ids xs.now) → IsLocal (Y.ids ys.now)
-        → FewForUnion (length (X.ids xs.now)) (length (Y.ids ys.now)) (K.looks count.new) }
-    ensures least { 0 < length (X.ids xs.now) → 0 < length (Y.ids ys.now) → min 2 K.most ≤ K.looks count.new }
+        → FewForUnion (length (X.ids xs.now)) (length (Y.ids ys.now)) (K.looks count.new - K.looks count.old) }
+    ensures least { min (K.looks count.old) K.most ≤ K.looks count.new }
+    ensures some { 0 < length (X.ids xs.now) → 0 < length (Y.ids ys.now)
+        → min (K.looks count.old + 2) K.most ≤ K.looks count.new }
 {
     let m = xs.len();
     let n = ys.len();
@@ -100,18 +101,19 @@ pub fn holds_all<X: Cells, Y: Cells, K: Count>(xs: &X, ys: &Y, count: &mut K) ->
     true
 }
 
-/// Whether `xs` and `ys` share a leaf, for any counter. Each turn passes the cells of `xs` before the next of `ys`, and
-/// then the cells of `ys` before the next of `xs`.
+/// Whether `xs` and `ys` share a leaf, for any counter, which counts on from where it is. Each turn passes the cells of
+/// `xs` before the next of `ys`, and then the cells of `ys` before the next of `xs`.
 pub fn meets_any<X: Cells, Y: Cells, K: Count>(xs: &X, ys: &Y, count: &mut K) -> bool
-    requires { K.looks count.old ≡ 0 }
     ensures answer { IsLocal (X.ids xs.now) → IsLocal (Y.ids ys.now)
         → (IsTrue result ↔ ShareSome (has_leaf (X.ids xs.now)) (has_leaf (Y.ids ys.now))) }
     ensures looks { IsLocal (X.ids xs.now) → IsLocal (Y.ids ys.now) → (d i j : ℕ)
         → Alternates (X.ids xs.now) (Y.ids ys.now) d i j → KnownToMeet (X.ids xs.now) (Y.ids ys.now) i j
-        → FewForTurns (length (X.ids xs.now) + length (Y.ids ys.now)) d (K.looks count.new) }
+        → FewForTurns (length (X.ids xs.now) + length (Y.ids ys.now)) d (K.looks count.new - K.looks count.old) }
     ensures sizes { IsLocal (X.ids xs.now) → IsLocal (Y.ids ys.now)
-        → FewForUnion (length (X.ids xs.now)) (length (Y.ids ys.now)) (K.looks count.new) }
-    ensures least { 0 < length (X.ids xs.now) → 0 < length (Y.ids ys.now) → min 2 K.most ≤ K.looks count.new }
+        → FewForUnion (length (X.ids xs.now)) (length (Y.ids ys.now)) (K.looks count.new - K.looks count.old) }
+    ensures least { min (K.looks count.old) K.most ≤ K.looks count.new }
+    ensures some { 0 < length (X.ids xs.now) → 0 < length (Y.ids ys.now)
+        → min (K.looks count.old + 2) K.most ≤ K.looks count.new }
 {
     let m = xs.len();
     let n = ys.len();

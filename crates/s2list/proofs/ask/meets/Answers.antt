@@ -16,6 +16,12 @@ returns-clause-looks g c k h =
     let m = c.intersects_cell_at_counted.ensures.looks in
     omega arith
 
+pub returns-clause-least : goal.returns-clause-least
+returns-clause-least g c =
+    let s = c.find_counted-at.ensures.least in
+    let l = c.intersects_cell_at_counted.ensures.least in
+    omega arith
+
 pub returns-clause-some : goal.returns-clause-some
 returns-clause-some g c h =
     let s = c.find_counted-at.ensures.some h in

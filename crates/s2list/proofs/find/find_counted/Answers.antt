@@ -60,6 +60,12 @@ returns-clause-looks g c k h =
     let m = c.narrow.ensures.looks 3 (let e : 2 ^ 3 ≡ 8 = refl in omega arith) in
     omega arith
 
+pub returns-clause-least : goal.returns-clause-least
+returns-clause-least g c =
+    let z = c.loop-size.invariant.least in
+    let l = c.narrow.ensures.least in
+    omega arith
+
 pub returns-clause-some : goal.returns-clause-some
 returns-clause-some g c h =
     let v = c.loop-size.invariant in

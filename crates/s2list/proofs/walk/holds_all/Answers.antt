@@ -1,4 +1,4 @@
-use Rattle.std.proofs.Common.{◌≡◌, ℕ, ◌+◌, ◌<◌, ◌≤◌, List, length, get_or, refl, sym, ◌∙◌, arith, inl, inr}
+use Rattle.std.proofs.Common.{◌≡◌, ℕ, ◌+◌, ◌-◌, ◌<◌, ◌≤◌, List, length, get_or, refl, sym, ◌∙◌, arith, inl, inr}
 use Rattle.std.proofs.Math.Logic.{⊎_elim}
 use Rattle.std.proofs.lemmas.Bool.{cases_lt, false≢true}
 use Rattle.s2cell.specs.Cell.{IsCell, covers, first_leaf, size_of}
@@ -7,7 +7,7 @@ use Rattle.s2list.specs.Packed.{EndsAfter, FirstEndBy}
 use Rattle.s2list.proofs.Checking.{packed_from_local}
 use Rattle.s2list.proofs.Finding.{ended_to, held_at}
 use Rattle.s2list.proofs.Asking.{all_within, part_within}
-use Rattle.s2list.proofs.Looking.{FewLooks, sought_here, walked_to_end, walked_more, walked_none}
+use Rattle.s2list.proofs.Looking.{FewLooks, sought_from, sought_here, walked_to_end, walked_more, walked_none}
 use Rattle.s2list.proofs.Turns.{placed, begun_up, ended_next, held_more, lacks_next}
 use Rattle.s2list.proofs.walk.holds_all.Given.{Over}
 use Rattle.s2list.proofs.walk.holds_all.Goals as goal
@@ -22,7 +22,8 @@ loop-j-init g c = record {
   in_y = omega arith;
   ended = λ lx ly h k l. absurd (omega arith);
   held = λ lx ly k l. absurd (omega arith);
-  walked = λ lx ly. walked_none _ _ _ _ c.requires;
+  walked = λ lx ly. walked_none _ _ _ _ (omega arith);
+  least = omega arith;
   some = λ h. absurd (omega arith);
 }
 
@@ -97,13 +98,20 @@ loop-j-preserved g c =
           let t = turned g c lx ly in
           let on = fi.from in
           let far = fj.from in
-          walked_more _ _ _ _ i (i + 1) next (v.walked lx ly) (omega arith) t.in_y
+          let old = g.K.Count.looks c.args.count.now in
+          let at_y = g.K.Count.looks c.look-y.new.count in
+          let by_x = g.K.Count.looks c.find_along-i.new.count in
+          let at_x = g.K.Count.looks c.look-x.new.count in
+          let by_y = g.K.Count.looks c.find_from_counted-j.new.count in
+          walked_more (at_y - old) (by_x - old) (at_x - old) (by_y - old) i (i + 1) next (v.walked lx ly)
+          (omega arith) t.in_y
           (λ l h d. d (held_more i j next lx ly t.in_x fj.within t.low t.passed (v.held lx ly) l (omega arith)))
           (begun_up i (first_leaf (get_or ys j 0)) lx t.after) (lacks_next
           (i + 1) next lx ly (ended_next xs ys i j next lx ly t.in_x t.in_y (omega arith) t.low t.high t.ends))
-          (omega arith) fi.looks fi.from (omega arith) fi.within (omega arith) (λ k f _. fj.looks k f) fj.from
-          fj.within (λ _. omega arith);
-      some = λ _. let a = fi.least in let b = fj.least in omega arith;
+          (omega arith) (sought_from old at_y by_x _ _ _ _ fi.looks) fi.from (omega arith) fi.within (omega arith)
+          (sought_from old at_x by_y _ _ _ _ (λ k f _. fj.looks k f)) fj.from fj.within (λ _. omega arith);
+      least = let a = fi.least in let b = fj.least in let l = v.least in omega arith;
+      some = λ _. let a = fi.least in let b = fj.least in let l = v.least in omega arith;
     }
 
 pub returns-then-i-m-clause-answer : goal.returns-then-i-m-clause-answer
@@ -127,7 +135,8 @@ returns-then-i-m-clause-answer g c lx ly =
 -- what a walk that ends here has looked at
 ended_walk : (g : Over) (c : goal.Then-i-m g) → IsLocal (g.X.Cells.ids c.args.xs.now) →
     IsLocal (g.Y.Cells.ids c.args.ys.now) → FewLooks (Lacks (g.X.Cells.ids c.args.xs.now) (g.Y.Cells.ids c.args.ys.now))
-    (g.X.Cells.ids c.args.xs.now) (g.Y.Cells.ids c.args.ys.now) (g.K.Count.looks c.find_along-i.new.count)
+    (g.X.Cells.ids c.args.xs.now) (g.Y.Cells.ids c.args.ys.now)
+    (g.K.Count.looks c.find_along-i.new.count - g.K.Count.looks c.args.count.now)
 ended_walk g c lx ly =
     let m = c.len-m.ensures in
     let n = c.len-n.ensures in
@@ -135,8 +144,10 @@ ended_walk g c lx ly =
     let on = fi.from in
     let w = fi.within in
     let more_y = c.look-y.ensures.count in
-    walked_to_end c.find_along-i.result _ (c.loop-j.invariant.walked lx ly) (omega arith) fi.looks fi.from fi.within
-    (omega arith) (omega arith) (inl (omega arith))
+    walked_to_end c.find_along-i.result _ (c.loop-j.invariant.walked lx ly) (omega arith)
+    (sought_from (g.K.Count.looks c.args.count.now) (g.K.Count.looks c.look-y.new.count)
+    (g.K.Count.looks c.find_along-i.new.count) _ _ _ _ fi.looks)
+    fi.from fi.within (omega arith) (omega arith) (inl (omega arith))
 
 pub returns-then-i-m-clause-looks : goal.returns-then-i-m-clause-looks
 returns-then-i-m-clause-looks g c lx ly = (ended_walk g c lx ly).turns
@@ -145,8 +156,16 @@ pub returns-then-i-m-clause-sizes : goal.returns-then-i-m-clause-sizes
 returns-then-i-m-clause-sizes g c lx ly = (ended_walk g c lx ly).sizes
 
 pub returns-then-i-m-clause-least : goal.returns-then-i-m-clause-least
-returns-then-i-m-clause-least g c hx hy =
+returns-then-i-m-clause-least g c =
+    let l = c.loop-j.invariant.least in
+    let more_y = c.look-y.ensures.count in
+    let f = c.find_along-i.ensures.least in
+    omega arith
+
+pub returns-then-i-m-clause-some : goal.returns-then-i-m-clause-some
+returns-then-i-m-clause-some g c hx hy =
     let v = c.loop-j.invariant in
+    let l = v.least in
     let more_y = c.look-y.ensures.count in
     let f = c.find_along-i.ensures.least in
     ⊎_elim (λ (h : 0 < c.loop-j.i + c.loop-j.j). let s = v.some h in omega arith)
@@ -175,7 +194,8 @@ returns-then-not-lies_in-clause-answer g c lx ly =
 
 ended_outside : (g : Over) (c : goal.Then-not-lies_in g) → IsLocal (g.X.Cells.ids c.args.xs.now) →
     IsLocal (g.Y.Cells.ids c.args.ys.now) → FewLooks (Lacks (g.X.Cells.ids c.args.xs.now) (g.Y.Cells.ids c.args.ys.now))
-    (g.X.Cells.ids c.args.xs.now) (g.Y.Cells.ids c.args.ys.now) (g.K.Count.looks c.look-x.new.count)
+    (g.X.Cells.ids c.args.xs.now) (g.Y.Cells.ids c.args.ys.now)
+    (g.K.Count.looks c.look-x.new.count - g.K.Count.looks c.args.count.now)
 ended_outside g c lx ly =
     let m = c.len-m.ensures in
     let n = c.len-n.ensures in
@@ -184,8 +204,10 @@ ended_outside g c lx ly =
     let w = fi.within in
     let more_y = c.look-y.ensures.count in
     let more_x = c.look-x.ensures.count in
-    walked_to_end c.find_along-i.result _ (c.loop-j.invariant.walked lx ly) (omega arith) fi.looks fi.from fi.within
-    (omega arith) (omega arith) (inl (omega arith))
+    walked_to_end c.find_along-i.result _ (c.loop-j.invariant.walked lx ly) (omega arith)
+    (sought_from (g.K.Count.looks c.args.count.now) (g.K.Count.looks c.look-y.new.count)
+    (g.K.Count.looks c.find_along-i.new.count) _ _ _ _ fi.looks)
+    fi.from fi.within (omega arith) (omega arith) (inl (omega arith))
 
 pub returns-then-not-lies_in-clause-looks : goal.returns-then-not-lies_in-clause-looks
 returns-then-not-lies_in-clause-looks g c lx ly = (ended_outside g c lx ly).turns
@@ -194,7 +216,16 @@ pub returns-then-not-lies_in-clause-sizes : goal.returns-then-not-lies_in-clause
 returns-then-not-lies_in-clause-sizes g c lx ly = (ended_outside g c lx ly).sizes
 
 pub returns-then-not-lies_in-clause-least : goal.returns-then-not-lies_in-clause-least
-returns-then-not-lies_in-clause-least g c hx hy =
+returns-then-not-lies_in-clause-least g c =
+    let l = c.loop-j.invariant.least in
+    let more_y = c.look-y.ensures.count in
+    let more_x = c.look-x.ensures.count in
+    let f = c.find_along-i.ensures.least in
+    omega arith
+
+pub returns-then-not-lies_in-clause-some : goal.returns-then-not-lies_in-clause-some
+returns-then-not-lies_in-clause-some g c hx hy =
+    let l = c.loop-j.invariant.least in
     let more_y = c.look-y.ensures.count in
     let more_x = c.look-x.ensures.count in
     let f = c.find_along-i.ensures.least in
@@ -210,13 +241,15 @@ returns-clause-answer g c lx ly =
 
 ended_all : (g : Over) (c : goal.After-loop-j g) → IsLocal (g.X.Cells.ids c.args.xs.now) →
     IsLocal (g.Y.Cells.ids c.args.ys.now) → FewLooks (Lacks (g.X.Cells.ids c.args.xs.now) (g.Y.Cells.ids c.args.ys.now))
-    (g.X.Cells.ids c.args.xs.now) (g.Y.Cells.ids c.args.ys.now) (g.K.Count.looks c.loop-j.count)
+    (g.X.Cells.ids c.args.xs.now) (g.Y.Cells.ids c.args.ys.now)
+    (g.K.Count.looks c.loop-j.count - g.K.Count.looks c.args.count.now)
 ended_all g c lx ly =
     let v = c.loop-j.invariant in
     let in_x = v.in_x in
     let in_y = v.in_y in
     walked_to_end c.loop-j.i _ (v.walked lx ly) (omega arith)
-    (sought_here (g.K.Count.looks c.loop-j.count) (length (g.X.Cells.ids c.args.xs.now)) c.loop-j.i c.loop-j.i)
+    (sought_here (g.K.Count.looks c.loop-j.count - g.K.Count.looks c.args.count.now)
+    (length (g.X.Cells.ids c.args.xs.now)) c.loop-j.i c.loop-j.i)
     (omega arith) (omega arith) (omega arith) (omega arith) (inr refl)
 
 pub returns-clause-looks : goal.returns-clause-looks
@@ -226,4 +259,7 @@ pub returns-clause-sizes : goal.returns-clause-sizes
 returns-clause-sizes g c lx ly = (ended_all g c lx ly).sizes
 
 pub returns-clause-least : goal.returns-clause-least
-returns-clause-least g c hx hy = let n = c.len-n.ensures in c.loop-j.invariant.some (omega arith)
+returns-clause-least g c = c.loop-j.invariant.least
+
+pub returns-clause-some : goal.returns-clause-some
+returns-clause-some g c hx hy = let n = c.len-n.ensures in c.loop-j.invariant.some (omega arith)

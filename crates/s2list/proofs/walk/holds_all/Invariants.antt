@@ -16,8 +16,9 @@ invariant-loop-j g l = record {
       → IsWithin (covers (slice_index (g.Y.Cells.ids l.ys) k)) (has_leaf (g.X.Cells.ids l.xs));
   walked : IsLocal (g.X.Cells.ids l.xs) → IsLocal (g.Y.Cells.ids l.ys) →
       Walked (λ k. IsWithin (covers (slice_index (g.Y.Cells.ids l.ys) k)) (has_leaf (g.X.Cells.ids l.xs)) → ⊥)
-      (g.X.Cells.ids l.xs) (g.Y.Cells.ids l.ys) (g.K.Count.looks l.count) l.i l.j;
-  some : 0 < l.i + l.j → min 2 g.K.Count.most ≤ g.K.Count.looks l.count;
+      (g.X.Cells.ids l.xs) (g.Y.Cells.ids l.ys) (g.K.Count.looks l.count - g.K.Count.looks l.fn.count) l.i l.j;
+  least : min (g.K.Count.looks l.fn.count) g.K.Count.most ≤ g.K.Count.looks l.count;
+  some : 0 < l.i + l.j → min (g.K.Count.looks l.fn.count + 2) g.K.Count.most ≤ g.K.Count.looks l.count;
 }
 
 abbrev pub decreases-loop-j : goal.decreases-loop-j

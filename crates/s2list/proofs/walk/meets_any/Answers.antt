@@ -1,4 +1,4 @@
-use Rattle.std.proofs.Common.{◌≡◌, ℕ, ◌+◌, ◌<◌, ◌≤◌, List, length, get_or, refl, ap, arith, inl, inr}
+use Rattle.std.proofs.Common.{◌≡◌, ℕ, ◌+◌, ◌-◌, ◌<◌, ◌≤◌, List, length, get_or, refl, ap, arith, inl, inr}
 use Rattle.std.proofs.Math.Logic.{⊎_elim}
 use Rattle.std.proofs.lemmas.Bool.{cases_lt, false≢true}
 use Rattle.s2cell.specs.Cell.{IsCell, covers, first_leaf, size_of}
@@ -8,7 +8,7 @@ use Rattle.s2list.specs.Packed.{EndsAfter, FirstEndBy}
 use Rattle.s2list.proofs.Checking.{packed_from_local}
 use Rattle.s2list.proofs.Finding.{ended_to, shared_at}
 use Rattle.s2list.proofs.Asking.{ended_on, none_shares, part_shares}
-use Rattle.s2list.proofs.Looking.{FewLooks, sought_here, walked_to_end, walked_more, walked_none}
+use Rattle.s2list.proofs.Looking.{FewLooks, sought_from, sought_here, walked_to_end, walked_more, walked_none}
 use Rattle.s2list.proofs.Turns.{placed, begun_before, meets_next, none_left, none_more}
 use Rattle.s2list.proofs.walk.meets_any.Given.{Over}
 use Rattle.s2list.proofs.walk.meets_any.Goals as goal
@@ -23,8 +23,9 @@ loop-j-init g c = record {
   in_y = omega arith;
   ended = λ lx ly h k l. absurd (omega arith);
   none = λ lx ly k l. absurd (omega arith);
-  walked = λ lx ly. walked_none _ _ _ _ c.requires;
+  walked = λ lx ly. walked_none _ _ _ _ (omega arith);
   after = λ lx ly h. absurd (omega arith);
+  least = omega arith;
   some = λ h. absurd (omega arith);
 }
 
@@ -99,10 +100,16 @@ loop-j-preserved g c =
           let apart = t.apart in
           let on = fi.from in
           let far = fj.from in
-          walked_more _ _ _ _ i i next (v.walked lx ly) (omega arith) t.in_y
+          let old = g.K.Count.looks c.args.count.now in
+          let at_y = g.K.Count.looks c.look-y.new.count in
+          let by_x = g.K.Count.looks c.find_along-i.new.count in
+          let at_x = g.K.Count.looks c.look-x.new.count in
+          let by_y = g.K.Count.looks c.find_along-j.new.count in
+          walked_more (at_y - old) (by_x - old) (at_x - old) (by_y - old) i i next (v.walked lx ly) (omega arith) t.in_y
           (λ l h. none_more i j next lx ly fj.within t.placed t.passed (v.none lx ly) l (omega arith))
           (begun_before i (first_leaf (get_or ys j 0)) lx (omega arith)) (meets_next i next lx ly t.in_x t.ends)
-          (omega arith) fi.looks fi.from (omega arith) fi.within (omega arith) fj.looks fj.from fj.within
+          (omega arith) (sought_from old at_y by_x _ _ _ _ fi.looks) fi.from (omega arith) fi.within (omega arith)
+          (sought_from old at_x by_y _ _ _ _ fj.looks) fj.from fj.within
           (λ h. ⊎_elim
           (λ (l : c.loop-j.i < i). l)
           (λ (l : i ≤ c.loop-j.i).
@@ -113,7 +120,8 @@ loop-j-preserved g c =
           absurd (omega arith))
           (cases_lt c.loop-j.i i));
       after = λ lx ly _. (turned g c lx ly).ends;
-      some = λ _. let a = fi.least in let b = fj.least in omega arith;
+      least = let a = fi.least in let b = fj.least in let l = v.least in omega arith;
+      some = λ _. let a = fi.least in let b = fj.least in let l = v.least in omega arith;
     }
 
 pub returns-then-i-m-clause-answer : goal.returns-then-i-m-clause-answer
@@ -136,7 +144,8 @@ returns-then-i-m-clause-answer g c lx ly =
 -- what a walk that ends here has looked at
 ended_walk : (g : Over) (c : goal.Then-i-m g) → IsLocal (g.X.Cells.ids c.args.xs.now) →
     IsLocal (g.Y.Cells.ids c.args.ys.now) → FewLooks (Meets (g.X.Cells.ids c.args.xs.now) (g.Y.Cells.ids c.args.ys.now))
-    (g.X.Cells.ids c.args.xs.now) (g.Y.Cells.ids c.args.ys.now) (g.K.Count.looks c.find_along-i.new.count)
+    (g.X.Cells.ids c.args.xs.now) (g.Y.Cells.ids c.args.ys.now)
+    (g.K.Count.looks c.find_along-i.new.count - g.K.Count.looks c.args.count.now)
 ended_walk g c lx ly =
     let m = c.len-m.ensures in
     let n = c.len-n.ensures in
@@ -144,8 +153,10 @@ ended_walk g c lx ly =
     let on = fi.from in
     let w = fi.within in
     let more_y = c.look-y.ensures.count in
-    walked_to_end c.find_along-i.result _ (c.loop-j.invariant.walked lx ly) (omega arith) fi.looks fi.from fi.within
-    (omega arith) (omega arith) (inl (omega arith))
+    walked_to_end c.find_along-i.result _ (c.loop-j.invariant.walked lx ly) (omega arith)
+    (sought_from (g.K.Count.looks c.args.count.now) (g.K.Count.looks c.look-y.new.count)
+    (g.K.Count.looks c.find_along-i.new.count) _ _ _ _ fi.looks)
+    fi.from fi.within (omega arith) (omega arith) (inl (omega arith))
 
 pub returns-then-i-m-clause-looks : goal.returns-then-i-m-clause-looks
 returns-then-i-m-clause-looks g c lx ly = (ended_walk g c lx ly).turns
@@ -154,8 +165,16 @@ pub returns-then-i-m-clause-sizes : goal.returns-then-i-m-clause-sizes
 returns-then-i-m-clause-sizes g c lx ly = (ended_walk g c lx ly).sizes
 
 pub returns-then-i-m-clause-least : goal.returns-then-i-m-clause-least
-returns-then-i-m-clause-least g c hx hy =
+returns-then-i-m-clause-least g c =
+    let l = c.loop-j.invariant.least in
+    let more_y = c.look-y.ensures.count in
+    let f = c.find_along-i.ensures.least in
+    omega arith
+
+pub returns-then-i-m-clause-some : goal.returns-then-i-m-clause-some
+returns-then-i-m-clause-some g c hx hy =
     let v = c.loop-j.invariant in
+    let l = v.least in
     let more_y = c.look-y.ensures.count in
     let f = c.find_along-i.ensures.least in
     ⊎_elim (λ (h : 0 < c.loop-j.i + c.loop-j.j). let s = v.some h in omega arith)
@@ -186,7 +205,8 @@ returns-then-begin-end-clause-answer g c lx ly =
 
 ended_shared : (g : Over) (c : goal.Then-begin-end g) → IsLocal (g.X.Cells.ids c.args.xs.now) →
     IsLocal (g.Y.Cells.ids c.args.ys.now) → FewLooks (Meets (g.X.Cells.ids c.args.xs.now) (g.Y.Cells.ids c.args.ys.now))
-    (g.X.Cells.ids c.args.xs.now) (g.Y.Cells.ids c.args.ys.now) (g.K.Count.looks c.look-x.new.count)
+    (g.X.Cells.ids c.args.xs.now) (g.Y.Cells.ids c.args.ys.now)
+    (g.K.Count.looks c.look-x.new.count - g.K.Count.looks c.args.count.now)
 ended_shared g c lx ly =
     let m = c.len-m.ensures in
     let n = c.len-n.ensures in
@@ -195,8 +215,10 @@ ended_shared g c lx ly =
     let w = fi.within in
     let more_y = c.look-y.ensures.count in
     let more_x = c.look-x.ensures.count in
-    walked_to_end c.find_along-i.result _ (c.loop-j.invariant.walked lx ly) (omega arith) fi.looks fi.from fi.within
-    (omega arith) (omega arith) (inl (omega arith))
+    walked_to_end c.find_along-i.result _ (c.loop-j.invariant.walked lx ly) (omega arith)
+    (sought_from (g.K.Count.looks c.args.count.now) (g.K.Count.looks c.look-y.new.count)
+    (g.K.Count.looks c.find_along-i.new.count) _ _ _ _ fi.looks)
+    fi.from fi.within (omega arith) (omega arith) (inl (omega arith))
 
 pub returns-then-begin-end-clause-looks : goal.returns-then-begin-end-clause-looks
 returns-then-begin-end-clause-looks g c lx ly = (ended_shared g c lx ly).turns
@@ -205,7 +227,16 @@ pub returns-then-begin-end-clause-sizes : goal.returns-then-begin-end-clause-siz
 returns-then-begin-end-clause-sizes g c lx ly = (ended_shared g c lx ly).sizes
 
 pub returns-then-begin-end-clause-least : goal.returns-then-begin-end-clause-least
-returns-then-begin-end-clause-least g c hx hy =
+returns-then-begin-end-clause-least g c =
+    let l = c.loop-j.invariant.least in
+    let more_y = c.look-y.ensures.count in
+    let more_x = c.look-x.ensures.count in
+    let f = c.find_along-i.ensures.least in
+    omega arith
+
+pub returns-then-begin-end-clause-some : goal.returns-then-begin-end-clause-some
+returns-then-begin-end-clause-some g c hx hy =
+    let l = c.loop-j.invariant.least in
     let more_y = c.look-y.ensures.count in
     let more_x = c.look-x.ensures.count in
     let f = c.find_along-i.ensures.least in
@@ -221,13 +252,15 @@ returns-clause-answer g c lx ly =
 
 ended_all : (g : Over) (c : goal.After-loop-j g) → IsLocal (g.X.Cells.ids c.args.xs.now) →
     IsLocal (g.Y.Cells.ids c.args.ys.now) → FewLooks (Meets (g.X.Cells.ids c.args.xs.now) (g.Y.Cells.ids c.args.ys.now))
-    (g.X.Cells.ids c.args.xs.now) (g.Y.Cells.ids c.args.ys.now) (g.K.Count.looks c.loop-j.count)
+    (g.X.Cells.ids c.args.xs.now) (g.Y.Cells.ids c.args.ys.now)
+    (g.K.Count.looks c.loop-j.count - g.K.Count.looks c.args.count.now)
 ended_all g c lx ly =
     let v = c.loop-j.invariant in
     let in_x = v.in_x in
     let in_y = v.in_y in
     walked_to_end c.loop-j.i _ (v.walked lx ly) (omega arith)
-    (sought_here (g.K.Count.looks c.loop-j.count) (length (g.X.Cells.ids c.args.xs.now)) c.loop-j.i c.loop-j.i)
+    (sought_here (g.K.Count.looks c.loop-j.count - g.K.Count.looks c.args.count.now)
+    (length (g.X.Cells.ids c.args.xs.now)) c.loop-j.i c.loop-j.i)
     (omega arith) (omega arith) (omega arith) (omega arith) (inr refl)
 
 pub returns-clause-looks : goal.returns-clause-looks
@@ -237,4 +270,7 @@ pub returns-clause-sizes : goal.returns-clause-sizes
 returns-clause-sizes g c lx ly = (ended_all g c lx ly).sizes
 
 pub returns-clause-least : goal.returns-clause-least
-returns-clause-least g c hx hy = let n = c.len-n.ensures in c.loop-j.invariant.some (omega arith)
+returns-clause-least g c = c.loop-j.invariant.least
+
+pub returns-clause-some : goal.returns-clause-some
+returns-clause-some g c hx hy = let n = c.len-n.ensures in c.loop-j.invariant.some (omega arith)

@@ -16,10 +16,11 @@ invariant-loop-j g l = record {
       → ShareSome (covers (slice_index (g.Y.Cells.ids l.ys) k)) (has_leaf (g.X.Cells.ids l.xs)) → ⊥;
   walked : IsLocal (g.X.Cells.ids l.xs) → IsLocal (g.Y.Cells.ids l.ys) →
       Walked (λ k. ShareSome (covers (slice_index (g.Y.Cells.ids l.ys) k)) (has_leaf (g.X.Cells.ids l.xs)))
-      (g.X.Cells.ids l.xs) (g.Y.Cells.ids l.ys) (g.K.Count.looks l.count) l.i l.j;
+      (g.X.Cells.ids l.xs) (g.Y.Cells.ids l.ys) (g.K.Count.looks l.count - g.K.Count.looks l.fn.count) l.i l.j;
   after : IsLocal (g.X.Cells.ids l.xs) → IsLocal (g.Y.Cells.ids l.ys) → 0 < l.j
       → EndsAfter (g.Y.Cells.ids l.ys) l.j (first_leaf (slice_index (g.X.Cells.ids l.xs) l.i));
-  some : 0 < l.i + l.j → min 2 g.K.Count.most ≤ g.K.Count.looks l.count;
+  least : min (g.K.Count.looks l.fn.count) g.K.Count.most ≤ g.K.Count.looks l.count;
+  some : 0 < l.i + l.j → min (g.K.Count.looks l.fn.count + 2) g.K.Count.most ≤ g.K.Count.looks l.count;
 }
 
 abbrev pub decreases-loop-j : goal.decreases-loop-j

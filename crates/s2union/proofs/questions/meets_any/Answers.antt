@@ -1,7 +1,17 @@
+use Rattle.std.proofs.Common.{arith}
 use Rattle.s2union.proofs.questions.meets_any.Goals as goal
 
 pub returns-clause-answer : goal.returns-clause-answer
 returns-clause-answer g c = c.meets_any.ensures.answer c.requires.x_local c.requires.y_local
 
 pub returns-clause-looks : goal.returns-clause-looks
-returns-clause-looks g c = c.meets_any.ensures.sizes c.requires.x_local c.requires.y_local
+returns-clause-looks g c k h =
+    let none = c.requires.count in
+    let l = c.meets_any.ensures.sizes c.requires.x_local c.requires.y_local k h in
+    omega arith
+
+pub returns-clause-least : goal.returns-clause-least
+returns-clause-least g c hx hy =
+    let none = c.requires.count in
+    let s = c.meets_any.ensures.some hx hy in
+    omega arith
