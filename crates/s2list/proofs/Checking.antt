@@ -1,11 +1,10 @@
--- What `is_normalized` finds.
-use Rattle.std.proofs.Common.{◌≡◌, ℕ, ◌+◌, ◌-◌, ◌*◌, ◌<◌, ◌≤◌, refl, sym, ◌∙◌, arith, Bool, true}
-use Rattle.std.proofs.Common.{false, List, [], ◌∷◌, ◌++◌, length, take, get_or, Contains, length-append, is_le, nat_cmp}
+-- Local lists are packed, and when packed cells stay packed with one more.
+use Rattle.std.proofs.Common.{◌≡◌, ℕ, ◌+◌, ◌-◌, ◌<◌, ◌≤◌, refl, ◌∙◌, arith, List, [], ◌∷◌, ◌++◌, length, get_or}
+use Rattle.std.proofs.Common.{Contains, length-append}
 use Rattle.std.proofs.Math.Logic.{⊎_elim}
 use Rattle.std.proofs.lemmas.Bool.{cases_lt}
-use Rattle.std.proofs.lemmas.Bool.Decides.{nat_tests}
 use Rattle.std.proofs.lemmas.Option.{gets}
-use Rattle.std.proofs.lemmas.List.{take_more, get_or_append_left, get_or_push}
+use Rattle.std.proofs.lemmas.List.{get_or_append_left, get_or_push}
 use Rattle.std.proofs.lemmas.List.Kept.{AllPairs-from_increasing}
 use Rattle.s2cell.specs.Cell.{IsCell, size_of, first_leaf, child_of}
 use Rattle.s2cell.proofs.CellLemmas.{cell_leaves}
@@ -13,7 +12,7 @@ use Rattle.s2cell.proofs.Leaves.{covers_there, before, after, within, around, me
 use Rattle.s2list.specs.Union.{IsLocal}
 use Rattle.s2list.specs.Packed.{EndsBefore, IsFamily, IsPacked}
 use Rattle.s2list.proofs.Normal.{four_cases}
-use Rattle.s2list.proofs.Packing.{packed_push, packed_take, read_at}
+use Rattle.s2list.proofs.Packing.{packed_push, read_at}
 
 pub member_at : (u : List ℕ) (k x : ℕ) → k < length u → get_or u k 0 ≡ x → Contains u x
 member_at u k x h e = (k, h, grind (arith, gets))
@@ -47,12 +46,6 @@ packed_from_local u l = record {
       (member_at u k (child_of p 0) (omega arith) f.zero) (member_at u (k + 1) (child_of p 1) (omega arith) f.one)
       (member_at u (k + 2) (child_of p 2) (omega arith) f.two) (member_at u (k + 3) (child_of p 3) h f.three));
 }
-
-pub later_from_test : (a b : ℕ) → false ≡ is_le (nat_cmp a b) → b < a
-later_from_test a b h = grind (arith, nat_tests)
-
-pub le_from_true : (a b : ℕ) (r : Bool) → r ≡ is_le (nat_cmp a b) → r ≡ true → a ≤ b
-le_from_true a b r e t = grind (arith, nat_tests)
 
 -- a cell that comes after the last comes after all
 pub fits : (u : List ℕ) (cell : ℕ) → IsPacked u →
@@ -95,34 +88,3 @@ pushed_unmerged u cell x y z p packed h rx ry rz f =
     ∙ read_at u (length u - 1) (k + 2) z (omega arith) (omega arith) rz in
     let d : get_or v (k + 3) 0 ≡ cell = get_or_push u cell 0 (k + 3) (omega arith) in
     packed.unmerged k p (omega arith) (rw (a, b, c, d) f)
-
-pub unpacked_prefix : (u : List ℕ) (i x : ℕ) → i < length u → x ≡ get_or u i x →
-    (IsPacked (take i u ++ x ∷ []) → ⊥) → IsLocal u → ⊥
-unpacked_prefix u i x h r none l =
-    let e : take (i + 1) u ≡ take i u ++ get_or u i x ∷ [] = take_more u i x h in
-    let p : IsPacked (take (i + 1) u) = packed_take (i + 1) u (omega arith) (packed_from_local u l) in
-    none (rw (e, ← r) at p)
-
-pub last_before : (u : List ℕ) (cell x lo hi : ℕ) (r : Bool) → IsPacked u → 0 < length u → x ≡ get_or u (length u - 1) x
-    → hi ≡ 2 * (first_leaf x + size_of x) - 1 → lo ≡ 2 * first_leaf cell + 1 → r ≡ is_le (nat_cmp lo hi) →
-    r ≡ false → EndsBefore (get_or u (length u - 1) 0) cell
-last_before u cell x lo hi r p h rx eh el t e =
-    let is : get_or u (length u - 1) 0 ≡ x = read_at u (length u - 1) (length u - 1) x (omega arith) refl rx in
-    let c : IsCell (get_or u (length u - 1) 0) = p.cells (length u - 1) 0 (omega arith) in
-    let some : 0 < size_of x = (cell_leaves x (rw is at c)).some in
-    let later : hi < lo = later_from_test lo hi (sym e ∙ t) in
-    rw is (omega arith)
-
-pub not_before : (x cell lo hi : ℕ) (r : Bool) → IsCell cell → hi ≡ 2 * (first_leaf x + size_of x) - 1 →
-    lo ≡ 2 * first_leaf cell + 1 → r ≡ is_le (nat_cmp lo hi) → r ≡ true → EndsBefore x cell → ⊥
-not_before x cell lo hi r c eh el t e b = let le : lo ≤ hi = le_from_true lo hi r t e in absurd (omega arith)
-
-pub no_family_with : (u : List ℕ) (cell x y z : ℕ) → 3 ≤ length u → x ≡ get_or u (length u - 3) x →
-    y ≡ get_or u (length u - 2) y → z ≡ get_or u (length u - 1) z → ((p : ℕ) → IsFamily x y z cell p → ⊥) →
-    (less p : ℕ) → less + 3 ≡ length u → IsFamily (get_or u less 0) (get_or u (less + 1) 0)
-    (get_or u (less + 2) 0) cell p → ⊥
-no_family_with u cell x y z h rx ry rz none less p e f =
-    let a : get_or u less 0 ≡ x = read_at u (length u - 3) less x (omega arith) (omega arith) rx in
-    let b : get_or u (less + 1) 0 ≡ y = read_at u (length u - 2) (less + 1) y (omega arith) (omega arith) ry in
-    let c : get_or u (less + 2) 0 ≡ z = read_at u (length u - 1) (less + 2) z (omega arith) (omega arith) rz in
-    none p (rw (a, b, c) at f)

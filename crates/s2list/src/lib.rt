@@ -34,4 +34,4 @@ pub use four::{Places, places_of_four, places_of_four_counted};
 pub use looks::{Count, Counted, Looks, Uncounted, look};
 pub use run::cells_at;
 pub use walk::{contains, contains_counted, holds_all, intersects, intersects_counted, meets_any};
-pub use whole::{ends_family, first_wrong, is_union, leaf_count, parent_of_family};
+pub use whole::{first_wrong, is_union, leaf_count, parent_of_family};

@@ -95,7 +95,7 @@ fn leaves_of(id: u64) -> u64
 /// Whether a number is the last of four children, and the other three are those before it. Begins with the exclusive-or
 /// of the three, as S2 does, since it is the fourth of few cells in a row that are no family.
 #[inline(always)]
-pub fn ends_family(a: u64, b: u64, c: u64, d: u64) -> bool
+fn ends_family(a: u64, b: u64, c: u64, d: u64) -> bool
     ensures { IsTrue result ↔ ((p : ℕ) × IsFamily a b c d p) }
 {
     let fourth = a ^ b ^ c;

@@ -4,13 +4,11 @@
 //! They copy no list and take no memory, and have no precondition on a list: whatever the numbers are, the call is safe
 //! and returns. The result is exact if the numbers are the cells of normalized unions; for other numbers it means
 //! nothing. So it is with `ancestors`, the keys of an index, with `denormalise`, and with `put_cut` and `put_kept`, the
-//! coverings of a union. `normalise` makes a list of cells a union in place, and `union_of_many` many lists one. Two
-//! calls take memory, for a union of their own: `union_cut`, which cuts as `put_cut`, and `union_of`, which tests and
-//! copies numbers in one pass.
+//! coverings of a union. `normalise` makes a list of cells a union in place, and `union_of_many` many lists one. One
+//! call takes memory, for a union of its own: `union_cut`, which cuts as `put_cut`.
 #![tactic(auto)]
 
 mod cells;
-mod copying;
 mod cut;
 mod denormalising;
 mod join;
@@ -24,7 +22,6 @@ mod share;
 mod subtract;
 
 pub use cells::{FileIds, NUMBER_SIZE, cell_of, number, read_numbers};
-pub use copying::union_of;
 pub use cut::{put_cut, put_kept, union_cut};
 pub use denormalising::denormalise;
 pub use join::put_union;
