@@ -4,8 +4,8 @@
 //! Anything that gives numbers by their indexes is a list of cells (`Cells`): numbers in a slice, the cells of a union,
 //! the bytes of a file at any address. No call copies anything or takes memory. Only `new_end` has a precondition on
 //! the numbers: whatever they are, any other call is safe and returns. The answer is exact if they are the cells of a
-//! normalized union; for other numbers it means nothing. What counts the looks of a call is a type parameter (`Count`),
-//! so that a call that nobody counts has no code for it.
+//! normalized union; for other numbers it means nothing; `is_union` and `first_wrong` are exact for all numbers. What
+//! counts the looks of a call is a type parameter (`Count`), so that a call that nobody counts has no code for it.
 #![tactic(auto)]
 
 mod along;

@@ -22,7 +22,7 @@ struct Step {
 }
 
 /// Puts the leaves of either union into the room, if there is enough of it, and answers how many cells they are. One
-/// pass over both lists. Many cells of one before the next of the other are passed by a search, in steps that double,
+/// pass over both lists. Many cells of one before the next of the other are passed by a search, in steps that leap,
 /// and copied.
 pub fn put_union<X: Cells, Y: Cells>(xs: &X, ys: &Y, out: &mut [u64]) -> usize
     ensures len { length out.new ≡ length out.old }

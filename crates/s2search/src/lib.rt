@@ -4,8 +4,9 @@
 //! They copy no list and take no memory, and have no precondition on a list: whatever the numbers are, the call is safe
 //! and returns. The result is exact if the numbers are the cells of normalized unions; for other numbers it means
 //! nothing. So it is with `ancestors`, the keys of an index, with `denormalise`, and with `put_cut` and `put_kept`, the
-//! coverings of a union. `normalise` makes a list of cells a union in place, and `union_of_many` many lists one. One
-//! call takes memory, for a union of its own: `union_cut`, which cuts as `put_cut`.
+//! coverings of a union. `normalise` makes a list of cells a union in place, and `union_of_many` many lists one; all
+//! numbers that they are given must be cells. One call takes memory, for a union of its own: `union_cut`, which cuts as
+//! `put_cut`, and must be given the cells of a union.
 #![tactic(auto)]
 
 mod cells;

@@ -10,7 +10,7 @@ use crate::room::{put_gap, put_run};
 use s2list::{Cells, end_of, find_from, first_of};
 
 /// Puts the leaves of the first union that the second doesn't have into the room, if there is enough of it, and answers
-/// how many cells they are. Searches, in steps that double, for the next cell of `ys` that ends after the leaves done,
+/// how many cells they are. Searches, in steps that leap, for the next cell of `ys` that ends after the leaves done,
 /// and for the next of `xs` that goes beyond it. The cells of `xs` before the next of `ys` are copied as one run.
 pub fn put_difference<X: Cells, Y: Cells>(xs: &X, ys: &Y, out: &mut [u64]) -> usize
     ensures len { length out.new ≡ length out.old }

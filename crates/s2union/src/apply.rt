@@ -37,7 +37,7 @@ impl CellUnion {
         Ok(CellUnion { cells })
     }
 
-    /// Makes this union a copy of another. It must have room for the other's list, and keeps its room.
+    /// Makes this union a copy of another, for whose list it must have room. Its room doesn't shrink.
     ///
     /// Copies the whole list, and drops what was there before. Takes no memory.
     pub fn copy_from(&mut self, other: &CellUnion)

@@ -45,9 +45,9 @@ impl CellUnion {
         s2list::intersects_cell_counted(&self.list(), cell)
     }
 
-    /// Whether it has all leaves of the other union; stops by the third cell after the first that it lacks. Searches in
-    /// the longer list for each cell of the shorter one: `m (1 + log (n / m))` steps, if the shorter list has `m` cells
-    /// and the longer one `n`. S2 calls it `Contains`.
+    /// Whether it has all leaves of the other union; stops by the third cell after the first that it lacks. At most
+    /// `m (1 + log (n / m))` steps in proportion, if the shorter list has `m` cells and the longer one `n`. S2 calls it
+    /// `Contains`.
     pub fn contains(&self, other: &CellUnion) -> bool
         ensures { IsTrue result ↔ IsWithin (has_leaf other.now.cells) (has_leaf self.now.cells) }
     {

@@ -1,5 +1,5 @@
-//! The set operations, and how a union and an intersection are made: by a walk along both lists, or by a search for
-//! each cell of the shorter one. Runs of cells are copied whole. How a difference is made is in subtract.rt.
+//! The set operations, and how a union is made: by a walk along both lists, or by a search for each cell of the shorter
+//! one. Runs of cells are copied whole. How an intersection is made is in share.rt, and a difference in subtract.rt.
 ghost use Rattle.std.specs.Prelude.{◌≡◌, ◌≤◌, ◌<◌, ◌+◌, ◌||◌, ◌&&◌, ◌*◌, ◌++◌};
 ghost use Rattle.std.specs.Prelude.{◌↔◌, All, slice_index, ℕ, length, []};
 ghost use Rattle.std.specs.Prelude.{IfErr, IfOk, List, OnOk, not, IsTrue};
@@ -37,9 +37,9 @@ impl CellUnion {
         Ok(CellUnion { cells })
     }
 
-    /// The leaves that both have. A search in the longer list for each cell of the shorter one, and whole copies of
-    /// what lies in that cell. Takes memory for the cells of the result. Refuses only if it is out of memory. S2 calls
-    /// it `Intersection`.
+    /// The leaves that both have. One walk along both lists, which leaps over what the other lacks; if one is much
+    /// shorter, a search for each of its cells. Whole copies of what is shared. Takes memory for the cells of the
+    /// result. Refuses only if it is out of memory. S2 calls it `Intersection`.
     pub fn intersection(&self, other: &CellUnion) -> Result<CellUnion, AllocError>
         ensures local { IfOk result (λ u. IsLocal u.cells) }
         ensures leaves { IfOk result (λ u. (x : ℕ) →
@@ -52,9 +52,10 @@ impl CellUnion {
         Ok(CellUnion { cells })
     }
 
-    /// The leaves of this union that the other doesn't have. A search in the longer list for each cell of the shorter
-    /// one, whole copies of what lies between, and the cells of the gaps. Takes memory for the cells of the result.
-    /// Refuses only if it is out of memory. S2 calls it `Difference`.
+    /// The leaves of this union that the other doesn't have. One walk along both lists, which leaps over what stays and
+    /// over what goes; if this one is much shorter, a search for each of its cells. Whole copies of what lies between,
+    /// and the cells of the gaps. Takes memory for the cells of the result. Refuses only if it is out of memory. S2
+    /// calls it `Difference`.
     pub fn difference(&self, other: &CellUnion) -> Result<CellUnion, AllocError>
         ensures local { IfOk result (λ u. IsLocal u.cells) }
         ensures leaves { IfOk result (λ u. (x : ℕ) →
