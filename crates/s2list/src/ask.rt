@@ -17,7 +17,7 @@ pub fn contains_cell<C: Cells>(cells: &C, cell: CellId) -> bool
     holds(cells, cell, &mut Uncounted)
 }
 
-/// The same, with how often it looks at a number: at least once if there is one, and at most `3 k + 5` times if there
+/// The same, with how often it looks at a number: at least once if there is one, and at most `3 k + 4` times if there
 /// are at most `2^k`.
 pub fn contains_cell_counted<C: Cells>(cells: &C, cell: CellId) -> Counted
     ensures answer { IsLocal (C.ids cells.now)

@@ -11,7 +11,7 @@ ghost use Rattle.std.specs.Vec.Iter.{into_iter_items, into_iter_len, into_iter_s
 ghost use Rattle.std.specs.Cmp.Rules.{hashing};
 ghost use Rattle.std.proofs.Common.{rules};
 ghost use Rattle.s2cell.specs.Cell.{first_leaf, size_of};
-ghost use Rattle.s2list.specs.Union.{IsLocal, IsNormalForm, has_leaf, between};
+ghost use Rattle.s2list.specs.Union.{IsLocal, IsNormalForm, IsShortest, has_leaf, between};
 ghost use Rattle.s2list.specs.Count.{count_below};
 
 use crate::normalising::normalise;
@@ -82,10 +82,13 @@ impl CellUnion {
 
     /// The union of the cells of a list, in any order. Cells may overlap, and a cell may come more than once.
     ///
-    /// The list is used for the result, and no memory is taken. S2: `S2CellUnion(cell_ids)`.
+    /// The list is used for the result, and no memory is taken. Is [`normalise`](crate::normalise) by S2's name,
+    /// `S2CellUnion(cell_ids)`.
     pub fn from_cells(cells: Vec<CellId>) -> CellUnion
+        ensures leaves { (x : ℕ) → has_leaf result.cells x ≡ has_leaf cells.items x }
         ensures local { IsLocal result.cells }
         ensures normal { IsNormalForm (has_leaf cells.items) result.cells }
+        ensures shortest { IsShortest (has_leaf cells.items) result.cells }
         ensures room { result.room ≡ vec_capacity cells }
     {
         normalise(cells)
