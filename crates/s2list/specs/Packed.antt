@@ -31,15 +31,15 @@ pub record Merges (front : List ℕ) (cell kept merged : ℕ) : Type 0 where
   pub leaves : (x : ℕ) → (has_leaf (take kept front) x || covers merged x) ≡ (has_leaf front x || covers cell x)
   pub start : first_leaf merged ≤ first_leaf cell
 
--- the first `n` cells of `u` end before the leaf `lo`
+-- the first `n` cells of `u` end by the leaf `lo`: all their leaves come before it
 abbrev pub FirstEndBy : List ℕ → ℕ → ℕ → Type 0
 FirstEndBy u n lo = (k : ℕ) → k < n → first_leaf (slice_index u k) + size_of (slice_index u k) ≤ lo
 
--- if there is a cell at index `n` of `u`, it ends at the leaf `lo` or after it
+-- if there is a cell at index `n` of `u`, it doesn't end by the leaf `lo`
 abbrev pub EndsAfter : List ℕ → ℕ → ℕ → Type 0
 EndsAfter u n lo = n < length u → lo < first_leaf (slice_index u n) + size_of (slice_index u n)
 
--- the first `at` cells of `u` end before the leaf `lo`, and the next one, if there is one, does not
+-- the first `at` cells of `u` end by the leaf `lo`, and the next one, if there is one, doesn't
 pub record IsPlace (u : List ℕ) (lo at : ℕ) : Type 0 where
   pub within : at ≤ length u
   pub ended : FirstEndBy u at lo

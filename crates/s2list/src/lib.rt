@@ -1,6 +1,8 @@
 //! Lists of cells by their indexes: searches, questions and the step of normalizing, written once for each form that a
 //! list may have.
 //!
+//! A cell ends by the leaf `lo` if all its leaves come before that leaf.
+//!
 //! Anything that gives numbers by their indexes is a list of cells (`Cells`): numbers in a slice, the cells of a union,
 //! the bytes of a file at any address. No call copies anything or takes memory. Only `new_end` has a precondition on
 //! the numbers: whatever they are, any other call is safe and returns. The answer is exact if they are the cells of a

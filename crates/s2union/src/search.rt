@@ -1,5 +1,5 @@
 //! The searches in the cells of a union, which are those of `s2list`, and the one function by which a call that is
-//! counted looks at a cell itself. A cell ends by a leaf if all its leaves come before that leaf.
+//! counted looks at a cell itself.
 ghost use Rattle.std.specs.Prelude.{◌≡◌, ◌≤◌, ◌<◌, ◌+◌, min, length, slice_index};
 ghost use Rattle.s2list.specs.Packed.{IsPacked, FirstEndBy, EndsAfter};
 
