@@ -2,5 +2,4 @@
 -- docs/STATEMENT.md says what is.
 pub mod Union
 pub mod Packed
-pub mod Sets
 pub mod Search

@@ -18,7 +18,7 @@ use Rattle.s2cell.specs.Cell.{IsCell, first_leaf, covers}
 use Rattle.s2cell.proofs.CellLemmas.{cell_leaves}
 use Rattle.s2list.specs.Union.{has_leaf, IsLocal}
 use Rattle.s2list.specs.Packed.{EndsBefore, IsFamily, IsPacked}
-use Rattle.s2list.specs.Working.Packed.{Continues}
+use Rattle.s2union.specs.Working.Tail.{Continues}
 use Rattle.s2list.proofs.Packing.{read_at}
 use Rattle.s2list.proofs.PackedLocal.{local_from_packed}
 use Rattle.s2list.proofs.Checking.{packed_from_local}

@@ -5,8 +5,7 @@ use Rattle.std.proofs.lemmas.List.{get_or-append_right, length-reverse, length-t
 use Rattle.std.proofs.lemmas.List.{take-append-drop, take_at, take_more, drop_more, get_or-take}
 use Rattle.s2cell.specs.Cell.{IsCell}
 use Rattle.s2list.specs.Packed.{IsPacked}
-use Rattle.s2list.specs.Working.Packed.{Continues}
-use Rattle.s2union.specs.Working.Tail.{Follows, IsTail, Passes}
+use Rattle.s2union.specs.Working.Tail.{Continues, Follows, IsTail, Passes}
 use Rattle.s2union.specs.declared.apply.Tail.{Tail}
 use Rattle.s2union.specs.Apply.{applied, Fits}
 use Rattle.s2union.specs.Working.Merge.{Left, CanApply, Keeps, made_list}

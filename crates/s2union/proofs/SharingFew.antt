@@ -13,7 +13,7 @@ use Rattle.s2cell.proofs.CellLemmas.{cell_leaves}
 use Rattle.s2cell.proofs.Leaves.{before, after, within, around, meeting, inside_from_within, within_from_inside}
 use Rattle.s2list.specs.Union.{has_leaf, IsLocal}
 use Rattle.s2list.specs.Packed.{IsPlace, FirstEndBy, EndsAfter}
-use Rattle.s2list.specs.Working.Sets.{IsShared}
+use Rattle.s2union.specs.Working.Sets.{IsShared}
 use Rattle.s2list.proofs.Checking.{packed_from_local}
 use Rattle.s2list.proofs.Finding.{starts_later}
 use Rattle.s2list.proofs.Packing.{read_at}

@@ -9,7 +9,7 @@ use Rattle.s2cell.specs.Cell.{size_of, first_leaf}
 use Rattle.s2cell.proofs.CellLemmas.{cell_leaves}
 use Rattle.s2list.specs.Union.{has_leaf, IsLocal}
 use Rattle.s2list.specs.Packed.{IsPacked, IsPlace, FirstEndBy}
-use Rattle.s2list.specs.Working.Sets.{IsLeft}
+use Rattle.s2union.specs.Working.Sets.{IsLeft}
 use Rattle.s2list.proofs.Checking.{packed_from_local}
 use Rattle.s2list.proofs.Finding.{ended_to, starts_later}
 use Rattle.s2list.proofs.Picking.{Picked}

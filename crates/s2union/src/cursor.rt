@@ -23,7 +23,7 @@ pub struct Cursor<'a> {
 
 impl<'a> Model for Cursor<'a> {
     ghost use Rattle.std.specs.Prelude.{ℕ, List};
-    ghost use Rattle.s2list.specs.Working.Search.{IsCursor};
+    ghost use Rattle.s2union.specs.Working.Cursor.{IsCursor};
 
     ghost Value = { List ℕ };
 

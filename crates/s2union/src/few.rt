@@ -8,7 +8,7 @@ ghost use Rattle.std.specs.Prelude.{ℕ, All, IsTrue, IfSome, MatchOption, min, 
 ghost use Rattle.s2cell.specs.Cell.{IsCell, IsInside};
 ghost use Rattle.s2list.specs.Union.{IsLocal, has_leaf, IsWithin, ShareSome};
 ghost use Rattle.s2list.specs.Packed.{IsPacked, EndsBefore};
-ghost use Rattle.s2list.specs.Working.Sets.{HoldsBetween, MissesBetween};
+ghost use Rattle.s2union.specs.Working.Sets.{HoldsBetween, MissesBetween};
 ghost use Rattle.s2list.specs.Looks.{FewForUnion};
 
 use crate::search::look;

@@ -8,7 +8,7 @@ ghost use Rattle.s2cell.specs.Cell.{first_leaf};
 ghost use Rattle.s2list.specs.Union.{IsLocal, IsNormalForm, has_leaf};
 ghost use Rattle.s2list.specs.Sets.{either, shared, without};
 ghost use Rattle.s2list.specs.Packed.{IsPacked};
-ghost use Rattle.s2list.specs.Working.Packed.{Continues};
+ghost use Rattle.s2union.specs.Working.Tail.{Continues};
 
 use crate::fault::UnionFault;
 use crate::few::MUCH_LONGER;

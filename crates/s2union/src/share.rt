@@ -3,7 +3,7 @@ ghost use Rattle.std.specs.Prelude.{ℕ, ◌≡◌, ◌≤◌, ◌<◌, ◌+◌,
 ghost use Rattle.std.specs.Prelude.{[], IsTrue, length, slice_index, IfOk, OnOk};
 ghost use Rattle.s2cell.specs.Cell.{IsInside, first_leaf};
 ghost use Rattle.s2list.specs.Union.{IsLocal, has_leaf};
-ghost use Rattle.s2list.specs.Working.Sets.{IsShared};
+ghost use Rattle.s2union.specs.Working.Sets.{IsShared};
 ghost use Rattle.s2list.specs.Packed.{FirstEndBy, IsPlace};
 
 use crate::few::{MUCH_LONGER, by_four, pass_free, pass_held};

@@ -7,7 +7,7 @@ ghost use Rattle.std.specs.Vec.{vec_len};
 ghost use Rattle.s2cell.specs.Cell.{IsCell, first_leaf, size_of};
 ghost use Rattle.s2list.specs.Union.{IsLocal, IsNormalForm, has_leaf};
 ghost use Rattle.s2list.specs.Sets.{without};
-ghost use Rattle.s2list.specs.Working.Sets.{IsLeft};
+ghost use Rattle.s2union.specs.Working.Sets.{IsLeft};
 ghost use Rattle.s2list.specs.Packed.{FirstEndBy, IsPlace, FillsGap};
 
 use crate::fault::UnionFault;

@@ -1,12 +1,6 @@
 -- What only private contracts need, beside Packed.antt, which has what public contracts need.
-use Rattle.std.specs.Prelude.{◌≡◌, ℕ, ◌+◌, ◌-◌, ◌<◌, ◌≤◌, List, length, slice_index}
+use Rattle.std.specs.Prelude.{ℕ, ◌+◌, ◌<◌, ◌≤◌, List, length, slice_index}
 use Rattle.s2cell.specs.Cell.{first_leaf, size_of}
-
--- the last three cells of `list`, or all if it has fewer, are the cells of `cells` just before index `i`
-pub record Continues (list cells : List ℕ) (i : ℕ) : Type 0 where
-  pub within : (k : ℕ) → length list ≤ k + 3 → k < length list → length list ≤ k + i
-  pub same : (k : ℕ) → length list ≤ k + 3 → k < length list →
-      slice_index list k ≡ slice_index cells (k + i - length list)
 
 -- there is a cell at index `at` of `u`, and it ends by the leaf `lo`
 abbrev pub EndsAt : List ℕ → ℕ → ℕ → Type 0

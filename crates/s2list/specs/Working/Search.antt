@@ -1,13 +1,7 @@
 -- What only private contracts need, beside Search.antt, which has what public contracts need.
-use Rattle.std.specs.Prelude.{ℕ, ◌+◌, ◌<◌, ◌≤◌, List, length, slice_index}
+use Rattle.std.specs.Prelude.{ℕ, ◌+◌, ◌<◌, List, length, slice_index}
 use Rattle.s2cell.specs.Cell.{first_leaf, size_of}
-use Rattle.s2list.specs.Union.{IsLocal}
 use Rattle.s2list.specs.Packed.{FirstEndBy}
-
--- `u` is local, and `at` is an index in it or its end
-pub record IsCursor (u : List ℕ) (at : ℕ) : Type 0 where
-  pub local : IsLocal u
-  pub within : at ≤ length u
 
 -- the first cell that ends after the leaf `lo`, if there is one, is at an index from `start` to `end`
 pub record IsFrom (u : List ℕ) (lo start end : ℕ) : Type 0 where

@@ -1,5 +1,6 @@
 -- The last cells of a list that is passed one cell after another.
-use Rattle.std.specs.Prelude.{◌≡◌, ◌↔◌, ◌++◌, ℕ, List, Some, slice_get, reverse}
+use Rattle.std.specs.Prelude.{◌≡◌, ◌↔◌, ◌+◌, ◌-◌, ◌<◌, ◌≤◌, ◌++◌, ℕ, List, Some, length, reverse, slice_get}
+use Rattle.std.specs.Prelude.{slice_index}
 use Rattle.s2list.specs.Packed.{EndsBefore, IsFamily, IsPacked}
 use Rattle.s2union.specs.declared.apply.Tail.{Tail}
 
@@ -19,3 +20,9 @@ pub record IsTail (t : Tail) (back : List ℕ) : Type 0 where
 pub record Passes (passes : Type 0) (old new : Tail) (run : List ℕ) : Type 0 where
   pub exact : (back : List ℕ) → IsTail old back → IsPacked (reverse back) → (passes ↔ IsPacked (reverse back ++ run))
   pub ends : (back : List ℕ) → IsTail old back → IsPacked (reverse back) → passes → IsTail new (reverse run ++ back)
+
+-- the last three cells of `list`, or all if it has fewer, are the cells of `cells` just before index `i`
+pub record Continues (list cells : List ℕ) (i : ℕ) : Type 0 where
+  pub within : (k : ℕ) → length list ≤ k + 3 → k < length list → length list ≤ k + i
+  pub same : (k : ℕ) → length list ≤ k + 3 → k < length list →
+      slice_index list k ≡ slice_index cells (k + i - length list)

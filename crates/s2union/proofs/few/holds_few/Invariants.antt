@@ -1,5 +1,5 @@
 use Rattle.std.proofs.Common.{◌-◌, ◌*◌, ◌<◌, ◌≤◌, length, min}
-use Rattle.s2list.specs.Working.Sets.{HoldsBetween}
+use Rattle.s2union.specs.Working.Sets.{HoldsBetween}
 use Rattle.s2union.proofs.few.holds_few.Given as goal
 
 abbrev pub invariant-loop-j : goal.invariant-loop-j

@@ -1,5 +1,5 @@
 use Rattle.std.proofs.Common.{◌∙◌, ℕ, List, subst, arith}
-use Rattle.s2list.specs.Working.Packed.{Continues}
+use Rattle.s2union.specs.Working.Tail.{Continues}
 use Rattle.s2union.proofs.Following.{adding_step, adding_done, Added}
 use Rattle.s2union.proofs.sets.add_run.Goals as goal
 use Rattle.s2union.proofs.sets.add_run.Goals.{then-loop-i-test+else-not-continues, else-loop-i-test}

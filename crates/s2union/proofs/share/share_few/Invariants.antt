@@ -1,5 +1,5 @@
 use Rattle.std.proofs.Common.{◌-◌, ◌≤◌, length}
-use Rattle.s2list.specs.Working.Sets.{IsShared}
+use Rattle.s2union.specs.Working.Sets.{IsShared}
 use Rattle.s2union.proofs.share.share_few.Given as goal
 
 abbrev pub invariant-loop-i : goal.invariant-loop-i

@@ -1,5 +1,5 @@
 use Rattle.std.proofs.Common.{◌-◌, ◌≤◌, length}
-use Rattle.s2list.specs.Working.Sets.{IsLeft}
+use Rattle.s2union.specs.Working.Sets.{IsLeft}
 use Rattle.s2union.proofs.subtract.subtract_few.Given as goal
 
 abbrev pub invariant-loop-i : goal.invariant-loop-i

@@ -1,4 +1,4 @@
--- What only private contracts need, beside Sets.antt, which has what public contracts need.
+-- Two lists of cells while an operation on them, or a question about them, is under way.
 use Rattle.std.specs.Prelude.{◌≡◌, ◌≤◌, ◌<◌, ℕ, ◌&&◌, not, List, take, All, AllPairs, slice_index}
 use Rattle.s2cell.specs.Cell.{covers}
 use Rattle.s2list.specs.Union.{has_leaf, IsGreatestIn, IsWithin, ShareSome}
