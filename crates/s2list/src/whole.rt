@@ -75,7 +75,8 @@ fn is_cell(id: u64) -> bool
 
 /// How many of the `6 * 4^30` leaves a union has. Linear.
 pub fn leaf_count<C: Cells>(cells: &C) -> u64
-    ensures { IsLocal (C.ids cells.now) → result ≡ count_below (has_leaf (C.ids cells.now)) LEAVES }
+    ensures value { IsLocal (C.ids cells.now) → result ≡ count_below (has_leaf (C.ids cells.now)) LEAVES }
+    ensures most { IsLocal (C.ids cells.now) → result ≤ LEAVES }
 {
     let mut total = 0u64;
     for k in 0..cells.len() {

@@ -170,7 +170,7 @@ impl CellUnion {
         ensures value { result ≡ count_below (has_leaf self.now.cells) LEAVES }
         ensures most { result ≤ LEAVES }
     {
-        count(self.cells())
+        s2list::leaf_count(&self.list())
     }
 
     /// The list itself, with its room.
@@ -182,19 +182,6 @@ impl CellUnion {
         let CellUnion { cells } = self;
         cells
     }
-}
-
-/// How many leaves the cells of a local list have.
-fn count(cells: &[CellId]) -> u64
-    requires { IsLocal cells.now }
-    ensures value { result ≡ count_below (has_leaf cells.now) LEAVES }
-    ensures most { result ≤ LEAVES }
-{
-    let mut total = 0;
-    for cell in cells {
-        total += cell.leaf_count();
-    }
-    total
 }
 
 impl<'a> IntoIterator for &'a CellUnion {

@@ -27,3 +27,10 @@ loop-k-preserved g c local =
     rw c.id.ensures at (c.leaves_of-total.ensures (rw c.id.ensures own)) in
     let v = c.loop-k.invariant local in
     omega arith
+
+pub returns-clause-most : goal.returns-clause-most
+returns-clause-most g c local =
+    let v = c.loop-k.invariant local in
+    let most : count_below (has_leaf (take c.loop-k.k (g.C.Cells.ids c.args.cells.now))) LEAVES ≤ LEAVES =
+    count_most (has_leaf (take c.loop-k.k (g.C.Cells.ids c.args.cells.now))) LEAVES in
+    omega arith
