@@ -6,7 +6,7 @@ ghost use Rattle.s2list.specs.Packed.{IsPlace};
 ghost use Rattle.s2list.specs.Looks.{FewForCell};
 
 use crate::cells::Cells;
-use crate::find::{find_counted, find_near};
+use crate::find::{find_counted, find_near, first_of};
 use crate::looks::{Count, Counted, Looks, Uncounted, look};
 use s2cell::CellId;
 
@@ -158,17 +158,16 @@ fn holds_at<C: Cells, K: Count>(cells: &C, at: usize, cell: CellId, count: &mut 
 
 /// Whether there is a number at index `at`, and its cell begins before the leaf `end`.
 #[inline(always)]
-pub(crate) fn begins_at<C: Cells, K: Count>(cells: &C, at: usize, end: u64, count: &mut K) -> bool
+pub fn begins_at<C: Cells, K: Count>(cells: &C, at: usize, end: u64, count: &mut K) -> bool
     ensures answer { All IsCell (C.ids cells.now)
         → (IsTrue result ↔ (at < length (C.ids cells.now) × first_leaf (slice_index (C.ids cells.now) at) < end)) }
+    ensures within { IsTrue result → at < length (C.ids cells.now) }
+    ensures fits { IsTrue result → at + 1 < 2 ^ 64 }
     ensures looks { K.looks count.new ≤ K.looks count.old + 1 }
     ensures least { min (K.looks count.old) K.most ≤ K.looks count.new }
 {
     if at >= cells.len() {
         return false;
     }
-    match CellId::from_id(look(cells, at, count)) {
-        Some(cell) => cell.first_leaf() < end,
-        None => false,
-    }
+    first_of(look(cells, at, count)) < end
 }

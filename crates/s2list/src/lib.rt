@@ -24,7 +24,7 @@ mod whole;
 pub use along::find_along;
 pub use appending::new_end;
 pub use ask::{
-    contains_cell, contains_cell_at, contains_cell_at_counted, contains_cell_counted,
+    begins_at, contains_cell, contains_cell_at, contains_cell_at_counted, contains_cell_counted,
     intersects_cell, intersects_cell_at, intersects_cell_at_counted, intersects_cell_counted,
     place_near,
 };

@@ -1,7 +1,7 @@
 -- What one list of cells has without the leaves of another, put into a room on a walk along both.
 use Rattle.std.proofs.Common.{◌≡◌, ℕ, ◌+◌, ◌-◌, ◌<◌, ◌≤◌, refl, sym, ◌∙◌, ap, arith, Bool, inl, List, []}
 use Rattle.std.proofs.Common.{◌++◌, length, get_or, take, drop, max}
-use Rattle.std.proofs.Common.{◌↔◌, IsTrue, false}
+use Rattle.std.proofs.Common.{IsTrue, false}
 use Rattle.std.proofs.Math.Logic.{⊎_elim}
 use Rattle.std.proofs.lemmas.Bool.{cases_lt, false≢true}
 use Rattle.std.proofs.lemmas.Bool.Decides.{nat_tests}
@@ -42,8 +42,8 @@ left_none xs ys room = record {
 }
 
 -- a test that fails says the opposite
-pub not_before : (b : Bool) (a end : ℕ) → (IsTrue b ↔ (a < end)) → b ≡ false → end ≤ a
-not_before b a end test e = ⊎_elim (λ (h : a < end). absurd (false≢true (sym e ∙ test.1 h))) (λ (h : end ≤ a). h)
+pub not_before : (b : Bool) (a end : ℕ) → (a < end → IsTrue b) → b ≡ false → end ≤ a
+not_before b a end test e = ⊎_elim (λ (h : a < end). absurd (false≢true (sym e ∙ test h))) (λ (h : end ≤ a). h)
     (cases_lt a end)
 
 -- from the next cell of xs on, and past the cells of ys that end by it

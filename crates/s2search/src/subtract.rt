@@ -1,5 +1,5 @@
 //! The leaves of one list of cells that another doesn't have, written into a room.
-ghost use Rattle.std.specs.Prelude.{◌≡◌, ◌+◌, ◌^◌, ◌<◌, ◌≤◌, ◌↔◌, IsTrue, length, slice_index};
+ghost use Rattle.std.specs.Prelude.{◌≡◌, ◌+◌, ◌<◌, ◌≤◌, length, slice_index};
 ghost use Rattle.s2cell.specs.Cell.{IsCell, first_leaf, size_of};
 ghost use Rattle.s2list.specs.Union.{IsLocal, IsNormalForm, has_leaf};
 ghost use Rattle.s2list.specs.Packed.{FirstEndBy};
@@ -7,7 +7,7 @@ ghost use Rattle.s2list.specs.Sets.{without};
 ghost use Rattle.s2search.specs.Room.{PutsOne};
 
 use crate::room::{put_gap, put_run};
-use s2list::{Cells, end_of, find_from, first_of};
+use s2list::{Cells, Uncounted, begins_at, end_of, find_from, first_of};
 
 /// Puts the leaves of the first union that the second doesn't have into the room, if there is enough of it, and answers
 /// how many cells they are. Searches, in steps that leap, for the next cell of `ys` that ends after the leaves done,
@@ -27,7 +27,7 @@ pub fn put_difference<X: Cells, Y: Cells>(xs: &X, ys: &Y, out: &mut [u64]) -> us
         let end = end_of(x);
         let start = first.max(lo);
         j = find_from(ys, j, start);
-        if begins_before(ys, j, end) {
+        if begins_at(ys, j, end, &mut Uncounted) {
             let y = ys.id(j);
             n = put_gap(out, n, start, first_of(y));
             lo = end_of(y).max(start);
@@ -45,17 +45,6 @@ pub fn put_difference<X: Cells, Y: Cells>(xs: &X, ys: &Y, out: &mut [u64]) -> us
         }
     }
     n
-}
-
-/// Whether there is a number at index `at`, and its cell begins before the leaf `end`.
-#[inline(always)]
-fn begins_before<C: Cells>(cells: &C, at: usize, end: u64) -> bool
-    ensures there { IsTrue result → at < length (C.ids cells.now) }
-    ensures fits { IsTrue result → at + 1 < 2 ^ 64 }
-    ensures begins { at < length (C.ids cells.now) → IsCell (slice_index (C.ids cells.now) at)
-        → (IsTrue result ↔ (first_leaf (slice_index (C.ids cells.now) at) < end)) }
-{
-    at < cells.len() && first_of(cells.id(at)) < end
 }
 
 /// How many cells end by the leaf `lo`, if the first `start` are known to and this is asked; else `start`.

@@ -14,14 +14,14 @@ loop-i-init g c = record {
   so_far = λ lx ly. left_none (g.X.Cells.ids c.args.xs.now) (g.Y.Cells.ids c.args.ys.now) c.args.out.now;
 }
 
-pub loop-i-preserved-then-begins_before : goal.loop-i-preserved-then-begins_before
-loop-i-preserved-then-begins_before g c =
+pub loop-i-preserved-then-begins_at : goal.loop-i-preserved-then-begins_at
+loop-i-preserved-then-begins_at g c =
     let xs = g.X.Cells.ids c.args.xs.now in
     let ys = g.Y.Cells.ids c.args.ys.now in
     let nx = c.len.ensures in
     let h : c.loop-i.i < length xs = omega (arith, c.loop-i-test.true) in
     let es : c.max-start.result ≡ max c.first_of-first.result c.loop-i.lo = omega arith in
-    let there = c.begins_before.ensures.there c.if-begins_before.true in
+    let there = c.begins_at.ensures.within c.if-begins_at.true in
     let ry = c.id-y.ensures in
     let f = c.leap_if-i.ensures in
     record {
@@ -34,7 +34,7 @@ loop-i-preserved-then-begins_before g c =
           (c.loop-i.invariant.so_far lx ly) h c.id-x.ensures c.first_of-first.ensures es c.find_from-j.ensures.within
           c.find_from-j.ensures.ended in
           let own = ly.cells c.find_from-j.result 0 there in
-          let begins = (c.begins_before.ensures.begins there own).0 c.if-begins_before.true in
+          let begins = ((c.begins_at.ensures.answer ly.cells).0 c.if-begins_at.true).1 in
           let fy : c.first_of.result ≡ first_leaf (get_or ys c.find_from-j.result 0) = c.first_of.ensures (rw ry own)
           ∙ ap first_leaf ry in
           let taken = left_taken xs ys c.args.out.now c.loop-i.out c.put_gap-n.new.out c.loop-i.n c.put_gap-n.result
@@ -74,7 +74,7 @@ loop-i-preserved-then-start-first g c =
           (let t = c.if-start-first.true in omega arith) f.more f.within
           (λ there.
           let own = ly.cells c.find_from-j.result 0 there in
-          let free = not_before _ _ _ (c.begins_before.ensures.begins there own) c.if-begins_before.false in
+          let free = not_before _ _ _ (λ h. (c.begins_at.ensures.answer ly.cells).1 (there, h)) c.if-begins_at.false in
           f.free lx there own (omega arith))
           c.id.ensures c.end_of-lo.ensures c.put_run-n.ensures.put;
     }
@@ -99,8 +99,7 @@ loop-i-preserved g c =
           c.put_gap-n-else-start-first.result c.loop-i.i c.find_from-j.result c.loop-i.lo c.id-x.result
           c.first_of-first.result c.end_of-end.result c.max-start.result c.max-lo-else-start-first.result lx ly here h
           c.id-x.ensures c.first_of-first.ensures c.end_of-end.ensures es
-          (λ there. not_before _ _ _ (c.begins_before.ensures.begins there (ly.cells c.find_from-j.result 0 there))
-          c.if-begins_before.false)
+          (λ there. not_before _ _ _ (λ h. (c.begins_at.ensures.answer ly.cells).1 (there, h)) c.if-begins_at.false)
           (omega arith) c.put_gap-n-else-start-first.ensures.put;
     }
 
