@@ -11,6 +11,7 @@ pub mod Tiling
 pub mod Counting
 -- Cited by the crates above: walks and searches.
 pub mod Walking
+pub mod Asking
 pub mod Galloping
 pub mod Finding
 pub mod Looking
@@ -19,7 +20,6 @@ pub mod Turns
 pub mod Shared
 pub mod Subtracting
 -- Of this crate alone.
-mod Asking
 mod Marking
 mod Narrowing
 mod Running

@@ -8,6 +8,7 @@ ghost use Rattle.s2list.specs.Looks.{FewForCell};
 use crate::cells::Cells;
 use crate::find::{find_counted, find_near, first_of};
 use crate::looks::{Count, Counted, Looks, Uncounted, look};
+use crate::walk::lies_in;
 use s2cell::CellId;
 
 /// Whether a union has all leaves of the cell. Logarithmic.
@@ -150,10 +151,7 @@ fn holds_at<C: Cells, K: Count>(cells: &C, at: usize, cell: CellId, count: &mut 
     if at >= cells.len() {
         return false;
     }
-    match CellId::from_id(look(cells, at, count)) {
-        Some(holder) => holder.contains(cell),
-        None => false,
-    }
+    lies_in(cell.id(), look(cells, at, count))
 }
 
 /// Whether there is a number at index `at`, and its cell begins before the leaf `end`.

@@ -1,6 +1,6 @@
 -- The leaves that a short list of cells shares with a much longer one.
 use Rattle.std.proofs.Common.{◌≡◌, ℕ, zero, suc, [], ◌∷◌, ◌++◌, ◌+◌, ◌-◌, ◌<◌, ◌≤◌, refl, sym, ◌∙◌, ap, arith, true}
-use Rattle.std.proofs.Common.{◌&&◌, ltb, List, length, take, drop, get_or, inl}
+use Rattle.std.proofs.Common.{◌&&◌, ◌↔◌, ltb, Bool, IsTrue, List, length, take, drop, get_or, inl}
 use Rattle.std.proofs.Math.Logic.{⊎_elim}
 use Rattle.std.proofs.lemmas.Bool.{and_parts, cases_lt}
 use Rattle.std.proofs.lemmas.Bool.Decides.{nat_tests}
@@ -8,12 +8,13 @@ use Rattle.std.proofs.Math.Seq.{take-suc}
 use Rattle.std.proofs.lemmas.List.{append_assoc, append-nil, get_or-drop, get_or-take, length-drop, length-take-le}
 use Rattle.std.proofs.lemmas.List.{take_all}
 use Rattle.std.proofs.lemmas.Option.{gets}
-use Rattle.s2cell.specs.Cell.{IsCell, IsInside, size_of, first_leaf}
+use Rattle.s2cell.specs.Cell.{IsCell, IsInside, covers, size_of, first_leaf}
 use Rattle.s2cell.proofs.CellLemmas.{cell_leaves}
 use Rattle.s2cell.proofs.Leaves.{before, after, within, around, meeting, inside_from_within, within_from_inside}
-use Rattle.s2list.specs.Union.{has_leaf, IsLocal}
+use Rattle.s2list.specs.Union.{has_leaf, IsLocal, IsWithin}
 use Rattle.s2list.specs.Packed.{IsPlace, FirstEndBy, EndsAfter}
 use Rattle.s2union.specs.Working.Sets.{IsShared}
+use Rattle.s2list.proofs.Asking.{held_there}
 use Rattle.s2list.proofs.Checking.{packed_from_local}
 use Rattle.s2list.proofs.Finding.{starts_later}
 use Rattle.s2list.proofs.Packing.{read_at}
@@ -115,6 +116,19 @@ sharing_stop {xs} {ys} {n} {j} end lx ly s in_x ended next =
           let f = b.1 in
           rw (l, h, f) refl);
     }
+
+-- a test whether `ys` has all leaves of a cell of `xs` says whether the cell lies in the next of `ys`
+pub held_by : (xs ys : List ℕ) (i at x : ℕ) (b : Bool) → IsLocal xs → IsLocal ys → i < length xs → x ≡ get_or xs i x →
+    IsPlace ys (first_leaf (get_or xs i 0)) at →
+    (IsLocal ys → IsPlace ys (first_leaf x) at → IsTrue b ↔ IsWithin (covers x) (has_leaf ys)) →
+    IsTrue b ↔ ((at < length ys) × IsInside x (get_or ys at 0))
+held_by xs ys i at x b lx ly h rx place says =
+    let ex : get_or xs i 0 ≡ x = read_at xs i i x h refl rx in
+    let cx : IsCell x = rw ex at (lx.cells i 0 h) in
+    let there : IsPlace ys (first_leaf x) at = rw ex at place in
+    let test = says ly there in
+    let held = held_there ys at x ly cx there.ended there.next in
+    (λ e. held.1 (test.0 e), λ p. test.1 (held.0 p))
 
 -- a cell of `xs` lies in the next of `ys`
 pub shared_held : (xs ys list new : List ℕ) (i at x : ℕ) → IsLocal xs → IsLocal ys → IsShared xs ys list i →

@@ -1,7 +1,7 @@
 //! How an intersection is made: by a walk along both lists, or by a search for each cell of one if it is much shorter.
-ghost use Rattle.std.specs.Prelude.{ℕ, ◌≡◌, ◌≤◌, ◌<◌, ◌+◌, ◌-◌, ◌↔◌, ◌&&◌};
-ghost use Rattle.std.specs.Prelude.{[], IsTrue, length, slice_index, IfOk, OnOk};
-ghost use Rattle.s2cell.specs.Cell.{IsInside, first_leaf};
+ghost use Rattle.std.specs.Prelude.{ℕ, ◌≡◌, ◌≤◌, ◌<◌, ◌+◌, ◌-◌, ◌&&◌};
+ghost use Rattle.std.specs.Prelude.{[], length, slice_index, IfOk, OnOk};
+ghost use Rattle.s2cell.specs.Cell.{first_leaf};
 ghost use Rattle.s2list.specs.Union.{IsLocal, has_leaf};
 ghost use Rattle.s2union.specs.Working.Sets.{IsShared};
 ghost use Rattle.s2list.specs.Packed.{FirstEndBy, IsPlace};
@@ -10,7 +10,7 @@ use crate::few::{MUCH_LONGER, by_four, pass_free, pass_held};
 use crate::search::{find, find_from};
 use crate::sets::extend;
 use s2cell::CellId;
-use s2list::{CellList, Uncounted, places_of_four};
+use s2list::{CellList, Uncounted, contains_cell_at, places_of_four};
 use std::alloc::AllocError;
 
 /// Puts the leaves that `xs` and `ys` share into an empty list.
@@ -155,18 +155,11 @@ fn share_one(
     ensures shared { OnOk result (IsShared xs.now ys.now list.new.items (i + 1)) }
 {
     let x = xs[i];
-    if is_held_at(ys, at, x) {
+    if contains_cell_at(&CellList { cells: ys }, at, x) {
         list.push(x)?;
     } else {
         let next = find_from(ys, at, x.end_leaf());
         extend(list, &ys[at..next])?;
     }
     Ok(())
-}
-
-/// Whether there is a cell at index `at` that contains the other.
-fn is_held_at(cells: &[CellId], at: usize, cell: CellId) -> bool
-    ensures { IsTrue result ↔ ((at < length cells.now) × IsInside cell (slice_index cells.now at)) }
-{
-    at < cells.len() && cells[at].contains(cell)
 }
