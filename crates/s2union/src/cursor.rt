@@ -6,7 +6,7 @@ ghost use Rattle.s2list.specs.Packed.{IsPacked, FirstEndBy, EndsAfter};
 
 use crate::search::{find, find_from};
 use crate::union::CellUnion;
-use s2cell::{CellId, LEAVES};
+use s2cell::CellId;
 use s2list::{CellList, contains_cell_at, intersects_cell_at};
 use std::marker::Model;
 
@@ -70,7 +70,6 @@ impl<'a> Cursor<'a> {
 /// beginning.
 fn find_near(cells: &[CellId], near: usize, lo: u64) -> usize
     requires packed { IsPacked cells.now }
-    requires leaf { lo ≤ LEAVES }
     requires within { near ≤ length cells.now }
     ensures within { result ≤ length cells.now }
     ensures ended { FirstEndBy cells.now result lo }

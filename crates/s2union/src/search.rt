@@ -3,7 +3,7 @@
 ghost use Rattle.std.specs.Prelude.{◌≡◌, ◌≤◌, ◌<◌, ◌+◌, min, length, slice_index};
 ghost use Rattle.s2list.specs.Packed.{IsPacked, FirstEndBy, EndsAfter};
 
-use s2cell::{CellId, LEAVES};
+use s2cell::CellId;
 use s2list::{CellList, Count, Uncounted};
 
 /// The cell of a list at an index. Beside the searches of `s2list`, what is counted sees cells only through this call.
@@ -19,8 +19,7 @@ pub(crate) fn look<K: Count>(cells: &[CellId], at: usize, count: &mut K) -> Cell
 
 /// How many cells end by the leaf `lo`; these come first. Logarithmic.
 pub(crate) fn find(cells: &[CellId], lo: u64) -> usize
-    requires packed { IsPacked cells.now }
-    requires leaf { lo ≤ LEAVES }
+    requires { IsPacked cells.now }
     ensures within { result ≤ length cells.now }
     ensures ended { FirstEndBy cells.now result lo }
     ensures next { EndsAfter cells.now result lo }
@@ -32,7 +31,6 @@ pub(crate) fn find(cells: &[CellId], lo: u64) -> usize
 #[inline(always)]
 pub(crate) fn find_from(cells: &[CellId], from: usize, lo: u64) -> usize
     requires packed { IsPacked cells.now }
-    requires leaf { lo ≤ LEAVES }
     requires within { from ≤ length cells.now }
     requires ended { FirstEndBy cells.now from lo }
     ensures from { from ≤ result }

@@ -11,8 +11,8 @@ loop-i-init c = record {
   shared = rw c.requires.empty (shared_none c.args.xs.now c.args.ys.now);
 }
 
-pub find-at-requires-clause-packed : goal.find-at-requires-clause-packed
-find-at-requires-clause-packed c = packed_from_local c.args.ys.now c.requires.y_local
+pub find-at-requires : goal.find-at-requires
+find-at-requires c = packed_from_local c.args.ys.now c.requires.y_local
 
 pub returns-clause-leaves : goal.returns-clause-leaves
 returns-clause-leaves c = shared_all c.loop-i.invariant.shared (omega arith)

@@ -54,10 +54,7 @@ pub loop-i-preserved-then-end-lo : goal.loop-i-preserved-then-end-lo
 loop-i-preserved-then-end-lo c =
     let at = goal.at.loop-i-preserved-then-end-lo c in
     let g = c.find_from-i.ensures in
-    let end = c.end_leaf.ensures.most in
-    let leaf = c.loop-i.invariant.leaf in
     record {
-      leaf = omega arith;
       so_far = subtracting_on_x c.args.xs.now c.args.ys.now c.fill_gap.new.list.items c.loop-i.i
           (c.find_from-j.result + 1) c.max-lo.result c.find_from-i.result c.requires.x_local
           (taken at.After-max-lo (next_x at.After-find_from-j) (here at.After-find_from-j)) g.from g.within g.ended;
@@ -66,10 +63,7 @@ loop-i-preserved-then-end-lo c =
 pub loop-i-preserved-else-end-lo : goal.loop-i-preserved-else-end-lo
 loop-i-preserved-else-end-lo c =
     let at = goal.at.loop-i-preserved-else-end-lo c in
-    let end = c.end_leaf.ensures.most in
-    let leaf = c.loop-i.invariant.leaf in
     record {
-      leaf = omega arith;
       so_far = taken at.After-max-lo (next_x at.After-find_from-j) (here at.After-find_from-j);
     }
 
@@ -86,7 +80,6 @@ loop-i-preserved-then-start-first_leaf c =
     let sn = ap size_of en in
     let end = c.end_leaf-lo.ensures.value in
     record {
-      leaf = c.end_leaf-lo.ensures.most;
       so_far = subtracting_run c.args.xs.now c.args.ys.now c.loop-i.list.items c.extend_up_to.new.list.items c.loop-i.i
           c.find_from-j.result c.max-start.result c.free_until-next.result c.end_leaf-lo.result c.requires.x_local
           c.requires.y_local (here at) (let t = c.if-start-first_leaf.true in omega arith) g.more g.within g.free
@@ -96,11 +89,7 @@ loop-i-preserved-then-start-first_leaf c =
 pub loop-i-preserved : goal.loop-i-preserved
 loop-i-preserved c =
     let at = (goal.at.loop-i-preserved c).After-find_from-j in
-    let last = c.end_leaf-end.ensures.most in
-    let most = c.first_leaf.ensures.most in
-    let leaf = c.loop-i.invariant.leaf in
     record {
-      leaf = omega arith;
       so_far = subtracting_free c.args.xs.now c.args.ys.now c.loop-i.list.items
           c.fill_gap-else-start-first_leaf.new.list.items c.loop-i.i c.find_from-j.result c.max-start.result
           c.max-start.result c.end_leaf-end.result c.max-lo-else-start-first_leaf.result c.index-xs-i.result

@@ -33,8 +33,8 @@ subtract_one-requires-in-loop-i-3-clause-place c = rw (read_at c.args.xs.now (c.
     (omega arith) refl c.index-xs-i-in-loop-i-3.is)
     (c.places_of_four-places.ensures.fourth c.requires.y_local)
 
-pub find-at-requires-clause-packed : goal.find-at-requires-clause-packed
-find-at-requires-clause-packed c = packed_from_local c.args.ys.now c.requires.y_local
+pub find-at-requires : goal.find-at-requires
+find-at-requires c = packed_from_local c.args.ys.now c.requires.y_local
 
 pub returns-clause-leaves : goal.returns-clause-leaves
 returns-clause-leaves c = left_all c.loop-i-2.invariant.left (omega arith)

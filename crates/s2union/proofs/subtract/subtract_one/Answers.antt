@@ -10,7 +10,6 @@ use Rattle.s2union.proofs.subtract.subtract_one.Goals.{then-loop-lo-test+else-le
 
 pub loop-lo-init : goal.loop-lo-init
 loop-lo-init c =
-    let most = c.first_leaf-lo.ensures.most in
     let w = c.requires.place.within in
     let ex : get_or c.args.xs.now c.args.i 0 ≡ c.index-xs-i.result =
     read_at c.args.xs.now c.args.i c.args.i c.index-xs-i.result c.requires.there refl c.index-xs-i.is in
@@ -19,7 +18,6 @@ loop-lo-init c =
     let v = c.first_leaf-lo.ensures.value in
     let e = c.end_leaf-end.ensures.value in
     record {
-      leaf = omega arith;
       from = omega arith;
       in_y = w;
       so_far = leaving_start c.args.xs.now c.args.ys.now c.args.list.now.items c.args.i c.args.at c.first_leaf-lo.result
@@ -30,13 +28,11 @@ loop-lo-init c =
 pub loop-lo-preserved-in-Some : goal.loop-lo-preserved-in-Some
 loop-lo-preserved-in-Some c =
     let v = c.loop-lo.invariant in
-    let leaf = v.leaf in
     let s = v.so_far.inside c.loop-lo-test.true in
     let (below, ey, before) = c.in-Some.ensures in
     let ex : get_or c.args.xs.now c.args.i 0 ≡ c.index-xs-i.result =
     read_at c.args.xs.now c.args.i c.args.i c.index-xs-i.result c.requires.there refl c.index-xs-i.is in
     let fx = ap first_leaf ex in
-    let most = c.end_leaf.ensures.most in
     let end = c.end_leaf.ensures.value in
     let last = c.end_leaf-end.ensures.value in
     let first = c.first_leaf-lo.ensures.value in
@@ -46,7 +42,6 @@ loop-lo-preserved-in-Some c =
     c.requires.x_local c.requires.y_local s c.requires.there below ex ey (omega arith) (omega arith)
     c.first_leaf.ensures.value (omega arith) c.in_ok-fill_gap-in-Some.ensures in
     record {
-      leaf = omega arith;
       from = omega arith;
       in_y = omega arith;
       so_far = leaving_taken c.loop-lo.j
@@ -60,7 +55,6 @@ loop-lo-preserved c =
     let ex : get_or c.args.xs.now c.args.i 0 ≡ c.index-xs-i.result =
     read_at c.args.xs.now c.args.i c.args.i c.index-xs-i.result c.requires.there refl c.index-xs-i.is in
     let fx = ap first_leaf ex in
-    let most = c.end_leaf-end.ensures.most in
     let last = c.end_leaf-end.ensures.value in
     let first = c.first_leaf-lo.ensures.value in
     let from = v.from in
@@ -69,7 +63,6 @@ loop-lo-preserved c =
     c.requires.x_local c.requires.y_local s c.requires.there ex c.in-None.ensures (omega arith) last (omega arith)
     c.in_ok-fill_gap-in-None.ensures in
     record {
-      leaf = omega arith;
       from = omega arith;
       in_y = v.in_y;
       so_far = leaving_free c.args.i c.end_leaf-end.result free refl;
