@@ -10,7 +10,7 @@ ghost use Rattle.s2cell.specs.Working.Entries.{IsPlaceEntry, IsLeafEntry, held};
 
 /// The entry for an orientation and a digit: its quadrant, as `2 * (half in i) + (half in j)`. `shift` is sixteen times
 /// the orientation.
-pub fn place_step(shift: u32, digit: u32) -> u64
+pub(crate) fn place_step(shift: u32, digit: u32) -> u64
     requires shift { shift < 64 }
     requires orientation { shift % 16 ≡ 0 }
     requires digit { digit < 4 }
@@ -21,7 +21,7 @@ pub fn place_step(shift: u32, digit: u32) -> u64
 }
 
 /// The entry for an orientation and a quadrant: its digit. `shift` is sixteen times the orientation.
-pub fn leaf_step(shift: u32, quadrant: u32) -> u64
+pub(crate) fn leaf_step(shift: u32, quadrant: u32) -> u64
     requires shift { shift < 64 }
     requires orientation { shift % 16 ≡ 0 }
     requires quadrant { quadrant < 4 }
@@ -32,7 +32,7 @@ pub fn leaf_step(shift: u32, quadrant: u32) -> u64
 
 /// The entry for an orientation and four digits: four bits of each coordinate, as `16 * i + j`. `shift` is sixteen
 /// times the orientation.
-pub fn place_entry(shift: u32, digits: u32) -> u64
+pub(crate) fn place_entry(shift: u32, digits: u32) -> u64
     requires shift { shift < 64 }
     requires orientation { shift % 16 ≡ 0 }
     requires digits { digits < 256 }
@@ -43,7 +43,7 @@ pub fn place_entry(shift: u32, digits: u32) -> u64
 
 /// The entry for an orientation and four bits of each coordinate, given as `16 * i + j`: the four digits. `shift` is
 /// sixteen times the orientation.
-pub fn leaf_entry(shift: u32, place: u32) -> u64
+pub(crate) fn leaf_entry(shift: u32, place: u32) -> u64
     requires shift { shift < 64 }
     requires orientation { shift % 16 ≡ 0 }
     requires place { place < 256 }
@@ -53,14 +53,14 @@ pub fn leaf_entry(shift: u32, place: u32) -> u64
 }
 
 /// What an entry leads to: its quadrant, digit, bits or digits.
-pub fn held_by(entry: u64) -> u32
+pub(crate) fn held_by(entry: u64) -> u32
     ensures { result ≡ held entry }
 {
     ((entry >> 8) & 255) as u32
 }
 
 /// Sixteen times the orientation that an entry leaves, by which the next word is shifted.
-pub fn next_shift(entry: u64) -> u32
+pub(crate) fn next_shift(entry: u64) -> u32
     ensures { result ≡ entry % 256 }
 {
     (entry & 255) as u32

@@ -67,7 +67,7 @@ fn without_digits(leaf: u64, count: u32) -> u64
 
 /// The leaf at a place of a face, counted from the first leaf of the face. The curve enters the face at the orientation
 /// `start`.
-pub fn leaf_at(start: u8, i: u32, j: u32) -> u64
+pub(crate) fn leaf_at(start: u8, i: u32, j: u32) -> u64
     requires start { start < 4 }
     requires i { i < SIDE }
     requires j { j < SIDE }
@@ -93,7 +93,7 @@ pub fn leaf_at(start: u8, i: u32, j: u32) -> u64
 
 /// The place of a leaf that is counted from the first leaf of its face. The curve enters the face at the orientation
 /// `start`.
-pub fn place_at(start: u8, leaf: u64) -> (u32, u32)
+pub(crate) fn place_at(start: u8, leaf: u64) -> (u32, u32)
     requires start { start < 4 }
     requires leaf { leaf < FACE_LEAVES }
     ensures place { At 30 start leaf result.0 result.1 }

@@ -10,14 +10,14 @@
 //! reads a union file as a session with one register. `decode_session` does the same with bytes in memory.
 #![tactic(auto)]
 
-pub mod changes;
-pub mod fault;
+mod changes;
+mod fault;
 pub mod laws;
 mod parts;
-pub mod session;
-pub mod session_file;
+mod session;
+mod session_file;
 mod source;
-pub mod union_file;
+mod union_file;
 
 pub use crate::changes::{BorrowedMove, Changes};
 pub use crate::fault::FileFault;

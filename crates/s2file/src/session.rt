@@ -40,6 +40,7 @@ pub enum ReadFault {
     /// A read failed.
     #[error("a read failed")]
     Device,
+    /// An allocation failed, or a read found no memory.
     #[error("out of memory")]
     Memory,
 }
@@ -66,6 +67,7 @@ pub enum SessionFault {
     /// The bytes are neither a session file nor a union file.
     #[error("the bytes are no session file")]
     Form,
+    /// An allocation failed.
     #[error("out of memory")]
     Memory,
 }

@@ -234,7 +234,7 @@ fn is_below(id: u64, mark: u64) -> usize
 
 /// How many cells end by the leaf `lo`. Quick if they are `near` or a few more. If they aren't, all cells are searched:
 /// that search begins with the same middles as the one before, which are in the cache.
-pub fn find_near<C: Cells>(cells: &C, near: usize, lo: u64) -> usize
+pub(crate) fn find_near<C: Cells>(cells: &C, near: usize, lo: u64) -> usize
     ensures within { result ≤ length (C.ids cells.now) }
     ensures ended { IsPacked (C.ids cells.now) → FirstEndBy (C.ids cells.now) result lo }
     ensures next { IsPacked (C.ids cells.now) → EndsAfter (C.ids cells.now) result lo }
