@@ -42,7 +42,7 @@ pub fn begin_overlay(alloc: Global, lists: u16) -> Result<Vec<u8>, AllocError>
 /// the cells, as in `picture`.
 ///
 /// A cell deeper than level 9 is drawn as its ancestor of level 9. Linear; takes some 25 bytes of memory for each cell
-/// that is drawn, and 8 while it works, or answers `AllocError`.
+/// that is drawn, and 8 while it works, or answers `AllocError`. Then the text has a part of it.
 pub fn add_layer(
     alloc: Global,
     text: &mut Vec<u8>,
@@ -65,7 +65,8 @@ pub fn add_layer(
     put(text, b"</g>\n")
 }
 
-/// Adds the end of a picture that was begun by `begin_overlay`.
+/// Adds the end of a picture that was begun by `begin_overlay`, or answers `AllocError`. Then the text has a part of
+/// it.
 #[tactic(auto, unfolding(crate::specs::Overlay::overlay_foot))]
 pub fn end_overlay(text: &mut Vec<u8>) -> Result<(), AllocError>
     ensures { IfOk result (λ _. text.new.items ≡ text.old.items ++ overlay_foot) }

@@ -57,9 +57,10 @@ pub fn decode_session(alloc: Global, bytes: &[u8]) -> Result<Session, SessionFau
 /// Reads a session: a session file or a union file, as `decode_session` describes them.
 ///
 /// Answers `Form` if what was read is neither, `Memory` if an allocation failed or a read found no memory, and `Device`
-/// if a read failed otherwise. A read that was interrupted is tried again. Reads pieces of 64 KiB: a session file to
-/// its end and one piece more at most, and of a union file at most one byte more than the longest has (`MOST_SIZE`).
-/// Never asks for more memory than a piece and about twice what the bytes that were read can fill.
+/// if a read failed otherwise. After a fault some bytes have been read. A read that was interrupted is tried again.
+/// Reads pieces of 64 KiB: a session file to its end and one piece more at most, and of a union file at most one byte
+/// more than the longest has (`MOST_SIZE`). Never asks for more memory than a piece and about twice what the bytes that
+/// were read can fill.
 pub fn read_session<R: Read>(alloc: Global, reader: &mut R) -> Result<Session, ReadFault>
     ensures content { IfOk result (λ session. IsContent (content_of session)) }
     ensures answer { MatchResult result

@@ -213,7 +213,7 @@ fn cell_before(cells: &[CellId], at: usize, end: u64) -> Option<CellId>
 
 /// Adds the normal form of the leaves from `lo` to before `hi`: the largest cell that begins at `lo` and fits, then the
 /// largest that begins after it, and so on. Takes memory if the list has no room for them; refuses only if there is
-/// none. A few steps for each cell.
+/// none. Then the list has some of these cells. A few steps for each cell.
 pub fn fill_gap(list: &mut Vec<CellId>, lo: u64, hi: u64) -> Result<(), AllocError>
     requires { hi ≤ LEAVES }
     ensures { OnOk result (FillsGap list.old.items list.new.items lo hi) }
