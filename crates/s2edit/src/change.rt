@@ -1,6 +1,6 @@
 //! Changes of a register.
 ghost use Rattle.std.specs.Prelude.{◌≡◌, [], IfOk, IsOk, ◌↔◌, IsTrue};
-ghost use Rattle.s2file.specs.Session.{diff_of, IsMove};
+ghost use Rattle.s2file.specs.Session.{diff_of, IsDiff, IsMove};
 ghost use Rattle.s2edit.specs.Diff.{FitsList};
 
 use crate::lacking::unshared_cells;
@@ -99,11 +99,12 @@ impl Change {
     }
 
     /// Whether the change can be made in the union's list: every cell of `out` is in it, no cell of `put`
-    /// is, and the list without `out` and with `put` is normalized.
+    /// is, and the list without `out` and with `put` is normalized. The lists of any change ascend and share no cell.
     ///
-    /// One pass over the three lists. Takes no memory.
+    /// Takes as many steps as `can_apply` of the union, and no memory.
     pub fn fits(&self, union: &CellUnion) -> bool
-        ensures { IsTrue result ↔ FitsList self.now union.now.cells }
+        ensures answer { IsTrue result ↔ FitsList self.now union.now.cells }
+        ensures lists { IsDiff self.now.out self.now.put }
     {
         union.can_apply(&self.out, &self.put)
     }
