@@ -1,11 +1,13 @@
-//! Questions of `s2union` about two unions, and how many cells they look at.
+//! Questions of `s2union` about two unions, and how many cells they look at; the same of their lists in place, by
+//! `s2list` and `s2search`.
 ghost use Rattle.std.specs.Prelude.{◌<◌};
 
 use crate::changes::add_looks;
 use crate::texts::{add_number, cut, numbers_of, union_of, yes_or_no};
 use row_table::add_line;
 use s2cell::CellId;
-use s2list::Counted;
+use s2list::{CellList, Counted, contains_counted, intersects_counted};
+use s2search::put_intersection_counted;
 use s2union::{CellUnion, normalise};
 use std::alloc::{AllocError, Global};
 
@@ -18,6 +20,10 @@ pub fn answer(
 ) -> Result<bool, AllocError> {
     if name == "spaced" {
         add_spaced(alloc, words, found)?;
+        return Ok(true);
+    }
+    if name == "spaced_cell" {
+        add_spaced_cell(alloc, words, found)?;
         return Ok(true);
     }
     if name == "spaced_change" {
@@ -33,6 +39,41 @@ pub fn answer(
         add_line(found, yes_or_no(one.intersects(&other)))?;
     } else if name == "contains_counted" {
         add_counted(alloc, found, one.contains_counted(&other))?;
+    } else if name == "contains_cell_counted" {
+        for cell in &other {
+            add_counted(alloc, found, one.contains_cell_counted(*cell))?;
+        }
+    } else if name == "intersects_cell_counted" {
+        for cell in &other {
+            add_counted(alloc, found, one.intersects_cell_counted(*cell))?;
+        }
+    } else {
+        return answer_in_place(alloc, name, &one, &other, found);
+    }
+    Ok(true)
+}
+
+/// Makes a call on the lists of two unions in place, and adds its answer. False for the name of another call.
+fn answer_in_place(
+    alloc: Global,
+    name: &str,
+    one: &CellUnion,
+    other: &CellUnion,
+    found: &mut Vec<u8>,
+) -> Result<bool, AllocError> {
+    let xs = CellList { cells: one.cells() };
+    let ys = CellList {
+        cells: other.cells(),
+    };
+    if name == "list_contains_counted" {
+        add_counted(alloc, found, contains_counted(&xs, &ys))?;
+    } else if name == "list_intersects_counted" {
+        add_counted(alloc, found, intersects_counted(&xs, &ys))?;
+    } else if name == "shared_counted" {
+        let mut room = [0u64; 128];
+        let shared = put_intersection_counted(&xs, &ys, &mut room[..]);
+        let (len, looks) = (shared.len, shared.looks);
+        add_line(found, &format!(in alloc; "{len} cells looks {looks}")?)?;
     } else {
         return Ok(false);
     }
@@ -76,6 +117,18 @@ fn add_spaced(alloc: Global, words: &str, found: &mut Vec<u8>) -> Result<(), All
     add_few(alloc, found, spaced.intersects_counted(&leaves))?;
     let shared = spaced.intersection(&leaves)?.len();
     add_number(alloc, found, shared as u64)
+}
+
+/// Adds whether the spaced cells contain the n-th cell, and intersect it, and how many of them are looked at.
+fn add_spaced_cell(alloc: Global, words: &str, found: &mut Vec<u8>) -> Result<(), AllocError> {
+    let [n, ..] = numbers_of(words);
+    if n >= 65536 {
+        return add_line(found, "out of range");
+    }
+    let spaced = spaced_cells(alloc)?;
+    let cell = CellId::tile(n * SIZE, (n + 1) * SIZE);
+    add_counted(alloc, found, spaced.contains_cell_counted(cell))?;
+    add_counted(alloc, found, spaced.intersects_cell_counted(cell))
 }
 
 /// Adds how many of the spaced cells are looked at to test and to make the change that takes a hundred leaves of the

@@ -36,7 +36,8 @@ impl Count for Looks {
 pub struct Counted {
     /// The answer.
     pub answer: bool,
-    /// How many times a cell of a list was looked at; of either list, if there are two.
+    /// How many times a cell of a list was looked at; of either list, if there are two. The greatest `u64` if there
+    /// were more.
     pub looks: u64,
 }
 

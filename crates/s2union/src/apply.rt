@@ -65,8 +65,7 @@ impl CellUnion {
 
     /// The same, with how often it looks at a cell of the list. If that has `n` cells, and `out` and `put` together
     /// `m`, it looks at most `4 (m + 1) (k + 6)` times, for each `k` with `n` at most `(m + 1) 2^k`. If the list has a
-    /// cell, it looks at least once, and if the change fits, once for each cell of `out`. A count too large for a `u64`
-    /// is answered as the greatest `u64`.
+    /// cell, it looks at least once, and if the change fits, once for each cell of `out`.
     pub fn can_apply_counted(&self, out: &[CellId], put: &[CellId]) -> Counted
         requires out_ascends { IsStrictlyIncreasing out.now }
         requires put_ascends { IsStrictlyIncreasing put.now }
