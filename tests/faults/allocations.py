@@ -72,7 +72,9 @@ def lines_of_allocations(calls):
 
 
 def may_go_on(line):
-    """Whether a run may go on without an allocation there: `restore` may, and what reads the command line."""
+    """Whether a run may go on without an allocation there: `restore` may, and what reads the command line. So may an
+    edit that gives an empty register a list with much spare room, of which a copy is kept if there is memory; but none
+    of these lines makes such a list."""
     return line == BEFORE or line.split()[:1] == [b"restore"]
 
 

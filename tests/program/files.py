@@ -81,6 +81,16 @@ class UnionFiles(unittest.TestCase):
             program.stdin.close()
         self.assertLess(max(held), 200_000_000)
 
+    def test_a_file_that_merges_leaves_no_room_in_the_history(self):
+        # A million times face 0: a list of 8 MB becomes one of a cell.
+        self.write("f", b"\x01" + number(1_000_000) + number(1 << 60) * 1_000_000)
+        words = [PROGRAM, "run", "--dir", self.folder]
+        with subprocess.Popen(words, stdin=subprocess.PIPE, stdout=subprocess.PIPE) as program:
+            for _ in range(40):
+                held = most_resident_after(program, b"load a f\nclear a\n", FACE + b"ok 1 0\n")
+            program.stdin.close()
+        self.assertLess(held, 100_000_000)
+
 
 class Permissions(unittest.TestCase):
     """Files and folders without permissions, as a user who has none."""

@@ -11,6 +11,12 @@ use s2union::CellUnion;
 use std::alloc::{AllocError, Global};
 use std::marker::Model;
 
+/// A list of a change may have spare room for an eighth of its cells.
+const LIST_TO_SPARE_ROOM: usize = 8;
+
+/// A short list may have spare room for this many cells: a copy would save little.
+const SHORT_SPARE_ROOM: usize = 64;
+
 /// The cells that are taken out of a register's list and those that are put in: two lists, each
 /// ascending by identifier, that share no cell. Either may be empty.
 #[derive(Drop)]
@@ -51,8 +57,8 @@ impl Change {
         Ok(Change { register, out, put })
     }
 
-    /// The same for a union that is given away: if `old` is empty, the union's own list becomes `put`, and no memory is
-    /// taken.
+    /// The same for a union that is given away: if `old` is empty, `put` is the union's own list, or a copy of it that
+    /// fits. That can't fail.
     pub(crate) fn leading_to(
         alloc: Global,
         register: Register,
@@ -69,7 +75,7 @@ impl Change {
         Ok(Change {
             register,
             out: Vec::new(alloc),
-            put: new.into_cells(),
+            put: fitted_list(alloc, new),
         })
     }
 
@@ -108,4 +114,19 @@ impl Change {
     {
         union.can_apply(&self.out, &self.put)
     }
+}
+
+/// The list of a union: its own, or if that has much spare room, as after many cells of a file became few, a copy that
+/// fits. If there is no memory for the copy, its own.
+fn fitted_list(alloc: Global, union: CellUnion) -> Vec<CellId>
+    ensures { result.items ≡ union.cells }
+{
+    let cells = union.into_cells();
+    let spare = cells.capacity() - cells.len();
+    if spare > (cells.len() / LIST_TO_SPARE_ROOM).max(SHORT_SPARE_ROOM) {
+        if let Ok(copy) = Vec::from_slice(alloc, &cells) {
+            return copy;
+        }
+    }
+    cells
 }
