@@ -22,7 +22,8 @@ FOLDER = os.path.join(TOP, "tests", "faults", "let-through")
 ASKED = [
     "assignments_count_as_out_of_memory+decode_always_out_of_memory+folder_always_fails",
     "folder_has_no_file",
-    "every_edit_answers_memory+save_always_out_of_memory",
+    "every_edit_answers_memory",
+    "save_always_out_of_memory",
     "run_ends_at_once",
 ]
 sys.path += [os.path.join(TOP, "tests", "mutants"), os.path.join(TOP, "tools")]
