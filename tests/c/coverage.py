@@ -58,6 +58,9 @@ def judged(source, lines):
     texts, most = allowed(source)
     written = (ROOT / source).read_text().splitlines()
     missed = sorted(number for number, (count, _) in lines.items() if count == 0)
+    if not lines:
+        print(f"{source}: gcov says nothing of it")
+        return False
     bad = []
     for number in missed:
         text = written[number - 1].strip()

@@ -173,7 +173,7 @@ static void rooms(void) {
     status = s2u_debug(leaf, text, room, &len);
     CHECK(len == 32 && status == S2U_ROOM);
   }
-  CHECK(s2u_range(3, 6917529027641081853u * 2 - 1, want, 184, &need) <= 0);
+  CHECK(s2u_range(3, 6917529027641081853u * 2 - 1, want, 184, &need) == S2U_OK && need <= S2U_MOST_RANGE);
   CHECK(s2u_difference(&face, 1, siblings, 1, want, 184, &need) == S2U_OK && need == 3);
   for (size_t room = 0; room <= 5; room++) {
     uint64_t* out = at_the_edge(8 * room);

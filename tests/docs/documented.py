@@ -45,7 +45,7 @@ def main(arguments):
         failed += 1
         print(run.stdout)
     print(f"{len(blocks) - failed} passed, {failed} failed")
-    return failed != 0
+    return failed != 0 or not blocks
 
 
 sys.exit(main(sys.argv[1:]))
