@@ -1,8 +1,9 @@
 #!/usr/bin/env bash
 # The tests of the library for C, and of the bindings for C++, Python, Go and Rust: tests/run bindings [-- SECONDS]. The
 # fuzzer runs for SECONDS, 20 if none are given.
-# It installs the Debian packages that it needs, but not Go (golang-go) and Rust (cargo, or rustup's): the bindings for
-# these are tested if their commands are there. Its last line is 'N passed, M failed'; the status is 1 if any failed.
+# It installs the Debian packages that it needs, but not Go (golang-go), Rust (cargo, or rustup's) and pandas
+# (python3-pandas): what is for these is tested if they are there, and else a line says that it isn't. Its last line is
+# 'N passed, M failed'; the status is 1 if any failed.
 . "$(dirname "$0")/../steps.sh"
 tests=$top/tests/c
 
@@ -142,6 +143,7 @@ python() {
   )
 }
 step "Python: against the model, and the module" python -m unittest -q test_library
+/usr/bin/python3 -c 'import pandas' 2>/dev/null || echo "       pandas is not there: columns of it are not tested"
 step "Python: docs/PYTHON.md" python -m doctest "$top/docs/PYTHON.md"
 step "Python: examples of points and of maps" python -m unittest -q test_examples
 without_numpy() {
