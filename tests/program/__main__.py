@@ -6,6 +6,7 @@ show. The tests are in tests/program/.
 tests/run program -- [PROGRAM [TEST..]]; without PROGRAM it is the one that the gate or tools/prove has built. A TEST
 is a part of a test's name. The last line is 'N passed, M failed'.
 """
+import faulthandler
 import os
 import sys
 import unittest
@@ -23,6 +24,7 @@ class Result(unittest.TextTestResult):
 
 
 def main():
+    faulthandler.dump_traceback_later(1800, exit=True)  # a test may wait for an answer that never comes
     if len(sys.argv) > 1:
         os.environ["S2CALC"] = os.path.realpath(sys.argv[1])
     sys.path += [FOLDER, os.path.join(TOP, "tests", "peer"), os.path.join(TOP, "tests", "python")]
