@@ -11,7 +11,7 @@ tests() (
 )
 
 survives() { # EDIT
-  mutant "$1" "$top/bindings/python/s2union" || return 2
+  mutant "$1" "$top/bindings/python/s2union" && /usr/bin/python3 -m compileall -q "$work/mutant" || return 2
   refuse
 }
 
