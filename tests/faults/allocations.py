@@ -18,7 +18,8 @@ from refusing import ROWS, Refusing, has_program
 # Few lines with a long note.
 NOTED = [*LINES[:12], ESCAPED]
 
-# The commands that have one answer, over the files of the folder that comes after `--dir`.
+# The commands that have one answer, over the files of the folder that comes after `--dir`. That of `cell` takes no
+# memory.
 CALLS = [["cell", "3/021"], ["draw", "--curve", "--cells", "64c", "3/021"]]
 CALLS += [["check", "f", "--dir"], ["draw", "f", "--dir"], ["draw", "--curve", "f", "f", "--dir"]]
 
@@ -95,15 +96,26 @@ class Judge:
             ends = f"status {ended.status} {ended.error!r}\n{ended.answers!r}"
             self.wrong(f"allocations {first} to {last}, the first in {line}: {said}, {ends}")
 
-    def refuse_each(self, run, lines=LINES, has_notes=False):
-        """Refuses each allocation of a run."""
+    def expect(self, what, said, *wanted):
+        """Notes which of these things were said of no refused allocation."""
+        for each in wanted:
+            if each not in said:
+                self.wrong(f"{what}: no allocation was {each}")
+
+    def refuse_each(self, what, run, lines=LINES, has_notes=False):
+        """Refuses each allocation of a run. It may do without one of those before the script is read."""
         whole = run("")
         if verdict(whole, lines, has_notes=has_notes) != "no answer changed":
-            self.wrong(f"a run without a refusal is judged wrong: {whole[:3]}")
+            self.wrong(f"{what} without a refusal is judged wrong: {whole[:3]}")
+        found = []
         for number, line in enumerate(lines_of_allocations(whole.calls), 1):
             if line:
                 ended = run(f"memory {number} {number} {errno.ENOMEM}", has_calls=False)
-                self.judge(ended, verdict(ended, lines, has_notes=has_notes), number, number, line)
+                found.append((verdict(ended, lines, has_notes=has_notes), line == BEFORE))
+                self.judge(ended, found[-1][0], number, number, line)
+        self.expect(what, [said for said, _ in found], "refused at the start", "refused in an answer")
+        if found.count(("no answer changed", True)) > 1:
+            self.wrong(f"{what}: it can do without more than one allocation before the script")
         return whole
 
     def refuse_all_from_one_on(self, run, whole):
@@ -114,18 +126,21 @@ class Judge:
             self.judge(ended, verdict(ended, most=len(LINES)), number, "the last", within[number - 1])
 
     def refuse_each_of_a_call(self, refusing, words):
-        """Refuses each allocation of a command that has one answer, which takes some. It may do without one of them."""
+        """Refuses each allocation of a command that has one answer. It may do without one of them."""
 
         def ended(refused):
             done, calls = refusing.started([PROGRAM, *words], b"", refused)
             return (done.returncode, done.stdout, done.stderr), sum(call.kind == "memory" for call in calls)
 
         whole, count = ended("")
+        if whole[0] != 0 or not whole[1] or whole[2]:
+            self.wrong(f"{words}: without a refusal it ends with {whole}")
         ends = [ended(f"memory {number} {number} {errno.ENOMEM}")[0] for number in range(1, count + 1)]
         said = [verdict_of_call(end, whole) for end in ends]
         self.counts.update(said)
-        if None in said or "refused in an answer" not in said or said.count("no answer changed") > 1:
+        if None in said or said.count("no answer changed") > 1:
             self.wrong(f"{words}: {said} {[end for end in ends if end != whole]}")
+        self.expect(words, said, "refused at the start", *["refused in an answer"] * (words[0] != "cell"))
 
 
 def main():
@@ -134,13 +149,14 @@ def main():
     judge = Judge()
     with tempfile.TemporaryDirectory() as room:
         refusing = Refusing(room)
-        whole = judge.refuse_each(refusing.run)
+        whole = judge.refuse_each("a run", refusing.run)
         judge.refuse_all_from_one_on(refusing.run, whole)
         if any(map(verdict, wrong_ends(whole))):
             judge.wrong("a wrong run is judged right")
-        judge.refuse_each(refusing.run_in_memory)
+        judge.refuse_each("a run over a shelf in memory", refusing.run_in_memory)
         script = b"".join(line + b"\n" for line in NOTED)
         judge.refuse_each(
+            "a run with notes",
             lambda refused, **how: refusing.run(refused, options=["--explain"], script=script, **how), NOTED, True
         )
         folder = os.path.join(room, "folder")

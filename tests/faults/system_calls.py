@@ -4,8 +4,8 @@
 In each run one call of the proved program fails: a read or a write of the script, the answers or a file, or the
 opening, the look at or the closing of a file. In some runs each read of the script and each write of answers transfers
 a few bytes. Answers, status, standard error and files must be what docs/SCRIPT.md says of such a failure;
-tests/peer/model.py says what all other lines do. In one run each file becomes a device just before it is opened. The
-last line is 'N passed, M failed'.
+tests/peer/model.py says what all other lines do. Each kind of call has to fail at least once, so that none passes by
+tests/refuse.c. In one run each file becomes a device just before it is opened. The last line is 'N passed, M failed'.
 """
 import collections
 import errno
@@ -28,6 +28,9 @@ ERRORS = {
     "close": [errno.EIO, errno.EINTR],
     "lseek": [errno.EIO],
 }
+
+# The kinds of calls that have to be met, each with whether it is for the script or the answers. No run needs a seek.
+MET = {("read", True), ("write", True), *((kind, False) for kind in ERRORS if kind != "lseek")}
 
 # The most bytes of a read of the script and of a write of answers, and which calls then fail, each in which ways.
 MODES = [
@@ -182,9 +185,12 @@ def main():
 
     with tempfile.TemporaryDirectory() as room:
         refusing = Refusing(room)
+        left = set(MET)
         for call, before, error, ended in failures(refusing):
+            left.discard((call.kind, call.file in (0, 1)))
             is_well = is_right(ended, call, before, error)
             tell(f"{call.kind}: status {ended.status}", is_well, call, error, ended.answers[before:][:100])
+        tell("kinds of calls that are all there", not left, left)
         for piece in (0, 61):
             tell("answers that are out in time", is_prompt(refusing.run(piece=piece)))
         for most in (0, 1, 9, 16, 17, 25, 100, 700, 1000):

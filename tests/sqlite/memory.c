@@ -63,6 +63,7 @@ int main(int argc, char** argv) {
     char* text = said(db, queries[k], &status);
     long allocations = refuse_memory(0);
     if (!text) return printf("%s: %s\n", queries[k], sqlite3_errmsg(db)), 2;
+    if (allocations == 0) return printf("%s: no allocation is counted\n", queries[k]), 2;
     char* right = strdup(text);
     for (long turn = 1; turn <= allocations; turn++) {
       refuse_memory(turn);
