@@ -1,5 +1,5 @@
-// The proved library and S2 asked the same random questions: peer [CASES [SEED]]. It stops at the first answer that
-// differs.
+// The proved libraries and S2 asked the same random questions: peer [CASES [SEED]]. Unions are asked of both, of
+// `CellUnion` and of libs2union, which have code of their own. It stops at the first answer that differs.
 #include "rectangle.h"
 #include "sides.h"
 
@@ -97,6 +97,10 @@ static List near_cells(Random& random, u64 around) {
 
 static List normal(const List& ids) { return ids_of(S2CellUnion(peer_cells(ids))); }
 
+using LibraryOperation = int32_t (*)(const u64*, size_t, const u64*, size_t, u64*, size_t, size_t*);
+using LibraryQuestion = int32_t (*)(const u64*, size_t, const u64*, size_t);
+using LibraryAnswers = int32_t (*)(const u64*, size_t, const u64*, size_t, uint8_t*, size_t, size_t*);
+
 static void operations(const List& xs, const List& ys) {
   S2CellUnion x = peer_union(xs), y = peer_union(ys);
   std::string about = text_of(xs) + "and " + text_of(ys);
@@ -108,6 +112,14 @@ static void operations(const List& xs, const List& ys) {
   ask("union", s2c_union, x.Union(y));
   ask("intersection", s2c_intersection, x.Intersection(y));
   ask("difference", s2c_difference, x.Difference(y));
+  auto ask_library = [&](const char* name, LibraryOperation proved, const S2CellUnion& peer) {
+    question = name;
+    made(proved(xs.data(), xs.size(), ys.data(), ys.size(), room.at(), room.size(), room.len()), name);
+    same_cells(room, ids_of(peer), about);
+  };
+  ask_library("s2u_union", s2u_union, x.Union(y));
+  ask_library("s2u_intersection", s2u_intersection, x.Intersection(y));
+  ask_library("s2u_difference", s2u_difference, x.Difference(y));
   auto ask_whether = [&](const char* name, UnionQuestion proved, bool peer) {
     bool answer = false;
     question = name;
@@ -116,6 +128,40 @@ static void operations(const List& xs, const List& ys) {
   };
   ask_whether("contains", s2c_contains, x.Contains(y));
   ask_whether("intersects", s2c_intersects, x.Intersects(y));
+  auto ask_library_whether = [&](const char* name, LibraryQuestion proved, bool peer) {
+    question = name;
+    same<int32_t>(proved(xs.data(), xs.size(), ys.data(), ys.size()), peer, about);
+  };
+  ask_library_whether("s2u_contains", s2u_contains, x.Contains(y));
+  ask_library_whether("s2u_intersects", s2u_intersects, x.Intersects(y));
+}
+
+// Which of the cells a union contains, and which it shares a leaf with.
+static void questions_of_cells(const List& xs, const List& cells) {
+  S2CellUnion x = peer_union(xs);
+  auto contains = [&](u64 cell) { return x.Contains(S2CellId(cell)); };
+  auto intersects = [&](u64 cell) { return x.Intersects(S2CellId(cell)); };
+  auto same_answers = [&](const auto& answers, auto peer) {
+    for (size_t k = 0; k < cells.size(); k++)
+      same<int>(answers[k], peer(cells[k]), text_of(xs) + "and " + text_of({cells[k]}));
+  };
+  auto ask = [&](const char* name, CellQuestions proved, auto peer) {
+    auto answers = std::make_unique<bool[]>(cells.size());
+    question = name;
+    must(proved(xs.data(), xs.size(), cells.data(), cells.size(), answers.get(), cells.size()), name);
+    same_answers(answers, peer);
+  };
+  ask("contains_cells", s2c_contains_cells, contains);
+  ask("intersects_cells", s2c_intersects_cells, intersects);
+  auto ask_library = [&](const char* name, LibraryAnswers proved, auto peer) {
+    std::vector<uint8_t> answers(cells.size(), 7);
+    size_t bad = 0;
+    question = name;
+    made(proved(xs.data(), xs.size(), cells.data(), cells.size(), answers.data(), cells.size(), &bad), name);
+    same_answers(answers, peer);
+  };
+  ask_library("s2u_contains_cells", s2u_contains_cells, contains);
+  ask_library("s2u_intersects_cells", s2u_intersects_cells, intersects);
 }
 
 static void unions(Random& random) {
@@ -125,26 +171,24 @@ static void unions(Random& random) {
   question = "normalise";
   must(s2c_normalise(given.data(), given.size(), 1, room.at(), room.size(), room.len()), question);
   same_cells(room, xs, text_of(given));
+  question = "s2u_normalise";
+  std::copy(given.begin(), given.end(), room.at());
+  made(s2u_normalise(room.at(), given.size(), room.len()), question);
+  same_cells(room, xs, text_of(given));
   operations(xs, ys);
+  questions_of_cells(xs, others);
 
   S2CellUnion x = peer_union(xs);
-  auto answers = std::make_unique<bool[]>(others.size());
-  question = "contains_cells";
-  must(s2c_contains_cells(xs.data(), xs.size(), others.data(), others.size(), answers.get(), others.size()), question);
-  for (size_t k = 0; k < others.size(); k++)
-    same(answers[k], x.Contains(S2CellId(others[k])), text_of(xs) + "and " + text_of({others[k]}));
-  question = "intersects_cells";
-  must(s2c_intersects_cells(xs.data(), xs.size(), others.data(), others.size(), answers.get(), others.size()),
-       question);
-  for (size_t k = 0; k < others.size(); k++)
-    same(answers[k], x.Intersects(S2CellId(others[k])), text_of(xs) + "and " + text_of({others[k]}));
-
   int min = std::min(30, S2CellId(around).level() + static_cast<int>(random.below(5))), modulus = 1 + random.below(3);
   std::vector<S2CellId> cut;
   x.Denormalize(min, modulus, &cut);
+  std::string about = text_of(xs) + "at " + std::to_string(min) + " by " + std::to_string(modulus);
   question = "denormalised";
   must(s2c_denormalised(xs.data(), xs.size(), min, modulus, 1, room.at(), room.size(), room.len()), question);
-  same_cells(room, ids_of(cut), text_of(xs) + "at " + std::to_string(min) + " by " + std::to_string(modulus));
+  same_cells(room, ids_of(cut), about);
+  question = "s2u_denormalised";
+  made(s2u_denormalised(xs.data(), xs.size(), min, modulus, room.at(), room.size(), room.len()), question);
+  same_cells(room, ids_of(cut), about);
 }
 
 // How many files had the same bytes, and how many of the other's files each side could read.
@@ -152,13 +196,18 @@ static long files_same, files_read_by_s2, files_of_s2_read;
 
 static void files(Random& random) {
   List given = near_cells(random, random.cell(0, 29)), xs = normal(given);
-  std::vector<uint8_t> bytes(9 + 8 * xs.size());
+  std::vector<uint8_t> bytes(S2U_FILE_SIZE(xs.size()));
   size_t len = 0;
-  question = "encode";
-  must(s2c_encode(xs.data(), xs.size(), 1, bytes.data(), bytes.size(), &len), question);
   Encoder encoder;
   peer_union(xs).Encode(&encoder);
-  same(std::string(bytes.begin(), bytes.begin() + len), std::string(encoder.base(), encoder.length()), text_of(xs));
+  std::string file(encoder.base(), encoder.length());
+  question = "encode";
+  must(s2c_encode(xs.data(), xs.size(), 1, bytes.data(), bytes.size(), &len), question);
+  same(std::string(bytes.begin(), bytes.begin() + len), file, text_of(xs));
+  question = "s2u_encode";
+  std::fill(bytes.begin(), bytes.end(), 0);
+  made(s2u_encode(xs.data(), xs.size(), bytes.data(), bytes.size(), &len), question);
+  same(std::string(bytes.begin(), bytes.begin() + len), file, text_of(xs));
   files_same++;
   question = "S2's Decode";
   Decoder decoder(bytes.data(), len);
@@ -168,9 +217,11 @@ static void files(Random& random) {
   question = "decode";
   Encoder unsorted;
   peer_union(given).Encode(&unsorted);
-  must(s2c_decode(reinterpret_cast<const uint8_t*>(unsorted.base()), unsorted.length(), 1, room.at(), room.size(),
-                  room.len()),
-       question);
+  const uint8_t* start = reinterpret_cast<const uint8_t*>(unsorted.base());
+  must(s2c_decode(start, unsorted.length(), 1, room.at(), room.size(), room.len()), question);
+  same_cells(room, xs, text_of(given));
+  question = "s2u_decode";
+  made(s2u_decode(start, unsorted.length(), room.at(), room.size(), room.len()), question);
   same_cells(room, xs, text_of(given));
   files_of_s2_read++;
 }
