@@ -4,11 +4,14 @@ tests/run bodies -- [--asked | NAME..].
 
 Each file tests/faults/let-through/NAME.edit names a test, and has the form of tests/mutants/mutant_texts.py. The test
 is one of tests/program, or if the file names a crate, the title of a row of that crate's table. Each mutant is built
-unproved, in a copy of the repository, and its test has to fail. The tests of tests/program have to pass without a
+unproved, in a copy of the repository, and its test has to fail. All these tests and rows have to pass there without a
 mutant. `.ci/run` tries those that were asked for (--asked), some of them built together: NAME+NAME, where no mistake of
 one can be seen in the row of the other. The last line is 'N passed, M failed'.
 """
+import collections
+import contextlib
 import glob
+import itertools
 import os
 import re
 import shutil
@@ -38,8 +41,17 @@ def copy_of_the_sources(room):
         shutil.copy(os.path.join(TOP, name), os.path.join(room, name))
 
 
-def built(copy, to):
-    """Builds the program of the copy, unproved. The trial deletes what it built, so a link is made to it in time."""
+def built(copy):
+    """The program of the copy, built unproved, or None. A trial deletes what it built as soon as it has run, so a link
+    is made to it in time; on a busy machine that may take more than one trial."""
+    program = os.path.join(copy, "program")
+    with contextlib.suppress(FileNotFoundError):
+        os.remove(program)
+    return program if any(build(copy, program) for _ in range(3)) else None
+
+
+def build(copy, to):
+    """Builds the program of the copy in a trial, and answers whether there was time for a link to it."""
     crate = crate_of("calculator", copy)
     with tempfile.TemporaryDirectory(dir=copy) as room:
         trial = subprocess.Popen(
@@ -49,10 +61,8 @@ def built(copy, to):
         )
         while trial.poll() is None and not os.path.exists(to):
             for program in glob.glob(os.path.join(room, "*", "program")):
-                try:
+                with contextlib.suppress(FileNotFoundError):
                     os.link(program, to)
-                except FileNotFoundError:
-                    pass
             time.sleep(0.001)
         trial.wait()
     return os.path.exists(to)
@@ -89,19 +99,15 @@ class Mutant:
         return bool(found)
 
 
-def words_of_tests(program, *tests):
-    return [sys.executable, "tests/program", program, *tests]
-
-
 def said_of(copy, mutants):
-    """What the tests of mutants say that were built together."""
-    first = mutants[0]
-    if not first.crate:
-        program = os.path.join(copy, first.name)
-        return said_by(words_of_tests(program, first.test), TOP) if built(copy, program) else "not built"
-    crate, rows = crate_of(first.crate, copy), os.path.join(copy, "rows")
+    """What the tests of these mutants say: tests of the program, or rows of one crate."""
+    tests = dict.fromkeys(mutant.test for mutant in mutants)
+    if not mutants[0].crate:
+        program = built(copy)
+        return said_by([sys.executable, "tests/program", program, *tests], TOP) if program else "not built"
+    crate, rows = crate_of(mutants[0].crate, copy), os.path.join(copy, "rows")
     with open(rows, "w", encoding="utf-8") as it:
-        it.writelines(row_of(crate.folder, mutant.test) for mutant in mutants)
+        it.writelines(row_of(crate.folder, test) for test in tests)
     return said_by(words_of_trial(crate, "--stdin", rows), crate.folder)
 
 
@@ -118,12 +124,13 @@ def tried(copy, mutants):
     return sum(mutant.is_refused(said) for mutant in mutants)
 
 
-def passes_without_a_mutant(copy, tests):
-    program = os.path.join(copy, "good")
-    said = said_by(words_of_tests(program, *tests), TOP) if built(copy, program) else "not built"
-    if re.search(r"^[1-9]\d* passed, 0 failed$", said, re.M):
+def pass_without_a_mutant(copy, mutants):
+    """Whether the tests of these mutants pass if none is made."""
+    said, count = said_of(copy, mutants), len({mutant.test for mutant in mutants})
+    passed = re.search(r"^(\d+) (?:passed, 0 failed|rows have their answers)$", said, re.M)
+    if passed and int(passed[1]) >= count:
         return True
-    print(f"the tests don't pass without a mutant\n{said[-2000:]}")
+    print(f"the {count} tests of {mutants[0].crate or 'the program'} don't pass without a mutant\n{said[-2000:]}")
     return False
 
 
@@ -131,10 +138,12 @@ def main():
     names = ASKED if sys.argv[1:] == ["--asked"] else sys.argv[1:]
     names = names or sorted(name.removesuffix(".edit") for name in os.listdir(FOLDER))
     groups = [[Mutant(name) for name in group.split("+")] for group in names]
-    tests = {group[0].test for group in groups if not group[0].crate}
+    of_one = collections.defaultdict(list)
+    for mutant in itertools.chain(*groups):
+        of_one[mutant.crate].append(mutant)
     with tempfile.TemporaryDirectory() as copy:
         copy_of_the_sources(copy)
-        if tests and not passes_without_a_mutant(copy, tests):
+        if not all(pass_without_a_mutant(copy, mutants) for mutants in of_one.values()):
             return 1
         refused = sum(tried(copy, group) for group in groups)
     left = sum(map(len, groups)) - refused
