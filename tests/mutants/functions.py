@@ -7,11 +7,13 @@ of these alone. A mutant that isn't refused so is checked by itself, with those 
 function, with the whole crate. The next check of the copy begins with what this one proved.
 
 `.ci/run` always tries the gravest, which say so, and then some of the others, in an order that the commit's hash gives,
-for BUDGET seconds of processor time. --all tries all. The last line is 'N passed, M failed'. A mutant whose check was
-killed, or judged nothing, was not tried: that is another thing than one that isn't refused, and fails too.
+for BUDGET seconds of processor time. --all tries all. Then, and if mutants are named, their functions have to be proved
+without them, since `rt ci` may not have judged these sources. The last line is 'N passed, M failed'. A mutant whose
+check was killed, or judged nothing, was not tried: that is another thing than one that isn't refused, and fails too.
 """
 import collections
 import concurrent.futures
+import copy
 import os
 import random
 import re
@@ -38,6 +40,10 @@ pub {name}_spec : {{M : Type 1}} → statement M
 SAID = re.compile(r"^fn \w+::(\S+): (.*)")
 DEPENDS = "depends on a hole"
 OPEN = re.compile(r"^fn \S+: (?:not proved|no proof)\b")
+# What is said of a text of src/ or specs/ that the prover can't read, so that it judges nothing by it. `rt must-fail`
+# calls such a mutant a bad edit.
+UNREAD = re.compile(r"(?:\./)?(?:src|specs)/\S+?:\d+:\d+: error: (?:(?!`[^`]*`: )|.*(?:is not in scope|has no field|"
+                    r"is no name|operand is missing|expected the end|cannot continue))")
 REFUSED, NOT_REFUSED, NOT_TRIED = "refused", "NOT REFUSED", "NOT TRIED"
 
 
@@ -72,10 +78,10 @@ def rounds(mutants):
 
 
 class Copy:
-    """A copy of a crate, in which mutants are made."""
+    """A copy of a crate, in which mutants are made. It is proved without them, or has to be asked."""
 
-    def __init__(self, crate, words, room):
-        self.crate, self.words, self.folder = crate, words, os.path.join(room, crate)
+    def __init__(self, crate, words, room, is_proved):
+        self.crate, self.words, self.folder, self.is_proved = crate, words, os.path.join(room, crate), is_proved
         for part in ("src", "specs", "proofs"):
             source = os.path.join(TOP, "crates", crate, part)
             if os.path.isdir(source):
@@ -83,7 +89,9 @@ class Copy:
 
     def tried(self, waiting):
         """What was found of each mutant."""
-        found, is_more = [], True
+        broken = [] if self.is_proved else self.unproved(waiting)
+        waiting = [it for it in waiting if it not in broken]
+        found, is_more = [it.says(NOT_TRIED, ": not proved without it") for it in broken], True
         while is_more:
             refused = [it for together in rounds([it for it in waiting if it.functions])
                        for it in self.refused(together)]
@@ -92,8 +100,28 @@ class Copy:
             is_more = bool(refused)
         return found + [self.by_itself(mutant) for mutant in waiting]
 
+    def unproved(self, waiting):
+        """Those of these mutants whose functions aren't proved without them."""
+        same = [(mutant, self.without_mistake(mutant)) for mutant in waiting if mutant.functions]
+        asked = [it for _, it in same if it.functions]
+        lines = asked and (self.over_holes(asked) or self.checked(asked))
+        return [mutant for mutant, it in same if it.functions and (not lines or verdict_on(it, lines) == REFUSED)]
+
+    def without_mistake(self, mutant):
+        """The same functions with nothing changed, but for those that only the mutant has."""
+        same, there = copy.copy(mutant), all_functions(self.folder)
+        same.file = os.devnull
+        same.functions = [it for it in mutant.functions if any(ends_in(words, it) for words in there)]
+        return same
+
     def refused(self, together):
         """Those of these mutants of different functions that are refused if what these call is taken as proved."""
+        lines = self.over_holes(together)
+        return [mutant for mutant in together if verdict_on(mutant, lines) == REFUSED]
+
+    def over_holes(self, together):
+        """What a check says of the functions of mutants if what these call is taken as proved; no lines if it came to
+        no end, or something was missing in what was taken so."""
         changed = set().union(*(mutant.changed for mutant in together))
         others = [words for words in all_functions(self.folder) if not any(ends_in(words, it) for it in changed)]
         others = [words for words in others if not self.folder_of(words, "+").exists()]
@@ -106,9 +134,7 @@ class Copy:
         restore(written)
         said = dict(match.groups() for line in lines if (match := SAID.match(line)))
         taken = [said.get("::".join(words), DEPENDS) for words in others]
-        if not all(it.startswith(DEPENDS) for it in taken):
-            return []
-        return [mutant for mutant in together if verdict_on(mutant, lines, len(together) == 1) == REFUSED]
+        return lines if all(it.startswith(DEPENDS) for it in taken) else []
 
     def folder_of(self, words, cycle=""):
         """The folder with what is written of the proof of a function; with a sign for one that calls itself."""
@@ -127,22 +153,23 @@ class Copy:
     def by_itself(self, mutant):
         """What was found of a mutant, first with the functions that those which it changes call."""
         if mutant.functions:
-            verdict = verdict_on(mutant, self.checked([mutant]), True)
+            verdict = verdict_on(mutant, self.checked([mutant]))
             if verdict == REFUSED or mutant.is_named:
                 return mutant.says(verdict)
         return self.alone(mutant)
 
     def checked(self, together, *more):
-        """What a check says of the functions of mutants; no lines if it came to no end."""
+        """What a check says of the functions of mutants; no lines if it came to no end, or a text can't be read."""
         originals = {}
         for mutant in together:
             originals = {**(made(mutant, self.folder) or {}), **originals}
         only = [word for mutant in together for function in mutant.functions for word in ("--only", function)]
         _, lines = self.check("--incremental", "proved", *more, *only)
         restore(originals)
-        if ENDED.match(lines[-1]):
+        unread = next(filter(UNREAD.match, lines), None)
+        if ENDED.match(lines[-1]) and not unread:
             return lines
-        print(f"{self.crate}: {len(together)} together: {lines[-1][:120]}", flush=True)
+        print(f"{self.crate}: {len(together)} together: {(unread or lines[-1])[:120]}", flush=True)
         return []
 
     def alone(self, mutant):
@@ -154,7 +181,7 @@ class Copy:
         restore(texts)
         if status == 0:
             return mutant.says(NOT_REFUSED)
-        if status == 1 and any(OPEN.match(line) for line in lines):
+        if status == 1 and any(map(OPEN.match, lines)) and not any(map(UNREAD.match, lines)):
             return mutant.says(REFUSED, ", by its crate")
         return mutant.says(NOT_TRIED, f": status {status}, {lines[-1][:120]}")
 
@@ -182,14 +209,14 @@ def restore(texts):
         path.write_text(text)
 
 
-def verdict_on(mutant, lines, is_alone):
-    """What a check said of a mutant's functions. None if they only call one that isn't proved: unless the mutant is
-    alone, that may be the mistake of another."""
+def verdict_on(mutant, lines):
+    """What a check said of a mutant's functions. One that only calls a function which isn't proved is not judged: the
+    mistake may be another's."""
     names = "|".join(map(re.escape, mutant.functions))
     said = [match[1] for line in lines if (match := re.match(rf"^fn (?:\S*::)?(?:{names}): (.*)", line))]
     wrong = [it for it in said if it.startswith(("not proved", "no proof"))]
     if wrong:
-        return None if not is_alone and all(it.startswith("no proof: it calls") for it in wrong) else REFUSED
+        return NOT_TRIED if all(it.startswith("no proof: it calls") for it in wrong) else REFUSED
     return NOT_REFUSED if said and all(it.startswith("proved") for it in said) else NOT_TRIED
 
 
@@ -204,15 +231,17 @@ def words_of(crates):
     return words
 
 
-def tried(chosen):
-    """What was found of each of these mutants, counted; each crate's are tried beside those of others."""
+def tried(chosen, is_proved=False):
+    """What was found of each of these mutants, counted; each crate's are tried beside those of others. The crates are
+    proved without them, or the functions have to be asked."""
     crates = collections.defaultdict(list)
     for mutant in chosen:
         crates[mutant.crate].append(mutant)
     words = words_of(crates)
-    with tempfile.TemporaryDirectory() as room, concurrent.futures.ThreadPoolExecutor(os.cpu_count()) as pool:
+    checks = int(os.environ.get("RT_JOBS", 1))  # at once, by memory: tests/run sets it
+    with tempfile.TemporaryDirectory() as room, concurrent.futures.ThreadPoolExecutor(checks) as pool:
         return collections.Counter(sum(pool.map(
-            lambda it: Copy(it[0], words[it[0]], room).tried(it[1]), crates.items()), []))
+            lambda it: Copy(it[0], words[it[0]], room, is_proved).tried(it[1]), crates.items()), []))
 
 
 def processor_time():
@@ -226,10 +255,19 @@ def drawn(others):
     others = random.Random(commit).sample(others, len(others))
     found, begun = collections.Counter(), processor_time()
     while others and processor_time() - begun < BUDGET:
-        found += tried(others[:AT_ONCE])
+        found += tried(others[:AT_ONCE], is_proved=True)
         others = others[AT_ONCE:]
     print(f"{sum(found.values())} drawn by the commit {commit[:12]}; {len(others)} left to --tier full", flush=True)
     return found
+
+
+def named(names):
+    """The mutants with these names."""
+    chosen = [it for it in mutants() if it.name in names]
+    unknown = set(names) - {it.name for it in chosen}
+    if unknown:
+        sys.exit(f"tests/run mutants: no mutant has the name {', '.join(sorted(unknown))}")
+    return chosen
 
 
 def main():
@@ -237,10 +275,10 @@ def main():
     if names == ["--all"]:
         found = tried(mutants())
     elif names:
-        found = tried([it for it in mutants() if it.name in names])
+        found = tried(named(names))
     else:
         waiting = mutants()
-        found = tried([it for it in waiting if it.is_grave])
+        found = tried([it for it in waiting if it.is_grave], is_proved=True)
         found += drawn([it for it in waiting if not it.is_grave and it.functions])
     failed = found[NOT_REFUSED] + found[NOT_TRIED]
     print(f"{found[REFUSED]} refused, {found[NOT_REFUSED]} not refused, {found[NOT_TRIED]} not tried,"
