@@ -1,6 +1,6 @@
 #!/usr/bin/env python3
 """Tries the mutants that the contracts let through, since every contract allows memory and disks to fail:
-tests/run bodies -- [--asked | NAME..].
+tests/run bodies -- [NAME..].
 
 Each file tests/faults/let-through/NAME.edit names a test, and has the form of tests/mutants/mutant_texts.py. The test
 is one of tests/program, or if the file names a crate, the title of a row of that crate's table. Each mutant is built
@@ -135,7 +135,7 @@ def pass_without_a_mutant(copy, mutants):
 
 
 def main():
-    names = ASKED if sys.argv[1:] == ["--asked"] else sys.argv[1:]
+    names = [it for it in sys.argv[1:] if it != "--asked"] or (ASKED if sys.argv[1:] else [])
     names = names or sorted(name.removesuffix(".edit") for name in os.listdir(FOLDER))
     groups = [[Mutant(name) for name in group.split("+")] for group in names]
     of_one = collections.defaultdict(list)

@@ -1,4 +1,4 @@
-"""Tries mutants of the crates, which the prover has to refuse: tests/run mutants -- [--all | NAME..].
+"""Tries mutants of the crates, which the prover has to refuse: tests/run mutants -- [NAME..].
 
 Each is tried by the functions that it changes, over the libraries that `rt ci` has just proved. Mutants of different
 functions are made in one copy of the crate and checked together, since what is proved of a function says nothing of the
@@ -271,11 +271,11 @@ def named(names):
 
 
 def main():
-    names = sys.argv[1:]
-    if names == ["--all"]:
-        found = tried(mutants())
-    elif names:
+    names = [it for it in sys.argv[1:] if it != "--all"]
+    if names:
         found = tried(named(names))
+    elif sys.argv[1:]:
+        found = tried(mutants())
     else:
         waiting = mutants()
         found = tried([it for it in waiting if it.is_grave], is_proved=True)
