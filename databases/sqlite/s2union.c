@@ -109,7 +109,7 @@ static int32_t settle(gathered* g) {
   return status;
 }
 
-static int32_t gather(gathered* g, const block* more) {
+static int32_t gather(gathered* g, block* more) {
   size_t n = g->list ? g->list->n : 0;
   if (!g->list || n + more->n > g->list->room) {
     block* wider = new_block(2 * (n + more->n), sizeof(uint64_t));
@@ -396,8 +396,6 @@ static void dispatch(sqlite3_context* c, int arguments, sqlite3_value** v) {
 /* An aggregate takes each row's list into what it has of the rows before, of which there is at least one. */
 typedef struct aggregate { const char* name; int32_t (*take)(gathered* g, block* more); } aggregate;
 
-static int32_t take_union(gathered* g, block* more) { return gather(g, more); }
-
 static int32_t take_intersection(gathered* g, block* more) {
   argument a[2] = {{.held = g->list}, {.held = more}};
   block* both = NULL;
@@ -407,7 +405,7 @@ static int32_t take_intersection(gathered* g, block* more) {
   return status;
 }
 
-static const aggregate aggregates[] = {{"s2_union_agg", take_union}, {"s2_intersection_agg", take_intersection}};
+static const aggregate aggregates[] = {{"s2_union_agg", gather}, {"s2_intersection_agg", take_intersection}};
 
 static void step(sqlite3_context* c, int arguments, sqlite3_value** v) {
   const aggregate* aggregate = sqlite3_user_data(c);
@@ -444,13 +442,15 @@ typedef struct kind {
   enum { CELLS, ANCESTORS, PREPARED_VALUE } rows;
 } kind;
 
-/* Cells are cut as they are asked for: those that are ready, and those that wait to be cut, the last one first, before
- * those that come next in the list. */
-enum { READY = 256, MOST_WAITING = 128 };
+/* The arguments of a call are kept as they were given: SQLite may ask for the hidden columns, and compares them with
+ * the arguments where it has too many conditions to leave that out. Cells are cut as they are asked for: those that are
+ * ready, and those that wait to be cut, the last one first, before those that come next in the list. */
+enum { MOST_GIVEN = 3, READY = 256, MOST_WAITING = 128 };
 
 typedef struct table { sqlite3_vtab base; const kind* kind; } table;
 typedef struct cursor {
   sqlite3_vtab_cursor base;
+  sqlite3_value* given[MOST_GIVEN];
   block* block;
   size_t row, next, at, n, waiting;
   uint32_t level, modulus;
@@ -475,16 +475,11 @@ static int connect(sqlite3* db, void* aux, int argc, const char* const* argv, sq
 
 static int disconnect(sqlite3_vtab* t) { return sqlite3_free(t), SQLITE_OK; }
 
-/* Whether a statement uses a column; a bit of the mask stands for each. */
-static int uses(sqlite3_uint64 mask, int column) {
-  for (; column > 0; column--) mask /= 2;
-  return mask != mask / 2 * 2;
-}
-
 /* The plan's number is how many arguments are given: each once, in order, and a constant in the loop. One that is left
  * out, or isn't known before the loop, is not among the constraints, but its column or a later one is used. */
 static int best_index(sqlite3_vtab* t, sqlite3_index_info* plan) {
   const kind* kind = ((table*)t)->kind;
+  sqlite3_uint64 left_out = plan->colUsed; /* a bit for each column that the statement uses */
   for (int a = 0; a < kind->arguments; a++) {
     for (int k = 0; k < plan->nConstraint; k++) {
       const struct sqlite3_index_constraint* given = &plan->aConstraint[k];
@@ -494,10 +489,9 @@ static int best_index(sqlite3_vtab* t, sqlite3_index_info* plan) {
       plan->aConstraintUsage[k].omit = 1;
     }
   }
-  for (int a = plan->idxNum; a < kind->arguments; a++)
-    if (uses(plan->colUsed, kind->hidden + a)) return SQLITE_CONSTRAINT;
+  for (int column = kind->hidden + plan->idxNum; column > 0; column--) left_out /= 2;
   plan->estimatedCost = plan->estimatedRows = kind->rows == PREPARED_VALUE ? 1 : 20;
-  return plan->idxNum > 0 ? SQLITE_OK : SQLITE_CONSTRAINT;
+  return plan->idxNum > 0 && left_out == 0 ? SQLITE_OK : SQLITE_CONSTRAINT;
 }
 
 static int open(sqlite3_vtab* t, sqlite3_vtab_cursor** made) {
@@ -507,7 +501,14 @@ static int open(sqlite3_vtab* t, sqlite3_vtab_cursor** made) {
   return *made = &u->base, SQLITE_OK;
 }
 
-static int close(sqlite3_vtab_cursor* u) { return drop(((cursor*)u)->block), sqlite3_free(u), SQLITE_OK; }
+/* Drops what the last call was given and has made. */
+static void empty(cursor* u) {
+  drop(u->block);
+  for (int k = 0; k < MOST_GIVEN; k++) sqlite3_value_free(u->given[k]);
+  *u = (cursor){.base = u->base};
+}
+
+static int close(sqlite3_vtab_cursor* u) { return empty((cursor*)u), sqlite3_free(u), SQLITE_OK; }
 
 static const kind* kind_of(const cursor* u) { return ((const table*)u->base.pVtab)->kind; }
 
@@ -557,11 +558,11 @@ static int32_t fill(cursor* u, const kind* kind, int arguments, sqlite3_value** 
 
 static int filter(sqlite3_vtab_cursor* base, int arguments, const char* text, int argc, sqlite3_value** v) {
   cursor* u = (cursor*)base;
-  drop(u->block);
-  u->block = NULL;
-  u->row = u->next = u->at = u->n = u->waiting = 0;
-  for (int k = 0; k < arguments; k++)
+  empty(u);
+  for (int k = 0; k < arguments; k++) {
     if (sqlite3_value_type(v[k]) == SQLITE_NULL) return SQLITE_OK; /* no rows */
+    if (!(u->given[k] = sqlite3_value_dup(v[k]))) return SQLITE_NOMEM;
+  }
   int32_t status = fill(u, kind_of(u), arguments, v);
   if (status == S2U_OK) return SQLITE_OK;
   if (status == S2U_MEMORY) return SQLITE_NOMEM;
@@ -583,8 +584,9 @@ static int eof(sqlite3_vtab_cursor* u) { return ((cursor*)u)->at >= ((cursor*)u)
 static int column(sqlite3_vtab_cursor* base, sqlite3_context* c, int k) {
   cursor* u = (cursor*)base;
   const kind* kind = kind_of(u);
-  if (k >= kind->hidden) return SQLITE_OK; /* NULL */
-  if (kind->rows != PREPARED_VALUE) {
+  if (k >= kind->hidden) {
+    if (u->given[k - kind->hidden]) sqlite3_result_value(c, u->given[k - kind->hidden]);
+  } else if (kind->rows != PREPARED_VALUE) {
     uint64_t cell = (kind->rows == CELLS ? u->ready : u->block->cells)[u->at];
     answer_cell(c, k == 0 ? cell : k == 1 ? s2u_range_min(cell) : s2u_range_max(cell));
   } else {
@@ -618,10 +620,6 @@ static int create(sqlite3* db, const function* f) {
 
 #define COUNT(list) (sizeof(list) / sizeof *(list))
 
-static int create_aggregate(sqlite3* db, const aggregate* a) {
-  return sqlite3_create_window_function(db, a->name, 1, FLAGS, (void*)a, step, final, value, inverse, NULL);
-}
-
 #define EXPORTED __attribute__((visibility("default")))
 
 /* SQLite looks for this name first, whatever the file is called. */
@@ -632,7 +630,7 @@ EXPORTED int sqlite3_extension_init(sqlite3* db, char** error, const sqlite3_api
   for (const kind* k = kinds; code == SQLITE_OK && k < kinds + COUNT(kinds); k++)
     code = sqlite3_create_module(db, k->name, &tables, (void*)k);
   for (const aggregate* a = aggregates; code == SQLITE_OK && a < aggregates + COUNT(aggregates); a++)
-    code = create_aggregate(db, a);
+    code = sqlite3_create_window_function(db, a->name, 1, FLAGS, (void*)a, step, final, value, inverse, NULL);
   return code;
 }
 

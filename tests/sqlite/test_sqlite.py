@@ -247,8 +247,26 @@ class AgainstTheModel(Tests):
         for query in ("s2_cells", "s2_ancestors", "s2_cells WHERE modulus = 1 AND x = '1'", "s2_prepared",
                       "s2_cells WHERE x > '1'"):
             self.assertRaises(sqlite3.OperationalError, self.db.execute, f"SELECT * FROM {query}")
-        for columns, table in (("x, level, modulus", "s2_cells('1', 0, 1)"), ("x", "s2_prepared('1')")):
-            self.assertEqual(set(*self.db.execute(f"SELECT {columns} FROM {table}")), {None})
+
+    def test_the_hidden_columns_are_the_arguments(self):
+        for columns, call, values in (
+            ("x, level, modulus", "s2_cells(?, ?, ?)", ("1", 0, 3)), ("x, level", "s2_cells(?, ?)", (signed(FACE), 2)),
+            ("x", "s2_ancestors(?)", ("0/",)), ("x", "s2_prepared(?)", (model.file([FACE, FACE]),)),
+        ):
+            self.assertEqual(set(self.db.execute(f"SELECT {columns} FROM {call}", values)), {values}, call)
+        self.assertEqual(self.ask("count(*) FROM s2_cells('04 0c 14', 3) WHERE level >= 1 AND x > '04'"), 48)
+        self.assertEqual(self.ask("count(*) FROM s2_cells('04 0c 14', 3) WHERE level > 3"), 0)
+        self.refused("no query solution", "level FROM s2_cells('1')")
+
+    def test_an_argument_after_many_conditions(self):
+        """SQLite leaves out the comparison with an argument only if that is among its first 16 conditions."""
+        for most in range(1, 40):
+            where = " AND ".join(f"cell > {-k}" for k in range(most))
+            for call, rows in (("s2_cells('04 0c 14')", 3), ("s2_cells('04 0c 14', 2, 2)", 12),
+                               ("s2_ancestors('04 0c 14')", 4)):
+                self.assertEqual(self.ask(f"count(*) FROM {call} WHERE {where}"), rows, (call, most))
+            where = where.replace("cell", "value") # and any BLOB comes after any number
+            self.assertEqual(self.ask(f"count(*) FROM s2_prepared('04 0c 14') WHERE {where}"), 1, most)
 
     def test_long_listings(self):
         """Cells that are cut to more than are ready at once, between cells that are not cut."""
