@@ -325,8 +325,7 @@ CALL(intersects) { return answer_number(c, ASK(a[0], a[1], s2u_file_intersects, 
 static int32_t answer_count(sqlite3_context* c, const argument* a, int32_t (*of)(const uint8_t*, size_t, uint64_t*)) {
   uint64_t count = 0;
   int32_t status = of(FILE_OF(*a), &count);
-  sqlite3_result_int64(c, (sqlite3_int64)count);
-  return status;
+  return sqlite3_result_int64(c, (sqlite3_int64)count), status;
 }
 
 CALL(tokens) {
@@ -447,7 +446,9 @@ typedef struct kind {
  * ready, and those that wait to be cut, the last one first, before those that come next in the list. */
 enum { MOST_GIVEN = 3, READY = 256, MOST_WAITING = 128 };
 
-typedef struct table { sqlite3_vtab base; const kind* kind; } table;
+/* Rows are numbered on over all cursors that are open at a time. For an OR, SQLite makes a call for each side, on a
+ * cursor of its own, and takes rows of one number as one. */
+typedef struct table { sqlite3_vtab base; const kind* kind; size_t rows; } table;
 typedef struct cursor {
   sqlite3_vtab_cursor base;
   sqlite3_value* given[MOST_GIVEN];
@@ -498,6 +499,7 @@ static int open(sqlite3_vtab* t, sqlite3_vtab_cursor** made) {
   cursor* u = sqlite3_malloc64(sizeof *u);
   if (!u) return SQLITE_NOMEM;
   *u = (cursor){.block = NULL};
+  if (t->nRef == 0) ((table*)t)->rows = 0;
   return *made = &u->base, SQLITE_OK;
 }
 
@@ -510,7 +512,7 @@ static void empty(cursor* u) {
 
 static int close(sqlite3_vtab_cursor* u) { return empty((cursor*)u), sqlite3_free(u), SQLITE_OK; }
 
-static const kind* kind_of(const cursor* u) { return ((const table*)u->base.pVtab)->kind; }
+static table* table_of(const cursor* u) { return (table*)u->base.pVtab; }
 
 /* Cuts n cells, or a half of them and so on if they make more than there is room for. *some is how many it has cut. */
 static int32_t cut_some(cursor* u, const uint64_t* cells, size_t n, size_t* some) {
@@ -559,11 +561,12 @@ static int32_t fill(cursor* u, const kind* kind, int arguments, sqlite3_value** 
 static int filter(sqlite3_vtab_cursor* base, int arguments, const char* text, int argc, sqlite3_value** v) {
   cursor* u = (cursor*)base;
   empty(u);
+  u->row = table_of(u)->rows++;
   for (int k = 0; k < arguments; k++) {
     if (sqlite3_value_type(v[k]) == SQLITE_NULL) return SQLITE_OK; /* no rows */
     if (!(u->given[k] = sqlite3_value_dup(v[k]))) return SQLITE_NOMEM;
   }
-  int32_t status = fill(u, kind_of(u), arguments, v);
+  int32_t status = fill(u, table_of(u)->kind, arguments, v);
   if (status == S2U_OK) return SQLITE_OK;
   if (status == S2U_MEMORY) return SQLITE_NOMEM;
   sqlite3_free(base->pVtab->zErrMsg);
@@ -574,8 +577,8 @@ static int filter(sqlite3_vtab_cursor* base, int arguments, const char* text, in
 /* Memory is the only thing that may be missing. */
 static int next(sqlite3_vtab_cursor* base) {
   cursor* u = (cursor*)base;
-  u->row++, u->at++;
-  if (u->at < u->n || kind_of(u)->rows != CELLS) return SQLITE_OK;
+  u->row = table_of(u)->rows++, u->at++;
+  if (u->at < u->n || table_of(u)->kind->rows != CELLS) return SQLITE_OK;
   return cut(u) == S2U_OK ? SQLITE_OK : SQLITE_NOMEM;
 }
 
@@ -583,7 +586,7 @@ static int eof(sqlite3_vtab_cursor* u) { return ((cursor*)u)->at >= ((cursor*)u)
 
 static int column(sqlite3_vtab_cursor* base, sqlite3_context* c, int k) {
   cursor* u = (cursor*)base;
-  const kind* kind = kind_of(u);
+  const kind* kind = table_of(u)->kind;
   if (k >= kind->hidden) {
     if (u->given[k - kind->hidden]) sqlite3_result_value(c, u->given[k - kind->hidden]);
   } else if (kind->rows != PREPARED_VALUE) {

@@ -22,6 +22,7 @@ static const char* const queries[] = {
   "SELECT count(cell), max(cell) FROM s2_cells('04 0001 1d', 7, 2)",
   "SELECT cell, range_min FROM s2_ancestors('041 14')",
   "SELECT cell, x, level FROM parts, s2_cells(part, id) WHERE id < 3 AND level > 0",
+  "SELECT cell FROM s2_cells WHERE x = '04' AND level = 2 OR x = '14' AND level = 2",
   "SELECT hex(value), count(*) FROM s2_prepared('04 14'), parts WHERE s2_intersects(value, part)",
 };
 

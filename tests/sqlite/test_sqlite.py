@@ -346,6 +346,17 @@ class AgainstTheModel(Tests):
                      "s2_cells WHERE level = 1 AND level = 2", "s2_cells WHERE x = '1' AND modulus = 2"):
             self.refused("no query solution", f"* FROM {call}")
 
+    def test_a_call_on_each_side_of_an_or(self):
+        self.db.execute("CREATE TABLE pairs(a, b)")
+        self.db.execute("INSERT INTO pairs VALUES('04', '14'), ('0c', '1c'), ('3', '0c')")
+        for rest, rows in (
+            ("s2_cells WHERE x = '04' AND level = 2 OR x = '14' AND level = 2", 8),
+            ("s2_cells WHERE x = '04' AND level = 2 OR x = '1c' AND level = 1 OR x = '14' AND level = 3", 21),
+            ("s2_ancestors WHERE x = '041' AND cell > 0 OR x = '14' AND cell > 0", 7),
+            ("pairs, s2_cells WHERE x = a AND level = 2 OR x = b AND level = 2", 36),
+        ):
+            self.assertEqual(self.ask(f"count(*) FROM {rest}"), rows, rest)
+
     def test_views_and_triggers_of_an_untrusted_schema(self):
         self.db.executescript("""
             PRAGMA trusted_schema = OFF;
