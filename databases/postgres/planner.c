@@ -215,12 +215,14 @@ static Node* without_cast(Node* node) {
   return exprType(inner) == INT8OID ? inner : node;
 }
 
+/* A constant is trusted as little as a stored value: whoever may create an operator of other types may name s2union_sel
+ * in it. */
 static void take_constant(Sample* s, const Const* c) {
   s->constant = true;
   s->not_null = c->constisnull ? 0 : 1;
   if (c->constisnull) return;
   if (c->consttype == INT8OID) take(s, s2union_of_cell(DatumGetInt64(c->constvalue)));
-  else take(s, s2union_value(c->constvalue));
+  else if (c->constlen == -1) take(s, s2union_value(c->constvalue));
 }
 
 static void take_variable(PlannerInfo* root, Sample* s, Node* node, int relation, Oid function) {

@@ -692,6 +692,23 @@ class Planner(Tests):
         self.assertEqual(self.expected(self.plan("SELECT * FROM nulls WHERE region && '1'")), 1)
         self.assertEqual(self.expected(self.plan("SELECT * FROM one WHERE region && '1'")), 1)
 
+    def test_an_operator_of_other_types_that_is_estimated_as_ours_are(self):
+        def plan(kind, constant):
+            return psql(f"""
+                BEGIN;
+                CREATE FUNCTION s2_contains({kind}, {kind}) RETURNS boolean LANGUAGE plpgsql
+                    AS 'BEGIN RETURN true; END';
+                CREATE OPERATOR @@@ (LEFTARG = {kind}, RIGHTARG = {kind}, FUNCTION = s2_contains,
+                    RESTRICT = s2union_sel, JOIN = s2union_joinsel);
+                EXPLAIN SELECT FROM pg_class WHERE relpages::{kind} @@@ {constant};
+                ROLLBACK;
+            """)
+
+        for kind, constant in (("int", "5"), ("float8", "6e-310"), ("bigint", "5")):
+            self.assertIn("Seq Scan on pg_class", plan(kind, constant)[0])
+        for word in ("park", "a text that is longer than the head of a value"):
+            self.assertRaisesRegex(AssertionError, "not a normalized list of cells", plan, "text", f"'{word}'::text")
+
     def test_a_function_costs_what_it_takes_to_read_its_arguments(self):
         def cost(query):
             return float(re.search(r"\.\.([\d.]+) rows", self.plan(query))[1])
