@@ -267,14 +267,16 @@ static double part_of(question* ask, const Sample* x, const Sample* y) {
   return (pairs == 0 ? DEFAULT : Max(LEAST, (double)yes / pairs)) * x->not_null * y->not_null;
 }
 
-/* If one side is known and nothing of the other, that one may be a value like those of the column. */
+/* If a column is known and nothing of the other side, that one may be a value like those of the column. A constant says
+ * nothing of a column without statistics. */
 static double selectivity(PlannerInfo* root, Oid function, List* arguments, int relation) {
   question* ask = question_of(function);
   if (ask == NULL || list_length(arguments) != 2) return DEFAULT;
   Sample* x = sample_of(root, linitial(arguments), relation, function);
   Sample* y = sample_of(root, lsecond(arguments), relation, function);
-  if (x->n == 0 && !x->constant && !is_small(linitial(arguments))) memcpy(x->of, y->of, sizeof x->of), x->n = y->n;
-  if (y->n == 0 && !y->constant && !is_small(lsecond(arguments))) memcpy(y->of, x->of, sizeof y->of), y->n = x->n;
+  bool constant = x->constant || y->constant;
+  if (x->n == 0 && !constant && !is_small(linitial(arguments))) memcpy(x->of, y->of, sizeof x->of), x->n = y->n;
+  if (y->n == 0 && !constant && !is_small(lsecond(arguments))) memcpy(y->of, x->of, sizeof y->of), y->n = x->n;
   return part_of(ask, x, y);
 }
 

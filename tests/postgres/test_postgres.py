@@ -595,18 +595,20 @@ class Planner(Tests):
         super().setUpClass()
         psql("""
             SET client_min_messages = error;
-            DROP TABLE IF EXISTS countries, fresh, cities, small, many;
+            DROP TABLE IF EXISTS countries, fresh, cities, small, loaded, many;
             CREATE TABLE countries AS SELECT k AS id, s2_outer(k % 6, k * 5000000, k * 5000000 + 150000000,
                 k * 4000000, k * 4000000 + 130000000, 13) - s2_leaf(k % 6, k * 5000000, k * 4000000)::s2union AS region
                 FROM generate_series(1, 180) AS k;
-            CREATE TABLE fresh AS TABLE countries;
+            CREATE TABLE fresh WITH (autovacuum_enabled = off) AS TABLE countries;
             CREATE TABLE cities AS SELECT k AS id, s2_leaf(k % 6, k * 4000000 + 7000000, k * 4000000 + 9000000) AS leaf
                 FROM generate_series(1, 240) AS k;
             CREATE TABLE small AS SELECT k AS id, s2_outer(k % 6, k * 50000, k * 50000 + 300000,
                 k * 40000, k * 40000 + 200000, 14) AS region FROM generate_series(1, 20000) AS k;
+            CREATE TABLE loaded WITH (autovacuum_enabled = off) AS TABLE small;
             CREATE INDEX countries_gin ON countries USING gin (region);
             CREATE INDEX fresh_gin ON fresh USING gin (region);
             CREATE INDEX small_gin ON small USING gin (region);
+            CREATE INDEX loaded_gin ON loaded USING gin (region);
             ANALYZE countries; ANALYZE cities; ANALYZE small;
         """)
 
@@ -626,11 +628,12 @@ class Planner(Tests):
             self.assertIn(f"{table}_gin", plan)
 
     def test_questions_that_find_few_rows_use_the_index(self):
-        for table in ("small", "countries"):
+        for table in ("small", "countries", "loaded"): # the last has no statistics
             for condition in ("@> s2_leaf(1, 50100000, 40100000)", "&& s2_leaf(1, 50100000, 40100000)",
                               "&& s2_parent(s2_leaf(1, 50100000, 40100000), 14)::s2union"):
                 plan = self.plan(f"SELECT * FROM {table} WHERE region {condition}")
                 self.assertIn(f"{table}_gin", plan)
+        self.assertIn("loaded_gin", self.plan("SELECT * FROM loaded WHERE region <@ '04 14'"))
 
     def test_questions_that_find_most_rows_scan(self):
         for condition in ("&& '1 3 5 7 9 b'", "<@ '1 3 5 7 9 b'", "&& (s2_range(s2_cell('1'), s2_cell('b')) - '04')"):
