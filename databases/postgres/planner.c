@@ -194,15 +194,19 @@ typedef struct Sample {
 } Sample;
 
 static void take(Sample* s, const S2Union* u) {
-  if (u != NULL && s->n < MOST_OF_SAMPLE) s->of[s->n++] = u;
+  if (u != NULL) s->of[s->n++] = u;
 }
 
+/* The values of a slot are in the order of the rows or of the numbers, so those that are taken are spread over it. A
+ * column of cells has two slots. */
 static void take_slot(Sample* s, VariableStatData* variable, int kind, bool of_cells) {
   AttStatsSlot slot;
   if (!get_attstatsslot(&slot, variable->statsTuple, kind, InvalidOid, ATTSTATSSLOT_VALUES)) return;
-  for (int k = 0; k < slot.nvalues; k++) {
-    if (!of_cells) take(s, s2union_value(datumCopy(slot.values[k], false, -1)));
-    else if (slot.valuetype == INT8OID) take(s, s2union_of_cell(DatumGetInt64(slot.values[k])));
+  int taken = Min(slot.nvalues, of_cells ? MOST_OF_SAMPLE / 2 : MOST_OF_SAMPLE);
+  for (int k = 0; k < taken; k++) {
+    Datum value = slot.values[k * slot.nvalues / taken];
+    if (!of_cells) take(s, s2union_value(datumCopy(value, false, -1)));
+    else if (slot.valuetype == INT8OID) take(s, s2union_of_cell(DatumGetInt64(value)));
   }
   free_attstatsslot(&slot);
 }

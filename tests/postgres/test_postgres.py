@@ -670,6 +670,23 @@ class Planner(Tests):
         self.assertIn("$1", plan)
         self.assertLess(self.expected(plan), 200)
 
+    def test_all_of_a_large_sample_counts(self):
+        """1,000 of the values are asked, of which ANALYZE keeps more: in the order of the rows or of the numbers."""
+        psql("""
+            SET client_min_messages = error;
+            DROP TABLE IF EXISTS ordered;
+            CREATE TABLE ordered WITH (autovacuum_enabled = off) AS
+                SELECT leaf, leaf::s2union AS region, s2_leaf(k / 2000, k % 1000 * 1000000, 5) AS twice
+                FROM generate_series(0, 11999) AS k, s2_leaf(k / 2000, k % 2000 * 500000, 5) AS leaf;
+            ALTER TABLE ordered ALTER leaf SET STATISTICS 6000, ALTER region SET STATISTICS 6000,
+                ALTER twice SET STATISTICS 6000;
+            ANALYZE ordered;
+        """)
+        for face in ("1", "3", "5", "7", "9", "b"):
+            for condition in (f"region && '{face}'", f"leaf <@ '{face}'::s2union", f"twice <@ '{face}'::s2union"):
+                expected = self.expected(self.plan(f"SELECT * FROM ordered WHERE {condition}"))
+                self.assertTrue(1000 < expected < 4000, (condition, expected)) # there are 2,000
+
     def expected(self, plan):
         return int(re.search(r"rows=(\d+)", plan)[1])
 
