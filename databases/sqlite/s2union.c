@@ -607,7 +607,7 @@ static const sqlite3_module tables = {
   .xFilter = filter, .xNext = next, .xEof = eof, .xColumn = column, .xRowid = rowid,
 };
 
-enum { FLAGS = SQLITE_UTF8 | SQLITE_DETERMINISTIC | SQLITE_INNOCUOUS | SQLITE_SUBTYPE };
+enum { FLAGS = SQLITE_UTF8 | SQLITE_INNOCUOUS | SQLITE_SUBTYPE, PURE = FLAGS | SQLITE_DETERMINISTIC };
 
 static void forget(void* own) {
   function* f = own;
@@ -618,7 +618,8 @@ static int create(sqlite3* db, const function* f) {
   function* own = sqlite3_malloc64(sizeof *own);
   if (!own) return SQLITE_NOMEM;
   *own = *f;
-  return sqlite3_create_function_v2(db, f->name, (int)strlen(f->letters), FLAGS, own, dispatch, NULL, NULL, forget);
+  int flags = f->call == version ? FLAGS : PURE; /* an update changes the version, so no index may have it */
+  return sqlite3_create_function_v2(db, f->name, (int)strlen(f->letters), flags, own, dispatch, NULL, NULL, forget);
 }
 
 #define COUNT(list) (sizeof(list) / sizeof *(list))
@@ -633,7 +634,7 @@ EXPORTED int sqlite3_extension_init(sqlite3* db, char** error, const sqlite3_api
   for (const kind* k = kinds; code == SQLITE_OK && k < kinds + COUNT(kinds); k++)
     code = sqlite3_create_module(db, k->name, &tables, (void*)k);
   for (const aggregate* a = aggregates; code == SQLITE_OK && a < aggregates + COUNT(aggregates); a++)
-    code = sqlite3_create_window_function(db, a->name, 1, FLAGS, (void*)a, step, final, value, inverse, NULL);
+    code = sqlite3_create_window_function(db, a->name, 1, PURE, (void*)a, step, final, value, inverse, NULL);
   return code;
 }
 

@@ -223,6 +223,16 @@ class AgainstTheModel(Tests):
         said = psql("SELECT s2_version(), extversion FROM pg_extension WHERE extname = 's2union';")
         self.assertEqual(said, [f"{model.VERSION}|{model.VERSION.rpartition('.')[0]}"])
 
+    def test_all_functions_but_the_version_are_immutable(self):
+        said = psql("""
+            SELECT proname, provolatile FROM pg_proc p
+            JOIN pg_depend d ON d.classid = 'pg_proc'::regclass AND d.objid = p.oid AND d.deptype = 'e'
+            JOIN pg_extension e ON e.oid = d.refobjid AND e.extname = 's2union'
+            WHERE starts_with(proname, 's2_')
+                AND (provolatile, proparallel, proisstrict OR prokind = 'a') <> ('i', 's', true);
+        """)
+        self.assertEqual(said, ["s2_version|s"])
+
     def test_long_texts(self):
         """They are read and written in pieces."""
         cells = [model.identifier(28, 3 * k) for k in range(70000)]
