@@ -1,6 +1,7 @@
--- S2's leaf of a point, in degrees.
+-- S2's leaf of a point, in degrees. It keeps the search_path with which it is made: a restore and autovacuum have none,
+-- and would not find s2_leaf.
 CREATE OR REPLACE FUNCTION s2_leaf_at(longitude float8, latitude float8) RETURNS bigint
-LANGUAGE plpgsql IMMUTABLE STRICT PARALLEL SAFE AS $$
+LANGUAGE plpgsql IMMUTABLE STRICT PARALLEL SAFE SET search_path FROM CURRENT AS $$
 DECLARE
   x float8 := cos(radians(longitude)) * cos(radians(latitude));
   y float8 := sin(radians(longitude)) * cos(radians(latitude));

@@ -921,6 +921,25 @@ class DumpAndUpdate(Tests):
         psql("DROP DATABASE restored; ")
         psql("DROP DATABASE dumped; ")
 
+    def test_leaves_of_points_are_restored(self):
+        """With the function of docs/examples, and the column and the index that are built on it."""
+        example = os.path.join(os.path.dirname(os.path.abspath(__file__)), "../../docs/examples/leaf.postgres.sql")
+        psql("DROP DATABASE IF EXISTS restored; ")
+        psql("DROP DATABASE IF EXISTS dumped; ")
+        psql("CREATE DATABASE dumped;")
+        psql("CREATE DATABASE restored;")
+        psql(f"""CREATE EXTENSION s2union;
+             \\i {example}
+             CREATE TABLE places(x float8, y float8, leaf bigint GENERATED ALWAYS AS (s2_leaf_at(x, y)) STORED);
+             INSERT INTO places VALUES (2.3522, 48.8566), (-58.3816, -34.6037);
+             CREATE INDEX ON places (s2_leaf_at(y, x));
+             SET search_path = ''; ANALYZE public.places;""", "dumped")
+        subprocess.run("pg_dump -Fc dumped | pg_restore -e -d restored", shell=True, check=True)
+        self.assertEqual(psql("SELECT s2_token(leaf) FROM places ORDER BY x", "restored"),
+                         ["95bccacf155f668f", "47e66e1d8f8be23b"])
+        psql("DROP DATABASE restored; ")
+        psql("DROP DATABASE dumped; ")
+
     def test_update(self):
         """What an earlier version has made goes on: a table, its index, and a view."""
         for earlier in ("0.1", "0.2"):
