@@ -3,6 +3,8 @@
  * compressed or kept out of line, and a sample of them, each as a covering with few cells. */
 #include "postgres.h"
 
+#include <math.h>
+
 #include "access/detoast.h"
 #include "access/htup_details.h"
 #include "catalog/pg_statistic.h"
@@ -15,6 +17,7 @@
 #include "nodes/pathnodes.h"
 #include "nodes/supportnodes.h"
 #include "optimizer/optimizer.h"
+#include "optimizer/pathnode.h"
 #include "utils/datum.h"
 #include "utils/lsyscache.h"
 #include "utils/selfuncs.h"
@@ -284,6 +287,15 @@ static double selectivity(PlannerInfo* root, Oid function, List* arguments, int 
   return part_of(ask, x, y);
 }
 
+/* What a join is answered: the part of the pairs, or that of the outer rows that have a match, as in EXISTS. */
+static double part_of_join(PlannerInfo* root, double pairs, JoinType type, const SpecialJoinInfo* join) {
+  if (type != JOIN_SEMI && type != JOIN_ANTI) return pairs;
+  Relids inner = join->min_righthand;
+  bool one = bms_membership(inner) == BMS_SINGLETON;
+  RelOptInfo* relation = one ? find_base_rel(root, bms_singleton_member(inner)) : find_join_rel(root, inner);
+  return relation ? 1 - pow(1 - pairs, relation->rows) : pairs;
+}
+
 PG_FUNCTION_INFO_V1(s2union_sel);
 Datum s2union_sel(PG_FUNCTION_ARGS) {
   PlannerInfo* root = (PlannerInfo*)PG_GETARG_POINTER(0);
@@ -294,7 +306,9 @@ Datum s2union_sel(PG_FUNCTION_ARGS) {
 PG_FUNCTION_INFO_V1(s2union_joinsel);
 Datum s2union_joinsel(PG_FUNCTION_ARGS) {
   PlannerInfo* root = (PlannerInfo*)PG_GETARG_POINTER(0);
-  PG_RETURN_FLOAT8(selectivity(root, get_opcode(PG_GETARG_OID(1)), (List*)PG_GETARG_POINTER(2), 0));
+  const SpecialJoinInfo* join = (SpecialJoinInfo*)PG_GETARG_POINTER(4);
+  double pairs = selectivity(root, get_opcode(PG_GETARG_OID(1)), (List*)PG_GETARG_POINTER(2), 0);
+  PG_RETURN_FLOAT8(part_of_join(root, pairs, (JoinType)PG_GETARG_INT16(3), join));
 }
 
 /* ---- a function finds the rows that its operator finds, by the same index ---- */
@@ -337,7 +351,8 @@ Datum s2union_support(PG_FUNCTION_ARGS) {
   if (IsA(request, SupportRequestSelectivity)) {
     SupportRequestSelectivity* asked = (SupportRequestSelectivity*)request;
     if (question_of(asked->funcid) == NULL) PG_RETURN_POINTER(NULL);
-    asked->selectivity = selectivity(asked->root, asked->funcid, asked->args, asked->is_join ? 0 : asked->varRelid);
+    double part = selectivity(asked->root, asked->funcid, asked->args, asked->is_join ? 0 : asked->varRelid);
+    asked->selectivity = asked->is_join ? part_of_join(asked->root, part, asked->jointype, asked->sjinfo) : part;
     PG_RETURN_POINTER(request);
   }
   if (IsA(request, SupportRequestIndexCondition))

@@ -680,6 +680,15 @@ class Planner(Tests):
         self.assertIn("$1", plan)
         self.assertLess(self.expected(plan), 200)
 
+    def test_how_many_rows_with_a_match_are_expected(self):
+        for inner in ("countries d WHERE d.region @> c.leaf", "countries d WHERE s2_contains(d.region, c.leaf)",
+                      "countries d JOIN small s ON s.id = d.id WHERE d.region @> c.leaf"):
+            query = f"SELECT * FROM cities c WHERE {{}} (SELECT FROM {inner})"
+            rows = len(psql(query.format("EXISTS")))
+            some, none = (self.expected(self.plan(query.format(word))) for word in ("EXISTS", "NOT EXISTS"))
+            self.assertTrue(rows / 3 < some < rows * 3, (inner, rows, some))
+            self.assertTrue(239 <= some + none <= 241, (inner, some, none)) # there are 240 cities
+
     def test_all_of_a_large_sample_counts(self):
         """1,000 of the values are asked, of which ANALYZE keeps more: in the order of the rows or of the numbers."""
         psql("""
