@@ -1,5 +1,6 @@
 """Every call of the library, through the Python module, against the plain model; and the module itself."""
 
+import contextlib
 import copy
 import ctypes
 import doctest
@@ -9,6 +10,7 @@ import mmap
 import operator as operators
 import os
 import pickle
+import resource
 import shutil
 import subprocess
 import sys
@@ -419,6 +421,18 @@ class WorkedExamples(unittest.TestCase):
         self.assertEqual(leaf.outer(29, rectangle=[0, 0, 0, 0, 0]).tokens(), [])
 
 
+@contextlib.contextmanager
+def address_space(more):
+    """Lets the process have this many bytes of memory more than it has."""
+    pages = int(Path("/proc/self/statm").read_text().split()[0])
+    before = resource.getrlimit(resource.RLIMIT_AS)
+    resource.setrlimit(resource.RLIMIT_AS, (pages * mmap.PAGESIZE + more, before[1]))
+    try:
+        yield
+    finally:
+        resource.setrlimit(resource.RLIMIT_AS, before)
+
+
 class Park(Union):
     """A subclass that is made from other things than cells."""
 
@@ -747,6 +761,20 @@ class TheModule(unittest.TestCase):
                 self.assertRaises(TypeError, Union.from_bytes, wrong)
                 self.assertRaises(TypeError, UnionFile, wrong)
         complain.assert_not_called()
+
+    def test_bytes_of_2_gib_and_more_are_copied_whole(self):
+        for size in (2**31 + 1, 2**32 + 17):
+            with tempfile.TemporaryFile() as stored:  # of one page: nobody reads the others
+                stored.truncate(size)
+                with mmap.mmap(stored.fileno(), size) as mapped:
+                    mapped[:9] = (1).to_bytes(1, "little") + ((size - 9) // 8).to_bytes(8, "little")
+                    file = UnionFile(mapped, checked=True)
+                    self.assertEqual(len(file), (size - 9) // 8)
+                    with address_space(2**30):  # too little for a copy of them all, and enough for any other
+                        self.assertRaises(MemoryError, pickle.dumps, file)
+                        self.assertRaises(MemoryError, file.union)
+                        self.assertRaises(MemoryError, Union.from_bytes, mapped)
+                    del file
 
     def test_a_file_as_a_collection(self):
         a = Union.from_tokens("04 0c 1c 24 31")

@@ -538,21 +538,23 @@ class _Held:
         self._buffer = _Buffer()
         _python.PyObject_GetBuffer(_c.py_object(view), _c.byref(self._buffer), 0)
         self._held = True
-        self._is_read_only = view.readonly
+        self._view = view
         self.at, self.size = self._buffer.buf, self._buffer.len
 
     def copied(self) -> bytes:
-        return _c.string_at(self.at, self.size)
+        """A copy, which the view makes: it may have 2 GiB or more, and ctypes takes an `int` for a size."""
+        return self._view.tobytes()
 
     def unchanging(self) -> tuple[Any, int]:
         """The bytes and their size for a call that reads them twice. Bytes that can be written are copied: if another
         thread wrote them between the two times, the second would find what the first has ruled out."""
-        return self.at if self._is_read_only else self.copied(), self.size
+        return self.at if self._view.readonly else self.copied(), self.size
 
     def release(self) -> None:
         if self._held:
             self._held = False
             _python.PyBuffer_Release(_c.byref(self._buffer))
+            self._view.release()
 
     def __enter__(self) -> _Held:
         return self
