@@ -789,6 +789,24 @@ class TheModule(unittest.TestCase):
             self.assertRaises(TypeError, lambda: file[place])
         self.assertRaises(ValueError, lambda: file[::0])
 
+    def test_a_file_is_made_once(self):
+        a, other = Union.from_tokens("04 0c"), Union.from_tokens("14").to_bytes()
+        file = UnionFile(a.to_bytes())
+
+        class Cell:
+            def __index__(self):
+                file.__init__(other)  # the bytes that the question is about to read would go
+                return a[0]
+
+        for again in (lambda: file.__init__(other), lambda: UnionFile.__init__(file, b"", checked=True),
+                      lambda: Cell() in file, lambda: file.intersects_cell(Cell())):
+            self.assertRaises(TypeError, again)
+            self.assertEqual((len(file), file.union(), file.ancestors()), (2, a, a.ancestors()))
+        unmade = UnionFile.__new__(UnionFile)
+        self.assertRaises(ValueError, unmade.__init__, other[:-1])
+        unmade.__init__(other)
+        self.assertEqual(unmade.union().tokens(), ["14"])
+
     def test_a_file_that_is_damaged_after_it_was_opened(self):
         data = bytearray(Union.from_tokens("04").to_bytes())
         whole, damaged = UnionFile(bytes(data)), UnionFile(data)

@@ -582,17 +582,19 @@ class UnionFile:
     __slots__ = ("_bytes", "_size")
 
     def __init__(self, data: Any, checked: bool = False) -> None:
-        self._bytes = _Held(data)
-        status = 1 if checked else _library.file_check(*self._place)
+        held = _Held(data)
+        if hasattr(self, "_bytes"):  # which a call may be reading
+            raise TypeError("a UnionFile is made once")
+        status = 1 if checked else _library.file_check(held.at, held.size)
         if status < 0:
             _refuse(status)
         if status == 0:
             raise ValueError("the cells of the file are not normalized: Union.from_bytes takes it")
         count = _c.c_uint64()
-        status = _library.file_count(*self._place, _c.byref(count))
+        status = _library.file_count(held.at, held.size, _c.byref(count))
         if status != _library.OK:
             _refuse(status)
-        self._size = count.value
+        self._bytes, self._size = held, count.value
 
     @property
     def _place(self) -> tuple[int, int]:
