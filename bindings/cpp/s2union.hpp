@@ -274,7 +274,7 @@ class CellUnionOf {
   }
   /// The leaves that both have. S2U_MEMORY.
   CellUnionOf Intersection(const CellUnionOf& y, int32_t* status = nullptr) const {
-    return Both(s2u_intersection, size() + y.size(), y, status);
+    return Both(s2u_intersection, RoomForShared(cell_ids_, y.cell_ids_), y, status);
   }
   /// The leaves of the cell that the union has. S2U_NO_CELL. log n steps, and one for each cell of the result.
   CellUnionOf Intersection(Id id, int32_t* status = nullptr) const {
@@ -293,7 +293,7 @@ class CellUnionOf {
   }
   /// The leaves that y doesn't have. S2U_MEMORY.
   CellUnionOf Difference(const CellUnionOf& y, int32_t* status = nullptr) const {
-    return Both(s2u_difference, size() + y.size() + S2U_MOST_DIFFERENCE(0, 1), y, status);
+    return Both(s2u_difference, size() + std::min(size(), y.size()) + S2U_MOST_DIFFERENCE(0, 1), y, status);
   }
 
   /// How many leaves the union has, of 6 * 4^30.
@@ -379,7 +379,7 @@ class CellUnionOf {
                               int32_t* status = nullptr) {
     if (!internal::succeeded(UnionStatus(x), status) || !internal::succeeded(UnionStatus(y), status)) return;
     std::vector<Id> cells;
-    int32_t found = Listed(x.size() + y.size(), &cells, [&](uint64_t* at, size_t room, size_t* len) {
+    int32_t found = Listed(RoomForShared(x, y), &cells, [&](uint64_t* at, size_t room, size_t* len) {
       return s2u_intersection(Numbers(x), x.size(), Numbers(y), y.size(), at, room, len);
     });
     if (internal::succeeded(found, status)) *out = std::move(cells);
@@ -419,7 +419,13 @@ class CellUnionOf {
     return level < 0 || level == 30 ? level : S2U_ARGUMENT;
   }
 
-  /// The list that a call makes: tries room that may suffice, and calls again with what is needed if it doesn't.
+  /// Room for what two unions share. Twice the shorter one nearly always suffices, and the longer may be much longer.
+  static size_t RoomForShared(const std::vector<Id>& x, const std::vector<Id>& y) {
+    return 2 * std::min(x.size(), y.size());
+  }
+
+  /// The list that a call makes: tries room that may suffice, and calls again with what is needed if it doesn't. Gives
+  /// back what is left, as Pack does, if it is more than half of what the list has.
   template <class Call>
   static int32_t Listed(size_t room, std::vector<Id>* made, Call call) {
     size_t length = 0;
@@ -430,6 +436,7 @@ class CellUnionOf {
       if (found == S2U_OK) found = call(Numbers(made), made->size(), &length);
     }
     made->resize(found == S2U_OK ? length : 0);
+    if (made->size() < made->capacity() / 3 * 2) made->shrink_to_fit();
     return found;
   }
 

@@ -241,6 +241,26 @@ static void unions() {
   has_memory = true;
 }
 
+/// No union keeps room for much more than its cells, unless it can't be given back: then it takes little.
+template <class Id>
+static void room_that_is_kept() {
+  using Union = s2union::CellUnionOf<Id>;
+  std::vector<Id> leaves, shared;
+  for (uint64_t place = 0; place < 1000; place++) leaves.push_back(Id(8 * place + 1));
+  const Union many(leaves), one(cells<Id>({1})), face(cells<Id>({kFace}));
+  const Union both = many.Intersection(one), same = one.Intersection(many), rest = many.Difference(one);
+  CHECK(both == one && both.cell_ids().capacity() <= 2 && same == one && same.cell_ids().capacity() <= 2);
+  CHECK(rest.size() == 999 && rest.cell_ids().capacity() <= 1091);
+  const Union none = one.Difference(many);
+  CHECK(none.empty() && none.cell_ids().capacity() <= (S2UNION_THROWS ? 0u : 92u));
+  Union::GetIntersection(leaves, one.cell_ids(), &shared);
+  CHECK(shared == one.cell_ids() && shared.capacity() <= 2);
+  CHECK(face.Intersection(many) == many && many.Intersection(face) == many);  // more than twice the shorter one
+  const Union leaf = Union::FromMinMax(Id(1), Id(1)), again = Union::UnionOf({many, many, many});
+  CHECK(leaf == one && again == many);
+  if (S2UNION_THROWS) CHECK(leaf.cell_ids().capacity() == 1 && again.cell_ids().capacity() == 1000);
+}
+
 template <class Id>
 static void files() {
   using Union = s2union::CellUnionOf<Id>;
@@ -319,6 +339,8 @@ static void random_unions() {
 int main() {
   unions<uint64_t>();
   unions<Cell>();
+  room_that_is_kept<uint64_t>();
+  room_that_is_kept<Cell>();
   files<uint64_t>();
   files<Cell>();
   conversions();

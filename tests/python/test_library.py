@@ -510,6 +510,17 @@ class TheModule(unittest.TestCase):
             lists = [random.cells() for _ in range(random.randrange(5))]
             self.assertEqual(Union.of(map(Union, lists)), Union(sum(lists, [])))
 
+    def test_room_is_taken_for_the_shorter_of_two(self):
+        many, one, none = Union(range(1, 8 * 1000, 8)), Union([1]), Union()
+        for operation, x, y, room, want in ((operators.and_, many, one, 2, one), (operators.and_, one, many, 2, one),
+                                            (operators.sub, one, many, 92, none),
+                                            (operators.sub, many, one, 1091, Union(many[1:]))):
+            with mock.patch.object(s2union, "_room", wraps=s2union._room) as taken:
+                self.assertEqual(operation(x, y), want)
+            taken.assert_called_once_with(room)
+        whole = Union([FACE])
+        self.assertEqual((whole & many, many & whole), (many, many))  # more than twice the shorter one
+
     def test_numbers_with_a_sign(self):
         cells = [cell_of(text) for text in ("1", "7", "9", "b", "89c25", "bfffffffffffffff", LEAF)]
         signed = [s2union.to_signed(cell) for cell in cells]

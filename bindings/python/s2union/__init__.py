@@ -923,12 +923,13 @@ class Union:
     def __and__(self: Self, other: Union) -> Self:
         if not isinstance(other, Union):
             return NotImplemented
-        return self._with(_library.intersection, other, len(self) + len(other))
+        # Twice the shorter one nearly always suffices, and the longer one may be much longer.
+        return self._with(_library.intersection, other, 2 * min(len(self), len(other)))
 
     def __sub__(self: Self, other: Union) -> Self:
         if not isinstance(other, Union):
             return NotImplemented
-        return self._with(_library.difference, other, len(self) + len(other) + 90)
+        return self._with(_library.difference, other, len(self) + min(len(self), len(other)) + 90)
 
     def __xor__(self: Self, other: Union) -> Self:
         if not isinstance(other, Union):
