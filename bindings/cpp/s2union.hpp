@@ -15,8 +15,10 @@
  * REFUSALS. The last parameter of every call that can be refused is `int32_t* status`, and may be left out.
  *   - Without it, a refusal is thrown: std::bad_alloc if memory ran out, and otherwise s2union::Error, which knows the
  *     status. Where exceptions are switched off, the program is aborted, as it is by a vector that gets no memory.
- *   - With it, nothing is thrown: *status is S2U_OK, or the status of s2union.h that says why not. After a refusal the
- *     answer is false or empty, and what the call would have changed is as it was.
+ *   - With it, the call throws nothing: *status is S2U_OK, or the status of s2union.h that says why not. After a
+ *     refusal the answer is false or empty, and what the call would have changed is as it was. An argument that is made
+ *     for the call may still throw: a list in braces, and the union of another class, which becomes a CellUnion first.
+ *     Make it one before, with a status of its own. So may S2's Encoder, which takes its memory itself.
  */
 #ifndef S2UNION_HPP
 #define S2UNION_HPP
@@ -123,10 +125,11 @@ class CellUnionOf {
   CellUnionOf() = default;
 
   /// The union of these cells, in any order, repeated, or inside one another. S2U_NO_CELL.
-  explicit CellUnionOf(std::vector<Id> cell_ids, int32_t* status = nullptr) { Init(std::move(cell_ids), status); }
+  explicit CellUnionOf(std::vector<Id>&& cell_ids, int32_t* status = nullptr) { Init(std::move(cell_ids), status); }
 
-  /// The same from cells of another type: numbers where these are a class, or the other way round.
-  template <class Other, class = std::enable_if_t<internal::is_cell<Other> && !std::is_same_v<Other, Id>>>
+  /// The same from a copy of the cells, which may be of another type: numbers where these are a class, or the other way
+  /// round. S2U_NO_CELL, S2U_MEMORY.
+  template <class Other, class = std::enable_if_t<internal::is_cell<Other>>>
   explicit CellUnionOf(const std::vector<Other>& cell_ids, int32_t* status = nullptr) {
     Init(cell_ids, status);
   }
@@ -150,10 +153,18 @@ class CellUnionOf {
   static CellUnionOf WholeSphere(int32_t* status = nullptr) { return Range(kFirstFace, kLastFace, status); }
 
   /// The union whose cells these are. S2U_NO_UNION if they are not normalized. n steps.
-  static CellUnionOf FromNormalized(std::vector<Id> cell_ids, int32_t* status = nullptr) {
+  static CellUnionOf FromNormalized(std::vector<Id>&& cell_ids, int32_t* status = nullptr) {
     CellUnionOf made;
     if (internal::succeeded(UnionStatus(cell_ids), status)) made.cell_ids_ = std::move(cell_ids);
     return made;
+  }
+  /// The same from a copy. S2U_NO_UNION, S2U_MEMORY.
+  static CellUnionOf FromNormalized(const std::vector<Id>& cell_ids, int32_t* status = nullptr) {
+    std::vector<Id> own;
+    int32_t found = internal::resized(&own, cell_ids.size());
+    if (!internal::succeeded(found, status)) return {};
+    std::copy(cell_ids.begin(), cell_ids.end(), own.begin());
+    return FromNormalized(std::move(own), status);
   }
 
   /// The leaves from the first to the last, both included. S2U_NO_CELL. S2U_ARGUMENT: one is no leaf, or the last comes
@@ -178,11 +189,11 @@ class CellUnionOf {
     return Range(first, last, status);
   }
 
-  void Init(std::vector<Id> cell_ids, int32_t* status = nullptr) {
+  void Init(std::vector<Id>&& cell_ids, int32_t* status = nullptr) {
     int32_t found = Normalized(&cell_ids);
     if (internal::succeeded(found, status)) cell_ids_ = std::move(cell_ids);
   }
-  template <class Other, class = std::enable_if_t<internal::is_cell<Other> && !std::is_same_v<Other, Id>>>
+  template <class Other, class = std::enable_if_t<internal::is_cell<Other>>>
   void Init(const std::vector<Other>& cell_ids, int32_t* status = nullptr) {
     Take(cell_ids, status);
   }

@@ -171,6 +171,8 @@ static void unions() {
   CHECK(x == Union(cells<Id>({1, 3})));
   x.Init(cells<Id>({second, first}));
   CHECK(x == two);
+  x.Init(x.cell_ids());
+  CHECK(x == two && Union(x.cell_ids()) == two && Union::FromNormalized(x.cell_ids()) == two);
   x.Clear();
   CHECK(x == none && x.cell_ids().capacity() == 0);
 
@@ -225,11 +227,30 @@ static void unions() {
   REFUSES(S2U_MEMORY, Union::WholeSphere(status));
 #if S2UNION_THROWS
   has_memory = true;
+  std::vector<Id> moved = list, more = two.cell_ids();
+  const std::vector<Other> others = cells<Other>({second, first});
+  const std::vector<Union> three = {two, face, rest};
   std_has_memory = false;
   REFUSES(S2U_MEMORY, Union::WholeSphere(status));
   REFUSES(S2U_MEMORY, Union::GetIntersection(two.cell_ids(), two.cell_ids(), &list, status));
+  REFUSES(S2U_MEMORY, Union(list, status));
+  REFUSES(S2U_MEMORY, Union(others, status));
+  REFUSES(S2U_MEMORY, Union::FromNormalized(two.cell_ids(), status));
+  REFUSES(S2U_MEMORY, x.Init(list, status));
+  REFUSES(S2U_MEMORY, x.Init(others, status));
+  REFUSES(S2U_MEMORY, x.InitFromMinMax(Id(1), Id(1), status));
+  REFUSES(S2U_MEMORY, x.InitFromBeginEnd(Id(1), Id(3), status));
+  REFUSES(S2U_MEMORY, two.Union(face, status));
+  REFUSES(S2U_MEMORY, two.Intersection(face, status));
+  REFUSES(S2U_MEMORY, two.Intersection(Id(kFace), status));
+  REFUSES(S2U_MEMORY, two.Difference(face, status));
+  REFUSES(S2U_MEMORY, Union::UnionOf(three, status));
+  REFUSES(S2U_MEMORY, face.Denormalize(3, 1, &list, status));
+  REFUSES(S2U_MEMORY, x.Decode(bytes.data(), bytes.size(), status));
+  REFUSES(S2U_OK, Union(std::move(moved), status));
+  REFUSES(S2U_OK, Union::FromNormalized(std::move(more), status));
   std_has_memory = true;
-  CHECK(list.size() == 64);
+  CHECK(list.size() == 64 && x == two);
   has_memory = false;
 #endif
   REFUSES(S2U_OK, two.Union(face, status));
@@ -315,6 +336,9 @@ static void conversions() {
   CHECK(Theirs(numbers).cell_ids() == ours.cell_ids());
   const Theirs wrong(cells<Cell>({0}));
   REFUSES(S2U_NO_CELL, Union(wrong, status));
+  int32_t status = S2U_OK;
+  const Union none(wrong, &status);
+  CHECK(status == S2U_NO_CELL && none.empty() && ours.Union(none, &status) == ours && status == S2U_OK);
 }
 
 /// Random unions: what the methods answer is what the calls of s2union.h do.
