@@ -129,7 +129,7 @@ func atLeastZero(number int) C.size_t {
 }
 
 // listed is the list that a call makes. It tries room that may suffice, and calls again with what is needed if it
-// doesn't. The list has memory of its own size, at most half as much again.
+// doesn't.
 func listed(room int, call func(out *C.uint64_t, room C.size_t, length *C.size_t) C.int32_t) ([]CellID, error) {
 	made := make([]CellID, room)
 	var length C.size_t
@@ -143,10 +143,15 @@ func listed(room int, call func(out *C.uint64_t, room C.size_t, length *C.size_t
 	if status != C.S2U_OK {
 		return nil, Error(status)
 	}
-	if made = made[:length]; len(made) < cap(made)/3*2 {
-		made = append([]CellID(nil), made...)
+	return trimmed(made[:length]), nil
+}
+
+// trimmed is a list in memory of its own size, at most half as much again.
+func trimmed(list []CellID) []CellID {
+	if len(list) < cap(list)/3*2 {
+		return append([]CellID(nil), list...)
 	}
-	return made, nil
+	return list
 }
 
 // text is what a call writes of one cell.

@@ -6,6 +6,7 @@ import (
 	"errors"
 	"io"
 	"math"
+	"runtime"
 	"strings"
 	"sync"
 	"testing"
@@ -160,6 +161,34 @@ func TestUnionsNeverChange(t *testing.T) {
 		}()
 	}
 	all.Wait()
+}
+
+// heap is how many bytes of memory are in use.
+func heap() int {
+	var stats runtime.MemStats
+	runtime.GC()
+	runtime.ReadMemStats(&stats)
+	return int(stats.HeapAlloc)
+}
+
+func TestUnionsHaveMemoryOfTheirSize(t *testing.T) {
+	const count = 1 << 18
+	before := heap()
+	same := must(s2union.CellUnionFromTokens(strings.Repeat("1 ", count)))
+	ids := make([]CellID, count)
+	for place := range ids {
+		ids[place] = face
+	}
+	one := must(s2union.NewCellUnion(ids...))
+	for place := range ids {
+		ids[place] = CellID(8*place + 1)
+	}
+	text := must(s2union.NewCellUnion(ids...)).String()
+	many := must(s2union.CellUnionFromTokens(text))
+	ids, text = nil, ""
+	check(t, same.Len() == 1 && one.Equal(same) && many.Len() == count, "the unions")
+	check(t, heap()-before < 8*count*3/2, "their memory")
+	runtime.KeepAlive([]CellUnion{same, one, many})
 }
 
 // scattered is a union of some cells on two faces, which a number picks; the empty union for each fifth one.

@@ -307,11 +307,11 @@ func IsNormalized[N ID](ids []N) bool { return isNormalized(sameBits[CellID](ids
 // Normalize normalizes a list of cells in place, and answers what it has become. A PlaceError has the place of the
 // first number that is no cell, and then the list is as it was.
 func Normalize[N ID](ids []N) ([]N, error) {
-	union, err := normalized(sameBits[CellID](ids))
+	length, err := normalize(sameBits[CellID](ids))
 	if err != nil {
 		return ids, err
 	}
-	return ids[:len(union.ids)], nil
+	return ids[:length], nil
 }
 
 // ---- inside
@@ -325,14 +325,23 @@ func isNormalized(ids []CellID) bool {
 
 // normalized is the union of a list, which becomes the union's own.
 func normalized(ids []CellID) (CellUnion, error) {
+	length, err := normalize(ids)
+	if err != nil {
+		return CellUnion{}, err
+	}
+	return CellUnion{trimmed(ids[:length])}, nil
+}
+
+// normalize normalizes a list in place, and answers how long it has become.
+func normalize(ids []CellID) (int, error) {
 	at, n := place(ids)
 	var length C.size_t
 	if status := C.s2u_normalise(at, n, &length); status == C.S2U_NO_CELL {
-		return CellUnion{}, &PlaceError{int(length)}
+		return 0, &PlaceError{int(length)}
 	} else if status != C.S2U_OK {
-		return CellUnion{}, Error(status)
+		return 0, Error(status)
 	}
-	return CellUnion{ids[:length:length]}, nil
+	return int(length), nil
 }
 
 // sameBits is a list of cells in another type, in the same memory.
