@@ -100,6 +100,10 @@ func TestNumbersOutOfRange(t *testing.T) {
 	}
 	_, err := union.Denormalize(30, 1, math.MaxInt32)
 	check(t, err == s2union.ErrMany, "4^30 cells")
+	for _, level := range []int{22, 23, 30} {
+		_, err = union.Denormalize(level, 1, math.MaxInt)
+		check(t, err == s2union.ErrMemory, "more memory than there is")
+	}
 	_, err = s2union.Rect{Face: 0, I0: 0, I1: 1<<30 - 1}.Covering(30, math.MaxInt)
 	check(t, err == s2union.ErrMany, "a row of leaves")
 }

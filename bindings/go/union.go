@@ -214,7 +214,8 @@ func (cu CellUnion) LeafCellsCovered() int64 {
 
 // Denormalize is a new list of the cells, each cut to the least level that is at least its own and is minLevel or above
 // it by a multiple of levelMod, which is 1 to 3; to leaves if there is none. ErrArgument. ErrMany: there would be more
-// than most cells; a face has 4^30 leaves.
+// than most cells; a face has 4^30 leaves. So most bounds the memory, which has to be there: Go ends a program that
+// asks for more than there is. ErrMemory: no process has as much.
 func (cu CellUnion) Denormalize(minLevel, levelMod, most int) ([]CellID, error) {
 	at, n := place(cu.ids)
 	min, mod := narrowed(minLevel), narrowed(levelMod)
@@ -224,6 +225,9 @@ func (cu CellUnion) Denormalize(minLevel, levelMod, most int) ([]CellID, error) 
 	}
 	if length > C.uint64_t(atLeastZero(most)) {
 		return nil, ErrMany
+	}
+	if length >= tooMany {
+		return nil, ErrMemory
 	}
 	return listed(int(length), func(out *C.uint64_t, room C.size_t, made *C.size_t) C.int32_t {
 		return C.s2u_denormalised(at, n, min, mod, out, room, made)
@@ -317,6 +321,9 @@ func Normalize[N ID](ids []N) ([]N, error) {
 // ---- inside
 
 const firstFace, lastFace CellID = 0x1000000000000000, 0xb000000000000000
+
+// tooMany is how many cells no list can have: they take 2^47 bytes, which are all addresses that a process has.
+const tooMany = 1 << 44
 
 func isNormalized(ids []CellID) bool {
 	at, n := place(ids)
