@@ -130,6 +130,7 @@ class AgainstTheModel(unittest.TestCase):
             a, b = Union(xs), Union(ys)
             x, y = model.runs(xs), model.runs(ys)
             self.assertEqual(list(a), model.normal(x))
+            self.assertEqual((s2union.is_union(xs), s2union.is_union(a)), (xs == model.normal(x), True))
             self.assertEqual(list(a | b), model.normal(x + y))
             self.assertEqual(list(a & b), model.normal(model.common(x, y)))
             self.assertEqual(list(a - b), model.normal(model.common(x, model.rest(y))))
@@ -604,6 +605,16 @@ class TheModule(unittest.TestCase):
                 s2union.from_points(*numpy.array([(0, 0, 0), (0, wrong, 0)]).T)
         self.assertRaises(TypeError, s2union.from_points, *points.T.astype(float))
         self.assertRaises(TypeError, s2union.from_points, *3 * [points])
+
+    def test_lists_that_are_unions(self):
+        a = Union.from_tokens("04 0c 9")
+        for cells in (a, list(a), iter(a), tuple(a), a.ids, array("q", map(s2union.to_signed, a)), [], Union()):
+            self.assertIs(s2union.is_union(cells), True)
+        for cells in (a[::-1], [*a, a[2]], [FACE, a[0]], Union([FACE]).denormalised(1), [2], [0], [FACE, -1]):
+            self.assertIs(s2union.is_union(cells), False)
+        for wrong in (None, 3, ["1"], "04"):
+            self.assertRaises(TypeError, s2union.is_union, wrong)
+        self.assertRaises(ValueError, s2union.is_union, [2**64])
 
     def test_answers_are_a_mask(self):
         a, cells = Union.from_tokens("04 0c"), [cell_of(text) for text in ("04", "14", "01", "1")]

@@ -44,7 +44,7 @@ if TYPE_CHECKING:
 __all__ = ["Union", "UnionFile", "version", "is_cell", "level", "face", "parent", "child", "range_min", "range_max",
            "size", "next_cell", "previous_cell", "common_ancestor", "contains", "intersects", "from_face_ij", "square",
            "token", "from_token", "debug", "from_debug", "tokens", "from_tokens", "to_signed", "levels", "parents",
-           "range_mins", "range_maxes", "token_fields", "from_points"]
+           "range_mins", "range_maxes", "token_fields", "from_points", "is_union"]
 
 __version__ = "1.0.0"
 _ALL_BITS = 2**64 - 1
@@ -407,6 +407,17 @@ def from_tokens(text: str | bytes | Iterable[str]) -> list[int]:
     """The cells that a text names in one call, in its order: words with blanks, tabs, line ends or commas between them,
     each a token or a debug text. Or the cells of an iterable of tokens."""
     return list(_named(text))
+
+
+def is_union(cells: Iterable[SupportsIndex] | Array) -> bool:
+    """Whether these are the cells of a union, in its order: `Union(cells)` has just these then. False also if a number
+    is that of no cell.
+
+    >>> is_union([0x0400000000000000, 0x0c00000000000000]), is_union([0x0c00000000000000, 0x0400000000000000])
+    (True, False)
+    """
+    ids = _ids_of(cells)
+    return _answer(_library.is_union(*_place(ids)))
 
 
 def _named(text: str | bytes | Iterable[str]) -> _array[int]:
