@@ -11,7 +11,7 @@ tests=$top/tests/c
 
 packages=()
 command -v gcc >/dev/null && command -v g++ >/dev/null || packages+=(gcc g++ libc6-dev)
-command -v clang >/dev/null || packages+=(clang)
+command -v clang >/dev/null || packages+=(clang libclang-rt-dev) # the latter has the fuzzer
 command -v pkg-config >/dev/null || packages+=(pkg-config)
 [ -x /usr/bin/python3 ] || packages+=(python3)
 /usr/bin/python3 -c 'import numpy' 2>/dev/null || packages+=(python3-numpy)
