@@ -8,6 +8,8 @@ const FACE_AT = [[-1, -1, 4, 5], [-1, 2, 3, -1], [0, 1, -1, -1]];
 const LEAST_EDGE = 7;
 const BITS_OF_TABLE = 18;
 const OPACITY = 0.72;
+/** How much of its color the edge of a cell has. */
+const EDGE = 0.6;
 /** The least scale for each pixel of the picture's width, and the greatest: a leaf is then 64 pixels wide. */
 const SCALES = {faces: [1 / 16, 64 * SIDE], map: [1 / 1440, (64 * SIDE) / 90]};
 
@@ -80,6 +82,9 @@ class Drawn {
 
 const isAtLeast = (upper, lower, otherUpper, otherLower) =>
   upper > otherUpper || (upper === otherUpper && lower >= otherLower);
+
+/** A pixel of a color. */
+const wordOf = (red, green, blue) => ((255 << 24) | (blue << 16) | (green << 8) | red) >>> 0;
 
 class View {
   constructor(canvas) {
@@ -194,8 +199,8 @@ class View {
 
   begin(step) {
     this.pixels = new Uint32Array(this.image.data.buffer);
-    this.mixed = new Map();
     this.layersShown = this.layers.filter((layer) => layer.isShown);
+    this.edgeColors = this.layersShown.map(({color}) => color.map((part) => part * EDGE));
     this.edges = this.layersShown.map(({drawn}) =>
       Uint8Array.from({length: 31}, (_, level) => this.pixelsOf(level) / step >= LEAST_EDGE));
     const level = Math.max(0, Math.min(30, Math.floor(Math.log2(this.pixelsOf(0) / step))));
@@ -235,9 +240,15 @@ class View {
     }
   }
 
-  /** Paints one pixel, below which the leaf at a place of a face is; there is none on face -1. */
+  /**
+   * Paints one pixel, below which the leaf at a place of a face is; there is none on face -1. Over the ground come all
+   * layers that have a cell there.
+   */
   paint(at, px, face, i, j) {
-    let mask = 0;
+    const ground = face < 0 ? this.colors.ground : this.colors.face;
+    let red = ground[0];
+    let green = ground[1];
+    let blue = ground[2];
     if (face >= 0) {
       leafHalves(face, i, j, this.half);
       const bits = this.lastBits;
@@ -245,30 +256,20 @@ class View {
       const lower = bits >= 32 ? 0 : (this.half[0] >>> bits << bits) >>> 0;
       const endUpper = bits >= 32 ? upper + 2 ** (bits - 32) - 1 : upper;
       const endLower = bits >= 32 ? 2 ** 32 - 1 : lower + 2 ** bits - 1;
-      mask = 1;
       for (let k = 0; k < this.layersShown.length; k++) {
         const drawn = this.layersShown[k].drawn;
         const cell = drawn.find(upper, lower, endUpper, endLower);
         const isEdge = (drawn.row[px] !== cell || (px > 0 && drawn.row[px - 1] !== cell))
           && cell >= 0 && this.edges[k][drawn.levelOf(cell)];
         drawn.row[px] = cell;
-        mask = mask * 3 + (cell < 0 ? 0 : isEdge ? 2 : 1);
+        if (cell < 0) continue;
+        const color = isEdge ? this.edgeColors[k] : this.layersShown[k].color;
+        red += (color[0] - red) * OPACITY;
+        green += (color[1] - green) * OPACITY;
+        blue += (color[2] - blue) * OPACITY;
       }
     }
-    this.pixels[at] = this.mixed.get(mask) ?? this.mix(mask);
-  }
-
-  /** The color of a pixel: over the ground, each layer that has a cell there. */
-  mix(mask) {
-    let color = mask === 0 ? this.colors.ground : this.colors.face;
-    const digits = mask.toString(3).slice(1);
-    this.layersShown.forEach((layer, k) => {
-      const own = layer.color.map((part) => (digits[k] === "2" ? part * 0.6 : part));
-      if (digits[k] > "0") color = color.map((part, c) => part + (own[c] - part) * OPACITY);
-    });
-    const word = ((255 << 24) | (color[2] << 16) | (color[1] << 8) | color[0]) >>> 0;
-    this.mixed.set(mask, word);
-    return word;
+    this.pixels[at] = wordOf(red, green, blue);
   }
 
   drawLines() {

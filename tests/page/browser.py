@@ -296,6 +296,25 @@ class Trial:
             view.fit();
             view.draw();""", kind)
 
+    def test_many_unions(self):
+        """Each of many unions is drawn, and over those before it: of forty, each face has six or seven."""
+        self.open()
+        found, wanted = self.run("""const view = s2page.view;
+            for (let k = 0; k < 40; k++) s2page.add(`${k}`, s2page.core.read('13579b'[k % 6]));
+            view.kind = 'faces';
+            view.fit();
+            view.draw();
+            const faces = [0, 1, 2, 3, 4, 5];
+            const found = faces.map((face) => {
+              const [column, row] = PLACES_OF_FACES[face];
+              const [px, py] = view.pixelAt(column + 0.5, row + 0.5).map(Math.floor);
+              return view.pixels[py * view.image.width + px];
+            });
+            const wanted = faces.map((face) => wordOf(...s2page.regions.filter((_, k) => k % 6 === face).reduce(
+              (under, {color}) => under.map((part, k) => part + (color[k] - part) * OPACITY), view.colors.face)));
+            return [found, wanted];""")
+        assert found == wanted and len(set(found)) > 1, (found, wanted)
+
     def test_touch(self):
         """One finger moves the picture, and two zoom it; so do the mouse and its wheel."""
         self.begin()
@@ -333,7 +352,7 @@ class Trial:
                     view.kind = kind;
                     view.fit();
                     view.draw();
-                    const ground = new Set([view.mixed.get(0), view.mixed.get(3)]);
+                    const ground = new Set([view.colors.ground, view.colors.face].map((color) => wordOf(...color)));
                     const dots = view.pixels.filter((it) => !ground.has(it)).length;
                     const [s, t] = [(i + 0.5) / SIDE, (j + 0.5) / SIDE];
                     const [column, row] = PLACES_OF_FACES[face];
