@@ -44,8 +44,7 @@ class Page {
     try {
       action();
     } catch (error) {
-      const where = error.status === -3 && error.place ? ` at place ${error.place}` : "";
-      this.say(`${what}: refused: ${error.message}${where}`);
+      this.say(refusal(what, error));
     }
   }
 
@@ -133,11 +132,18 @@ class Page {
 
   // ---- files
 
+  /** Adds files. What is refused, such as a folder, is said when the others are added. */
   async open(files) {
+    const refusals = [];
     for (const file of files) {
-      const bytes = new Uint8Array(await file.arrayBuffer());
-      this.attempt(file.name, () => this.add(file.name, this.core.decode(bytes)));
+      try {
+        const bytes = new Uint8Array(await file.arrayBuffer());
+        this.add(file.name, this.core.decode(bytes));
+      } catch (error) {
+        refusals.push(refusal(file.name, error));
+      }
     }
+    if (refusals.length) this.say(refusals.join("; "));
   }
 
   addTexts() {
@@ -409,6 +415,12 @@ class Page {
 
 function describe(region) {
   return `${region.ids.length} ${region.ids.length === 1 ? "cell" : "cells"}, ${region.leaves} leaves`;
+}
+
+/** What is said of something that was refused. */
+function refusal(what, error) {
+  const where = error.status === -3 && error.place ? ` at place ${error.place}` : "";
+  return `${what}: refused: ${error.message}${where}`;
 }
 
 /** The whole number in a field; one out of range is refused. */

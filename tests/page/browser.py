@@ -187,6 +187,19 @@ class Trial:
         self.click("outer")
         assert "argument out of range" in self.status() and self.count() == 2
 
+    def test_files_that_can_not_be_read(self):
+        """A folder, or what the browser may not read, is refused by its name, and the files beside it are added."""
+        self.open()
+        self.driver.execute_async_script("""const [bytes, done] = arguments;
+            const file = new File([Uint8Array.from(atob(bytes), (letter) => letter.charCodeAt(0))], 'a');
+            const arrayBuffer = () => Promise.reject(new DOMException('it is a folder', 'NotReadableError'));
+            const files = [{name: 'photos', arrayBuffer}, file, {name: 'maps', arrayBuffer}];
+            s2page.open(files).then(() => done(), () => done());
+            """, base64.b64encode(self.a.to_bytes()).decode())
+        assert self.count() == 1 and self.last() == self.a.to_bytes()
+        said = self.status()
+        assert said == "photos: refused: it is a folder; maps: refused: it is a folder", said
+
     def test_texts(self):
         self.open()
         self.set("texts", "64c, 3/021 1")
