@@ -15,6 +15,12 @@ export PYTHONPATH=$work/usr/lib/python PYTHONDONTWRITEBYTECODE=1
 
 step "tools/page" "$top/tools/page" "$work/page" --jobs 1
 [ "$failed" -eq 0 ] || finish
+lacking=$(sed -n 's/^tools\/page: the module lacks what takes memory: //p' "$work/log")
+named() { # CALL..: whether the page of docs names just these as what the module lacks
+  diff <(printf '%s\n' "$@" | sort) \
+    <(grep -o 'So the module lacks [^.]*' "$top/docs/PAGE.md" | grep -o 's2u_[a-z_]*' | sort)
+}
+step "docs/PAGE.md: the calls that the module lacks" named $lacking
 in_browser() { timeout 600 /usr/bin/python3 "$top/tests/page/browser.py" "$work/page" "$@"; }
 step "the page in Chromium" in_browser "$@"
 grep -E '^figure:' "$work/log" | sed 's/^figure:/       /'
