@@ -30,7 +30,8 @@
  *   S2U_ROOM   room is too small, and *len is exactly how many elements the result has. Call again with that much room;
  *              the second call cannot be refused for room. What out holds then means nothing: results are written
  *              straight to it.
- *   otherwise  *len is 0 and out is not touched. (s2u_from_tokens reports in *len where the wrong word is.)
+ *   otherwise  *len is 0 and out is not touched. (With S2U_NO_CELL, s2u_from_tokens and s2u_union_of_many report in
+ *              *len where the first wrong word or number is.)
  * Only s2u_normalise works in the list that it is given, and it never needs more room. So `room` 0 (and out NULL) asks
  * for the length, which costs as much as the call itself. It is never necessary to ask: each call has a bound, given as
  * a macro S2U_MOST_.. if it is worth one, which is computed in 64 bits even from an int. Nothing that a call makes
