@@ -59,7 +59,7 @@ func (id CellID) IsFace() bool { return id.Level() == 0 }
 // Parent is the cell of a level that contains the cell; at its own level, itself. It panics with ErrArgument if the
 // level is deeper.
 func (id CellID) Parent(level int) CellID {
-	parent := C.s2u_parent(id.cell(), narrowed(level))
+	parent := answerFor(C.s2u_parent(C.uint64_t(id), narrowed(level)), id)
 	if parent == 0 {
 		panic(ErrArgument)
 	}
@@ -70,7 +70,7 @@ func (id CellID) Parent(level int) CellID {
 func (id CellID) Children() [4]CellID {
 	var children [4]CellID
 	for k := range children {
-		child := C.s2u_child(id.cell(), C.uint32_t(k))
+		child := answerFor(C.s2u_child(C.uint64_t(id), C.uint32_t(k)), id)
 		if child == 0 {
 			panic(ErrArgument)
 		}
@@ -81,19 +81,19 @@ func (id CellID) Children() [4]CellID {
 
 // RangeMin is the first leaf of the cell: another cell is in it exactly if its number is not below RangeMin and not
 // above RangeMax.
-func (id CellID) RangeMin() CellID { return CellID(C.s2u_range_min(id.cell())) }
+func (id CellID) RangeMin() CellID { return CellID(answerFor(C.s2u_range_min(C.uint64_t(id)), id)) }
 
 // RangeMax is the last leaf of the cell.
-func (id CellID) RangeMax() CellID { return CellID(C.s2u_range_max(id.cell())) }
+func (id CellID) RangeMax() CellID { return CellID(answerFor(C.s2u_range_max(C.uint64_t(id)), id)) }
 
 // LeafCellsCovered is how many leaves the cell has.
-func (id CellID) LeafCellsCovered() int64 { return int64(C.s2u_size(id.cell())) }
+func (id CellID) LeafCellsCovered() int64 { return int64(answerFor(C.s2u_size(C.uint64_t(id)), id)) }
 
 // Next is the next cell of the same level, across faces; 0, which is no cell, after the last one.
-func (id CellID) Next() CellID { return CellID(C.s2u_next(id.cell())) }
+func (id CellID) Next() CellID { return CellID(answerFor(C.s2u_next(C.uint64_t(id)), id)) }
 
 // Prev is the cell of the same level before it, across faces; 0, which is no cell, before the first one.
-func (id CellID) Prev() CellID { return CellID(C.s2u_prev(id.cell())) }
+func (id CellID) Prev() CellID { return CellID(answerFor(C.s2u_prev(C.uint64_t(id)), id)) }
 
 // Contains is whether all leaves of another cell are in the cell.
 func (id CellID) Contains(other CellID) bool {
@@ -107,8 +107,8 @@ func (id CellID) Intersects(other CellID) bool {
 
 // CommonAncestor is the smallest cell that contains both; false if they are on two faces.
 func (id CellID) CommonAncestor(other CellID) (CellID, bool) {
-	ancestor := CellID(C.s2u_common_ancestor(id.cell(), other.cell()))
-	return ancestor, ancestor != 0
+	ancestor := answerFor(C.s2u_common_ancestor(C.uint64_t(id), C.uint64_t(other)), id, other)
+	return CellID(ancestor), ancestor != 0
 }
 
 // CommonAncestorLevel is the level of CommonAncestor.
@@ -143,12 +143,15 @@ func (id CellID) String() string {
 	})
 }
 
-// cell is the number as the library takes it. It panics with ErrNoCell if it is no cell.
-func (id CellID) cell() C.uint64_t {
-	if !id.IsValid() {
-		panic(ErrNoCell)
+// answerFor is the number that a call answered for cells; 0 if it has none. Only then it asks whether they are cells,
+// which takes a call of its own, and panics with ErrNoCell if one is none.
+func answerFor(number C.uint64_t, cells ...CellID) C.uint64_t {
+	for k := 0; number == 0 && k < len(cells); k++ {
+		if !cells[k].IsValid() {
+			panic(ErrNoCell)
+		}
 	}
-	return C.uint64_t(id)
+	return number
 }
 
 func number(status C.int32_t) int {

@@ -74,6 +74,21 @@ func TestACellThatIsNone(t *testing.T) {
 	panics(t, s2union.ErrFileShort, "a file that was not made", func() { new(s2union.UnionFile).Len() })
 }
 
+func TestACallOfCForEachAnswer(t *testing.T) {
+	for _, question := range []struct {
+		calls int64
+		ask   func()
+	}{
+		{1, func() { face.Parent(0) }}, {4, func() { face.Children() }}, {1, func() { face.RangeMin() }},
+		{1, func() { face.RangeMax() }}, {1, func() { face.LeafCellsCovered() }}, {1, func() { face.Next() }},
+		{1, func() { (3 * face).Prev() }}, {1, func() { face.CommonAncestor(face) }}, {1, func() { face.Level() }},
+	} {
+		before := runtime.NumCgoCall()
+		question.ask()
+		check(t, runtime.NumCgoCall()-before == question.calls, "one call of C")
+	}
+}
+
 func TestNumbersOutOfRange(t *testing.T) {
 	union := must(s2union.NewCellUnion(face))
 	for _, wrong := range []int{-1, 31, math.MaxInt, math.MinInt, 1 << 32} {
