@@ -35,20 +35,13 @@ func CellUnionFromNormalized[N ID](ids ...N) (CellUnion, error) {
 	return CellUnion{append([]CellID(nil), sameBits[CellID](ids)...)}, nil
 }
 
-// CellUnionFromTokens is the union of the cells that a text names: words with blanks, tabs, line ends or commas between
-// them, each a token or a debug text. A PlaceError has the place where the first word begins that names no cell.
+// CellUnionFromTokens is the union of the cells that a text names, as CellIDsFromTokens.
 func CellUnionFromTokens(words string) (CellUnion, error) {
-	given := []byte(words)
-	at, n := placeOfText(given)
-	named := make([]CellID, len(given)/2+1)
-	var length C.size_t
-	out, room := place(named)
-	if status := C.s2u_from_tokens(at, n, out, room, &length); status == C.S2U_NO_CELL {
-		return CellUnion{}, &PlaceError{int(length)}
-	} else if status != C.S2U_OK {
-		return CellUnion{}, Error(status)
+	ids, err := CellIDsFromTokens(words)
+	if err != nil {
+		return CellUnion{}, err
 	}
-	return normalized(named[:length])
+	return normalized(ids)
 }
 
 // CellUnionFromRange is the union of the leaves from begin up to end, which is not one of them: a leaf, or the number
@@ -149,10 +142,14 @@ func (cu CellUnion) IsValid() bool { return true }
 func (cu CellUnion) IsNormalized() bool { return true }
 
 // Equal is whether two unions have the same leaves, and so the same cells.
-func (cu CellUnion) Equal(other CellUnion) bool {
+func (cu CellUnion) Equal(other CellUnion) bool { return cu.Compare(other) == 0 }
+
+// Compare is -1, 0 or 1: the order of the lists of cells, cell by cell and then by length, to sort unions by. Which
+// union contains another has nothing to do with it.
+func (cu CellUnion) Compare(other CellUnion) int {
 	xs, nx := place(cu.ids)
 	ys, ny := place(other.ids)
-	return C.s2u_compare(xs, nx, ys, ny) == 0
+	return int(C.s2u_compare(xs, nx, ys, ny))
 }
 
 // ContainsCellID is whether the union has all leaves of a cell. It takes log n steps.

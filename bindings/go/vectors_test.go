@@ -140,6 +140,8 @@ var questions = map[string]func(given) string{
 	"is_union":    isUnion,
 	"tokens":      func(g given) string { return shown([]byte(g.union(0).String())) },
 	"from_tokens": func(g given) string { return shown(s2union.CellUnionFromTokens(string(g.bytes(0)))) },
+	"named":       func(g given) string { return shown(s2union.CellIDsFromTokens(string(g.bytes(0)))) },
+	"compare":     func(g given) string { return shown(g.union(0).Compare(g.union(1))) },
 	"leaf_count": func(g given) string {
 		return twice(g, CellUnion.LeafCellsCovered, s2union.UnionFile.LeafCellsCovered)
 	},

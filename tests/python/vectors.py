@@ -90,8 +90,10 @@ def lists():
     words = [random.choice((model.token, model.debug, lambda cell: model.token(cell).upper()))(cell) for cell in given]
     text = "".join(word + random.choice((" ", ",", "\t", "\n", "\r\n", ", ")) for word in words)
     say("from_tokens", text.encode(), normal)
+    say("named", text.encode(), given)
     wrong = random.choice(("x", "0c;", "2", "0/4", "6/", "\0", "0" * 17, "é"))
-    say("from_tokens", (text + wrong + random.choice(("", " 04", ",y"))).encode(), f"!no_cell {len(text)}")
+    for call in ("from_tokens", "named"):
+        say(call, (text + wrong + random.choice(("", " 04", ",y"))).encode(), f"!no_cell {len(text)}")
     place = random.randrange(len(given) + 1)
     damaged = given[:place] + [random.choice((0, 2, 2**64 - 1))] + given[place:]
     say("normalise", damaged, f"!no_cell {place}")
@@ -138,6 +140,9 @@ def sets(a):
     say("symmetric_difference", a, b, model.normal(less + more))
     say("union_contains", a, b, not more)
     say("union_intersects", a, b, bool(both))
+    for other in (b, a, a[:-1], a[:-1] + [12 * FACE - 1]):
+        say("compare", a, other, str((a > other) - (a < other)))
+        say("compare", other, a, str((other > a) - (other < a)))
     say("leaf_count", a, str(model.count(x)))
     say("ancestors", a, model.ancestors(a))
     asked = [random.near(random.choice(a or [FACE])) for _ in range(3)] + [random.cell()]

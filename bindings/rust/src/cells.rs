@@ -2,6 +2,7 @@
 
 use crate::calls;
 use crate::cell::CellId;
+use crate::error::Error;
 use crate::union::{cells_of, numbers};
 
 /// A leaf's face and its coordinates there.
@@ -54,6 +55,22 @@ impl CellId {
             field.copy_from_slice(bytes);
         }
         fields
+    }
+
+    /// The cells that a text names, in its order and each time that it names one: words with blanks, tabs, line ends or
+    /// commas between them, each a token or a debug text. [`Error::NoCell`] has the place where the first word begins
+    /// that names none. [`Error::Memory`].
+    ///
+    /// ```
+    /// use s2union::{CellId, Error};
+    ///
+    /// let cells = CellId::from_tokens("1c, 04 0/0")?;
+    /// assert_eq!(cells.iter().map(|cell| cell.token()).collect::<Vec<_>>(), ["1c", "04", "04"]);
+    /// assert_eq!(CellId::from_tokens("1c, x"), Err(Error::NoCell { place: 4 }));
+    /// # Ok::<(), Error>(())
+    /// ```
+    pub fn from_tokens(text: &str) -> Result<Vec<CellId>, Error> {
+        calls::from_tokens(text.as_bytes()).map(cells_of)
     }
 
     /// The leaf at each point; none if it is on no face.

@@ -326,8 +326,7 @@ impl AsRef<[u64]> for CellUnion {
     }
 }
 
-/// The union of the cells that a text names: words with blanks, tabs, line ends or commas between them, each a token or
-/// a debug text.
+/// The union of the cells that a text names, as [`CellId::from_tokens`].
 impl FromStr for CellUnion {
     type Err = Error;
     fn from_str(text: &str) -> Result<CellUnion, Error> {

@@ -6,7 +6,7 @@ use std::{env, fs};
 use s2union::{CellId, CellUnion, Error, FacePoint, Rect, UnionFile};
 
 const MOST: usize = 100_000; // cells of a list
-const CALLS: usize = 55; // that vectors.py asks
+const CALLS: usize = 57; // that vectors.py asks
 
 #[test]
 fn vectors() {
@@ -161,6 +161,8 @@ impl Given<'_> {
             },
             "tokens" => self.union(0).to_string().into_bytes().shown(),
             "from_tokens" => self.text().parse::<CellUnion>().shown(),
+            "named" => CellId::from_tokens(&self.text()).shown(),
+            "compare" => (self.union(0).cmp(&self.union(1)) as i8).to_string(),
             "union" => {
                 let unions = [self.union(0), CellUnion::new(), self.union(1)];
                 same(self.union(0) | self.union(1), unions.iter().collect::<CellUnion>())
