@@ -14,7 +14,8 @@
  *
  * REFUSALS. The last parameter of every call that can be refused is `int32_t* status`, and may be left out.
  *   - Without it, a refusal is thrown: std::bad_alloc if memory ran out, and otherwise s2union::Error, which knows the
- *     status. Where exceptions are switched off, the program is aborted, as it is by a vector that gets no memory.
+ *     status. Where exceptions are switched off, the program is aborted, as it is by a vector that gets no memory. A
+ *     CellUnion doesn't go between files that are built with exceptions and without.
  *   - With it, the call throws nothing: *status is S2U_OK, or the status of s2union.h that says why not. After a
  *     refusal the answer is false or empty, and what the call would have changed is as it was. An argument that is made
  *     for the call may still throw: a list in braces, and the union of another class, which becomes a CellUnion first.
@@ -42,6 +43,14 @@
 #endif
 
 namespace s2union {
+
+// Files that are built with exceptions, and without, have classes of their own. Else a linker would keep one of two
+// functions that have the same name, and not the same body.
+#if S2UNION_THROWS
+inline namespace throws {
+#else
+inline namespace aborts {
+#endif
 
 /// A call that was refused, for another reason than memory.
 class Error : public std::runtime_error {
@@ -514,5 +523,6 @@ class CellUnionOf {
 /// The union whose cells are their identifiers.
 using CellUnion = CellUnionOf<uint64_t>;
 
+}  // namespace throws, or aborts
 }  // namespace s2union
 #endif

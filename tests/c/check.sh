@@ -98,6 +98,16 @@ unions() { # COMPILER OPTION..: builds the test of s2union.hpp and runs it
 step "s2union.hpp: g++, under the sanitizers" unions g++ -std=c++17 -fsanitize=address,undefined -fno-sanitize-recover
 step "s2union.hpp: clang++" unions clang++ -std=c++20
 step "s2union.hpp: g++, without exceptions" unions g++ -std=c++17 -fno-exceptions
+apart() { # no function of the header has one name in a file with exceptions and in one without
+  local kind
+  for kind in exceptions no-exceptions; do
+    g++ -std=c++17 -D_DEFAULT_SOURCE "-f$kind" -I"$include" -c "$tests/cell_union.cc" -o "$work/$kind.o" || return 1
+    nm "$work/$kind.o" | awk '$2 ~ /[VW]/ { print $3 }' | grep 7s2union | sort >"$work/$kind" && [ -s "$work/$kind" ] ||
+      return 1
+  done
+  ! comm -12 "$work/exceptions" "$work/no-exceptions" | grep .
+}
+step "s2union.hpp: with exceptions and without, in one program" apart
 covered() {
   unions g++ -std=c++17 -O0 -g --coverage -fkeep-inline-functions &&
     /usr/bin/python3 "$top/tests/c/coverage.py" "$work" s2union.hpp=bindings/cpp/s2union.hpp
