@@ -6,6 +6,7 @@ use crate::error::Error;
 const ROOM: i32 = -1;
 pub const MEMORY: i32 = -2;
 pub const NO_CELL: i32 = -3;
+pub const NO_UNION: i32 = -4;
 pub const ARGUMENT: i32 = -5;
 pub const MANY: i32 = -6;
 pub const FILE_SHORT: i32 = -10;
@@ -129,7 +130,6 @@ makers! {
     // A face without one leaf has 90 cells.
     difference: s2u_difference(xs: [u64], ys: [u64];) -> [u64] in xs.len() + xs.len().min(ys.len()) + 90;
     range: s2u_range(; first: u64, last: u64) -> [u64] in MOST_RANGE;
-    denormalised: s2u_denormalised(ids: [u64]; min: u32, modulus: u32) -> [u64] in 0;
     ancestors: s2u_ancestors(ids: [u64];) -> [u64] in 2 * ids.len() + 30;
     outer: s2u_outer(; rect: &Corners, level: u32, most: usize) -> [u64] in 64;
     inner: s2u_inner(; rect: &Corners, level: u32, most: usize) -> [u64] in 64;
@@ -175,6 +175,15 @@ pub fn append<T: Copy>(list: &mut Vec<T>, more: &[T]) -> Result<(), Error> {
 }
 
 extern "C" {
+    fn s2u_denormalised(
+        ids: *const u64,
+        n: usize,
+        min: u32,
+        modulus: u32,
+        out: *mut u64,
+        room: usize,
+        len: *mut usize,
+    ) -> i32;
     fn s2u_union_of_many(
         ids: *const u64,
         n: usize,
@@ -187,6 +196,12 @@ extern "C" {
         len: *mut usize,
     ) -> i32;
     fn s2u_normalise(ids: *mut u64, n: usize, len: *mut usize) -> i32;
+}
+
+/// The cells that are cut, of which there are as many as `denormalised_len` answers: that is the room.
+pub fn denormalised(ids: &[u64], min: u32, modulus: u32, room: usize) -> Result<Vec<u64>, Error> {
+    // SAFETY: as above.
+    listed(room, |out, room, len| unsafe { s2u_denormalised(ids.as_ptr(), ids.len(), min, modulus, out, room, len) })
 }
 
 /// The union of lists that lie one after another, each of which ends at the next of `ends`.

@@ -27,6 +27,8 @@ pub enum Error {
     FileTrailing,
     /// An identifier in a file is that of no cell.
     FileCell,
+    /// Another status below 0, of a later version of the library.
+    Other(i32),
 }
 
 impl Error {
@@ -42,7 +44,8 @@ impl Error {
             calls::FILE_VERSION => Err(Error::FileVersion),
             calls::FILE_TRAILING => Err(Error::FileTrailing),
             calls::FILE_CELL => Err(Error::FileCell),
-            _ => Err(Error::NotNormalized),
+            calls::NO_UNION => Err(Error::NotNormalized),
+            _ => Err(Error::Other(status)),
         }
     }
 }
@@ -59,6 +62,7 @@ impl fmt::Display for Error {
             Error::FileVersion => f.write_str("union file: unknown version"),
             Error::FileTrailing => f.write_str("union file: bytes after the last cell"),
             Error::FileCell => f.write_str("union file: a number that is not a cell"),
+            Error::Other(status) => write!(f, "unknown refusal {status}"),
         }
     }
 }

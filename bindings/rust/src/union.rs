@@ -245,10 +245,11 @@ impl CellUnion {
     /// # Ok::<(), s2union::Error>(())
     /// ```
     pub fn denormalized(&self, min_level: u32, modulus: u32, most: usize) -> Result<Vec<CellId>, Error> {
-        if self.denormalized_len(min_level, modulus)? > most as u64 {
+        let len = self.denormalized_len(min_level, modulus)?;
+        if len > most as u64 {
             return Err(Error::Many);
         }
-        calls::denormalised(self.as_ref(), min_level, modulus).map(cells_of)
+        calls::denormalised(self.as_ref(), min_level, modulus, len as usize).map(cells_of)
     }
 
     /// How many cells `denormalized` makes. [`Error::Argument`].

@@ -155,6 +155,7 @@ fn errors_have_texts() {
         (Error::FileVersion, "union file: unknown version"),
         (Error::FileTrailing, "union file: bytes after the last cell"),
         (Error::FileCell, "union file: a number that is not a cell"),
+        (Error::Other(-99), "unknown refusal -99"),
     ] {
         assert_eq!(error.to_string(), text);
     }
