@@ -29,10 +29,11 @@ func NewCellUnion[N ID](ids ...N) (CellUnion, error) {
 // CellUnionFromNormalized is the union whose cells these are, or ErrNotNormalized. It takes as many steps as there are
 // cells.
 func CellUnionFromNormalized[N ID](ids ...N) (CellUnion, error) {
-	if !IsNormalized(ids) {
+	own := append([]CellID(nil), sameBits[CellID](ids)...) // which nobody writes while it is checked
+	if !isNormalized(own) {
 		return CellUnion{}, ErrNotNormalized
 	}
-	return CellUnion{append([]CellID(nil), sameBits[CellID](ids)...)}, nil
+	return CellUnion{own}, nil
 }
 
 // CellUnionFromTokens is the union of the cells that a text names, as CellIDsFromTokens.

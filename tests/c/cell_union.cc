@@ -341,6 +341,23 @@ static void conversions() {
   CHECK(status == S2U_NO_CELL && none.empty() && ours.Union(none, &status) == ours && status == S2U_OK);
 }
 
+/// That two lists are in the order that std has them in.
+static void order(const std::vector<uint64_t>& x, const std::vector<uint64_t>& y) {
+  const int32_t wanted = x < y ? -1 : y < x;
+  CHECK(s2u_compare(x.data(), x.size(), y.data(), y.size()) == wanted);
+  CHECK(s2u_compare(y.data(), y.size(), x.data(), x.size()) == -wanted);
+}
+
+/// The order of a list and of what has its beginning.
+static void orders(const std::vector<uint64_t>& list) {
+  for (size_t cut = 0; cut <= list.size(); cut++) {
+    std::vector<uint64_t> other(list.begin(), list.begin() + static_cast<ptrdiff_t>(cut));
+    order(list, other);
+    other.push_back(draw() % 3 ? random_cell(0, 8, 6) : draw());
+    order(list, other);
+  }
+}
+
 /// Random unions: what the methods answer is what the calls of s2union.h do.
 static void random_unions() {
   using s2union::CellUnion;
@@ -353,6 +370,9 @@ static void random_unions() {
     CHECK(s2u_intersection(xs, nx, ys, ny, out, 4000, &len) == S2U_OK && is_out(x.Intersection(y)));
     CHECK(s2u_difference(xs, nx, ys, ny, out, 4000, &len) == S2U_OK && is_out(x.Difference(y)));
     CHECK(s2u_contains(xs, nx, ys, ny) == x.Contains(y) && s2u_intersects(xs, nx, ys, ny) == x.Intersects(y));
+    orders(x.cell_ids());
+    order(x.cell_ids(), y.cell_ids());
+    CHECK((x == y) == (x.cell_ids() == y.cell_ids()));
     uint64_t cell = random_cell(0, 8, 6);
     CHECK(s2u_intersection(xs, nx, &cell, 1, out, 4000, &len) == S2U_OK && is_out(x.Intersection(cell)));
     CHECK(s2u_contains_cell(xs, nx, cell) == x.Contains(cell));

@@ -359,7 +359,7 @@ static void coverings(void) {
     out = fresh();
     int32_t status = (call ? s2u_outer_in : s2u_inner_in)(xs, n, &rect, level, most, out, room, &len);
     MUST(fit ? status == S2U_OK || status == S2U_ROOM || status == S2U_MANY : status == S2U_ARGUMENT);
-    made(23 + call, status, len, most);
+    made(29 + call, status, len, most);
     if (status == S2U_ROOM) left_alone(status, len);
     MUST(status != S2U_OK || s2u_is_union(out, len) == 1);
   }
