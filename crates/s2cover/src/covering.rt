@@ -1,15 +1,13 @@
 //! The outer and the inner covering of any region.
-ghost use Rattle.std.specs.Prelude.{◌≡◌, ◌+◌, ◌-◌, ◌<◌, ◌≤◌, ◌↔◌, ℕ, Bool, true, false, List, length};
-ghost use Rattle.std.specs.Prelude.{vec_len, IfOk, IfErr};
-ghost use Rattle.s2cell.specs.Cell.{IsCell};
+ghost use Rattle.std.specs.Prelude.{◌≡◌, ◌+◌, ◌-◌, ◌<◌, ◌≤◌, ℕ, length, vec_len, IfOk, IfErr};
 ghost use Rattle.s2list.specs.Union.{IsLocal, IsNormalForm};
-ghost use Rattle.s2cover.specs.Coverings.{HasLeavesOf, IsInInner, IsInOuter, TooManyMeans, inner_set, outer_set};
+ghost use Rattle.s2cover.specs.Coverings.{HasLeavesOf, TooManyMeans, inner_set, outer_set};
 ghost use Rattle.s2cover.specs.Working.Descent.{covering_set, is_outer};
 
 use crate::MOST_CELLS;
 use crate::descent::{Kind, visit};
 use crate::region::{CoverFault, Region};
-use s2cell::{GREATEST_LEVEL, LEAVES, PlacedCell};
+use s2cell::{GREATEST_LEVEL, PlacedCell};
 use s2union::CellUnion;
 use std::alloc::Global;
 
@@ -55,19 +53,6 @@ pub fn inner<R: Region>(
 {
     cover(alloc, region, Kind::Inner, level, max)
 }
-
-/// A law; the function does nothing: each set of leaves has a normal form. (That it has only one is the law
-/// `same_cells` of unions.)
-pub fn normal_forms()
-    ensures { (S : ℕ → Bool) → ((x : ℕ) → S x ≡ true → x < LEAVES) → (u : List ℕ) × IsNormalForm S u }
-{}
-
-/// A law: the leaves of the outer covering are those of all cells of the level that share a leaf with the region, and
-/// the leaves of the inner covering are those of all cells of the level that lie inside it.
-pub fn covering_sets()
-    ensures outer { (R : ℕ → Bool) (k x : ℕ) → k ≤ GREATEST_LEVEL → (outer_set R k x ≡ true) ↔ IsInOuter R k x }
-    ensures inner { (R : ℕ → Bool) (k x : ℕ) → k ≤ GREATEST_LEVEL → (inner_set R k x ≡ true) ↔ IsInInner R k x }
-{}
 
 /// The covering of this kind.
 fn cover<R: Region>(

@@ -17,6 +17,7 @@ mod covering;
 mod cut;
 mod descent;
 mod grid;
+pub mod laws;
 mod listed;
 mod looks;
 mod placing;
@@ -26,7 +27,7 @@ mod rounding;
 mod union;
 
 pub use clip::{clip_inner, clip_outer};
-pub use covering::{covering_sets, inner, normal_forms, outer};
+pub use covering::{inner, outer};
 pub use cut::{put_inner, put_outer, union_inner, union_outer};
 pub use grid::{rect_inner, rect_outer};
 pub use listed::{clip_inner_of, clip_outer_of};

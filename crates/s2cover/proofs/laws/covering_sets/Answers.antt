@@ -1,5 +1,5 @@
 use Rattle.s2cover.proofs.Coverings.{outer_in, outer_from, inner_in, inner_from}
-use Rattle.s2cover.proofs.covering.covering_sets.Goals as goal
+use Rattle.s2cover.proofs.laws.covering_sets.Goals as goal
 
 pub returns-clause-outer : goal.returns-clause-outer
 returns-clause-outer c R k x h = (outer_in R k x h, outer_from R k x)
