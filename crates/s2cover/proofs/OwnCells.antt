@@ -1,6 +1,6 @@
 -- The coverings of a union are its cells, cut to the level.
 use Rattle.std.proofs.Common.{◌≡◌, ℕ, suc, zero, ◌+◌, ◌-◌, ◌*◌, ◌/◌, ◌^◌, ◌<◌, ◌≤◌, Bool, true}
-use Rattle.std.proofs.Common.{false, cond, Result, IfOk, IfErr, max, ◌&&◌, ◌||◌, nat_lt, List, [], ◌∷◌, length, All}
+use Rattle.std.proofs.Common.{false, cond, ◌&&◌, ◌||◌, nat_lt, List, [], ◌∷◌, All}
 use Rattle.std.proofs.Common.{inl, inr}
 use Rattle.std.proofs.Common.{Contains, refl, sym, ◌∙◌, ap, arith, subst, ⊎_elim}
 use Rattle.std.specs.List.{filter}
@@ -13,10 +13,9 @@ use Rattle.s2cell.proofs.Calls.{IsCell-parent_of, shallow}
 use Rattle.s2cell.proofs.Family.{deeper_inside, parent_level, parent_around, same_from_within}
 use Rattle.s2cell.proofs.Leaves.{Within, covers_from, inside_from_within}
 use Rattle.s2cell.proofs.Squares.{covers_block, first_leaf_covered}
-use Rattle.s2list.specs.Union.{has_leaf, IsLocal, IsNormalForm, Union}
+use Rattle.s2list.specs.Union.{has_leaf, IsLocal, IsNormalForm}
 use Rattle.s2list.proofs.Normal.{all_held, holder, family, leaf_to, normal_form_same}
 use Rattle.s2list.proofs.Normal.{normal_from_leaves, one_normal_form}
-use Rattle.std.proofs.lemmas.Result.{IfOk-weaker, IfErr-weaker}
 use Rattle.std.specs.List.{list_any}
 use Rattle.s2search.specs.Room.{PutsUpTo}
 use Rattle.s2search.proofs.Levelling.{cut_parent, cut_same, filter_local}
@@ -200,17 +199,6 @@ pub kept_normal : (k : ℕ) (u v : List ℕ) → k ≤ 30 → IsLocal u → v �
 kept_normal k u v h l e = subst (IsNormalForm (inner_set (has_leaf u) k)) (sym e)
     (normal_from_leaves (inner_set (has_leaf u) k) (cells_kept k u) (filter_local (reaches k) u l)
     (λ x. sym (inner_cells k h l x)))
-
-pub same_ok : {E : Type 0} (r : Result Union E) (v : List ℕ) (P : List ℕ → Type 0) → P v →
-    IfOk r (λ u. u.cells ≡ v) → IfOk r (λ u. P u.cells)
-same_ok r v P p h = IfOk-weaker r (λ u. u.cells ≡ v) (λ u. P u.cells) (λ u e. subst P (sym e) p) h
-
-pub many_err : {T E : Type 0} (r : Result T E) (many : E) {v : List ℕ} (max : ℕ) {S : ℕ → Bool} →
-    IsNormalForm S v → IfErr r (λ fault. max < length v) →
-    IfErr r (λ fault. fault ≡ many → (u : List ℕ) → IsNormalForm S u → max < length u)
-many_err r many {v} max {S} n h =
-    IfErr-weaker r (λ fault. max < length v) (λ fault. fault ≡ many → (u : List ℕ) → IsNormalForm S u →
-    max < length u) (λ y l same u m. let e = ap length (one_normal_form S v u n m) in omega arith) h
 
 -- ---- what is put into a room
 

@@ -8,7 +8,7 @@ ghost use Rattle.s2search.specs.Room.{PutsUpTo};
 use crate::region::CoverFault;
 use s2cell::{CellId, GREATEST_LEVEL};
 use s2list::{CellList, Cells};
-use s2search::{put_cut, put_kept, union_cut};
+use s2search::{put_cut, put_kept, union_cut, union_kept};
 use s2union::CellUnion;
 use std::alloc::{AllocError, Global};
 
@@ -63,8 +63,8 @@ pub fn union_outer(
 
 /// The inner covering of a union: the answer of `inner`, in one pass over the union's cells.
 ///
-/// The covering is the union's cells down to the level; deeper ones are left out. `TooMany` is answered as by
-/// `union_outer`.
+/// The covering is the union's cells down to the level; deeper ones are left out. Takes memory for as many cells as the
+/// covering has. `TooMany` is answered as by `union_outer`.
 pub fn union_inner(
     alloc: Global,
     union: &CellUnion,
@@ -78,20 +78,12 @@ pub fn union_inner(
     ensures within { IfOk result (λ u. length u.cells ≤ max) }
     ensures many { IfErr result (TooManyMeans (inner_set (has_leaf union.now.cells) level) max) }
 {
-    let cells = kept_cells(alloc, union.cells(), level)?;
-    union_up_to(CellUnion::from_normalized(cells), max)
-}
-
-/// The union, if it has at most `max` cells.
-fn union_up_to(union: CellUnion, max: usize) -> Result<CellUnion, CoverFault>
-    ensures same { IfOk result (λ u. u.cells ≡ union.cells) }
-    ensures within { IfOk result (λ u. length u.cells ≤ max) }
-    ensures many { IfErr result (λ fault. max < length union.cells) }
-{
-    if union.len() > max {
-        Err(CoverFault::TooMany)
-    } else {
-        Ok(union)
+    let list = CellList {
+        cells: union.cells(),
+    };
+    match union_kept(alloc, &list, level, max)? {
+        Some(covering) => Ok(covering),
+        None => Err(CoverFault::TooMany),
     }
 }
 

@@ -240,16 +240,19 @@ kept_cut k u i next end local other more within e ended =
     (cases_lt i j))
     (cases_lt k (level_of d))))
 
--- a cell that cutting leaves as it is stays
-pub kept_more : (k : ℕ) (u : List ℕ) (i c : ℕ) → IsLocal u → i < length u → c ≡ get_or u i 0 → cut_at k c ≡ c →
-    cells_kept k (take (i + 1) u) ≡ cells_kept k (take i u) ++ c ∷ []
-kept_more k u i c local h is same =
-    let own : IsCell c = subst IsCell (sym is) (local.cells i 0 h) in
+-- a cell that cutting leaves as it is reaches the level
+pub cut_reaches : (k c : ℕ) → IsCell c → cut_at k c ≡ c → level_of c ≤ k
+cut_reaches k c own same =
     let tl = (is_cut k c own).level in
-    let le : level_of c ≤ k = ⊎_elim
+    ⊎_elim
     (λ (g : k < level_of c). let l = tl.1 g in let e = ap level_of same in absurd (omega arith))
     (λ (g : level_of c ≤ k). g)
-    (cases_lt k (level_of c)) in
+    (cases_lt k (level_of c))
+
+-- a cell that reaches the level stays
+pub kept_more : (k : ℕ) (u : List ℕ) (i c : ℕ) → i < length u → c ≡ get_or u i 0 → level_of c ≤ k →
+    cells_kept k (take (i + 1) u) ≡ cells_kept k (take i u) ++ c ∷ []
+kept_more k u i c h is le =
     let yes : reaches k c ≡ true = le-leb (level_of c) k le in
     filter_more (reaches k) u i 0 h ∙ ap (λ d. cells_kept k (take i u) ++ cond (reaches k d) (d ∷ []) []) (sym is)
     ∙ ap (λ b. cells_kept k (take i u) ++ cond b (c ∷ []) []) yes
@@ -257,7 +260,7 @@ kept_more k u i c local h is same =
 pub kept_few : (k : ℕ) (u : List ℕ) → length (cells_kept k u) ≤ length u
 kept_few k u = let a = length-filter (reaches k) u in let b = count_by-le-length (reaches k) u in omega arith
 
-kept_front : (k i : ℕ) (u : List ℕ) → length (cells_kept k (take i u)) ≤ length (cells_kept k u)
+pub kept_front : (k i : ℕ) (u : List ℕ) → length (cells_kept k (take i u)) ≤ length (cells_kept k u)
 kept_front k i u =
     let e : cells_kept k u ≡ cells_kept k (take i u) ++ cells_kept k (drop i u) =
     ap (cells_kept k) (sym (take-append-drop i u)) ∙ filter-append (reaches k) (take i u) (drop i u) in

@@ -1,12 +1,13 @@
 //! The cells of a union cut to a level, written into a room or a list of their own: they are the coverings of the union
 //! at that level. Those that are replaced by ancestors are put together row by row.
-ghost use Rattle.std.specs.Prelude.{◌≡◌, ◌<◌, ◌≤◌, ℕ, List, IfNone, IfOk, IfSome, length, slice_index};
-ghost use Rattle.s2cell.specs.Cell.{IsCell, first_leaf};
+ghost use Rattle.std.specs.Prelude.{◌≡◌, ◌<◌, ◌≤◌, ℕ, List, IfNone, IfOk, IfSome, length, slice_index, take};
+ghost use Rattle.s2cell.specs.Cell.{IsCell, first_leaf, level_of};
 ghost use Rattle.s2list.specs.Union.{IsLocal, IsNormalForm, has_leaf};
 ghost use Rattle.s2search.specs.Cut.{cells_cut, cells_kept, cut_at};
 ghost use Rattle.s2search.specs.Room.{PutsUpTo};
 ghost use Rattle.s2search.specs.Working.Piles.{HasRow};
 
+use crate::cells::cell_of;
 use crate::room::{put, put_gap};
 use s2cell::{CellId, GREATEST_LEVEL};
 use s2list::{Cells, end_of, find_from, first_of};
@@ -144,17 +145,66 @@ pub fn put_kept<C: Cells>(cells: &C, level: u8, most: usize, out: &mut [u64]) ->
     let len = cells.len();
     let mut n = 0;
     let mut i = 0;
-    while i < len && n <= most {
+    while n <= most {
+        let at = next_kept(cells, i, level);
+        if at == len {
+            return n;
+        }
+        n = put(out, n, cells.id(at));
+        i = at + 1;
+    }
+    n
+}
+
+/// The same as a union of its own, if they are at most `most`. Takes memory for these, and fails only if there is none.
+pub fn union_kept<C: Cells>(
+    alloc: Global,
+    cells: &C,
+    level: u8,
+    most: usize,
+) -> Result<Option<CellUnion>, AllocError>
+    requires level { level ≤ GREATEST_LEVEL }
+    requires local { IsLocal (C.ids cells.now) }
+    ensures kept { IfOk result (λ union. IfSome union (λ u. u.cells ≡ cells_kept level (C.ids cells.now))) }
+    ensures within { IfOk result (λ union. IfSome union (λ u. length u.cells ≤ most)) }
+    ensures many { IfOk result (λ union. IfNone union (most < length (cells_kept level (C.ids cells.now)))) }
+{
+    let mut list = Vec::new(alloc);
+    let mut i = 0;
+    while list.len() <= most {
+        let at = next_kept(cells, i, level);
+        if at == cells.len() {
+            return Ok(Some(CellUnion::from_normalized(list)));
+        }
+        list.push(cell_of(cells.id(at)))?;
+        i = at + 1;
+    }
+    Ok(None)
+}
+
+/// The index of the first cell of a union from index `start` on that is not deeper than the level; the number of its
+/// cells if there is none. The deeper cells in one cell of the level are passed by a search, in steps that leap.
+#[inline(always)]
+fn next_kept<C: Cells>(cells: &C, start: usize, level: u8) -> usize
+    requires level { level ≤ GREATEST_LEVEL }
+    requires within { start ≤ length (C.ids cells.now) }
+    ensures from { start ≤ result }
+    ensures within { result ≤ length (C.ids cells.now) }
+    ensures passed { IsLocal (C.ids cells.now)
+        → cells_kept level (take result (C.ids cells.now)) ≡ cells_kept level (take start (C.ids cells.now)) }
+    ensures kept { IsLocal (C.ids cells.now) → result < length (C.ids cells.now)
+        → level_of (slice_index (C.ids cells.now) result) ≤ level }
+{
+    let mut i = start;
+    while i < cells.len() {
         let id = cells.id(i);
         let whole = cut(id, level);
         if whole == id {
-            n = put(out, n, id);
-            i += 1;
-        } else {
-            i = find_from(cells, i + 1, end_of(whole));
+            return i;
         }
+        i = find_from(cells, i + 1, end_of(whole));
     }
-    n
+    i
 }
 
 /// The cell, or its ancestor at the level if it is deeper. A number that is not a cell stays as it is.

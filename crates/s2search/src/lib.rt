@@ -24,6 +24,8 @@ mod subtract;
 
 pub use cells::{FileIds, NUMBER_SIZE, cell_of, number, read_numbers};
 pub use cut::{put_cut, put_kept, union_cut};
+pub use copying::union_of;
+pub use cut::{put_cut, put_kept, union_cut, union_kept};
 pub use denormalising::denormalise;
 pub use join::put_union;
 pub use keys::ancestors;

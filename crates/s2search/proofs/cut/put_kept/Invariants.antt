@@ -4,13 +4,13 @@ use Rattle.s2search.specs.Cut.{cells_kept}
 use Rattle.s2search.specs.Working.Room.{IsPut}
 use Rattle.s2search.proofs.cut.put_kept.Given as goal
 
-abbrev pub invariant-loop-i : goal.invariant-loop-i
-invariant-loop-i g l = record {
+abbrev pub invariant-loop-n : goal.invariant-loop-n
+invariant-loop-n g l = record {
   within : l.i ≤ length (g.C.Cells.ids l.cells);
   len : length l.out ≡ length l.fn.out;
   so_far : IsLocal (g.C.Cells.ids l.cells) →
       IsPut (cells_kept l.level (take l.i (g.C.Cells.ids l.cells))) l.fn.out l.out l.n;
 }
 
-abbrev pub decreases-loop-i : goal.decreases-loop-i
-decreases-loop-i g l = length (g.C.Cells.ids l.cells) - l.i
+abbrev pub decreases-loop-n : goal.decreases-loop-n
+decreases-loop-n g l = length (g.C.Cells.ids l.cells) - l.i
