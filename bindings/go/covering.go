@@ -46,7 +46,8 @@ func (cu CellUnion) InteriorCovering(level, most int) (CellUnion, error) {
 }
 
 // CoveringIn is the union of the cells of a level that share a leaf with what the union and a rectangle share, as
-// Covering of a Rect. Only the union's cells near the rectangle are read.
+// Covering of a Rect. Only the union's cells near the rectangle are read: those in at most four cells that are less
+// than twice as wide as it is long.
 func (cu CellUnion) CoveringIn(rect Rect, level, most int) (CellUnion, error) {
 	at, n := place(cu.ids)
 	corners := rect.corners()

@@ -4,7 +4,8 @@
 #include <signal.h>
 
 enum { N = 1 << 20, LEVEL = 11, FEW = 80 };
-static const uint64_t face = 1ull << 60, next_face = 3ull << 60;
+static const uint64_t face = 1ull << 60, next_face = 3ull << 60, one = 0x555555555555555;
+static const s2u_rect middle = {0, (1 << 29) - 1, 1 << 29, (1 << 29) - 1, 1 << 29};
 static uint64_t* list;
 static size_t page, len, first, count;
 static volatile sig_atomic_t pages_read;
@@ -43,6 +44,9 @@ int main(void) {
   CHECK(s2u_union(shut(), N, &next_face, 1, out, 0, &len) == S2U_ROOM && len == N + 1 && reads_few());
   CHECK(s2u_outer_of(shut(), N, 0, 9, out, 4, &len) == S2U_OK && len == 1 && out[0] == face && reads_few());
   CHECK(s2u_inner_of(shut(), N, 0, 9, out, 4, &len) == S2U_OK && len == 0 && reads_few());
+  /* A rectangle across the middle of the face lies in no smaller cell. The list has one of its four leaves. */
+  CHECK(s2u_outer_in(shut(), N, &middle, 30, 9, out, 4, &len) == S2U_OK && len == 1 && out[0] == one && reads_few());
+  CHECK(s2u_inner_in(shut(), N, &middle, 30, 9, out, 4, &len) == S2U_OK && len == 1 && out[0] == one && reads_few());
   CHECK(s2u_contains(&face, 1, shut(), N) == 1 && reads_few());
   CHECK(s2u_intersects(shut(), N, &next_face, 1) == 0 && reads_few());
   CHECK(s2u_contains_cell(shut(), N, 1) == 1 && reads_few());

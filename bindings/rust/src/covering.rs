@@ -58,7 +58,8 @@ impl CellUnion {
     }
 
     /// The cells of a level that share a leaf with what the union and a rectangle share, as that of a [`Rect`]. Only
-    /// the union's cells near the rectangle are read.
+    /// the union's cells near the rectangle are read: those in at most four cells that are less than twice as wide as
+    /// it is long.
     ///
     /// ```
     /// use s2union::{CellUnion, Rect};

@@ -21,7 +21,6 @@ use Rattle.s2cover.proofs.Runs.{touched_none, touched_from_none}
 use Rattle.s2cover.proofs.Squares.{same_bool}
 use Rattle.s2cover.proofs.Faces.{and_of}
 use Rattle.s2cover.proofs.Coverings.{outer_in, outer_from, inner_in, inner_from, touched_some}
-use Rattle.s2search.proofs.Levelling.{kept_few}
 use Rattle.s2cover.proofs.OwnCells.{kept_one, filter_any, outer_cells, inner_cells}
 
 -- ---- the inner covering of two sets
@@ -79,7 +78,7 @@ met_here S c x v t =
     let r = covers_from c x v in
     true_from_ne_false (meets S c) (λ f. both_ways (S x) (touched_none S (first_leaf c) (size_of c) f x r.0 r.1) t)
 
-met_true : (S : ℕ → Bool) (x : ℕ) → S x ≡ true → (u : List ℕ) → has_leaf (cells_met S u) x ≡ has_leaf u x
+pub met_true : (S : ℕ → Bool) (x : ℕ) → S x ≡ true → (u : List ℕ) → has_leaf (cells_met S u) x ≡ has_leaf u x
 met_true S x t [] = refl
 met_true S x t (c ∷ u) =
     kept_one (meets S c) c x (filter (meets S) u)
@@ -87,12 +86,16 @@ met_true S x t (c ∷ u) =
     ∙ ap (λ b. covers c x || b) (met_true S x t u)
 
 -- what the cells that meet a set have of it is what all have
-pub met_leaves : (S : ℕ → Bool) (u : List ℕ) (x : ℕ) → (has_leaf (cells_met S u) x && S x) ≡ (has_leaf u x && S x)
+met_leaves : (S : ℕ → Bool) (u : List ℕ) (x : ℕ) → (has_leaf (cells_met S u) x && S x) ≡ (has_leaf u x && S x)
 met_leaves S u x =
     ⊎_elim
     (λ (t : S x ≡ true). ap (λ b. b && S x) (met_true S x t u))
     (λ (f : S x ≡ false). and_right (has_leaf (cells_met S u) x) (S x) f ∙ sym (and_right (has_leaf u x) (S x) f))
     (cases_Bool (S x))
+
+pub met_clip : (S : ℕ → Bool) (u : List ℕ) {v : List ℕ} → v ≡ cells_met S u → (x : ℕ) →
+    (has_leaf v x && S x) ≡ (has_leaf u x && S x)
+met_clip S u e x = ap (λ w. has_leaf w x && S x) e ∙ met_leaves S u x
 
 -- a cell meets no set that has none of its leaves
 pub met_none : (S : ℕ → Bool) (c : ℕ) → ((x : ℕ) → covers c x ≡ true → S x ≡ false) → false ≡ meets S c
@@ -107,23 +110,17 @@ met_some S c h = sym (true_from_ne_false (meets S c)
 filter_few : (p : ℕ → Bool) (u : List ℕ) → length (filter p u) ≤ length u
 filter_few p u = let a = length-filter p u in let b = count_by-le-length p u in omega arith
 
--- a look for each cell that is kept
-pub kept_looks : (k : ℕ) (u v : List ℕ) (before looks : ℕ) → before ≡ 0 → v ≡ cells_kept k u →
-    looks ≤ before + length v → looks ≤ length u
-kept_looks k u v before looks none e h = let a = kept_few k u in let b = ap length e in omega arith
-
 pub met_few : (S : ℕ → Bool) (u : List ℕ) → length (cells_met S u) ≤ length u
 met_few S u = filter_few (meets S) u
 
 -- ---- the inner covering of a clipped union
 
-pub kept_clip : (k : ℕ) {u : List ℕ} (v : List ℕ) (N : ℕ → Bool) →
-    k ≤ 30 → IsLocal u → ((x : ℕ) → has_leaf v x ≡ has_leaf (cells_met N (cells_kept k u)) x) →
+pub kept_clip : (k : ℕ) {u : List ℕ} (v : List ℕ) (N : ℕ → Bool) → k ≤ 30 → IsLocal u →
+    ((x : ℕ) → (has_leaf v x && N x) ≡ (has_leaf (cells_kept k u) x && N x)) →
     (x : ℕ) → inner_set (λ y. has_leaf v y && N y) k x ≡ inner_set (λ y. has_leaf u y && N y) k x
 kept_clip k {u} v N h l e x =
     let w = cells_kept k u in
-    inner_same (λ y. has_leaf v y && N y)
-    (λ y. has_leaf w y && N y) k x h (λ y. ap (λ b. b && N y) (e y) ∙ met_leaves N w y) ∙ inner_both (has_leaf w) N k x
+    inner_same (λ y. has_leaf v y && N y) (λ y. has_leaf w y && N y) k x h e ∙ inner_both (has_leaf w) N k x
     ∙ ap (λ b. b && inner_set N k x) (inner_same (has_leaf w) (inner_set (has_leaf u) k) k x h
     (λ y. sym (inner_cells k h l y)) ∙ inner_again (has_leaf u) k x h) ∙ sym (inner_both (has_leaf u) N k x)
 

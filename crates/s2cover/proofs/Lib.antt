@@ -14,4 +14,5 @@ mod Rounded
 mod Faces
 mod Clips
 mod Near
+mod Corners
 pub mod NormalForms

@@ -1,14 +1,14 @@
 -- Squares of cells and rectangles of leaves.
 use Rattle.std.proofs.Common.{◌≡◌, ℕ, ◌+◌, ◌-◌, ◌/◌, ◌^◌, ◌<◌, ◌≤◌, true, false, ◌&&◌, ◌==◌}
-use Rattle.std.proofs.Common.{nat_le, ◌↔◌, ◌%◌, ◌*◌, ◌∙◌, arith, ◌⊎◌, inl, inr, ⊎_elim, refl, subst, sym}
+use Rattle.std.proofs.Common.{nat_le, ◌↔◌, arith, ◌⊎◌, inl, inr, ⊎_elim}
 use Rattle.std.proofs.lemmas.Bool.{eqb-true, eq-eqb, leb-true, le-leb, and_parts, and_from, cases_lt, both_ways}
 use Rattle.std.proofs.lemmas.Bool.{false_from_ne_true}
 use Rattle.std.proofs.lemmas.Nat.{pow_pos}
 use Rattle.s2cell.specs.Cell.{level_of, covers}
 use Rattle.s2cell.specs.Curve.{IsPlaceOf, i_of, j_of}
 use Rattle.s2cell.specs.Square.{IsSquareOf}
-use Rattle.s2cell.proofs.Places.{leaf_exists, place_is}
-use Rattle.s2cell.proofs.Squares.{leaf_in_cell, one_place, place_of_leaf}
+use Rattle.s2cell.proofs.Places.{place_is}
+use Rattle.s2cell.proofs.Squares.{one_place}
 use Rattle.s2cover.specs.Rectangles.{Rect, IsRect, IsInRect, rect_set}
 
 pub in_rect_from : (r : Rect) (n : ℕ) → rect_set r n ≡ true → IsInRect r (n / 4 ^ 30) (i_of n) (j_of n)
@@ -137,44 +137,3 @@ in_to r {c} {f} {i} {j} {s} q h =
     let a0 = a.along.0 in let a1 = a.across.0 in
     let b0 = b.along.1 in let b1 = b.across.1 in
     record { on = a.on; along = (omega arith, omega arith); across = (omega arith, omega arith) }
-
--- ---- a square around a rectangle
-
--- what a square around a rectangle says of its sides
-pub record Around (r : Rect) (f i j s : ℕ) : Type 0 where
-  pub on : f ≡ r.face
-  pub along : (i ≤ r.i0) × (r.i1 < i + s)
-  pub across : (j ≤ r.j0) × (r.j1 < j + s)
-
-pub around_from : (r : Rect) {c f i j s : ℕ} → IsSquareOf c f i j s → Around r f i j s →
-    (x : ℕ) → rect_set r x ≡ true → covers c x ≡ true
-around_from r q a x t =
-    let w = in_rect_from r x t in
-    let p = subst (λ g. IsPlaceOf x g (i_of x) (j_of x)) (w.on ∙ sym a.on) (place_is x) in
-    let a0 = a.along.0 in let a1 = a.along.1 in let b0 = a.across.0 in let b1 = a.across.1 in
-    let u0 = w.along.0 in let u1 = w.along.1 in let v0 = w.across.0 in let v1 = w.across.1 in
-    leaf_in_cell q p (record { first = (omega arith, omega arith); second = (omega arith, omega arith) })
-
--- the leaf at a place of a rectangle
-leaf_in_rect : {r : Rect} (x y : ℕ) → IsRect r → (r.i0 ≤ x) × (x ≤ r.i1) → (r.j0 ≤ y) × (y ≤ r.j1) →
-    (n : ℕ) × IsPlaceOf n r.face x y × (rect_set r n ≡ true)
-leaf_in_rect {r} x y ok a b =
-    let i = ok.i.1 in let j = ok.j.1 in let a1 = a.1 in let b1 = b.1 in
-    let leaf = leaf_exists 30 (r.face % 2) x y (omega arith) (omega arith) (omega arith) in
-    let n = 4 ^ 30 * r.face + leaf.0 in
-    let p = place_of_leaf r.face leaf.0 x y leaf.1 in
-    (n, p, (in_rect r n r.face x y p).1 (record { on = refl; along = a; across = b }))
-
-pub around_to : {r : Rect} {c f i j s : ℕ} → IsRect r → IsSquareOf c f i j s →
-    ((x : ℕ) → rect_set r x ≡ true → covers c x ≡ true) → Around r f i j s
-around_to {r} {f} ok q h =
-    let i = ok.i.0 in let j = ok.j.0 in
-    let low = leaf_in_rect r.i0 r.j0 ok (omega arith, i) (omega arith, j) in
-    let high = leaf_in_rect r.i1 r.j1 ok (i, omega arith) (j, omega arith) in
-    let a = q.leaves low.0 (h low.0 low.2) in
-    let b = q.leaves high.0 (h high.0 high.2) in
-    let ea = one_place low.0 r.face r.i0 r.j0 f a.0 a.1 low.1 a.2 in
-    let eb = one_place high.0 r.face r.i1 r.j1 f b.0 b.1 high.1 b.2 in
-    let ea1 = ea.1 in let ea2 = ea.2 in let eb1 = eb.1 in let eb2 = eb.2 in
-    let ai = a.3.first.0 in let aj = a.3.second.0 in let bi = b.3.first.1 in let bj = b.3.second.1 in
-    record { on = sym ea.0; along = (omega arith, omega arith); across = (omega arith, omega arith) }

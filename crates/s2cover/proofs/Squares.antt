@@ -1,6 +1,6 @@
 -- Blocks of leaves and squares of the grid, and the sides of a rectangle rounded to it.
 use Rattle.std.proofs.Common.{◌≡◌, ℕ, ◌+◌, ◌-◌, ◌*◌, ◌/◌, ◌%◌, ◌^◌, ◌<◌, ◌≤◌, Bool, true}
-use Rattle.std.proofs.Common.{false, refl, sym, ◌∙◌, ap, arith, subst, ⊎_elim}
+use Rattle.std.proofs.Common.{false, refl, sym, ◌∙◌, ap, arith, subst, ◌⊎◌, inl, inr, ⊎_elim}
 use Rattle.std.proofs.lemmas.Bool.{cases_lt}
 use Rattle.std.proofs.lemmas.Nat.{div-add-mod', mod_below, pow-add}
 use Rattle.std.proofs.Math.Nat.{mul-le-mul_right, lt_of_mul-lt-mul_right}
@@ -39,6 +39,17 @@ quotient_below a b s hs h =
 
 pub times : (a b s : ℕ) → a ≤ b → a * s ≤ b * s
 times a b s h = mul-le-mul_right {m = a} {n = b} s h
+
+-- a place between two that are less than a square apart is in the square of one of them
+pub one_end : (lo hi v s : ℕ) → 0 < s → lo ≤ v → v ≤ hi → hi - lo < s → (v / s ≡ lo / s) ⊎ (v / s ≡ hi / s)
+one_end lo hi v s hs a b near =
+    let low = quotient_mono lo v s hs a in
+    let high = quotient_mono v hi s hs b in
+    let elo = div-add-mod' lo s in
+    let rlo = mod_below lo s hs in
+    let top : hi / s < lo / s + 2 = quotient_below (lo / s + 2) hi s hs (omega arith) in
+    ⊎_elim (λ (h : v / s < hi / s). inl (omega arith)) (λ (h : hi / s ≤ v / s). inr (omega arith))
+    (cases_lt (v / s) (hi / s))
 
 -- ---- blocks of leaves and squares of places
 

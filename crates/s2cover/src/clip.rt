@@ -9,20 +9,20 @@ ghost use Rattle.s2cell.specs.Cell.{level_of};
 ghost use Rattle.s2list.specs.Union.{has_leaf, IsLocal, IsNormalForm};
 ghost use Rattle.s2cover.specs.Coverings.{HasLeavesOf, TooManyMeans, inner_set, outer_set};
 ghost use Rattle.s2search.specs.Cut.{cells_cut, cells_kept};
-ghost use Rattle.s2cover.specs.Working.Cut.{cells_met, meets};
+ghost use Rattle.s2cover.specs.Working.Cut.{cells_met};
 ghost use Rattle.s2cover.specs.Working.Descent.{IsAligned, form_in};
 ghost use Rattle.s2cover.specs.Rectangles.{clipped, rect_set};
 
 use crate::MOST_CELLS;
-use crate::cut::kept_cells;
-use crate::looks::{Looks, look, seek};
+use crate::looks::{Looks, seek};
+use crate::met::add_met;
 use crate::placing::placed_cell;
 use crate::rect::FaceRect;
-use crate::region::{CoverFault, Part};
+use crate::region::CoverFault;
 use s2cell::{CellId, GREATEST_LEVEL};
-use s2list::CellList;
+use s2list::{CellList, Cells};
 use s2search::union_cut;
-use s2union::{CellUnion, normalise};
+use s2union::CellUnion;
 use std::alloc::{AllocError, Global};
 
 /// The outer covering of what a union and a rectangle share: the answer of `outer` for a `Clip`. The time
@@ -63,7 +63,7 @@ pub fn clip_outer(
 /// depends on the number of cells of the union and of the answer. If no cell of the level lies in the rectangle,
 /// nothing is looked at. `looks` is bounded as for `clip_outer`.
 ///
-/// Takes memory for as many cells as the union has down to the level. `TooMany` is answered as by `outer`.
+/// Takes memory for as many cells as the union has in the rectangle. `TooMany` is answered as by `outer`.
 pub fn clip_inner(
     alloc: Global,
     union: &CellUnion,
@@ -115,7 +115,7 @@ fn inner_part(
     ensures refused { IfErr result (λ fault. fault ≡ CoverFault.TooMany → max < looks.new.count) }
 {
     let _ = union.cells();
-    let whole = kept_union(alloc, union, &rect, level, looks)?;
+    let whole = met_union(alloc, union, &rect, level, looks)?;
     clip_aligned(alloc, &whole, &rect, level, max, looks)
 }
 
@@ -200,67 +200,34 @@ fn cut_union(
     ensures few { IfOk result (λ v. length v.cells ≤ length union.now.cells) }
     ensures most { looks.new.count ≤ length union.now.cells }
 {
-    let met = met_cells(alloc, union.cells(), rect, looks)?;
-    let list = CellList {
-        cells: met.as_slice(),
-    };
+    let _ = union.cells();
+    let met = met_union(alloc, union, rect, GREATEST_LEVEL, looks)?;
+    let list = CellList { cells: met.cells() };
     let Some(cut) = union_cut(alloc, &list, level, met.len())? else {
         unreachable!();
     };
     Ok(cut)
 }
 
-/// The union's cells down to the level that meet the rectangle.
-fn kept_union(
+/// The union's cells down to the level that meet the rectangle. A part of a union's cells is a union.
+fn met_union(
     alloc: Global,
     union: &CellUnion,
     rect: &FaceRect,
     level: u8,
     looks: &mut Looks,
 ) -> Result<CellUnion, AllocError>
-    requires level { level ≤ GREATEST_LEVEL }
     requires looks { looks.old.count ≡ 0 }
-    ensures leaves { IfOk result (λ v. (x : ℕ) → has_leaf v.cells x
-        ≡ has_leaf (cells_met (rect_set rect.now) (cells_kept level union.now.cells)) x) }
+    ensures cells { IfOk result (λ v. v.cells ≡ cells_met (rect_set rect.now) (cells_kept level union.now.cells)) }
     ensures local { IfOk result (λ v. IsLocal v.cells) }
     ensures above { IfOk result (λ v. All (λ c. level_of c ≤ level) v.cells) }
     ensures few { IfOk result (λ v. length v.cells ≤ length union.now.cells) }
     ensures most { looks.new.count ≤ length union.now.cells }
 {
-    let kept = kept_cells(alloc, union.cells(), level)?;
-    let met = met_cells(alloc, kept.as_slice(), rect, looks)?;
-    Ok(normalise(met))
-}
-
-/// The cells that have a leaf in the rectangle.
-fn met_cells(
-    alloc: Global,
-    cells: &[CellId],
-    rect: &FaceRect,
-    looks: &mut Looks,
-) -> Result<Vec<CellId>, AllocError>
-    requires looks { looks.old.count + length cells.now < 2 ^ 64 }
-    ensures list { IfOk result (λ list. list.items ≡ cells_met (rect_set rect.now) cells.now) }
-    ensures most { looks.new.count ≤ looks.old.count + length cells.now }
-{
-    let mut list = Vec::new(alloc);
-    for cell in cells {
-        if meets_rect(*cell, rect, looks) {
-            list.push(*cell)?;
-        }
-    }
-    Ok(list)
-}
-
-/// Whether a leaf of the cell is in the rectangle.
-pub(crate) fn meets_rect(cell: CellId, rect: &FaceRect, looks: &mut Looks) -> bool
-    requires looks { looks.old.count + 1 < 2 ^ 64 }
-    ensures value { result ≡ meets (rect_set rect.now) cell }
-    ensures count { looks.new.count ≡ looks.old.count + 1 }
-{
-    match look(rect, cell.square(), looks) {
-        Part::Out => false,
-        Part::In => true,
-        Part::Cross => true,
-    }
+    let list = CellList {
+        cells: union.cells(),
+    };
+    let mut met = Vec::new(alloc);
+    add_met(&list, 0, list.len(), level, rect, looks, &mut met)?;
+    Ok(CellUnion::from_normalized(met))
 }

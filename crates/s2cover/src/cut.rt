@@ -2,15 +2,14 @@
 ghost use Rattle.std.specs.Prelude.{◌≡◌, ◌<◌, ◌≤◌, length, IfOk, IfErr};
 ghost use Rattle.s2list.specs.Union.{has_leaf, IsLocal, IsNormalForm};
 ghost use Rattle.s2cover.specs.Coverings.{HasLeavesOf, TooManyMeans, inner_set, outer_set};
-ghost use Rattle.s2search.specs.Cut.{cells_kept};
 ghost use Rattle.s2search.specs.Room.{PutsUpTo};
 
 use crate::region::CoverFault;
-use s2cell::{CellId, GREATEST_LEVEL};
+use s2cell::GREATEST_LEVEL;
 use s2list::{CellList, Cells};
 use s2search::{put_cut, put_kept, union_cut, union_kept};
 use s2union::CellUnion;
-use std::alloc::{AllocError, Global};
+use std::alloc::Global;
 
 /// Puts the outer covering of a union at the front of a room, and answers how many cells it has. If they are more than
 /// `most`, it may stop as soon as that is known, and the answer is some number above `most`. Takes no memory, and one
@@ -85,22 +84,4 @@ pub fn union_inner(
         Some(covering) => Ok(covering),
         None => Err(CoverFault::TooMany),
     }
-}
-
-/// The cells down to the level.
-pub(crate) fn kept_cells(
-    alloc: Global,
-    cells: &[CellId],
-    level: u8,
-) -> Result<Vec<CellId>, AllocError>
-    requires { level ≤ GREATEST_LEVEL }
-    ensures { IfOk result (λ list. list.items ≡ cells_kept level cells.now) }
-{
-    let mut list = Vec::new(alloc);
-    for cell in cells {
-        if cell.level() <= level {
-            list.push(*cell)?;
-        }
-    }
-    Ok(list)
 }

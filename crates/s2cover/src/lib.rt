@@ -12,6 +12,7 @@
 //! its own cells, cut to the level; those of a clipped union use both, also if the union is numbers in a slice.
 #![tactic(auto)]
 
+mod around;
 mod clip;
 mod covering;
 mod cut;
@@ -20,6 +21,7 @@ mod grid;
 pub mod laws;
 mod listed;
 mod looks;
+mod met;
 mod placing;
 mod rect;
 mod region;

@@ -1,9 +1,8 @@
 //! Rectangles of leaves on one face.
-ghost use Rattle.std.specs.Prelude.{◌≡◌, ◌+◌, ◌<◌, ◌≤◌, ◌↔◌, ◌⊎◌, ℕ, true, false, IfSome, IsTrue, SomeIff};
-ghost use Rattle.s2cell.specs.Cell.{covers};
+ghost use Rattle.std.specs.Prelude.{◌≡◌, ◌+◌, ◌<◌, ◌≤◌, ◌↔◌, ◌⊎◌, ℕ, true, false, IfSome, SomeIff};
 ghost use Rattle.s2cell.specs.Curve.{IsPlaceOf};
 ghost use Rattle.s2cell.specs.Square.{IsSquareOf};
-ghost use Rattle.s2list.specs.Union.{IsWithin, LiesIn};
+ghost use Rattle.s2list.specs.Union.{LiesIn};
 ghost use Rattle.s2cover.specs.Coverings.{LiesOutside};
 ghost use Rattle.s2cover.specs.Rectangles.{IsInRect, IsRect, Rect, rect_set};
 
@@ -86,29 +85,6 @@ impl FaceRect {
         let second = span_part(self.j0, self.j1, square.j, square.size);
         both_parts(first, second)
     }
-
-    /// Whether the cell with this square lies around the rectangle.
-    pub(crate) fn is_within(&self, square: Square) -> bool
-        requires i { square.i + square.size ≤ SIDE }
-        requires j { square.j + square.size ≤ SIDE }
-        ensures { (c : ℕ) → IsSquareOf c square.face square.i square.j square.size →
-            IsTrue result ↔ IsWithin (rect_set self.now) (covers c) }
-    {
-        if square.face != self.face {
-            return false;
-        }
-        let along = is_around(self.i0, self.i1, square.i, square.size);
-        let across = is_around(self.j0, self.j1, square.j, square.size);
-        along && across
-    }
-}
-
-/// Whether the places from `lo` to `hi` are among the `size` places from `at` on.
-fn is_around(lo: u32, hi: u32, at: u32, size: u32) -> bool
-    requires { at + size ≤ SIDE }
-    ensures { IsTrue result ↔ ((at ≤ lo) × (hi < at + size)) }
-{
-    at <= lo && hi < at + size
 }
 
 /// Whether the `size` places from `at` on lie outside those from `lo` to `hi`, inside them or across.

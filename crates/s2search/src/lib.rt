@@ -5,8 +5,8 @@
 //! and returns. The result is exact if the numbers are the cells of normalized unions; for other numbers it means
 //! nothing. So it is with `ancestors`, the keys of an index, with `denormalise`, and with `put_cut` and `put_kept`, the
 //! coverings of a union. `normalise` makes a list of cells a union in place, and `union_of_many` many lists one; all
-//! numbers that they are given must be cells. One call takes memory, for a union of its own: `union_cut`, which cuts as
-//! `put_cut`, and must be given the cells of a union.
+//! numbers that they are given must be cells. Two calls take memory, for a union of their own: `union_cut` and
+//! `union_kept`, which cut as `put_cut` and `put_kept`, and must be given the cells of a union.
 #![tactic(auto)]
 
 mod cells;
@@ -23,8 +23,6 @@ mod share;
 mod subtract;
 
 pub use cells::{FileIds, NUMBER_SIZE, cell_of, number, read_numbers};
-pub use cut::{put_cut, put_kept, union_cut};
-pub use copying::union_of;
 pub use cut::{put_cut, put_kept, union_cut, union_kept};
 pub use denormalising::denormalise;
 pub use join::put_union;

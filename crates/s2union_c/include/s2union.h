@@ -245,9 +245,10 @@ int32_t s2u_ancestors(const uint64_t* ids, size_t n, uint64_t* out, size_t room,
  * passed by a search. The covering has no more cells than the union; if that has more than `most`, it is counted first.
  * Of a list that is no union, `out` may have been written when S2U_MANY is answered.
  *
- * s2u_outer_in and s2u_inner_in cover what a union and a rectangle share. Of the union they read the cells in the least
- * cell around the rectangle, which are found in log n steps, and take memory for those that have a leaf in the
- * rectangle. `out` is touched by S2U_OK alone. Of a list that is no union they cover some union. */
+ * s2u_outer_in and s2u_inner_in cover what a union and a rectangle share. Of the union they read the cells that share a
+ * leaf with one of the at most four cells around the rectangle, which are less than twice as wide as it is long. These
+ * are found in log n steps. Memory is taken for those that have a leaf in the rectangle. `out` is touched by S2U_OK
+ * alone. Of a list that is no union they cover some union. */
 #define S2U_MOST_COVERING 1000000
 int32_t s2u_outer(const s2u_rect* rect, uint32_t level, size_t most, uint64_t* out, size_t room, size_t* len);
 int32_t s2u_inner(const s2u_rect* rect, uint32_t level, size_t most, uint64_t* out, size_t room, size_t* len);

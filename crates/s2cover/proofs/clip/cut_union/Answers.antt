@@ -1,35 +1,28 @@
-use Rattle.std.proofs.Common.{◌≡◌, All, ◌∙◌, ap, sym, subst, length, arith, rules}
-use Rattle.std.specs.Vec.{vec_len}
+use Rattle.std.proofs.Common.{◌≡◌, All, ◌∙◌, ap, sym, subst, length, arith}
 use Rattle.std.proofs.lemmas.List.Elements.{All-filter}
 use Rattle.s2cell.specs.Cell.{IsCell}
 use Rattle.s2list.specs.Union.{has_leaf, IsLocal}
 use Rattle.s2list.proofs.Normal.{local_from_normal}
 use Rattle.s2search.specs.Cut.{cells_cut}
-use Rattle.s2search.proofs.Levelling.{filter_local}
 use Rattle.s2cover.specs.Working.Cut.{meets, cells_met}
 use Rattle.s2cover.specs.Rectangles.{rect_set}
-use Rattle.s2cover.proofs.Clips.{met_few}
+use Rattle.s2cover.proofs.Near.{kept_all}
 use Rattle.s2cover.proofs.NormalForms.{cut_few}
 use Rattle.s2cover.proofs.Parts.{normal_above, cut_above, cut_cells}
 use Rattle.s2cover.proofs.clip.cut_union.Goals as goal
-use Rattle.s2cover.proofs.clip.cut_union.Goals.{After-as_slice}
+use Rattle.s2cover.proofs.clip.cut_union.Goals.{After-cells-2}
 
 -- what the cells are that meet the rectangle
-met : (c : After-as_slice) → c.as_slice.result.now ≡ cells_met (rect_set c.args.rect.now) c.args.union.now.cells
-met c = c.as_slice.ensures.value ∙ c.in_ok-met.ensures.list
-    ∙ ap (cells_met (rect_set c.args.rect.now)) c.cells.ensures.value
-
-pub union_cut-requires-clause-local : goal.union_cut-requires-clause-local
-union_cut-requires-clause-local c =
-    subst IsLocal (sym (met (goal.at.union_cut-requires-clause-local c).After-as_slice))
-    (filter_local (meets (rect_set c.args.rect.now)) c.args.union.now.cells c.cells.ensures.local)
+met : (c : After-cells-2) → c.cells-2.result.now ≡ cells_met (rect_set c.args.rect.now) c.args.union.now.cells
+met c = c.cells-2.ensures.value ∙ c.in_ok-met.ensures.cells
+    ∙ ap (cells_met (rect_set c.args.rect.now)) (kept_all c.args.union.now.cells c.cells.ensures.local.cells)
 
 pub returns-clause-leaves : goal.returns-clause-leaves
 returns-clause-leaves c x = (rw c.in-Some.is at c.in_ok-cut.ensures.leaves) x
-    ∙ ap (λ v. has_leaf (cells_cut c.args.level v) x) (met (goal.at.returns-clause-leaves c).After-as_slice)
+    ∙ ap (λ v. has_leaf (cells_cut c.args.level v) x) (met (goal.at.returns-clause-leaves c).After-cells-2)
 
 pub returns-clause-local : goal.returns-clause-local
-returns-clause-local c = local_from_normal (has_leaf (cells_cut c.args.level c.as_slice.result.now)) _
+returns-clause-local c = local_from_normal (has_leaf (cells_cut c.args.level c.cells-2.result.now)) _
     (rw c.in-Some.is at c.in_ok-cut.ensures.normal)
 
 pub returns-clause-above : goal.returns-clause-above
@@ -44,22 +37,16 @@ returns-clause-above c =
 
 pub returns-clause-few : goal.returns-clause-few
 returns-clause-few c =
-    let S = rect_set c.args.rect.now in
-    let same : vec_len c.in_ok-met.met ≡ length c.in_ok-met.met.items = search rules in
-    let e = ap length (c.in_ok-met.ensures.list ∙ ap (cells_met S) c.cells.ensures.value) in
-    let few = met_few S c.args.union.now.cells in
+    let few = c.in_ok-met.ensures.few in
     let n = c.len.ensures in
     let w = (rw c.in-Some.is at c.in_ok-cut.ensures.within) in
     omega arith
 
 pub unreachable-requires : goal.unreachable-requires
 unreachable-requires c =
-    let u = c.as_slice.result.now in
-    let local = subst IsLocal (sym (met (goal.at.unreachable-requires c).After-as_slice))
-    (filter_local (meets (rect_set c.args.rect.now)) c.args.union.now.cells c.cells.ensures.local) in
-    let (v, normal, few) = cut_few c.args.level u c.requires.level local in
+    let local = subst IsLocal (sym c.cells-2.ensures.value) c.cells-2.ensures.local in
+    let (v, normal, few) = cut_few c.args.level c.cells-2.result.now c.requires.level local in
     let more = (rw c.in_default.is at c.in_ok-cut.ensures.many) v normal in
-    let same : vec_len c.in_ok-met.met ≡ length c.in_ok-met.met.items = search rules in
-    let e = ap length c.as_slice.ensures.value in
     let n = c.len.ensures in
+    let e = ap length c.cells-2.ensures.value in
     omega arith

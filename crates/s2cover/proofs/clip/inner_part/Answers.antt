@@ -1,9 +1,10 @@
 use Rattle.std.proofs.Common.{◌≡◌, ℕ, ◌&&◌, ◌∙◌}
 use Rattle.s2list.specs.Union.{has_leaf}
+use Rattle.s2search.specs.Cut.{cells_kept}
 use Rattle.s2cover.specs.Coverings.{inner_set}
 use Rattle.s2cover.specs.Rectangles.{rect_set}
 use Rattle.s2cover.proofs.Faces.{many_same}
-use Rattle.s2cover.proofs.Clips.{kept_clip, leaves_ok, normal_ok}
+use Rattle.s2cover.proofs.Clips.{kept_clip, leaves_ok, met_clip, normal_ok}
 use Rattle.s2cover.proofs.Parts.{shared_inner}
 use Rattle.s2cover.proofs.clip.inner_part.Goals as goal
 
@@ -13,8 +14,8 @@ leaves : (c : goal.After-drop-whole-inside) (x : ℕ) → (has_leaf c.in_ok-whol
 leaves c x =
     shared_inner (rect_set c.args.rect) c.args.level c.requires.aligned c.in_ok-whole.ensures.local
     c.in_ok-whole.ensures.above x
-    ∙ kept_clip c.args.level c.in_ok-whole.whole.cells (rect_set c.args.rect)
-    c.requires.level c.cells.ensures.local c.in_ok-whole.ensures.leaves x
+    ∙ kept_clip c.args.level c.in_ok-whole.whole.cells (rect_set c.args.rect) c.requires.level c.cells.ensures.local
+    (met_clip (rect_set c.args.rect) (cells_kept c.args.level c.args.union.now.cells) c.in_ok-whole.ensures.cells) x
 
 pub returns-clause-leaves : goal.returns-clause-leaves
 returns-clause-leaves c = leaves_ok c.clip_aligned.result _ _ (leaves c) c.clip_aligned.ensures.leaves

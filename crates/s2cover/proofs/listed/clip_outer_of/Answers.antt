@@ -1,20 +1,17 @@
-use Rattle.std.proofs.Common.{◌&&◌}
-use Rattle.s2list.specs.Union.{has_leaf}
 use Rattle.s2cover.specs.Rectangles.{rect_set}
-use Rattle.s2cover.proofs.Clips.{outer_same, normal_ok}
+use Rattle.s2cover.proofs.Clips.{normal_ok}
 use Rattle.s2cover.proofs.Faces.{many_same}
+use Rattle.s2cover.proofs.Near.{outer_near}
 use Rattle.s2cover.proofs.listed.clip_outer_of.Goals as goal
 
 pub returns-clause-normal : goal.returns-clause-normal
 returns-clause-normal g c local =
     normal_ok c.clip_outer.result _ _
-    (λ x. outer_same (λ y. has_leaf c.in_ok-near.near.cells y && rect_set c.args.rect.now y)
-    (λ y. has_leaf (g.C.Cells.ids c.args.cells.now) y && rect_set c.args.rect.now y) c.args.level x c.requires.level
-    (c.in_ok-near.ensures.leaves local)) c.clip_outer.ensures.normal
+    (outer_near c.args.level (g.C.Cells.ids c.args.cells.now) c.in_ok-near.near.cells (rect_set c.args.rect.now)
+    c.requires.level local.cells (c.in_ok-near.ensures.leaves local)) c.clip_outer.ensures.normal
 
 pub returns-clause-many : goal.returns-clause-many
 returns-clause-many g c local =
     many_same c.clip_outer.result _ c.args.max _ _
-    (λ x. outer_same (λ y. has_leaf c.in_ok-near.near.cells y && rect_set c.args.rect.now y)
-    (λ y. has_leaf (g.C.Cells.ids c.args.cells.now) y && rect_set c.args.rect.now y) c.args.level x c.requires.level
-    (c.in_ok-near.ensures.leaves local)) c.clip_outer.ensures.many
+    (outer_near c.args.level (g.C.Cells.ids c.args.cells.now) c.in_ok-near.near.cells (rect_set c.args.rect.now)
+    c.requires.level local.cells (c.in_ok-near.ensures.leaves local)) c.clip_outer.ensures.many

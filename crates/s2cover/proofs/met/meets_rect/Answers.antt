@@ -1,7 +1,7 @@
 use Rattle.std.proofs.Common.{refl}
 use Rattle.s2cover.specs.Rectangles.{rect_set}
 use Rattle.s2cover.proofs.Clips.{met_none, met_some}
-use Rattle.s2cover.proofs.clip.meets_rect.Goals as goal
+use Rattle.s2cover.proofs.met.meets_rect.Goals as goal
 
 pub returns-in-Out-clause-value : goal.returns-in-Out-clause-value
 returns-in-Out-clause-value c = met_none (rect_set c.args.rect.now) c.args.cell

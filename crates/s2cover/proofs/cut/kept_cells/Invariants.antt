@@ -1,6 +1,0 @@
-use Rattle.std.proofs.Common.{◌≡◌, take}
-use Rattle.s2search.specs.Cut.{cells_kept}
-use Rattle.s2cover.proofs.cut.kept_cells.Given as goal
-
-abbrev pub invariant-loop-cell : goal.invariant-loop-cell
-invariant-loop-cell l = l.list.items ≡ cells_kept l.level (take l.cell-index l.cells)
