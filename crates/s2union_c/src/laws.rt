@@ -1,10 +1,10 @@
 //! Laws about the definitions.
 ghost use Rattle.std.specs.Prelude.{ℕ, List};
-ghost use Rattle.s2union_c.specs.Laws.{OneAnswer, OneReading};
+ghost use Rattle.s2union_c.specs.Laws.{HasItsNumbers, OneReading};
 
-/// A question about files has the answer of the question about the lists of their numbers.
-pub fn one_answer()
-    ensures { (ids others : List ℕ) (cell : ℕ) → OneAnswer ids others cell }
+/// The file that `s2u_encode` writes of a list has the list's numbers. Questions about a file are about its numbers.
+pub fn file_of_list()
+    ensures { (ids : List ℕ) → HasItsNumbers ids }
 {}
 
 /// `s2u_decode` and `decode` of s2file read one union from each file that both take.
