@@ -156,6 +156,7 @@ def read_specs(file):
 # The sources.
 NAMED = re.compile(r"\b(fn|struct|enum|trait|const|static|impl|mod|macro_rules!) *(\w*)")
 KINDS = {"struct": "type", "enum": "type", "trait": "type", "const": "const", "fn": "fn"}
+CONSTANT = re.compile(r"[A-Z][A-Z0-9_]+")
 CLAUSE = re.compile(r"\b(?:ensures|requires)(?: \w+)?\s*\{")
 
 
@@ -280,13 +281,18 @@ class Source:
         self.types = {piece.name for piece in self.pieces if piece.kind in ("struct", "enum", "trait")}
 
     def uses(self, clause):
-        """The keys of the definitions that a clause or a ghost item names."""
+        """The keys of the definitions and constants that a clause or a ghost item names, and its other words."""
         found = []
         for first, second in words_of(clause):
             if first in self.aliases and second:
                 found.append((self.aliases[first], second))
             elif first in self.names:
                 found.append(self.names[first])
+            elif CONSTANT.fullmatch(first):
+                library, name = self.rust.get(first, (self.crate, first))
+                found.append((self.crate if library in ("crate", "super") else library, "const", name))
+            else:
+                found.append((self.crate, "word", first))
         return found
 
     def type_uses(self, head):

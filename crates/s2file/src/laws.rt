@@ -6,7 +6,6 @@ ghost use Rattle.s2file.specs.declared.union_file.TheConstants.{MOST_CELLS, MOST
 ghost use Rattle.s2file.specs.File.{File, HasFault, file_text, Bytes};
 ghost use Rattle.s2file.specs.Session.{Content, Spells, session_text, content_of_list};
 ghost use Rattle.s2file.specs.SessionParts.{one_change};
-ghost use Rattle.s2file.specs.declared.fault.FileFault.{FileFault as Fault};
 
 use crate::fault::FileFault;
 use crate::union_file::{decode, encode};
@@ -17,9 +16,9 @@ use std::alloc::Global;
 /// other bytes have at most one fault besides it.
 pub fn one_reading()
     ensures leaves { (bytes : List ℕ) (S T : ℕ → Bool) → File bytes S → File bytes T → (x : ℕ) → S x ≡ T x }
-    ensures no_fault { (bytes : List ℕ) (S : ℕ → Bool) (fault : Fault) → File bytes S → HasFault bytes fault →
+    ensures no_fault { (bytes : List ℕ) (S : ℕ → Bool) (fault : FileFault) → File bytes S → HasFault bytes fault →
         fault ≡ FileFault.Memory }
-    ensures one_fault { (bytes : List ℕ) (fault other : Fault) → HasFault bytes fault → HasFault bytes other →
+    ensures one_fault { (bytes : List ℕ) (fault other : FileFault) → HasFault bytes fault → HasFault bytes other →
         fault ≢ FileFault.Memory → other ≢ FileFault.Memory → fault ≡ other }
 {}
 
@@ -28,7 +27,7 @@ pub fn one_reading()
 pub fn beginning_decides()
     ensures longest { (bytes : List ℕ) (S : ℕ → Bool) → File bytes S → length bytes ≤ MOST_SIZE }
     ensures file { (bytes : List ℕ) (n : ℕ) (S : ℕ → Bool) → MOST_SIZE < n → File (take n bytes) S → File bytes S }
-    ensures fault { (bytes : List ℕ) (n : ℕ) (fault : Fault) → MOST_SIZE < n → fault ≢ FileFault.Memory →
+    ensures fault { (bytes : List ℕ) (n : ℕ) (fault : FileFault) → MOST_SIZE < n → fault ≢ FileFault.Memory →
         HasFault (take n bytes) fault → HasFault bytes fault }
 {}
 
