@@ -1,7 +1,7 @@
 -- Two runs that are cut off at the same byte have one end.
 use Rattle.std.proofs.Common.{◌≡◌, ℕ, ◌<◌, true, List, [], ◌∷◌, ◌++◌, Option, None, Some, refl, sym, ap, ◌∙◌, subst}
-use Rattle.std.proofs.Common.{append_assoc, append-nil, length, eqb, arith, inl, inr, length-append}
-use Rattle.std.proofs.lemmas.List.{append_cancel_left, append_cancel_right}
+use Rattle.std.proofs.Common.{append_assoc, append-nil, length, eqb, arith, inl, inr, length-append, take}
+use Rattle.std.proofs.lemmas.List.{append_cancel_left, append_cancel_right, take_at}
 use Rattle.std.proofs.lemmas.List.Splits.{length-slice_split}
 use Rattle.std.specs.List.{AllByRecursion}
 use Rattle.std.specs.Io.KnownBytes.{Consumes}
@@ -19,6 +19,7 @@ use Rattle.s2calc.proofs.LineLemmas.{BeginsWith-more, pieces_line}
 use Rattle.s2calc.proofs.CloseLemmas.{but_last-more}
 use Rattle.s2calc.proofs.OneRun.{one_run_of, one_line, unchanged, still_tells}
 use Rattle.s2calc.proofs.ReadLemmas.{cut_off}
+use Rattle.s2calc.proofs.RunLemmas.{Steps-lengths}
 use Rattle.s2calc.proofs.ScriptLemmas.{written_is, same_written}
 
 -- ---- cut off while reading
@@ -187,9 +188,16 @@ read_lines whole script (Some left) done c (inl (rest, begins)) =
 read_lines whole script (Some left) done c (inr (are, ends)) =
     ([], append-nil done ∙ are ∙ ap lines (sym (c ∙ ap (λ l. script ++ l) ends ∙ append-nil script)))
 
+-- as many lines of one script, from its beginning
+same_done : (done other more others : List (List ℕ)) → done ++ more ≡ other ++ others → length done ≡ length other →
+    done ≡ other
+same_done done other more others e n =
+    sym (take_at done more (length done) refl) ∙ ap (take (length done)) e ∙ take_at other others (length done) (sym n)
+
 pub one_end_of_output : (old old' new new' : Known) (script out : List ℕ) → SameStart old old' script out →
     new.output ≡ new'.output → (run : Ran old new) (other : Ran old' new') → InsideAnswer run → InsideAnswer other
-    → AllPlain run.replies → AllPlain other.replies → SameEnd new new' run.replies other.replies
+    → AllPlain run.replies → AllPlain other.replies
+    → SameEnd new new' run.replies other.replies × (run.done ≡ other.done)
 one_end_of_output old old' new new' script out start n run other s s' p p' =
     let read : Consumes (Some script) new.input run.script =
     subst (λ (known : Option (List ℕ)). Consumes known new.input run.script) start.input run.read in
@@ -205,4 +213,9 @@ one_end_of_output old old' new new' script out start n run other s s' p p' =
     let one = one_cut old.world old'.world new.world new'.world run.done other.done d.0 d'.0 run.replies other.replies
     run.written start.world start.tells (d.1 ∙ sym d'.1) run.steps other.steps p p' (cut_off old new run s.1)
     (subst (λ (b : List ℕ). IsCutOff b other.replies) same (cut_off old' new' other s'.1)) in
-    record { written = n; replies_are = one.0; world = one.1 }
+    let count = Steps-lengths old.world new.world run.done run.replies run.steps in
+    let count' = Steps-lengths old'.world new'.world other.done other.replies other.steps in
+    let as_many : length run.done ≡ length other.done = count ∙ ap length one.0 ∙ sym count' in (
+      record { written = n; replies_are = one.0; world = one.1 },
+      same_done run.done other.done d.0 d'.0 (d.1 ∙ sym d'.1) as_many,
+    )

@@ -33,7 +33,7 @@ pub record SameWorld (a b : World) : Type 0 where
 abbrev pub IsPlain : Reply → Type 0
 IsPlain reply = (reply ≢ Refuses Memory) × (reply ≢ Refuses File)
 
--- all replies are of this kind
+-- no reply is `error memory` or `error file`
 abbrev pub AllPlain : List Reply → Type 0
 AllPlain [] = Unit {0}
 AllPlain (reply ∷ replies) = IsPlain reply × AllPlain replies

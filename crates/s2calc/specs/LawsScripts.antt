@@ -53,14 +53,14 @@ OneEndOfInput =
     → SameEnd new new' run.replies other.replies
 
 -- Two runs that began alike have the same end if the writers of both failed inside an answer, at the same byte, and no
--- line of either was answered `error memory` or `error file`: the same lines were carried out, however the reads were
--- cut.
+-- line of either was answered `error memory` or `error file`. Both have carried out the same lines, however the reads
+-- were cut.
 abbrev pub OneEndOfOutput : Type 0
 OneEndOfOutput =
     (old old' new new' : Known) (script out : List ℕ) → SameStart old old' script out → new.output ≡ new'.output
     → (run : Ran old new) (other : Ran old' new') → InsideAnswer run → InsideAnswer other → AllPlain run.replies →
     AllPlain other.replies
-    → SameEnd new new' run.replies other.replies
+    → SameEnd new new' run.replies other.replies × (run.done ≡ other.done)
 
 -- each line says `undo`
 abbrev pub AllUndo : List (List ℕ) → Type 0

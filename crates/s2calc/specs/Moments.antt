@@ -35,14 +35,14 @@ ends_of NotCame = 0
 ends_of LineBegins = 0
 ends_of LineEnds = 1
 
--- one of these, and the writer and the shelf as they were then: before the read, and before and after the line
+-- an event, and the writer and the shelf as they were then: before a read, and before and after a line
 pub record Moment (W S : Type 0) : Type 0 where
   pub event : Event
   pub writer : W
   pub shelf : S
 
 module _ {W S : Type 0} where
-  -- one of these, with the writer and the shelf as they were
+  -- the moment of an event, with the writer and the shelf as they were
   abbrev pub moment : Event → W → S → Moment W S
   moment event writer shelf = record { event = event; writer = writer; shelf = shelf }
 

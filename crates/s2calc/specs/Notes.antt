@@ -58,8 +58,8 @@ pub record Noted : Type 0 where
   pub contents : Option (List ℕ)
   pub stopped : Bool
 
--- A beginning of the notes was written, and all of them if the writer has not stopped. It stops only if some byte of a
--- note could not be written, and writes nothing after that.
+-- A beginning of the notes was written, and all of them if the writer has not stopped. It stops only where some byte of
+-- a note was not written, and writes nothing after that.
 pub record WritesNotes (old : Noted) (notes : List ℕ) (new : Noted) : Type 0 where
   pub part : List ℕ
   pub rest : List ℕ

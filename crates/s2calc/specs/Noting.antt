@@ -8,6 +8,6 @@ pub record Noting (W : Type 0) : Type 0 where
   pub stopped : Bool
 
 module _ {W : Type 0} where
-  -- what is known of it
+  -- what is known of a writer of notes, if this is known of the writer below
   abbrev pub noted_by : (W → Option (List ℕ)) → Noting W → Noted
   noted_by contents n = record { contents = contents n.writer; stopped = n.stopped }

@@ -61,7 +61,7 @@ pub record HasCount (bytes : List ℕ) : Type 0 where
   pub head : HasHead bytes
   pub most : stated_count bytes ≤ MOST_CELLS
 
--- the fourth check passes too: exactly that many identifiers follow
+-- the fourth check passes too: exactly as many identifiers follow as the head states
 pub record HasFrame (bytes : List ℕ) : Type 0 where
   pub counted : HasCount bytes
   pub length_is : length bytes ≡ 9 + 8 * stated_count bytes

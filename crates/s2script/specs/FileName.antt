@@ -13,7 +13,7 @@ is_name_byte b = (nat_le 48 b && nat_le b 57) || (nat_le 65 b && nat_le b 90) ||
 abbrev pub is_first_byte : ℕ → Bool
 is_first_byte b = not (b == 46) && not (b == 45)
 
--- 1 to `LONGEST_NAME` such bytes, the first of which is not `.` or `-`
+-- 1 to `LONGEST_NAME` bytes that a name may have, the first of them no `.` and no `-`
 abbrev pub is_name : List ℕ → Bool
 is_name word = nat_le 1 (length word) && (nat_le (length word) LONGEST_NAME
     && (is_first_byte (slice_index word 0) && list_all is_name_byte word))
