@@ -1,8 +1,7 @@
 -- Answers `error file` are counted by the shelf.
-use Rattle.std.proofs.Common.{◌≡◌, ℕ, ◌+◌, ◌%◌, ◌^◌, ◌<◌, inl, inr, Bool, true, false, cond, List, [], ◌∷◌}
-use Rattle.std.proofs.Common.{sym, ap, ◌∙◌, subst, arith, Err, count_by}
-use Rattle.std.proofs.Math.Nat.{mod-add-mod, mod-eq_of_lt, mod-lt}
-use Rattle.std.proofs.lemmas.Nat.{pow_pos}
+use Rattle.std.proofs.Common.{◌≡◌, ℕ, zero, suc, ◌+◌, ◌%◌, ◌^◌, ◌⊎◌, inl, inr, Bool, true, false, cond}
+use Rattle.std.proofs.Common.{List, [], ◌∷◌, refl, sym, ap, ◌∙◌, subst, arith, Err, count_by}
+use Rattle.std.proofs.Math.Nat.{mod-add-mod}
 use Rattle.std.proofs.lemmas.List.Sums.{sum_by-cons}
 use Rattle.s2edit.specs.History.{History}
 use Rattle.s2shelf.specs.Shelf.{Files}
@@ -23,7 +22,7 @@ use Rattle.s2calc.specs.Fetch.{FetchesUnion}
 use Rattle.s2calc.specs.Sessions.{FetchesNoState}
 use Rattle.s2calc.specs.Step.{Loads, WritesFile, Restores, Acts, StepBy}
 use Rattle.s2calc.specs.Run.{Steps}
-use Rattle.s2calc.specs.Laws.{is_of_shelf, is_failure}
+use Rattle.s2calc.specs.Laws.{is_of_shelf, is_failure, RoseBy}
 use Rattle.s2calc.proofs.FetchLemmas.{union_keeps}
 
 tells_no_failure : (P : Type 0) (x : Reply) → AnswersYesIf P x → is_failure x ≡ false
@@ -59,103 +58,110 @@ move_no_failure side old moved new ms x (inl a) = ap is_failure a.3
 move_no_failure side old moved new ms x (inr a) = ap is_failure a.2
 
 -- the count rose by one if the answer is `error file`, and stayed the same otherwise
-record IsCounted (a c : World) (x : Reply) : Type 0 where
-  rose : c.files.failures ≡ (a.files.failures + cond (is_failure x) 1 0) % 2 ^ 64
+abbrev IsCounted : World → World → Reply → Type 0
+IsCounted a c x = ((is_failure x ≡ false) × (c.files.failures ≡ a.files.failures))
+    ⊎ ((is_failure x ≡ true) × (c.files.failures ≡ (a.files.failures + 1) % 2 ^ 64))
 
-stays : (a c : World) (x : Reply) → a.files.failures < 2 ^ 64 → is_failure x ≡ false →
-    c.files.failures ≡ a.files.failures → IsCounted a c x
-stays a c x h n e =
-    let none : a.files.failures + cond (is_failure x) 1 0 ≡ a.files.failures =
-    ap (λ b. a.files.failures + cond b 1 0) n ∙ omega arith in
-    record { rose = e ∙ sym (ap (λ k. k % 2 ^ 64) none ∙ mod-eq_of_lt h) }
+stays : (a c : World) (x : Reply) → is_failure x ≡ false → c.files.failures ≡ a.files.failures → IsCounted a c x
+stays a c x n e = inl (n, e)
 
 rises : (a c : World) (x : Reply) → is_failure x ≡ true → c.files.failures ≡ (a.files.failures + 1) % 2 ^ 64 →
     IsCounted a c x
-rises a c x n e = record { rose = e ∙ ap (λ b. (a.files.failures + cond b 1 0) % 2 ^ 64) (sym n) }
+rises a c x n e = inr (n, e)
 
-count_refused : (name : List ℕ) (a c : World) (refusal : Refusal) (x : Reply) → a.files.failures < 2 ^ 64 →
+count_refused : (name : List ℕ) (a c : World) (refusal : Refusal) (x : Reply) →
     FetchesUnion name a.files (Err refusal) c.files → x ≡ Refuses refusal → IsCounted a c x
-count_refused name a c refusal x h (inl (inl l)) e = stays a c x h (ap is_failure e ∙ ap is_of_shelf l.0) l.1.same.1
-count_refused name a c refusal x h (inl (inr (inl l))) e = rises a c x (ap is_failure e ∙ ap is_of_shelf l.0) l.1.1
-count_refused name a c refusal x h (inl (inr (inr l))) e = stays a c x h (ap is_failure e ∙ ap is_of_shelf l.0) l.1.1
-count_refused name a c refusal x h (inr (bytes, fetched, inl l)) e =
-    stays a c x h (ap is_failure e ∙ ap is_of_shelf l.3) fetched.same.1
-count_refused name a c refusal x h (inr (bytes, fetched, inr l)) e =
-    stays a c x h (ap is_failure e ∙ ap is_of_shelf l) fetched.same.1
+count_refused name a c refusal x (inl (inl l)) e = stays a c x (ap is_failure e ∙ ap is_of_shelf l.0) l.1.same.1
+count_refused name a c refusal x (inl (inr (inl l))) e = rises a c x (ap is_failure e ∙ ap is_of_shelf l.0) l.1.1
+count_refused name a c refusal x (inl (inr (inr l))) e = stays a c x (ap is_failure e ∙ ap is_of_shelf l.0) l.1.1
+count_refused name a c refusal x (inr (bytes, fetched, inl l)) e =
+    stays a c x (ap is_failure e ∙ ap is_of_shelf l.3) fetched.same.1
+count_refused name a c refusal x (inr (bytes, fetched, inr l)) e =
+    stays a c x (ap is_failure e ∙ ap is_of_shelf l) fetched.same.1
 
-count_load : (r : ℕ) (name : List ℕ) (a c : World) (x : Reply) → a.files.failures < 2 ^ 64 → Loads r name a x c →
-    IsCounted a c x
-count_load r name a c x h (inl l) = stays a c x h (get_no_failure l.0 r a.state c.state x l.2)
+count_load : (r : ℕ) (name : List ℕ) (a c : World) (x : Reply) → Loads r name a x c → IsCounted a c x
+count_load r name a c x (inl l) = stays a c x (get_no_failure l.0 r a.state c.state x l.2)
     (union_keeps a.files c.files name l.0 l.1).1
-count_load r name a c x h (inr l) = count_refused name a c l.0 x h l.1 l.2
+count_load r name a c x (inr l) = count_refused name a c l.0 x l.1 l.2
 
-count_write : (P : List ℕ → Type 0) (name : List ℕ) (a c : World) (x : Reply) → a.files.failures < 2 ^ 64 →
-    WritesFile P name a x c → IsCounted a c x
-count_write P name a c x h (inl l) = stays a c x h (ap is_failure l.0) l.2.2.failures
-count_write P name a c x h (inr (inl l)) = rises a c x (ap is_failure l.0) l.2.failed
-count_write P name a c x h (inr (inr l)) = stays a c x h (ap is_failure l.0) l.2.1
+count_write : (P : List ℕ → Type 0) (name : List ℕ) (a c : World) (x : Reply) → WritesFile P name a x c →
+    IsCounted a c x
+count_write P name a c x (inl l) = stays a c x (ap is_failure l.0) l.2.2.failures
+count_write P name a c x (inr (inl l)) = rises a c x (ap is_failure l.0) l.2.failed
+count_write P name a c x (inr (inr l)) = stays a c x (ap is_failure l.0) l.2.1
 
 -- a refusal that is answered, of what was fetched
-count_no_state : (name : List ℕ) (a c : World) (refusal : Refusal) (x : Reply) → a.files.failures < 2 ^ 64 →
+count_no_state : (name : List ℕ) (a c : World) (refusal : Refusal) (x : Reply) →
     FetchesNoState name a.files a.state refusal c.files → x ≡ Refuses refusal → IsCounted a c x
-count_no_state name a c refusal x h (inl (inl l)) e = stays a c x h (ap is_failure e ∙ ap is_of_shelf l.0) l.1.same.1
-count_no_state name a c refusal x h (inl (inr (inl l))) e = rises a c x (ap is_failure e ∙ ap is_of_shelf l.0) l.1.1
-count_no_state name a c refusal x h (inl (inr (inr l))) e = stays a c x h (ap is_failure e ∙ ap is_of_shelf l.0) l.1.1
-count_no_state name a c refusal x h (inr (bytes, fetched, inl l)) e =
-    stays a c x h (ap is_failure e ∙ ap is_of_shelf l.0) fetched.same.1
-count_no_state name a c refusal x h (inr (bytes, fetched, inr (inl l))) e =
-    stays a c x h (ap is_failure e ∙ ap is_of_shelf l.0) fetched.same.1
-count_no_state name a c refusal x h (inr (bytes, fetched, inr (inr (inl l)))) e =
-    stays a c x h (ap is_failure e ∙ ap is_of_shelf l.0) fetched.same.1
-count_no_state name a c refusal x h (inr (bytes, fetched, inr (inr (inr l)))) e =
-    stays a c x h (ap is_failure e ∙ ap is_of_shelf l) fetched.same.1
+count_no_state name a c refusal x (inl (inl l)) e = stays a c x (ap is_failure e ∙ ap is_of_shelf l.0) l.1.same.1
+count_no_state name a c refusal x (inl (inr (inl l))) e = rises a c x (ap is_failure e ∙ ap is_of_shelf l.0) l.1.1
+count_no_state name a c refusal x (inl (inr (inr l))) e = stays a c x (ap is_failure e ∙ ap is_of_shelf l.0) l.1.1
+count_no_state name a c refusal x (inr (bytes, fetched, inl l)) e =
+    stays a c x (ap is_failure e ∙ ap is_of_shelf l.0) fetched.same.1
+count_no_state name a c refusal x (inr (bytes, fetched, inr (inl l))) e =
+    stays a c x (ap is_failure e ∙ ap is_of_shelf l.0) fetched.same.1
+count_no_state name a c refusal x (inr (bytes, fetched, inr (inr (inl l)))) e =
+    stays a c x (ap is_failure e ∙ ap is_of_shelf l.0) fetched.same.1
+count_no_state name a c refusal x (inr (bytes, fetched, inr (inr (inr l)))) e =
+    stays a c x (ap is_failure e ∙ ap is_of_shelf l) fetched.same.1
 
-count_restore : (name : List ℕ) (a c : World) (x : Reply) → a.files.failures < 2 ^ 64 → Restores name a x c →
-    IsCounted a c x
-count_restore name a c x h (inl l) = stays a c x h (ap is_failure l.3) l.1.same.1
-count_restore name a c x h (inr l) = count_no_state name a c l.0 x h l.1 l.2
+count_restore : (name : List ℕ) (a c : World) (x : Reply) → Restores name a x c → IsCounted a c x
+count_restore name a c x (inl l) = stays a c x (ap is_failure l.3) l.1.same.1
+count_restore name a c x (inr l) = count_no_state name a c l.0 x l.1 l.2
 
-count_act : (command : Command) (a c : World) (x : Reply) → a.files.failures < 2 ^ 64 → Acts command a x c →
-    IsCounted a c x
-count_act (Edit r edit) a c x h l = stays a c x h (get_no_failure _ r a.state c.state x l.0)
+count_act : (command : Command) (a c : World) (x : Reply) → Acts command a x c → IsCounted a c x
+count_act (Edit r edit) a c x l = stays a c x (get_no_failure _ r a.state c.state x l.0)
     (ap (λ (f : Files). f.failures) l.1)
-count_act (Load r name) a c x h l = count_load r name a c x h l
-count_act (Save r name) a c x h l = count_write _ name a c x h l
-count_act (Dump name) a c x h l = count_write _ name a c x h l
-count_act (Restore name) a c x h l = count_restore name a c x h l
-count_act Undo a c x h l = stays a c x h (move_no_failure _ a.state _ c.state _ x l.0)
+count_act (Load r name) a c x l = count_load r name a c x l
+count_act (Save r name) a c x l = count_write _ name a c x l
+count_act (Dump name) a c x l = count_write _ name a c x l
+count_act (Restore name) a c x l = count_restore name a c x l
+count_act Undo a c x l = stays a c x (move_no_failure _ a.state _ c.state _ x l.0)
     (ap (λ (f : Files). f.failures) l.1)
-count_act Redo a c x h l = stays a c x h (move_no_failure _ a.state _ c.state _ x l.0)
+count_act Redo a c x l = stays a c x (move_no_failure _ a.state _ c.state _ x l.0)
     (ap (λ (f : Files). f.failures) l.1)
-count_act (Ask question) a c x h l = stays a c x h (answer_no_failure question a.state x l.0)
+count_act (Ask question) a c x l = stays a c x (answer_no_failure question a.state x l.0)
     (ap (λ (w : World). w.files.failures) l.1)
 
-count_line_of : (parsed : Parsed) → (a c : World) (x : Reply) → a.files.failures < 2 ^ 64 → StepBy parsed a x c →
-    IsCounted a c x
-count_line_of Silence a c x h l = stays a c x h (ap is_failure l.0) (ap (λ (v : World). v.files.failures) l.1)
-count_line_of (Fails refusal) a c x h l = stays a c x h (ap is_failure l.0) (ap (λ (v : World). v.files.failures) l.1)
-count_line_of (Does command) a c x h l = count_act command a c x h l
+count_line_of : (parsed : Parsed) → (a c : World) (x : Reply) → StepBy parsed a x c → IsCounted a c x
+count_line_of Silence a c x l = stays a c x (ap is_failure l.0) (ap (λ (v : World). v.files.failures) l.1)
+count_line_of (Fails refusal) a c x l = stays a c x (ap is_failure l.0) (ap (λ (v : World). v.files.failures) l.1)
+count_line_of (Does command) a c x l = count_act command a c x l
 
-pub failures_of : (a b : World) (ls : List (List ℕ)) (rs : List Reply) → a.files.failures < 2 ^ 64 →
-    Steps a ls rs b → b.files.failures ≡ (a.files.failures + count_by is_failure rs) % 2 ^ 64
-failures_of a b [] [] h s =
-    let none : a.files.failures + 0 ≡ a.files.failures = omega arith in
-    ap (λ (w : World). w.files.failures) s ∙ sym (ap (λ k. k % 2 ^ 64) none ∙ mod-eq_of_lt h)
-failures_of a b [] (x ∷ rs) h s = absurd s
-failures_of a b (line ∷ ls) [] h s = absurd s
-failures_of a b (line ∷ ls) (x ∷ rs) h s =
-    let bit : ℕ = cond (is_failure x) 1 0 in
-    let one : s.0.files.failures ≡ (a.files.failures + bit) % 2 ^ 64 =
-    (count_line_of (line_of line) a s.0 x h s.1.by).rose in
-    let low : s.0.files.failures < 2 ^ 64 = subst (λ n. n < 2 ^ 64) (sym one)
-    (mod-lt (a.files.failures + bit) (pow_pos 64)) in
-    let rest = failures_of s.0 b ls rs low s.2 in
-    let moved : (s.0.files.failures + count_by is_failure rs) % 2 ^ 64
-    ≡ (a.files.failures + bit + count_by is_failure rs) % 2 ^ 64 =
-    ap (λ n. (n + count_by is_failure rs) % 2 ^ 64) one
-    ∙ mod-add-mod (a.files.failures + bit) (2 ^ 64) (count_by is_failure rs) in
-    let joined : a.files.failures + bit + count_by is_failure rs ≡ a.files.failures
-    + (bit + count_by is_failure rs) = omega arith in
-    let counted : count_by is_failure (x ∷ rs) ≡ bit + count_by is_failure rs =
-    sum_by-cons (λ y. cond (is_failure y) 1 0) x rs in
-    rest ∙ moved ∙ ap (λ n. n % 2 ^ 64) joined ∙ ap (λ n. (a.files.failures + n) % 2 ^ 64) (sym counted)
+-- a count rose by one, and then by more
+rises_first : (old mid more new : ℕ) → mid ≡ (old + 1) % 2 ^ 64 → RoseBy mid more new →
+    new ≡ (old + (1 + more)) % 2 ^ 64
+rises_first old mid zero new e r =
+    let one : old + 1 ≡ old + (1 + 0) = omega arith in r.0 refl ∙ e ∙ ap (λ n. n % 2 ^ 64) one
+rises_first old mid (suc more) new e r =
+    let all : old + 1 + suc more ≡ old + (1 + suc more) = omega arith in
+    r.1 (omega arith) ∙ ap (λ n. (n + suc more) % 2 ^ 64) e ∙ mod-add-mod (old + 1) (2 ^ 64) (suc more)
+    ∙ ap (λ n. n % 2 ^ 64) all
+
+-- one answer was counted, and then the others
+counts_on : (a mid b : World) (x : Reply) (rs : List Reply) → IsCounted a mid x →
+    RoseBy mid.files.failures (count_by is_failure rs) b.files.failures →
+    RoseBy a.files.failures (count_by is_failure (x ∷ rs)) b.files.failures
+counts_on a mid b x rs (inl l) r =
+    let more = count_by is_failure rs in
+    let none : 0 + more ≡ more = omega arith in
+    let count : count_by is_failure (x ∷ rs) ≡ more =
+    sum_by-cons (λ y. cond (is_failure y) 1 0) x rs ∙ ap (λ k. cond k 1 0 + more) l.0 ∙ none in
+    subst (λ n. RoseBy a.files.failures n b.files.failures) (sym count)
+    (subst (λ n. RoseBy n more b.files.failures) l.1 r)
+counts_on a mid b x rs (inr l) r =
+    let more = count_by is_failure rs in
+    let count : count_by is_failure (x ∷ rs) ≡ 1 + more =
+    sum_by-cons (λ y. cond (is_failure y) 1 0) x rs ∙ ap (λ k. cond k 1 0 + more) l.0 in
+    subst (λ n. RoseBy a.files.failures n b.files.failures) (sym count) (
+      λ none. absurd (omega (arith, none)),
+      λ some. rises_first a.files.failures mid.files.failures more b.files.failures l.1 r,
+    )
+
+pub failures_of : (a b : World) (ls : List (List ℕ)) (rs : List Reply) → Steps a ls rs b →
+    RoseBy a.files.failures (count_by is_failure rs) b.files.failures
+failures_of a b [] [] s = (λ none. ap (λ (w : World). w.files.failures) s, λ some. absurd (omega (arith, some)))
+failures_of a b [] (x ∷ rs) s = absurd s
+failures_of a b (line ∷ ls) [] s = absurd s
+failures_of a b (line ∷ ls) (x ∷ rs) s =
+    counts_on a s.0 b x rs (count_line_of (line_of line) a s.0 x s.1.by) (failures_of s.0 b ls rs s.2)

@@ -57,12 +57,14 @@ is_failure Silent = false
 is_failure (Says text) = false
 is_failure (Refuses refusal) = is_of_shelf refusal
 
--- a run has as many answers `error file` as the shelf's count of failures rose; the count starts again at 0 after its
--- greatest value
+-- a count rose by `n`, and began again at 0 after 2^64 - 1; with no rise it stayed as it was
+abbrev pub RoseBy : ℕ → ℕ → ℕ → Type 0
+RoseBy old n new = (n ≡ 0 → new ≡ old) × (0 < n → new ≡ (old + n) % 2 ^ 64)
+
+-- the shelf's count of failures rises by as many as a run has answers `error file`
 abbrev pub CountsFailures : Type 0
-CountsFailures =
-    (a b : World) (ls : List (List ℕ)) (rs : List Reply) → a.files.failures < 2 ^ 64 → Steps a ls rs b →
-    b.files.failures ≡ (a.files.failures + count_by is_failure rs) % 2 ^ 64
+CountsFailures = (a b : World) (ls : List (List ℕ)) (rs : List Reply) → Steps a ls rs b →
+    RoseBy a.files.failures (count_by is_failure rs) b.files.failures
 
 -- a line that asks for no command with a file leaves all that is known of the files as it was, so it asks the shelf for
 -- none
