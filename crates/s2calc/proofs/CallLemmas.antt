@@ -1,18 +1,23 @@
 -- Lemmas on the calls of a reader and of a writer.
-use Rattle.std.proofs.Common.{◌≡◌, ◌<◌, ℕ, ◌+◌, List, [], ◌∷◌, ◌++◌, Option, None, Some, refl, sym, ap}
+use Rattle.std.proofs.Common.{◌≡◌, ◌∙◌, ◌<◌, ℕ, ◌+◌, List, [], ◌∷◌, ◌++◌, Option, None, Some, refl, sym, ap}
 use Rattle.std.proofs.Common.{append_assoc, append-nil, subst, arith, length-append, Result, Ok, Err}
 use Rattle.s2calc.specs.Calls.{Call, Gains, NoneFailed, LastFlushed, LastFailed, AllWell, Wrote, Flushed, Failed}
 use Rattle.s2calc.specs.Reads.{AllGave, ReadsOn, ReadsLast}
 use Rattle.s2calc.specs.Working.Calls.{FailedIfErr, FlushedIfOk}
 
 pub gains_nil : {A : Type 0} (a : Option (List A)) → Gains a a []
-gains_nil None = refl
-gains_nil (Some xs) = ap Some (sym (append-nil xs))
+gains_nil None = tt
+gains_nil (Some xs) = (xs, refl, sym (append-nil xs))
 
 pub gains_more : {A : Type 0} (a b c : Option (List A)) (front back : List A) → Gains a b front → Gains b c back →
     Gains a c (front ++ back)
-gains_more None b c front back p q = rw (q, p) refl
-gains_more (Some xs) b c front back p q = rw (q, p) (ap Some (append_assoc xs front back))
+gains_more a b None front back p q = tt
+gains_more {A} a b (Some xs) front back p q =
+    let first : Gains a (Some q.0) front = subst (λ (k : Option (List A)). Gains a k front) q.1 p in (
+      first.0,
+      first.1,
+      q.2 ∙ ap (λ (s : List A). s ++ back) first.2 ∙ append_assoc first.0 front back,
+    )
 
 pub all_well_more : (may : Type 0) (front back : List Call) → AllWell may front → AllWell may back →
     AllWell may (front ++ back)

@@ -1,10 +1,12 @@
 -- The calls of a reader and of a writer, as far as they are known.
 use Rattle.std.specs.Prelude.{◌≡◌, ℕ, List, [], ◌∷◌, ◌++◌, Option, Some, None}
-use Rattle.std.specs.Prelude.{Result, Ok, Err, option_map}
+use Rattle.std.specs.Prelude.{Result, Ok, Err}
 
--- a list, if it is known, gains these at its end
+-- A list that is known afterwards was known before, and has gained these at its end. It may be not known afterwards, as
+-- where there is no memory to keep it in; then nothing is said of these, and it is not known at any later time.
 abbrev pub Gains : {A : Type 0} → Option (List A) → Option (List A) → List A → Type 0
-Gains old new more = new ≡ option_map (λ before. before ++ more) old
+Gains old None more = Unit {0}
+Gains {A} old (Some after) more = (before : List A) × (old ≡ Some before) × (after ≡ before ++ more)
 
 -- a call of a writer: a write that took some bytes, a flush, or one that failed, as a write does that takes nothing
 pub data Call : Type 0 where
