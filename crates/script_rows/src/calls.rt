@@ -3,7 +3,7 @@ use crate::example::cells_without;
 use crate::failing_answers::{Asked, answers_fail};
 use crate::failing_runs::{reads_fail, shelf_fails, writes_fail};
 use crate::left::Flushing;
-use crate::logged::add_log;
+use crate::logged::{add_log, add_seen};
 use crate::narrow::Mishap;
 use crate::row::Done;
 use row_table::{add_line, bytes_of, number};
@@ -53,6 +53,9 @@ fn make_other(
 ) -> Result<(), AllocError> {
     if name == "log" {
         return add_log(alloc, lines, flushing_of(rest), found);
+    }
+    if name == "seen" {
+        return add_seen(alloc, lines, number(rest) as usize, found);
     }
     if name == "without" {
         return add_rest(alloc, rest, found);

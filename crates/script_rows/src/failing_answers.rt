@@ -1,5 +1,6 @@
 //! The answers to a cell and to a file, over a writer that fails at each of its calls in turn.
 use crate::failing_runs::MANY_CALLS;
+use crate::known::count_of;
 use crate::left::writer_of;
 use crate::narrow::{Mishap, Narrow};
 use crate::row::shelf_of;
@@ -49,7 +50,7 @@ pub fn answers_fail(
         match answer(alloc, lines, asked, &mut writer)? {
             Ok(_) => return Ok(Some(call - 1)),
             Err(fault) => {
-                let is_told = fault == RunFault::Output && writer.calls() == call;
+                let is_told = fault == RunFault::Output && count_of(writer.made())? == call;
                 if !is_told || !is_part_of(&writer, whole.contents()) {
                     return Ok(None);
                 }

@@ -24,7 +24,7 @@ pub fn reads_fail(
     let ways = ways_of(alloc, lines, &script)?;
     let mut read = 0usize;
     for call in 1..MANY_CALLS {
-        let reader = Pieces::of(&script, size, call);
+        let reader = Pieces::of(alloc, &script, size, call);
         let writer = writer_of(alloc, 512, 0, Mishap::Fails)?;
         let left = run_over(alloc, lines, flushing, reader, writer, 0)?;
         if left.ended.is_ok() {
@@ -66,7 +66,7 @@ pub fn writes_fail(
     let ways = ways_of(alloc, lines, &script)?;
     let piece = piece_of(flushing);
     for call in 1..MANY_CALLS {
-        let reader = Pieces::of(&script, piece, 0);
+        let reader = Pieces::of(alloc, &script, piece, 0);
         let writer = writer_of(alloc, size, call, mishap)?;
         let left = run_over(alloc, lines, flushing, reader, writer, 0)?;
         if left.ended.is_ok() {
@@ -190,7 +190,7 @@ fn is_file_error(alloc: Global, lines: &[&str], at: usize, call: u64) -> Result<
 /// A run of a row's script in which this call of the shelf fails.
 fn run_with_fault(alloc: Global, lines: &[&str], call: u64) -> Result<Left, AllocError> {
     let script = script_of(alloc, lines)?;
-    let reader = Pieces::of(&script, 4096, 0);
+    let reader = Pieces::of(alloc, &script, 4096, 0);
     let writer = writer_of(alloc, 4096, 0, Mishap::Fails)?;
     run_over(alloc, lines, Flushing::AtTheEnd, reader, writer, call)
 }

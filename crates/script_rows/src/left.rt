@@ -1,4 +1,5 @@
 //! What runs of a row's script leave.
+use crate::known::count_of;
 use crate::narrow::{Mishap, Narrow};
 use crate::pieces::Pieces;
 use crate::row::{editor_of, shelf_of};
@@ -89,8 +90,8 @@ pub fn run_over(
         answers,
         session: editor.session_file()?,
         files: files_of(alloc, &mut shelf)?,
-        reads: reader.calls(),
-        writes: writer.calls(),
+        reads: count_of(reader.reads())?,
+        writes: count_of(writer.made())?,
         is_flushed: writer.is_flushed(),
     })
 }
@@ -120,7 +121,7 @@ fn add_file(shelf: &mut MemoryShelf, name: &str, files: &mut Vec<u8>) -> Result<
 /// What is left of a script if nothing fails.
 pub fn run_well(alloc: Global, lines: &[&str], script: &[u8]) -> Result<Left, AllocError> {
     let writer = writer_of(alloc, 4096, 0, Mishap::Fails)?;
-    let reader = Pieces::of(script, 4096, 0);
+    let reader = Pieces::of(alloc, script, 4096, 0);
     run_over(alloc, lines, Flushing::AtTheEnd, reader, writer, 0)
 }
 

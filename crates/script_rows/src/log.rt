@@ -9,7 +9,7 @@ use std::io;
 use std::io::{Empty, ErrorKind};
 
 /// A writer that logs the bytes that it takes, and a bar for each flush.
-#[derive(Drop)]
+#[derive(Clone, Copy)]
 pub struct LoggedWriter<'a> {
     pub log: &'a RefCell<Vec<u8>>,
 }
@@ -32,7 +32,7 @@ impl Sink for LoggedWriter<'_> {
 }
 
 /// A shelf that logs its calls. It has no files, and keeps none.
-#[derive(Drop)]
+#[derive(Clone, Copy)]
 pub struct LoggedShelf<'a> {
     pub alloc: Global,
     pub log: &'a RefCell<Vec<u8>>,

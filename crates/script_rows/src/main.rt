@@ -18,6 +18,7 @@
 //! | `? job WORDS` | what words of the command line ask for, or why they ask for nothing, with the exit status |
 //! | `? without CELL CELL` | how many cells the first cell has without the leaves of the second |
 //! | `? log`, `? log promptly` | what a run writes, `|` for each flush, and how it calls a shelf without files |
+//! | `? seen SIZE` | what an observer sees of a run over reads of SIZE bytes: each read, and each line begin and end |
 //! | `? reads SIZE` | each read of SIZE bytes fails in turn |
 //! | `? writes SIZE`, `? takes SIZE` | each write of SIZE bytes and the flush fail in turn, or take nothing |
 //! | `? shelf` | each call of the shelf fails in turn |
@@ -28,19 +29,23 @@
 //!
 //! Modules: `row` has a row answered, `calls` its calls. `failing_runs` and `failing_answers` make each call of a
 //! stream or the shelf fail in turn, over `pieces` (a reader) and `narrow` (a writer), and compare what is `left`.
-//! `logged` makes a log of a run, over the writer and the shelf of `log`. `example` is the example of README.md.
+//! `logged` makes a log of a run, over the writer and the shelf of `log`, and says what a `watcher` (an observer) sees.
+//! These readers, writers and observers list their calls by `known`, so that contracts see them. `example` is the
+//! example of README.md.
 #![tactic(auto)]
 
 mod calls;
 mod example;
 mod failing_answers;
 mod failing_runs;
+mod known;
 mod left;
 mod log;
 mod logged;
 mod narrow;
 mod pieces;
 mod row;
+mod watcher;
 
 use row::Rows;
 use row_table::answer_rows;

@@ -72,7 +72,7 @@ fn run_row<W: Sink>(
     let script = script_of(alloc, lines)?;
     let mut editor = editor_of(alloc, lines)?;
     let mut shelf = shelf_of(alloc, lines)?;
-    let mut reader = Pieces::of(&script, size, fails_at(lines, script.len(), size));
+    let mut reader = Pieces::of(alloc, &script, size, fails_at(lines, script.len(), size));
     let ended = run(alloc, &mut editor, &mut reader, writer, &mut shelf);
     Ok(Done { ended, shelf })
 }
