@@ -38,5 +38,5 @@ pub returns : goal.returns
 returns c = λ ids fits fit. (
   is_framed ids fits,
   ap numbers_in (drop_at (number_text (length ids)) (flat_map number_text ids) 8 (length-number_text (length ids)))
-  ∙ numbers_are ids fit,
+      ∙ numbers_are ids fit,
 )
