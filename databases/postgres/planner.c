@@ -3,8 +3,6 @@
  * compressed or kept out of line, and a sample of them, each as a covering with few cells. */
 #include "postgres.h"
 
-#include <math.h>
-
 #include "access/detoast.h"
 #include "access/htup_details.h"
 #include "catalog/pg_statistic.h"
@@ -287,13 +285,22 @@ static double selectivity(PlannerInfo* root, Oid function, List* arguments, int 
   return part_of(ask, x, y);
 }
 
+/* The part of the outer rows that have a match among the inner ones, if of all pairs this part matches. It is a power,
+ * and the extension wants nothing but the server's calls. */
+static double part_with_a_match(double pairs, double inner) {
+  double none = 1, miss = 1 - pairs;
+  for (uint64 n = (uint64)Min(inner, 1e18); n > 0; n /= 2, miss *= miss)
+    if (n % 2 == 1) none *= miss;
+  return 1 - none;
+}
+
 /* What a join is answered: the part of the pairs, or that of the outer rows that have a match, as in EXISTS. */
 static double part_of_join(PlannerInfo* root, double pairs, JoinType type, const SpecialJoinInfo* join) {
   if (type != JOIN_SEMI && type != JOIN_ANTI) return pairs;
   Relids inner = join->min_righthand;
   bool one = bms_membership(inner) == BMS_SINGLETON;
   RelOptInfo* relation = one ? find_base_rel(root, bms_singleton_member(inner)) : find_join_rel(root, inner);
-  return relation ? 1 - pow(1 - pairs, relation->rows) : pairs;
+  return relation ? part_with_a_match(pairs, relation->rows) : pairs;
 }
 
 PG_FUNCTION_INFO_V1(s2union_sel);
