@@ -2,7 +2,6 @@
 ghost use Rattle.std.specs.Prelude.{◌<◌};
 
 use crate::calls::make;
-use crate::known::count_of;
 use crate::pieces::Pieces;
 use row_table::{Table, add_line, bytes_of, option, script_of, wanted_of};
 use s2calc::{RunFault, Sink, Tally, run};
@@ -63,7 +62,7 @@ fn answers_in_pieces(alloc: Global, lines: &[&str], size: usize) -> Result<Vec<u
     }
 }
 
-/// Runs the script of a row. Fails also if there was no memory to list a read.
+/// Runs the script of a row.
 fn run_row<W: Sink>(
     alloc: Global,
     lines: &[&str],
@@ -75,7 +74,6 @@ fn run_row<W: Sink>(
     let mut shelf = shelf_of(alloc, lines)?;
     let mut reader = Pieces::of(alloc, &script, size, fails_at(lines, script.len(), size));
     let ended = run(alloc, &mut editor, &mut reader, writer, &mut shelf);
-    let _ = count_of(reader.reads())?;
     Ok(Done { ended, shelf })
 }
 
