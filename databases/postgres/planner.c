@@ -290,7 +290,7 @@ static double selectivity(PlannerInfo* root, Oid function, List* arguments, int 
 static double part_with_a_match(double pairs, double inner) {
   double none = 1, miss = 1 - pairs;
   for (uint64 n = (uint64)Min(inner, 1e18); n > 0; n /= 2, miss *= miss)
-    if (n % 2 == 1) none *= miss;
+    if (n != n / 2 * 2) none *= miss;
   return 1 - none;
 }
 
