@@ -1,17 +1,15 @@
 //! The part of a register's list that changes can concern.
-ghost use Rattle.std.specs.Prelude.{◌≡◌, ◌++◌, ℕ, length, map, take, drop, IfOk, MatchBool, OnOk};
-ghost use Rattle.std.specs.List.Sorted.{IsStrictlyIncreasing};
+ghost use Rattle.std.specs.Prelude.{◌≡◌, ◌++◌, ℕ, map, take, drop, IfOk, OnOk};
 ghost use Rattle.s2list.specs.Union.{has_leaf};
-ghost use Rattle.s2file.specs.Session.{diff_of, AreApart};
+ghost use Rattle.s2file.specs.Session.{diff_of};
 ghost use Rattle.s2edit.specs.Working.Chain.{lists_of};
 ghost use Rattle.s2edit.specs.Working.Followed.{latest};
 ghost use Rattle.s2edit.specs.Working.Part.{around, around_all, IsPart};
 
 use s2cell::CellId;
-use s2file::Move;
+use s2file::{Move, are_apart};
 use s2union::{CellUnion, normalise};
 use std::alloc::{AllocError, Global};
-use std::cmp::Ordering;
 
 /// The cells of a union that share a leaf with the watched cells. `None` means all its cells, if one of them is larger
 /// than a watched cell in it.
@@ -34,24 +32,6 @@ pub(crate) fn part_of(
         return Ok(Some(part));
     }
     Ok(None)
-}
-
-/// Whether no cell is in both lists, by one walk along them.
-fn are_apart(us: &[CellId], vs: &[CellId]) -> bool
-    requires us_ascends { IsStrictlyIncreasing us.now }
-    requires vs_ascends { IsStrictlyIncreasing vs.now }
-    ensures { MatchBool result (AreApart us.now vs.now) (AreApart us.now vs.now → ⊥) }
-{
-    let mut i = 0;
-    let mut j = 0;
-    while i < us.len() && j < vs.len() {
-        match us[i].cmp(&vs[j]) {
-            Ordering::Less => i += 1,
-            Ordering::Equal => return false,
-            Ordering::Greater => j += 1,
-        }
-    }
-    true
 }
 
 /// The parents of the cells that changes of the register name, most of them once.
