@@ -3,7 +3,7 @@ ghost use Rattle.std.specs.Prelude.{◌≡◌, ◌<◌, ◌≤◌, ◌⊎◌, �
 ghost use Rattle.std.specs.Prelude.{length, min};
 ghost use Rattle.s2list.specs.Union.{IsLocal, IsNormalForm, has_leaf};
 ghost use Rattle.s2cover.specs.Coverings.{TooManyMeans, inner_set, outer_set};
-ghost use Rattle.s2cover.specs.Rectangles.{IsRect, Rect, clipped, rect_set};
+ghost use Rattle.s2cover.specs.Rectangles.{IsRect, clipped, rect_set};
 ghost use Rattle.s2search.specs.Room.{PutsUpTo};
 ghost use Rattle.s2union_c.specs.Rectangles.{rect_with};
 ghost use Rattle.s2union_c.specs.Results.{MadeInPlace, MadeOne, Refused};
@@ -47,39 +47,15 @@ pub extern "C" fn s2u_outer(
     out: &mut [u64],
     len: &mut usize,
 ) -> i32
-    ensures made { let r : Rect = record {
-      face = bounds.now.face;
-      i0 = bounds.now.i0;
-      i1 = bounds.now.i1;
-      j0 = bounds.now.j0;
-      j1 = bounds.now.j1;
-    } in
-        IsRect r → level ≤ 30 → MadeOne result (IsNormalForm (outer_set (rect_set r) level)) out.old out.new
-        len.new ⊎ (Refused result too_many out.old out.new len.new
-        × ((u : List ℕ) → IsNormalForm (outer_set (rect_set r) level) u → min most MOST_CELLS < length u)) }
+    ensures made { let S : ℕ → Bool = outer_set (rect_set (rect_with bounds.now)) level in
+        IsRect (rect_with bounds.now) → level ≤ 30 → MadeOne result (IsNormalForm S) out.old out.new len.new
+        ⊎ (Refused result too_many out.old out.new len.new
+        × ((u : List ℕ) → IsNormalForm S u → min most MOST_CELLS < length u)) }
     ensures most { len.new ≤ min most MOST_CELLS }
-    ensures argument { let r : Rect = record {
-      face = bounds.now.face;
-      i0 = bounds.now.i0;
-      i1 = bounds.now.i1;
-      j0 = bounds.now.j0;
-      j1 = bounds.now.j1;
-    } in
-        (IsRect r → 30 < level) → Refused result bad_argument out.old out.new len.new }
+    ensures argument { (IsRect (rect_with bounds.now) → 30 < level)
+        → Refused result bad_argument out.old out.new len.new }
 {
-    *len = 0;
-    let Some(rect) = rect_of(bounds) else {
-        return BAD_ARGUMENT;
-    };
-    if level > 30 {
-        return BAD_ARGUMENT;
-    }
-    let mut looks = Looks::default();
-    match rect_outer(alloc, &rect, level as u8, most.min(MOST_CELLS), &mut looks) {
-        Ok(union) => put_cells(union.cells(), out, len),
-        Err(CoverFault::TooMany) => TOO_MANY,
-        Err(CoverFault::Memory) => NO_MEMORY,
-    }
+    cover_rect(alloc, Side::Outer, bounds, level, most, out, len)
 }
 
 /// The cells of a level that lie inside a rectangle, normalized: at most `most` of them, and at most `MOST_CELLS`.
@@ -92,39 +68,15 @@ pub extern "C" fn s2u_inner(
     out: &mut [u64],
     len: &mut usize,
 ) -> i32
-    ensures made { let r : Rect = record {
-      face = bounds.now.face;
-      i0 = bounds.now.i0;
-      i1 = bounds.now.i1;
-      j0 = bounds.now.j0;
-      j1 = bounds.now.j1;
-    } in
-        IsRect r → level ≤ 30 → MadeOne result (IsNormalForm (inner_set (rect_set r) level)) out.old out.new
-        len.new ⊎ (Refused result too_many out.old out.new len.new
-        × ((u : List ℕ) → IsNormalForm (inner_set (rect_set r) level) u → min most MOST_CELLS < length u)) }
+    ensures made { let S : ℕ → Bool = inner_set (rect_set (rect_with bounds.now)) level in
+        IsRect (rect_with bounds.now) → level ≤ 30 → MadeOne result (IsNormalForm S) out.old out.new len.new
+        ⊎ (Refused result too_many out.old out.new len.new
+        × ((u : List ℕ) → IsNormalForm S u → min most MOST_CELLS < length u)) }
     ensures most { len.new ≤ min most MOST_CELLS }
-    ensures argument { let r : Rect = record {
-      face = bounds.now.face;
-      i0 = bounds.now.i0;
-      i1 = bounds.now.i1;
-      j0 = bounds.now.j0;
-      j1 = bounds.now.j1;
-    } in
-        (IsRect r → 30 < level) → Refused result bad_argument out.old out.new len.new }
+    ensures argument { (IsRect (rect_with bounds.now) → 30 < level)
+        → Refused result bad_argument out.old out.new len.new }
 {
-    *len = 0;
-    let Some(rect) = rect_of(bounds) else {
-        return BAD_ARGUMENT;
-    };
-    if level > 30 {
-        return BAD_ARGUMENT;
-    }
-    let mut looks = Looks::default();
-    match rect_inner(alloc, &rect, level as u8, most.min(MOST_CELLS), &mut looks) {
-        Ok(union) => put_cells(union.cells(), out, len),
-        Err(CoverFault::TooMany) => TOO_MANY,
-        Err(CoverFault::Memory) => NO_MEMORY,
-    }
+    cover_rect(alloc, Side::Inner, bounds, level, most, out, len)
 }
 
 /// The cells of a level that share a leaf with a union, normalized: at most `most` of them, and at most `MOST_CELLS`.
@@ -249,7 +201,7 @@ pub extern "C" fn s2u_inner_in(
     cover_in(alloc, Side::Inner, ids, bounds, level, most, out, len)
 }
 
-/// Which covering of a union is made.
+/// Which covering is made.
 #[derive(Clone, Copy)]
 enum Side {
     Outer,
@@ -302,6 +254,59 @@ fn put_covering(side: Side, ids: &[u64], level: u8, most: usize, out: &mut [u64]
     match side {
         Side::Outer => put_outer(&IdList { ids }, level, most, out),
         Side::Inner => put_inner(&IdList { ids }, level, most, out),
+    }
+}
+
+/// The covering of a rectangle.
+fn cover_rect(
+    alloc: Global,
+    side: Side,
+    bounds: &Bounds,
+    level: u32,
+    most: usize,
+    out: &mut [u64],
+    len: &mut usize,
+) -> i32
+    ensures made { let S : ℕ → Bool = covering_of side level (rect_set (rect_with bounds.now)) in
+        IsRect (rect_with bounds.now) → level ≤ 30 → MadeOne result (IsNormalForm S) out.old out.new len.new
+        ⊎ (Refused result too_many out.old out.new len.new
+        × ((u : List ℕ) → IsNormalForm S u → min most MOST_CELLS < length u)) }
+    ensures most { len.new ≤ min most MOST_CELLS }
+    ensures argument { (IsRect (rect_with bounds.now) → 30 < level)
+        → Refused result bad_argument out.old out.new len.new }
+{
+    *len = 0;
+    let Some(rect) = rect_of(bounds) else {
+        return BAD_ARGUMENT;
+    };
+    if level > 30 {
+        return BAD_ARGUMENT;
+    }
+    match rect_covering(alloc, side, &rect, level as u8, most.min(MOST_CELLS)) {
+        Ok(union) => put_cells(union.cells(), out, len),
+        Err(CoverFault::TooMany) => TOO_MANY,
+        Err(CoverFault::Memory) => NO_MEMORY,
+    }
+}
+
+/// The covering of a rectangle, in a list of its own.
+fn rect_covering(
+    alloc: Global,
+    side: Side,
+    rect: &FaceRect,
+    level: u8,
+    bound: usize,
+) -> Result<CellUnion, CoverFault>
+    requires level { level ≤ 30 }
+    requires bound { bound ≤ MOST_CELLS }
+    ensures normal { IfOk result (λ u. IsNormalForm (covering_of side level (rect_set rect.now)) u.cells) }
+    ensures within { IfOk result (λ u. length u.cells ≤ bound) }
+    ensures many { IfErr result (TooManyMeans (covering_of side level (rect_set rect.now)) bound) }
+{
+    let mut looks = Looks::default();
+    match side {
+        Side::Outer => rect_outer(alloc, rect, level, bound, &mut looks),
+        Side::Inner => rect_inner(alloc, rect, level, bound, &mut looks),
     }
 }
 
@@ -367,13 +372,7 @@ fn clipped_covering(
 
 /// The rectangle with these bounds, if there is one.
 fn rect_of(bounds: &Bounds) -> Option<FaceRect>
-    ensures { let r : Rect = record {
-      face = bounds.now.face;
-      i0 = bounds.now.i0;
-      i1 = bounds.now.i1;
-      j0 = bounds.now.j0;
-      j1 = bounds.now.j1;
-    } in SomeIff result (IsRect r) r }
+    ensures { SomeIff result (IsRect (rect_with bounds.now)) (rect_with bounds.now) }
 {
     if bounds.face > 5 {
         return None;
