@@ -46,16 +46,7 @@ pub extern "C" fn s2u_contains_cells(
     ensures room { All IsCell cells.now → length answers.old < length cells.now
         → (result ≡ no_room) × (bad.new ≡ length cells.now) × (answers.new ≡ answers.old) }
 {
-    if let Some(k) = first_wrong(&IdList { ids: cells }) {
-        *bad = k;
-        return NO_CELL;
-    }
-    *bad = cells.len();
-    if cells.len() > answers.len() {
-        return NO_ROOM;
-    }
-    answer_each(Question::Contains, ids, cells, answers);
-    MADE
+    answer_cells(Question::Contains, ids, cells, answers, bad)
 }
 
 /// Whether a union has a leaf of each cell in turn: 1 or 0 for each. `bad` is as in `s2u_contains_cells`.
@@ -79,6 +70,30 @@ pub extern "C" fn s2u_intersects_cells(
     ensures room { All IsCell cells.now → length answers.old < length cells.now
         → (result ≡ no_room) × (bad.new ≡ length cells.now) × (answers.new ≡ answers.old) }
 {
+    answer_cells(Question::Intersects, ids, cells, answers, bad)
+}
+
+/// Answers the question about each cell in turn, if all of them are cells and there is room.
+fn answer_cells(
+    question: Question,
+    ids: &[u64],
+    cells: &[u64],
+    answers: &mut [u8],
+    bad: &mut usize,
+) -> i32
+    ensures made { All IsCell cells.now → length cells.now ≤ length answers.old
+        → (result ≡ made) × (bad.new ≡ length cells.now) }
+    ensures exact { IsLocal ids.now → All IsCell cells.now → length cells.now ≤ length answers.old
+        → (k : ℕ) → k < length cells.now
+        → IsBit (slice_index answers.new k) (Holds question (slice_index cells.now k) ids.now) }
+    ensures bits { All IsCell cells.now → length cells.now ≤ length answers.old
+        → (k : ℕ) → k < length cells.now → slice_index answers.new k ≤ 1 }
+    ensures rest { drop (length cells.now) answers.new ≡ drop (length cells.now) answers.old }
+    ensures no_cell { (All IsCell cells.now → ⊥) → (result ≡ no_cell) × IsFirstWrong cells.now bad.new
+        × (answers.new ≡ answers.old) }
+    ensures room { All IsCell cells.now → length answers.old < length cells.now
+        → (result ≡ no_room) × (bad.new ≡ length cells.now) × (answers.new ≡ answers.old) }
+{
     if let Some(k) = first_wrong(&IdList { ids: cells }) {
         *bad = k;
         return NO_CELL;
@@ -87,11 +102,11 @@ pub extern "C" fn s2u_intersects_cells(
     if cells.len() > answers.len() {
         return NO_ROOM;
     }
-    answer_each(Question::Intersects, ids, cells, answers);
+    answer_each(question, ids, cells, answers);
     MADE
 }
 
-/// Answers the question about each cell in turn. If the last two indexes were far apart, the next four cells are
+/// Answers the question about each cell. If the last two indexes were far apart, the next four cells are
 /// searched at once; else the search for the next cell begins at the last index.
 fn answer_each(question: Question, ids: &[u64], cells: &[u64], answers: &mut [u8])
     requires cells { All IsCell cells.now }
