@@ -64,18 +64,27 @@ mutant() { # EDIT SOURCE..: copies of the sources in $work/mutant, with the mist
   [ -z "$1" ] || /usr/bin/python3 "$top/tests/mutants/mutant_texts.py" "$1" "$work/mutant"
 }
 
-refuse() { # TEST..: status 0 if the tests find nothing, 1 if they do, 2 if they were killed
-  tests "$@"
-  case $? in 0) ;; 137 | 143) echo "not tried: the tests were killed" && return 2 ;; *) return 1 ;; esac
+refuse() { # TEST..: status 0 if the tests find nothing, 1 if they do, 2 if they were killed, 124 if they took too long
+  local status=0
+  tests "$@" || status=$?
+  case $status in
+    0 | 124) return "$status" ;;
+    137 | 143) echo "not tried: the tests were killed" && return 2 ;;
+    *) return 1 ;;
+  esac
 }
 
-found() { # EDIT
+found() { # EDIT: also if its tests come to no end, while without it they still do in the same time
   survives "$1"
-  [ $? -eq 1 ]
+  case $? in
+    1) ;;
+    124) echo "the tests took too long" && survives "" ;;
+    *) return 1 ;;
+  esac
 }
 
 # Tries the mutants of a folder, or those with these names. `survives EDIT` of the caller ends with 0 if the tests find
-# nothing, with 1 if they do, and with 2 if it is no mutant or wasn't tried.
+# nothing, with 1 if they do, with 124 if they took too long, and with 2 if it is no mutant or wasn't tried.
 try_mutants() { # FOLDER [NAME..]
   local folder=$1 edits=("$1"/*.edit) edit
   shift
