@@ -3,6 +3,10 @@
 # They are the edits of bindings/python/mutants. One whose tests were killed was not tried, and fails. The last line is
 # 'N passed, M failed'.
 . "$(dirname "$0")/../steps.sh"
+packages=()
+[ -x /usr/bin/python3 ] || packages+=(python3)
+/usr/bin/python3 -c 'import numpy' 2>/dev/null || packages+=(python3-numpy)
+need_packages
 need_library
 
 tests() (

@@ -3,7 +3,7 @@
 # They are the edits of databases/sqlite/mutants. The tests run plainly and then under the sanitizers. One whose tests
 # were killed was not tried, and fails. The last line is 'N passed, M failed'.
 . "$(dirname "$0")/../steps.sh"
-need_library
+. "$top/tests/sqlite/needs.sh"
 
 build() { # FOLDER FLAGS..
   local folder=$1
