@@ -10,6 +10,17 @@ from model import REASONS
 from process import PROGRAM, TOP, ran
 
 
+# A kit that proves nothing. While it builds the program, a source changes if $CHANGE says so.
+KIT = """#!/bin/sh
+case $1 in
+  run)
+    [ -z "$CHANGE" ] || echo >>../s2cell/src/lib.rt
+    mkdir -p out && printf '#!/bin/sh\necho proved\n' >out/calculator && chmod 755 out/calculator ;;
+  try) echo unproved ;;
+esac
+"""
+
+
 class Launcher(unittest.TestCase):
     """The script s2calc at the top, over the program that was built."""
 
@@ -24,11 +35,31 @@ class Launcher(unittest.TestCase):
         self.assertEqual((done.returncode, done.stderr), (0, b""))
         self.assertEqual(done.stdout, b"cell 1 0/ level 0 face 0 leaves 0 1152921504606846975\n")
 
-    def test_where_no_program_and_no_kit_are(self):
-        for name in ("s2calc", "README.md", "crates/s2calc/src/command_line.rt"):
+    def copy(self, *names):
+        for name in names:
             copy = os.path.join(self.room, name)
             os.makedirs(os.path.dirname(copy), exist_ok=True)
             shutil.copy(os.path.join(TOP, name), copy)
+
+    def test_a_source_that_changes_while_it_is_proved(self):
+        """Then the program is older than its sources, and not the one that is run; until all is proved again."""
+        self.copy("s2calc", "tools/prove", "crates.txt", "crates/s2cell/src/lib.rt")
+        with open(os.path.join(TOP, "crates.txt"), encoding="utf-8") as it:
+            for line in it:
+                os.makedirs(os.path.join(self.room, "crates", re.match(r"\w+", line)[0]), exist_ok=True)
+        kit = os.path.join(self.room, "bin", "rt")
+        os.mkdir(os.path.dirname(kit))
+        with open(kit, "w", encoding="utf-8") as it:
+            it.write(KIT)
+        os.chmod(kit, 0o755)
+        how = {"cwd": self.room, "capture_output": True, "timeout": 60}
+        for change, answer in ("yes", b"unproved\n"), ("", b"proved\n"):
+            how["env"] = {"PATH": os.path.dirname(kit) + ":/usr/bin:/bin", "CHANGE": change}
+            subprocess.run(["tools/prove"], check=True, **how)
+            self.assertEqual(subprocess.run(["./s2calc", "cell", "1"], check=True, **how).stdout, answer)
+
+    def test_where_no_program_and_no_kit_are(self):
+        self.copy("s2calc", "README.md", "crates/s2calc/src/command_line.rt")
         with open(os.path.join(TOP, "README.md"), encoding="utf-8") as it:
             readme = it.read()
         kit = re.search(r"the kit `(rattle-kit-\w+ logic \w+)`", readme).group(1)
