@@ -10,6 +10,14 @@ from model import REASONS
 from process import PROGRAM, TOP, ran
 
 
+def has_gnu_parallel():
+    """Whether `parallel` is GNU's. That of moreutils has other options."""
+    if not shutil.which("parallel"):
+        return False
+    said = subprocess.run(["parallel", "--version"], stdin=subprocess.DEVNULL, capture_output=True, timeout=60)
+    return said.stdout.startswith(b"GNU parallel")
+
+
 # A kit that proves nothing. While it builds the program, a source changes if $CHANGE says so.
 KIT = """#!/bin/sh
 case $1 in
@@ -143,24 +151,32 @@ class Documents(unittest.TestCase):
         script, answer = shown.search(self.texts["README.md"]).groups()
         self.assertEqual(ran("run", script=script.encode())[1].decode(), answer + "\n")
 
-    def test_a_script_in_parts(self):
-        """The calculator as a filter: cut after each region, by hand and by GNU parallel if it is installed."""
-        text = self.texts["docs/SCALE.md"]
-        lines = re.search(r"^    add a .*\n((?:    .*\n)*?    clear b\n)", text, re.M).group(1).replace("    ", "")
-        command = re.search(r"^    (parallel .*) --block 10M (.*)$", text, re.M)
+    def a_script_of_regions(self):
+        """The calculator as a filter: 1,024 regions as docs/SCALE.md has one, and their answers."""
+        lines = re.search(r"^    add a .*\n((?:    .*\n)*?    clear b\n)", self.texts["docs/SCALE.md"], re.M).group(1)
+        lines = lines.replace("    ", "")
         regions = "".join(f"add a {k % 6}/{k:011b} {k % 5}/3{k:010b}\n{lines}" for k in range(1024)).encode()
         status, answers, error = ran("run", script=regions)
         self.assertEqual((status, error, answers.count(b"end\n")), (0, b"", 1024))
+        return regions, answers
+
+    def test_a_script_in_parts(self):
+        regions, answers = self.a_script_of_regions()
         parts = re.findall(rb"(?:.*?clear b\n){1,100}", regions, re.S)
+        self.assertEqual(b"".join(parts), regions)
         self.assertEqual(b"".join(ran("run", script=part)[1] for part in parts), answers)
-        if shutil.which("parallel"):
-            with tempfile.TemporaryDirectory() as folder:
-                os.symlink(PROGRAM, os.path.join(folder, "s2calc"))
-                with open(os.path.join(folder, "regions"), "wb") as it:
-                    it.write(regions)
-                subprocess.run(f"{command[1]} --block 10k {command[2]}", shell=True, cwd=folder, check=True, timeout=60)
-                with open(os.path.join(folder, "answers"), "rb") as it:
-                    self.assertEqual(it.read(), answers)
+
+    @unittest.skipUnless(has_gnu_parallel(), "GNU parallel is not there")
+    def test_a_script_in_parts_by_gnu_parallel(self):
+        regions, answers = self.a_script_of_regions()
+        command = re.search(r"^    (parallel .*) --block 10M (.*)$", self.texts["docs/SCALE.md"], re.M)
+        with tempfile.TemporaryDirectory() as folder:
+            os.symlink(PROGRAM, os.path.join(folder, "s2calc"))
+            with open(os.path.join(folder, "regions"), "wb") as it:
+                it.write(regions)
+            subprocess.run(f"{command[1]} --block 10k {command[2]}", shell=True, cwd=folder, check=True, timeout=60)
+            with open(os.path.join(folder, "answers"), "rb") as it:
+                self.assertEqual(it.read(), answers)
 
     def test_the_example_in_rust_is_the_one_that_is_compiled(self):
         example = re.search(r"```rust\n(.*?)```", self.texts["README.md"], re.S).group(1)
