@@ -86,6 +86,21 @@ class Launcher(unittest.TestCase):
                 self.assertIn(answer, done.stdout)
 
 
+class Tools(unittest.TestCase):
+    """The tools that write into a folder."""
+
+    def test_no_folder_is_named(self):
+        """Then nothing is made, and nothing installed."""
+        for tool in ("library", "package", "package-trial", "page"):
+            for words in ([], [""], ["--help"]) + ((["f", "--once"],) if tool in ("library", "package") else ()):
+                with self.subTest(tool=tool, words=words), tempfile.TemporaryDirectory() as room:
+                    done = subprocess.run([os.path.join(TOP, "tools", tool), *words], cwd=room, capture_output=True,
+                                          env={"PATH": "/usr/bin:/bin"}, timeout=60, text=True)
+                    self.assertNotEqual(done.returncode, 0)
+                    self.assertRegex(done.stderr, f"^(the folder is missing: )?tools/{tool} ")
+                    self.assertEqual((done.stdout, os.listdir(room)), ("", []))
+
+
 class Documents(unittest.TestCase):
     """The program answers what README.md and docs/ show."""
 
