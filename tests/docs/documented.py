@@ -1,6 +1,7 @@
 """Runs the examples of a page: all ```sql blocks in one session, each compared with the ```text block that follows it.
 
-documented.py [--script] PAGE [COMMAND..]: COMMAND (sqlite3 -batch :memory:) reads the session, --script prints it.
+documented.py [--script] PAGE [COMMAND..]: COMMAND reads the session (if there is none, sqlite3, without its user's
+settings); --script prints it.
 S2UNION_FIRST and S2UNION_SHARD are the folders of the sockets /run/first and /run/shard."""
 
 import os
@@ -33,8 +34,9 @@ def main(arguments):
         print(script, end="")
         return 0
     folder = os.path.dirname(os.environ.get("S2UNION_SQLITE", "")) or None
-    run = subprocess.run(command or ["sqlite3", "-batch", ":memory:"], input=script, cwd=folder, text=True,
-                         stdout=subprocess.PIPE, stderr=subprocess.STDOUT)
+    sqlite = ["sqlite3", "-batch", "-init", os.devnull, ":memory:"]
+    run = subprocess.run(command or sqlite, input=script, cwd=folder, text=True, stdout=subprocess.PIPE,
+                         stderr=subprocess.STDOUT)
     said = re.sub(r"error near line \d+:", "error:", run.stdout).split(MARK + "\n")
     failed = 0
     for (sql, wanted), answer in zip(blocks, said):

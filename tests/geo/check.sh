@@ -32,7 +32,10 @@ step "install" installed
 step "a cluster on a socket" begun data
 [ "$failed" -eq 0 ] || finish
 
-export PREFIX=$work/usr PATH=/usr/bin:$PATH PYTHONDONTWRITEBYTECODE=1 PYTHONWARNINGS=ignore
+# sqlite3 without its user's settings, as the pages' commands find it
+mkdir "$work/bin" && printf '#!/bin/sh\nexec /usr/bin/sqlite3 -init /dev/null "$@"\n' >"$work/bin/sqlite3" &&
+  chmod 755 "$work/bin/sqlite3"
+export PREFIX=$work/usr PATH=$work/bin:/usr/bin:$PATH PYTHONDONTWRITEBYTECODE=1 PYTHONWARNINGS=ignore
 export PYTHONPATH=$work/usr/lib/python:$top/docs/examples:$top/tests/geo
 if [ "${1:-}" = --costs ]; then
   mkdir "$work/costs" && /usr/bin/python3 "$top/tests/geo/costs.py" "$work/costs" "${@:2}"

@@ -8,6 +8,7 @@ rounds=1500
 [ "${1:-}" != --full ] || rounds=10000
 
 . "$top/tests/sqlite/needs.sh"
+sqlite=(sqlite3 -batch -init /dev/null :memory:) # without its user's settings
 
 # ---- the extension
 
@@ -63,9 +64,9 @@ any_name() { # and none that Python's import of the library's module would find
   cd "$work/plain" || return 1
   for name in mod_s2union s2 s2union lib7; do
     [ -e "$name.so" ] || cp mod_s2union.so "$name.so"
-    [ "$(sqlite3 -batch :memory: ".load ./$name" "SELECT s2_tokens('1')")" = 1 ] || return 1
+    [ "$("${sqlite[@]}" ".load ./$name" "SELECT s2_tokens('1')")" = 1 ] || return 1
   done
-  [ "$(sqlite3 -batch :memory: ".load ./lib7 sqlite3_sunion_init" "SELECT s2_tokens('1')")" = 1 ] || return 1
+  [ "$("${sqlite[@]}" ".load ./lib7 sqlite3_sunion_init" "SELECT s2_tokens('1')")" = 1 ] || return 1
   rm s2.so s2union.so lib7.so
   PYTHONPATH=$work/usr/lib/python LD_LIBRARY_PATH=$work/usr/lib /usr/bin/python3 -c 'import s2union'
 }
@@ -89,14 +90,14 @@ step "docs/SQLITE.md" documented plain
 covered() {
   build covered CFLAGS="-O0 -g --coverage" && export S2UNION_ROUNDS=300 &&
     tests covered test_sqlite.AgainstTheModel test_sqlite.WhatIsRefused && "$work/memory" "$work/covered/mod_s2union" &&
-    documented covered && sqlite3 -batch :memory: ".load $work/covered/mod_s2union sqlite3_sunion_init" &&
+    documented covered && "${sqlite[@]}" ".load $work/covered/mod_s2union sqlite3_sunion_init" &&
     /usr/bin/python3 "$top/tests/c/coverage.py" "$work/covered" s2union.c=databases/sqlite/s2union.c
 }
 step "what these tests execute" covered
 valgrind_run() { # the page shows errors, so sqlite3 ends with 1; all its calls have to be there
   /usr/bin/python3 "$top/tests/docs/documented.py" --script "$top/docs/SQLITE.md" >"$work/script.sql" &&
     [ -s "$work/script.sql" ] && cd "$work/plain" || return 1
-  valgrind -q --error-exitcode=9 --leak-check=full sqlite3 -batch :memory: <"$work/script.sql" 2>"$work/said" >/dev/null
+  valgrind -q --error-exitcode=9 --leak-check=full "${sqlite[@]}" <"$work/script.sql" 2>"$work/said" >/dev/null
   [ $? -eq 1 ] && ! grep 'no such function' "$work/said" || { cat "$work/said" && return 1; }
 }
 step "docs/SQLITE.md under valgrind" valgrind_run
