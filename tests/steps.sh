@@ -1,7 +1,7 @@
 # What the parts in bash share. $top is the repository and $work a folder for this run, which goes at its end.
 set -uo pipefail
 umask 022 # a server that root starts as another user reads what is made here
-top=$(cd "$(dirname "${BASH_SOURCE[0]}")/.." && pwd)
+top=$(CDPATH= cd "$(dirname "${BASH_SOURCE[0]}")/.." && pwd)
 work=$(mktemp -d)
 trap 'rm -rf "$work"' EXIT
 passed=0 failed=0

@@ -5,7 +5,7 @@
 # installs the Debian packages that it needs. It takes some minutes, nearly all to compile. Its last line is
 # 'N passed, M failed', where N counts the names, the program and S2's tests; the status is 1 if any failed.
 set -euo pipefail
-top=$(cd "$(dirname "$0")/../.." && pwd)
+top=$(CDPATH= cd "$(dirname "$0")/../.." && pwd)
 out=$top/tests/c/out
 as_root=()
 [ "$(id -u)" -eq 0 ] || as_root=(sudo -n)
