@@ -1,5 +1,6 @@
 """Every call of the library, through the Python module, against the plain model; and the module itself."""
 
+import ast
 import contextlib
 import copy
 import ctypes
@@ -10,6 +11,7 @@ import mmap
 import operator as operators
 import os
 import pickle
+import re
 import resource
 import shutil
 import subprocess
@@ -936,6 +938,12 @@ class TheModule(unittest.TestCase):
         self.assertRaises(ValueError, a.denormalised, 0, 4)
         self.assertRaises(ValueError, s2union.parent, FACE)
         self.assertRaises(ValueError, s2union.child, 1, 0)
+
+    def test_the_oldest_python_that_it_is_for_can_read_it(self):
+        project = (Path(__file__).parents[2] / "bindings/python/pyproject.toml").read_text()
+        oldest = re.search(r'^requires-python = ">=3\.(\d+)"$', project, re.M)[1]
+        for file in Path(s2union.__file__).parent.glob("*.py"):
+            ast.parse(file.read_text(), feature_version=(3, int(oldest)))
 
     def test_version(self):
         self.assertEqual(s2union.version(), tuple(map(int, model.VERSION.split("."))))
