@@ -240,8 +240,12 @@ def tried(chosen, is_proved=False):
     words = words_of(crates)
     checks = int(os.environ.get("RT_JOBS", 1))  # at once, by memory: tests/run sets it
     with tempfile.TemporaryDirectory() as room, concurrent.futures.ThreadPoolExecutor(checks) as pool:
-        return collections.Counter(sum(pool.map(
-            lambda it: Copy(it[0], words[it[0]], room, is_proved).tried(it[1]), crates.items()), []))
+        try:
+            return collections.Counter(sum(pool.map(
+                lambda it: Copy(it[0], words[it[0]], room, is_proved).tried(it[1]), crates.items()), []))
+        except KeyboardInterrupt:  # the threads would go on to their next checks, which end with this process
+            shutil.rmtree(room, ignore_errors=True)
+            os._exit(130)
 
 
 def processor_time():
