@@ -135,7 +135,7 @@ class Page {
   /** Adds files. What is refused, such as a folder, is said when the others are added. */
   async open(files) {
     const refusals = [];
-    for (const file of files) {
+    for (const file of [...files]) { // a copy: the browser's own list is emptied when the next files are chosen
       try {
         const bytes = new Uint8Array(await file.arrayBuffer());
         this.add(file.name, this.core.decode(bytes));
@@ -305,7 +305,10 @@ class Page {
       in: () => this.zoomBy(2), out: () => this.zoomBy(0.5), fit: () => this.showAll(), theme: () => this.turnTheme(),
     };
     for (const [id, action] of Object.entries(buttons)) at(id).onclick = action;
-    at("files").onchange = () => this.open(at("files").files).then(() => (at("files").value = ""));
+    at("files").onchange = () => {
+      this.open(at("files").files);
+      at("files").value = "";
+    };
     for (const radio of document.getElementsByName("kind")) {
       radio.onchange = () => {
         this.view.kind = radio.value;

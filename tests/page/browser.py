@@ -200,6 +200,34 @@ class Trial:
         said = self.status()
         assert said == "photos: refused: it is a folder; maps: refused: it is a folder", said
 
+    def test_two_loads_at_once(self):
+        """Files that are chosen while others are still read are all added."""
+        self.open()
+        names = self.driver.execute_async_script("""const done = arguments[0];
+            const field = document.getElementById('files');
+            const hold = {}; // what lets the reading of a file go on
+            const read = Blob.prototype.arrayBuffer;
+            Blob.prototype.arrayBuffer = function () {
+              return new Promise((go) => { hold[this.name] = () => go(read.call(this)); });
+            };
+            const choose = (...names) => {
+              const chosen = new DataTransfer();
+              for (const name of names) chosen.items.add(new File([s2page.core.encode(s2page.core.read('1'))], name));
+              field.files = chosen.files;
+              field.dispatchEvent(new Event('change'));
+            };
+            const turn = () => new Promise((go) => setTimeout(go, 50));
+            (async () => {
+              choose('a');
+              choose('b', 'c', 'd');
+              for (const name of 'abcd') {
+                hold[name]?.();
+                await turn();
+              }
+              done(s2page.regions.map((region) => region.name));
+            })();""")
+        assert names == ["a", "b", "c", "d"], names
+
     def test_texts(self):
         self.open()
         self.set("texts", "64c, 3/021 1")
