@@ -4,6 +4,7 @@
 const COLORS = [[31, 119, 180], [214, 39, 40], [44, 160, 44], [148, 103, 189], [255, 127, 14], [23, 190, 207],
   [227, 119, 194], [140, 86, 75]];
 const MOST_CELLS = 8_000_000;
+const MOST_BYTES = HEAD_SIZE + 8 * MOST_CELLS;
 /** How many pixels of a row and a column are drawn alike while the picture moves. */
 const LEAST_COARSE = 2;
 const MOST_COARSE = 4;
@@ -137,8 +138,7 @@ class Page {
     const refusals = [];
     for (const file of [...files]) { // a copy: the browser's own list is emptied when the next files are chosen
       try {
-        const bytes = new Uint8Array(await file.arrayBuffer());
-        this.add(file.name, this.core.decode(bytes));
+        this.add(file.name, this.core.decode(await bytesIn(file)));
       } catch (error) {
         refusals.push(refusal(file.name, error));
       }
@@ -418,6 +418,12 @@ class Page {
 
 function describe(region) {
   return `${region.ids.length} ${region.ids.length === 1 ? "cell" : "cells"}, ${region.leaves} leaves`;
+}
+
+/** The bytes of a file, which isn't read if it is too large. */
+async function bytesIn(file) {
+  if (file.size > MOST_BYTES) throw new Error("too many bytes for the page");
+  return new Uint8Array(await file.arrayBuffer());
 }
 
 /** What is said of something that was refused. */

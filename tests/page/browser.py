@@ -228,6 +228,15 @@ class Trial:
             })();""")
         assert names == ["a", "b", "c", "d"], names
 
+    def test_a_file_that_is_too_large(self):
+        """It is refused by its size, and isn't read."""
+        self.begin()
+        self.driver.execute_async_script("""const done = arguments[0];
+            const size = 9 + 8 * 8_000_000 + 1;
+            s2page.open([{name: 'film', size, arrayBuffer: () => Promise.reject(new Error('was read'))}]).then(done);
+            """)
+        assert self.status() == "film: refused: too many bytes for the page" and self.count() == 2, self.status()
+
     def test_texts(self):
         self.open()
         self.set("texts", "64c, 3/021 1")
