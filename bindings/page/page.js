@@ -191,7 +191,7 @@ class Page {
     swatch.style.background = `rgb(${region.color})`;
     const button = (text, action) => {
       const made = element("button", text, {type: "button", "aria-label": `${text} ${region.name}`});
-      made.onclick = action;
+      made.onclick = () => this.attempt(`${text} ${region.name}`, action);
       return made;
     };
     line.append(shown, swatch, element("span", region.name, {class: "name"}), element("span", describe(region)),

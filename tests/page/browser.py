@@ -237,6 +237,13 @@ class Trial:
             """)
         assert self.status() == "film: refused: too many bytes for the page" and self.count() == 2, self.status()
 
+    def test_what_can_not_be_saved(self):
+        """A list for which there is no memory is refused by its name."""
+        self.begin()
+        self.run("s2page.core.tokens = () => { throw new RangeError('Array buffer allocation failed'); }")
+        self.driver.find_elements(By.CSS_SELECTOR, "#legend li button")[-2].click()
+        assert self.status() == "tokens b: refused: Array buffer allocation failed", self.status()
+
     def test_texts(self):
         self.open()
         self.set("texts", "64c, 3/021 1")
