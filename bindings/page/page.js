@@ -5,6 +5,7 @@ const COLORS = [[31, 119, 180], [214, 39, 40], [44, 160, 44], [148, 103, 189], [
   [227, 119, 194], [140, 86, 75]];
 const MOST_CELLS = 8_000_000;
 const MOST_BYTES = HEAD_SIZE + 8 * MOST_CELLS;
+const MOST_BRIEF = 40;
 /** How many pixels of a row and a column are drawn alike while the picture moves. */
 const LEAST_COARSE = 2;
 const MOST_COARSE = 4;
@@ -17,6 +18,9 @@ function element(kind, text = "", attributes = {}) {
   for (const [name, value] of Object.entries(attributes)) made.setAttribute(name, value);
   return made;
 }
+
+/** A name in that of a result. Whole, the names of results of results would grow without end. */
+const brief = (name) => (name.length > MOST_BRIEF ? `${[...name].slice(0, MOST_BRIEF - 1).join("")}…` : name);
 
 /** Bytes from base64. */
 const unpacked = (text) => Uint8Array.from(atob(text), (letter) => letter.charCodeAt(0));
@@ -111,14 +115,14 @@ class Page {
   ofTwo(word, call) {
     this.compute(word, () => {
       const [a, b] = [this.chosen("first"), this.chosen("second")];
-      return [`${a.name} ${word} ${b.name}`, this.core[call](a.union, b.union)];
+      return [`${brief(a.name)} ${word} ${brief(b.name)}`, this.core[call](a.union, b.union)];
     });
   }
 
   ofLevel(word, call) {
     this.compute(word, () => {
       const [a, level] = [this.chosen("first"), numberIn("level", 0, 30)];
-      return [`${word} ${level} of ${a.name}`, this.core[call](a.union, level)];
+      return [`${word} ${level} of ${brief(a.name)}`, this.core[call](a.union, level)];
     });
   }
 
@@ -127,7 +131,8 @@ class Page {
       const [a, level, modulus] = [this.chosen("first"), numberIn("level", 0, 30), numberIn("modulus", 1, 3)];
       const count = this.core.denormalisedCount(a.union, level, modulus);
       if (count > BigInt(MOST_CELLS)) throw new Error(`${count} cells are too many for the page`);
-      return [`denormalized ${level}/${modulus} of ${a.name}`, this.core.denormalised(a.union, level, modulus), true];
+      const name = `denormalized ${level}/${modulus} of ${brief(a.name)}`;
+      return [name, this.core.denormalised(a.union, level, modulus), true];
     });
   }
 

@@ -244,6 +244,15 @@ class Trial:
         self.driver.find_elements(By.CSS_SELECTOR, "#legend li button")[-2].click()
         assert self.status() == "tokens b: refused: Array buffer allocation failed", self.status()
 
+    def test_names_of_results(self):
+        """The name of a result of results of results is short."""
+        self.begin()
+        for _ in range(40):
+            self.click("union")
+        names = self.run("return s2page.regions.map((region) => region.name)")
+        assert names[2] == "a or b" and max(map(len, names)) < 90, [len(name) for name in names]
+        assert self.last() == (self.a | self.b).to_bytes()
+
     def test_texts(self):
         self.open()
         self.set("texts", "64c, 3/021 1")
