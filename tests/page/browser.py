@@ -15,6 +15,7 @@ from pathlib import Path
 
 from s2union import Union, debug, from_face_ij, level, parent, token
 from selenium import webdriver
+from selenium.webdriver.common.action_chains import ActionChains
 from selenium.webdriver.common.by import By
 from selenium.webdriver.common.keys import Keys
 
@@ -252,6 +253,19 @@ class Trial:
         names = self.run("return s2page.regions.map((region) => region.name)")
         assert names[2] == "a or b" and max(map(len, names)) < 90, [len(name) for name in names]
         assert self.last() == (self.a | self.b).to_bytes()
+
+    def test_order_of_keys(self):
+        """Tab goes from top to bottom, also where the picture stands over the panel."""
+        size = self.driver.get_window_size()
+        for width, first, last in ((1280, "files", "picture"), (600, "picture", "files")):
+            self.driver.set_window_size(width, 900)
+            self.open()
+            order = []
+            while last not in order and len(order) < 40:
+                ActionChains(self.driver).send_keys(Keys.TAB).perform()
+                order.append(self.run("return document.activeElement.id"))
+            assert first in order[:-1] and last in order, (width, order)
+        self.driver.set_window_size(size["width"], size["height"])
 
     def test_texts(self):
         self.open()
