@@ -27,6 +27,7 @@ class Core {
   constructor(instance) {
     this.calls = instance.exports;
     this.base = even(Number(this.calls.__heap_base.value));
+    this.kept = new Map();
     this.keep([]);
   }
 
@@ -34,8 +35,12 @@ class Core {
     return new Core((await WebAssembly.instantiate(bytes, {})).instance);
   }
 
-  /** Lays lists at the front of the memory, where calls find them without a copy. Others are forgotten. */
+  /**
+   * Lays lists at the front of the memory, where calls find them without a copy. Others are forgotten. One that stays
+   * where it was isn't copied again.
+   */
   keep(lists) {
+    const before = this.kept;
     this.kept = new Map();
     this.front = this.base;
     for (const list of lists) {
@@ -43,7 +48,9 @@ class Core {
       this.front += even(list.byteLength);
     }
     this.grow(this.front);
-    for (const [list, at] of this.kept) this.bytes(at, list.byteLength).set(bytesOf(list));
+    for (const [list, at] of this.kept) {
+      if (before.get(list) !== at) this.bytes(at, list.byteLength).set(bytesOf(list));
+    }
   }
 
   grow(end) {

@@ -267,6 +267,31 @@ class Trial:
             assert first in order[:-1] and last in order, (width, order)
         self.driver.set_window_size(size["width"], size["height"])
 
+    def test_unions_that_stay(self):
+        """A union that is added is copied into the module's memory, and those that lie there stay where they are."""
+        self.begin()
+        lists, copied, wrong = self.run("""const core = s2page.core;
+            const sizes = [];
+            const bytes = core.bytes;
+            const copies = (lists) => {
+              sizes.length = 0;
+              core.bytes = (at, size) => {
+                sizes.push(size);
+                return bytes.call(core, at, size);
+              };
+              core.keep(lists);
+              core.bytes = bytes;
+              return [...sizes];
+            };
+            const [a, b] = s2page.regions.map((region) => region.union);
+            const c = core.union(a, b);
+            const copied = [copies([a, b, c]), copies([a, c]), copies([c, a, b])];
+            const same = (x, y) => x.length === y.length && x.every((id, k) => id === y[k]);
+            return [[a, b, c].map((list) => list.byteLength), copied, same(core.union(a, b), c)
+              && same(core.difference(c, a), core.difference(b, a)) ? 0 : 1];""")
+        a, b, c = lists
+        assert copied == [[c], [c], [c, a, b]] and not wrong, (lists, copied, wrong)
+
     def test_texts(self):
         self.open()
         self.set("texts", "64c, 3/021 1")
