@@ -24,7 +24,8 @@ func Levels(ids []CellID) ([]uint8, error) {
 	return found(levels, ids, bad)
 }
 
-// Parents are the cells of a level that contain the cells, in one call. ErrArgument: the level is deeper than a cell's.
+// Parents are the cells of a level that contain the cells, in one call. A PlaceError with ErrArgument: the level is
+// deeper than a cell's.
 func Parents(ids []CellID, level int) ([]CellID, error) {
 	return each(ids, func(at *C.uint64_t, n C.size_t, out *C.uint64_t, room C.size_t, bad *C.size_t) C.int32_t {
 		return C.s2u_parents(at, n, narrowed(level), out, room, bad)
@@ -69,14 +70,14 @@ func CellIDsFromTokens(words string) ([]CellID, error) {
 	var length C.size_t
 	out, room := place(named)
 	if status := C.s2u_from_tokens(at, n, out, room, &length); status == C.S2U_NO_CELL {
-		return nil, &PlaceError{int(length)}
+		return nil, noCellAt(length)
 	} else if status != C.S2U_OK {
 		return nil, Error(status)
 	}
 	return trimmed(named[:length]), nil
 }
 
-// CellIDsFromPoints are the leaves at many points, in one call. ErrArgument: one of them is on no face.
+// CellIDsFromPoints are the leaves at many points, in one call. A PlaceError with ErrArgument: one is on no face.
 func CellIDsFromPoints(points []FacePoint) ([]CellID, error) {
 	leaves := make([]CellID, len(points))
 	if len(points) == 0 {
@@ -86,7 +87,7 @@ func CellIDsFromPoints(points []FacePoint) ([]CellID, error) {
 	out, room := place(leaves)
 	answer(C.s2u_from_points((*C.s2u_point)(unsafe.Pointer(&points[0])), C.size_t(len(points)), out, room, &bad))
 	if int(bad) < len(points) {
-		return nil, ErrArgument
+		return nil, &PlaceError{int(bad), ErrArgument}
 	}
 	return leaves, nil
 }
@@ -109,8 +110,8 @@ func found[T any](made []T, ids []CellID, bad C.size_t) ([]T, error) {
 	case int(bad) == len(ids):
 		return made, nil
 	case ids[bad].IsValid():
-		return nil, ErrArgument
+		return nil, &PlaceError{int(bad), ErrArgument}
 	default:
-		return nil, &PlaceError{Place: int(bad)}
+		return nil, noCellAt(bad)
 	}
 }

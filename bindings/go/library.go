@@ -50,18 +50,22 @@ func (refusal Error) Error() string {
 	return "s2union: " + C.GoString(C.s2u_status_text(C.int32_t(refusal)))
 }
 
-// PlaceError is ErrNoCell with the place of the first number of a list, or of the first byte of the first word of a
-// text, that is no cell.
+// PlaceError is a refusal with a place: of the first in a list that is refused, or of the first byte of the first word
+// of a text that names no cell.
 type PlaceError struct {
-	Place int
+	Place   int
+	Refusal Error // ErrNoCell, or ErrArgument of Parents and CellIDsFromPoints
 }
 
 func (refusal *PlaceError) Error() string {
-	return fmt.Sprintf("%v at place %d", ErrNoCell, refusal.Place)
+	return fmt.Sprintf("%v at place %d", refusal.Refusal, refusal.Place)
 }
 
-// Unwrap answers ErrNoCell.
-func (refusal *PlaceError) Unwrap() error { return ErrNoCell }
+// Unwrap answers the refusal.
+func (refusal *PlaceError) Unwrap() error { return refusal.Refusal }
+
+// noCellAt is the refusal of what is no cell, at a place that a call has reported.
+func noCellAt(place C.size_t) error { return &PlaceError{int(place), ErrNoCell} }
 
 // Version is the version of the library that runs, as "1.0.0".
 func Version() string {

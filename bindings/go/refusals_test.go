@@ -282,13 +282,22 @@ func TestManyCellsOneOfWhichHasNoAnswer(t *testing.T) {
 		var refusal *s2union.PlaceError
 		check(t, errors.As(err, &refusal) && refusal.Place == 1, what)
 	}
+	outOfRange := func(ids []CellID, err error, place int, what string) {
+		t.Helper()
+		var refusal *s2union.PlaceError
+		check(t, errors.As(err, &refusal) && refusal.Place == place && errors.Is(err, s2union.ErrArgument), what)
+		check(t, ids == nil && !errors.Is(err, s2union.ErrNoCell), what)
+	}
 	for _, level := range []int{1, 31, -1} {
 		made, err := s2union.Parents(ids[:1], level)
-		check(t, made == nil && err == s2union.ErrArgument, "Parents below the cell")
+		outOfRange(made, err, 0, "Parents below the cell")
 	}
+	made, err := s2union.Parents([]CellID{face.Children()[0], face, 2}, 1)
+	outOfRange(made, err, 1, "Parents below one of the cells")
+	check(t, err.Error() == "s2union: argument out of range at place 1", "its text")
 	for _, point := range []s2union.FacePoint{{Face: 6}, {I: 1 << 30}, {J: 1 << 30}} {
 		made, err := s2union.CellIDsFromPoints([]s2union.FacePoint{{}, point})
-		check(t, made == nil && err == s2union.ErrArgument, "CellIDsFromPoints")
+		outOfRange(made, err, 1, "CellIDsFromPoints")
 	}
 	none, err := s2union.CellIDsFromPoints(nil)
 	check(t, len(none) == 0 && err == nil && len(must(s2union.Tokens(nil))) == 0, "none")

@@ -342,7 +342,7 @@ func normalize(ids []CellID) (int, error) {
 	at, n := place(ids)
 	var length C.size_t
 	if status := C.s2u_normalise(at, n, &length); status == C.S2U_NO_CELL {
-		return 0, &PlaceError{int(length)}
+		return 0, noCellAt(length)
 	} else if status != C.S2U_OK {
 		return 0, Error(status)
 	}
@@ -399,7 +399,7 @@ func asked(ids []CellID, call func(cells *C.uint64_t, m C.size_t, answers *C.uin
 	answers, _ := placeOfBytes(found)
 	var bad C.size_t
 	if status := call(cells, m, answers, &bad); status == C.S2U_NO_CELL {
-		return nil, &PlaceError{int(bad)}
+		return nil, noCellAt(bad)
 	} else if status != C.S2U_OK {
 		return nil, Error(status)
 	}

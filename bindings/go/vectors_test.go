@@ -331,7 +331,7 @@ func shown(value any, errs ...error) string {
 		var refusal s2union.Error
 		var place *s2union.PlaceError
 		if errors.As(err, &place) {
-			return fmt.Sprintf("!%s %d", names[s2union.ErrNoCell], place.Place)
+			return fmt.Sprintf("!%s %d", names[place.Refusal], place.Place)
 		} else if errors.As(err, &refusal) {
 			return "!" + names[refusal]
 		} else if err != nil {
