@@ -245,7 +245,7 @@ func TestFiles(t *testing.T) {
 	for round := 0; round < 2; round++ {
 		check(t, read.Decode(iotest.OneByteReader(&stream)) == nil && read.Equal(union), "Decode")
 	}
-	check(t, read.Decode(&stream) == s2union.ErrFileShort && read.Equal(union), "Decode of nothing")
+	check(t, read.Decode(&stream) == io.EOF && read.Equal(union), "Decode of nothing")
 	for wrong, want := range map[string]error{
 		"\x02" + string(file[1:]): s2union.ErrFileVersion, string(file[:24]): s2union.ErrFileShort,
 		string(file[:8]): s2union.ErrFileShort, "\x01" + strings.Repeat("\xff", 24): s2union.ErrFileShort,

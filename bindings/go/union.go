@@ -282,7 +282,8 @@ func (cu CellUnion) Encode(w io.Writer) error {
 }
 
 // Decode makes the union that in the union file which is read next; what follows it is not read. Refusals are those of
-// UnmarshalBinary, and errors of the reader; an end of it within the file is ErrFileShort.
+// UnmarshalBinary, and errors of the reader: io.EOF if there is no file. An end of the reader within the file is
+// ErrFileShort.
 func (cu *CellUnion) Decode(r io.Reader) error {
 	var file bytes.Buffer
 	if err := readMore(&file, r, int64(sizeOfFile(0))); err != nil {
@@ -416,7 +417,7 @@ func sizeOfFile(n int) int { return 9 + 8*n }
 // readMore reads this number of bytes. It takes memory for what has come, not for what was promised.
 func readMore(file *bytes.Buffer, r io.Reader, count int64) error {
 	_, err := io.CopyN(file, r, count)
-	if errors.Is(err, io.EOF) {
+	if errors.Is(err, io.EOF) && file.Len() > 0 {
 		return ErrFileShort
 	}
 	return err

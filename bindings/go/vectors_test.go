@@ -6,6 +6,7 @@ import (
 	"encoding/hex"
 	"errors"
 	"fmt"
+	"io"
 	"os"
 	"strconv"
 	"strings"
@@ -291,13 +292,15 @@ func unmarshalled(file []byte) string {
 	return shown(union, err)
 }
 
-// decoded reads a file, and what follows it.
+// decoded reads a file, and what follows it. No file at all is taken for one that is short.
 func decoded(file []byte) string {
 	var union CellUnion
 	reader := bytes.NewReader(file)
 	err := union.Decode(reader)
 	if err == nil && reader.Len() > 0 {
 		err = s2union.ErrFileTrailing
+	} else if err == io.EOF && len(file) == 0 {
+		err = s2union.ErrFileShort
 	}
 	return shown(union, err)
 }
