@@ -12,8 +12,8 @@ type Rect struct {
 const MostCovering = C.S2U_MOST_COVERING
 
 // Covering is the union of the cells of a level that share a leaf with the rectangle: not the best few cells of several
-// levels, as golang/geo's RegionCoverer finds them for regions of the sphere. ErrArgument. ErrMany: there would be more
-// than `most` cells, or more than MostCovering.
+// levels, as golang/geo's RegionCoverer finds them for regions of the sphere. ErrArgument, ErrMemory. ErrMany: there
+// would be more than `most` cells, or more than MostCovering.
 func (rect Rect) Covering(level, most int) (CellUnion, error) {
 	corners := rect.corners()
 	return made(64, func(out *C.uint64_t, room C.size_t, length *C.size_t) C.int32_t {

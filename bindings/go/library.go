@@ -13,8 +13,9 @@
 //
 // What comes from outside (lists, texts, files, levels) is refused with an error, which is an Error or wraps one. A
 // method for one cell or one place has no error to report, as in golang/geo, and panics with an Error if that is no
-// cell or is out of range, as an index does; CellID.IsValid asks first. A union, an intersection and a difference can't
-// be refused. WholeSphere takes memory in the library, and panics with ErrMemory if there is none.
+// cell or is out of range; CellID.IsValid asks first. A union, an intersection and a difference can't be refused.
+// Ranges and coverings take memory in the library, and are refused with ErrMemory if there is none; WholeSphere panics
+// then.
 //
 // A call of C takes some 100 ns on top of its own work. For many cells there are calls such as ContainsCellIDs.
 package s2union

@@ -69,8 +69,10 @@ func TestACellThatIsNone(t *testing.T) {
 		panics(t, s2union.ErrArgument, "Parent", func() { face.Parent(level) })
 	}
 	panics(t, s2union.ErrArgument, "Children", func() { face.RangeMin().Children() })
-	panics(t, s2union.ErrArgument, "CellID", func() { file.CellID(1) })
-	panics(t, s2union.ErrArgument, "CellID", func() { file.CellID(-1) })
+	for _, place := range []int{1, -1, math.MaxInt, math.MinInt} {
+		panics(t, s2union.ErrArgument, "CellID", func() { union.CellID(place) })
+		panics(t, s2union.ErrArgument, "file's CellID", func() { file.CellID(place) })
+	}
 	panics(t, s2union.ErrFileShort, "a file that was not made", func() { new(s2union.UnionFile).Len() })
 }
 

@@ -46,7 +46,7 @@ func CellUnionFromTokens(words string) (CellUnion, error) {
 }
 
 // CellUnionFromRange is the union of the leaves from begin up to end, which is not one of them: a leaf, or the number
-// after the last leaf, as CellID.Next makes it in S2. ErrArgument: one is no leaf, or end comes first.
+// after the last leaf, as CellID.Next makes it in S2. ErrArgument: one is no leaf, or end comes first. ErrMemory.
 func CellUnionFromRange(begin, end CellID) (CellUnion, error) {
 	const afterLastLeaf CellID = 0xc000000000000001 // S2's CellIDFromFace(5).ChildEndAtLevel(30), which is no cell
 	last := lastFace.RangeMax()
@@ -68,7 +68,7 @@ func CellUnionFromRange(begin, end CellID) (CellUnion, error) {
 }
 
 // RangeUnion is the union of all leaves from the first of one cell to the last of another, also across faces.
-// ErrNoCell; ErrArgument: the last leaf comes before the first.
+// ErrNoCell; ErrArgument: the last leaf comes before the first; ErrMemory.
 func RangeUnion(first, last CellID) (CellUnion, error) {
 	return made(C.S2U_MOST_RANGE, func(out *C.uint64_t, room C.size_t, length *C.size_t) C.int32_t {
 		return C.s2u_range(C.uint64_t(first), C.uint64_t(last), out, room, length)
@@ -127,8 +127,13 @@ func CellUnionFromDifference(x, y CellUnion) CellUnion {
 // Len is the number of cells.
 func (cu CellUnion) Len() int { return len(cu.ids) }
 
-// CellID is the cell at a place, in ascending order. It panics if there is none, as an index does.
-func (cu CellUnion) CellID(place int) CellID { return cu.ids[place] }
+// CellID is the cell at a place, in ascending order. It panics with ErrArgument if there is none.
+func (cu CellUnion) CellID(place int) CellID {
+	if place < 0 || place >= len(cu.ids) {
+		panic(ErrArgument)
+	}
+	return cu.ids[place]
+}
 
 // CellIDs is a new list of the cells, in ascending order.
 func (cu CellUnion) CellIDs() []CellID { return CellIDsAs[CellID](cu) }
