@@ -128,9 +128,9 @@ func (id CellID) Square() (face, i, j, side int) {
 
 // ToToken is the identifier in hexadecimal without the zeros at its end.
 func (id CellID) ToToken() string {
-	return text(C.S2U_MOST_TOKEN, func(out *C.char, room C.size_t, length *C.size_t) C.int32_t {
+	return string(text(C.S2U_MOST_TOKEN, func(out *C.char, room C.size_t, length *C.size_t) C.int32_t {
 		return C.s2u_token(C.uint64_t(id), out, room, length)
-	})
+	}))
 }
 
 // String is the debug text, such as "4/032212", or a text that says that the number is no cell.
@@ -138,9 +138,9 @@ func (id CellID) String() string {
 	if !id.IsValid() {
 		return "Invalid: " + strconv.FormatUint(uint64(id), 16)
 	}
-	return text(C.S2U_MOST_DEBUG, func(out *C.char, room C.size_t, length *C.size_t) C.int32_t {
+	return string(text(C.S2U_MOST_DEBUG, func(out *C.char, room C.size_t, length *C.size_t) C.int32_t {
 		return C.s2u_debug(C.uint64_t(id), out, room, length)
-	})
+	}))
 }
 
 // answerFor is the number that a call answered for cells; 0 if it has none. Only then it asks whether they are cells,

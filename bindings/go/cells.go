@@ -63,18 +63,20 @@ func Tokens(ids []CellID) ([]string, error) {
 // CellIDsFromTokens are the cells that a text names, in its order and each time that it names one: words with blanks,
 // tabs, line ends or commas between them, each a token or a debug text. A PlaceError has the place where the first word
 // begins that names no cell.
-func CellIDsFromTokens(words string) ([]CellID, error) {
-	given := []byte(words)
-	at, n := placeOfText(given)
-	named := make([]CellID, len(given)/2+1)
+func CellIDsFromTokens(words string) ([]CellID, error) { return named([]byte(words)) }
+
+// named are the cells that a text names.
+func named(words []byte) ([]CellID, error) {
+	at, n := placeOfText(words)
+	ids := make([]CellID, len(words)/2+1)
 	var length C.size_t
-	out, room := place(named)
+	out, room := place(ids)
 	if status := C.s2u_from_tokens(at, n, out, room, &length); status == C.S2U_NO_CELL {
 		return nil, noCellAt(length)
 	} else if status != C.S2U_OK {
 		return nil, Error(status)
 	}
-	return trimmed(named[:length]), nil
+	return trimmed(ids[:length]), nil
 }
 
 // CellIDsFromPoints are the leaves at many points, in one call. A PlaceError with ErrArgument: one is on no face.

@@ -159,11 +159,11 @@ func trimmed(list []CellID) []CellID {
 	return list
 }
 
-// text is what a call writes of one cell.
-func text(most int, call func(out *C.char, room C.size_t, length *C.size_t) C.int32_t) string {
+// text is what a call writes of cells, in at most this many bytes.
+func text(most int, call func(out *C.char, room C.size_t, length *C.size_t) C.int32_t) []byte {
 	room := make([]byte, most)
 	var length C.size_t
 	at, n := placeOfText(room)
 	answer(call(at, n, &length))
-	return string(room[:length])
+	return room[:length]
 }

@@ -3,6 +3,7 @@ package s2union_test
 import (
 	"bytes"
 	"encoding/gob"
+	"encoding/json"
 	"errors"
 	"io"
 	"math"
@@ -265,6 +266,20 @@ func TestFiles(t *testing.T) {
 	check(t, gob.NewDecoder(&stream).Decode(&again) == nil && again.Equal(union), "gob's decoder")
 	check(t, s2union.Error(-99).Error() == "s2union: unknown refusal", "an unknown refusal")
 	check(t, strings.Count(s2union.Version(), ".") == 2, "the version")
+}
+
+func TestTexts(t *testing.T) {
+	parks := map[string]CellUnion{"lawn": must(s2union.CellUnionFromTokens("04 0c 1c")), "none": {}}
+	text := must(json.Marshal(parks))
+	check(t, string(text) == `{"lawn":"04 0c 1c","none":""}`, "as JSON has them")
+	var again map[string]CellUnion
+	check(t, json.Unmarshal(text, &again) == nil && len(again) == 2, "JSON is read")
+	for name, park := range parks {
+		check(t, again[name].Equal(park), name)
+	}
+	union := parks["lawn"]
+	err := json.Unmarshal([]byte(`"04 x"`), &union)
+	check(t, errors.Is(err, s2union.ErrNoCell) && union.Equal(parks["lawn"]), "a text that names no cell")
 }
 
 type brokenWriter struct{}

@@ -37,13 +37,7 @@ func CellUnionFromNormalized[N ID](ids ...N) (CellUnion, error) {
 }
 
 // CellUnionFromTokens is the union of the cells that a text names, as CellIDsFromTokens.
-func CellUnionFromTokens(words string) (CellUnion, error) {
-	ids, err := CellIDsFromTokens(words)
-	if err != nil {
-		return CellUnion{}, err
-	}
-	return normalized(ids)
-}
+func CellUnionFromTokens(words string) (CellUnion, error) { return unionNamed([]byte(words)) }
 
 // CellUnionFromRange is the union of the leaves from begin up to end, which is not one of them: a leaf, or the number
 // after the last leaf, as CellID.Next makes it in S2. ErrArgument: one is no leaf, or end comes first. ErrMemory.
@@ -247,12 +241,21 @@ func (cu CellUnion) Ancestors() []CellID {
 }
 
 // String is the tokens of the cells, with blanks between them.
-func (cu CellUnion) String() string {
+func (cu CellUnion) String() string { return string(cu.tokens()) }
+
+func (cu CellUnion) tokens() []byte {
 	at, n := place(cu.ids)
 	return text((C.S2U_MOST_TOKEN+1)*len(cu.ids), func(out *C.char, room C.size_t, length *C.size_t) C.int32_t {
 		return C.s2u_tokens(at, n, out, room, length)
 	})
 }
+
+// MarshalText makes the tokens of the cells, as String. So a union is a text in JSON.
+func (cu CellUnion) MarshalText() ([]byte, error) { return cu.tokens(), nil }
+
+// UnmarshalText makes the union that of the cells that a text names, as CellUnionFromTokens. If it is refused, the
+// union stays as it was.
+func (cu *CellUnion) UnmarshalText(words []byte) error { return cu.become(unionNamed(words)) }
 
 // MarshalBinary makes the union file: the bytes that S2's own Encode writes in C++, Go and Java. Equal unions have
 // equal files.
@@ -269,13 +272,7 @@ func (cu CellUnion) MarshalBinary() ([]byte, error) {
 
 // UnmarshalBinary makes the union that in a union file, whose cells may be in any order. If it is refused, the union
 // stays as it was.
-func (cu *CellUnion) UnmarshalBinary(file []byte) error {
-	union, err := unmarshalled(file)
-	if err == nil {
-		*cu = union
-	}
-	return err
-}
+func (cu *CellUnion) UnmarshalBinary(file []byte) error { return cu.become(unmarshalled(file)) }
 
 // Encode writes the union file.
 func (cu CellUnion) Encode(w io.Writer) error {
@@ -358,11 +355,27 @@ func normalize(ids []CellID) (int, error) {
 // sameBits is a list of cells in another type, in the same memory.
 func sameBits[To, From ID](ids []From) []To { return *(*[]To)(unsafe.Pointer(&ids)) }
 
+func unionNamed(words []byte) (CellUnion, error) {
+	ids, err := named(words)
+	if err != nil {
+		return CellUnion{}, err
+	}
+	return normalized(ids)
+}
+
 func unmarshalled(file []byte) (CellUnion, error) {
 	at, n := placeOfBytes(file)
 	return made(len(file)/8, func(out *C.uint64_t, room C.size_t, length *C.size_t) C.int32_t {
 		return C.s2u_decode(at, n, out, room, length)
 	})
+}
+
+// become makes the union that which a call has made, unless it was refused.
+func (cu *CellUnion) become(union CellUnion, err error) error {
+	if err == nil {
+		*cu = union
+	}
+	return err
 }
 
 func made(room int, call func(out *C.uint64_t, room C.size_t, length *C.size_t) C.int32_t) (CellUnion, error) {
