@@ -1,5 +1,5 @@
-//! The calls of s2union.h over slices. All code that the compiler can't check stands here. Every call is total: a
-//! pointer goes with the length of what it points to, and nothing else is asked of it.
+//! The calls of s2union.h over slices, which the compiler can't check. Every call is total: a pointer goes with the
+//! length of what it points to, and nothing else is asked of it.
 
 use crate::error::Error;
 
@@ -156,8 +156,13 @@ fn listed<T>(room: usize, call: impl Fn(*mut T, usize, *mut usize) -> i32) -> Re
     Error::of(status, len)?;
     // SAFETY: the call succeeded, so it has written this many, and there was room for them.
     unsafe { made.set_len(len) };
-    made.shrink_to(len + len / 2);
+    trim(&mut made);
     Ok(made)
+}
+
+/// Leaves a list memory of its own size, and at most half as much again.
+fn trim<T>(list: &mut Vec<T>) {
+    list.shrink_to(list.len() + list.len() / 2);
 }
 
 /// An empty list with room for this number.
@@ -220,6 +225,7 @@ pub fn normalise(ids: &mut Vec<u64>) -> Result<(), Error> {
     // SAFETY: as above.
     Error::of(unsafe { s2u_normalise(ids.as_mut_ptr(), ids.len(), &mut len) }, len)?;
     ids.truncate(len);
+    trim(ids);
     Ok(())
 }
 

@@ -37,7 +37,8 @@ impl CellUnion {
         CellUnion::default()
     }
 
-    /// The union of cells in any order, repeated, or inside one another. It takes no memory.
+    /// The union of cells in any order, repeated, or inside one another. It takes no memory, and gives back what is
+    /// more than half as much again as the union needs.
     pub fn from_cells(cells: Vec<CellId>) -> CellUnion {
         CellUnion::from_ids(numbers_of(cells)).expect("cells are cells")
     }
@@ -68,13 +69,13 @@ impl CellUnion {
     }
 
     /// All leaves from the first of one cell to the last of another, also across faces. [`Error::Argument`]: the last
-    /// leaf comes before the first.
+    /// leaf comes before the first. [`Error::Memory`].
     pub fn from_range(first: CellId, last: CellId) -> Result<CellUnion, Error> {
         CellUnion::made(calls::range(first.id(), last.id()))
     }
 
     /// The leaves from `begin` up to `end`, which is not one of them; all from `begin` if there is no `end`.
-    /// [`Error::Argument`]: one is no leaf, or `end` comes first.
+    /// [`Error::Argument`]: one is no leaf, or `end` comes first. [`Error::Memory`].
     pub fn from_begin_end(begin: CellId, end: Option<CellId>) -> Result<CellUnion, Error> {
         let last = match end {
             Some(end) if end == begin && end.is_leaf() => return Ok(CellUnion::new()),

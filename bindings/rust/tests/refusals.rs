@@ -129,6 +129,26 @@ fn the_union_of_many() {
 }
 
 #[test]
+fn unions_have_memory_of_their_size() {
+    const COUNT: usize = 1 << 12;
+    let face = cell("1");
+    for one in [
+        CellUnion::from_cells(vec![face; COUNT]),
+        CellUnion::from_ids(vec![FACE; COUNT]).unwrap(),
+        vec![face; COUNT].into_iter().collect(),
+        union(&"1 ".repeat(COUNT)),
+    ] {
+        assert_eq!(one.len(), 1);
+        assert_eq!(one.into_cells().capacity(), 1);
+    }
+    let mut cells = CellUnion::from(face).denormalized(6, 1, COUNT).unwrap();
+    cells.retain(|cell| cell.parent(5).unwrap().child(3) != Some(*cell));
+    let at = cells.as_ptr();
+    let many = CellUnion::from_cells(cells);
+    assert_eq!((many.cells().as_ptr(), many.len()), (at, 3 << 10)); // the caller's own memory
+}
+
+#[test]
 fn shared_by_threads() {
     let park = union("04 0c 1c");
     thread::scope(|scope| {
