@@ -1,6 +1,7 @@
 //! The calls of s2union.h over slices, which the compiler can't check. Every call is total: a pointer goes with the
 //! length of what it points to, and nothing else is asked of it.
 
+use crate::cells::FacePoint;
 use crate::error::Error;
 
 const ROOM: i32 = -1;
@@ -229,14 +230,6 @@ pub fn normalise(ids: &mut Vec<u64>) -> Result<(), Error> {
     Ok(())
 }
 
-/// s2u_point.
-#[repr(C)]
-pub struct Point {
-    pub face: u32,
-    pub i: u32,
-    pub j: u32,
-}
-
 /// Calls that answer something for each element of a list, in a number of parts each.
 macro_rules! of_each {
     ($($name:ident: $call:ident([$element:ty] $(, $argument:ident: $kind:ty)*) -> [$made:ty; $width:expr];)*) => {
@@ -259,7 +252,7 @@ of_each! {
     range_maxes: s2u_range_maxes([u64]) -> [u64; 1];
     levels: s2u_levels([u64]) -> [u8; 1];
     token_fields: s2u_token_fields([u64]) -> [u8; MOST_TOKEN];
-    from_points: s2u_from_points([Point]) -> [u64; 1];
+    from_points: s2u_from_points([FacePoint]) -> [u64; 1];
 }
 
 type AboutCells = unsafe extern "C" fn(*const u64, usize, *const u64, usize, *mut u8, usize, *mut usize) -> i32;

@@ -7,6 +7,7 @@ use crate::union::{cells_of, numbers};
 
 /// A leaf's face and its coordinates there.
 #[derive(Clone, Copy, Debug, PartialEq, Eq, Hash)]
+#[repr(C)] // s2u_point
 pub struct FacePoint {
     /// 0 to 5.
     pub face: u32,
@@ -75,7 +76,6 @@ impl CellId {
 
     /// The leaf at each point; none if it is on no face.
     pub fn from_points(points: &[FacePoint]) -> Vec<Option<CellId>> {
-        let points = points.iter().map(|point| calls::Point { face: point.face, i: point.i, j: point.j });
-        calls::from_points(&points.collect::<Vec<_>>()).into_iter().map(CellId::made).collect()
+        calls::from_points(points).into_iter().map(CellId::made).collect()
     }
 }

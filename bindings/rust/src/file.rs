@@ -1,3 +1,5 @@
+use std::fmt;
+
 use crate::calls;
 use crate::cell::CellId;
 use crate::error::Error;
@@ -83,5 +85,12 @@ impl<'a> UnionFile<'a> {
     /// The union, copied. [`Error::Memory`].
     pub fn to_union(&self) -> Result<CellUnion, Error> {
         CellUnion::decode(self.bytes)
+    }
+}
+
+/// The debug texts of the cells.
+impl fmt::Debug for UnionFile<'_> {
+    fn fmt(&self, f: &mut fmt::Formatter<'_>) -> fmt::Result {
+        f.debug_set().entries((0..self.len()).filter_map(|place| self.cell(place))).finish()
     }
 }

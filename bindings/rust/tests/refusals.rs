@@ -82,7 +82,8 @@ fn files() {
     assert_eq!(file.cell(1 << 32), None);
     let mut exchanged = bytes.clone();
     exchanged[9..].rotate_left(8);
-    assert_eq!(UnionFile::new(&exchanged).map(|file| file.len()), Err(Error::NotNormalized));
+    assert_eq!(UnionFile::new(&exchanged).unwrap_err(), Error::NotNormalized);
+    assert_eq!(format!("{file:?}"), "{0/0, 0/1}");
     assert_eq!(CellUnion::decode(&exchanged), Ok(union("04 0c")));
     assert_eq!(CellUnion::decode(&[]), Err(Error::FileShort));
 }
