@@ -17,6 +17,7 @@ import shutil
 import subprocess
 import sys
 import tempfile
+import tracemalloc
 import unittest
 from array import array
 from pathlib import Path
@@ -523,6 +524,20 @@ class TheModule(unittest.TestCase):
             taken.assert_called_once_with(room)
         whole = Union([FACE])
         self.assertEqual((whole & many, many & whole), (many, many))  # more than twice the shorter one
+
+    def test_what_is_only_read_is_not_copied(self):
+        a, park = Union(range(1, 8 * 10_000, 8)), Park("High Line", "89c259c")
+        self.assertTrue(Union(a)._ids is a._ids and copy.deepcopy(park)._ids is park._ids)
+        self.assertEqual((type(Union(park)), Union(park)), (Union, park))
+        # In bytes: a list of 8 for each answer of 1; and room for 20,000 cells.
+        for ask, most in ((s2union.is_union, 0), (s2union.levels, 90_000), (a.contains_cells, 90_000),
+                          (a.__or__, 160_000)):
+            tracemalloc.start()
+            try:
+                ask(a)
+                self.assertLess(tracemalloc.get_traced_memory()[1], most + 8000, ask)
+            finally:
+                tracemalloc.stop()
 
     def test_numbers_with_a_sign(self):
         cells = [cell_of(text) for text in ("1", "7", "9", "b", "89c25", "bfffffffffffffff", LEAF)]

@@ -261,8 +261,7 @@ def levels(cells: Any) -> Any:
     >>> levels([0x1000000000000000, 0x0400000000000000])
     [0, 1]
     """
-    ids = _ids_of(cells)
-    return _entries(cells, _each(_library.levels, ids, _array("B", bytes(len(ids)))))
+    return _entries(cells, _each(_library.levels, cells, kind="B"))
 
 
 @overload
@@ -273,8 +272,7 @@ def parents(cells: Iterable[SupportsIndex], level: SupportsIndex) -> list[int]: 
 
 def parents(cells: Any, level: SupportsIndex) -> Any:
     """The cells of one level that contain the cells, in one call; ValueError if the level is below a cell's own."""
-    ids, wanted = _ids_of(cells), _number(level, 30, "a level")
-    return _entries(cells, _each(_library.parents, ids, _room(len(ids)), wanted))
+    return _entries(cells, _each(_library.parents, cells, _number(level, 30, "a level")))
 
 
 @overload
@@ -285,8 +283,7 @@ def range_mins(cells: Iterable[SupportsIndex]) -> list[int]: ...
 
 def range_mins(cells: Any) -> Any:
     """The first leaves of many cells, in one call."""
-    ids = _ids_of(cells)
-    return _entries(cells, _each(_library.range_mins, ids, _room(len(ids))))
+    return _entries(cells, _each(_library.range_mins, cells))
 
 
 @overload
@@ -297,8 +294,7 @@ def range_maxes(cells: Iterable[SupportsIndex]) -> list[int]: ...
 
 def range_maxes(cells: Any) -> Any:
     """The last leaves of many cells, in one call."""
-    ids = _ids_of(cells)
-    return _entries(cells, _each(_library.range_maxes, ids, _room(len(ids))))
+    return _entries(cells, _each(_library.range_maxes, cells))
 
 
 @overload
@@ -310,11 +306,8 @@ def token_fields(cells: Iterable[SupportsIndex]) -> list[bytes]: ...
 def token_fields(cells: Any) -> Any:
     """The tokens of many cells in one call, as bytes: a list, or for an array of numpy or a column of pandas, an array
     of texts of at most 16 bytes, which is made more quickly than the list that `tokens` gives."""
-    ids = _ids_of(cells)
     width = _library.MOST_TOKEN
-    if len(ids) > _sys.maxsize // width:
-        _refuse(_library.MEMORY)
-    fields = _each(_library.token_fields, ids, _array("B", bytes(width * len(ids))))
+    fields = _each(_library.token_fields, cells, kind="B", width=width)
     if _is_array(cells):
         import numpy
         return numpy.frombuffer(fields, f"S{width}")
@@ -351,7 +344,7 @@ def _points_of(*parts: tuple[Any, int, str]) -> _array[int]:
     count = len(columns[0])
     if any(len(column) != count for column in columns):
         raise ValueError(f"there are not as many of each: {', '.join(str(len(column)) for column in columns)}")
-    points = _array("I", bytes(4 * len(columns) * count))
+    points = _room(len(columns) * count, "I")
     for place, column in enumerate(columns):
         points[place::len(columns)] = column
     return points
@@ -373,14 +366,17 @@ def _column_of(numbers: Any, most: int, what: str) -> _array[int]:
     return column
 
 
-def _each(call: Callable[..., int], ids: _array[int], out: _array[int], *arguments: Any) -> _array[int]:
-    """The entries that a call answers for the cells. A cell without one is refused, by its place."""
-    bad = _c.c_size_t()
-    status = call(*_place(ids), *arguments, *_place(out), _c.byref(bad))
+def _each(call: Callable[..., int], cells: Any, *arguments: Any, kind: str = "Q", width: int = 1) -> _array[int]:
+    """The entries that a call answers for the cells, each of `width` numbers of a kind. A cell without one is refused,
+    by its place."""
+    ids, bad = _read(cells), _c.c_size_t()
+    at, count = _place(ids)
+    out = _room(width * count, kind)
+    status = call(at, count, *arguments, *_place(out), _c.byref(bad))
     if status != _library.OK:
         _refuse(status)
-    if bad.value < len(ids):
-        cell = ids[bad.value]
+    if bad.value < count:
+        cell = _cells_in(ids)[bad.value]
         what = "the level is below the cell's own" if _library.is_cell(cell) else "not a cell"
         raise ValueError(f"{what} at place {bad.value}: {cell:#x}")
     return out
@@ -400,7 +396,7 @@ def tokens(cells: Iterable[SupportsIndex] | Array) -> list[str]:
     >>> tokens([0x1c00000000000000, 0x0400000000000000])
     ['1c', '04']
     """
-    return _tokens_of(_ids_of(cells))
+    return _tokens_of(_read(cells))
 
 
 def from_tokens(text: str | bytes | Iterable[str]) -> list[int]:
@@ -416,7 +412,7 @@ def is_union(cells: Iterable[SupportsIndex] | Array) -> bool:
     >>> is_union([0x0400000000000000, 0x0c00000000000000]), is_union([0x0c00000000000000, 0x0400000000000000])
     (True, False)
     """
-    ids = _ids_of(cells)
+    ids = _read(cells)
     return _answer(_library.is_union(*_place(ids)))
 
 
@@ -440,7 +436,7 @@ def _tokens_of(ids: _array[int] | bytes) -> list[str]:
     text, length = _c.create_string_buffer(room), _c.c_size_t()
     status = _library.tokens(at, count, text, room, _c.byref(length))
     if status == _library.NO_CELL:
-        for place, cell in enumerate(memoryview(ids).cast("B").cast("Q")):
+        for place, cell in enumerate(_cells_in(ids)):
             if not _library.is_cell(cell):
                 raise ValueError(f"not a cell at place {place}: {cell:#x}")
     if status != _library.OK:
@@ -463,11 +459,8 @@ def _view_of(cells: Any) -> memoryview | None:
 
 
 def _ids_of(cells: Any) -> _array[int]:
-    """A new array of the cells of a union, of the numbers in a buffer of 64-bit integers, or of an iterable."""
+    """A new array of the numbers in a buffer of 64-bit integers, or of the cells of an iterable."""
     ids = _array("Q")
-    if isinstance(cells, Union):
-        ids.frombytes(cells._ids)
-        return ids
     view = _view_of(cells)
     if view is None:
         return _array("Q", map(_bits, cells))
@@ -478,15 +471,24 @@ def _ids_of(cells: Any) -> _array[int]:
     return ids
 
 
-def _room(length: int) -> _array[int]:
+def _read(cells: Any) -> _array[int] | bytes:
+    """Cells for a call that only reads them: those of a union in place, and a copy of others."""
+    return cells._ids if isinstance(cells, Union) else _ids_of(cells)
+
+
+def _room(length: int, kind: str = "Q") -> _array[int]:
     if length > _sys.maxsize // 8:
         _refuse(_library.MEMORY)
-    return _array("Q", bytes(8 * length))
+    return _array(kind, [0]) * length
 
 
 def _place(ids: _array[int] | bytes) -> tuple[Any, int]:
     """What the library takes for a list of cells: where it is, and how many it has."""
     return (ids, len(ids) // 8) if isinstance(ids, bytes) else ids.buffer_info()
+
+
+def _cells_in(ids: _array[int] | bytes) -> memoryview:
+    return memoryview(ids).cast("B").cast("Q")
 
 
 def _rectangle(bounds: Iterable[SupportsIndex]) -> Any:
@@ -714,7 +716,7 @@ class Union:
     _hash: int | None
 
     def __new__(cls: type[Self], cells: Iterable[SupportsIndex] | Array = ()) -> Self:
-        return cls._normalised(_ids_of(cells))
+        return cls._holding(cells._ids) if isinstance(cells, Union) else cls._normalised(_ids_of(cells))
 
     def __init__(self, *_: Any, **__: Any) -> None:
         """Does nothing: `__new__` makes the union, and a second call must not change it."""
@@ -734,8 +736,13 @@ class Union:
     @classmethod
     def _made(cls: type[Self], ids: _array[int]) -> Self:
         """The union whose normalized list is an array."""
+        return cls._holding(ids.tobytes())
+
+    @classmethod
+    def _holding(cls: type[Self], ids: bytes) -> Self:
+        """The union whose normalized list has these bytes."""
         self = object.__new__(cls)
-        object.__setattr__(self, "_ids", ids.tobytes())
+        object.__setattr__(self, "_ids", ids)
         object.__setattr__(self, "_hash", None)
         return self
 
@@ -824,7 +831,7 @@ class Union:
         attributes = getattr(self, "__dict__", None)
         if not attributes:
             return self
-        made = memo[id(self)] = self._made(_ids_of(self))
+        made = memo[id(self)] = self._holding(self._ids)
         made.__dict__.update(_copy.deepcopy(attributes, memo))
         return made
 
@@ -855,7 +862,7 @@ class Union:
     @property
     def ids(self) -> memoryview:
         """The cells as a read-only memoryview of unsigned 64-bit integers, without a copy."""
-        return memoryview(self._ids).cast("Q")
+        return _cells_in(self._ids)
 
     @property
     def __array_interface__(self) -> dict[str, Any]:
@@ -890,12 +897,13 @@ class Union:
         return self[first.value:first.value + count.value]
 
     def _ask_all(self, call: Callable[..., int], cells: Any) -> Any:
-        ids, bad = _ids_of(cells), _c.c_size_t()
-        answers = bytearray(len(ids))
-        room = (_c.c_char * len(answers)).from_buffer(answers)
-        status = call(*_place(self._ids), *_place(ids), room, len(answers), _c.byref(bad))
+        ids, bad = _read(cells), _c.c_size_t()
+        at, count = _place(ids)
+        answers = bytearray(count)
+        room = (_c.c_char * count).from_buffer(answers)
+        status = call(*_place(self._ids), at, count, room, count, _c.byref(bad))
         if status == _library.NO_CELL:
-            raise ValueError(f"not a cell at place {bad.value}: {ids[bad.value]:#x}")
+            raise ValueError(f"not a cell at place {bad.value}: {_cells_in(ids)[bad.value]:#x}")
         if status != _library.OK:
             _refuse(status)
         return _answers(cells, answers)
