@@ -20,6 +20,7 @@
  *     refusal the answer is false or empty, and what the call would have changed is as it was. An argument that is made
  *     for the call may still throw: a list in braces, and the union of another class, which becomes a CellUnion first.
  *     Make it one before, with a status of its own. So may S2's Encoder, which takes its memory itself.
+ * Copies of a union, its texts, and S2's unions that are made of it have no status: they take memory as std's do.
  */
 #ifndef S2UNION_HPP
 #define S2UNION_HPP
@@ -143,8 +144,9 @@ class CellUnionOf {
     Init(cell_ids, status);
   }
 
-  /// The union of the cells of another class, such as S2CellUnion; they need not be normalized.
-  template <class Theirs, class = internal::ListOf<Theirs>>
+  /// The union of the cells of another class, such as S2CellUnion; they need not be normalized. S2U_NO_CELL,
+  /// S2U_MEMORY.
+  template <class Theirs, class = std::enable_if_t<internal::is_cell<typename internal::ListOf<Theirs>::value_type>>>
   CellUnionOf(const Theirs& theirs, int32_t* status = nullptr) {
     Take(theirs.cell_ids(), status);
   }
@@ -158,7 +160,7 @@ class CellUnionOf {
     return Theirs::FromNormalized(std::move(cells));
   }
 
-  /// All leaves.
+  /// All leaves. S2U_MEMORY.
   static CellUnionOf WholeSphere(int32_t* status = nullptr) { return Range(kFirstFace, kLastFace, status); }
 
   /// The union whose cells these are. S2U_NO_UNION if they are not normalized. n steps.
@@ -169,15 +171,15 @@ class CellUnionOf {
   }
   /// The same from a copy. S2U_NO_UNION, S2U_MEMORY.
   static CellUnionOf FromNormalized(const std::vector<Id>& cell_ids, int32_t* status = nullptr) {
-    std::vector<Id> own;
-    int32_t found = internal::resized(&own, cell_ids.size());
-    if (!internal::succeeded(found, status)) return {};
-    std::copy(cell_ids.begin(), cell_ids.end(), own.begin());
-    return FromNormalized(std::move(own), status);
+    CellUnionOf made;
+    int32_t found = UnionStatus(cell_ids);
+    if (found == S2U_OK) found = internal::resized(&made.cell_ids_, cell_ids.size());
+    if (internal::succeeded(found, status)) std::copy(cell_ids.begin(), cell_ids.end(), made.cell_ids_.begin());
+    return made;
   }
 
-  /// The leaves from the first to the last, both included. S2U_NO_CELL. S2U_ARGUMENT: one is no leaf, or the last comes
-  /// before the first.
+  /// The leaves from the first to the last, both included. S2U_NO_CELL, S2U_MEMORY. S2U_ARGUMENT: one is no leaf, or
+  /// the last comes before the first.
   static CellUnionOf FromMinMax(Id min_id, Id max_id, int32_t* status = nullptr) {
     uint64_t first = internal::number_of(min_id), last = internal::number_of(max_id);
     if (!internal::succeeded(LeafStatus(first), status) || !internal::succeeded(LeafStatus(last), status)) return {};
@@ -185,7 +187,8 @@ class CellUnionOf {
   }
 
   /// The leaves from `begin` up to `end`, which is not one of them: a leaf, or S2CellId::End(30), after the last leaf.
-  /// Empty if both are the same. S2U_NO_CELL. S2U_ARGUMENT: one is no leaf and not the end, or `end` comes first.
+  /// Empty if both are the same. S2U_NO_CELL, S2U_MEMORY. S2U_ARGUMENT: one is no leaf and not the end, or `end` comes
+  /// first.
   static CellUnionOf FromBeginEnd(Id begin, Id end, int32_t* status = nullptr) {
     uint64_t first = internal::number_of(begin), after = internal::number_of(end);
     bool begins_at_end = first == kLeafEnd, ends_at_end = after == kLeafEnd;

@@ -50,6 +50,12 @@ class Theirs {
   std::vector<Cell> cells_;
 };
 
+/// A class whose numbers are too short for cells: no union is made of them.
+struct Short {
+  std::vector<int32_t> cell_ids() const { return {1}; }
+};
+static_assert(!std::is_convertible_v<Short, s2union::CellUnion> && std::is_convertible_v<Theirs, s2union::CellUnion>);
+
 /// As S2's Encoder and Decoder, with the calls of these that the header makes.
 struct Encoder {
   std::string bytes;
@@ -249,6 +255,8 @@ static void unions() {
   REFUSES(S2U_MEMORY, x.Decode(bytes.data(), bytes.size(), status));
   REFUSES(S2U_OK, Union(std::move(moved), status));
   REFUSES(S2U_OK, Union::FromNormalized(std::move(more), status));
+  int32_t found = S2U_OK;
+  CHECK(Union::FromNormalized(list, &found).empty() && found == S2U_NO_UNION);  // no copy is made of it
   std_has_memory = true;
   CHECK(list.size() == 64 && x == two);
   has_memory = false;
