@@ -1,6 +1,6 @@
 """Drives the page in Chromium and compares what it answers with the library, by its module for Python:
 
-    browser.py FOLDER [--figures] [--pictures] [--save PNG]
+    browser.py FOLDER [--figures] [--pictures]
 
 FOLDER has the page that tools/page made. The last line is 'N passed, M failed'.
 """
