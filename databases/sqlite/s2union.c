@@ -446,22 +446,24 @@ typedef struct kind {
  * ready, and those that wait to be cut, the last one first, before those that come next in the list. */
 enum { MOST_GIVEN = 3, READY = 256, MOST_WAITING = 128 };
 
-/* Rows are numbered on over all cursors that are open at a time. For an OR, SQLite makes a call for each side, on a
- * cursor of its own, and takes rows of one number as one. */
-typedef struct table { sqlite3_vtab base; const kind* kind; size_t rows; } table;
+typedef struct table { sqlite3_vtab base; const kind* kind; } table;
 typedef struct cursor {
   sqlite3_vtab_cursor base;
   sqlite3_value* given[MOST_GIVEN];
   block* block;
-  size_t row, next, at, n, waiting;
+  size_t next, at, n, waiting;
   uint32_t level, modulus;
   uint64_t ready[READY], wait[MOST_WAITING];
 } cursor;
 
+/* A row is known by its key, which has the arguments: so a row that two sides of an OR make comes once, and FULL JOIN,
+ * which makes a call again to find the rows without a match, knows those that it has met. */
+#define KEY(columns) "PRIMARY KEY(" columns ")) WITHOUT ROWID"
 static const kind kinds[] = {
-  {"s2_cells", "CREATE TABLE x(cell, range_min, range_max, x BLOB HIDDEN, level HIDDEN, modulus HIDDEN)", 3, 3, CELLS},
-  {"s2_ancestors", "CREATE TABLE x(cell, range_min, range_max, x BLOB HIDDEN)", 3, 1, ANCESTORS},
-  {"s2_prepared", "CREATE TABLE x(value, x BLOB HIDDEN)", 1, 1, PREPARED_VALUE},
+  {"s2_cells", "CREATE TABLE x(cell, range_min, range_max, x BLOB HIDDEN, level HIDDEN, modulus HIDDEN, "
+   KEY("cell, level, modulus, x"), 3, 3, CELLS},
+  {"s2_ancestors", "CREATE TABLE x(cell, range_min, range_max, x BLOB HIDDEN, " KEY("cell, x"), 3, 1, ANCESTORS},
+  {"s2_prepared", "CREATE TABLE x(value, x BLOB HIDDEN, " KEY("x"), 1, 1, PREPARED_VALUE},
 };
 
 static int connect(sqlite3* db, void* aux, int argc, const char* const* argv, sqlite3_vtab** made, char** error) {
@@ -499,7 +501,6 @@ static int open(sqlite3_vtab* t, sqlite3_vtab_cursor** made) {
   cursor* u = sqlite3_malloc64(sizeof *u);
   if (!u) return SQLITE_NOMEM;
   *u = (cursor){.block = NULL};
-  if (t->nRef == 0) ((table*)t)->rows = 0;
   return *made = &u->base, SQLITE_OK;
 }
 
@@ -512,7 +513,7 @@ static void empty(cursor* u) {
 
 static int close(sqlite3_vtab_cursor* u) { return empty((cursor*)u), sqlite3_free(u), SQLITE_OK; }
 
-static table* table_of(const cursor* u) { return (table*)u->base.pVtab; }
+static const kind* kind_of(const cursor* u) { return ((const table*)u->base.pVtab)->kind; }
 
 /* Cuts n cells, or a half of them and so on if they make more than there is room for. *some is how many it has cut. */
 static int32_t cut_some(cursor* u, const uint64_t* cells, size_t n, size_t* some) {
@@ -561,12 +562,11 @@ static int32_t fill(cursor* u, const kind* kind, int arguments, sqlite3_value** 
 static int filter(sqlite3_vtab_cursor* base, int arguments, const char* text, int argc, sqlite3_value** v) {
   cursor* u = (cursor*)base;
   empty(u);
-  u->row = table_of(u)->rows++;
   for (int k = 0; k < arguments; k++) {
     if (sqlite3_value_type(v[k]) == SQLITE_NULL) return SQLITE_OK; /* no rows */
     if (!(u->given[k] = sqlite3_value_dup(v[k]))) return SQLITE_NOMEM;
   }
-  int32_t status = fill(u, table_of(u)->kind, arguments, v);
+  int32_t status = fill(u, kind_of(u), arguments, v);
   if (status == S2U_OK) return SQLITE_OK;
   if (status == S2U_MEMORY) return SQLITE_NOMEM;
   sqlite3_free(base->pVtab->zErrMsg);
@@ -577,8 +577,8 @@ static int filter(sqlite3_vtab_cursor* base, int arguments, const char* text, in
 /* Memory is the only thing that may be missing. */
 static int next(sqlite3_vtab_cursor* base) {
   cursor* u = (cursor*)base;
-  u->row = table_of(u)->rows++, u->at++;
-  if (u->at < u->n || table_of(u)->kind->rows != CELLS) return SQLITE_OK;
+  u->at++;
+  if (u->at < u->n || kind_of(u)->rows != CELLS) return SQLITE_OK;
   return cut(u) == S2U_OK ? SQLITE_OK : SQLITE_NOMEM;
 }
 
@@ -586,7 +586,7 @@ static int eof(sqlite3_vtab_cursor* u) { return ((cursor*)u)->at >= ((cursor*)u)
 
 static int column(sqlite3_vtab_cursor* base, sqlite3_context* c, int k) {
   cursor* u = (cursor*)base;
-  const kind* kind = table_of(u)->kind;
+  const kind* kind = kind_of(u);
   if (k >= kind->hidden) {
     if (u->given[k - kind->hidden]) sqlite3_result_value(c, u->given[k - kind->hidden]);
   } else if (kind->rows != PREPARED_VALUE) {
@@ -600,11 +600,9 @@ static int column(sqlite3_vtab_cursor* base, sqlite3_context* c, int k) {
   return SQLITE_OK;
 }
 
-static int rowid(sqlite3_vtab_cursor* u, sqlite3_int64* row) { return *row = ((cursor*)u)->row, SQLITE_OK; }
-
 static const sqlite3_module tables = {
   .xConnect = connect, .xDisconnect = disconnect, .xBestIndex = best_index, .xOpen = open, .xClose = close,
-  .xFilter = filter, .xNext = next, .xEof = eof, .xColumn = column, .xRowid = rowid,
+  .xFilter = filter, .xNext = next, .xEof = eof, .xColumn = column,
 };
 
 enum { FLAGS = SQLITE_UTF8 | SQLITE_INNOCUOUS | SQLITE_SUBTYPE, PURE = FLAGS | SQLITE_DETERMINISTIC };

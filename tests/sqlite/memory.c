@@ -23,6 +23,7 @@ static const char* const queries[] = {
   "SELECT cell, range_min FROM s2_ancestors('041 14')",
   "SELECT cell, x, level FROM parts, s2_cells(part, id) WHERE id < 3 AND level > 0",
   "SELECT cell FROM s2_cells WHERE x = '04' AND level = 2 OR x = '14' AND level = 2",
+  "SELECT a.x, b.x, b.cell FROM s2_cells('04 0c', 1) AS a FULL JOIN s2_cells('0c 14', 1) AS b ON a.cell = b.cell",
   "SELECT hex(value), count(*) FROM s2_prepared('04 14'), parts WHERE s2_intersects(value, part)",
 };
 

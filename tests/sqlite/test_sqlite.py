@@ -275,9 +275,9 @@ class AgainstTheModel(Tests):
             cells += [model.identifier(7, 5), model.identifier(7, 7)]
             cells += [model.identifier(14, 8 * 4**7 + 6 * k) for k in range(most)]
             for level, modulus in ((0, 1), (12, 1), (13, 1), (11, 2), (13, 3)):
-                said = self.db.execute("SELECT cell, rowid FROM s2_cells(?, ?, ?)", (model.file(cells), level, modulus))
-                wanted = [signed(cell) for cell in model.cut(model.normal(model.runs(cells)), level, modulus)]
-                self.assertEqual(said.fetchall(), list(zip(wanted, range(len(wanted)))), (most, level, modulus))
+                said = self.db.execute("SELECT cell FROM s2_cells(?, ?, ?)", (model.file(cells), level, modulus))
+                wanted = [(signed(cell),) for cell in model.cut(model.normal(model.runs(cells)), level, modulus)]
+                self.assertEqual(said.fetchall(), wanted, (most, level, modulus))
 
     def test_a_listing_makes_only_the_cells_that_are_asked_for(self):
         said = self.peak("SELECT cell, range_min, range_max FROM s2_cells('1 3', 30) LIMIT 5")
@@ -316,7 +316,7 @@ class AgainstTheModel(Tests):
         self.db.execute("CREATE TABLE regions(id INTEGER PRIMARY KEY, region BLOB)")
         for k, xs in enumerate(regions):
             self.db.execute("INSERT INTO regions VALUES(?, ?)", (k, self.random.form(xs)))
-        said = self.db.execute("SELECT id, cell FROM regions, s2_cells(region) ORDER BY id, s2_cells.rowid").fetchall()
+        said = self.db.execute("SELECT id, cell FROM regions, s2_cells(region) ORDER BY id").fetchall()
         wanted = [(k, signed(cell)) for k, xs in enumerate(regions) for cell in model.normal(model.runs(xs))]
         self.assertEqual(said, wanted)
         said = self.db.execute("SELECT max(value) FROM regions, s2_prepared(region)").fetchone()[0]
@@ -354,8 +354,52 @@ class AgainstTheModel(Tests):
             ("s2_cells WHERE x = '04' AND level = 2 OR x = '1c' AND level = 1 OR x = '14' AND level = 3", 21),
             ("s2_ancestors WHERE x = '041' AND cell > 0 OR x = '14' AND cell > 0", 7),
             ("pairs, s2_cells WHERE x = a AND level = 2 OR x = b AND level = 2", 36),
+            ("s2_cells WHERE x = '04' AND level = 1 OR x = '14' AND level = 2 OR x = '04' AND level = 1", 5),
+            ("s2_cells WHERE x = '1' AND level = 2 AND modulus = 1 OR x = '1' AND level = 2 AND modulus = 2", 32),
+            ("s2_ancestors WHERE x = '04' AND cell > 0 OR x = '0/0' AND cell > 0", 4),
+            ("s2_prepared WHERE x = '04' AND value > 0 OR x = '0/0' AND value > 0 OR x = '04' AND value > 1", 2),
         ):
             self.assertEqual(self.ask(f"count(*) FROM {rest}"), rows, rest)
+
+    def test_a_call_in_a_full_join(self):
+        """SQLite makes it again, to find the rows that have no match."""
+        self.db.execute("CREATE TABLE seen(token, cell)")
+        self.db.executemany("INSERT INTO seen VALUES(?1, s2_cell(?1))", [("04",), ("04",), ("14",), ("3",)])
+        for call, others in (("s2_cells('04 0c 14')", ["0c"]), ("s2_ancestors('04 14')", ["1"]),
+                             ("s2_cells('1', 1)", ["0c", "1c"])):
+            rows = self.db.execute(
+                f"SELECT token, s2_token(c.cell) FROM seen AS s FULL JOIN {call} AS c ON s.cell = c.cell")
+            wanted = [("04", "04"), ("04", "04"), ("14", "14"), ("3", None)] + [(None, other) for other in others]
+            self.assertCountEqual(rows, wanted, call)
+        rows = self.db.execute("SELECT token, x FROM seen FULL JOIN s2_prepared('04') ON s2_within(cell, value)")
+        self.assertCountEqual(rows, [("04", "04"), ("04", "04"), ("14", None), ("3", None)])
+
+    def test_joins_of_calls(self):
+        """Each has the rows of the same join of a table that has the rows of all calls."""
+        words = ("04", "0c", "04 0c", "0c 14", "04 14 1c", "041 0c4", "")
+        self.db.execute("CREATE TABLE known(cell, x, level)")
+        for word in words:
+            for level in range(4):
+                self.db.execute("INSERT INTO known SELECT cell, x, level FROM s2_cells(?, ?)", (word, level))
+        for turn in range(ROUNDS // 3):
+            names = "abc"[: self.random.randint(1, 3)]
+            sides, sources = [], {"s2_cells": "", "known": ""}
+            for k, name in enumerate(names):
+                most = self.random.randint(1, 4)
+                calls = [(self.random.choice(words), self.random.randrange(4)) for _ in range(most)]
+                one = f"s2_cells('{calls[0][0]}', {calls[0][1]})"
+                rows = f"(SELECT * FROM known WHERE x = '{calls[0][0]}' AND level = {calls[0][1]})"
+                join = self.random.choice([" JOIN ", " LEFT JOIN ", " FULL JOIN "]) if turn % 2 else " JOIN "
+                on = f" ON {name}.cell {self.random.choice('=<>')} {self.random.choice(names[:k])}.cell" if k else ""
+                for table, source in (("s2_cells", one), ("known", rows)):
+                    sources[table] += (join if k else "") + (source if turn % 2 else table) + f" AS {name}{on}"
+                if turn % 2 == 0:
+                    sides.append(" OR ".join(f"{name}.x = '{x}' AND {name}.level = {level}" for x, level in calls))
+            columns = ", ".join(f"{name}.cell, {name}.x, {name}.level" for name in names)
+            where = " AND ".join(f"({side})" for side in sides) or "true"
+            said, wanted = (self.db.execute(f"SELECT {columns} FROM {source} WHERE {where}").fetchall()
+                            for source in sources.values())
+            self.assertCountEqual(said, wanted, (sources, where))
 
     def test_views_and_triggers_of_an_untrusted_schema(self):
         self.db.executescript("""
