@@ -10,6 +10,7 @@
 #include "commands/vacuum.h"
 #include "common/pg_prng.h"
 #include "fmgr.h"
+#include "miscadmin.h"
 #include "nodes/makefuncs.h"
 #include "nodes/nodeFuncs.h"
 #include "nodes/pathnodes.h"
@@ -18,6 +19,7 @@
 #include "optimizer/pathnode.h"
 #include "utils/datum.h"
 #include "utils/lsyscache.h"
+#include "utils/memutils.h"
 #include "utils/selfuncs.h"
 
 #pragma GCC visibility push(hidden)
@@ -274,7 +276,7 @@ static double part_of(question* ask, const Sample* x, const Sample* y) {
 
 /* If a column is known and nothing of the other side, that one may be a value like those of the column. A constant says
  * nothing of a column without statistics. */
-static double selectivity(PlannerInfo* root, Oid function, List* arguments, int relation) {
+static double part_for(PlannerInfo* root, Oid function, List* arguments, int relation) {
   question* ask = question_of(function);
   if (ask == NULL || list_length(arguments) != 2) return DEFAULT;
   Sample* x = sample_of(root, linitial(arguments), relation, function);
@@ -283,6 +285,18 @@ static double selectivity(PlannerInfo* root, Oid function, List* arguments, int 
   if (x->n == 0 && !constant && !is_small(linitial(arguments))) memcpy(x->of, y->of, sizeof x->of), x->n = y->n;
   if (y->n == 0 && !constant && !is_small(lsecond(arguments))) memcpy(y->of, x->of, sizeof y->of), y->n = x->n;
   return part_of(ask, x, y);
+}
+
+/* The planner asks this for each element of a constant array, of which there may be millions: so it can be cancelled,
+ * and no sample stays in memory. */
+static double selectivity(PlannerInfo* root, Oid function, List* arguments, int relation) {
+  MemoryContext samples = AllocSetContextCreate(CurrentMemoryContext, "s2union samples", ALLOCSET_DEFAULT_SIZES);
+  MemoryContext context = MemoryContextSwitchTo(samples);
+  CHECK_FOR_INTERRUPTS();
+  double part = part_for(root, function, arguments, relation);
+  MemoryContextSwitchTo(context);
+  MemoryContextDelete(samples);
+  return part;
 }
 
 /* The part of the outer rows that have a match among the inner ones, if of all pairs this part matches. It is a power,

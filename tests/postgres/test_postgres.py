@@ -706,6 +706,23 @@ class Planner(Tests):
                 expected = self.expected(self.plan(f"SELECT * FROM ordered WHERE {condition}"))
                 self.assertTrue(1000 < expected < 4000, (condition, expected)) # there are 2,000
 
+    def test_an_array_of_constants_takes_little_memory(self):
+        """The planner asks of each element which part of the rows it finds."""
+        peak = "SELECT (regexp_match(pg_read_file('/proc/self/status'), 'VmHWM:\\s*(\\d+)'))[1];"
+        for element in ("'04'::s2union", "s2_cell('04')"):
+            said = psql(f"""
+                EXPLAIN (COSTS off) SELECT FROM small WHERE region && ANY (array_fill({element}, ARRAY[3]));
+                {peak}
+                DO $$ DECLARE line text; BEGIN
+                    FOR line IN EXPLAIN SELECT FROM small WHERE region && ANY (array_fill({element}, ARRAY[40000])) LOOP
+                        EXIT;
+                    END LOOP;
+                END $$;
+                {peak}
+            """)
+            before, after = [int(line) for line in said if line.isdigit()]
+            self.assertLess(after - before, 600000, element) # kB, of which the address sanitizer keeps 400,000
+
     def expected(self, plan):
         return int(re.search(r"rows=(\d+)", plan)[1])
 
@@ -823,6 +840,16 @@ class LargeQuestions(Tests):
                 EXECUTE '{ask} region && $1' INTO c USING q; END $do$""")
             self.ends_in_time("SET enable_seqscan = off; SELECT count(*) FROM asked a JOIN waiting w "
                               f"ON w.region && a.region WHERE a.n = {n}")
+
+    def test_the_plan_of_a_question_about_a_large_array(self):
+        psql("""
+            SET client_min_messages = error;
+            DROP TABLE IF EXISTS sampled;
+            CREATE TABLE sampled AS SELECT region FROM waiting LIMIT 1000;
+            ANALYZE sampled;
+        """)
+        for element in ("'04'::s2union", "s2_cell('04')"):
+            self.ends_in_time(f"EXPLAIN SELECT FROM sampled WHERE region && ANY (array_fill({element}, ARRAY[500000]))")
 
     def test_by_gist(self):
         psql("""
