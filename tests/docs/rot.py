@@ -2,8 +2,8 @@
 more than 120 characters, hosts of package registries, and words that the house avoids. tests/docs/pages.py looks for
 paths.
 
-DOUBLES and WORDS are the most that may stand: what stood there when this check came, and less from time to time. The
-last line is 'N passed, M failed', where N counts the declarations, the files and the words.
+UNCITED, DOUBLES and WORDS are the most that may stand: what stood there when this check came, and less from time to
+time. The last line is 'N passed, M failed', where N counts the declarations, the files and the words.
 """
 import collections
 import re
@@ -19,6 +19,7 @@ KEYWORDS = {"abbrev", "unfoldable", "pub", "record", "data", "opaque"}
 TOKEN = re.compile(r"[^\s(){}\[\],.;:`]+")
 HOSTS = re.compile(r"\b(?:(?:static\.)?crates[.]io|pypi[.]org|pythonhosted[.]org|npmjs[.](?:com|org)|"
                    r"proxy[.]golang[.]org|rubygems[.]org|docker[.]io|repo1?[.]maven)\b")
+UNCITED = 10
 DOUBLES = 22
 WORDS = {"told": 58, "asked about": 0, "so many": 0, "refused where": 0, "exactly if": 26}
 # Files whose lines may be long: pages and tables of rows, which are not wrapped, texts of others, and what pins a line.
@@ -34,10 +35,23 @@ def text_of(name):
     return (ROOT / name).read_text(encoding="utf-8", errors="replace")
 
 
-def blocks(text):
-    """The declarations at the top of a module of proofs: each name with its lines, signature and equations."""
+def flat(text):
+    """The lines of a module of proofs, with what is inside a `module _ .. where` moved to the left."""
+    depth, is_head = 0, False
+    for line in text.splitlines():
+        if line and not is_head:
+            depth = min(depth, len(line) - len(line.lstrip()))
+        line = line[depth:]
+        is_head = is_head or line.startswith("module ")
+        yield line
+        if is_head and line.endswith("where"):
+            depth, is_head = depth + 2, False
+
+
+def blocks(lines_of_module):
+    """The declarations at the left of a module of proofs: each name with its lines, signature and equations."""
     name, lines = None, []
-    for line in [*text.splitlines(), "--"]:
+    for line in [*lines_of_module, "--"]:
         if line.startswith(BETWEEN):
             if name:
                 yield name, lines
@@ -79,7 +93,7 @@ def uncited():
     for name in [*named, *(name for name in tracked() if re.match(r"crates/.*\.rt$", name))]:
         everywhere.update(without_imports(text_of(name)))
     for file in top:
-        for name, lines in blocks(text_of(file)):
+        for name, lines in blocks(flat(text_of(file))):
             places.setdefault(name, []).append(file)
             own[name] += without_imports("\n".join(lines)).count(name)
     left = [name for name in places if everywhere[name] <= own[name] and "◌" not in name]
@@ -90,7 +104,7 @@ def doubles():
     """The number of lemmas with a statement, and those that are stated before, as 'file: name, as file: name'."""
     first, found, count = {}, [], 0
     for file in [name for name in modules()[1] if "/proofs/" in name]:
-        for name, lines in blocks(text_of(file)):
+        for name, lines in blocks(text_of(file).splitlines()):
             said = statement(lines)
             if said is None:
                 continue
@@ -131,7 +145,9 @@ def main():
     passed = failed = 0
     counts, double = doubles()
     double = double if len(double) > DOUBLES else []
-    asked = {"nobody cites it": uncited(), "stated before": (counts, double), "too long": long_lines(),
+    declared, dead = uncited()
+    dead = dead if len(dead) > UNCITED else []
+    asked = {"nobody cites it": (declared, dead), "stated before": (counts, double), "too long": long_lines(),
              "names the host of a registry": hosts(), "avoided": avoided()}
     for what, (count, wrong) in asked.items():
         for it in wrong:
