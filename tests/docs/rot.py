@@ -19,7 +19,7 @@ KEYWORDS = {"abbrev", "unfoldable", "pub", "record", "data", "opaque"}
 TOKEN = re.compile(r"[^\s(){}\[\],.;:`]+")
 HOSTS = re.compile(r"\b(?:(?:static\.)?crates[.]io|pypi[.]org|pythonhosted[.]org|npmjs[.](?:com|org)|"
                    r"proxy[.]golang[.]org|rubygems[.]org|docker[.]io|repo1?[.]maven)\b")
-UNCITED = 10
+UNCITED = 9
 DOUBLES = 22
 WORDS = {"told": 58, "asked about": 0, "so many": 0, "refused where": 0, "exactly if": 26}
 # Files whose lines may be long: pages and tables of rows, which are not wrapped, texts of others, and what pins a line.

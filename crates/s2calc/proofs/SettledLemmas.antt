@@ -1,8 +1,7 @@
 -- Lemmas on what is settled between two lines.
-use Rattle.std.proofs.Common.{◌≡◌, ℕ, Bool, true, false, List, ◌∷◌, ◌++◌, Option, Result, Ok, Err, OnOk, IfErr}
+use Rattle.std.proofs.Common.{◌≡◌, ℕ, Bool, true, List, ◌∷◌, ◌++◌, Option, Result, Ok, Err, OnOk, IfErr}
 use Rattle.std.proofs.Common.{MatchResult, refl, sym, subst, ap, ◌∙◌}
 use Rattle.std.specs.Io.KnownBytes.{Keeps}
-use Rattle.std.proofs.KnownBytes.{Keeps-refl}
 use Rattle.s2shelf.specs.Shelf.{Files}
 use Rattle.s2calc.specs.declared.fault.RunFault.{RunFault}
 use Rattle.s2calc.specs.declared.fault.RunFault.TheVariants.{Output}
@@ -10,7 +9,7 @@ use Rattle.s2calc.specs.Calls.{Call, NoneFailed}
 use Rattle.s2calc.specs.Working.Calls.{FailedIfErr, FlushedIfOk}
 use Rattle.s2calc.specs.Moments.{LineBegins, LineEnds, Moment, moment, Adds, AddsOne}
 use Rattle.s2calc.specs.Working.Seen.{Settled, Unsettled, Settles, LineSeen, LineCut}
-use Rattle.s2calc.proofs.CallLemmas.{none_failed_none, none_failed_more, none_failed_flushed, last_flushed_after}
+use Rattle.s2calc.proofs.CallLemmas.{none_failed_more, none_failed_flushed, last_flushed_after}
 use Rattle.s2calc.proofs.CallLemmas.{last_flushed_may, last_failed_may}
 use Rattle.s2calc.proofs.OrderLemmas.{Adds-trans, Adds-weaker}
 
@@ -49,16 +48,6 @@ module _ {W : Type 0} (contents : W → Option (List ℕ)) (calls : W → Option
       → FailedIfErr may_flush (calls old) (calls new) result
   calls_beside has_file old new P Q (Ok t) s = s.0.none_failed
   calls_beside has_file old new P Q (Err fault) s = s.0.failed
-
-  -- nothing happens
-  pub settled_none : (has_file : Bool) (w : W) → has_file ≡ false →
-      Settled contents calls is_sent may_flush has_file w w
-  settled_none has_file w e = record {
-    kept = Keeps-refl (contents w);
-    none_failed = none_failed_none may_flush (calls w);
-    flushed = λ h m. let bad : true ≡ false = sym h ∙ e in absurd cc;
-    sent = λ h. let bad : true ≡ false = sym h ∙ e in absurd cc;
-  }
 
 module _ {W S : Type 0} (contents : W → Option (List ℕ)) (calls : W → Option (List Call)) (is_sent : W → Type 0)
     (files : S → Files) (may_flush : Type 0) where

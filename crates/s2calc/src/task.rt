@@ -1,5 +1,5 @@
 //! What the program is asked for, and why it may be asked for nothing.
-ghost use Rattle.std.specs.Prelude.{◌≡◌};
+ghost use Rattle.std.specs.Prelude.{◌≡◌, ◌≤◌};
 ghost use Rattle.s2calc.specs.Program.{status_of_stop};
 
 use std::alloc::Global;
@@ -67,8 +67,10 @@ impl Stop {
         }
     }
 
-    /// What clap says of words that are not UTF-8.
-    pub fn invalid_utf8(alloc: Global) -> Stop {
+    /// What clap says of words that are not UTF-8, as words that make no sense; or out of memory.
+    pub fn invalid_utf8(alloc: Global) -> Stop
+        ensures { 2 ≤ status_of_stop result }
+    {
         match String::from_str(alloc, INVALID_UTF8) {
             Ok(text) => Stop::Usage(text),
             Err(_) => Stop::Memory,
