@@ -117,9 +117,20 @@ class Judge:
                 spare -= is_spare
                 self.judge(ended, found[-1][0], number, number, BEFORE if is_spare else line)
         self.expect(what, [said for said, _ in found], "refused at the start", "refused in an answer")
-        if found.count(("no answer changed", True)) > 1:
+        spared = [number for number, it in enumerate(found, 1) if it == ("no answer changed", True)]
+        if len(spared) > 1:
             self.wrong(f"{what}: it can do without more than one allocation before the script")
+        for number in spared:
+            self.refuse_again(what, run, number, lines, has_notes)
         return whole
+
+    def refuse_again(self, what, run, number, lines, has_notes):
+        """Refuses an allocation that a run can do without, and the next one, which it tries in its place."""
+        ended = run(f"memory {number} {number + 1} {errno.ENOMEM}", has_calls=False)
+        said = verdict(ended, lines, has_notes=has_notes)
+        self.counts[said] += 1
+        if said != "refused at the start":
+            self.wrong(f"{what}: allocations {number} and {number + 1}: {said}, {ended[:3]}")
 
     def refuse_all_from_one_on(self, run, whole):
         """Refuses all allocations of a run from one on, each twentieth."""
