@@ -46,7 +46,7 @@ __all__ = ["Union", "UnionFile", "version", "is_cell", "level", "face", "parent"
            "token", "from_token", "debug", "from_debug", "tokens", "from_tokens", "to_signed", "levels", "parents",
            "range_mins", "range_maxes", "token_fields", "from_points", "is_union"]
 
-__version__ = "1.0.0"
+__version__ = "1.1.0"
 _ALL_BITS = 2**64 - 1
 _SEPARATOR = _re.compile(rb"[ \t\n\r,]")  # of words, for the library; bytes.split would end words at form feeds too
 

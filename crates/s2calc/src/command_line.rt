@@ -151,7 +151,7 @@ fn command<'a>(alloc: Global) -> Result<Command<'a>, AllocError> {
         .bin_name("s2calc")?
         .about(ABOUT)
         .after_help(AFTER)
-        .version("1.0.0")
+        .version("1.1.0")
         .subcommand_required(true)
         .subcommand(run_command(alloc)?)?
         .subcommand(cell_command(alloc)?)?

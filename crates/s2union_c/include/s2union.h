@@ -54,9 +54,9 @@
 #include <stdint.h>
 
 #define S2U_VERSION_MAJOR 1
-#define S2U_VERSION_MINOR 0
+#define S2U_VERSION_MINOR 1
 #define S2U_VERSION_PATCH 0
-#define S2U_VERSION_TEXT "1.0.0"
+#define S2U_VERSION_TEXT "1.1.0"
 #define S2U_VERSION (S2U_VERSION_MAJOR * 10000 + S2U_VERSION_MINOR * 100 + S2U_VERSION_PATCH)
 
 #ifdef __cplusplus

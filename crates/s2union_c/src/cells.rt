@@ -27,9 +27,9 @@ pub struct FaceSquare {
 /// The version of the library: 10,000 times the major number, 100 times the minor one and the patch.
 #[unsafe(no_mangle)]
 pub extern "C" fn s2u_version() -> u32
-    ensures { result ≡ 10000 }
+    ensures { result ≡ 10100 }
 {
-    10000
+    10100
 }
 
 /// Whether the number is the identifier of a cell.
