@@ -10,6 +10,7 @@
 #include "catalog/pg_type.h"
 #include "common/hashfn.h"
 #include "fmgr.h"
+#include "lib/ilist.h"
 #include "libpq/pqformat.h"
 #include "miscadmin.h"
 #include "nodes/primnodes.h"
@@ -119,69 +120,147 @@ static bool is_constant(FmgrInfo* call, int k) {
   return k < list_length(arguments) && IsA(list_nth(arguments, k), Const);
 }
 
-/* What a call keeps of an argument: its bytes as they came, which are a few if they are kept out of line, and the value
- * once they have come again. A value of no more bytes than WORTH_KEEPING is checked as fast as it is compared. */
+/* ---- values that come again ----
+ *
+ * A large value comes in row after row, in each part of a table and on each side of an OR. The first time its bytes are
+ * kept as they came, which are few if they are out of line; once they have come again, the value too. All calls of a
+ * transaction share what is kept: at most work_mem, but always the two values that came last, which may be the
+ * arguments of the call that runs. A value of no more bytes than WORTH_KEEPING is checked as fast as it is compared. */
+
+enum { MOST_KEPT = 64, ALWAYS_KEPT = 2, WORTH_KEEPING = 2000 };
+
+typedef S2Union* reader(Datum datum);
+
 typedef struct Kept {
-  Size size;
-  void* bytes;
-  S2Union* value;
+  dlist_node place;
+  reader* read;
+  Size size, whole;
+  S2Union* value; /* NULL: not yet */
+  uint64_t bytes[FLEXIBLE_ARRAY_MEMBER];
 } Kept;
 
-enum { ARGUMENTS = 2, WORTH_KEEPING = 2000 };
+static struct {
+  MemoryContext context; /* NULL: nothing is kept */
+  MemoryContextCallback end;
+  dlist_head latest_first;
+  int n;
+  Size size;
+} store;
 
-static Kept* kept_by(FmgrInfo* call, int k) {
-  if (call->fn_extra == NULL) call->fn_extra = MemoryContextAllocZero(call->fn_mcxt, ARGUMENTS * sizeof(Kept));
-  return (Kept*)call->fn_extra + k;
+static void end_store(void* unused) {
+  store.context = NULL;
 }
 
-static void keep_bytes(FmgrInfo* call, Kept* kept, const void* bytes, Size size) {
-  if (kept->value) pfree(kept->value);
-  if (kept->bytes) pfree(kept->bytes);
-  *kept = (Kept){.size = 0};
-  kept->bytes = MemoryContextAllocExtended(call->fn_mcxt, size, MCXT_ALLOC_HUGE);
-  kept->size = size;
-  memcpy(kept->bytes, bytes, size);
+static void begin_store(void) {
+  MemoryContext context = AllocSetContextCreate(TopTransactionContext, "s2union values", ALLOCSET_SMALL_SIZES);
+  store.end = (MemoryContextCallback){.func = end_store};
+  MemoryContextRegisterResetCallback(context, &store.end);
+  dlist_init(&store.latest_first);
+  store.n = 0;
+  store.size = 0;
+  store.context = context;
 }
 
-static const S2Union* keep_value(FmgrInfo* call, Kept* kept, Datum datum) {
-  MemoryContext context = MemoryContextSwitchTo(call->fn_mcxt);
-  kept->value = s2union_value(PointerGetDatum(PG_DETOAST_DATUM_COPY(datum)));
-  MemoryContextSwitchTo(context);
-  return kept->value;
+static Kept* latest(dlist_node* place) {
+  dlist_move_head(&store.latest_first, place);
+  return dlist_container(Kept, place, place);
+}
+
+/* What is kept of these bytes, which becomes the latest; or NULL. */
+static Kept* kept_of(const void* bytes, Size size, reader* read) {
+  dlist_iter at;
+  if (store.context == NULL) return NULL;
+  dlist_foreach(at, &store.latest_first) {
+    Kept* k = dlist_container(Kept, place, at.cur);
+    if (k->size == size && k->read == read && memcmp(k->bytes, bytes, size) == 0) return latest(at.cur);
+  }
+  return NULL;
+}
+
+static bool is_kept(const S2Union* u) {
+  dlist_iter at;
+  if (store.context == NULL) return false;
+  dlist_foreach(at, &store.latest_first)
+    if (dlist_container(Kept, place, at.cur)->value == u) return true;
+  return false;
+}
+
+static void drop(Kept* k) {
+  dlist_delete(&k->place);
+  store.n--;
+  store.size -= k->whole;
+  if (k->value && k->value != (S2Union*)k->bytes) pfree(k->value);
+  pfree(k);
+}
+
+static void keep_no_more_than_the_most(void) {
+  while (store.n > ALWAYS_KEPT && (store.n > MOST_KEPT || store.size > (Size)work_mem * 1024))
+    drop(dlist_tail_element(Kept, place, &store.latest_first));
+}
+
+static void keep_bytes(const void* bytes, Size size, reader* read) {
+  if (store.context == NULL) begin_store();
+  Kept* k = MemoryContextAllocExtended(store.context, sizeof *k + size, MCXT_ALLOC_HUGE);
+  *k = (Kept){.read = read, .size = size, .whole = sizeof *k + size};
+  memcpy(k->bytes, bytes, size);
+  dlist_push_head(&store.latest_first, &k->place);
+  store.n++;
+  store.size += k->whole;
+  keep_no_more_than_the_most();
+}
+
+/* A value whose bytes are kept. If it came in place, these are the value. */
+static const S2Union* keep_value(Kept* k, S2Union* u, Datum datum) {
+  bool in_place = (Pointer)u == DatumGetPointer(datum);
+  k->value = in_place ? (S2Union*)k->bytes : MemoryContextAllocExtended(store.context, VARSIZE(u), MCXT_ALLOC_HUGE);
+  if (in_place) return k->value;
+  memcpy(k->value, u, VARSIZE(u));
+  k->whole += VARSIZE(u);
+  store.size += VARSIZE(u);
+  pfree(u);
+  keep_no_more_than_the_most();
+  return k->value;
 }
 
 /* Whether a value is worth keeping. The bytes of one that is kept out of line on disk name it, and no other value gets
  * this name until the server's counter has gone around; others that aren't in place are somewhere in memory. */
-static bool is_worth_keeping(const void* bytes, Size size) {
-  return VARATT_IS_EXTERNAL(bytes) ? VARATT_IS_EXTERNAL_ONDISK(bytes) : size > WORTH_KEEPING;
+static bool is_worth_keeping(const void* bytes, Size size, Size worth) {
+  return VARATT_IS_EXTERNAL(bytes) ? VARATT_IS_EXTERNAL_ONDISK(bytes) : size > worth;
+}
+
+static const S2Union* read_again(Datum datum, reader* read, Size worth) {
+  const void* bytes = DatumGetPointer(datum);
+  Size size = VARSIZE_ANY(bytes);
+  if (!is_worth_keeping(bytes, size, worth)) return read(datum);
+  Kept* k = kept_of(bytes, size, read);
+  if (k && k->value) return k->value;
+  S2Union* u = read(datum);
+  if (k) return keep_value(k, u, datum);
+  keep_bytes(bytes, size, read);
+  return u;
 }
 
 /* A value that may come again in the next call. */
-static const S2Union* value_again(FmgrInfo* call, int k, Datum datum) {
-  const void* bytes = DatumGetPointer(datum);
-  Size size = VARSIZE_ANY(bytes);
-  if (call == NULL || !is_worth_keeping(bytes, size)) return s2union_value(datum);
-  Kept* kept = kept_by(call, k);
-  bool again = kept->bytes && kept->size == size && memcmp(kept->bytes, bytes, size) == 0;
-  if (again) return kept->value ? kept->value : keep_value(call, kept, datum);
-  keep_bytes(call, kept, bytes, size);
-  return s2union_value(datum);
+static const S2Union* value_again(Datum datum) {
+  return read_again(datum, s2union_value, WORTH_KEEPING);
 }
 
-/* Argument k of a question. A constant of the query is read and checked once, and kept as long as the call's plan. */
+/* A constant lies in the plan of the query: it is checked once. */
+static const S2Union* constant_argument(FmgrInfo* call, Datum datum) {
+  if (call->fn_extra != DatumGetPointer(datum)) call->fn_extra = s2union_value(datum);
+  return call->fn_extra;
+}
+
+/* Argument k of a question. */
 static const S2Union* asked_argument(FunctionCallInfo fcinfo, int k) {
-  FmgrInfo* call = fcinfo->flinfo;
-  if (call == NULL) return ARGUMENT(k);
-  if (!is_constant(call, k)) return value_again(call, k, PG_GETARG_DATUM(k));
-  Kept* kept = kept_by(call, k);
-  return kept->value ? kept->value : keep_value(call, kept, PG_GETARG_DATUM(k));
+  Datum datum = PG_GETARG_DATUM(k);
+  bool in_plan = is_constant(fcinfo->flinfo, k) && !VARATT_IS_EXTENDED(DatumGetPointer(datum));
+  return in_plan ? constant_argument(fcinfo->flinfo, datum) : value_again(datum);
 }
 
 /* Frees a copy of argument k that isn't kept, since an index or a join asks many questions in one context. */
 static void free_asked(FunctionCallInfo fcinfo, const S2Union* u, int k) {
-  FmgrInfo* call = fcinfo->flinfo;
-  bool kept = call && call->fn_extra && kept_by(call, k)->value == u;
-  if (!kept) PG_FREE_IF_COPY((S2Union*)u, k);
+  if ((Pointer)u != PG_GETARG_POINTER(k) && !is_kept(u)) pfree((S2Union*)u);
 }
 
 #define ASKED(k) asked_argument(fcinfo, k)
@@ -835,8 +914,8 @@ static Keys keys_above(const Asked* a) {
 }
 
 /* What a question is about, which may be asked again in the next call: a union, or a cell. */
-static const S2Union* question_again(FmgrInfo* call, Datum asked, StrategyNumber strategy) {
-  if (strategy != CONTAINS_CELL && strategy != OVERLAPS_CELL) return value_again(call, 0, asked);
+static const S2Union* question_again(Datum asked, StrategyNumber strategy) {
+  if (strategy != CONTAINS_CELL && strategy != OVERLAPS_CELL) return value_again(asked);
   const S2Union* u = s2union_of_cell(DatumGetInt64(asked));
   if (u == NULL) must_be_ok(S2U_NO_CELL);
   return u;
@@ -845,7 +924,7 @@ static const S2Union* question_again(FmgrInfo* call, Datum asked, StrategyNumber
 PG_FUNCTION_INFO_V1(s2union_gin_query);
 Datum s2union_gin_query(PG_FUNCTION_ARGS) {
   StrategyNumber strategy = PG_GETARG_UINT16(2);
-  const S2Union* u = question_again(fcinfo->flinfo, PG_GETARG_DATUM(0), strategy);
+  const S2Union* u = question_again(PG_GETARG_DATUM(0), strategy);
   int32* mode = (int32*)PG_GETARG_POINTER(6);
   bool contains = strategy == CONTAINS || strategy == CONTAINS_CELL;
   size_t count = contains ? Min(count_of(u), 1) : count_of(u);
@@ -915,7 +994,7 @@ PG_FUNCTION_INFO_V1(s2union_gist_consistent);
 Datum s2union_gist_consistent(PG_FUNCTION_ARGS) {
   GISTENTRY* entry = (GISTENTRY*)PG_GETARG_POINTER(0);
   StrategyNumber strategy = PG_GETARG_UINT16(2);
-  const S2Union *key = s2union_value(entry->key), *u = question_again(fcinfo->flinfo, PG_GETARG_DATUM(1), strategy);
+  const S2Union *key = s2union_value(entry->key), *u = question_again(PG_GETARG_DATUM(1), strategy);
   bool contains = strategy == CONTAINS || strategy == CONTAINS_CELL;
   *(bool*)PG_GETARG_POINTER(4) = true; /* each row is looked at */
   return answer(contains ? s2u_contains(LIST(key), LIST(u)) : s2u_intersects(LIST(key), LIST(u)));

@@ -50,8 +50,11 @@ step "no two regions overlap" tests Exclusion
 step "plans: the index where values are large and where few rows are found" tests Planner
 step "large questions end within twice their timeout" tests LargeQuestions
 step "the aggregate, in parallel" tests Aggregates
+step "arrays of the caller, windows, values that come again" tests test_kept.AroundACall
 step "dump, restore and update" tests DumpAndUpdate
 step "a session's memory limited in steps" tests MemoryLimits
+step "a large question is kept once for sixty parts of a table" tests test_kept.Memory
+step "indexes and ANALYZE are cancelled" tests test_kept.Cancels
 page() { # PAGE DATABASE: its examples, in a database of their own
   createdb "$2" && S2UNION_FIRST=$work/data S2UNION_SHARD=$work/shard \
     /usr/bin/python3 "$top/tests/docs/documented.py" "$top/docs/$1" psql -XAqt -d "$2"
@@ -61,7 +64,7 @@ step "docs/SCALE.md" page SCALE.md scale
 step "200 questions over two servers" tests Servers
 
 export S2UNION_ROUNDS=150
-again() { tests Guarded AgainstTheModel WhatIsRefused Indexes Exclusion Aggregates "$@"; }
+again() { tests Guarded AgainstTheModel WhatIsRefused Indexes Exclusion Aggregates test_kept.AroundACall "$@"; }
 put_in counted
 step "guarded: each allocation refused in turn, nothing written over, nothing left" again Planner
 covered() {

@@ -4,6 +4,7 @@
  *   - refuses the allocation that s2_refuse(n) names: as the server does, or by telling the library that there is none,
  *   - counts what a call leaves: s2_left(), the blocks of the call and the copies of its arguments that nobody freed,
  *   - takes as the most bytes of a value or a text those that s2_limit(n) names,
+ *   - counts where a call may be cancelled: s2_chances(),
  *   - shows what a GIN index asks for and is answered: s2_keys(asked, strategy), s2_keys_found(strategy, found, exact).
  * The build has rewritten each 'Datum NAME(PG_FUNCTION_ARGS)' of s2union.c to GUARDED(NAME). */
 #include "postgres.h"
@@ -14,6 +15,7 @@
 #include "catalog/pg_type.h"
 #include "common/hashfn.h"
 #include "fmgr.h"
+#include "lib/ilist.h"
 #include "libpq/pqformat.h"
 #include "miscadmin.h"
 #include "nodes/primnodes.h"
@@ -118,11 +120,14 @@ static struct varlena* detoasted(Datum datum) {
   } \
   static Datum whole_##name(PG_FUNCTION_ARGS)
 
+static void keep_nothing(void);
+
 /* s2_refuse(n): the n-th allocation from now on is refused; none if n is 0. Answers how many allocations there were
- * since the last call of it. */
+ * since the last call of it. No value is kept from before. */
 PG_FUNCTION_INFO_V1(s2_refuse);
 Datum s2_refuse(PG_FUNCTION_ARGS) {
   int64 were = asked;
+  keep_nothing();
   asked = 0;
   refused = PG_GETARG_INT64(0) > 0 ? PG_GETARG_INT64(0) : -1;
   PG_RETURN_INT64(were);
@@ -140,6 +145,22 @@ Datum s2_limit(PG_FUNCTION_ARGS) {
   PG_RETURN_VOID();
 }
 
+static int64 chances;
+
+/* How often a call has looked whether it is cancelled, since the last call of this. */
+PG_FUNCTION_INFO_V1(s2_chances);
+Datum s2_chances(PG_FUNCTION_ARGS) {
+  int64 were = chances;
+  chances = 0;
+  PG_RETURN_INT64(were);
+}
+
+#undef CHECK_FOR_INTERRUPTS
+#define CHECK_FOR_INTERRUPTS() \
+  do { \
+    chances++; \
+    if (INTERRUPTS_PENDING_CONDITION()) ProcessInterrupts(); \
+  } while (0)
 #undef MaxAllocSize
 #define MaxAllocSize most_bytes
 #define palloc(n) taken(CurrentMemoryContext, n, 0)
@@ -153,6 +174,10 @@ Datum s2_limit(PG_FUNCTION_ARGS) {
 #undef PG_DETOAST_DATUM
 #define PG_DETOAST_DATUM(datum) detoasted(datum)
 #include "rewritten.c"
+
+static void keep_nothing(void) {
+  if (store.context) MemoryContextDelete(store.context);
+}
 
 /* s2_keys(asked, strategy): how many keys a question has, how many of them are ranges, how many come with something
  * that PostgreSQL doesn't compare, the mode of the search, and whether a row with a key that is found matches. */

@@ -12,7 +12,8 @@ survives() { # EDIT
     cp "$work"/mutant/*.sql "$work/build" && put_in build && is_up && : >"$work/data/log" &&
     dropdb --if-exists --force mutant && createdb mutant &&
     psql -qXd mutant -c "LOAD 's2union'" || return 2 # all that it calls is there
-  PGDATABASE=mutant refuse AgainstTheModel WhatIsRefused Aggregates Guarded Indexes Exclusion Planner || return
+  PGDATABASE=mutant refuse AgainstTheModel WhatIsRefused Aggregates Guarded test_kept.AroundACall \
+    Indexes Exclusion Planner || return
   whole || return 1
 }
 

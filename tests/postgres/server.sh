@@ -28,7 +28,8 @@ copied() {
 built() { # FOLDER FLAGS..: the extension as it is
   local folder=$work/$1
   shift
-  mkdir -p "$folder" && cp "$top"/databases/postgres/{Makefile,*.c,*.h,s2union.control,*.sql} "$folder" &&
+  mkdir -p "$folder" &&
+    cp -r "$top"/databases/postgres/{Makefile,*.c,*.h,s2union.control,*.sql} "$folder" &&
     make -C "$folder" PREFIX="$work/usr" PG_CONFIG="$config" "$@"
 }
 
@@ -92,11 +93,15 @@ stopped() { # FOLDER
   [ ! -e "$work/$1/postmaster.pid" ] || (cd / && "${as_postgres[@]}" "$bin/pg_ctl" -D "$work/$1" -m immediate stop)
 }
 
-tests() { # TEST..: those of test_postgres.py, or of TESTS
+tests() { # TEST..: those of test_postgres.py, or of TESTS, or with the name of their file before them
+  local names=() name
+  for name; do
+    case $name in test_*) names+=("$name") ;; *) names+=("${TESTS:-test_postgres}.$name") ;; esac
+  done
   (
     cd "$top/tests/postgres" && export PYTHONPATH=$top/tests/python PYTHONDONTWRITEBYTECODE=1
     export EXTENSIONS=$copy/usr/share/postgresql/$server/extension
-    timeout "${SECONDS_OF_TESTS:-1800}" /usr/bin/python3 -m unittest -q -f "${@/#/${TESTS:-test_postgres}.}"
+    timeout "${SECONDS_OF_TESTS:-1800}" /usr/bin/python3 -m unittest -q -f "${names[@]}"
   )
 }
 

@@ -1083,6 +1083,7 @@ class Guarded(Tests):
             CREATE OR REPLACE FUNCTION s2_refuse(bigint) RETURNS bigint LANGUAGE C AS '$libdir/s2union';
             CREATE OR REPLACE FUNCTION s2_left() RETURNS integer LANGUAGE C AS '$libdir/s2union';
             CREATE OR REPLACE FUNCTION s2_limit(bigint) RETURNS void LANGUAGE C AS '$libdir/s2union';
+            CREATE OR REPLACE FUNCTION s2_chances() RETURNS bigint LANGUAGE C AS '$libdir/s2union';
             CREATE OR REPLACE FUNCTION s2_keys(s2union, integer) RETURNS text LANGUAGE C AS '$libdir/s2union';
             CREATE OR REPLACE FUNCTION s2_keys(bigint, integer) RETURNS text LANGUAGE C AS '$libdir/s2union';
             CREATE OR REPLACE FUNCTION s2_keys_found(integer, text, boolean) RETURNS text LANGUAGE C
@@ -1159,24 +1160,44 @@ class Guarded(Tests):
     def test_what_a_call_leaves(self):
         """Blocks that are still there when a call ends: the result, and what the end of the statement frees. A sort or
         an index calls the order and the hash many times before that, and a join the questions, so these must leave
-        nothing, except what is kept for the next call: a block for both arguments, and one for each that is large."""
+        nothing, except what is kept for the next call: a block for each argument that is large."""
         large = "SELECT {} FROM parts x, parts y WHERE x.id = 6 AND y.id = 7"
         calls = [(large.format(f"x.part {name} y.part"), 0) for name in ("=", "<>", "<", "<=", ">", ">=")]
-        calls += [(large.format(f"x.part {name} y.part"), 3) for name in ("@>", "<@", "&&")]
+        calls += [(large.format(f"x.part {name} y.part"), 2) for name in ("@>", "<@", "&&")]
         calls += [
-            (large.format("x.part @> s2_cell('04')"), 2), (large.format("s2_cell('04') <@ x.part"), 2),
-            (large.format("x.part && s2_cell('04')"), 2), (large.format("s2_cell('04') && x.part"), 2),
-            (large.format("x.part @> '04'"), 2), ("SELECT pg_column_size('04'::s2union # '14')", 2),
-            (large.format("'04' <@ x.part"), 2),
+            (large.format("x.part @> s2_cell('04')"), 1), (large.format("s2_cell('04') <@ x.part"), 1),
+            (large.format("x.part && s2_cell('04')"), 1), (large.format("s2_cell('04') && x.part"), 1),
+            (large.format("x.part @> '04'"), 1), ("SELECT pg_column_size('04'::s2union # '14')", 1),
+            (large.format("'04' <@ x.part"), 1),
             (large.format("s2union_cmp(x.part, y.part)"), 0), (large.format("s2union_hash(x.part)"), 0),
             (large.format("s2union_hash_extended(x.part, 1)"), 0), (large.format("s2_count(x.part)"), 1),
-            ("SELECT pg_column_size('1'::s2union - '0000000000000001')", 2),
-            ("SELECT pg_column_size('04'::s2union | '14')", 2), ("SELECT pg_column_size(s2_range(1, 3000000001))", 1),
+            ("SELECT pg_column_size('1'::s2union - '0000000000000001')", 1),
+            ("SELECT pg_column_size('04'::s2union | '14')", 1), ("SELECT pg_column_size(s2_range(1, 3000000001))", 1),
             ("SELECT pg_column_size(s2_outer(0, 5, 90000, 7, 90000, 20))", 1),
             ("SELECT cardinality(s2_ancestors(part)) FROM parts WHERE id = 6", 3),
         ]
         said = psql("".join(f"{query};\nSELECT s2_left();\n" for query, _ in calls))
         self.assertEqual([(query, int(left)) for (query, _), left in zip(calls, said[1::2])], calls)
+
+    def test_where_a_call_can_be_cancelled(self):
+        """Once for each piece of a text or an array, each level of a covering, and each time that cells are sorted."""
+        psql("""
+            SET client_min_messages = error;
+            DROP TABLE IF EXISTS scattered;
+            CREATE TABLE scattered AS SELECT s2_union_agg(s2_leaf((k % 6)::int, k * 5003, k * 4999)) AS region
+                FROM generate_series(0, 199999) AS k;
+        """)
+        several = (
+            ("CREATE INDEX scattered_gist ON scattered USING gist (region)", 4), ("ANALYZE scattered", 4),
+            ("SELECT length(region::text) FROM scattered", 4), ("SELECT s2_count(repeat('04 ', 90000)::s2union)", 5),
+            ("SELECT s2_keys(region, 1) FROM scattered", 6),
+            ("SELECT s2_count(s2_union_agg(s2_leaf(0, k, k))) FROM generate_series(1, 500000) AS k", 3),
+        )
+        said = psql("".join(f"SELECT s2_chances() IS NULL;\n{query};\nSELECT 'chances: ' || s2_chances();\n"
+                            for query, _ in several))
+        chances = [int(line.rpartition(" ")[2]) for line in said if line.startswith("chances")]
+        for (query, least), each in zip(several, chances, strict=True):
+            self.assertGreaterEqual(each, least, query)
 
     def test_what_is_kept_does_not_grow(self):
         """Values that come again, that change in each row, and that change in every other row."""
@@ -1185,7 +1206,7 @@ class Guarded(Tests):
         calls = [call.format(f"CASE WHEN k > 0 THEN {other} END") for other in others
                  for call in ("x.part && {}", "x.part @> {}", "s2_intersects({}, s2_cell('04'))", "x.part & {}")]
         said = psql("".join(f"""
-            SELECT max(used) - min(used) FROM (
+            SET work_mem = '64kB'; SELECT max(used) - min(used) FROM (
                 SELECT CASE WHEN k IN (20, 3000) THEN (SELECT sum((m).used_bytes) FROM (
                     SELECT pg_get_backend_memory_contexts() AS m WHERE k > 0) n) END AS used
                 FROM generate_series(1, 3000) AS k, parts x, parts y

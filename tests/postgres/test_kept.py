@@ -1,0 +1,173 @@
+"""What PostgreSQL does around a call of the extension: it asks about the same large value in row after row and in part
+after part of a table, asks an aggregate over a window again and again, hands over arrays that stay the caller's, and
+cancels while an index is made. The server is that of test_postgres.py."""
+
+import subprocess
+import time
+import unittest
+
+import model
+from test_postgres import DATABASE, ROUNDS, Tests, array, psql, tokens, u
+
+# The most memory that a session has had, in MB.
+PEAK = "SELECT (regexp_match(pg_read_file('/proc/self/status'), 'VmHWM:\\s*(\\d+)'))[1]::int / 1024;"
+
+
+class AroundACall(Tests):
+    def test_arrays_of_the_caller_stay_as_they_are(self):
+        """Those of a subquery, of a stored column, of a parameter, of a variable, and constants."""
+        given, union = array([7, 5, 3, 1, 1025]), tokens(model.normal(model.runs([7, 5, 3, 1, 1025])))
+        said = psql(f"""
+            SET client_min_messages = error;
+            SELECT a, a::s2union, a FROM (SELECT '{given}'::bigint[] AS a OFFSET 0) t;
+            DROP TABLE IF EXISTS arrays;
+            CREATE TABLE arrays AS SELECT '{given}'::bigint[] AS a FROM generate_series(1, 2);
+            SELECT a, a::s2union, a FROM arrays;
+            SELECT a, a::s2union, a FROM arrays;
+            PREPARE again(bigint[]) AS SELECT $1, $1::s2union, $1; SET plan_cache_mode = force_generic_plan;
+            EXECUTE again('{given}'); EXECUTE again('{given}');
+            CREATE OR REPLACE FUNCTION made_of(a bigint[]) RETURNS SETOF text LANGUAGE plpgsql AS $$
+            DECLARE x s2union; c CONSTANT bigint[] := '{given}';
+            BEGIN
+                FOR k IN 1 .. 2 LOOP
+                    x := a::s2union; RETURN NEXT format('%s|%s|%s', a, x, a);
+                    x := c::s2union; RETURN NEXT format('%s|%s|%s', c, x, c);
+                END LOOP;
+            END $$;
+            SELECT made_of('{given}');
+        """)
+        self.assertEqual(said, [f"{given}|{union}|{given}"] * 11)
+
+    def test_aggregates_over_windows(self):
+        """Their states go on after each answer."""
+        rows = [self.random.cells(5) for _ in range(max(ROUNDS // 10, 20))]
+        values = ", ".join(f"({k}, {u(xs)})" for k, xs in enumerate(rows))
+        said = psql(f"""
+            CREATE TEMP TABLE rows(k int, region s2union); INSERT INTO rows VALUES {values};
+            SELECT k, s2_union_agg(region) OVER w, s2_intersection_agg(region) OVER w,
+                s2_union_agg((s2_cells(region))[1]) OVER w
+                FROM rows WINDOW w AS (ORDER BY k) ORDER BY k;
+            SELECT k, s2_union_agg(region) OVER (ORDER BY k ROWS BETWEEN 1 PRECEDING AND CURRENT ROW)
+                FROM rows ORDER BY k;
+        """)
+        union, firsts, both, wanted = [], [], [(0, model.LEAVES)], []
+        for k, xs in enumerate(rows):
+            union, both = model.joined(union + model.runs(xs)), model.common(both, model.runs(xs))
+            firsts += model.normal(model.runs(xs))[:1]
+            answers = [union, both, model.runs(firsts)]
+            wanted.append("|".join([str(k), *(tokens(model.normal(each)) for each in answers)]))
+        self.assertEqual(said[: len(rows)], wanted)
+        pairs = [rows[max(k - 1, 0)] + xs for k, xs in enumerate(rows)]
+        twos = [tokens(model.normal(model.runs(xs))) for xs in pairs]
+        self.assertEqual(said[len(rows):], [f"{k}|{text}" for k, text in enumerate(twos)])
+
+    def test_more_is_asked_about_than_is_kept(self):
+        """Values of 200 kB and of 16 kB, more than work_mem has room for, against those of a plan with room: in each
+        row two of them, and one of a call's arguments may have come long ago."""
+        pairs = """
+            SELECT sum((x.k * 31 + y.k * 17 + z.k * 13 + CASE WHEN x.v && y.v THEN 1 ELSE 0 END
+                + CASE WHEN y.v @> z.v THEN 2 ELSE 0 END + CASE WHEN z.v <@ x.v THEN 4 ELSE 0 END)
+                * (x.k + 3 * y.k + 5 * z.k)) FROM v x, v y, v z
+        """
+        rows = """
+            WITH v AS MATERIALIZED (SELECT k, s2_outer(0, k * 9000, k * 9000 + {size}, k % 3 * 10000,
+                k % 3 * 10000 + {size}, 30) - s2_leaf(0, k * 9000 + 5, k % 3 * 10000 + 5)::s2union AS v
+                FROM generate_series(0, {n}) AS k) {pairs}
+        """
+        for size, n in ((12345, 5), (1000, 9)):
+            query = rows.format(size=size, n=n, pairs=pairs) + "ORDER BY 1;"
+            few, many = psql(f"SET work_mem = '64kB'; {query} SET work_mem = '64MB'; {query}")
+            self.assertEqual(few, many)
+
+    def test_values_of_an_earlier_transaction(self):
+        """What is kept ends with its transaction, also in the middle of a procedure and after an error."""
+        psql("""
+            SET client_min_messages = error;
+            DROP TABLE IF EXISTS kept;
+            CREATE TABLE kept AS SELECT k, s2_outer(0, k * 90, k * 90 + 3000, 0, 3001, 30)
+                - s2_leaf(0, k * 90 + 50, 50)::s2union AS v FROM generate_series(0, 2) AS k;
+            CREATE OR REPLACE PROCEDURE asked() LANGUAGE plpgsql AS $$
+            DECLARE found int; BEGIN
+                FOR n IN 1 .. 6 LOOP
+                    SELECT count(*) INTO found FROM kept x, kept y, generate_series(1, 3) WHERE x.v && y.v;
+                    IF found <> 27 THEN RAISE EXCEPTION '%', found; END IF;
+                    BEGIN PERFORM x.v && y.v AND 1 / (n - 3) = 0 FROM kept x, kept y;
+                    EXCEPTION WHEN division_by_zero THEN NULL; END;
+                    IF n % 2 = 0 THEN COMMIT; ELSE ROLLBACK; END IF;
+                END LOOP;
+            END $$;
+        """)
+        count = "SELECT count(*) FROM kept x, kept y, generate_series(1, 3) WHERE x.v && y.v;"
+        self.assertEqual(psql(f"{count} CALL asked(); {count} BEGIN; {count} ROLLBACK; {count}"), ["27"] * 4)
+
+
+class Memory(Tests):
+    """A question that is larger than work_mem, about a table of sixty parts: none of them keeps a copy of its own."""
+
+    @classmethod
+    def setUpClass(cls):
+        super().setUpClass()
+        psql("""
+            SET client_min_messages = error;
+            DROP TABLE IF EXISTS parted, lone, large;
+            CREATE TABLE large AS SELECT n, s2_union_agg(s2_leaf(n, 2 * (k % 1000), 2 * (k / 1000))) AS region
+                FROM generate_series(0, 1) AS n, generate_series(0, 999999) AS k GROUP BY n;
+            CREATE TABLE parted (id int, region s2union) PARTITION BY RANGE (id);
+            SELECT format('CREATE TABLE part_%s PARTITION OF parted FOR VALUES FROM (%s) TO (%s)', k, 5 * k, 5 * k + 5)
+                FROM generate_series(0, 59) AS k \\gexec
+            INSERT INTO parted SELECT k, s2_leaf(k % 2, 2 * k, 2 * k)::s2union FROM generate_series(0, 299) AS k;
+            CREATE TABLE lone AS SELECT * FROM parted WHERE id < 5;
+            CREATE INDEX ON parted USING gin (region);
+            CREATE INDEX ON lone USING gin (region);
+            ANALYZE parted; ANALYZE lone; ANALYZE large;
+        """)
+
+    def peak(self, query, wanted, settings=""):
+        said = psql(f"SET max_parallel_workers_per_gather = 0; SET work_mem = '4MB'; {settings} {query}; {PEAK}")
+        self.assertEqual(said[0], wanted, query)
+        return int(said[1])
+
+    def test_a_question_about_sixty_parts(self):
+        scan, index = "SET enable_bitmapscan = off;", "SET enable_seqscan = off;"
+        for question, settings, most in (
+            ("(SELECT region FROM large WHERE n = 0)", scan, 20),
+            ("(SELECT s2_union_agg(region) FROM large)", scan, 20),
+            ("(SELECT region FROM large WHERE n = 0)", index, 9 * 60), # PostgreSQL has a copy for each index itself
+        ):
+            query = f"SELECT count(*) > 0 FROM {{}} WHERE region && {question}"
+            one, sixty = (self.peak(query.format(table), "t", settings) for table in ("lone", "parted"))
+            self.assertLess(sixty - one, most, (question, settings))
+
+    def test_a_question_of_forty_sides(self):
+        side = "region && (SELECT region - '{}' FROM large WHERE n = 0)"
+        sides = " OR ".join(side.format(face) for face in ("3", "5", "7", "9", "b"))
+        few = self.peak(f"SELECT count(*) FROM lone WHERE {sides}", "3")
+        many = self.peak(f"SELECT count(*) FROM lone WHERE {' OR '.join([sides] * 8)}", "3")
+        self.assertLess(many - few, 400)
+
+
+class Cancels(Tests):
+    """While an index of large values is made, and while ANALYZE reads them."""
+
+    def test_indexes_and_analyze(self):
+        psql("""
+            SET client_min_messages = error;
+            DROP TABLE IF EXISTS placed;
+            CREATE TABLE placed (region s2union);
+            ALTER TABLE placed ALTER region SET STORAGE external;
+            INSERT INTO placed SELECT s2_union_agg(s2_leaf(0, 2 * (k % 2000), 2 * (k / 2000)))
+                FROM generate_series(0, 3999999) AS k;
+            INSERT INTO placed SELECT region FROM placed, generate_series(1, 9);
+        """)
+        for command in ("CREATE INDEX ON placed USING gist (region)", "CREATE INDEX ON placed USING gin (region)",
+                        "CREATE INDEX ON placed USING hash (region)", "ANALYZE placed"):
+            begun = time.monotonic()
+            words = ["psql", "-XAqt", "-d", DATABASE, "-c", "SET statement_timeout = '50ms'", "-c", command]
+            run = subprocess.run(words, stdout=subprocess.PIPE, stderr=subprocess.PIPE, text=True, check=False)
+            self.assertIn("due to statement timeout", run.stderr, command)
+            self.assertLess(time.monotonic() - begun, 2, command)
+        psql("DROP TABLE placed;")
+
+
+if __name__ == "__main__":
+    unittest.main()
