@@ -55,7 +55,7 @@ s2u_block s2u_heap_grow(void* at, size_t old_size, size_t size, size_t align) {
   return grown;
 }
 
-/* ---- errors ---- */
+/* ---- errors: they name what was refused, at most its first 40 bytes ---- */
 
 /* The SQLSTATE of a refusal. */
 static int code_of(int32_t status) {
@@ -73,6 +73,29 @@ static int code_of(int32_t status) {
 
 static void must_be_ok(int32_t status) {
   if (status < 0) ereport(ERROR, errcode(code_of(status)), errmsg("s2union: %s", s2u_status_text(status)));
+}
+
+static char* start_of(const char* text, size_t n) {
+  return pnstrdup(text, pg_mbcliplen(text, (int)n, 40));
+}
+
+static void refuse_number(int64 number) {
+  ereport(ERROR, errcode(code_of(S2U_NO_CELL)), errmsg("s2union: not a cell: " INT64_FORMAT, number));
+}
+
+static void refuse_text(const char* text, size_t n) {
+  ereport(ERROR, errcode(code_of(S2U_NO_CELL)), errmsg("s2union: not a cell: \"%s\"", start_of(text, n)),
+          errhint("A text names a cell by its token or its debug text. A number has no quotes."));
+}
+
+/* A refusal of the numbers that a call was given, from argument `first` on. */
+static void must_take_numbers(int32_t status, FunctionCallInfo fcinfo, int first) {
+  if (status != S2U_ARGUMENT && status != S2U_MANY) return must_be_ok(status);
+  StringInfoData numbers;
+  initStringInfo(&numbers);
+  for (int k = first; k < PG_NARGS(); k++)
+    appendStringInfo(&numbers, "%s%d", k == first ? "" : ", ", PG_GETARG_INT32(k));
+  ereport(ERROR, errcode(code_of(status)), errmsg("s2union: %s: %s", s2u_status_text(status), numbers.data));
 }
 
 /* ---- the value ---- */
@@ -127,7 +150,7 @@ static bool is_constant(FmgrInfo* call, int k) {
  * transaction share what is kept: at most work_mem, but always the two values that came last, which may be the
  * arguments of the call that runs. A value of no more bytes than WORTH_KEEPING is checked as fast as it is compared. */
 
-enum { MOST_KEPT = 64, ALWAYS_KEPT = 2, WORTH_KEEPING = 2000 };
+enum { MOST_KEPT = 64, ALWAYS_KEPT = 2, WORTH_KEEPING = 2000, TEXT_WORTH_KEEPING = 100 };
 
 typedef S2Union* reader(Datum datum);
 
@@ -326,12 +349,10 @@ static size_t piece_of(const char* text, size_t n) {
 static void refuse_word(const char* word) {
   ereport(ERROR, errcode(ERRCODE_INVALID_TEXT_REPRESENTATION),
           errmsg("invalid input syntax for type %s: \"%s\" names no cell", "s2union",
-                 pnstrdup(word, pg_mbcliplen(word, strcspn(word, BLANKS), 40))));
+                 start_of(word, strcspn(word, BLANKS))));
 }
 
-PG_FUNCTION_INFO_V1(s2union_in);
-Datum s2union_in(PG_FUNCTION_ARGS) {
-  const char* text = PG_GETARG_CSTRING(0);
+static S2Union* value_of_text(const char* text) {
   size_t length = strlen(text), room = S2U_MOST_NAMED(Min(length, PIECE)), n = 0;
   uint64_t* cells = palloc(Max(room, 1) * sizeof(uint64_t));
   Gathered* g = new_gathered(CurrentMemoryContext, room);
@@ -347,7 +368,24 @@ Datum s2union_in(PG_FUNCTION_ARGS) {
   pfree(cells);
   pfree(g->cells);
   pfree(g);
-  return PointerGetDatum(u);
+  return u;
+}
+
+PG_FUNCTION_INFO_V1(s2union_in);
+Datum s2union_in(PG_FUNCTION_ARGS) { return PointerGetDatum(value_of_text(PG_GETARG_CSTRING(0))); }
+
+static S2Union* read_text(Datum datum) {
+  char* words = TextDatumGetCString(datum);
+  S2Union* u = value_of_text(words);
+  pfree(words);
+  return u;
+}
+
+/* A text may come again in the next row, as the parameter of a question does. */
+PG_FUNCTION_INFO_V1(s2union_from_text);
+Datum s2union_from_text(PG_FUNCTION_ARGS) {
+  const S2Union* u = read_again(PG_GETARG_DATUM(0), read_text, TEXT_WORTH_KEEPING);
+  return PointerGetDatum(is_kept(u) ? value_with(LIST(u)) : u);
 }
 
 /* The tokens of a union after `before` bytes that the caller fills; a NUL ends them. */
@@ -428,6 +466,8 @@ Datum s2_is_union(PG_FUNCTION_ARGS) {
 /* ---- unions that are made ---- */
 
 typedef struct Job {
+  FunctionCallInfo call; /* NULL: none with numbers */
+  int first_number;
   const S2Union *x, *y;
   uint64_t first, last;
   s2u_rect rect;
@@ -459,6 +499,7 @@ static Datum made(maker* make, const Job* j, size_t room) {
     u = new_value(room);
     status = make(j, u->cells, room, &n);
   }
+  if (j->call) must_take_numbers(status, j->call, j->first_number);
   must_be_ok(status);
   return finished(u, n);
 }
@@ -490,12 +531,12 @@ static Datum of_two_unions(FunctionCallInfo fcinfo, maker* make) {
 static Datum of_rectangle(FunctionCallInfo fcinfo, int first, maker* make) {
   uint32_t a[6];
   for (int k = 0; k < 6; k++) a[k] = (uint32_t)PG_GETARG_INT32(first + k);
-  Job j = {.x = first ? ARGUMENT(0) : NULL, .rect = {a[0], a[1], a[2], a[3], a[4]}, .level = a[5]};
+  Job j = {fcinfo, first, first ? ARGUMENT(0) : NULL, .rect = {a[0], a[1], a[2], a[3], a[4]}, .level = a[5]};
   return made(make, &j, S2U_MOST_RANGE);
 }
 
 static Datum of_level(FunctionCallInfo fcinfo, maker* make) {
-  Job j = {.x = ARGUMENT(0), .level = (uint32_t)PG_GETARG_INT32(1)};
+  Job j = {fcinfo, 1, ARGUMENT(0), .level = (uint32_t)PG_GETARG_INT32(1)};
   return made(make, &j, count_of(j.x));
 }
 
@@ -514,9 +555,21 @@ FUNCTION(s2union_inner_in, of_rectangle(fcinfo, 1, make_inner_in))
 FUNCTION(s2union_outer_of, of_level(fcinfo, make_outer_of))
 FUNCTION(s2union_inner_of, of_level(fcinfo, make_inner_of))
 
+/* Argument k, a cell in SQL's bigint. */
+static uint64_t cell_argument(FunctionCallInfo fcinfo, int k) {
+  uint64_t cell = (uint64_t)PG_GETARG_INT64(k);
+  if (!s2u_is_cell(cell)) refuse_number((int64)cell);
+  return cell;
+}
+
 PG_FUNCTION_INFO_V1(s2union_range);
 Datum s2union_range(PG_FUNCTION_ARGS) {
-  Job j = {.first = (uint64_t)PG_GETARG_INT64(0), .last = (uint64_t)PG_GETARG_INT64(1)};
+  Job j = {.first = cell_argument(fcinfo, 0)};
+  j.last = cell_argument(fcinfo, 1);
+  if (s2u_range_max(j.last) < s2u_range_min(j.first))
+    ereport(ERROR, errcode(code_of(S2U_ARGUMENT)),
+            errmsg("s2union: %s: " INT64_FORMAT " to " INT64_FORMAT, s2u_status_text(S2U_ARGUMENT), (int64)j.first,
+                   (int64)j.last));
   return made(make_range, &j, S2U_MOST_RANGE);
 }
 
@@ -527,20 +580,53 @@ S2Union* s2union_of_cell(int64 number) {
 
 PG_FUNCTION_INFO_V1(s2union_from_cell);
 Datum s2union_from_cell(PG_FUNCTION_ARGS) {
-  S2Union* u = s2union_of_cell(PG_GETARG_INT64(0));
-  if (u == NULL) must_be_ok(S2U_NO_CELL);
-  return PointerGetDatum(u);
+  uint64_t cell = cell_argument(fcinfo, 0);
+  return PointerGetDatum(value_with(&cell, 1));
+}
+
+static void refuse_null(void) {
+  ereport(ERROR, errcode(ERRCODE_NULL_VALUE_NOT_ALLOWED), errmsg("s2union: a cell is NULL"));
+}
+
+/* The union of n cells that are in a new value. */
+static Datum normalised(S2Union* u, size_t n) {
+  size_t end = n;
+  int32_t status = s2u_normalise(u->cells, n, &end);
+  if (status == S2U_NO_CELL) refuse_number((int64)u->cells[end]);
+  must_be_ok(status);
+  return finished(u, end);
 }
 
 PG_FUNCTION_INFO_V1(s2union_from_cells);
 Datum s2union_from_cells(PG_FUNCTION_ARGS) {
   ArrayType* cells = PG_GETARG_ARRAYTYPE_P(0);
   size_t n = ArrayGetNItems(ARR_NDIM(cells), ARR_DIMS(cells));
-  if (array_contains_nulls(cells))
-    ereport(ERROR, errcode(ERRCODE_NULL_VALUE_NOT_ALLOWED), errmsg("s2union: a cell is NULL"));
-  S2Union* u = value_with((const uint64_t*)ARR_DATA_PTR(cells), n);
-  must_be_ok(s2u_normalise(u->cells, n, &n));
-  return finished(u, n);
+  if (array_contains_nulls(cells)) refuse_null();
+  return normalised(value_with((const uint64_t*)ARR_DATA_PTR(cells), n), n);
+}
+
+/* The cell that a text names. */
+static uint64_t cell_named(const text* word) {
+  uint64_t cell = 0;
+  int32_t status = cell_of_text(VARDATA_ANY(word), VARSIZE_ANY_EXHDR(word), &cell);
+  if (status == S2U_NO_CELL) refuse_text(VARDATA_ANY(word), VARSIZE_ANY_EXHDR(word));
+  must_be_ok(status);
+  return cell;
+}
+
+PG_FUNCTION_INFO_V1(s2union_from_texts);
+Datum s2union_from_texts(PG_FUNCTION_ARGS) {
+  Datum* words = NULL;
+  bool* nulls = NULL;
+  int n = 0;
+  deconstruct_array(PG_GETARG_ARRAYTYPE_P(0), TEXTOID, -1, false, TYPALIGN_INT, &words, &nulls, &n);
+  S2Union* u = new_value(n);
+  for (int k = 0; k < n; k++) {
+    CHECK_FOR_INTERRUPTS();
+    if (nulls[k]) refuse_null();
+    u->cells[k] = cell_named(DatumGetTextPP(words[k]));
+  }
+  return normalised(u, n);
 }
 
 /* ---- questions ---- */
@@ -570,7 +656,9 @@ typedef int32_t cell_question(const uint64_t* xs, size_t n, uint64_t cell);
 /* A question about the union in argument a and the cell in argument b. */
 static Datum of_asked_and_cell(FunctionCallInfo fcinfo, cell_question* ask, int a, int b) {
   const S2Union* x = ASKED(a);
-  Datum yes = answer(ask(LIST(x), (uint64_t)PG_GETARG_INT64(b)));
+  int32_t status = ask(LIST(x), (uint64_t)PG_GETARG_INT64(b));
+  if (status == S2U_NO_CELL) refuse_number(PG_GETARG_INT64(b));
+  Datum yes = answer(status);
   free_asked(fcinfo, x, a);
   return yes;
 }
@@ -581,6 +669,7 @@ FUNCTION(s2union_intersects_cell, of_asked_and_cell(fcinfo, s2u_intersects_cell,
 FUNCTION(s2union_cell_intersects, of_asked_and_cell(fcinfo, s2u_intersects_cell, 1, 0))
 
 FUNCTION(s2union_count, Int64GetDatum((int64)count_of(ARGUMENT(0))))
+FUNCTION(s2union_is_empty, BoolGetDatum(count_of(ARGUMENT(0)) == 0))
 
 PG_FUNCTION_INFO_V1(s2union_leaves);
 Datum s2union_leaves(PG_FUNCTION_ARGS) {
@@ -591,8 +680,10 @@ Datum s2union_leaves(PG_FUNCTION_ARGS) {
 /* ---- cells ---- */
 
 /* An array of n cells. The caller fills in the cells; without any, an array has no dimension. */
+#define MOST_OF_ARRAY ((MaxAllocSize - ARR_OVERHEAD_NONULLS(1)) / sizeof(int64))
+
 static ArrayType* new_array(uint64_t n) {
-  if (n > (MaxAllocSize - ARR_OVERHEAD_NONULLS(1)) / sizeof(int64)) must_be_ok(S2U_MANY);
+  if (n > MOST_OF_ARRAY) must_be_ok(S2U_MANY);
   size_t size = n == 0 ? sizeof(ArrayType) : ARR_OVERHEAD_NONULLS(1) + n * sizeof(int64);
   ArrayType* array = palloc0(size);
   SET_VARSIZE(array, size);
@@ -622,7 +713,8 @@ Datum s2union_cells_cut(PG_FUNCTION_ARGS) {
   uint32_t level = (uint32_t)PG_GETARG_INT32(1), modulus = (uint32_t)PG_GETARG_INT32(2);
   uint64_t count = 0;
   size_t n = 0;
-  must_be_ok(s2u_denormalised_len(LIST(u), level, modulus, &count));
+  must_take_numbers(s2u_denormalised_len(LIST(u), level, modulus, &count), fcinfo, 1);
+  if (count > MOST_OF_ARRAY) must_take_numbers(S2U_MANY, fcinfo, 1);
   ArrayType* array = new_array(count);
   if (count > 0) must_be_ok(s2u_denormalised(LIST(u), level, modulus, (uint64_t*)ARR_DATA_PTR(array), count, &n));
   PG_RETURN_ARRAYTYPE_P(array);
@@ -648,29 +740,16 @@ PG_FUNCTION_INFO_V1(s2_leaf);
 Datum s2_leaf(PG_FUNCTION_ARGS) {
   uint32_t face = (uint32_t)PG_GETARG_INT32(0), i = (uint32_t)PG_GETARG_INT32(1), j = (uint32_t)PG_GETARG_INT32(2);
   uint64_t leaf = s2u_from_face_ij(face, i, j);
-  must_be_ok(leaf ? S2U_OK : S2U_ARGUMENT);
+  must_take_numbers(leaf ? S2U_OK : S2U_ARGUMENT, fcinfo, 0);
   PG_RETURN_INT64((int64)leaf);
 }
 
 PG_FUNCTION_INFO_V1(s2_version);
 Datum s2_version(PG_FUNCTION_ARGS) { PG_RETURN_TEXT_P(cstring_to_text(S2U_VERSION_TEXT)); }
 
-PG_FUNCTION_INFO_V1(s2_cell);
-Datum s2_cell(PG_FUNCTION_ARGS) {
-  text* word = PG_GETARG_TEXT_PP(0);
-  uint64_t cell = 0;
-  must_be_ok(cell_of_text(VARDATA_ANY(word), VARSIZE_ANY_EXHDR(word), &cell));
-  PG_RETURN_INT64((int64)cell);
-}
-
-/* Argument k, a cell in SQL's bigint. */
-static uint64_t cell_argument(FunctionCallInfo fcinfo, int k) {
-  uint64_t cell = (uint64_t)PG_GETARG_INT64(k);
-  if (!s2u_is_cell(cell)) must_be_ok(S2U_NO_CELL);
-  return cell;
-}
-
 #define CELL cell_argument(fcinfo, 0)
+FUNCTION(s2_cell, Int64GetDatum((int64)cell_named(PG_GETARG_TEXT_PP(0))))
+FUNCTION(s2_cell_of_number, Int64GetDatum((int64)CELL))
 
 typedef int32_t writer(uint64_t cell, char* text, size_t room, size_t* n);
 
@@ -757,6 +836,15 @@ Datum s2union_agg_step_cell(PG_FUNCTION_ARGS) {
   uint64_t cell = cell_argument(fcinfo, 1);
   Gathered* g = state_of(fcinfo);
   gather(g, &cell, 1);
+  PG_RETURN_POINTER(g);
+}
+
+PG_FUNCTION_INFO_V1(s2union_agg_step_text);
+Datum s2union_agg_step_text(PG_FUNCTION_ARGS) {
+  if (PG_ARGISNULL(1)) return unchanged(fcinfo);
+  S2Union* u = read_text(PG_GETARG_DATUM(1));
+  Gathered* g = state_of(fcinfo);
+  gather(g, LIST(u));
   PG_RETURN_POINTER(g);
 }
 
@@ -917,7 +1005,7 @@ static Keys keys_above(const Asked* a) {
 static const S2Union* question_again(Datum asked, StrategyNumber strategy) {
   if (strategy != CONTAINS_CELL && strategy != OVERLAPS_CELL) return value_again(asked);
   const S2Union* u = s2union_of_cell(DatumGetInt64(asked));
-  if (u == NULL) must_be_ok(S2U_NO_CELL);
+  if (u == NULL) refuse_number(DatumGetInt64(asked));
   return u;
 }
 

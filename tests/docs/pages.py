@@ -21,7 +21,7 @@ CODE = re.compile(r"`([^`\n]+)`")
 PATH = re.compile(r"[\w.*/-]+")
 FILE = re.compile(r"[\w.-]+\.(?:rt|antt|py|sh|md|edit|hpp|h|cc|go|rs|sql)")
 # Names that stand for any file of their kind, and headers of S2.
-EXAMPLES = {"NAME.edit", "s2union--OLD--NEW.sql", "s2cell_id.h", "s2cell_union.h"}
+EXAMPLES = {"NAME.edit", "s2union--OLD--NEW.sql", "s2union--NEW.sql", "s2cell_id.h", "s2cell_union.h"}
 GONE = {"peer", "faults", "examples"}
 STEP = re.compile(r"^\d+\. `(\w+/src)/(\w+\.rt)`: (.*)$", re.M)
 DEFINES = r"\b(?:fn|struct|trait|record|data|abbrev pub|unfoldable pub) {}\b"

@@ -51,7 +51,10 @@ step "plans: the index where values are large and where few rows are found" test
 step "large questions end within twice their timeout" tests LargeQuestions
 step "the aggregate, in parallel" tests Aggregates
 step "arrays of the caller, windows, values that come again" tests test_kept.AroundACall
-step "dump, restore and update" tests DumpAndUpdate
+step "one script, and an update from each earlier version" tests test_catalogue.Catalogue test_catalogue.Updates
+installcheck() { make -C "$work/build" PREFIX="$work/usr" PG_CONFIG="$config" installcheck; }
+step "make installcheck" installcheck
+step "dump and restore" tests DumpAndRestore
 step "a session's memory limited in steps" tests MemoryLimits
 step "a large question is kept once for sixty parts of a table" tests test_kept.Memory
 step "indexes and ANALYZE are cancelled" tests test_kept.Cancels

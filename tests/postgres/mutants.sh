@@ -8,12 +8,12 @@
 export S2UNION_ROUNDS=60 SECONDS_OF_TESTS=120
 
 survives() { # EDIT
-  mutant "$1" "$top"/databases/postgres/{*.c,*.h,*.sql} && guarded build "$work/mutant" -B COPT=-O1 &&
-    cp "$work"/mutant/*.sql "$work/build" && put_in build && is_up && : >"$work/data/log" &&
+  mutant "$1" "$top"/databases/postgres/{*.c,*.h,*.sql,*.control} && guarded build "$work/mutant" -B COPT=-O1 &&
+    cp "$work"/mutant/*.{sql,control} "$work/build" && put_in build && is_up && : >"$work/data/log" &&
     dropdb --if-exists --force mutant && createdb mutant &&
     psql -qXd mutant -c "LOAD 's2union'" || return 2 # all that it calls is there
   PGDATABASE=mutant refuse AgainstTheModel WhatIsRefused Aggregates Guarded test_kept.AroundACall \
-    Indexes Exclusion Planner || return
+    test_catalogue.Catalogue test_catalogue.Updates Indexes Exclusion Planner || return
   whole || return 1
 }
 

@@ -29,7 +29,7 @@ built() { # FOLDER FLAGS..: the extension as it is
   local folder=$work/$1
   shift
   mkdir -p "$folder" &&
-    cp -r "$top"/databases/postgres/{Makefile,*.c,*.h,s2union.control,*.sql} "$folder" &&
+    cp -r "$top"/databases/postgres/{Makefile,*.c,*.h,s2union.control,*.sql,sql,expected} "$folder" &&
     make -C "$folder" PREFIX="$work/usr" PG_CONFIG="$config" "$@"
 }
 

@@ -45,7 +45,7 @@ class AroundACall(Tests):
         said = psql(f"""
             CREATE TEMP TABLE rows(k int, region s2union); INSERT INTO rows VALUES {values};
             SELECT k, s2_union_agg(region) OVER w, s2_intersection_agg(region) OVER w,
-                s2_union_agg((s2_cells(region))[1]) OVER w
+                s2_union_agg((s2_cells(region))[1]) OVER w, s2_union_agg(split_part(region::text, ' ', 1)) OVER w
                 FROM rows WINDOW w AS (ORDER BY k) ORDER BY k;
             SELECT k, s2_union_agg(region) OVER (ORDER BY k ROWS BETWEEN 1 PRECEDING AND CURRENT ROW)
                 FROM rows ORDER BY k;
@@ -54,7 +54,7 @@ class AroundACall(Tests):
         for k, xs in enumerate(rows):
             union, both = model.joined(union + model.runs(xs)), model.common(both, model.runs(xs))
             firsts += model.normal(model.runs(xs))[:1]
-            answers = [union, both, model.runs(firsts)]
+            answers = [union, both, model.runs(firsts), model.runs(firsts)]
             wanted.append("|".join([str(k), *(tokens(model.normal(each)) for each in answers)]))
         self.assertEqual(said[: len(rows)], wanted)
         pairs = [rows[max(k - 1, 0)] + xs for k, xs in enumerate(rows)]
@@ -99,6 +99,19 @@ class AroundACall(Tests):
         """)
         count = "SELECT count(*) FROM kept x, kept y, generate_series(1, 3) WHERE x.v && y.v;"
         self.assertEqual(psql(f"{count} CALL asked(); {count} BEGIN; {count} ROLLBACK; {count}"), ["27"] * 4)
+
+    def test_a_text_that_comes_again(self):
+        """As a parameter of a plan that is kept, beside texts of other lengths."""
+        text = " ".join(model.token(model.identifier(12, 7 * k)) for k in range(400))
+        other = text[:-1] + ("1" if text[-1] != "1" else "3")
+        said = psql(f"""
+            SET plan_cache_mode = force_generic_plan;
+            PREPARE asked AS SELECT count(*), count(*) FILTER (WHERE s2_contains($1, s2_cell(c))), s2_count($1::s2union)
+                FROM unnest(string_to_array($2, ' ')) AS c;
+            EXECUTE asked('{text}', '{text}'); EXECUTE asked('{other}', '{text}'); EXECUTE asked('04', '{text}');
+            SELECT sum(s2_count(t::s2union)) FROM unnest(ARRAY['{text}', '{other}', '{text}', '{text}', '04']) AS t;
+        """)
+        self.assertEqual(said, ["400|400|400", "400|399|400", "400|400|1", "1601"])
 
 
 class Memory(Tests):

@@ -19,7 +19,6 @@ FLIPPED = min(100, ROUNDS // 10)
 QUESTIONS = min(2000, 2 * ROUNDS)
 AS_POSTGRES = ["runuser", "-u", "postgres", "--"] if os.geteuid() == 0 else []
 DATABASE = os.environ.get("PGDATABASE", "postgres")
-VERSION = model.VERSION.rpartition(".")[0]
 TRY = """
 CREATE OR REPLACE FUNCTION try(query text) RETURNS text LANGUAGE plpgsql AS $$
 DECLARE answer text;
@@ -169,32 +168,89 @@ class AgainstTheModel(Tests):
             number = self.random.cell()
             level, place = model.cell(number)
             first, end = model.run(number)
-            above = self.random.randint(0, 30)
-            parent = str(signed(model.identifier(above, place // 4 ** (level - above)))) if above <= level else "null"
             xs = self.random.cells(near=[number])
             contains = not model.common([(first, end)], model.rest(model.runs(xs)))
             shares = bool(model.common([(first, end)], model.runs(xs)))
-            cell = f"({signed(number)})::bigint"
-            kth, other = self.random.randrange(5), self.random.near(number)
-            child = level < 30 and kth < 4
-            child = str(signed(model.identifier(level + 1, 4 * place + kth))) if child else "null"
-            leaves = (first, end - 1, model.run(other)[0], model.run(other)[1] - 1)
-            both = [k for k in range(31) if len({leaf // 4 ** (30 - k) for leaf in leaves}) == 1]
-            common = str(signed(model.identifier(both[-1], first // 4 ** (30 - both[-1])))) if both else "null"
-            pairs += [
-                (f"s2_cell('{model.token(number)}')", str(signed(number))),
-                (f"s2_cell('{model.debug(number)}')", str(signed(number))),
-                (f"s2_token({cell})", model.token(number)),
-                (f"s2_level({cell})", str(level)), (f"s2_face({cell})", str(place // 4**level)),
-                (f"s2_range_min({cell})", str(signed(2 * first + 1))),
-                (f"s2_range_max({cell})", str(signed(2 * end - 1))),
-                (f"s2_parent({cell}, {above})", parent), (f"{cell}::s2union", model.token(number)),
+            cell, other = f"({signed(number)})::bigint", self.random.near(number)
+            pairs += self.about_cells(number, other, cell, f"({signed(other)})::bigint") + [
+                (f"{cell}::s2union", model.token(number)),
                 (f"{u(xs)} @> {cell}", boolean(contains)), (f"{cell} <@ {u(xs)}", boolean(contains)),
                 (f"{u(xs)} && {cell}", boolean(shares)), (f"{cell} && {u(xs)}", boolean(shares)),
-                (f"s2_debug({cell})", model.debug(number)), (f"s2_child({cell}, {kth})", child),
-                (f"s2_common_ancestor({cell}, {signed(other)})", common),
             ]
         self.all_are(pairs)
+
+    def about_cells(self, number, other, one, two):
+        """What each function answers of a cell and of another, which SQL has as `one` and `two`."""
+        level, place = model.cell(number)
+        first, end = model.run(number)
+        above, kth = self.random.randint(0, 30), self.random.randrange(5)
+        parent = str(signed(model.identifier(above, place // 4 ** (level - above)))) if above <= level else "null"
+        child = level < 30 and kth < 4
+        child = str(signed(model.identifier(level + 1, 4 * place + kth))) if child else "null"
+        leaves = (first, end - 1, model.run(other)[0], model.run(other)[1] - 1)
+        both = [k for k in range(31) if len({leaf // 4 ** (30 - k) for leaf in leaves}) == 1]
+        common = str(signed(model.identifier(both[-1], first // 4 ** (30 - both[-1])))) if both else "null"
+        span = tokens(model.normal([(first, leaves[3] + 1)]))[:24] if first <= leaves[3] else (
+            f"error: s2union: argument out of range: {signed(number)} to {signed(other)}")
+        return [
+            (f"s2_cell({one})", str(signed(number))), (f"s2_token({one})", model.token(number)),
+            (f"s2_debug({one})", model.debug(number)),
+            (f"s2_level({one})", str(level)), (f"s2_face({one})", str(place // 4**level)),
+            (f"s2_range_min({one})", str(signed(2 * first + 1))),
+            (f"s2_range_max({one})", str(signed(2 * end - 1))),
+            (f"s2_parent({one}, {above})", parent), (f"s2_child({one}, {kth})", child),
+            (f"s2_common_ancestor({one}, {two})", common), (f"left(s2_range({one}, {two})::text, 24)", span),
+        ]
+
+    def written(self, cells, typed=False):
+        """A text that names cells, as a literal or as a value of type text."""
+        return f"'{self.random.text(cells)}'" + self.random.choice(["::text", "::varchar"]) * typed
+
+    def test_cells_that_texts_name(self):
+        pairs = []
+        for _ in range(ROUNDS // 3):
+            number = self.random.cell()
+            other = self.random.near(number)
+            ones, twos = ([f"({signed(cell)})::bigint", self.written([cell]), self.written([cell], True)]
+                          for cell in (number, other))
+            for one, two in ((1, 1), (2, 2), (1, 2), (2, 1), (1, 0), (0, 1), (2, 0), (0, 2)):
+                pairs += self.about_cells(number, other, ones[one], twos[two])
+        self.all_are(pairs)
+
+    def test_questions_about_what_texts_name(self):
+        """Each side is a union, a cell or a text; a text of type text beside a union has to be cast."""
+        pairs = []
+        for _ in range(ROUNDS // 3):
+            xs, ys = self.random.cells(3), self.random.cells(3)
+            if self.random.random() < 0.7:
+                ys = self.random.cells(3, near=xs)
+            x, y = model.runs(xs), model.runs(ys)
+            answers = {"s2_contains": not model.common(y, model.rest(x)), "s2_intersects": bool(model.common(x, y)),
+                       "s2_within": not model.common(x, model.rest(y))}
+            one, two = ([u(cells), self.written(cells), self.written(cells, True)]
+                        + [f"({signed(cell)})::bigint" for cell in cells if len(cells) == 1] for cells in (xs, ys))
+            pairs += [(f"{name}({a}, {b})", boolean(answer)) for name, answer in answers.items()
+                      for a in one for b in two if {a, b} != {one[0], two[2]} and {a, b} != {one[2], two[0]}]
+            pairs += [(f"({one[2]})::s2union", tokens(model.normal(x))),
+                      (f"s2union({one[2]})", tokens(model.normal(x))), (f"s2union({one[1]})", tokens(model.normal(x)))]
+        self.all_are(pairs)
+
+    def test_arrays_of_texts_and_unions_of_none(self):
+        pairs = []
+        for _ in range(ROUNDS // 3):
+            xs = self.random.cells()
+            normal = model.normal(model.runs(xs))
+            words = ", ".join(f"'{self.random.choice([model.token, model.debug])(cell)}'" for cell in xs)
+            pairs += [
+                (f"ARRAY[{words}]::text[]::s2union", tokens(normal)), (f"s2_is_empty({u(xs)})", boolean(not xs)),
+                (f"(SELECT array_agg(cell) FROM unnest({u(xs)}) AS cell)", array(normal) if normal else "null"),
+                (f"(SELECT string_agg(s2_token(c), ' ') FROM (SELECT unnest({u(xs)}) AS c) t)",
+                 tokens(normal) or "null"),
+                (f"(SELECT s2_union_agg(word) FROM unnest(ARRAY[{words}]::text[]) AS word)",
+                 tokens(normal) if xs else "null"),
+            ]
+        self.all_are(pairs + [("s2_union_agg('04 0c 14')", "04 0c 14"), ("(SELECT count(*) FROM unnest(NULL::s2union))",
+                                                                         "0")])
 
     def test_coverings_and_ranges(self):
         pairs = []
@@ -219,20 +275,6 @@ class AgainstTheModel(Tests):
                 for name, want in (("s2_outer", model.around), ("s2_inner", model.within)):
                     pairs.append((f"{name}({u(xs)}, {bounds}, {level})", tokens(model.normal(want(both, level)))))
         self.all_are(pairs)
-
-    def test_version(self):
-        said = psql("SELECT s2_version(), extversion FROM pg_extension WHERE extname = 's2union';")
-        self.assertEqual(said, [f"{model.VERSION}|{VERSION}"])
-
-    def test_all_functions_but_the_version_are_immutable(self):
-        said = psql("""
-            SELECT proname, provolatile FROM pg_proc p
-            JOIN pg_depend d ON d.classid = 'pg_proc'::regclass AND d.objid = p.oid AND d.deptype = 'e'
-            JOIN pg_extension e ON e.oid = d.refobjid AND e.extname = 's2union'
-            WHERE starts_with(proname, 's2_')
-                AND (provolatile, proparallel, proisstrict OR prokind = 'a') <> ('i', 's', true);
-        """)
-        self.assertEqual(said, ["s2_version|s"])
 
     def test_long_texts(self):
         """They are read and written in pieces."""
@@ -310,6 +352,10 @@ def flips_of(value):
     return good, bits - good
 
 
+# The functions of one cell, and their other arguments.
+OF_A_CELL = {"s2_cell": "", "s2_token": "", "s2_debug": "", "s2_level": "", "s2_face": "", "s2_parent": ", 0",
+             "s2_child": ", 0", "s2_range_min": "", "s2_range_max": ""}
+
 OF_A_STORED_VALUE = (
     "region", "region @> s2_cell('04')", "region && '1'", "'1' - region", "region | '3'", "region::bytea",
     "s2_cells(region)", "s2_ancestors(region)", "region < '1'", "s2union_hash(region)", "s2_outer(region, 3)",
@@ -345,7 +391,7 @@ class WhatIsRefused(Tests):
         wrong += [("'1 04,park 3 X'::s2union", '"park" names no cell'), ("' 0/5\t1'::s2union", '"0/5" names no cell')]
         ends = ("\\n", "\\r", "\\t", "\\r\\n", ",")
         wrong += [(f"E'1 park{end}04'::s2union", '"park" names no cell') for end in ends]
-        self.all_refused(wrong + [(f"s2_cell('{text}')", "not a cell") for text in ("", "X", "1 1", "6/")])
+        self.all_refused(wrong)
         said = f'error: invalid input syntax for type s2union: "{"€" * 13}" names no cell' # psql drops half a sign
         self.all_are([("''::s2union::text = '' and ' , '::s2union = ''", "true"),
                       (f"md5(try($t$SELECT '1 {'€' * 20}'::s2union::text$t$))", md5(said))])
@@ -355,28 +401,58 @@ class WhatIsRefused(Tests):
                           for file, reason in model.faults_of_files()])
 
     def test_numbers(self):
-        self.all_refused([
-            ("s2_outer(6, 0, 0, 0, 0, 5)", "argument"), ("s2_outer(0, 1, 0, 0, 0, 5)", "argument"),
-            ("s2_outer(0, 0, 0, 0, 0, 31)", "argument"),
-            ("s2_outer(0, -1, 0, 0, 0, 5)", "argument"), ("s2_inner('1'::s2union, -1)", "argument"),
-            ("s2_leaf(0, 0, -1)", "argument"), ("s2_outer('1'::s2union, 0, 1, 0, 0, 0, 5)", "argument"),
-            ("s2_inner('1'::s2union, 0, 0, 0, 0, 0, 31)", "argument"),
-            ("s2_inner('1'::s2union, 0, 0, 1073741823, 5, 5, 30)", "too many cells"),
-            ("s2_outer(0, 0, 1073741823, 5, 5, 30)", "too many cells"),
-            ("(2::bigint)::s2union", "not a cell"), ("s2_level(0)", "not a cell"),
-            ("s2_token(0)", "not a cell"), ("s2_parent(0, 0)", "not a cell"), ("s2_range_max(0)", "not a cell"),
-            ("'1'::s2union @> 0::bigint", "not a cell"), ("0::bigint <@ '1'::s2union", "not a cell"),
-            ("'1'::s2union && 0::bigint", "not a cell"), ("0::bigint && '1'::s2union", "not a cell"),
-            ("s2_child(0, 0)", "not a cell"), ("s2_debug(0)", "not a cell"),
-            ("s2_common_ancestor(0, s2_cell('1'))", "not a cell"),
-            ("s2_common_ancestor(s2_cell('1'), 0)", "not a cell"),
-            ("'{0}'::bigint[]::s2union", "not a cell"), ("(ARRAY[s2_cell('1'), NULL])::s2union", "a cell is NULL"),
-            ("(SELECT s2_union_agg(c) FROM (VALUES (0::bigint)) v(c))", "not a cell"),
-            ("s2_cells('1'::s2union, 31)", "argument"), ("s2_cells('1'::s2union, 1, 4)", "argument"),
-            ("s2_cells('1'::s2union, -1)", "argument"), ("s2_cells('1'::s2union, 30)", "too many cells"),
-            ("s2_cells('1 3'::s2union, 13)", "too many cells"), ("s2_cells(''::s2union, 31)", "argument"),
-            ("s2_range(-1, 1)", "not a cell"), ("s2_range(s2_cell('3'), s2_cell('1'))", "argument"),
-        ])
+        self.all_are([
+            (sql, f"error: s2union: {wanted}") for sql, wanted in (
+                ("s2_outer(6, 0, 0, 0, 0, 5)", "argument out of range: 6, 0, 0, 0, 0, 5"),
+                ("s2_outer(0, 1, 0, 0, 0, 5)", "argument out of range: 0, 1, 0, 0, 0, 5"),
+                ("s2_outer(0, 0, 0, 0, 0, 31)", "argument out of range: 0, 0, 0, 0, 0, 31"),
+                ("s2_outer(0, -1, 0, 0, 0, 5)", "argument out of range: 0, -1, 0, 0, 0, 5"),
+                ("s2_inner('1'::s2union, -1)", "argument out of range: -1"),
+                ("s2_leaf(0, 0, -1)", "argument out of range: 0, 0, -1"),
+                ("s2_outer('1'::s2union, 0, 1, 0, 0, 0, 5)", "argument out of range: 0, 1, 0, 0, 0, 5"),
+                ("s2_inner('1'::s2union, 0, 0, 0, 0, 0, 31)", "argument out of range: 0, 0, 0, 0, 0, 31"),
+                ("s2_inner('1'::s2union, 0, 0, 1073741823, 5, 5, 30)", "too many cells: 0, 0, 1073741823, 5, 5, 30"),
+                ("s2_outer(0, 0, 1073741823, 5, 5, 30)", "too many cells: 0, 0, 1073741823, 5, 5, 30"),
+                ("(2::bigint)::s2union", "not a cell: 2"), ("s2_cell(-5)", "not a cell: -5"),
+                ("'1'::s2union @> 0::bigint", "not a cell: 0"), ("0::bigint <@ '1'::s2union", "not a cell: 0"),
+                ("'1'::s2union && 0::bigint", "not a cell: 0"), ("0::bigint && '1'::s2union", "not a cell: 0"),
+                ("s2_common_ancestor(2, s2_cell('1'))", "not a cell: 2"),
+                ("s2_common_ancestor(s2_cell('1'), 2)", "not a cell: 2"),
+                ("'{1,3,-9223372036854775808}'::bigint[]::s2union", "not a cell: -9223372036854775808"),
+                ("(ARRAY[s2_cell('1'), NULL])::s2union", "a cell is NULL"),
+                ("(ARRAY['1', NULL])::s2union", "a cell is NULL"),
+                ("(SELECT s2_union_agg(c) FROM (VALUES (0::bigint)) v(c))", "not a cell: 0"),
+                ("s2_cells('1'::s2union, 31)", "argument out of range: 31, 1"),
+                ("s2_cells('1'::s2union, 1, 4)", "argument out of range: 1, 4"),
+                ("s2_cells('1'::s2union, -1)", "argument out of range: -1, 1"),
+                ("s2_cells('1'::s2union, 30)", "too many cells: 30, 1"),
+                ("s2_cells('1 3'::s2union, 13)", "too many cells: 13, 1"),
+                ("s2_cells(''::s2union, 31)", "argument out of range: 31, 1"),
+                ("s2_range(-2, 1)", "not a cell: -2"), ("s2_range(1, 2)", "not a cell: 2"),
+                ("s2_range(s2_cell('3'), s2_cell('1'))",
+                 "argument out of range: 3458764513820540928 to 1152921504606846976"),
+            )
+        ] + [(f"{name}(0{more})", "error: s2union: not a cell: 0") for name, more in OF_A_CELL.items()])
+
+    def test_texts_that_name_no_cell(self):
+        """Of each function that takes a cell: a number in quotes is none, and the message names the text."""
+        pairs = []
+        for text in ("-5", "1152921504606846976", "", "X", "04 0c", "6/", " 04", "0x04", "9" * 50):
+            said = f'error: s2union: not a cell: "{text[:40]}"'
+            calls = [f"{name}('{text}'{more})" for name, more in OF_A_CELL.items()]
+            calls += [f"{name}({a}, {b})" for name in ("s2_common_ancestor", "s2_range")
+                      for word in (f"'{text}'", f"'{text}'::text")
+                      for a, b in ((word, "'04'"), ("'04'", word), ("s2_cell('04')", word), (word, "s2_cell('04')"))]
+            calls += [f"(ARRAY['1', '{text}'])::s2union"]
+            pairs += [(call, said) for call in calls]
+        no_union = 'error: invalid input syntax for type s2union: "-5" names no cell'
+        pairs += [(f"s2_{name}({a}, {b})", no_union) for name in ("contains", "within", "intersects")
+                  for a, b in (("'-5'", "s2_cell('04')"), ("s2_cell('04')", "'-5'"), ("'1'", "'-5'"), ("'-5'", "'1'"))]
+        pairs += [("s2union('-5'::text)", no_union), ("(SELECT s2_union_agg('04 -5'))", no_union)]
+        self.all_are(pairs)
+        said = subprocess.run(["psql", "-XAqt", "-d", DATABASE, "-c", "SELECT s2_level('1152921504606846976')"],
+                              stdout=subprocess.PIPE, stderr=subprocess.PIPE, text=True, check=False).stderr
+        self.assertIn("HINT:  A text names a cell by its token or its debug text. A number has no quotes.", said)
 
     def test_null_gives_null(self):
         """In each argument of each function and operator."""
@@ -389,12 +465,13 @@ class WhatIsRefused(Tests):
             HAVING bool_and(t.typname NOT IN ('internal', 'cstring')) ORDER BY 1;
         """)
         good = {"s2union": "'04'::s2union", "int8": "s2_cell('04')", "int4": "1", "text": "'04'",
-                "bytea": "'\\x01'::bytea", "_int8": "'{}'::bigint[]"}
+                "bytea": "'\\x01'::bytea", "_int8": "'{}'::bigint[]", "_text": "'{}'::text[]"}
         pairs = []
         for name, count, types in (line.split("|") for line in said):
             types = types.split(",")
             for k in range(int(count)):
-                values = [f"NULL::{t.replace('_int8', 'bigint[]')}" if n == k else good[t] for n, t in enumerate(types)]
+                values = [f"NULL::{t[1:] + '[]' if t[0] == '_' else t}" if n == k else good[t]
+                          for n, t in enumerate(types)]
                 pairs.append((f"{name}({', '.join(values)})", "null"))
         self.assertGreater(len(pairs), 80)
         operators = ("|", "&", "-", "#", "@>", "<@", "&&", "=", "<>", "<", "<=", ">", ">=")
@@ -752,10 +829,10 @@ class Planner(Tests):
     def test_an_operator_of_other_types_that_is_estimated_as_ours_are(self):
         def plan(kind, constant):
             return psql(f"""
-                BEGIN;
-                CREATE FUNCTION s2_contains({kind}, {kind}) RETURNS boolean LANGUAGE plpgsql
+                BEGIN; CREATE SCHEMA stranger;
+                CREATE FUNCTION stranger.s2_contains({kind}, {kind}) RETURNS boolean LANGUAGE plpgsql
                     AS 'BEGIN RETURN true; END';
-                CREATE OPERATOR @@@ (LEFTARG = {kind}, RIGHTARG = {kind}, FUNCTION = s2_contains,
+                CREATE OPERATOR @@@ (LEFTARG = {kind}, RIGHTARG = {kind}, FUNCTION = stranger.s2_contains,
                     RESTRICT = s2union_sel, JOIN = s2union_joinsel);
                 EXPLAIN SELECT FROM pg_class WHERE relpages::{kind} @@@ {constant};
                 ROLLBACK;
@@ -940,7 +1017,7 @@ class Aggregates(Tests):
         self.assertEqual(said[1], model.token(model.identifier(21, 0)))
 
 
-class DumpAndUpdate(Tests):
+class DumpAndRestore(Tests):
     def test_dump_and_restore(self):
         rows = [self.random.cells() for _ in range(300)]
         values = ", ".join(f"({k}, {u(xs)})" for k, xs in enumerate(rows))
@@ -977,49 +1054,6 @@ class DumpAndUpdate(Tests):
         psql("DROP DATABASE restored; ")
         psql("DROP DATABASE dumped; ")
 
-    def test_update(self):
-        """What an earlier version has made goes on: a table, its index, and a view."""
-        for earlier in ("0.1", "0.2", "1.0"):
-            with self.subTest(earlier=earlier):
-                self.update_from(earlier)
-
-    def update_from(self, earlier):
-        query = """
-            SET enable_seqscan = off; SET max_parallel_workers_per_gather = 0;
-            SELECT extversion FROM pg_extension WHERE extname = 's2union';
-            SELECT count(*) FROM regions WHERE region && '04'; SELECT sum(n) FROM counts;
-        """
-        psql("DROP DATABASE IF EXISTS updated;")
-        psql("CREATE DATABASE updated;")
-        before = psql(f"""
-            CREATE EXTENSION s2union VERSION '{earlier}'; CREATE TABLE regions(id int, region s2union);
-            INSERT INTO regions SELECT k, s2_leaf(0, k * 1000000, k * 900000)::s2union FROM generate_series(1, 999) k;
-            CREATE INDEX ON regions USING gin (region);
-            CREATE VIEW counts AS SELECT s2_count(region) AS n FROM regions WHERE region @> s2_leaf(0, 1000000, 900000);
-        """ + query, "updated")
-        after = psql("ALTER EXTENSION s2union UPDATE; " + query + """
-            SELECT count(*) FROM regions WHERE region @> s2_leaf(0, 5000000, 4500000);
-            EXPLAIN SELECT * FROM regions WHERE region @> s2_leaf(0, 5000000, 4500000);
-        """, "updated")
-        self.assertEqual(before[0], earlier)
-        self.assertEqual(after[:4], [VERSION, *before[1:], "1"])
-        self.assertTrue(any("regions_region_idx" in line for line in after[4:]), after)
-        psql("DROP DATABASE updated;")
-
-    def test_a_later_version(self):
-        script = os.path.join(os.environ["EXTENSIONS"], f"s2union--{VERSION}--later.sql")
-        with open(script, "w", encoding="utf-8") as file:
-            file.write("COMMENT ON TYPE s2union IS 'a later version';\n")
-        said = psql("""
-            BEGIN; ALTER EXTENSION s2union UPDATE TO 'later';
-            SELECT extversion, obj_description('s2union'::regtype, 'pg_type')
-                FROM pg_extension WHERE extname = 's2union';
-            ROLLBACK; DROP EXTENSION IF EXISTS s2union CASCADE; CREATE EXTENSION s2union;
-            SELECT '1'::s2union @> '04'::s2union;
-        """.replace("BEGIN;", "SET client_min_messages = error; BEGIN;"))
-        os.remove(script)
-        self.assertEqual(said, ["later|a later version", "t"])
-
     def test_the_owner_of_a_database_may_create_the_extension(self):
         psql("DROP DATABASE IF EXISTS owned; ")
         psql("SET client_min_messages = error; DROP ROLE IF EXISTS owner, guest; CREATE ROLE owner; CREATE ROLE guest;")
@@ -1031,16 +1065,6 @@ class DumpAndUpdate(Tests):
         self.assertEqual(said, ["04"])
         psql("DROP DATABASE owned; ")
         psql("DROP ROLE owner, guest; ")
-
-    def test_everything_has_a_comment(self):
-        said = psql("""
-            SELECT pg_describe_object(d.classid, d.objid, 0) FROM pg_depend d
-            JOIN pg_extension e ON e.oid = d.refobjid AND e.extname = 's2union'
-            WHERE d.deptype = 'e' AND d.classid IN ('pg_proc'::regclass, 'pg_operator'::regclass, 'pg_type'::regclass)
-                AND NOT EXISTS (SELECT FROM pg_description c WHERE (c.classoid, c.objoid) = (d.classid, d.objid))
-                AND pg_describe_object(d.classid, d.objid, 0) <> 'type s2union[]';
-        """)
-        self.assertEqual(said, [])
 
 
 class Exclusion(Tests):
@@ -1190,6 +1214,7 @@ class Guarded(Tests):
         several = (
             ("CREATE INDEX scattered_gist ON scattered USING gist (region)", 4), ("ANALYZE scattered", 4),
             ("SELECT length(region::text) FROM scattered", 4), ("SELECT s2_count(repeat('04 ', 90000)::s2union)", 5),
+            ("SELECT s2_count(array_fill('04'::text, ARRAY[150000])::s2union)", 3),
             ("SELECT s2_keys(region, 1) FROM scattered", 6),
             ("SELECT s2_count(s2_union_agg(s2_leaf(0, k, k))) FROM generate_series(1, 500000) AS k", 3),
         )

@@ -1,0 +1,264 @@
+"""What the extension for PostgreSQL makes in a database: s2union--VERSION.sql, from top to bottom, and the same by an
+update from each earlier version. The server and EXTENSIONS are those of test_postgres.py."""
+
+import itertools
+import os
+import re
+import unittest
+from pathlib import Path
+
+import model
+from test_postgres import TRY, Tests, ask, psql
+
+VERSION = model.VERSION.rpartition(".")[0]
+EARLIER = ("0.1", "0.2", "1.0")
+PAGES = Path(__file__).resolve().parents[2] / "docs"
+MEMBERS = """
+    SELECT d.classid, d.objid, pg_describe_object(d.classid, d.objid, 0) AS object FROM pg_depend d
+    JOIN pg_extension e ON e.oid = d.refobjid AND e.extname = 's2union' WHERE d.deptype = 'e'
+"""
+# All that the extension has in the catalogue, a line for each: functions, aggregates, operators, classes with their
+# members, casts, the type, and comments. Numbers of objects are their names here.
+CATALOGUE = f"""
+    WITH members AS ({MEMBERS})
+    SELECT object, pg_get_functiondef(objid) FROM members JOIN pg_proc p ON p.oid = objid AND prokind = 'f'
+    UNION ALL
+    SELECT object, (to_jsonb(a) - '{{aggfnoid,aggtranstype}}'::text[])::text || aggtranstype::regtype
+        FROM members JOIN pg_aggregate a ON aggfnoid = objid
+    UNION ALL
+    SELECT object, (to_jsonb(p) - '{{oid,proowner,pronamespace,proargtypes,prorettype,prosupport}}'::text[])::text
+        || prosupport FROM members JOIN pg_proc p ON p.oid = objid AND prokind = 'a'
+    UNION ALL
+    SELECT object, format('%s %s %s %s %s %s %s', oprcode::regprocedure, oprcom::regoperator, oprnegate::regoperator,
+        oprrest, oprjoin, oprcanmerge, oprcanhash) FROM members JOIN pg_operator o ON o.oid = objid
+    UNION ALL
+    SELECT object, format('%s %s %s', opcintype::regtype, opcdefault, opckeytype::regtype)
+        FROM members JOIN pg_opclass c ON c.oid = objid
+    UNION ALL
+    SELECT object, format('%s %s %s', amopstrategy, amoppurpose, amopopr::regoperator)
+        FROM members JOIN pg_amop ON amopfamily = objid WHERE classid = 'pg_opfamily'::regclass
+    UNION ALL
+    SELECT object, format('%s %s %s %s', amproclefttype::regtype, amprocrighttype::regtype, amprocnum,
+        amproc::regprocedure) FROM members JOIN pg_amproc ON amprocfamily = objid
+        WHERE classid = 'pg_opfamily'::regclass
+    UNION ALL
+    SELECT object, format('%s %s %s', castfunc::regprocedure, castcontext, castmethod)
+        FROM members JOIN pg_cast c ON c.oid = objid
+    UNION ALL
+    SELECT object, (to_jsonb(t) - '{{oid,typowner,typnamespace,typarray,typelem}}'::text[])::text
+        FROM members JOIN pg_type t ON t.oid = objid
+    UNION ALL
+    SELECT object, 'comment: ' || description FROM members JOIN pg_description ON (classoid, objoid) = (classid, objid)
+    UNION ALL
+    SELECT object, NULL FROM members
+    ORDER BY 1, 2;
+"""
+# Calls that an earlier version answers: with what SQL leaves untyped, and with cells, arrays, texts and bytes.
+CALLS = [
+    "region && '1c'", "'1c' && region", "region @> '1c03 1c05'", "'1c03' <@ region", "region <@ '1'", "'04' <@ region",
+    "leaf <@ region", "leaf && region", "region @> leaf", "region && leaf", "leaf <@ '1 3'", "'1 3' @> leaf",
+    "s2_contains(region, '1c03 1c05')", "s2_contains('1 3', region)", "s2_contains('1 3', leaf)",
+    "s2_contains(region, leaf)", "s2_within(leaf, '1 3')", "s2_within(leaf, region)", "s2_within(region, '1 3')",
+    "s2_within('04 0c', region)", "s2_intersects(region, '1c 0401')", "s2_intersects('1c 0401', region)",
+    "s2_intersects(leaf, '1 3')", "s2_intersects('1 3', leaf)", "s2_intersects(leaf, region)", "region | '04'",
+    "'1' - region", "s2_union(region, '14')", "s2_union('14', '1c')", "s2_intersection('1', region)", "s2_count('04')",
+    "s2_leaves('04 1c')", "s2_tokens('0/0, 1c')", "s2_cells('04 0c')", "s2_cells('04', 2)", "s2_cells(region, 3, 2)",
+    "s2_ancestors('04')", "s2_outer('0401', 3)", "s2_inner(region, 2)", "s2_outer(0, 0, 9, 0, 9, 4)",
+    "s2_outer('1', 0, 0, 9, 0, 9, 4)", "s2_is_union('\\x010000000000000000')", "s2_cell('04')", "s2_cell('0/12')",
+    "s2_cell('04')::s2union", "s2_level(leaf)", "s2_parent(leaf, 3)", "s2_parent(leaf, '3')",
+    "s2_child(s2_cell('1'), 2)",
+    "s2_common_ancestor(leaf, s2_cell('04'))", "s2_range(leaf, s2_cell('3'))", "s2_token(leaf)", "s2_debug(leaf)",
+    "s2_range_min(s2_cell('04'))", "(ARRAY[leaf, leaf + 2])::s2union", "'{1,3,5,7}'::bigint[]::s2union",
+    "region::bigint[]", "region::bytea::s2union", "s2union(leaf)", "s2union('04 0c')", "s2union('\\x01'::bytea)",
+    "leaf::s2union", "'1c 14'::text::s2union", "'1c 14'::varchar::s2union", "bytea(region)", "region = '04'",
+    "region < '1c'", "s2_level(NULL)", "s2_contains(region, NULL)", "s2union_cmp(region, '04')",
+    "(SELECT s2_union_agg(region) FROM regions)", "(SELECT s2_union_agg(leaf) FROM regions)",
+    "(SELECT s2_intersection_agg(region) FROM regions)", "(SELECT count(*) FROM unnest(s2_cells(region)))",
+    "(SELECT count(*) FROM unnest(ARRAY[1, 2]))", "(SELECT count(*) FROM unnest('{1,2}'::int[]))",
+    "(SELECT count(*) FROM unnest(ARRAY[1, 2], ARRAY['a', 'b', 'c']))", "s2_level(0)::text", "s2_leaf(0, 5, 7)",
+]
+
+
+class Catalogue(Tests):
+    def test_version(self):
+        said = psql("SELECT s2_version(), extversion FROM pg_extension WHERE extname = 's2union';")
+        self.assertEqual(said, [f"{model.VERSION}|{VERSION}"])
+
+    def test_all_functions_but_the_version_are_immutable(self):
+        said = psql(f"""
+            SELECT proname, provolatile FROM pg_proc p JOIN ({MEMBERS}) m ON m.objid = p.oid
+            WHERE starts_with(proname, 's2_')
+                AND (provolatile, proparallel, proisstrict OR prokind = 'a') <> ('i', 's', true);
+        """)
+        self.assertEqual(said, ["s2_version|s"])
+
+    def test_each_function_that_takes_a_cell_takes_a_text(self):
+        """In place of each bigint; but no text beside a union, where an untyped literal is a union."""
+        said = psql(f"""
+            SELECT p.proname, array_to_string(p.proargtypes::regtype[], ',') FROM pg_proc p
+            JOIN ({MEMBERS}) m ON m.objid = p.oid WHERE starts_with(p.proname, 's2_');
+        """)
+        there = {(name, tuple(types.split(","))) for name, types in (line.split("|") for line in said)}
+        wanted = set()
+        for name, types in there:
+            ways = [("bigint", "text") if each == "bigint" else (each,) for each in types]
+            wanted |= {(name, way) for way in itertools.product(*ways) if not {"s2union", "text"} <= set(way)}
+        self.assertEqual(wanted - there, set())
+        self.assertGreater(len(wanted), 60)
+
+    def test_everything_has_a_comment(self):
+        said = psql(f"""
+            SELECT object FROM ({MEMBERS}) m WHERE object <> 'type s2union[]'
+                AND classid IN ('pg_proc'::regclass, 'pg_operator'::regclass, 'pg_type'::regclass)
+                AND NOT EXISTS (SELECT FROM pg_description c WHERE (c.classoid, c.objoid) = (m.classid, m.objid));
+        """)
+        self.assertEqual(said, [])
+
+    def test_no_two_functions_have_the_same_comment(self):
+        """Those of one name have, but for the number of their arguments; and an operator has that of its function."""
+        said = psql(f"""
+            WITH commented AS (
+                SELECT proname, pronargs, description FROM ({MEMBERS}) m JOIN pg_proc p ON p.oid = m.objid
+                JOIN pg_description d ON (d.classoid, d.objoid) = (m.classid, m.objid)
+                WHERE starts_with(proname, 's2_') OR proname IN ('unnest', 'bytea'))
+            SELECT description, string_agg(DISTINCT proname, ', ') FROM commented
+                GROUP BY description HAVING count(DISTINCT proname) > 1
+            UNION ALL
+            SELECT proname, string_agg(DISTINCT description, ', ') FROM commented
+                GROUP BY proname, pronargs HAVING count(DISTINCT description) > 1
+            UNION ALL
+            SELECT object, obj_description(objid, 'pg_operator') FROM ({MEMBERS}) m JOIN pg_operator o ON o.oid = objid
+                WHERE NOT starts_with(oprcode::text, 's2union_')
+                    AND obj_description(objid, 'pg_operator') IS DISTINCT FROM obj_description(oprcode, 'pg_proc');
+        """)
+        self.assertEqual(said, [])
+
+    def test_the_pages_say_what_the_comments_say(self):
+        """A row of the table of functions begins with the comment of its function, and has its number of arguments."""
+        rows = {}
+        for calls, answer in re.findall(r"^\| (`s2_.*?`(?:, `s2_.*?`)*) \| (.*) \|$", (PAGES / "SQLITE.md").read_text(),
+                                        re.M):
+            for name, arguments in re.findall(r"`(s2_\w+)\((.*?)\)`", calls):
+                rows[name, len(arguments.split(",")) if arguments else 0] = answer
+        said = psql(f"""
+            SELECT DISTINCT proname, pronargs, pronargdefaults, description FROM ({MEMBERS}) m
+            JOIN pg_proc p ON p.oid = m.objid JOIN pg_description d ON (d.classoid, d.objoid) = (m.classid, m.objid)
+            WHERE starts_with(proname, 's2_');
+        """)
+        page = (PAGES / "POSTGRES.md").read_text()
+        for name, count, defaults, comment in (line.split("|", 3) for line in said):
+            if (name, int(count)) not in rows: # PostgreSQL alone has it
+                self.assertIn(f"`{name}(", page)
+                self.assertIn(comment, page)
+                continue
+            for arguments in range(int(count) - int(defaults), int(count) + 1):
+                self.assertTrue(rows[name, arguments].startswith(comment), (name, arguments, comment))
+
+
+class Updates(unittest.TestCase):
+    """What an earlier version has made goes on, and what the update makes is what a new database has."""
+
+    @classmethod
+    def setUpClass(cls):
+        psql("DROP DATABASE IF EXISTS fresh;")
+        psql("CREATE DATABASE fresh;")
+        psql("CREATE EXTENSION s2union;", "fresh")
+        cls.whole = psql(CATALOGUE, "fresh")
+        psql("DROP DATABASE fresh;")
+
+    def test_the_whole_is_one_file(self):
+        """CREATE EXTENSION runs the script of this version alone."""
+        folder = os.environ["EXTENSIONS"]
+        self.assertIn(f"s2union--{VERSION}.sql", os.listdir(folder))
+        self.assertGreater(len(self.whole), 400)
+
+    def test_the_update_from_each_earlier_version(self):
+        for earlier in EARLIER:
+            with self.subTest(earlier=earlier):
+                self.update_from(earlier)
+
+    def update_from(self, earlier):
+        query = """
+            SET enable_seqscan = off; SET max_parallel_workers_per_gather = 0;
+            SELECT extversion FROM pg_extension WHERE extname = 's2union';
+            SELECT count(*) FROM regions WHERE region && '04'; SELECT sum(n) FROM counts;
+            SELECT count(*), min(tile), max(tile) FROM tiles; SELECT count(*) FROM regions WHERE s2_level(leaf) = 30;
+        """
+        psql("DROP DATABASE IF EXISTS updated;")
+        psql("CREATE DATABASE updated;")
+        before = psql(f"""
+            CREATE EXTENSION s2union VERSION '{earlier}'; CREATE TABLE regions(id int, region s2union, leaf bigint);
+            INSERT INTO regions SELECT k, s2_leaf(0, k * 1000000, k * 900000)::s2union, s2_leaf(0, k, k)
+                FROM generate_series(1, 999) k;
+            CREATE INDEX ON regions USING gin (region);
+            CREATE INDEX regions_level ON regions (s2_level(leaf));
+            CREATE VIEW counts AS SELECT s2_count(region) AS n FROM regions WHERE region @> s2_leaf(0, 1000000, 900000);
+            CREATE VIEW tiles AS SELECT s2_parent(leaf, 24) AS tile FROM regions WHERE NOT s2_contains(region, '04');
+        """ + TRY + query, "updated")
+        asked = [f"{call} FROM regions WHERE id = 7" for call in CALLS]
+        answers = self.asked(asked)
+        after = psql("ALTER EXTENSION s2union UPDATE; " + query + """
+            SELECT count(*) FROM regions WHERE region @> s2_leaf(0, 5000000, 4500000);
+            EXPLAIN SELECT * FROM regions WHERE region @> s2_leaf(0, 5000000, 4500000);
+            EXPLAIN SELECT * FROM regions WHERE s2_level(leaf) = 29;
+        """, "updated")
+        self.assertEqual(before[0], earlier)
+        self.assertEqual(after[:6], [VERSION, *before[1:], "1"])
+        for index in ("regions_region_idx", "regions_level"):
+            self.assertTrue(any(index in line for line in after[6:]), after)
+        lost = [(call, now) for call, was, now in zip(CALLS, answers, self.asked(asked))
+                if not was.startswith("error") and was != now]
+        self.assertEqual(lost, [])
+        self.assertGreater(len([was for was in answers if not was.startswith("error")]), 50)
+        self.assertEqual(psql(CATALOGUE, "updated"), self.whole)
+        psql("DROP DATABASE updated;")
+
+    def asked(self, queries):
+        return ask([f"SELECT {query}" for query in queries], "", "updated")
+
+    def test_a_later_version(self):
+        script = os.path.join(os.environ["EXTENSIONS"], f"s2union--{VERSION}--later.sql")
+        with open(script, "w", encoding="utf-8") as file:
+            file.write("COMMENT ON TYPE s2union IS 'a later version';\n")
+        said = psql("""
+            SET client_min_messages = error; DROP EXTENSION IF EXISTS s2union CASCADE; CREATE EXTENSION s2union;
+            BEGIN; ALTER EXTENSION s2union UPDATE TO 'later';
+            SELECT extversion, obj_description('s2union'::regtype, 'pg_type')
+                FROM pg_extension WHERE extname = 's2union';
+            ROLLBACK; DROP EXTENSION IF EXISTS s2union CASCADE; CREATE EXTENSION s2union;
+            SELECT '1'::s2union @> '04'::s2union;
+        """)
+        os.remove(script)
+        self.assertEqual(said, ["later|a later version", "t"])
+
+    def test_another_schema(self):
+        """All that is there goes on when the extension moves: operators, indexes, and functions written in SQL."""
+        psql("DROP DATABASE IF EXISTS moved;")
+        psql("CREATE DATABASE moved;")
+        query = """
+            SET enable_seqscan = off; SELECT count(*) FROM regions WHERE region {1} '1c'::{0}s2union;
+            SELECT count(*) FROM here;
+            SELECT {0}s2_level('04'), {0}s2_contains('04', '0401'), count(*) FROM {0}unnest('04 0c'::{0}s2union);
+        """
+        said = psql(f"""
+            CREATE SCHEMA there; CREATE EXTENSION s2union; CREATE TABLE regions AS
+                SELECT s2_outer(0, k * 1000000, k * 1000000 + 9, 0, 9, 20) AS region FROM generate_series(0, 999) AS k;
+            CREATE INDEX ON regions USING gin (region);
+            CREATE VIEW here AS SELECT FROM regions WHERE s2_intersects(region, '1c') OR s2_level('04') = 5;
+            {query.format('', '&&')}
+            ALTER EXTENSION s2union SET SCHEMA there;
+            {query.format('there.', 'OPERATOR(there.&&)')}
+            SET search_path = there, public;
+            {query.format('', '&&')}
+            EXPLAIN SELECT FROM regions WHERE region && '1c';
+        """, "moved")
+        self.assertEqual(said[:3], said[3:6])
+        self.assertEqual(said[:3], said[6:9])
+        self.assertEqual(said[2], "1|t|2")
+        self.assertGreater(int(said[0]), 0)
+        self.assertTrue(any("regions_region_idx" in line for line in said[9:]), said)
+        psql("DROP DATABASE moved;")
+
+
+if __name__ == "__main__":
+    unittest.main()
