@@ -88,14 +88,18 @@ static void refuse_text(const char* text, size_t n) {
           errhint("A text names a cell by its token or its debug text. A number has no quotes."));
 }
 
-/* A refusal of the numbers that a call was given, from argument `first` on. */
-static void must_take_numbers(int32_t status, FunctionCallInfo fcinfo, int first) {
-  if (status != S2U_ARGUMENT && status != S2U_MANY) return must_be_ok(status);
+static void refuse_numbers(int32_t status, FunctionCallInfo fcinfo, int first) {
   StringInfoData numbers;
   initStringInfo(&numbers);
   for (int k = first; k < PG_NARGS(); k++)
     appendStringInfo(&numbers, "%s%d", k == first ? "" : ", ", PG_GETARG_INT32(k));
   ereport(ERROR, errcode(code_of(status)), errmsg("s2union: %s: %s", s2u_status_text(status), numbers.data));
+}
+
+/* The status of a call that takes numbers, from argument `first` on. */
+static void must_take_numbers(int32_t status, FunctionCallInfo fcinfo, int first) {
+  if (status == S2U_ARGUMENT || status == S2U_MANY) refuse_numbers(status, fcinfo, first);
+  must_be_ok(status);
 }
 
 /* ---- the value ---- */
@@ -465,8 +469,9 @@ Datum s2_is_union(PG_FUNCTION_ARGS) {
 
 /* ---- unions that are made ---- */
 
+/* What is made of what. The numbers of a call and a last cell are there if they may be refused. */
 typedef struct Job {
-  FunctionCallInfo call; /* NULL: none with numbers */
+  FunctionCallInfo call;
   int first_number;
   const S2Union *x, *y;
   uint64_t first, last;
@@ -489,6 +494,15 @@ MAKER(make_inner_of, s2u_inner_of, LIST(j->x), j->level, S2U_MOST_COVERING)
 MAKER(make_outer_in, s2u_outer_in, LIST(j->x), &j->rect, j->level, S2U_MOST_COVERING)
 MAKER(make_inner_in, s2u_inner_in, LIST(j->x), &j->rect, j->level, S2U_MOST_COVERING)
 
+/* The refusal of what a job was given. */
+static void must_be_made(int32_t status, const Job* j) {
+  if (j->call) must_take_numbers(status, j->call, j->first_number);
+  if (j->last && status == S2U_ARGUMENT)
+    ereport(ERROR, errcode(code_of(status)), errmsg("s2union: %s: " INT64_FORMAT " to " INT64_FORMAT,
+                                                    s2u_status_text(status), (int64)j->first, (int64)j->last));
+  must_be_ok(status);
+}
+
 static Datum made(maker* make, const Job* j, size_t room) {
   size_t n = 0;
   S2Union* u = new_value(room);
@@ -499,8 +513,7 @@ static Datum made(maker* make, const Job* j, size_t room) {
     u = new_value(room);
     status = make(j, u->cells, room, &n);
   }
-  if (j->call) must_take_numbers(status, j->call, j->first_number);
-  must_be_ok(status);
+  must_be_made(status, j);
   return finished(u, n);
 }
 
@@ -566,10 +579,6 @@ PG_FUNCTION_INFO_V1(s2union_range);
 Datum s2union_range(PG_FUNCTION_ARGS) {
   Job j = {.first = cell_argument(fcinfo, 0)};
   j.last = cell_argument(fcinfo, 1);
-  if (s2u_range_max(j.last) < s2u_range_min(j.first))
-    ereport(ERROR, errcode(code_of(S2U_ARGUMENT)),
-            errmsg("s2union: %s: " INT64_FORMAT " to " INT64_FORMAT, s2u_status_text(S2U_ARGUMENT), (int64)j.first,
-                   (int64)j.last));
   return made(make_range, &j, S2U_MOST_RANGE);
 }
 

@@ -721,7 +721,8 @@ class Planner(Tests):
                               "&& s2_parent(s2_leaf(1, 50100000, 40100000), 14)::s2union"):
                 plan = self.plan(f"SELECT * FROM {table} WHERE region {condition}")
                 self.assertIn(f"{table}_gin", plan)
-        self.assertIn("loaded_gin", self.plan("SELECT * FROM loaded WHERE region <@ '04 14'"))
+        for condition in ("region <@ '04 14'", "s2_within(region, '04 14')", "s2_within(region, s2_cell('04'))"):
+            self.assertIn("loaded_gin", self.plan(f"SELECT * FROM loaded WHERE {condition}"))
 
     def test_questions_that_find_most_rows_scan(self):
         for condition in ("&& '1 3 5 7 9 b'", "<@ '1 3 5 7 9 b'", "&& (s2_range(s2_cell('1'), s2_cell('b')) - '04')"):
