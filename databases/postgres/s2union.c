@@ -79,13 +79,17 @@ static char* start_of(const char* text, size_t n) {
   return pnstrdup(text, pg_mbcliplen(text, (int)n, 40));
 }
 
+pg_attribute_noreturn() static void refuse(int32_t status, const char* value, bool is_text) {
+  ereport(ERROR, errcode(code_of(status)), errmsg("s2union: %s: %s", s2u_status_text(status), value),
+          is_text ? errhint("A text names a cell by its token or its debug text. A number has no quotes.") : 0);
+}
+
 static void refuse_number(int64 number) {
-  ereport(ERROR, errcode(code_of(S2U_NO_CELL)), errmsg("s2union: not a cell: " INT64_FORMAT, number));
+  refuse(S2U_NO_CELL, psprintf(INT64_FORMAT, number), false);
 }
 
 static void refuse_text(const char* text, size_t n) {
-  ereport(ERROR, errcode(code_of(S2U_NO_CELL)), errmsg("s2union: not a cell: \"%s\"", start_of(text, n)),
-          errhint("A text names a cell by its token or its debug text. A number has no quotes."));
+  refuse(S2U_NO_CELL, psprintf("\"%s\"", start_of(text, n)), true);
 }
 
 static void refuse_numbers(int32_t status, FunctionCallInfo fcinfo, int first) {
@@ -93,7 +97,7 @@ static void refuse_numbers(int32_t status, FunctionCallInfo fcinfo, int first) {
   initStringInfo(&numbers);
   for (int k = first; k < PG_NARGS(); k++)
     appendStringInfo(&numbers, "%s%d", k == first ? "" : ", ", PG_GETARG_INT32(k));
-  ereport(ERROR, errcode(code_of(status)), errmsg("s2union: %s: %s", s2u_status_text(status), numbers.data));
+  refuse(status, numbers.data, false);
 }
 
 /* The status of a call that takes numbers, from argument `first` on. */
@@ -498,8 +502,7 @@ MAKER(make_inner_in, s2u_inner_in, LIST(j->x), &j->rect, j->level, S2U_MOST_COVE
 static void must_be_made(int32_t status, const Job* j) {
   if (j->call) must_take_numbers(status, j->call, j->first_number);
   if (j->last && status == S2U_ARGUMENT)
-    ereport(ERROR, errcode(code_of(status)), errmsg("s2union: %s: " INT64_FORMAT " to " INT64_FORMAT,
-                                                    s2u_status_text(status), (int64)j->first, (int64)j->last));
+    refuse(status, psprintf(INT64_FORMAT " to " INT64_FORMAT, (int64)j->first, (int64)j->last), false);
   must_be_ok(status);
 }
 

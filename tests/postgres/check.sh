@@ -67,7 +67,10 @@ step "docs/SCALE.md" page SCALE.md scale
 step "200 questions over two servers" tests Servers
 
 export S2UNION_ROUNDS=150
-again() { tests Guarded AgainstTheModel WhatIsRefused Indexes Exclusion Aggregates test_kept.AroundACall "$@"; }
+again() {
+  tests Guarded AgainstTheModel WhatIsRefused Indexes Exclusion Aggregates test_kept.AroundACall \
+    test_catalogue.Catalogue "$@"
+}
 put_in counted
 step "guarded: each allocation refused in turn, nothing written over, nothing left" again Planner
 covered() {

@@ -168,9 +168,9 @@ class Cancels(Tests):
             DROP TABLE IF EXISTS placed;
             CREATE TABLE placed (region s2union);
             ALTER TABLE placed ALTER region SET STORAGE external;
-            INSERT INTO placed SELECT s2_union_agg(s2_leaf(0, 2 * (k % 2000), 2 * (k / 2000)))
-                FROM generate_series(0, 3999999) AS k;
-            INSERT INTO placed SELECT region FROM placed, generate_series(1, 9);
+            INSERT INTO placed SELECT s2_union_agg(s2_leaf(0, 2 * (k % 1000), 2 * (k / 1000)))
+                FROM generate_series(0, 999999) AS k;
+            INSERT INTO placed SELECT region FROM placed, generate_series(1, 39);
         """)
         for command in ("CREATE INDEX ON placed USING gist (region)", "CREATE INDEX ON placed USING gin (region)",
                         "CREATE INDEX ON placed USING hash (region)", "ANALYZE placed"):
