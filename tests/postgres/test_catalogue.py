@@ -106,6 +106,34 @@ class Catalogue(Tests):
         self.assertEqual(wanted - there, set())
         self.assertGreater(len(wanted), 60)
 
+    def test_parameters_of_prepared_statements(self):
+        """Of a type that the driver gives, and of that which SQL gives them; in a plan for all values too."""
+        cell, leaf = model.identifier(1, 0), model.identifier(3, 5)
+        token, number = model.token(cell), cell
+        of_a_cell = {"s2_level({})": "1", "s2_token({})": token, "s2_child({}, 2)": str(model.identifier(2, 2)),
+                     "s2_range_min({})": "1", "s2_common_ancestor({}, leaf)": str(number), "s2_range({}, '04')": token,
+                     "s2_cell({})": str(number), "(SELECT s2_union_agg(c) FROM (SELECT {} AS c) v)": token}
+        questions = {"s2_contains({}, leaf)": "text", "s2_within(leaf, {})": "text", "s2_intersects(leaf, {})": "text",
+                     "s2_contains(region, {})": "s2union", "s2_within({}, region)": "s2union",
+                     "s2_intersects(region, {})": "s2union", "region @> {}": "s2union", "{} @> leaf": "s2union",
+                     "leaf <@ {}": "s2union", "region && {}": "s2union", "leaf && {}": "s2union"}
+        asked = [(call, given, value, answer, given[1:-1] or "text") for call, answer in of_a_cell.items()
+                 for given, value in (("", f"'{token}'"), ("(text)", f"'{token}'"), ("(varchar)", f"'{token}'"),
+                                      ("(bigint)", str(number)))]
+        asked += [(call, "", f"'{token}'", "true", kind) for call, kind in questions.items()]
+        asked += [(call, "(s2union)", f"'{token}'", "true", "s2union") for call in questions]
+        asked += [(call, "(bigint)", str(number), "true", "bigint") for call in questions
+                  if call not in ("{} @> leaf", "leaf <@ {}", "leaf && {}")] # no operator is about two cells
+        rows = f"FROM (SELECT '{token}'::s2union AS region, {leaf} AS leaf OFFSET 0) t"
+        for mode in ("auto", "force_generic_plan"):
+            said = psql(f"SET plan_cache_mode = {mode};" + "".join(f"""
+                PREPARE asked{given} AS SELECT ({call.format('$1')})::text {rows};
+                SELECT parameter_types[1] FROM pg_prepared_statements; EXECUTE asked({value}); DEALLOCATE asked;
+            """ for call, given, value, _, _ in asked))
+            for (call, given, _, answer, kind), types, found in zip(asked, said[::2], said[1::2], strict=True):
+                kind = kind.replace("varchar", "character varying")
+                self.assertEqual((types, found), (kind, answer), (call, given, mode))
+
     def test_everything_has_a_comment(self):
         said = psql(f"""
             SELECT object FROM ({MEMBERS}) m WHERE object <> 'type s2union[]'
