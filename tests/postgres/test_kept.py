@@ -2,6 +2,7 @@
 after part of a table, asks an aggregate over a window again and again, hands over arrays that stay the caller's, and
 cancels while an index is made. The server is that of test_postgres.py."""
 
+import hashlib
 import subprocess
 import time
 import unittest
@@ -99,6 +100,46 @@ class AroundACall(Tests):
         """)
         count = "SELECT count(*) FROM kept x, kept y, generate_series(1, 3) WHERE x.v && y.v;"
         self.assertEqual(psql(f"{count} CALL asked(); {count} BEGIN; {count} ROLLBACK; {count}"), ["27"] * 4)
+
+    def test_what_is_kept_has_work_mem_and_no_more(self):
+        """Of a hundred values of 70 kB, each in three questions: out of line, and made in each row."""
+        psql("""
+            SET client_min_messages = error;
+            DROP TABLE IF EXISTS spread;
+            CREATE TABLE spread (k int, region s2union);
+            ALTER TABLE spread ALTER region SET STORAGE external;
+            INSERT INTO spread SELECT k, s2_outer(0, k * 9000, k * 9000 + 2000, 1, 2000, 30)
+                FROM generate_series(1, 100) AS k;
+        """)
+        for value in ("region", "region | '1c'"):
+            said = psql(f"""
+                SET work_mem = '1MB'; SET max_parallel_workers_per_gather = 0;
+                SELECT max(used) FROM (
+                    SELECT (SELECT sum((m).used_bytes) FROM (SELECT pg_get_backend_memory_contexts() AS m WHERE k > 0) n
+                        WHERE (m).name = 's2union values') AS used
+                    FROM spread, LATERAL generate_series(1, 3 + 0 * k) AS n
+                    WHERE (CASE WHEN n > 0 THEN {value} END && s2_cell('04')) IS NOT NULL) u;
+                SELECT max(s2_count({value})) BETWEEN 8000 AND 10000 FROM spread;
+            """)
+            self.assertEqual(said[1], "t")
+            self.assertTrue(700000 < int(said[0]) < 1400000, (value, said))
+
+    def test_a_text_that_is_dropped_while_its_union_is_used(self):
+        """Three long texts in a row, with room for all of them, but not for the union of the first too."""
+        def text(start, cells):
+            return " ".join(model.token(model.identifier(20, 7 * k + start)) for k in range(cells))
+
+        texts = [text(10**7 * k, 9000 if k else 20000) for k in range(9)]
+        room = (len("".join(texts[:3])) + 80000) // 1024
+        values = ", ".join(f"({k}, '{u}', '{v}')" for k, (u, v) in enumerate(zip(texts[1::2], texts[2::2])))
+        said = psql(f"""
+            SET work_mem = '{room}kB'; SET max_parallel_workers_per_gather = 0;
+            SELECT k, md5(s2_union(s2union(t), s2_union(s2union(u), s2union(v)))::text)
+                FROM (VALUES {values}) r(k, u, v), (SELECT '{texts[0]}' AS t OFFSET 0) s ORDER BY k;
+        """)
+        for line, one, two in zip(said, texts[1::2], texts[2::2], strict=True):
+            cells = sorted({*texts[0].split(), *one.split(), *two.split()}, key=lambda token: token.ljust(16, "0"))
+            self.assertEqual(line.partition("|")[2], hashlib.md5(" ".join(cells).encode()).hexdigest())
 
     def test_a_text_that_comes_again(self):
         """As a parameter of a plan that is kept, beside texts of other lengths."""
