@@ -15,7 +15,7 @@ from pathlib import Path
 
 import numpy
 from costs import Session
-from geo import points_of_the_sphere
+from earth import points_of_the_sphere
 from leaves import leaves
 
 POINTS, ROUNDS = 200000, 5

@@ -19,7 +19,7 @@ HERE = os.path.dirname(os.path.realpath(__file__))
 def made(folder, count, points):
     """The files of the cells, of the region of each, and of the leaves."""
     import pywraps2 as s2
-    from geo import points_of_the_sphere
+    from earth import points_of_the_sphere
     from leaves import leaves
     random, coverer, cells, owners = Random(47), s2.S2RegionCoverer(), [], []
     coverer.set_max_cells(20)

@@ -10,6 +10,7 @@ import numpy
 import page
 import pywraps2 as s2
 import to_geojson
+from earth import points_of_the_sphere
 from leaves import leaves
 from s2union import Union, from_tokens, to_signed, tokens
 from shapely.geometry import Point, shape
@@ -24,13 +25,6 @@ def points_on_borders():
     turns = [x / 10 for x in range(-1799, 1801)]
     around = [(x, degrees(atan(max(abs(cos(radians(x))), abs(sin(radians(x))))))) for x in turns]
     return numpy.array(grid + upright + around + [(x, -y) for x, y in around], float).T
-
-
-def points_of_the_sphere(count):
-    random = Random(20261126)
-    points = numpy.array([[random.gauss(0, 1) for _ in range(3)] for _ in range(count)]).T
-    return numpy.degrees(numpy.arctan2(points[1], points[0])), \
-        numpy.degrees(numpy.arctan2(points[2], numpy.hypot(points[0], points[1])))
 
 
 class Geo(page.Page):

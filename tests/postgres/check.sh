@@ -64,6 +64,8 @@ page() { # PAGE DATABASE: its examples, in a database of their own
 }
 step "docs/POSTGRES.md" page POSTGRES.md page
 step "docs/SCALE.md" page SCALE.md scale
+step "docs/ENGINES.md, without the extension" page ENGINES.md engines
+step "its joins by tile, beside loops over all pairs" tests Tiles
 step "200 questions over two servers" tests Servers
 
 export S2UNION_ROUNDS=150

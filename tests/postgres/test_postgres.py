@@ -3,6 +3,7 @@
 The server is the one that PGHOST names, EXTENSIONS is its folder of extensions, and the model is in tests/python.
 S2UNION_ROUNDS is the number of random rows: 1,000 if it isn't set."""
 
+import bisect
 import hashlib
 import os
 import re
@@ -11,6 +12,7 @@ import time
 import unittest
 
 import model
+import plain_sql
 import random_cells
 from random_cells import signed
 
@@ -251,6 +253,23 @@ class AgainstTheModel(Tests):
             ]
         self.all_are(pairs + [("s2_union_agg('04 0c 14')", "04 0c 14"), ("(SELECT count(*) FROM unnest(NULL::s2union))",
                                                                          "0")])
+
+    def test_cells_in_plain_sql(self):
+        """What docs/ENGINES.md says, beside the extension's functions."""
+        pairs = []
+        for cell, level, near in plain_sql.questions(self.random):
+            number, other = f"({signed(cell)})::bigint", f"({signed(near)})::bigint"
+            parent, same, first, last = plain_sql.key(number, level)
+            least, greatest = list(plain_sql.key(other, level))[2:]
+            holds = f"{other} BETWEEN {first} AND {last}"
+            pairs += [
+                (f"({parent}) = s2_parent({number}, {level}) AND ({same}) = s2_parent({number}, {level})", "true"),
+                (f"({first}) = s2_range_min({number}) AND ({last}) = s2_range_max({number})", "true"),
+                (f"({holds}) = s2_contains({number}::s2union, {other})", "true"),
+                (f"({holds} OR {number} BETWEEN {least} AND {greatest}) = s2_intersects({number}::s2union, {other})",
+                 "true"),
+            ]
+        self.all_are(pairs)
 
     def test_coverings_and_ranges(self):
         pairs = []
@@ -1358,6 +1377,52 @@ class MemoryLimits(Tests):
                     self.assertIn("out of memory", said[0], (query, extra))
                     refused += 1
             self.assertTrue(refused and answered, (query, refused, answered))
+
+
+def span(cell):
+    """The least and the greatest number of a cell's leaves."""
+    lowest = cell & -cell
+    return cell - lowest + 1, cell + lowest - 1
+
+
+def meet(one, other):
+    """Whether two sorted lists of spans share a number: whether the last span of the other that begins before a span of
+    one ends hasn't ended before it begins."""
+    return any((k := bisect.bisect_right(other, (last, 2**63))) and other[k - 1][1] >= first for first, last in one)
+
+
+class Tiles(unittest.TestCase):
+    """After docs/SCALE.md has run: its joins, beside loops over all pairs, which know no tiles."""
+
+    @classmethod
+    def setUpClass(cls):
+        cls.points = [line.split("|") for line in psql("SELECT id, leaf FROM points", "scale")]
+        cls.regions = {}
+        for line in psql("SELECT name, unnest(s2_cells(region)) FROM countries", "scale"):
+            name, cell = line.split("|")
+            bisect.insort(cls.regions.setdefault(name, []), span(int(cell)))
+
+    def pairs_are(self, view, wanted):
+        said = psql(f"SELECT * FROM {view}", "scale")
+        self.assertEqual((len(said), set(said)), (len(wanted), wanted))
+        self.assertGreater(len(wanted), 100)
+
+    def test_points_in_regions(self):
+        self.pairs_are("inside", {f"{point}|{name}" for name, spans in self.regions.items()
+                                  for point, leaf in self.points if meet([span(int(leaf))], spans)})
+
+    def test_regions_that_meet(self):
+        self.pairs_are("meeting", {f"{one}|{other}" for one, each in self.regions.items()
+                                   for other, spans in self.regions.items() if one < other and meet(each, spans)})
+
+    def test_the_size_of_a_part(self):
+        said = psql("""
+            SELECT name, max(s2_count(part)) <= 3 * 4 ^ ((SELECT max(s2_level(cell)) FROM countries AS c,
+                unnest(s2_cells(region)) AS cell WHERE c.name = tiles.name) - 6),
+                bool_and(s2_level(tile) = 5 AND part <@ tile::s2union AND s2_count(part) > 0)
+            FROM tiles GROUP BY name;""", "scale")
+        self.assertEqual({line.partition("|")[2] for line in said}, {"t|t"})
+        self.assertEqual(len(said), len(self.regions))
 
 
 class Servers(unittest.TestCase):

@@ -11,6 +11,7 @@ import unittest
 NET, WORK = os.environ["NET"], os.environ["WORK"]
 FIRST, SECOND, THIRD = "s2_leaf(5, 7, 9)", "s2_leaf(1, 300000000, 400000000)", "s2_leaf(2, 300000000, 400000000)"
 ALL = "SELECT count(*) FROM tiles"
+SIDE = 2**21  # leaves along the side of a cell of level 9, that of the page's regions
 DONE = "== done"
 
 
@@ -63,12 +64,45 @@ def cable(server, state):
     subprocess.run(["ip", "-n", NET, "link", "set", server, state], check=True)
 
 
+def region(k):
+    """The page's region k: its face, and its cells of level 9 along i and along j."""
+    i, j = k * 1000000, k * 1500000
+    return k % 6, range(i // SIDE, (i + 90000000) // SIDE + 1), range(j // SIDE, (j + 60000000) // SIDE + 1)
+
+
+def point(k):
+    """The page's point k: its face, and its cell of level 9 along i and along j."""
+    return k % 6, k * 350000 // SIDE, (k * 500000 + k % 50 * 1000000) // SIDE
+
+
+def overlap(one, other):
+    return max(one[0], other[0]) <= min(one[-1], other[-1])
+
+
+def signed(cell):
+    return cell - 2**64 if cell >= 2**63 else cell
+
+
 def timed(call):
     began = time.monotonic()
     return call(), time.monotonic() - began
 
 
 class AfterThePage(unittest.TestCase):
+    def test_all_pairs(self):
+        """The page's joins, beside loops over all pairs of rectangles and places on a face."""
+        regions, points = {k: region(k) for k in range(1, 601)}, {k: point(k) for k in range(1, 2001)}
+        inside = {f"{p}|region {k}" for k, (face, across, up) in regions.items()
+                  for p, (on, i, j) in points.items() if on == face and i in across and j in up}
+        meeting = {"|".join(sorted((f"region {a}", f"region {b}"))) for a, one in regions.items()
+                   for b, other in regions.items()
+                   if a < b and one[0] == other[0] and overlap(one[1], other[1]) and overlap(one[2], other[2])}
+        for setting in ("on", "off"):
+            said = once(f"SET enable_partitionwise_join = {setting}; SELECT * FROM inside;").splitlines()
+            self.assertEqual((len(said), set(said)), (len(inside), inside))
+            said = once(f"SET enable_partitionwise_join = {setting}; SELECT * FROM meeting;").splitlines()
+            self.assertEqual((len(said), set(said)), (len(meeting), meeting))
+
     def test_a_part_moves(self):
         """From the first server, to which the page has moved it, back to the second."""
         before, inserted, counts, moved = int(once(ALL)), [], [], threading.Event()
@@ -173,6 +207,59 @@ class AfterThePage(unittest.TestCase):
             self.assertEqual(int(session.ask(at(SECOND))), int(found) + 1)
             control("replica", "start")
             self.assertEqual((once(ALL), session.ask(ALL)), (count, count))
+
+
+class OverTheCountries(unittest.TestCase):
+    """The countries of the earth and random points in the page's tables, and on the first server alone."""
+
+    @classmethod
+    def setUpClass(cls):
+        import earth
+        regions, points = earth.coverings(f"{WORK}/world/countries"), earth.points()
+        cls.pairs = {f"{place}|{name}" for place, name in earth.all_pairs(points, regions)}
+        rows = {"region_rows": "".join(f"{name}\t{{{','.join(str(signed(cell)) for cell in cells)}}}\n"
+                                       for name, cells in regions.items()),
+                "point_rows": "".join(f"{k}\t{leaf}\n" for k, leaf in enumerate(points.view("int64").tolist()))}
+        for name, text in rows.items():
+            with open(f"{WORK}/{name}", "w", encoding="utf-8") as file:
+                file.write(text)
+        said = once(f"""
+            CREATE TABLE region_rows (name text, cells bigint[]);
+            CREATE TABLE alone_points (id int, leaf bigint);
+            \\copy region_rows FROM '{WORK}/region_rows'
+            \\copy alone_points FROM '{WORK}/point_rows'
+            CREATE TABLE alone_regions AS SELECT name, cells::s2union AS region FROM region_rows;
+            CREATE TABLE alone_tiles AS
+            SELECT name, tile, region & tile::s2union AS part
+            FROM alone_regions, unnest(s2_cells(s2_outer(region, 5), 5)) AS tile;
+            CREATE INDEX ON alone_regions USING gin (region);
+            CREATE INDEX ON alone_points (leaf);
+            TRUNCATE tiles, points;
+            INSERT INTO tiles SELECT * FROM alone_tiles;
+            INSERT INTO points SELECT id, s2_parent(leaf, 5), leaf FROM alone_points;
+            VACUUM ANALYZE alone_regions, alone_points, alone_tiles; ANALYZE tiles; ANALYZE points;""")
+        assert said == once("ANALYZE", "192.0.2.2") == once("ANALYZE", "192.0.2.3") == "", said
+
+    def join(self, name, query, settings=""):
+        """Asks for the pairs of a join, which have to be all, and says how long it took, at the least."""
+        with Session() as session:
+            session.ask(settings)
+            times = []
+            for _ in range(4):
+                said, took = timed(lambda: session.ask(f"SELECT id, name FROM {query};"))
+                said, times = said.splitlines(), [*times, took]
+                self.assertEqual((len(said), set(said)), (len(self.pairs), self.pairs), name)
+        print(f"{len(said)} pairs of 100,000 points and 177 countries, {name}: {1000 * min(times):.0f} ms", flush=True)
+
+    def test_one_server(self):
+        self.join("one server, by tile", "alone_points JOIN alone_tiles ON tile = s2_parent(leaf, 5) AND part @> leaf")
+        self.join("one server, region @> leaf", "alone_points JOIN alone_regions ON region @> leaf")
+        self.join("one server, ranges of leaves", """alone_regions, unnest(s2_cells(region)) AS cell JOIN alone_points
+            ON leaf BETWEEN s2_range_min(cell) AND s2_range_max(cell)""")
+
+    def test_three_servers(self):
+        self.join("three servers, by tile", "inside", "SET enable_partitionwise_join = on;")
+        self.join("three servers, by tile, not partitionwise", "inside")
 
 
 if __name__ == "__main__":

@@ -87,6 +87,7 @@ documented() { # FOLDER
   S2UNION_SQLITE=$work/$1/mod_s2union /usr/bin/python3 "$top/tests/docs/documented.py" "$top/docs/SQLITE.md"
 }
 step "docs/SQLITE.md" documented plain
+step "docs/ENGINES.md, without the extension" /usr/bin/python3 "$top/tests/docs/documented.py" "$top/docs/ENGINES.md"
 covered() {
   build covered CFLAGS="-O0 -g --coverage" && export S2UNION_ROUNDS=300 &&
     tests covered test_sqlite.AgainstTheModel test_sqlite.WhatIsRefused && "$work/memory" "$work/covered/mod_s2union" &&

@@ -9,6 +9,7 @@ import sqlite3
 import unittest
 
 import model
+import plain_sql
 import random_cells
 from random_cells import FACE, signed, unsigned
 
@@ -189,6 +190,19 @@ class AgainstTheModel(Tests):
             both = [k for k in range(31) if len({leaf // 4 ** (30 - k) for leaf in leaves}) == 1]
             above = signed(model.identifier(both[-1], first // 4 ** (30 - both[-1]))) if both else None
             self.assertEqual(self.ask("s2_common_ancestor(?, ?)", signed(number), model.token(other)), above)
+
+    def test_cells_in_plain_sql(self):
+        """What docs/ENGINES.md says, beside the extension's functions."""
+        for cell, level, near in plain_sql.questions(self.random):
+            cell, near = signed(cell), signed(near)
+            parent, same, first, last = plain_sql.key(cell, level)
+            least, greatest = list(plain_sql.key(near, level))[2:]
+            holds = f"{near} BETWEEN {first} AND {last}"
+            shares = f"{holds} OR {cell} BETWEEN {least} AND {greatest}"
+            said = self.db.execute(f"SELECT {parent}, {same}, {first}, {last}, {holds}, {shares}").fetchone()
+            wanted = self.db.execute("""SELECT s2_parent(?1, ?2), s2_parent(?1, ?2), s2_range_min(?1), s2_range_max(?1),
+                s2_contains(?1, ?3), s2_intersects(?1, ?3)""", (cell, level, near)).fetchone()
+            self.assertEqual(said, wanted, (cell, level, near))
 
     def test_ranges(self):
         for _ in range(ROUNDS):

@@ -1,0 +1,27 @@
+"""What docs/ENGINES.md says of cells in plain SQL, for the tests of both databases."""
+
+import re
+from pathlib import Path
+
+PAGE = (Path(__file__).resolve().parents[2] / "docs" / "ENGINES.md").read_text()
+UNIT = 2**50  # the lowest bit of a cell of level 5, of which the page speaks
+
+
+def key(cell, level):
+    """The expressions of the page's table, for this cell and this level: two for the cell of the level that holds it,
+    and its first and its last leaf."""
+    found = re.findall(r"^\| [^|]* \| `([^`]*\bcell\b[^`]*)` \|$", PAGE, re.M)
+    unit = 4 ** (30 - level)
+    for expression in found:
+        numbers = expression.replace(r"\|", "|").replace(str(2 * UNIT), str(2 * unit)).replace(str(UNIT), str(unit))
+        yield re.sub(r"\bcell\b", f"({cell})", numbers)
+
+
+def questions(random):
+    """Cells of all faces and levels, each with a level that is no deeper, and with a cell near it."""
+    import model
+    for face in range(6):
+        for level in range(31):
+            for _ in range(4):
+                cell = model.identifier(level, face * 4**level + random.randrange(4**level))
+                yield cell, random.randint(0, level), random.near(cell)
