@@ -8,15 +8,28 @@
 packages=()
 /usr/bin/python3 -c 'import dask.dataframe, distributed' 2>/dev/null || packages+=(python3-{dask,distributed,pandas})
 need_packages
+. "$top/tests/geo/countries.sh"
+need_countries
 need_library
-export PYTHONPATH=$work/usr/lib/python:$top/tests/python PYTHONDONTWRITEBYTECODE=1
+export PYTHONPATH=$work/usr/lib/python:$top/tests/python:$top/tests/geo:$top/docs/examples PYTHONDONTWRITEBYTECODE=1
+export WORLD=$work/world/countries
 
 page() {
-  block DASK.md python >"$work/page.py" && block DASK.md text >"$work/wanted" && [ -s "$work/wanted" ] &&
-    (cd "$work" && timeout 300 /usr/bin/python3 page.py) >"$work/said" && diff "$work/wanted" "$work/said"
+  block DASK.md text >"$work/wanted" && [ -s "$work/wanted" ] &&
+    (cd "$work" && timeout 300 /usr/bin/python3 dask_page.py) >"$work/said" && diff "$work/wanted" "$work/said"
 }
+tests() { # CLASS..
+  (cd "$work" && timeout 900 /usr/bin/python3 -m unittest -q "${@/#/test_dask.}")
+}
+blocks() {
+  block DASK.md python >"$work/dask_page.py" && block ENGINES.md python >"$work/engines.py" &&
+    [ -s "$work/dask_page.py" ] && [ -s "$work/engines.py" ]
+}
+step "the Python of docs/DASK.md and docs/ENGINES.md" blocks
 step "docs/DASK.md" page
-on_a_cluster() { cd "$work" && timeout 900 /usr/bin/python3 -m unittest -q test_dask; }
-step "ten million cells on 1, 2 and 4 workers, and with one that is killed" on_a_cluster
+step "its join, beside a loop over all pairs: points in any order, parts without any" tests TheJoinOfThePage
+step "the countries of the earth, covered" countries 200
+step "100,000 points joined with the countries, beside a loop over all pairs" tests OverTheCountries
+step "ten million cells on 1, 2 and 4 workers, and with one that is killed" tests OnACluster
 grep -E '^one process|^[0-9] worker|^a worker' "$work/log" | sed 's/^/       /'
 finish

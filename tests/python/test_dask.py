@@ -1,7 +1,9 @@
 """Unions on a cluster of worker processes, after docs/DASK.md: ten million cells and ten million points in 96 parts by
-range of identifiers, on 1, 2 and 4 workers, and with a worker that is killed. The answers are those of one process.
+range of identifiers, on 1, 2 and 4 workers, and with a worker that is killed. The answers are those of one process. The
+joins of that page and of docs/ENGINES.md find all pairs.
 
-S2UNION_CELLS is how many cells there are."""
+S2UNION_CELLS is how many cells there are, and WORLD the folder of the countries. The Python of the pages is in
+dask_page.py and engines.py."""
 
 import contextlib
 import os
@@ -9,10 +11,14 @@ import signal
 import time
 import unittest
 
+import dask_page
+import engines
 import numpy
-from dask import bag, delayed
+import pandas
+from dask import bag, dataframe, delayed
 from dask.distributed import Client, LocalCluster, wait
 
+import random_cells
 import s2union
 from s2union import Union
 
@@ -111,6 +117,92 @@ class OnACluster(unittest.TestCase):
             self.assertGreater(kept, 0)
             self.assertNotIn(workers[lost], client.run(os.getpid).values())
             print(f"a worker was killed that held {kept} of the {len(PARTS)} unions", flush=True)
+
+
+def span(cell):
+    """The least and the greatest number of a cell's leaves."""
+    lowest = cell & -cell
+    return cell - lowest + 1, cell + lowest - 1
+
+
+class TheJoinOfThePage(unittest.TestCase):
+    """with_regions of docs/DASK.md beside a loop over all pairs: points in any order, parts of any points or none."""
+
+    def setUp(self):
+        self.random = random_cells.Random(20261127)
+
+    def parts(self):
+        """Leaves, as signed numbers: those of one cell, of any cells, sorted or not, one, or none."""
+        for turn in range(120):
+            cells = [self.random.cell(0, 3)] if turn % 2 else [self.random.cell() for _ in range(9)]
+            count = self.random.choice([0, 1, 2, 40])
+            leaves = [self.random.randint(*span(self.random.choice(cells))) | 1 for _ in range(count)]
+            yield sorted(leaves) if turn % 3 == 0 else leaves
+
+    def test_all_pairs(self):
+        regions = {f"region {k}": self.random.cells(20, low=0) for k in range(12)}
+        given, pairs = {name: Union(cells) for name, cells in regions.items()}, 0
+        for leaves in self.parts():
+            part = pandas.DataFrame({"leaf": numpy.array(leaves, "uint64").view("int64"), "id": range(len(leaves))})
+            wanted = sorted((k, name) for k, leaf in enumerate(leaves) for name, cells in regions.items()
+                            if any(first <= leaf <= last for first, last in map(span, cells)))
+            made = dask_page.with_regions(part, given)
+            self.assertEqual(sorted(zip(made.id, made.region)), wanted, leaves)
+            self.assertEqual([random_cells.signed(leaves[k]) for k in made.id], made.leaf.tolist())
+            pairs += len(wanted)
+        self.assertGreater(pairs, 100)
+
+
+class OverTheCountries(unittest.TestCase):
+    """Random points joined with the countries of the earth by the functions of the pages: all pairs."""
+
+    @classmethod
+    def setUpClass(cls):
+        import earth
+        leaves, regions = earth.points(), earth.coverings(os.environ["WORLD"])
+        cls.pairs = earth.all_pairs(leaves, regions)
+        cls.regions = {name: Union(cells) for name, cells in regions.items()}
+        cls.points = pandas.DataFrame({"leaf": leaves.view("int64"), "id": range(len(leaves))})
+
+    def pairs_are(self, joined):
+        said = list(zip(joined.id.tolist(), joined.name.tolist()))
+        self.assertEqual((len(said), set(said)), (len(self.pairs), self.pairs))
+
+    def test_parts_in_no_order(self):
+        """24 parts as they come, and one that is empty."""
+        parts = [self.points[k::24] for k in range(24)] + [self.points[:0]]
+        self.pairs_are(pandas.concat([dask_page.with_regions(part, self.regions) for part in parts])
+                       .rename(columns={"region": "name"}))
+
+    def test_by_dask(self):
+        table = dataframe.from_pandas(self.points, npartitions=24)
+        meta = {"leaf": "int64", "id": "int64", "region": str}
+        joined = table.map_partitions(dask_page.with_regions, self.regions, meta=meta).compute(scheduler="threads")
+        self.pairs_are(joined.rename(columns={"region": "name"}))
+
+    def tiles(self):
+        """A row for each tile of level 5 and each country that meets it: a loop over the tiles."""
+        for name, region in self.regions.items():
+            for tile in region.outer(5).denormalised(5):
+                yield name, s2union.to_signed(tile), (region & Union([tile])).to_bytes()
+
+    def test_by_tile_as_in_spark(self):
+        """The functions of docs/ENGINES.md, and the key in plain arithmetic, over a join of pandas."""
+        tiles = pandas.DataFrame(self.tiles(), columns=["name", "tile", "part"])
+        tile = engines.tile_of(self.points.leaf)
+        self.assertEqual(tile.tolist(), ((self.points.leaf & -2**50) | 2**50).tolist())
+        met = self.points.assign(tile=tile).merge(tiles, on="tile")
+        self.pairs_are(met[engines.lies_in(met.leaf, met.part)])
+        self.assertEqual(engines.lies_in(met.leaf[:0], met.part[:0]).tolist(), [])
+
+    def test_by_cell_in_plain_arithmetic(self):
+        """A row for each cell, none larger than a tile."""
+        cells = pandas.DataFrame([(name, s2union.to_signed(cell)) for name, region in self.regions.items()
+                                  for cell in region.denormalised(5)], columns=["name", "cell"])
+        half = (cells.cell & -cells.cell) - 1
+        cells = cells.assign(tile=(cells.cell & -2**50) | 2**50, first=cells.cell - half, last=cells.cell + half)
+        met = self.points.assign(tile=(self.points.leaf & -2**50) | 2**50).merge(cells, on="tile")
+        self.pairs_are(met[met.leaf.between(met["first"], met["last"])])
 
 
 @contextlib.contextmanager
