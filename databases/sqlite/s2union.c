@@ -267,6 +267,7 @@ COVERS(, RECT(a), a[5].number, S2U_MOST_COVERING)
 COVERS(_of, LIST(a[0]), a[1].number, S2U_MOST_COVERING)
 COVERS(_in, LIST(a[0]), RECT(a + 1), a[6].number, S2U_MOST_COVERING)
 MAKER(make_ancestors, s2u_ancestors, LIST(a[0]))
+MAKER(make_part, s2u_intersection, LIST(a[0]), &a[1].cell, 1)
 
 /* The list that a maker makes. The caller drops it, even after a refusal. */
 static int32_t list_made(maker* make, const argument* a, size_t room, block** list) {
@@ -433,12 +434,12 @@ static void final(sqlite3_context* c) {
 
 static void inverse(sqlite3_context* c, int arguments, sqlite3_value** v) { refuse(c, NO_FRAME); }
 
-/* ---- tables: s2_cells(x, level, modulus), s2_ancestors(x), s2_prepared(x) ---- */
+/* ---- tables: s2_cells(x, level, modulus), s2_tiles(x, level), s2_ancestors(x), s2_prepared(x) ---- */
 
 typedef struct kind {
   const char *name, *schema;
-  int hidden, arguments; /* the first hidden column, which is the first argument, and how many arguments there may be */
-  enum { CELLS, ANCESTORS, PREPARED_VALUE } rows;
+  int hidden, least, most; /* the first hidden column, which is the first argument, and how many arguments there are */
+  enum { PREPARED_VALUE, ANCESTORS, CELLS, TILES } rows; /* cells and tiles are cut as they are asked for */
 } kind;
 
 /* The arguments of a call are kept as they were given: SQLite may ask for the hidden columns, and compares them with
@@ -450,7 +451,7 @@ typedef struct table { sqlite3_vtab base; const kind* kind; } table;
 typedef struct cursor {
   sqlite3_vtab_cursor base;
   sqlite3_value* given[MOST_GIVEN];
-  block* block;
+  block *block, *whole; /* whose cells are cut, and the region whose parts are in them */
   size_t next, at, n, waiting;
   uint32_t level, modulus;
   uint64_t ready[READY], wait[MOST_WAITING];
@@ -461,9 +462,10 @@ typedef struct cursor {
 #define KEY(columns) "PRIMARY KEY(" columns ")) WITHOUT ROWID"
 static const kind kinds[] = {
   {"s2_cells", "CREATE TABLE x(cell, range_min, range_max, x BLOB HIDDEN, level HIDDEN, modulus HIDDEN, "
-   KEY("cell, level, modulus, x"), 3, 3, CELLS},
-  {"s2_ancestors", "CREATE TABLE x(cell, range_min, range_max, x BLOB HIDDEN, " KEY("cell, x"), 3, 1, ANCESTORS},
-  {"s2_prepared", "CREATE TABLE x(value, x BLOB HIDDEN, " KEY("x"), 1, 1, PREPARED_VALUE},
+   KEY("cell, level, modulus, x"), 3, 1, 3, CELLS},
+  {"s2_tiles", "CREATE TABLE x(tile, part, x BLOB HIDDEN, level HIDDEN, " KEY("tile, level, x"), 2, 2, 2, TILES},
+  {"s2_ancestors", "CREATE TABLE x(cell, range_min, range_max, x BLOB HIDDEN, " KEY("cell, x"), 3, 1, 1, ANCESTORS},
+  {"s2_prepared", "CREATE TABLE x(value, x BLOB HIDDEN, " KEY("x"), 1, 1, 1, PREPARED_VALUE},
 };
 
 static int connect(sqlite3* db, void* aux, int argc, const char* const* argv, sqlite3_vtab** made, char** error) {
@@ -483,7 +485,7 @@ static int disconnect(sqlite3_vtab* t) { return sqlite3_free(t), SQLITE_OK; }
 static int best_index(sqlite3_vtab* t, sqlite3_index_info* plan) {
   const kind* kind = ((table*)t)->kind;
   sqlite3_uint64 left_out = plan->colUsed; /* a bit for each column that the statement uses */
-  for (int a = 0; a < kind->arguments; a++) {
+  for (int a = 0; a < kind->most; a++) {
     for (int k = 0; k < plan->nConstraint; k++) {
       const struct sqlite3_index_constraint* given = &plan->aConstraint[k];
       if (given->iColumn != kind->hidden + a || given->op != SQLITE_INDEX_CONSTRAINT_EQ) continue;
@@ -494,7 +496,7 @@ static int best_index(sqlite3_vtab* t, sqlite3_index_info* plan) {
   }
   for (int column = kind->hidden + plan->idxNum; column > 0; column--) left_out /= 2;
   plan->estimatedCost = plan->estimatedRows = kind->rows == PREPARED_VALUE ? 1 : 20;
-  return plan->idxNum > 0 && left_out == 0 ? SQLITE_OK : SQLITE_CONSTRAINT;
+  return plan->idxNum >= kind->least && left_out == 0 ? SQLITE_OK : SQLITE_CONSTRAINT;
 }
 
 static int open(sqlite3_vtab* t, sqlite3_vtab_cursor** made) {
@@ -506,7 +508,7 @@ static int open(sqlite3_vtab* t, sqlite3_vtab_cursor** made) {
 
 /* Drops what the last call was given and has made. */
 static void empty(cursor* u) {
-  drop(u->block);
+  drop(u->block), drop(u->whole);
   for (int k = 0; k < MOST_GIVEN; k++) sqlite3_value_free(u->given[k]);
   *u = (cursor){.base = u->base};
 }
@@ -554,7 +556,8 @@ static int32_t fill(cursor* u, const kind* kind, int arguments, sqlite3_value** 
   u->level = a[1].number, u->modulus = a[2].number;
   if (status != S2U_OK) return drop(a[0].held), status;
   if (kind->rows == CELLS) return u->block = a[0].held, cut(u);
-  status = list_made(make_ancestors, a, a[0].held->n, &u->block);
+  status = list_made(kind->rows == TILES ? make_outer_of : make_ancestors, a, a[0].held->n, &u->block);
+  if (kind->rows == TILES) return u->whole = a[0].held, status == S2U_OK ? cut(u) : status;
   if (status == S2U_OK) u->n = u->block->n;
   return drop(a[0].held), status;
 }
@@ -578,25 +581,30 @@ static int filter(sqlite3_vtab_cursor* base, int arguments, const char* text, in
 static int next(sqlite3_vtab_cursor* base) {
   cursor* u = (cursor*)base;
   u->at++;
-  if (u->at < u->n || kind_of(u)->rows != CELLS) return SQLITE_OK;
+  if (u->at < u->n || kind_of(u)->rows < CELLS) return SQLITE_OK;
   return cut(u) == S2U_OK ? SQLITE_OK : SQLITE_NOMEM;
 }
 
 static int eof(sqlite3_vtab_cursor* u) { return ((cursor*)u)->at >= ((cursor*)u)->n; }
 
 static int column(sqlite3_vtab_cursor* base, sqlite3_context* c, int k) {
+  static const function parts = {.make = make_part};
   cursor* u = (cursor*)base;
   const kind* kind = kind_of(u);
+  uint64_t cell = kind->rows == PREPARED_VALUE ? 0 : (kind->rows < CELLS ? u->block->cells : u->ready)[u->at];
+  int32_t status = S2U_OK;
   if (k >= kind->hidden) {
     if (u->given[k - kind->hidden]) sqlite3_result_value(c, u->given[k - kind->hidden]);
-  } else if (kind->rows != PREPARED_VALUE) {
-    uint64_t cell = (kind->rows == CELLS ? u->ready : u->block->cells)[u->at];
-    answer_cell(c, k == 0 ? cell : k == 1 ? s2u_range_min(cell) : s2u_range_max(cell));
-  } else {
+  } else if (kind->rows == PREPARED_VALUE) {
     u->block->users++;
     sqlite3_result_blob64(c, u->block->cells, u->block->n, drop_cells);
     sqlite3_result_subtype(c, PREPARED);
+  } else if (kind->rows == TILES && k == 1) {
+    status = makes(c, &parts, (argument[]){{.held = u->whole}, {.cell = cell}});
+  } else {
+    answer_cell(c, k == 0 ? cell : k == 1 ? s2u_range_min(cell) : s2u_range_max(cell));
   }
+  if (status != S2U_OK) refuse(c, status);
   return SQLITE_OK;
 }
 

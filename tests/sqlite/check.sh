@@ -17,15 +17,15 @@ step "no arithmetic on cells" no_arithmetic "$source/s2union.c"
 for file in s2union.c planner.c value.h; do
   step "none in the extension for PostgreSQL: $file" no_arithmetic "$top/databases/postgres/$file"
 done
-# What is not proved stays short. Of these lines 100 are for listings that make a cell when it is asked for, texts that
-# are read in pieces, and windows, which the library, whose calls answer all at once, can't have.
+# What is not proved stays short. Of these lines 110 are for listings that make a cell or a tile when it is asked for,
+# texts that are read in pieces, and windows, which the library, whose calls answer all at once, can't have.
 short() { # lines of code
   local lines
   lines=$(grep -cvE '^[[:space:]]*(/?\*.*)?$' "$source/s2union.c")
   echo "$lines lines of code"
-  [ "$lines" -le 500 ]
+  [ "$lines" -le 510 ]
 }
-step "at most 500 lines of C" short
+step "at most 510 lines of C" short
 
 build() { # FOLDER FLAGS..
   local folder=$work/$1

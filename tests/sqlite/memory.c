@@ -24,6 +24,8 @@ static const char* const queries[] = {
   "SELECT cell, x, level FROM parts, s2_cells(part, id) WHERE id < 3 AND level > 0",
   "SELECT cell FROM s2_cells WHERE x = '04' AND level = 2 OR x = '14' AND level = 2",
   "SELECT a.x, b.x, b.cell FROM s2_cells('04 0c', 1) AS a FULL JOIN s2_cells('0c 14', 1) AS b ON a.cell = b.cell",
+  "SELECT tile, hex(part) FROM s2_tiles('04 0001 1d', 2)",
+  "SELECT tile, hex(t.part), x FROM parts, s2_tiles(parts.part, 1) AS t WHERE id < 3",
   "SELECT hex(value), count(*) FROM s2_prepared('04 14'), parts WHERE s2_intersects(value, part)",
 };
 

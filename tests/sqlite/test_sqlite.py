@@ -262,9 +262,46 @@ class AgainstTheModel(Tests):
                       "s2_cells WHERE x > '1'"):
             self.assertRaises(sqlite3.OperationalError, self.db.execute, f"SELECT * FROM {query}")
 
+    def test_tiles(self):
+        for _ in range(ROUNDS // 3):
+            xs = self.random.cells()
+            runs = model.runs(xs)
+            level = min([model.cell(c)[0] for c in model.normal(runs)] + [27]) + self.random.randrange(4)
+            tiles = model.cut(model.normal(model.around(runs, level)), level, 1)
+            wanted = [(signed(tile), model.file(model.normal(model.common(runs, [model.run(tile)])))) for tile in tiles]
+            said = self.db.execute("SELECT * FROM s2_tiles(?, ?)", (self.random.form(xs), level)).fetchall()
+            self.assertEqual(said, wanted)
+        self.refused("no query solution", "* FROM s2_tiles('1')")
+        self.refused("no query solution", "* FROM s2_tiles WHERE level = 1")
+        said = self.peak("SELECT tile, s2_tokens(part) FROM s2_tiles('1 3', 30) LIMIT 2")
+        self.assertEqual(said, [(1, "0000000000000001"), (3, "0000000000000003")])
+
+    def test_joins_by_tile(self):
+        """Beside all pairs: of points with regions, and of regions with regions."""
+        regions = [self.random.cells(low=4) for _ in range(60)]
+        points = [model.run(self.random.near(self.random.choice(xs)))[0] for xs in regions if xs for _ in range(9)]
+        self.db.execute("CREATE TABLE points(id INTEGER PRIMARY KEY, leaf INTEGER)")
+        self.db.execute("CREATE TABLE regions(id INTEGER PRIMARY KEY, region BLOB)")
+        self.db.executemany("INSERT INTO points VALUES (?, ?)", enumerate(signed(2 * place + 1) for place in points))
+        self.db.executemany("INSERT INTO regions VALUES (?, ?)", enumerate(self.random.form(xs) for xs in regions))
+        self.db.executescript("""
+            CREATE TABLE tiles AS SELECT id, tile, part FROM regions, s2_tiles(region, 5);
+            CREATE INDEX by_tile ON tiles(tile);""")
+        inside = self.db.execute("""SELECT points.id, tiles.id FROM points JOIN tiles
+            ON tile = s2_parent(leaf, 5) AND s2_contains(part, leaf)""").fetchall()
+        meeting = self.db.execute("""SELECT DISTINCT a.id, b.id FROM tiles AS a JOIN tiles AS b
+            ON a.tile = b.tile AND a.id < b.id AND s2_intersects(a.part, b.part)""").fetchall()
+        forms = [model.runs(xs) for xs in regions]
+        self.assertCountEqual(inside, [(p, k) for p, place in enumerate(points) for k, x in enumerate(forms)
+                                       if model.meet(x, [(place, place + 1)])])
+        self.assertCountEqual(meeting, [(a, b) for a, x in enumerate(forms) for b, y in enumerate(forms)
+                                        if a < b and model.meet(x, y)])
+        self.assertGreater(len(inside), 50)
+
     def test_the_hidden_columns_are_the_arguments(self):
         for columns, call, values in (
             ("x, level, modulus", "s2_cells(?, ?, ?)", ("1", 0, 3)), ("x, level", "s2_cells(?, ?)", (signed(FACE), 2)),
+            ("x, level", "s2_tiles(?, ?)", ("04 14", 2)),
             ("x", "s2_ancestors(?)", ("0/",)), ("x", "s2_prepared(?)", (model.file([FACE, FACE]),)),
         ):
             self.assertEqual(set(self.db.execute(f"SELECT {columns} FROM {call}", values)), {values}, call)
@@ -279,6 +316,8 @@ class AgainstTheModel(Tests):
             for call, rows in (("s2_cells('04 0c 14')", 3), ("s2_cells('04 0c 14', 2, 2)", 12),
                                ("s2_ancestors('04 0c 14')", 4)):
                 self.assertEqual(self.ask(f"count(*) FROM {call} WHERE {where}"), rows, (call, most))
+            tiles = where.replace("cell", "tile")
+            self.assertEqual(self.ask(f"count(*) FROM s2_tiles('04 0c 14', 2) WHERE {tiles}"), 12, most)
             where = where.replace("cell", "value") # and any BLOB comes after any number
             self.assertEqual(self.ask(f"count(*) FROM s2_prepared('04 0c 14') WHERE {where}"), 1, most)
 
@@ -337,6 +376,8 @@ class AgainstTheModel(Tests):
         self.assertEqual(said, max(model.file(model.normal(model.runs(xs))) for xs in regions))
         self.assertEqual(self.db.execute("SELECT count(*) FROM s2_cells(NULL)").fetchone(), (0,))
         self.assertEqual(self.db.execute("SELECT count(*) FROM s2_cells('1', NULL)").fetchone(), (0,))
+        self.assertEqual(self.db.execute("SELECT count(*) FROM s2_tiles(NULL, 1)").fetchone(), (0,))
+        self.assertEqual(self.db.execute("SELECT count(*) FROM s2_tiles('1', NULL)").fetchone(), (0,))
         self.assertEqual(self.db.execute("SELECT count(*) FROM s2_prepared(NULL)").fetchone(), (0,))
 
     def test_an_argument_that_another_table_has(self):
@@ -344,7 +385,8 @@ class AgainstTheModel(Tests):
         self.db.execute("CREATE TABLE t(level, modulus, region)")
         self.db.execute("INSERT INTO t VALUES(1, 1, '04'), (2, 2, '1')")
         calls = {"s2_cells('1', t.level)": 20, "s2_cells('1', 1, t.modulus)": 8, "s2_cells(t.region)": 2,
-                 "s2_cells(t.region, t.level, t.modulus)": 17, "s2_ancestors(t.region)": 3, "s2_prepared(t.region)": 2}
+                 "s2_cells(t.region, t.level, t.modulus)": 17, "s2_tiles(t.region, t.level)": 17,
+                 "s2_ancestors(t.region)": 3, "s2_prepared(t.region)": 2}
         for call, rows in calls.items():
             for tables in (f"t, {call}", f"{call}, t", f"t CROSS JOIN {call}", f"t LEFT JOIN {call}"):
                 self.assertEqual(self.ask(f"count(*) FROM {tables}"), rows, tables)
@@ -371,6 +413,7 @@ class AgainstTheModel(Tests):
             ("s2_cells WHERE x = '04' AND level = 1 OR x = '14' AND level = 2 OR x = '04' AND level = 1", 5),
             ("s2_cells WHERE x = '1' AND level = 2 AND modulus = 1 OR x = '1' AND level = 2 AND modulus = 2", 32),
             ("s2_ancestors WHERE x = '04' AND cell > 0 OR x = '0/0' AND cell > 0", 4),
+            ("s2_tiles WHERE x = '04' AND level = 1 OR x = '14' AND level = 2 OR x = '04' AND level = 1", 5),
             ("s2_prepared WHERE x = '04' AND value > 0 OR x = '0/0' AND value > 0 OR x = '04' AND value > 1", 2),
         ):
             self.assertEqual(self.ask(f"count(*) FROM {rest}"), rows, rest)
@@ -533,6 +576,10 @@ class WhatIsRefused(Tests):
             self.assertEqual(self.ask("s2_is_union(?)", wrong), 0)
         for table in ("s2_cells", "s2_ancestors", "s2_prepared"):
             self.refused("s2: a union is", f"* FROM {table}(1.5)")
+        self.refused("s2: a union is", "* FROM s2_tiles(1.5, 1)")
+        self.refused("s2: a level", "* FROM s2_tiles('1', '1')")
+        self.refused("s2: argument", "* FROM s2_tiles('1', 31)")
+        self.refused("s2: argument", "* FROM s2_tiles('', -1)")
         self.refused("s2: a level", "* FROM s2_cells('1', '1')")
         self.refused("s2: a level", "* FROM s2_cells('1', 1, 1.5)")
         for cells in ("1", ""):
