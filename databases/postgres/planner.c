@@ -5,6 +5,7 @@
 
 #include "access/detoast.h"
 #include "access/htup_details.h"
+#include "access/stratnum.h"
 #include "catalog/pg_statistic.h"
 #include "catalog/pg_type.h"
 #include "commands/vacuum.h"
@@ -17,7 +18,9 @@
 #include "nodes/supportnodes.h"
 #include "optimizer/optimizer.h"
 #include "optimizer/pathnode.h"
+#include "parser/parse_func.h"
 #include "utils/datum.h"
+#include "utils/fmgroids.h"
 #include "utils/lsyscache.h"
 #include "utils/memutils.h"
 #include "utils/selfuncs.h"
@@ -350,12 +353,38 @@ static Oid operator_of(Oid family, Oid function, int indexed) {
   return InvalidOid;
 }
 
+/* A comparison of an indexed leaf with the edge of a union, or NULL if the index can't compare so. */
+static Expr* compared_with_edge(SupportRequestIndexCondition* request, Expr* leaf, Expr* u, int strategy, char* edge) {
+  Oid operator = get_opfamily_member(request->opfamily, INT8OID, INT8OID, strategy), type = exprType((Node*)u);
+  Oid compares = strategy == BTLessEqualStrategyNumber ? F_INT8LE : F_INT8GE;
+  char* schema = get_namespace_name(get_func_namespace(request->funcid));
+  Oid function = schema ? LookupFuncName(list_make2(makeString(schema), makeString(edge)), 1, &type, true) : InvalidOid;
+  if (!OidIsValid(operator) || get_opcode(operator) != compares || !OidIsValid(function)) return NULL;
+  Expr* at = (Expr*)makeFuncExpr(function, INT8OID, list_make1(u), InvalidOid, InvalidOid, COERCE_EXPLICIT_CALL);
+  at = (Expr*)eval_const_expressions(request->root, (Node*)at);
+  return make_opclause(operator, BOOLOID, false, leaf, at, InvalidOid, InvalidOid);
+}
+
+/* A leaf that lies in a union lies between its least leaf and its greatest, which an index of leaves is asked for. So
+ * does any cell in it. The rows that are found are looked at. */
+static List* conditions_of_leaves(SupportRequestIndexCondition* request, Expr* indexed, Expr* other) {
+  question* ask = question_of(request->funcid);
+  bool asks = ask == (request->indexarg == 0 ? within : s2u_contains);
+  if (!asks || exprType((Node*)indexed) != INT8OID) return NIL;
+  Expr* least = compared_with_edge(request, indexed, other, BTGreaterEqualStrategyNumber, "s2union_least");
+  Expr* greatest = compared_with_edge(request, indexed, other, BTLessEqualStrategyNumber, "s2union_greatest");
+  if (least == NULL || greatest == NULL) return NIL;
+  request->lossy = true;
+  return list_make2(least, greatest);
+}
+
 static List* conditions(SupportRequestIndexCondition* request) {
   List* arguments = arguments_of(request->node);
   if (list_length(arguments) != 2) return NIL;
   Expr *indexed = list_nth(arguments, request->indexarg), *other = list_nth(arguments, 1 - request->indexarg);
   Oid operator = operator_of(request->opfamily, request->funcid, request->indexarg);
-  if (!OidIsValid(operator) || !is_pseudo_constant_for_index(request->root, (Node*)other, request->index)) return NIL;
+  if (!is_pseudo_constant_for_index(request->root, (Node*)other, request->index)) return NIL;
+  if (!OidIsValid(operator)) return conditions_of_leaves(request, indexed, other);
   request->lossy = false;
   return list_make1(make_opclause(operator, BOOLOID, false, indexed, other, InvalidOid, request->indexcollation));
 }

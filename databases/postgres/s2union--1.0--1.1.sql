@@ -194,6 +194,27 @@ LANGUAGE sql IMMUTABLE PARALLEL SAFE
 BEGIN ATOMIC SELECT unnest(s2_cells($1)); END;
 COMMENT ON FUNCTION unnest(s2union) IS 'the cells as rows';
 
+CREATE FUNCTION s2_tiles(s2union, level integer, OUT tile bigint, OUT part s2union)
+RETURNS SETOF record
+AS 'MODULE_PATHNAME'
+LANGUAGE C IMMUTABLE STRICT PARALLEL SAFE COST 1000 ROWS 20 SUPPORT s2union_support;
+COMMENT ON FUNCTION s2_tiles(s2union, integer)
+  IS 'the cells of a level that share a leaf with a union, and what the union has in each';
+
+-- An index of leaves
+
+CREATE FUNCTION s2union_least(s2union)
+RETURNS bigint
+AS 'MODULE_PATHNAME'
+LANGUAGE C IMMUTABLE STRICT PARALLEL SAFE COST 1000 SUPPORT s2union_support;
+COMMENT ON FUNCTION s2union_least(s2union) IS 'the least leaf, where an index of leaves begins';
+
+CREATE FUNCTION s2union_greatest(s2union)
+RETURNS bigint
+AS 'MODULE_PATHNAME'
+LANGUAGE C IMMUTABLE STRICT PARALLEL SAFE COST 1000 SUPPORT s2union_support;
+COMMENT ON FUNCTION s2union_greatest(s2union) IS 'the greatest leaf, where an index of leaves ends';
+
 -- Coverings and ranges
 
 CREATE FUNCTION s2_range(first text, last text)

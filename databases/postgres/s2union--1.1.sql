@@ -570,6 +570,13 @@ LANGUAGE sql IMMUTABLE PARALLEL SAFE
 BEGIN ATOMIC SELECT unnest(s2_cells($1)); END;
 COMMENT ON FUNCTION unnest(s2union) IS 'the cells as rows';
 
+CREATE FUNCTION s2_tiles(s2union, level integer, OUT tile bigint, OUT part s2union)
+RETURNS SETOF record
+AS 'MODULE_PATHNAME'
+LANGUAGE C IMMUTABLE STRICT PARALLEL SAFE COST 1000 ROWS 20 SUPPORT s2union_support;
+COMMENT ON FUNCTION s2_tiles(s2union, integer)
+  IS 'the cells of a level that share a leaf with a union, and what the union has in each';
+
 -- Coverings and ranges
 
 CREATE FUNCTION s2_outer(s2union, level integer)
@@ -859,6 +866,20 @@ DEFAULT FOR TYPE s2union USING hash AS
     OPERATOR 1 =,
     FUNCTION 1 s2union_hash(s2union),
     FUNCTION 2 s2union_hash_extended(s2union, bigint);
+
+-- An index of leaves
+
+CREATE FUNCTION s2union_least(s2union)
+RETURNS bigint
+AS 'MODULE_PATHNAME'
+LANGUAGE C IMMUTABLE STRICT PARALLEL SAFE COST 1000 SUPPORT s2union_support;
+COMMENT ON FUNCTION s2union_least(s2union) IS 'the least leaf, where an index of leaves begins';
+
+CREATE FUNCTION s2union_greatest(s2union)
+RETURNS bigint
+AS 'MODULE_PATHNAME'
+LANGUAGE C IMMUTABLE STRICT PARALLEL SAFE COST 1000 SUPPORT s2union_support;
+COMMENT ON FUNCTION s2union_greatest(s2union) IS 'the greatest leaf, where an index of leaves ends';
 
 -- GIN
 

@@ -10,6 +10,7 @@
 #include "catalog/pg_type.h"
 #include "common/hashfn.h"
 #include "fmgr.h"
+#include "funcapi.h"
 #include "lib/ilist.h"
 #include "libpq/pqformat.h"
 #include "miscadmin.h"
@@ -680,6 +681,24 @@ FUNCTION(s2union_cell_within, of_asked_and_cell(fcinfo, s2u_contains_cell, 1, 0)
 FUNCTION(s2union_intersects_cell, of_asked_and_cell(fcinfo, s2u_intersects_cell, 0, 1))
 FUNCTION(s2union_cell_intersects, of_asked_and_cell(fcinfo, s2u_intersects_cell, 1, 0))
 
+/* The least or the greatest leaf of a union in SQL's order, in which faces 4 and 5 come first; NULL if it has none. An
+ * index of leaves is asked for what lies between them. */
+static Datum edge(FunctionCallInfo fcinfo, bool least) {
+  S2Union* region = ARGUMENT(0);
+  size_t n = count_of(region);
+  int64 found = n == 0 ? 0 : (int64)region->cells[0];
+  for (size_t k = 0; k < n; k++) {
+    int64 leaf = (int64)(least ? s2u_range_min(region->cells[k]) : s2u_range_max(region->cells[k]));
+    if (least ? leaf < found : leaf > found) found = leaf;
+  }
+  PG_FREE_IF_COPY(region, 0);
+  if (n == 0) PG_RETURN_NULL();
+  PG_RETURN_INT64(found);
+}
+
+FUNCTION(s2union_least, edge(fcinfo, true))
+FUNCTION(s2union_greatest, edge(fcinfo, false))
+
 FUNCTION(s2union_count, Int64GetDatum((int64)count_of(ARGUMENT(0))))
 FUNCTION(s2union_is_empty, BoolGetDatum(count_of(ARGUMENT(0)) == 0))
 
@@ -787,6 +806,56 @@ FUNCTION(s2_range_max, Int64GetDatum((int64)s2u_range_max(CELL)))
 FUNCTION(s2_parent, cell_or_null(fcinfo, s2u_parent(CELL, (uint32_t)PG_GETARG_INT32(1))))
 FUNCTION(s2_child, cell_or_null(fcinfo, s2u_child(CELL, (uint32_t)PG_GETARG_INT32(1))))
 FUNCTION(s2_common_ancestor, cell_or_null(fcinfo, s2u_common_ancestor(CELL, cell_argument(fcinfo, 1))))
+
+/* ---- tiles: the cells of a level that a union meets, and its part in each, a row for each ---- */
+
+typedef struct Tiles {
+  const S2Union* whole;
+  uint64_t* tile;
+} Tiles;
+
+enum { CELLS_OF_PART = 256 }; /* room for most parts */
+
+/* What is kept from row to row: the union, and its tiles, which are counted. */
+static Tiles* new_tiles(FunctionCallInfo fcinfo, uint64_t* count) {
+  Tiles* t = palloc0(sizeof *t);
+  size_t n = 0;
+  t->whole = s2union_value(PointerGetDatum(PG_DETOAST_DATUM_COPY(PG_GETARG_DATUM(0))));
+  Job j = {fcinfo, 1, t->whole, .level = (uint32_t)PG_GETARG_INT32(1)};
+  S2Union* outer = (S2Union*)DatumGetPointer(made(make_outer_of, &j, count_of(j.x)));
+  must_be_ok(s2u_denormalised_len(LIST(outer), j.level, 1, count));
+  if (*count > MOST_CELLS) must_take_numbers(S2U_MANY, fcinfo, 1);
+  t->tile = palloc_extended(Max(*count, 1) * sizeof *t->tile, MCXT_ALLOC_HUGE);
+  if (*count > 0) must_be_ok(s2u_denormalised(LIST(outer), j.level, 1, t->tile, *count, &n));
+  pfree(outer);
+  return t;
+}
+
+static Datum row_of_tile(const Tiles* t, uint64_t tile, TupleDesc row) {
+  bool nulls[2] = {false, false};
+  Job j = {.x = t->whole, .y = value_with(&tile, 1)};
+  Datum values[2] = {Int64GetDatum((int64)tile), made(make_intersection, &j, Min(count_of(j.x), CELLS_OF_PART))};
+  return HeapTupleGetDatum(heap_form_tuple(row, values, nulls));
+}
+
+PG_FUNCTION_INFO_V1(s2_tiles);
+Datum s2_tiles(PG_FUNCTION_ARGS) {
+  FuncCallContext* rows;
+  if (SRF_IS_FIRSTCALL()) {
+    rows = SRF_FIRSTCALL_INIT();
+    MemoryContext context = MemoryContextSwitchTo(rows->multi_call_memory_ctx);
+    TypeFuncClass kind = get_call_result_type(fcinfo, NULL, &rows->tuple_desc);
+    must_be_ok(kind == TYPEFUNC_COMPOSITE ? S2U_OK : S2U_ARGUMENT);
+    rows->tuple_desc = BlessTupleDesc(rows->tuple_desc);
+    rows->user_fctx = new_tiles(fcinfo, &rows->max_calls);
+    MemoryContextSwitchTo(context);
+  }
+  rows = SRF_PERCALL_SETUP();
+  if (rows->call_cntr == rows->max_calls) SRF_RETURN_DONE(rows);
+  const Tiles* t = rows->user_fctx;
+  Datum row = row_of_tile(t, t->tile[rows->call_cntr], rows->tuple_desc);
+  SRF_RETURN_NEXT(rows, row);
+}
 
 /* ---- order and hash: those of the lists, since each region has exactly one ---- */
 

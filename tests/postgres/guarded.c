@@ -15,6 +15,7 @@
 #include "catalog/pg_type.h"
 #include "common/hashfn.h"
 #include "fmgr.h"
+#include "funcapi.h"
 #include "lib/ilist.h"
 #include "libpq/pqformat.h"
 #include "miscadmin.h"

@@ -164,6 +164,29 @@ class AgainstTheModel(Tests):
             ]
         self.all_are(pairs)
 
+    def test_tiles(self):
+        pairs = []
+        for _ in range(ROUNDS // 3):
+            xs = self.random.cells()
+            runs = model.runs(xs)
+            level = min([model.cell(c)[0] for c in model.normal(runs)] + [27]) + self.random.randrange(4)
+            rows = [f"{signed(tile)}: {tokens(model.normal(model.common(runs, [model.run(tile)])))}"
+                    for tile in model.cut(model.normal(model.around(runs, level)), level, 1)]
+            pairs.append((f"string_agg(tile || ': ' || part, ', ') FROM s2_tiles({u(xs)}, {level})",
+                          ", ".join(rows) or "null"))
+        pairs = [(f"(SELECT {query})", answer) for query, answer in pairs]
+        self.all_are(pairs + [("(SELECT count(*) FROM s2_tiles('1 9', 4) WHERE part = tile::s2union)", "512")])
+
+    def test_the_edges_of_a_union(self):
+        """As signed numbers: faces 4 and 5 come first."""
+        pairs = [("s2union_least('')", "null"), ("s2union_greatest('')", "null")]
+        for _ in range(ROUNDS // 3):
+            xs = self.random.cells()
+            leaves = [signed(2 * leaf + 1) for cell in xs for leaf in (model.run(cell)[0], model.run(cell)[1] - 1)]
+            for name, edge in (("least", min), ("greatest", max)):
+                pairs.append((f"s2union_{name}({u(xs)})", str(edge(leaves)) if xs else "null"))
+        self.all_are(pairs)
+
     def test_cells(self):
         pairs = []
         for _ in range(ROUNDS):
@@ -441,6 +464,9 @@ class WhatIsRefused(Tests):
                 ("(ARRAY[s2_cell('1'), NULL])::s2union", "a cell is NULL"),
                 ("(ARRAY['1', NULL])::s2union", "a cell is NULL"),
                 ("(SELECT s2_union_agg(c) FROM (VALUES (0::bigint)) v(c))", "not a cell: 0"),
+                ("(SELECT count(*) FROM s2_tiles('1', 31))", "argument out of range: 31"),
+                ("(SELECT count(*) FROM s2_tiles('', -1))", "argument out of range: -1"),
+                ("(SELECT count(*) FROM s2_tiles('1', 30))", "too many cells: 30"),
                 ("s2_cells('1'::s2union, 31)", "argument out of range: 31, 1"),
                 ("s2_cells('1'::s2union, 1, 4)", "argument out of range: 1, 4"),
                 ("s2_cells('1'::s2union, -1)", "argument out of range: -1, 1"),
@@ -653,6 +679,42 @@ class Indexes(Tests):
             self.assertGreater(int(found), 0, name)
         by_scan = psql("SELECT count(*) FROM questions q JOIN regions r ON r.region && q.region WHERE q.id < 100")
         self.assertEqual(int(by_scan[0]), wanted["&&"])
+
+    def test_leaves_by_an_index_of_leaves(self):
+        """By btree and by BRIN, for constants and in a join, beside a loop over all pairs."""
+        regions = [[], [model.identifier(0, 3), model.identifier(0, 4)]] + [self.random.cells(6) for _ in range(40)]
+        near = [self.random.near(self.random.choice(cells)) for cells in regions[1:] if cells for _ in range(30)]
+        leaves = [model.run(cell)[self.random.randrange(2)] % model.LEAVES for cell in near]
+        spans = [[model.run(cell) for cell in cells] for cells in regions]
+        inside = [{k for k, leaf in enumerate(leaves) if any(first <= leaf < end for first, end in each)}
+                  for each in spans]
+        self.assertGreater(sum(map(len, inside)), 500)
+        rows = "".join(f"{k}\t{signed(2 * leaf + 1)}\n" for k, leaf in enumerate(leaves))
+        rows += "9999\t\\N\n"
+        asked = "".join(f"{k}\t{tokens(cells)}\n" for k, cells in enumerate(regions))
+        psql(f"""SET client_min_messages = error; DROP TABLE IF EXISTS leaves, unions;
+            CREATE TABLE leaves(id int, leaf bigint); COPY leaves FROM STDIN;\n{rows}\\.
+            CREATE TABLE unions(id int, region s2union); COPY unions FROM STDIN;\n{asked}\\.
+            INSERT INTO unions VALUES (9999, NULL); CREATE INDEX leaves_hash ON leaves USING hash (leaf);""")
+        for kind in ("btree (leaf)", "brin (leaf) WITH (pages_per_range = 1)"):
+            setting = "SET enable_seqscan = off; SET enable_nestloop = on;"
+            psql(f"DROP INDEX IF EXISTS leaves_leaf; CREATE INDEX leaves_leaf ON leaves USING {kind}; ANALYZE leaves;")
+            for question in ("leaf <@ {}", "{} @> leaf", "s2_within(leaf, {})", "s2_contains({}, leaf)"):
+                constants = [question.format(u(cells)) for cells in regions]
+                said = psql(setting + "".join(f"SELECT array(SELECT id FROM leaves WHERE {constant} ORDER BY id);\n"
+                                              for constant in constants))
+                self.assertEqual(said, [f"{{{','.join(map(str, sorted(found)))}}}" for found in inside], question)
+                plan = "\n".join(psql(f"{setting} EXPLAIN SELECT * FROM leaves WHERE {constants[9]}"))
+                self.assertRegex(plan, r"(?s) leaves_leaf.*Cond: \(\(leaf >= '-?\d+'::bigint\) AND \(leaf <= ")
+                join = f"FROM unions AS u JOIN leaves ON {question.format('u.region')}"
+                said = psql(f"{setting} SELECT u.id || ' ' || leaves.id {join}")
+                pairs = [f"{k} {leaf}" for k, found in enumerate(inside) for leaf in found]
+                self.assertEqual(sorted(said), sorted(pairs), question)
+                plan = "\n".join(psql(f"{setting} EXPLAIN SELECT * {join}"))
+                self.assertRegex(plan, r"(?s) leaves_leaf.*Cond: \(\(leaf >= s2union_least\(u.region\)\) AND ")
+            for question in ("leaf && '04'", "'04' <@ leaf::s2union", "leaf::s2union <@ '04'"):
+                plan = "\n".join(psql(f"{setting} EXPLAIN SELECT * FROM leaves WHERE {question}"))
+                self.assertNotIn("leaf >=", plan)
 
     def test_questions_of_many_cells(self):
         """With so little memory that the index answers some pages as a whole, and with rows that wait in its list."""
@@ -1176,7 +1238,8 @@ class Guarded(Tests):
             "part && s2_cell('0401')", "s2_cell('0401') && part",
             "s2_cells(part)", "s2_ancestors(part)", "s2_outer(part, 3)", "s2_inner(part, 3)", "part @> '04'",
             "s2_outer(part, 0, 5, 9000, 7, 9000, 24)", "s2_inner(part, 0, 5, 9000000, 7, 9000000, 12)",
-            "'1'::s2union <@ part",
+            "'1'::s2union <@ part", "s2union_least(part)", "s2union_greatest(part)",
+            "(SELECT string_agg(tile || t.part::text, ',') FROM s2_tiles(parts.part, 1) AS t)",
             "part && '1c'", "part @> s2_cell('0401')", "part < '1'", "s2union_cmp(part, '04 0c')", "s2union_hash(part)",
             "s2union_hash_extended(part, 3)", "s2_count(part) + s2_leaves(part)", "part",
         )
@@ -1213,6 +1276,7 @@ class Guarded(Tests):
             (large.format("x.part && s2_cell('04')"), 1), (large.format("s2_cell('04') && x.part"), 1),
             (large.format("x.part @> '04'"), 1), ("SELECT pg_column_size('04'::s2union # '14')", 1),
             (large.format("'04' <@ x.part"), 1),
+            (large.format("s2union_least(x.part)"), 0), (large.format("s2union_greatest(x.part)"), 0),
             (large.format("s2union_cmp(x.part, y.part)"), 0), (large.format("s2union_hash(x.part)"), 0),
             (large.format("s2union_hash_extended(x.part, 1)"), 0), (large.format("s2_count(x.part)"), 1),
             ("SELECT pg_column_size('1'::s2union - '0000000000000001')", 1),
