@@ -3,6 +3,7 @@
 NET is the name of the network namespaces, and WORK the folder of the servers' folders."""
 
 import os
+import re
 import subprocess
 import threading
 import time
@@ -229,9 +230,7 @@ class OverTheCountries(unittest.TestCase):
             \\copy region_rows FROM '{WORK}/region_rows'
             \\copy alone_points FROM '{WORK}/point_rows'
             CREATE TABLE alone_regions AS SELECT name, cells::s2union AS region FROM region_rows;
-            CREATE TABLE alone_tiles AS
-            SELECT name, tile, region & tile::s2union AS part
-            FROM alone_regions, unnest(s2_cells(s2_outer(region, 5), 5)) AS tile;
+            CREATE TABLE alone_tiles AS SELECT name, tile, part FROM alone_regions, s2_tiles(region, 5);
             CREATE INDEX ON alone_regions USING gin (region);
             CREATE INDEX ON alone_points (leaf);
             TRUNCATE tiles, points;
@@ -256,6 +255,20 @@ class OverTheCountries(unittest.TestCase):
         self.join("one server, region @> leaf", "alone_points JOIN alone_regions ON region @> leaf")
         self.join("one server, ranges of leaves", """alone_regions, unnest(s2_cells(region)) AS cell JOIN alone_points
             ON leaf BETWEEN s2_range_min(cell) AND s2_range_max(cell)""")
+
+    def test_each_level(self):
+        """The table of docs/SCALE.md: how many tiles, their size, and the most cells of a part; and all pairs."""
+        with open(f"{os.path.dirname(os.path.abspath(__file__))}/../../docs/SCALE.md", encoding="utf-8") as file:
+            rows = re.findall(r"^\| (\d) \| ([\d,]+) \| ([\d,]+) KB \| (\d+) \|", file.read(), re.M)
+        self.assertEqual(len(rows), 7)
+        for level, *wanted in rows:
+            said = once(f"""SET client_min_messages = error; DROP TABLE IF EXISTS level_tiles;
+                CREATE TABLE level_tiles AS SELECT name, tile, part FROM alone_regions, s2_tiles(region, {level});
+                ANALYZE level_tiles;
+                SELECT count(*), pg_relation_size('level_tiles') / 1024, max(s2_count(part)) FROM level_tiles;""")
+            self.assertEqual(said.split("|"), [number.replace(",", "") for number in wanted])
+            self.join(f"by tile of level {level}",
+                      f"alone_points JOIN level_tiles ON tile = s2_parent(leaf, {level}) AND part @> leaf")
 
     def test_three_servers(self):
         self.join("three servers, by tile", "inside", "SET enable_partitionwise_join = on;")
