@@ -816,11 +816,11 @@ typedef struct Tiles {
 
 enum { CELLS_OF_PART = 256 }; /* room for most parts */
 
-/* What is kept from row to row: the union, and its tiles, which are counted. */
+/* What is kept from row to row, as the argument is: the union, unpacked, and its tiles, which are counted. */
 static Tiles* new_tiles(FunctionCallInfo fcinfo, uint64_t* count) {
   Tiles* t = palloc0(sizeof *t);
   size_t n = 0;
-  t->whole = s2union_value(PointerGetDatum(PG_DETOAST_DATUM_COPY(PG_GETARG_DATUM(0))));
+  t->whole = ARGUMENT(0);
   Job j = {fcinfo, 1, t->whole, .level = (uint32_t)PG_GETARG_INT32(1)};
   S2Union* outer = (S2Union*)DatumGetPointer(made(make_outer_of, &j, count_of(j.x)));
   must_be_ok(s2u_denormalised_len(LIST(outer), j.level, 1, count));
