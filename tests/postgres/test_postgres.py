@@ -427,6 +427,16 @@ class WhatIsRefused(Tests):
         self.all_are([(cut[k], text) for k, text in whole.items()])
         self.all_refused([(sql, "not a normalized list") for k, sql in enumerate(cut) if k not in whole])
 
+    def test_a_damaged_value_where_good_ones_have_been(self):
+        """They are made in each row, at the same place of the memory."""
+        cells = [model.identifier(5, k) for k in (1, 7, 60)]
+        head, good, bad = stored(cells[:2]).hex(), stored(cells[2:])[4:].hex(), "00" * 8
+        made = f"('\\x{head}'::bytea || CASE WHEN k < 3 THEN '\\x{good}' ELSE '\\x{bad}'::bytea END)"
+        asked = f"(SELECT count(*) FROM generate_series(0, {{}}) AS k WHERE {made}::text::raw8::s2union {{}})"
+        questions = ("&& s2_cell('1')", "@> ''", "<@ '1'", f"&& {u(cells)}")
+        self.all_are([(asked.format(2, each), "3") for each in questions])
+        self.all_refused([(asked.format(3, each), "not a normalized list") for each in questions])
+
     def test_texts(self):
         texts = ("X", "2", "g", "1 g", "1,0/4", "0" * 17, "é" * 60)
         wrong = [(f"'{text}'::s2union", "names no cell") for text in texts]
