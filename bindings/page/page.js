@@ -6,6 +6,8 @@ const COLORS = [[31, 119, 180], [214, 39, 40], [44, 160, 44], [148, 103, 189], [
 const MOST_CELLS = 8_000_000;
 const MOST_BYTES = HEAD_SIZE + 8 * MOST_CELLS;
 const MOST_BRIEF = 40;
+/** How many of many refusals are said. */
+const MOST_SAID = 5;
 /** How many pixels of a row and a column are drawn alike while the picture moves. */
 const LEAST_COARSE = 2;
 const MOST_COARSE = 4;
@@ -32,6 +34,8 @@ class Page {
     this.regions = [];
     this.past = [];
     this.future = [];
+    /** The unions that were chosen or computed with as A and B. */
+    this.picked = {first: null, second: null};
     this.made = 0;
     this.coarse = LEAST_COARSE;
     this.resize();
@@ -55,17 +59,26 @@ class Page {
 
   // ---- the unions and their history
 
-  /** Adds a list of cells under a name. One that is cut is no union, and its union is what operations take. */
-  add(name, ids, isCut = false) {
+  /** What is shown of a list of cells under a name. One that is cut is no union; operations take the union of it. */
+  regionOf(name, ids, isCut = false) {
     if (ids.length > MOST_CELLS) throw new Error("too many cells for the page");
     const union = isCut ? this.core.normalise(ids) : ids;
     if (!this.core.isUnion(union)) throw new Refusal(-4, 0);
-    const region = {
+    return {
       name, ids, union, color: COLORS[this.made++ % COLORS.length], isShown: true,
       leaves: this.core.leafCount(union), drawn: new Drawn(this.core, ids),
     };
-    this.change([...this.regions, region]);
-    this.say(`${name}: ${describe(region)}.`);
+  }
+
+  add(name, ids, isCut = false) {
+    this.addAll([this.regionOf(name, ids, isCut)]);
+  }
+
+  /** Adds regions, in one step of the history. */
+  addAll(regions) {
+    if (!regions.length) return;
+    this.change([...this.regions, ...regions]);
+    this.say(regions.length === 1 ? `${regions[0].name}: ${describe(regions[0])}.` : `${regions.length} unions added.`);
   }
 
   change(regions) {
@@ -98,6 +111,7 @@ class Page {
   chosen(id) {
     const region = this.regions[at(id).selectedIndex];
     if (!region) throw new Error("no union is chosen");
+    this.picked[id] = region;
     return region;
   }
 
@@ -138,16 +152,18 @@ class Page {
 
   // ---- files
 
-  /** Adds files. What is refused, such as a folder, is said when the others are added. */
+  /** Adds files, all at once when the last is read. What is refused, such as a folder, is said then. */
   async open(files) {
-    const refusals = [];
+    const [added, refusals] = [[], []];
     for (const file of [...files]) { // a copy: the browser's own list is emptied when the next files are chosen
       try {
-        this.add(file.name, this.core.decode(await bytesIn(file)));
+        added.push(this.regionOf(file.name, this.core.decode(await bytesIn(file))));
       } catch (error) {
         refusals.push(refusal(file.name, error));
       }
     }
+    this.addAll(added);
+    if (refusals.length > MOST_SAID) refusals.push(`and ${refusals.splice(MOST_SAID).length} more refused`);
     if (refusals.length) this.say(refusals.join("; "));
   }
 
@@ -175,7 +191,9 @@ class Page {
     if (!this.regions.length) at("legend").append(element("li", "none yet"));
     for (const [id, last] of [["first", 2], ["second", 1]]) {
       at(id).replaceChildren(...this.regions.map((region) => element("option", region.name)));
-      at(id).selectedIndex = Math.max(Math.min(0, this.regions.length - 1), this.regions.length - last);
+      const picked = this.regions.indexOf(this.picked[id]);
+      const count = this.regions.length;
+      at(id).selectedIndex = picked >= 0 ? picked : Math.max(Math.min(0, count - 1), count - last);
     }
     at("undo").disabled = !this.past.length;
     at("redo").disabled = !this.future.length;
@@ -310,6 +328,7 @@ class Page {
       in: () => this.zoomBy(2), out: () => this.zoomBy(0.5), fit: () => this.showAll(), theme: () => this.turnTheme(),
     };
     for (const [id, action] of Object.entries(buttons)) at(id).onclick = action;
+    for (const id of ["first", "second"]) at(id).onchange = () => this.chosen(id);
     at("files").onchange = () => {
       this.open(at("files").files);
       at("files").value = "";
@@ -433,7 +452,7 @@ async function bytesIn(file) {
 
 /** What is said of something that was refused. */
 function refusal(what, error) {
-  const where = error.status === -3 && error.place ? ` at place ${error.place}` : "";
+  const where = error.status === -3 ? ` at place ${error.place}` : "";
   return `${what}: refused: ${error.message}${where}`;
 }
 

@@ -6,7 +6,7 @@
 const PLACES_OF_FACES = [[0, 2], [1, 2], [1, 1], [2, 1], [2, 0], [3, 0]];
 const FACE_AT = [[-1, -1, 4, 5], [-1, 2, 3, -1], [0, 1, -1, -1]];
 const LEAST_EDGE = 7;
-const BITS_OF_TABLE = 18;
+const MOST_BITS_OF_TABLE = 18;
 const OPACITY = 0.72;
 /** How much of its color the edge of a cell has. */
 const EDGE = 0.6;
@@ -20,6 +20,7 @@ class Drawn {
     this.ids = new Uint32Array(ids.buffer, ids.byteOffset, 2 * ids.length);
     this.firsts = new Uint32Array(core.rangeMins(ids).buffer);
     this.lasts = new Uint32Array(core.rangeMaxes(ids).buffer);
+    this.shift = 32 - Math.min(MOST_BITS_OF_TABLE, 32 - Math.clz32(this.count | 1));
     this.table = this.beginnings();
     this.row = new Int32Array(0);
     this.forget();
@@ -31,10 +32,13 @@ class Drawn {
     this.fromLower = this.toUpper = this.toLower = 0;
   }
 
-  /** Where the cells begin whose last leaf has at least these upper bits: a search then takes few steps. */
+  /**
+   * Where the cells begin whose last leaf has at least these upper bits: a search then takes few steps. There are at
+   * most twice as many entries as cells, and two more.
+   */
   beginnings() {
-    const table = new Uint32Array((1 << BITS_OF_TABLE) + 1).fill(this.count);
-    for (let k = this.count - 1; k >= 0; k--) table[this.lasts[2 * k + 1] >>> (32 - BITS_OF_TABLE)] = k;
+    const table = new Uint32Array(2 ** (32 - this.shift) + 1).fill(this.count);
+    for (let k = this.count - 1; k >= 0; k--) table[this.lasts[2 * k + 1] >>> this.shift] = k;
     for (let k = table.length - 2; k >= 0; k--) table[k] = Math.min(table[k], table[k + 1]);
     return table;
   }
@@ -63,8 +67,8 @@ class Drawn {
   /** The first cell whose last leaf is not before a leaf. */
   firstEndingFrom(upper, lower) {
     const lasts = this.lasts;
-    let low = this.table[upper >>> (32 - BITS_OF_TABLE)];
-    let high = this.table[(upper >>> (32 - BITS_OF_TABLE)) + 1];
+    let low = this.table[upper >>> this.shift];
+    let high = this.table[(upper >>> this.shift) + 1];
     while (low < high) {
       const middle = (low + high) >>> 1;
       if (isAtLeast(lasts[2 * middle + 1], lasts[2 * middle], upper, lower)) high = middle;

@@ -1,10 +1,13 @@
 """Drives the page in Chromium and compares what it answers with the library, by its module for Python:
 
     browser.py FOLDER [--figures] [--pictures]
+    browser.py --short
 
-FOLDER has the page that tools/page made. The last line is 'N passed, M failed'.
+FOLDER has the page that tools/page made. With --short it is a page over standin.js, a plain stand-in for the proved
+module, and the tests that are slow there are left out. The last line is 'N passed, M failed'.
 """
 import base64
+import math
 import random
 import struct
 import sys
@@ -12,14 +15,17 @@ import tempfile
 import time
 import traceback
 from pathlib import Path
+from runpy import run_path
 
-from s2union import Union, debug, from_face_ij, level, parent, token
+from s2union import Union, debug, from_face_ij, level, parent, size, square, token
 from selenium import webdriver
 from selenium.webdriver.common.action_chains import ActionChains
 from selenium.webdriver.common.by import By
 from selenium.webdriver.common.keys import Keys
+from selenium.webdriver.support.ui import Select
 
 HERE = Path(__file__).resolve().parent
+TOP = HERE.parents[1]
 SIDE = 2**30
 FAULTS = {
     "short": (b"\1\3\0\0", "bytes are missing"),
@@ -29,10 +35,11 @@ FAULTS = {
 }
 
 
-def browser(downloads):
+def browser(downloads, is_short):
     options = webdriver.ChromeOptions()
-    for word in ("--headless=new", "--no-sandbox", "--window-size=1280,800", "--force-device-scale-factor=1",
-                 "--disable-dev-shm-usage"):
+    size_of_window = "--window-size=860,600" if is_short else "--window-size=1280,800"
+    for word in ("--headless=new", "--no-sandbox", size_of_window, "--force-device-scale-factor=1",
+                 "--disable-dev-shm-usage", "--disable-gpu"):
         options.add_argument(word)
     options.add_experimental_option("prefs", {"download.default_directory": str(downloads)})
     options.set_capability("goog:loggingPrefs", {"browser": "ALL"})
@@ -49,6 +56,27 @@ def random_union(choice, count, depth):
         near = parent(choice.choice(leaves), choice.randrange(1, 8))
         cells.append(parent(leaf_in(choice, near), choice.randrange(level(near), depth)))
     return Union(cells)
+
+
+def page_over_a_stand_in(folder):
+    """Makes the page in a folder as tools/page does, but with a stand-in for the module."""
+    page = run_path(str(TOP / "tools/page"))["page_of"](b"", (TOP / "bindings/page/land.cells").read_bytes())
+    before, begin, after = page.rpartition("\nbegin();")
+    (folder / "index.html").write_text(before + (HERE / "standin.js").read_text() + begin + after)
+
+
+def slow(test):
+    """Marks a test that the short form leaves out."""
+    test.is_slow = True
+    return test
+
+
+def middle(face, i, j, side):
+    """The longitude and latitude of the middle of a square, by S2's projection from the cube."""
+    u, v = ((4 * s * s - 1) / 3 if s >= 0.5 else (1 - 4 * (1 - s) ** 2) / 3 for s in ((2 * i + side) / 2 / SIDE,
+                                                                                     (2 * j + side) / 2 / SIDE))
+    x, y, z = ((1, u, v), (-u, 1, v), (-u, -v, 1), (-1, -v, -u), (v, -1, -u), (v, u, -1))[face]
+    return math.degrees(math.atan2(y, x)), math.degrees(math.atan2(z, math.hypot(x, y)))
 
 
 def leaf_in(choice, cell):
@@ -111,6 +139,33 @@ class Trial:
         field.clear()
         field.send_keys(str(value))
 
+    def choose(self, **names):
+        """Chooses A and B, as first and second, by their names."""
+        for name, chosen in names.items():
+            Select(self.driver.find_element(By.ID, name)).select_by_visible_text(chosen)
+
+    def chosen(self):
+        return [Select(self.driver.find_element(By.ID, name)).first_selected_option.text
+                for name in ("first", "second")]
+
+    def names(self):
+        return self.run("return s2page.regions.map((region) => region.name)")
+
+    def press(self, *keys):
+        """Presses keys in the picture."""
+        self.driver.find_element(By.ID, "picture").send_keys(*keys)
+
+    def saved(self, button, name):
+        """What a button of the last union's line saves, under this name."""
+        self.driver.find_elements(By.CSS_SELECTOR, "#legend li:last-child button")[button].click()
+        file, end = self.downloads / name, time.monotonic() + 20
+        while not file.exists():
+            assert time.monotonic() < end, list(self.downloads.iterdir())
+            time.sleep(0.05)
+        data = file.read_bytes()
+        file.unlink()
+        return data
+
     # ---- the tests
 
     def test_operations(self):
@@ -131,35 +186,118 @@ class Trial:
         self.run("s2page.view.draw()")
 
     def test_coverings(self):
-        for number in (0, 3, 9, 30):
+        for number in (0, 9, 30):
             self.begin()
             self.set("level", number)
-            self.run("document.getElementById('first').selectedIndex = 0")
             self.click("outer")
             assert self.last() == self.a.outer(number).to_bytes(), number
-            self.run("document.getElementById('first').selectedIndex = 0")
             self.click("inner")
             assert self.last() == self.a.inner(number).to_bytes(), number
 
     def test_denormalised(self):
         for least, modulus in ((0, 1), (4, 2), (1, 3)):
             self.begin()
-            self.run("document.getElementById('first').selectedIndex = 0")
             self.set("level", least)
             self.set("modulus", modulus)
             self.click("denormalise")
             ids = self.a.denormalised(least, modulus)
             assert self.last() == struct.pack(f"<BQ{len(ids)}Q", 1, len(ids), *ids)
 
+    def test_chosen_unions(self):
+        """A and B stay what was chosen, and what was computed with; where nothing was, they are the last two."""
+        self.begin()
+        self.drop("c", self.b.to_bytes())
+        assert self.chosen() == ["b", "c"]
+        self.choose(first="a", second="b")
+        self.click("union")
+        self.click("intersection")
+        assert self.names()[3:] == ["a or b", "a and b"] and self.last() == (self.a & self.b).to_bytes()
+        self.drop("d", self.b.to_bytes())
+        assert self.chosen() == ["a", "b"]
+        self.press(Keys.CONTROL, "z")
+        assert self.chosen() == ["a", "b"]
+        self.driver.find_elements(By.CSS_SELECTOR, "#legend li:first-child button")[2].click()
+        assert self.chosen() == ["a or b", "b"], "a is gone"
+        self.press(Keys.CONTROL, "z")
+        assert self.chosen() == ["a", "b"], "a is there again"
+
+    def test_computed_with(self):
+        """What was computed with without being chosen stays too."""
+        self.begin()
+        for name in ("union", "intersection", "difference"):
+            self.click(name)
+        assert self.names()[2:] == ["a or b", "a and b", "a without b"]
+
+    def test_many_files(self):
+        """500 files at once are one step of the history, and are shown once; each has a table of its own size."""
+        self.open()
+        shown, entries = self.driver.execute_async_script("""const done = arguments[0];
+            const {core, observer, view} = s2page;
+            observer.disconnect();
+            [view.canvas.width, view.canvas.height] = [100, 75];
+            const frame = () => new Promise((go) => requestAnimationFrame(() => setTimeout(go)));
+            let shown = 0;
+            const count = (object, name) => {
+              const call = object[name];
+              object[name] = (...words) => { shown++; call.apply(object, words); };
+            };
+            const files = Array.from({length: 500}, (_, k) => new File([core.encode(core.read('04 3/021'))], `${k}`));
+            (async () => {
+              await frame(); // that of the empty page
+              count(s2page, 'show');
+              count(view, 'draw');
+              await s2page.open(files);
+              await frame();
+              done([shown, s2page.regions.reduce((sum, region) => sum + region.drawn.table.length, 0)]);
+            })();""")
+        assert self.names() == [f"{k}" for k in range(500)] and self.status() == "500 unions added."
+        assert shown == 2 and entries <= 500 * 6, (shown, entries)
+        self.press(Keys.CONTROL, "z")
+        assert self.count() == 0
+        self.press(Keys.CONTROL, "y")
+        assert self.count() == 500
+
+    def test_many_refusals(self):
+        """Of many refusals the first are said, and how many more there are."""
+        self.open()
+        self.driver.execute_async_script("""const done = arguments[0];
+            s2page.open(Array.from({length: 100}, (_, k) => new File([''], `${k}`))).then(done);""")
+        said = self.status().split("; ")
+        assert said[0] == "0: refused: union file: bytes are missing" and said[5:] == ["and 95 more refused"], said
+
     def test_saving(self):
         self.begin()
         self.click("intersection")
-        self.driver.find_elements(By.CSS_SELECTOR, "#legend li button")[-3].click()
-        file, end = self.downloads / "a_and_b.cells", time.monotonic() + 20
-        while not file.exists():
-            assert time.monotonic() < end, list(self.downloads.iterdir())
-            time.sleep(0.05)
-        assert file.read_bytes() == (self.a & self.b).to_bytes()
+        both = self.a & self.b
+        assert self.saved(0, "a_and_b.cells") == both.to_bytes()
+        assert self.saved(1, "a_and_b.txt") == " ".join(both.tokens()).encode()
+
+    def test_cut_lists(self):
+        """A list that was cut is shown and saved as it was cut; operations take its union."""
+        self.open()
+        self.set("texts", "1")
+        self.click("add")
+        self.set("level", 1)
+        self.click("denormalise")
+        children = Union.from_tokens("1").denormalised(1)
+        assert self.saved(0, "denormalized_1_1_of_cells_1.cells") == struct.pack("<BQ4Q", 1, 4, *children)
+        assert self.saved(1, "denormalized_1_1_of_cells_1.txt") == " ".join(map(token, children)).encode()
+        drawn, edges = self.run("""const [whole, cut] = s2page.regions;
+            const {view} = s2page;
+            const colors = (region) => {
+              view.layers = [region];
+              view.fit();
+              view.draw();
+              const [column, row] = PLACES_OF_FACES[0];
+              const [[x, y], [end]] = [view.pixelAt(column + 0.05, row + 0.3), view.pixelAt(column + 0.95, row + 0.3)];
+              const from = Math.floor(y) * view.image.width;
+              return new Set(view.pixels.slice(from + Math.ceil(x), from + Math.floor(end))).size;
+            };
+            return [cut.drawn.count, [colors(whole), colors(cut)]];""")
+        assert drawn == 4 and edges == [1, 2], (drawn, edges)
+        self.choose(first="denormalized 1/1 of cells 1", second="cells 1")
+        self.click("intersection")
+        assert self.last() == Union.from_tokens("1").to_bytes()
 
     def test_a_chosen_file(self):
         self.open()
@@ -184,9 +322,10 @@ class Trial:
             self.drop(name, data)
             assert self.status() == f"{name}: refused: union file: {fault}", self.status()
             assert self.count() == 2
-        self.set("level", 31)
-        self.click("outer")
-        assert "argument out of range" in self.status() and self.count() == 2
+        for wrong in ("31", "", "-1", "1.5"):
+            self.set("level", wrong)
+            self.click("outer")
+            assert self.status() == "outer: refused: argument out of range" and self.count() == 2, self.status()
 
     def test_files_that_can_not_be_read(self):
         """A folder, or what the browser may not read, is refused by its name, and the files beside it are added."""
@@ -248,9 +387,11 @@ class Trial:
     def test_names_of_results(self):
         """The name of a result of results of results is short."""
         self.begin()
-        for _ in range(40):
+        for count in range(2, 9):
             self.click("union")
-        names = self.run("return s2page.regions.map((region) => region.name)")
+            for name in ("first", "second"):
+                Select(self.driver.find_element(By.ID, name)).select_by_index(count)
+        names = self.names()
         assert names[2] == "a or b" and max(map(len, names)) < 90, [len(name) for name in names]
         assert self.last() == (self.a | self.b).to_bytes()
 
@@ -297,9 +438,10 @@ class Trial:
         self.set("texts", "64c, 3/021 1")
         self.click("add")
         assert self.last() == Union.from_tokens("64c, 3/021 1").to_bytes()
-        self.set("texts", "64c nonsense 1")
-        self.click("add")
-        assert self.status() == "texts: refused: not a cell at place 4" and self.count() == 1, self.status()
+        for text, place in (("64c nonsense 1", 4), ("nonsense 1", 0)):
+            self.set("texts", text)
+            self.click("add")
+            assert self.status() == f"texts: refused: not a cell at place {place}" and self.count() == 1, self.status()
 
     def test_markup(self):
         """A name with markup is shown as text."""
@@ -316,8 +458,25 @@ class Trial:
         assert self.count() == 2
         self.click("redo")
         assert self.last() == (self.a | self.b).to_bytes()
-        self.driver.find_element(By.ID, "picture").send_keys(Keys.CONTROL, "z")
+        self.press(Keys.CONTROL, "z")
         assert self.count() == 2
+        self.press(Keys.CONTROL, Keys.SHIFT, "z")
+        assert self.last() == (self.a | self.b).to_bytes()
+        self.press(Keys.CONTROL, "z")
+        self.press(Keys.CONTROL, "y")
+        assert self.count() == 3
+
+    def test_undo_and_then_a_change(self):
+        """After a change, what was undone before it is gone."""
+        self.begin()
+        self.click("undo")
+        self.click("sample")
+        assert not self.driver.find_element(By.ID, "redo").is_enabled()
+        self.press(Keys.CONTROL, "y")
+        assert self.status() == "Nothing to redo." and self.names() == ["a", "land"], self.status()
+        for _ in range(3):
+            self.press(Keys.CONTROL, "z")
+        assert self.status() == "Nothing to undo." and self.count() == 0, self.status()
 
     def test_pointer(self):
         self.begin()
@@ -332,6 +491,10 @@ class Trial:
                     leaf = from_face_ij(*place)
                     cell = parent(leaf, int(facts["level"]))
                     assert (facts["token"], facts["debug text"]) == (token(cell), debug(cell))
+                    assert facts["leaves"] == str(size(cell))
+                    assert facts["square"] == "face {}, i {}, j {}, side {}".format(*square(cell))
+                    east, north = (float(word.split("°")[0]) for word in facts["middle"].split(", "))
+                    assert math.dist((east, north), middle(*square(cell))) < 1e-6, (facts, middle(*square(cell)))
                     for name, union in (("a", self.a), ("b", self.b)):
                         said = "contains it" if cell in union else "has none of it"
                         if said != "contains it" and union.intersects(Union([cell])):
@@ -401,6 +564,23 @@ class Trial:
             view.fit();
             view.draw();""", kind)
 
+    def test_coarse_pictures(self):
+        """A coarse picture shows the same as a fine one: the cells and the ground are in the same places."""
+        self.open()
+        self.set("texts", "1 5 9")
+        self.click("add")
+        coarse, fine = self.run("""const {view} = s2page;
+            s2page.observer.disconnect();
+            view.fit();
+            const places = PLACES_OF_FACES.flatMap(
+              ([column, row]) => [[column + 0.3, row + 0.7], [column + 0.8, row + 0.6]]);
+            const colors = (step) => {
+              view.draw(step);
+              return places.map((place) => String(view.context.getImageData(...view.pixelAt(...place), 1, 1).data));
+            };
+            return [colors(4), colors(1)];""")
+        assert coarse == fine and len(set(fine)) == 2, (coarse, fine)
+
     def test_many_unions(self):
         """Each of many unions is drawn, and over those before it: of forty, each face has six or seven."""
         self.open()
@@ -421,7 +601,7 @@ class Trial:
         assert found == wanted and len(set(found)) > 1, (found, wanted)
 
     def test_touch(self):
-        """One finger moves the picture, and two zoom it; so do the mouse and its wheel."""
+        """One finger moves the picture, also after another was cancelled, and two zoom it; so do mouse and wheel."""
         self.begin()
         box = self.driver.find_element(By.ID, "picture").rect
         x, y = box["x"] + box["width"] / 2, box["y"] + box["height"] / 2
@@ -439,11 +619,20 @@ class Trial:
         self.driver.execute_cdp_cmd("Input.dispatchMouseEvent", {"type": "mouseWheel", "x": x, "y": y, "deltaX": 0,
                                                                  "deltaY": -100})
         assert self.run(place)[1] > 2 * after[1]
+        self.touch("touchStart", [(x - 20, y)])
+        self.touch("touchCancel", [])
+        before = self.run(place)
+        self.touch("touchStart", [(x, y)])
+        self.touch("touchMove", [(x - 50, y)])
+        self.touch("touchEnd", [])
+        after = self.run(place)
+        assert after[0] > before[0] and after[1] == before[1], (before, after)
 
     def touch(self, kind, points):
         self.driver.execute_cdp_cmd("Input.dispatchTouchEvent", {
             "type": kind, "touchPoints": [{"x": x, "y": y, "id": k} for k, (x, y) in enumerate(points)]})
 
+    @slow
     def test_leaves(self):
         """A leaf is seen alone in the closest picture, and still as a dot in one of all."""
         self.open()
@@ -513,16 +702,25 @@ def timed(operation, other):
     return 1000 * (time.perf_counter() - begun)
 
 
+def tests_of(trial, is_short):
+    """The tests by name, and last that nothing went wrong in any of them."""
+    names = [name for name in dir(trial) if name.startswith("test_") and name != "test_no_error"]
+    names = [name for name in names if not (is_short and hasattr(getattr(trial, name), "is_slow"))]
+    return {name: getattr(trial, name) for name in [*names, "test_no_error"]}
+
+
 def main(folder):
     passed = failed = 0
     with tempfile.TemporaryDirectory() as room:
-        driver = browser(Path(room))
+        is_short = folder == "--short"
+        if is_short:
+            page_over_a_stand_in(Path(room))
+        driver = browser(Path(room), is_short)
         try:
-            trial = Trial(folder, driver, Path(room))
-            for name in [name for name in dir(trial) if name.startswith("test_") and name != "test_no_error"] + [
-                    "test_no_error"]:
+            trial = Trial(Path(room if is_short else folder).resolve(), driver, Path(room))
+            for name, test in tests_of(trial, is_short).items():
                 try:
-                    getattr(trial, name)()
+                    test()
                     passed += 1
                 except Exception:
                     failed += 1
@@ -537,4 +735,4 @@ def main(folder):
 
 
 if __name__ == "__main__":
-    sys.exit(main(Path(sys.argv[1]).resolve()))
+    sys.exit(main(sys.argv[1]))
