@@ -1,7 +1,10 @@
 #!/usr/bin/env bash
-# The page in Chromium without a screen, beside the library: tests/run page. With -- --figures it prints the figures of
-# docs/PAGE.md too, and with -- --pictures it makes the stored pictures anew. It installs the Debian packages that it
-# needs. Its last line is 'N passed, M failed'; the status is 1 if any failed.
+# The page in Chromium without a screen, beside the library: tests/run --tier full page. With -- --figures it prints the
+# figures of docs/PAGE.md too, and with -- --pictures it makes the stored pictures anew. It installs the Debian packages
+# that it needs.
+# With --short, as the gate has it, nothing is installed or proved: the page is driven over a plain stand-in for its
+# module, and if Chromium or its driver isn't there, a line says that it isn't tested.
+# Its last line is 'N passed, M failed'; the status is 1 if any failed.
 . "$(dirname "$0")/../steps.sh"
 
 packages=()
@@ -9,19 +12,34 @@ for command in chromium chromedriver; do
   command -v "$command" >/dev/null || packages+=("${command/chromedriver/chromium-driver}")
 done
 /usr/bin/python3 -c 'import selenium' 2>/dev/null || packages+=(python3-selenium)
-need_packages
-need_library
-export PYTHONPATH=$work/usr/lib/python PYTHONDONTWRITEBYTECODE=1
 
-step "tools/page" "$top/tools/page" "$work/page" --jobs 1
-[ "$failed" -eq 0 ] || finish
-lacking=$(sed -n 's/^tools\/page: the module lacks what takes memory: //p' "$work/log")
-named() { # CALL..: whether the page of docs names just these as what the module lacks
-  diff <(printf '%s\n' "$@" | sort) \
+lacking_calls() { # what is left out of the module, from the copy of the sources that it is made of
+  /usr/bin/python3 -c 'import runpy, sys; print(*runpy.run_path(sys.argv[1])["make_copy"](sys.argv[2]), sep="\n")' \
+    "$top/tools/page" "$work/copy" | sort
+}
+lacking() {
+  mkdir "$work/copy" && diff <(lacking_calls) \
     <(grep -o 'So the module lacks [^.]*' "$top/docs/PAGE.md" | grep -o 's2u_[a-z_]*' | sort)
 }
-step "docs/PAGE.md: the calls that the module lacks" named $lacking
-in_browser() { timeout 600 /usr/bin/python3 "$top/tests/page/browser.py" "$work/page" "$@"; }
-step "the page in Chromium" in_browser "$@"
+step "docs/PAGE.md: the calls that the module lacks" lacking
+in_browser() { # the library's module for Python answers beside the page
+  PYTHONPATH=$work/usr/lib/python PYTHONDONTWRITEBYTECODE=1 \
+    timeout 600 /usr/bin/python3 "$top/tests/page/browser.py" "$@"
+}
+
+if [ "${1:-}" = --short ]; then
+  if [ ${#packages[@]} -eq 0 ]; then
+    need_library
+    step "the page in Chromium, over a stand-in for its module" in_browser --short
+  else
+    echo "       the page is not tested: ${packages[*]} are not there"
+  fi
+  finish
+fi
+need_packages
+need_library
+step "tools/page" "$top/tools/page" "$work/page" --jobs 1
+[ "$failed" -eq 0 ] || finish
+step "the page in Chromium" in_browser "$work/page" "$@"
 grep -E '^figure:' "$work/log" | sed 's/^figure:/       /'
 finish
