@@ -151,8 +151,12 @@ func listed(room int, call func(out *C.uint64_t, room C.size_t, length *C.size_t
 	return trimmed(made[:length]), nil
 }
 
-// trimmed is a list in memory of its own size, at most half as much again.
+// trimmed is a list in memory of its own size, at most half as much again; nil if it is empty, so that all empty unions
+// are the same value.
 func trimmed(list []CellID) []CellID {
+	if len(list) == 0 {
+		return nil
+	}
 	if len(list) < cap(list)/3*2 {
 		return append([]CellID(nil), list...)
 	}

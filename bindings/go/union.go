@@ -288,11 +288,12 @@ func (cu CellUnion) Encode(w io.Writer) error {
 // ErrFileShort.
 func (cu *CellUnion) Decode(r io.Reader) error {
 	var file bytes.Buffer
-	if err := readMore(&file, r, int64(sizeOfFile(0))); err != nil {
-		return err
-	}
-	if file.Bytes()[0] != 1 {
+	err := readMore(&file, r, int64(sizeOfFile(0)))
+	if (err == nil || err == ErrFileShort) && file.Bytes()[0] != 1 {
 		return ErrFileVersion
+	}
+	if err != nil {
+		return err
 	}
 	cells := binary.LittleEndian.Uint64(file.Bytes()[1:])
 	if cells >= 1<<59 {

@@ -8,6 +8,7 @@ import (
 	"fmt"
 	"io"
 	"os"
+	"reflect"
 	"strconv"
 	"strings"
 	"testing"
@@ -20,8 +21,8 @@ type (
 	CellUnion = s2union.CellUnion
 )
 
-// TestVectors asks the questions of tests/python/vectors.py, in the file that S2UNION_VECTORS names, and compares the
-// answers with those of the plain model.
+// TestVectors asks the questions of tests/python/vectors.py and edges.py, in the file that S2UNION_VECTORS names, and
+// compares the answers.
 func TestVectors(t *testing.T) {
 	path := os.Getenv("S2UNION_VECTORS")
 	if path == "" {
@@ -104,11 +105,14 @@ func must[T any](value T, err error) T {
 	return value
 }
 
-// ask is the answer to a question. The only panics that are answers are those of cells that there are not.
+// ask is the answer to a question. The only panics that are answers are those of cells that there are not, and of
+// numbers that are no cells.
 func ask(question func(given) string, texts given) (answer string) {
 	defer func() {
 		if said := recover(); said == s2union.ErrArgument {
 			answer = "none"
+		} else if said == s2union.ErrNoCell {
+			answer = "!no_cell"
 		} else if said != nil {
 			panic(said)
 		}
@@ -119,6 +123,8 @@ func ask(question func(given) string, texts given) (answer string) {
 const most = 100_000 // cells of a list
 
 var questions = map[string]func(given) string{
+	"version": func(given) string { return s2union.Version() },
+	"text_of": textOf,
 	"is_cell": func(g given) string { return shown(g.cell(0).IsValid()) },
 	"level":   level,
 	"face": func(g given) string {
@@ -132,7 +138,7 @@ var questions = map[string]func(given) string{
 	"previous":    func(g given) string { return shown(g.cell(0).Prev()) },
 	"parent":      func(g given) string { return shown(g.cell(0).Parent(g.numbers(1)[0])) },
 	"token":       func(g given) string { return g.cell(0).ToToken() },
-	"debug":       func(g given) string { return g.cell(0).String() },
+	"debug":       debug,
 	"from_token":  func(g given) string { return shown(s2union.CellIDFromToken(string(g.bytes(0)))) },
 	"from_debug":  func(g given) string { return shown(s2union.CellIDFromString(string(g.bytes(0)))) },
 	"contains":    func(g given) string { return shown(g.cell(0).Contains(g.cell(1))) },
@@ -207,7 +213,10 @@ var questions = map[string]func(given) string{
 	"inner_of_rectangle": func(g given) string { return shown(g.rect(0).InteriorCovering(g.numbers(1)[0], most)) },
 	"file_check":         fileCheck,
 	"levels": func(g given) string {
-		levels := must(s2union.Levels(g.cells(0)))
+		levels, err := s2union.Levels(g.cells(0))
+		if err != nil {
+			return shown(levels, err)
+		}
 		texts := make([]string, len(levels))
 		for k, level := range levels {
 			texts[k] = strconv.Itoa(int(level))
@@ -219,10 +228,11 @@ var questions = map[string]func(given) string{
 	"range_maxes": func(g given) string { return shown(s2union.RangeMaxes(g.cells(0))) },
 	"token_fields": func(g given) string {
 		fields := []byte{}
-		for _, token := range must(s2union.Tokens(g.cells(0))) {
+		tokens, err := s2union.Tokens(g.cells(0))
+		for _, token := range tokens {
 			fields = append(append(fields, token...), make([]byte, 16-len(token))...)
 		}
-		return shown(fields)
+		return shown(fields, err)
 	},
 	"from_points": func(g given) string {
 		numbers, points := g.numbers(0), []s2union.FacePoint{}
@@ -238,6 +248,15 @@ var questions = map[string]func(given) string{
 	"inner_in": func(g given) string {
 		return shown(g.union(0).InteriorCoveringIn(g.rect(1), g.numbers(2)[0], most))
 	},
+}
+
+// debug is the text of a cell. That of a number that is none says so.
+func debug(g given) string {
+	text := g.cell(0).String()
+	if text == "Invalid: "+g[0] {
+		return "!no_cell"
+	}
+	return text
 }
 
 func level(g given) string {
@@ -292,12 +311,12 @@ func unmarshalled(file []byte) string {
 	return shown(union, err)
 }
 
-// decoded reads a file, and what follows it. No file at all is taken for one that is short.
+// decoded reads a file from a stream, where what follows it stays. No file at all is taken for one that is short.
 func decoded(file []byte) string {
 	var union CellUnion
 	reader := bytes.NewReader(file)
 	err := union.Decode(reader)
-	if err == nil && reader.Len() > 0 {
+	if reader.Len() > 0 && (err == nil || err == s2union.ErrFileCell) {
 		err = s2union.ErrFileTrailing
 	} else if err == io.EOF && len(file) == 0 {
 		err = s2union.ErrFileShort
@@ -322,8 +341,18 @@ func fileCheck(g given) string {
 	return shown(file.Len() == union.Len())
 }
 
+// textOf is what a refusal says, which has the name of the package before it.
+func textOf(g given) string {
+	refusal := s2union.Error(g.numbers(1)[0])
+	if names[refusal] != g[0] {
+		return "another refusal"
+	}
+	return strings.TrimPrefix(refusal.Error(), "s2union: ")
+}
+
 var names = map[s2union.Error]string{
-	s2union.ErrNoCell: "no_cell", s2union.ErrArgument: "argument", s2union.ErrMany: "many",
+	s2union.ErrMemory: "memory", s2union.ErrNoCell: "no_cell", s2union.ErrNotNormalized: "no_union",
+	s2union.ErrArgument: "argument", s2union.ErrMany: "many",
 	s2union.ErrFileShort: "file_short", s2union.ErrFileVersion: "file_version",
 	s2union.ErrFileTrailing: "file_trailing", s2union.ErrFileCell: "file_cell",
 }
@@ -353,6 +382,9 @@ func shown(value any, errs ...error) string {
 		}
 		return strconv.FormatUint(uint64(value), 16)
 	case CellUnion:
+		if value.Len() == 0 && !reflect.DeepEqual(value, CellUnion{}) {
+			return "another empty union"
+		}
 		return shown(value.CellIDs())
 	case []CellID:
 		return joined(value)

@@ -89,6 +89,16 @@ else
   echo "       clang's fuzzer is not there (libclang-rt-dev): the calls are not fuzzed"
 fi
 
+# ---- questions and edges, with their answers
+
+questions() { # what all bindings are asked; those for Go and Rust are also the plain model's, which they can't ask
+  export PYTHONDONTWRITEBYTECODE=1
+  /usr/bin/python3 "$top/tests/python/edges.py" >"$work/edges" &&
+    /usr/bin/python3 "$top/tests/python/vectors.py" | cat - "$work/edges" >"$work/vectors"
+}
+step "questions and edges for C++, Go and Rust" questions
+export S2UNION_VECTORS=$work/vectors
+
 # ---- unions for C++
 
 unions() { # COMPILER OPTION..: builds the test of s2union.hpp and runs it
@@ -97,6 +107,11 @@ unions() { # COMPILER OPTION..: builds the test of s2union.hpp and runs it
 }
 step "s2union.hpp: g++, under the sanitizers" unions g++ -std=c++17 -fsanitize=address,undefined -fno-sanitize-recover
 step "s2union.hpp: clang++" unions clang++ -std=c++20
+at_edges() {
+  g++ -std=c++17 -fsanitize=address,undefined -fno-sanitize-recover "${strict[@]}" -Wconversion -I"$include" \
+    "$tests/edges.cc" "$static" -o "$work/at-edges" && "$work/at-edges" "$work/edges"
+}
+step "s2union.hpp and s2union.h: the edges" at_edges
 step "s2union.hpp: g++, without exceptions" unions g++ -std=c++17 -fno-exceptions
 apart() { # no function of the header has one name in a file with exceptions and in one without
   local kind
@@ -153,6 +168,7 @@ python() {
   )
 }
 step "Python: against the model, and the module" python -m unittest -q test_library
+step "Python: the edges" python -m unittest -q test_edges
 /usr/bin/python3 -c 'import pandas' 2>/dev/null || echo "       pandas is not there: columns of it are not tested"
 step "Python: docs/PYTHON.md" python -m doctest "$top/docs/PYTHON.md"
 step "Python: examples of points and of maps" python -m unittest -q test_examples
@@ -172,12 +188,6 @@ step "Python: installed by pip" by_pip
 
 # ---- Go and Rust, if they are there
 
-questions() { # with the plain model's answers, for languages that can't ask it
-  PYTHONDONTWRITEBYTECODE=1 /usr/bin/python3 "$top/tests/python/vectors.py" >"$work/vectors"
-}
-step "questions for Go and Rust" questions
-export S2UNION_VECTORS=$work/vectors
-
 export GOPATH=$work/go GOCACHE=$work/go-cache GOFLAGS=-mod=mod GOPROXY=off GOTOOLCHAIN=local
 for_go() (
   cd "$top/bindings/go" && [ -z "$(gofmt -l .)" ] && go vet . && timeout 300 go test -count=1 .
@@ -188,7 +198,7 @@ by_go() ( # the page's program, in a module of its own
     go build -o program && says GO.md go ./program
 )
 if command -v go >/dev/null; then
-  step "Go: against the model, what is refused, and the examples" for_go
+  step "Go: against the model, the edges, what is refused, and the examples" for_go
   step "Go: docs/GO.md" by_go
 else
   echo "       Go is not there: its package is not tested"
@@ -205,7 +215,7 @@ by_rust() (
     CARGO_TARGET_DIR=$work/target cargo build -q --offline && says RUST.md rust "$work/target/debug/program"
 )
 if command -v cargo >/dev/null; then
-  step "Rust: against the model, what is refused, and the examples" for_rust
+  step "Rust: against the model, the edges, what is refused, and the examples" for_rust
   step "Rust: docs/RUST.md" by_rust
 else
   echo "       cargo is not there: the crate for Rust is not tested"

@@ -101,8 +101,8 @@ function standIn() {
   const exports = {
     memory, __heap_base: {value: 1024n},
     s2u_level: level,
-    s2u_token: (id, ...place) => text(token(id), ...place),
-    s2u_debug: (id, ...place) => text(debug(id), ...place),
+    s2u_token: (id, ...place) => (isCell(id) ? text(token(id), ...place) : NO_CELL),
+    s2u_debug: (id, ...place) => (isCell(id) ? text(debug(id), ...place) : NO_CELL),
     s2u_size: (id) => low(id),
     s2u_parent: (id, wanted) => (wanted > level(id) ? 0n : atLevel(wanted, runOf(id)[0])),
     s2u_from_face_ij: (face, i, j) => {
@@ -111,6 +111,7 @@ function standIn() {
       return (BigInt(half[1]) << 32n) | BigInt(half[0]);
     },
     s2u_square_of: (id, at) => {
+      if (!isCell(id)) return NO_CELL;
       const face = Number(runOf(id)[0] >> 60n);
       let [turn, i, j] = [face & SWAP, 0, 0];
       for (const digit of digits(id)) {

@@ -11,7 +11,7 @@ need_library
 
 tests() (
   cd "$top/tests/python" && export PYTHONPATH=$work/mutant PYTHONDONTWRITEBYTECODE=1
-  S2UNION_LIBRARY=$work/usr/lib/libs2union.so timeout 600 /usr/bin/python3 -m unittest -q -f test_library
+  S2UNION_LIBRARY=$work/usr/lib/libs2union.so timeout 600 /usr/bin/python3 -m unittest -q -f test_library test_edges
 )
 
 survives() { # EDIT

@@ -736,11 +736,33 @@ class TheModule(unittest.TestCase):
         self.assertEqual((a.tokens(), a.name, Named().name), (["04", "0c"], "of 2", "of 0"))
         self.assertEqual((a, hash(a)), (Union(a), hash(Union(a))))
         self.assertIs(copy.copy(a), a)
-        cell = s2union.from_token("04")
-        made = (Named.from_tokens("04"), Named.from_tokens(["04"]), Named.from_range(cell, cell), a - Union([a[1]]),
-                Named.from_bytes(Union([cell]).to_bytes()))
-        for found in made + (a.of([Union([cell])]), a.intersection(Union([cell])), Named().union(Union([cell]))):
-            self.assertEqual((type(found), found.tokens()), (Named, ["04"]))
+
+    def test_each_union_that_a_subclass_answers(self):
+        """It is of the subclass, whatever method or operator answers it."""
+        given, other = Union.from_tokens("04 0c"), Union.from_tokens("0c 14")
+        a, none, cell = Park("High Line", given.tokens()), Union(), given[0]
+        rectangle = (0, 0, 2**30 - 1, 0, 2**30 - 1)
+        calls = {
+            "of": [([given],), ([],), ([given, other, a],)], "from_tokens": [("04",), (["04"],)],
+            "from_range": [(cell, cell)], "from_bytes": [(given.to_bytes(),)],
+            "covering": [(*rectangle, 1), (*rectangle, 1, True)],
+            "outer": [(0,), (0, 9, rectangle), (30,)], "inner": [(1,), (1, 9, rectangle), (0,)],
+            "union": [(), (other,), (other, none), (none, other, given)],
+            "intersection": [(), (other,), (other, given), (none,)],
+            "difference": [(), (other,), (other, given), (none,)],
+            "symmetric_difference": [(other,), (none,), (given,)],
+            **dict.fromkeys(("__or__", "__and__", "__sub__", "__xor__"), [(other,), (none,), (given,), (a,)]),
+            "__copy__": [()], "__deepcopy__": [({},)],
+        }
+        for name, arguments in calls.items():
+            for each in arguments:
+                found, plain = getattr(a, name)(*each), getattr(given, name)(*each)
+                self.assertEqual((type(found), type(plain), found), (Park, Union, plain), (name, each))
+        hidden = {"_normalised", "_made", "_holding", "_covered", "_with", "__new__"}
+        members = {name: getattr(member, "__func__", member) for name, member in vars(Union).items()}
+        answering = {name for name, member in members.items()
+                     if getattr(member, "__annotations__", {}).get("return") == "Self"}
+        self.assertEqual(answering - hidden, set(calls))
 
     def test_deep_copies(self):
         a = Union.from_tokens("04 0c")
@@ -827,6 +849,14 @@ class TheModule(unittest.TestCase):
         for place in ("x", None, 1.0, (0, 1), slice("x"), slice(0, 1, "x")):
             self.assertRaises(TypeError, lambda: file[place])
         self.assertRaises(ValueError, lambda: file[::0])
+
+    def test_a_file_that_is_taken_as_checked(self):
+        """Only its size and its version are looked at, before anything is asked of it."""
+        for wrong, fault in model.faults_of_files():
+            if fault != "a number that is not a cell":
+                with self.assertRaisesRegex(ValueError, f"^union file: {fault}$"):
+                    UnionFile(wrong, checked=True)
+        self.assertEqual(len(UnionFile(model.file([2, 2, 2]), checked=True)), 3)
 
     def test_a_file_is_made_once(self):
         a, other = Union.from_tokens("04 0c"), Union.from_tokens("14").to_bytes()

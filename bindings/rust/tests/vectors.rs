@@ -1,4 +1,4 @@
-//! The questions of tests/python/vectors.py, in the file that S2UNION_VECTORS names, with the plain model's answers.
+//! The questions of tests/python/vectors.py and edges.py, in the file that S2UNION_VECTORS names, with their answers.
 
 use std::collections::BTreeSet;
 use std::{env, fs};
@@ -6,7 +6,7 @@ use std::{env, fs};
 use s2union::{CellId, CellUnion, Error, FacePoint, Rect, UnionFile};
 
 const MOST: usize = 100_000; // cells of a list
-const CALLS: usize = 57; // that vectors.py asks
+const CALLS: usize = 59; // that vectors.py and edges.py ask
 
 #[test]
 fn vectors() {
@@ -20,7 +20,7 @@ fn vectors() {
         let fields: Vec<&str> = line.split('\t').collect();
         let (call, given, want) = (fields[0], Given(&fields[1..fields.len() - 1]), fields[fields.len() - 1]);
         asked.insert(call);
-        assert_eq!(given.answer(call), want, "{line}");
+        assert_eq!(given.refused_cells(call).unwrap_or_else(|| given.answer(call)), want, "{line}");
     }
     assert_eq!(asked.len(), CALLS);
 }
@@ -77,8 +77,38 @@ impl Given<'_> {
         same(union(self.union(0)), file(UnionFile::new(&bytes).unwrap()))
     }
 
+    /// What is said of numbers that are no cells, where the call's own type takes cells alone.
+    fn refused_cells(&self, call: &str) -> Option<String> {
+        let places: &[usize] = match call {
+            "level" | "face" | "range_min" | "range_max" | "size" | "next" | "previous" | "children" | "token"
+            | "debug" | "square" | "parent" => &[0],
+            "contains" | "intersects" | "common_ancestor" | "range" => &[0, 1],
+            "contains_cell" | "intersects_cell" | "cells_at" | "intersection_with_cell" => &[1],
+            "levels" | "range_mins" | "range_maxes" | "token_fields" | "parents" => {
+                return CellUnion::from_ids(self.ids(0)).err().map(|error| Err::<bool, _>(error).shown())
+            }
+            "contains_cells" | "intersects_cells" => {
+                return CellUnion::from_ids(self.ids(1)).err().map(|error| Err::<bool, _>(error).shown())
+            }
+            "leaves" if CellId::from_id(self.id(0)).is_none() => return Some(self.leaves_from_the_end()),
+            _ => return None,
+        };
+        places.iter().find_map(|&place| CellId::try_from(self.id(place)).err()).map(|error| alone(Err(error)))
+    }
+
+    /// What S2 says of a range that begins after the last leaf: where it begins there is no `CellId`.
+    fn leaves_from_the_end(&self) -> String {
+        assert_eq!(CellId::try_from(self.id(0)), Err(Error::NoCell { place: 0 }));
+        if self.id(0) == self.id(1) { "" } else { "!argument" }.to_string()
+    }
+
     fn answer(&self, call: &str) -> String {
         match call {
+            "version" => s2union::version(),
+            "text_of" => {
+                let text = refusal(self.0[0]).to_string();
+                text.strip_suffix(" at place 7").unwrap_or(&text).to_string()
+            }
             "is_cell" => same(CellId::from_id(self.id(0)).is_some(), CellId::try_from(self.id(0) as i64).is_ok()),
             "level" => {
                 let level = self.cell(0).level();
@@ -124,19 +154,14 @@ impl Given<'_> {
                 let levels: Vec<String> = CellId::levels(&self.cells(0)).iter().map(u8::to_string).collect();
                 levels.join(" ")
             }
-            "parents" => {
-                let parents: Option<Vec<CellId>> =
-                    CellId::parents(&self.cells(0), self.number(1)).into_iter().collect();
-                parents.shown()
-            }
+            "parents" => all(CellId::parents(&self.cells(0), self.number(1))),
             "range_mins" => CellId::range_mins(&self.cells(0)).shown(),
             "range_maxes" => CellId::range_maxes(&self.cells(0)).shown(),
             "token_fields" => CellId::token_fields(&self.cells(0)).concat().shown(),
             "from_points" => {
                 let numbers = self.numbers(0);
                 let points = numbers.chunks(3).map(|part| FacePoint { face: part[0], i: part[1], j: part[2] });
-                let leaves = CellId::from_points(&points.collect::<Vec<_>>());
-                leaves.into_iter().collect::<Option<Vec<CellId>>>().shown()
+                all(CellId::from_points(&points.collect::<Vec<_>>()))
             }
             _ => self.answer_of_unions(call),
         }
@@ -207,6 +232,30 @@ impl Given<'_> {
             "inner_in" => self.union(0).inner_in(&self.rect(1), self.number(2), MOST).shown(),
             _ => panic!("there is no call {call}"),
         }
+    }
+}
+
+/// The answers to many questions, or the place of the first that has none.
+fn all(answers: Vec<Option<CellId>>) -> String {
+    match answers.iter().position(Option::is_none) {
+        Some(place) => format!("!argument {place}"),
+        None => answers.into_iter().flatten().collect::<Vec<CellId>>().shown(),
+    }
+}
+
+/// A refusal by its name.
+fn refusal(name: &str) -> Error {
+    match name {
+        "memory" => Error::Memory,
+        "no_cell" => Error::NoCell { place: 7 },
+        "no_union" => Error::NotNormalized,
+        "argument" => Error::Argument,
+        "many" => Error::Many,
+        "file_short" => Error::FileShort,
+        "file_version" => Error::FileVersion,
+        "file_trailing" => Error::FileTrailing,
+        "file_cell" => Error::FileCell,
+        _ => panic!("there is no refusal {name}"),
     }
 }
 
