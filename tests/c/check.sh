@@ -29,6 +29,21 @@ own_sources() ( # in a copy, where no kit is, the archive stays as long as its s
     tools/archive && echo >>crates/s2cell/src/lib.rt && ! tools/archive
 )
 step "tools/archive: no archive of other sources" own_sources
+without_kit() ( # in that copy, which has no archive and no program: what needs the kit says so, and installs nothing
+  local command
+  cd "$top" && cp -r --parents .ci VERSION tests "$work/copy" && mkdir "$work/installers" || return
+  for command in apt-get sudo; do
+    printf '#!/bin/sh\necho "$0 $*" >>%q\n' "$work/installed" >"$work/installers/$command"
+    chmod +x "$work/installers/$command"
+  done
+  export PATH=$work/installers:/usr/bin:/bin XDG_CACHE_HOME=$work/cache SOURCE_DATE_EPOCH=0
+  for command in ".ci/run" "tests/run --tier full" "tests/run docs mutants" "tools/package $work/none"; do
+    ! timeout 60 "$work/copy/"$command >"$work/refused" 2>&1 && grep -q "Rattle's kit is missing" "$work/refused" &&
+      [ "$(tail -1 "$work/refused")" = "0 passed, 1 failed" ] || { echo "$command" && cat "$work/refused" && return 1; }
+  done
+  [ ! -e "$work/installed" ] || { cat "$work/installed" && return 1; }
+)
+step ".ci/run, tests/run, tools/package: nothing is installed without the kit" without_kit
 export PKG_CONFIG_PATH=$work/usr/lib/pkgconfig LD_LIBRARY_PATH=$work/usr/lib
 include=$work/usr/include
 static=$work/usr/lib/libs2union.a
