@@ -10,6 +10,7 @@
 #include <s2/s2polygon.h>
 #include <s2/s2projections.h>
 #include <s2/s2region_coverer.h>
+#include <cstdlib>
 #include <fstream>
 #include <iostream>
 #include <memory>
@@ -34,10 +35,26 @@ void AddEdges(const json& coordinates, S2Builder* builder) {
   }
 }
 
+// Ends the program with a word about a file.
+[[noreturn]] void Refuse(const std::string& name, const std::string& why) {
+  std::cerr << name << ": " << why << "\n";
+  std::exit(1);
+}
+
+json Features(const std::string& name) {
+  std::ifstream file(name);
+  if (!file) Refuse(name, "it can't be read");
+  const json found = json::parse(file, nullptr, false);
+  if (!found.contains("features")) Refuse(name, "it is no collection of features in GeoJSON");
+  return found["features"];
+}
+
 void Write(const S2CellUnion& cells, const std::string& name) {
   Encoder encoder;
   cells.Encode(&encoder);
-  std::ofstream(name, std::ios::binary).write(encoder.base(), encoder.length());
+  if (!std::ofstream(name, std::ios::binary).write(encoder.base(), encoder.length())) {
+    Refuse(name, "it can't be written");
+  }
 }
 
 int main(int argc, char** argv) {
@@ -46,7 +63,7 @@ int main(int argc, char** argv) {
   coverer.mutable_options()->set_max_cells(std::stoi(argv[3]));
   coverer.mutable_options()->set_max_level(std::stoi(argv[4]));
   size_t outer_cells = 0, inner_cells = 0;
-  const json features = json::parse(std::ifstream(argv[1]))["features"];
+  const json features = Features(argv[1]);
   for (const json& feature : features) {
     const std::string name = std::string(argv[2]) + "/" + feature["properties"]["file"].get<std::string>();
     S2Builder::Options options{s2builderutil::S2CellIdSnapFunction(23)};  // to within 2 m
@@ -58,7 +75,7 @@ int main(int argc, char** argv) {
     builder.AddIsFullPolygonPredicate(S2Builder::IsFullPolygon(false));
     AddEdges(feature["geometry"]["coordinates"], &builder);
     S2Error error;
-    if (!builder.Build(&error)) return std::cerr << name << ": " << error.text() << "\n", 1;
+    if (!builder.Build(&error)) Refuse(name, error.text());
     const S2CellUnion outer = coverer.GetCovering(polygon), inner = coverer.GetInteriorCovering(polygon);
     Write(outer, name + ".outer");
     Write(inner, name + ".inner");

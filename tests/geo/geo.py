@@ -83,6 +83,17 @@ SQL
         self.assertEqual(names.tolist(), plain.tolist())
         self.assertTrue(0 < numpy.count_nonzero(tested) < 2000)
 
+    def test_files_that_are_not_there(self):
+        """cover.cc names the file that it can't read, that is no GeoJSON, or that it can't write."""
+        countries, other, folder = self.file("countries.geojson"), self.file("other"), self.file("countries")
+        Path(other).write_text("{")
+        for file, there, said in (("none.geojson", folder, "none.geojson: it can't be read"),
+                                  (other, folder, f"{other}: it is no collection of features in GeoJSON"),
+                                  (countries, "none", "none/.*: it can't be written")):
+            done = subprocess.run([self.file("cover"), file, there, "200", "30"], capture_output=True, text=True)
+            self.assertEqual((done.returncode, done.stdout), (1, ""))
+            self.assertRegex(done.stderr, f"^{said}\n$")
+
     def test_both_programs_cover_the_same_polygons(self):
         for feature in features_of(self.file("countries.geojson")):
             if feature["properties"]["name"] != "Sudan":
