@@ -2,9 +2,11 @@
 """Checks the pages: docs/STATEMENT.md is what tools/statement makes; each definition has a sentence, and stands in
 specs/Working if no public contract needs it; every relative link of every page leads to a file, and to its heading; if
 the link's text is names of the sources, the file has them, as it has those that a page says are in it; each path in
-backticks is there; the files that docs/ARCHITECTURE.md walks through have the functions that it names; each language
-has what docs/FROM_S2.md says it has; and what can't read the file VERSION has the version that it gives. The last line
-is 'N passed, M failed', where N counts the definitions, the links, the paths, the names and the places of the version.
+backticks is there; the files that docs/ARCHITECTURE.md walks through have the functions that it names, and one calls
+another where it says so; each language has what docs/FROM_S2.md says it has; what can't read the file VERSION has the
+version that it gives; CHANGELOG.md says nothing twice; and a contract has a limit as a number only where
+docs/EXTENDING.md says so. The last line is 'N passed, M failed', where N counts the definitions, the links, the paths,
+the names, the calls, the places of the version, the changes and the limits.
 """
 import functools
 import re
@@ -24,6 +26,12 @@ FILE = re.compile(r"[\w.-]+\.(?:rt|antt|py|sh|md|edit|hpp|h|cc|go|rs|sql)")
 EXAMPLES = {"NAME.edit", "s2union--OLD--NEW.sql", "s2union--NEW.sql", "s2cell_id.h", "s2cell_union.h"}
 GONE = {"peer", "faults", "examples"}
 STEP = re.compile(r"^\d+\. `(\w+/src)/(\w+\.rt)`: (.*)$", re.M)
+CALL = re.compile(r"`(\w+)`(?: and `(\w+)`)? calls? `(\w+)`")
+LIMIT = re.compile(r"^pub(?:\(crate\))? const \w+: \w+ = ([\d_]{3,});", re.M)
+CLAUSE = re.compile(r"^ +(?:ensures|requires|ghost)\b[^{\n]*\{(.*?)\}[;,]?$", re.M | re.S)
+AS_NUMBERS = re.compile(r"([\d]+), in ((?:`[\w/.]+`(?: and )?)+)")
+# Where a contract has the number of a limit, and means another thing: the side of a picture, and the version.
+NO_LIMITS = {("s2draw/src/rectangle.rt", "4096"), ("s2union_c/src/cells.rt", "10000")}
 DEFINES = r"\b(?:fn|struct|trait|record|data|abbrev pub|unfoldable pub) {}\b"
 # The columns of docs/FROM_S2.md: what a name is in them, where it is defined, and how.
 CALLS = {
@@ -167,6 +175,42 @@ def lost_names():
     return count, lost
 
 
+def calls_on_the_walk():
+    """Each call that docs/ARCHITECTURE.md names on the way of a line, as (who, whom, whether it is made)."""
+    for folder, first, text in STEP.findall((ROOT / "docs" / "ARCHITECTURE.md").read_text()):
+        source = (ROOT / "crates" / folder / first).read_text()
+        for one, other, called in CALL.findall(text):
+            for name in filter(None, (one, other)):
+                body = re.search(rf"\bfn {name}\b.*?(?=\bfn |\Z)", source, re.S)
+                yield name, called, bool(body and re.search(rf"\b{called}\b[^;]*?\(", body[0]))
+
+
+def said_twice():
+    """The number of changes in CHANGELOG.md, and those that begin as an earlier one of their version does."""
+    count, twice = 0, []
+    for version in re.split(r"^## ", (ROOT / "CHANGELOG.md").read_text(), flags=re.M)[1:]:
+        changes = [change[:60] for change in re.findall(r"^- (.*)$", version, re.M)]
+        count += len(changes)
+        twice += [change for place, change in enumerate(changes) if change in changes[:place]]
+    return count, twice
+
+
+def limits_as_numbers():
+    """The number of limits, and the places where a contract has one as a number, but for those that docs/EXTENDING.md
+    names with it, as 'file: number'."""
+    page = (ROOT / "docs" / "EXTENDING.md").read_text().partition("\n## A limit\n")[2].partition("\n## ")[0]
+    limits = {number.replace("_", "") for path in re.findall(r"`(\w+/src/\w+\.rt)` ?[|;]", page)
+              for number in LIMIT.findall((ROOT / "crates" / path).read_text())}
+    allowed = {(path, number) for number, paths in AS_NUMBERS.findall(page) for path in re.findall(r"`(.*?)`", paths)}
+    limits |= {number for _, number in allowed if len(number) > 1}
+    found = set()
+    for source in (ROOT / "crates").glob("s2*/src/**/*.rt"):
+        clauses = "" if source.name in ("laws.rt", "worked.rt") else " ".join(CLAUSE.findall(source.read_text()))
+        numbers = {number.replace("_", "") for number in re.findall(r"(?<![\w.])[\d_]+(?![\w.])", clauses)}
+        found |= {(str(source.relative_to(ROOT / "crates")), number) for number in numbers & limits}
+    return len(limits), sorted(f"{path}: {number}" for path, number in found - allowed - NO_LIMITS)
+
+
 def other_versions():
     """The places of the version that have another one than the file VERSION, as 'file: what it has'."""
     numbers = [int(word) for word in (ROOT / "VERSION").read_text().split(".")]
@@ -190,8 +234,17 @@ def main():
     others = list(other_versions())
     for other in others:
         print(f"another version: {other}")
-    wrong = len(broken) + len(lost) + len(others)
-    passed, failed = passed + count + names + len(VERSIONS) - wrong, failed + wrong
+    calls = list(calls_on_the_walk())
+    unmade = [f"{name} doesn't call {called}" for name, called, is_made in calls if not is_made]
+    changes, twice = said_twice()
+    limits, as_numbers = limits_as_numbers()
+    for what, places in (("docs/ARCHITECTURE.md", unmade), ("CHANGELOG.md says twice", twice),
+                         ("a limit as a number", as_numbers)):
+        for place in places:
+            print(f"{what}: {place}")
+    wrong = len(broken) + len(lost) + len(others) + len(unmade) + len(twice) + len(as_numbers)
+    passed += count + names + len(VERSIONS) + len(calls) + changes + limits - wrong
+    failed += wrong
     print(f"{passed} passed, {failed} failed")
     return 0 if failed == 0 else 1
 

@@ -1,9 +1,9 @@
-"""What rots unseen: lemmas and definitions that nobody cites, lemmas that are stated twice, word for word, lines of
-more than 120 characters, hosts of package registries, and words that the house avoids. tests/docs/pages.py looks for
-paths.
+"""What rots unseen: lemmas and definitions that nobody cites, lemmas that are stated twice, word for word, functions
+with many arms, lines of more than 120 characters, hosts of package registries, and words that the house avoids.
+tests/docs/pages.py looks for paths.
 
-UNCITED, DOUBLES and WORDS are the most that may stand: what stood there when this check came, and less from time to
-time. The last line is 'N passed, M failed', where N counts the declarations, the files and the words.
+UNCITED, DOUBLES, MANY_ARMS and WORDS are the most that may stand: what stood there when this check came, and less from
+time to time. The last line is 'N passed, M failed', where N counts the declarations, the files and the words.
 """
 import collections
 import re
@@ -21,6 +21,8 @@ HOSTS = re.compile(r"\b(?:(?:static\.)?crates[.]io|pypi[.]org|pythonhosted[.]org
                    r"proxy[.]golang[.]org|rubygems[.]org|docker[.]io|repo1?[.]maven)\b")
 UNCITED = 9
 DOUBLES = 22
+ARMS = 7
+MANY_ARMS = 9
 WORDS = {"told": 58, "asked about": 0, "so many": 0, "refused where": 0, "exactly if": 26}
 # Files whose lines may be long: pages and tables of rows, which are not wrapped, texts of others, and what pins a line.
 UNWRAPPED = re.compile(r"\.(?:md|svg|png|outer|cells|sums|edit)$|^LICENSE$|/(?:stdin|stdout)$")
@@ -116,6 +118,21 @@ def doubles():
     return count, found
 
 
+def many_arms():
+    """The number of matches in the crates' sources, and those with more than ARMS arms, as 'file: arms of function'."""
+    count, found = 0, []
+    for name in [name for name in tracked() if re.match(r"crates/[^/]+/src/.*\.rt$", name)]:
+        text = text_of(name)
+        for match in re.finditer(r"^( *).*\bmatch .*\{\n", text, re.M):
+            count += 1
+            body = text[match.end():].partition(f"\n{match[1]}}}")[0]
+            arms = len(re.findall(rf"^{match[1]}    (?! ).*=>", body, re.M))
+            if arms > ARMS:
+                function = re.findall(r"\bfn (\w+)", text[:match.start()])[-1]
+                found.append(f"{name}: {arms} of {function}")
+    return count, found
+
+
 def long_lines():
     """The number of files whose lines are wrapped, and their lines that are too long, as 'file:line'."""
     files = [name for name in tracked() if not UNWRAPPED.search(name)]
@@ -147,7 +164,10 @@ def main():
     double = double if len(double) > DOUBLES else []
     declared, dead = uncited()
     dead = dead if len(dead) > UNCITED else []
-    asked = {"nobody cites it": (declared, dead), "stated before": (counts, double), "too long": long_lines(),
+    matches, large = many_arms()
+    large = large if len(large) > MANY_ARMS else []
+    asked = {"nobody cites it": (declared, dead), "stated before": (counts, double),
+             "more arms than seven": (matches, large), "too long": long_lines(),
              "names the host of a registry": hosts(), "avoided": avoided()}
     for what, (count, wrong) in asked.items():
         for it in wrong:
