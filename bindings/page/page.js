@@ -6,6 +6,11 @@ const COLORS = [[31, 119, 180], [214, 39, 40], [44, 160, 44], [148, 103, 189], [
 const MOST_CELLS = 8_000_000;
 const MOST_BYTES = HEAD_SIZE + 8 * MOST_CELLS;
 const MOST_BRIEF = 40;
+/** A union with more cells is framed by a covering, of at most 24,576 cells. */
+const MOST_FRAMED = 20_000;
+const LEVEL_OF_FRAMES = 6;
+/** The level whose cells are 24 pixels wide where a place is gone to, unless the picture is closer. */
+const LEVEL_OF_PLACES = 9;
 /** How many of many refusals are said. */
 const MOST_SAID = 5;
 /** How many pixels of a row and a column are drawn alike while the picture moves. */
@@ -84,10 +89,10 @@ class Page {
   change(regions) {
     this.past.push(this.regions);
     this.future = [];
-    this.take(regions);
+    this.become(regions);
   }
 
-  take(regions) {
+  become(regions) {
     this.regions = regions;
     this.core.keep([...new Set(regions.map((region) => region.union))]);
     this.show();
@@ -96,7 +101,7 @@ class Page {
   step(from, to, word) {
     if (!from.length) return this.say(`Nothing to ${word}.`);
     to.push(this.regions);
-    this.take(from.pop());
+    this.become(from.pop());
     this.say(`${word}: ${this.regions.length} unions.`);
   }
 
@@ -157,7 +162,7 @@ class Page {
     const [added, refusals] = [[], []];
     for (const file of [...files]) { // a copy: the browser's own list is emptied when the next files are chosen
       try {
-        added.push(this.regionOf(file.name, this.core.decode(await bytesIn(file))));
+        added.push(this.regionOf(file.name, this.cellsIn(await bytesIn(file))));
       } catch (error) {
         refusals.push(refusal(file.name, error));
       }
@@ -167,13 +172,33 @@ class Page {
     if (refusals.length) this.say(refusals.join("; "));
   }
 
+  /** The union in the bytes of a file: a text with cells or GeoJSON, or else a union file. */
+  cellsIn(bytes) {
+    return isText(bytes) ? this.cellsNamed(new TextDecoder().decode(bytes)) : this.core.decode(bytes);
+  }
+
+  /** The union of the cells that a text names, or the covering of its GeoJSON. */
+  cellsNamed(text) {
+    const ids = /^\s*\{/.test(text) ? coveringOf(this.core, JSON.parse(text)) : this.core.read(inTokens(text));
+    if (!ids.length) throw new Error("there is no cell");
+    return ids;
+  }
+
+  addText(text) {
+    this.add(`cells ${this.made + 1}`, this.cellsNamed(text));
+  }
+
   addTexts() {
     this.attempt("texts", () => {
-      const ids = this.core.read(at("texts").value);
-      if (!ids.length) throw new Error("there is no cell");
-      this.add(`cells ${this.made + 1}`, ids);
+      this.addText(at("texts").value);
       at("texts").value = "";
     });
+  }
+
+  /** Adds what was dropped or pasted: files, or else a text. */
+  take(what, transfer) {
+    if (transfer.files.length) this.open(transfer.files);
+    else this.attempt(what, () => this.addText(transfer.getData("text")));
   }
 
   save(region, bytes, ending) {
@@ -220,6 +245,8 @@ class Page {
     line.append(shown, swatch, element("span", region.name, {class: "name"}), element("span", describe(region)),
       button("save", () => this.save(region, this.core.encode(region.ids), ".cells")),
       button("tokens", () => this.save(region, this.core.tokens(region.ids), ".txt")),
+      button("GeoJSON", () => this.save(region, geojsonOf(this.core, region.name, region.union), ".geojson")),
+      button("go to", () => this.goTo(region)),
       button("remove", () => this.change(this.regions.filter((other) => other !== region))));
     return line;
   }
@@ -279,6 +306,35 @@ class Page {
     this.paint();
   }
 
+  // ---- going to places
+
+  /** Shows all of a union, as closely as it fits. */
+  goTo({name, union}) {
+    if (!union.length) throw new Error("it has no cell");
+    const few = union.length > MOST_FRAMED ? this.core.outer(union, LEVEL_OF_FRAMES) : union;
+    this.view.frame(Array.from(few, (id) => this.core.square(id)));
+    this.moved();
+    this.say(`${name}: shown.`);
+  }
+
+  /** Shows the place that is written in its field, and says which cell is there. */
+  goToPlace() {
+    this.attempt("place", () => {
+      const place = placeIn(at("place").value);
+      if (!place) throw new Error("it is no latitude and longitude, such as 48.86, 2.35");
+      const {face, i, j} = this.core.square(leafOf(this.core, ...place));
+      this.view.center(face, (i + 0.5) / SIDE, (j + 0.5) / SIDE, 24 * 2 ** LEVEL_OF_PLACES);
+      this.readMiddle();
+      this.moved();
+    });
+  }
+
+  /** Says what is known of the cell in the middle. */
+  readMiddle() {
+    const facts = this.point(this.view.canvas.width / 2, this.view.canvas.height / 2);
+    this.say(facts.map((pair) => pair.join(" ")).join("; ") || "There is no cell in the middle.");
+  }
+
   // ---- the cell under the pointer
 
   /** The cell at a pixel: that of the topmost union that contains the leaf there, else one about 24 pixels wide. */
@@ -326,6 +382,7 @@ class Page {
       difference: () => this.ofTwo("without", "difference"), outer: () => this.ofLevel("outer", "outer"),
       inner: () => this.ofLevel("inner", "inner"), denormalise: () => this.denormalise(),
       in: () => this.zoomBy(2), out: () => this.zoomBy(0.5), fit: () => this.showAll(), theme: () => this.turnTheme(),
+      go: () => this.goToPlace(),
     };
     for (const [id, action] of Object.entries(buttons)) at(id).onclick = action;
     for (const id of ["first", "second"]) at(id).onchange = () => this.chosen(id);
@@ -343,6 +400,10 @@ class Page {
     this.observer.observe(at("picture"));
     matchMedia("(prefers-color-scheme: dark)").addEventListener("change", () => this.paint());
     document.addEventListener("keydown", (event) => this.shortcut(event));
+    document.addEventListener("paste", (event) => {
+      if (!event.target.matches?.("textarea, input")) this.take("what was pasted", event.clipboardData);
+    });
+    at("place").addEventListener("keydown", (event) => event.key === "Enter" && this.goToPlace());
     this.listenToDrops();
     this.listenToPointers();
     at("picture").addEventListener("keydown", (event) => this.key(event));
@@ -358,7 +419,7 @@ class Page {
     body.addEventListener("dragleave", (event) => set(event, false));
     body.addEventListener("drop", (event) => {
       set(event, false);
-      this.open(event.dataTransfer.files);
+      this.take("what was dropped", event.dataTransfer);
     });
   }
 
@@ -431,10 +492,8 @@ class Page {
     else if (event.key === "+" || event.key === "=") this.zoomBy(2);
     else if (event.key === "-") this.zoomBy(0.5);
     else if (event.key === "0") this.showAll();
-    else if (event.key === "Enter") {
-      const facts = this.point(this.view.canvas.width / 2, this.view.canvas.height / 2);
-      this.say(facts.map((pair) => pair.join(" ")).join("; ") || "There is no cell in the middle.");
-    } else return;
+    else if (event.key === "Enter") this.readMiddle();
+    else return;
     event.preventDefault();
     this.moved();
   }
@@ -443,6 +502,9 @@ class Page {
 function describe(region) {
   return `${region.ids.length} ${region.ids.length === 1 ? "cell" : "cells"}, ${region.leaves} leaves`;
 }
+
+/** Whether bytes are a text: no union file is one, since its first byte is 1. */
+const isText = (bytes) => bytes.length > 0 && bytes.every((byte) => byte >= 32 || (byte >= 9 && byte <= 13));
 
 /** The bytes of a file, which isn't read if it is too large. */
 async function bytesIn(file) {

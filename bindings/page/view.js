@@ -8,6 +8,8 @@ const FACE_AT = [[-1, -1, 4, 5], [-1, 2, 3, -1], [0, 1, -1, -1]];
 const LEAST_EDGE = 7;
 const MOST_BITS_OF_TABLE = 18;
 const OPACITY = 0.72;
+/** How much of the picture a union has that is shown as closely as it fits. */
+const FRAME = 0.9;
 /** How much of its color the edge of a cell has. */
 const EDGE = 0.6;
 /** The least scale for each pixel of the picture's width, and the greatest: a leaf is then 64 pixels wide. */
@@ -124,12 +126,52 @@ class View {
 
   zoom(factor, px, py) {
     const [x, y] = this.worldAt(px, py);
-    const [least, most] = SCALES[this.kind];
-    this.place.scale = Math.max(this.canvas.width * least, Math.min(most, this.place.scale * factor));
+    this.place.scale = this.within(this.place.scale * factor);
     const [newX, newY] = this.worldAt(px, py);
     this.place.x += x - newX;
     this.place.y += y - newY;
     this.hold();
+  }
+
+  /** Shows squares, as closely as all of them fit, in both pictures. */
+  frame(squares) {
+    const parts = [0, 0.5, 1].flatMap((a) => [0, 0.5, 1].map((b) => [a, b]));
+    this.inBoth(() => {
+      const [x, y] = [[Infinity, -Infinity], [Infinity, -Infinity]];
+      for (const {face, i, j, size} of squares) {
+        for (const [a, b] of parts) {
+          const place = this.planeAt(face, (i + a * size) / SIDE, (j + b * size) / SIDE);
+          [x, y].forEach((range, k) => {
+            range[0] = Math.min(range[0], place[k]);
+            range[1] = Math.max(range[1], place[k]);
+          });
+        }
+      }
+      const scale = FRAME * Math.min(this.canvas.width / (x[1] - x[0]), this.canvas.height / (y[1] - y[0]));
+      Object.assign(this.place, {x: (x[0] + x[1]) / 2, y: (y[0] + y[1]) / 2, scale: this.within(scale)});
+    });
+  }
+
+  /** Shows a place of a face in the middle of both pictures, a face at least this many pixels wide. */
+  center(face, s, t, pixels) {
+    this.inBoth(() => {
+      const [x, y] = this.planeAt(face, s, t);
+      const scale = this.within(Math.max(this.place.scale, pixels / (this.kind === "faces" ? 1 : 90)));
+      Object.assign(this.place, {x, y, scale});
+    });
+  }
+
+  /** Does something to each picture. */
+  inBoth(action) {
+    const shown = this.kind;
+    for (this.kind of ["faces", "map"]) action();
+    this.kind = shown;
+  }
+
+  /** The nearest scale that the picture may have. */
+  within(scale) {
+    const [least, most] = SCALES[this.kind];
+    return Math.max(this.canvas.width * least, Math.min(most, scale));
   }
 
   hold() {
@@ -143,6 +185,13 @@ class View {
     const {x, y, scale} = this.place;
     const sign = this.kind === "faces" ? 1 : -1;
     return [x + (px - this.canvas.width / 2) / scale, y + (sign * (py - this.canvas.height / 2)) / scale];
+  }
+
+  /** The place of s and t on a face, as columns and rows of faces, or longitude and latitude. */
+  planeAt(face, s, t) {
+    if (this.kind === "map") return geographic(face, s, t);
+    const [column, row] = PLACES_OF_FACES[face];
+    return [column + s, row + 1 - t];
   }
 
   pixelAt(x, y) {
@@ -309,12 +358,7 @@ class View {
   drawMark() {
     if (!this.marked) return;
     const {face, i, j, size} = this.marked;
-    const corner = (a, b) => {
-      const [s, t] = [(i + a * size) / SIDE, (j + b * size) / SIDE];
-      if (this.kind === "map") return geographic(face, s, t);
-      const [column, row] = PLACES_OF_FACES[face];
-      return [column + s, row + 1 - t];
-    };
+    const corner = (a, b) => this.planeAt(face, (i + a * size) / SIDE, (j + b * size) / SIDE);
     const side = Array.from({length: 17}, (_, k) => k / 16);
     const points = [...side.map((a) => corner(a, 0)), ...side.map((b) => corner(1, b)),
       ...side.map((a) => corner(1 - a, 1)), ...side.map((b) => corner(0, 1 - b))];

@@ -7,6 +7,7 @@ FOLDER has the page that tools/page made. With --short it is a page over standin
 module, and the tests that are slow there are left out. The last line is 'N passed, M failed'.
 """
 import base64
+import json
 import math
 import random
 import struct
@@ -17,7 +18,7 @@ import traceback
 from pathlib import Path
 from runpy import run_path
 
-from s2union import Union, debug, from_face_ij, level, parent, size, square, token
+from s2union import Union, debug, from_face_ij, from_token, level, parent, size, square, to_signed, token
 from selenium import webdriver
 from selenium.webdriver.common.action_chains import ActionChains
 from selenium.webdriver.common.by import By
@@ -26,6 +27,11 @@ from selenium.webdriver.support.ui import Select
 
 HERE = Path(__file__).resolve().parent
 TOP = HERE.parents[1]
+sys.path += [str(TOP / "tests/python"), str(TOP / "docs/examples")]
+
+import to_geojson
+from leaves import leaves
+
 SIDE = 2**30
 FAULTS = {
     "short": (b"\1\3\0\0", "bytes are missing"),
@@ -77,6 +83,22 @@ def middle(face, i, j, side):
                                                                                      (2 * j + side) / 2 / SIDE))
     x, y, z = ((1, u, v), (-u, 1, v), (-u, -v, 1), (-1, -v, -u), (v, -1, -u), (v, u, -1))[face]
     return math.degrees(math.atan2(y, x)), math.degrees(math.atan2(z, math.hypot(x, y)))
+
+
+def is_north_of(ring, x, y):
+    """Whether an odd number of the ring's edges is to the north of a place."""
+    closed = ring if ring[0] == ring[-1] else [*ring, ring[0]]
+    return sum((a[0] <= x) != (b[0] <= x) and a[1] + (x - a[0]) / (b[0] - a[0]) * (b[1] - a[1]) > y
+               for a, b in zip(closed, closed[1:])) % 2 == 1
+
+
+def distance_to(rings, x, y):
+    """How far a place is from the edges of rings, in degrees of the map."""
+    def to_edge(a, b):
+        dx, dy = b[0] - a[0], b[1] - a[1]
+        part = max(0, min(1, ((x - a[0]) * dx + (y - a[1]) * dy) / (dx * dx + dy * dy or 1)))
+        return math.hypot(a[0] + part * dx - x, a[1] + part * dy - y)
+    return min(to_edge(a, b) for ring in rings for a, b in zip(ring, [*ring[1:], ring[0]]))
 
 
 def leaf_in(choice, cell):
@@ -155,9 +177,13 @@ class Trial:
         """Presses keys in the picture."""
         self.driver.find_element(By.ID, "picture").send_keys(*keys)
 
-    def saved(self, button, name):
-        """What a button of the last union's line saves, under this name."""
-        self.driver.find_elements(By.CSS_SELECTOR, "#legend li:last-child button")[button].click()
+    def click_of(self, words):
+        """Clicks a button of a union's line, by its text and the name of the union."""
+        self.driver.find_element(By.CSS_SELECTOR, f'#legend button[aria-label="{words}"]').click()
+
+    def saved(self, words, name):
+        """What a button of a union's line saves, under this name."""
+        self.click_of(words)
         file, end = self.downloads / name, time.monotonic() + 20
         while not file.exists():
             assert time.monotonic() < end, list(self.downloads.iterdir())
@@ -216,7 +242,7 @@ class Trial:
         assert self.chosen() == ["a", "b"]
         self.press(Keys.CONTROL, "z")
         assert self.chosen() == ["a", "b"]
-        self.driver.find_elements(By.CSS_SELECTOR, "#legend li:first-child button")[2].click()
+        self.click_of("remove a")
         assert self.chosen() == ["a or b", "b"], "a is gone"
         self.press(Keys.CONTROL, "z")
         assert self.chosen() == ["a", "b"], "a is there again"
@@ -269,8 +295,8 @@ class Trial:
         self.begin()
         self.click("intersection")
         both = self.a & self.b
-        assert self.saved(0, "a_and_b.cells") == both.to_bytes()
-        assert self.saved(1, "a_and_b.txt") == " ".join(both.tokens()).encode()
+        assert self.saved("save a and b", "a_and_b.cells") == both.to_bytes()
+        assert self.saved("tokens a and b", "a_and_b.txt") == " ".join(both.tokens()).encode()
 
     def test_cut_lists(self):
         """A list that was cut is shown and saved as it was cut; operations take its union."""
@@ -280,8 +306,9 @@ class Trial:
         self.set("level", 1)
         self.click("denormalise")
         children = Union.from_tokens("1").denormalised(1)
-        assert self.saved(0, "denormalized_1_1_of_cells_1.cells") == struct.pack("<BQ4Q", 1, 4, *children)
-        assert self.saved(1, "denormalized_1_1_of_cells_1.txt") == " ".join(map(token, children)).encode()
+        name, file = "denormalized 1/1 of cells 1", "denormalized_1_1_of_cells_1"
+        assert self.saved(f"save {name}", f"{file}.cells") == struct.pack("<BQ4Q", 1, 4, *children)
+        assert self.saved(f"tokens {name}", f"{file}.txt") == " ".join(map(token, children)).encode()
         drawn, edges = self.run("""const [whole, cut] = s2page.regions;
             const {view} = s2page;
             const colors = (region) => {
@@ -295,7 +322,7 @@ class Trial:
             };
             return [cut.drawn.count, [colors(whole), colors(cut)]];""")
         assert drawn == 4 and edges == [1, 2], (drawn, edges)
-        self.choose(first="denormalized 1/1 of cells 1", second="cells 1")
+        self.choose(first=name, second="cells 1")
         self.click("intersection")
         assert self.last() == Union.from_tokens("1").to_bytes()
 
@@ -381,9 +408,10 @@ class Trial:
         """A list for which there is no memory is refused by its name."""
         self.begin()
         self.run("s2page.core.tokens = () => { throw new RangeError('Array buffer allocation failed'); }")
-        self.driver.find_elements(By.CSS_SELECTOR, "#legend li button")[-2].click()
+        self.click_of("tokens b")
         assert self.status() == "tokens b: refused: Array buffer allocation failed", self.status()
 
+    @slow
     def test_names_of_results(self):
         """The name of a result of results of results is short."""
         self.begin()
@@ -395,6 +423,7 @@ class Trial:
         assert names[2] == "a or b" and max(map(len, names)) < 90, [len(name) for name in names]
         assert self.last() == (self.a | self.b).to_bytes()
 
+    @slow
     def test_order_of_keys(self):
         """Tab goes from top to bottom, also where the picture stands over the panel."""
         size = self.driver.get_window_size()
@@ -433,6 +462,19 @@ class Trial:
         a, b, c = lists
         assert copied == [[c], [c], [c, a, b]] and not wrong, (lists, copied, wrong)
 
+    def test_edges(self):
+        """What edges.py asks, of the calls that the page makes, but for numbers that are no cells in questions about a
+        cell: the page asks these of its own cells alone."""
+        self.open()
+        edges = run_path(str(TOP / "tests/python/edges.py"))
+        rows = [row for row in edges["rows"]()
+                if not (row[0] in ("contains_cell", "intersects_cell") and row[-1] == "!no_cell")]
+        names = {text: name for name, (_, text) in edges["REFUSALS"].items()}
+        calls, answers = self.run((HERE / "edges.js").read_text(), [row[:-1] for row in rows], names)
+        asked = [row for row in rows if row[0] in calls]
+        wrong = [(row, answer) for row, answer in zip(asked, answers) if answer != row[-1]]
+        assert not wrong and len(asked) == len(answers) and {row[0] for row in asked} == set(calls), wrong
+
     def test_texts(self):
         self.open()
         self.set("texts", "64c, 3/021 1")
@@ -442,6 +484,144 @@ class Trial:
             self.set("texts", text)
             self.click("add")
             assert self.status() == f"texts: refused: not a cell at place {place}" and self.count() == 1, self.status()
+
+    def test_numbers(self):
+        """Numbers of 17 digits and more, with a sign or without, among tokens; a list of cells may be a file too."""
+        self.open()
+        ids = [*self.a][:40]
+        words = [str(to_signed(id)) if k % 3 == 0 else token(id) if k % 3 == 1 else str(id)
+                 for k, id in enumerate(ids)]
+        assert all(len(word.lstrip("-")) > 16 for word in words[::3] + words[2::3]), "none of them is taken for a token"
+        self.drop("numbers.txt", "\n".join(words).encode())
+        assert self.last() == Union(ids).to_bytes() and self.names() == ["numbers.txt"]
+        for word, place in (("18446744073709551616", 3), ("-9223372036854775809", 3), ("00000000000000000", 3)):
+            self.set("texts", f"04 {word} 0c")
+            self.click("add")
+            assert self.status() == f"texts: refused: not a cell at place {place}" and self.count() == 1, self.status()
+
+    def test_pastes_and_drops_of_texts(self):
+        self.open()
+        for kind, text in (("paste", "04 0c"), ("drop", json.dumps({"type": "Point", "coordinates": [2.35, 48.86]}))):
+            self.run("""const [kind, text] = arguments;
+                const transfer = new DataTransfer();
+                transfer.setData('text', text);
+                document.body.dispatchEvent(kind === 'paste'
+                  ? new ClipboardEvent('paste', {clipboardData: transfer, bubbles: true})
+                  : new DragEvent('drop', {dataTransfer: transfer, cancelable: true}));""", kind, text)
+        assert self.names() == ["cells 1", "cells 2"], self.status()
+        assert self.last() == Union(leaves([2.35], [48.86]).tolist()).to_bytes()
+        self.run("""const transfer = new DataTransfer();
+            transfer.setData('text', 'no');
+            document.body.dispatchEvent(new DragEvent('drop', {dataTransfer: transfer, cancelable: true}));""")
+        assert self.status() == "what was dropped: refused: not a cell at place 0" and self.count() == 2
+
+    def test_geojson(self):
+        """A covering has each leaf of a polygon, a line and a point, and none that is far from them; holes are left
+        out, and a polygon may go on across the date line."""
+        self.open()
+        hole = [[12, 42], [12, 46], [16, 46], [16, 42], [12, 42]]
+        shapes = {
+            "polygon": {"type": "Polygon", "coordinates": [[[5, 40], [20, 38], [25, 48], [8, 50], [5, 40]], hole]},
+            "date line": {"type": "MultiPolygon", "coordinates": [[[[170, -10], [190, -15], [185, 5], [170, -10]]],
+                                                                  [[[-60, 70], [60, 65], [0, 89], [-60, 70]]]]},
+            "small": {"type": "Polygon", "coordinates": [[[2.35, 48.85], [2.36, 48.85], [2.355, 48.86]]]},
+            "south": {"type": "Polygon", "coordinates": [[[-180, -90], [180, -90], [180, -75], [0, -70], [-180, -75]]]},
+        }
+        for name, shape in shapes.items():
+            self.drop(name, json.dumps({"type": "Feature", "properties": {}, "geometry": shape}).encode())
+            union = Union.from_bytes(self.last())
+            rings = shape["coordinates"] if shape["type"] == "Polygon" else sum(shape["coordinates"], [])
+            xs, ys = zip(*sum(rings, []))
+            wide, high = (max(xs) - min(xs)) / 9, (max(ys) - min(ys)) / 9
+            points = [(self.choice.uniform(max(min(xs) - wide, -180), max(max(xs), min(max(xs) + wide, 180))),
+                       self.choice.uniform(max(min(ys) - high, -90), min(max(ys) + high, 90))) for _ in range(3000)]
+            inside = [sum(is_north_of(ring, *point) for ring in rings) % 2 == 1 for point in points]
+            far = 0.02 * (max(ys) - min(ys))
+            cells = leaves(*zip(*points)).tolist()
+            found = union.contains_cells(cells)
+            lost = [point for point, is_in, has in zip(points, inside, found) if is_in and not has]
+            more = [point for point, is_in, has in zip(points, inside, found)
+                    if has and not is_in and distance_to(rings, *point) > far]
+            assert not lost and not more and 0 < sum(inside) < 3000, (name, lost[:3], more[:3], sum(inside))
+        line = [[2.35, 48.85], [13.4, 52.5], [37.6, 55.75]]
+        self.drop("line", json.dumps({"type": "LineString", "coordinates": line}).encode())
+        union = Union.from_bytes(self.last())
+        parts = [(k / 50) for k in range(51)]
+        points = [(x + (u - x) * part, y + (v - y) * part) for (x, y), (u, v) in zip(line, line[1:]) for part in parts]
+        assert all(union.contains_cells(leaves(*zip(*points)).tolist())) and union.leaf_count() < 6 * 4**30 / 10**5
+
+    @slow
+    def test_geojson_that_is_none(self):
+        self.open()
+        for text, said in (('{"type": "Circle"}', "it is no GeoJSON"), ("{}", "it is no GeoJSON"), ("{", "JSON"),
+                           ('{"type": "Feature", "geometry": null}', "there is no cell"),
+                           ('{"type": "Point", "coordinates": [0, 91]}', "a position is out of range"),
+                           ('{"type": "Point", "coordinates": ["x", 0]}', "a position is out of range")):
+            self.set("texts", text)
+            self.click("add")
+            assert self.status().startswith("texts: refused: ") and said in self.status(), self.status()
+            assert self.count() == 0
+
+    def test_geojson_out(self):
+        """It is what docs/examples makes of the same union."""
+        self.begin()
+        self.set("texts", "1 5 b 3c")
+        self.click("add")
+        for name, union in (("a", self.a), ("cells 3", Union.from_tokens("1 5 b 3c"))):
+            made = json.loads(self.saved(f"GeoJSON {name}", f"{name.replace(' ', '_')}.geojson"))
+            wanted = list(to_geojson.features(name, union))
+            assert [it["properties"] for it in made["features"]] == [it["properties"] for it in wanted]
+            for it, other in zip(made["features"], wanted):
+                ring, same = it["geometry"]["coordinates"][0], other["geometry"]["coordinates"][0]
+                assert len(ring) == len(same) and all(math.dist(x, y) < 1e-9 for x, y in zip(ring, same)), (ring, same)
+
+    def test_going_to_unions(self):
+        """A union is shown whole, and as closely as it fits, in both pictures."""
+        self.open()
+        for text in ("47e66e1d8f8be23b", "89c25 89c3", "1 5", "47e7 6ac4"):
+            self.set("texts", text)
+            self.click("add")
+            name = self.names()[-1]
+            self.click_of(f"go to {name}")
+            for kind in ("faces", "map"):
+                width, height, pixels = self.run("""const {view} = s2page;
+                    view.kind = arguments[0];
+                    const squares = Array.from(s2page.regions.at(-1).union, (id) => s2page.core.square(id));
+                    const pixel = (face, i, j) => view.pixelAt(...view.planeAt(face, i / SIDE, j / SIDE));
+                    const pixels = squares.flatMap(({face, i, j, size}) => [0.1, 0.9].map(
+                      (part) => pixel(face, i + part * size, j + part * size)));
+                    return [view.canvas.width, view.canvas.height, pixels];""", kind)
+                assert all(0 < x < width and 0 < y < height for x, y in pixels), (text, kind, pixels)
+                spans = [(max(each) - min(each)) / most for each, most in zip(zip(*pixels), (width, height))]
+                assert max(spans) > 0.4 or text == "47e66e1d8f8be23b", (text, kind, spans)
+            assert self.status() == f"{name}: shown."
+        self.run("s2page.add('none', s2page.core.read(''))")
+        self.click_of("go to none")
+        assert self.status() == "go to none: refused: it has no cell"
+
+    @slow
+    def test_going_to_places(self):
+        """The picture's middle is at the latitude and longitude, and the cell there is said."""
+        self.open()
+        for text, latitude, longitude in (("48.86, 2.35", 48.86, 2.35), ("-33.87 151.21", -33.87, 151.21),
+                                          ("0;0", 0, 0), (" 90°, -180° ", 90, -180), ("40.7,-74", 40.7, -74)):
+            self.set("place", text)
+            self.click("go")
+            for kind in ("faces", "map"):
+                found = self.run("""const {view} = s2page;
+                    view.kind = arguments[0];
+                    return s2page.core.token(s2page.core.leafAt(
+                      ...view.leafAt(view.canvas.width / 2, view.canvas.height / 2)));""", kind)
+                face, i, j, _ = square(from_token(found))
+                wanted = square(leaves([longitude], [latitude]).tolist()[0])
+                assert face == wanted[0] and abs(i - wanted[1]) < 2 and abs(j - wanted[2]) < 2, (text, kind, found)
+            assert self.status().startswith("token "), self.status()
+        self.driver.find_element(By.ID, "place").send_keys(Keys.ENTER)
+        assert self.status().startswith("token "), self.status()
+        for text in ("91, 0", "0, 181", "x", "1, 2, 3", ""):
+            self.set("place", text)
+            self.click("go")
+            assert self.status().startswith("place: refused: "), self.status()
 
     def test_markup(self):
         """A name with markup is shown as text."""

@@ -12,6 +12,7 @@ for command in chromium chromedriver; do
   command -v "$command" >/dev/null || packages+=("${command/chromedriver/chromium-driver}")
 done
 /usr/bin/python3 -c 'import selenium' 2>/dev/null || packages+=(python3-selenium)
+/usr/bin/python3 -c 'import numpy' 2>/dev/null || packages+=(python3-numpy)
 
 lacking_calls() { # what is left out of the module, from the copy of the sources that it is made of
   /usr/bin/python3 -c 'import runpy, sys; print(*runpy.run_path(sys.argv[1])["make_copy"](sys.argv[2]), sep="\n")' \
