@@ -140,13 +140,9 @@ function coveringOf(core, geojson) {
   const all = shapes.map((shape) => ({shape: insideOf(shape), edges: edgesOf(shape)}));
   let border = [0, 1, 2, 3, 4, 5].map((face) => kept(squareAt(face, 0, 0, 0), all)).filter(Boolean);
   for (let level = 1; level <= LEAST_LEVEL && border.length; level++) {
-    const before = ids.length;
     const next = border.flatMap(({square: {face, i, j}, parts}) => [[0, 0], [0, 1], [1, 0], [1, 1]].map(
       ([a, b]) => kept(squareAt(face, level, 2 * i + a, 2 * j + b), parts))).filter(Boolean);
-    if (next.length > MOST_AT_BORDERS) {
-      ids.length = before;
-      break;
-    }
+    if (next.length > MOST_AT_BORDERS) break;
     border = next;
   }
   ids.push(...border.map(({square}) => idOf(square)));

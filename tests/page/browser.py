@@ -488,16 +488,20 @@ class Trial:
     def test_numbers(self):
         """Numbers of 17 digits and more, with a sign or without, among tokens; a list of cells may be a file too."""
         self.open()
-        ids = [*self.a][:40]
+        ids = [*self.a][::7]
         words = [str(to_signed(id)) if k % 3 == 0 else token(id) if k % 3 == 1 else str(id)
                  for k, id in enumerate(ids)]
         assert all(len(word.lstrip("-")) > 16 for word in words[::3] + words[2::3]), "none of them is taken for a token"
+        assert any(word[0] == "-" for word in words)
         self.drop("numbers.txt", "\n".join(words).encode())
         assert self.last() == Union(ids).to_bytes() and self.names() == ["numbers.txt"]
         for word, place in (("18446744073709551616", 3), ("-9223372036854775809", 3), ("00000000000000000", 3)):
             self.set("texts", f"04 {word} 0c")
             self.click("add")
             assert self.status() == f"texts: refused: not a cell at place {place}" and self.count() == 1, self.status()
+        self.set("texts", f"{2**60} {to_signed(11 * 2**60)} x")
+        self.click("add")
+        assert self.status() == "texts: refused: not a cell at place 41", self.status()
 
     def test_pastes_and_drops_of_texts(self):
         self.open()
@@ -543,12 +547,13 @@ class Trial:
             more = [point for point, is_in, has in zip(points, inside, found)
                     if has and not is_in and distance_to(rings, *point) > far]
             assert not lost and not more and 0 < sum(inside) < 3000, (name, lost[:3], more[:3], sum(inside))
-        line = [[2.35, 48.85], [13.4, 52.5], [37.6, 55.75]]
-        self.drop("line", json.dumps({"type": "LineString", "coordinates": line}).encode())
-        union = Union.from_bytes(self.last())
-        parts = [(k / 50) for k in range(51)]
-        points = [(x + (u - x) * part, y + (v - y) * part) for (x, y), (u, v) in zip(line, line[1:]) for part in parts]
-        assert all(union.contains_cells(leaves(*zip(*points)).tolist())) and union.leaf_count() < 6 * 4**30 / 10**5
+        parallel = [[10, 60], [10.25, 60]]  # its cells are small beside what it bends away from the shortest line
+        for line in ([[2.35, 48.85], [13.4, 52.5], [37.6, 55.75]], parallel):
+            self.drop("line", json.dumps({"type": "LineString", "coordinates": line}).encode())
+            union = Union.from_bytes(self.last())
+            points = [(x + (u - x) * k / 50, y + (v - y) * k / 50) for (x, y), (u, v) in zip(line, line[1:])
+                      for k in range(51)]
+            assert all(union.contains_cells(leaves(*zip(*points)).tolist())) and union.leaf_count() < 6 * 4**30 / 10**5
 
     @slow
     def test_geojson_that_is_none(self):
