@@ -173,8 +173,6 @@ static void tell_cost(SupportRequestCost* request) {
 
 /* ---- which part of the rows is found ---- */
 
-typedef int32_t question(const uint64_t* xs, size_t nx, const uint64_t* ys, size_t ny);
-
 static int32_t within(const uint64_t* xs, size_t nx, const uint64_t* ys, size_t ny) {
   return s2u_contains(ys, ny, xs, nx);
 }

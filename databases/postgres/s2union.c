@@ -649,8 +649,6 @@ static Datum answer(int32_t status) {
   PG_RETURN_BOOL(status == 1);
 }
 
-typedef int32_t question(const uint64_t* xs, size_t nx, const uint64_t* ys, size_t ny);
-
 /* A question about argument a and argument b. */
 static Datum of_two_asked(FunctionCallInfo fcinfo, question* ask, int a, int b) {
   const S2Union *x = ASKED(a), *y = ASKED(b);

@@ -17,6 +17,9 @@ static inline size_t count_of(const S2Union* u) {
   return (VARSIZE(u) - HEAD) / sizeof(uint64_t);
 }
 
+/* A question of the library about two unions: 1, 0 or a refusal. */
+typedef int32_t question(const uint64_t* xs, size_t nx, const uint64_t* ys, size_t ny);
+
 /* A stored value. It is never trusted: one that is not a union is an error. */
 HIDDEN S2Union* s2union_value(Datum datum);
 
