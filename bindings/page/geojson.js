@@ -43,7 +43,7 @@ function shapesOf(it) {
   }
 }
 
-const closed = (ring) => (ring.length && String(ring[0]) !== String(ring.at(-1)) ? [...ring, ring[0]] : ring);
+const closed = (ring) => (ring.length && String(ring[0]) !== String(ring[ring.length - 1]) ? [...ring, ring[0]] : ring);
 
 function checked([longitude, latitude]) {
   if (!(Math.abs(longitude) <= 540 && Math.abs(latitude) <= 90)) throw new Error("a position is out of range");
@@ -157,7 +157,7 @@ function ringOf({face, i, j, size}) {
     ([right, up]) => geographic(face, (i + size * right) / SIDE, (j + size * up) / SIDE));
   const pole = ring.findIndex(([, latitude]) => Math.abs(latitude) === 90);
   if (pole >= 0) { // it has every longitude: those of the corners before and after it
-    const [before, latitude, after] = [ring.at(pole - 1)[0], ring[pole][1], ring[(pole + 1) % 4][0]];
+    const [before, latitude, after] = [ring[(pole + 3) % 4][0], ring[pole][1], ring[(pole + 1) % 4][0]];
     ring.splice(pole, 1, [before, latitude], [after, latitude]);
   }
   for (const corner of ring.slice(1)) corner[0] += 360 * Math.round((ring[0][0] - corner[0]) / 360);
@@ -176,12 +176,16 @@ function geojsonOf(core, name, union) {
 
 // ---- words
 
-/** A text whose decimal numbers are tokens: a word of 17 digits and more, which no token has. The places stay. */
+/**
+ * A text whose decimal numbers are tokens: words of 17 digits and more, which no token has. Brackets and quotes, which
+ * lists of other languages have, are blanks. The places stay.
+ */
 function inTokens(text) {
-  return text.replace(/(?<![^\s,])-?\d{17,20}(?![^\s,])/g, (word) => {
+  const isWord = /(^|[\s,])(-?\d{17,20})(?=[\s,]|$)/g;
+  return text.replace(/[[\](){}"']/g, " ").replace(isWord, (all, before, word) => {
     const id = BigInt(word);
     const isOne = id < 2n ** 64n && id >= -(2n ** 63n);
-    return isOne ? unsigned(id).toString(16).padStart(16, "0").padEnd(word.length) : word;
+    return isOne ? before + unsigned(id).toString(16).padStart(16, "0").padEnd(word.length) : all;
   });
 }
 

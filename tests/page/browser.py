@@ -503,6 +503,17 @@ class Trial:
         self.click("add")
         assert self.status() == "texts: refused: not a cell at place 41", self.status()
 
+    def test_lists_of_other_languages(self):
+        """Brackets and quotes around lists, as Python, JSON and PostgreSQL write them, are blanks."""
+        self.open()
+        ids = [*self.a][::9]
+        for text in (str(ids), json.dumps([token(id) for id in ids]), str(tuple(map(debug, ids))),
+                     "{" + ",".join(str(to_signed(id)) for id in ids) + "}", repr({token(id) for id in ids})):
+            self.drop("list", text.encode())
+            assert self.last() == Union(ids).to_bytes(), (text, self.status())
+        self.drop("list", b'["89c25", "x"]')
+        assert self.status() == "list: refused: not a cell at place 11" and self.count() == 5, self.status()
+
     def test_pastes_and_drops_of_texts(self):
         self.open()
         for kind, text in (("paste", "04 0c"), ("drop", json.dumps({"type": "Point", "coordinates": [2.35, 48.86]}))):
@@ -558,7 +569,8 @@ class Trial:
     @slow
     def test_geojson_that_is_none(self):
         self.open()
-        for text, said in (('{"type": "Circle"}', "it is no GeoJSON"), ("{}", "it is no GeoJSON"), ("{", "JSON"),
+        for text, said in (('{"type": "Circle"}', "it is no GeoJSON"), ('{"a": {}}', "it is no GeoJSON"),
+                           ('{"type"', "JSON"), ("{}", "there is no cell"), ("[]", "there is no cell"),
                            ('{"type": "Feature", "geometry": null}', "there is no cell"),
                            ('{"type": "Point", "coordinates": [0, 91]}', "a position is out of range"),
                            ('{"type": "Point", "coordinates": ["x", 0]}', "a position is out of range")):
