@@ -23,7 +23,7 @@
  * list is not a union, the result means nothing: the status is S2U_OK or S2U_ROOM, or any answer, or what another
  * argument is refused for, or S2U_MEMORY of a call that takes memory. Even so the result lies in the room, *len is
  * within the bound that the call gives for such lists, the work is bounded as it says, and the call is as safe as any
- * other.
+ * other. (What this header says of the most elements of a result and of steps is tested, not proved.)
  *
  * HOW LONG A RESULT IS. A call that makes a list takes `out`, `room` (how many elements it has) and `len`.
  *   S2U_OK     out[0 .. *len) is the result. What comes after it is not touched, but by s2u_decode.
