@@ -1,4 +1,5 @@
 """Session files that were not made by the program, and a run that is killed between dump and restore."""
+import array
 import os
 import random
 import shutil
@@ -31,12 +32,17 @@ def session(registers=(), past=(), future=()):
 
 def most_resident_after(program, line, answer):
     """The most bytes that a program has held in memory once it has answered a line, which it answers by these bytes."""
+    return size_after(program, line, answer, "VmHWM")
+
+
+def size_after(program, line, answer, name):
+    """A size of a program by the system's name for it, once it has answered a line, which it answers by these bytes."""
     program.stdin.write(line)
     program.stdin.flush()
     if program.stdout.read(len(answer)) != answer:
         raise AssertionError(line)
     with open(f"/proc/{program.pid}/status") as it:
-        return next(int(entry.split()[1]) for entry in it if entry.startswith("VmHWM:")) * 1024
+        return next(int(entry.split()[1]) for entry in it if entry.startswith(f"{name}:")) * 1024
 
 
 # After face 0 was added to register a, one of its children removed, and this undone.
@@ -208,3 +214,18 @@ class Sessions(unittest.TestCase):
             after = most_resident_after(program, b"restore s\n", b"ok\n")
             program.stdin.close()
         self.assertLess(after - before, 2 * len(text))
+
+    def test_a_dump_takes_room_for_the_file_alone(self):
+        # Changes of a million cells each, three that can be undone and four that can be made again.
+        identifiers = array.array("Q", range(1, 4_000_000, 4))
+        self.write("f", b"\x01" + number(len(identifiers)) + identifiers.tobytes())
+        made = b"".join(b"load %c f\n" % letter for letter in b"abcdefg"), b"ok 0 1000000\n" * 7
+        undone = b"undo\n" * 4, b"ok 1000000 0\n" * 4
+        words = [PROGRAM, "run", "--dir", self.folder, "--limit", "1000000"]
+        with subprocess.Popen(words, stdin=subprocess.PIPE, stdout=subprocess.PIPE) as program:
+            before = size_after(program, made[0] + undone[0], made[1] + undone[1], "VmSize")
+            most = size_after(program, b"dump s\n", b"ok\n", "VmPeak")
+            program.stdin.close()
+        size = os.path.getsize(os.path.join(self.folder, "s"))
+        self.assertGreater(size, 10 * 8_000_000)
+        self.assertLess(most - before, size + 1_000_000)
