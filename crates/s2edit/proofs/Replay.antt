@@ -1,20 +1,16 @@
--- Changes, and then as many undos.
+-- What a list of edits does: changes, and then as many undos.
 use Rattle.std.proofs.Common.{◌≡◌, ℕ, zero, suc, ◌+◌, ◌≤◌, List, [], ◌∷◌, ◌++◌, length, take, drop}
 use Rattle.std.proofs.Common.{replicate, refl, sym, ap, ◌∙◌, subst, append_assoc, arith}
-use Rattle.std.proofs.lemmas.List.{replicate_more, take-take}
+use Rattle.std.proofs.Math.Nat.{le-min}
+use Rattle.std.proofs.lemmas.List.{replicate_more, take-take, length-take, length-append}
+use Rattle.std.proofs.lemmas.List.{length-replicate, replicate-append-replicate}
 use Rattle.s2edit.specs.History.{History, changed, undone, undone_to}
-use Rattle.s2edit.specs.Edits.{Edited, EditRun, edit_tally_of, AllChange, GivesBack}
+use Rattle.s2edit.specs.Edits.{Edited, EditRun, AllChange, GivesBack, RunsTo}
 use Rattle.s2edit.specs.declared.edits.Edit.{Edit}
 use Rattle.s2edit.specs.declared.edits.Edit.TheVariants.{Assign, Undo, Redo}
 use Rattle.s2edit.specs.declared.edits.EditOutcome.{EditOutcome}
 use Rattle.s2edit.specs.declared.edits.EditOutcome.TheVariants.{Done, Refused, NoMemory}
-use Rattle.s2edit.specs.declared.edits.EditTally.{EditTally}
-
-few_done : (os : List EditOutcome) → (edit_tally_of os).done ≤ length os
-few_done [] = omega arith
-few_done (Done ∷ os) = omega (arith, few_done os)
-few_done (Refused ∷ os) = omega (arith, few_done os)
-few_done (NoMemory ∷ os) = omega (arith, few_done os)
+use Rattle.s2edit.proofs.Runs.{undo_place, run_timeline, run_place}
 
 from_first : {X : Type 0} (xs ys : List X) (t : X) (d : ℕ) → 1 ≤ d → take 1 xs ≡ take 1 (take d (t ∷ ys)) →
     xs ≡ t ∷ drop 1 xs
@@ -34,21 +30,48 @@ module _ {X : Type 0} (f : List ℕ → X) where
   DoneRun h [] h' = h' ≡ h
   DoneRun h (e ∷ es) h' = (mid : History X) × Edited f h e Done mid × DoneRun mid es h'
 
-  length-outcomes : (h h' : History X) (es : List Edit) (os : List EditOutcome) → EditRun f h es os h' →
-      length os ≡ length es
-  length-outcomes h h' [] [] r = refl
-  length-outcomes h h' [] (o ∷ os) r = absurd r
-  length-outcomes h h' (e ∷ es) [] r = absurd r
-  length-outcomes h h' (e ∷ es) (o ∷ os) r = ap suc (length-outcomes r.0 h' es os r.2)
+  all_done : (h h' : History X) (es : List Edit) → EditRun f h es (replicate (length es) Done) h' → DoneRun h es h'
+  all_done h h' [] r = r
+  all_done h h' (e ∷ es) r = (r.0, r.1, all_done r.0 h' es r.2)
 
-  all_done : (h h' : History X) (es : List Edit) (os : List EditOutcome) → EditRun f h es os h' →
-      (edit_tally_of os).done ≡ length es → DoneRun h es h'
-  all_done h h' [] [] r n = r
-  all_done h h' [] (o ∷ os) r n = absurd r
-  all_done h h' (e ∷ es) [] r n = absurd r
-  all_done h h' (e ∷ es) (Done ∷ os) r n = (r.0, r.1, all_done r.0 h' es os r.2 (omega arith))
-  all_done h h' (e ∷ es) (Refused ∷ os) r n = absurd (omega (arith, few_done os, length-outcomes r.0 h' es os r.2))
-  all_done h h' (e ∷ es) (NoMemory ∷ os) r n = absurd (omega (arith, few_done os, length-outcomes r.0 h' es os r.2))
+  -- a run whose first edits are done: these, and then the others with the other outcomes
+  first_done : (h h' : History X) (es fs : List Edit) (os : List EditOutcome) → EditRun f h (es ++ fs) os h' →
+      take (length es) os ≡ replicate (length es) Done → (mid : History X) × DoneRun h es mid
+      × ((ps : List EditOutcome) × (os ≡ replicate (length es) Done ++ ps) × EditRun f mid fs ps h')
+  first_done h h' [] fs os r t = (h, refl, (os, refl, r))
+  first_done h h' (e ∷ es) fs [] r t = absurd r
+  first_done h h' (e ∷ es) fs (o ∷ os) r t =
+      let d : o ≡ Done = cc in
+      let s = first_done r.0 h' es fs os r.2 (cc) in
+      let all : o ∷ os ≡ Done ∷ replicate (length es) Done ++ s.2.0 =
+      ap (λ (q : EditOutcome). q ∷ os) d ∙ ap (λ (qs : List EditOutcome). Done ∷ qs) s.2.1 in
+      (s.0, (r.0, subst (λ (q : EditOutcome). Edited f h e q r.0) d r.1, s.1), (s.2.0, all, s.2.2))
+
+  -- each change makes the past longer, up to the depth
+  past_grows : (es : List Edit) (h h' : History X) (k : ℕ) → DoneRun h es h' → AllChange f h es → k ≤ length h.past →
+      k + length es ≤ h.depth → k + length es ≤ length h'.past
+  past_grows [] h h' k r a l d = omega (arith, ap (λ (x : History X). length x.past) r)
+  past_grows (Undo ∷ es) h h' k r a l d = absurd a
+  past_grows (Redo ∷ es) h h' k r a l d = absurd a
+  past_grows (Assign x u ∷ es) h h' k r a l d =
+      let c : History X = changed h x (f u.cells) in
+      let m : r.0 ≡ c = r.1.1.differs a.0 in
+      let more : k + 1 ≤ length c.past = subst (λ (n : ℕ). k + 1 ≤ n) (sym (length-take h.depth (h.now ∷ h.past)))
+      (le-min (omega arith) (omega arith)) in
+      let rest : DoneRun c es h' = subst (λ (q : History X). DoneRun q es h') m r.2 in
+      omega (arith, past_grows es c h' (k + 1) rest a.1 more (omega arith))
+
+  -- as many undos as the past has tables are done
+  undos_are_done : (n : ℕ) (h h' : History X) (os : List EditOutcome) → EditRun f h (replicate n Undo) os h' →
+      n ≤ length h.past → os ≡ replicate n Done
+  undos_are_done zero h h' [] r l = refl
+  undos_are_done zero h h' (o ∷ os) r l = absurd r
+  undos_are_done (suc n) h h' [] r l = absurd r
+  undos_are_done (suc n) h h' (Done ∷ os) r l =
+      ap (λ (qs : List EditOutcome). Done ∷ qs) (undos_are_done n r.0 h' os r.2
+      (omega (arith, ap (λ (x : History X). length x.past) r.1.1, undo_place f h h.past refl r.1.0)))
+  undos_are_done (suc n) h h' (Refused ∷ os) r l = absurd (omega (arith, ap length r.1.0))
+  undos_are_done (suc n) h h' (NoMemory ∷ os) r l = absurd r.1
 
   done_split : (h h' : History X) (es fs : List Edit) → DoneRun h (es ++ fs) h' → (mid : History X)
       × DoneRun h es mid × DoneRun mid fs h'
@@ -92,9 +115,29 @@ module _ {X : Type 0} (f : List ℕ → X) where
             (b.1 (suc k) (omega arith)),
       )
 
-  pub gives_back : (h h' : History X) (es : List Edit) (os : List EditOutcome) (t : EditTally) → EditRun f h es os h' →
-      t ≡ edit_tally_of os → GivesBack f h es t h'
-  gives_back h h' es os t r c changes e l a n =
-      let done : (edit_tally_of os).done ≡ length es = ap (λ (x : EditTally). x.done) (sym c) ∙ n in
-      (back (length changes) changes h h' refl l a
-      (subst (λ (fs : List Edit). DoneRun h fs h') e (all_done h h' es os r done))).0
+  gives_back : (h h' : History X) (es : List Edit) (os : List EditOutcome) → EditRun f h es os h' →
+      GivesBack f h es os h'
+  gives_back h h' es os r changes e l a t =
+      let n = length changes in
+      let s = first_done h h' changes (replicate n Undo) os (subst (λ (fs : List Edit). EditRun f h fs os h') e r) t in
+      let undos : s.2.0 ≡ replicate n Done = undos_are_done n s.0 h' s.2.0 s.2.2
+      (omega (arith, past_grows changes h s.0 0 s.1 a (omega arith) (omega arith))) in
+      let number : n + n ≡ length es = omega (
+        arith,
+        ap length e,
+        length-append changes (replicate n Undo),
+        length-replicate n Undo,
+      ) in
+      let all : os ≡ replicate (length es) Done =
+      s.2.1 ∙ ap (λ (qs : List EditOutcome). replicate n Done ++ qs) undos ∙ replicate-append-replicate n n Done
+      ∙ ap (λ (k : ℕ). replicate k Done) number in
+      let done : DoneRun h es h' = all_done h h' es (subst (λ (qs : List EditOutcome). EditRun f h es qs h') all r) in
+      (all, (back n changes h h' refl l a (subst (λ (fs : List Edit). DoneRun h fs h') e done)).0)
+
+  pub runs_to : (h h' : History X) (es : List Edit) (os : List EditOutcome) → EditRun f h es os h' → RunsTo f h es os h'
+  runs_to h h' es os r = record {
+    run = r;
+    gives_back = gives_back h h' es os r;
+    same_timeline = λ m. run_timeline f h h' es os m r;
+    place = λ m. run_place f h h' es os m r;
+  }

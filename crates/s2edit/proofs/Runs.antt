@@ -3,7 +3,7 @@ use Rattle.std.proofs.Common.{◌≡◌, ◌≢◌, ℕ, ◌+◌, List, [], ◌�
 use Rattle.std.proofs.Common.{◌∙◌, subst, append_assoc, arith}
 use Rattle.std.proofs.lemmas.List.{reverse-append}
 use Rattle.s2edit.specs.History.{History, undone_to, redone_to, timeline}
-use Rattle.s2edit.specs.Edits.{Edited, EditRun, edit_tally_of, tally_with, undos_done, redos_done, AllMoves, RunsTo}
+use Rattle.s2edit.specs.Edits.{Edited, EditRun, edit_tally_of, tally_with, undos_done, redos_done, AllMoves}
 use Rattle.s2edit.specs.declared.edits.Edit.{Edit}
 use Rattle.s2edit.specs.declared.edits.Edit.TheVariants.{Assign, Undo, Redo}
 use Rattle.s2edit.specs.declared.edits.EditOutcome.{EditOutcome}
@@ -50,7 +50,7 @@ module _ {X : Type 0} (f : List ℕ → X) where
     undo_timeline (t ∷ ps) e = sym (ap (λ (qs : List (List X)). reverse qs ++ h.now ∷ h.future) e
         ∙ reverse_first t ps (h.now ∷ h.future))
 
-    undo_place : (ps : List (List X)) → h.past ≡ ps → ps ≢ [] → length (undone_to h ps).past + 1 ≡ length h.past
+    pub undo_place : (ps : List (List X)) → h.past ≡ ps → ps ≢ [] → length (undone_to h ps).past + 1 ≡ length h.past
     undo_place [] e n = absurd (n refl)
     undo_place (t ∷ ps) e n = omega (arith, ap length e)
 
@@ -107,10 +107,3 @@ module _ {X : Type 0} (f : List ℕ → X) where
   run_place h h' (Redo ∷ es) (Refused ∷ os) m r =
       omega (arith, run_place r.0 h' es os m r.2, ap (λ (k : History X). length k.past) r.1.1)
   run_place h h' (Redo ∷ es) (NoMemory ∷ os) m r = absurd r.1
-
-  pub runs_to : (h h' : History X) (es : List Edit) (os : List EditOutcome) → EditRun f h es os h' → RunsTo f h es os h'
-  runs_to h h' es os r = record {
-    run = r;
-    same_timeline = λ m. run_timeline h h' es os m r;
-    place = λ m. run_place h h' es os m r;
-  }

