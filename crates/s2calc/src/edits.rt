@@ -20,6 +20,12 @@ use s2script::{Cells, Level, RegisterEdit};
 use s2union::{CellUnion, UnionFault, normalise};
 use std::alloc::{AllocError, Global};
 
+/// A list that the history keeps may have spare room for an eighth of its cells.
+const CELLS_TO_SPARE_ROOM: usize = 8;
+
+/// A short one may have spare room for this many cells: a copy would save little.
+const SHORT_SPARE_ROOM: usize = 64;
+
 /// Carries out an edit of a register.
 pub(crate) fn edit_register(
     alloc: Global,
@@ -95,8 +101,31 @@ fn give(editor: &mut Editor, register: Register, made: Result<CellUnion, Refusal
     }
 }
 
-/// Gives a register a union.
+/// Gives a register a union, without the spare room that its list may have.
 pub(crate) fn assign(editor: &mut Editor, register: Register, union: CellUnion) -> Answer
+    ensures { (S : ℕ → Bool) → IsNormalForm S union.cells →
+        Gets S register editor.old (reply_of result editor.new) editor.new }
+{
+    match fitted(union, editor.register(register)) {
+        Ok(union) => assign_as_it_is(editor, register, union),
+        Err(_) => Answer::Refused(Refusal::Memory),
+    }
+}
+
+/// The union for a register with this old one. The history keeps the list that an empty register is given. So if that
+/// has much spare room, as after many cells of a file became few, it is a copy that fits.
+fn fitted(union: CellUnion, old: &CellUnion) -> Result<CellUnion, AllocError>
+    ensures { IfOk result (λ u. u.cells ≡ union.cells) }
+{
+    let spare = union.room().saturating_sub(union.len());
+    if old.is_empty() && spare > (union.len() / CELLS_TO_SPARE_ROOM).max(SHORT_SPARE_ROOM) {
+        return union.try_clone();
+    }
+    Ok(union)
+}
+
+/// Gives a register a union with its own list.
+fn assign_as_it_is(editor: &mut Editor, register: Register, union: CellUnion) -> Answer
     ensures { (S : ℕ → Bool) → IsNormalForm S union.cells →
         Gets S register editor.old (reply_of result editor.new) editor.new }
 {

@@ -1,5 +1,5 @@
 //! Changes of a register.
-ghost use Rattle.std.specs.Prelude.{◌≡◌, [], IfOk, IsOk, ◌↔◌, IsTrue};
+ghost use Rattle.std.specs.Prelude.{◌≡◌, ◌≤◌, [], length, IfOk, IsOk, OnErr, ◌↔◌, IsTrue};
 ghost use Rattle.s2file.specs.Session.{diff_of, IsDiff, IsMove};
 ghost use Rattle.s2edit.specs.Diff.{FitsList};
 
@@ -10,12 +10,6 @@ use s2file::Move;
 use s2union::CellUnion;
 use std::alloc::{AllocError, Global};
 use std::marker::Model;
-
-/// A list of a change may have spare room for an eighth of its cells.
-const LIST_TO_SPARE_ROOM: usize = 8;
-
-/// A short list may have spare room for this many cells: a copy would save little.
-const SHORT_SPARE_ROOM: usize = 64;
 
 /// The cells that are taken out of a register's list and those that are put in: two lists, each
 /// ascending by identifier, that share no cell. Either may be empty.
@@ -57,26 +51,33 @@ impl Change {
         Ok(Change { register, out, put })
     }
 
-    /// The same for a union that is given away: if `old` is empty, `put` is the union's own list, or a copy of it that
-    /// fits. That can't fail.
+    /// The same for a union that is given away and has to be in the spare list too. If `old` is empty, `put` is the
+    /// union's own list. Takes no memory then, and else just that of the change, before it copies the union.
     pub(crate) fn leading_to(
         alloc: Global,
         register: Register,
         old: &CellUnion,
         new: CellUnion,
+        spare: &mut CellUnion,
     ) -> Result<Change, AllocError>
+        requires room { length new.cells ≤ spare.old.room }
         ensures change { IfOk result (λ c. c ≡ change_between register old.now.cells new.cells) }
+        ensures copied { IfOk result (λ _. spare.new.cells ≡ new.cells) }
+        ensures room { spare.old.room ≤ spare.new.room }
+        ensures err { OnErr result (spare.new ≡ spare.old) }
         ensures from_empty { old.now.cells ≡ [] → IsOk result }
     {
-        if !old.is_empty() {
-            return Change::between(alloc, register, old, &new);
+        if old.is_empty() {
+            spare.copy_from(&new);
+            return Ok(Change {
+                register,
+                out: Vec::new(alloc),
+                put: new.into_cells(),
+            });
         }
-        let _ = new.cells();
-        Ok(Change {
-            register,
-            out: Vec::new(alloc),
-            put: fitted_list(alloc, new),
-        })
+        let change = Change::between(alloc, register, old, &new)?;
+        spare.copy_from(&new);
+        Ok(change)
     }
 
     /// The change that a session tells, with its lists.
@@ -114,19 +115,4 @@ impl Change {
     {
         union.can_apply(&self.out, &self.put)
     }
-}
-
-/// The list of a union: its own, or if that has much spare room, as after many cells of a file became few, a copy that
-/// fits. If there is no memory for the copy, its own.
-fn fitted_list(alloc: Global, union: CellUnion) -> Vec<CellId>
-    ensures { result.items ≡ union.cells }
-{
-    let cells = union.into_cells();
-    let spare = cells.capacity() - cells.len();
-    if spare > (cells.len() / LIST_TO_SPARE_ROOM).max(SHORT_SPARE_ROOM) {
-        if let Ok(copy) = Vec::from_slice(alloc, &cells) {
-            return copy;
-        }
-    }
-    cells
 }

@@ -132,8 +132,8 @@ impl Editor {
         if are_same(old.cells(), union.cells()) {
             return Ok((0, 0));
         }
-        self.spare.copy_from(&union);
-        let Ok(change) = Change::leading_to(self.alloc, register, old, union) else {
+        let Ok(change) = Change::leading_to(self.alloc, register, old, union, &mut self.spare)
+        else {
             return Err(EditFault::Memory);
         };
         exchange(&mut self.registers, &mut self.spare, register);

@@ -102,12 +102,12 @@ differs : (c : goal.After-clear) → c.args.union.cells ≡ list_at (lists_of c.
 differs c e = c.if-are_same.ensures (c.cells.ensures.value ∙ sym (old_is c) ∙ sym e ∙ sym c.cells-2.ensures.value)
 
 rewrites : (c : goal.After-clear) → Rewrites c.self.inside.registers.items c.exchange.new.registers.items
-    c.copy_from.new.self c.exchange.new.spare (change_between c.args.register
+    c.leading_to.new.spare c.exchange.new.spare (change_between c.args.register
     (list_at (lists_of c.self.inside.registers.items) c.args.register) c.args.union.cells)
 rewrites c = taken_over c.self.inside.limit (lists_of c.self.inside.registers.items) c.args.register
     c.args.union.cells c.self.invariant.registers_within (in_table c) (own c)
-    c.self.inside.registers.items c.exchange.new.registers.items c.copy_from.new.self c.exchange.new.spare refl
-    c.copy_from.ensures.cells c.exchange.ensures.registers c.exchange.ensures.spare
+    c.self.inside.registers.items c.exchange.new.registers.items c.leading_to.new.spare c.exchange.new.spare refl
+    c.in-Ok.ensures.copied c.exchange.ensures.registers c.exchange.ensures.spare
 
 changes : (c : goal.After-clear) → Changes c.self.inside.depth c.self.inside.registers.items
     c.exchange.new.registers.items c.self.inside.past.items c.push_front.new.self.items c.clear.new.self.items
@@ -162,7 +162,7 @@ invariant_of-self-2 c =
     let d : Diff = change_between c.args.register (list_at (lists_of c.self.inside.registers.items) c.args.register)
     c.args.union.cells in
     let w = rewritten_roomy c.self.inside.limit _ _ _ _ d (rewrites c) i.registers_roomy
-    (omega (arith, c.copy_from.ensures.room, i.spare_roomy)) in
+    (omega (arith, c.leading_to.ensures.room, i.spare_roomy)) in
     record {
       limit_bound = i.limit_bound;
       depth_most = i.depth_most;
