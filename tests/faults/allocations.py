@@ -30,7 +30,8 @@ BEFORE = b"before the script"
 def verdict(ended, lines=LINES, most=1, has_notes=False):
     """What the refusal changed, or None if it changed more than it may: the answers to more than `most` lines, say."""
     if (ended.status, ended.error) == (3, b"s2calc: memory\n"):
-        return "refused at the start" if (ended.answers, ended.files) == (b"", FILES) else None
+        is_untouched = (ended.answers, ended.files) == (b"", FILES) and not ended.reads_script()
+        return "refused at the start" if is_untouched else None
     ways = [way for way in ways_through(lines, ended.answers, most, disk=False) if way.leaves(ended.files)]
     ways = [way for way in ways if ended.error == (way.notes if has_notes else b"")]
     if ended.status != 1 or not ways:
@@ -56,6 +57,7 @@ def wrong_ends(whole):
     yield whole._replace(files=FILES)
     yield whole._replace(status=3, error=b"s2calc: memory\n")
     yield whole._replace(status=3, error=b"s2calc: memory\n", answers=b"")
+    yield whole._replace(status=3, error=b"s2calc: memory\n", answers=b"", files=FILES)
     yield whole._replace(status=2, error=b"s2calc: output\n")
 
 
@@ -73,9 +75,7 @@ def lines_of_allocations(calls):
 
 
 def may_go_on(line):
-    """Whether a run may go on without an allocation there: `restore` may, and what reads the command line. So may an
-    edit that gives an empty register a list with much spare room, of which a copy is kept if there is memory; but none
-    of these lines makes such a list."""
+    """Whether a run may go on without an allocation there: `restore` may, and what reads the command line."""
     return line == BEFORE or line.split()[:1] == [b"restore"]
 
 
@@ -111,7 +111,7 @@ class Judge:
         found = []
         for number, line in enumerate(lines_of_allocations(whole.calls), 1):
             if line:
-                ended = run(f"memory {number} {number} {errno.ENOMEM}", has_calls=False)
+                ended = run(f"memory {number} {number} {errno.ENOMEM}")
                 found.append((verdict(ended, lines, has_notes=has_notes), line == BEFORE))
                 is_spare = spare > 0 and found[-1][0] == "no answer changed" and not may_go_on(line)
                 spare -= is_spare
@@ -126,7 +126,7 @@ class Judge:
 
     def refuse_again(self, what, run, number, lines, has_notes):
         """Refuses an allocation that a run can do without, and the next one, which it tries in its place."""
-        ended = run(f"memory {number} {number + 1} {errno.ENOMEM}", has_calls=False)
+        ended = run(f"memory {number} {number + 1} {errno.ENOMEM}")
         said = verdict(ended, lines, has_notes=has_notes)
         self.counts[said] += 1
         if said != "refused at the start":
@@ -136,7 +136,7 @@ class Judge:
         """Refuses all allocations of a run from one on, each twentieth."""
         within = list(lines_of_allocations(whole.calls))
         for number in range(1, len(within) + 1, 20):
-            ended = run(f"memory {number} {10 * len(within)} {errno.ENOMEM}", has_calls=False)
+            ended = run(f"memory {number} {10 * len(within)} {errno.ENOMEM}")
             self.judge(ended, verdict(ended, most=len(LINES)), number, "the last", within[number - 1])
 
     def refuse_each_of_a_call(self, refusing, words):

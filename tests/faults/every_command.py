@@ -48,8 +48,10 @@ LINES = every_command()
 # A line that is refused, whose bytes its note shows with four characters each.
 ESCAPED = b"add a " + b"\xff" * (model.LONGEST_LINE - 6)
 
-# The files that the script finds: one with the identifiers of 0c, 04 and 04, and one of another version.
-FILES = {"f": b"\x01" + struct.pack("<4Q", 3, 0x0C << 56, 0x04 << 56, 0x04 << 56), "w": b"\x02" + bytes(8)}
+# The files that the script finds: one with the identifiers of 0c and of 04, the latter so often that the list of the
+# union has much spare room, and one of another version.
+IDENTIFIERS = [0x0C << 56] + [0x04 << 56] * 100
+FILES = {"f": b"\x01" + struct.pack("<102Q", len(IDENTIFIERS), *IDENTIFIERS), "w": b"\x02" + bytes(8)}
 
 
 def arguments(folder):

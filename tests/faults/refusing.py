@@ -22,6 +22,10 @@ class Ended(collections.namedtuple("Ended", "status answers error files calls"))
         """How many bytes of the script were read."""
         return sum(call.answer for call in self.calls if call[:2] == ("read", 0) and call.answer > 0)
 
+    def reads_script(self):
+        """Whether the script was asked for."""
+        return any(call[:2] == ("read", 0) for call in self.calls)
+
 
 class Refusing:
     """Runs the program with refuse.c in a room of its own."""
@@ -41,17 +45,19 @@ class Refusing:
             done, calls = self.started(words, script, refused, piece, before, has_calls, swapped)
             return Ended(done.returncode, done.stdout, done.stderr, files_of(folder), calls)
 
-    def run_in_memory(self, refused="", has_calls=True):
+    def run_in_memory(self, refused=""):
         """The same for a run over a shelf in memory, by script_rows. It counts as a run that ends with 3 and
-        `s2calc: memory` if `run` answers so, or if there is no memory for the row or the editor."""
-        done, calls = self.started([ROWS], row(), refused, has_calls=has_calls)
+        `s2calc: memory` if `run` answers so, or if there is no memory for the row or the editor; then it has no calls,
+        since the reads of the table are not those of a run."""
+        done, calls = self.started([ROWS], row(), refused)
         answers, is_begun, rest = done.stdout.partition(f"other answers: {TITLE}\n".encode())
         if not is_begun and done.returncode == 1:
-            return Ended(3, answers, b"s2calc: memory\n", FILES, calls)
+            return Ended(3, answers, b"s2calc: memory\n", FILES, [])
         end, *contents = rest.decode().split("\n")[: 1 + len(NAMES)]
         files = {name: bytes.fromhex(text) for name, text in zip(NAMES, contents) if text != "no file"}
-        status, error = (3, b"s2calc: memory\n") if end == "memory" else (int(not end.endswith(" 0")), b"")
-        return Ended(status or done.returncode, answers, error, files, calls)
+        if end == "memory":
+            return Ended(3, answers, b"s2calc: memory\n", files, [])
+        return Ended(int(not end.endswith(" 0")) or done.returncode, answers, b"", files, calls)
 
     def started(self, words, script, refused, piece=0, before=None, has_calls=True, swapped=""):
         """How a program ended in which the calls fail that REFUSED in refuse.c names, and its calls."""
