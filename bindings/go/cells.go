@@ -8,10 +8,13 @@ import (
 	"unsafe"
 )
 
-// FacePoint is a leaf's face, 0 to 5, and its coordinates there, below 2^30.
-type FacePoint struct {
+// Point is a leaf's face, 0 to 5, and its coordinates there, below 2^30.
+type Point struct {
 	Face, I, J uint32
 }
+
+// FacePoint is the name of Point in 1.0.
+type FacePoint = Point
 
 // Levels are the levels of many cells, in one call. A number that is no cell is refused with a PlaceError, here and in
 // the other calls for many cells.
@@ -80,7 +83,7 @@ func named(words []byte) ([]CellID, error) {
 }
 
 // CellIDsFromPoints are the leaves at many points, in one call. A PlaceError with ErrArgument: one is on no face.
-func CellIDsFromPoints(points []FacePoint) ([]CellID, error) {
+func CellIDsFromPoints(points []Point) ([]CellID, error) {
 	leaves := make([]CellID, len(points))
 	if len(points) == 0 {
 		return leaves, nil

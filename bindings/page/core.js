@@ -2,12 +2,20 @@
 // The calls of s2union.h in a module for WebAssembly whose memory has 64-bit addresses. A list is a BigUint64Array.
 
 const ROOM = -1;
+// made by tools/calls
 const FAULTS = {
-  [-1]: "too little room", [-2]: "out of memory", [-3]: "not a cell", [-4]: "not a normalized list of cells",
-  [-5]: "argument out of range", [-6]: "too many cells", [-10]: "union file: bytes are missing",
-  [-11]: "union file: unknown version", [-12]: "union file: bytes after the last cell",
+  [-1]: "too little room",
+  [-2]: "out of memory",
+  [-3]: "not a cell",
+  [-4]: "not a normalized list of cells",
+  [-5]: "argument out of range",
+  [-6]: "too many cells",
+  [-10]: "union file: bytes are missing",
+  [-11]: "union file: unknown version",
+  [-12]: "union file: bytes after the last cell",
   [-13]: "union file: a number that is not a cell",
 };
+
 const HEAD_SIZE = 9;
 const PAGE_SIZE = 65536;
 

@@ -95,7 +95,8 @@ fuzzed() { # each call of the header with what libFuzzer makes up, from a fixed 
 all_fuzzed() {
   local others='^s2u_\(heap_.*\|status_text\|version\)$'
   ! comm -23 <(grep -o '\bs2u_[a-z_]*(' "$include/s2union.h" | tr -d '(' | grep -v "$others" | sort -u) \
-    <(grep -o '\bs2u_[a-z_]*' "$tests/fuzz.c" | sort -u) | grep .
+    <({ grep -o '\bs2u_[a-z_]*' "$tests/fuzz.c" && sed -n 's/.*\bX(\([a-z_]*\),.*/s2u_\1/p' "$tests/calls.h"; } |
+      sort -u) | grep .
 }
 step "the fuzzer knows each call of the header" all_fuzzed
 if [ -e "$(clang --print-runtime-dir)/libclang_rt.fuzzer-x86_64.a" ]; then

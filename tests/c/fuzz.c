@@ -2,6 +2,7 @@
  * number spoiled, cells in any order, numbers that are no cells, lengths of 0 with no pointer. Whatever they are, what
  * the header promises has to hold: the statuses, the bounds on *len, what is not touched, and not a byte read or
  * written past a list: each ends at a page which may not be touched. tests/c/check.sh builds it. */
+#include "calls.h"
 #include "tests.h"
 
 enum { MOST = 48, BYTES = 9 + 8 * MOST, TEXT = 17 * MOST };
@@ -196,16 +197,26 @@ static void questions(void) {
 
 static void sets(void) {
   typedef int32_t set_call(const uint64_t*, size_t, const uint64_t*, size_t, uint64_t*, size_t, size_t*);
-  set_call* calls[] = {s2u_union, s2u_intersection, s2u_difference};
-  size_t nx = list_before(xs_end, MOST), ny = list_before(ys_end, MOST), len = 77;
+  typedef int32_t own_call(const uint64_t*, size_t, uint64_t*, size_t, size_t*);
+#define CALL(name, most) s2u_##name,
+#define BOUND(name, most) most,
+  static set_call* const of_two[] = {CALLS_OF_TWO_UNIONS(CALL)};
+  static own_call* const of_one[] = {CALLS_OF_A_UNION(CALL)};
+  size_t nx = list_before(xs_end, MOST), ny = list_before(ys_end, MOST), n = nx, len = 77;
+  const uint64_t bounds_of_two[] = {CALLS_OF_TWO_UNIONS(BOUND)}, bounds_of_one[] = {CALLS_OF_A_UNION(BOUND)};
   const uint64_t *xs = nx ? xs_end - nx : NULL, *ys = ny ? ys_end - ny : NULL;
   int real = s2u_is_union(xs, nx) && s2u_is_union(ys, ny);
-  for (int call = 0; call < 3; call++) {
+  for (size_t call = 0; call < sizeof of_two / sizeof *of_two; call++) {
     uint64_t* out = fresh();
-    int32_t status = calls[call](xs, nx, ys, ny, out, room, &len);
+    int32_t status = of_two[call](xs, nx, ys, ny, out, room, &len);
     MUST(status == S2U_OK || status == S2U_ROOM);
-    made(8 + call, status, len, !real ? 256 * (nx + ny) : call == 2 ? S2U_MOST_DIFFERENCE(nx, ny) : nx + ny);
+    made(32 + (int)call, status, len, real ? bounds_of_two[call] : 256 * (nx + ny));
     MUST(!real || status != S2U_OK || s2u_is_union(out, len) == 1);
+  }
+  for (size_t call = 0; call < sizeof of_one / sizeof *of_one; call++) {
+    int32_t status = of_one[call](xs, nx, fresh(), room, &len);
+    MUST(status == S2U_OK || status == S2U_ROOM);
+    made(48 + (int)call, status, len, real ? bounds_of_one[call] : 256 * (nx + 1));
   }
   uint64_t first = some_number(), last = some_number();
   uint64_t* out = fresh();
@@ -232,7 +243,6 @@ static void making(void) {
   MUST(fit ? status == S2U_OK || status == S2U_ROOM : status == S2U_ARGUMENT);
   made(13, status, len, UINT64_MAX);
   MUST(len == many);
-  made(14, s2u_ancestors(xs, n, fresh(), room, &len), len, S2U_MOST_ANCESTORS(n));
 }
 
 /* Lists in one array that end at any places, with room to work that may be too short. */

@@ -1,8 +1,15 @@
 /* 200,000 lists and byte strings of garbage that end at a page which may not be touched: no crash, answers that are
  * answers, and not a byte past the room. Built with the address sanitizer. */
+#include "calls.h"
 #include "tests.h"
 
 enum { MOST = 40 };
+#define CALL(name, most) s2u_##name,
+#define BOUND(name, most) most,
+typedef int32_t two_call(const uint64_t*, size_t, const uint64_t*, size_t, uint64_t*, size_t, size_t*);
+typedef int32_t one_call(const uint64_t*, size_t, uint64_t*, size_t, size_t*);
+static two_call* const of_two[] = {CALLS_OF_TWO_UNIONS(CALL)};
+static one_call* const of_one[] = {CALLS_OF_A_UNION(CALL)};
 
 static uint64_t garbage(void) {
   switch (draw() % 4) {
@@ -106,17 +113,21 @@ int main(void) {
     unions += (size_t)s2u_is_union(xs, nx);
     for (size_t k = 0; k < room; k++) out[k] = 7;
     int are_unions = s2u_is_union(xs, nx) && s2u_is_union(ys, ny);
-    status = s2u_union(xs, nx, ys, ny, out, room, &len);
-    CHECK(status == (len > room ? S2U_ROOM : S2U_OK) && len <= (are_unions ? 1u : 256u) * (nx + ny));
-    for (size_t k = status == S2U_OK ? len : room; k < room; k++) CHECK(out[k] == 7);
-    CHECK(!are_unions || status != S2U_OK || s2u_is_union(out, len));
-    status = s2u_intersection(xs, nx, ys, ny, out, room, &len);
-    CHECK(status == (len > room ? S2U_ROOM : S2U_OK) && len <= nx + ny);
-    CHECK(!are_unions || status != S2U_OK || s2u_is_union(out, len));
-    status = s2u_difference(xs, nx, ys, ny, out, room, &len);
-    CHECK(status == (len > room ? S2U_ROOM : S2U_OK));
-    CHECK(len <= (are_unions ? S2U_MOST_DIFFERENCE(nx, ny) : 256 * (nx + ny)));
-    CHECK(!are_unions || status != S2U_OK || s2u_is_union(out, len));
+    for (size_t k = 0; k < sizeof of_two / sizeof *of_two; k++) {
+      const uint64_t bounds[] = {CALLS_OF_TWO_UNIONS(BOUND)};
+      status = of_two[k](xs, nx, ys, ny, out, room, &len);
+      CHECK(status == (len > room ? S2U_ROOM : S2U_OK) && len <= (are_unions ? bounds[k] : 256 * (nx + ny)));
+      for (size_t at = status == S2U_OK ? len : room; at < room; at++) CHECK(out[at] == 7);
+      CHECK(!are_unions || status != S2U_OK || s2u_is_union(out, len));
+      for (size_t at = 0; at < room; at++) out[at] = 7;
+    }
+    for (size_t k = 0, n = nx; k < sizeof of_one / sizeof *of_one; k++) {
+      const uint64_t bounds[] = {CALLS_OF_A_UNION(BOUND)};
+      status = of_one[k](xs, nx, out, room, &len);
+      CHECK(status == (len > room ? S2U_ROOM : S2U_OK) && len <= (are_unions ? bounds[k] : 256 * (nx + 1)));
+      for (size_t at = status == S2U_OK ? len : room; at < room; at++) CHECK(out[at] == 7);
+      for (size_t at = 0; at < room; at++) out[at] = 7;
+    }
     uint64_t last = garbage();
     status = s2u_range(cell, last, out, room, &len);
     CHECK(status == S2U_OK     ? s2u_is_union(out, len) && len <= room

@@ -1,6 +1,7 @@
 /* Each allocation refused in turn, in each call that takes memory: the status is S2U_MEMORY, or the right result by
  * another way; nothing stays allocated, nothing else has changed. The calls that are [pure] take none. */
 #include "../refuse.h"
+#include "calls.h"
 #include "tests.h"
 
 enum { N = 3000, ROOM = 400000 };
@@ -10,9 +11,13 @@ static uint8_t file[9 + 8 * ROOM], bytes[9 + 8 * ROOM], mixed[9 + 8 * N];
 static size_t nx, ny, nlist, nfile, len;
 static const s2u_rect rect = {1, 126420997, 159450117, 401604613, 434633733};
 
-static int32_t unite(void) { return s2u_union(xs, nx, ys, ny, out, ROOM, &len); }
-static int32_t intersect(void) { return s2u_intersection(xs, nx, ys, ny, out, ROOM, &len); }
-static int32_t subtract(void) { return s2u_difference(xs, nx, ys, ny, out, ROOM, &len); }
+#define OF_TWO(name, most) \
+  static int32_t do_##name(void) { return s2u_##name(xs, nx, ys, ny, out, ROOM, &len); }
+#define OF_ONE(name, most) \
+  static int32_t do_##name(void) { return s2u_##name(xs, nx, out, ROOM, &len); }
+#define ENTRY(name, most) {#name, do_##name, 1},
+CALLS_OF_TWO_UNIONS(OF_TWO)
+CALLS_OF_A_UNION(OF_ONE)
 static int32_t many(void) {
   size_t ends[2] = {nx / 3, nx};
   return s2u_union_of_many(xs, nx, ends, 2, work, 2 * N, out, ROOM, &len);
@@ -25,7 +30,6 @@ static int32_t cut_len(void) {
   len = (size_t)n;
   return status;
 }
-static int32_t ancestors(void) { return s2u_ancestors(xs, nx, out, ROOM, &len); }
 static int32_t of_file(void) { return s2u_file_ancestors(file, nfile, out, ROOM, &len); }
 static int32_t outer(void) { return s2u_outer(&rect, 14, 1000000, out, ROOM, &len); }
 static int32_t inner(void) { return s2u_inner(&rect, 14, 1000000, out, ROOM, &len); }
@@ -44,9 +48,9 @@ int main(void) {
     const char* name;
     int32_t (*call)(void);
     int is_pure;
-  } calls[] = {{"union", unite, 1}, {"intersection", intersect, 1}, {"difference", subtract, 1},
+  } calls[] = {CALLS_OF_TWO_UNIONS(ENTRY) CALLS_OF_A_UNION(ENTRY)
                {"union_of_many", many, 1}, {"range", range, 0}, {"denormalised", cut, 1},
-               {"denormalised_len", cut_len, 1}, {"ancestors", ancestors, 1}, {"file_ancestors", of_file, 1},
+               {"denormalised_len", cut_len, 1}, {"file_ancestors", of_file, 1},
                {"outer", outer, 0}, {"inner", inner, 0}, {"outer_of", outer_of, 1}, {"inner_of", inner_of, 1},
                {"outer_in", outer_in, 0}, {"inner_in", inner_in, 0},
                {"encode", encode, 1}, {"decode of a union", decode, 1}, {"decode in any order", decode_mixed, 1},

@@ -1,4 +1,5 @@
 /* Calls with senseless arguments: no crash, not a byte written past the room, the stated refusal. */
+#include "calls.h"
 #include "tests.h"
 
 static const uint64_t face = 0x1000000000000000u;
@@ -52,6 +53,7 @@ static void arguments_out_of_range(void) {
 }
 
 typedef int32_t set_call(const uint64_t*, size_t, const uint64_t*, size_t, uint64_t*, size_t, size_t*);
+typedef int32_t own_call(const uint64_t*, size_t, uint64_t*, size_t, size_t*);
 
 /* Lists that no call checks: the result means nothing, but it lies in the room, and its length within the bounds. */
 static void lists_that_are_no_union(void) {
@@ -59,7 +61,9 @@ static void lists_that_are_no_union(void) {
     const uint64_t* ids;
     size_t n;
   } lists[] = {{unordered, 2}, {siblings, 4}, {wrong, sizeof wrong / sizeof *wrong}};
-  set_call* sets[] = {s2u_union, s2u_intersection, s2u_difference};
+#define CALL(name, most) s2u_##name,
+  static set_call* const sets[] = {CALLS_OF_TWO_UNIONS(CALL)};
+  static own_call* const own[] = {CALLS_OF_A_UNION(CALL)};
   CHECK(s2u_is_union(siblings, 3) == 1);
   for (size_t k = 0; k < sizeof lists / sizeof *lists; k++) {
     const uint64_t* ids = lists[k].ids;
@@ -69,14 +73,15 @@ static void lists_that_are_no_union(void) {
     CHECK(s2u_is_union(ids, n) == 0);
     for (size_t room = 0; room <= 8; room++) {
       uint64_t* out = at_the_edge(8 * room);
-      for (int call = 0; call < 3; call++) {
+      for (size_t call = 0; call < sizeof sets / sizeof *sets; call++) {
         int32_t status = sets[call](ids, n, &face, 1, out, room, &len);
         CHECK(status == (len > room ? S2U_ROOM : S2U_OK) && len <= 256 * (n + 1));
         status = sets[call](&face, 1, ids, n, out, room, &len);
         CHECK(status == (len > room ? S2U_ROOM : S2U_OK) && len <= 256 * (n + 1));
       }
-      CHECK(s2u_ancestors(ids, n, out, room, &len) == (len > room ? S2U_ROOM : S2U_OK));
-      CHECK(len <= S2U_MOST_ANCESTORS(n));
+      for (size_t call = 0; call < sizeof own / sizeof *own; call++) {
+        CHECK(own[call](ids, n, out, room, &len) == (len > room ? S2U_ROOM : S2U_OK) && len <= 256 * (n + 1));
+      }
       CHECK(s2u_denormalised(ids, n, 2, 1, out, room, &len) == (len > room ? S2U_ROOM : S2U_OK));
       CHECK(s2u_denormalised_len(ids, n, 2, 1, &many) == S2U_OK && many == len);
       CHECK(s2u_denormalised(ids, n, 31, 1, out, room, &len) == S2U_ARGUMENT && len == 0);

@@ -1014,7 +1014,7 @@ class TheModule(unittest.TestCase):
             for more, message in (({}, "libs2union.so.1 is not beside the module.*set S2UNION_LIBRARY"),
                                   ({"S2UNION_LIBRARY": "/no/such"}, "S2UNION_LIBRARY is '/no/such'"),
                                   ({"S2UNION_LIBRARY": folder + "/other.so"}, "can't load it .*other.so"),
-                                  ({"S2UNION_LIBRARY": "libc.so.6"}, "libc.so.6 has no call s2u_is_cell")):
+                                  ({"S2UNION_LIBRARY": "libc.so.6"}, "libc.so.6 has no call s2u_\\w+")):
                 said = subprocess.run([sys.executable, "-c", "import s2union"], env={**given, **more}, text=True,
                                       cwd=folder, stderr=subprocess.PIPE).stderr
                 self.assertRegex(said, f"\nImportError: .*{message}")

@@ -494,8 +494,8 @@ def _cells_in(ids: _array[int] | bytes) -> memoryview:
 def _rectangle(bounds: Iterable[SupportsIndex]) -> Any:
     """What the library takes for a rectangle: the place of its bounds."""
     face, i0, i1, j0, j1 = bounds
-    return _c.byref(_library.Rectangle(_number(face, 5, "a face"),
-                                       *(_number(x, 2**30 - 1, "a coordinate") for x in (i0, i1, j0, j1))))
+    return _c.byref(_library.Rect(_number(face, 5, "a face"),
+                                  *(_number(x, 2**30 - 1, "a coordinate") for x in (i0, i1, j0, j1))))
 
 
 def _up_to(level: SupportsIndex, most: SupportsIndex) -> tuple[int, int]:

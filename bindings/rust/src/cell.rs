@@ -4,6 +4,7 @@ use std::str::FromStr;
 
 use crate::calls;
 use crate::error::Error;
+use crate::lists;
 
 /// The identifier of a cell: S2's `S2CellId`, but never of none. Cells are in the order of the curve.
 ///
@@ -22,7 +23,8 @@ use crate::error::Error;
 pub struct CellId(NonZeroU64);
 
 /// The square of a cell on its face: its least coordinates and its side, in leaves.
-#[derive(Clone, Copy, Debug, PartialEq, Eq, Hash)]
+#[derive(Clone, Copy, Debug, Default, PartialEq, Eq, Hash)]
+#[repr(C)] // s2u_square
 pub struct Square {
     /// 0 to 5.
     pub face: u32,
@@ -148,19 +150,19 @@ impl CellId {
 
     /// The square of the cell.
     pub fn square(self) -> Square {
-        let mut found = calls::SquareOf::default();
+        let mut found = Square::default();
         calls::square_of(self.id(), &mut found);
-        Square { face: found.face, i: found.i, j: found.j, size: found.size }
+        found
     }
 
     /// The number in hexadecimal without the zeros at its end.
     pub fn token(self) -> String {
-        text(calls::token(self.id()))
+        text(lists::token(self.id()))
     }
 
     /// The debug text, such as "4/032212".
     pub fn debug(self) -> String {
-        text(calls::debug(self.id()))
+        text(lists::debug(self.id()))
     }
 
     /// The cell that a call answers; none if that is 0.
@@ -206,6 +208,20 @@ impl TryFrom<i64> for CellId {
 impl From<CellId> for u64 {
     fn from(cell: CellId) -> u64 {
         cell.id()
+    }
+}
+
+/// The signed number of the same 64 bits, as databases have it.
+impl From<CellId> for i64 {
+    fn from(cell: CellId) -> i64 {
+        cell.signed()
+    }
+}
+
+/// The number in hexadecimal, with the zeros at its end: 16 digits with `{:016x}`.
+impl fmt::LowerHex for CellId {
+    fn fmt(&self, f: &mut fmt::Formatter<'_>) -> fmt::Result {
+        fmt::LowerHex::fmt(&self.id(), f)
     }
 }
 

@@ -3,12 +3,13 @@
 use crate::calls;
 use crate::cell::CellId;
 use crate::error::Error;
+use crate::lists;
 use crate::union::{cells_of, numbers};
 
 /// A leaf's face and its coordinates there.
 #[derive(Clone, Copy, Debug, PartialEq, Eq, Hash)]
 #[repr(C)] // s2u_point
-pub struct FacePoint {
+pub struct Point {
     /// 0 to 5.
     pub face: u32,
     /// The first coordinate, below 2^30.
@@ -16,6 +17,9 @@ pub struct FacePoint {
     /// The second coordinate, below 2^30.
     pub j: u32,
 }
+
+/// The name of [`Point`] in 1.0.
+pub type FacePoint = Point;
 
 /// What the methods for one cell answer, for many in one call.
 ///
@@ -30,27 +34,27 @@ pub struct FacePoint {
 impl CellId {
     /// The level of each cell.
     pub fn levels(cells: &[CellId]) -> Vec<u8> {
-        calls::levels(numbers(cells))
+        lists::levels(numbers(cells))
     }
 
     /// The cell of a level that contains each cell; none if the level is deeper than its own.
     pub fn parents(cells: &[CellId], level: u32) -> Vec<Option<CellId>> {
-        calls::parents(numbers(cells), level).into_iter().map(CellId::made).collect()
+        lists::parents(numbers(cells), level).into_iter().map(CellId::made).collect()
     }
 
     /// The first leaf of each cell.
     pub fn range_mins(cells: &[CellId]) -> Vec<CellId> {
-        cells_of(calls::range_mins(numbers(cells)))
+        cells_of(lists::range_mins(numbers(cells)))
     }
 
     /// The last leaf of each cell.
     pub fn range_maxes(cells: &[CellId]) -> Vec<CellId> {
-        cells_of(calls::range_maxes(numbers(cells)))
+        cells_of(lists::range_maxes(numbers(cells)))
     }
 
     /// The token of each cell in 16 bytes, with zeros after it.
     pub fn token_fields(cells: &[CellId]) -> Vec<[u8; calls::MOST_TOKEN]> {
-        let text = calls::token_fields(numbers(cells));
+        let text = lists::token_fields(numbers(cells));
         let mut fields = vec![[0; calls::MOST_TOKEN]; cells.len()];
         for (field, bytes) in fields.iter_mut().zip(text.chunks_exact(calls::MOST_TOKEN)) {
             field.copy_from_slice(bytes);
@@ -71,11 +75,11 @@ impl CellId {
     /// # Ok::<(), Error>(())
     /// ```
     pub fn from_tokens(text: &str) -> Result<Vec<CellId>, Error> {
-        calls::from_tokens(text.as_bytes()).map(cells_of)
+        lists::from_tokens(text.as_bytes()).map(cells_of)
     }
 
     /// The leaf at each point; none if it is on no face.
-    pub fn from_points(points: &[FacePoint]) -> Vec<Option<CellId>> {
-        calls::from_points(points).into_iter().map(CellId::made).collect()
+    pub fn from_points(points: &[Point]) -> Vec<Option<CellId>> {
+        lists::from_points(points).into_iter().map(CellId::made).collect()
     }
 }

@@ -1,5 +1,6 @@
 use crate::calls;
 use crate::error::Error;
+use crate::lists;
 use crate::union::CellUnion;
 
 /// The most cells that a covering may have.
@@ -16,6 +17,7 @@ pub const MOST_COVERING: usize = calls::MOST_COVERING;
 /// # Ok::<(), s2union::Error>(())
 /// ```
 #[derive(Clone, Copy, Debug, PartialEq, Eq, Hash)]
+#[repr(C)] // s2u_rect
 pub struct Rect {
     /// 0 to 5.
     pub face: u32,
@@ -33,28 +35,24 @@ impl Rect {
     /// The cells of a level that share a leaf with the rectangle. [`Error::Argument`], [`Error::Memory`].
     /// [`Error::Many`]: there would be more than `most` cells, or more than [`MOST_COVERING`].
     pub fn outer(&self, level: u32, most: usize) -> Result<CellUnion, Error> {
-        CellUnion::made(calls::outer(&self.corners(), level, most))
+        CellUnion::made(lists::outer(self, level, most))
     }
 
     /// The cells of a level that lie in the rectangle, as `outer`.
     pub fn inner(&self, level: u32, most: usize) -> Result<CellUnion, Error> {
-        CellUnion::made(calls::inner(&self.corners(), level, most))
-    }
-
-    fn corners(&self) -> calls::Corners {
-        calls::Corners { face: self.face, i0: self.i0, i1: self.i1, j0: self.j0, j1: self.j1 }
+        CellUnion::made(lists::inner(self, level, most))
     }
 }
 
 impl CellUnion {
     /// The cells of a level that share a leaf with the union, as that of a [`Rect`].
     pub fn outer(&self, level: u32, most: usize) -> Result<CellUnion, Error> {
-        CellUnion::made(calls::outer_of(self.as_ref(), level, most))
+        CellUnion::made(lists::outer_of(self.as_ref(), level, most))
     }
 
     /// The cells of a level that lie in the union, as `outer`.
     pub fn inner(&self, level: u32, most: usize) -> Result<CellUnion, Error> {
-        CellUnion::made(calls::inner_of(self.as_ref(), level, most))
+        CellUnion::made(lists::inner_of(self.as_ref(), level, most))
     }
 
     /// The cells of a level that share a leaf with what the union and a rectangle share, as that of a [`Rect`]. Only
@@ -71,11 +69,11 @@ impl CellUnion {
     /// # Ok::<(), s2union::Error>(())
     /// ```
     pub fn outer_in(&self, rect: &Rect, level: u32, most: usize) -> Result<CellUnion, Error> {
-        CellUnion::made(calls::outer_in(self.as_ref(), &rect.corners(), level, most))
+        CellUnion::made(lists::outer_in(self.as_ref(), rect, level, most))
     }
 
     /// The cells of a level that lie in what the union and a rectangle share, as `outer_in`.
     pub fn inner_in(&self, rect: &Rect, level: u32, most: usize) -> Result<CellUnion, Error> {
-        CellUnion::made(calls::inner_in(self.as_ref(), &rect.corners(), level, most))
+        CellUnion::made(lists::inner_in(self.as_ref(), rect, level, most))
     }
 }

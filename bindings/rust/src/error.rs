@@ -48,21 +48,29 @@ impl Error {
             _ => Err(Error::Other(status)),
         }
     }
+
+    fn status(self) -> i32 {
+        match self {
+            Error::Memory => calls::MEMORY,
+            Error::NoCell { .. } => calls::NO_CELL,
+            Error::NotNormalized => calls::NO_UNION,
+            Error::Argument => calls::ARGUMENT,
+            Error::Many => calls::MANY,
+            Error::FileShort => calls::FILE_SHORT,
+            Error::FileVersion => calls::FILE_VERSION,
+            Error::FileTrailing => calls::FILE_TRAILING,
+            Error::FileCell => calls::FILE_CELL,
+            Error::Other(status) => status,
+        }
+    }
 }
 
 impl fmt::Display for Error {
     fn fmt(&self, f: &mut fmt::Formatter<'_>) -> fmt::Result {
         match self {
-            Error::Memory => f.write_str("out of memory"),
-            Error::NoCell { place } => write!(f, "not a cell at place {place}"),
-            Error::NotNormalized => f.write_str("not a normalized list of cells"),
-            Error::Argument => f.write_str("argument out of range"),
-            Error::Many => f.write_str("too many cells"),
-            Error::FileShort => f.write_str("union file: bytes are missing"),
-            Error::FileVersion => f.write_str("union file: unknown version"),
-            Error::FileTrailing => f.write_str("union file: bytes after the last cell"),
-            Error::FileCell => f.write_str("union file: a number that is not a cell"),
-            Error::Other(status) => write!(f, "unknown refusal {status}"),
+            Error::NoCell { place } => write!(f, "{} at place {place}", calls::text(calls::NO_CELL)),
+            Error::Other(status) => write!(f, "{} {status}", calls::text(*status)),
+            known => f.write_str(calls::text(known.status())),
         }
     }
 }

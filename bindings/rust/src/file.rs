@@ -3,6 +3,7 @@ use std::fmt;
 use crate::calls;
 use crate::cell::CellId;
 use crate::error::Error;
+use crate::lists;
 use crate::union::{cells_of, CellUnion};
 
 /// The bytes of a union file, which answer questions in place, as in a mapped file or a row of a table: nothing is
@@ -79,7 +80,7 @@ impl<'a> UnionFile<'a> {
 
     /// [`CellUnion::ancestors`] of the union. [`Error::Memory`].
     pub fn ancestors(&self) -> Result<Vec<CellId>, Error> {
-        calls::file_ancestors(self.bytes).map(cells_of)
+        lists::file_ancestors(self.bytes).map(cells_of)
     }
 
     /// The union, copied. [`Error::Memory`].

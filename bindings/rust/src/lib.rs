@@ -28,11 +28,12 @@ mod cells;
 mod covering;
 mod error;
 mod file;
+mod lists;
 mod operators;
 mod union;
 
 pub use cell::{CellId, Square};
-pub use cells::FacePoint;
+pub use cells::{FacePoint, Point};
 pub use covering::{Rect, MOST_COVERING};
 pub use error::Error;
 pub use file::UnionFile;

@@ -5,6 +5,7 @@ use std::str::FromStr;
 use crate::calls;
 use crate::cell::{text, CellId};
 use crate::error::Error;
+use crate::lists;
 
 /// A set of leaves, as the one normalized list of cells that covers it: S2's `S2CellUnion`. It never changes.
 ///
@@ -55,7 +56,7 @@ impl CellUnion {
     /// ```
     pub fn from_ids(ids: impl Into<Vec<u64>>) -> Result<CellUnion, Error> {
         let mut ids = ids.into();
-        calls::normalise(&mut ids)?;
+        lists::normalise(&mut ids)?;
         Ok(CellUnion { cells: cells_of(ids) })
     }
 
@@ -71,7 +72,7 @@ impl CellUnion {
     /// All leaves from the first of one cell to the last of another, also across faces. [`Error::Argument`]: the last
     /// leaf comes before the first. [`Error::Memory`].
     pub fn from_range(first: CellId, last: CellId) -> Result<CellUnion, Error> {
-        CellUnion::made(calls::range(first.id(), last.id()))
+        CellUnion::made(lists::range(first.id(), last.id()))
     }
 
     /// The leaves from `begin` up to `end`, which is not one of them; all from `begin` if there is no `end`.
@@ -134,12 +135,12 @@ impl CellUnion {
 
     /// Whether the union has all leaves of each cell in turn. Cells in ascending order are quickest.
     pub fn contains_cells(&self, cells: &[CellId]) -> Vec<bool> {
-        calls::contains_cells(self.as_ref(), numbers(cells))
+        lists::contains_cells(self.as_ref(), numbers(cells))
     }
 
     /// Whether the union has a leaf of each cell in turn.
     pub fn intersects_cells(&self, cells: &[CellId]) -> Vec<bool> {
-        calls::intersects_cells(self.as_ref(), numbers(cells))
+        lists::intersects_cells(self.as_ref(), numbers(cells))
     }
 
     /// The cells of the union that share a leaf with a cell. It takes log n steps.
@@ -176,7 +177,7 @@ impl CellUnion {
 
     /// The leaves of both. [`Error::Memory`].
     pub fn union(&self, other: &CellUnion) -> Result<CellUnion, Error> {
-        CellUnion::made(calls::union(self.as_ref(), other.as_ref()))
+        CellUnion::made(lists::union(self.as_ref(), other.as_ref()))
     }
 
     /// The leaves of any of many unions, in one call: up to 32 are merged in pairs, and the cells of more are sorted
@@ -197,28 +198,28 @@ impl CellUnion {
     {
         let (mut ids, mut ends) = (Vec::new(), Vec::new());
         for union in unions {
-            calls::append(&mut ids, union.borrow().as_ref())?;
-            calls::append(&mut ends, &[ids.len()])?;
+            lists::append(&mut ids, union.borrow().as_ref())?;
+            lists::append(&mut ends, &[ids.len()])?;
         }
-        CellUnion::made(calls::union_of_many(&ids, &ends))
+        CellUnion::made(lists::union_of_many(&ids, &ends))
     }
 
     /// The leaves that both have. [`Error::Memory`].
     pub fn intersection(&self, other: &CellUnion) -> Result<CellUnion, Error> {
-        CellUnion::made(calls::intersection(self.as_ref(), other.as_ref()))
+        CellUnion::made(lists::intersection(self.as_ref(), other.as_ref()))
     }
 
     /// The leaves of a cell that the union has. [`Error::Memory`].
     pub fn intersection_with_cell(&self, cell: CellId) -> Result<CellUnion, Error> {
         let found = if self.contains_cell(cell) { std::slice::from_ref(&cell) } else { self.cells_at(cell) };
-        let mut cells = calls::roomy(found.len())?;
+        let mut cells = lists::roomy(found.len())?;
         cells.extend_from_slice(found);
         Ok(CellUnion { cells })
     }
 
     /// The leaves that the other doesn't have. [`Error::Memory`].
     pub fn difference(&self, other: &CellUnion) -> Result<CellUnion, Error> {
-        CellUnion::made(calls::difference(self.as_ref(), other.as_ref()))
+        CellUnion::made(lists::difference(self.as_ref(), other.as_ref()))
     }
 
     /// The leaves that one of them has, and not the other. [`Error::Memory`].
@@ -250,7 +251,7 @@ impl CellUnion {
         if len > most as u64 {
             return Err(Error::Many);
         }
-        calls::denormalised(self.as_ref(), min_level, modulus, len as usize).map(cells_of)
+        lists::denormalised(self.as_ref(), min_level, modulus, len as usize).map(cells_of)
     }
 
     /// How many cells `denormalized` makes. [`Error::Argument`].
@@ -269,12 +270,12 @@ impl CellUnion {
     /// # Ok::<(), s2union::Error>(())
     /// ```
     pub fn ancestors(&self) -> Result<Vec<CellId>, Error> {
-        calls::ancestors(self.as_ref()).map(cells_of)
+        lists::ancestors(self.as_ref()).map(cells_of)
     }
 
     /// The union file: the bytes that S2's own `Encode` writes. [`Error::Memory`].
     pub fn encode(&self) -> Result<Vec<u8>, Error> {
-        calls::encode(self.as_ref())
+        lists::encode(self.as_ref())
     }
 
     /// The union in a union file, whose cells may be in any order. [`Error::FileShort`] and the others of files,
@@ -290,7 +291,7 @@ impl CellUnion {
     /// # Ok::<(), s2union::Error>(())
     /// ```
     pub fn decode(bytes: &[u8]) -> Result<CellUnion, Error> {
-        CellUnion::made(calls::decode(bytes))
+        CellUnion::made(lists::decode(bytes))
     }
 
     /// The union whose normalized list a call has made.
@@ -332,14 +333,14 @@ impl AsRef<[u64]> for CellUnion {
 impl FromStr for CellUnion {
     type Err = Error;
     fn from_str(text: &str) -> Result<CellUnion, Error> {
-        CellUnion::from_ids(calls::from_tokens(text.as_bytes())?)
+        CellUnion::from_ids(lists::from_tokens(text.as_bytes())?)
     }
 }
 
 /// The tokens, with blanks between them.
 impl fmt::Display for CellUnion {
     fn fmt(&self, f: &mut fmt::Formatter<'_>) -> fmt::Result {
-        f.pad(&text(calls::tokens(self.as_ref())))
+        f.pad(&text(lists::tokens(self.as_ref())))
     }
 }
 

@@ -8,7 +8,7 @@
  * number, any list, any bytes. No call aborts, raises, jumps, prints, sets a locale, uses floating point, or reads or
  * writes a byte outside the lists that it is given. The caller must ensure only four things:
  *   1. a pointer and its length describe memory that the call may use; a pointer may be NULL if its length is 0, and a
- *      pointer to one value (len, id, rect, ..) never;
+ *      pointer to one value (len, id, bounds, ..) never;
  *   2. lists that a call writes (out, len, text, ..) overlap no other argument;
  *   3. lists of uint64_t are aligned to 8 bytes, points and single values as C aligns them. Bytes and texts need no
  *      alignment;
@@ -250,15 +250,15 @@ int32_t s2u_ancestors(const uint64_t* ids, size_t n, uint64_t* out, size_t room,
  * are found in log n steps. Memory is taken for those that have a leaf in the rectangle. `out` is touched by S2U_OK
  * alone. Of a list that is no union they cover some union. */
 #define S2U_MOST_COVERING 1000000
-int32_t s2u_outer(const s2u_rect* rect, uint32_t level, size_t most, uint64_t* out, size_t room, size_t* len);
-int32_t s2u_inner(const s2u_rect* rect, uint32_t level, size_t most, uint64_t* out, size_t room, size_t* len);
+int32_t s2u_outer(const s2u_rect* bounds, uint32_t level, size_t most, uint64_t* out, size_t room, size_t* len);
+int32_t s2u_inner(const s2u_rect* bounds, uint32_t level, size_t most, uint64_t* out, size_t room, size_t* len);
 int32_t s2u_outer_of(const uint64_t* ids, size_t n, uint32_t level, size_t most, uint64_t* out, size_t room,
                      size_t* len);
 int32_t s2u_inner_of(const uint64_t* ids, size_t n, uint32_t level, size_t most, uint64_t* out, size_t room,
                      size_t* len);
-int32_t s2u_outer_in(const uint64_t* ids, size_t n, const s2u_rect* rect, uint32_t level, size_t most, uint64_t* out,
+int32_t s2u_outer_in(const uint64_t* ids, size_t n, const s2u_rect* bounds, uint32_t level, size_t most, uint64_t* out,
                      size_t room, size_t* len);
-int32_t s2u_inner_in(const uint64_t* ids, size_t n, const s2u_rect* rect, uint32_t level, size_t most, uint64_t* out,
+int32_t s2u_inner_in(const uint64_t* ids, size_t n, const s2u_rect* bounds, uint32_t level, size_t most, uint64_t* out,
                      size_t room, size_t* len);
 
 /* ---- files ----------------------------------------------------------------------------------------------------------

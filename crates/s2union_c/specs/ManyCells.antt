@@ -4,7 +4,7 @@ use Rattle.std.specs.Prelude.{◌^◌, slice_index_or, replicate}
 use Rattle.s2cell.specs.Cell.{IsCell, first_leaf, level_of}
 use Rattle.s2cell.specs.Curve.{IsPlaceOf}
 use Rattle.s2cell.specs.Token.{token_of}
-use Rattle.s2union_c.specs.declared.many_cells.FacePoint.{FacePoint}
+use Rattle.s2union_c.specs.declared.many_cells.Point.{Point}
 
 -- the number is a cell whose level is at least `level`
 abbrev pub HasParent : ℕ → ℕ → Type 0
@@ -20,13 +20,13 @@ IsTokenField id field =
     IsValueOr (IsCell id) (token_of id ++ replicate (16 - length (token_of id)) 0) (replicate 16 0) field
 
 -- the face and the coordinates are those of a leaf
-pub record IsOnFace (point : FacePoint) : Type 0 where
+pub record IsOnFace (point : Point) : Type 0 where
   pub face : point.face < 6
   pub i : point.i < 2 ^ 30
   pub j : point.j < 2 ^ 30
 
 -- the number is the leaf at the point, or 0 if the point is on no face
-abbrev pub IsLeafAt : FacePoint → ℕ → Type 0
+abbrev pub IsLeafAt : Point → ℕ → Type 0
 IsLeafAt point id =
     (IsOnFace point × IsCell id × (level_of id ≡ 30) × IsPlaceOf (first_leaf id) point.face point.i point.j)
     ⊎ ((IsOnFace point → ⊥) × (id ≡ 0))

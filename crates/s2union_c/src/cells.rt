@@ -13,7 +13,7 @@ use s2cell::{CellId, SIDE};
 /// The square of a cell on its face: its least coordinates and its side, in leaves.
 #[repr(C)]
 #[derive(Clone, Copy)]
-pub struct FaceSquare {
+pub struct Square {
     /// The face, 0 to 5.
     pub face: u32,
     /// The least coordinate i.
@@ -209,7 +209,7 @@ pub extern "C" fn s2u_from_face_ij(face: u32, i: u32, j: u32) -> u64
 
 /// The square of a cell.
 #[unsafe(no_mangle)]
-pub extern "C" fn s2u_square_of(id: u64, square: &mut FaceSquare) -> i32
+pub extern "C" fn s2u_square_of(id: u64, square: &mut Square) -> i32
     ensures made { IsCell id → (result ≡ made)
         × IsSquareOf id square.new.face square.new.i square.new.j square.new.size }
     ensures no_cell { (IsCell id → ⊥) → (result ≡ no_cell) × (square.new ≡ square.old) }
@@ -218,7 +218,7 @@ pub extern "C" fn s2u_square_of(id: u64, square: &mut FaceSquare) -> i32
         return NO_CELL;
     };
     let found = cell.square();
-    *square = FaceSquare {
+    *square = Square {
         face: u32::from(found.face),
         i: found.i,
         j: found.j,

@@ -23,7 +23,7 @@ use std::alloc::Global;
 /// The leaves of a face, 0 to 5, with coordinates from `i0` to `i1` and from `j0` to `j1`, bounds included.
 #[repr(C)]
 #[derive(Clone, Copy)]
-pub struct Bounds {
+pub struct Rect {
     /// The face.
     pub face: u32,
     /// The least coordinate i.
@@ -41,7 +41,7 @@ pub struct Bounds {
 #[unsafe(no_mangle)]
 pub extern "C" fn s2u_outer(
     alloc: Global,
-    bounds: &Bounds,
+    bounds: &Rect,
     level: u32,
     most: usize,
     out: &mut [u64],
@@ -62,7 +62,7 @@ pub extern "C" fn s2u_outer(
 #[unsafe(no_mangle)]
 pub extern "C" fn s2u_inner(
     alloc: Global,
-    bounds: &Bounds,
+    bounds: &Rect,
     level: u32,
     most: usize,
     out: &mut [u64],
@@ -155,7 +155,7 @@ pub extern "C" fn s2u_inner_of(
 pub extern "C" fn s2u_outer_in(
     alloc: Global,
     ids: &[u64],
-    bounds: &Bounds,
+    bounds: &Rect,
     level: u32,
     most: usize,
     out: &mut [u64],
@@ -181,7 +181,7 @@ pub extern "C" fn s2u_outer_in(
 pub extern "C" fn s2u_inner_in(
     alloc: Global,
     ids: &[u64],
-    bounds: &Bounds,
+    bounds: &Rect,
     level: u32,
     most: usize,
     out: &mut [u64],
@@ -261,7 +261,7 @@ fn put_covering(side: Side, ids: &[u64], level: u8, most: usize, out: &mut [u64]
 fn cover_rect(
     alloc: Global,
     side: Side,
-    bounds: &Bounds,
+    bounds: &Rect,
     level: u32,
     most: usize,
     out: &mut [u64],
@@ -315,7 +315,7 @@ fn cover_in(
     alloc: Global,
     side: Side,
     ids: &[u64],
-    bounds: &Bounds,
+    bounds: &Rect,
     level: u32,
     most: usize,
     out: &mut [u64],
@@ -371,7 +371,7 @@ fn clipped_covering(
 }
 
 /// The rectangle with these bounds, if there is one.
-fn rect_of(bounds: &Bounds) -> Option<FaceRect>
+fn rect_of(bounds: &Rect) -> Option<FaceRect>
     ensures { SomeIff result (IsRect (rect_with bounds.now)) (rect_with bounds.now) }
 {
     if bounds.face > 5 {

@@ -26,7 +26,7 @@ pub(crate) enum Relative {
 /// A leaf's face and its coordinates there.
 #[repr(C)]
 #[derive(Clone, Copy)]
-pub struct FacePoint {
+pub struct Point {
     /// The face, 0 to 5.
     pub face: u32,
     /// The coordinate i.
@@ -137,9 +137,9 @@ pub extern "C" fn s2u_token_fields(ids: &[u64], text: &mut [u8], bad: &mut usize
 /// For each point its leaf, as `s2u_from_face_ij` answers it, or 0. `bad` is the index in the list of the first point
 /// that is on no face, or how many points there are.
 #[unsafe(no_mangle)]
-pub extern "C" fn s2u_from_points(points: &[FacePoint], out: &mut [u64], bad: &mut usize) -> i32
+pub extern "C" fn s2u_from_points(points: &[Point], out: &mut [u64], bad: &mut usize) -> i32
     ensures made { length points.now ≤ length out.old → result ≡ made }
-    ensures exact { length points.now ≤ length out.old → (k : ℕ) (p : FacePoint) → k < length points.now
+    ensures exact { length points.now ≤ length out.old → (k : ℕ) (p : Point) → k < length points.now
         → IsLeafAt (slice_index_or points.now k p) (slice_index out.new k) }
     ensures bad { length points.now ≤ length out.old → IsFirstWithout IsOnFace points.now bad.new }
     ensures rest { drop (length points.now) out.new ≡ drop (length points.now) out.old }
@@ -158,7 +158,7 @@ pub extern "C" fn s2u_from_points(points: &[FacePoint], out: &mut [u64], bad: &m
 }
 
 /// The index in the list of the first point that is on no face, or how many points there are.
-fn first_off_its_face(points: &[FacePoint]) -> usize
+fn first_off_its_face(points: &[Point]) -> usize
     ensures { IsFirstWithout IsOnFace points.now result }
 {
     for k in 0..points.len() {
@@ -170,14 +170,14 @@ fn first_off_its_face(points: &[FacePoint]) -> usize
 }
 
 /// Whether the face and the coordinates are in range.
-fn is_on_face(point: FacePoint) -> bool
+fn is_on_face(point: Point) -> bool
     ensures { IsTrue result ↔ IsOnFace point }
 {
     point.face < 6 && point.i < SIDE && point.j < SIDE
 }
 
 /// The leaf at a point, or 0.
-fn leaf_at(point: FacePoint) -> u64
+fn leaf_at(point: Point) -> u64
     ensures { IsLeafAt point result }
 {
     if !is_on_face(point) {

@@ -1,0 +1,100 @@
+"""The table of the library's calls, and that a mistake in what is declared is refused: tests/c/table.py.
+
+First `tools/calls --check`. Then each mistake below is made in a copy of what it reads, and it has to find fault. The
+last line is 'N passed, M failed'.
+"""
+import shutil
+import subprocess
+import sys
+import tempfile
+from pathlib import Path
+from typing import NamedTuple
+
+TOP = Path(__file__).resolve().parents[2]
+READ = ["tools/calls", "crates/s2union_c/src", "crates/s2union_c/include", "crates/s2cover/src/lib.rt",
+        "bindings/rust/src", "bindings/python/s2union", "bindings/page/core.js", "tests/c/calls.h"]
+HEADER = "crates/s2union_c/include/s2union.h"
+
+
+class Mistake(NamedTuple):
+    """A mistake: its name, a file, a text that stands there once, and what stands there instead."""
+
+    name: str
+    file: str
+    old: str
+    new: str
+
+
+MISTAKES = [
+    Mistake("two lengths of the header in the wrong order", HEADER,
+            "int32_t s2u_outer_of(const uint64_t* ids, size_t n, uint32_t level, size_t most,",
+            "int32_t s2u_outer_of(const uint64_t* ids, size_t most, uint32_t level, size_t n,"),
+    Mistake("a list of the header that is written where it is read", HEADER,
+            "s2u_is_union(const uint64_t* ids,", "s2u_is_union(uint64_t* ids,"),
+    Mistake("a call of the header that the library lacks", HEADER,
+            "int32_t s2u_is_cell(uint64_t id);",
+            "int32_t s2u_is_cell(uint64_t id);\nint32_t s2u_is_leaf(uint64_t id);"),
+    Mistake("a call that the header lacks", HEADER, "int32_t s2u_is_cell(uint64_t id);", ""),
+    Mistake("two fields of a structure in the wrong order", HEADER,
+            "uint32_t face, i0, i1, j0, j1;", "uint32_t face, i0, j0, i1, j1;"),
+    Mistake("another number of a status", HEADER, "S2U_MEMORY = -2,", "S2U_MEMORY = -7,"),
+    Mistake("two lengths of Rust in the wrong order", "bindings/rust/src/calls.rs",
+            "fn s2u_is_union(ids: *const u64, n: usize)", "fn s2u_is_union(n: usize, ids: *const u64)"),
+    Mistake("two lengths that Rust passes in the wrong order", "bindings/rust/src/calls.rs",
+            "s2u_contains(xs.as_ptr(), xs.len(), ys.as_ptr(), ys.len())",
+            "s2u_contains(xs.as_ptr(), ys.len(), ys.as_ptr(), xs.len())"),
+    Mistake("two fields of Rust in the wrong order", "bindings/rust/src/covering.rs",
+            "    pub i1: u32,\n    /// The least second coordinate.\n    pub j0: u32,",
+            "    pub j0: u32,\n    /// The least second coordinate.\n    pub i1: u32,"),
+    Mistake("a length of Python before its list", "bindings/python/s2union/_library.py",
+            '"is_union", _i32, _at, _size)', '"is_union", _i32, _size, _at)'),
+    Mistake("a level of Python as wide as a length", "bindings/python/s2union/_library.py",
+            '"outer_of", _i32, _at, _size, _u32, _size,', '"outer_of", _i32, _at, _size, _size, _u32,'),
+    Mistake("a text of another refusal in JavaScript", "bindings/page/core.js", '[-2]: "out of memory"',
+            '[-2]: "not a cell"'),
+    Mistake("a call of JavaScript that takes memory", "bindings/page/core.js", '"s2u_union", [xs, ys]',
+            '"s2u_range", [xs, ys]'),
+    Mistake("a list that JavaScript leaves out", "bindings/page/core.js", '"s2u_union", [xs, ys]', '"s2u_union", [xs]'),
+]
+
+
+def checked(folder):
+    """What tools/calls says of a folder, and whether it finds nothing."""
+    done = subprocess.run([sys.executable, TOP / "tools" / "calls", "--check", folder], capture_output=True, text=True,
+                          check=False)
+    return done.stdout + done.stderr, done.returncode == 0
+
+
+def is_refused(mistake, room):
+    folder = Path(room) / "copy"
+    shutil.rmtree(folder, ignore_errors=True)
+    for name in READ:
+        there = folder / name
+        there.parent.mkdir(parents=True, exist_ok=True)
+        (shutil.copytree if (TOP / name).is_dir() else shutil.copyfile)(TOP / name, there)
+    file = folder / mistake.file
+    text = file.read_text(encoding="utf-8")
+    if text.count(mistake.old) != 1:
+        print(f"can't be made: {mistake.name}: its text is there {text.count(mistake.old)} times")
+        return False
+    file.write_text(text.replace(mistake.old, mistake.new), encoding="utf-8")
+    said, is_fine = checked(folder)
+    if is_fine or " passed, " not in said:
+        print(f"NOT REFUSED: {mistake.name}\n{said}")
+        return False
+    return True
+
+
+def main():
+    said, is_fine = checked(TOP)
+    print(said, end="" if is_fine else "\n")
+    counts = said.splitlines()[-1].split() if said else ["0", "", "1"]
+    with tempfile.TemporaryDirectory() as room:
+        refused = [is_refused(mistake, room) for mistake in MISTAKES]
+    passed, failed = int(counts[0]) + sum(refused), int(counts[2]) + refused.count(False)
+    print(f"{passed} passed, {failed} failed")
+    return failed > 0
+
+
+if __name__ == "__main__":
+    sys.exit(main())
