@@ -319,6 +319,17 @@ class CellUnionOf {
     return Both(s2u_difference, size() + std::min(size(), y.size()) + S2U_MOST_DIFFERENCE(0, 1), y, status);
   }
 
+  /// The leaves that exactly one of them has. S2U_MEMORY.
+  CellUnionOf SymmetricDifference(const CellUnionOf& y, int32_t* status = nullptr) const {
+    return Both(s2u_symmetric_difference, size() + y.size() + S2U_MOST_COMPLEMENT(1), y, status);
+  }
+  /// The leaves of the sphere that the union doesn't have. S2U_MEMORY.
+  CellUnionOf Complement(int32_t* status = nullptr) const {
+    return Made(2 * size() + S2U_MOST_COMPLEMENT(1), status, [&](uint64_t* out, size_t room, size_t* len) {
+      return s2u_complement(ids(), size(), out, room, len);
+    });
+  }
+
   /// How many leaves the union has, of 6 * 4^30.
   uint64_t LeafCellsCovered() const { return s2u_leaf_count(ids(), size()); }
 

@@ -108,14 +108,33 @@ func CellUnionFromIntersectionWithCellID(x CellUnion, id CellID) CellUnion {
 	return CellUnion{x.CellIDsAt(id)}
 }
 
+// leavesOfAFace is how many cells remain of a face without one leaf.
+const leavesOfAFace = 90
+
 // CellUnionFromDifference is the union of the leaves of x that y doesn't have.
 func CellUnionFromDifference(x, y CellUnion) CellUnion {
-	const leavesOfAFace = 90 // cells that remain of a face without one leaf
 	room := len(x.ids) + smaller(len(x.ids), len(y.ids)) + leavesOfAFace
 	return x.with(y, room, func(xs *C.uint64_t, nx C.size_t, ys *C.uint64_t, ny C.size_t,
 		out *C.uint64_t, room C.size_t, length *C.size_t) C.int32_t {
 		return C.s2u_difference(xs, nx, ys, ny, out, room, length)
 	})
+}
+
+// CellUnionFromSymmetricDifference is the union of the leaves that exactly one of two unions has.
+func CellUnionFromSymmetricDifference(x, y CellUnion) CellUnion {
+	room := len(x.ids) + len(y.ids) + leavesOfAFace
+	return x.with(y, room, func(xs *C.uint64_t, nx C.size_t, ys *C.uint64_t, ny C.size_t,
+		out *C.uint64_t, room C.size_t, length *C.size_t) C.int32_t {
+		return C.s2u_symmetric_difference(xs, nx, ys, ny, out, room, length)
+	})
+}
+
+// CellUnionFromComplement is the union of the leaves of the sphere that a union doesn't have.
+func CellUnionFromComplement(x CellUnion) CellUnion {
+	at, n := place(x.ids)
+	return always(made(2*len(x.ids)+leavesOfAFace, func(out *C.uint64_t, room C.size_t, length *C.size_t) C.int32_t {
+		return C.s2u_complement(at, n, out, room, length)
+	}))
 }
 
 // Len is the number of cells.

@@ -183,7 +183,12 @@ var questions = map[string]func(given) string{
 	"symmetric_difference": func(g given) string {
 		x, y := g.union(0), g.union(1)
 		less, more := s2union.CellUnionFromDifference(x, y), s2union.CellUnionFromDifference(y, x)
-		return shown(s2union.CellUnionFromUnion(less, CellUnion{}, more))
+		both := s2union.CellUnionFromUnion(less, CellUnion{}, more)
+		return same(shown(s2union.CellUnionFromSymmetricDifference(x, y)), shown(both))
+	},
+	"complement": func(g given) string {
+		whole := s2union.CellUnionFromDifference(s2union.WholeSphere(), g.union(0))
+		return same(shown(s2union.CellUnionFromComplement(g.union(0))), shown(whole))
 	},
 	"children": func(g given) string {
 		children := g.cell(0).Children()

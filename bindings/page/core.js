@@ -212,6 +212,14 @@ class Core {
     return this.make("s2u_difference", [xs, ys], xs.length + ys.length, BigUint64Array);
   }
 
+  symmetricDifference(xs, ys) {
+    return this.make("s2u_symmetric_difference", [xs, ys], xs.length + ys.length, BigUint64Array);
+  }
+
+  complement(ids) {
+    return this.make("s2u_complement", [ids], 2 * ids.length, BigUint64Array);
+  }
+
   denormalisedCount(ids, min, modulus) {
     const [words, [len]] = this.passed([ids], [8]);
     const status = this.calls.s2u_denormalised_len(...words, min, modulus, BigInt(len));

@@ -261,6 +261,8 @@ static int32_t read_argument(sqlite3_context* c, char letter, sqlite3_value** v,
 MAKER(make_union, s2u_union, LIST(a[0]), LIST(a[1]))
 MAKER(make_intersection, s2u_intersection, LIST(a[0]), LIST(a[1]))
 MAKER(make_difference, s2u_difference, LIST(a[0]), LIST(a[1]))
+MAKER(make_symmetric_difference, s2u_symmetric_difference, LIST(a[0]), LIST(a[1]))
+MAKER(make_complement, s2u_complement, LIST(a[0]))
 MAKER(make_range, s2u_range, a[0].cell, a[1].cell)
 #define COVERS(e, ...) MAKER(make_outer##e, s2u_outer##e, __VA_ARGS__) MAKER(make_inner##e, s2u_inner##e, __VA_ARGS__)
 COVERS(, RECT(a), a[5].number, S2U_MOST_COVERING)
@@ -277,16 +279,6 @@ static int32_t list_made(maker* make, const argument* a, size_t room, block** li
     if (!(*list = new_block(room, sizeof(uint64_t)))) return S2U_MEMORY;
     status = make(a, (*list)->cells, room, &(*list)->n);
   }
-  return status;
-}
-
-/* The leaves of exactly one of two unions. */
-static int32_t make_symmetric_difference(const argument* a, uint64_t* out, size_t room, size_t* n) {
-  block *whole = NULL, *both = NULL;
-  int32_t status = list_made(make_union, a, a[0].held->n + a[1].held->n, &whole);
-  if (status == S2U_OK) status = list_made(make_intersection, a, a[0].held->n + a[1].held->n, &both);
-  if (status == S2U_OK) status = s2u_difference(whole->cells, whole->n, both->cells, both->n, out, room, n);
-  drop(whole), drop(both);
   return status;
 }
 
@@ -375,7 +367,7 @@ static const function functions[] = {
   {"s2_cell", "c", cell}, {"s2_token", "c", text, .text = s2u_token}, {"s2_debug", "c", text, .text = s2u_debug},
   {"s2_level", "c", level}, {"s2_face", "c", face}, {"s2_parent", "cn", parent}, {"s2_child", "cn", child},
   {"s2_range_min", "c", range_min}, {"s2_range_max", "c", range_max}, {"s2_common_ancestor", "cc", common_ancestor},
-  {"s2_leaf", "nnn", leaf}, {"s2_version", "", version},
+  {"s2_leaf", "nnn", leaf}, {"s2_version", "", version}, {"s2_complement", "l", makes, .make = make_complement},
 };
 
 /* Every function comes through here: NULL if an argument is NULL, an error if the call refuses. */

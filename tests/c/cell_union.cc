@@ -250,6 +250,8 @@ static void unions() {
   REFUSES(S2U_MEMORY, two.Intersection(face, status));
   REFUSES(S2U_MEMORY, two.Intersection(Id(kFace), status));
   REFUSES(S2U_MEMORY, two.Difference(face, status));
+  REFUSES(S2U_MEMORY, two.SymmetricDifference(face, status));
+  REFUSES(S2U_MEMORY, two.Complement(status));
   REFUSES(S2U_MEMORY, Union::UnionOf(three, status));
   REFUSES(S2U_MEMORY, face.Denormalize(3, 1, &list, status));
   REFUSES(S2U_MEMORY, x.Decode(bytes.data(), bytes.size(), status));
@@ -377,6 +379,10 @@ static void random_unions() {
     CHECK(s2u_union(xs, nx, ys, ny, out, 4000, &len) == S2U_OK && is_out(x.Union(y)));
     CHECK(s2u_intersection(xs, nx, ys, ny, out, 4000, &len) == S2U_OK && is_out(x.Intersection(y)));
     CHECK(s2u_difference(xs, nx, ys, ny, out, 4000, &len) == S2U_OK && is_out(x.Difference(y)));
+    CHECK(s2u_symmetric_difference(xs, nx, ys, ny, out, 4000, &len) == S2U_OK && is_out(x.SymmetricDifference(y)));
+    CHECK(x.SymmetricDifference(y) == x.Difference(y).Union(y.Difference(x)));
+    CHECK(s2u_complement(xs, nx, out, 4000, &len) == S2U_OK && is_out(x.Complement()));
+    CHECK(x.Complement() == CellUnion::WholeSphere().Difference(x));
     CHECK(s2u_contains(xs, nx, ys, ny) == x.Contains(y) && s2u_intersects(xs, nx, ys, ny) == x.Intersects(y));
     orders(x.cell_ids());
     order(x.cell_ids(), y.cell_ids());

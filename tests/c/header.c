@@ -5,7 +5,8 @@
 static int sizes_are_wide(int cells) {
   uint64_t n = (uint64_t)cells;
   return S2U_MOST_TOKENS(cells) == 17 * n && S2U_MOST_ANCESTORS(cells) == 31 * n && S2U_FILE_SIZE(cells) == 9 + 8 * n &&
-         S2U_MOST_DIFFERENCE(cells, cells) == 91 * n;
+         S2U_MOST_DIFFERENCE(cells, cells) == 91 * n && S2U_MOST_SYMMETRIC_DIFFERENCE(cells, cells) == 180 * n &&
+         S2U_MOST_COMPLEMENT(cells) == 6 + 90 * n;
 }
 
 int main(void) {

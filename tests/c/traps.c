@@ -209,6 +209,9 @@ static void longest_results(void) {
   CHECK(s2u_range(s2u_next(leaf), s2u_prev(last), out, S2U_MOST_RANGE, &len) == S2U_OK && len == S2U_MOST_RANGE);
   CHECK(s2u_difference(&face, 1, &leaf, 1, out, S2U_MOST_RANGE, &len) == S2U_OK && len == 90);
   CHECK(len + 1 == S2U_MOST_DIFFERENCE(1, 1));
+  CHECK(s2u_symmetric_difference(&leaf, 1, &face, 1, out, S2U_MOST_RANGE, &len) == S2U_OK && len == 90);
+  CHECK(s2u_complement(&leaf, 1, out, S2U_MOST_RANGE, &len) == S2U_OK && len == 95);
+  CHECK(len + 1 == S2U_MOST_COMPLEMENT(1));
   CHECK(s2u_ancestors(&last, 1, out, S2U_MOST_RANGE, &len) == S2U_OK && len == S2U_MOST_ANCESTORS(1));
   CHECK(s2u_tokens(&last, 1, (char*)out, sizeof out, &len) == S2U_OK && len + 1 == S2U_MOST_TOKENS(1));
   CHECK(s2u_encode(&last, 1, (uint8_t*)out, sizeof out, &len) == S2U_OK && len == S2U_FILE_SIZE(1));
@@ -272,6 +275,8 @@ static void nothing_at_all(void) {
         s2u_contains(NULL, 0, &face, 1) == 0);
   CHECK(s2u_intersects(NULL, 0, &face, 1) == 0 && s2u_compare(NULL, 0, &face, 1) == -1);
   CHECK(s2u_ancestors(NULL, 0, NULL, 0, &len) == S2U_OK && len == 0);
+  CHECK(s2u_complement(NULL, 0, NULL, 0, &len) == S2U_ROOM && len == 6);
+  CHECK(s2u_symmetric_difference(NULL, 0, NULL, 0, NULL, 0, &len) == S2U_OK && len == 0);
   CHECK(s2u_file_ancestors(NULL, 0, NULL, 0, &len) == S2U_FILE_SHORT && len == 0);
   CHECK(s2u_from_token(NULL, 0, &id) == S2U_NO_CELL && id == 0);
   CHECK(s2u_from_debug(NULL, 0, &id) == S2U_NO_CELL && id == 0);

@@ -138,6 +138,7 @@ def sets(a):
     say("intersection", a, b, model.normal(both))
     say("difference", a, b, model.normal(less))
     say("symmetric_difference", a, b, model.normal(less + more))
+    say("complement", a, model.normal(model.rest(x)))
     say("union_contains", a, b, not more)
     say("union_intersects", a, b, bool(both))
     for other in (b, a, a[:-1], a[:-1] + [12 * FACE - 1]):

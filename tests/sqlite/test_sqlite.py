@@ -19,6 +19,7 @@ UNDER_A_SANITIZER = "libasan" in os.environ.get("LD_PRELOAD", "")
 EMPTY = model.file([])
 FUNCTIONS = {
     "s2_union": "ll", "s2_intersection": "ll", "s2_difference": "ll", "s2_symmetric_difference": "ll", "s2_range": "cc",
+    "s2_complement": "l",
     "s2_normalise": "l", "s2_is_union": "b", "s2_contains": "lq", "s2_within": "ql", "s2_intersects": "lq",
     "s2_count": "l", "s2_leaves": "l", "s2_tokens": "l",
     "s2_cell": "c", "s2_token": "c", "s2_debug": "c", "s2_level": "c", "s2_face": "c", "s2_parent": "cn",
@@ -93,10 +94,10 @@ class AgainstTheModel(Tests):
             ys = self.random.cells(near=xs)
             x, y = model.runs(xs), model.runs(ys)
             rest, other = model.common(x, model.rest(y)), model.common(y, model.rest(x))
-            wanted = [model.normal(runs) for runs in (x + y, model.common(x, y), rest, rest + other, x)]
+            wanted = [model.normal(runs) for runs in (x + y, model.common(x, y), rest, rest + other, x, model.rest(x))]
             said = self.db.execute(
                 """SELECT s2_union(?1, ?2), s2_intersection(?1, ?2), s2_difference(?1, ?2),
-                   s2_symmetric_difference(?1, ?2), s2_normalise(?1)""",
+                   s2_symmetric_difference(?1, ?2), s2_normalise(?1), s2_complement(?1)""",
                 (self.random.form(xs), self.random.form(ys)),
             ).fetchone()
             self.assertEqual(list(said), [model.file(cells) for cells in wanted])

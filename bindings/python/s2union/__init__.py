@@ -953,7 +953,10 @@ class Union:
     def __xor__(self: Self, other: Union) -> Self:
         if not isinstance(other, Union):
             return NotImplemented
-        return (self - other) | (other - self)
+        return self._with(_library.symmetric_difference, other, len(self) + len(other) + 90)
+
+    def __invert__(self: Self) -> Self:
+        return self.complement()
 
     def union(self: Self, *others: Union) -> Self:
         """The leaves of the union and of all others."""
@@ -973,6 +976,14 @@ class Union:
     def symmetric_difference(self: Self, other: Union) -> Self:
         """The leaves that one of two unions has, and the other hasn't."""
         return self.__xor__(_wanted(Union, other))
+
+    def complement(self: Self) -> Self:
+        """The leaves of the sphere that the union doesn't have.
+
+        >>> (~Union.from_tokens("04 0c 1c")).tokens()
+        ['14', '3', '5', '7', '9', 'b']
+        """
+        return self._made(_listed(_library.complement, 2 * len(self) + 90, *_place(self._ids)))
 
     def __ge__(self, other: Union) -> bool:
         if not isinstance(other, Union):

@@ -47,6 +47,7 @@ extern "C" {
     fn s2u_child(id: u64, child: u32) -> u64;
     fn s2u_common_ancestor(a: u64, b: u64) -> u64;
     fn s2u_compare(xs: *const u64, nx: usize, ys: *const u64, ny: usize) -> i32;
+    fn s2u_complement(ids: *const u64, n: usize, out: *mut u64, room: usize, len: &mut usize) -> i32;
     fn s2u_contains(xs: *const u64, nx: usize, ys: *const u64, ny: usize) -> i32;
     fn s2u_contains_cell(ids: *const u64, n: usize, cell: u64) -> i32;
     fn s2u_contains_cells(
@@ -172,6 +173,15 @@ extern "C" {
     fn s2u_range_mins(ids: *const u64, n: usize, out: *mut u64, room: usize, bad: &mut usize) -> i32;
     fn s2u_size(id: u64) -> u64;
     fn s2u_square_of(id: u64, square: &mut Square) -> i32;
+    fn s2u_symmetric_difference(
+        xs: *const u64,
+        nx: usize,
+        ys: *const u64,
+        ny: usize,
+        out: *mut u64,
+        room: usize,
+        len: &mut usize,
+    ) -> i32;
     fn s2u_token(id: u64, text: *mut u8, room: usize, len: &mut usize) -> i32;
     fn s2u_token_fields(ids: *const u64, n: usize, text: *mut u8, room: usize, bad: &mut usize) -> i32;
     fn s2u_tokens(ids: *const u64, n: usize, text: *mut u8, room: usize, len: &mut usize) -> i32;
@@ -231,6 +241,11 @@ pub fn common_ancestor(a: u64, b: u64) -> u64 {
 pub fn compare(xs: &[u64], ys: &[u64]) -> i32 {
     // SAFETY: each list goes with its length, and what is written is borrowed alone.
     unsafe { s2u_compare(xs.as_ptr(), xs.len(), ys.as_ptr(), ys.len()) }
+}
+
+pub fn complement(ids: &[u64], out: &mut [MaybeUninit<u64>], len: &mut usize) -> i32 {
+    // SAFETY: each list goes with its length, and what is written is borrowed alone.
+    unsafe { s2u_complement(ids.as_ptr(), ids.len(), out.as_mut_ptr().cast(), out.len(), len) }
 }
 
 pub fn contains(xs: &[u64], ys: &[u64]) -> i32 {
@@ -520,6 +535,13 @@ pub fn size(id: u64) -> u64 {
 pub fn square_of(id: u64, square: &mut Square) -> i32 {
     // SAFETY: each list goes with its length, and what is written is borrowed alone.
     unsafe { s2u_square_of(id, square) }
+}
+
+pub fn symmetric_difference(xs: &[u64], ys: &[u64], out: &mut [MaybeUninit<u64>], len: &mut usize) -> i32 {
+    // SAFETY: each list goes with its length, and what is written is borrowed alone.
+    unsafe {
+        s2u_symmetric_difference(xs.as_ptr(), xs.len(), ys.as_ptr(), ys.len(), out.as_mut_ptr().cast(), out.len(), len)
+    }
 }
 
 pub fn token(id: u64, text: &mut [MaybeUninit<u8>], len: &mut usize) -> i32 {

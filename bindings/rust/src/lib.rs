@@ -17,7 +17,7 @@
 //!
 //! A [`CellId`] is always a cell, and a [`CellUnion`] is always normalized and never changes, so only what comes from
 //! outside can be refused: numbers, lists, texts, files, levels. If there is no memory, calls that answer a [`Result`],
-//! as `union`, `union_of` and `intersection` do, answer [`Error::Memory`]; the operators `|`, `&`, `-` and `^`,
+//! as `union`, `union_of` and `intersection` do, answer [`Error::Memory`]; the operators `|`, `&`, `-`, `^` and `!`,
 //! `collect` of unions, and texts that are made, panic; `collect` of cells, calls for many cells that answer a [`Vec`],
 //! and a list that becomes one, end the program, as [`Vec`] does. There is no geometry: no points, areas or bounds.
 #![warn(missing_docs)]

@@ -20,6 +20,8 @@ makers! {
     intersection(xs: &[u64], ys: &[u64]) -> [u64] in 2 * xs.len().min(ys.len());
     // A face without one leaf has 90 cells.
     difference(xs: &[u64], ys: &[u64]) -> [u64] in xs.len() + xs.len().min(ys.len()) + 90;
+    symmetric_difference(xs: &[u64], ys: &[u64]) -> [u64] in xs.len() + ys.len() + 90;
+    complement(ids: &[u64]) -> [u64] in 2 * ids.len() + 90;
     range(first: u64, last: u64) -> [u64] in MOST_RANGE;
     ancestors(ids: &[u64]) -> [u64] in 2 * ids.len() + 30;
     outer(bounds: &Rect, level: u32, most: usize) -> [u64] in 64;

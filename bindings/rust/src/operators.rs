@@ -1,6 +1,6 @@
 //! A union as a collection of cells, and as a set with operators.
 
-use std::ops::{BitAnd, BitOr, BitXor, Sub};
+use std::ops::{BitAnd, BitOr, BitXor, Not, Sub};
 
 use crate::cell::CellId;
 use crate::error::Error;
@@ -27,6 +27,21 @@ operator!(BitOr, bitor, union);
 operator!(BitAnd, bitand, intersection);
 operator!(Sub, sub, difference);
 operator!(BitXor, bitxor, symmetric_difference);
+
+/// The complement. Panics if there is no memory, where [`CellUnion::complement`] answers [`Error::Memory`].
+impl Not for &CellUnion {
+    type Output = CellUnion;
+    fn not(self) -> CellUnion {
+        always(self.complement())
+    }
+}
+
+impl Not for CellUnion {
+    type Output = CellUnion;
+    fn not(self) -> CellUnion {
+        !&self
+    }
+}
 
 /// What a call made that is refused only if there is no memory.
 fn always(made: Result<CellUnion, Error>) -> CellUnion {

@@ -224,7 +224,21 @@ impl CellUnion {
 
     /// The leaves that one of them has, and not the other. [`Error::Memory`].
     pub fn symmetric_difference(&self, other: &CellUnion) -> Result<CellUnion, Error> {
-        self.difference(other)?.union(&other.difference(self)?)
+        CellUnion::made(lists::symmetric_difference(self.as_ref(), other.as_ref()))
+    }
+
+    /// The leaves of the sphere that the union doesn't have. [`Error::Memory`].
+    ///
+    /// ```
+    /// use s2union::CellUnion;
+    ///
+    /// let lawn: CellUnion = "04 0c 1c".parse()?;
+    /// assert_eq!(lawn.complement()?.to_string(), "14 3 5 7 9 b");
+    /// assert_eq!(!&lawn, &CellUnion::whole_sphere() - &lawn);
+    /// # Ok::<(), s2union::Error>(())
+    /// ```
+    pub fn complement(&self) -> Result<CellUnion, Error> {
+        CellUnion::made(lists::complement(self.as_ref()))
     }
 
     /// How many leaves the union has, of 6 * 4^30.

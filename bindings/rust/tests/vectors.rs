@@ -6,7 +6,7 @@ use std::{env, fs};
 use s2union::{CellId, CellUnion, Error, FacePoint, Rect, UnionFile};
 
 const MOST: usize = 100_000; // cells of a list
-const CALLS: usize = 59; // that vectors.py and edges.py ask
+const CALLS: usize = 60; // that vectors.py and edges.py ask
 
 #[test]
 fn vectors() {
@@ -195,6 +195,7 @@ impl Given<'_> {
             "intersection" => same(self.union(0).intersection(&self.union(1)), Ok(self.union(0) & self.union(1))),
             "difference" => same(self.union(0).difference(&self.union(1)), Ok(self.union(0) - self.union(1))),
             "symmetric_difference" => (&self.union(0) ^ &self.union(1)).shown(),
+            "complement" => same(self.union(0).complement(), Ok(!self.union(0))),
             "intersection_with_cell" => self.union(0).intersection_with_cell(self.cell(1)).shown(),
             "union_contains" => {
                 let other = self.union(1).encode().unwrap();

@@ -7,6 +7,8 @@ mod Leaping
 mod Leaving
 mod Merging
 mod Cutting
+mod Alone
+mod Heaping
 mod Holders
 mod Reaching
 mod Piling

@@ -172,7 +172,7 @@ pile_free list lo hi x below order h = not_true (has_leaf list x || between lo h
     (λ (a : between lo hi x ≡ true). let b = (between_ends lo hi x a).1 in omega arith)
     (or_true (has_leaf list x) (between lo hi x) t))
 
-or_right : (a b : Bool) → b ≡ true → (a || b) ≡ true
+pub or_right : (a b : Bool) → b ≡ true → (a || b) ≡ true
 or_right true b h = refl
 or_right false b h = h
 

@@ -204,7 +204,7 @@ int32_t s2u_normalise(uint64_t* ids, size_t n, size_t* len);
 int32_t s2u_union_of_many(const uint64_t* ids, size_t n, const size_t* ends, size_t lists, uint64_t* work,
                           size_t work_room, uint64_t* out, size_t room, size_t* len);
 
-/* [pure] S2U_ROOM. At most nx + ny cells, but for a difference. Of lists that are not unions: at most 256 (nx + ny)
+/* [pure] S2U_ROOM. At most nx + ny cells, but for differences. Of lists that are not unions: at most 256 (nx + ny)
  * cells, in at most twice as many steps. */
 int32_t s2u_union(const uint64_t* xs, size_t nx, const uint64_t* ys, size_t ny, uint64_t* out,
                   size_t room, size_t* len);
@@ -214,6 +214,16 @@ int32_t s2u_intersection(const uint64_t* xs, size_t nx, const uint64_t* ys, size
 #define S2U_MOST_DIFFERENCE(nx, ny) ((nx) + UINT64_C(90) * (ny))
 int32_t s2u_difference(const uint64_t* xs, size_t nx, const uint64_t* ys, size_t ny, uint64_t* out,
                        size_t room, size_t* len);
+/* The leaves that exactly one of them has. At most S2U_MOST_SYMMETRIC_DIFFERENCE cells; nearly always at most nx + ny.
+ * One step for each cell of both. */
+#define S2U_MOST_SYMMETRIC_DIFFERENCE(nx, ny) (UINT64_C(90) * (nx) + UINT64_C(90) * (ny))
+int32_t s2u_symmetric_difference(const uint64_t* xs, size_t nx, const uint64_t* ys, size_t ny, uint64_t* out,
+                                 size_t room, size_t* len);
+
+/* [pure] The leaves of the six faces that a union doesn't have. S2U_ROOM. At most S2U_MOST_COMPLEMENT(n) cells; of
+ * lists that are not unions, at most 256 (n + 1). n steps. */
+#define S2U_MOST_COMPLEMENT(n) (6 + UINT64_C(90) * (n))
+int32_t s2u_complement(const uint64_t* ids, size_t n, uint64_t* out, size_t room, size_t* len);
 
 /* All leaves from the first of `first` to the last of `last`, also across faces. S2U_ROOM, S2U_MEMORY, S2U_NO_CELL,
  * S2U_ARGUMENT (the last leaf comes before the first). */

@@ -1,0 +1,14 @@
+use Rattle.std.proofs.Common.{length, refl, rules}
+use Rattle.std.specs.Int.{w32}
+use Rattle.std.proofs.lemmas.Int.{to_z-of_z}
+use mir.Val.{SFits}
+use Rattle.s2union_c.proofs.Placed.{placed}
+use Rattle.s2union_c.proofs.sets.s2u_complement.Goals as goal
+
+pub returns-clause-made : goal.returns-clause-made
+returns-clause-made c local =
+    let fits : SFits w32 c.room_status.result = search rules in
+    rw (to_z-of_z w32 c.room_status.result fits)
+    (placed _ c.args.out.now c.put_complement.new.out c.put_complement.result (length c.put_complement.new.out)
+    c.room_status.result (c.put_complement.ensures.made local) refl c.room_status.ensures.fits
+    c.room_status.ensures.short)
