@@ -29,13 +29,18 @@
 
 #include <algorithm>
 #include <cstdlib>
+#include <functional>
 #include <new>
 #include <ostream>
 #include <stdexcept>
 #include <string>
+#include <string_view>
 #include <type_traits>
 #include <utility>
 #include <vector>
+#if defined(__cpp_impl_three_way_comparison)
+#include <compare>
+#endif
 
 #if defined(__cpp_exceptions)
 #define S2UNION_THROWS 1
@@ -131,6 +136,11 @@ class CellUnionOf {
                 "a cell is 64 bits, and nothing else");
 
  public:
+  using value_type = Id;
+  using size_type = size_t;
+  using const_iterator = typename std::vector<Id>::const_iterator;
+  using iterator = const_iterator;
+
   /// The empty union.
   CellUnionOf() = default;
 
@@ -234,8 +244,8 @@ class CellUnionOf {
   size_t size() const { return cell_ids_.size(); }
   bool empty() const { return cell_ids_.empty(); }
   Id operator[](size_t place) const { return cell_ids_[place]; }
-  typename std::vector<Id>::const_iterator begin() const { return cell_ids_.begin(); }
-  typename std::vector<Id>::const_iterator end() const { return cell_ids_.end(); }
+  const_iterator begin() const { return cell_ids_.begin(); }
+  const_iterator end() const { return cell_ids_.end(); }
   const std::vector<Id>& cell_ids() const { return cell_ids_; }
   /// The cells as the calls of s2union.h take them, which are questions about many cells at once and the like.
   const uint64_t* ids() const { return Numbers(cell_ids_); }
@@ -263,6 +273,15 @@ class CellUnionOf {
   bool Intersects(Id id, int32_t* status = nullptr) const {
     int32_t found = s2u_intersects_cell(ids(), size(), internal::number_of(id));
     return internal::succeeded(found, status) && found == 1;
+  }
+  /// Whether all leaves of each cell in turn are in the union. Cells in ascending order are quickest. S2U_NO_CELL,
+  /// S2U_MEMORY.
+  std::vector<bool> ContainsCells(const std::vector<Id>& cells, int32_t* status = nullptr) const {
+    return AboutEach(s2u_contains_cells, cells, status);
+  }
+  /// Whether the union has a leaf of each cell in turn. S2U_NO_CELL, S2U_MEMORY.
+  std::vector<bool> IntersectsCells(const std::vector<Id>& cells, int32_t* status = nullptr) const {
+    return AboutEach(s2u_intersects_cells, cells, status);
   }
   bool Contains(const CellUnionOf& y) const { return s2u_contains(ids(), size(), y.ids(), y.size()) == 1; }
   bool Intersects(const CellUnionOf& y) const { return s2u_intersects(ids(), size(), y.ids(), y.size()) == 1; }
@@ -333,8 +352,54 @@ class CellUnionOf {
   /// How many leaves the union has, of 6 * 4^30.
   uint64_t LeafCellsCovered() const { return s2u_leaf_count(ids(), size()); }
 
-  friend bool operator==(const CellUnionOf& x, const CellUnionOf& y) { return x.IsSame(y); }
-  friend bool operator!=(const CellUnionOf& x, const CellUnionOf& y) { return !x.IsSame(y); }
+  /// The cells and all their ancestors, ascending, each once: the keys of an index. S2U_MEMORY.
+  std::vector<Id> Ancestors(int32_t* status = nullptr) const {
+    return Made(2 * size() + 30, status, [&](uint64_t* out, size_t room, size_t* len) {
+      return s2u_ancestors(ids(), size(), out, room, len);
+    }).Release();
+  }
+
+  // ---- coverings: all cells of one level, normalized. S2U_ARGUMENT, S2U_MEMORY; S2U_MANY: there would be more than
+  // `most` cells, or more than S2U_MOST_COVERING
+
+  /// The cells of the level that share a leaf with the union.
+  CellUnionOf Covering(int level, size_t most = S2U_MOST_COVERING, int32_t* status = nullptr) const {
+    return Covered(s2u_outer_of, level, most, status);
+  }
+  /// The cells of the level that lie in the union.
+  CellUnionOf InteriorCovering(int level, size_t most = S2U_MOST_COVERING, int32_t* status = nullptr) const {
+    return Covered(s2u_inner_of, level, most, status);
+  }
+  /// The cells of the level that share a leaf with what the union and a rectangle share.
+  CellUnionOf CoveringIn(const s2u_rect& rect, int level, size_t most = S2U_MOST_COVERING,
+                         int32_t* status = nullptr) const {
+    return CoveredIn(s2u_outer_in, rect, level, most, status);
+  }
+  /// The cells of the level that lie in both.
+  CellUnionOf InteriorCoveringIn(const s2u_rect& rect, int level, size_t most = S2U_MOST_COVERING,
+                                 int32_t* status = nullptr) const {
+    return CoveredIn(s2u_inner_in, rect, level, most, status);
+  }
+  /// The cells of the level that share a leaf with a rectangle.
+  static CellUnionOf CoveringOf(const s2u_rect& rect, int level, size_t most = S2U_MOST_COVERING,
+                                int32_t* status = nullptr) {
+    return CoveredRect(s2u_outer, rect, level, most, status);
+  }
+  /// The cells of the level that lie in a rectangle.
+  static CellUnionOf InteriorCoveringOf(const s2u_rect& rect, int level, size_t most = S2U_MOST_COVERING,
+                                        int32_t* status = nullptr) {
+    return CoveredRect(s2u_inner, rect, level, most, status);
+  }
+
+  // ---- equality of sets, and the order of their lists, element by element and then by length
+
+  friend bool operator==(const CellUnionOf& x, const CellUnionOf& y) { return x.Order(y) == 0; }
+  friend bool operator!=(const CellUnionOf& x, const CellUnionOf& y) { return x.Order(y) != 0; }
+#if defined(__cpp_impl_three_way_comparison) && defined(__cpp_lib_three_way_comparison)
+  friend std::strong_ordering operator<=>(const CellUnionOf& x, const CellUnionOf& y) { return x.Order(y) <=> 0; }
+#else
+  friend bool operator<(const CellUnionOf& x, const CellUnionOf& y) { return x.Order(y) < 0; }
+#endif
 
   // ---- bytes and texts
 
@@ -390,6 +455,27 @@ class CellUnionOf {
       text.append(place == 0 ? "" : ",").append(token, length);
     }
     return size() > kMostShown ? text + ",..." : text;
+  }
+  /// The tokens of all cells, with blanks between them. S2U_MEMORY.
+  std::string Tokens(int32_t* status = nullptr) const {
+    std::string text;
+    size_t length = 0;
+    int32_t found = internal::resized(&text, S2U_MOST_TOKENS(size()));
+    if (found == S2U_OK) found = s2u_tokens(ids(), size(), text.data(), text.size(), &length);
+    text.resize(length);
+    internal::succeeded(found, status);
+    return text;
+  }
+  /// The union of the cells that a text names: words with blanks, tabs, line ends or commas between them, each a token
+  /// or a debug text. S2U_NO_CELL, S2U_MEMORY.
+  static CellUnionOf FromTokens(std::string_view text, int32_t* status = nullptr) {
+    CellUnionOf made;
+    std::vector<Id> cells;
+    int32_t found = Listed(S2U_MOST_NAMED(text.size()), &cells, [&](uint64_t* out, size_t room, size_t* len) {
+      return s2u_from_tokens(text.data(), text.size(), out, room, len);
+    });
+    if (internal::succeeded(found, status)) made.Init(std::move(cells), status);
+    return made;
   }
   friend std::ostream& operator<<(std::ostream& out, const CellUnionOf& x) { return out << x.ToString(); }
 
@@ -481,23 +567,25 @@ class CellUnionOf {
     return found;
   }
 
-  static CellUnionOf Range(uint64_t first, uint64_t last, int32_t* status) {
+  /// The union that a call makes.
+  template <class Call>
+  static CellUnionOf Made(size_t room, int32_t* status, Call call) {
     CellUnionOf made;
-    int32_t found = Listed(S2U_MOST_RANGE, &made.cell_ids_, [&](uint64_t* out, size_t room, size_t* len) {
+    internal::succeeded(Listed(room, &made.cell_ids_, call), status);
+    return made;
+  }
+
+  static CellUnionOf Range(uint64_t first, uint64_t last, int32_t* status) {
+    return Made(S2U_MOST_RANGE, status, [&](uint64_t* out, size_t room, size_t* len) {
       return s2u_range(first, last, out, room, len);
     });
-    internal::succeeded(found, status);
-    return made;
   }
 
   template <class Call>
   CellUnionOf Both(Call call, size_t room, const CellUnionOf& y, int32_t* status) const {
-    CellUnionOf made;
-    int32_t found = Listed(room, &made.cell_ids_, [&](uint64_t* out, size_t most, size_t* len) {
+    return Made(room, status, [&](uint64_t* out, size_t most, size_t* len) {
       return call(ids(), size(), y.ids(), y.size(), out, most, len);
     });
-    internal::succeeded(found, status);
-    return made;
   }
 
   template <class Other>
@@ -517,7 +605,42 @@ class CellUnionOf {
     if (internal::succeeded(outcome, status)) swap(made);
   }
 
-  bool IsSame(const CellUnionOf& y) const { return s2u_compare(ids(), size(), y.ids(), y.size()) == 0; }
+  int32_t Order(const CellUnionOf& y) const { return s2u_compare(ids(), size(), y.ids(), y.size()); }
+
+  template <class Call>
+  std::vector<bool> AboutEach(Call call, const std::vector<Id>& cells, int32_t* status) const {
+    std::vector<uint8_t> answers;
+    std::vector<bool> made;
+    size_t bad = 0;
+    int32_t found = internal::resized(&answers, cells.size());
+    if (found == S2U_OK) {
+      found = call(ids(), size(), Numbers(cells), cells.size(), answers.data(), answers.size(), &bad);
+    }
+    if (found == S2U_OK) found = internal::resized(&made, cells.size());
+    if (internal::succeeded(found, status)) {
+      for (size_t place = 0; place < made.size(); place++) made[place] = answers[place] == 1;
+    }
+    return made;
+  }
+
+  template <class Call>
+  CellUnionOf Covered(Call call, int level, size_t most, int32_t* status) const {
+    return Made(size(), status, [&](uint64_t* out, size_t room, size_t* len) {
+      return call(ids(), size(), static_cast<uint32_t>(level), most, out, room, len);
+    });
+  }
+  template <class Call>
+  CellUnionOf CoveredIn(Call call, const s2u_rect& rect, int level, size_t most, int32_t* status) const {
+    return Made(64, status, [&](uint64_t* out, size_t room, size_t* len) {
+      return call(ids(), size(), &rect, static_cast<uint32_t>(level), most, out, room, len);
+    });
+  }
+  template <class Call>
+  static CellUnionOf CoveredRect(Call call, const s2u_rect& rect, int level, size_t most, int32_t* status) {
+    return Made(64, status, [&](uint64_t* out, size_t room, size_t* len) {
+      return call(&rect, static_cast<uint32_t>(level), most, out, room, len);
+    });
+  }
 
   template <class Bytes>
   int32_t Appended(Bytes* out) const {
@@ -534,9 +657,81 @@ class CellUnionOf {
   std::vector<Id> cell_ids_;
 };
 
-/// The union whose cells are their identifiers.
+/// The bytes of a union file, which answer questions in place, as in a mapped file or a row of a table: nothing is
+/// copied. They stay where they are, and nobody writes them, as long as the object is used.
+template <class Id>
+class UnionFileOf {
+ public:
+  /// Checks the bytes once: they must be those that Encode makes of some union. S2U_FILE_*; S2U_NO_UNION: Decode takes
+  /// it. After a refusal, which is thrown or reported, it is the file of the empty union.
+  UnionFileOf(const void* bytes, size_t n, int32_t* status = nullptr) {
+    const auto* at = static_cast<const uint8_t*>(bytes);
+    int32_t found = s2u_file_check(at, n);
+    if (!internal::succeeded(found == 0 ? S2U_NO_UNION : found, status)) return;
+    bytes_ = at;
+    n_ = n;
+  }
+
+  size_t size() const {
+    uint64_t count = 0;
+    s2u_file_count(bytes_, n_, &count);
+    return static_cast<size_t>(count);
+  }
+  bool empty() const { return size() == 0; }
+  int num_cells() const { return static_cast<int>(size()); }
+  /// The cell at a place, in ascending order. 0: there is none.
+  Id cell_id(size_t place) const {
+    uint64_t number = 0;
+    s2u_file_cell(bytes_, n_, place, &number);
+    return Id(number);
+  }
+
+  /// Whether all leaves of the cell are in the union. S2U_NO_CELL. log n steps.
+  bool Contains(Id id, int32_t* status = nullptr) const {
+    int32_t found = s2u_file_contains_cell(bytes_, n_, internal::number_of(id));
+    return internal::succeeded(found, status) && found == 1;
+  }
+  /// Whether the union has a leaf of the cell. S2U_NO_CELL. log n steps.
+  bool Intersects(Id id, int32_t* status = nullptr) const {
+    int32_t found = s2u_file_intersects_cell(bytes_, n_, internal::number_of(id));
+    return internal::succeeded(found, status) && found == 1;
+  }
+  bool Contains(const UnionFileOf& y) const { return s2u_file_contains(bytes_, n_, y.bytes_, y.n_) == 1; }
+  bool Intersects(const UnionFileOf& y) const { return s2u_file_intersects(bytes_, n_, y.bytes_, y.n_) == 1; }
+
+  /// How many leaves the union has, of 6 * 4^30.
+  uint64_t LeafCellsCovered() const {
+    uint64_t leaves = 0;
+    s2u_file_leaf_count(bytes_, n_, &leaves);
+    return leaves;
+  }
+
+  /// The union itself, copied. S2U_MEMORY.
+  CellUnionOf<Id> Union(int32_t* status = nullptr) const {
+    CellUnionOf<Id> made;
+    made.Decode(static_cast<const void*>(bytes_), n_, status);
+    return made;
+  }
+
+ private:
+  static constexpr uint8_t kEmpty[S2U_FILE_SIZE(0)] = {1};
+  const uint8_t* bytes_ = kEmpty;
+  size_t n_ = sizeof kEmpty;
+};
+
+/// The union whose cells are their identifiers, and its file.
 using CellUnion = CellUnionOf<uint64_t>;
+using UnionFile = UnionFileOf<uint64_t>;
 
 }  // namespace throws, or aborts
 }  // namespace s2union
+
+/// Equal unions have equal hashes.
+template <class Id>
+struct std::hash<s2union::CellUnionOf<Id>> {
+  size_t operator()(const s2union::CellUnionOf<Id>& x) const noexcept {
+    const void* at = x.ids();
+    return std::hash<std::string_view>()({static_cast<const char*>(at), sizeof(uint64_t) * x.size()});
+  }
+};
 #endif

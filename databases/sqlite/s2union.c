@@ -63,10 +63,21 @@ static const char* reason(int32_t status) {
   }
 }
 
-static void refuse(sqlite3_context* c, int32_t status) {
-  char* text = status == S2U_MEMORY ? NULL : sqlite3_mprintf("s2: %s", reason(status));
-  if (text) sqlite3_result_error(c, text, -1);
-  else sqlite3_result_error_nomem(c);
+/* What is said of a refusal: its reason, and the values that it concerns, of a long text only the beginning. */
+static char* refusal(int32_t status, sqlite3_value** v, int n) {
+  sqlite3_str* said = sqlite3_str_new(NULL);
+  sqlite3_str_appendf(said, "s2: %s", reason(status));
+  for (int k = 0, type; k < n; k++) {
+    sqlite3_str_appendall(said, k ? ", " : ": "), type = sqlite3_value_type(v[k]);
+    if (type == SQLITE_BLOB) sqlite3_str_appendf(said, "a BLOB of length %d", sqlite3_value_bytes(v[k]));
+    else sqlite3_str_appendf(said, type == SQLITE_TEXT ? "%!.40Q" : "%s", sqlite3_value_text(v[k]));
+  }
+  return sqlite3_str_finish(said);
+}
+
+static void refuse(sqlite3_context* c, int32_t status, sqlite3_value** v, int n) {
+  char* text = status == S2U_MEMORY ? NULL : refusal(status, v, n);
+  text ? sqlite3_result_error(c, text, -1) : sqlite3_result_error_nomem(c);
   sqlite3_free(text);
 }
 
@@ -325,16 +336,14 @@ CALL(tokens) {
   block* text = new_block(S2U_MOST_TOKENS(a->held->n), 1);
   if (!text) return S2U_MEMORY;
   int32_t status = s2u_tokens(LIST(*a), (char*)text->cells, text->room, &text->n);
-  sqlite3_result_text64(c, (char*)text->cells, text->n, drop_cells, SQLITE_UTF8);
-  return status;
+  return sqlite3_result_text64(c, (char*)text->cells, text->n, drop_cells, SQLITE_UTF8), status;
 }
 
 CALL(text) {
   char text[S2U_MOST_DEBUG];
   size_t len = 0;
   int32_t status = f->text(a->cell, text, sizeof text, &len);
-  sqlite3_result_text64(c, text, len, SQLITE_TRANSIENT, SQLITE_UTF8);
-  return status;
+  return sqlite3_result_text64(c, text, len, SQLITE_TRANSIENT, SQLITE_UTF8), status;
 }
 
 CALL(leaf) {
@@ -374,12 +383,12 @@ static const function functions[] = {
 static void dispatch(sqlite3_context* c, int arguments, sqlite3_value** v) {
   const function* f = sqlite3_user_data(c);
   argument a[MOST_ARGUMENTS] = {{.held = NULL}};
-  int32_t status = S2U_OK;
+  int32_t status = S2U_OK, read = 0;
   for (int k = 0; k < arguments; k++)
     if (sqlite3_value_type(v[k]) == SQLITE_NULL) return;
-  for (int k = 0; k < arguments && status == S2U_OK; k++) status = read_argument(c, f->letters[k], v, k, &a[k]);
-  if (status == S2U_OK) status = f->call(c, f, a);
-  if (status < 0) refuse(c, status);
+  for (; read < arguments && status == S2U_OK; read++) status = read_argument(c, f->letters[read], v, read, &a[read]);
+  if (status < 0) refuse(c, status, v + read - 1, 1);
+  else if ((status = f->call(c, f, a)) < 0) refuse(c, status, v, arguments);
   for (int k = 0; k < arguments; k++) drop(a[k].held);
 }
 
@@ -406,7 +415,7 @@ static void step(sqlite3_context* c, int arguments, sqlite3_value** v) {
   if (sqlite3_value_type(v[0]) == SQLITE_NULL) return;
   int32_t status = g ? list_of(v[0], &list) : S2U_MEMORY;
   if (status == S2U_OK) status = g->list ? aggregate->take(g, list) : gather(g, list);
-  if (status != S2U_OK) refuse(c, status);
+  if (status != S2U_OK) refuse(c, status, v, 1);
   drop(list);
 }
 
@@ -415,7 +424,7 @@ static void value(sqlite3_context* c) {
   if (!g || !g->list) return; /* no row, or only NULL: NULL, as sum() answers */
   int32_t status = settle(g);
   if (status == S2U_OK) status = answer_list(c, g->list);
-  if (status != S2U_OK) refuse(c, status);
+  if (status != S2U_OK) refuse(c, status, NULL, 0);
 }
 
 static void final(sqlite3_context* c) {
@@ -424,7 +433,7 @@ static void final(sqlite3_context* c) {
   if (g) drop(g->list);
 }
 
-static void inverse(sqlite3_context* c, int arguments, sqlite3_value** v) { refuse(c, NO_FRAME); }
+static void inverse(sqlite3_context* c, int arguments, sqlite3_value** v) { refuse(c, NO_FRAME, NULL, 0); }
 
 /* ---- tables: s2_cells(x, level, modulus), s2_tiles(x, level), s2_ancestors(x), s2_prepared(x) ---- */
 
@@ -565,7 +574,7 @@ static int filter(sqlite3_vtab_cursor* base, int arguments, const char* text, in
   if (status == S2U_OK) return SQLITE_OK;
   if (status == S2U_MEMORY) return SQLITE_NOMEM;
   sqlite3_free(base->pVtab->zErrMsg);
-  base->pVtab->zErrMsg = sqlite3_mprintf("s2: %s", reason(status));
+  base->pVtab->zErrMsg = refusal(status, v, arguments);
   return SQLITE_ERROR;
 }
 

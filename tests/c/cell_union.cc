@@ -2,6 +2,8 @@
  * reported: by an exception, and by a status. Linked with libs2union_noheap.a, so that memory can run out. */
 #include "tests.h"
 #include <s2union.hpp>
+#include <set>
+#include <unordered_set>
 
 static bool has_memory = true;
 
@@ -252,6 +254,12 @@ static void unions() {
   REFUSES(S2U_MEMORY, two.Difference(face, status));
   REFUSES(S2U_MEMORY, two.SymmetricDifference(face, status));
   REFUSES(S2U_MEMORY, two.Complement(status));
+  REFUSES(S2U_MEMORY, two.ContainsCells(two.cell_ids(), status));
+  REFUSES(S2U_MEMORY, two.Ancestors(status));
+  REFUSES(S2U_MEMORY, two.Covering(0, 9, status));
+  REFUSES(S2U_MEMORY, two.Tokens(status));
+  REFUSES(S2U_MEMORY, Union::FromTokens("04", status));
+  REFUSES(S2U_MEMORY, s2union::UnionFileOf<Id>(bytes.data(), bytes.size()).Union(status));
   REFUSES(S2U_MEMORY, Union::UnionOf(three, status));
   REFUSES(S2U_MEMORY, face.Denormalize(3, 1, &list, status));
   REFUSES(S2U_MEMORY, x.Decode(bytes.data(), bytes.size(), status));
@@ -394,8 +402,54 @@ static void random_unions() {
   }
 }
 
+/// What answers about many cells, coverings, texts, order, hashes, and files.
+template <class Id>
+static void collections() {
+  using Union = s2union::CellUnionOf<Id>;
+  using File = s2union::UnionFileOf<Id>;
+  const uint64_t first = s2u_child(kFace, 0), second = s2u_child(kFace, 1);
+  const Union two(cells<Id>({first, second})), face(cells<Id>({kFace})), none;
+  static_assert(std::is_same_v<typename Union::value_type, Id> && sizeof(typename Union::iterator) > 0);
+  CHECK(two.ContainsCells(cells<Id>({first, kFace, 1})) == std::vector<bool>({true, false, true}));
+  CHECK(two.IntersectsCells(cells<Id>({first, kFace, s2u_child(kFace, 3)})) == std::vector<bool>({true, true, false}));
+  CHECK(two.Ancestors() == cells<Id>({first, second, kFace}));
+  CHECK(two.Covering(0) == face && two.InteriorCovering(0) == none && two.InteriorCovering(1, 2) == two);
+  const s2u_rect edge = {0, 0, (1u << 30) - 1, 0, 0};
+  CHECK(Union::CoveringOf(edge, 1).Tokens() == "04 1c" && Union::InteriorCoveringOf(edge, 1) == none);
+  const s2u_rect leaf = {0, 0, 0, 0, 0};
+  CHECK(two.CoveringIn(edge, 1).Tokens() == "04" && two.InteriorCoveringIn(leaf, 30).Tokens() == "0000000000000001");
+  CHECK(Union::FromTokens("0/1, 04") == two && Union::FromTokens("").Tokens().empty());
+  CHECK(two < face && !(face < two) && std::set<Union>({face, two, face}).size() == 2);
+  CHECK(std::unordered_set<Union>({face, two, face}).size() == 2 && std::hash<Union>()(none) == std::hash<Union>()({}));
+  REFUSES(S2U_NO_CELL, two.ContainsCells(cells<Id>({first, 2}), status));
+  REFUSES(S2U_NO_CELL, two.IntersectsCells(cells<Id>({0}), status));
+  REFUSES(S2U_NO_CELL, Union::FromTokens("04 x", status));
+  REFUSES(S2U_MANY, two.Covering(1, 1, status));
+  REFUSES(S2U_ARGUMENT, two.InteriorCovering(31, 9, status));
+  REFUSES(S2U_ARGUMENT, Union::CoveringOf(edge, -1, 9, status));
+  REFUSES(S2U_MANY, two.CoveringIn(edge, 30, 9, status));
+
+  std::string bytes, other;
+  two.Encode(&bytes);
+  face.Encode(&other);
+  const File file(bytes.data(), bytes.size()), whole(other.data(), other.size());
+  CHECK(file.size() == 2 && file.num_cells() == 2 && !file.empty() && file.cell_id(1) == Id(second));
+  CHECK(file.cell_id(2) == Id(0) && file.LeafCellsCovered() == two.LeafCellsCovered() && file.Union() == two);
+  CHECK(file.Contains(Id(first)) && !file.Contains(Id(kFace)) && file.Intersects(Id(kFace)));
+  CHECK(!file.Intersects(Id(s2u_child(kFace, 3))));
+  CHECK(whole.Contains(file) && !file.Contains(whole) && file.Intersects(whole));
+  REFUSES(S2U_NO_CELL, file.Contains(Id(2), status));
+  REFUSES(S2U_NO_CELL, file.Intersects(Id(2), status));
+  REFUSES(S2U_FILE_SHORT, File(bytes.data(), 3, status));
+  int32_t found = S2U_OK;
+  std::swap_ranges(bytes.begin() + 9, bytes.begin() + 17, bytes.begin() + 17);
+  CHECK(File(bytes.data(), bytes.size(), &found).empty() && found == S2U_NO_UNION);
+}
+
 int main() {
   unions<uint64_t>();
+  collections<uint64_t>();
+  collections<Cell>();
   unions<Cell>();
   room_that_is_kept<uint64_t>();
   room_that_is_kept<Cell>();

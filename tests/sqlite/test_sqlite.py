@@ -5,6 +5,7 @@ S2UNION_SQLITE is the path of the extension; the model is in tests/python."""
 import ctypes
 import gc
 import os
+import re
 import sqlite3
 import unittest
 
@@ -587,6 +588,23 @@ class WhatIsRefused(Tests):
             self.refused("s2: argument", f"* FROM s2_cells('{cells}', 1, 4)")
             self.refused("s2: argument", f"* FROM s2_cells('{cells}', 31)")
 
+    def test_the_value_is_named(self):
+        for said, expression, *values in (
+            ("s2: not a cell: 2", "s2_contains('1', ?)", 2), ("s2: not a cell: 'x'", "s2_level(?)", "x"),
+            ("s2: not a cell: '04 it''s'", "s2_count(?)", "04 it's"),
+            ("s2: not a cell: '" + 40 * "é" + "'", "s2_count(?)", 50 * "é"),
+            ("s2: a cell is an INTEGER or a TEXT: 1.5", "s2_parent(?, 3)", 1.5),
+            ("s2: a level, face or coordinate is an INTEGER: 'x'", "s2_parent('1', ?)", "x"),
+            ("s2: argument out of range: '3', '1'", "s2_range(?, ?)", "3", "1"),
+            ("s2: argument out of range: '1', 31", "s2_outer(?, ?)", "1", 31),
+            ("s2: union file: bytes are missing: a BLOB of length 3", "s2_leaves(?)", b"\x01\0\0"),
+            ("s2: not a cell: 'y'", "s2_union_agg(?)", "y"),
+            ("s2: argument out of range: '1', 31", "count(*) FROM s2_cells(?, ?)", "1", 31),
+        ):
+            with self.assertRaises(sqlite3.OperationalError) as caught:
+                self.ask(expression, *values)
+            self.assertEqual(str(caught.exception), said)
+
     def test_the_page_lists_the_errors(self):
         with open(os.path.join(os.path.dirname(os.path.abspath(__file__)), "../../docs/SQLITE.md")) as file:
             page = file.read()
@@ -599,9 +617,10 @@ class WhatIsRefused(Tests):
         ):
             with self.assertRaises(sqlite3.OperationalError) as refusal:
                 self.ask(expression)
-            reasons.add(str(refusal.exception))
-            others = str(refusal.exception).replace("s2: union file:", "..")
-            self.assertTrue(f"`{refusal.exception}`" in page or f"`{others}`" in page, str(refusal.exception))
+            reason = re.match("s2: (?:union file: )?[^:]*", str(refusal.exception))[0]
+            reasons.add(reason)
+            others = reason.replace("s2: union file:", "..")
+            self.assertTrue(f"`{reason}`" in page or f"`{others}`" in page, reason)
         self.assertEqual(len(reasons), 11)
 
     def test_no_cells(self):

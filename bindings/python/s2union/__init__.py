@@ -27,6 +27,7 @@ import operator as _operator
 import re as _re
 import sys as _sys
 from array import array as _array
+from collections.abc import Set as _Set
 from typing import TYPE_CHECKING, Any, Iterable, Iterator, overload
 
 from . import _library
@@ -34,12 +35,16 @@ from . import _library
 if TYPE_CHECKING:
     from typing import Callable, Protocol, SupportsIndex, TypeVar
 
+    import numpy.typing as npt
+
     Self = TypeVar("Self", bound="Union")
 
     class Array(Protocol):
         """An array of numpy, or what is made one, such as a column of pandas."""
 
         def __array__(self, *arguments: Any, **options: Any) -> Any: ...
+
+    Cells = Iterable[SupportsIndex] | Array
 
 __all__ = ["Union", "UnionFile", "version", "is_cell", "level", "face", "parent", "child", "range_min", "range_max",
            "size", "next_cell", "previous_cell", "common_ancestor", "contains", "intersects", "from_face_ij", "square",
@@ -53,7 +58,7 @@ _SEPARATOR = _re.compile(rb"[ \t\n\r,]")  # of words, for the library; bytes.spl
 
 def _refuse(status: int, what: str = "") -> None:
     if status == _library.MEMORY:
-        raise MemoryError("s2union: out of memory")
+        raise MemoryError(f"s2union: out of memory{': ' if what else ''}{what}")
     text = _library.TEXTS.get(status, f"refused with status {status}")
     raise ValueError(f"{text}: {what}" if what else text)
 
@@ -81,6 +86,8 @@ def _number(value: SupportsIndex, most: int, what: str, least: int = 0) -> int:
 
 def _bits(value: SupportsIndex) -> int:
     """The 64 bits of what may be a cell, from a number without or with a sign. No cell can be read in two ways."""
+    if type(value) is int and 0 <= value <= _ALL_BITS:  # what most callers have
+        return value
     return _number(value, _ALL_BITS, "a cell", -2**63) & _ALL_BITS
 
 
@@ -90,6 +97,13 @@ def _cell(value: SupportsIndex) -> int:
     if not _library.is_cell(bits):
         raise ValueError(f"not a cell: {bits:#x}")
     return bits
+
+
+def _known(answer: int, bits: int, least: int = 0) -> int:
+    """What a call answers about a cell: less than `least` if the number is that of none."""
+    if answer < least:
+        raise ValueError(f"not a cell: {bits:#x}")
+    return answer
 
 
 def _bytes(text: str | bytes | bytearray) -> bytes:
@@ -138,47 +152,53 @@ def to_signed(cell: SupportsIndex) -> int:
 
 def level(cell: SupportsIndex) -> int:
     """The level of a cell, 0 (a face) to 30 (a leaf)."""
-    return _library.level(_cell(cell))
+    bits = _bits(cell)
+    return _known(_library.level(bits), bits)
 
 
 def face(cell: SupportsIndex) -> int:
     """The face of a cell, 0 to 5."""
-    return _library.face(_cell(cell))
+    bits = _bits(cell)
+    return _known(_library.face(bits), bits)
 
 
 def parent(cell: SupportsIndex, level: SupportsIndex | None = None) -> int:
     """The cell of this level that contains the cell; without a level, of the level above its own."""
-    cell = _cell(cell)
-    wanted = _library.level(cell) - 1 if level is None else _number(level, 30, "a level")
+    bits = _bits(cell)
+    wanted = _known(_library.level(bits), bits) - 1 if level is None else _number(level, 30, "a level")
     if wanted < 0:
-        raise ValueError("a face has no parent")
-    found = _library.parent(cell, wanted)
-    if not found:
-        raise ValueError(f"the level is below the cell's own: {wanted}")
+        raise ValueError(f"a face has no parent: {bits:#x}")
+    found = _library.parent(bits, wanted)
+    if not found and _cell(bits):
+        raise ValueError(f"the level is below that of the cell {bits:#x}: {wanted}")
     return found
 
 
 def child(cell: SupportsIndex, number: SupportsIndex) -> int:
     """The child of a cell with this number, 0 to 3 along the curve."""
-    found = _library.child(_cell(cell), _number(number, 3, "a child's number"))
+    cell = _cell(cell)
+    found = _library.child(cell, _number(number, 3, "a child's number"))
     if not found:
-        raise ValueError("a leaf has no children")
+        raise ValueError(f"a leaf has no children: {cell:#x}")
     return found
 
 
 def range_min(cell: SupportsIndex) -> int:
     """The first leaf of a cell: `other` is in `cell` exactly if `range_min(cell) <= other <= range_max(cell)`."""
-    return _library.range_min(_cell(cell))
+    bits = _bits(cell)
+    return _known(_library.range_min(bits), bits, 1)
 
 
 def range_max(cell: SupportsIndex) -> int:
     """The last leaf of a cell."""
-    return _library.range_max(_cell(cell))
+    bits = _bits(cell)
+    return _known(_library.range_max(bits), bits, 1)
 
 
 def size(cell: SupportsIndex) -> int:
     """How many leaves a cell has."""
-    return _library.size(_cell(cell))
+    bits = _bits(cell)
+    return _known(_library.size(bits), bits, 1)
 
 
 def next_cell(cell: SupportsIndex) -> int | None:
@@ -249,14 +269,15 @@ def from_debug(text: str | bytes) -> int:
 
 
 @overload
-def levels(cells: Array) -> Any: ...
+def levels(cells: Array) -> npt.NDArray[Any]: ...
 @overload
 def levels(cells: Iterable[SupportsIndex]) -> list[int]: ...
 
 
 def levels(cells: Any) -> Any:
     """The levels of many cells in one call, in their order: a list, or for an array of numpy or a column of pandas, an
-    array. So it is with `parents`, `range_mins` and `range_maxes`.
+    array. So it is with `parents`, `range_mins` and `range_maxes`, whose cells are signed in an array if the given ones
+    are.
 
     >>> levels([0x1000000000000000, 0x0400000000000000])
     [0, 1]
@@ -265,40 +286,40 @@ def levels(cells: Any) -> Any:
 
 
 @overload
-def parents(cells: Array, level: SupportsIndex) -> Any: ...
+def parents(cells: Array, level: SupportsIndex) -> npt.NDArray[Any]: ...
 @overload
 def parents(cells: Iterable[SupportsIndex], level: SupportsIndex) -> list[int]: ...
 
 
 def parents(cells: Any, level: SupportsIndex) -> Any:
     """The cells of one level that contain the cells, in one call; ValueError if the level is below a cell's own."""
-    return _entries(cells, _each(_library.parents, cells, _number(level, 30, "a level")))
+    return _relatives(cells, _each(_library.parents, cells, _number(level, 30, "a level")))
 
 
 @overload
-def range_mins(cells: Array) -> Any: ...
+def range_mins(cells: Array) -> npt.NDArray[Any]: ...
 @overload
 def range_mins(cells: Iterable[SupportsIndex]) -> list[int]: ...
 
 
 def range_mins(cells: Any) -> Any:
     """The first leaves of many cells, in one call."""
-    return _entries(cells, _each(_library.range_mins, cells))
+    return _relatives(cells, _each(_library.range_mins, cells))
 
 
 @overload
-def range_maxes(cells: Array) -> Any: ...
+def range_maxes(cells: Array) -> npt.NDArray[Any]: ...
 @overload
 def range_maxes(cells: Iterable[SupportsIndex]) -> list[int]: ...
 
 
 def range_maxes(cells: Any) -> Any:
     """The last leaves of many cells, in one call."""
-    return _entries(cells, _each(_library.range_maxes, cells))
+    return _relatives(cells, _each(_library.range_maxes, cells))
 
 
 @overload
-def token_fields(cells: Array) -> Any: ...
+def token_fields(cells: Array) -> npt.NDArray[Any]: ...
 @overload
 def token_fields(cells: Iterable[SupportsIndex]) -> list[bytes]: ...
 
@@ -316,7 +337,7 @@ def token_fields(cells: Any) -> Any:
 
 
 @overload
-def from_points(face: Array, i: Array, j: Array) -> Any: ...
+def from_points(face: Array, i: Array, j: Array) -> npt.NDArray[Any]: ...
 @overload
 def from_points(face: Iterable[SupportsIndex], i: Iterable[SupportsIndex], j: Iterable[SupportsIndex]) -> list[int]: ...
 
@@ -382,12 +403,18 @@ def _each(call: Callable[..., int], cells: Any, *arguments: Any, kind: str = "Q"
     return out
 
 
-def _entries(cells: Any, found: _array[int]) -> Any:
-    """What was found for cells: in an array if the caller has the cells in one, else in a list."""
-    if not _is_array(cells):
+def _entries(given: Any, found: _array[int]) -> Any:
+    """What was found: in an array if the caller gave one, else in a list."""
+    if not _is_array(given):
         return found.tolist()
     import numpy
     return numpy.asarray(found)
+
+
+def _relatives(cells: Any, found: _array[int]) -> Any:
+    """Cells that were found for cells, which are signed in an array if the caller's are."""
+    entries = _entries(cells, found)
+    return entries.view("int64") if getattr(getattr(cells, "dtype", None), "kind", "") == "i" else entries
 
 
 def tokens(cells: Iterable[SupportsIndex] | Array) -> list[str]:
@@ -477,9 +504,10 @@ def _read(cells: Any) -> _array[int] | bytes:
 
 
 def _room(length: int, kind: str = "Q") -> _array[int]:
-    if length > _sys.maxsize // 8:
-        _refuse(_library.MEMORY)
-    return _array(kind, [0]) * length
+    try:
+        return _array(kind, [0]) * length
+    except (MemoryError, OverflowError):
+        raise MemoryError(f"s2union: out of memory: {length} numbers are wanted") from None
 
 
 def _place(ids: _array[int] | bytes) -> tuple[Any, int]:
@@ -503,15 +531,22 @@ def _up_to(level: SupportsIndex, most: SupportsIndex) -> tuple[int, int]:
     return _number(level, 30, "a level"), _number(most, 2**63 - 1, "most")
 
 
-def _listed(call: Callable[..., int], room: int, *arguments: Any) -> _array[int]:
-    """The result of a call: tries room that may suffice, and calls again with what is needed if it doesn't."""
+def _shown(bounds: Iterable[SupportsIndex], level: SupportsIndex, most: SupportsIndex) -> str:
+    """What a covering was asked for."""
+    corners = " ".join(map(str, bounds))
+    return f"{corners}{', ' if corners else ''}level {level}, at most {most} cells"
+
+
+def _listed(call: Callable[..., int], room: int, *arguments: Any, what: str = "") -> _array[int]:
+    """The result of a call: tries room that may suffice, and calls again with what is needed if it doesn't. A refusal
+    says `what` was refused."""
     out, length = _room(room), _c.c_size_t()
     status = call(*arguments, *_place(out), _c.byref(length))
     if status == _library.ROOM:
         out = _room(length.value)
         status = call(*arguments, *_place(out), _c.byref(length))
     if status != _library.OK:
-        _refuse(status)
+        _refuse(status, what)
     del out[length.value:]
     return out
 
@@ -654,7 +689,7 @@ class UnionFile:
         return _answers(cells, bytearray(_answer(call(*self._place, _cell(cell))) for cell in _ids_of(cells)))
 
     @overload
-    def contains_cells(self, cells: Array) -> Any: ...
+    def contains_cells(self, cells: Array) -> npt.NDArray[Any]: ...
     @overload
     def contains_cells(self, cells: Iterable[SupportsIndex]) -> list[bool]: ...
 
@@ -664,7 +699,7 @@ class UnionFile:
         return self._ask_each(_library.file_contains_cell, cells)
 
     @overload
-    def intersects_cells(self, cells: Array) -> Any: ...
+    def intersects_cells(self, cells: Array) -> npt.NDArray[Any]: ...
     @overload
     def intersects_cells(self, cells: Iterable[SupportsIndex]) -> list[bool]: ...
 
@@ -695,6 +730,11 @@ class UnionFile:
     def union(self) -> Union:
         """The union itself, copied."""
         return Union._made(_listed(_library.decode, self._size, *self._bytes.unchanging()))
+
+
+def _union_of(cells: Any) -> Union:
+    """A union itself, or the union of an iterable or a buffer of cells."""
+    return cells if isinstance(cells, Union) else Union(cells)
 
 
 def _wanted(kind: type, other: Any) -> Any:
@@ -753,15 +793,15 @@ class Union:
         raise AttributeError("a Union is immutable")
 
     @classmethod
-    def of(cls: type[Self], unions: Iterable[Union]) -> Self:
-        """The leaves of any of many unions, in one call.
+    def of(cls: type[Self], unions: Iterable[Cells]) -> Self:
+        """The leaves of any of many unions, or iterables of cells, in one call.
 
         >>> Union.of([Union.from_tokens("04 0c"), Union(), Union.from_tokens("14"), Union.from_tokens("1c")]).tokens()
         ['1']
         """
         ids, ends = _array("Q"), _array("Q")
         for union in unions:
-            ids.frombytes(_wanted(Union, union)._ids)
+            ids.frombytes(_union_of(union)._ids)
             ends.append(len(ids))
         work = _room(2 * len(ids))
         return cls._made(_listed(_library.union_of_many, len(ids), *_place(ids), *_place(ends), *_place(work)))
@@ -775,13 +815,16 @@ class Union:
     @classmethod
     def from_range(cls: type[Self], first: SupportsIndex, last: SupportsIndex) -> Self:
         """All leaves from the first of one cell to the last of another, also across faces."""
-        return cls._made(_listed(_library.range_, _library.MOST_RANGE, _cell(first), _cell(last)))
+        first, last = _cell(first), _cell(last)
+        return cls._made(_listed(_library.range_, _library.MOST_RANGE, first, last,
+                                 what=f"{first:#x} comes after {last:#x}"))
 
     @classmethod
     def from_bytes(cls: type[Self], data: Any) -> Self:
         """The union in a union file, whose cells may be in any order."""
         with _Held(data) as held:
-            return cls._made(_listed(_library.decode, max(held.size - 9, 0) // 8, *held.unchanging()))
+            return cls._made(_listed(_library.decode, max(held.size - 9, 0) // 8, *held.unchanging(),
+                                     what=f"{held.size} bytes"))
 
     @classmethod
     def covering(cls: type[Self], face: SupportsIndex, i0: SupportsIndex, i1: SupportsIndex, j0: SupportsIndex,
@@ -789,7 +832,8 @@ class Union:
                  most: SupportsIndex = _library.MOST_COVERING) -> Self:
         """The cells of a level that share a leaf with a rectangle of a face (with `inner`, that lie in it)."""
         call = _library.inner if inner else _library.outer
-        return cls._made(_listed(call, 64, _rectangle((face, i0, i1, j0, j1)), *_up_to(level, most)))
+        bounds = (face, i0, i1, j0, j1)
+        return cls._made(_listed(call, 64, _rectangle(bounds), *_up_to(level, most), what=_shown(bounds, level, most)))
 
     def outer(self: Self, level: SupportsIndex, most: SupportsIndex = _library.MOST_COVERING,
               rectangle: Iterable[SupportsIndex] | None = None) -> Self:
@@ -806,8 +850,10 @@ class Union:
                  rectangle: Iterable[SupportsIndex] | None, *bounds: int) -> Self:
         """The covering that one call makes of the union, or the other of its part in a rectangle."""
         if rectangle is None:
-            return self._made(_listed(whole, len(self), *_place(self._ids), *bounds))
-        return self._made(_listed(part, 64, *_place(self._ids), _rectangle(rectangle), *bounds))
+            return self._made(_listed(whole, len(self), *_place(self._ids), *bounds, what=_shown((), *bounds)))
+        corners = tuple(rectangle)
+        return self._made(_listed(part, 64, *_place(self._ids), _rectangle(corners), *bounds,
+                                  what=_shown(corners, *bounds)))
 
     def to_bytes(self) -> bytes:
         """The union file: the bytes that S2's own S2CellUnion::Encode writes. Equal unions have equal files."""
@@ -882,11 +928,13 @@ class Union:
 
     def __contains__(self, cell: SupportsIndex) -> bool:
         """Whether all leaves of a cell are in the union."""
-        return _answer(_library.contains_cell(*_place(self._ids), _cell(cell)))
+        bits, ids = _bits(cell), self._ids
+        return _known(_library.contains_cell(ids, len(ids) // 8, bits), bits) == 1
 
     def intersects_cell(self, cell: SupportsIndex) -> bool:
         """Whether the union has a leaf of a cell."""
-        return _answer(_library.intersects_cell(*_place(self._ids), _cell(cell)))
+        bits, ids = _bits(cell), self._ids
+        return _known(_library.intersects_cell(ids, len(ids) // 8, bits), bits) == 1
 
     def cells_at(self, cell: SupportsIndex) -> list[int]:
         """The cells of the union that share a leaf with a cell."""
@@ -909,7 +957,7 @@ class Union:
         return _answers(cells, answers)
 
     @overload
-    def contains_cells(self, cells: Array) -> Any: ...
+    def contains_cells(self, cells: Array) -> npt.NDArray[Any]: ...
     @overload
     def contains_cells(self, cells: Iterable[SupportsIndex]) -> list[bool]: ...
 
@@ -919,7 +967,7 @@ class Union:
         return self._ask_all(_library.contains_cells, cells)
 
     @overload
-    def intersects_cells(self, cells: Array) -> Any: ...
+    def intersects_cells(self, cells: Array) -> npt.NDArray[Any]: ...
     @overload
     def intersects_cells(self, cells: Iterable[SupportsIndex]) -> list[bool]: ...
 
@@ -958,24 +1006,24 @@ class Union:
     def __invert__(self: Self) -> Self:
         return self.complement()
 
-    def union(self: Self, *others: Union) -> Self:
-        """The leaves of the union and of all others."""
+    def union(self: Self, *others: Cells) -> Self:
+        """The leaves of the union and of all others: unions or iterables of cells, here and in the methods below."""
         return self | others[0] if len(others) == 1 and isinstance(others[0], Union) else self.of((self, *others))
 
-    def intersection(self: Self, *others: Union) -> Self:
+    def intersection(self: Self, *others: Cells) -> Self:
         """The leaves that the union and all others have."""
         both = self
         for other in others:
-            both = both & _wanted(Union, other)
+            both = both & _union_of(other)
         return both
 
-    def difference(self: Self, *others: Union) -> Self:
+    def difference(self: Self, *others: Cells) -> Self:
         """The leaves of the union that none of the others has."""
         return self - Union.of(others)
 
-    def symmetric_difference(self: Self, other: Union) -> Self:
+    def symmetric_difference(self: Self, other: Cells) -> Self:
         """The leaves that one of two unions has, and the other hasn't."""
-        return self.__xor__(_wanted(Union, other))
+        return self ^ _union_of(other)
 
     def complement(self: Self) -> Self:
         """The leaves of the sphere that the union doesn't have.
@@ -1005,28 +1053,28 @@ class Union:
             return NotImplemented
         return other.__gt__(self)
 
-    def intersects(self, other: Union) -> bool:
+    def intersects(self, other: Cells) -> bool:
         """Whether two unions share a leaf."""
-        return _answer(_library.intersects(*_place(self._ids), *_place(_wanted(Union, other)._ids)))
+        return _answer(_library.intersects(*_place(self._ids), *_place(_union_of(other)._ids)))
 
-    def isdisjoint(self, other: Union) -> bool:
+    def isdisjoint(self, other: Cells) -> bool:
         """Whether two unions share no leaf."""
         return not self.intersects(other)
 
-    def issubset(self, other: Union) -> bool:
+    def issubset(self, other: Cells) -> bool:
         """Whether all leaves of the union are in another."""
-        return self.__le__(_wanted(Union, other))
+        return self <= _union_of(other)
 
-    def issuperset(self, other: Union) -> bool:
+    def issuperset(self, other: Cells) -> bool:
         """Whether all leaves of another union are in this one."""
-        return self.__ge__(_wanted(Union, other))
+        return self >= _union_of(other)
 
     def denormalised(self, min_level: SupportsIndex, modulus: SupportsIndex = 1,
                      most: SupportsIndex | None = None) -> list[int]:
         """The cells, each cut to the least level that is at least its own and is `min_level` or above it by a multiple
         of `modulus` (1 to 3); to leaves if there is none. ValueError if there are more than `most`; a face has 4**30
         leaves."""
-        arguments = (*_place(self._ids), _number(min_level, 30, "a level"), _number(modulus, 3, "a modulus"))
+        arguments = (*_place(self._ids), _number(min_level, 30, "a level"), _number(modulus, 3, "a modulus", 1))
         need = _c.c_uint64()
         status = _library.denormalised_len(*arguments, _c.byref(need))
         if status != _library.OK:
@@ -1044,6 +1092,9 @@ class Union:
         shown = [_text_of(_library.token, cell, _library.MOST_TOKEN) for cell in self.ids[:8]]
         more = f" and {len(self) - 8} more" if len(self) > 8 else ""
         return f"<Union of {len(self)} cells: {' '.join(shown)}{more}>"
+
+
+_Set.register(Union)
 
 
 def _unpickled(data: bytes, kind: type[Union] = Union) -> Union:

@@ -1,13 +1,13 @@
 //! A union as a collection of cells, and as a set with operators.
 
-use std::ops::{BitAnd, BitOr, BitXor, Not, Sub};
+use std::ops::{BitAnd, BitAndAssign, BitOr, BitOrAssign, BitXor, BitXorAssign, Not, Sub, SubAssign};
 
 use crate::cell::CellId;
 use crate::error::Error;
 use crate::union::CellUnion;
 
 macro_rules! operator {
-    ($trait:ident, $name:ident, $method:ident) => {
+    ($trait:ident, $name:ident, $assigning:ident, $assign:ident, $method:ident) => {
         /// Panics if there is no memory, where the method answers [`Error::Memory`].
         impl $trait for &CellUnion {
             type Output = CellUnion;
@@ -21,12 +21,34 @@ macro_rules! operator {
                 (&self).$name(&other)
             }
         }
+        impl $trait<&CellUnion> for CellUnion {
+            type Output = CellUnion;
+            fn $name(self, other: &CellUnion) -> CellUnion {
+                (&self).$name(other)
+            }
+        }
+        impl $trait<CellUnion> for &CellUnion {
+            type Output = CellUnion;
+            fn $name(self, other: CellUnion) -> CellUnion {
+                self.$name(&other)
+            }
+        }
+        impl $assigning<&CellUnion> for CellUnion {
+            fn $assign(&mut self, other: &CellUnion) {
+                *self = (&*self).$name(other);
+            }
+        }
+        impl $assigning for CellUnion {
+            fn $assign(&mut self, other: CellUnion) {
+                self.$assign(&other);
+            }
+        }
     };
 }
-operator!(BitOr, bitor, union);
-operator!(BitAnd, bitand, intersection);
-operator!(Sub, sub, difference);
-operator!(BitXor, bitxor, symmetric_difference);
+operator!(BitOr, bitor, BitOrAssign, bitor_assign, union);
+operator!(BitAnd, bitand, BitAndAssign, bitand_assign, intersection);
+operator!(Sub, sub, SubAssign, sub_assign, difference);
+operator!(BitXor, bitxor, BitXorAssign, bitxor_assign, symmetric_difference);
 
 /// The complement. Panics if there is no memory, where [`CellUnion::complement`] answers [`Error::Memory`].
 impl Not for &CellUnion {
@@ -91,5 +113,33 @@ impl<'a> IntoIterator for &'a CellUnion {
 impl From<CellId> for CellUnion {
     fn from(cell: CellId) -> CellUnion {
         CellUnion::from_cells(vec![cell])
+    }
+}
+
+/// The union of cells, as [`CellUnion::from_cells`].
+impl From<Vec<CellId>> for CellUnion {
+    fn from(cells: Vec<CellId>) -> CellUnion {
+        CellUnion::from_cells(cells)
+    }
+}
+
+/// The union of cells, as [`CellUnion::from_cells`].
+impl<const N: usize> From<[CellId; N]> for CellUnion {
+    fn from(cells: [CellId; N]) -> CellUnion {
+        CellUnion::from_cells(cells.into())
+    }
+}
+
+/// Adds the leaves of cells, all at once. Panics if there is no memory.
+impl Extend<CellId> for CellUnion {
+    fn extend<I: IntoIterator<Item = CellId>>(&mut self, cells: I) {
+        *self |= cells.into_iter().collect::<CellUnion>();
+    }
+}
+
+/// Adds the leaves of unions, all at once. Panics if there is no memory.
+impl<'a> Extend<&'a CellUnion> for CellUnion {
+    fn extend<I: IntoIterator<Item = &'a CellUnion>>(&mut self, unions: I) {
+        *self |= unions.into_iter().collect::<CellUnion>();
     }
 }

@@ -194,7 +194,11 @@ impl Given<'_> {
             }
             "intersection" => same(self.union(0).intersection(&self.union(1)), Ok(self.union(0) & self.union(1))),
             "difference" => same(self.union(0).difference(&self.union(1)), Ok(self.union(0) - self.union(1))),
-            "symmetric_difference" => (&self.union(0) ^ &self.union(1)).shown(),
+            "symmetric_difference" => {
+                let mut changed = self.union(0);
+                changed ^= &self.union(1);
+                same(changed, self.union(0) ^ &self.union(1))
+            }
             "complement" => same(self.union(0).complement(), Ok(!self.union(0))),
             "intersection_with_cell" => self.union(0).intersection_with_cell(self.cell(1)).shown(),
             "union_contains" => {
