@@ -19,7 +19,11 @@ pub mod Turns
 -- Cited by the crates above: set operations.
 pub mod Shared
 pub mod Subtracting
+pub mod Writing
 -- Of this crate alone.
+mod Leaping
+mod Leaving
+mod Sharing
 mod Marking
 mod Narrowing
 mod Running

@@ -297,10 +297,3 @@ pub skip_x : (S : ℕ → Bool) (xs ys list : List ℕ) (i j next y : ℕ) →
 skip_x S xs ys list i j next y lx ly s g ry le in_x ended =
     let ey : get_or ys j 0 ≡ y = read_at ys j j y g refl ry in
     sharing_jump next lx ly s g le in_x (rw ey ended)
-
-pub skip_y : (S : ℕ → Bool) (xs ys list : List ℕ) (i j next x : ℕ) →
-    IsLocal xs → IsLocal ys → Sharing S xs ys list i j → i < length xs →
-    x ≡ get_or xs i x → j ≤ next → next ≤ length ys → FirstEndBy ys next (first_leaf x) → Sharing S xs ys list i next
-skip_y S xs ys list i j next x lx ly s h rx le in_y ended =
-    sharing_swap S ys xs list next i (skip_x S ys xs list j i next x ly lx (sharing_swap S xs ys list i j s) h rx
-    le in_y ended)

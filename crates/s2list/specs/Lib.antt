@@ -4,4 +4,5 @@ pub mod Count
 pub mod Sets
 pub mod Search
 pub mod Looks
+pub mod Output
 pub mod Working

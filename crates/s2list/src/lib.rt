@@ -1,13 +1,14 @@
-//! Lists of cells by their indexes: searches, questions and the step of normalizing, written once for each form that a
-//! list may have.
+//! Lists of cells by their indexes: searches, questions, the step of normalizing, intersections and differences,
+//! written once for each form that a list may have.
 //!
 //! A cell ends by the leaf `lo` if all its leaves come before that leaf.
 //!
 //! Anything that gives numbers by their indexes is a list of cells (`Cells`): numbers in a slice, the cells of a union,
-//! the bytes of a file at any address. No call copies anything or takes memory. Only `new_end` has a precondition on
-//! the numbers: whatever they are, any other call is safe and returns. The answer is exact if they are the cells of a
-//! normalized union; for other numbers it means nothing; `is_union` and `first_wrong` are exact for all numbers. What
-//! counts the looks of a call is a type parameter (`Count`), so that a call that nobody counts has no code for it.
+//! the bytes of a file at any address. No call copies anything or takes memory; what an intersection or a difference is
+//! written to (`Output`) is its caller's. Only `new_end` has a precondition on the numbers: whatever they are, any
+//! other call is safe and returns. The answer is exact if they are the cells of a normalized union; for other numbers
+//! it means nothing; `is_union` and `first_wrong` are exact for all numbers. What counts the looks of a call is a type
+//! parameter (`Count`), so that a call that nobody counts has no code for it.
 #![tactic(auto)]
 
 mod along;
@@ -17,7 +18,10 @@ mod cells;
 mod find;
 mod four;
 mod looks;
+mod output;
 mod run;
+mod share;
+mod subtract;
 mod walk;
 mod whole;
 
@@ -34,6 +38,9 @@ pub use find::{
 };
 pub use four::{Places, places_of_four, places_of_four_counted};
 pub use looks::{Count, Counted, Looks, Uncounted, look};
+pub use output::Output;
 pub use run::cells_at;
+pub use share::write_shared;
+pub use subtract::write_difference;
 pub use walk::{contains, contains_counted, holds_all, intersects, intersects_counted, meets_any};
 pub use whole::{first_wrong, is_union, leaf_count, parent_of_family};

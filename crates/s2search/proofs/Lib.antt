@@ -3,8 +3,6 @@ pub mod Numbers
 pub mod Levelling
 -- Of this crate alone.
 mod Laying
-mod Leaping
-mod Leaving
 mod Merging
 mod Cutting
 mod Alone
@@ -14,4 +12,3 @@ mod Reaching
 mod Piling
 mod Rows
 mod Putting
-mod Sharing

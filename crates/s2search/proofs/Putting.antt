@@ -1,19 +1,15 @@
 -- A list that is put into a room, one number after another or a run at a time.
-use Rattle.std.proofs.Common.{◌≡◌, ℕ, zero, suc, Bool, ◌+◌, ◌-◌, ◌^◌, ◌<◌, ◌≤◌}
+use Rattle.std.proofs.Common.{◌≡◌, ℕ, Bool, ◌+◌, ◌^◌, ◌<◌, ◌≤◌}
 use Rattle.std.proofs.Common.{refl, ap, ◌∙◌, arith, List, [], ◌∷◌, ◌++◌}
 use Rattle.std.proofs.Common.{length, get_or, take, drop, add-one, append_assoc, drop-cons, drop-drop}
 use Rattle.std.proofs.Math.ListN.{set}
 use Rattle.std.proofs.Math.Seq.{set-append_seam, take-append_seam, drop-append-add}
 use Rattle.std.proofs.lemmas.List.{take_more, get_or-drop, length-take-le, length-drop, length-append}
-use Rattle.std.proofs.Math.Logic.{⊎_elim}
-use Rattle.std.proofs.lemmas.Bool.{cases_lt}
-use Rattle.s2cell.specs.Cell.{first_leaf, size_of}
-use Rattle.s2cell.proofs.CellLemmas.{cell_leaves}
 use Rattle.s2list.specs.Union.{IsNormalForm, has_leaf}
-use Rattle.s2list.specs.Packed.{IsPacked}
 use Rattle.s2list.proofs.Checking.{packed_from_local}
 use Rattle.s2list.proofs.Normal.{normal_from_leaves}
 use Rattle.s2list.proofs.Picking.{Picked, picked_local}
+use Rattle.s2list.proofs.Writing.{few_cells}
 use Rattle.s2search.specs.Working.Room.{IsPut}
 use Rattle.s2search.specs.Room.{PutsOne}
 
@@ -85,40 +81,16 @@ put_run_there list ids room before out n count from p h fits same g e =
           cc;
     }
 
--- each cell takes a leaf at least
-at_least : (u : List ℕ) (k : ℕ) → IsPacked u → k < length u → k ≤ first_leaf (get_or u k 0)
-at_least u zero p h = omega arith
-at_least u (suc k) p h =
-    let a = at_least u k p (omega arith) in
-    let s = (cell_leaves (get_or u k 0) (p.cells k 0 (omega arith))).some in
-    let c : first_leaf (get_or u k 0) + size_of (get_or u k 0) ≤ first_leaf (get_or u (suc k) 0) =
-    p.chain k (suc k) 0 (omega arith) h in
-    omega arith
-
-few_cells : (u : List ℕ) → IsPacked u → length u < 2 ^ 64
-few_cells u p = ⊎_elim
-    (λ (h : 0 < length u).
-    let k = length u - 1 in
-    let a = at_least u k p (omega arith) in
-    let w = (cell_leaves (get_or u k 0) (p.cells k 0 (omega arith))).within in
-    omega arith)
-    (λ (h : length u ≤ 0). omega arith)
-    (cases_lt 0 (length u))
-
 -- the list that was put into the room is the normal form
--- the number of cells fits
-pub puts_length : (S : ℕ → Bool) (list room out : List ℕ) (n : ℕ) → Picked S list → ((x : ℕ) → has_leaf list x ≡ S x)
-    → IsPut list room out n → n ≡ length list
-puts_length S list room out n picked leaves p =
-    p.len_is (few_cells list (packed_from_local list (picked_local S list picked leaves)))
-
 pub puts_normal : (S T : ℕ → Bool) (list room out : List ℕ) (n : ℕ) → Picked S list →
     ((x : ℕ) → has_leaf list x ≡ S x) → ((x : ℕ) → S x ≡ T x) → IsPut list room out n →
     PutsOne (IsNormalForm T) room out n
-puts_normal S T list room out n picked leaves same p = record {
-  list = list;
-  is = normal_from_leaves T list (picked_local S list picked leaves) (λ x. leaves x ∙ same x);
-  len_is = puts_length S list room out n picked leaves p;
-  same_length = p.same_length;
-  front = p.front;
-}
+puts_normal S T list room out n picked leaves same p =
+    let local = picked_local S list picked leaves in
+    record {
+      list = list;
+      is = normal_from_leaves T list local (λ x. leaves x ∙ same x);
+      len_is = p.len_is (few_cells list (packed_from_local list local));
+      same_length = p.same_length;
+      front = p.front;
+    }

@@ -3,7 +3,36 @@ ghost use Rattle.std.specs.Prelude.{◌≡◌, ◌+◌, ◌-◌, ◌<◌, ◌≤
 ghost use Rattle.s2search.specs.Working.Room.{IsPut, PutsGap};
 
 use s2cell::{CellId, LEAVES};
-use s2list::Cells;
+use s2list::{Cells, Output};
+use std::alloc::AllocError;
+
+/// A caller's room, into which a set operation writes.
+#[derive(Drop)]
+pub(crate) struct Room<'a> {
+    pub(crate) out: &'a mut [u64],
+}
+
+impl<'a, X: Cells, Y: Cells> Output<X, Y> for Room<'a> {
+    ghost holds = { λ list old now n. IsPut list old.out.now now.out.now n };
+
+    ghost place = { λ r. r.out.ghost_name };
+
+    ghost refuses = { ⊥ };
+
+    fn put_x(&mut self, n: usize, xs: &X, from: usize, to: usize) -> Result<usize, AllocError> {
+        Ok(put_run(self.out, n, xs, from, to))
+    }
+
+    fn put_y(&mut self, n: usize, ys: &Y, from: usize, to: usize) -> Result<usize, AllocError> {
+        Ok(put_run(self.out, n, ys, from, to))
+    }
+
+    fn put_gap(&mut self, n: usize, lo: u64, hi: u64) -> Result<usize, AllocError> {
+        Ok(put_gap(self.out, n, lo, hi))
+    }
+
+    ghost counts = { λ list old now n put few. put.len_is few };
+}
 
 /// Puts an identifier after the first `n`, if there is room, and answers how many they are then.
 #[inline(always)]

@@ -1,14 +1,12 @@
 //! The leaves that two lists of cells share, written into a room.
-ghost use Rattle.std.specs.Prelude.{◌≡◌, ◌+◌, ◌<◌, ◌≤◌, ◌↔◌, ℕ, IsTrue, min, length};
+ghost use Rattle.std.specs.Prelude.{◌≡◌, ◌+◌, ◌<◌, ◌≤◌, ℕ, min, length};
 ghost use Rattle.s2list.specs.Union.{IsLocal, IsNormalForm, has_leaf};
 ghost use Rattle.s2list.specs.Sets.{shared};
 ghost use Rattle.s2list.specs.Looks.{Alternates, FewForTurnsAndCells};
 ghost use Rattle.s2search.specs.Room.{PutsOne};
 
-use crate::room::put_run;
-use s2list::{
-    Cells, Count, Looks, Uncounted, end_of, find_along, find_from_counted, first_of, look,
-};
+use crate::room::Room;
+use s2list::{Cells, Count, Looks, Uncounted, write_shared};
 
 /// What a set operation answers, with how many looks that took.
 #[derive(Clone, Copy)]
@@ -56,8 +54,7 @@ pub fn put_intersection_counted<X: Cells, Y: Cells>(
     }
 }
 
-/// As `put_intersection_counted`, for any counter. Each turn passes the cells of a list that end before the next of the
-/// other, or copies those that lie in it.
+/// As `put_intersection_counted`, for any counter.
 fn put_shared<X: Cells, Y: Cells, K: Count>(xs: &X, ys: &Y, out: &mut [u64], count: &mut K) -> usize
     requires { K.looks count.old ≡ 0 }
     ensures len { length out.new ≡ length out.old }
@@ -68,41 +65,9 @@ fn put_shared<X: Cells, Y: Cells, K: Count>(xs: &X, ys: &Y, out: &mut [u64], cou
         → FewForTurnsAndCells (length (X.ids xs.now) + length (Y.ids ys.now)) d result (K.looks count.new) }
     ensures least { 0 < length (X.ids xs.now) → 0 < length (Y.ids ys.now) → min 2 K.most ≤ K.looks count.new }
 {
-    let x_len = xs.len();
-    let y_len = ys.len();
-    let mut n = 0;
-    let mut i = 0;
-    let mut j = 0;
-    while i < x_len && j < y_len {
-        let x = look(xs, i, count);
-        let y = look(ys, j, count);
-        let x_first = first_of(x);
-        let y_first = first_of(y);
-        let x_end = end_of(x);
-        let y_end = end_of(y);
-        if x_end <= y_first {
-            i = find_along(xs, i, i + 1, y_first, count);
-        } else if y_end <= x_first {
-            j = find_along(ys, j, j + 1, x_first, count);
-        } else if is_within(x_first, x_end, y_first, y_end) {
-            let next = find_from_counted(xs, i + 1, y_end, count);
-            n = put_run(out, n, xs, i, next);
-            i = next;
-            j += 1;
-        } else {
-            let next = find_from_counted(ys, j + 1, x_end, count);
-            n = put_run(out, n, ys, j, next);
-            j = next;
-            i += 1;
-        }
+    let mut room = Room { out };
+    match write_shared(xs, ys, &mut room, count) {
+        Ok(n) => n,
+        Err(_) => unreachable!(),
     }
-    n
-}
-
-/// Whether the leaves from `first` to before `end` are among those from `lo` to before `hi`.
-#[inline(always)]
-fn is_within(first: u64, end: u64, lo: u64, hi: u64) -> bool
-    ensures { IsTrue result ↔ ((lo ≤ first) × (end ≤ hi)) }
-{
-    lo <= first && end <= hi
 }

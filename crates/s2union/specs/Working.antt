@@ -2,6 +2,7 @@
 -- docs/STATEMENT.md says what is.
 pub mod Cursor
 pub mod Denorm
+pub mod Grown
 pub mod Merge
 pub mod Sets
 pub mod Tail

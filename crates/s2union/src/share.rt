@@ -7,6 +7,7 @@ ghost use Rattle.s2union.specs.Working.Sets.{IsShared};
 ghost use Rattle.s2list.specs.Packed.{FirstEndBy, IsPlace};
 
 use crate::few::{MUCH_LONGER, by_four, pass_free, pass_held};
+use crate::grown::Grown;
 use crate::search::{find, find_from};
 use crate::sets::extend;
 use s2cell::CellId;
@@ -39,27 +40,13 @@ fn share_evenly(list: &mut Vec<CellId>, xs: &[CellId], ys: &[CellId]) -> Result<
     ensures local { OnOk result (IsLocal list.new.items) }
     ensures leaves { OnOk result ((x : ℕ) → has_leaf list.new.items x ≡ (has_leaf xs.now x && has_leaf ys.now x)) }
 {
-    let mut i = 0;
-    let mut j = 0;
-    while i < xs.len() && j < ys.len() {
-        let x = xs[i];
-        let y = ys[j];
-        if x.end_leaf() <= y.first_leaf() {
-            i = find_from(xs, i + 1, y.first_leaf());
-        } else if y.end_leaf() <= x.first_leaf() {
-            j = find_from(ys, j + 1, x.first_leaf());
-        } else if y.contains(x) {
-            let next = find_from(xs, i + 1, y.end_leaf());
-            extend(list, &xs[i..next])?;
-            i = next;
-            j += 1;
-        } else {
-            let next = find_from(ys, j + 1, x.end_leaf());
-            extend(list, &ys[j..next])?;
-            j = next;
-            i += 1;
-        }
-    }
+    let xs = CellList { cells: xs };
+    let ys = CellList { cells: ys };
+    let mut grown = Grown {
+        list,
+        most: usize::MAX,
+    };
+    s2list::write_shared(&xs, &ys, &mut grown, &mut Uncounted)?;
     Ok(())
 }
 

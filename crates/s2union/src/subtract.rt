@@ -12,8 +12,8 @@ ghost use Rattle.s2list.specs.Packed.{FirstEndBy, IsPlace, FillsGap};
 
 use crate::fault::UnionFault;
 use crate::few::MUCH_LONGER;
-use crate::search::{find, find_from};
-use crate::sets::extend;
+use crate::grown::Grown;
+use crate::search::find;
 use s2cell::{CellId, LEAVES};
 use s2list::{CellList, places_of_four};
 use std::alloc::AllocError;
@@ -61,55 +61,13 @@ fn subtract_evenly(
     ensures many { IfErr result (λ fault. fault ≡ UnionFault.TooMany → (u : List ℕ) →
         IsNormalForm (without (has_leaf xs.now) (has_leaf ys.now)) u → limit < length u) }
 {
-    let mut lo = 0;
-    let mut i = 0;
-    let mut j = 0;
-    while i < xs.len() && list.len() <= limit {
-        let x = xs[i];
-        let start = x.first_leaf().max(lo);
-        let end = x.end_leaf();
-        j = find_from(ys, j, start);
-        match cell_before(ys, j, end) {
-            Some(y) => {
-                fill_gap(list, start, y.first_leaf())?;
-                lo = y.end_leaf().max(start);
-                j += 1;
-                if end <= lo {
-                    i = find_from(xs, i, lo);
-                }
-            }
-            None => {
-                if start == x.first_leaf() {
-                    let next = free_until(xs, i, ys, j);
-                    extend_up_to(list, &xs[i..next], limit)?;
-                    lo = xs[next - 1].end_leaf();
-                    i = next;
-                } else {
-                    fill_gap(list, start, end)?;
-                    lo = end.max(start);
-                    i += 1;
-                }
-            }
-        }
-    }
-    check_limit(list.as_slice(), limit)
-}
-
-/// How many cells of `xs` end before the next cell of `ys`. The cell at index `i` is one of them.
-fn free_until(xs: &[CellId], i: usize, ys: &[CellId], j: usize) -> usize
-    requires x_local { IsLocal xs.now }
-    requires y_cells { All IsCell ys.now }
-    requires there { i < length xs.now }
-    requires free { j < length ys.now → first_leaf (slice_index xs.now i) + size_of (slice_index xs.now i)
-        ≤ first_leaf (slice_index ys.now j) }
-    ensures more { i < result }
-    ensures within { result ≤ length xs.now }
-    ensures free { j < length ys.now → FirstEndBy xs.now result (first_leaf (slice_index ys.now j)) }
-{
-    if j < ys.len() {
-        find_from(xs, i + 1, ys[j].first_leaf())
+    let xs = CellList { cells: xs };
+    let ys = CellList { cells: ys };
+    let mut grown = Grown { list, most: limit };
+    if s2list::write_difference(&xs, &ys, limit, &mut grown)? <= limit {
+        Ok(())
     } else {
-        xs.len()
+        Err(UnionFault::TooMany)
     }
 }
 
@@ -224,20 +182,6 @@ pub fn fill_gap(list: &mut Vec<CellId>, lo: u64, hi: u64) -> Result<(), AllocErr
         list.push(cell)?;
         first = cell.end_leaf();
     }
-    Ok(())
-}
-
-/// Appends cells to a list if it then has at most `limit` cells. Otherwise copies nothing.
-fn extend_up_to(list: &mut Vec<CellId>, cells: &[CellId], limit: usize) -> Result<(), UnionFault>
-    requires { vec_len list.old ≤ limit }
-    ensures items { OnOk result (list.new.items ≡ list.old.items ++ cells.now) }
-    ensures many { IfErr result (λ fault. fault ≡ UnionFault.TooMany →
-        limit < length (list.old.items ++ cells.now)) }
-{
-    if cells.len() > limit - list.len() {
-        return Err(UnionFault::TooMany);
-    }
-    extend(list, cells)?;
     Ok(())
 }
 

@@ -1,5 +1,5 @@
 use Rattle.s2list.proofs.Checking.{packed_from_local}
-use Rattle.s2search.proofs.subtract.leap_if.Goals as goal
+use Rattle.s2list.proofs.subtract.leap_if.Goals as goal
 
 pub returns-then-asked-clause-ended : goal.returns-then-asked-clause-ended
 returns-then-asked-clause-ended g c local b =

@@ -1,17 +1,17 @@
 use Rattle.std.proofs.Common.{◌≡◌, ◌≤◌, ◌<◌, ◌+◌, ◌-◌, length, min}
 use Rattle.s2list.specs.Union.{IsLocal}
 use Rattle.s2list.proofs.Shared.{both}
-use Rattle.s2search.proofs.Sharing.{SharingIn}
-use Rattle.s2search.proofs.share.put_shared.Given as goal
+use Rattle.s2list.proofs.Sharing.{SharingIn}
+use Rattle.s2list.proofs.share.write_shared.Given as goal
 
 abbrev pub invariant-loop-i : goal.invariant-loop-i
 invariant-loop-i g l = record {
   in_x : l.i ≤ length (g.X.Cells.ids l.xs);
   in_y : l.j ≤ length (g.Y.Cells.ids l.ys);
-  len : length l.out ≡ length l.fn.out;
+  place : g.W.Output.place l.out ≡ g.W.Output.place l.fn.out;
   so_far : IsLocal (g.X.Cells.ids l.xs) → IsLocal (g.Y.Cells.ids l.ys)
-      → SharingIn (both (g.X.Cells.ids l.xs) (g.Y.Cells.ids l.ys)) (g.X.Cells.ids l.xs) (g.Y.Cells.ids l.ys) l.fn.out
-      l.out l.n (g.K.Count.looks l.count) l.i l.j;
+      → SharingIn (both (g.X.Cells.ids l.xs) (g.Y.Cells.ids l.ys)) (g.X.Cells.ids l.xs) (g.Y.Cells.ids l.ys)
+      (λ list. g.W.Output.holds list l.fn.out l.out l.n) (g.K.Count.looks l.count) l.i l.j;
   some : 0 < l.i + l.j → min 2 g.K.Count.most ≤ g.K.Count.looks l.count;
 }
 

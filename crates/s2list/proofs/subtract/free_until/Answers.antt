@@ -2,7 +2,7 @@ use Rattle.std.proofs.Common.{◌≡◌, ◌∙◌, get_or, ap, arith}
 use Rattle.s2cell.specs.Cell.{first_leaf}
 use Rattle.s2list.proofs.Checking.{packed_from_local}
 use Rattle.s2list.proofs.Finding.{ended_to}
-use Rattle.s2search.proofs.subtract.free_until.Goals as goal
+use Rattle.s2list.proofs.subtract.free_until.Goals as goal
 
 pub returns-then-j-len-clause-free : goal.returns-then-j-len-clause-free
 returns-then-j-len-clause-free g c lx h own free =

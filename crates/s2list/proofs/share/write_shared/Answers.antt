@@ -1,0 +1,135 @@
+use Rattle.std.proofs.Common.{◌<◌, ◌∙◌, length, refl, sym, arith, inl, inr}
+use Rattle.std.proofs.lemmas.Bool.{false≢true}
+use Rattle.s2list.proofs.Sharing.{shared_none, shared_swap, shared_skip, shared_run, shared_done, shared_few}
+use Rattle.s2list.proofs.Sharing.{inside_by, inside_else}
+use Rattle.s2list.proofs.share.write_shared.Goals as goal
+
+pub loop-i-init : goal.loop-i-init
+loop-i-init g c = record {
+  in_x = omega arith;
+  in_y = omega arith;
+  place = refl;
+  so_far = λ lx ly. shared_none (g.X.Cells.ids c.args.xs.now) (g.Y.Cells.ids c.args.ys.now)
+      (λ list. g.W.Output.holds list c.args.out.now c.args.out.now 0) _ c.requires.empty c.requires.count;
+  some = λ h. absurd (omega arith);
+}
+
+pub loop-i-preserved-then-x_end-y_first : goal.loop-i-preserved-then-x_end-y_first
+loop-i-preserved-then-x_end-y_first g c =
+    let nx = c.len-x_len.ensures in
+    let ny = c.len-y_len.ensures in
+    let h : c.loop-i.i < length (g.X.Cells.ids c.args.xs.now) = omega (arith, c.loop-i-test.true) in
+    let t : c.loop-i.j < length (g.Y.Cells.ids c.args.ys.now) = omega (arith, c.if-j-y_len.true) in
+    let more_x = c.look-x.ensures.count in
+    let more_y = c.look-y.ensures.count in
+    let a = g.K.Count.looks c.look-x.new.count in
+    let b = g.K.Count.looks c.look-y.new.count in
+    let f = c.find_along-i.ensures in
+    record {
+      in_x = f.within;
+      in_y = c.loop-i.invariant.in_y;
+      place = c.loop-i.invariant.place;
+      so_far = λ lx ly. shared_skip a b lx ly (c.loop-i.invariant.so_far lx ly) h t c.look-x.ensures.id
+          c.look-y.ensures.id c.end_of-x_end.ensures c.first_of-y_first.ensures c.if-x_end-y_first.true f.from f.within
+          f.ended f.next (omega arith) (omega arith) f.looks;
+      some = λ _. let least = f.least in omega arith;
+    }
+
+pub loop-i-preserved-then-y_end-x_first : goal.loop-i-preserved-then-y_end-x_first
+loop-i-preserved-then-y_end-x_first g c =
+    let nx = c.len-x_len.ensures in
+    let ny = c.len-y_len.ensures in
+    let h : c.loop-i.i < length (g.X.Cells.ids c.args.xs.now) = omega (arith, c.loop-i-test.true) in
+    let t : c.loop-i.j < length (g.Y.Cells.ids c.args.ys.now) = omega (arith, c.if-j-y_len.true) in
+    let more_x = c.look-x.ensures.count in
+    let more_y = c.look-y.ensures.count in
+    let a = g.K.Count.looks c.look-x.new.count in
+    let b = g.K.Count.looks c.look-y.new.count in
+    let f = c.find_along-j.ensures in
+    record {
+      in_x = c.loop-i.invariant.in_x;
+      in_y = f.within;
+      place = c.loop-i.invariant.place;
+      so_far = λ lx ly. shared_swap (shared_skip a b ly lx (shared_swap (c.loop-i.invariant.so_far lx ly)) t h
+          c.look-y.ensures.id c.look-x.ensures.id c.end_of-y_end.ensures c.first_of-x_first.ensures
+          c.if-y_end-x_first.true f.from f.within f.ended f.next (omega arith) (omega arith) f.looks);
+      some = λ _. let least = f.least in omega arith;
+    }
+
+pub loop-i-preserved-then-is_within : goal.loop-i-preserved-then-is_within
+loop-i-preserved-then-is_within g c =
+    let nx = c.len-x_len.ensures in
+    let ny = c.len-y_len.ensures in
+    let h : c.loop-i.i < length (g.X.Cells.ids c.args.xs.now) = omega (arith, c.loop-i-test.true) in
+    let t : c.loop-i.j < length (g.Y.Cells.ids c.args.ys.now) = omega (arith, c.if-j-y_len.true) in
+    let more_x = c.look-x.ensures.count in
+    let more_y = c.look-y.ensures.count in
+    let a = g.K.Count.looks c.look-x.new.count in
+    let b = g.K.Count.looks c.look-y.new.count in
+    let f = c.find_from_counted-next.ensures in
+    let among = c.is_within.ensures.0 c.if-is_within.true in
+    record {
+      in_x = f.within;
+      in_y = omega arith;
+      place = c.put_x.ensures.place ∙ c.loop-i.invariant.place;
+      so_far = λ lx ly. shared_run (λ list. g.W.Output.holds list c.args.out.now c.put_x.new.self c.in_ok-n.n) a b lx ly
+          (c.loop-i.invariant.so_far lx ly) h t c.look-x.ensures.id c.look-y.ensures.id
+          (inside_by lx ly h t c.look-x.ensures.id c.look-y.ensures.id c.first_of-x_first.ensures c.end_of-x_end.ensures
+          c.first_of-y_first.ensures c.end_of-y_end.ensures among.0 among.1)
+          c.end_of-y_end.ensures f.from f.within f.ended f.next
+          (λ list. c.in_ok-n.ensures.put list c.args.out.now) (omega arith) (omega arith) f.looks;
+      some = λ _. let least = f.least in omega arith;
+    }
+
+pub loop-i-preserved : goal.loop-i-preserved
+loop-i-preserved g c =
+    let nx = c.len-x_len.ensures in
+    let ny = c.len-y_len.ensures in
+    let h : c.loop-i.i < length (g.X.Cells.ids c.args.xs.now) = omega (arith, c.loop-i-test.true) in
+    let t : c.loop-i.j < length (g.Y.Cells.ids c.args.ys.now) = omega (arith, c.if-j-y_len.true) in
+    let more_x = c.look-x.ensures.count in
+    let more_y = c.look-y.ensures.count in
+    let a = g.K.Count.looks c.look-x.new.count in
+    let b = g.K.Count.looks c.look-y.new.count in
+    let f = c.find_from_counted-next-else-is_within.ensures in
+    record {
+      in_x = omega arith;
+      in_y = f.within;
+      place = c.put_y.ensures.place ∙ c.loop-i.invariant.place;
+      so_far = λ lx ly. shared_swap (shared_run
+          (λ list. g.W.Output.holds list c.args.out.now c.put_y.new.self c.in_ok-n-2.n) a b ly lx
+          (shared_swap (c.loop-i.invariant.so_far lx ly)) t h c.look-y.ensures.id c.look-x.ensures.id
+          (inside_else lx ly h t c.look-x.ensures.id c.look-y.ensures.id c.first_of-x_first.ensures
+          c.end_of-x_end.ensures c.first_of-y_first.ensures c.end_of-y_end.ensures c.if-x_end-y_first.false
+          c.if-y_end-x_first.false
+          (λ among. false≢true (sym c.if-is_within.false ∙ c.is_within.ensures.1 among)))
+          c.end_of-x_end.ensures f.from f.within f.ended f.next
+          (λ list. c.in_ok-n-2.ensures.put list c.args.out.now) (omega arith) (omega arith) f.looks);
+      some = λ _. let least = f.least in omega arith;
+    }
+
+pub returns-else-j-y_len-clause-made : goal.returns-else-j-y_len-clause-made
+returns-else-j-y_len-clause-made g c lx ly =
+    let ny = c.len-y_len.ensures in
+    shared_done (λ list. g.met.W.Output.counts list c.args.out.now c.loop-i.out c.loop-i.n)
+    (c.loop-i.invariant.so_far lx ly) (inr (omega (arith, c.if-j-y_len.false)))
+
+pub returns-else-j-y_len-clause-looks : goal.returns-else-j-y_len-clause-looks
+returns-else-j-y_len-clause-looks g c lx ly d cut =
+    let ny = c.len-y_len.ensures in
+    shared_few (λ list. g.met.W.Output.counts list c.args.out.now c.loop-i.out c.loop-i.n)
+    (c.loop-i.invariant.so_far lx ly) (inr (omega (arith, c.if-j-y_len.false))) c.loop-i.invariant.in_x
+    c.loop-i.invariant.in_y cut
+
+pub returns-after-loop-i-clause-made : goal.returns-after-loop-i-clause-made
+returns-after-loop-i-clause-made g c lx ly =
+    let nx = c.len-x_len.ensures in
+    shared_done (λ list. g.met.W.Output.counts list c.args.out.now c.loop-i.out c.loop-i.n)
+    (c.loop-i.invariant.so_far lx ly) (inl (omega (arith, c.loop-i-test.false)))
+
+pub returns-after-loop-i-clause-looks : goal.returns-after-loop-i-clause-looks
+returns-after-loop-i-clause-looks g c lx ly d cut =
+    let nx = c.len-x_len.ensures in
+    shared_few (λ list. g.met.W.Output.counts list c.args.out.now c.loop-i.out c.loop-i.n)
+    (c.loop-i.invariant.so_far lx ly) (inl (omega (arith, c.loop-i-test.false))) c.loop-i.invariant.in_x
+    c.loop-i.invariant.in_y cut

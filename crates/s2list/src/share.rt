@@ -1,0 +1,77 @@
+//! The leaves that two lists of cells share, written to a list that grows or to a room.
+ghost use Rattle.std.specs.Prelude.{◌≡◌, ◌+◌, ◌<◌, ◌≤◌, ◌↔◌, [], ℕ, IfErr, IfOk, IsTrue, List, length, min};
+ghost use Rattle.s2list.specs.Union.{IsLocal, has_leaf};
+ghost use Rattle.s2list.specs.Sets.{shared};
+ghost use Rattle.s2list.specs.Looks.{Alternates, FewForTurnsAndCells};
+ghost use Rattle.s2list.specs.Output.{Writes};
+
+use crate::along::find_along;
+use crate::cells::Cells;
+use crate::find::{end_of, find_from_counted, first_of};
+use crate::looks::{Count, look};
+use crate::output::Output;
+use std::alloc::AllocError;
+
+/// Writes the leaves that two unions share, and answers how many cells they are. Whichever list is behind is searched
+/// for the cell of the other, in leaps, and the cells of one that lie in a cell of the other are written as one run.
+///
+/// Let unions have `m` and `n` cells, which in the order of their first leaves are `d` runs of each, and the result `r`
+/// cells. Then it looks at most `8 (d + 1) (1 + log2((m + n) / (d + 1))) + 4 r` times at a number of either list, with
+/// the logarithm rounded up. What reads a cell to write it isn't counted.
+pub fn write_shared<X: Cells, Y: Cells, W: Output<X, Y>, K: Count>(
+    xs: &X,
+    ys: &Y,
+    out: &mut W,
+    count: &mut K,
+) -> Result<usize, AllocError>
+    requires empty { W.holds [] out.old out.old 0 }
+    requires count { K.looks count.old ≡ 0 }
+    ensures place { W.place out.new ≡ W.place out.old }
+    ensures made { IfOk result (λ n. IsLocal (X.ids xs.now) → IsLocal (Y.ids ys.now)
+        → Writes (shared (has_leaf (X.ids xs.now)) (has_leaf (Y.ids ys.now)))
+        (λ list. W.holds list out.old out.new n) n) }
+    ensures looks { IfOk result (λ n. IsLocal (X.ids xs.now) → IsLocal (Y.ids ys.now) → (d : ℕ)
+        → Alternates (X.ids xs.now) (Y.ids ys.now) d (length (X.ids xs.now)) (length (Y.ids ys.now))
+        → FewForTurnsAndCells (length (X.ids xs.now) + length (Y.ids ys.now)) d n (K.looks count.new)) }
+    ensures least { IfOk result (λ _. 0 < length (X.ids xs.now) → 0 < length (Y.ids ys.now)
+        → min 2 K.most ≤ K.looks count.new) }
+    ensures sure { IfErr result (λ _. W.refuses) }
+{
+    let x_len = xs.len();
+    let y_len = ys.len();
+    let mut n = 0;
+    let mut i = 0;
+    let mut j = 0;
+    while i < x_len && j < y_len {
+        let x = look(xs, i, count);
+        let y = look(ys, j, count);
+        let x_first = first_of(x);
+        let y_first = first_of(y);
+        let x_end = end_of(x);
+        let y_end = end_of(y);
+        if x_end <= y_first {
+            i = find_along(xs, i, i + 1, y_first, count);
+        } else if y_end <= x_first {
+            j = find_along(ys, j, j + 1, x_first, count);
+        } else if is_within(x_first, x_end, y_first, y_end) {
+            let next = find_from_counted(xs, i + 1, y_end, count);
+            n = out.put_x(n, xs, i, next)?;
+            i = next;
+            j += 1;
+        } else {
+            let next = find_from_counted(ys, j + 1, x_end, count);
+            n = out.put_y(n, ys, j, next)?;
+            j = next;
+            i += 1;
+        }
+    }
+    Ok(n)
+}
+
+/// Whether the leaves from `first` to before `end` are among those from `lo` to before `hi`.
+#[inline(always)]
+fn is_within(first: u64, end: u64, lo: u64, hi: u64) -> bool
+    ensures { IsTrue result ↔ ((lo ≤ first) × (end ≤ hi)) }
+{
+    lo <= first && end <= hi
+}

@@ -1,0 +1,94 @@
+//! A list that grows, to which a set operation writes.
+ghost use Rattle.std.specs.Prelude.{◌≡◌, ◌-◌, ◌<◌, ◌≤◌, ◌++◌, ⊤, ℕ, IfErr, IfOk, List, length, take, drop};
+ghost use Rattle.s2list.specs.Output.{Fills};
+ghost use Rattle.s2union.specs.Working.Grown.{IsGrown};
+ghost use Rattle.s2union.specs.declared.grown.Grown.{Grown};
+
+use crate::sets::extend;
+use crate::subtract::fill_gap;
+use s2cell::{CellId, LEAVES};
+use s2list::{CellList, Output};
+use std::alloc::AllocError;
+
+/// A list that grows as a set operation writes to it, up to `most` cells and those of the gap with which it gets
+/// longer. A run that is too long for it is counted, and not copied.
+#[derive(Drop)]
+pub(crate) struct Grown<'a> {
+    pub(crate) list: &'a mut Vec<CellId>,
+    pub(crate) most: usize,
+}
+
+impl<'a, 'b, 'c> Output<CellList<'b>, CellList<'c>> for Grown<'a> {
+    ghost holds = { λ list old now n. IsGrown list old.most now.most now.list.now.items n };
+
+    ghost place = { λ g. g.list.ghost_name };
+
+    ghost refuses = { ⊤ };
+
+    fn put_x(
+        &mut self,
+        n: usize,
+        xs: &CellList<'b>,
+        from: usize,
+        to: usize,
+    ) -> Result<usize, AllocError>
+        requires order { from ≤ to }
+        requires within { to ≤ length xs.now.cells.now }
+        ensures place { self.new.list.ghost_name ≡ self.old.list.ghost_name }
+        ensures put { IfOk result (λ m. (list : List ℕ) (old : Grown)
+            → IsGrown list old.most self.old.most self.old.list.now.items n
+            → IsGrown (list ++ take (to - from) (drop from xs.now.cells.now)) old.most self.new.most
+            self.new.list.now.items m) }
+        ensures sure { IfErr result (λ _. ⊤) }
+    {
+        self.put(n, &xs.cells[from..to])
+    }
+
+    fn put_y(
+        &mut self,
+        n: usize,
+        ys: &CellList<'c>,
+        from: usize,
+        to: usize,
+    ) -> Result<usize, AllocError>
+        requires order { from ≤ to }
+        requires within { to ≤ length ys.now.cells.now }
+        ensures place { self.new.list.ghost_name ≡ self.old.list.ghost_name }
+        ensures put { IfOk result (λ m. (list : List ℕ) (old : Grown)
+            → IsGrown list old.most self.old.most self.old.list.now.items n
+            → IsGrown (list ++ take (to - from) (drop from ys.now.cells.now)) old.most self.new.most
+            self.new.list.now.items m) }
+        ensures sure { IfErr result (λ _. ⊤) }
+    {
+        self.put(n, &ys.cells[from..to])
+    }
+
+    fn put_gap(&mut self, n: usize, lo: u64, hi: u64) -> Result<usize, AllocError>
+        ensures place { self.new.list.ghost_name ≡ self.old.list.ghost_name }
+        ensures put { IfOk result (λ m. (lo < hi → hi ≤ LEAVES) → (list : List ℕ) (old : Grown)
+            → IsGrown list old.most self.old.most self.old.list.now.items n
+            → Fills (λ l. IsGrown l old.most self.new.most self.new.list.now.items m) list lo hi) }
+        ensures sure { IfErr result (λ _. ⊤) }
+    {
+        let before = self.list.len();
+        fill_gap(self.list, lo, hi.min(LEAVES))?;
+        Ok(n.saturating_add(self.list.len() - before))
+    }
+
+    ghost counts = { λ list old now n grown few. grown.len_is few };
+}
+
+impl<'a> Grown<'a> {
+    /// Appends cells after the first `n`, if the list is then not too long.
+    fn put(&mut self, n: usize, cells: &[CellId]) -> Result<usize, AllocError>
+        ensures place { self.new.list.ghost_name ≡ self.old.list.ghost_name }
+        ensures put { IfOk result (λ m. (list : List ℕ) (most : ℕ)
+            → IsGrown list most self.old.most self.old.list.now.items n
+            → IsGrown (list ++ cells.now) most self.new.most self.new.list.now.items m) }
+    {
+        if n <= self.most && cells.len() <= self.most - n {
+            extend(self.list, cells)?;
+        }
+        Ok(n.saturating_add(cells.len()))
+    }
+}
