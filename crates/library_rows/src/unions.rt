@@ -25,6 +25,8 @@ pub fn answer(
         add_denormalized(alloc, words, found)?;
     } else if name == "same" {
         add_compared(alloc, words, found)?;
+    } else if name == "in_one" {
+        add_difference(alloc, words, found)?;
     } else {
         return Ok(false);
     }
@@ -78,6 +80,14 @@ fn add_compared(alloc: Global, words: &str, found: &mut Vec<u8>) -> Result<(), A
     let other = CellUnion::from_cells(cells_of(alloc, other)?);
     add_line(found, yes_or_no(one == other))?;
     add_collected(alloc, found, one)
+}
+
+/// Adds what only one of two unions has, `CELLS / CELLS`.
+fn add_difference(alloc: Global, words: &str, found: &mut Vec<u8>) -> Result<(), AllocError> {
+    let (one, other) = cut(words);
+    let one = union_of(alloc, one)?;
+    let other = union_of(alloc, other)?;
+    add_cells(found, one.symmetric_difference(&other)?.cells())
 }
 
 /// Adds whether a union is empty, its last cell, how many cells it has, and then all of them.

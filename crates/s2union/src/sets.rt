@@ -6,7 +6,7 @@ ghost use Rattle.std.specs.Prelude.{IfErr, IfOk, List, OnOk, not, IsTrue};
 ghost use Rattle.std.specs.Vec.{vec_len, vec_capacity};
 ghost use Rattle.s2cell.specs.Cell.{first_leaf};
 ghost use Rattle.s2list.specs.Union.{IsLocal, IsNormalForm, has_leaf};
-ghost use Rattle.s2list.specs.Sets.{either, shared, without};
+ghost use Rattle.s2list.specs.Sets.{either, in_one, shared, without};
 ghost use Rattle.s2list.specs.Packed.{IsPacked};
 ghost use Rattle.s2union.specs.Working.Tail.{Continues};
 
@@ -68,6 +68,20 @@ impl CellUnion {
             Ok(union) => Ok(union),
             Err(_) => Err(AllocError),
         }
+    }
+
+    /// The leaves that only one of the two has: the union of both differences, which are dropped then. Refuses only if
+    /// it is out of memory. S2 calls it `SymmetricDifference` for polygons, and has no such call for unions of cells.
+    pub fn symmetric_difference(&self, other: &CellUnion) -> Result<CellUnion, AllocError>
+        ensures local { IfOk result (λ u. IsLocal u.cells) }
+        ensures leaves { IfOk result (λ u. (x : ℕ) →
+            has_leaf u.cells x ≡ in_one (has_leaf self.now.cells) (has_leaf other.now.cells) x) }
+        ensures normal { IfOk result (λ u. IsNormalForm
+            (in_one (has_leaf self.now.cells) (has_leaf other.now.cells)) u.cells) }
+    {
+        let mine = self.difference(other)?;
+        let others = other.difference(self)?;
+        mine.union(&others)
     }
 
     /// The difference, if it has at most `limit` cells. Stops as soon as it has made more, so it takes memory for
