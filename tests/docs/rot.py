@@ -1,9 +1,10 @@
 """What rots unseen: lemmas and definitions that nobody cites, lemmas that are stated twice, word for word, functions
-with many arms, lines of more than 120 characters, hosts of package registries, and words that the house avoids.
-tests/docs/pages.py looks for paths.
+with many arms, lines of more than 120 characters, hosts of package registries, words that the house avoids, and proofs
+that grow. tests/docs/pages.py looks for paths.
 
-UNCITED, DOUBLES, MANY_ARMS and WORDS are the most that may stand: what stood there when this check came, and less from
-time to time. The last line is 'N passed, M failed', where N counts the declarations, the files and the words.
+UNCITED, DOUBLES, MANY_ARMS, WORDS and PROOFS are the most that may stand: what stood there when this check came, and
+less from time to time. The last line is 'N passed, M failed', where N counts the declarations, the files, the words and
+the crates.
 """
 import collections
 import re
@@ -24,6 +25,12 @@ DOUBLES = 22
 ARMS = 7
 MANY_ARMS = 9
 WORDS = {"told": 58, "asked about": 0, "so many": 0, "refused where": 0, "exactly if": 26}
+# Lines of proof of each crate. Their sum may only fall; the body of a commit that raises it says why.
+PROOFS = {"library_rows": 143, "s2c": 117, "s2calc": 5300, "s2cell": 4832, "s2cover": 4464, "s2draw": 443,
+          "s2edit": 9141, "s2file": 2605, "s2list": 6619, "s2script": 512, "s2search": 4316, "s2shelf": 91,
+          "s2union": 4880, "s2union_c": 1686, "script_rows": 42}
+FUNCTION = re.compile(r"( *)(?:pub(?:\([a-z]+\))? )?(?:const |unsafe |final |extern \"C\" )*fn ")
+CLAUSE = re.compile(r" *(?:requires|ensures)")
 # Files whose lines may be long: pages and tables of rows, which are not wrapped, texts of others, and what pins a line.
 UNWRAPPED = re.compile(r"\.(?:md|svg|png|outer|cells|sums|edit)$|^LICENSE$|/(?:stdin|stdout)$")
 
@@ -158,6 +165,38 @@ def avoided():
     return len(WORDS), more
 
 
+def lines_of_bodies(text):
+    """How many lines the bodies of a source's functions have, without their contracts, by the layout of `rt fmt`."""
+    count, indent, is_inside = 0, None, False
+    for line in text.splitlines():
+        if is_inside:
+            is_inside = line != indent + "}"
+            count += is_inside
+        elif found := FUNCTION.match(line):
+            indent = found[1]
+        if indent is not None and not is_inside:
+            opens = line == indent + "{" or line.endswith(" {") and not CLAUSE.match(line)
+            is_inside = opens
+            if line.endswith(("{}", ";")) or line == indent + "}":
+                indent = None
+    return count
+
+
+def proofs():
+    """The number of crates, and if their lines of proof are more than in the table, those that have more."""
+    lines, bodies = collections.Counter(), collections.Counter()
+    for name in tracked():
+        crate = name.split("/")[1] if name.startswith("crates/") else ""
+        if re.match(r"crates/[^/]+/proofs/.*\.antt$", name):
+            lines[crate] += len(text_of(name).splitlines())
+        elif re.match(r"crates/[^/]+/src/.*\.rt$", name):
+            bodies[crate] += lines_of_bodies(text_of(name))
+    if sum(lines.values()) <= sum(PROOFS.values()):
+        return len(bodies), []
+    return len(bodies), [f"{crate}, {lines[crate]} for {bodies[crate]} of code, where {PROOFS.get(crate, 0)} stood"
+                         for crate in sorted(bodies) if lines[crate] > PROOFS.get(crate, 0)]
+
+
 def main():
     passed = failed = 0
     counts, double = doubles()
@@ -168,7 +207,7 @@ def main():
     large = large if len(large) > MANY_ARMS else []
     asked = {"nobody cites it": (declared, dead), "stated before": (counts, double),
              "more arms than seven": (matches, large), "too long": long_lines(),
-             "names the host of a registry": hosts(), "avoided": avoided()}
+             "names the host of a registry": hosts(), "avoided": avoided(), "lines of proof": proofs()}
     for what, (count, wrong) in asked.items():
         for it in wrong:
             print(f"{what}: {it}")
