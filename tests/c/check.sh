@@ -82,6 +82,13 @@ refusing() { # what refuses them is built without the sanitizer, which takes mem
     program memory "$static" -fsanitize=address "$work/refuse.o"
 }
 step "each allocation refused in turn" refusing
+own_heap() { # tools/runtime's, which stands for the kit's where the kit has none, under the header's names
+  gcc -std=c11 -O2 "${strict[@]}" -Drattle_alloc=s2u_heap_take -Drattle_realloc=s2u_heap_grow \
+    -Drattle_dealloc=s2u_heap_give_back -c "$top/tools/runtime/heap.c" -o "$work/heap.o" &&
+    program memory "$noheap" -fsanitize=address "$work/refuse.o" "$work/heap.o" &&
+    program traps "$noheap" -fsanitize=address,undefined -fno-sanitize-recover "$work/heap.o"
+}
+step "each allocation refused in turn, and traps, by the heap for other processors" own_heap
 step "200,000 lists of garbage" program garbage "$static" -fsanitize=address
 step "few pages read of the cells that a search passes" program pages "$static"
 step "8 threads" program threads "$static"

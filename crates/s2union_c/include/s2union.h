@@ -45,7 +45,10 @@
  * VERSIONS. s2u_version() is the version of the library, S2U_VERSION that of this file. Within one major version calls
  * are only added, no call changes its meaning, and structures keep their size. The shared library is
  * libs2union.so.MAJOR, its symbols carry the version node S2UNION_MAJOR, and it exports only s2u_*. The form of files
- * has a version of its own. Needs x86-64 with SSE4.2 and popcnt (x86-64-v2).
+ * has a version of its own.
+ *
+ * PROCESSORS. x86-64 with SSE4.2 and popcnt (x86-64-v2), and 64-bit ARM (any ARMv8-A): proved for each, from the same
+ * sources.
  */
 #ifndef S2UNION_H
 #define S2UNION_H
