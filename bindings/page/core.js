@@ -1,7 +1,16 @@
 "use strict";
-// The calls of s2union.h in a module for WebAssembly whose memory has 64-bit addresses. A list is a BigUint64Array.
+// The calls of s2union.h that take no memory, in a module for WebAssembly. Its memory has 32-bit addresses, which calls
+// take as BigInt, as they take lengths. A list is a BigUint64Array. The page has this file, and so has the package.
 
 const ROOM = -1;
+const MEMORY = -2;
+const NO_CELL = -3;
+const NO_UNION = -4;
+const ARGUMENT = -5;
+const MANY = -6;
+const LAST_LEVEL = 30;
+const MOST_TOKEN = 16;
+
 // made by tools/calls
 const FAULTS = {
   [-1]: "too little room",
@@ -30,6 +39,12 @@ class Refusal extends Error {
 
 const even = (size) => Math.ceil(size / 16) * 16;
 const unsigned = (number) => BigInt.asUintN(64, number);
+
+/** A whole number that is at most this; any other is refused, since a call would take it modulo 2^32. */
+function within(number, most) {
+  if (!Number.isInteger(number) || number < 0 || number > most) throw new Refusal(ARGUMENT, 0);
+  return number;
+}
 
 class Core {
   constructor(instance) {
@@ -63,7 +78,12 @@ class Core {
 
   grow(end) {
     const missing = end - this.calls.memory.buffer.byteLength;
-    if (missing > 0) this.calls.memory.grow(BigInt(Math.ceil(missing / PAGE_SIZE)));
+    if (missing <= 0) return;
+    try {
+      this.calls.memory.grow(Math.ceil(missing / PAGE_SIZE));
+    } catch {
+      throw new Refusal(MEMORY, 0);
+    }
   }
 
   bytes(at, size) {
@@ -109,10 +129,30 @@ class Core {
     }
   }
 
+  /** What a call answers, and the number that it writes. */
+  answer(name, lists, ...more) {
+    const [words, [at]] = this.passed(lists, [8]);
+    const status = this.calls[name](...words, ...more, BigInt(at));
+    if (status < 0) throw new Refusal(status, 0);
+    return this.number(at);
+  }
+
   // ---- cells
+
+  version() {
+    return this.calls.s2u_version();
+  }
+
+  isCell(id) {
+    return this.calls.s2u_is_cell(id) === 1;
+  }
 
   level(id) {
     return this.calls.s2u_level(id);
+  }
+
+  face(id) {
+    return this.calls.s2u_face(id);
   }
 
   token(id) {
@@ -121,6 +161,14 @@ class Core {
 
   debug(id) {
     return this.text("s2u_debug", id);
+  }
+
+  fromToken(text) {
+    return this.answer("s2u_from_token", [new TextEncoder().encode(text)]);
+  }
+
+  fromDebug(text) {
+    return this.answer("s2u_from_debug", [new TextEncoder().encode(text)]);
   }
 
   text(name, id) {
@@ -133,6 +181,38 @@ class Core {
 
   parent(id, level) {
     return unsigned(this.calls.s2u_parent(id, level));
+  }
+
+  child(id, number) {
+    return unsigned(this.calls.s2u_child(id, number));
+  }
+
+  rangeMin(id) {
+    return unsigned(this.calls.s2u_range_min(id));
+  }
+
+  rangeMax(id) {
+    return unsigned(this.calls.s2u_range_max(id));
+  }
+
+  next(id) {
+    return unsigned(this.calls.s2u_next(id));
+  }
+
+  prev(id) {
+    return unsigned(this.calls.s2u_prev(id));
+  }
+
+  commonAncestor(a, b) {
+    return unsigned(this.calls.s2u_common_ancestor(a, b));
+  }
+
+  cellContains(whole, part) {
+    return this.calls.s2u_cell_contains(whole, part) === 1;
+  }
+
+  cellIntersects(a, b) {
+    return this.calls.s2u_cell_intersects(a, b) === 1;
   }
 
   leafAt(face, i, j) {
@@ -165,13 +245,57 @@ class Core {
     return this.ask("s2u_intersects_cell", [ids], cell) === 1;
   }
 
+  containsCells(ids, cells) {
+    return this.marks("s2u_contains_cells", ids, cells);
+  }
+
+  intersectsCells(ids, cells) {
+    return this.marks("s2u_intersects_cells", ids, cells);
+  }
+
+  /** 1 or 0 for each of the cells. */
+  marks(name, ids, cells) {
+    const [words, [out, bad]] = this.passed([ids, cells], [cells.length, 8]);
+    const status = this.calls[name](...words, BigInt(out), BigInt(cells.length), BigInt(bad));
+    if (status < 0) throw new Refusal(status, Number(this.number(bad)));
+    return this.bytes(out, cells.length).slice();
+  }
+
+  containsUnion(xs, ys) {
+    return this.ask("s2u_contains", [xs, ys]) === 1;
+  }
+
+  intersectsUnion(xs, ys) {
+    return this.ask("s2u_intersects", [xs, ys]) === 1;
+  }
+
+  compare(xs, ys) {
+    return this.ask("s2u_compare", [xs, ys]);
+  }
+
+  /** The cells of the list that share a leaf with the cell. */
+  cellsAt(ids, cell) {
+    const [words, [first, count]] = this.passed([ids], [8, 8]);
+    const status = this.calls.s2u_cells_at(...words, cell, BigInt(first), BigInt(count));
+    if (status < 0) throw new Refusal(status, 0);
+    const start = Number(this.number(first));
+    return ids.slice(start, start + Number(this.number(count)));
+  }
+
   /** The cell of the list that contains the cell, or 0n. */
   holder(ids, cell) {
-    const [words, [first, count]] = this.passed([ids], [8, 8]);
-    this.calls.s2u_cells_at(...words, cell, BigInt(first), BigInt(count));
-    if (this.number(count) !== 1n) return 0n;
-    const found = ids[Number(this.number(first))];
-    return this.calls.s2u_cell_contains(found, cell) === 1 ? found : 0n;
+    const found = this.cellsAt(ids, cell);
+    return found.length === 1 && this.cellContains(found[0], cell) ? found[0] : 0n;
+  }
+
+  // ---- many cells: an entry that there isn't is 0, or 255 for a level
+
+  levels(ids) {
+    return this.entries("s2u_levels", ids, Uint8Array, 1);
+  }
+
+  parents(ids, level) {
+    return this.entries("s2u_parents", ids, BigUint64Array, 1, within(level, LAST_LEVEL));
   }
 
   rangeMins(ids) {
@@ -182,11 +306,25 @@ class Core {
     return this.entries("s2u_range_maxes", ids);
   }
 
-  /** What a call for many cells answers for each. */
-  entries(name, ids, ...more) {
-    const [words, [out, bad]] = this.passed([ids], [ids.byteLength, 8]);
-    this.calls[name](...words, ...more, BigInt(out), BigInt(ids.length), BigInt(bad));
-    return new BigUint64Array(this.calls.memory.buffer, out, ids.length).slice();
+  /** The bytes of tokens, each in MOST_TOKEN bytes. */
+  tokenFields(ids) {
+    return this.entries("s2u_token_fields", ids, Uint8Array, MOST_TOKEN);
+  }
+
+  /** The leaves at points, which are a Uint32Array of face, i and j. */
+  fromPoints(points) {
+    const [[at], [out, bad]] = this.passed([points], [points.length / 3 * 8, 8]);
+    const count = BigInt(points.length / 3);
+    this.calls.s2u_from_points(at, count, BigInt(out), count, BigInt(bad));
+    return new BigUint64Array(this.calls.memory.buffer, out, points.length / 3).slice();
+  }
+
+  /** What a call for many cells answers for each of them: some elements of a kind. */
+  entries(name, ids, Kind = BigUint64Array, each = 1, ...more) {
+    const room = ids.length * each;
+    const [words, [out, bad]] = this.passed([ids], [room * Kind.BYTES_PER_ELEMENT, 8]);
+    this.calls[name](...words, ...more, BigInt(out), BigInt(room), BigInt(bad));
+    return new Kind(this.calls.memory.buffer, out, room).slice();
   }
 
   // ---- making unions
@@ -198,6 +336,24 @@ class Core {
     const count = Number(this.number(len));
     if (status < 0) throw new Refusal(status, count);
     return new BigUint64Array(this.calls.memory.buffer, at, count).slice();
+  }
+
+  /** The union of many lists: up to 32 that ascend are merged in pairs, and the cells of others are sorted. */
+  unionOf(lists) {
+    const count = lists.reduce((sum, list) => sum + list.length, 0);
+    const size = 8 * count;
+    const [at, ends, work, out, len] = this.places([size, 8 * lists.length, 2 * size, size, 8]);
+    let end = 0;
+    lists.forEach((list, k) => {
+      this.bytes(at + 8 * end, list.byteLength).set(bytesOf(list));
+      end += list.length;
+      new BigUint64Array(this.calls.memory.buffer, ends + 8 * k, 1)[0] = BigInt(end);
+    });
+    const words = [at, count, ends, lists.length, work, 2 * count, out, count, len].map(BigInt);
+    const status = this.calls.s2u_union_of_many(...words);
+    const made = Number(this.number(len));
+    if (status < 0) throw new Refusal(status, made);
+    return new BigUint64Array(this.calls.memory.buffer, out, made).slice();
   }
 
   union(xs, ys) {
@@ -221,10 +377,7 @@ class Core {
   }
 
   denormalisedCount(ids, min, modulus) {
-    const [words, [len]] = this.passed([ids], [8]);
-    const status = this.calls.s2u_denormalised_len(...words, min, modulus, BigInt(len));
-    if (status < 0) throw new Refusal(status, 0);
-    return this.number(len);
+    return this.answer("s2u_denormalised_len", [ids], within(min, LAST_LEVEL), within(modulus, 3));
   }
 
   denormalised(ids, min, modulus) {
@@ -232,15 +385,20 @@ class Core {
     return this.make("s2u_denormalised", [ids], room, BigUint64Array, min, modulus);
   }
 
+  /** The cells of the union and all their ancestors, ascending, each once. */
+  ancestors(ids) {
+    return this.make("s2u_ancestors", [ids], 2 * ids.length + LAST_LEVEL, BigUint64Array);
+  }
+
   /** The cells of the level that share a leaf with the union, normalized: deeper cells give way to their parents. */
   outer(ids, level) {
-    const parents = this.entries("s2u_parents", ids, level);
+    const parents = this.parents(ids, level);
     return this.normalise(parents.map((parent, k) => parent || ids[k]));
   }
 
   /** The cells of the level that lie in the union, normalized: its cells that are not deeper. */
   inner(ids, level) {
-    const parents = this.entries("s2u_parents", ids, level);
+    const parents = this.parents(ids, level);
     return this.normalise(ids.filter((id, k) => parents[k] === 0n || parents[k] === id));
   }
 
@@ -258,14 +416,44 @@ class Core {
     return this.make("s2u_encode", [ids], HEAD_SIZE + 8 * ids.length, Uint8Array);
   }
 
+  // Questions of the bytes of a file, whose frame is checked by each.
+
+  fileCount(bytes) {
+    return Number(this.answer("s2u_file_count", [bytes]));
+  }
+
+  fileLeafCount(bytes) {
+    return this.answer("s2u_file_leaf_count", [bytes]);
+  }
+
+  fileCell(bytes, place) {
+    return this.answer("s2u_file_cell", [bytes], BigInt(place));
+  }
+
+  fileAncestors(bytes) {
+    return this.make("s2u_file_ancestors", [bytes], bytes.length >> 2, BigUint64Array);
+  }
+
+  /** The answer of a question of files, yes or no. */
+  askFile(name, files, ...more) {
+    const status = this.ask(name, files, ...more);
+    if (status < 0) throw new Refusal(status, 0);
+    return status === 1;
+  }
+
   tokens(ids) {
     return new TextDecoder().decode(this.make("s2u_tokens", [ids], 17 * ids.length, Uint8Array));
   }
 
-  /** The union of the cells that the words of a text name; a refusal has the place of the first that names none. */
-  read(text) {
+  /** The cells that the words of a text name; a refusal has the byte at which the first begins that names none. */
+  named(text) {
     const bytes = new TextEncoder().encode(text);
-    return this.normalise(this.make("s2u_from_tokens", [bytes], Math.ceil(bytes.length / 2), BigUint64Array));
+    return this.make("s2u_from_tokens", [bytes], Math.ceil(bytes.length / 2), BigUint64Array);
+  }
+
+  /** The union of the cells that the words of a text name. */
+  read(text) {
+    return this.normalise(this.named(text));
   }
 }
 

@@ -529,7 +529,7 @@ async function begin() {
   try {
     window.s2page = new Page(await Core.from(unpacked(MODULE)));
   } catch (error) {
-    const need = "This browser can't run the page: it needs WebAssembly with 64-bit memories.";
+    const need = "This browser can't run the page: it needs WebAssembly with 64-bit integers (BigInt).";
     at("status").textContent = `${need} ${error.message}`;
   }
 }

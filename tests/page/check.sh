@@ -13,6 +13,7 @@ for command in chromium chromedriver; do
 done
 /usr/bin/python3 -c 'import selenium' 2>/dev/null || packages+=(python3-selenium)
 /usr/bin/python3 -c 'import numpy' 2>/dev/null || packages+=(python3-numpy)
+command -v wasm-opt >/dev/null || [ "${1:-}" = --short ] || packages+=(binaryen)
 
 lacking_calls() { # what is left out of the module, from the copy of the sources that it is made of
   /usr/bin/python3 -c 'import runpy, sys; print(*runpy.run_path(sys.argv[1])["make_copy"](sys.argv[2]), sep="\n")' \
