@@ -13,7 +13,7 @@ from model import COMPARISONS, EDITS_BY_REGISTER, LONGEST_LINE, REGISTERS, SIDE
 from model import Calculator, debug, identifier, joined, file_text, run_of, square, token
 
 TOP = os.path.dirname(os.path.dirname(os.path.dirname(os.path.abspath(__file__))))
-PROGRAM = os.path.join(TOP, "crates/calculator/out/calculator")
+PROGRAM = os.environ.get("S2CALC", os.path.join(TOP, "crates/calculator/out/calculator"))
 FILES = ["f", "g", "h.s2"]
 FOLDER = "folder"
 NAMES = FILES * 3 + [FOLDER, "absent", "../x", "-f", ".f", "x" * 65]

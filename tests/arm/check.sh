@@ -1,0 +1,166 @@
+#!/usr/bin/env bash
+# The library, its bindings and the program for ARM, which are run by qemu, beside x86-64; and the library with musl:
+# tests/run arm -- [ROUNDS]. ROUNDS of all calls with drawn questions, 20,000 if none are given, are asked three times.
+# It has to run as root, and installs the Debian packages that it needs. Debian's Python for ARM is only unpacked. What
+# qemu can't do is in left_out.txt, each with its reason. The last line is 'N passed, M failed'; the status is 1 if any
+# failed.
+. "$(dirname "$0")/../steps.sh"
+tests=$top/tests/arm
+rounds=${1:-20000}
+
+# ---- what is needed
+
+packages=()
+need() { command -v "$1" >/dev/null || packages+=("$2"); }
+need gcc gcc
+need make make
+need pkg-config pkg-config
+need aarch64-linux-gnu-g++ g++-aarch64-linux-gnu
+need qemu-aarch64-static qemu-user-static
+need musl-gcc musl-tools
+need mmdebstrap mmdebstrap
+need go golang-go
+[ -e /usr/include/sqlite3ext.h ] || packages+=(libsqlite3-dev)
+need_packages
+
+arm=$work/arm
+system=$work/system
+strict=(-Wall -Wextra -pedantic -Werror)
+need_library
+step "tools/library for ARM" "$top/tools/library" "$arm" --target aarch64
+unpacked() { # Debian's Python for ARM, of which no part is installed
+  local sources
+  mapfile -t sources < <("$top/tools/packaging/sources")
+  mmdebstrap --quiet --variant=extract --architectures=arm64 --include=python3,python3-numpy,libsqlite3-0 \
+    "${sources[0]}" "$system" "${sources[@]:1}"
+}
+step "Debian's Python for ARM, unpacked" unpacked
+[ "$failed" -eq 0 ] || finish
+on_arm() { timeout 1800 qemu-aarch64-static -L /usr/aarch64-linux-gnu -E LD_LIBRARY_PATH="$arm/lib" "$@"; }
+python_on_arm() {
+  local numpy=/usr/lib/aarch64-linux-gnu
+  PYTHONDONTWRITEBYTECODE=1 S2UNION_LIBRARY=$arm/lib/libs2union.so.1 timeout 1800 qemu-aarch64-static -L "$system" \
+    -E LD_LIBRARY_PATH="$numpy/blas:$numpy/lapack" "$system/usr/bin/python3.11" "$@"
+}
+
+# ---- the same answers
+
+built() { # COMPILER PREFIX NAME LIBRARY FLAGS..: the program that prints sums of answers
+  "$1" -std=c11 -D_DEFAULT_SOURCE -O2 "${strict[@]}" -I"$2/include" "$tests/answers.c" "$4" -o "$work/$3" "${@:5}"
+}
+answers() { # NAME COMMAND..: of three seeds, at once
+  local seed jobs=()
+  for seed in 1 2 3; do
+    "${@:2}" "$seed" "$rounds" >"$work/$1-$seed" &
+    jobs+=($!)
+  done
+  for job in "${jobs[@]}"; do wait "$job" || return 1; done
+}
+same() { # NAME
+  local seed
+  for seed in 1 2 3; do
+    tail -n 1 "$work/$1-$seed"
+    [ -s "$work/here-$seed" ] && cmp "$work/here-$seed" "$work/$1-$seed" || return 1
+  done
+}
+here() { built gcc "$work/usr" here "$work/usr/lib/libs2union.a" && answers here "$work/here"; }
+there() {
+  built aarch64-linux-gnu-gcc "$arm" there "$arm/lib/libs2union.a" && answers there on_arm "$work/there" && same there
+}
+with_musl() {
+  built musl-gcc "$work/usr" musl "$work/usr/lib/libs2union.a" -static && answers musl "$work/musl" && same musl
+}
+by_musl() { # the shared library, linked again without versions of symbols, and a program of musl that loads it
+  mkdir -p "$work/musl-lib" && musl-gcc -shared -Wl,-soname,libs2union.so.1 -Wl,--whole-archive \
+    "$work/usr/lib/libs2union.a" -Wl,--no-whole-archive -o "$work/musl-lib/libs2union.so.1" &&
+    built musl-gcc "$work/usr" by-musl "$work/musl-lib/libs2union.so.1" &&
+    LD_LIBRARY_PATH=$work/musl-lib answers by-musl "$work/by-musl" && same by-musl
+}
+all_asked() { # each call of the header but those of a heap and the text of a status
+  ! comm -23 <(grep -o '\bs2u_[a-z_]*(' "$arm/include/s2union.h" | tr -d '(' | grep -v 's2u_heap_\|s2u_status_text' |
+    sort -u) <(grep -o '\bs2u_[a-z_]*' "$tests/answers.c" | sort -u) | grep .
+}
+step "each call of the header is asked" all_asked
+step "$rounds rounds of all calls, three times" here
+step "the same answers on both: ARM" there
+step "the same answers with musl, by the static library" with_musl
+step "the same answers with musl, by a shared library" by_musl
+
+# ---- the library for C and C++
+
+program() { # NAME FLAGS..
+  aarch64-linux-gnu-gcc -std=c11 -D_DEFAULT_SOURCE -O2 "${strict[@]}" "${@:2}" -I"$arm/include" "$top/tests/c/$1.c" \
+    "$arm/lib/libs2union.a" -lpthread -o "$work/$1" && on_arm "$work/$1"
+}
+for name in header traps garbage threads pages; do step "C: $name" program "$name"; done
+refusing() {
+  aarch64-linux-gnu-gcc -std=c11 -O2 "${strict[@]}" -c "$top/tests/refuse.c" -o "$work/refuse.o" &&
+    program memory "$work/refuse.o"
+}
+step "C: each allocation refused in turn" refusing
+unions() { # with a heap of its own
+  aarch64-linux-gnu-g++ -std=c++17 -D_DEFAULT_SOURCE -O2 "${strict[@]}" -I"$arm/include" "$top/tests/c/cell_union.cc" \
+    "$arm/lib/libs2union_noheap.a" -o "$work/unions" && on_arm "$work/unions"
+}
+step "C++: s2union.hpp" unions
+wants() { # FILE: for any page size up to 64 KiB, with nothing of a C library after 2.17, and no executable stack
+  aarch64-linux-gnu-readelf -lW "$1" | awk '$1 == "LOAD" && $NF != "0x10000" { exit 1 }
+    $1 == "GNU_STACK" && /RWE/ { exit 1 }' &&
+    ! aarch64-linux-gnu-nm -D --undefined-only "$1" | grep -o '@GLIBC_.*' | grep -v '@GLIBC_2\.17$'
+}
+step "the shared library: pages, symbols, stack" wants "$arm/lib/libs2union.so.1"
+
+# ---- Python, SQLite, Go
+
+in_python() { (cd "$top/tests/python" && PYTHONPATH=$arm/lib/python python_on_arm "$tests/unittests.py" "$@"); }
+step "Python: against the model, and the module" in_python "$top/tests/python" test_library
+step "Python: docs/PYTHON.md" env -C "$top/tests/python" bash -c "$(declare -f python_on_arm)
+  system=$system arm=$arm PYTHONPATH=$arm/lib/python python_on_arm -m doctest $top/docs/PYTHON.md"
+
+extension() { # FOLDER FLAGS..
+  cp -r "$top/databases/sqlite" "$work/$1" && # all anew: what lies there may be for x86-64
+    make -B -C "$work/$1" CC=aarch64-linux-gnu-gcc PREFIX="$arm" "${@:2}"
+}
+in_sqlite() { # FOLDER TEST..
+  (
+    cd "$top/tests/sqlite" && export PYTHONPATH=$top/tests/python S2UNION_ROUNDS=${S2UNION_ROUNDS:-1500}
+    S2UNION_SQLITE=$work/$1/mod_s2union.so python_on_arm "$tests/unittests.py" "$top/tests/sqlite" "${@:2}"
+  )
+}
+counting() {
+  cp "$top/tests/sqlite/counted.c" "$work/" &&
+    extension counted LDFLAGS="$work/counted.c -Wl,--wrap=s2u_file_check,--wrap=s2u_decode,--wrap=s2u_encode"
+}
+step "SQLite: build" extension sqlite
+step "SQLite: build, counting steps" counting
+step "SQLite: against the model, and what is refused" in_sqlite sqlite test_sqlite.AgainstTheModel \
+  test_sqlite.WhatIsRefused
+step "SQLite: a union that is asked for each row is looked at once" in_sqlite counted test_sqlite.Steps
+
+in_go() (
+  PYTHONDONTWRITEBYTECODE=1 python3 "$top/tests/python/vectors.py" >"$work/vectors" && cd "$top/bindings/go" &&
+    export GOPATH=$work/go GOCACHE=$work/go-cache GOFLAGS=-mod=mod GOPROXY=off GOTOOLCHAIN=local &&
+    GOARCH=arm64 CGO_ENABLED=1 CC=aarch64-linux-gnu-gcc PKG_CONFIG_PATH=$arm/lib/pkgconfig \
+      go test -c -o "$work/for-go" . && S2UNION_VECTORS=$work/vectors on_arm "$work/for-go"
+)
+step "Go: against the model, what is refused, and the examples" in_go
+
+# ---- the program
+
+step "s2calc for ARM" "$top/tools/archive" --program --target aarch64
+calculator=$top/crates/calculator/out/aarch64/calculator
+printf '#!/bin/sh\nexec qemu-aarch64-static -L /usr/aarch64-linux-gnu %s "$@"\n' "$calculator" >"$work/s2calc"
+chmod 755 "$work/s2calc"
+export S2CALC=$work/s2calc
+rows() {
+  (cd "$top/crates/calculator" && "$S2CALC" $(cat args) <stdin | cmp - stdout)
+}
+step "s2calc: its own row" rows
+as_a_process() {
+  PYTHONDONTWRITEBYTECODE=1 PYTHONPATH=$top/tests/peer:$top/tests/python python3 "$tests/unittests.py" \
+    "$top/tests/program"
+}
+step "s2calc: as a process" as_a_process
+step "s2calc: random scripts, and a plain model" python3 "$top/tests/peer/scripts.py" 2000
+grep -v '^#' "$tests/left_out.txt" | sed 's/^/       left out: /'
+finish

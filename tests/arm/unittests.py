@@ -1,0 +1,53 @@
+#!/usr/bin/env python3
+"""Runs tests of Python but for those that qemu can't do: unittests.py FOLDER [MODULE..], all of FOLDER if no MODULE is
+named. What is left out stands in tests/arm/left_out.txt: a line for each, as MODULE.CLASS.TEST: REASON. A line of
+a module that is run has to name a test of it. The last line is 'N passed, M failed'.
+"""
+import os
+import sys
+import unittest
+
+LEFT_OUT = os.path.join(os.path.dirname(os.path.realpath(__file__)), "left_out.txt")
+
+
+class Result(unittest.TextTestResult):
+    passed = 0
+
+    def addSuccess(self, test):
+        super().addSuccess(test)
+        self.passed += 1
+
+
+def left_out():
+    """The reasons, by the names of the tests."""
+    with open(LEFT_OUT, encoding="utf-8") as it:
+        lines = [line.strip() for line in it if line.strip() and not line.startswith("#")]
+    return dict(line.split(": ", 1) for line in lines)
+
+
+def tests_in(suite):
+    for each in suite:
+        if isinstance(each, unittest.TestSuite):
+            yield from tests_in(each)
+        else:
+            yield each
+
+
+def main(folder, *names):
+    sys.path.insert(0, folder)
+    loader = unittest.TestLoader()
+    found = loader.loadTestsFromNames(names) if names else loader.discover(folder, "[a-z]*.py")
+    tests = {test.id(): test for test in tests_in(found)}
+    modules = {name.split(".")[0] for name in tests}
+    reasons = {name: why for name, why in left_out().items() if name.split(".")[0] in modules}
+    for name, why in reasons.items():
+        print(f"left out: {name}: {why}" if tests.pop(name, None) else f"FAILED: there is no test {name}", flush=True)
+    lost = [name for name in reasons if name not in {test.id() for test in tests_in(found)}]
+    result = unittest.TextTestRunner(stream=sys.stdout, resultclass=Result).run(unittest.TestSuite(tests.values()))
+    failed = len(result.failures) + len(result.errors) + len(lost)
+    print(f"{result.passed} passed, {failed} failed")
+    return failed > 0 or not result.passed
+
+
+if __name__ == "__main__":
+    sys.exit(main(*sys.argv[1:]))
