@@ -92,12 +92,10 @@ const TESTS = {
     noCell(3, () => CellUnion.fromTokens("04 x"));
   },
   "a list too long for the memory is refused, and then all goes on": () => {
-    const core = new CellUnion([FACE]);
-    assert.throws(() => core.union({}), TypeError);
-    const wide = {length: 2 ** 30, byteLength: 2 ** 33, byteOffset: 0, buffer: new ArrayBuffer(0)};
-    Object.setPrototypeOf(wide, BigUint64Array.prototype);
-    assert.throws(() => s2.isUnion(wide));
-    assert.equal(core.has(FACE), true);
+    const long = {length: 2 ** 30, byteLength: 2 ** 33, byteOffset: 0, buffer: new ArrayBuffer(0)};
+    Object.setPrototypeOf(long, BigUint64Array.prototype); // 8 GiB that nobody has to have
+    refused(-2, 0, "out of memory", () => s2.isUnion(long));
+    assert.equal(new CellUnion([FACE]).has(FACE), true);
   },
   "a union never changes": () => {
     const given = BigUint64Array.of(FACE);
