@@ -11,5 +11,10 @@ others_stay() (
   cd "$work/packages" && [ -e mine_1.deb ] && [ -e mine.tar.gz ] && [ -e mine.whl ] && [ ! -e s2calc_0.1.0_amd64.deb ]
 )
 step "files of others stay in the folder, and older packages don't" others_stay
+for_arm() (
+  cd "$work/packages/aarch64" && sha256sum --quiet -c SHA256SUMS && [ -e s2union-*-aarch64-linux.tar.gz ] &&
+    [ -e s2union-*-manylinux_2_17_aarch64.whl ] && [ "$(dpkg-deb -f s2calc_*_arm64.deb Architecture)" = arm64 ]
+)
+step "those for ARM are in a folder of their own" for_arm
 step "each is installed, used and removed" "$top/tools/package-trial" "$work/packages"
 finish
