@@ -1,0 +1,305 @@
+/* The calls of s2union.h for Java: Calls.java has the natives and the numbers of the calls. A list is a long[], whose
+ * signs mean nothing. Lists of up to SHORT elements are passed where they lie, which holds the collector up meanwhile;
+ * longer ones are copied. There is no arithmetic on cells here. */
+#include <jni.h>
+#include <s2union.h>
+
+enum { SHORT = 1000000, LISTS = 4 };
+
+/* The lists of a call, and where they are. */
+typedef struct {
+  JNIEnv* env;
+  jarray given[LISTS];
+  void* at[LISTS];
+  jsize length[LISTS];
+  int is_bytes[LISTS], is_copy[LISTS], writes[LISTS];
+  int count;
+} passed;
+
+static void add(passed* lists, jarray given, int is_bytes, int writes) {
+  int k = lists->count++;
+  JNIEnv* env = lists->env;
+  lists->given[k] = given;
+  lists->at[k] = NULL;
+  lists->length[k] = given != NULL ? (*env)->GetArrayLength(env, given) : 0;
+  lists->is_bytes[k] = is_bytes;
+  lists->is_copy[k] = lists->length[k] > SHORT;
+  lists->writes[k] = writes;
+}
+
+/* Whether all lists are there: first those that are copied, since Java may not be asked for more after the others. */
+static int begin(passed* lists) {
+  JNIEnv* env = lists->env;
+  for (int turn = 0; turn < 2; turn++) {
+    for (int k = 0; k < lists->count; k++) {
+      jarray given = lists->given[k];
+      if (given == NULL || lists->is_copy[k] == turn) continue;
+      lists->at[k] = !lists->is_copy[k]   ? (*env)->GetPrimitiveArrayCritical(env, given, NULL)
+                     : lists->is_bytes[k] ? (void*)(*env)->GetByteArrayElements(env, given, NULL)
+                                          : (void*)(*env)->GetLongArrayElements(env, given, NULL);
+      if (lists->at[k] == NULL) return 0;
+    }
+  }
+  return 1;
+}
+
+static void end(passed* lists) {
+  JNIEnv* env = lists->env;
+  for (int turn = 1; turn >= 0; turn--) {
+    for (int k = lists->count - 1; k >= 0; k--) {
+      jarray given = lists->given[k];
+      jint mode = lists->writes[k] ? 0 : JNI_ABORT;
+      if (lists->at[k] == NULL || lists->is_copy[k] == turn) continue;
+      if (!lists->is_copy[k]) (*env)->ReleasePrimitiveArrayCritical(env, given, lists->at[k], mode);
+      else if (lists->is_bytes[k]) (*env)->ReleaseByteArrayElements(env, given, lists->at[k], mode);
+      else (*env)->ReleaseLongArrayElements(env, given, lists->at[k], mode);
+    }
+  }
+}
+
+#define CALL(result, name) JNIEXPORT result JNICALL Java_s2union_Calls_##name
+#define LIST(k) ((uint64_t*)lists.at[k]), ((size_t)lists.length[k])
+#define BYTES(k) ((uint8_t*)lists.at[k]), ((size_t)lists.length[k])
+#define TEXT(k) ((char*)lists.at[k]), ((size_t)lists.length[k])
+
+static void put(JNIEnv* env, jlongArray to, uint64_t number) {
+  jlong signed_number = (jlong)number;
+  (*env)->SetLongArrayRegion(env, to, 0, 1, &signed_number);
+}
+
+/* ---- one cell */
+
+CALL(jlong, number)(JNIEnv* env, jclass of, jint call, jlong a, jlong b) {
+  (void)env, (void)of;
+  uint64_t id = (uint64_t)a, other = (uint64_t)b;
+  switch (call) {
+    case 0: return s2u_version();
+    case 1: return s2u_is_cell(id);
+    case 2: return s2u_level(id);
+    case 3: return s2u_face(id);
+    case 4: return (jlong)s2u_parent(id, (uint32_t)other);
+    case 5: return (jlong)s2u_child(id, (uint32_t)other);
+    case 6: return (jlong)s2u_range_min(id);
+    case 7: return (jlong)s2u_range_max(id);
+    case 8: return (jlong)s2u_size(id);
+    case 9: return (jlong)s2u_next(id);
+    case 10: return (jlong)s2u_prev(id);
+    case 11: return (jlong)s2u_common_ancestor(id, other);
+    case 12: return s2u_cell_contains(id, other);
+    case 13: return s2u_cell_intersects(id, other);
+    default: return S2U_ARGUMENT;
+  }
+}
+
+CALL(jlong, leafAt)(JNIEnv* env, jclass of, jint face, jint i, jint j) {
+  (void)env, (void)of;
+  return (jlong)s2u_from_face_ij((uint32_t)face, (uint32_t)i, (uint32_t)j);
+}
+
+CALL(jint, square)(JNIEnv* env, jclass of, jlong id, jlongArray out) {
+  (void)of;
+  s2u_square found = {0, 0, 0, 0};
+  int32_t status = s2u_square_of((uint64_t)id, &found);
+  jlong numbers[] = {found.face, found.i, found.j, found.size};
+  (*env)->SetLongArrayRegion(env, out, 0, 4, numbers);
+  return status;
+}
+
+/* The length of the token or the debug text of a cell, or a status. */
+CALL(jint, text)(JNIEnv* env, jclass of, jint call, jlong id, jbyteArray out) {
+  (void)of;
+  char text[S2U_MOST_DEBUG];
+  size_t len = 0;
+  int32_t status = (call == 0 ? s2u_token : s2u_debug)((uint64_t)id, text, sizeof text, &len);
+  if (status < 0) return status;
+  (*env)->SetByteArrayRegion(env, out, 0, (jsize)len, (const jbyte*)text);
+  return (jint)len;
+}
+
+CALL(jint, named)(JNIEnv* env, jclass of, jint call, jbyteArray text, jlongArray out) {
+  (void)of;
+  passed lists = {.env = env};
+  uint64_t id = 0;
+  add(&lists, text, 1, 0);
+  int32_t status = !begin(&lists) ? S2U_MEMORY : (call == 0 ? s2u_from_token : s2u_from_debug)(TEXT(0), &id);
+  end(&lists);
+  if (status >= 0) put(env, out, id);
+  return status;
+}
+
+/* ---- lists */
+
+static jlong asked(jint call, const passed* given, uint64_t cell) {
+  passed lists = *given;
+  switch (call) {
+    case 0: return s2u_is_union(LIST(0));
+    case 1: return (jlong)s2u_leaf_count(LIST(0));
+    case 2: return s2u_contains_cell(LIST(0), cell);
+    case 3: return s2u_intersects_cell(LIST(0), cell);
+    case 4: return s2u_contains(LIST(0), LIST(1));
+    case 5: return s2u_intersects(LIST(0), LIST(1));
+    case 6: return s2u_compare(LIST(0), LIST(1));
+    default: return S2U_ARGUMENT;
+  }
+}
+
+CALL(jlong, ask)(JNIEnv* env, jclass of, jint call, jlongArray xs, jlongArray ys, jlong cell) {
+  (void)of;
+  passed lists = {.env = env};
+  add(&lists, xs, 0, 0), add(&lists, ys, 0, 0);
+  jlong answer = begin(&lists) ? asked(call, &lists, (uint64_t)cell) : S2U_MEMORY;
+  end(&lists);
+  return answer;
+}
+
+static int32_t normalised(const passed* given, size_t* len) {
+  passed lists = *given;
+  uint64_t *from = lists.at[0], *to = lists.at[2];
+  for (jsize k = 0; k < lists.length[0]; k++) to[k] = from[k];
+  return s2u_normalise(to, (size_t)lists.length[0], len);
+}
+
+/* The calls that make a list of lists and numbers: n[0] and n[1], and a rectangle after them. */
+static int32_t made(jint call, const passed* given, const uint32_t* n, size_t* len) {
+  passed lists = *given;
+  const s2u_rect rect = {n[2], n[3], n[4], n[5], n[6]};
+  const uint64_t *first = lists.at[0], *last = lists.at[1];
+  switch (call) {
+    case 0: return s2u_union(LIST(0), LIST(1), LIST(2), len);
+    case 1: return s2u_intersection(LIST(0), LIST(1), LIST(2), len);
+    case 2: return s2u_difference(LIST(0), LIST(1), LIST(2), len);
+    case 3: return normalised(given, len);
+    case 4: return s2u_range(*first, *last, LIST(2), len);
+    case 5: return s2u_denormalised(LIST(0), n[0], n[1], LIST(2), len);
+    case 6: return s2u_ancestors(LIST(0), LIST(2), len);
+    case 7: return s2u_outer(&rect, n[0], n[1], LIST(2), len);
+    case 8: return s2u_inner(&rect, n[0], n[1], LIST(2), len);
+    case 9: return s2u_outer_of(LIST(0), n[0], n[1], LIST(2), len);
+    case 10: return s2u_inner_of(LIST(0), n[0], n[1], LIST(2), len);
+    case 11: return s2u_outer_in(LIST(0), &rect, n[0], n[1], LIST(2), len);
+    case 12: return s2u_inner_in(LIST(0), &rect, n[0], n[1], LIST(2), len);
+    case 13: return s2u_parents(LIST(0), n[0], LIST(2), len);
+    case 14: return s2u_range_mins(LIST(0), LIST(2), len);
+    case 15: return s2u_range_maxes(LIST(0), LIST(2), len);
+    default: return S2U_ARGUMENT;
+  }
+}
+
+CALL(jint, make)(JNIEnv* env, jclass of, jint call, jlongArray xs, jlongArray ys, jintArray numbers, jlongArray out,
+                 jlongArray length) {
+  (void)of;
+  passed lists = {.env = env};
+  jint n[7] = {0};
+  size_t len = 0;
+  (*env)->GetIntArrayRegion(env, numbers, 0, (*env)->GetArrayLength(env, numbers), n);
+  add(&lists, xs, 0, 0), add(&lists, ys, 0, 0), add(&lists, out, 0, 1);
+  int32_t status = begin(&lists) ? made(call, &lists, (const uint32_t*)n, &len) : S2U_MEMORY;
+  end(&lists);
+  put(env, length, len);
+  return status;
+}
+
+CALL(jint, denormalisedLength)(JNIEnv* env, jclass of, jlongArray xs, jint min, jint modulus, jlongArray length) {
+  (void)of;
+  passed lists = {.env = env};
+  uint64_t len = 0;
+  add(&lists, xs, 0, 0);
+  int32_t status =
+      begin(&lists) ? s2u_denormalised_len(LIST(0), (uint32_t)min, (uint32_t)modulus, &len) : S2U_MEMORY;
+  end(&lists);
+  put(env, length, len);
+  return status;
+}
+
+CALL(jint, cellsAt)(JNIEnv* env, jclass of, jlongArray xs, jlong cell, jlongArray out) {
+  (void)of;
+  passed lists = {.env = env};
+  size_t first = 0, count = 0;
+  add(&lists, xs, 0, 0);
+  int32_t status = begin(&lists) ? s2u_cells_at(LIST(0), (uint64_t)cell, &first, &count) : S2U_MEMORY;
+  end(&lists);
+  jlong places[] = {(jlong)first, (jlong)count};
+  (*env)->SetLongArrayRegion(env, out, 0, 2, places);
+  return status;
+}
+
+/* The leaves at points, each of which is three numbers. */
+CALL(jint, fromPoints)(JNIEnv* env, jclass of, jintArray points, jlongArray out, jlongArray bad) {
+  (void)of;
+  passed lists = {.env = env};
+  size_t first = 0, count = (size_t)(*env)->GetArrayLength(env, points) / 3;
+  jint* given = (*env)->GetIntArrayElements(env, points, NULL);
+  if (given == NULL) return S2U_MEMORY;
+  add(&lists, out, 0, 1);
+  int32_t status = begin(&lists) ? s2u_from_points((const s2u_point*)given, count, LIST(0), &first) : S2U_MEMORY;
+  end(&lists);
+  (*env)->ReleaseIntArrayElements(env, points, given, JNI_ABORT);
+  put(env, bad, first);
+  return status;
+}
+
+/* ---- bytes */
+
+static int32_t written(jint call, const passed* given, size_t* len) {
+  passed lists = *given;
+  switch (call) {
+    case 0: return s2u_encode(LIST(0), BYTES(2), len);
+    case 1: return s2u_tokens(LIST(0), TEXT(2), len);
+    case 2: return s2u_levels(LIST(0), BYTES(2), len);
+    case 3: return s2u_token_fields(LIST(0), TEXT(2), len);
+    case 4: return s2u_contains_cells(LIST(0), LIST(1), BYTES(2), len);
+    case 5: return s2u_intersects_cells(LIST(0), LIST(1), BYTES(2), len);
+    default: return S2U_ARGUMENT;
+  }
+}
+
+CALL(jint, write)(JNIEnv* env, jclass of, jint call, jlongArray xs, jlongArray ys, jbyteArray out, jlongArray length) {
+  (void)of;
+  passed lists = {.env = env};
+  size_t len = 0;
+  add(&lists, xs, 0, 0), add(&lists, ys, 0, 0), add(&lists, out, 1, 1);
+  int32_t status = begin(&lists) ? written(call, &lists, &len) : S2U_MEMORY;
+  end(&lists);
+  put(env, length, len);
+  return status;
+}
+
+CALL(jint, read)(JNIEnv* env, jclass of, jint call, jbyteArray bytes, jlongArray out, jlongArray length) {
+  (void)of;
+  passed lists = {.env = env};
+  size_t len = 0;
+  add(&lists, bytes, 1, 0), add(&lists, out, 0, 1);
+  int32_t status = !begin(&lists) ? S2U_MEMORY
+                   : call == 0    ? s2u_decode(BYTES(0), LIST(1), &len)
+                   : call == 1    ? s2u_file_ancestors(BYTES(0), LIST(1), &len)
+                                  : s2u_from_tokens(TEXT(0), LIST(1), &len);
+  end(&lists);
+  put(env, length, len);
+  return status;
+}
+
+static int32_t asked_of_file(jint call, const passed* given, uint64_t a, uint64_t* out) {
+  passed lists = *given;
+  switch (call) {
+    case 0: return s2u_file_check(BYTES(0));
+    case 1: return s2u_file_count(BYTES(0), out);
+    case 2: return s2u_file_leaf_count(BYTES(0), out);
+    case 3: return s2u_file_cell(BYTES(0), a, out);
+    case 4: return s2u_file_contains_cell(BYTES(0), a);
+    case 5: return s2u_file_intersects_cell(BYTES(0), a);
+    case 6: return s2u_file_contains(BYTES(0), BYTES(1));
+    case 7: return s2u_file_intersects(BYTES(0), BYTES(1));
+    default: return S2U_ARGUMENT;
+  }
+}
+
+CALL(jint, askFile)(JNIEnv* env, jclass of, jint call, jbyteArray xs, jbyteArray ys, jlong a, jlongArray out) {
+  (void)of;
+  passed lists = {.env = env};
+  uint64_t found = 0;
+  add(&lists, xs, 1, 0), add(&lists, ys, 1, 0);
+  int32_t status = begin(&lists) ? asked_of_file(call, &lists, (uint64_t)a, &found) : S2U_MEMORY;
+  end(&lists);
+  put(env, out, found);
+  return status;
+}

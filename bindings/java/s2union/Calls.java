@@ -1,0 +1,161 @@
+package s2union;
+
+import java.io.IOException;
+import java.io.InputStream;
+import java.nio.file.Files;
+import java.nio.file.Path;
+import java.nio.file.StandardCopyOption;
+import java.util.Arrays;
+
+/** The calls of s2union.h, by their numbers in s2union.c, and what their statuses mean. */
+final class Calls {
+  static final int ROOM = -1, MEMORY = -2, NO_CELL = -3, NO_UNION = -4, ARGUMENT = -5, MANY = -6;
+  static final int VERSION = 0, IS_CELL = 1, LEVEL = 2, FACE = 3, PARENT = 4, CHILD = 5, RANGE_MIN = 6, RANGE_MAX = 7,
+      SIZE = 8, NEXT = 9, PREV = 10, COMMON_ANCESTOR = 11, CELL_CONTAINS = 12, CELL_INTERSECTS = 13;
+  static final int TOKEN = 0, DEBUG = 1;
+  static final int IS_UNION = 0, LEAF_COUNT = 1, CONTAINS_CELL = 2, INTERSECTS_CELL = 3, CONTAINS = 4, INTERSECTS = 5,
+      COMPARE = 6;
+  static final int UNION = 0, INTERSECTION = 1, DIFFERENCE = 2, NORMALISE = 3, RANGE = 4, DENORMALISED = 5,
+      ANCESTORS = 6, OUTER = 7, INNER = 8, OUTER_OF = 9, INNER_OF = 10, OUTER_IN = 11, INNER_IN = 12, PARENTS = 13,
+      RANGE_MINS = 14, RANGE_MAXES = 15;
+  static final int ENCODE = 0, TOKENS = 1, LEVELS = 2, TOKEN_FIELDS = 3, CONTAINS_CELLS = 4, INTERSECTS_CELLS = 5;
+  static final int DECODE = 0, FILE_ANCESTORS = 1, FROM_TOKENS = 2;
+  static final int FILE_CHECK = 0, FILE_COUNT = 1, FILE_LEAF_COUNT = 2, FILE_CELL = 3, FILE_CONTAINS_CELL = 4,
+      FILE_INTERSECTS_CELL = 5, FILE_CONTAINS = 6, FILE_INTERSECTS = 7;
+  static final int LAST_LEVEL = 30, MOST_TOKEN = 16, MOST_DEBUG = 32, HEAD = 9;
+  static final long[] NONE = {};
+
+  private Calls() {}
+
+  static {
+    load();
+  }
+
+  /** Loads the library that the property s2union.library names, or the one in the jar for this processor. */
+  private static void load() {
+    String named = System.getProperty("s2union.library");
+    if (named != null) {
+      System.load(Path.of(named).toAbsolutePath().toString());
+      return;
+    }
+    String place = "/s2union/" + System.getProperty("os.arch") + "/libs2union_java.so";
+    try (InputStream library = Calls.class.getResourceAsStream(place)) {
+      if (library == null) {
+        throw new UnsatisfiedLinkError("s2union has no library for " + System.getProperty("os.arch"));
+      }
+      Path copy = Files.createTempFile("libs2union_java", ".so");
+      Files.copy(library, copy, StandardCopyOption.REPLACE_EXISTING);
+      System.load(copy.toString());
+      Files.delete(copy);
+    } catch (IOException error) {
+      throw new UnsatisfiedLinkError("s2union can't unpack its library: " + error);
+    }
+  }
+
+  static native long number(int call, long a, long b);
+
+  static native long leafAt(int face, int i, int j);
+
+  static native int square(long id, long[] out);
+
+  static native int text(int call, long id, byte[] out);
+
+  static native int named(int call, byte[] text, long[] out);
+
+  static native long ask(int call, long[] xs, long[] ys, long cell);
+
+  static native int make(int call, long[] xs, long[] ys, int[] numbers, long[] out, long[] length);
+
+  static native int denormalisedLength(long[] xs, int min, int modulus, long[] length);
+
+  static native int cellsAt(long[] xs, long cell, long[] out);
+
+  static native int fromPoints(int[] points, long[] out, long[] bad);
+
+  static native int write(int call, long[] xs, long[] ys, byte[] out, long[] length);
+
+  static native int read(int call, byte[] bytes, long[] out, long[] length);
+
+  static native int askFile(int call, byte[] xs, byte[] ys, long a, long[] out);
+
+  /** The status of a call, which is refused if it is negative. */
+  static int checked(int status, long place) {
+    if (status == MEMORY) throw new OutOfMemoryError("s2union: out of memory");
+    if (status < 0) throw new Refusal(status, place);
+    return status;
+  }
+
+  /** The answer of a question of lists, yes or no. */
+  static boolean asks(int call, long[] xs, long[] ys, long cell) {
+    return checked((int) ask(call, xs, ys, cell), 0) == 1;
+  }
+
+  /** The list that a call makes; it is called once more if the room was too little. */
+  static long[] made(int call, long[] xs, long[] ys, long room, int... numbers) {
+    long[] length = new long[1];
+    for (long next = room; ; next = length[0]) {
+      long[] out = new long[roomOf(next)];
+      int status = make(call, xs, ys, numbers, out, length);
+      if (status == ROOM) continue;
+      checked(status, length[0]);
+      return length[0] == out.length ? out : Arrays.copyOf(out, (int) length[0]);
+    }
+  }
+
+  /** The entries that a call makes, one for each number; the first that has none is refused at its place. */
+  static long[] entries(int call, long[] cells, int... numbers) {
+    long[] out = new long[cells.length];
+    long[] bad = new long[1];
+    make(call, cells, NONE, numbers, out, bad);
+    whole(cells, bad[0]);
+    return out;
+  }
+
+  static byte[] bytesOfEach(int call, long[] cells, int each) {
+    byte[] out = new byte[roomOf((long) each * cells.length)];
+    long[] bad = new long[1];
+    write(call, cells, NONE, out, bad);
+    whole(cells, bad[0]);
+    return out;
+  }
+
+  private static void whole(long[] cells, long bad) {
+    if (bad < cells.length) throw new Refusal(CellId.isCell(cells[(int) bad]) ? ARGUMENT : NO_CELL, bad);
+  }
+
+  /** The bytes that a call writes. */
+  static byte[] written(int call, long[] xs, long room) {
+    long[] length = new long[1];
+    for (long next = room; ; next = length[0]) {
+      byte[] out = new byte[roomOf(next)];
+      int status = write(call, xs, NONE, out, length);
+      if (status == ROOM) continue;
+      checked(status, length[0]);
+      return length[0] == out.length ? out : Arrays.copyOf(out, (int) length[0]);
+    }
+  }
+
+  /** The list that a call reads from bytes. */
+  static long[] read(int call, byte[] bytes, long room) {
+    long[] length = new long[1];
+    for (long next = room; ; next = length[0]) {
+      long[] out = new long[roomOf(next)];
+      int status = read(call, bytes, out, length);
+      if (status == ROOM) continue;
+      checked(status, length[0]);
+      return length[0] == out.length ? out : Arrays.copyOf(out, (int) length[0]);
+    }
+  }
+
+  /** The length of an array, if Java has arrays of that length. */
+  private static int roomOf(long room) {
+    if (room < 0 || room > Integer.MAX_VALUE - 8) throw new Refusal(MANY, 0);
+    return (int) room;
+  }
+
+  /** A number from 0 to this; any other is refused. */
+  static int within(int number, int most) {
+    if (number < 0 || number > most) throw new Refusal(ARGUMENT, 0);
+    return number;
+  }
+}

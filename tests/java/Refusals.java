@@ -1,0 +1,147 @@
+import java.util.Arrays;
+import java.util.List;
+import java.util.stream.IntStream;
+import java.util.stream.LongStream;
+import s2union.CellId;
+import s2union.CellUnion;
+import s2union.Refusal;
+import s2union.UnionFile;
+
+/** What the package for Java refuses, and what stays as it is: java Refusals. The last line is 'N passed, M failed'. */
+final class Refusals {
+  private static final long FACE = 0x1000000000000000L;
+  private static int passed;
+  private static int failed;
+
+  private Refusals() {}
+
+  private static synchronized void check(boolean holds, String what) {
+    if (holds) {
+      passed++;
+    } else {
+      failed++;
+      System.out.println("FAILED: " + what);
+    }
+  }
+
+  private static void refused(int status, long place, String words, Runnable action) {
+    try {
+      action.run();
+      check(false, "nothing refused: " + words);
+    } catch (Refusal refusal) {
+      check(refusal.status() == status && refusal.place() == place && refusal.getMessage().equals(words),
+          refusal + " " + refusal.status() + " " + refusal.place() + ", not " + words);
+    }
+  }
+
+  private static void noCell(long place, Runnable action) {
+    refused(-3, place, "not a cell", action);
+  }
+
+  private static void outOfRange(long place, Runnable action) {
+    refused(-5, place, "argument out of range", action);
+  }
+
+  private static void numbersThatAreNoCells() {
+    for (long wrong : new long[] {0, 2, -1}) {
+      noCell(0, () -> CellId.level(wrong));
+      noCell(0, () -> CellId.face(wrong));
+      noCell(0, () -> CellId.parent(wrong, 0));
+      noCell(0, () -> CellId.child(wrong, 0));
+      noCell(0, () -> CellId.rangeMin(wrong));
+      noCell(0, () -> CellId.leafCellsCovered(wrong));
+      noCell(0, () -> CellId.next(wrong));
+      noCell(0, () -> CellId.commonAncestor(FACE, wrong));
+      noCell(0, () -> CellId.contains(FACE, wrong));
+      noCell(0, () -> CellId.square(wrong));
+      noCell(0, () -> CellId.toToken(wrong));
+      noCell(1, () -> CellUnion.of(FACE, wrong));
+      noCell(0, () -> CellUnion.fromRange(FACE, wrong));
+      noCell(0, () -> CellUnion.of(FACE).contains(wrong));
+      noCell(0, () -> CellUnion.of(FACE).cellIdsAt(wrong));
+      noCell(1, () -> CellUnion.of(FACE).containsEach(FACE, wrong));
+      noCell(1, () -> CellId.levels(FACE, wrong));
+      noCell(1, () -> CellId.toTokens(FACE, wrong));
+      noCell(1, () -> CellId.rangeMaxes(FACE, wrong));
+    }
+  }
+
+  private static void numbersOutOfRange() {
+    for (int wrong : new int[] {-1, 31, Integer.MIN_VALUE}) {
+      outOfRange(0, () -> CellId.parent(FACE, wrong));
+      outOfRange(0, () -> CellId.child(FACE, wrong));
+      outOfRange(0, () -> CellId.parents(new long[] {1}, wrong));
+      outOfRange(0, () -> CellUnion.of(FACE).outer(wrong));
+      outOfRange(0, () -> CellUnion.of(FACE).inner(wrong));
+      outOfRange(0, () -> CellUnion.of(FACE).denormalized(wrong, 1, 10));
+      outOfRange(0, () -> CellId.fromFaceIJ(wrong, 0, 0));
+      outOfRange(1, () -> CellId.fromPoints(0, 0, 0, wrong, 0, 0));
+    }
+    outOfRange(1, () -> CellId.parents(new long[] {1, FACE}, 3));
+    outOfRange(0, () -> CellUnion.of(FACE).denormalized(3, 4, 10));
+    outOfRange(0, () -> CellUnion.outer(0, 5, 4, 0, 0, 30));
+    refused(-6, 0, "too many cells", () -> CellUnion.of(FACE).denormalized(30, 1, 1_000_000));
+    refused(-6, 0, "too many cells", () -> CellUnion.of(FACE).denormalized(30, 1, -1));
+    refused(-4, 0, "not a normalized list of cells", () -> CellUnion.fromNormalized(FACE, FACE));
+  }
+
+  private static void files() {
+    byte[] good = CellUnion.of(FACE).encode();
+    byte[] version = good.clone();
+    version[0] = 2;
+    refused(-10, 0, "union file: bytes are missing", () -> CellUnion.decode(Arrays.copyOf(good, 12)));
+    refused(-10, 0, "union file: bytes are missing", () -> new UnionFile(new byte[0]));
+    refused(-11, 0, "union file: unknown version", () -> UnionFile.check(version));
+    refused(-12, 0, "union file: bytes after the last cell", () -> new UnionFile(Arrays.copyOf(good, 18)));
+    outOfRange(0, () -> new UnionFile(good).cellId(1));
+    outOfRange(0, () -> new UnionFile(good).cellId(-1));
+    check(new UnionFile(good).toUnion().equals(CellUnion.of(FACE)), "a file's union");
+  }
+
+  private static void values() {
+    long[] given = {FACE};
+    CellUnion union = CellUnion.fromNormalized(given);
+    given[0] = 3;
+    union.cellIds()[0] = 3;
+    check(union.cellId(0) == FACE && union.size() == 1, "a union never changes");
+    check(union.hashCode() == CellUnion.of(FACE).hashCode() && !union.equals(null), "equal unions");
+    check(CellUnion.of().isEmpty() && CellUnion.of().toString().isEmpty(), "the empty union");
+    check(CellUnion.fromTokens("04, 0c 14\n1c").toString().equals("1"), "texts");
+    check(CellId.version().matches("\\d+\\.\\d+\\.\\d+"), "the version");
+  }
+
+  /** Lists that are copied, and lists that are not, answer alike. */
+  private static void longLists() {
+    long[] cells = IntStream.range(0, 1_200_000).mapToLong(k -> CellId.fromFaceIJ(k % 6, 17 * k, 31 * k)).toArray();
+    CellUnion whole = CellUnion.of(cells);
+    CellUnion half = CellUnion.of(Arrays.copyOf(cells, cells.length / 2));
+    CellUnion rest = whole.difference(half);
+    check(whole.size() > 1_000_000 && half.size() < 1_000_000, "sizes");
+    check(rest.union(half).equals(whole) && !rest.intersects(half), "a union in two parts");
+    check(CellUnion.decode(whole.encode()).equals(whole), "a long file");
+    check(CellUnion.fromTokens(whole.toString()).equals(whole), "a long text");
+    boolean[] found = whole.containsEach(cells);
+    check(IntStream.range(0, found.length).allMatch(k -> found[k]), "many questions");
+    check(whole.leafCellsCovered() == LongStream.of(whole.cellIds()).map(CellId::leafCellsCovered).sum(), "leaves");
+    List<Thread> threads = IntStream.range(0, 4)
+        .mapToObj(k -> new Thread(() -> check(whole.intersection(half).equals(half), "threads"))).toList();
+    threads.forEach(Thread::start);
+    for (Thread thread : threads) {
+      try {
+        thread.join();
+      } catch (InterruptedException error) {
+        throw new AssertionError(error);
+      }
+    }
+  }
+
+  public static void main(String[] words) {
+    numbersThatAreNoCells();
+    numbersOutOfRange();
+    files();
+    values();
+    longLists();
+    System.out.println(passed + " passed, " + failed + " failed");
+    System.exit(failed == 0 ? 0 : 1);
+  }
+}
