@@ -94,6 +94,20 @@ LANGUAGE sql IMMUTABLE STRICT PARALLEL SAFE
 RETURN s2_common_ancestor($1, s2_cell($2));
 COMMENT ON FUNCTION s2_common_ancestor(bigint, text) IS 'the smallest cell that contains both, or NULL';
 
+-- Set operations
+
+CREATE FUNCTION s2_complement(s2union)
+RETURNS s2union
+AS 'MODULE_PATHNAME', 's2union_complement'
+LANGUAGE C IMMUTABLE STRICT PARALLEL SAFE COST 1000 SUPPORT s2union_support;
+COMMENT ON FUNCTION s2_complement(s2union) IS 'the leaves of the sphere that a union doesn''t have';
+
+CREATE OPERATOR ~ (
+    RIGHTARG = s2union,
+    FUNCTION = s2_complement
+);
+COMMENT ON OPERATOR ~ (NONE, s2union) IS 'the leaves of the sphere that a union doesn''t have';
+
 -- Questions. A text names any number of cells here
 
 CREATE FUNCTION s2_contains(bigint, s2union)

@@ -320,6 +320,18 @@ CREATE OPERATOR # (
 );
 COMMENT ON OPERATOR # (s2union, s2union) IS 'the leaves of exactly one';
 
+CREATE FUNCTION s2_complement(s2union)
+RETURNS s2union
+AS 'MODULE_PATHNAME', 's2union_complement'
+LANGUAGE C IMMUTABLE STRICT PARALLEL SAFE COST 1000 SUPPORT s2union_support;
+COMMENT ON FUNCTION s2_complement(s2union) IS 'the leaves of the sphere that a union doesn''t have';
+
+CREATE OPERATOR ~ (
+    RIGHTARG = s2union,
+    FUNCTION = s2_complement
+);
+COMMENT ON OPERATOR ~ (NONE, s2union) IS 'the leaves of the sphere that a union doesn''t have';
+
 -- Questions. A text names any number of cells here
 
 CREATE FUNCTION s2_contains(s2union, s2union)

@@ -491,6 +491,8 @@ typedef int32_t maker(const Job* j, uint64_t* out, size_t room, size_t* n);
 MAKER(make_union, s2u_union, LIST(j->x), LIST(j->y))
 MAKER(make_intersection, s2u_intersection, LIST(j->x), LIST(j->y))
 MAKER(make_difference, s2u_difference, LIST(j->x), LIST(j->y))
+MAKER(make_symmetric_difference, s2u_symmetric_difference, LIST(j->x), LIST(j->y))
+MAKER(make_complement, s2u_complement, LIST(j->x))
 MAKER(make_range, s2u_range, j->first, j->last)
 MAKER(make_outer, s2u_outer, &j->rect, j->level, S2U_MOST_COVERING)
 MAKER(make_inner, s2u_inner, &j->rect, j->level, S2U_MOST_COVERING)
@@ -521,17 +523,6 @@ static Datum made(maker* make, const Job* j, size_t room) {
   return finished(u, n);
 }
 
-/* The leaves of exactly one of two unions. Their intersection lies in their union, so no cell is missed. */
-static int32_t make_symmetric_difference(const Job* j, uint64_t* out, size_t room, size_t* n) {
-  size_t most = Min(count_of(j->x) + count_of(j->y), MOST_CELLS);
-  S2Union* whole = (S2Union*)DatumGetPointer(made(make_union, j, most));
-  S2Union* both = (S2Union*)DatumGetPointer(made(make_intersection, j, most));
-  int32_t status = s2u_difference(LIST(whole), LIST(both), out, room, n);
-  pfree(whole);
-  pfree(both);
-  return status;
-}
-
 /* Argument k of a set operation. What an operation has just made hardly comes again, so it isn't kept. */
 static const S2Union* stored_argument(FunctionCallInfo fcinfo, int k) {
   bool stored = is_constant(fcinfo->flinfo, k) || VARATT_IS_EXTERNAL_ONDISK(PG_GETARG_POINTER(k));
@@ -541,6 +532,11 @@ static const S2Union* stored_argument(FunctionCallInfo fcinfo, int k) {
 static Datum of_two_unions(FunctionCallInfo fcinfo, maker* make) {
   Job j = {.x = stored_argument(fcinfo, 0), .y = stored_argument(fcinfo, 1)};
   return made(make, &j, Min(count_of(j.x) + count_of(j.y), MOST_CELLS));
+}
+
+static Datum of_one_union(FunctionCallInfo fcinfo, maker* make) {
+  Job j = {.x = stored_argument(fcinfo, 0)};
+  return made(make, &j, Min(count_of(j.x) + S2U_MOST_COMPLEMENT(0), MOST_CELLS));
 }
 
 /* The covering of a rectangle at a level, whose six numbers are the arguments from `first` on; before it there may be a
@@ -565,6 +561,7 @@ FUNCTION(s2union_union, of_two_unions(fcinfo, make_union))
 FUNCTION(s2union_intersection, of_two_unions(fcinfo, make_intersection))
 FUNCTION(s2union_difference, of_two_unions(fcinfo, make_difference))
 FUNCTION(s2union_symmetric_difference, of_two_unions(fcinfo, make_symmetric_difference))
+FUNCTION(s2union_complement, of_one_union(fcinfo, make_complement))
 FUNCTION(s2union_outer, of_rectangle(fcinfo, 0, make_outer))
 FUNCTION(s2union_inner, of_rectangle(fcinfo, 0, make_inner))
 FUNCTION(s2union_outer_in, of_rectangle(fcinfo, 1, make_outer_in))

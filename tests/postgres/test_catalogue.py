@@ -182,14 +182,15 @@ class Catalogue(Tests):
             for arguments in range(int(count) - int(defaults), int(count) + 1):
                 self.assertTrue(rows[name, arguments].startswith(comment), (name, arguments, comment))
         said = psql(f"""
-            SELECT concat_ws(' ', oprname, proname, obj_description(m.objid, 'pg_operator')) FROM ({MEMBERS}) m
-            JOIN pg_operator o ON o.oid = m.objid JOIN pg_proc p ON p.oid = oprcode
-            WHERE oprleft = 's2union'::regtype AND oprright = oprleft AND starts_with(proname, 's2_');
+            SELECT CASE oprleft WHEN 0 THEN oprname || 'x' ELSE format('x %s y', oprname) END, proname,
+                obj_description(m.objid, 'pg_operator')
+            FROM ({MEMBERS}) m JOIN pg_operator o ON o.oid = m.objid JOIN pg_proc p ON p.oid = oprcode
+            WHERE oprleft IN (0, oprright) AND starts_with(proname, 's2_');
         """)
-        self.assertEqual(len(said), 7)
-        for name, function, comment in (line.split(" ", 2) for line in said):
-            name = name.replace("|", "\\|")
-            self.assertIn(f"\n| `x {name} y` | `{function}` | {comment} |\n", page)
+        self.assertEqual(len(said), 8)
+        for operator, function, comment in (line.rsplit("|", 2) for line in said):
+            operator = operator.replace("|", "\\|")
+            self.assertIn(f"\n| `{operator}` | `{function}` | {comment} |\n", page)
 
 
 class Updates(unittest.TestCase):

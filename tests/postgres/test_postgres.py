@@ -124,6 +124,8 @@ class AgainstTheModel(Tests):
                 (f"{a} - {b}", tokens(model.normal(model.common(x, model.rest(y))))),
                 (f"{a} # {b}",
                  tokens(model.normal(model.common(x, model.rest(y)) + model.common(y, model.rest(x))))),
+                (f"~{a}", tokens(model.normal(model.rest(x)))),
+                (f"s2_complement({b})", tokens(model.normal(model.rest(y)))),
                 (f"{a} @> {b}", boolean(contains)),
                 (f"{a} <@ {b}", boolean(within)), (f"{a} && {b}", boolean(both)), (f"{a} = {b}", boolean(x == y)),
                 (f"s2union_cmp({a}, {b})", str(order)), (f"s2_count({a})", str(len(normal))),
@@ -1242,7 +1244,7 @@ class Guarded(Tests):
 
     def test_each_allocation_refused_in_turn(self):
         over_parts = (
-            "part | '3'", "part & '0c 14'", "'1'::s2union - part", "part # '0c 14'", "part::bytea",
+            "part | '3'", "part & '0c 14'", "'1'::s2union - part", "part # '0c 14'", "~part", "part::bytea",
             "part::bytea::s2union",
             "s2_tokens(part)", "s2_cells(part, 20)", "part::bigint[]::s2union", "s2_cell('0401') <@ part",
             "part && s2_cell('0401')", "s2_cell('0401') && part",
