@@ -344,8 +344,7 @@ static const std::map<std::string, Question> questions = {
      })},
     {"difference", makes([](const Given& g, int32_t* status) { return g.unions(0).Difference(g.unions(1), status); })},
     {"symmetric_difference", makes([](const Given& g, int32_t* status) {
-       const CellUnion x = g.unions(0), y = g.unions(1);
-       return CellUnion::UnionOf({x.Difference(y), y.Difference(x)}, status);
+       return g.unions(0).SymmetricDifference(g.unions(1), status);
      })},
     {"intersection_with_cell", makes([](const Given& g, int32_t* status) {
        return g.unions(0).Intersection(g.cell(1), status);

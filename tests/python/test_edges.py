@@ -130,7 +130,7 @@ def refusal(call, error):
     """The name of what was refused, and its place if the row has one."""
     said = str(error)
     name = next((name for text, name in FAULTS.items() if said.startswith(text)), None)
-    name = name or ("argument" if "out of range" in said or said == "a leaf has no children" else said)
+    name = name or ("argument" if "out of range" in said or said.startswith("a leaf has no children: ") else said)
     place = re.search(r"at place (\d+)", said)
     return "none" if call in NO_ANSWER and name == "argument" else f"!{name} {place[1]}" if place else f"!{name}"
 

@@ -763,7 +763,7 @@ class TheModule(unittest.TestCase):
             "union": [(), (other,), (other, none), (none, other, given)],
             "intersection": [(), (other,), (other, given), (none,)],
             "difference": [(), (other,), (other, given), (none,)],
-            "symmetric_difference": [(other,), (none,), (given,)],
+            "symmetric_difference": [(other,), (none,), (given,)], "complement": [()], "__invert__": [()],
             **dict.fromkeys(("__or__", "__and__", "__sub__", "__xor__"), [(other,), (none,), (given,), (a,)]),
             "__copy__": [()], "__deepcopy__": [({},)],
         }

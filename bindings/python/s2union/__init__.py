@@ -165,12 +165,13 @@ def face(cell: SupportsIndex) -> int:
 def parent(cell: SupportsIndex, level: SupportsIndex | None = None) -> int:
     """The cell of this level that contains the cell; without a level, of the level above its own."""
     bits = _bits(cell)
-    wanted = _known(_library.level(bits), bits) - 1 if level is None else _number(level, 30, "a level")
+    own = _known(_library.level(bits), bits)
+    wanted = own - 1 if level is None else _number(level, 30, "a level")
     if wanted < 0:
         raise ValueError(f"a face has no parent: {bits:#x}")
     found = _library.parent(bits, wanted)
-    if not found and _cell(bits):
-        raise ValueError(f"the level is below that of the cell {bits:#x}: {wanted}")
+    if not found:
+        raise ValueError(f"the level is below the cell's own: {wanted}, of {bits:#x}")
     return found
 
 
