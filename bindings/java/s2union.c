@@ -181,6 +181,8 @@ static int32_t made(jint call, const passed* given, const uint32_t* n, size_t* l
     case 13: return s2u_parents(LIST(0), n[0], LIST(2), len);
     case 14: return s2u_range_mins(LIST(0), LIST(2), len);
     case 15: return s2u_range_maxes(LIST(0), LIST(2), len);
+    case 16: return s2u_symmetric_difference(LIST(0), LIST(1), LIST(2), len);
+    case 17: return s2u_complement(LIST(0), LIST(2), len);
     default: return S2U_ARGUMENT;
   }
 }

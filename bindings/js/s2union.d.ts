@@ -103,6 +103,8 @@ export class CellUnion implements Iterable<Cell> {
   intersection(other: CellUnion): CellUnion;
   difference(other: CellUnion): CellUnion;
   symmetricDifference(other: CellUnion): CellUnion;
+  /** The leaves of the six faces that it doesn't have. */
+  complement(): CellUnion;
   intersectionWithCell(cell: Cell): CellUnion;
   /** The cells of the level that share a leaf with it, normalized. */
   outer(level: number): CellUnion;

@@ -278,7 +278,12 @@ export class CellUnion {
   }
 
   symmetricDifference(other) {
-    return this.difference(other).union(other.difference(this));
+    return unionOf(calls().symmetricDifference(this.#ids, cellsIn(other)));
+  }
+
+  /** The leaves of the six faces that it doesn't have. */
+  complement() {
+    return unionOf(calls().complement(this.#ids));
   }
 
   intersectionWithCell(cell) {

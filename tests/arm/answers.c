@@ -117,6 +117,10 @@ static void make_unions(void) {
   made(status, out, 8);
   status = s2u_difference(xs, nx, ys, ny, out, room, &len);
   made(status, out, 8);
+  status = s2u_symmetric_difference(xs, nx, ys, ny, out, room, &len);
+  made(status, out, 8);
+  status = s2u_complement(xs, nx, out, room, &len);
+  made(status, out, 8);
   status = s2u_union_of_many(xs, nx, ends, 2, work, 2 * MOST, out, room, &len);
   made(status, out, 8);
   status = s2u_range(s2u_range_min(id), s2u_range_max(other), out, room, &len);

@@ -173,6 +173,7 @@ final class Vectors {
     QUESTIONS.put("intersection", g -> shown(g.union(0).intersection(g.union(1))));
     QUESTIONS.put("difference", g -> shown(g.union(0).difference(g.union(1))));
     QUESTIONS.put("symmetric_difference", g -> shown(g.union(0).symmetricDifference(g.union(1))));
+    QUESTIONS.put("complement", g -> shown(g.union(0).complement()));
     QUESTIONS.put("union_contains",
         g -> same(shown(g.union(0).contains(g.union(1))), shown(g.file(0).contains(g.file(1)))));
     QUESTIONS.put("union_intersects",

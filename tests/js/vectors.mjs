@@ -101,6 +101,7 @@ const QUESTIONS = {
   intersection: (a, b) => union(a).intersection(union(b)),
   difference: (a, b) => union(a).difference(union(b)),
   symmetric_difference: (a, b) => union(a).symmetricDifference(union(b)),
+  complement: (given) => union(given).complement(),
   union_contains: (a, b) =>
     same(union(a).isSupersetOf(union(b)), union(b).isSubsetOf(union(a)), file(a).isSupersetOf(file(b))),
   union_intersects: (a, b) =>

@@ -153,7 +153,12 @@ public final class CellUnion implements Comparable<CellUnion> {
   }
 
   public CellUnion symmetricDifference(CellUnion other) {
-    return difference(other).union(other.difference(this));
+    return with(Calls.SYMMETRIC_DIFFERENCE, other);
+  }
+
+  /** The leaves of the six faces that it doesn't have. */
+  public CellUnion complement() {
+    return new CellUnion(Calls.made(Calls.COMPLEMENT, ids, Calls.NONE, 2L * ids.length + 6));
   }
 
   public CellUnion intersection(long cell) {
