@@ -1,13 +1,15 @@
 //! The program: it opens what a run needs, and calls the run.
 #![tactic(auto)]
 
-ghost use Rattle.std.specs.Prelude.{◌≤◌};
+ghost use Rattle.std.specs.Prelude.{◌≤◌, ◌≡◌, []};
+ghost use Rattle.s2process.specs.Listed.{calls_of};
 
 use s2calc::{
     AnswerBuffer, Job, NoteWriter, RunFault, Stop, Tally, answer_status, cell_answer, check_answer,
-    draw_answer, draw_cells_answer, job, overlay_answer, run_explained, run_promptly, status,
+    draw_answer, draw_cells_answer, job, overlay_answer, status,
 };
 use s2edit::{Editor, MOST_CELLS, MOST_STATES};
+use s2process::{ListedReader, ListedWriter, Witness, run_explained_listed, run_listed};
 use s2shelf::DirShelf;
 use std::io::ErrorKind;
 use std::process::ExitCode;
@@ -61,36 +63,45 @@ fn run_script(rt: &HostRuntime, limit: usize, depth: usize, dir: &str, explain: 
     let Ok(mut shelf) = DirShelf::at(rt, dir) else {
         return report_end(rt, &Err(RunFault::Memory));
     };
-    let Ok(mut writer) = AnswerBuffer::new(rt.alloc(), io::writer(rt)) else {
+    let Ok(mut writer) = AnswerBuffer::new(rt.alloc(), standard_output(rt)) else {
         return report_end(rt, &Err(RunFault::Memory));
     };
     let result = if explain {
-        let Ok(mut notes) = NoteWriter::new(rt.alloc(), rt.stderr()) else {
+        let Ok(mut notes) = NoteWriter::new(rt.alloc(), ListedWriter::new(rt.stderr())) else {
             return report_end(rt, &Err(RunFault::Memory));
         };
-        run_explained(
+        run_explained_listed(
             rt.alloc(),
             &mut editor,
-            &mut rt.reader(),
+            &mut ListedReader::new(rt.reader()),
             &mut writer,
             &mut shelf,
             &mut notes,
+            &mut Witness::new(),
         )
     } else {
-        run_promptly(
+        run_listed(
             rt.alloc(),
             &mut editor,
-            &mut rt.reader(),
+            &mut ListedReader::new(rt.reader()),
             &mut writer,
             &mut shelf,
+            &mut Witness::new(),
         )
     };
     report_end(rt, &result)
 }
 
+/// Standard output, of which nothing was written yet.
+fn standard_output<P: Print>(rt: &P) -> ListedWriter<io::Printer<'_, P>>
+    ensures { calls_of result ≡ [] }
+{
+    ListedWriter::new(io::writer(rt))
+}
+
 /// Answers one `cell CELL`.
 fn answer_cell(rt: &HostRuntime, word: &str) -> ExitCode {
-    report_answer(rt, cell_answer(word.as_bytes(), &mut io::writer(rt)))
+    report_answer(rt, cell_answer(word.as_bytes(), &mut standard_output(rt)))
 }
 
 /// Answers one `check FILE`.
@@ -100,7 +111,7 @@ fn answer_check(rt: &HostRuntime, dir: &str, name: &str) -> ExitCode {
     };
     report_answer(
         rt,
-        check_answer(rt.alloc(), &mut shelf, name, &mut io::writer(rt)),
+        check_answer(rt.alloc(), &mut shelf, name, &mut standard_output(rt)),
     )
 }
 
@@ -111,7 +122,13 @@ fn answer_draw(rt: &HostRuntime, dir: &str, name: &str, curve: bool) -> ExitCode
     };
     report_answer(
         rt,
-        draw_answer(rt.alloc(), &mut shelf, name, curve, &mut io::writer(rt)),
+        draw_answer(
+            rt.alloc(),
+            &mut shelf,
+            name,
+            curve,
+            &mut standard_output(rt),
+        ),
     )
 }
 
@@ -122,7 +139,13 @@ fn answer_overlay(rt: &HostRuntime, dir: &str, names: &[String], curve: bool) ->
     };
     report_answer(
         rt,
-        overlay_answer(rt.alloc(), &mut shelf, names, curve, &mut io::writer(rt)),
+        overlay_answer(
+            rt.alloc(),
+            &mut shelf,
+            names,
+            curve,
+            &mut standard_output(rt),
+        ),
     )
 }
 
@@ -130,7 +153,7 @@ fn answer_overlay(rt: &HostRuntime, dir: &str, names: &[String], curve: bool) ->
 fn answer_draw_cells(rt: &HostRuntime, words: &[String], curve: bool) -> ExitCode {
     report_answer(
         rt,
-        draw_cells_answer(rt.alloc(), words, curve, &mut io::writer(rt)),
+        draw_cells_answer(rt.alloc(), words, curve, &mut standard_output(rt)),
     )
 }
 

@@ -1,0 +1,7 @@
+pub mod StreamCalls
+pub mod Listed
+pub mod Ends
+pub mod Order
+pub mod Process
+pub mod Explained
+pub mod Working

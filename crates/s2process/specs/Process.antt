@@ -1,0 +1,88 @@
+-- What the process did.
+use Rattle.std.specs.Prelude.{◌≡◌, ◌<◌, ◌+◌, ℕ, ◌⊎◌, true, List, [], ◌∷◌, ◌++◌, length, Option, Result, Ok, Err, Some}
+use Rattle.s2shelf.specs.Shelf.{Files}
+use Rattle.s2script.specs.Line.{line_of}
+use Rattle.s2script.specs.Lines.{lines, whole_lines, BeginsWith}
+use Rattle.s2calc.specs.declared.engine.Tally.{Tally}
+use Rattle.s2calc.specs.declared.fault.RunFault.{RunFault}
+use Rattle.s2calc.specs.declared.fault.RunFault.TheVariants.{Input, Output, Memory}
+use Rattle.s2calc.specs.World.{World}
+use Rattle.s2calc.specs.Replies.{Reply, texts, tally_of}
+use Rattle.s2calc.specs.Step.{asks_for_file}
+use Rattle.s2calc.specs.Run.{Steps, came_out}
+use Rattle.s2calc.specs.Calls.{Call}
+use Rattle.s2calc.specs.Buffered.{Buffered}
+use Rattle.s2calc.specs.Moments.{Moment, bytes_read, begun_in, ended_in}
+use Rattle.s2calc.specs.Order.{HasEnded}
+use Rattle.s2process.specs.Ends.{NoneFailed, LastFlushed, LastFailed, ReadsLast, ReadsStop, ReadsWell}
+use Rattle.s2process.specs.Order.{EachMay}
+
+-- What a run did between these two worlds: it carried out some lines, with these replies, and wrote the texts of these
+-- except for what is left of the last. `written` are the bytes that the writer took, and those that wait in the buffer.
+pub record Did (start now : World) (written : List ℕ) : Type 0 where
+  pub done : List (List ℕ)
+  pub replies : List Reply
+  pub left : List ℕ
+  pub steps : Steps start done replies now
+  pub texts_are : texts replies ≡ written ++ left
+  pub all_but_last : (more : List ℕ) × (written ≡ texts (came_out replies left) ++ more)
+
+-- the lines are the first of those of the script: each ends in a newline, or they are all lines
+abbrev pub WereReadWhole : List ℕ → List (List ℕ) → Type 0
+WereReadWhole script ls = ((more : List ℕ) × BeginsWith script ls more) ⊎ (ls ≡ lines script)
+
+module _ {start now : World} {written : List ℕ} (script : List ℕ) where
+  -- all lines of the script were carried out, and all answers were written
+  abbrev pub AllLines : Did start now written → Type 0
+  AllLines did = (did.done ≡ lines script) × (did.left ≡ [])
+
+  -- exactly the lines that were read whole were carried out, and exactly their answers were written
+  abbrev pub WholeLines : Did start now written → Type 0
+  WholeLines did = (did.done ≡ whole_lines script) × (did.left ≡ [])
+
+  -- the last line that was carried out was read to its end, and some bytes of its answer are missing
+  abbrev pub InsideAnswer : Did start now written → Type 0
+  InsideAnswer did = WereReadWhole script did.done × (0 < length did.left)
+
+  -- A command with a file was read to its end. The lines before it were carried out, or the command too, and exactly
+  -- their answers were written.
+  pub record BesideFile (did : Did start now written) : Type 0 where
+    pub before : List (List ℕ)
+    pub line : List ℕ
+    pub read_whole : WereReadWhole script (before ++ line ∷ [])
+    pub has_file : asks_for_file (line_of line) ≡ true
+    pub done_are : (did.done ≡ before) ⊎ (did.done ≡ before ++ line ∷ [])
+    pub none_left : did.left ≡ []
+
+-- `called` says how the calls of a writer ended, and `reads` what the reads gave
+module _ {V S : Type 0} (called : V → List Call) (reads : List (Option ℕ)) {start now : World} {written : List ℕ}
+    (did : Did start now written) (moments : List (Moment (Buffered V) S)) (buffer : Buffered V) where
+  -- What a run did, by its result: which lines were carried out, how the reads and the calls of the writer ended, and
+  -- where nothing waits in the buffer. After `Memory` nothing was called.
+  abbrev pub Ends : Result Tally RunFault → Type 0
+  Ends (Ok tally) = AllLines (bytes_read moments) did × (tally ≡ tally_of did.replies) × (buffer.waiting ≡ [])
+      × ReadsLast (Some 0) reads × HasEnded moments × LastFlushed (called buffer.writer)
+  Ends (Err Input) = WholeLines (bytes_read moments) did × (buffer.waiting ≡ []) × ReadsStop reads
+      × NoneFailed (called buffer.writer)
+  Ends (Err Output) = (InsideAnswer (bytes_read moments) did ⊎ AllLines (bytes_read moments) did
+      ⊎ WholeLines (bytes_read moments) did ⊎ BesideFile (bytes_read moments) did)
+      × ReadsWell reads × LastFailed (called buffer.writer)
+  Ends (Err Memory) = (did.done ≡ []) × (moments ≡ []) × (reads ≡ []) × (called buffer.writer ≡ [])
+
+  -- How many lines began and ended: each that was carried out, but after `Output` the last of them may not have ended,
+  -- as its answer wasn't written or a flush after it failed.
+  abbrev pub Counts : Result Tally RunFault → Type 0
+  Counts (Err Output) = (begun_in moments ≡ length did.done)
+      × (((ended_in moments ≡ length did.done) × (did.left ≡ [])) ⊎ (ended_in moments + 1 ≡ length did.done))
+  Counts result = (begun_in moments ≡ length did.done) × (ended_in moments ≡ length did.done)
+
+-- What a run did that was carried out over a reader and a writer that had not been called: the bytes that its reads
+-- gave are its script, `reads` says how each ended, each moment came where it may, and the run ended as its result
+-- says.
+pub record RunsListed {V S : Type 0} (taken : V → List ℕ) (called : V → List Call) (files : S → Files)
+    (reads : List (Option ℕ)) (start now : World) (moments : List (Moment (Buffered V) S)) (buffer : Buffered V)
+    (result : Result Tally RunFault) : Type 0 where
+  pub did : Did start now (taken buffer.writer ++ buffer.waiting)
+  pub ends : Ends called reads did moments buffer result
+  pub each : EachMay taken called files start [] moments
+  pub counts : Counts called reads did moments buffer result

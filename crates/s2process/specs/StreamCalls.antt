@@ -1,0 +1,69 @@
+-- The calls of a reader and of a writer, with what they gave and took.
+use Rattle.std.specs.Prelude.{ℕ, ◌-◌, List, [], ◌∷◌, length, take, flat_map, Option, Some, None, Result, Ok, Err}
+use Rattle.s2calc.specs.Calls as calls
+use Rattle.s2calc.specs.Calls.{Call}
+
+-- a read with room for `others + 1` bytes, so for some, and the bytes that it gave, so none only at the end; a read that
+-- failed; a write and the bytes that it took; a write that failed; a flush; and a flush that failed
+pub data StreamCall : Type 0 where
+  Gave : (others : ℕ) (bytes : List ℕ) → StreamCall
+  GaveNot : StreamCall
+  Took : (bytes : List ℕ) → StreamCall
+  TookNot : StreamCall
+  Flushed : StreamCall
+  FlushedNot : StreamCall
+
+-- what a read was, by its answer, its room, which isn't 0 if it succeeds, and what its buffer holds after it
+abbrev pub read_call : {E : Type 0} → Result ℕ E → ℕ → List ℕ → StreamCall
+read_call (Ok count) room buffer = Gave (room - 1) (take count buffer)
+read_call (Err error) room buffer = GaveNot
+
+-- what a write was, by its answer and its bytes
+abbrev pub write_call : {E : Type 0} → Result ℕ E → List ℕ → StreamCall
+write_call (Ok count) bytes = Took (take count bytes)
+write_call (Err error) bytes = TookNot
+
+-- what a flush was, by its answer
+abbrev pub flush_call : {E : Type 0} → Result (Unit {0}) E → StreamCall
+flush_call (Ok _) = Flushed
+flush_call (Err error) = FlushedNot
+
+-- the bytes that a write took
+abbrev pub taken_by : StreamCall → List ℕ
+taken_by (Gave others bytes) = []
+taken_by GaveNot = []
+taken_by (Took bytes) = bytes
+taken_by TookNot = []
+taken_by Flushed = []
+taken_by FlushedNot = []
+
+-- how a call of a writer ended; a write that takes nothing has failed
+abbrev pub ended_by : StreamCall → List Call
+ended_by (Gave others bytes) = []
+ended_by GaveNot = []
+ended_by (Took []) = calls.Failed ∷ []
+ended_by (Took (byte ∷ bytes)) = calls.Wrote ∷ []
+ended_by TookNot = calls.Failed ∷ []
+ended_by Flushed = calls.Flushed ∷ []
+ended_by FlushedNot = calls.Failed ∷ []
+
+-- how many bytes a read gave, or None if it failed
+abbrev pub read_by : StreamCall → List (Option ℕ)
+read_by (Gave others bytes) = Some (length bytes) ∷ []
+read_by GaveNot = None ∷ []
+read_by (Took bytes) = []
+read_by TookNot = []
+read_by Flushed = []
+read_by FlushedNot = []
+
+-- all bytes that the writes took
+abbrev pub taken_in : List StreamCall → List ℕ
+taken_in list = flat_map taken_by list
+
+-- how the calls of a writer ended
+abbrev pub ended_in : List StreamCall → List Call
+ended_in list = flat_map ended_by list
+
+-- what the reads gave
+abbrev pub reads_in : List StreamCall → List (Option ℕ)
+reads_in list = flat_map read_by list

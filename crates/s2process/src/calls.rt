@@ -1,0 +1,54 @@
+//! A list of calls that only clauses read. It takes no memory, and its methods do nothing at run time.
+ghost use Rattle.std.specs.Prelude.{◌≡◌, List, [], ◌∷◌, ◌++◌};
+ghost use Rattle.std.specs.Coded.{coded_list};
+ghost use base.Fml.{ftrue};
+ghost use Rattle.s2process.specs.StreamCalls.{StreamCall};
+ghost use Rattle.s2process.specs.Working.Coded.{stream_call_coded};
+
+use std::marker::Model;
+
+/// The calls of a stream so far.
+#[derive(Drop)]
+pub(crate) struct CallList {
+    ghost calls: { List StreamCall } by { coded_list stream_call_coded },
+}
+
+impl Model for CallList {
+    ghost also_owns = { λ _. ftrue };
+}
+
+/// One call, as it is told to the list.
+#[derive(Clone, Copy, Drop)]
+pub(crate) enum Told<'a> {
+    /// A read that gave these bytes; it had room for this many.
+    Gave(&'a [u8], usize),
+    /// A read that failed.
+    GaveNot,
+    /// A write that took these bytes.
+    Took(&'a [u8]),
+    /// A write that failed.
+    TookNot,
+    /// A flush.
+    Flushed,
+    /// A flush that failed.
+    FlushedNot,
+}
+
+impl CallList {
+    ghost use Rattle.s2process.specs.Working.Told.{told};
+
+    /// No call.
+    pub(crate) fn new() -> CallList
+        ensures { result.calls ≡ [] }
+    {
+        CallList {}
+    }
+
+    /// The list with one more call at its end.
+    #[inline(always)]
+    pub(crate) fn and(&self, _call: &Told<'_>) -> CallList
+        ensures { result.calls ≡ self.now.calls ++ told _call.now ∷ [] }
+    {
+        CallList {}
+    }
+}

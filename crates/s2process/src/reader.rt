@@ -1,0 +1,60 @@
+//! A reader whose calls stand in a list.
+ghost use Rattle.std.specs.Prelude.{◌≡◌, ◌<◌, [], ◌∷◌, ◌++◌, Some, OnOk, length};
+ghost use Rattle.std.specs.Io.{ReadsAtMost};
+ghost use Rattle.std.specs.Io.KnownBytes.{ReadConsumes};
+ghost use Rattle.s2calc.specs.Calls.{Gains, what_came};
+ghost use Rattle.s2process.specs.StreamCalls.{read_call, reads_in};
+ghost use Rattle.s2process.specs.Listed.{calls_of_reader};
+
+use crate::calls::{CallList, Told};
+use s2calc::Source;
+use std::io;
+use std::io::ErrorKind;
+
+/// A reader. Each call of it stands in a list that only proofs read, in order: how much room a read had and which bytes
+/// it gave, or that it failed. A read without room fails, so one that gives nothing is at the end.
+#[derive(Drop)]
+pub struct ListedReader<R> {
+    reader: R,
+    calls: CallList,
+}
+
+impl<R: Drop> ListedReader<R> {
+    /// Nothing was called yet.
+    pub fn new(reader: R) -> ListedReader<R>
+        ensures { calls_of_reader result ≡ [] }
+    {
+        ListedReader {
+            reader,
+            calls: CallList::new(),
+        }
+    }
+}
+
+impl<R: Source> Source for ListedReader<R> {
+    ghost remaining = { λ r. R.remaining r.reader };
+
+    ghost reads = { λ r. Some (reads_in (calls_of_reader r)) };
+
+    fn read(&mut self, buf: &mut [u8]) -> io::Result<usize>
+        ensures bound { ReadsAtMost result buf.new }
+        ensures bytes { ReadConsumes (R.remaining self.old.reader) (R.remaining self.new.reader) result buf.new }
+        ensures listed { calls_of_reader self.new
+            ≡ calls_of_reader self.old ++ read_call result (length buf.old) buf.new ∷ [] }
+        ensures room { OnOk result (0 < length buf.old) }
+        ensures call { Gains (Some (reads_in (calls_of_reader self.old))) (Some (reads_in (calls_of_reader self.new)))
+            (what_came result ∷ []) }
+    {
+        if buf.is_empty() {
+            self.calls = self.calls.and(&Told::GaveNot);
+            return Err(io::Error::from(ErrorKind::InvalidInput));
+        }
+        let room = buf.len();
+        let result = self.reader.read(buf);
+        match &result {
+            Ok(count) => self.calls = self.calls.and(&Told::Gave(&buf[..*count], room)),
+            Err(_) => self.calls = self.calls.and(&Told::GaveNot),
+        }
+        result
+    }
+}
