@@ -18,8 +18,7 @@ use Rattle.s2process.specs.Ends.{NoneFailed, LastFlushed}
 -- The run starts in this world, with a writer that has taken nothing.
 module _ {V S : Type 0} (taken : V → List ℕ) (called : V → List Call) (files : S → Files) (start : World) where
   -- exactly the answers that these lines may have were written, to the buffer and from there to the writer below, and
-  -- no
-  -- call of that writer failed
+  -- no call of that writer failed
   pub record AllOut (ls : List (List ℕ)) (buffer : Buffered V) : Type 0 where
     pub replies : List Reply
     pub now : World

@@ -3,8 +3,8 @@ use Rattle.std.specs.Prelude.{ℕ, ◌-◌, List, [], ◌∷◌, length, take, f
 use Rattle.s2calc.specs.Calls as calls
 use Rattle.s2calc.specs.Calls.{Call}
 
--- a read with room for `others + 1` bytes, so for some, and the bytes that it gave, so none only at the end; a read that
--- failed; a write and the bytes that it took; a write that failed; a flush; and a flush that failed
+-- a read with room for `others + 1` bytes, so for some, and the bytes that it gave, so none only at the end; a read
+-- that failed; a write and the bytes that it took; a write that failed; a flush; and a flush that failed
 pub data StreamCall : Type 0 where
   Gave : (others : ℕ) (bytes : List ℕ) → StreamCall
   GaveNot : StreamCall

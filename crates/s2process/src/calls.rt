@@ -17,9 +17,9 @@ impl Model for CallList {
     ghost also_owns = { λ _. ftrue };
 }
 
-/// One call, as it is told to the list.
+/// One call, as it is given to the list.
 #[derive(Clone, Copy, Drop)]
-pub(crate) enum Told<'a> {
+pub(crate) enum OneCall<'a> {
     /// A read that gave these bytes; it had room for this many.
     Gave(&'a [u8], usize),
     /// A read that failed.
@@ -35,7 +35,7 @@ pub(crate) enum Told<'a> {
 }
 
 impl CallList {
-    ghost use Rattle.s2process.specs.Working.Told.{told};
+    ghost use Rattle.s2process.specs.Working.Shown.{shown};
 
     /// No call.
     pub(crate) fn new() -> CallList
@@ -46,8 +46,8 @@ impl CallList {
 
     /// The list with one more call at its end.
     #[inline(always)]
-    pub(crate) fn and(&self, _call: &Told<'_>) -> CallList
-        ensures { result.calls ≡ self.now.calls ++ told _call.now ∷ [] }
+    pub(crate) fn and(&self, _call: &OneCall<'_>) -> CallList
+        ensures { result.calls ≡ self.now.calls ++ shown _call.now ∷ [] }
     {
         CallList {}
     }

@@ -18,7 +18,7 @@ impl<W, S> Model for MomentList<W, S> {
     ghost also_owns = { λ _. ftrue };
 }
 
-/// What is seen at a moment, as it is told to the list.
+/// What is seen at a moment, as it is given to the list.
 #[derive(Clone, Copy, Drop)]
 pub(crate) enum Sight<'a> {
     /// A read, and the bytes that it gave.
@@ -33,7 +33,7 @@ pub(crate) enum Sight<'a> {
 
 impl<W, S> MomentList<W, S> {
     ghost use Rattle.s2calc.specs.Moments.{moment};
-    ghost use Rattle.s2process.specs.Working.Told.{seen};
+    ghost use Rattle.s2process.specs.Working.Shown.{seen};
 
     /// No moment.
     pub(crate) fn new() -> MomentList<W, S>

@@ -6,7 +6,7 @@ ghost use Rattle.s2calc.specs.Calls.{Gains, what_came};
 ghost use Rattle.s2process.specs.StreamCalls.{read_call, reads_in};
 ghost use Rattle.s2process.specs.Listed.{calls_of_reader};
 
-use crate::calls::{CallList, Told};
+use crate::calls::{CallList, OneCall};
 use s2calc::Source;
 use std::io;
 use std::io::ErrorKind;
@@ -46,14 +46,14 @@ impl<R: Source> Source for ListedReader<R> {
             (what_came result ∷ []) }
     {
         if buf.is_empty() {
-            self.calls = self.calls.and(&Told::GaveNot);
+            self.calls = self.calls.and(&OneCall::GaveNot);
             return Err(io::Error::from(ErrorKind::InvalidInput));
         }
         let room = buf.len();
         let result = self.reader.read(buf);
         match &result {
-            Ok(count) => self.calls = self.calls.and(&Told::Gave(&buf[..*count], room)),
-            Err(_) => self.calls = self.calls.and(&Told::GaveNot),
+            Ok(count) => self.calls = self.calls.and(&OneCall::Gave(&buf[..*count], room)),
+            Err(_) => self.calls = self.calls.and(&OneCall::GaveNot),
         }
         result
     }

@@ -6,7 +6,7 @@ ghost use Rattle.s2calc.specs.Calls.{NoneFailed, LastFlushed, LastFailed};
 ghost use Rattle.s2process.specs.StreamCalls.{write_call, flush_call};
 ghost use Rattle.s2process.specs.Listed.{calls_of, taken, called};
 
-use crate::calls::{CallList, Told};
+use crate::calls::{CallList, OneCall};
 use s2calc::Sink;
 use std::io;
 
@@ -49,8 +49,8 @@ impl<W: Sink> Sink for ListedWriter<W> {
     {
         let result = self.writer.write(bytes);
         match &result {
-            Ok(count) => self.calls = self.calls.and(&Told::Took(&bytes[..*count])),
-            Err(_) => self.calls = self.calls.and(&Told::TookNot),
+            Ok(count) => self.calls = self.calls.and(&OneCall::Took(&bytes[..*count])),
+            Err(_) => self.calls = self.calls.and(&OneCall::TookNot),
         }
         result
     }
@@ -64,8 +64,8 @@ impl<W: Sink> Sink for ListedWriter<W> {
     {
         let result = self.writer.flush();
         match &result {
-            Ok(()) => self.calls = self.calls.and(&Told::Flushed),
-            Err(_) => self.calls = self.calls.and(&Told::FlushedNot),
+            Ok(()) => self.calls = self.calls.and(&OneCall::Flushed),
+            Err(_) => self.calls = self.calls.and(&OneCall::FlushedNot),
         }
         result
     }

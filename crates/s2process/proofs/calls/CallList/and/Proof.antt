@@ -28,8 +28,8 @@ use denote.Triple.Table.{entered}
 use denote.Triple.Walked.{says, Stays, stay_dropped, walk_of, ends_at, walk_Meets, Goes-dropped}
 use Rattle.s2process.proofs.Walks.{none, none_made}
 use Rattle.s2process.specs.contracts.calls.CallList as CallList
-use Rattle.s2process.specs.contracts.calls.Told as Told
-use Rattle.s2process.specs.Working.Told.{told}
+use Rattle.s2process.specs.contracts.calls.OneCall as OneCall
+use Rattle.s2process.specs.Working.Shown.{shown}
 use Rattle.s2process.specs.contracts.calls.CallList.and as F
 use Rattle.s2process.specs.contracts.calls.CallList.and.Key.{name as #self}
 use Rattle.s2process.proofs.calls.CallList.and.Statement as stated
@@ -64,7 +64,7 @@ module _ {M : Type 1} {𝓤 : Ura M} (𝓛 : Logic 𝓤) (at_mem : Memory → SP
         let vss = z.0.4 in
         let u : Val = vptr a.0.ref_ptr.0 a.0.ref_ptr.1 in
         let v : Val = vptr a.1.0.ref_ptr.0 a.1.0.ref_ptr.1 in
-        let list : (CallList.the_row).Denot = record { calls = a.0.now.calls ++ told a.1.0.now ∷ [] } in
+        let list : (CallList.the_row).Denot = record { calls = a.0.now.calls ++ shown a.1.0.now ∷ [] } in
         qed 𝓛 ((raw toks ⊛ ‵ (owns (types_at ended.signature.params z.0.0) a vss)) ∷ raw ((held z.0.0 a).requires z.1)
         ∷ []) ∵
         keep ! (0 ∷ []) $ split ! $ move ! (1 ∷ []) $ fsplit ! $ fsplit ! $ feq_l ! (λ is₀. drop ! $ fsplit ! $
@@ -84,7 +84,7 @@ module _ {M : Type 1} {𝓤 : Ura M} (𝓛 : Logic 𝓤) (at_mem : Memory → SP
         Goes-dropped 𝓛 3 (RefOf (0 ∷ []) tt (plain (λ _. CallList.the_row)) (λ _. tt)) yes (λ
             κs x f. refl),
         (
-          Goes-dropped 𝓛 3 (RefOf (1 ∷ []) tt (plain (λ κs. Told.the_row (named_lft 3 2 tt κs))) (λ _.
+          Goes-dropped 𝓛 3 (RefOf (1 ∷ []) tt (plain (λ κs. OneCall.the_row (named_lft 3 2 tt κs))) (λ _.
               tt)) yes (λ κs x f. refl),
           tt,
         ),

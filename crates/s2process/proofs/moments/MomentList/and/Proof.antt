@@ -35,7 +35,7 @@ use Rattle.std.specs.contracts.marker.PhantomData as Mark
 use Rattle.s2process.proofs.Walks.{none, one, one_made}
 use Rattle.s2process.specs.contracts.moments.MomentList as Moments
 use Rattle.s2process.specs.contracts.moments.Sight as Sight
-use Rattle.s2process.specs.Working.Told.{seen}
+use Rattle.s2process.specs.Working.Shown.{seen}
 use Rattle.s2calc.specs.Moments.{moment}
 use Rattle.s2process.specs.contracts.moments.MomentList.and as F
 use Rattle.s2process.specs.contracts.moments.MomentList.and.Key.{name as #self}
