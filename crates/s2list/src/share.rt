@@ -1,5 +1,5 @@
 //! The leaves that two lists of cells share, written to a list that grows or to a room.
-ghost use Rattle.std.specs.Prelude.{◌≡◌, ◌+◌, ◌<◌, ◌≤◌, ◌↔◌, [], ℕ, IfErr, IfOk, IsTrue, List, length, min};
+ghost use Rattle.std.specs.Prelude.{◌≡◌, ◌+◌, ◌<◌, ◌≤◌, ◌↔◌, [], ℕ, IfErr, IfOk, IsTrue, length, min};
 ghost use Rattle.s2list.specs.Union.{IsLocal, has_leaf};
 ghost use Rattle.s2list.specs.Sets.{shared};
 ghost use Rattle.s2list.specs.Looks.{Alternates, FewForTurnsAndCells};

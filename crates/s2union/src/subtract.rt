@@ -1,14 +1,13 @@
 //! How a difference is made: by a walk along both lists, or by a search for each cell of the first if it is much
 //! shorter. The gaps between cells are filled with the largest cells that fit.
-ghost use Rattle.std.specs.Prelude.{◌≡◌, ◌≤◌, ◌<◌, ◌+◌, ◌&&◌, ◌++◌, All, MatchOption};
+ghost use Rattle.std.specs.Prelude.{◌≡◌, ◌≤◌, ◌<◌, ◌+◌, ◌&&◌, All, MatchOption};
 ghost use Rattle.std.specs.Prelude.{slice_index, ℕ, length, []};
 ghost use Rattle.std.specs.Prelude.{IfErr, List, OnOk, not};
-ghost use Rattle.std.specs.Vec.{vec_len};
-ghost use Rattle.s2cell.specs.Cell.{IsCell, first_leaf, size_of};
+ghost use Rattle.s2cell.specs.Cell.{first_leaf};
 ghost use Rattle.s2list.specs.Union.{IsLocal, IsNormalForm, has_leaf};
 ghost use Rattle.s2list.specs.Sets.{without};
 ghost use Rattle.s2union.specs.Working.Sets.{IsLeft};
-ghost use Rattle.s2list.specs.Packed.{FirstEndBy, IsPlace, FillsGap};
+ghost use Rattle.s2list.specs.Packed.{IsPlace, FillsGap};
 
 use crate::fault::UnionFault;
 use crate::few::MUCH_LONGER;
