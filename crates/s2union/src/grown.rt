@@ -25,6 +25,7 @@ impl<'a, 'b, 'c> Output<CellList<'b>, CellList<'c>> for Grown<'a> {
 
     ghost refuses = { ⊤ };
 
+    #[inline(always)]
     fn put_x(
         &mut self,
         n: usize,
@@ -44,6 +45,7 @@ impl<'a, 'b, 'c> Output<CellList<'b>, CellList<'c>> for Grown<'a> {
         self.put(n, &xs.cells[from..to])
     }
 
+    #[inline(always)]
     fn put_y(
         &mut self,
         n: usize,
@@ -63,6 +65,7 @@ impl<'a, 'b, 'c> Output<CellList<'b>, CellList<'c>> for Grown<'a> {
         self.put(n, &ys.cells[from..to])
     }
 
+    #[inline(always)]
     fn put_gap(&mut self, n: usize, lo: u64, hi: u64) -> Result<usize, AllocError>
         ensures place { self.new.list.ghost_name ≡ self.old.list.ghost_name }
         ensures put { IfOk result (λ m. (lo < hi → hi ≤ LEAVES) → (list : List ℕ) (old : Grown)
@@ -80,6 +83,7 @@ impl<'a, 'b, 'c> Output<CellList<'b>, CellList<'c>> for Grown<'a> {
 
 impl<'a> Grown<'a> {
     /// Appends cells after the first `n`, if the list is then not too long.
+    #[inline(always)]
     fn put(&mut self, n: usize, cells: &[CellId]) -> Result<usize, AllocError>
         ensures place { self.new.list.ghost_name ≡ self.old.list.ghost_name }
         ensures put { IfOk result (λ m. (list : List ℕ) (most : ℕ)
