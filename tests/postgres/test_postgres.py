@@ -491,6 +491,20 @@ class WhatIsRefused(Tests):
             )
         ] + [(f"{name}(0{more})", "error: s2union: not a cell: 0") for name, more in OF_A_CELL.items()])
 
+    def test_numbers_that_an_index_is_asked_about(self):
+        """Also if it finds no row, so that no operator is called."""
+        psql("""
+            SET client_min_messages = error;
+            DROP TABLE IF EXISTS by_gin, by_gist;
+            CREATE TABLE by_gin AS SELECT '04'::s2union AS region; CREATE TABLE by_gist AS TABLE by_gin;
+            CREATE INDEX ON by_gin USING gin (region); CREATE INDEX ON by_gist USING gist (region);
+        """)
+        self.all_are([(f"(SELECT count(*) FROM {table} WHERE region {operator} {number})",
+                       f"error: s2union: not a cell: {said}")
+                      for table in ("by_gin", "by_gist") for operator in ("@>", "&&")
+                      for number, said in (("0::bigint", "0"), ("(SELECT -6::bigint)", "-6"))],
+                     "SET enable_seqscan = off;")
+
     def test_texts_that_name_no_cell(self):
         """Of each function that takes a cell: a number in quotes is none, and the message names the text."""
         pairs = []
