@@ -12,7 +12,8 @@ from typing import NamedTuple
 
 TOP = Path(__file__).resolve().parents[2]
 READ = ["tools/calls", "crates/s2union_c/src", "crates/s2union_c/include", "crates/s2cover/src/lib.rt",
-        "bindings/rust/src", "bindings/python/s2union", "bindings/page/core.js", "tests/c/calls.h"]
+        "bindings/rust/src", "bindings/python/s2union", "bindings/java/s2union", "bindings/page/core.js",
+        "tests/c/calls.h"]
 HEADER = "crates/s2union_c/include/s2union.h"
 
 
@@ -52,6 +53,11 @@ MISTAKES = [
             '"outer_of", _i32, _at, _size, _u32, _size,', '"outer_of", _i32, _at, _size, _size, _u32,'),
     Mistake("a text of another refusal in JavaScript", "bindings/page/core.js", '[-2]: "out of memory"',
             '[-2]: "not a cell"'),
+    Mistake("another number of a status in Java", "bindings/java/s2union/Calls.java", "NO_CELL = -3", "NO_CELL = -4"),
+    Mistake("a text of another refusal in Java", "bindings/java/s2union/Refusal.java",
+            'case -6: return "too many cells"', 'case -6: return "not a cell"'),
+    Mistake("another limit in JavaScript", "bindings/page/core.js", "const MOST_TOKEN = 16;",
+            "const MOST_TOKEN = 17;"),
     Mistake("a call of JavaScript that takes memory", "bindings/page/core.js", '"s2u_union", [xs, ys]',
             '"s2u_range", [xs, ys]'),
     Mistake("a list that JavaScript leaves out", "bindings/page/core.js", '"s2u_union", [xs, ys]', '"s2u_union", [xs]'),
