@@ -15,6 +15,7 @@ command -v clang >/dev/null || packages+=(clang libclang-rt-dev) # the latter ha
 command -v pkg-config >/dev/null || packages+=(pkg-config)
 [ -x /usr/bin/python3 ] || packages+=(python3)
 /usr/bin/python3 -c 'import numpy' 2>/dev/null || packages+=(python3-numpy)
+/usr/bin/python3 -c 'import hypothesis' 2>/dev/null || packages+=(python3-hypothesis)
 /usr/bin/python3 -c 'import pip, setuptools, wheel' 2>/dev/null || packages+=(python3-{pip,setuptools,wheel})
 need_packages
 
@@ -192,6 +193,7 @@ python() {
 }
 step "Python: against the model, and the module" python -m unittest -q test_library
 step "Python: the edges" python -m unittest -q test_edges
+step "Python: laws of sets, by hypothesis" python -m unittest -q test_laws
 /usr/bin/python3 -c 'import pandas' 2>/dev/null || echo "       pandas is not there: columns of it are not tested"
 step "Python: docs/PYTHON.md" python -m doctest "$top/docs/PYTHON.md"
 step "Python: examples of points and of maps" python -m unittest -q test_examples
