@@ -605,7 +605,7 @@ static int column(sqlite3_vtab_cursor* base, sqlite3_context* c, int k) {
   } else {
     answer_cell(c, k == 0 ? cell : k == 1 ? s2u_range_min(cell) : s2u_range_max(cell));
   }
-  if (status != S2U_OK) refuse(c, status);
+  if (status != S2U_OK) refuse(c, status, NULL, 0);
   return SQLITE_OK;
 }
 
