@@ -346,6 +346,7 @@ static const std::map<std::string, Question> questions = {
     {"symmetric_difference", makes([](const Given& g, int32_t* status) {
        return g.unions(0).SymmetricDifference(g.unions(1), status);
      })},
+    {"complement", makes([](const Given& g, int32_t* status) { return g.unions(0).Complement(status); })},
     {"intersection_with_cell", makes([](const Given& g, int32_t* status) {
        return g.unions(0).Intersection(g.cell(1), status);
      })},

@@ -158,6 +158,8 @@ def sets():
         yield call, WHOLE, WHOLE, ""
         yield call, [FACE], [FACE], ""
     yield "intersection", [FACE], [3 * FACE], ""
+    for union, others in (("", WHOLE), (WHOLE, ""), (WHOLE[1:], [FACE]), ([FACE], WHOLE[1:])):
+        yield "complement", union, others
     for one, other, holds in (("", "", True), ([FACE], "", True), ("", [FACE], False)):
         yield "union_contains", one, other, holds
         yield "union_intersects", one, other, False

@@ -115,6 +115,7 @@ ASK = {
     **{f"{name}_of_rectangle": rectangle_of(name) for name in ("outer", "inner")},
     **{f"{name}_in": within(name) for name in ("outer", "inner")},
     **{name: of_sets(name) for name in ("union", "intersection", "difference", "symmetric_difference")},
+    "complement": lambda given: union(given).complement(),
     "union_contains": lambda a, b: of_sets("issuperset")(a, b) == of_sets("contains", file)(a, b) is True,
     "union_intersects": lambda a, b: of_sets("intersects")(a, b) == of_sets("intersects", file)(a, b) is True,
     "contains_cell": of_a_set_and_a_cell("__contains__"), "intersects_cell": of_a_set_and_a_cell("intersects_cell"),
