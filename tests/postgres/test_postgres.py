@@ -1320,6 +1320,10 @@ class Guarded(Tests):
             DROP TABLE IF EXISTS scattered;
             CREATE TABLE scattered AS SELECT s2_union_agg(s2_leaf((k % 6)::int, k * 5003, k * 4999)) AS region
                 FROM generate_series(0, 199999) AS k;
+            DROP TABLE IF EXISTS apart;
+            CREATE TABLE apart WITH (parallel_workers = 2) AS SELECT s2_leaf(0, k, k)::s2union AS region
+                FROM generate_series(1, 20000) AS k;
+            ANALYZE apart;
         """)
         several = (
             ("CREATE INDEX scattered_gist ON scattered USING gist (region)", 4), ("ANALYZE scattered", 4),
@@ -1327,9 +1331,11 @@ class Guarded(Tests):
             ("SELECT s2_count(array_fill('04'::text, ARRAY[150000])::s2union)", 3),
             ("SELECT s2_keys(region, 1) FROM scattered", 6),
             ("SELECT s2_count(s2_union_agg(s2_leaf(0, k, k))) FROM generate_series(1, 500000) AS k", 3),
+            ("SELECT s2_count(s2_union_agg(region)) FROM apart", 2), # for a part of the rows, and at the end
         )
-        said = psql("".join(f"SELECT s2_chances() IS NULL;\n{query};\nSELECT 'chances: ' || s2_chances();\n"
-                            for query, _ in several))
+        said = psql("""SET parallel_setup_cost = 0; SET parallel_tuple_cost = 0; SET max_parallel_workers = 0;
+            SET min_parallel_table_scan_size = 0;\n""" + "".join(f"""
+            SELECT s2_chances() IS NULL; {query}; SELECT 'chances: ' || s2_chances();\n""" for query, _ in several))
         chances = [int(line.rpartition(" ")[2]) for line in said if line.startswith("chances")]
         for (query, least), each in zip(several, chances, strict=True):
             self.assertGreaterEqual(each, least, query)
