@@ -1,5 +1,6 @@
 // Times four ways to do the same work in turn: S2, an operation of `CellUnion` alone, the whole call for C, and
-// hand-written C++ (limit.h). A row counts only if all checksums agree, and are the known one of real.sums.
+// hand-written C++ (limit.h). Each repeats its work until that takes 20 ms. A row counts only if all checksums agree,
+// and are the known one of real.sums. Its noise is how far the middle round of the least quiet way is above the least.
 #pragma once
 #include <array>
 #include <fstream>
@@ -17,8 +18,8 @@ class Lanes {
   Lanes(const char* only, int rounds) : only_(only), rounds_(rounds) {
     std::ifstream sums("real.sums");
     for (std::string name; sums >> name;) sums >> std::hex >> known_[name];
-    printf("%-34s %10s %10s %10s %10s %9s %9s %9s  %s\n", "", "S2", "CellUnion", "C call", "limit", "S2/union",
-           "S2/call", "call/lim", "checksum");
+    printf("%-34s %10s %10s %10s %10s %9s %9s %9s %6s  %s\n", "", "S2", "CellUnion", "C call", "limit", "S2/union",
+           "S2/call", "call/lim", "noise", "checksum");
   }
 
   bool wants(const char* name) const { return strstr(name, only_) != nullptr; }
@@ -27,8 +28,13 @@ class Lanes {
   // A way that has no such call has no work. `row.units` may be 0; then it is what `units` says after the work.
   void row(Row row, std::array<Side, WAYS> sides, const std::function<size_t()>& units = nullptr) {
     if (!wants(row.name)) return;
-    for (Side& side : sides)
-      if (side.more == REPEATED) side.more = repeats(side.work);
+    for (Side& side : sides) {
+      if (side.more == REPEATED) {
+        side.more = repeats(side.work);
+      } else if (side.work) {
+        side.turns = turns_of(side.work);
+      }
+    }
     std::array<Best, WAYS> best;
     for (int round = 0; round < rounds_; round++)
       for (int way = 0; way < WAYS; way++)
@@ -43,6 +49,10 @@ class Lanes {
     number(9, ratio(ns[PEER], ns[ALONE]));
     number(9, ratio(ns[PEER], ns[CALL]));
     number(9, ratio(ns[CALL], ns[LIMIT]));
+    double noise = 0;
+    for (int way = 0; way < WAYS; way++)
+      if (sides[way].work) noise = std::max(noise, best[way].noise());
+    printf(" %5.0f%%", 100 * noise);
     compare(row.name, sides);
     fflush(stdout);
   }

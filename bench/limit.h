@@ -309,13 +309,12 @@ inline size_t unite_all(u64* ids, std::vector<size_t> offsets, u64* spare) {
   return normalise(ids, n);
 }
 
-// The file, with the test that the list is a union, part by part while it is in the cache.
+// The file, of a list that is known to be a union.
 inline size_t encode(const u64* ids, size_t n, uint8_t* out) {
   out[0] = 1;
   memcpy(out + 1, &n, 8);
-  bool answer;
-  go_through(ids, n, &answer, [&](size_t i, size_t len) { memcpy(out + 9 + 8 * i, ids + i, 8 * len); });
-  return answer ? 9 + 8 * n : 0;
+  memcpy(out + 9, ids, 8 * n);
+  return 9 + 8 * n;
 }
 
 inline size_t decode(const uint8_t* bytes, size_t size, u64* out) {

@@ -86,9 +86,26 @@ struct Pairs {
 using SetCall = int32_t (*)(const u64*, size_t, const u64*, size_t, u64*, size_t, size_t*);
 using SetLimit = size_t (*)(const u64*, size_t, const u64*, size_t, u64*);
 
+using PeerCells = std::vector<S2CellId>;
+
+// S2's operations into a vector that is used again, where it has such a call or its own steps can be taken so.
+static void peer_unite(const S2CellUnion& x, const S2CellUnion& y, PeerCells* out) {
+  out->assign(x.begin(), x.end());
+  out->insert(out->end(), y.begin(), y.end());
+  S2CellUnion::Normalize(out);
+}
+
+static void peer_intersect(const S2CellUnion& x, const S2CellUnion& y, PeerCells* out) {
+  S2CellUnion::GetIntersection(x.cell_ids(), y.cell_ids(), out);
+}
+
+static void peer_subtract(const S2CellUnion& x, const S2CellUnion& y, PeerCells* out) {
+  *out = x.Difference(y).Release();
+}
+
 struct SetOperation {
   const char* name;
-  PeerOperation peer;
+  void (*peer)(const S2CellUnion&, const S2CellUnion&, PeerCells*);
   Operation alone;
   SetCall call;
   SetLimit limit;
@@ -112,19 +129,18 @@ static Side pair_side(Way way, const Pairs& pairs, Work work, Made made) {
 }
 
 static void sets(Lanes& lanes, const std::string& of, const Pairs& pairs, size_t units) {
-  PeerOperation intersection = &S2CellUnion::Intersection;
   const SetOperation operations[] = {
-      {"union", &S2CellUnion::Union, s2c_union, s2u_union, limit::unite},
-      {"intersection", intersection, s2c_intersection, s2u_intersection, limit::intersect},
-      {"difference", &S2CellUnion::Difference, s2c_difference, s2u_difference, limit::subtract}};
+      {"union", peer_unite, s2c_union, s2u_union, limit::unite},
+      {"intersection", peer_intersect, s2c_intersection, s2u_intersection, limit::intersect},
+      {"difference", peer_subtract, s2c_difference, s2u_difference, limit::subtract}};
   Room room(2 * pairs.most + 200);
-  S2CellUnion peer;
+  PeerCells peer;
   auto sum_of_peer = [&] { return sum_of(ids_of(peer)); };
   auto sum_of_room = [&] { return sum_of(room.made()); };
   for (const SetOperation& it : operations) {
     auto theirs = [&](uint32_t times, size_t k) {
       auto& [x, y] = pairs.peers[k];
-      while (times-- > 0) peer = (x.*it.peer)(y);
+      while (times-- > 0) it.peer(x, y, &peer);
     };
     auto alone = [&](uint32_t times, size_t k) {
       auto& [x, y] = pairs.lists[k];
@@ -192,12 +208,10 @@ static void both(Lanes& lanes, const std::string& of, const Pairs& pairs, size_t
   pair_questions(lanes, of, pairs);
 }
 
-using PeerCells = std::vector<S2CellId>;
-
-// A row whose work makes one list. Each way writes to its own room; what S2 makes is turned into numbers when it is
-// summed, which isn't timed.
+// A row whose work makes one list. Each way writes to its own room, S2 to a vector that is used again; what S2 makes is
+// turned into numbers when it is summed, which isn't timed.
 struct ListWays {
-  std::function<PeerCells()> peer;
+  std::function<void(PeerCells&)> peer;
   std::function<void(Room&)> call, limit;
 };
 
@@ -205,7 +219,7 @@ static void list_row(Lanes& lanes, const std::string& name, size_t units, size_t
   PeerCells peer;
   Room room(most), best(most);
   lanes.row({name.c_str(), units, 0},
-            {Side{[&](uint32_t) { peer = ways.peer(); }, [&] { return sum_of(ids_of(peer)); }}, Side{},
+            {Side{[&](uint32_t) { ways.peer(peer); }, [&] { return sum_of(ids_of(peer)); }}, Side{},
              Side{[&](uint32_t) { ways.call(room); }, [&] { return sum_of(room.made()); }},
              Side{[&](uint32_t) { ways.limit(best); }, [&] { return sum_of(best.made()); }}},
             [&] { return units > 0 ? units : *room.len(); });
@@ -216,7 +230,10 @@ static void normalising(Lanes& lanes, const std::string& of, const List& cells) 
   List spare(cells.size());
   bool sorted = std::is_sorted(cells.begin(), cells.end());
   list_row(lanes, "normalise_" + of, cells.size(), cells.size(),
-           {[&] { return S2CellUnion(peer).Release(); },
+           {[&](PeerCells& out) {
+              out = peer;
+              S2CellUnion::Normalize(&out);
+            },
             [&](Room& room) {
               memcpy(room.at(), cells.data(), 8 * cells.size());
               made(s2u_normalise(room.at(), cells.size(), room.len()), "normalise");
@@ -234,7 +251,10 @@ static void union_of_many(Lanes& lanes, const std::string& of, const Lists& list
   size_t n = chain.ids.size();
   List spare(n), work(2 * n);
   list_row(lanes, "union_of_many_" + of, n, n,
-           {[&] { return S2CellUnion(peer).Release(); },
+           {[&](PeerCells& out) {
+              out = peer;
+              S2CellUnion::Normalize(&out);
+            },
             [&](Room& room) {
               made(s2u_union_of_many(chain.ids.data(), n, chain.offsets.data() + 1, lists.size(), work.data(),
                                      work.size(), room.at(), room.size(), room.len()),
@@ -251,11 +271,7 @@ static void denormalising(Lanes& lanes, const std::string& of, const List& list,
   u64 most = 0;
   made(s2u_denormalised_len(list.data(), list.size(), level, step, &most), "denormalised_len");
   list_row(lanes, "denormalise_" + of, most, most,
-           {[&] {
-              PeerCells cells;
-              peer.Denormalize(level, step, &cells);
-              return cells;
-            },
+           {[&](PeerCells& out) { peer.Denormalize(level, step, &out); },
             [&](Room& room) {
               made(s2u_denormalised(list.data(), list.size(), level, step, room.at(), room.size(), room.len()),
                    "denormalised");
@@ -266,11 +282,13 @@ static void denormalising(Lanes& lanes, const std::string& of, const List& list,
 static void outer_of(Lanes& lanes, const std::string& of, const List& list, int level) {
   PeerCells peer = peer_cells(list);
   list_row(lanes, "outer_of_" + of, list.size(), list.size(),
-           {[&] {
-              PeerCells cells;
-              cells.reserve(peer.size());
-              for (S2CellId cell : peer) cells.push_back(cell.level() > level ? cell.parent(level) : cell);
-              return S2CellUnion(std::move(cells)).Release();
+           {[&](PeerCells& out) {
+              out.clear();
+              for (S2CellId cell : peer) {
+                S2CellId part = cell.level() > level ? cell.parent(level) : cell;
+                if (out.empty() || out.back() != part) out.push_back(part);
+              }
+              S2CellUnion::Normalize(&out);
             },
             [&](Room& room) {
               made(s2u_outer_of(list.data(), list.size(), level, list.size(), room.at(), room.size(), room.len()),
@@ -298,12 +316,11 @@ static void files(Lanes& lanes, const std::string& of, const List& list) {
              Side{[&](uint32_t) { limit::encode(list.data(), n, best.data()); }, [&] { return sum(best); }}});
   limit::encode(list.data(), n, bytes.data());
   list_row(lanes, "decode_" + of, n, n,
-           {[&] {
+           {[&](PeerCells& out) {
               Decoder decoder(bytes.data(), bytes.size());
               peer_back.Decode(&decoder);
-              PeerCells cells = peer_back.Release();
-              S2CellUnion::Normalize(&cells);
-              return cells;
+              out = peer_back.Release();
+              S2CellUnion::Normalize(&out);
             },
             [&](Room& room) { made(s2u_decode(bytes.data(), bytes.size(), room.at(), n, room.len()), "decode"); },
             [&](Room& room) { *room.len() = limit::decode(bytes.data(), bytes.size(), room.at()); }});
@@ -322,6 +339,22 @@ static void is_union(Lanes& lanes, const std::string& of, const List& list) {
              side(LIMIT, [&] { return u64{limit::is_union(list.data(), list.size())}; })});
 }
 
+// How many of the cells, which are in order, S2's union contains: a walk over it, by steps of one, and by a search from
+// there where the next cell is far.
+static u64 peer_walk(const S2CellUnion& peer, const List& asked) {
+  const PeerCells& ids = peer.cell_ids();
+  auto is_before = [](S2CellId x, S2CellId y) { return x.range_max() < y.range_min(); };
+  u64 held = 0;
+  auto at = ids.begin();
+  for (u64 id : asked) {
+    S2CellId cell(id);
+    for (int steps = 0; at != ids.end() && is_before(*at, cell); steps++)
+      at = steps < 8 ? at + 1 : std::lower_bound(at, ids.end(), cell, is_before);
+    held += at != ids.end() && at->contains(cell);
+  }
+  return held;
+}
+
 static void cell_questions(Lanes& lanes, const std::string& of, const List& list) {
   const size_t N = 1000000;
   S2CellUnion peer = peer_union(list);
@@ -331,15 +364,13 @@ static void cell_questions(Lanes& lanes, const std::string& of, const List& list
   auto side = [&](Way way, auto ask) {
     return Side{[&, way, ask](uint32_t) { held[way] = ask(); }, [&, way] { return held[way]; }};
   };
-  auto row = [&](const std::string& name, auto call, auto limit) {
-    lanes.row({name.c_str(), N, 0},
-              {side(PEER,
-                    [&] {
-                      u64 count = 0;
-                      for (u64 cell : asked) count += peer.Contains(S2CellId(cell));
-                      return count;
-                    }),
-               Side{}, side(CALL, call), side(LIMIT, limit)});
+  auto row = [&](const std::string& name, auto theirs, auto call, auto limit) {
+    lanes.row({name.c_str(), N, 0}, {side(PEER, theirs), Side{}, side(CALL, call), side(LIMIT, limit)});
+  };
+  auto each = [&] {
+    u64 count = 0;
+    for (u64 cell : asked) count += peer.Contains(S2CellId(cell));
+    return count;
   };
   auto one_by_one = [&] {
     u64 count = 0;
@@ -352,11 +383,11 @@ static void cell_questions(Lanes& lanes, const std::string& of, const List& list
     return static_cast<u64>(std::count(answers.begin(), answers.end(), 1));
   };
   auto searched = [&] { return limit::count_held(list.data(), list.size(), asked); };
-  row("contains_cell_" + of, one_by_one, searched);
-  row("contains_cells_" + of, all, searched);
+  row("contains_cell_" + of, each, one_by_one, searched);
+  row("contains_cells_" + of, each, all, searched);
   std::sort(asked.begin(), asked.end());
   auto walked = [&] { return limit::count_held_in_order(list.data(), list.size(), asked); };
-  row("contains_cells_in_order_" + of, all, walked);
+  row("contains_cells_in_order_" + of, [&] { return peer_walk(peer, asked); }, all, walked);
 }
 
 static List shuffled(List list) {

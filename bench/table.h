@@ -14,19 +14,36 @@ struct Side {
   std::function<u64()> sum;
   // How many times beyond one are timed. 0: one time, with what it costs to copy the inputs.
   uint32_t more = 0;
+  // How many times in turn a measurement has `work` called.
+  uint32_t turns = 1;
 };
+
+// The milliseconds that it takes to do some work.
+template <typename Work>
+double milliseconds_of(Work work) {
+  auto start = std::chrono::steady_clock::now();
+  work();
+  return std::chrono::duration<double, std::milli>(std::chrono::steady_clock::now() - start).count();
+}
 
 // How many more times a side must work so that these times far exceed what it does only once.
 inline uint32_t repeats(const std::function<void(uint32_t)>& work) {
-  auto time_of = [&](uint32_t times) {
-    auto start = std::chrono::steady_clock::now();
-    work(times);
-    return std::chrono::duration<double, std::milli>(std::chrono::steady_clock::now() - start).count();
-  };
+  auto time_of = [&](uint32_t times) { return milliseconds_of([&] { work(times); }); };
   double once = std::min(time_of(1), time_of(1));
   uint32_t more = 2;
   while (more < 1000000 && time_of(1 + more) < 4 * once + 20) more *= 4;
   return more;
+}
+
+// How many times in turn a side must work so that this takes 20 ms.
+inline uint32_t turns_of(const std::function<void(uint32_t)>& work) {
+  work(1);
+  uint32_t turns = 1;
+  auto all = [&] {
+    for (uint32_t k = 0; k < turns; k++) work(1);
+  };
+  while (turns < 1000000 && milliseconds_of(all) < 20) turns *= 2;
+  return turns;
 }
 
 struct Row {
@@ -39,25 +56,33 @@ struct Row {
 class Best {
  public:
   void measure(const Side& side) {
-    once_ = std::min(once_, time_of(side, 1));
-    if (side.more > 0) all_ = std::min(all_, time_of(side, side.more + 1));
+    once_.push_back(time_of(side, 1));
+    if (side.more > 0) all_.push_back(time_of(side, side.more + 1));
   }
 
   // The time of one more repetition: what is done only once cancels out in the difference.
-  double of(const Side& side) const { return side.more == 0 ? once_ : (all_ - once_) / side.more; }
+  double of(const Side& side) const {
+    return side.more == 0 ? least(once_) : (least(all_) - least(once_)) / side.more;
+  }
+
+  // How much more than the least time the middle one is, as a part of it.
+  double noise() const {
+    std::vector<double> times = all_.empty() ? once_ : all_;
+    std::nth_element(times.begin(), times.begin() + times.size() / 2, times.end());
+    return times[times.size() / 2] / least(times) - 1;
+  }
 
  private:
-  static double now() {
-    return std::chrono::duration<double, std::nano>(std::chrono::steady_clock::now().time_since_epoch()).count();
-  }
+  static double least(const std::vector<double>& times) { return *std::min_element(times.begin(), times.end()); }
 
   static double time_of(const Side& side, uint32_t times) {
-    double start = now();
-    side.work(times);
-    return now() - start;
+    double all = milliseconds_of([&] {
+      for (uint32_t k = 0; k < side.turns; k++) side.work(times);
+    });
+    return 1e6 * all / side.turns;
   }
 
-  double once_ = 1e300, all_ = 1e300;
+  std::vector<double> once_, all_;
 };
 
 class Table {
