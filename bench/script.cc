@@ -1,7 +1,9 @@
-// Prints a script for the calculator: script KIND LINES. Of the kinds, cell, has and add need no file. The others begin
-// by loading the union file `large`, which `script large CELLS` prints: as many leaves, far from each other.
+// Prints a script for the calculator: script KIND LINES [CELLS]. bench/README.md has the kinds. With a number of cells
+// it begins by loading union files of that size, which `script cells CELLS SEED` and `script large CELLS` print: random
+// cells of levels 14 to 20, and leaves far from each other. With 0 lines a script is this beginning.
 #include <cstdio>
 #include <cstdlib>
+#include <memory>
 
 #include "workload.h"
 
@@ -20,10 +22,16 @@ static void write_number(u64 number) {
   for (int k = 0; k < 8; k++) putchar(number >> 8 * k & 255);
 }
 
-static void write_file(long cells) {
+static void write_file(const List& cells) {
   putchar(1);
-  write_number(cells);
-  for (long k = 0; k < cells; k++) write_number(spread_leaf(k));
+  write_number(cells.size());
+  for (u64 cell : cells) write_number(cell);
+}
+
+static List spread_leaves(size_t n) {
+  List cells(n);
+  for (size_t k = 0; k < n; k++) cells[k] = spread_leaf(k);
+  return cells;
 }
 
 // Register a has the large union, b ten of its leaves and a leaf that it lacks, c the ten alone.
@@ -37,31 +45,104 @@ static void begin_with_large() {
 }
 
 static bool large_line(const std::string& kind, long k) {
-  if (kind == "covers") puts("covers a c");
-  else if (kind == "meets") puts("meets a b");
-  else if (kind == "undo") puts(k == 0 ? "subtract a c" : k % 2 == 1 ? "undo" : "redo");
-  else if (kind == "outerof") puts("outerof d a 30 0 1 1073741822 1 1073741822");
+  if (kind == "large_covers") puts("covers a c");
+  else if (kind == "large_meets") puts("meets a b");
+  else if (kind == "large_undo") puts(k == 0 ? "subtract a c" : k % 2 == 1 ? "undo" : "redo");
+  else if (kind == "large_outerof") puts("outerof d a 30 0 1 1073741822 1 1073741822");
   else return false;
   return true;
 }
 
-int main(int argc, char** argv) {
-  if (argc != 3) return 2;
-  std::string kind = argv[1];
-  long lines = atol(argv[2]);
-  if (kind == "large") {
-    write_file(lines);
-    return 0;
+// Lines about cells alone, or about a register that they fill.
+static bool cell_line(const std::string& kind, Random& random) {
+  if (kind == "cell") line("cell", random.cell(0, 30));
+  else if (kind == "square") line("square", random.cell(0, 30));
+  else if (kind == "add") line("add a", random.cell(5, 7));
+  else if (kind == "at") {
+    u64 face = random.below(6), i = random.coordinate(), j = random.coordinate();
+    printf("at %d %u %u\n", static_cast<int>(face), static_cast<unsigned>(i), static_cast<unsigned>(j));
+  } else if (kind == "range") {
+    u64 x = random.leaf(), y = random.leaf();
+    printf("range b %s %s\n", token(std::min(x, y)).c_str(), token(std::max(x, y)).c_str());
+  } else if (kind == "outer") {
+    u64 face = random.below(6), i = random.below(1073700000), j = random.below(1073700000);
+    printf("outer b 18 %d %llu %llu %llu %llu\n", static_cast<int>(face), static_cast<unsigned long long>(i),
+           static_cast<unsigned long long>(i + random.below(40000)), static_cast<unsigned long long>(j),
+           static_cast<unsigned long long>(j + random.below(40000)));
+  } else {
+    return false;
   }
+  return true;
+}
+
+// Lines about registers a and c, each of that number of random cells; b is written.
+class Loaded {
+ public:
+  Loaded(const std::string& kind, size_t cells) : kind_(kind), cells_(Random(4).cells(cells, 14, 20)), random_(9) {
+    std::string size = std::to_string(cells);
+    printf("load a first_%s\nload c second_%s\n", size.c_str(), size.c_str());
+  }
+
+  bool line_of(long k) {
+    bool is_first = k % 2 == 0;
+    if (kind_ == "has") line("has a", random_.cell(8, 30));
+    else if (kind_ == "touches") line("touches a", random_.cell(8, 30));
+    else if (kind_ == "apart") edit(is_first ? "add a" : "remove a", is_first, random_.leaf());
+    else if (kind_ == "inside") edit(is_first ? "remove a" : "add a", is_first, leaf_inside());
+    else if (kind_ == "keep") is_first ? void(puts("copy b a")) : line("keep b", random_.cell(3, 3));
+    else if (kind_ == "copy") puts(is_first ? "copy b a" : "copy b c");
+    else if (kind_ == "union" || kind_ == "intersect" || kind_ == "subtract")
+      puts(is_first ? "copy b a" : (kind_ + " b c").c_str());
+    else if (kind_ == "covers") puts("covers a c");
+    else if (kind_ == "meets") puts("meets a c");
+    else if (kind_ == "show") puts("show a");
+    else if (kind_ == "denorm") puts("denorm a 16 2");
+    else if (kind_ == "count") puts("count a");
+    else if (kind_ == "outerof") puts(is_first ? "outerof b a 12" : "outerof b c 12");
+    else return false;
+    return true;
+  }
+
+ private:
+  u64 leaf_inside() {
+    u64 cell = cells_[random_.below(cells_.size())];
+    return cell - lowest_bit(cell) + 1;
+  }
+
+  void edit(const char* command, bool is_first, u64 leaf) {
+    if (is_first) leaf_ = leaf;
+    line(command, leaf_);
+  }
+
+  std::string kind_;
+  List cells_;
+  Random random_;
+  u64 leaf_ = 0;
+};
+
+static bool print(const std::string& kind, long lines, size_t cells) {
   Random random(21);
-  for (long k = 0; k < lines; k++) {
-    if (kind == "cell") line("cell", random.cell(0, 30));
-    else if (kind == "has" && k < 10000) line("add a", random.cell(12, 18));
-    else if (kind == "has") line("has a", random.cell(8, 30));
-    else if (kind == "add") line("add a", random.cell(5, 7));
-    else {
-      if (k == 0) begin_with_large();
-      if (!large_line(kind, k)) return 2;
-    }
+  std::unique_ptr<Loaded> loaded;
+  if (cells > 0) {
+    loaded = std::make_unique<Loaded>(kind, cells);
+  } else if (kind.rfind("large_", 0) == 0) {
+    begin_with_large();
   }
+  for (long k = 0; k < lines; k++)
+    if (loaded ? !loaded->line_of(k) : !large_line(kind, k) && !cell_line(kind, random)) return false;
+  return true;
+}
+
+int main(int argc, char** argv) {
+  if (argc < 3) return 2;
+  std::string kind = argv[1];
+  long count = atol(argv[2]), more = argc > 3 ? atol(argv[3]) : 0;
+  if (kind == "large") {
+    write_file(spread_leaves(count));
+  } else if (kind == "cells") {
+    write_file(Random(more).cells(count, 14, 20));
+  } else if (!print(kind, count, more)) {
+    return 2;
+  }
+  return 0;
 }
