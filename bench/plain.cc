@@ -1,6 +1,6 @@
 // The lines of a script, answered by a plain loop: plain s2|hand FOLDER <SCRIPT. What the calculator does besides, this
-// doesn't: no history, no change is kept, no line is refused, and all answers wait for the end of a block. `s2` has S2's
-// cells and unions; `hand` has lists of numbers and the hand-written code of limit.h. `load` reads a union file of
+// doesn't: no history, no change is kept, no line is refused, and all answers wait for the end of a block. `s2` has
+// S2's cells and unions; `hand` has lists of numbers and the hand-written code of limit.h. `load` reads a union file of
 // FOLDER. Words are what the calculator takes, and are not tested.
 #include <absl/strings/string_view.h>
 #include <s2/s2cell_id.h>
@@ -208,14 +208,13 @@ class Loop {
   explicit Loop(const char* folder) : folder_(folder) {}
 
   void line(Word text) {
-    Word words[2048];
     size_t n = 0;
     while (!text.empty()) {
       size_t end = std::min(text.find(' '), text.size());
-      words[n++] = text.substr(0, end);
+      words_[n++] = text.substr(0, end);
       text.remove_prefix(std::min(end + 1, text.size()));
     }
-    if (n > 0) carry_out(words, n);
+    if (n > 0) carry_out(words_.data(), n);
   }
 
  private:
@@ -406,6 +405,7 @@ class Loop {
   }
 
   std::string folder_;
+  std::array<Word, 2048> words_;
   std::array<Union, 26> registers_;
   Answers out_;
 };
