@@ -138,7 +138,9 @@ step "SQLite: against the model, and what is refused" in_sqlite sqlite test_sqli
 step "SQLite: a union that is asked for each row is looked at once" in_sqlite counted test_sqlite.Steps
 
 in_go() (
-  PYTHONDONTWRITEBYTECODE=1 python3 "$top/tests/python/vectors.py" >"$work/vectors" && cd "$top/bindings/go" &&
+  export PYTHONDONTWRITEBYTECODE=1
+  for asked in vectors edges; do python3 "$top/tests/python/$asked.py" || exit 1; done >"$work/vectors"
+  cd "$top/bindings/go" &&
     export GOPATH=$work/go GOCACHE=$work/go-cache GOFLAGS=-mod=mod GOPROXY=off GOTOOLCHAIN=local &&
     GOARCH=arm64 CGO_ENABLED=1 CC=aarch64-linux-gnu-gcc PKG_CONFIG_PATH=$arm/lib/pkgconfig \
       go test -c -o "$work/for-go" . && S2UNION_VECTORS=$work/vectors on_arm "$work/for-go"
