@@ -55,20 +55,23 @@ from_brackets {u} lo {base} {high} start p b e =
           omega arith;
     }
 
--- cells are below the greatest number, so a mark that would be greater may be that
-pub brackets_capped : {u : List ℕ} (mark : ℕ) {capped base high : ℕ} →
-    IsPacked u → capped ≡ min mark (2 ^ 64 - 1) → Brackets u capped base high → Brackets u mark base high
-brackets_capped {u} mark p e b = record {
-  order = b.order;
-  within = b.within;
-  below = λ k h. let l = b.below k h in omega arith;
-  rest = λ k h l.
-      let r = b.rest k h l in
-      let c = cell_leaves (get_or u k 0) (p.cells k 0 l) in
-      let m = c.middle in
-      let w = c.within in
-      omega arith;
-}
+-- a number from twice a leaf on is of a cell that ends after the leaf
+pub later_from_mark : {u : List ℕ} (lo k : ℕ) {mark : ℕ} → IsPacked u → mark ≡ min (2 * lo) (2 ^ 64 - 1) →
+    k < length u → mark ≤ get_or u k 0 → lo < first_leaf (get_or u k 0) + size_of (get_or u k 0)
+later_from_mark {u} lo k p e h m =
+    let c = cell_leaves (get_or u k 0) (p.cells k 0 h) in
+    let middle = c.middle in
+    let some = c.some in
+    let within = c.within in
+    omega arith
+
+-- the cells before one whose number is below twice a leaf end by the leaf
+pub ended_below : {u : List ℕ} (lo k : ℕ) {mark : ℕ} → IsPacked u → mark ≡ min (2 * lo) (2 ^ 64 - 1) →
+    k < length u → get_or u k 0 < mark → FirstEndBy u k lo
+ended_below {u} lo k p e h l j g =
+    let apart : first_leaf (get_or u j 0) + size_of (get_or u j 0) ≤ first_leaf (get_or u k 0) = p.chain j k 0 g h in
+    let middle = (cell_leaves (get_or u k 0) (p.cells k 0 h)).middle in
+    omega arith
 
 -- three looks leave a quarter of the list
 pub quarter_within : (base size q s t r : ℕ) → s < 2 → t < 2 → r < 2 → 4 * q ≤ size

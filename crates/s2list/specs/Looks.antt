@@ -3,9 +3,9 @@ use Rattle.std.specs.Prelude.{◌≡◌, ℕ, ◌+◌, ◌*◌, ◌^◌, ◌<◌
 use Rattle.s2cell.specs.Cell.{covers, first_leaf}
 use Rattle.s2list.specs.Union.{IsWithin, ShareSome, has_leaf}
 
--- a question about one cell in a list of `n`: at most `3 k + 4` looks for each `k` that is at least log2(n)
+-- a question about one cell in a list of `n`: at most `k + 3` looks for each `k` that is at least log2(n)
 abbrev pub FewForCell : ℕ → ℕ → Type 0
-FewForCell n looks = (k : ℕ) → n ≤ 2 ^ k → looks ≤ 3 * k + 4
+FewForCell n looks = (k : ℕ) → n ≤ 2 ^ k → looks ≤ k + 3
 
 -- a question about two lists, the shorter one with `m` cells and the longer one with `n`: at most `42 m (1 + k) + 42`
 -- looks for each `k` that is at least log2(n / (m + 1)); so at most `c m (1 + log2(n / m)) + c` for `c` = 42 and the

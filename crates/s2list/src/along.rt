@@ -8,7 +8,7 @@ use crate::looks::{Count, look};
 
 /// How many cells end by the leaf `lo`, on a walk that stands at index `at`, if the first `start` cells are known to
 /// end by it. At the beginning of a list nothing says how far that is. So the search from there goes by halves, unless
-/// the next cell decides. A later one leaps, and is logarithmic in how far it gets.
+/// the next cell decides, or the last. A later one leaps, and is logarithmic in how far it gets.
 #[inline(always)]
 pub fn find_along<C: Cells, K: Count>(
     cells: &C,
@@ -39,5 +39,12 @@ pub fn find_along<C: Cells, K: Count>(
     if !ends_by(look(cells, start, count), lo) {
         return start;
     }
-    narrow(cells, start + 1, len, lo, count)
+    let next = start + 1;
+    if next >= len {
+        return next;
+    }
+    if ends_by(look(cells, len - 1, count), lo) {
+        return len;
+    }
+    narrow(cells, next, len - 1, lo, count)
 }

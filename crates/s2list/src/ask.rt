@@ -18,8 +18,8 @@ pub fn contains_cell<C: Cells>(cells: &C, cell: CellId) -> bool
     holds(cells, cell, &mut Uncounted)
 }
 
-/// The same, with how often it looks at a number: at least once if there is one, and at most `3 k + 4` times if there
-/// are at most `2^k`.
+/// The same, with how often it looks at a number: at least once if there is one, and at most `k + 3` times if there are
+/// at most `2^k`.
 pub fn contains_cell_counted<C: Cells>(cells: &C, cell: CellId) -> Counted
     ensures answer { IsLocal (C.ids cells.now)
         → (IsTrue result.answer ↔ IsWithin (covers cell) (has_leaf (C.ids cells.now))) }
@@ -39,7 +39,7 @@ pub fn contains_cell_counted<C: Cells>(cells: &C, cell: CellId) -> Counted
 fn holds<C: Cells, K: Count>(cells: &C, cell: CellId, count: &mut K) -> bool
     ensures answer { IsLocal (C.ids cells.now)
         → (IsTrue result ↔ IsWithin (covers cell) (has_leaf (C.ids cells.now))) }
-    ensures looks { (k : ℕ) → length (C.ids cells.now) ≤ 2 ^ k → K.looks count.new ≤ K.looks count.old + 3 * k + 4 }
+    ensures looks { (k : ℕ) → length (C.ids cells.now) ≤ 2 ^ k → K.looks count.new ≤ K.looks count.old + k + 3 }
     ensures least { min (K.looks count.old) K.most ≤ K.looks count.new }
     ensures some { 0 < length (C.ids cells.now) → min (K.looks count.old + 1) K.most ≤ K.looks count.new }
 {
@@ -74,7 +74,7 @@ pub fn intersects_cell_counted<C: Cells>(cells: &C, cell: CellId) -> Counted
 fn meets<C: Cells, K: Count>(cells: &C, cell: CellId, count: &mut K) -> bool
     ensures answer { IsLocal (C.ids cells.now)
         → (IsTrue result ↔ ShareSome (covers cell) (has_leaf (C.ids cells.now))) }
-    ensures looks { (k : ℕ) → length (C.ids cells.now) ≤ 2 ^ k → K.looks count.new ≤ K.looks count.old + 3 * k + 4 }
+    ensures looks { (k : ℕ) → length (C.ids cells.now) ≤ 2 ^ k → K.looks count.new ≤ K.looks count.old + k + 3 }
     ensures least { min (K.looks count.old) K.most ≤ K.looks count.new }
     ensures some { 0 < length (C.ids cells.now) → min (K.looks count.old + 1) K.most ≤ K.looks count.new }
 {

@@ -23,24 +23,26 @@ pub(crate) fn find<C: Cells>(cells: &C, lo: u64) -> usize
     find_counted(cells, lo, &mut Uncounted)
 }
 
-/// The same, counted. Looks at three numbers at once, and then goes on in a quarter of what was left.
+/// The same, counted. Where the leaf lies before all cells or after them, two looks decide.
 pub fn find_counted<C: Cells, K: Count>(cells: &C, lo: u64, count: &mut K) -> usize
     ensures within { result ≤ length (C.ids cells.now) }
     ensures ended { IsPacked (C.ids cells.now) → FirstEndBy (C.ids cells.now) result lo }
     ensures next { IsPacked (C.ids cells.now) → EndsAfter (C.ids cells.now) result lo }
-    ensures looks { (k : ℕ) → length (C.ids cells.now) ≤ 2 ^ k → K.looks count.new ≤ K.looks count.old + 3 * k + 3 }
+    ensures looks { (k : ℕ) → length (C.ids cells.now) ≤ 2 ^ k → K.looks count.new ≤ K.looks count.old + k + 2 }
     ensures least { min (K.looks count.old) K.most ≤ K.looks count.new }
     ensures some { 0 < length (C.ids cells.now) → min (K.looks count.old + 1) K.most ≤ K.looks count.new }
 {
-    let mark = lo.saturating_mul(2);
-    let mut base = 0;
-    let mut size = cells.len();
-    while size >= 4 {
-        base = quarter(cells, base, size, mark, count);
-        size -= 3 * (size / 4);
+    let len = cells.len();
+    if len == 0 {
+        return 0;
     }
-    // Of the cells before `base`, only the last may end after the leaf.
-    narrow(cells, base.saturating_sub(1), base + size, lo, count)
+    if ends_by(look(cells, len - 1, count), lo) {
+        return len;
+    }
+    if !ends_by(look(cells, 0, count), lo) {
+        return 0;
+    }
+    narrow(cells, 0, len - 1, lo, count)
 }
 
 /// How many cells end by the leaf `lo`, if the first `start` are known to. Logarithmic in how many more do.
@@ -164,7 +166,9 @@ fn leap_on<C: Cells, K: Count>(cells: &C, start: usize, lo: u64, count: &mut K) 
     narrow(cells, base, len, lo, count)
 }
 
-/// How many cells end by the leaf `lo`, if they are known to be from `start` to `end`. Each look halves what is left.
+/// How many cells end by the leaf `lo`, if they are known to be from `start` to `end`. Each look halves what is left. A
+/// number is first compared with twice the leaf, which is soon known: a branch on it is mispredicted half the time, and
+/// one on where the cell ends hardly ever.
 pub(crate) fn narrow<C: Cells, K: Count>(
     cells: &C,
     start: usize,
@@ -184,14 +188,18 @@ pub(crate) fn narrow<C: Cells, K: Count>(
     ensures least { min (K.looks count.old) K.most ≤ K.looks count.new }
     ensures some { start < end → min (K.looks count.old + 1) K.most ≤ K.looks count.new }
 {
+    let mark = lo.saturating_mul(2);
     let mut first = start;
     let mut last = end;
     while first < last {
         let middle = first + (last - first) / 2;
-        if ends_by(look(cells, middle, count), lo) {
+        let id = look(cells, middle, count);
+        if id >= mark {
+            last = middle;
+        } else if ends_by(id, lo) {
             first = middle + 1;
         } else {
-            last = middle;
+            return middle;
         }
     }
     first

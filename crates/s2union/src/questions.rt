@@ -18,8 +18,8 @@ impl CellUnion {
         s2list::contains_cell(&self.list(), cell)
     }
 
-    /// The same, with the number of cells that it looks at: at least 1 if it has a cell, and at most `3 k + 4` if it
-    /// has at most `2^k` cells.
+    /// The same, with the number of cells that it looks at: at least 1 if it has a cell, and at most `k + 3` if it has
+    /// at most `2^k` cells.
     pub fn contains_cell_counted(&self, cell: CellId) -> Counted
         ensures answer { IsTrue result.answer ↔ IsWithin (covers cell) (has_leaf self.now.cells) }
         ensures looks { FewForCell (length self.now.cells) result.looks }
@@ -35,8 +35,8 @@ impl CellUnion {
         s2list::intersects_cell(&self.list(), cell)
     }
 
-    /// The same, with the number of cells that it looks at: at least 1 if it has a cell, and at most `3 k + 4` if it
-    /// has at most `2^k` cells.
+    /// The same, with the number of cells that it looks at: at least 1 if it has a cell, and at most `k + 3` if it has
+    /// at most `2^k` cells.
     pub fn intersects_cell_counted(&self, cell: CellId) -> Counted
         ensures answer { IsTrue result.answer ↔ ShareSome (covers cell) (has_leaf self.now.cells) }
         ensures looks { FewForCell (length self.now.cells) result.looks }

@@ -1,79 +1,43 @@
-use Rattle.std.proofs.Common.{◌≡◌, ◌+◌, ◌*◌, ◌^◌, ◌<◌, ◌≤◌, length, arith, refl}
-use Rattle.std.proofs.Math.Logic.{⊎_elim}
-use Rattle.std.proofs.lemmas.Bool.{cases_lt}
+use Rattle.std.proofs.Common.{◌-◌, ◌<◌, length, arith}
+use Rattle.s2list.specs.Packed.{IsPacked}
 use Rattle.s2list.specs.Working.Search.{IsFrom}
-use Rattle.s2list.proofs.Galloping.{all_places}
-use Rattle.s2list.proofs.Narrowing.{brackets_capped, from_brackets}
-use Rattle.s2list.proofs.Looking.{quartered_all, quartered_more}
+use Rattle.s2list.proofs.Narrowing.{ended_up, later}
+use Rattle.s2list.proofs.find.find_counted.Given.{Over}
 use Rattle.s2list.proofs.find.find_counted.Goals as goal
 
-pub loop-size-init : goal.loop-size-init
-loop-size-init g c =
-    let u = g.C.Cells.ids c.args.cells.now in
-    let n : c.len-size.result ≡ length u = c.len-size.ensures in
-    record {
-      fits = omega arith;
-      within = omega arith;
-      brackets = λ p. rw n (all_places u _);
-      quartered = λ k h. quartered_all _ _ _ k (omega arith);
-      least = omega arith;
-      some = λ h. omega arith;
-    }
+pub returns-then-ends_by-clause-ended : goal.returns-then-ends_by-clause-ended
+returns-then-ends_by-clause-ended g c p k h =
+    let n = c.len-len.ensures in
+    let last = c.len-len.result - 1 in
+    let l : last < length (g.C.Cells.ids c.args.cells.now) = omega arith in
+    let test = c.ends_by.ensures (rw c.look.ensures.id (p.cells last 0 l)) in
+    ended_up c.args.lo last p l (rw c.look.ensures.id at (test.0 c.if-ends_by.true)) k (omega arith)
 
-pub loop-size-preserved : goal.loop-size-preserved
-loop-size-preserved g c =
-    let v = c.loop-size.invariant in
-    let z = v.least in
-    let q = c.quarter-base.ensures in
-    let m = q.looks in
-    let l = q.least in
-    record {
-      fits = v.fits;
-      within = q.within;
-      brackets = λ p. q.brackets p (v.brackets p);
-      quartered = λ k h. quartered_more _ c.loop-size.size _ _ _ k c.loop-size-test.true (v.quartered k h) m;
-      least = omega arith;
-      some = λ _. omega arith;
-    }
+pub returns-then-not-ends_by-clause-next : goal.returns-then-not-ends_by-clause-next
+returns-then-not-ends_by-clause-next g c p h =
+    let test = c.ends_by-2.ensures (rw c.look-2.ensures.id (p.cells 0 0 h)) in
+    rw c.look-2.ensures.id at (later _ _ _ test c.if-not-ends_by.true)
+
+-- the last cell doesn't end by the leaf, so the first that doesn't is there or before
+before_last : (g : Over) (c : goal.After-narrow g) →
+    IsPacked (g.C.Cells.ids c.args.cells.now) → IsFrom (g.C.Cells.ids c.args.cells.now) c.args.lo 0 (c.len-len.result - 1)
+before_last g c p = record {
+  ended = λ k h. absurd (omega arith);
+  next = λ l.
+      let test = c.ends_by.ensures (rw c.look.ensures.id (p.cells (c.len-len.result - 1) 0 l)) in
+      rw c.look.ensures.id at (later _ _ _ test c.if-ends_by.false);
+}
 
 pub returns-clause-ended : goal.returns-clause-ended
-returns-clause-ended g c p =
-    let u = g.C.Cells.ids c.args.cells.now in
-    let v = c.loop-size.invariant in
-    let from : IsFrom u c.args.lo c.saturating_sub.result (c.loop-size.base + c.loop-size.size) =
-    from_brackets c.args.lo
-    c.saturating_sub.result p (brackets_capped (2 * c.args.lo) p (omega arith) (v.brackets p)) (omega arith) in
-    c.narrow.ensures.ended p from
+returns-clause-ended g c p = c.narrow.ensures.ended p (before_last g c p)
 
 pub returns-clause-next : goal.returns-clause-next
-returns-clause-next g c p =
-    let u = g.C.Cells.ids c.args.cells.now in
-    let v = c.loop-size.invariant in
-    let from : IsFrom u c.args.lo c.saturating_sub.result (c.loop-size.base + c.loop-size.size) =
-    from_brackets c.args.lo
-    c.saturating_sub.result p (brackets_capped (2 * c.args.lo) p (omega arith) (v.brackets p)) (omega arith) in
-    c.narrow.ensures.next p from
+returns-clause-next g c p = c.narrow.ensures.next p (before_last g c p)
 
 pub returns-clause-looks : goal.returns-clause-looks
 returns-clause-looks g c k h =
-    let l = (c.loop-size.invariant.quartered k h).paid in
-    let m = c.narrow.ensures.looks 3 (let e : 2 ^ 3 ≡ 8 = refl in omega arith) in
+    let n = c.len-len.ensures in
+    let l = c.narrow.ensures.looks k (omega arith) in
+    let a = c.look.ensures.count in
+    let b = c.look-2.ensures.count in
     omega arith
-
-pub returns-clause-least : goal.returns-clause-least
-returns-clause-least g c =
-    let z = c.loop-size.invariant.least in
-    let l = c.narrow.ensures.least in
-    omega arith
-
-pub returns-clause-some : goal.returns-clause-some
-returns-clause-some g c h =
-    let v = c.loop-size.invariant in
-    let w = v.within in
-    let z = v.least in
-    let l = c.narrow.ensures.least in
-    ⊎_elim
-    (λ (a : c.loop-size.size < length (g.C.Cells.ids c.args.cells.now)). let s = v.some a in omega arith)
-    (λ (a : length (g.C.Cells.ids c.args.cells.now) ≤ c.loop-size.size).
-    let s = c.narrow.ensures.some (omega arith) in omega arith)
-    (cases_lt c.loop-size.size (length (g.C.Cells.ids c.args.cells.now)))

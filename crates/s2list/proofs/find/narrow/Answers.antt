@@ -1,5 +1,5 @@
 use Rattle.std.proofs.Common.{◌+◌, ◌-◌, ◌/◌, ◌<◌, length, arith}
-use Rattle.s2list.proofs.Narrowing.{later, from_up, from_down, from_met}
+use Rattle.s2list.proofs.Narrowing.{later, later_from_mark, ended_below, from_up, from_down, from_met}
 use Rattle.s2list.proofs.Looking.{halved_all, halved_more}
 use Rattle.s2list.proofs.find.narrow.Goals as goal
 
@@ -14,8 +14,8 @@ loop-first-init g c = record {
   some = λ h. absurd (omega arith);
 }
 
-pub loop-first-preserved-then-ends_by : goal.loop-first-preserved-then-ends_by
-loop-first-preserved-then-ends_by g c =
+pub loop-first-preserved-then-id-mark : goal.loop-first-preserved-then-id-mark
+loop-first-preserved-then-id-mark g c =
     let u = g.C.Cells.ids c.args.cells.now in
     let m = c.loop-first.first + (c.loop-first.last - c.loop-first.first) / 2 in
     let v = c.loop-first.invariant in
@@ -23,16 +23,15 @@ loop-first-preserved-then-ends_by g c =
     let o = v.order in
     let t = v.to in
     let w = c.requires.within in
-    let n = c.look.ensures.count in
+    let n = c.look-id.ensures.count in
     let z = v.least in
     let h : m < length u = omega arith in
     record {
-      from = omega arith;
+      from = f;
       order = omega arith;
-      to = t;
-      found = λ p f.
-          let test = c.ends_by.ensures (rw c.look.ensures.id (p.cells m 0 h)) in
-          from_up m p (v.found p f) h (rw c.look.ensures.id at (test.0 c.if-ends_by.true));
+      to = omega arith;
+      found = λ p f. from_down m (v.found p f)
+          (later_from_mark c.args.lo m p (omega arith) h (rw c.look-id.ensures.id at c.if-id-mark.true));
       halved = λ k l. halved_more _ _ (omega arith) (v.halved k l) (omega arith) (omega arith);
       least = omega arith;
       some = λ _. omega arith;
@@ -47,20 +46,42 @@ loop-first-preserved g c =
     let o = v.order in
     let t = v.to in
     let w = c.requires.within in
-    let n = c.look.ensures.count in
+    let n = c.look-id.ensures.count in
     let z = v.least in
     let h : m < length u = omega arith in
     record {
-      from = f;
+      from = omega arith;
       order = omega arith;
-      to = omega arith;
+      to = t;
       found = λ p f.
-          let test = c.ends_by.ensures (rw c.look.ensures.id (p.cells m 0 h)) in
-          from_down m (v.found p f) (rw c.look.ensures.id at (later _ _ _ test c.if-ends_by.false));
+          let test = c.ends_by.ensures (rw c.look-id.ensures.id (p.cells m 0 h)) in
+          from_up m p (v.found p f) h (rw c.look-id.ensures.id at (test.0 c.if-ends_by.true));
       halved = λ k l. halved_more _ _ (omega arith) (v.halved k l) (omega arith) (omega arith);
       least = omega arith;
       some = λ _. omega arith;
     }
+
+pub returns-else-ends_by-clause-ended : goal.returns-else-ends_by-clause-ended
+returns-else-ends_by-clause-ended g c p f =
+    let u = g.C.Cells.ids c.args.cells.now in
+    let m = c.loop-first.first + (c.loop-first.last - c.loop-first.first) / 2 in
+    let w = c.requires.within in
+    let t = c.loop-first.invariant.to in
+    let h : m < length u = omega arith in
+    ended_below c.args.lo m p (omega arith) h (rw c.look-id.ensures.id at c.if-id-mark.false)
+
+pub returns-else-ends_by-clause-next : goal.returns-else-ends_by-clause-next
+returns-else-ends_by-clause-next g c p f h =
+    let m = c.loop-first.first + (c.loop-first.last - c.loop-first.first) / 2 in
+    let test = c.ends_by.ensures (rw c.look-id.ensures.id (p.cells m 0 h)) in
+    rw c.look-id.ensures.id at (later _ _ _ test c.if-ends_by.false)
+
+pub returns-else-ends_by-clause-looks : goal.returns-else-ends_by-clause-looks
+returns-else-ends_by-clause-looks g c k h =
+    let n = c.look-id.ensures.count in
+    let l = (halved_more 0 (g.K.Count.looks c.look-id.new.count) (omega arith) (c.loop-first.invariant.halved k h)
+    (omega arith) (omega arith)).paid in
+    omega arith
 
 pub returns-clause-ended : goal.returns-clause-ended
 returns-clause-ended g c p f = (c.loop-first.invariant.found p f).ended
