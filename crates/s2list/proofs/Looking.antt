@@ -7,6 +7,7 @@ use Rattle.std.proofs.lemmas.Bool.{cases_lt}
 use Rattle.std.proofs.lemmas.Nat.{pow_pos, pow-add, shr_split}
 use Rattle.s2cell.specs.Cell.{first_leaf}
 use Rattle.s2list.specs.Looks.{Alternates, FewForTurns, FewForUnion}
+use Rattle.s2list.specs.Working.Walk.{Known, FewLooks}
 
 -- ---- one search
 
@@ -263,29 +264,28 @@ spent_turn {a} {b} {e} {f} {x} {y} next s ea sb ee sf en = record {
       omega arith;
 }
 
--- and one that ends the walk, which is counted to get twice through both lists at most
-spent_last : {looks turns far a b x : ℕ} (last cells d : ℕ) → Spent looks turns far →
-    a ≤ looks + 1 → Sought a b x → last ≤ b + 1 → turns ≤ d → far + x ≤ 2 * cells → FewForTurns cells d last
-spent_last {looks} {turns} {far} {a} {b} {x} last cells d s ea sb el ht hf zero h =
+-- and one that ends the walk, which is counted to get twice through both lists at most, with `more` looks
+spent_last : {looks turns far a b x : ℕ} (last more cells d : ℕ) → Spent looks turns far → a ≤ looks + 1 → Sought a b x
+    → last ≤ b + 1 + more → turns ≤ d → more ≤ 2 → (cells ≤ d + 1 → 4 * turns + more ≤ 4 * d) → far + x ≤ 2 * cells
+    → FewForTurns cells d last
+spent_last {looks} {turns} {far} {a} {b} {x} last more cells d s ea sb el ht hm hz hf zero h =
     let p : looks * 1 + 2 * turns ≤ 6 * (1 * turns) + 2 * far = s.most zero in
     let l : b * 1 ≤ a * 1 + 2 * 1 + 2 * x = sought_line a b x zero sb in
     let g : cells ≤ (d + 1) * 1 = h in
+    let few = hz (omega arith) in
     omega arith
-spent_last {turns} {a} {b} {x} last cells d s ea sb el ht hf (suc k) h =
+spent_last {turns} {a} {b} {x} last more cells d s ea sb el ht hm hz hf (suc k) h =
     let p = s.most (suc k) in
     let lb = sought_line a b x (suc k) sb in
     let ma = mul-le-mul_right (2 ^ suc k) ea in
     let ml = mul-le-mul_right (2 ^ suc k) el in
+    let mm = mul-le-mul_right (2 ^ suc k) hm in
     let t : turns * ((4 * suc k + 6) * 2 ^ suc k) ≤ d * ((4 * suc k + 6) * 2 ^ suc k) =
     mul-le-mul_right ((4 * suc k + 6) * 2 ^ suc k) ht in
     let bound : last * 2 ^ suc k ≤ 8 * (d + 1) * (1 + suc k) * 2 ^ suc k = omega arith in
     le_of_mul-le-mul_right bound (pow_pos (suc k))
 
 -- ---- a walk beside a way to cut both lists
-
--- a question is answered at the places `i` and `j`: a list has ended, or the cell of `ys` there decides it
-abbrev pub Known : (D : ℕ → Type 0) (xs ys : List ℕ) (i j : ℕ) → Type 0
-Known D xs ys i j = (length xs ≤ i) ⊎ ((length ys ≤ j) ⊎ D j)
 
 -- after `turns` turns a walk has passed as many runs of each list, or is at a cell that decides the question
 pub record Passed (D : ℕ → Type 0) (xs ys : List ℕ) (d a b turns i j : ℕ) (cut : Alternates xs ys d a b) : Type 0 where
@@ -388,17 +388,20 @@ walked_more
           };
     }
 
--- the looks of a walk that ends in a turn
-pub walked_last : {D : ℕ → Type 0} {xs ys : List ℕ} {looks i j : ℕ} (a b p last : ℕ) → Walked D xs ys looks i j →
-    a ≤ looks + 1 → SoughtAlong a b (length xs) i i p → i ≤ p → p ≤ length xs → j ≤ length ys →
-    last ≤ b + 1 → (d u v : ℕ) → Alternates xs ys d u v → Known D xs ys u v → FewForTurns (length xs + length ys) d last
-walked_last {xs} {ys} {looks} {i} {j} a b p last w ea sb ip in_p in_j el d u v cut known =
+-- the looks of a walk that ends in a turn, and two before it if both lists have cells
+walked_last : {D : ℕ → Type 0} {xs ys : List ℕ} {looks i j : ℕ} (a b p last more : ℕ) →
+    Walked D xs ys looks i j → a ≤ looks + 1 → SoughtAlong a b (length xs) i i p → i ≤ p → p ≤ length xs →
+    j ≤ length ys → last ≤ b + 1 + more → more ≤ 2 → more ≤ 2 * length xs → more ≤ 2 * (length ys - j) →
+    (d u v : ℕ) → Alternates xs ys d u v → Known D xs ys u v → FewForTurns (length xs + length ys) d last
+walked_last {xs} {ys} {looks} {i} {j} a b p last more w ea sb ip in_p in_j el two by_m by_n d u v cut known =
     let x = found_along a b (length xs) i i p sb in_p in
     let way = way_on (length xs) (length ys) w.far i j i p p x.far w.way (omega arith) ip (omega arith) x.counts in
     let most_x = way.most_x in
     let most_y = way.most_y in
     let all = way.all in
-    spent_last last (length xs + length ys) d w.spent ea x.sought el ((w.passed d u v cut known).few) (omega arith)
+    let few = (w.passed d u v cut known).few in
+    let by_y = w.by_y in
+    spent_last last more (length xs + length ys) d w.spent ea x.sought el few two (λ h. omega arith) (omega arith)
 
 zero_of_sum : (far i j : ℕ) → far + i + j ≡ 0 → far ≡ 0
 zero_of_sum far i j h = omega arith
@@ -413,10 +416,11 @@ few_from a b d k last e some h all =
     let p : 1 * k ≤ d * k = mul-le-mul_right k some in
     omega arith
 
-pub walked_few : {D : ℕ → Type 0} {xs ys : List ℕ} {looks i j : ℕ} (a b p last : ℕ) →
-    Walked D xs ys looks i j → a ≤ looks + 1 → SoughtAlong a b (length xs) i i p → i ≤ p →
-    p ≤ length xs → j ≤ length ys → last ≤ b + 1 → (j < length ys) ⊎ (p ≡ i) → FewForUnion (length xs) (length ys) last
-walked_few {xs} {ys} {looks} {i} {j} a b p last w ea sb ip in_p in_j el end k h =
+walked_few : {D : ℕ → Type 0} {xs ys : List ℕ} {looks i j : ℕ} (a b p last more : ℕ) →
+    Walked D xs ys looks i j → a ≤ looks + 1 → SoughtAlong a b (length xs) i i p → i ≤ p → p ≤ length xs →
+    j ≤ length ys → last ≤ b + 1 + more → more ≤ 2 → more ≤ 2 * length xs → more ≤ 2 * (length ys - j) →
+    (j < length ys) ⊎ (p ≡ i) → FewForUnion (length xs) (length ys) last
+walked_few {xs} {ys} {looks} {i} {j} a b p last more w ea sb ip in_p in_j el two by_m by_n end k h =
     let x = found_along a b (length xs) i i p sb in_p in
     let way = way_on (length xs) (length ys) w.far i j i p p x.far w.way (omega arith) ip (omega arith) x.counts in
     let most_x = way.most_x in
@@ -426,8 +430,9 @@ walked_few {xs} {ys} {looks} {i} {j} a b p last w ea sb ip in_p in_j el end k h 
     let by_y = w.by_y in
     ⊎_elim
     (λ (some : 0 < min (length xs) (length ys)). few_from (length xs) (length ys) (min (length xs) (length ys))
-    k last refl some h (spent_last last (length xs + length ys) (min (length xs) (length ys) + 1)
-    w.spent ea x.sought el (omega arith) (omega arith))) (λ (none : min (length xs) (length ys) ≤ 0).
+    k last refl some h (spent_last last more (length xs + length ys) (min (length xs) (length ys) + 1)
+    w.spent ea x.sought el (omega arith) two (λ g. omega arith) (omega arith)))
+    (λ (none : min (length xs) (length ys) ≤ 0).
     let still : w.turns ≡ 0 =
     ⊎_elim (λ (t : 0 < w.turns). let s = w.some_x t in omega arith) (λ (t : w.turns ≤ 0). omega arith)
     (cases_lt 0 w.turns) in
@@ -441,14 +446,11 @@ walked_few {xs} {ys} {looks} {i} {j} a b p last w ea sb ip in_p in_j el end k h 
     (cases_lt 0 (min (length xs) (length ys)))
 
 -- both, once
-pub record FewLooks (D : ℕ → Type 0) (xs ys : List ℕ) (last : ℕ) : Type 0 where
-  pub turns : (d u v : ℕ) → Alternates xs ys d u v → Known D xs ys u v → FewForTurns (length xs + length ys) d last
-  pub sizes : FewForUnion (length xs) (length ys) last
-
-pub walked_to_end : {D : ℕ → Type 0} {xs ys : List ℕ} {looks i j a b : ℕ} (p last : ℕ) →
-    Walked D xs ys looks i j → a ≤ looks + 1 → SoughtAlong a b (length xs) i i p →
-    i ≤ p → p ≤ length xs → j ≤ length ys → last ≤ b + 1 → (j < length ys) ⊎ (p ≡ i) → FewLooks D xs ys last
-walked_to_end {D} {xs} {ys} {looks} {i} {j} {a} {b} p last w ea sb ip in_p in_j el end = record {
-  turns = walked_last a b p last w ea sb ip in_p in_j el;
-  sizes = walked_few a b p last w ea sb ip in_p in_j el end;
+pub walked_to_end : {D : ℕ → Type 0} {xs ys : List ℕ} {looks i j a b : ℕ} (p last more : ℕ) →
+    Walked D xs ys looks i j → a ≤ looks + 1 → SoughtAlong a b (length xs) i i p → i ≤ p → p ≤ length xs →
+    j ≤ length ys → last ≤ b + 1 + more → more ≤ 2 → more ≤ 2 * length xs → more ≤ 2 * (length ys - j) →
+    (j < length ys) ⊎ (p ≡ i) → FewLooks D xs ys last
+walked_to_end {D} {xs} {ys} {looks} {i} {j} {a} {b} p last more w ea sb ip in_p in_j el two by_m by_n end = record {
+  turns = walked_last a b p last more w ea sb ip in_p in_j el two by_m by_n;
+  sizes = walked_few a b p last more w ea sb ip in_p in_j el two by_m by_n end;
 }

@@ -3,3 +3,4 @@
 pub mod Union
 pub mod Packed
 pub mod Search
+pub mod Walk

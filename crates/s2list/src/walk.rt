@@ -1,13 +1,15 @@
 //! Whether a union has the leaves of another: by a walk along both, in which whichever is behind leaps to where the
 //! other one stands.
-ghost use Rattle.std.specs.Prelude.{◌≡◌, ◌+◌, ◌-◌, ◌<◌, ◌≤◌, ◌↔◌, ℕ, IsTrue, min, length};
+ghost use Rattle.std.specs.Prelude.{◌≡◌, ◌+◌, ◌-◌, ◌*◌, ◌^◌, ◌<◌, ◌≤◌, ◌↔◌, ◌⊎◌};
+ghost use Rattle.std.specs.Prelude.{ℕ, IsTrue, false, min, length, slice_index};
 ghost use Rattle.s2cell.specs.Cell.{IsCell, first_leaf, size_of};
 ghost use Rattle.s2list.specs.Union.{IsLocal, IsWithin, ShareSome, has_leaf};
 ghost use Rattle.s2list.specs.Looks.{Alternates, FewForTurns, FewForUnion, KnownToHold, KnownToMeet};
+ghost use Rattle.s2list.specs.Working.Walk.{Decides, LeavesOpen, Lacks, Settles, OpenTo, After, FewLooks};
 
 use crate::along::find_along;
 use crate::cells::Cells;
-use crate::find::{end_of, find_from_counted, first_of};
+use crate::find::{end_of, first_of};
 use crate::looks::{Count, Counted, Looks, Uncounted, look};
 
 /// Whether a union has all leaves of another. Its work follows how the two interleave, as `contains_counted` says.
@@ -67,8 +69,16 @@ pub fn intersects_counted<X: Cells, Y: Cells>(xs: &X, ys: &Y) -> Counted
     }
 }
 
-/// Whether `xs` has all leaves of `ys`, for any counter, which counts on from where it is. Each turn passes the cells
-/// of `xs` before the next of `ys`, and then the cells of `ys` in the one of `xs` that holds it.
+/// What is asked about two unions `xs` and `ys`. A cell of `ys` may decide it.
+#[derive(Clone, Copy, PartialEq, Eq)]
+enum Question {
+    /// Whether `xs` has all leaves of `ys`. A cell that it lacks decides.
+    Contains,
+    /// Whether they share a leaf. A cell that meets `xs` decides.
+    Intersects,
+}
+
+/// Whether `xs` has all leaves of `ys`, for any counter, which counts on from where it is.
 pub fn holds_all<X: Cells, Y: Cells, K: Count>(xs: &X, ys: &Y, count: &mut K) -> bool
     ensures answer { IsLocal (X.ids xs.now) → IsLocal (Y.ids ys.now)
         → (IsTrue result ↔ IsWithin (has_leaf (Y.ids ys.now)) (has_leaf (X.ids xs.now))) }
@@ -81,28 +91,13 @@ pub fn holds_all<X: Cells, Y: Cells, K: Count>(xs: &X, ys: &Y, count: &mut K) ->
     ensures some { 0 < length (X.ids xs.now) → 0 < length (Y.ids ys.now)
         → min (K.looks count.old + 2) K.most ≤ K.looks count.new }
 {
-    let m = xs.len();
-    let n = ys.len();
-    let mut i = 0;
-    let mut j = 0;
-    while j < n {
-        let y = look(ys, j, count);
-        i = find_along(xs, i, i, first_of(y), count);
-        if i >= m {
-            return false;
-        }
-        let x = look(xs, i, count);
-        if !lies_in(y, x) {
-            return false;
-        }
-        j = find_from_counted(ys, j + 1, end_of(x), count);
-        i += 1;
+    if ends_later(ys, xs, count) {
+        return false;
     }
-    true
+    !is_decided(Question::Contains, xs, ys, count)
 }
 
-/// Whether `xs` and `ys` share a leaf, for any counter, which counts on from where it is. Each turn passes the cells of
-/// `xs` before the next of `ys`, and then the cells of `ys` before the next of `xs`.
+/// Whether `xs` and `ys` share a leaf, for any counter, which counts on from where it is.
 pub fn meets_any<X: Cells, Y: Cells, K: Count>(xs: &X, ys: &Y, count: &mut K) -> bool
     ensures answer { IsLocal (X.ids xs.now) → IsLocal (Y.ids ys.now)
         → (IsTrue result ↔ ShareSome (has_leaf (X.ids xs.now)) (has_leaf (Y.ids ys.now))) }
@@ -115,6 +110,50 @@ pub fn meets_any<X: Cells, Y: Cells, K: Count>(xs: &X, ys: &Y, count: &mut K) ->
     ensures some { 0 < length (X.ids xs.now) → 0 < length (Y.ids ys.now)
         → min (K.looks count.old + 2) K.most ≤ K.looks count.new }
 {
+    is_decided(Question::Intersects, xs, ys, count)
+}
+
+/// Whether both have cells, and the last of `ys` ends after the last of `xs`.
+#[inline(always)]
+fn ends_later<X: Cells, Y: Cells, K: Count>(ys: &Y, xs: &X, count: &mut K) -> bool
+    ensures answer { IsLocal (X.ids xs.now) → IsLocal (Y.ids ys.now) → IsTrue result
+        → IsWithin (has_leaf (Y.ids ys.now)) (has_leaf (X.ids xs.now)) → ⊥ }
+    ensures looks { K.looks count.new ≤ K.looks count.old + 2 }
+    ensures none { length (X.ids xs.now) ≡ 0 ⊎ length (Y.ids ys.now) ≡ 0
+        → K.looks count.new ≡ K.looks count.old }
+    ensures least { min (K.looks count.old) K.most ≤ K.looks count.new }
+    ensures some { 0 < length (X.ids xs.now) → 0 < length (Y.ids ys.now)
+        → min (K.looks count.old + 2) K.most ≤ K.looks count.new }
+{
+    let m = xs.len();
+    let n = ys.len();
+    if m == 0 || n == 0 {
+        return false;
+    }
+    end_of(look(xs, m - 1, count)) < end_of(look(ys, n - 1, count))
+}
+
+/// Whether a cell of `ys` decides the question. Each turn passes the cells of `xs` before the next of `ys`, and then
+/// the cells of `ys` that the next of `xs` leaves open: those in it, or those before it.
+#[inline(always)]
+fn is_decided<X: Cells, Y: Cells, K: Count>(
+    question: Question,
+    xs: &X,
+    ys: &Y,
+    count: &mut K,
+) -> bool
+    ensures found { IsLocal (X.ids xs.now) → IsLocal (Y.ids ys.now) → IsTrue result
+        → (k : ℕ) × (k < length (Y.ids ys.now)) × Decides question (X.ids xs.now) (slice_index (Y.ids ys.now) k) }
+    ensures none { IsLocal (X.ids xs.now) → IsLocal (Y.ids ys.now) → result ≡ false
+        → (k : ℕ) → k < length (Y.ids ys.now) → LeavesOpen question (X.ids xs.now) (slice_index (Y.ids ys.now) k) }
+    ensures looks { IsLocal (X.ids xs.now) → IsLocal (Y.ids ys.now) → (more : ℕ) → more ≤ 2
+        → more ≤ 2 * length (X.ids xs.now) → more ≤ 2 * length (Y.ids ys.now)
+        → FewLooks (λ k. Decides question (X.ids xs.now) (slice_index (Y.ids ys.now) k)) (X.ids xs.now) (Y.ids ys.now)
+        (K.looks count.new - K.looks count.old + more) }
+    ensures least { min (K.looks count.old) K.most ≤ K.looks count.new }
+    ensures some { 0 < length (X.ids xs.now) → 0 < length (Y.ids ys.now)
+        → min (K.looks count.old + 2) K.most ≤ K.looks count.new }
+{
     let m = xs.len();
     let n = ys.len();
     let mut i = 0;
@@ -123,17 +162,61 @@ pub fn meets_any<X: Cells, Y: Cells, K: Count>(xs: &X, ys: &Y, count: &mut K) ->
         let y = look(ys, j, count);
         i = find_along(xs, i, i, first_of(y), count);
         if i >= m {
-            return false;
+            return lacks(question);
         }
         let x = look(xs, i, count);
-        let begin = first_of(x);
-        let end = end_of(y);
-        if begin < end {
+        if settles(question, x, y) {
             return true;
         }
-        j = find_along(ys, j, j + 1, begin, count);
+        j = find_along(ys, j, j + 1, open_to(question, x), count);
+        i = after(question, i);
     }
     false
+}
+
+/// Whether a cell that has no leaf in `xs` decides.
+#[inline(always)]
+fn lacks(question: Question) -> bool
+    ensures { result ≡ Lacks question }
+{
+    match question {
+        Question::Contains => true,
+        Question::Intersects => false,
+    }
+}
+
+/// Whether the cell `y` decides, if `x` is the first cell of `xs` that ends after it begins.
+#[inline(always)]
+fn settles(question: Question, x: u64, y: u64) -> bool
+    ensures { IsCell x → IsCell y → (IsTrue result ↔ Settles question x y) }
+{
+    match question {
+        Question::Contains => !lies_in(y, x),
+        Question::Intersects => first_of(x) < end_of(y),
+    }
+}
+
+/// The leaf up to which the cell `x` of `xs` leaves cells of `ys` open.
+#[inline(always)]
+fn open_to(question: Question, x: u64) -> u64
+    ensures { IsCell x → result ≡ OpenTo question x }
+{
+    match question {
+        Question::Contains => end_of(x),
+        Question::Intersects => first_of(x),
+    }
+}
+
+/// The index of the first cell of `xs` that may meet a cell of `ys` after those that the one at index `i` leaves open.
+#[inline(always)]
+fn after(question: Question, i: usize) -> usize
+    requires { i + 1 < 2 ^ 64 }
+    ensures { result ≡ After question i }
+{
+    match question {
+        Question::Contains => i + 1,
+        Question::Intersects => i,
+    }
 }
 
 /// Whether the cell with the identifier `y` lies in the one with the identifier `x`. Doesn't check that they are cells.
