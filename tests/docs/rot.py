@@ -27,7 +27,7 @@ MANY_ARMS = 9
 WORDS = {"told": 58, "asked about": 0, "so many": 0, "refused where": 0, "exactly if": 26}
 # Lines of proof of each crate. Their sum may only fall; the body of a commit that raises it says why.
 PROOFS = {"library_rows": 143, "s2c": 117, "s2calc": 5300, "s2cell": 4832, "s2cover": 4464, "s2draw": 443,
-          "s2edit": 9141, "s2file": 2605, "s2list": 6458, "s2process": 862, "s2script": 512, "s2search": 4316,
+          "s2edit": 9141, "s2file": 2605, "s2list": 6441, "s2process": 862, "s2script": 512, "s2search": 4316,
           "s2shelf": 91, "s2union": 4880, "s2union_c": 1686, "script_rows": 42}
 FUNCTION = re.compile(r"( *)(?:pub(?:\([a-z]+\))? )?(?:const |unsafe |final |extern \"C\" )*fn ")
 CLAUSE = re.compile(r" *(?:requires|ensures)")

@@ -6,7 +6,7 @@ use Rattle.std.proofs.Math.Nat.{pow-suc, mul-le-mul_right, le_of_mul-le-mul_righ
 use Rattle.std.proofs.lemmas.Bool.{cases_lt}
 use Rattle.std.proofs.lemmas.Nat.{pow_pos, pow-add, shr_split}
 use Rattle.s2cell.specs.Cell.{first_leaf}
-use Rattle.s2list.specs.Looks.{Alternates, FewForTurns, FewForUnion}
+use Rattle.s2list.specs.Looks.{Alternates, FewForTurns}
 use Rattle.s2list.specs.Working.Walk.{Known, FewLooks}
 
 -- ---- one search
@@ -419,7 +419,8 @@ few_from a b d k last e some h all =
 walked_few : {D : ℕ → Type 0} {xs ys : List ℕ} {looks i j : ℕ} (a b p last more : ℕ) →
     Walked D xs ys looks i j → a ≤ looks + 1 → SoughtAlong a b (length xs) i i p → i ≤ p → p ≤ length xs →
     j ≤ length ys → last ≤ b + 1 + more → more ≤ 2 → more ≤ 2 * length xs → more ≤ 2 * (length ys - j) →
-    (j < length ys) ⊎ (p ≡ i) → FewForUnion (length xs) (length ys) last
+    (j < length ys) ⊎ (p ≡ i) → (k : ℕ) → max (length xs) (length ys) ≤ (min (length xs) (length ys) + 1) * 2 ^ k →
+    last ≤ 42 * min (length xs) (length ys) * (1 + k) + 42
 walked_few {xs} {ys} {looks} {i} {j} a b p last more w ea sb ip in_p in_j el two by_m by_n end k h =
     let x = found_along a b (length xs) i i p sb in_p in
     let way = way_on (length xs) (length ys) w.far i j i p p x.far w.way (omega arith) ip (omega arith) x.counts in
@@ -445,12 +446,31 @@ walked_few {xs} {ys} {looks} {i} {j} a b p last more w ea sb ip in_p in_j el two
     omega arith)
     (cases_lt 0 (min (length xs) (length ys)))
 
--- both, once
+-- and for each cell
+walked_through : {D : ℕ → Type 0} {xs ys : List ℕ} {looks i j : ℕ} (a b p last more : ℕ) →
+    Walked D xs ys looks i j → a ≤ looks + 1 → SoughtAlong a b (length xs) i i p → i ≤ p → p ≤ length xs →
+    j ≤ length ys → last ≤ b + 1 + more → more ≤ 2 → more ≤ 2 * length xs → last ≤ 8 * (length xs + length ys) + 8
+walked_through {xs} {ys} {looks} {i} {j} a b p last more w ea sb ip in_p in_j el two by_m =
+    let x = found_along a b (length xs) i i p sb in_p in
+    let way = way_on (length xs) (length ys) w.far i j i p p x.far w.way (omega arith) ip (omega arith) x.counts in
+    let most_x = way.most_x in
+    let most_y = way.most_y in
+    let all = way.all in
+    let by_y = w.by_y in
+    let one : 2 ^ 0 ≡ 1 = refl in
+    let l = spent_last last more (length xs + length ys) (length xs + length ys) w.spent ea x.sought el (omega arith)
+    two (λ g. omega arith) (omega arith) 0 (omega arith) in
+    omega arith
+
+-- all of these, once
 pub walked_to_end : {D : ℕ → Type 0} {xs ys : List ℕ} {looks i j a b : ℕ} (p last more : ℕ) →
     Walked D xs ys looks i j → a ≤ looks + 1 → SoughtAlong a b (length xs) i i p → i ≤ p → p ≤ length xs →
     j ≤ length ys → last ≤ b + 1 + more → more ≤ 2 → more ≤ 2 * length xs → more ≤ 2 * (length ys - j) →
     (j < length ys) ⊎ (p ≡ i) → FewLooks D xs ys last
 walked_to_end {D} {xs} {ys} {looks} {i} {j} {a} {b} p last more w ea sb ip in_p in_j el two by_m by_n end = record {
   turns = walked_last a b p last more w ea sb ip in_p in_j el two by_m by_n;
-  sizes = walked_few a b p last more w ea sb ip in_p in_j el two by_m by_n end;
+  sizes = λ k h.
+      let few = walked_few a b p last more w ea sb ip in_p in_j el two by_m by_n end k h in
+      let through = walked_through a b p last more w ea sb ip in_p in_j el two by_m in
+      omega arith;
 }

@@ -170,7 +170,7 @@ open_by Intersects x y left_open =
     (λ (a : first_leaf y + size_of y ≤ first_leaf x). a)
     (cases_lt (first_leaf x) (first_leaf y + size_of y))
 
--- a turn: the cell of `ys` at `j` leaves the question open, and so do those up to `next`, all by the cell of `xs` at `i`
+-- a turn: by the cell of `xs` at `i`, the cells of `ys` from `j` to before `next` leave the question open
 pub record Turned (q : Question) (xs ys : List ℕ) (i j next : ℕ) : Type 0 where
   pub in_x : i < length xs
   pub in_y : j < length ys

@@ -8,10 +8,11 @@ abbrev pub FewForCell : ℕ → ℕ → Type 0
 FewForCell n looks = (k : ℕ) → n ≤ 2 ^ k → looks ≤ k + 3
 
 -- a question about two lists, the shorter one with `m` cells and the longer one with `n`: at most `42 m (1 + k) + 42`
--- looks for each `k` that is at least log2(n / (m + 1)); so at most `c m (1 + log2(n / m)) + c` for `c` = 42 and the
--- logarithm rounded up
+-- looks for each `k` that is at least log2(n / (m + 1)), so at most `c m (1 + log2(n / m)) + c` for `c` = 42 and the
+-- logarithm rounded up; and at most 8 for each cell, and 8
 abbrev pub FewForUnion : ℕ → ℕ → ℕ → Type 0
-FewForUnion a b looks = (k : ℕ) → max a b ≤ (min a b + 1) * 2 ^ k → looks ≤ 42 * min a b * (1 + k) + 42
+FewForUnion a b looks = (k : ℕ) → max a b ≤ (min a b + 1) * 2 ^ k
+    → looks ≤ min (42 * min a b * (1 + k) + 42) (8 * (a + b) + 8)
 
 -- in the order of their first leaves, a cell of `xs` before one of `ys` that begins with it, the cells of both lists up
 -- to the indexes `i` and `j` are `d` runs of `xs` and `d` of `ys` in turns: the `r`-th run of a list goes from its

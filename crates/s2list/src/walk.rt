@@ -23,7 +23,8 @@ pub fn contains<X: Cells, Y: Cells>(whole: &X, part: &Y) -> bool
 /// The same, with how often it looks at a number of either list. Let unions have `m` and `n` cells, which in the order
 /// of their first leaves are in turns `d` runs of each, up to where the answer is known. Then it looks at most `8 (d +
 /// 1) (1 + log2((m + n) / (d + 1)))` times, the logarithm rounded up: neither list is gone through. By the sizes alone
-/// it is at most `42 m (1 + k) + 42` times if the shorter list has `m` cells and the longer one at most `(m + 1) 2^k`.
+/// it is at most `42 m (1 + k) + 42` times if the shorter list has `m` cells and the longer one at most `(m + 1) 2^k`,
+/// and at most `8 (m + n) + 8` times.
 pub fn contains_counted<X: Cells, Y: Cells>(whole: &X, part: &Y) -> Counted
     ensures answer { IsLocal (X.ids whole.now) → IsLocal (Y.ids part.now)
         → (IsTrue result.answer ↔ IsWithin (has_leaf (Y.ids part.now)) (has_leaf (X.ids whole.now))) }
@@ -69,10 +70,10 @@ pub fn intersects_counted<X: Cells, Y: Cells>(xs: &X, ys: &Y) -> Counted
     }
 }
 
-/// What is asked about two unions `xs` and `ys`. A cell of `ys` may decide it.
+/// A question about a union `xs` and a cell, or the cells of a union `ys`, of which one may decide it.
 #[derive(Clone, Copy, PartialEq, Eq)]
-enum Question {
-    /// Whether `xs` has all leaves of `ys`. A cell that it lacks decides.
+pub(crate) enum Question {
+    /// Whether `xs` has all leaves of them. A cell that it lacks decides.
     Contains,
     /// Whether they share a leaf. A cell that meets `xs` decides.
     Intersects,

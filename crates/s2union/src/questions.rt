@@ -55,7 +55,8 @@ impl CellUnion {
     }
 
     /// The same, with the number of cells of both lists that it looks at: at least 2 if neither list is empty, and at
-    /// most `42 m (1 + k) + 42` if the shorter list has `m` cells and the longer one at most `(m + 1) 2^k`.
+    /// most `42 m (1 + k) + 42` if the shorter list has `m` cells and the longer one `n`, at most `(m + 1) 2^k`; and at
+    /// most `8 (m + n) + 8`.
     pub fn contains_counted(&self, other: &CellUnion) -> Counted
         ensures answer { IsTrue result.answer ↔ IsWithin (has_leaf other.now.cells) (has_leaf self.now.cells) }
         ensures looks { FewForUnion (length self.now.cells) (length other.now.cells) result.looks }

@@ -6,6 +6,11 @@ use Rattle.s2list.specs.Looks.{Alternates, FewForTurns, FewForUnion}
 use Rattle.s2list.specs.declared.walk.Question.{Question}
 use Rattle.s2list.specs.declared.walk.Question.TheVariants.{Contains, Intersects}
 
+-- the answer to the question about `xs` and the cell `y` is yes
+abbrev pub Holds : Question → List ℕ → ℕ → Type 0
+Holds Contains xs y = IsWithin (covers y) (has_leaf xs)
+Holds Intersects xs y = ShareSome (covers y) (has_leaf xs)
+
 -- the cell `y` decides the question: `xs` lacks a leaf of it, or has one
 abbrev pub Decides : Question → List ℕ → ℕ → Type 0
 Decides Contains xs y = IsWithin (covers y) (has_leaf xs) → ⊥

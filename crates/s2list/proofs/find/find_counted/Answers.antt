@@ -20,7 +20,8 @@ returns-then-not-ends_by-clause-next g c p h =
 
 -- the last cell doesn't end by the leaf, so the first that doesn't is there or before
 before_last : (g : Over) (c : goal.After-narrow g) →
-    IsPacked (g.C.Cells.ids c.args.cells.now) → IsFrom (g.C.Cells.ids c.args.cells.now) c.args.lo 0 (c.len-len.result - 1)
+    IsPacked (g.C.Cells.ids c.args.cells.now) →
+    IsFrom (g.C.Cells.ids c.args.cells.now) c.args.lo 0 (c.len-len.result - 1)
 before_last g c p = record {
   ended = λ k h. absurd (omega arith);
   next = λ l.

@@ -48,7 +48,8 @@ ended g c last more lx ly few two by_m =
     let n = c.len-n.ensures in
     let fi = c.find_along-i.ensures in
     let more_y = c.look-y.ensures.count in
-    walked_to_end {D = λ k. Decides c.args.question (g.X.Cells.ids c.args.xs.now) (get_or (g.Y.Cells.ids c.args.ys.now) k 0)}
+    walked_to_end
+    {D = λ k. Decides c.args.question (g.X.Cells.ids c.args.xs.now) (get_or (g.Y.Cells.ids c.args.ys.now) k 0)}
     c.find_along-i.result last more (c.loop-j.invariant.walked lx ly) (omega arith)
     (sought_from (g.K.Count.looks c.args.count.now) (g.K.Count.looks c.look-y.new.count)
     (g.K.Count.looks c.find_along-i.new.count) _ _ _ _ fi.looks)
@@ -69,8 +70,8 @@ pub returns-then-i-m-clause-none : goal.returns-then-i-m-clause-none
 returns-then-i-m-clause-none g c lx ly e =
     let m = c.len-m.ensures in
     let p = found g (goal.at.returns-then-i-m-clause-none g c).After-find_along-i lx ly in
-    open_rest c.args.question c.find_along-i.result c.loop-j.j lx ly (omega arith) p (c.loop-j.invariant.left_open lx ly)
-    (sym c.lacks.ensures ∙ e)
+    open_rest c.args.question c.find_along-i.result c.loop-j.j lx ly (omega arith) p
+    (c.loop-j.invariant.left_open lx ly) (sym c.lacks.ensures ∙ e)
 
 pub returns-then-i-m-clause-looks : goal.returns-then-i-m-clause-looks
 returns-then-i-m-clause-looks g c lx ly more two by_m by_n =
