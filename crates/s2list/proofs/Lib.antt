@@ -20,7 +20,9 @@ pub mod Turns
 pub mod Shared
 pub mod Subtracting
 pub mod Writing
+pub mod Heaping
 -- Of this crate alone.
+mod Alone
 mod Leaping
 mod Leaving
 mod Sharing

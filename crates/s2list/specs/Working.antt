@@ -4,3 +4,4 @@ pub mod Union
 pub mod Packed
 pub mod Search
 pub mod Walk
+pub mod Piles

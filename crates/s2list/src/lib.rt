@@ -1,12 +1,12 @@
-//! Lists of cells by their indexes: searches, questions, the step of normalizing, intersections and differences,
-//! written once for each form that a list may have.
+//! Lists of cells by their indexes: searches, questions, the step of normalizing, and set operations, written once for
+//! each form that a list may have.
 //!
 //! A cell ends by the leaf `lo` if all its leaves come before that leaf.
 //!
 //! Anything that gives numbers by their indexes is a list of cells (`Cells`): numbers in a slice, the cells of a union,
-//! the bytes of a file at any address. No call copies anything or takes memory; what an intersection or a difference is
-//! written to (`Output`) is its caller's. Only `new_end` has a precondition on the numbers. Some calls have one on an
-//! index, and an intersection or a difference begins with nothing written and no look counted. Where that is met, each
+//! the bytes of a file at any address. No call copies anything or takes memory; what a set operation writes to
+//! (`Output`) is its caller's. Only `new_end` has a precondition on the numbers. Some calls have one on an index, and a
+//! set operation begins with nothing written and no look counted. Where that is met, each
 //! other call is safe and returns, whatever the numbers are. The answer is exact if they are the cells of a normalized
 //! union; for other numbers it means nothing; `is_union` and `first_wrong` are exact for all numbers. What counts the
 //! looks of a call is a type parameter (`Count`), so that a call that nobody counts has no code for it.
@@ -16,10 +16,13 @@ mod along;
 mod appending;
 mod ask;
 mod cells;
+mod differing;
 mod find;
 mod four;
 mod looks;
 mod output;
+mod outside;
+mod pile;
 mod run;
 mod share;
 mod subtract;
@@ -34,12 +37,14 @@ pub use ask::{
     place_near,
 };
 pub use cells::{CellList, Cells, IdList};
+pub use differing::write_symmetric_difference;
 pub use find::{
     NEARBY, end_of, find_counted, find_from, find_from_counted, find_id_counted, first_of,
 };
 pub use four::{Places, places_of_four, places_of_four_counted};
 pub use looks::{Count, Counted, Looks, Uncounted, look};
 pub use output::Output;
+pub use outside::write_complement;
 pub use run::cells_at;
 pub use share::write_shared;
 pub use subtract::write_difference;

@@ -17,6 +17,7 @@ use Rattle.s2list.specs.Working.Union.{EndsBy}
 use Rattle.s2list.specs.Packed.{IsPacked}
 use Rattle.s2list.proofs.Checking.{member_at, packed_from_local}
 use Rattle.s2list.proofs.Finding.{ends_later, starts_later}
+use Rattle.s2list.proofs.Heaping.{pile_free}
 use Rattle.s2list.proofs.Normal.{member_greatest}
 use Rattle.s2list.proofs.Picking.{Picked, picked_push}
 use Rattle.s2list.proofs.Shared.{run_push}
@@ -24,7 +25,7 @@ use Rattle.s2list.proofs.Tiling.{or_true, or_false, none_between}
 use Rattle.s2list.proofs.Walking.{leaf_at, not_true}
 use Rattle.s2search.specs.Working.Room.{IsPut, PutsGap}
 use Rattle.s2search.specs.Working.Piles.{Piling, PilingIn}
-use Rattle.s2search.proofs.Piling.{begins_local, begins_packed, or_last, pile_free, pile_picked, piling_flush, taken}
+use Rattle.s2search.proofs.Piling.{begins_local, begins_packed, or_last, pile_picked, piling_flush, taken}
 
 or_right_false : (a b : Bool) → (a || b) ≡ false → b ≡ false
 or_right_false true b h = absurd (false≢true (sym h))

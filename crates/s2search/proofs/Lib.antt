@@ -5,8 +5,6 @@ pub mod Levelling
 mod Laying
 mod Merging
 mod Cutting
-mod Alone
-mod Heaping
 mod Holders
 mod Reaching
 mod Piling

@@ -14,8 +14,9 @@ use Rattle.s2list.specs.Union.{has_leaf, between, IsLocal, IsNormalForm}
 use Rattle.s2list.specs.Working.Union.{EndsBy}
 use Rattle.s2list.specs.Packed.{IsPacked, FillsGap}
 use Rattle.s2list.proofs.Checking.{packed_from_local}
+use Rattle.s2list.proofs.Heaping.{or_right, pile_free}
 use Rattle.s2list.proofs.Picking.{Picked, IsGap, picked_none, picked_fill, fill_leaves, between_ends}
-use Rattle.s2list.proofs.Tiling.{or_true, or_false, none_between}
+use Rattle.s2list.proofs.Tiling.{or_false, none_between}
 use Rattle.s2list.proofs.Walking.{leaf_at, not_true}
 use Rattle.s2list.proofs.Finding.{starts_later}
 use Rattle.s2search.specs.Working.Piles.{Piling, PilingIn}
@@ -163,18 +164,6 @@ pile_is S xs ys list i j lo hi start x px py s nx ny h =
     let tx = taken xs i x px (λ g. let n = nx g in omega arith) in
     let ty = taken ys j x py (λ g. let n = ny g in omega arith) in
     s.same x ∙ ap (λ v. v || has_leaf ys x) tx ∙ ap (λ v. has_leaf (take i xs) x || v) ty ∙ sym (s.leaves x)
-
-pub pile_free : (list : List ℕ) (lo hi x : ℕ) → EndsBy list lo → lo ≤ hi → hi ≤ x →
-    (has_leaf list x || between lo hi x) ≡ false
-pile_free list lo hi x below order h = not_true (has_leaf list x || between lo hi x) (λ t.
-    ⊎_elim
-    (λ (a : has_leaf list x ≡ true). let b = below x a in omega arith)
-    (λ (a : between lo hi x ≡ true). let b = (between_ends lo hi x a).1 in omega arith)
-    (or_true (has_leaf list x) (between lo hi x) t))
-
-pub or_right : (a b : Bool) → b ≡ true → (a || b) ≡ true
-or_right true b h = refl
-or_right false b h = h
 
 -- the leaves from `lo` on are a gap of the set, if the next cells begin after them
 pile_gap : (S : ℕ → Bool) (xs ys list : List ℕ) (i j lo hi start : ℕ) → Begins xs → Begins ys →

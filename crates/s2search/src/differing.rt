@@ -1,25 +1,11 @@
 //! The leaves that exactly one of two lists of cells has, written into a room.
-ghost use Rattle.std.specs.Prelude.{◌≡◌, ◌+◌, ◌<◌, ◌≤◌, ℕ, true, false, length, max};
+ghost use Rattle.std.specs.Prelude.{◌≡◌, length};
 ghost use Rattle.s2list.specs.Union.{IsLocal, IsNormalForm, has_leaf};
-ghost use Rattle.s2list.specs.Packed.{FirstEndBy};
+ghost use Rattle.s2list.specs.Sets.{in_one};
 ghost use Rattle.s2search.specs.Room.{PutsOne};
-ghost use Rattle.s2search.specs.Sets.{in_one};
-ghost use Rattle.s2search.specs.Working.Room.{PutsGap};
 
-use crate::pile::{Pile, add};
-use crate::room::put_gap;
-use s2cell::LEAVES;
-use s2list::{Cells, end_of, first_of};
-
-/// The end of the leaves of cells that there are not, which no cell reaches.
-const NEVER: u64 = u64::MAX;
-
-/// The leaves from `first` to before `end`.
-#[derive(Clone, Copy)]
-struct Piece {
-    first: u64,
-    end: u64,
-}
+use crate::room::Room;
+use s2list::{Cells, write_symmetric_difference};
 
 /// Puts the leaves that exactly one of two unions has into the room, if there is enough of it, and answers how many
 /// cells they are. One pass over both lists: each turn passes the cell that ends first, or both if they end together.
@@ -29,78 +15,9 @@ pub fn put_symmetric_difference<X: Cells, Y: Cells>(xs: &X, ys: &Y, out: &mut [u
     ensures made { IsLocal (X.ids xs.now) → IsLocal (Y.ids ys.now)
         → PutsOne (IsNormalForm (in_one (has_leaf (X.ids xs.now)) (has_leaf (Y.ids ys.now)))) out.old out.new result }
 {
-    let x_len = xs.len();
-    let y_len = ys.len();
-    let mut pile = Pile { n: 0, lo: 0, hi: 0 };
-    let mut done = 0;
-    let mut i = 0;
-    let mut j = 0;
-    while i < x_len || j < y_len {
-        let x = rest_of(xs, i, done);
-        let y = rest_of(ys, j, done);
-        let end = x.end.min(y.end);
-        let from = x.first.min(y.first);
-        let to = x.first.max(y.first).min(end);
-        pile = add_some(out, pile, from, to);
-        done = done.max(end);
-        i = past(i, x_len, x.end, done);
-        j = past(j, y_len, y.end, done);
-    }
-    put_gap(out, pile.n, pile.lo, pile.hi)
-}
-
-/// Adds the leaves from `from` to before `to` to a pile, if there are any.
-#[inline(always)]
-fn add_some(out: &mut [u64], pile: Pile, from: u64, to: u64) -> Pile
-    ensures len { length out.new ≡ length out.old }
-    ensures none { to ≤ from → (out.new ≡ out.old) × (result.n ≡ pile.n) × (result.lo ≡ pile.lo)
-        × (result.hi ≡ pile.hi) }
-    ensures more { from < to → from ≤ pile.hi → (out.new ≡ out.old) × (result.n ≡ pile.n) × (result.lo ≡ pile.lo)
-        × (result.hi ≡ max pile.hi to) }
-    ensures apart { from < to → pile.hi < from → (pile.lo < pile.hi → pile.hi ≤ LEAVES)
-        → PutsGap out.old out.new pile.n result.n pile.lo pile.hi × (result.lo ≡ from) × (result.hi ≡ to) }
-{
-    if from < to {
-        return add(out, pile, from, to);
-    }
-    pile
-}
-
-/// The index after `i`, if there is a cell at `i` and it ends by the leaf `done`; else `i`.
-#[inline(always)]
-fn past(i: usize, len: usize, end: u64, done: u64) -> usize
-    ensures next { i < len → end ≤ done → result ≡ i + 1 }
-    ensures same { (i < len → done < end) → result ≡ i }
-{
-    if i < len && end <= done {
-        return i + 1;
-    }
-    i
-}
-
-/// The leaves from `done` on of the cell at index `i`, if there is one; else none, after all others.
-#[inline(always)]
-fn rest_of<C: Cells>(cells: &C, i: usize, done: u64) -> Piece
-    ensures first { done ≤ result.first }
-    ensures free { IsLocal (C.ids cells.now) → FirstEndBy (C.ids cells.now) i done
-        → (x : ℕ) → done ≤ x → x < result.first → has_leaf (C.ids cells.now) x ≡ false }
-    ensures taken { IsLocal (C.ids cells.now) → (x : ℕ) → result.first ≤ x → x < result.end
-        → has_leaf (C.ids cells.now) x ≡ true }
-    ensures ended { IsLocal (C.ids cells.now) → i < length (C.ids cells.now)
-        → FirstEndBy (C.ids cells.now) i done → (lo : ℕ) → done ≤ lo → result.end ≤ lo
-        → FirstEndBy (C.ids cells.now) (i + 1) lo }
-    ensures within { IsLocal (C.ids cells.now) → i < length (C.ids cells.now) → result.end ≤ LEAVES }
-    ensures last { length (C.ids cells.now) ≤ i → result.end ≡ NEVER }
-{
-    if i < cells.len() {
-        let id = cells.id(i);
-        return Piece {
-            first: first_of(id).max(done),
-            end: end_of(id),
-        };
-    }
-    Piece {
-        first: NEVER,
-        end: NEVER,
+    let mut room = Room { out };
+    match write_symmetric_difference(xs, ys, &mut room) {
+        Ok(n) => n,
+        Err(_) => unreachable!(),
     }
 }

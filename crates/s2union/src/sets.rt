@@ -12,12 +12,13 @@ ghost use Rattle.s2union.specs.Working.Tail.{Continues};
 
 use crate::fault::UnionFault;
 use crate::few::MUCH_LONGER;
+use crate::grown::Grown;
 use crate::normalising::add_reserved;
 use crate::share::share;
 use crate::subtract::subtract;
 use crate::union::CellUnion;
 use s2cell::CellId;
-use s2list::{CellList, Uncounted, find_id_counted};
+use s2list::{CellList, Uncounted, find_id_counted, write_symmetric_difference};
 use std::alloc::AllocError;
 
 impl CellUnion {
@@ -70,8 +71,9 @@ impl CellUnion {
         }
     }
 
-    /// The leaves that only one of the two has: the union of both differences, which are dropped then. Refuses only if
-    /// it is out of memory. S2 calls it `SymmetricDifference` for polygons, and has no such call for unions of cells.
+    /// The leaves that only one of the two has. One walk along both lists. Takes memory for the cells of the result.
+    /// Refuses only if it is out of memory. S2 calls it `SymmetricDifference` for polygons, and has no such call for
+    /// unions of cells.
     pub fn symmetric_difference(&self, other: &CellUnion) -> Result<CellUnion, AllocError>
         ensures local { IfOk result (λ u. IsLocal u.cells) }
         ensures leaves { IfOk result (λ u. (x : ℕ) →
@@ -79,9 +81,9 @@ impl CellUnion {
         ensures normal { IfOk result (λ u. IsNormalForm
             (in_one (has_leaf self.now.cells) (has_leaf other.now.cells)) u.cells) }
     {
-        let mine = self.difference(other)?;
-        let others = other.difference(self)?;
-        mine.union(&others)
+        let mut cells = Vec::new(*self.cells.allocator());
+        differ(&mut cells, self.cells(), other.cells())?;
+        Ok(CellUnion { cells })
     }
 
     /// The difference, if it has at most `limit` cells. Stops as soon as it has made more, so it takes memory for
@@ -102,6 +104,25 @@ impl CellUnion {
         subtract(&mut cells, self.cells(), other.cells(), limit)?;
         Ok(CellUnion { cells })
     }
+}
+
+/// Puts the leaves that only one of `xs` and `ys` has into an empty list.
+fn differ(list: &mut Vec<CellId>, xs: &[CellId], ys: &[CellId]) -> Result<(), AllocError>
+    requires empty { list.old.items ≡ [] }
+    requires x_local { IsLocal xs.now }
+    requires y_local { IsLocal ys.now }
+    ensures local { OnOk result (IsLocal list.new.items) }
+    ensures leaves { OnOk result ((x : ℕ) → has_leaf list.new.items x
+        ≡ in_one (has_leaf xs.now) (has_leaf ys.now) x) }
+{
+    let xs = CellList { cells: xs };
+    let ys = CellList { cells: ys };
+    let mut grown = Grown {
+        list,
+        most: usize::MAX,
+    };
+    write_symmetric_difference(&xs, &ys, &mut grown)?;
+    Ok(())
 }
 
 /// Puts the leaves of `xs` and of `ys` into an empty list.

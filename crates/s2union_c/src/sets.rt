@@ -1,8 +1,7 @@
 //! The operations on unions, written straight into the caller's list.
 ghost use Rattle.std.specs.Prelude.{◌≡◌, ◌≤◌, ◌⊎◌, length};
-ghost use Rattle.s2list.specs.Sets.{either, shared, without};
+ghost use Rattle.s2list.specs.Sets.{either, in_one, outside, shared, without};
 ghost use Rattle.s2list.specs.Union.{IsLocal, IsNormalForm, has_leaf};
-ghost use Rattle.s2search.specs.Sets.{in_one, outside};
 ghost use Rattle.s2union_c.specs.Results.{MadeInPlace};
 ghost use Rattle.s2union_c.specs.Status.{made, no_room};
 

@@ -1,12 +1,12 @@
 use Rattle.std.proofs.Common.{◌+◌, ◌<◌, ◌⊎◌, ◌∙◌, inl, inr, length, refl, arith}
 use Rattle.s2list.specs.Union.{has_leaf}
+use Rattle.s2list.specs.Sets.{in_one}
 use Rattle.s2list.proofs.Checking.{packed_from_local}
 use Rattle.s2list.proofs.Walking.{gap}
-use Rattle.s2search.specs.Sets.{in_one}
-use Rattle.s2search.proofs.Alone.{heap_turn, neither, past_within, past_ended, turn_smaller}
-use Rattle.s2search.proofs.Heaping.{heap_none, heap_done}
-use Rattle.s2search.proofs.differing.put_symmetric_difference.Goals as goal
-use Rattle.s2search.proofs.differing.put_symmetric_difference.Goals.{then-i-x_len, else-i-x_len+then-j-y_len}
+use Rattle.s2list.proofs.Alone.{neither, past_within, past_ended, turn_brings, turn_smaller}
+use Rattle.s2list.proofs.Heaping.{heap_none, heap_done}
+use Rattle.s2list.proofs.differing.write_symmetric_difference.Goals as goal
+use Rattle.s2list.proofs.differing.write_symmetric_difference.Goals.{then-i-x_len, else-i-x_len+then-j-y_len}
 
 pub loop-i-init : goal.loop-i-init
 loop-i-init g c =
@@ -15,10 +15,11 @@ loop-i-init g c =
     record {
       in_x = omega arith;
       in_y = omega arith;
-      len = refl;
+      place = refl;
       ended_x = λ lx k h. absurd (omega arith);
       ended_y = λ ly k h. absurd (omega arith);
-      so_far = λ lx ly. heap_none (in_one (has_leaf xs) (has_leaf ys)) c.args.out.now;
+      so_far = λ lx ly. heap_none (in_one (has_leaf xs) (has_leaf ys))
+          (λ list. g.W.Output.holds list c.args.out.now c.args.out.now 0) c.requires.empty;
     }
 
 pub loop-i-smaller : goal.loop-i-smaller
@@ -55,18 +56,15 @@ loop-i-preserved g c =
           (rw nx at c.past-i.ensures.next) (rw nx at c.past-i.ensures.same);
       in_y = past_within c.loop-i.j (length ys) y.result.end next c.past-j.result v.in_y
           (rw ny at c.past-j.ensures.next) (rw ny at c.past-j.ensures.same);
-      len = c.add_some-pile.ensures.len ∙ v.len;
+      place = c.add.ensures.place ∙ v.place;
       ended_x = λ lx. past_ended xs c.loop-i.i x.result.end c.loop-i.done next c.past-i.result (v.ended_x lx)
           (omega arith)
           (λ h. x.ensures.ended lx h (v.ended_x lx)) (rw nx at c.past-i.ensures.next) (rw nx at c.past-i.ensures.same);
       ended_y = λ ly. past_ended ys c.loop-i.j y.result.end c.loop-i.done next c.past-j.result (v.ended_y ly)
           (omega arith)
           (λ h. y.ensures.ended ly h (v.ended_y ly)) (rw ny at c.past-j.ensures.next) (rw ny at c.past-j.ensures.same);
-      so_far = λ lx ly.
-          heap_turn (has_leaf xs) (has_leaf ys) c.args.out.now c.loop-i.out c.add_some-pile.new.out c.loop-i.pile.n
-          c.add_some-pile.result.n c.loop-i.pile.lo c.loop-i.pile.hi c.add_some-pile.result.lo c.add_some-pile.result.hi
-          c.loop-i.done x.result.first x.result.end y.result.first y.result.end c.min-from.result c.min-end.result
-          c.min-to.result next (v.so_far lx ly)
+      so_far = λ lx ly. c.in_ok-pile.ensures.added (in_one (has_leaf xs) (has_leaf ys)) c.args.out.now c.loop-i.done
+          next (turn_brings
           (record { order = x.ensures.first; free = x.ensures.free lx (v.ended_x lx); taken = x.ensures.taken lx })
           (record { order = y.ensures.first; free = y.ensures.free ly (v.ended_y ly); taken = y.ensures.taken ly })
           c.min-from.ensures c.min-end.ensures (omega arith) c.max-done.ensures
@@ -74,8 +72,8 @@ loop-i-preserved g c =
             | then-i-x_len w ↦ let b = x.ensures.within lx (omega (arith, w.if-i-x_len.true)) in omega arith
             | else-i-x_len+then-j-y_len w ↦ let b = y.ensures.within ly (omega (arith, w.if-j-y_len.true)) in
                 omega arith
-          ])
-          c.add_some-pile.ensures.none c.add_some-pile.ensures.more c.add_some-pile.ensures.apart;
+          ]))
+          (v.so_far lx ly);
     }
 
 pub returns-clause-made : goal.returns-clause-made
@@ -85,11 +83,10 @@ returns-clause-made g c lx ly =
     let v = c.loop-i.invariant in
     let nx = c.len-x_len.ensures in
     let ny = c.len-y_len.ensures in
-    heap_done (in_one (has_leaf xs) (has_leaf ys)) (in_one (has_leaf xs) (has_leaf ys)) c.args.out.now c.loop-i.out
-    c.put_gap.new.out c.loop-i.pile.n c.put_gap.result c.loop-i.pile.lo c.loop-i.pile.hi c.loop-i.done (v.so_far lx ly)
+    heap_done (λ list. g.met.W.Output.counts list c.args.out.now c.put_gap.new.self c.in_ok-n.n) (v.so_far lx ly)
     (λ x h. neither (has_leaf xs x) (has_leaf ys x)
     (gap c.loop-i.i c.loop-i.done (x + 1) x (packed_from_local xs lx) (v.ended_x lx)
     (λ l. absurd (omega (arith, c.if-i-x_len.false))) h (omega arith))
     (gap c.loop-i.j c.loop-i.done (x + 1) x (packed_from_local ys ly) (v.ended_y ly)
     (λ l. absurd (omega (arith, c.if-j-y_len.false))) h (omega arith)))
-    c.put_gap.ensures.put (λ x. refl)
+    (λ few list. c.in_ok-n.ensures.put few list c.args.out.now)

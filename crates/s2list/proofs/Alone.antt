@@ -5,10 +5,9 @@ use Rattle.std.proofs.Math.Logic.{⊎_elim}
 use Rattle.std.proofs.lemmas.Bool.{cases_lt, true≢false}
 use Rattle.s2cell.specs.declared.TheConstants.{LEAVES}
 use Rattle.s2list.specs.Packed.{FirstEndBy}
+use Rattle.s2list.specs.Sets.{in_one}
+use Rattle.s2list.specs.Working.Piles.{Brings}
 use Rattle.s2list.proofs.Walking.{ended_later}
-use Rattle.s2search.specs.Working.Room.{PutsGap}
-use Rattle.s2search.specs.Sets.{in_one}
-use Rattle.s2search.proofs.Heaping.{HeapIn, heap_on, heap_add}
 
 -- from the leaf `done` on, the next leaves of `A` are those from `first` to before `end`, at least
 pub record Comes (A : ℕ → Bool) (done first end : ℕ) : Type 0 where
@@ -16,62 +15,48 @@ pub record Comes (A : ℕ → Bool) (done first end : ℕ) : Type 0 where
   pub free : (x : ℕ) → done ≤ x → x < first → A x ≡ false
   pub taken : (x : ℕ) → first ≤ x → x < end → A x ≡ true
 
-pub neither : (a b : Bool) → a ≡ false → b ≡ false → ((a && not b) || (not a && b)) ≡ false
+pub neither : (a b : Bool) → a ≡ false → b ≡ false → ((a && not b) || (b && not a)) ≡ false
 neither true b e f = absurd (true≢false e)
-neither false b e f = f
+neither false true e f = absurd (true≢false f)
+neither false false e f = refl
 
-both : (a b : Bool) → a ≡ true → b ≡ true → ((a && not b) || (not a && b)) ≡ false
+both : (a b : Bool) → a ≡ true → b ≡ true → ((a && not b) || (b && not a)) ≡ false
 both true true e f = refl
 both true false e f = absurd (true≢false (sym f))
 both false b e f = absurd (true≢false (sym e))
 
-first_alone : (a b : Bool) → a ≡ true → b ≡ false → ((a && not b) || (not a && b)) ≡ true
+first_alone : (a b : Bool) → a ≡ true → b ≡ false → ((a && not b) || (b && not a)) ≡ true
 first_alone true true e f = absurd (true≢false f)
 first_alone true false e f = refl
 first_alone false b e f = absurd (true≢false (sym e))
 
-second_alone : (a b : Bool) → a ≡ false → b ≡ true → ((a && not b) || (not a && b)) ≡ true
+second_alone : (a b : Bool) → a ≡ false → b ≡ true → ((a && not b) || (b && not a)) ≡ true
 second_alone true b e f = absurd (true≢false e)
-second_alone false b e f = f
+second_alone false true e f = refl
+second_alone false false e f = absurd (true≢false (sym f))
 
--- one turn of the walk, with what it adds to the heap
-pub heap_turn : (A B : ℕ → Bool) (room out new : List ℕ) (n m lo hi low high done xf xe yf ye from end to next : ℕ) →
-    HeapIn (in_one A B) room out n lo hi done → Comes A done xf xe → Comes B done yf ye → from ≡ min xf yf
-    → end ≡ min xe ye → to ≡ min (max xf yf) end → next ≡ max done end → (from < to → to ≤ LEAVES)
-    → (to ≤ from → (new ≡ out) × (m ≡ n) × (low ≡ lo) × (high ≡ hi))
-    → (from < to → from ≤ hi → (new ≡ out) × (m ≡ n) × (low ≡ lo) × (high ≡ max hi to))
-    → (from < to → hi < from → (lo < hi → hi ≤ LEAVES) → PutsGap out new n m lo hi × (low ≡ from) × (high ≡ to))
-    → HeapIn (in_one A B) room new m low high next
-heap_turn A B room out new n m lo hi low high done xf xe yf ye from end to next s a b ef ee et en within none more
-    apart =
+-- what one turn of the walk adds
+pub turn_brings : {A B : ℕ → Bool} {done xf xe yf ye from end to next : ℕ} → Comes A done xf xe → Comes B done yf ye →
+    from ≡ min xf yf → end ≡ min xe ye → to ≡ min (max xf yf) end → next ≡ max done end → (from < to → to ≤ LEAVES)
+    → Brings (in_one A B) done from to next
+turn_brings {A} {B} {done} {xf} {xe} {yf} {ye} {from} {end} {to} {next} a b ef ee et en within =
     let oa = a.order in
     let ob = b.order in
-    let free : (x : ℕ) → done ≤ x → x < from → in_one A B x ≡ false =
-    λ x g h. neither (A x) (B x) (a.free x g (omega arith)) (b.free x g (omega arith)) in
-    let shared : (x : ℕ) → done ≤ x → from ≤ x → to ≤ x → x < next → in_one A B x ≡ false =
-    λ x g h k l. both (A x) (B x) (a.taken x (omega arith) (omega arith)) (b.taken x (omega arith) (omega arith)) in
-    let alone : (x : ℕ) → from ≤ x → x < to → in_one A B x ≡ true =
-    λ x h k. ⊎_elim
-    (λ (f : xf < yf).
-    first_alone (A x) (B x) (a.taken x (omega arith) (omega arith)) (b.free x (omega arith) (omega arith)))
-    (λ (f : yf ≤ xf).
-    second_alone (A x) (B x) (a.free x (omega arith) (omega arith)) (b.taken x (omega arith) (omega arith)))
-    (cases_lt xf yf) in
-    ⊎_elim
-    (λ (g : from < to).
-    let added = heap_add (in_one A B) room out new n m lo hi low high done from to s (omega arith) (omega arith)
-    (within g) free alone (more g) (apart g) in
-    heap_on (in_one A B) room new m low high to next added (omega arith)
-    (λ x h k. shared x (omega arith) (omega arith) h k))
-    (λ (g : to ≤ from).
-    let (new_is, m_is, low_is, high_is) = none g in
-    rw (new_is, m_is, low_is, high_is)
-    (heap_on (in_one A B) room out n lo hi done next s (omega arith)
-    (λ x h k. ⊎_elim
-    (λ (q : x < from). free x h q)
-    (λ (q : from ≤ x). shared x h q (omega arith) k)
-    (cases_lt x from))))
-    (cases_lt from to)
+    record {
+      order = omega arith;
+      on = omega arith;
+      reach = λ h. omega arith;
+      most = within;
+      before = λ x g l h. neither (A x) (B x) (a.free x g (omega arith)) (b.free x g (omega arith));
+      taken = λ x h k. ⊎_elim
+          (λ (f : xf < yf).
+          first_alone (A x) (B x) (a.taken x (omega arith) (omega arith)) (b.free x (omega arith) (omega arith)))
+          (λ (f : yf ≤ xf).
+          second_alone (A x) (B x) (a.free x (omega arith) (omega arith)) (b.taken x (omega arith) (omega arith)))
+          (cases_lt xf yf);
+      after = λ x h k l. both (A x) (B x) (a.taken x (omega arith) (omega arith)) (b.taken x (omega arith)
+          (omega arith));
+    }
 
 -- ---- the index of a list's next cell
 

@@ -6,11 +6,11 @@ use Rattle.s2cell.specs.Cell.{first_leaf, size_of}
 use Rattle.s2cell.specs.declared.TheConstants.{LEAVES}
 use Rattle.s2cell.proofs.CellLemmas.{cell_leaves}
 use Rattle.s2list.specs.Union.{IsLocal, between, has_leaf}
+use Rattle.s2list.specs.Sets.{outside}
 use Rattle.s2list.proofs.Checking.{packed_from_local}
 use Rattle.s2list.proofs.Walking.{gap, leaf_there, ended_more}
-use Rattle.s2search.specs.Sets.{outside}
-use Rattle.s2search.proofs.Heaping.{heap_none, heap_fill, heap_last}
-use Rattle.s2search.proofs.outside.put_complement.Goals as goal
+use Rattle.s2list.proofs.Heaping.{heap_none, heap_done}
+use Rattle.s2list.proofs.outside.write_complement.Goals as goal
 
 free : (a b : Bool) → a ≡ true → b ≡ false → (a && not b) ≡ true
 free true true e f = absurd (true≢false f)
@@ -28,35 +28,35 @@ beyond false b e = refl
 
 pub loop-i-init : goal.loop-i-init
 loop-i-init g c = record {
-  len = refl;
+  place = refl;
   ended = λ l k h. absurd (omega arith);
   most = λ l. omega arith;
   start = λ l h. omega arith;
-  so_far = λ l. heap_none (outside (has_leaf (g.C.Cells.ids c.args.cells.now))) c.args.out.now;
+  so_far = λ l. heap_none (outside (has_leaf (g.X.Cells.ids c.args.xs.now)))
+      (λ list. g.W.Output.holds list c.args.out.now c.args.out.now 0) c.requires.empty;
 }
 
 pub loop-i-preserved : goal.loop-i-preserved
 loop-i-preserved g c =
-    let u = g.C.Cells.ids c.args.cells.now in
+    let u = g.X.Cells.ids c.args.xs.now in
     let i = c.loop-i.i in
-    let lo = c.loop-i.lo in
+    let done = c.loop-i.done in
     let v = c.loop-i.invariant in
     let h : i < length u = omega (arith, c.loop-i-test.true, c.len-i-end.ensures) in
     let first = c.first_of.result in
-    let end = c.end_of-lo.result in
+    let end = c.end_of-done.result in
     let ends : IsLocal u → end ≡ first_leaf (get_or u i 0) + size_of (get_or u i 0) =
-    λ l. c.end_of-lo.ensures (rw c.id-id.ensures (l.cells i 0 h))
+    λ l. c.end_of-done.ensures (rw c.id-id.ensures (l.cells i 0 h))
     ∙ ap (λ v. first_leaf v + size_of v) c.id-id.ensures in
     record {
-      len = c.put_gap-n.ensures.len ∙ v.len;
+      place = c.add.ensures.place ∙ v.place;
       ended = λ l.
           let e = ends l in
           let start = v.start l h in
-          ended_more u i lo end (v.ended l) (omega arith) (omega arith);
+          ended_more u i done end (v.ended l) (omega arith) (omega arith);
       most = λ l.
-          let own = l.cells i 0 h in
           let e = ends l in
-          let w = (cell_leaves (get_or u i 0) own).within in
+          let w = (cell_leaves (get_or u i 0) (l.cells i 0 h)).within in
           omega arith;
       start = λ l n.
           let e = ends l in
@@ -72,29 +72,47 @@ loop-i-preserved g c =
           let some = cl.some in
           let w = cl.within in
           let start = v.start l h in
-          heap_fill (outside (has_leaf u)) c.args.out.now c.loop-i.out c.put_gap-n.new.out c.loop-i.n
-          c.put_gap-n.result lo first end (v.so_far l) (omega arith) (omega arith) (omega arith)
-          (λ x a b.
-          let there : between 0 LEAVES x ≡ true = grind (arith, nat_tests) in
-          free (between 0 LEAVES x) (has_leaf u x) there
-          (gap i lo first x (packed_from_local u l) (v.ended l) (λ _. omega arith) a b))
-          (λ x a b. taken (between 0 LEAVES x) (has_leaf u x) (leaf_there u i x h (omega arith) (omega arith)))
-          c.put_gap-n.ensures.put;
+          c.in_ok-pile.ensures.added (outside (has_leaf u)) c.args.out.now done end
+          (record {
+            order = omega arith;
+            on = omega arith;
+            reach = λ _. omega arith;
+            most = λ _. omega arith;
+            before = λ x a b d. absurd (omega arith);
+            taken = λ x a b.
+                let there : between 0 LEAVES x ≡ true = grind (arith, nat_tests) in
+                free (between 0 LEAVES x) (has_leaf u x) there
+                (gap i done first x (packed_from_local u l) (v.ended l) (λ _. omega arith) a b);
+            after = λ x a b d. taken (between 0 LEAVES x) (has_leaf u x)
+                (leaf_there u i x h (omega arith) (omega arith));
+          })
+          (v.so_far l);
     }
 
 pub returns-clause-made : goal.returns-clause-made
 returns-clause-made g c l =
-    let u = g.C.Cells.ids c.args.cells.now in
-    let lo = c.loop-i.lo in
+    let u = g.X.Cells.ids c.args.xs.now in
+    let done = c.loop-i.done in
     let v = c.loop-i.invariant in
+    let most = v.most l in
     let past : length u ≤ c.loop-i.i = omega (arith, c.loop-i-test.false, c.len-i-end.ensures) in
-    heap_last (outside (has_leaf u)) (outside (has_leaf u)) c.args.out.now c.loop-i.out c.put_gap.new.out c.loop-i.n
-    c.put_gap.result lo LEAVES (v.so_far l) (v.most l) (omega arith)
-    (λ x a b.
-    let there : between 0 LEAVES x ≡ true = grind (arith, nat_tests) in
-    free (between 0 LEAVES x) (has_leaf u x) there
-    (gap c.loop-i.i lo (x + 1) x (packed_from_local u l) (v.ended l) (λ h. absurd (omega arith)) a (omega arith)))
+    let whole = c.in_ok-last.ensures.added (outside (has_leaf u)) c.args.out.now done LEAVES
+    (record {
+      order = omega arith;
+      on = most;
+      reach = λ _. omega arith;
+      most = λ _. omega arith;
+      before = λ x a b d. absurd (omega arith);
+      taken = λ x a b.
+          let there : between 0 LEAVES x ≡ true = grind (arith, nat_tests) in
+          free (between 0 LEAVES x) (has_leaf u x) there
+          (gap c.loop-i.i done (x + 1) x (packed_from_local u l) (v.ended l) (λ h. absurd (omega arith)) a
+          (omega arith));
+      after = λ x a b d. absurd (omega arith);
+    })
+    (v.so_far l) in
+    heap_done (λ list. g.met.W.Output.counts list c.args.out.now c.put_gap.new.self c.in_ok-n.n) whole
     (λ x a.
     let none : between 0 LEAVES x ≡ false = grind (arith, nat_tests) in
     beyond (between 0 LEAVES x) (has_leaf u x) none)
-    c.put_gap.ensures.put (λ x. refl)
+    (λ few list. c.in_ok-n.ensures.put few list c.args.out.now)

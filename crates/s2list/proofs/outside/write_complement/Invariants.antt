@@ -1,0 +1,21 @@
+use Rattle.std.proofs.Common.{◌≡◌, ◌<◌, ◌≤◌, length}
+use Rattle.std.specs.List.{slice_index}
+use Rattle.s2cell.specs.Cell.{first_leaf}
+use Rattle.s2cell.specs.declared.TheConstants.{LEAVES}
+use Rattle.s2list.specs.Union.{IsLocal, has_leaf}
+use Rattle.s2list.specs.Packed.{FirstEndBy}
+use Rattle.s2list.specs.Sets.{outside}
+use Rattle.s2list.specs.Working.Piles.{HeapIn}
+use Rattle.s2list.proofs.outside.write_complement.Given as goal
+
+abbrev pub invariant-loop-i : goal.invariant-loop-i
+invariant-loop-i g l = record {
+  place : g.W.Output.place l.out ≡ g.W.Output.place l.fn.out;
+  ended : IsLocal (g.X.Cells.ids l.xs) → FirstEndBy (g.X.Cells.ids l.xs) l.i l.done;
+  most : IsLocal (g.X.Cells.ids l.xs) → l.done ≤ LEAVES;
+  start : IsLocal (g.X.Cells.ids l.xs) → l.i < length (g.X.Cells.ids l.xs)
+      → l.done ≤ first_leaf (slice_index (g.X.Cells.ids l.xs) l.i);
+  so_far : IsLocal (g.X.Cells.ids l.xs)
+      → HeapIn (outside (has_leaf (g.X.Cells.ids l.xs))) (λ list. g.W.Output.holds list l.fn.out l.out l.pile.n)
+      l.pile.lo l.pile.hi l.done;
+}

@@ -1,0 +1,35 @@
+-- A set of leaves while it is put together from its intervals, from the first leaf to the last.
+use Rattle.std.specs.Prelude.{◌≡◌, ℕ, ◌+◌, ◌<◌, ◌≤◌, Bool, true, false, ◌||◌, List, All, AllPairs}
+use Rattle.s2cell.specs.Cell.{IsCell, first_leaf, size_of}
+use Rattle.s2cell.specs.declared.TheConstants.{LEAVES}
+use Rattle.s2list.specs.Packed.{EndsBefore}
+use Rattle.s2list.specs.Union.{IsGreatestIn, LiesIn, between, has_leaf}
+use Rattle.s2list.specs.Working.Union.{EndsBy}
+
+-- a heap: before the leaf `done`, the set `S` has the leaves of `list` and those from `lo` to before `hi`. The cells of
+-- `list` are greatest in `S`, and no cell inside `S` reaches over `lo`
+pub record Heaping (S : ℕ → Bool) (list : List ℕ) (lo hi done : ℕ) : Type 0 where
+  pub chain : AllPairs EndsBefore list
+  pub greatest : All (IsGreatestIn S) list
+  pub below : EndsBy list lo
+  pub order : lo ≤ hi
+  pub reach : hi ≤ done
+  pub most : lo < hi → hi ≤ LEAVES
+  pub edge : (p : ℕ) → IsCell p → LiesIn S p → first_leaf p < lo → first_leaf p + size_of p ≤ lo
+  pub leaves : (x : ℕ) → x < done → S x ≡ (has_leaf list x || between lo hi x)
+
+-- the list of a heap was written
+pub record HeapIn (S : ℕ → Bool) (Holds : List ℕ → Type 0) (lo hi done : ℕ) : Type 0 where
+  pub list : List ℕ
+  pub held : Holds list
+  pub heap : Heaping S list lo hi done
+
+-- the leaves that `S` has from `done` to before `next` are those from `from` to before `to`
+pub record Brings (S : ℕ → Bool) (done from to next : ℕ) : Type 0 where
+  pub order : done ≤ from
+  pub on : done ≤ next
+  pub reach : from < to → to ≤ next
+  pub most : from < to → to ≤ LEAVES
+  pub before : (x : ℕ) → done ≤ x → x < next → x < from → S x ≡ false
+  pub taken : (x : ℕ) → from ≤ x → x < to → S x ≡ true
+  pub after : (x : ℕ) → from ≤ x → to ≤ x → x < next → S x ≡ false
