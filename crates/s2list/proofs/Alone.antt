@@ -20,6 +20,16 @@ neither true b e f = absurd (true≢false e)
 neither false true e f = absurd (true≢false f)
 neither false false e f = refl
 
+pub no_second : (a b : Bool) → b ≡ false → ((a && not b) || (b && not a)) ≡ a
+no_second a true e = absurd (true≢false e)
+no_second true false e = refl
+no_second false false e = refl
+
+pub no_first : (a b : Bool) → a ≡ false → ((a && not b) || (b && not a)) ≡ b
+no_first true b e = absurd (true≢false e)
+no_first false true e = refl
+no_first false false e = refl
+
 both : (a b : Bool) → a ≡ true → b ≡ true → ((a && not b) || (b && not a)) ≡ false
 both true true e f = refl
 both true false e f = absurd (true≢false (sym f))

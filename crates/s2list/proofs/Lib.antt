@@ -23,6 +23,7 @@ pub mod Writing
 pub mod Heaping
 -- Of this crate alone.
 mod Alone
+mod Laying
 mod Leaping
 mod Leaving
 mod Sharing

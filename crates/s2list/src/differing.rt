@@ -8,12 +8,10 @@ ghost use Rattle.s2list.specs.Output.{Writes};
 use crate::cells::Cells;
 use crate::find::{end_of, first_of};
 use crate::output::Output;
-use crate::pile::{Pile, add};
+use crate::pile::{Pile, add, finish, lay_x, lay_y};
+use crate::stretch::{NEVER, run_to};
 use s2cell::LEAVES;
 use std::alloc::AllocError;
-
-/// The end of the leaves of cells that there are not, which no cell reaches.
-const NEVER: u64 = u64::MAX;
 
 /// The leaves from `first` to before `end`.
 #[derive(Clone, Copy)]
@@ -39,22 +37,39 @@ pub fn write_symmetric_difference<X: Cells, Y: Cells, W: Output<X, Y>>(
 {
     let x_len = xs.len();
     let y_len = ys.len();
-    let mut pile = Pile { n: 0, lo: 0, hi: 0 };
+    let mut pile = Pile {
+        n: 0,
+        lo: 0,
+        hi: 0,
+        cell: 0,
+    };
     let mut done = 0;
     let mut i = 0;
     let mut j = 0;
     while i < x_len || j < y_len {
         let x = rest_of(xs, i, done);
         let y = rest_of(ys, j, done);
-        let end = x.end.min(y.end);
-        let from = x.first.min(y.first);
-        let to = x.first.max(y.first).min(end);
-        pile = add(out, pile, from, to)?;
-        done = done.max(end);
-        i = past(i, x_len, x.end, done);
-        j = past(j, y_len, y.end, done);
+        let x_stop = run_to(xs, i, done, y.first);
+        let y_stop = run_to(ys, j, done, x.first);
+        if i < x_stop {
+            pile = lay_x(out, pile, xs, i, x_stop)?;
+            done = pile.hi;
+            i = x_stop;
+        } else if j < y_stop {
+            pile = lay_y(out, pile, ys, j, y_stop)?;
+            done = pile.hi;
+            j = y_stop;
+        } else {
+            let end = x.end.min(y.end);
+            let from = x.first.min(y.first);
+            let to = x.first.max(y.first).min(end);
+            pile = add(out, pile, 0, from, to)?;
+            done = done.max(end);
+            i = past(i, x_len, x.end, done);
+            j = past(j, y_len, y.end, done);
+        }
     }
-    let n = out.put_gap(pile.n, pile.lo, pile.hi)?;
+    let n = finish(out, pile)?;
     Ok(n)
 }
 

@@ -25,6 +25,7 @@ mod outside;
 mod pile;
 mod run;
 mod share;
+mod stretch;
 mod subtract;
 mod walk;
 mod whole;

@@ -1,12 +1,13 @@
 //! What a set operation writes its cells to: a list that grows, or a room of a caller.
-ghost use Rattle.std.specs.Prelude.{◌≡◌, ◌-◌, ◌^◌, ◌<◌, ◌≤◌, ◌++◌, ℕ, List, IfErr, IfOk, length, take, drop};
+ghost use Rattle.std.specs.Prelude.{◌≡◌, ◌-◌, ◌^◌, ◌<◌, ◌≤◌, ◌++◌, ◌∷◌, [], ℕ, List, IfErr, IfOk, length, take, drop};
+ghost use Rattle.s2cell.specs.Cell.{IsCell};
 ghost use Rattle.s2list.specs.Output.{Fills};
 
 use crate::cells::Cells;
 use s2cell::LEAVES;
 use std::alloc::AllocError;
 
-/// What a set operation on two lists of cells writes to, one run of a list after another, or the cells of a gap.
+/// What a set operation on two lists of cells writes to: runs of a list, single cells, and the cells of a gap.
 ///
 /// A call is given how many cells were written before, and answers how many they are then, whether there is room for
 /// them or not. `holds` says which list was written since a moment before, `place` names the reference that an output
@@ -34,6 +35,13 @@ pub trait Output<X: Cells, Y: Cells> {
         ensures place { place self.new ≡ place self.old }
         ensures put { IfOk result (λ m. (list : List ℕ) (old : Self) → holds list old self.old n
             → holds (list ++ take (to - from) (drop from (Y.ids ys.now))) old self.new m) }
+        ensures sure { IfErr result (λ _. refuses) };
+
+    /// Writes a cell after the first `n`.
+    fn put_cell(&mut self, n: usize, id: u64) -> Result<usize, AllocError>
+        ensures place { place self.new ≡ place self.old }
+        ensures put { IfOk result (λ m. IsCell id → (list : List ℕ) (old : Self) → holds list old self.old n
+            → holds (list ++ id ∷ []) old self.new m) }
         ensures sure { IfErr result (λ _. refuses) };
 
     /// Writes the normal form of the leaves from `lo` to before `hi` after the first `n` cells.

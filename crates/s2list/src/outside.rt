@@ -7,7 +7,7 @@ ghost use Rattle.s2list.specs.Output.{Writes};
 use crate::cells::Cells;
 use crate::find::{end_of, first_of};
 use crate::output::Output;
-use crate::pile::{Pile, add};
+use crate::pile::{Pile, add, finish};
 use s2cell::LEAVES;
 use std::alloc::AllocError;
 
@@ -20,14 +20,19 @@ pub fn write_complement<X: Cells, W: Output<X, X>>(xs: &X, out: &mut W) -> Resul
         → Writes (outside (has_leaf (X.ids xs.now))) (λ list. W.holds list out.old out.new n) n) }
     ensures sure { IfErr result (λ _. W.refuses) }
 {
-    let mut pile = Pile { n: 0, lo: 0, hi: 0 };
+    let mut pile = Pile {
+        n: 0,
+        lo: 0,
+        hi: 0,
+        cell: 0,
+    };
     let mut done = 0;
     for i in 0..xs.len() {
         let id = xs.id(i);
-        pile = add(out, pile, done, first_of(id))?;
+        pile = add(out, pile, 0, done, first_of(id))?;
         done = end_of(id);
     }
-    let last = add(out, pile, done, LEAVES)?;
-    let n = out.put_gap(last.n, last.lo, last.hi)?;
+    let last = add(out, pile, 0, done, LEAVES)?;
+    let n = finish(out, last)?;
     Ok(n)
 }

@@ -27,6 +27,11 @@ impl<'a, X: Cells, Y: Cells> Output<X, Y> for Room<'a> {
         Ok(put_run(self.out, n, ys, from, to))
     }
 
+    #[inline(always)]
+    fn put_cell(&mut self, n: usize, id: u64) -> Result<usize, AllocError> {
+        Ok(put(self.out, n, id))
+    }
+
     fn put_gap(&mut self, n: usize, lo: u64, hi: u64) -> Result<usize, AllocError> {
         Ok(put_gap(self.out, n, lo, hi))
     }

@@ -1,5 +1,6 @@
 //! A list that grows, to which a set operation writes.
-ghost use Rattle.std.specs.Prelude.{◌≡◌, ◌-◌, ◌<◌, ◌≤◌, ◌++◌, ⊤, ℕ, IfErr, IfOk, List, length, take, drop};
+ghost use Rattle.std.specs.Prelude.{◌≡◌, ◌-◌, ◌<◌, ◌≤◌, ◌++◌, ◌∷◌, [], ⊤, ℕ, IfErr, IfOk, List, length, take, drop};
+ghost use Rattle.s2cell.specs.Cell.{IsCell};
 ghost use Rattle.s2list.specs.Output.{Fills};
 ghost use Rattle.s2union.specs.Working.Grown.{IsGrown};
 ghost use Rattle.s2union.specs.declared.grown.Grown.{Grown};
@@ -63,6 +64,21 @@ impl<'a, 'b, 'c> Output<CellList<'b>, CellList<'c>> for Grown<'a> {
         ensures sure { IfErr result (λ _. ⊤) }
     {
         self.put(n, &ys.cells[from..to])
+    }
+
+    #[inline(always)]
+    fn put_cell(&mut self, n: usize, id: u64) -> Result<usize, AllocError>
+        ensures place { self.new.list.ghost_name ≡ self.old.list.ghost_name }
+        ensures put { IfOk result (λ m. IsCell id → (list : List ℕ) (old : Grown)
+            → IsGrown list old.most self.old.most self.old.list.now.items n
+            → IsGrown (list ++ id ∷ []) old.most self.new.most self.new.list.now.items m) }
+        ensures sure { IfErr result (λ _. ⊤) }
+    {
+        let Some(cell) = CellId::from_id(id) else {
+            return Ok(n);
+        };
+        let more = self.put(n, &[cell])?;
+        Ok(more)
     }
 
     #[inline(always)]

@@ -238,6 +238,7 @@ pub(crate) fn extend_reserved(list: &mut Vec<CellId>, cells: &[CellId])
 }
 
 /// Appends cells to a list, which takes memory if it needs to. Pushes a single cell, which is faster than a copy.
+#[inline(always)]
 pub(crate) fn extend(list: &mut Vec<CellId>, cells: &[CellId]) -> Result<(), AllocError>
     ensures { OnOk result (list.new.items ≡ list.old.items ++ cells.now) }
 {

@@ -1,10 +1,12 @@
 -- A set of leaves while it is put together from its intervals, from the first leaf to the last.
-use Rattle.std.specs.Prelude.{◌≡◌, ℕ, ◌+◌, ◌<◌, ◌≤◌, Bool, true, false, ◌||◌, List, All, AllPairs}
+use Rattle.std.specs.Prelude.{◌≡◌, ℕ, ◌+◌, ◌-◌, ◌<◌, ◌≤◌, Bool, true, false, ◌||◌, List, All, AllPairs}
+use Rattle.std.specs.Prelude.{length, slice_index}
 use Rattle.s2cell.specs.Cell.{IsCell, first_leaf, size_of}
 use Rattle.s2cell.specs.declared.TheConstants.{LEAVES}
 use Rattle.s2list.specs.Packed.{EndsBefore}
 use Rattle.s2list.specs.Union.{IsGreatestIn, LiesIn, between, has_leaf}
 use Rattle.s2list.specs.Working.Union.{EndsBy}
+use Rattle.s2list.specs.declared.pile.Pile.{Pile}
 
 -- a heap: before the leaf `done`, the set `S` has the leaves of `list` and those from `lo` to before `hi`. The cells of
 -- `list` are greatest in `S`, and no cell inside `S` reaches over `lo`
@@ -18,11 +20,20 @@ pub record Heaping (S : ℕ → Bool) (list : List ℕ) (lo hi done : ℕ) : Typ
   pub edge : (p : ℕ) → IsCell p → LiesIn S p → first_leaf p < lo → first_leaf p + size_of p ≤ lo
   pub leaves : (x : ℕ) → x < done → S x ≡ (has_leaf list x || between lo hi x)
 
+-- `cell` is none, or the cell that has the leaves from `lo` to before `hi`
+abbrev pub IsAround : (cell lo hi : ℕ) → Type 0
+IsAround cell lo hi = 0 < cell → IsCell cell × (first_leaf cell ≡ lo) × (first_leaf cell + size_of cell ≡ hi)
+
 -- the list of a heap was written
 pub record HeapIn (S : ℕ → Bool) (Holds : List ℕ → Type 0) (lo hi done : ℕ) : Type 0 where
   pub list : List ℕ
   pub held : Holds list
   pub heap : Heaping S list lo hi done
+
+-- the heap of a pile
+pub record PileIn (S : ℕ → Bool) (Holds : ℕ → List ℕ → Type 0) (p : Pile) (done : ℕ) : Type 0 where
+  pub heap : HeapIn S (Holds p.n) p.lo p.hi done
+  pub around : IsAround p.cell p.lo p.hi
 
 -- the leaves that `S` has from `done` to before `next` are those from `from` to before `to`
 pub record Brings (S : ℕ → Bool) (done from to next : ℕ) : Type 0 where
@@ -33,3 +44,13 @@ pub record Brings (S : ℕ → Bool) (done from to next : ℕ) : Type 0 where
   pub before : (x : ℕ) → done ≤ x → x < next → x < from → S x ≡ false
   pub taken : (x : ℕ) → from ≤ x → x < to → S x ≡ true
   pub after : (x : ℕ) → from ≤ x → to ≤ x → x < next → S x ≡ false
+
+-- after the leaf `done`, `S` has the leaves of the cells of `u` from index `i` to before `stop`, and then not the next
+pub record IsRun (S : ℕ → Bool) (u : List ℕ) (done i stop : ℕ) : Type 0 where
+  pub some : i < stop
+  pub within : stop ≤ length u
+  pub apart : done < first_leaf (slice_index u i)
+  pub before : (x : ℕ) → done ≤ x → x < first_leaf (slice_index u i) → S x ≡ false
+  pub same : (x : ℕ) → first_leaf (slice_index u i) ≤ x
+      → x < first_leaf (slice_index u (stop - 1)) + size_of (slice_index u (stop - 1)) → S x ≡ has_leaf u x
+  pub after : S (first_leaf (slice_index u (stop - 1)) + size_of (slice_index u (stop - 1))) ≡ false

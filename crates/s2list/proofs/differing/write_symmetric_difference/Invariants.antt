@@ -2,7 +2,7 @@ use Rattle.std.proofs.Common.{◌-◌, ◌≡◌, ◌+◌, ◌≤◌, length}
 use Rattle.s2list.specs.Union.{IsLocal, has_leaf}
 use Rattle.s2list.specs.Packed.{FirstEndBy}
 use Rattle.s2list.specs.Sets.{in_one}
-use Rattle.s2list.specs.Working.Piles.{HeapIn}
+use Rattle.s2list.specs.Working.Piles.{PileIn}
 use Rattle.s2list.proofs.differing.write_symmetric_difference.Given as goal
 
 abbrev pub invariant-loop-i : goal.invariant-loop-i
@@ -10,11 +10,13 @@ invariant-loop-i g l = record {
   in_x : l.i ≤ length (g.X.Cells.ids l.xs);
   in_y : l.j ≤ length (g.Y.Cells.ids l.ys);
   place : g.W.Output.place l.out ≡ g.W.Output.place l.fn.out;
-  ended_x : IsLocal (g.X.Cells.ids l.xs) → FirstEndBy (g.X.Cells.ids l.xs) l.i l.done;
-  ended_y : IsLocal (g.Y.Cells.ids l.ys) → FirstEndBy (g.Y.Cells.ids l.ys) l.j l.done;
+  ended_x : IsLocal (g.X.Cells.ids l.xs) → IsLocal (g.Y.Cells.ids l.ys)
+      → FirstEndBy (g.X.Cells.ids l.xs) l.i l.done;
+  ended_y : IsLocal (g.X.Cells.ids l.xs) → IsLocal (g.Y.Cells.ids l.ys)
+      → FirstEndBy (g.Y.Cells.ids l.ys) l.j l.done;
   so_far : IsLocal (g.X.Cells.ids l.xs) → IsLocal (g.Y.Cells.ids l.ys)
-      → HeapIn (in_one (has_leaf (g.X.Cells.ids l.xs)) (has_leaf (g.Y.Cells.ids l.ys)))
-      (λ list. g.W.Output.holds list l.fn.out l.out l.pile.n) l.pile.lo l.pile.hi l.done;
+      → PileIn (in_one (has_leaf (g.X.Cells.ids l.xs)) (has_leaf (g.Y.Cells.ids l.ys)))
+      (λ n list. g.W.Output.holds list l.fn.out l.out n) l.pile l.done;
 }
 
 abbrev pub decreases-loop-i : goal.decreases-loop-i

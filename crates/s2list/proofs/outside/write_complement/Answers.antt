@@ -9,7 +9,7 @@ use Rattle.s2list.specs.Union.{IsLocal, between, has_leaf}
 use Rattle.s2list.specs.Sets.{outside}
 use Rattle.s2list.proofs.Checking.{packed_from_local}
 use Rattle.s2list.proofs.Walking.{gap, leaf_there, ended_more}
-use Rattle.s2list.proofs.Heaping.{heap_none, heap_done}
+use Rattle.s2list.proofs.Heaping.{heap_done, pile_none}
 use Rattle.s2list.proofs.outside.write_complement.Goals as goal
 
 free : (a b : Bool) → a ≡ true → b ≡ false → (a && not b) ≡ true
@@ -32,8 +32,8 @@ loop-i-init g c = record {
   ended = λ l k h. absurd (omega arith);
   most = λ l. omega arith;
   start = λ l h. omega arith;
-  so_far = λ l. heap_none (outside (has_leaf (g.X.Cells.ids c.args.xs.now)))
-      (λ list. g.W.Output.holds list c.args.out.now c.args.out.now 0) c.requires.empty;
+  so_far = λ l. pile_none (λ n list. g.W.Output.holds list c.args.out.now c.args.out.now n) _ refl refl refl refl
+      c.requires.empty;
 }
 
 pub loop-i-preserved : goal.loop-i-preserved
@@ -86,7 +86,7 @@ loop-i-preserved g c =
             after = λ x a b d. taken (between 0 LEAVES x) (has_leaf u x)
                 (leaf_there u i x h (omega arith) (omega arith));
           })
-          (v.so_far l);
+          (λ _ _ h. absurd (omega arith)) (v.so_far l);
     }
 
 pub returns-clause-made : goal.returns-clause-made
@@ -110,9 +110,9 @@ returns-clause-made g c l =
           (omega arith));
       after = λ x a b d. absurd (omega arith);
     })
-    (v.so_far l) in
-    heap_done (λ list. g.met.W.Output.counts list c.args.out.now c.put_gap.new.self c.in_ok-n.n) whole
+    (λ _ _ h. absurd (omega arith)) (v.so_far l) in
+    heap_done (λ list. g.met.W.Output.counts list c.args.out.now c.finish.new.out c.in_ok-n.n) whole.heap
     (λ x a.
     let none : between 0 LEAVES x ≡ false = grind (arith, nat_tests) in
     beyond (between 0 LEAVES x) (has_leaf u x) none)
-    (λ few list. c.in_ok-n.ensures.put few list c.args.out.now)
+    (λ few list. c.in_ok-n.ensures.put whole.around few list c.args.out.now)

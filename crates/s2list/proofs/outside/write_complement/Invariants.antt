@@ -5,7 +5,7 @@ use Rattle.s2cell.specs.declared.TheConstants.{LEAVES}
 use Rattle.s2list.specs.Union.{IsLocal, has_leaf}
 use Rattle.s2list.specs.Packed.{FirstEndBy}
 use Rattle.s2list.specs.Sets.{outside}
-use Rattle.s2list.specs.Working.Piles.{HeapIn}
+use Rattle.s2list.specs.Working.Piles.{PileIn}
 use Rattle.s2list.proofs.outside.write_complement.Given as goal
 
 abbrev pub invariant-loop-i : goal.invariant-loop-i
@@ -16,6 +16,6 @@ invariant-loop-i g l = record {
   start : IsLocal (g.X.Cells.ids l.xs) → l.i < length (g.X.Cells.ids l.xs)
       → l.done ≤ first_leaf (slice_index (g.X.Cells.ids l.xs) l.i);
   so_far : IsLocal (g.X.Cells.ids l.xs)
-      → HeapIn (outside (has_leaf (g.X.Cells.ids l.xs))) (λ list. g.W.Output.holds list l.fn.out l.out l.pile.n)
-      l.pile.lo l.pile.hi l.done;
+      → PileIn (outside (has_leaf (g.X.Cells.ids l.xs))) (λ n list. g.W.Output.holds list l.fn.out l.out n)
+      l.pile l.done;
 }

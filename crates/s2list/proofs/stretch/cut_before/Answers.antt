@@ -1,0 +1,13 @@
+use Rattle.std.proofs.Common.{◌-◌, arith}
+use Rattle.s2list.proofs.stretch.cut_before.Goals as goal
+
+pub returns-then-is_cut-clause-cut : goal.returns-then-is_cut-clause-cut
+returns-then-is_cut-clause-cut g c local h w =
+    let v = c.loop-stop.invariant.within in
+    c.is_cut.ensures.cut c.if-is_cut.true (local.cells (c.loop-stop.stop - 1) 0 (omega arith)) w
+    (local.cells c.loop-stop.stop 0 w)
+
+pub returns-then-is_cut-clause-mark : goal.returns-then-is_cut-clause-mark
+returns-then-is_cut-clause-mark g c local h =
+    let v = c.loop-stop.invariant.within in
+    c.is_cut.ensures.mark c.if-is_cut.true (local.cells (c.loop-stop.stop - 1) 0 (omega arith))
