@@ -210,13 +210,13 @@ static void sets(void) {
     uint64_t* out = fresh();
     int32_t status = of_two[call](xs, nx, ys, ny, out, room, &len);
     MUST(status == S2U_OK || status == S2U_ROOM);
-    made(32 + (int)call, status, len, real ? bounds_of_two[call] : 256 * (nx + ny));
+    made(32 + (int)call, status, len, bounds_of_two[call]);
     MUST(!real || status != S2U_OK || s2u_is_union(out, len) == 1);
   }
   for (size_t call = 0; call < sizeof of_one / sizeof *of_one; call++) {
     int32_t status = of_one[call](xs, nx, fresh(), room, &len);
     MUST(status == S2U_OK || status == S2U_ROOM);
-    made(48 + (int)call, status, len, real ? bounds_of_one[call] : 256 * (nx + 1));
+    made(48 + (int)call, status, len, bounds_of_one[call]);
   }
   uint64_t first = some_number(), last = some_number();
   uint64_t* out = fresh();

@@ -116,7 +116,7 @@ int main(void) {
     for (size_t k = 0; k < sizeof of_two / sizeof *of_two; k++) {
       const uint64_t bounds[] = {CALLS_OF_TWO_UNIONS(BOUND)};
       status = of_two[k](xs, nx, ys, ny, out, room, &len);
-      CHECK(status == (len > room ? S2U_ROOM : S2U_OK) && len <= (are_unions ? bounds[k] : 256 * (nx + ny)));
+      CHECK(status == (len > room ? S2U_ROOM : S2U_OK) && len <= bounds[k]);
       for (size_t at = status == S2U_OK ? len : room; at < room; at++) CHECK(out[at] == 7);
       CHECK(!are_unions || status != S2U_OK || s2u_is_union(out, len));
       for (size_t at = 0; at < room; at++) out[at] = 7;
@@ -124,7 +124,7 @@ int main(void) {
     for (size_t k = 0, n = nx; k < sizeof of_one / sizeof *of_one; k++) {
       const uint64_t bounds[] = {CALLS_OF_A_UNION(BOUND)};
       status = of_one[k](xs, nx, out, room, &len);
-      CHECK(status == (len > room ? S2U_ROOM : S2U_OK) && len <= (are_unions ? bounds[k] : 256 * (nx + 1)));
+      CHECK(status == (len > room ? S2U_ROOM : S2U_OK) && len <= bounds[k]);
       for (size_t at = status == S2U_OK ? len : room; at < room; at++) CHECK(out[at] == 7);
       for (size_t at = 0; at < room; at++) out[at] = 7;
     }

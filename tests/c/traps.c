@@ -75,12 +75,12 @@ static void lists_that_are_no_union(void) {
       uint64_t* out = at_the_edge(8 * room);
       for (size_t call = 0; call < sizeof sets / sizeof *sets; call++) {
         int32_t status = sets[call](ids, n, &face, 1, out, room, &len);
-        CHECK(status == (len > room ? S2U_ROOM : S2U_OK) && len <= 256 * (n + 1));
+        CHECK(status == (len > room ? S2U_ROOM : S2U_OK) && len <= 90 * (n + 1));
         status = sets[call](&face, 1, ids, n, out, room, &len);
-        CHECK(status == (len > room ? S2U_ROOM : S2U_OK) && len <= 256 * (n + 1));
+        CHECK(status == (len > room ? S2U_ROOM : S2U_OK) && len <= 90 * (n + 1));
       }
       for (size_t call = 0; call < sizeof own / sizeof *own; call++) {
-        CHECK(own[call](ids, n, out, room, &len) == (len > room ? S2U_ROOM : S2U_OK) && len <= 256 * (n + 1));
+        CHECK(own[call](ids, n, out, room, &len) == (len > room ? S2U_ROOM : S2U_OK) && len <= 90 * (n + 1));
       }
       CHECK(s2u_denormalised(ids, n, 2, 1, out, room, &len) == (len > room ? S2U_ROOM : S2U_OK));
       CHECK(s2u_denormalised_len(ids, n, 2, 1, &many) == S2U_OK && many == len);

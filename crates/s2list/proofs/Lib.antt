@@ -6,6 +6,7 @@ pub mod Placing
 pub mod Checking
 pub mod Families
 pub mod Shortest
+pub mod Lengths
 pub mod Picking
 pub mod Tiling
 pub mod Counting

@@ -185,7 +185,7 @@ greatest_apart S c d x gc gd hc hd =
     (λ (l : level_of c ≤ level_of d). sym (nested_greatest x gd gc hd hc l)) (cases_lt (level_of d) (level_of c))
 
 -- the leaves of a cell are those of its children
-child_of_leaf : {p : ℕ} (x : ℕ) → IsCell p → level_of p < 30 → covers p x ≡ true → (i : ℕ) × (i < 4)
+pub child_of_leaf : {p : ℕ} (x : ℕ) → IsCell p → level_of p < 30 → covers p x ≡ true → (i : ℕ) × (i < 4)
     × (covers (child_of p i) x ≡ true)
 child_of_leaf {p} x c h v =
     let r = covers_from p x v in
@@ -206,7 +206,7 @@ child_of_leaf {p} x c h v =
     let ceil : x - first_leaf p < i * q + q = lt-div-mul-add some in
     (i, below, covers_there (child_of p i) x (omega arith) (omega arith))
 
-same_level_same : {a b : ℕ} (x : ℕ) →
+pub same_level_same : {a b : ℕ} (x : ℕ) →
     IsCell a → IsCell b → level_of a ≡ level_of b → covers a x ≡ true → covers b x ≡ true → a ≡ b
 same_level_same {a} {b} x ca cb e ha hb =
     let ia = covers_from a x ha in

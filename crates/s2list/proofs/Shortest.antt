@@ -19,7 +19,7 @@ use Rattle.s2list.proofs.Walking.{leaf_at}
 use Rattle.s2list.proofs.Picking.{Picked}
 
 -- a cell of the list that lies inside d
-record Hit (v : List ℕ) (d : ℕ) : Type 0 where
+pub record Hit (v : List ℕ) (d : ℕ) : Type 0 where
   pub at : ℕ
   pub below : at < length v
   pub cell : IsCell (get_or v at 0)
@@ -60,7 +60,7 @@ hit_rest {v} {e} h before g =
     }))
     (cases_order g.at h.at)
 
-shorter : (u v : List ℕ) → AllPairs EndsBefore u → ((d : ℕ) → Contains u d → Hit v d) → length u ≤ length v
+pub shorter : (u v : List ℕ) → AllPairs EndsBefore u → ((d : ℕ) → Contains u d → Hit v d) → length u ≤ length v
 shorter [] v chain hit = omega arith
 shorter (d ∷ u) v chain hit =
     let h = hit d (zero, omega arith, refl) in

@@ -21,9 +21,10 @@
  * LISTS ARE NOT CHECKED (since 0.2). A call that takes a union does not check that the list is one, which would cost
  * more than the call itself. s2u_is_union checks it, once, when it comes in; what calls make of unions are unions. If a
  * list is not a union, the result means nothing: the status is S2U_OK or S2U_ROOM, or any answer, or what another
- * argument is refused for, or S2U_MEMORY of a call that takes memory. Even so the result lies in the room, *len is
- * within the bound that the call gives for such lists, the work is bounded as it says, and the call is as safe as any
- * other. (What this header says of the most elements of a result and of steps is tested, not proved.)
+ * argument is refused for, or S2U_MEMORY of a call that takes memory. Even so *len is at most S2U_MOST_.., what lies
+ * in the room behind that many elements is as it was, and the call is as safe as any other. (Tested, not proved: what
+ * this header says of steps, S2U_MOST_NAMED, and, of a list that is no union, that a call with that much room is
+ * not refused for room, and that nothing between the result and its bound is touched.)
  *
  * HOW LONG A RESULT IS. A call that makes a list takes `out`, `room` (how many elements it has) and `len`.
  *   S2U_OK     out[0 .. *len) is the result. What comes after it is not touched, but by s2u_decode.
@@ -207,8 +208,8 @@ int32_t s2u_normalise(uint64_t* ids, size_t n, size_t* len);
 int32_t s2u_union_of_many(const uint64_t* ids, size_t n, const size_t* ends, size_t lists, uint64_t* work,
                           size_t work_room, uint64_t* out, size_t room, size_t* len);
 
-/* [pure] S2U_ROOM. At most nx + ny cells, but for differences. Of lists that are not unions: at most 256 (nx + ny)
- * cells, in at most twice as many steps. */
+/* [pure] S2U_ROOM. At most nx + ny cells, but for differences. Of lists that are not unions: at most
+ * 512 (nx + ny) steps. */
 int32_t s2u_union(const uint64_t* xs, size_t nx, const uint64_t* ys, size_t ny, uint64_t* out,
                   size_t room, size_t* len);
 int32_t s2u_intersection(const uint64_t* xs, size_t nx, const uint64_t* ys, size_t ny, uint64_t* out,
@@ -223,8 +224,8 @@ int32_t s2u_difference(const uint64_t* xs, size_t nx, const uint64_t* ys, size_t
 int32_t s2u_symmetric_difference(const uint64_t* xs, size_t nx, const uint64_t* ys, size_t ny, uint64_t* out,
                                  size_t room, size_t* len);
 
-/* [pure] The leaves of the six faces that a union doesn't have. S2U_ROOM. At most S2U_MOST_COMPLEMENT(n) cells; of
- * lists that are not unions, at most 256 (n + 1). n steps. */
+/* [pure] The leaves of the six faces that a union doesn't have. S2U_ROOM. At most S2U_MOST_COMPLEMENT(n) cells.
+ * n steps. */
 #define S2U_MOST_COMPLEMENT(n) (6 + UINT64_C(90) * (n))
 int32_t s2u_complement(const uint64_t* ids, size_t n, uint64_t* out, size_t room, size_t* len);
 

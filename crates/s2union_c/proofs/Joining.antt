@@ -1,9 +1,11 @@
 -- Tokens in a row, one more at a time.
-use Rattle.std.proofs.Common.{◌≡◌, ℕ, zero, suc, ◌+◌, ◌<◌, ◌≤◌, List, [], ◌∷◌, ◌++◌, length, take}
-use Rattle.std.proofs.Common.{get_or, refl, sym}
+use Rattle.std.proofs.Common.{◌≡◌, ℕ, zero, suc, ◌+◌, ◌*◌, ◌<◌, ◌≤◌, List, [], ◌∷◌, ◌++◌, length, take}
+use Rattle.std.proofs.Common.{All, get_or, refl, sym}
 use Rattle.std.proofs.Common.{ap, ◌∙◌, arith, add-one}
 use Rattle.std.proofs.Common.{append_assoc, length-append}
+use Rattle.s2cell.specs.Cell.{IsCell}
 use Rattle.s2cell.specs.Token.{token_of}
+use Rattle.s2cell.proofs.Tokens.{IsToken-token_of}
 use Rattle.s2union_c.specs.Working.Texts.{piece}
 use Rattle.s2union_c.specs.Texts.{tokens_of}
 
@@ -47,3 +49,15 @@ piece_first (suc k) token e = absurd (omega arith)
 pub piece_later : (k : ℕ) (token : List ℕ) → 0 < k → piece k token ≡ 32 ∷ token
 piece_later zero token h = absurd (omega arith)
 piece_later (suc k) token h = refl
+
+-- a token and a blank take at most 17 bytes
+pub tokens_few : (u : List ℕ) → All IsCell u → length (tokens_of u) ≤ 17 * length u
+tokens_few [] all = omega arith
+tokens_few (x ∷ []) all =
+    let one = (IsToken-token_of (all zero 0 (omega arith))).reading.most in
+    omega arith
+tokens_few (x ∷ y ∷ u) all =
+    let one = (IsToken-token_of (all zero 0 (omega arith))).reading.most in
+    let rest = tokens_few (y ∷ u) (λ k d h. all (suc k) d (omega arith)) in
+    let both = length-append (token_of x) (32 ∷ tokens_of (y ∷ u)) in
+    omega arith

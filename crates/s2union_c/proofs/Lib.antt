@@ -2,6 +2,7 @@ mod Asking
 mod Covering
 mod Ordering
 mod Wrong
+mod Held
 mod Words
 mod Joining
 mod Encoding

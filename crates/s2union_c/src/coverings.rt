@@ -94,6 +94,7 @@ pub extern "C" fn s2u_outer_of(
         ⊎ (Refused result too_many out.old out.new len.new
         × ((u : List ℕ) → IsNormalForm (outer_set (has_leaf ids.now) level) u →
         min most MOST_CELLS < length u)) }
+    ensures few { IsLocal ids.now → len.new ≤ length ids.now }
     ensures most { len.new ≤ min most MOST_CELLS }
     ensures status { level ≤ 30 → (result ≡ made) ⊎ ((result ≡ no_room) ⊎ (result ≡ too_many)) }
     ensures fits { result ≡ made → len.new ≤ length out.new }
@@ -129,6 +130,7 @@ pub extern "C" fn s2u_inner_of(
         ⊎ (Refused result too_many out.old out.new len.new
         × ((u : List ℕ) → IsNormalForm (inner_set (has_leaf ids.now) level) u →
         min most MOST_CELLS < length u)) }
+    ensures few { IsLocal ids.now → len.new ≤ length ids.now }
     ensures most { len.new ≤ min most MOST_CELLS }
     ensures status { level ≤ 30 → (result ≡ made) ⊎ ((result ≡ no_room) ⊎ (result ≡ too_many)) }
     ensures fits { result ≡ made → len.new ≤ length out.new }
@@ -217,6 +219,7 @@ fn cover(side: Side, ids: &[u64], level: u8, bound: usize, out: &mut [u64], len:
         MadeInPlace result (IsNormalForm (covering_of side level (has_leaf ids.now))) out.old out.new len.new
         ⊎ (Refused result too_many out.old out.new len.new
         × ((u : List ℕ) → IsNormalForm (covering_of side level (has_leaf ids.now)) u → bound < length u)) }
+    ensures few { IsLocal ids.now → len.new ≤ length ids.now }
     ensures most { len.new ≤ bound }
     ensures status { (result ≡ made) ⊎ ((result ≡ no_room) ⊎ (result ≡ too_many)) }
     ensures fits { result ≡ made → len.new ≤ length out.new }

@@ -14,11 +14,12 @@ ghost use Rattle.s2union_c.specs.Results.{Made, MadeInPlace, MadeOne, Refused};
 ghost use Rattle.s2union_c.specs.Status.{IsAnswerTo, IsAnswer, bad_argument, made, no_cell, no_room, wrong_cell};
 
 use crate::lists::cells_of;
-use crate::results::{put_cells, room_status};
+use crate::results::{bound, put_cells, room_status};
 use crate::status::{
     BAD_ARGUMENT, LONG_FILE, MADE, NO_CELL, NO_MEMORY, NO_ROOM, OTHER_VERSION, SHORT_FILE,
     WRONG_CELL, answer,
 };
+use crate::unions::LEVELS;
 use byteorder::{ByteOrder, LittleEndian};
 use s2cell::{CellId, LEAVES};
 use s2file::{HEAD_SIZE, VERSION};
@@ -61,6 +62,7 @@ pub extern "C" fn s2u_decode(alloc: Global, bytes: &[u8], out: &mut [u64], len: 
     ensures fault { (IsFramed bytes.now → ⊥) → IsFrameFault bytes.now result × (len.new ≡ 0) × (out.new ≡ out.old) }
     ensures wrong { IsFramed bytes.now → (All IsCell (file_ids bytes.now) → ⊥)
         → Refused result wrong_cell out.old out.new len.new }
+    ensures most { len.new ≤ length (file_ids bytes.now) }
 {
     *len = 0;
     match bytes_after_head(bytes) {
@@ -75,6 +77,7 @@ fn decode_numbers(alloc: Global, bytes: &[u8], out: &mut [u64], len: &mut usize)
     requires whole { length bytes.now ≡ 8 * length (numbers_in bytes.now) }
     ensures made { All IsCell (numbers_in bytes.now) → Decoded result (numbers_in bytes.now) out.old out.new len.new }
     ensures wrong { (All IsCell (numbers_in bytes.now) → ⊥) → Refused result wrong_cell out.old out.new len.new }
+    ensures most { len.new ≤ length (numbers_in bytes.now) }
 {
     let ids = FileIds { bytes };
     if is_union(&ids) {
@@ -290,12 +293,19 @@ pub extern "C" fn s2u_file_ancestors(bytes: &[u8], out: &mut [u64], len: &mut us
     ensures status { IsFramed bytes.now → (result ≡ made) ⊎ (result ≡ no_room) }
     ensures fits { result ≡ made → len.new ≤ length out.new }
     ensures same_length { length out.new ≡ length out.old }
+    ensures most { len.new ≤ 31 * length (file_ids bytes.now) }
+    ensures rest { drop (31 * length (file_ids bytes.now)) out.new
+        ≡ drop (31 * length (file_ids bytes.now)) out.old }
     ensures fault { (IsFramed bytes.now → ⊥) → IsFrameFault bytes.now result × (len.new ≡ 0) × (out.new ≡ out.old) }
 {
     *len = 0;
     match bytes_after_head(bytes) {
         Ok(numbers) => {
-            *len = ancestors(&FileIds { bytes: numbers }, out);
+            let ids = FileIds { bytes: numbers };
+            let most = bound(0, LEVELS, ids.len());
+            let room = most.min(out.len());
+            let n = ancestors(&ids, &mut out[..room]);
+            *len = n.min(most);
             room_status(*len, out.len())
         }
         Err(status) => status,

@@ -1,5 +1,5 @@
 //! Writing results into the lists that a caller provides.
-ghost use Rattle.std.specs.Prelude.{◌≡◌, ◌<◌, ◌≤◌};
+ghost use Rattle.std.specs.Prelude.{◌≡◌, ◌+◌, ◌*◌, ◌^◌, ◌<◌, ◌≤◌, ℕ};
 ghost use Rattle.s2union_c.specs.Results.{Made};
 ghost use Rattle.s2union_c.specs.Status.{made, no_room};
 
@@ -30,6 +30,14 @@ pub(crate) fn put_cells(cells: &[CellId], out: &mut [u64], len: &mut usize) -> i
         out[k] = cells[k].id();
     }
     MADE
+}
+
+/// `first + times * many`, or the greatest number if that is more.
+pub(crate) fn bound(first: usize, times: usize, many: usize) -> usize
+    ensures most { result ≤ first + times * many }
+    ensures enough { (n : ℕ) → n < 2 ^ 64 → n ≤ first + times * many → n ≤ result }
+{
+    first.saturating_add(many.saturating_mul(times))
 }
 
 /// Whether a result of this length fits the room.

@@ -1,15 +1,21 @@
 //! The operations on unions, written straight into the caller's list.
-ghost use Rattle.std.specs.Prelude.{◌≡◌, ◌≤◌, ◌⊎◌, length};
+//!
+//! An operation is given as much of the room as its result can need, and answers no greater length: so both bounds hold
+//! of any list.
+ghost use Rattle.std.specs.Prelude.{◌≡◌, ◌+◌, ◌*◌, ◌≤◌, ◌⊎◌, drop, length};
 ghost use Rattle.s2list.specs.Sets.{either, in_one, outside, shared, without};
 ghost use Rattle.s2list.specs.Union.{IsLocal, IsNormalForm, has_leaf};
 ghost use Rattle.s2union_c.specs.Results.{MadeInPlace};
 ghost use Rattle.s2union_c.specs.Status.{made, no_room};
 
-use crate::results::room_status;
+use crate::results::{bound, room_status};
 use s2list::IdList;
 use s2search::{
     put_complement, put_difference, put_intersection, put_symmetric_difference, put_union,
 };
+
+/// How many cells there are beside a leaf and its ancestors: three of each level.
+const BESIDE: usize = 90;
 
 /// The leaves of either union. Of lists that are not unions the result means nothing.
 #[unsafe(no_mangle)]
@@ -19,8 +25,13 @@ pub extern "C" fn s2u_union(xs: &[u64], ys: &[u64], out: &mut [u64], len: &mut u
     ensures status { (result ≡ made) ⊎ (result ≡ no_room) }
     ensures fits { result ≡ made → len.new ≤ length out.new }
     ensures same_length { length out.new ≡ length out.old }
+    ensures most { len.new ≤ length xs.now + length ys.now }
+    ensures rest { drop (length xs.now + length ys.now) out.new ≡ drop (length xs.now + length ys.now) out.old }
 {
-    *len = put_union(&IdList { ids: xs }, &IdList { ids: ys }, out);
+    let most = xs.len() + ys.len();
+    let room = most.min(out.len());
+    let n = put_union(&IdList { ids: xs }, &IdList { ids: ys }, &mut out[..room]);
+    *len = n.min(most);
     room_status(*len, out.len())
 }
 
@@ -32,8 +43,13 @@ pub extern "C" fn s2u_intersection(xs: &[u64], ys: &[u64], out: &mut [u64], len:
     ensures status { (result ≡ made) ⊎ (result ≡ no_room) }
     ensures fits { result ≡ made → len.new ≤ length out.new }
     ensures same_length { length out.new ≡ length out.old }
+    ensures most { len.new ≤ length xs.now + length ys.now }
+    ensures rest { drop (length xs.now + length ys.now) out.new ≡ drop (length xs.now + length ys.now) out.old }
 {
-    *len = put_intersection(&IdList { ids: xs }, &IdList { ids: ys }, out);
+    let most = xs.len() + ys.len();
+    let room = most.min(out.len());
+    let n = put_intersection(&IdList { ids: xs }, &IdList { ids: ys }, &mut out[..room]);
+    *len = n.min(most);
     room_status(*len, out.len())
 }
 
@@ -45,8 +61,14 @@ pub extern "C" fn s2u_difference(xs: &[u64], ys: &[u64], out: &mut [u64], len: &
     ensures status { (result ≡ made) ⊎ (result ≡ no_room) }
     ensures fits { result ≡ made → len.new ≤ length out.new }
     ensures same_length { length out.new ≡ length out.old }
+    ensures most { len.new ≤ length xs.now + 90 * length ys.now }
+    ensures rest { drop (length xs.now + 90 * length ys.now) out.new
+        ≡ drop (length xs.now + 90 * length ys.now) out.old }
 {
-    *len = put_difference(&IdList { ids: xs }, &IdList { ids: ys }, out);
+    let most = bound(xs.len(), BESIDE, ys.len());
+    let room = most.min(out.len());
+    let n = put_difference(&IdList { ids: xs }, &IdList { ids: ys }, &mut out[..room]);
+    *len = n.min(most);
     room_status(*len, out.len())
 }
 
@@ -63,8 +85,14 @@ pub extern "C" fn s2u_symmetric_difference(
     ensures status { (result ≡ made) ⊎ (result ≡ no_room) }
     ensures fits { result ≡ made → len.new ≤ length out.new }
     ensures same_length { length out.new ≡ length out.old }
+    ensures most { len.new ≤ 90 * length xs.now + 90 * length ys.now }
+    ensures rest { drop (90 * length xs.now + 90 * length ys.now) out.new
+        ≡ drop (90 * length xs.now + 90 * length ys.now) out.old }
 {
-    *len = put_symmetric_difference(&IdList { ids: xs }, &IdList { ids: ys }, out);
+    let most = bound(0, BESIDE, xs.len() + ys.len());
+    let room = most.min(out.len());
+    let n = put_symmetric_difference(&IdList { ids: xs }, &IdList { ids: ys }, &mut out[..room]);
+    *len = n.min(most);
     room_status(*len, out.len())
 }
 
@@ -76,7 +104,12 @@ pub extern "C" fn s2u_complement(ids: &[u64], out: &mut [u64], len: &mut usize) 
     ensures status { (result ≡ made) ⊎ (result ≡ no_room) }
     ensures fits { result ≡ made → len.new ≤ length out.new }
     ensures same_length { length out.new ≡ length out.old }
+    ensures most { len.new ≤ 6 + 90 * length ids.now }
+    ensures rest { drop (6 + 90 * length ids.now) out.new ≡ drop (6 + 90 * length ids.now) out.old }
 {
-    *len = put_complement(&IdList { ids }, out);
+    let most = bound(6, BESIDE, ids.len());
+    let room = most.min(out.len());
+    let n = put_complement(&IdList { ids }, &mut out[..room]);
+    *len = n.min(most);
     room_status(*len, out.len())
 }

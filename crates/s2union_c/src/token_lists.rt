@@ -28,6 +28,7 @@ pub extern "C" fn s2u_tokens(ids: &[u64], text: &mut [u8], len: &mut usize) -> i
     ensures no_cell { (All IsCell ids.now → ⊥) → Refused result no_cell text.old text.new len.new }
     ensures many { All IsCell ids.now → 2 ^ 64 ≤ length (tokens_of ids.now)
         → Refused result too_many text.old text.new len.new }
+    ensures most { len.new ≤ 17 * length ids.now }
 {
     *len = 0;
     if let Some(_) = first_wrong(&IdList { ids }) {

@@ -1,5 +1,5 @@
 //! Making unions from a list or a range, the ancestors of a union's cells, and its cells cut to levels.
-ghost use Rattle.std.specs.Prelude.{◌≡◌, ◌+◌, ◌*◌, ◌<◌, ◌≤◌, ◌⊎◌, ◌↔◌, ℕ, IsTrue, All, List, length};
+ghost use Rattle.std.specs.Prelude.{◌≡◌, ◌+◌, ◌*◌, ◌<◌, ◌≤◌, ◌⊎◌, ◌↔◌, ℕ, IsTrue, All, List, drop, length};
 ghost use Rattle.s2cell.specs.Cell.{IsCell, first_leaf, size_of};
 ghost use Rattle.s2list.specs.Union.{IsLocal, IsNormalForm, between, has_leaf};
 ghost use Rattle.s2union.specs.Denorm.{denormalised};
@@ -11,13 +11,16 @@ ghost use Rattle.s2union_c.specs.Results.{Made, MadeInPlace, MadeOne, Refused};
 ghost use Rattle.s2union_c.specs.Cutting.{IsCutting};
 ghost use Rattle.s2union_c.specs.Status.{bad_argument, made, no_cell, no_room};
 
-use crate::results::{put, put_cells, room_status};
+use crate::results::{bound, put, put_cells, room_status};
 use crate::status::{BAD_ARGUMENT, MADE, NO_CELL, NO_MEMORY};
 use s2cell::CellId;
 use s2list::{IdList, first_wrong};
 use s2search::{ancestors, denormalise, union_of_many};
 use s2union::CellUnion;
 use std::alloc::Global;
+
+/// How many levels there are.
+pub(crate) const LEVELS: usize = 31;
 
 /// Normalizes a list of cells in place, without taking memory. The cells may be in any order, repeated, or one in
 /// another. `len` is then the number of cells at its front, or the index of the first number that is not a cell. What
@@ -54,6 +57,7 @@ pub extern "C" fn s2u_union_of_many(
         → (All IsCell ids.now → ⊥) → (result ≡ no_cell) × (out.new ≡ out.old) × IsFirstWrong ids.now len.new }
     ensures argument { (AreEnds ends.now (length ids.now) → 2 * length ids.now ≤ length work.old → ⊥)
         → Refused result bad_argument out.old out.new len.new }
+    ensures most { len.new ≤ length ids.now }
 {
     *len = 0;
     let n = ids.len();
@@ -101,6 +105,7 @@ pub extern "C" fn s2u_range(
     ensures no_cell { (IsCell first → IsCell last → ⊥) → Refused result no_cell out.old out.new len.new }
     ensures order { IsCell first → IsCell last → first_leaf last + size_of last ≤ first_leaf first
         → Refused result bad_argument out.old out.new len.new }
+    ensures most { len.new ≤ 184 }
 {
     *len = 0;
     let (Some(x), Some(y)) = (CellId::from_id(first), CellId::from_id(last)) else {
@@ -123,8 +128,13 @@ pub extern "C" fn s2u_ancestors(ids: &[u64], out: &mut [u64], len: &mut usize) -
     ensures status { (result ≡ made) ⊎ (result ≡ no_room) }
     ensures fits { result ≡ made → len.new ≤ length out.new }
     ensures same_length { length out.new ≡ length out.old }
+    ensures most { len.new ≤ 31 * length ids.now }
+    ensures rest { drop (31 * length ids.now) out.new ≡ drop (31 * length ids.now) out.old }
 {
-    *len = ancestors(&IdList { ids }, out);
+    let most = bound(0, LEVELS, ids.len());
+    let room = most.min(out.len());
+    let n = ancestors(&IdList { ids }, &mut out[..room]);
+    *len = n.min(most);
     room_status(*len, out.len())
 }
 

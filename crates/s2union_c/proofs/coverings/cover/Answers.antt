@@ -1,11 +1,12 @@
-use Rattle.std.proofs.Common.{◌∙◌, inl, inr, length, refl, sym, arith, rules}
+use Rattle.std.proofs.Common.{◌∙◌, ap, inl, inr, length, refl, sym, arith, rules}
 use Rattle.std.specs.Int.{w32}
 use Rattle.std.proofs.lemmas.Bool.{false≢true}
 use Rattle.std.proofs.lemmas.Int.{to_z-of_z}
 use mir.Val.{SFits}
 use Rattle.s2list.specs.Union.{has_leaf}
 use Rattle.s2union_c.specs.Working.Coverings.{covering_of}
-use Rattle.s2union_c.proofs.Covering.{few_put, many_put}
+use Rattle.s2list.proofs.Normal.{one_normal_form}
+use Rattle.s2union_c.proofs.Covering.{covering_few, few_put, many_put}
 use Rattle.s2union_c.proofs.Placed.{placed}
 use Rattle.s2union_c.proofs.coverings.cover.Goals as goal
 
@@ -31,3 +32,11 @@ returns-clause-made c local =
     (inl (placed _ c.args.out.now c.put_covering-n.new.out c.put_covering-n.result
     (length c.put_covering-n.new.out) c.room_status.result put refl c.room_status.ensures.fits
     c.room_status.ensures.short))
+
+pub returns-clause-few : goal.returns-clause-few
+returns-clause-few c local =
+    let S = covering_of c.args.side c.args.level (has_leaf c.args.ids.now) in
+    let put = few_put S c.args.bound c.put_covering-n.result c.args.out.now c.put_covering-n.new.out
+    (c.put_covering-n.ensures.made local) (omega (arith, c.if-n-bound.false)) in
+    let (v, normal, few) = covering_few c.args.side c.args.level c.args.ids.now c.requires.level local in
+    omega (arith, put.len_is, few, ap length (one_normal_form S put.list v put.is normal))

@@ -6,6 +6,7 @@ use mir.Val.{SFits}
 use Rattle.s2search.specs.Numbers.{numbers_in}
 use Rattle.s2union_c.proofs.Wrong.{not_all_cells}
 use Rattle.s2union_c.proofs.Decoding.{decoded_whole, decoded_here, decoded_apart}
+use Rattle.s2union_c.proofs.Placed.{made_length, made_one_few}
 use Rattle.s2union_c.proofs.files.decode_numbers.Goals as goal
 
 pub returns-then-is_union-clause-made : goal.returns-then-is_union-clause-made
@@ -48,3 +49,12 @@ returns-clause-made c cells =
 
 pub returns-clause-wrong : goal.returns-clause-wrong
 returns-clause-wrong c none = absurd (none c.in_default.ensures)
+
+pub returns-then-is_union-clause-most : goal.returns-then-is_union-clause-most
+returns-then-is_union-clause-most c = omega (arith, made_length c.put_numbers.ensures)
+
+pub returns-then-n-out-clause-most : goal.returns-then-n-out-clause-most
+returns-then-n-out-clause-most c = c.normalise_numbers.ensures.within
+
+pub returns-clause-most : goal.returns-clause-most
+returns-clause-most c = made_one_few _ c.in_default.ensures c.put_normalised.ensures

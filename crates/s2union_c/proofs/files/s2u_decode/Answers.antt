@@ -26,3 +26,6 @@ returns-in-Ok-clause-wrong c framed none =
     let e = c.in-Ok.ensures.1 in
     let fits : SFits w32 c.decode_numbers.result = search rules in
     rw (to_z-of_z w32 c.decode_numbers.result fits) (c.decode_numbers.ensures.wrong (λ all. none (rw e at all)))
+
+pub returns-in-Ok-clause-most : goal.returns-in-Ok-clause-most
+returns-in-Ok-clause-most c = let e = c.in-Ok.ensures.1 in rw e at c.decode_numbers.ensures.most

@@ -1,14 +1,22 @@
-use Rattle.std.proofs.Common.{length, refl, rules}
+use Rattle.std.proofs.Common.{arith, refl, rules}
 use Rattle.std.specs.Int.{w32}
 use Rattle.std.proofs.lemmas.Int.{to_z-of_z}
 use mir.Val.{SFits}
-use Rattle.s2union_c.proofs.Placed.{placed}
+use Rattle.s2list.proofs.Lengths.{intersection_few}
+use Rattle.s2union_c.proofs.Placed.{placed_rest, placed_within}
 use Rattle.s2union_c.proofs.sets.s2u_intersection.Goals as goal
 
 pub returns-clause-made : goal.returns-clause-made
 returns-clause-made c lx ly =
     let fits : SFits w32 c.room_status.result = search rules in
+    let put = c.put_intersection-n.ensures.made lx ly in
+    let few = intersection_few c.args.xs.now c.args.ys.now lx.cells ly.cells put.is in
     rw (to_z-of_z w32 c.room_status.result fits)
-    (placed _ c.args.out.now c.put_intersection.new.out c.put_intersection.result (length c.put_intersection.new.out)
-    c.room_status.result (c.put_intersection.ensures.made lx ly) refl c.room_status.ensures.fits
-    c.room_status.ensures.short)
+    (placed_within c.args.out.now c.put_intersection-n.new.out _ c.room_status.result put c.min-room.ensures
+    c.min.ensures (omega (arith, put.len_is, few)) refl
+    c.room_status.ensures.fits c.room_status.ensures.short)
+
+pub returns-clause-rest : goal.returns-clause-rest
+returns-clause-rest c =
+    placed_rest c.args.out.now c.put_intersection-n.new.out _ c.put_intersection-n.ensures.len
+    c.min-room.ensures (omega arith)

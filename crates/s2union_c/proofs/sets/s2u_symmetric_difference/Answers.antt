@@ -1,15 +1,25 @@
-use Rattle.std.proofs.Common.{length, refl, rules}
+use Rattle.std.proofs.Common.{arith, refl, rules}
 use Rattle.std.specs.Int.{w32}
 use Rattle.std.proofs.lemmas.Int.{to_z-of_z}
 use mir.Val.{SFits}
-use Rattle.s2union_c.proofs.Placed.{placed}
+use Rattle.s2list.proofs.Lengths.{symmetric_difference_few}
+use Rattle.s2list.specs.Union.{has_leaf}
+use Rattle.s2list.proofs.Normal.{normal_form_same}
+use Rattle.s2union_c.proofs.Placed.{one_in_one, placed_rest, placed_within}
 use Rattle.s2union_c.proofs.sets.s2u_symmetric_difference.Goals as goal
 
 pub returns-clause-made : goal.returns-clause-made
 returns-clause-made c lx ly =
     let fits : SFits w32 c.room_status.result = search rules in
+    let put = c.put_symmetric_difference-n.ensures.made lx ly in
+    let few = symmetric_difference_few c.args.xs.now c.args.ys.now lx.cells ly.cells
+    (normal_form_same _ _ _ (λ x. one_in_one (has_leaf c.args.xs.now x) (has_leaf c.args.ys.now x)) put.is) in
     rw (to_z-of_z w32 c.room_status.result fits)
-    (placed _ c.args.out.now c.put_symmetric_difference.new.out c.put_symmetric_difference.result (length
-    c.put_symmetric_difference.new.out)
-    c.room_status.result (c.put_symmetric_difference.ensures.made lx ly) refl c.room_status.ensures.fits
-    c.room_status.ensures.short)
+    (placed_within c.args.out.now c.put_symmetric_difference-n.new.out _ c.room_status.result put c.min-room.ensures
+    c.min.ensures (c.bound-most.ensures.enough _ (omega arith) (omega (arith, put.len_is, few))) refl
+    c.room_status.ensures.fits c.room_status.ensures.short)
+
+pub returns-clause-rest : goal.returns-clause-rest
+returns-clause-rest c =
+    placed_rest c.args.out.now c.put_symmetric_difference-n.new.out _ c.put_symmetric_difference-n.ensures.len
+    c.min-room.ensures (omega (arith, c.bound-most.ensures.most))

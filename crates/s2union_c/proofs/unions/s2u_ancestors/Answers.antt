@@ -1,22 +1,27 @@
-use Rattle.std.proofs.Common.{refl, length, rules}
+use Rattle.std.proofs.Common.{arith, refl, rules}
 use Rattle.std.specs.Int.{w32}
 use Rattle.std.proofs.lemmas.Int.{to_z-of_z}
 use mir.Val.{SFits}
-use Rattle.s2search.specs.Ancestors.{AreHolders}
-use Rattle.s2union_c.proofs.Placed.{placed, placed_status}
+use Rattle.s2union_c.proofs.Held.{holders_few}
+use Rattle.s2union_c.proofs.Placed.{placed_rest, placed_status, placed_within}
 use Rattle.s2union_c.proofs.unions.s2u_ancestors.Goals as goal
 
 pub returns-clause-made : goal.returns-clause-made
 returns-clause-made c local =
     let fits : SFits w32 c.room_status.result = search rules in
+    let put = c.ancestors-n.ensures.put local in
+    let few = holders_few _ put.list local.cells put.is in
     rw (to_z-of_z w32 c.room_status.result fits)
-    (placed (AreHolders c.args.ids.now) c.args.out.now c.ancestors.new.out c.ancestors.result
-    (length c.ancestors.new.out) c.room_status.result (c.ancestors.ensures.put local) refl c.room_status.ensures.fits
+    (placed_within c.args.out.now c.ancestors-n.new.out _ c.room_status.result put c.min-room.ensures c.min.ensures
+    (c.bound-most.ensures.enough _ (omega arith) (omega (arith, put.len_is, few))) refl c.room_status.ensures.fits
     c.room_status.ensures.short)
 
 pub returns-clause-status : goal.returns-clause-status
 returns-clause-status c =
     let fits : SFits w32 c.room_status.result = search rules in
     rw (to_z-of_z w32 c.room_status.result fits)
-    (placed_status c.ancestors.result (length c.ancestors.new.out) c.room_status.result c.room_status.ensures.fits
-    c.room_status.ensures.short)
+    (placed_status c.min.result _ c.room_status.result c.room_status.ensures.fits c.room_status.ensures.short)
+
+pub returns-clause-rest : goal.returns-clause-rest
+returns-clause-rest c = placed_rest c.args.out.now c.ancestors-n.new.out _ c.ancestors-n.ensures.len c.min-room.ensures
+    (omega (arith, c.bound-most.ensures.most))
