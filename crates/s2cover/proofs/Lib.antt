@@ -7,7 +7,7 @@ mod Formed
 mod Rectangles
 mod Regions
 mod Coverings
-mod OwnCells
+pub mod OwnCells
 mod Searches
 mod Squares
 mod Rounded

@@ -19,6 +19,8 @@ mod cells;
 mod differing;
 mod find;
 mod four;
+mod join;
+pub mod laws;
 mod looks;
 mod output;
 mod outside;

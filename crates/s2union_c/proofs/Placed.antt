@@ -1,6 +1,6 @@
 -- A list that was put into a room, with the status that tells whether it fits.
-use Rattle.std.proofs.Common.{◌≡◌, ℕ, ℤ, ◌<◌, ◌≤◌, ◌⊎◌, inl, inr, sym, ap, ◌∙◌, arith, Bool, List, ◌++◌, length, drop}
-use Rattle.std.proofs.Common.{All, append_assoc, refl, take, true, false, not, ◌&&◌, ◌||◌}
+use Rattle.std.proofs.Common.{◌≡◌, ℕ, ℤ, ◌<◌, ◌≤◌, ◌⊎◌, inl, inr, sym, ap, ◌∙◌, arith, List, ◌++◌, length, drop}
+use Rattle.std.proofs.Common.{All, append_assoc, refl, take}
 use Rattle.std.specs.Prelude.{min}
 use Rattle.std.proofs.Math.Logic.{⊎_elim}
 use Rattle.std.proofs.lemmas.Bool.{cases_lt}
@@ -75,13 +75,6 @@ made_length {xs = xs} {old} {new} {len} {status} done =
     (λ (w : (status ≡ made) × IsWritten xs old new len). w.1.len_is)
     (λ (h : (status ≡ no_room) × HasNoRoom xs old new len). h.1.len_is)
     done
-
--- the leaves that only one set has, in the words of s2search and in those of s2list
-pub one_in_one : (a b : Bool) → ((a && not b) || (not a && b)) ≡ ((a && not b) || (b && not a))
-one_in_one true true = refl
-one_in_one true false = refl
-one_in_one false true = refl
-one_in_one false false = refl
 
 -- a union of cells that was made is no longer than their list
 pub made_one_few : (ids : List ℕ) {old new : List ℕ} {len : ℕ} {status : ℤ} → All IsCell ids

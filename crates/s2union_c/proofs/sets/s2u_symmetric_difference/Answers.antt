@@ -3,17 +3,14 @@ use Rattle.std.specs.Int.{w32}
 use Rattle.std.proofs.lemmas.Int.{to_z-of_z}
 use mir.Val.{SFits}
 use Rattle.s2list.proofs.Lengths.{symmetric_difference_few}
-use Rattle.s2list.specs.Union.{has_leaf}
-use Rattle.s2list.proofs.Normal.{normal_form_same}
-use Rattle.s2union_c.proofs.Placed.{one_in_one, placed_rest, placed_within}
+use Rattle.s2union_c.proofs.Placed.{placed_rest, placed_within}
 use Rattle.s2union_c.proofs.sets.s2u_symmetric_difference.Goals as goal
 
 pub returns-clause-made : goal.returns-clause-made
 returns-clause-made c lx ly =
     let fits : SFits w32 c.room_status.result = search rules in
     let put = c.put_symmetric_difference-n.ensures.made lx ly in
-    let few = symmetric_difference_few c.args.xs.now c.args.ys.now lx.cells ly.cells
-    (normal_form_same _ _ _ (λ x. one_in_one (has_leaf c.args.xs.now x) (has_leaf c.args.ys.now x)) put.is) in
+    let few = symmetric_difference_few c.args.xs.now c.args.ys.now lx.cells ly.cells put.is in
     rw (to_z-of_z w32 c.room_status.result fits)
     (placed_within c.args.out.now c.put_symmetric_difference-n.new.out _ c.room_status.result put c.min-room.ensures
     c.min.ensures (c.bound-most.ensures.enough _ (omega arith) (omega (arith, put.len_is, few))) refl
