@@ -23,8 +23,8 @@
  * list is not a union, the result means nothing: the status is S2U_OK or S2U_ROOM, or any answer, or what another
  * argument is refused for, or S2U_MEMORY of a call that takes memory. Even so *len is at most S2U_MOST_.., what lies
  * in the room behind that many elements is as it was, and the call is as safe as any other. (Tested, not proved: what
- * this header says of steps, S2U_MOST_NAMED, and, of a list that is no union, that a call with that much room is
- * not refused for room, and that nothing between the result and its bound is touched.)
+ * this header says of steps, and, of a list that is no union, that a call with the room that *len asks for is not
+ * refused for room, and that nothing between the result and its bound is touched.)
  *
  * HOW LONG A RESULT IS. A call that makes a list takes `out`, `room` (how many elements it has) and `len`.
  *   S2U_OK     out[0 .. *len) is the result. What comes after it is not touched, but by s2u_decode.

@@ -29,7 +29,7 @@ zip_push [] (i ∷ ids) w id z n = absurd z
 zip_push (v ∷ ws) [] w id z n = absurd z
 zip_push (v ∷ ws) (i ∷ ids) w id z n = (z.0, zip_push ws ids w id z.1 n)
 
-zip_length : (ws : List (List ℕ)) (ids : List ℕ) → AllZip NamesCell ws ids → length ws ≡ length ids
+pub zip_length : (ws : List (List ℕ)) (ids : List ℕ) → AllZip NamesCell ws ids → length ws ≡ length ids
 zip_length [] [] z = refl
 zip_length [] (i ∷ ids) z = absurd z
 zip_length (v ∷ ws) [] z = absurd z

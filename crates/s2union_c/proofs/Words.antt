@@ -2,8 +2,9 @@
 use Rattle.std.proofs.Common.{◌≡◌, ℕ, zero, suc, ◌+◌, ◌-◌, ◌<◌, ◌≤◌, Bool, true, false, List, [], ◌∷◌}
 use Rattle.std.proofs.Common.{◌++◌, length}
 use Rattle.std.proofs.Common.{take, drop, slice_index}
-use Rattle.std.proofs.Common.{refl, sym, ap, ◌∙◌, take-append-drop, drop-cons, add-one, get_or, arith}
-use Rattle.std.proofs.lemmas.Bool.{false≢true}
+use Rattle.std.proofs.Math.Logic.{⊎_elim}
+use Rattle.std.proofs.Common.{◌*◌, subst, refl, sym, ap, ◌∙◌, take-append-drop, drop-cons, add-one, get_or, arith}
+use Rattle.std.proofs.lemmas.Bool.{cases_Bool, false≢true}
 use Rattle.std.proofs.lemmas.List.{drop-drop, length-drop, length-take-le, take_all}
 use Rattle.std.proofs.lemmas.List.Splits.{slice_split-cons_yes, slice_split-cons_no}
 use Rattle.std.specs.List.{AllByRecursion, slice_split, onto_first, filter}
@@ -113,3 +114,34 @@ pub left_from : (text : List ℕ) (start : ℕ) → take (length text - start) (
 left_from text start =
     let len : length (drop start text) ≡ length text - start = length-drop start text in
     take_all (length text - start) (drop start text) (omega arith)
+
+-- ---- how many words there are
+
+-- parts of `n` bytes and the separators between them, whose words are at most half of these
+abbrev Few : List (List ℕ) → ℕ → Type 0
+Few [] n = ⊥
+Few ([] ∷ ws) n = 2 * length (filter is_nonempty ws) ≤ n
+Few ((b ∷ w) ∷ ws) n = 2 * length (filter is_nonempty ws) + 1 ≤ n
+
+few_cut : (parts : List (List ℕ)) (n : ℕ) → Few parts n → 2 * length (filter is_nonempty parts) ≤ suc n
+few_cut [] n f = absurd f
+few_cut ([] ∷ ws) n f = omega arith
+few_cut ((b ∷ w) ∷ ws) n f = omega arith
+
+few_more : (x : ℕ) (parts : List (List ℕ)) (n : ℕ) → Few parts n → Few (onto_first x parts) (suc n)
+few_more x [] n f = absurd f
+few_more x ([] ∷ ws) n f = omega arith
+few_more x ((b ∷ w) ∷ ws) n f = omega arith
+
+few_parts : (p : ℕ → Bool) (text : List ℕ) → Few (slice_split p text) (length text)
+few_parts p [] = omega arith
+few_parts p (x ∷ xs) =
+    ⊎_elim
+    (λ yes. subst (λ parts. Few parts (suc (length xs))) (sym (slice_split-cons_yes p x xs yes))
+    (few_cut (slice_split p xs) (length xs) (few_parts p xs)))
+    (λ no. subst (λ parts. Few parts (suc (length xs))) (sym (slice_split-cons_no p x xs no))
+    (few_more x (slice_split p xs) (length xs) (few_parts p xs)))
+    (cases_Bool (p x))
+
+pub words_few : (text : List ℕ) → 2 * length (words_of_text text) ≤ suc (length text)
+words_few text = few_cut (slice_split is_between text) (length text) (few_parts is_between text)

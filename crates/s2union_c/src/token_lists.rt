@@ -1,5 +1,5 @@
 //! Lists of cells as texts: their tokens with blanks between them, and words that name cells.
-ghost use Rattle.std.specs.Prelude.{◌≡◌, ◌+◌, ◌*◌, ◌^◌, ◌<◌, ◌≤◌, ◌⊎◌, ℕ, List, [], ◌++◌, All};
+ghost use Rattle.std.specs.Prelude.{◌≡◌, ◌+◌, ◌*◌, ◌/◌, ◌%◌, ◌^◌, ◌<◌, ◌≤◌, ◌⊎◌, ℕ, List, [], ◌++◌, All};
 ghost use Rattle.std.specs.Prelude.{length, drop, take};
 ghost use Rattle.std.specs.Prelude.{true, false, ◌↔◌, IfNone, IfSome, IsTrue, MatchOption, MatchResult, slice_index};
 ghost use Rattle.std.specs.List.{AllByRecursion, AllZip};
@@ -50,8 +50,10 @@ pub extern "C" fn s2u_tokens(ids: &[u64], text: &mut [u8], len: &mut usize) -> i
 /// cell.
 #[unsafe(no_mangle)]
 pub extern "C" fn s2u_from_tokens(text: &[u8], out: &mut [u64], len: &mut usize) -> i32
-    ensures { ((ids : List ℕ) × AllZip NamesCell (words_of_text text.now) ids × Made result ids out.old out.new len.new)
+    ensures answer { ((ids : List ℕ) × AllZip NamesCell (words_of_text text.now) ids
+        × Made result ids out.old out.new len.new)
         ⊎ ((result ≡ no_cell) × IsFirstNameless text.now len.new × (out.new ≡ out.old)) }
+    ensures most { (result ≡ no_cell → ⊥) → len.new ≤ length text.now / 2 + length text.now % 2 }
 {
     let count = match count_cells(text) {
         Ok(count) => count,
