@@ -1,9 +1,11 @@
--- One step of the walk along two ascending lists.
-use Rattle.std.proofs.Common.{◌≡◌, ℕ, zero, suc, ◌+◌, ◌<◌, ◌≤◌, true, eqb, List, [], ◌∷◌, ◌++◌, length}
+-- Steps of the walks along two ascending lists.
+use Rattle.std.proofs.Common.{◌≡◌, ℕ, zero, suc, ◌+◌, ◌<◌, ◌≤◌, Bool, true, false, not, nat_cmp, is_lt, eqb, add-zero, refl, List, [], ◌∷◌, ◌++◌, length}
 use Rattle.std.proofs.Common.{drop, get_or, sym, ap, ◌∙◌, subst, arith, eq-eqb, append_assoc, add-one, drop-cons, ◌⊎◌}
 use Rattle.std.proofs.Common.{⊎_elim, take, ◌-◌, length-drop}
+use Rattle.std.proofs.lemmas.Bool.Decides.{nat_tests}
 use Rattle.std.proofs.lemmas.Bool.{cond-true, cond-false, or_left}
-use Rattle.std.proofs.lemmas.List.{take_all, drop_all}
+use Rattle.std.proofs.lemmas.List.{take_all, drop_all, take_more, get_or-drop}
+use mir.Val.{bool_byte}
 use Rattle.std.specs.List.Sorted.{IsStrictlyIncreasing}
 use Rattle.s2union.specs.Apply.{has, cells_without}
 use Rattle.s2union.proofs.CellLists.{AllAbove, IsAscending, has-below, AllAbove-trans, ascends_from}
@@ -71,14 +73,63 @@ lacking_cell us os i j a l m h =
 pub push_on : (w rest left whole : List ℕ) (x : ℕ) → w ++ left ≡ whole → left ≡ x ∷ rest → (w ++ x ∷ []) ++ rest ≡ whole
 push_on w rest left whole x e f = append_assoc w (x ∷ []) rest ∙ ap (λ (l : List ℕ). w ++ l) (sym f) ∙ e
 
-pub lacking_turn : (us os found : List ℕ) (i j x : ℕ) → IsStrictlyIncreasing os → i < length us → j < length os →
-    x ≡ get_or us i 0 → get_or us i 0 < get_or os j 0 →
-    found ++ cells_without (drop i us) (drop j os) ≡ cells_without us os →
-    (found ++ x ∷ []) ++ cells_without (drop (i + 1) us) (drop j os) ≡ cells_without us os
-lacking_turn us os found i j x a l m e h w =
-    push_on found (cells_without (drop (i + 1) us) (drop j os)) (cells_without (drop i us) (drop j os))
-    (cells_without us os) x w
-    (lacking_cell us os i j a l m h ∙ ap (λ y. y ∷ cells_without (drop (i + 1) us) (drop j os)) (sym e))
+pub is_below : (x y : ℕ) (p : Bool) → p ≡ is_lt (nat_cmp x y) → p ≡ true → x < y
+is_below x y p e h = grind (arith, nat_tests)
+
+pub is_not_below : (x y : ℕ) (p : Bool) → p ≡ is_lt (nat_cmp x y) → p ≡ false → y ≤ x
+is_not_below x y p e h = grind (arith, nat_tests)
+
+-- The cells of two lists are compared: p says that the first is below, q that it is above.
+pub counted : (us os : List ℕ) (i j n whole : ℕ) (p q : Bool) → IsStrictlyIncreasing us → IsStrictlyIncreasing os →
+    i < length us → j < length os → (p ≡ true → get_or us i 0 < get_or os j 0) →
+    (p ≡ false → get_or os j 0 ≤ get_or us i 0) → (q ≡ true → get_or os j 0 < get_or us i 0) →
+    (q ≡ false → get_or us i 0 ≤ get_or os j 0) → n + length (cells_without (drop i us) (drop j os)) ≡ whole →
+    n + bool_byte p + length (cells_without (drop (i + bool_byte (not q)) us) (drop (j + bool_byte (not p)) os)) ≡ whole
+counted us os i j n whole true true a b l m f f' g g' e = absurd (omega (arith, f refl, g refl))
+counted us os i j n whole true false a b l m f f' g g' e =
+    rw (add-zero j) (omega (arith, e, ap length (lacking_cell us os i j b l m (f refl))))
+counted us os i j n whole false true a b l m f f' g g' e =
+    rw (add-zero n, add-zero i) (omega (arith, e, ap length (below_turn us os i j a l m (g refl))))
+counted us os i j n whole false false a b l m f f' g g' e =
+    rw (add-zero n) (omega (
+      arith,
+      e,
+      ap length (same_turn us os i j a l m (omega (arith, f' refl, g' refl))),
+    ))
+
+pub few_counted : (n i : ℕ) (p q : Bool) → n ≤ i → (p ≡ true → q ≡ true → ⊥) → n + bool_byte p ≤ i + bool_byte (not q)
+few_counted n i true true h f = absurd (f refl refl)
+few_counted n i true false h f = omega (arith, h)
+few_counted n i false true h f = omega (arith, h)
+few_counted n i false false h f = omega (arith, h)
+
+pub one_more : (i n : ℕ) (p : Bool) → i < n → i + bool_byte p ≤ n
+one_more i n true h = omega (arith, h)
+one_more i n false h = omega (arith, h)
+
+-- the next cell of one list, if it is p below the next of the other, or that of the other, if it is q below
+pub passed : (us vs whole : List ℕ) (i a b : ℕ) (p q : Bool) → IsStrictlyIncreasing us → IsStrictlyIncreasing vs →
+    i ≤ a → a < length us → b < length vs → (p ≡ true → get_or us a 0 < get_or vs b 0) →
+    (q ≡ true → get_or vs b 0 < get_or us a 0) →
+    take (a - i) (drop i us) ++ cells_without (drop a us) (drop b vs) ≡ whole →
+    take (a + bool_byte p - i) (drop i us)
+    ++ cells_without (drop (a + bool_byte p) us) (drop (b + bool_byte q) vs) ≡ whole
+passed us vs whole i a b true true up vp k l m f g e = absurd (omega (arith, f refl, g refl))
+passed us vs whole i a b false false up vp k l m f g e = rw (add-zero a, add-zero b) e
+passed us vs whole i a b false true up vp k l m f g e =
+    rw (add-zero a) (ap (λ (xs : List ℕ). take (a - i) (drop i us) ++ xs) (below_turn us vs a b up l m (g refl)) ∙ e)
+passed us vs whole i a b true false up vp k l m f g e =
+    let n : a + 1 - i ≡ a - i + 1 = omega (arith, k) in
+    let here : i + (a - i) ≡ a = omega (arith, k) in
+    let x : take (a - i + 1) (drop i us) ≡ take (a - i) (drop i us) ++ get_or us a 0 ∷ [] =
+    take_more (drop i us) (a - i) 0 (omega (arith, k, l, length-drop i us))
+    ∙ ap (λ y. take (a - i) (drop i us) ++ y ∷ [])
+    (get_or-drop i us (a - i) 0 ∙ ap (λ y. get_or us y 0) here) in
+    rw (add-zero b) (
+    ap (λ (xs : List ℕ). xs ++ cells_without (drop (a + 1) us) (drop b vs))
+    (ap (λ y. take y (drop i us)) n ∙ x)
+    ∙ push_on (take (a - i) (drop i us)) (cells_without (drop (a + 1) us) (drop b vs))
+    (cells_without (drop a us) (drop b vs)) whole (get_or us a 0) e (lacking_cell us vs a b vp l m (f refl)))
 
 -- where one list is at its end, all that is left of the other is lacking
 pub rest_lacking : (us os : List ℕ) (i j : ℕ) → (length us ≤ i) ⊎ (length os ≤ j) →

@@ -1,11 +1,10 @@
 //! How two ascending lists of cells differ.
-ghost use Rattle.std.specs.Prelude.{◌≡◌, ◌≢◌, ◌≤◌, ◌<◌, ◌-◌, IfOk, length, take, drop, slice_index};
+ghost use Rattle.std.specs.Prelude.{◌≡◌, ◌≢◌, ◌≤◌, ◌<◌, ◌+◌, ◌-◌, ◌++◌, IfOk, length, take, drop, slice_index};
 ghost use Rattle.std.specs.List.Sorted.{IsStrictlyIncreasing};
 ghost use Rattle.s2union.specs.Apply.{cells_without};
 
 use s2cell::CellId;
 use std::alloc::{AllocError, Global};
-use std::cmp::Ordering;
 
 /// The cells of `old` that `new` lacks, and those of `new` that `old` lacks. The two lists have exactly the room that
 /// they need.
@@ -71,22 +70,17 @@ fn count_lacking(us: &[CellId], others: &[CellId]) -> usize
     let mut i = 0;
     let mut j = 0;
     while i < us.len() && j < others.len() {
-        match us[i].cmp(&others[j]) {
-            Ordering::Less => {
-                count += 1;
-                i += 1;
-            }
-            Ordering::Equal => {
-                i += 1;
-                j += 1;
-            }
-            Ordering::Greater => j += 1,
-        }
+        // Sums in place of branches, which the processor would guess wrong half of the time.
+        let is_below = us[i] < others[j];
+        let is_above = others[j] < us[i];
+        count += is_below as usize;
+        i += !is_above as usize;
+        j += !is_below as usize;
     }
     count + (us.len() - i)
 }
 
-/// The same as `unshared_cells`, by walks along both lists.
+/// The same as `unshared_cells`, by walks along both lists. Runs of cells that only one has are copied whole.
 fn unshared_by_walks(
     alloc: Global,
     old: &[CellId],
@@ -105,22 +99,45 @@ fn unshared_by_walks(
     let mut i = 0;
     let mut j = 0;
     while i < old.len() && j < new.len() {
-        match old[i].cmp(&new[j]) {
-            Ordering::Less => {
-                out.push(old[i])?;
-                i += 1;
-            }
-            Ordering::Equal => {
-                i += 1;
-                j += 1;
-            }
-            Ordering::Greater => {
-                put.push(new[j])?;
-                j += 1;
-            }
+        if old[i] == new[j] {
+            i += 1;
+            j += 1;
+        } else {
+            let (next_i, next_j) = next_shared(old, new, i, j);
+            out.extend_from_slice(&old[i..next_i])?;
+            put.extend_from_slice(&new[j..next_j])?;
+            i = next_i;
+            j = next_j;
         }
     }
     out.extend_from_slice(&old[i..])?;
     put.extend_from_slice(&new[j..])?;
     Ok((out, put))
+}
+
+/// The indexes of the next cell that both lists have, from two that differ on, or where one list is at its end.
+fn next_shared(us: &[CellId], vs: &[CellId], i: usize, j: usize) -> (usize, usize)
+    requires us_ascend { IsStrictlyIncreasing us.now }
+    requires vs_ascend { IsStrictlyIncreasing vs.now }
+    requires in_us { i < length us.now }
+    requires in_vs { j < length vs.now }
+    requires differ { slice_index us.now i ≢ slice_index vs.now j }
+    ensures in_us { (i ≤ result.0) × (result.0 ≤ length us.now) }
+    ensures in_vs { (j ≤ result.1) × (result.1 ≤ length vs.now) }
+    ensures further { i + j < result.0 + result.1 }
+    ensures us { take (result.0 - i) (drop i us.now) ++ cells_without (drop result.0 us.now) (drop result.1 vs.now)
+        ≡ cells_without (drop i us.now) (drop j vs.now) }
+    ensures vs { take (result.1 - j) (drop j vs.now) ++ cells_without (drop result.1 vs.now) (drop result.0 us.now)
+        ≡ cells_without (drop j vs.now) (drop i us.now) }
+{
+    let mut a = i;
+    let mut b = j;
+    loop {
+        let is_below = us[a] < vs[b];
+        a += is_below as usize;
+        b += !is_below as usize;
+        if a >= us.len() || b >= vs.len() || us[a] == vs[b] {
+            return (a, b);
+        }
+    }
 }

@@ -1,9 +1,9 @@
-use Rattle.std.proofs.Common.{◌≡◌, ◌<◌, ◌≤◌, ℕ, List, ◌++◌, ◌⊎◌, inl, inr, length, get_or, sym, ap}
+use Rattle.std.proofs.Common.{◌≡◌, ◌≤◌, ℕ, List, ◌++◌, ◌⊎◌, inl, inr, length, get_or, sym, ap}
 use Rattle.std.proofs.Common.{◌∙◌, arith}
 use Rattle.std.proofs.lemmas.Grind.{get_or_default_zero}
 use Rattle.std.proofs.lemmas.Bool.Decides.{nat_tests}
 use Rattle.s2edit.proofs.Sizes.{fewer_without, lacking_counts}
-use Rattle.s2edit.proofs.Differing.{below_turn, same_turn, lacking_turn, lacking_rest}
+use Rattle.s2edit.proofs.Differing.{same_turn, lacking_rest}
 use Rattle.s2edit.proofs.lacking.unshared_by_walks.Goals as goal
 use Rattle.s2edit.proofs.lacking.unshared_by_walks.Goals.{then-loop-i-test+else-j-new, else-loop-i-test}
 
@@ -22,8 +22,8 @@ overflow_sub-won c =
       lacking_counts us vs c.requires.old_ascends c.requires.new_ascends,
     )
 
-pub loop-i-preserved-in-Less : goal.loop-i-preserved-in-Less
-loop-i-preserved-in-Less c =
+pub loop-i-preserved-then-eq : goal.loop-i-preserved-then-eq
+loop-i-preserved-then-eq c =
     let l = c.loop-i in
     let us : List ℕ = c.args.old.now in
     let vs : List ℕ = c.args.«new».now in
@@ -31,30 +31,7 @@ loop-i-preserved-in-Less c =
     ∙ get_or_default_zero us l.i c.index-old-i.result c.loop-i-test.true in
     let y : c.index-new-j.result ≡ get_or vs l.j 0 = c.index-new-j.is
     ∙ get_or_default_zero vs l.j c.index-new-j.result c.if-j-new.true in
-    let below : c.index-old-i.result < c.index-new-j.result = grind (arith, nat_tests, c.in-Less.ensures) in
-    let z : c.index-old-i-in-Less.result ≡ get_or us l.i 0 = c.index-old-i-in-Less.is
-    ∙ get_or_default_zero us l.i c.index-old-i-in-Less.result c.loop-i-test.true in
-    record {
-      out = rw c.in_ok-push-in-Less.ensures.items
-          (lacking_turn us vs l.out.items l.i l.j c.index-old-i-in-Less.result c.requires.new_ascends
-          c.loop-i-test.true c.if-j-new.true z (omega arith) l.invariant.out);
-      put = ap (λ (xs : List ℕ). l.put.items ++ xs)
-          (below_turn vs us l.j l.i c.requires.new_ascends c.if-j-new.true c.loop-i-test.true (omega arith))
-          ∙ l.invariant.put;
-      i_within = omega (arith, c.loop-i-test.true);
-      j_within = l.invariant.j_within;
-    }
-
-pub loop-i-preserved-in-Equal : goal.loop-i-preserved-in-Equal
-loop-i-preserved-in-Equal c =
-    let l = c.loop-i in
-    let us : List ℕ = c.args.old.now in
-    let vs : List ℕ = c.args.«new».now in
-    let x : c.index-old-i.result ≡ get_or us l.i 0 = c.index-old-i.is
-    ∙ get_or_default_zero us l.i c.index-old-i.result c.loop-i-test.true in
-    let y : c.index-new-j.result ≡ get_or vs l.j 0 = c.index-new-j.is
-    ∙ get_or_default_zero vs l.j c.index-new-j.result c.if-j-new.true in
-    let one : c.index-old-i.result ≡ c.index-new-j.result = grind (arith, nat_tests, c.in-Equal.ensures) in
+    let one : c.index-old-i.result ≡ c.index-new-j.result = grind (arith, nat_tests, c.if-eq.ensures) in
     let same : get_or us l.i 0 ≡ get_or vs l.j 0 = sym x ∙ one ∙ y in
     record {
       out = ap (λ (xs : List ℕ). l.out.items ++ xs)
@@ -66,29 +43,6 @@ loop-i-preserved-in-Equal c =
       j_within = omega (arith, c.if-j-new.true);
     }
 
-pub loop-i-preserved : goal.loop-i-preserved
-loop-i-preserved c =
-    let l = c.loop-i in
-    let us : List ℕ = c.args.old.now in
-    let vs : List ℕ = c.args.«new».now in
-    let x : c.index-old-i.result ≡ get_or us l.i 0 = c.index-old-i.is
-    ∙ get_or_default_zero us l.i c.index-old-i.result c.loop-i-test.true in
-    let y : c.index-new-j.result ≡ get_or vs l.j 0 = c.index-new-j.is
-    ∙ get_or_default_zero vs l.j c.index-new-j.result c.if-j-new.true in
-    let below : c.index-new-j.result < c.index-old-i.result = grind (arith, nat_tests, c.in-Greater.ensures) in
-    let z : c.index-new-j-in-Greater.result ≡ get_or vs l.j 0 = c.index-new-j-in-Greater.is
-    ∙ get_or_default_zero vs l.j c.index-new-j-in-Greater.result c.if-j-new.true in
-    record {
-      out = ap (λ (xs : List ℕ). l.out.items ++ xs)
-          (below_turn us vs l.i l.j c.requires.old_ascends c.loop-i-test.true c.if-j-new.true (omega arith))
-          ∙ l.invariant.out;
-      put = rw c.in_ok-push-in-Greater.ensures.items
-          (lacking_turn vs us l.put.items l.j l.i c.index-new-j-in-Greater.result c.requires.old_ascends
-          c.if-j-new.true c.loop-i-test.true z (omega arith) l.invariant.put);
-      i_within = l.invariant.i_within;
-      j_within = omega (arith, c.if-j-new.true);
-    }
-
 pub returns-clause-out : goal.returns-clause-out
 returns-clause-out c =
     let l = c.loop-i in
@@ -96,7 +50,7 @@ returns-clause-out c =
       | then-loop-i-test+else-j-new w ↦ inr (omega arith)
       | else-loop-i-test w ↦ inl (omega arith)
     ] in
-    c.in_ok-extend_from_slice.ensures.items ∙ lacking_rest c.args.old.now c.args.«new».now l.out.items l.i l.j
+    c.in_ok-extend_from_slice-3.ensures.items ∙ lacking_rest c.args.old.now c.args.«new».now l.out.items l.i l.j
     ended l.invariant.out
 
 pub returns-clause-put : goal.returns-clause-put
@@ -106,5 +60,5 @@ returns-clause-put c =
       | then-loop-i-test+else-j-new w ↦ inl (omega arith)
       | else-loop-i-test w ↦ inr (omega arith)
     ] in
-    c.in_ok-extend_from_slice-2.ensures.items ∙ lacking_rest c.args.«new».now c.args.old.now l.put.items l.j l.i
+    c.in_ok-extend_from_slice-4.ensures.items ∙ lacking_rest c.args.«new».now c.args.old.now l.put.items l.j l.i
     ended l.invariant.put
