@@ -11,9 +11,9 @@ use Rattle.s2edit.specs.Diff.{FitsList, inverse, change_between}
 use Rattle.s2edit.specs.Leads.{list_at}
 use Rattle.s2edit.specs.Working.Chain.{list_after, table_after, tables_after, FitsTable, FitAlong, lists_of}
 use Rattle.s2edit.specs.Chain.{IsLocalWithin}
-use Rattle.s2edit.specs.Working.Chain.{AllWithin, history}
-use Rattle.s2edit.specs.Working.Chain.{union_of}
+use Rattle.s2edit.specs.Working.Chain.{AllWithin, AllRoomy, history}
 use Rattle.s2edit.proofs.Tables.{tables_after-take, FitAlong-take, AllWithin-at, within_after, tables_back, along_back}
+use Rattle.s2edit.proofs.Tables.{lists_of-set, AllRoomy-set, AllRoomy-get}
 use Rattle.s2edit.proofs.DiffLemmas.{only_change}
 use Rattle.s2edit.proofs.Numbers.{out_lost, put_won}
 use Rattle.s2edit.proofs.Moves.{Rewrites}
@@ -55,10 +55,10 @@ module _ (limit : ℕ) (t : List (List ℕ)) (r : ℕ) (v : List ℕ) (a : AllWi
       us' ≡ slice_set us r copy → slice_get us r ≡ Some spare' →
       Rewrites us us' copy spare' (change_between r (list_at (lists_of us) r) v)
   taken_over us us' copy spare' e f g h = record {
-    registers = g ∙ ap (λ (x : List ℕ). slice_set us r (union_of x copy.room))
+    table = ap lists_of g ∙ lists_of-set us r copy ∙ ap (slice_set (lists_of us) r)
         (f ∙ sym between_leads ∙ ap (λ (k : List (List ℕ)).
         applied (cells_without (list_at k r) v) (cells_without v (list_at k r)) (list_at k r)) (sym e));
-    was_there = h;
+    roomy = λ n b s. (subst (AllRoomy n) (sym g) (AllRoomy-set n us r copy b s), AllRoomy-get n us r spare' b h);
   }
 
 -- what an assignment leaves

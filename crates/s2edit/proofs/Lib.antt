@@ -31,6 +31,5 @@ pub mod Placing
 pub mod Stacking
 pub mod Watching
 pub mod InPlace
-pub mod Exchanging
 pub mod Near
 pub mod Making

@@ -1,7 +1,7 @@
 -- What undo and redo leave.
 use Rattle.std.proofs.Common.{◌≡◌, ℕ, ◌+◌, ◌≤◌, List, [], ◌∷◌, length, map, take, drop, slice_get, slice_set}
 use Rattle.std.proofs.Common.{Some, sym, ap, ◌∙◌, subst, arith}
-use Rattle.std.proofs.lemmas.List.{take_all, length-set}
+use Rattle.std.proofs.lemmas.List.{take_all, length-map, length-set}
 use Rattle.s2list.specs.Union.{Union}
 use Rattle.s2union.specs.Apply.{applied}
 use Rattle.s2file.specs.Session.{Diff}
@@ -9,35 +9,35 @@ use Rattle.s2edit.specs.History.{undone, undone_to, redone, redone_to, cells_los
 use Rattle.s2edit.specs.Diff.{inverse}
 use Rattle.s2edit.specs.Leads.{list_at}
 use Rattle.s2edit.specs.Working.Chain.{list_after, table_after, tables_after, FitsTable, FitAlong, lists_of, AllWithin}
-use Rattle.s2edit.specs.Working.Chain.{AllRoomy, history, union_of}
-use Rattle.s2edit.proofs.Tables.{within_after, tables_back, along_back, lists_of-set, AllRoomy-set, AllRoomy-get}
+use Rattle.s2edit.specs.Working.Chain.{AllRoomy, history}
+use Rattle.s2edit.proofs.Tables.{within_after, tables_back, along_back}
 use Rattle.s2edit.proofs.Numbers.{out_lost, put_won}
 
 first_and_rest : {X : Type 0} (xs : List X) (x : X) → Some x ≡ slice_get xs 0 → xs ≡ x ∷ drop 1 xs
 first_and_rest [] x h = absurd (cc)
 first_and_rest (y ∷ xs) x h = let e : x ≡ y = cc in ap (λ z. z ∷ xs) (sym e)
 
--- what a rewriting of one register leaves: the change d is made, and its register's old place becomes the spare
+-- the change that a chain begins with
+pub first_fits : (limit : ℕ) (t : List (List ℕ)) (ds : List Diff) (d : Diff) → FitAlong limit t ds →
+    Some d ≡ slice_get ds 0 → FitsTable limit t d
+first_fits limit t [] d f h = absurd (cc)
+first_fits limit t (e ∷ ds) d f h = let same : e ≡ d = cc in subst (FitsTable limit t) same f.0
+
+pub last_fits : (limit : ℕ) (t : List (List ℕ)) (ds : List Diff) (d : Diff) → FitAlong limit t (map inverse ds) →
+    Some d ≡ slice_get ds 0 → FitsTable limit t (inverse d)
+last_fits limit t [] d f h = absurd (cc)
+last_fits limit t (e ∷ ds) d f h = let same : e ≡ d = cc in subst (λ (x : Diff). FitsTable limit t (inverse x)) same f.0
+
+-- what a change of one register's list leaves: the table with the change made, and each list's room
 pub record Rewrites (us us' : List Union) (spare spare' : Union) (d : Diff) : Type 0 where
-  pub registers : us' ≡ slice_set us d.register (record { cells = list_after (lists_of us) d; room = spare.room })
-  pub was_there : slice_get us d.register ≡ Some spare'
+  pub table : lists_of us' ≡ table_after (lists_of us) d
+  pub roomy : (n : ℕ) → AllRoomy n us → n ≤ spare.room → AllRoomy n us' × (n ≤ spare'.room)
 
-module _ (limit : ℕ) (us us' : List Union) (spare spare' : Union) (d : Diff)
-    (m : Rewrites us us' spare spare' d) where
-  pub table_is : lists_of us' ≡ table_after (lists_of us) d
-  table_is = ap lists_of m.registers ∙ lists_of-set us d.register
-      (record { cells = list_after (lists_of us) d; room = spare.room })
-
-  pub rewritten_count : length us' ≡ length us
-  rewritten_count = ap length m.registers ∙ length-set us d.register
-      (record { cells = list_after (lists_of us) d; room = spare.room })
-
-  pub rewritten_roomy : AllRoomy limit us → limit ≤ spare.room → AllRoomy limit us' × (limit ≤ spare'.room)
-  rewritten_roomy a s = (
-    subst (AllRoomy limit) (sym m.registers)
-        (AllRoomy-set limit us d.register (record { cells = list_after (lists_of us) d; room = spare.room }) a s),
-    AllRoomy-get limit us d.register spare' a m.was_there,
-  )
+pub rewritten_count : (us us' : List Union) (d : Diff) → lists_of us' ≡ table_after (lists_of us) d →
+    length us' ≡ length us
+rewritten_count us us' d e =
+    sym (length-map us' (λ (u : Union). u.cells)) ∙ ap length e
+    ∙ length-set (lists_of us) d.register (list_after (lists_of us) d) ∙ length-map us (λ (u : Union). u.cells)
 
 -- what a move across one change leaves. The chain that it comes from begins with d, and the other one then begins
 -- with its inverse
@@ -54,7 +54,7 @@ module _ (limit : ℕ) (us us' : List Union) (spare spare' : Union) (d : Diff) (
   whole_fits = subst (FitAlong limit (lists_of us)) m.first f
 
   t_is : lists_of us' ≡ table_after (lists_of us) d
-  t_is = table_is limit us us' spare spare' d m.rewrites
+  t_is = m.rewrites.table
 
   pub moved_within : AllWithin limit (lists_of us')
   moved_within = subst (AllWithin limit) (sym t_is) (within_after limit (lists_of us) d a whole_fits.0)
@@ -80,14 +80,14 @@ module _ (limit : ℕ) (us us' : List Union) (spare spare' : Union) (d : Diff) (
       ∙ tables_back limit (lists_of us) d a whole_fits.0 to
 
 pub rewrites_from : (us us' : List Union) (spare spare' : Union) (d : Diff) (o p : List ℕ) → o ≡ d.out → p ≡ d.put →
-    us' ≡ slice_set us d.register (union_of (applied o p (list_at (lists_of us) d.register)) spare.room) →
-    slice_get us d.register ≡ Some spare' → Rewrites us us' spare spare' d
+    lists_of us' ≡ slice_set (lists_of us) d.register (applied o p (list_at (lists_of us) d.register)) →
+    ((n : ℕ) → AllRoomy n us → n ≤ spare.room → AllRoomy n us' × (n ≤ spare'.room)) → Rewrites us us' spare spare' d
 rewrites_from us us' spare spare' d o p e f g h = record {
-  registers = g ∙ ap (λ (x : List ℕ). slice_set us d.register
-      (union_of (applied x p (list_at (lists_of us) d.register)) spare.room)) e
-      ∙ ap (λ (x : List ℕ). slice_set us d.register
-      (union_of (applied d.out x (list_at (lists_of us) d.register)) spare.room)) f;
-  was_there = h;
+  table = g ∙ ap (λ (x : List ℕ). slice_set (lists_of us) d.register
+      (applied x p (list_at (lists_of us) d.register))) e
+      ∙ ap (λ (x : List ℕ). slice_set (lists_of us) d.register
+      (applied d.out x (list_at (lists_of us) d.register))) f;
+  roomy = h;
 }
 
 -- the ring that a move comes from, and the one that it goes to
@@ -155,7 +155,7 @@ module _ (limit depth : ℕ) (us us' : List Union) (spare spare' : Union) (c : D
       p ≡ numbers t (lists_of us')
   undo_numbers t p h e k =
       let n : lists_of us' ≡ table_after (lists_of us) (inverse c) =
-      table_is limit us us' spare spare' (inverse c) r in
+      r.table in
       ap (λ (x : ℕ). (x, p.1)) (e ∙ out_lost limit (lists_of us) (inverse c) a undo_fits)
       ∙ ap (λ (x : ℕ). (cells_lost (lists_of us) (table_after (lists_of us) (inverse c)), x))
       (k ∙ put_won limit (lists_of us) (inverse c) a undo_fits)
@@ -207,7 +207,7 @@ module _ (limit depth : ℕ) (us us' : List Union) (spare spare' : Union) (c : D
   pub redo_numbers : (t : List (List ℕ)) (p : ℕ × ℕ) → lists_of us ≡ t → p.0 ≡ length c.out → p.1 ≡ length c.put →
       p ≡ numbers t (lists_of us')
   redo_numbers t p h e k =
-      let n : lists_of us' ≡ table_after (lists_of us) c = table_is limit us us' spare spare' c r in
+      let n : lists_of us' ≡ table_after (lists_of us) c = r.table in
       ap (λ (x : ℕ). (x, p.1)) (e ∙ out_lost limit (lists_of us) c a redo_fits)
       ∙ ap (λ (x : ℕ). (cells_lost (lists_of us) (table_after (lists_of us) c), x))
       (k ∙ put_won limit (lists_of us) c a redo_fits)

@@ -1,12 +1,12 @@
 //! The editor: registers, and the history of their changes.
-ghost use Rattle.std.specs.Prelude.{◌≡◌, ◌≢◌, ◌+◌, ◌<◌, ◌≤◌, ◌↔◌, [], ◌∷◌, length};
+ghost use Rattle.std.specs.Prelude.{◌≡◌, ◌≢◌, ℕ, ◌+◌, ◌<◌, ◌≤◌, ◌↔◌, [], ◌∷◌, length};
 ghost use Rattle.std.specs.Prelude.{replicate, IfOk, OnOk, OnErr, IsOk, IfSome, IsNone, slice_get, slice_set, Some};
 ghost use Rattle.std.specs.Prelude.{vec_len, MatchBool, MatchOption};
-ghost use Rattle.s2list.specs.Union.{has_leaf, IsLocal, IsNormalForm};
+ghost use Rattle.s2list.specs.Union.{Union, has_leaf, IsLocal, IsNormalForm};
 ghost use Rattle.s2union.specs.Apply.{applied, Fits};
 ghost use Rattle.s2edit.specs.History.{untouched, Assigned, sets, undone, redone, numbers, EachList};
 ghost use Rattle.s2edit.specs.Leads.{list_at, table_at, Leads};
-ghost use Rattle.s2edit.specs.Working.Chain.{lists_of, union_of, AllRoomy};
+ghost use Rattle.s2edit.specs.Working.Chain.{lists_of, AllRoomy};
 ghost use Rattle.s2edit.specs.declared.editor.EditFault.TheVariants.{Memory};
 
 use crate::change::Change;
@@ -155,7 +155,7 @@ impl Editor {
         ensures numbers { IfSome result (λ n. n ≡ numbers self.old.now self.new.now) }
     {
         let change = self.past.pop_front()?;
-        rewrite(
+        change_register(
             &mut self.registers,
             &mut self.spare,
             change.register,
@@ -178,7 +178,7 @@ impl Editor {
         ensures numbers { IfSome result (λ n. n ≡ numbers self.old.now self.new.now) }
     {
         let change = self.future.pop_front()?;
-        rewrite(
+        change_register(
             &mut self.registers,
             &mut self.spare,
             change.register,
@@ -260,9 +260,8 @@ fn are_same(cells: &[CellId], others: &[CellId]) -> bool
     cells == others
 }
 
-/// Takes cells out of a register's list and puts others in: writes the new list into the spare list, and exchanges
-/// the two.
-pub(crate) fn rewrite(
+/// Takes cells out of a register's list and puts others in, in the list's own room.
+pub(crate) fn change_register(
     registers: &mut Vec<CellUnion>,
     spare: &mut CellUnion,
     register: Register,
@@ -273,12 +272,14 @@ pub(crate) fn rewrite(
     requires fits { Fits out.now put.now (list_at (lists_of registers.old.items) register) }
     requires room { length (applied out.now put.now (list_at (lists_of registers.old.items) register))
         ≤ spare.old.room }
-    ensures registers { registers.new.items ≡ slice_set registers.old.items register
-        (union_of (applied out.now put.now (list_at (lists_of registers.old.items) register)) spare.old.room) }
-    ensures spare { slice_get registers.old.items register ≡ Some spare.new }
+    requires own_room { (u : Union) → slice_get registers.old.items register ≡ Some u →
+        length (applied out.now put.now (list_at (lists_of registers.old.items) register)) ≤ u.room }
+    ensures table { lists_of registers.new.items ≡ slice_set (lists_of registers.old.items) register
+        (applied out.now put.now (list_at (lists_of registers.old.items) register)) }
+    ensures roomy { (n : ℕ) → AllRoomy n registers.old.items → n ≤ spare.old.room →
+        AllRoomy n registers.new.items × (n ≤ spare.new.room) }
 {
-    registers[register.index()].apply_into(out, put, spare);
-    exchange(registers, spare, register);
+    registers[register.index()].apply(out, put, spare);
 }
 
 /// Exchanges a register's list with the spare list.

@@ -9,7 +9,6 @@
 mod change;
 mod editor;
 mod edits;
-mod handful;
 mod lacking;
 pub mod laws;
 mod named;

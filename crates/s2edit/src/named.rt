@@ -18,8 +18,7 @@ ghost use Rattle.s2edit.specs.Working.Named.{Gives};
 
 use crate::REGISTERS;
 use crate::change::Change;
-use crate::editor::{EditFault, Editor};
-use crate::handful::change_register;
+use crate::editor::{EditFault, Editor, change_register};
 use crate::register::Register;
 use s2cell::CellId;
 use s2list::{CellList, find_from};
@@ -113,7 +112,13 @@ impl Editor {
         if old.len() - out + put > self.limit {
             return Err(EditFault::TooMany);
         }
-        change_register(self.alloc, &mut self.registers, &mut self.spare, &change);
+        change_register(
+            &mut self.registers,
+            &mut self.spare,
+            change.register,
+            &change.out,
+            &change.put,
+        );
         self.past.push_front(change);
         self.future.clear();
         Ok((out, put))

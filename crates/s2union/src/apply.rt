@@ -4,13 +4,13 @@
 //! [`Tail`] tells from the last three cells that it gave whether the next one may come after them. What counts looks at
 //! the list is a type parameter; looks at the cells of a change aren't counted.
 ghost use Rattle.std.specs.Prelude.{◌≡◌, ◌≤◌, ◌<◌, ◌+◌, ◌-◌, ◌*◌, ◌^◌, ◌++◌, ◌↔◌, ℕ};
-ghost use Rattle.std.specs.Prelude.{[], length, min, slice_index, IfOk, IsTrue, Some, None};
+ghost use Rattle.std.specs.Prelude.{[], length, take, drop, min, slice_index, IfOk, IsTrue, Some, None};
 ghost use Rattle.std.specs.List.Sorted.{IsStrictlyIncreasing};
 ghost use Rattle.std.specs.Vec.{vec_len, vec_capacity};
 ghost use Rattle.s2cell.specs.Cell.{IsCell};
 ghost use Rattle.s2list.specs.Union.{IsLocal};
 ghost use Rattle.s2union.specs.Apply.{applied, Fits, FewForChange};
-ghost use Rattle.s2union.specs.Working.Merge.{IsTurn, IsHead, IsFrontOf, Keeps, Uses, AtChange, TakesOne};
+ghost use Rattle.s2union.specs.Working.Merge.{IsTurn, IsHead, IsFrontOf, IsRest, Keeps, Uses, AtChange, TakesOne};
 ghost use Rattle.s2list.specs.Packed.{IsPacked};
 ghost use Rattle.s2union.specs.Working.Tail.{Follows, Passes};
 
@@ -82,6 +82,32 @@ impl CellUnion {
         }
     }
 
+    /// Takes the cells of `out` out of the list and puts those of `put` in, in the list's own room, for which it must
+    /// have it. The spare list must have room for the changed list too.
+    ///
+    /// Searches for each cell of `out` and `put`. The part of the list from the first of them to the last is written
+    /// anew in the spare list, whose own cells are dropped, and copied back; the cells after that part are moved once.
+    /// Takes no memory.
+    pub fn apply(&mut self, out: &[CellId], put: &[CellId], spare: &mut CellUnion)
+        requires fits { Fits out.now put.now self.old.cells }
+        requires room { length (applied out.now put.now self.old.cells) ≤ self.old.room }
+        requires spare_room { length (applied out.now put.now self.old.cells) ≤ spare.old.room }
+        ensures cells { self.new.cells ≡ applied out.now put.now self.old.cells }
+        ensures room { self.old.room ≤ self.new.room }
+        ensures spare_room { spare.old.room ≤ spare.new.room }
+    {
+        let _ = self.cells();
+        let none = Vec::new(*self.cells.allocator());
+        let mut list = mem::replace(&mut self.cells, none);
+        let none = Vec::new(*spare.cells.allocator());
+        let room = mem::replace(&mut spare.cells, none);
+        let mut part = changed_part(room, &list, out, put);
+        replace_part(&mut list, part.from, part.to, &part.cells);
+        self.cells = list;
+        part.cells.clear();
+        spare.cells = part.cells;
+    }
+
     /// Writes this list without `out` and with `put` into another union, which must have room for it and keeps that
     /// room.
     ///
@@ -135,6 +161,119 @@ impl CellUnion {
         let room = mem::replace(&mut into.cells, none);
         into.cells = applied_in(room, self.cells(), out, put, count);
     }
+}
+
+/// What a change makes of the part of a list that it concerns.
+#[derive(Drop)]
+struct Part {
+    /// How many cells of the list come before the part.
+    from: usize,
+    /// The index of the first cell after it.
+    to: usize,
+    /// The cells that take its place.
+    cells: Vec<CellId>,
+}
+
+/// The part of the cells from the first that is taken out or comes after one put in, in the room of a list whose own
+/// cells are dropped.
+fn changed_part(room: Vec<CellId>, cells: &[CellId], out: &[CellId], put: &[CellId]) -> Part
+    requires local { IsLocal cells.now }
+    requires fits { Fits out.now put.now cells.now }
+    requires room { length (applied out.now put.now cells.now) ≤ vec_capacity room }
+    ensures whole { (take result.from cells.now ++ result.cells.items) ++ drop result.to cells.now
+        ≡ applied out.now put.now cells.now }
+    ensures order { (result.from ≤ result.to) × (result.to ≤ length cells.now) }
+    ensures capacity { vec_capacity result.cells ≡ vec_capacity room }
+{
+    let mut list = room;
+    list.clear();
+    let mut merge = Merge::new(cells, out, put);
+    let from = merge.run(&mut Uncounted).len();
+    loop {
+        if merge.is_done() {
+            let to = cells.len() - merge.cells.len();
+            return Part {
+                from,
+                to,
+                cells: list,
+            };
+        }
+        let run = merge.run(&mut Uncounted);
+        list = with_cells(list, run, &mut Uncounted);
+        match merge.turn(&mut Uncounted) {
+            Turn::Write(cell) => list.push_reserved(cell),
+            Turn::Skip => {}
+            Turn::Misfit | Turn::End => {
+                return Part {
+                    from,
+                    to: cells.len(),
+                    cells: list,
+                };
+            }
+        }
+    }
+}
+
+/// Puts other cells in the place of a part of a list, which has room for them.
+fn replace_part(list: &mut Vec<CellId>, from: usize, to: usize, part: &[CellId])
+    requires order { (from ≤ to) × (to ≤ vec_len list.old) }
+    requires room { from + length part.now + (vec_len list.old - to) ≤ vec_capacity list.old }
+    ensures items { list.new.items ≡ (take from list.old.items ++ part.now) ++ drop to list.old.items }
+    ensures room { vec_capacity list.old ≤ vec_capacity list.new }
+{
+    move_rest(list, from, to, part);
+    list[from..from + part.len()].copy_from_slice(part);
+}
+
+/// Moves the cells after a part of a list to where they come after the cells that take its place.
+fn move_rest(list: &mut Vec<CellId>, from: usize, to: usize, part: &[CellId])
+    requires order { (from ≤ to) × (to ≤ vec_len list.old) }
+    requires room { from + length part.now + (vec_len list.old - to) ≤ vec_capacity list.old }
+    ensures len { vec_len list.new ≡ from + length part.now + (vec_len list.old - to) }
+    ensures front { take from list.new.items ≡ take from list.old.items }
+    ensures back { drop (from + length part.now) list.new.items ≡ drop to list.old.items }
+    ensures room { vec_capacity list.old ≤ vec_capacity list.new }
+{
+    let end = from + part.len();
+    if end < to {
+        shrink(list, end, to);
+    } else if to < end {
+        grow(list, to, &part[..end - to]);
+    }
+}
+
+/// Takes cells out of a list, those from index `from` to `to`. A single one is taken out fastest alone.
+fn shrink(list: &mut Vec<CellId>, from: usize, to: usize)
+    requires order { from < to }
+    requires within { to ≤ vec_len list.old }
+    ensures items { list.new.items ≡ take from list.old.items ++ drop to list.old.items }
+    ensures room { vec_capacity list.new ≡ vec_capacity list.old }
+{
+    if to - from == 1 {
+        list.remove(from);
+        return;
+    }
+    let len = list.len();
+    list.copy_within(to..len, from);
+    list.truncate(from + (len - to));
+}
+
+/// Makes a list longer by the number of `more`, for which it has room: the cells from an index on are moved.
+fn grow(list: &mut Vec<CellId>, at: usize, more: &[CellId])
+    requires within { at ≤ vec_len list.old }
+    requires room { vec_len list.old + length more.now ≤ vec_capacity list.old }
+    ensures len { vec_len list.new ≡ vec_len list.old + length more.now }
+    ensures front { take at list.new.items ≡ take at list.old.items }
+    ensures back { drop (at + length more.now) list.new.items ≡ drop at list.old.items }
+    ensures room { vec_capacity list.old ≤ vec_capacity list.new }
+{
+    if more.len() == 1 {
+        let _ = list.insert(at, more[0]);
+        return;
+    }
+    let len = list.len();
+    extend_reserved(list, more);
+    list.copy_within(at..len, at + more.len());
 }
 
 /// The cells without `out` and with `put`, in the room of a list whose own cells are dropped.
@@ -265,10 +404,19 @@ impl<'a> Merge<'a> {
         Merge { cells, out, put }
     }
 
+    /// Whether all cells are taken out and put in.
+    pub(crate) fn is_done(&self) -> bool
+        ensures { IsTrue result ↔ ((self.now.out ≡ []) × (self.now.put ≡ [])) }
+    {
+        self.out.is_empty() && self.put.is_empty()
+    }
+
     /// The cells of the list before the next one that is taken out or put in, which stay. The walk goes on after them.
     /// The number of looks is logarithmic in theirs.
     pub(crate) fn run<K: Count>(&mut self, count: &mut K) -> &'a [CellId]
         ensures keeps { Keeps result.now self.old self.new }
+        ensures front { take (length result.now) self.old.cells ≡ result.now }
+        ensures rest { IsRest self.new.cells self.old.cells }
         ensures packed { IsPacked result.now }
         ensures uses { Uses 0 0 (length result.now) self.old self.new }
         ensures at_change { AtChange self.new }
@@ -287,6 +435,7 @@ impl<'a> Merge<'a> {
         requires { self.old.cells ≡ [] }
         ensures turn { IsTurn result self.old self.new }
         ensures takes { TakesOne result self.old self.new }
+        ensures rest { IsRest self.new.cells self.old.cells }
     {
         if let Some((&put, rest)) = self.put.split_first() {
             self.put = rest;
@@ -302,6 +451,7 @@ impl<'a> Merge<'a> {
     pub(crate) fn turn<K: Count>(&mut self, count: &mut K) -> Turn
         ensures turn { IsTurn result self.old self.new }
         ensures takes { AtChange self.old → TakesOne result self.old self.new }
+        ensures rest { IsRest self.new.cells self.old.cells }
         ensures looks { K.looks count.new ≤ K.looks count.old + 1 }
         ensures least { min (K.looks count.old) K.most ≤ K.looks count.new }
         ensures some { 0 < length self.old.cells → min (K.looks count.old + 1) K.most ≤ K.looks count.new }

@@ -55,7 +55,3 @@ history limit depth registers past future = record {
   now = lists_of registers;
   future = tables_after (lists_of registers) future;
 }
-
--- the union with these cells and this room
-abbrev pub union_of : List ℕ → ℕ → Union
-union_of cells room = record { cells = cells; room = room }

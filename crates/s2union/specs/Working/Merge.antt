@@ -1,5 +1,5 @@
 -- A walk along a list and the two lists of a change.
-use Rattle.std.specs.Prelude.{◌≡◌, ◌<◌, ◌≤◌, ◌↔◌, ◌+◌, ◌-◌, ◌^◌, ℕ, true, false, List, [], ◌∷◌, ◌++◌, length}
+use Rattle.std.specs.Prelude.{◌≡◌, ◌<◌, ◌≤◌, ◌↔◌, ◌+◌, ◌-◌, ◌^◌, ℕ, true, false, List, [], ◌∷◌, ◌++◌, length, drop}
 use Rattle.std.specs.List.Sorted.{IsStrictlyIncreasing}
 use Rattle.std.specs.declared.cmp.Ordering.{Ordering}
 use Rattle.std.specs.declared.cmp.Ordering.TheVariants.{Less, Equal, Greater}
@@ -34,6 +34,10 @@ pub record Keeps (front : List ℕ) (old new : Left) : Type 0 where
   pub same : CanApply old ↔ CanApply new
   pub gives : CanApply old → made_list old ≡ front ++ made_list new
   pub less : length new.cells + length new.put ≤ length old.cells + length old.put
+
+-- a list is another one without its first cells
+abbrev pub IsRest : List ℕ → List ℕ → Type 0
+IsRest rest us = (length rest ≤ length us) × (drop (length us - length rest) us ≡ rest)
 
 -- what each kind of turn says: it writes a cell, writes nothing, finds that the change does not fit, or is at the end
 abbrev pub IsTurn : Turn → Left → Left → Type 0

@@ -12,7 +12,7 @@ use Rattle.s2edit.specs.Chain.{IsLocalWithin}
 use Rattle.s2edit.proofs.Tables.{AllWithin-get, AllWithin-at, slice_get-lists_of, read_register, list_read}
 use Rattle.s2edit.proofs.Assigning.{taken_over, Changes, change_leaves, change_within, change_past, change_future}
 use Rattle.s2edit.proofs.Assigning.{change_bound, change_numbers, assigned_same, assigned_other}
-use Rattle.s2edit.proofs.Moves.{Rewrites, table_is, rewritten_count, rewritten_roomy}
+use Rattle.s2edit.proofs.Moves.{Rewrites, rewritten_count}
 use Rattle.s2edit.proofs.Numbers.{numbers-same}
 use Rattle.s2edit.proofs.SetLemmas.{Assigned-sets}
 use Rattle.s2edit.proofs.editor.Editor.assign.Goals as goal
@@ -113,7 +113,7 @@ changes : (c : goal.After-clear) → Changes c.self.inside.depth c.self.inside.r
     c.exchange.new.registers.items c.self.inside.past.items c.push_front.new.self.items c.clear.new.self.items
     c.args.register c.args.union.cells
 changes c = record {
-  table = table_is c.self.inside.limit _ _ _ _ _ (rewrites c);
+  table = (rewrites c).table;
   onto = ap (λ (b : Buffer Diff). b.items) c.push_front.ensures.items
       ∙ ap (λ (n : ℕ). take n (c.in-Ok.change ∷ c.self.inside.past.items)) c.self.invariant.past_room
       ∙ ap (λ (d : Diff). take c.self.inside.depth (d ∷ c.self.inside.past.items)) (sym c.change.view_is ∙ change_is c);
@@ -161,12 +161,12 @@ invariant_of-self-2 c =
     let i = c.self.invariant in
     let d : Diff = change_between c.args.register (list_at (lists_of c.self.inside.registers.items) c.args.register)
     c.args.union.cells in
-    let w = rewritten_roomy c.self.inside.limit _ _ _ _ d (rewrites c) i.registers_roomy
+    let w = (rewrites c).roomy c.self.inside.limit i.registers_roomy
     (omega (arith, c.leading_to.ensures.room, i.spare_roomy)) in
     record {
       limit_bound = i.limit_bound;
       depth_most = i.depth_most;
-      count = rewritten_count c.self.inside.limit _ _ _ _ d (rewrites c) ∙ i.count;
+      count = rewritten_count _ _ d (rewrites c).table ∙ i.count;
       past_room = ap (λ (b : Buffer Diff). b.capacity) c.push_front.ensures.items ∙ i.past_room;
       future_room = ap (λ (b : Buffer Diff). b.capacity) c.clear.ensures ∙ i.future_room;
       depth_bound = change_bound c.self.inside.limit c.self.inside.depth _ _ _ _ _ c.args.register

@@ -17,6 +17,7 @@ use Rattle.s2edit.proofs.Assigning.{Changes, changes_from, change_leaves, change
 use Rattle.s2edit.proofs.Assigning.{change_bound, change_numbers, assigned_other}
 use Rattle.s2edit.proofs.DiffLemmas.{changes_list, only_change}
 use Rattle.s2edit.proofs.Making.{in_table, fits_here, within_here, fewer, sizes, nothing_made, nothing_more}
+use Rattle.s2edit.proofs.Moves.{rewrites_from}
 use Rattle.s2edit.proofs.Numbers.{numbers-same}
 use Rattle.s2edit.proofs.editor.Editor.make.Goals as goal
 use Rattle.s2edit.proofs.editor.Editor.make.Goals.{else-out-eq0-via-then-out-eq0+else-put-eq0}
@@ -138,15 +139,30 @@ change_register-requires c =
       c.if-len-out.false,
       ap (λ (k : List (List ℕ)). length (list_after k c.args.change)) t,
     ) in
+    let e : c.args.change ≡ record {
+      register = c.change.inside.register;
+      out = c.deref.result.now;
+      put = c.deref-2.result.now;
+    } = sym c.change.view_is
+    ∙ ap (λ (x : List ℕ). record {
+      register = c.change.inside.register;
+      out = x;
+      put = c.change.inside.put.items;
+    }) (sym c.deref.ensures.value)
+    ∙ ap (λ (x : List ℕ). record { register = c.change.inside.register; out = c.deref.result.now; put = x })
+    (sym c.deref-2.ensures.value) in
+    let short = subst (λ (d : Diff). length (list_after (lists_of i.registers.items) d) ≤ i.limit) e few in
     record {
-      in_range = omega (arith, whole, c.self.invariant.count, c.requires.in_range);
-      fits = fits_here i.limit i.depth i.registers.items i.past.items i.future.items c.args.self.now c.args.change
-          c.self.view_is c.self.invariant.count c.self.invariant.registers_within c.requires.in_range c.requires.fits;
-      room = omega (arith, few, c.self.invariant.spare_roomy);
-      own_room = λ u e.
-          let roomy = AllRoomy-get i.limit i.registers.items c.args.change.register u
-          c.self.invariant.registers_roomy e in
-          omega (arith, few);
+      in_range = omega (arith, whole, c.self.invariant.count, c.requires.in_range, ap (λ (d : Diff). d.register) e);
+      fits = subst (λ (d : Diff). FitsList d (list_at (lists_of i.registers.items) d.register)) e
+          (fits_here i.limit i.depth i.registers.items i.past.items i.future.items c.args.self.now c.args.change
+          c.self.view_is c.self.invariant.count c.self.invariant.registers_within c.requires.in_range c.requires.fits);
+      room = omega (arith, short, c.self.invariant.spare_roomy);
+      own_room = λ u h. omega (
+        arith,
+        short,
+        AllRoomy-get i.limit i.registers.items c.change.inside.register u c.self.invariant.registers_roomy h,
+      );
     }
 
 pub returns-clause-within : goal.returns-clause-within
@@ -238,8 +254,9 @@ differs c =
 
 table : (c : goal.After-clear) → lists_of c.change_register.new.registers.items
     ≡ table_after (lists_of c.self.inside.registers.items) (change c)
-table c = c.change_register.ensures.table
-    ∙ ap (λ (d : Diff). table_after (lists_of c.self.inside.registers.items) d) (sym c.change.view_is)
+table c = (rewrites_from c.self.inside.registers.items c.change_register.new.registers.items c.self.inside.spare
+    c.change_register.new.spare (change c) _ _ c.deref.ensures.value c.deref-2.ensures.value
+    c.change_register.ensures.table c.change_register.ensures.roomy).table
 
 changes : (c : goal.After-clear) → Changes c.self.inside.depth c.self.inside.registers.items
     c.change_register.new.registers.items c.self.inside.past.items c.push_front.new.self.items

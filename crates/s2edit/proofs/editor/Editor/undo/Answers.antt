@@ -1,9 +1,14 @@
-use Rattle.std.proofs.Common.{ℕ, List, ◌∷◌, Some, take, ap, sym, ◌∙◌, arith}
+use Rattle.std.proofs.Common.{ℕ, List, ◌∷◌, length, Some, take, ap, sym, ◌∙◌, arith}
 use Rattle.circular_buffer.specs.Buffer.{Buffer}
 use Rattle.s2file.specs.Session.{Diff}
 use Rattle.s2edit.specs.History.{History, undone, sets}
 use Rattle.s2edit.specs.Diff.{inverse}
-use Rattle.s2edit.proofs.Moves.{Shifts, Rewrites, rewrites_from, rewritten_count, rewritten_roomy, still_bound}
+use Rattle.s2union.specs.Apply.{applied}
+use Rattle.s2edit.specs.Leads.{list_at}
+use Rattle.s2edit.specs.Working.Chain.{lists_of, FitsTable}
+use Rattle.s2edit.proofs.Tables.{AllRoomy-get}
+use Rattle.s2edit.proofs.Moves.{last_fits}
+use Rattle.s2edit.proofs.Moves.{Shifts, Rewrites, rewrites_from, rewritten_count, still_bound}
 use Rattle.s2edit.proofs.Moves.{undo_leaves, undo_within, undo_past, undo_future, undo_numbers}
 use Rattle.s2edit.proofs.SetLemmas.{sets-undone}
 use Rattle.s2edit.proofs.editor.Editor.undo.Goals as goal
@@ -28,13 +33,34 @@ shifts c = record {
   bound = omega (arith, c.self.invariant.depth_bound);
 }
 
-rewrites : (c : goal.Joined-push_front) → Rewrites c.self.inside.registers.items c.rewrite.new.registers.items
-    c.self.inside.spare c.rewrite.new.spare (inverse (change c))
+pub change_register-requires-clause-own_room : goal.change_register-requires-clause-own_room
+change_register-requires-clause-own_room c u e =
+    let i = c.self.inside in
+    let d : Diff = record {
+      register = c.change.inside.register;
+      out = c.change.inside.out.items;
+      put = c.change.inside.put.items;
+    } in
+    let fits : FitsTable i.limit (lists_of i.registers.items) (inverse d) =
+    last_fits i.limit (lists_of i.registers.items) i.past.items d c.self.invariant.past_fits
+    (ap (λ (k : Diff). Some k) c.change.view_is ∙ c.in_ok-change.ensures.value) in
+    omega (
+      arith,
+      fits.few,
+      ap (λ (x : List ℕ). length (applied x c.deref-2.result.now (list_at (lists_of i.registers.items) d.register)))
+          c.deref.ensures.value,
+      ap (λ (x : List ℕ). length (applied d.put x (list_at (lists_of i.registers.items) d.register)))
+          c.deref-2.ensures.value,
+      AllRoomy-get i.limit i.registers.items d.register u c.self.invariant.registers_roomy e,
+    )
+
+rewrites : (c : goal.Joined-push_front) → Rewrites c.self.inside.registers.items c.change_register.new.registers.items
+    c.self.inside.spare c.change_register.new.spare (inverse (change c))
 unfolding change
 rewrites c =
-    rewrites_from c.self.inside.registers.items c.rewrite.new.registers.items c.self.inside.spare
-    c.rewrite.new.spare (inverse (change c)) _ _
-    c.deref.ensures.value c.deref-2.ensures.value c.rewrite.ensures.registers c.rewrite.ensures.spare
+    rewrites_from c.self.inside.registers.items c.change_register.new.registers.items c.self.inside.spare
+    c.change_register.new.spare (inverse (change c)) _ _
+    c.deref.ensures.value c.deref-2.ensures.value c.change_register.ensures.table c.change_register.ensures.roomy
 
 pub returns-clause-after : goal.returns-clause-after
 returns-clause-after c = undo_leaves c.self.inside.limit c.self.inside.depth _ _ _ _ (change c) _ _ _ _
@@ -56,12 +82,11 @@ returns-clause-numbers c =
 pub invariant_of-self-2 : goal.invariant_of-self-2
 invariant_of-self-2 c =
     let i = c.self.invariant in
-    let w = rewritten_roomy c.self.inside.limit _ _ _ _ (inverse (change c)) (rewrites c) i.registers_roomy
-    i.spare_roomy in
+    let w = c.change_register.ensures.roomy c.self.inside.limit i.registers_roomy i.spare_roomy in
     record {
       limit_bound = i.limit_bound;
       depth_most = i.depth_most;
-      count = rewritten_count c.self.inside.limit _ _ _ _ (inverse (change c)) (rewrites c) ∙ i.count;
+      count = rewritten_count _ _ (inverse (change c)) (rewrites c).table ∙ i.count;
       past_room = ap (λ (b : Buffer Diff). b.capacity) c.pop_front.ensures.items ∙ i.past_room;
       future_room = ap (λ (b : Buffer Diff). b.capacity) c.push_front.ensures.items ∙ i.future_room;
       depth_bound = omega (arith, still_bound c.self.inside.depth _ _ _ _ (change c) (shifts c));
