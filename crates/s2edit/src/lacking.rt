@@ -9,8 +9,8 @@ use std::alloc::{AllocError, Global};
 /// The cells of `old` that `new` lacks, and those of `new` that `old` lacks. The two lists have exactly the room that
 /// they need.
 ///
-/// Skips what both lists begin with and what both end with. For the rest it walks along both lists twice, the first
-/// time to count.
+/// Skips what both lists begin with and what both end with. It walks along the rest of both to count, and if they share
+/// a cell, a second time.
 pub(crate) fn unshared_cells(
     alloc: Global,
     old: &[CellId],
@@ -96,6 +96,11 @@ fn unshared_by_walks(
     let won = new.len() - shared;
     let mut out = Vec::with_capacity(alloc, lost)?;
     let mut put = Vec::with_capacity(alloc, won)?;
+    if shared == 0 {
+        out.extend_from_slice(old)?;
+        put.extend_from_slice(new)?;
+        return Ok((out, put));
+    }
     let mut i = 0;
     let mut j = 0;
     while i < old.len() && j < new.len() {

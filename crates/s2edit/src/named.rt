@@ -22,7 +22,7 @@ use crate::editor::{EditFault, Editor, change_register};
 use crate::register::Register;
 use s2cell::CellId;
 use s2list::{CellList, find_from};
-use s2union::{CellUnion, UnionFault, normalise};
+use s2union::{CellUnion, UnionFault, is_normalized};
 use std::alloc::{AllocError, Global};
 
 /// The part is looked for if the register has at least this number of cells for each named one.
@@ -189,8 +189,8 @@ fn removing(
     change_of_part(alloc, register, union, &part, &rest)
 }
 
-/// The cells of a union that meet named ones, and others before and after these. `None` if they can't be taken out of
-/// the union.
+/// The cells of a union that meet named ones, and others before and after these. `None` if they aren't normalized; as
+/// cells of a normalized list they are.
 fn part_near(
     alloc: Global,
     union: &CellUnion,
@@ -200,9 +200,9 @@ fn part_near(
     ensures { IfOk result (λ found. IfSome found
         (λ part. (c : ℕ) → has part.cells c ≡ true → has union.now.cells c ≡ true)) }
 {
-    let part = normalise(cells_near(alloc, union.cells(), named.cells(), reach)?);
-    if union.can_apply(part.cells(), &[]) {
-        Ok(Some(part))
+    let near = cells_near(alloc, union.cells(), named.cells(), reach)?;
+    if is_normalized(&near) {
+        Ok(Some(CellUnion::from_normalized(near)))
     } else {
         Ok(None)
     }
@@ -214,7 +214,9 @@ fn cells_near(
     cells: &[CellId],
     named: &[CellId],
     reach: usize,
-) -> Result<Vec<CellId>, AllocError> {
+) -> Result<Vec<CellId>, AllocError>
+    ensures { IfOk result (λ near. (c : ℕ) → has near.items c ≡ true → has cells.now c ≡ true) }
+{
     let mut near = Vec::new(alloc);
     let mut done = 0;
     for cell in named {

@@ -19,7 +19,6 @@ mod cells;
 mod differing;
 mod find;
 mod four;
-mod join;
 pub mod laws;
 mod looks;
 mod output;

@@ -1,17 +1,19 @@
 -- The part of a list that a change concerns.
-use Rattle.std.proofs.Common.{◌≡◌, ℕ, ◌-◌, List, [], ◌∷◌, ◌++◌, length, take, drop, refl, sym, ap, ◌∙◌, append-nil, append_assoc, drop-drop, arith, ◌≤◌, ◌+◌}
-use Rattle.s2union.specs.Apply.{applied, cells_without, insert_cells}
+use Rattle.std.proofs.Common.{◌≡◌, ℕ, ◌+◌, ◌-◌, List, [], ◌∷◌, ◌++◌, length, take, drop, refl, sym, ap, ◌∙◌}
+use Rattle.std.proofs.Common.{append-nil, append_assoc, drop-drop, arith}
+use Rattle.s2union.specs.Apply.{applied}
 use Rattle.s2union.specs.Working.Merge.{Left, CanApply, IsRest, Goes, Keeps, made_list}
 use Rattle.s2union.proofs.MergeSteps.{whole_on}
 
-cells_without-none : (us : List ℕ) → cells_without us [] ≡ us
-cells_without-none [] = refl
-cells_without-none (u ∷ us) = ap (λ (l : List ℕ). u ∷ l) (cells_without-none us)
+unchanged : (us : List ℕ) → applied [] [] us ≡ us
+unchanged [] = refl
+unchanged (u ∷ us) = ap (λ (l : List ℕ). u ∷ l) (unchanged us)
 
 -- the cells before the part, when none of it is written yet
-pub part_begins : {run list us : List ℕ} {old new : Left} → us ≡ old.cells → list ≡ [] → take (length run) old.cells ≡ run →
-    CanApply old → Keeps run old new → (take (length run) us ++ list) ++ made_list new ≡ made_list old
-part_begins {run = run} {list = list} {old = old} {new = new} u e f can k = rw (u, e, f)
+pub part_begins : {run list us : List ℕ} {old new : Left} → us ≡ old.cells → list ≡ [] →
+    take (length run) old.cells ≡ run → CanApply old → Keeps run old new →
+    (take (length run) us ++ list) ++ made_list new ≡ made_list old
+part_begins {run = run} {new = new} u e f can k = rw (u, e, f)
     (ap (λ (l : List ℕ). l ++ made_list new) (append-nil run) ∙ sym (k.gives can))
 
 -- a run and a turn, once part of it is written
@@ -34,6 +36,6 @@ rest_on us vs ws (m, e) (n, f) =
 pub part_ends : (before us whole : List ℕ) (left : Left) → (left.out ≡ []) × (left.put ≡ []) → IsRest left.cells us →
     before ++ made_list left ≡ whole → before ++ drop (length us - length left.cells) us ≡ whole
 part_ends before us whole left done rest e =
-    ap (λ (l : List ℕ). before ++ l) (rest.1 ∙ sym (cells_without-none left.cells)
-    ∙ ap (λ (l : List ℕ). insert_cells l (cells_without left.cells [])) (sym done.1)
-    ∙ ap (λ (l : List ℕ). insert_cells left.put (cells_without left.cells l)) (sym done.0)) ∙ e
+    ap (λ (l : List ℕ). before ++ l) (rest.1 ∙ sym (unchanged left.cells)
+    ∙ ap (λ (l : List ℕ). applied [] l left.cells) (sym done.1)
+    ∙ ap (λ (l : List ℕ). applied l left.put left.cells) (sym done.0)) ∙ e

@@ -25,8 +25,8 @@ use std::marker::Model;
 use std::mem;
 
 impl CellUnion {
-    /// An empty union with room for `n` cells, which [`apply_into`](CellUnion::apply_into) and
-    /// [`copy_from`](CellUnion::copy_from) may fill.
+    /// An empty union with room for `n` cells, which [`apply`](CellUnion::apply),
+    /// [`apply_into`](CellUnion::apply_into) and [`copy_from`](CellUnion::copy_from) may fill.
     ///
     /// Of the calls on changes this is the only one that takes memory: all that the room needs, at once.
     pub fn with_room(alloc: Global, n: usize) -> Result<CellUnion, AllocError>

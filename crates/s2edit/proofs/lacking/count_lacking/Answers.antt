@@ -1,4 +1,4 @@
-use Rattle.std.proofs.Common.{◌≡◌, ◌≤◌, ℕ, List, ◌⊎◌, inl, inr, not, length, drop, get_or, ap}
+use Rattle.std.proofs.Common.{◌≡◌, ◌<◌, ◌≤◌, ℕ, List, ◌⊎◌, inl, inr, not, true, false, length, drop, get_or, ap}
 use Rattle.std.proofs.Common.{◌∙◌, arith, length-drop}
 use Rattle.std.proofs.lemmas.Grind.{get_or_default_zero}
 use Rattle.s2union.specs.Apply.{cells_without}
@@ -19,23 +19,21 @@ loop-i-preserved c =
     ∙ get_or_default_zero os l.j c.index-others-j-in-loop-i.result c.if-j-others.true in
     let x' : c.index-us-i-in-loop-i.result ≡ get_or us l.i 0 = c.index-us-i-in-loop-i.is
     ∙ get_or_default_zero us l.i c.index-us-i-in-loop-i.result c.loop-i-test.true in
+    let below : c.lt-is_below.result ≡ true → c.index-us-i.result < c.index-others-j.result =
+    is_below _ _ _ c.lt-is_below.ensures in
+    let not_below : c.lt-is_below.result ≡ false → c.index-others-j.result ≤ c.index-us-i.result =
+    is_not_below _ _ _ c.lt-is_below.ensures in
+    let above : c.lt-is_above.result ≡ true → c.index-others-j-in-loop-i.result < c.index-us-i-in-loop-i.result =
+    is_below _ _ _ c.lt-is_above.ensures in
+    let not_above : c.lt-is_above.result ≡ false → c.index-us-i-in-loop-i.result ≤ c.index-others-j-in-loop-i.result =
+    is_not_below _ _ _ c.lt-is_above.ensures in
     record {
       count = counted us os l.i l.j l.count (length (cells_without us os)) c.lt-is_below.result c.lt-is_above.result
           c.requires.ascends c.requires.others_ascend c.loop-i-test.true c.if-j-others.true
-          (λ h. omega (arith, x, y, is_below c.index-us-i.result c.index-others-j.result c.lt-is_below.result c.lt-is_below.ensures h))
-          (λ h. omega (arith, x, y, is_not_below c.index-us-i.result c.index-others-j.result c.lt-is_below.result c.lt-is_below.ensures h))
-          (λ h. omega (arith, x', y', is_below c.index-others-j-in-loop-i.result c.index-us-i-in-loop-i.result c.lt-is_above.result c.lt-is_above.ensures h))
-          (λ h. omega (arith, x', y', is_not_below c.index-others-j-in-loop-i.result c.index-us-i-in-loop-i.result c.lt-is_above.result c.lt-is_above.ensures h)) l.invariant.count;
+          (λ h. omega (arith, x, y, below h)) (λ h. omega (arith, x, y, not_below h))
+          (λ h. omega (arith, x', y', above h)) (λ h. omega (arith, x', y', not_above h)) l.invariant.count;
       few = few_counted l.count l.i c.lt-is_below.result c.lt-is_above.result l.invariant.few
-          (λ h g. omega (
-            arith,
-            x,
-            y,
-            x',
-            y',
-            is_below c.index-us-i.result c.index-others-j.result c.lt-is_below.result c.lt-is_below.ensures h,
-            is_below c.index-others-j-in-loop-i.result c.index-us-i-in-loop-i.result c.lt-is_above.result c.lt-is_above.ensures g,
-          ));
+          (λ h g. omega (arith, x, y, x', y', below h, above g));
       i_within = one_more l.i (length us) (not c.lt-is_above.result) c.loop-i-test.true;
       j_within = one_more l.j (length os) (not c.lt-is_below.result) c.if-j-others.true;
     }

@@ -4,7 +4,6 @@ use Rattle.std.proofs.lemmas.Grind.{get_or_default_zero}
 use Rattle.std.proofs.lemmas.Bool.{true≢false}
 use Rattle.s2edit.proofs.Differing.{is_below, is_not_below, passed}
 use Rattle.s2edit.proofs.lacking.next_shared.Goals as goal
-use Rattle.s2edit.proofs.lacking.next_shared.Goals.{then-a-us-via-then-a-us, then-a-us-via-else-a-us+then-b-vs, then-a-us-via-else-a-us+else-b-vs+then-eq}
 
 -- which of two cells that differ is below
 record Order (us vs : List ℕ) (a b : ℕ) (p : Bool) : Type 0 where

@@ -1,6 +1,5 @@
-use Rattle.std.proofs.Common.{◌≡◌, ◌∙◌, ◌≤◌, ◌+◌, ◌++◌, arith, length, drop, take, refl, subst, sym, ap}
-use Rattle.std.proofs.lemmas.List.{append-nil}
-use Rattle.s2union.specs.Working.Merge.{Left, Keeps, CanApply, IsRest, made_list}
+use Rattle.std.proofs.Common.{◌∙◌, arith, length, take, refl, subst, sym, ap}
+use Rattle.s2union.specs.Working.Merge.{Left, CanApply, IsRest, made_list}
 use Rattle.s2list.proofs.Checking.{packed_from_local}
 use Rattle.s2union.proofs.Ending.{can_from}
 use Rattle.s2union.proofs.Parting.{part_begins, part_ends, part_grows, rest_on}
