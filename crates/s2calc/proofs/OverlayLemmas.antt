@@ -1,13 +1,20 @@
 -- Lemmas on reading several files, and on pictures of them.
 use Rattle.std.proofs.Common.{◌≡◌, ℕ, suc, ◌+◌, Bool, List, [], ◌∷◌, ◌++◌, length, refl, sym, ◌∙◌, ap, arith}
-use Rattle.std.proofs.Common.{append_assoc, append-nil, map, subst, inl, inr, Err, ◌⊎◌}
-use Rattle.std.proofs.lemmas.List.{length-map, map-append}
+use Rattle.std.proofs.Common.{append_assoc, append-nil, map, subst, inl, inr, Err, ◌⊎◌, ◌<◌, take, drop, get_or}
+use Rattle.std.proofs.Common.{take-append-drop}
+use Rattle.std.proofs.lemmas.List.{length-map, map-append, drop_more}
 use Rattle.s2shelf.specs.Shelf.{Files}
 use Rattle.s2draw.specs.Overlay.{Layer, layer, layers_from, overlay_head, overlay_foot, overlay}
 use Rattle.s2calc.specs.declared.refusal.Refusal.{Refusal}
 use Rattle.s2calc.specs.declared.refusal.Refusal.TheVariants.{Memory}
 use Rattle.s2calc.specs.Fetch.{FetchesUnion}
 use Rattle.s2calc.specs.Overlay.{ReadsCells, ReadsLayers, RefusesFiles}
+
+-- a list, cut round one of its elements
+pub cut_round : {A : Type 0} → (xs : List A) (i : ℕ) (x : A) → i < length xs → x ≡ get_or xs i x →
+    take i xs ++ (x ∷ drop (i + 1) xs) ≡ xs
+cut_round xs i x h e = ap (λ y. take i xs ++ (y ∷ drop (i + 1) xs)) e
+    ∙ ap (λ s. take i xs ++ s) (sym (drop_more xs i x h)) ∙ take-append-drop i xs
 
 -- one more file
 pub one_more_read : (names : List (List ℕ)) (old between new : Files) (ls : List Layer) (name cells : List ℕ) →

@@ -4,6 +4,7 @@ pub mod Edits
 pub mod Noting
 pub mod Buffered
 pub mod Answer
+pub mod Listing
 pub mod Calls
 pub mod Execute
 pub mod Seen

@@ -4,16 +4,15 @@ ghost use Rattle.std.specs.Prelude.{IfErr};
 ghost use Rattle.std.specs.Io.KnownBytes.{Appends};
 ghost use Rattle.s2cell.specs.Token.{token_of};
 ghost use Rattle.s2cell.specs.Debug.{debug_of};
-ghost use Rattle.s2union.specs.Denorm.{denormalised};
 ghost use Rattle.s2calc.specs.Output.{AppendsPart};
 ghost use Rattle.s2calc.specs.Calls.{NoneFailed, LastFailed};
 ghost use Rattle.s2calc.specs.Refusals.{name_of};
 ghost use Rattle.s2calc.specs.Replies.{text_of};
 ghost use Rattle.s2calc.specs.Working.Answer.{reply_of, told};
-ghost use Rattle.s2calc.specs.Texts.{cell_line, square_line, ok_line, count_line, history_line, done_line, token_line};
-ghost use Rattle.s2calc.specs.Texts.{listing};
+ghost use Rattle.s2calc.specs.Texts.{cell_line, square_line, ok_line, count_line, history_line, done_line};
 
 use crate::fault::RunFault;
+use crate::listing::{write_cells, write_cut};
 use crate::output::emit;
 use crate::refusal::Refusal;
 use crate::streams::Sink;
@@ -22,7 +21,6 @@ use itoa::Buffer;
 use s2cell::{CellId, Square};
 use s2edit::{Editor, Register};
 use s2script::{Level, Modulus};
-use s2union::CellUnion;
 
 /// The answer to a line, until it is written. For a long answer it says only what to list.
 #[derive(Clone, Copy)]
@@ -64,7 +62,7 @@ pub enum Answer {
     Refused(Refusal),
 }
 
-/// Writes an answer. It takes no memory: a long answer goes out line by line.
+/// Writes an answer. It takes no memory: a long answer goes out by blocks of lines.
 pub(crate) fn write_answer<W: Sink>(
     writer: &mut W,
     answer: &Answer,
@@ -118,41 +116,6 @@ fn done_line() -> &'static [u8]
     ensures { result.now ≡ done_line }
 {
     b"ok\n"
-}
-
-/// Writes the tokens of cells, one a line, and then `end`.
-fn write_cells<W: Sink>(writer: &mut W, cells: &[CellId]) -> Result<(), RunFault>
-    ensures ok { OnOk result (Appends (W.contents writer.old) (W.contents writer.new) (listing cells.now)) }
-    ensures err { OnErr result (AppendsPart (W.contents writer.old) (W.contents writer.new) (listing cells.now)) }
-    ensures fault { IfErr result (λ fault. fault ≡ RunFault.Output) }
-    ensures none_failed { OnOk result (NoneFailed ⊥ (W.calls writer.old) (W.calls writer.new)) }
-    ensures failed { OnErr result (LastFailed ⊥ (W.calls writer.old) (W.calls writer.new)) }
-{
-    for cell in cells {
-        emit(writer, token_line(*cell).as_slice())?;
-    }
-    emit(writer, b"end\n")
-}
-
-/// Writes the tokens of the cells that a union is cut to, one a line, and then `end`.
-fn write_cut<W: Sink>(
-    writer: &mut W,
-    union: &CellUnion,
-    least: Level,
-    modulus: Modulus,
-) -> Result<(), RunFault>
-    ensures ok { OnOk result (Appends (W.contents writer.old) (W.contents writer.new)
-        (listing (denormalised least modulus union.now.cells))) }
-    ensures err { OnErr result (AppendsPart (W.contents writer.old) (W.contents writer.new)
-        (listing (denormalised least modulus union.now.cells))) }
-    ensures fault { IfErr result (λ fault. fault ≡ RunFault.Output) }
-    ensures none_failed { OnOk result (NoneFailed ⊥ (W.calls writer.old) (W.calls writer.new)) }
-    ensures failed { OnErr result (LastFailed ⊥ (W.calls writer.old) (W.calls writer.new)) }
-{
-    for cell in union.denormalized(least.number(), modulus.number()) {
-        emit(writer, token_line(cell).as_slice())?;
-    }
-    emit(writer, b"end\n")
 }
 
 /// The room for one line.
@@ -243,16 +206,6 @@ fn two_numbers(before: &[u8], first: u64, between: &[u8], second: u64) -> Line
     put_number(&mut line, first);
     put(&mut line, between);
     put_number(&mut line, second);
-    put(&mut line, b"\n");
-    line
-}
-
-/// The line of a cell in a listing.
-fn token_line(cell: CellId) -> Line
-    ensures { result.items ≡ token_line cell }
-{
-    let mut line = ArrayVec::new();
-    put_token(&mut line, cell);
     put(&mut line, b"\n");
     line
 }

@@ -3,11 +3,11 @@
 //! of the bytes read, however reader and writer cut them, and what holds if one of them fails.
 //!
 //! A line flows one way: bytes (`engine`, `progress`, `kept`) -> what it says (the crate `s2script`) -> its effect
-//! (`execute`: `edits`, `files`, `sessions`, `questions`; `fetch` asks the shelf) -> an `answer` -> bytes (`output`,
-//! `answer_buffer`). `refusal` says why a line is refused, and `notes` writes that to whoever asks. `fault` is what
-//! ends a run, `streams` what it reads from and writes to, `desk` what it works with, `flushing` when the writer is
-//! flushed, `observer` who sees in which order a run reads and carries out lines. `limits` are the limits, `laws` laws
-//! about the definitions.
+//! (`execute`: `edits`, `files`, `sessions`, `questions`; `fetch` asks the shelf) -> an `answer`, or a `listing` ->
+//! bytes (`output`, `answer_buffer`). `refusal` says why a line is refused, and `notes` writes that to whoever asks.
+//! `fault` is what ends a run, `streams` what it reads from and writes to, `desk` what it works with, `flushing` when
+//! the writer is flushed, `observer` who sees in which order a run reads and carries out lines. `limits` are the
+//! limits, `laws` laws about the definitions.
 //!
 //! For the program: `command_line`, `help` and `task` (what it is asked for), `program`, `check`, `draw` and `overlay`
 //! (its other answers).
@@ -30,6 +30,7 @@ mod help;
 mod kept;
 pub mod laws;
 mod limits;
+mod listing;
 mod notes;
 mod observer;
 mod output;

@@ -6,8 +6,7 @@ use Rattle.std.proofs.lemmas.Result.{err_from_is_err_and}
 use Rattle.s2draw.specs.Overlay.{overlay_head}
 use Rattle.s2calc.specs.declared.refusal.Refusal.TheVariants.{Memory}
 use Rattle.s2calc.specs.Replies.{Says}
-use Rattle.s2calc.proofs.ListingLemmas.{cut_round}
-use Rattle.s2calc.proofs.OverlayLemmas.{InPicture, grow, refused_at, stopped_first, stopped_last, finished}
+use Rattle.s2calc.proofs.OverlayLemmas.{InPicture, cut_round, grow, refused_at, stopped_first, stopped_last, finished}
 use Rattle.s2calc.proofs.overlay.overlay_files.Goals as goal
 
 pub loop-name-preserved : goal.loop-name-preserved
