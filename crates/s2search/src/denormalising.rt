@@ -7,7 +7,7 @@ ghost use Rattle.s2search.specs.Working.Room.{IsPut};
 ghost use Rattle.s2search.specs.Room.{PutsOne};
 
 use s2cell::{CellId, GREATEST_LEVEL};
-use s2union::{count_descendants, level_to_cut};
+use s2union::{CutLevels, count_descendants};
 
 /// Puts the cells that the cells of a union are cut into at the front of a room, if they fit, and answers how many they
 /// are. Each cell is cut to the least level that is at least its own, is at least `min`, and differs from `min` by a
@@ -21,28 +21,25 @@ pub fn denormalise(ids: &[u64], min: u8, modulus: u8, out: &mut [u64]) -> usize
     ensures put { IsLocal ids.now
         → PutsOne (λ list. list ≡ denormalised min modulus ids.now) out.old out.new result }
 {
+    let cuts = CutLevels::new(min, modulus);
     let mut n = 0;
     for id in ids {
-        n = put_items(out, n, *id, min, modulus);
+        n = put_items(out, n, *id, &cuts);
     }
     n
 }
 
 /// Puts the cells that a number is cut into after the first `n` identifiers, if there is room for all of them, and
 /// answers how many they are then.
-fn put_items(out: &mut [u64], n: usize, id: u64, min: u8, modulus: u8) -> usize
-    requires min { min ≤ GREATEST_LEVEL }
-    requires some { 0 < modulus }
-    requires modulus { modulus ≤ 3 }
+fn put_items(out: &mut [u64], n: usize, id: u64, cuts: &CutLevels) -> usize
     ensures len { length out.new ≡ length out.old }
     ensures put { IsCell id → (list room : List ℕ) → IsPut list room out.old n
-        → IsPut (list ++ cells_in (cut_level (level_of id) min modulus) id) room out.new result }
+        → IsPut (list ++ cells_in (cut_level (level_of id) cuts.now.least cuts.now.modulus) id) room out.new result }
 {
     let Some(cell) = CellId::from_id(id) else {
         return n;
     };
-    let level = level_to_cut(cell.level(), min, modulus);
-    put_descendants(out, n, cell, level)
+    put_descendants(out, n, cell, cuts.of(cell.level()))
 }
 
 /// Puts the cells of a level inside a cell after the first `n` identifiers, if there is room for all of them, and

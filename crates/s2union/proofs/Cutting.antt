@@ -1,9 +1,11 @@
 -- The level that a cell is cut to, and the cells of that level in it.
+use Rattle.std.proofs.Common.{zero, suc, List, set, get_or-set_same, get_or-set_other}
+use Rattle.std.proofs.lemmas.List.{length-set}
 use Rattle.std.proofs.Common.{◌≡◌, ℕ, ◌+◌, ◌-◌, ◌*◌, ◌/◌, ◌%◌, ◌^◌, ◌<◌, ◌≤◌, refl, sym}
 use Rattle.std.proofs.Common.{◌∙◌, ap, arith, subst, inl, inr, length, get_or, min}
 use Rattle.std.proofs.Math.Logic.{⊎_elim}
 use Rattle.std.proofs.Math.Nat.{mul-le-mul_right, lt_of_mul-lt-mul_right, mul-mod_left, div-mul-le_self, lt-div-mul-add}
-use Rattle.std.proofs.lemmas.Bool.{cases_lt}
+use Rattle.std.proofs.lemmas.Bool.{cases_lt, cases_eq}
 use Rattle.std.proofs.lemmas.Nat.{div_below}
 use Rattle.std.proofs.lemmas.List.FromFn.{length-map-range_with_len, get_or-map-range_with_len}
 use Rattle.s2cell.specs.Cell.{IsCell, level_of, first_leaf, size_of, IsInside}
@@ -174,4 +176,59 @@ cells_in_is {c} t cc own deep =
             let r = descendant_from t cc own deep cd ld inside in
             (r.0, rw len r.1, get_or-cells_in t c r.0 d r.1 ∙ r.2),
       );
+    }
+
+-- ---- the table of the levels
+
+-- the level that a cell is cut to, if there were no deepest level
+abbrev pub raised : ℕ → ℕ → ℕ → ℕ
+raised level least modulus = least + (level - least + (modulus - 1)) / modulus * modulus
+
+raised_none : (least modulus : ℕ) → 0 < modulus → modulus ≤ 3 → least ≡ raised 0 least modulus
+raised_none least zero some fits = absurd (omega arith)
+raised_none least (suc zero) some fits = omega arith
+raised_none least (suc (suc zero)) some fits = omega arith
+raised_none least (suc (suc (suc zero))) some fits = omega arith
+raised_none least (suc (suc (suc (suc m)))) some fits = absurd (omega arith)
+
+-- from one level to the next it stays, or is raised by the modulus
+raised_more : (level least modulus cut later : ℕ) → 0 < modulus → modulus ≤ 3 → cut ≡ raised (level - 1) least modulus →
+    (cut < level → later ≡ cut + modulus) → (level ≤ cut → later ≡ cut) → later ≡ raised level least modulus
+raised_more level least zero cut later some fits e up same = absurd (omega arith)
+raised_more level least (suc zero) cut later some fits e up same =
+    ⊎_elim (λ h. let u = up h in omega arith) (λ h. let s = same h in omega arith) (cases_lt cut level)
+raised_more level least (suc (suc zero)) cut later some fits e up same =
+    ⊎_elim (λ h. let u = up h in omega arith) (λ h. let s = same h in omega arith) (cases_lt cut level)
+raised_more level least (suc (suc (suc zero))) cut later some fits e up same =
+    ⊎_elim (λ h. let u = up h in omega arith) (λ h. let s = same h in omega arith) (cases_lt cut level)
+raised_more level least (suc (suc (suc (suc m)))) cut later some fits e up same = absurd (omega arith)
+
+-- the table has the levels for the first ones, and `cut` is the last of them, if there were no deepest level
+pub record CutBelow (level least modulus cut : ℕ) (levels : List ℕ) : Type 0 where
+  pub size : length levels ≡ 31
+  pub last : cut ≡ raised (level - 1) least modulus
+  pub each : (k : ℕ) → k < level → get_or levels k 0 ≡ cut_level k least modulus
+
+pub cut_below_none : (least modulus : ℕ) (levels : List ℕ) → 0 < modulus → modulus ≤ 3 → length levels ≡ 31 →
+    CutBelow 0 least modulus least levels
+cut_below_none least modulus levels some fits size =
+    record { size = size; last = raised_none least modulus some fits; each = λ k h. absurd (omega arith) }
+
+pub cut_below_more : {level least modulus cut : ℕ} {levels : List ℕ} (later entry : ℕ) → level < 31 → 0 < modulus →
+    modulus ≤ 3 → CutBelow level least modulus cut levels → (cut < level → later ≡ cut + modulus) →
+    (level ≤ cut → later ≡ cut) → entry ≡ min later 30
+    → CutBelow (level + 1) least modulus later (set levels level entry)
+unfolding cut_level
+cut_below_more {level} {least} {modulus} {cut} {levels} later entry deep some fits b up same e =
+    let next : later ≡ raised level least modulus =
+    raised_more level least modulus cut later some fits b.last up same in
+    let size = b.size in
+    record {
+      size = length-set levels level entry ∙ size;
+      last = next ∙ ap (λ k. raised k least modulus) (omega arith);
+      each = λ k h.
+          elim (cases_eq k level) [
+            | inl is ↦ rw is (get_or-set_same levels level entry 0 (omega arith) ∙ e ∙ ap (λ n. min n 30) next)
+            | inr other ↦ get_or-set_other levels level k entry 0 other ∙ b.each k (omega arith)
+          ];
     }

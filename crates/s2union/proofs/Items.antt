@@ -104,45 +104,41 @@ some_from_test n r e t = grind (arith, nat_tests)
 
 -- where an iterator is at first
 pub underway : (cells : List ℕ) (least modulus own level count c : ℕ) →
-    least ≤ 30 → 0 < modulus → modulus ≤ 3 → 0 < length cells → c ≡ get_or cells 0 c → own ≡ level_of c →
-    level ≡ cut_level own least modulus → count ≡ 4 ^ (level - own) → IsUnderway cells least modulus level 0 count
-underway [] least modulus own level count c a b d some e o f g = absurd (omega arith)
-underway (x ∷ u) least modulus own level count c a b d some e o f0 g0 =
+    0 < length cells → c ≡ get_or cells 0 c → own ≡ level_of c → level ≡ cut_level own least modulus → own ≤ level →
+    level ≤ 30 → count ≡ 4 ^ (level - own) → IsUnderway cells least modulus level 0 count
+underway [] least modulus own level count c some e o f low deep g = absurd (omega arith)
+underway (x ∷ u) least modulus own level count c some e o f0 low deep g0 =
     let f : level ≡ cut_level (level_of c) least modulus = rw (← o) f0 in
     let n : count ≡ 4 ^ (level - level_of c) = rw (← o) g0 in
     let pos : 0 < 4 ^ (level - level_of c) = four_pos (level - level_of c) in
     record {
-      least_fits = a;
-      modulus_some = b;
-      modulus_fits = d;
       ended = λ z. refl;
       cut = λ z. rw (← e) f;
       items = λ z. rw (← e) n;
       before = λ z. omega arith;
+      own = λ z. let same = ap level_of e in omega arith;
+      deepest = λ z. deep;
     }
 
-pub underway_none : (cells : List ℕ) (least modulus level count : ℕ) → least ≤ 30 → 0 < modulus → modulus ≤ 3 →
-    length cells ≡ 0 → IsUnderway cells least modulus level 0 count
-underway_none cells least modulus level count a b d none = record {
-  least_fits = a;
-  modulus_some = b;
-  modulus_fits = d;
+pub underway_none : (cells : List ℕ) (least modulus level count : ℕ) → length cells ≡ 0 →
+    IsUnderway cells least modulus level 0 count
+underway_none cells least modulus level count none = record {
   ended = λ z. refl;
   cut = λ z. absurd (omega arith);
   items = λ z. absurd (omega arith);
   before = λ z. absurd (omega arith);
+  own = λ z. absurd (omega arith);
+  deepest = λ z. absurd (omega arith);
 }
 
 -- the level to cut to is at least that of the cell, and at most 30
 pub underway_level : (cells : List ℕ) {least modulus level number count : ℕ} (c : ℕ) → IsUnderway cells
     least modulus level number count → 0 < length cells → c ≡ get_or cells 0 c → (level_of c ≤ level) × (level ≤ 30)
 underway_level [] c w some e = absurd (omega arith)
-underway_level (b ∷ u) {least} {modulus} {level} c w some e =
-    let t : level ≡ cut_level (level_of b) least modulus = w.cut some in
-    let own = cut_level_own (level_of b) least modulus (level_most b) w.modulus_some in
+underway_level (b ∷ u) c w some e =
+    let own = w.own some in
     let same = ap level_of e in
-    let most = cut_level_most (level_of b) least modulus in
-    (omega arith, omega arith)
+    (omega arith, w.deepest some)
 
 -- ---- how many they are
 

@@ -6,6 +6,11 @@ use Rattle.std.specs.List.Sorted.{IsStrictlyIncreasing}
 use Rattle.s2cell.specs.Cell.{IsCell, level_of, IsInside}
 use Rattle.s2cell.specs.Descendant.{descendant_of}
 
+-- the levels that are wanted: `least`, and those above it that differ from it by a multiple of `modulus`
+pub record Cutting : Type 0 where
+  pub least : ℕ
+  pub modulus : ℕ
+
 -- a cell of level `level` may be cut to level `t`: `t` is at least `level` and at least `least`, and differs from
 -- `least` by a multiple of `modulus`
 pub record IsWanted (level least modulus t : ℕ) : Type 0 where

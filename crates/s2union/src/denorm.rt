@@ -4,6 +4,7 @@ ghost use Rattle.std.specs.Prelude.{◌*◌, ◌+◌, ◌++◌, ◌-◌, ◌^◌
 ghost use Rattle.std.specs.Vec.{vec_len, vec_capacity};
 ghost use Rattle.s2cell.specs.Cell.{level_of};
 ghost use Rattle.s2list.specs.Union.{IsLocal};
+ghost use Rattle.s2union.specs.Working.Denorm.{IsUnderway};
 ghost use Rattle.s2union.specs.Denorm.{denormalised, IsDenormalised, IsCutLevel, cells_in, cut_level};
 
 use crate::union::CellUnion;
@@ -11,13 +12,70 @@ use s2cell::{CellId, GREATEST_LEVEL, LEAVES};
 use std::alloc::{AllocError, Global};
 use std::marker::Model;
 
+/// The levels that cells are cut to, of a least level and a modulus, which is all that a contract sees. A table has the
+/// level for each level of a cell, so nothing is divided.
+#[derive(Drop)]
+pub struct CutLevels {
+    min: u8,
+    modulus: u8,
+    levels: [u8; 31],
+}
+
+impl Model for CutLevels {
+    ghost use Rattle.s2union.specs.Denorm.{Cutting};
+    ghost use Rattle.s2union.specs.Working.Denorm.{AreCutLevels};
+
+    ghost Value = { Cutting };
+
+    ghost view = { λ c. record { least = c.min; modulus = c.modulus } };
+
+    ghost invariant = { λ c. AreCutLevels c.min c.modulus c.levels };
+}
+
+impl CutLevels {
+    /// The levels for a least level, at most 30, and a modulus, 1 to 3.
+    pub fn new(min: u8, modulus: u8) -> CutLevels
+        requires min { min ≤ GREATEST_LEVEL }
+        requires some { 0 < modulus }
+        requires modulus { modulus ≤ 3 }
+        ensures min { result.least ≡ min }
+        ensures modulus { result.modulus ≡ modulus }
+    {
+        let mut levels = [0u8; 31];
+        let mut cut = min;
+        for level in 0..31u8 {
+            if cut < level {
+                cut += modulus;
+            }
+            levels[level as usize] = cut.min(GREATEST_LEVEL);
+        }
+        CutLevels {
+            min,
+            modulus,
+            levels,
+        }
+    }
+
+    /// The level that a cell of this level is cut to: the least that is at least its own, is at least `min`, and
+    /// differs from `min` by a multiple of `modulus`; 30 if there is none.
+    pub fn of(&self, level: u8) -> u8
+        requires { level ≤ GREATEST_LEVEL }
+        ensures value { result ≡ cut_level level self.now.least self.now.modulus }
+        ensures meaning { IsCutLevel level self.now.least self.now.modulus result }
+        ensures own { level ≤ result }
+        ensures most { result ≤ GREATEST_LEVEL }
+        ensures some { 0 < self.now.modulus }
+    {
+        self.levels[level as usize]
+    }
+}
+
 /// The cells of a union, each cut to the level that is wanted: an iterator that borrows the union, holds a few numbers
 /// and takes no memory. A contract sees it as the list of the cells that are still to come.
 #[derive(Drop)]
 pub struct Denorm<'a> {
     cells: &'a [CellId],
-    min: u8,
-    modulus: u8,
+    cuts: CutLevels,
     level: u8,
     number: u64,
     count: u64,
@@ -31,35 +89,37 @@ impl<'a> Model for Denorm<'a> {
 
     ghost Value = { List ℕ };
 
-    ghost view = { λ d. drop d.number (denormalised d.min d.modulus d.cells.now) };
+    ghost view = { λ d. drop d.number (denormalised d.cuts.least d.cuts.modulus d.cells.now) };
 
-    ghost invariant = { λ d. IsUnderway d.cells.now d.min d.modulus d.level d.number d.count };
+    ghost invariant = { λ d. IsUnderway d.cells.now d.cuts.least d.cuts.modulus d.level d.number d.count };
 }
 
 impl<'a> Denorm<'a> {
     /// The iterator over the cells that `cells` are cut to, at its first cell.
-    fn over(cells: &'a [CellId], min: u8, modulus: u8) -> Denorm<'a>
-        requires min { min ≤ GREATEST_LEVEL }
-        requires some { 0 < modulus }
-        requires modulus { modulus ≤ 3 }
-        ensures { result ≡ denormalised min modulus cells.now }
+    fn over(cells: &'a [CellId], cuts: CutLevels) -> Denorm<'a>
+        ensures { result ≡ denormalised cuts.least cuts.modulus cells.now }
     {
-        let mut level = 0;
-        let mut count = 0;
-        if !cells.is_empty() {
-            let own = cells[0].level();
-            level = level_to_cut(own, min, modulus);
-            count = count_descendants(own, level);
-        }
+        let (level, count) = first_cut(cells, &cuts);
         Denorm {
             cells,
-            min,
-            modulus,
+            cuts,
             level,
             number: 0,
             count,
         }
     }
+}
+
+/// The level that the first cell is cut to, and how many cells of it that gives; zeros if there is none.
+fn first_cut(cells: &[CellId], cuts: &CutLevels) -> (u8, u64)
+    ensures { IsUnderway cells.now cuts.now.least cuts.now.modulus result.0 0 result.1 }
+{
+    if cells.is_empty() {
+        return (0, 0);
+    }
+    let own = cells[0].level();
+    let level = cuts.of(own);
+    (level, count_descendants(own, level))
 }
 
 impl<'a> Iterator for Denorm<'a> {
@@ -78,26 +138,12 @@ impl<'a> Iterator for Denorm<'a> {
         let item = self.cells[0].descendant(self.level, self.number);
         self.number += 1;
         if self.number == self.count {
-            *self = Denorm::over(&self.cells[1..], self.min, self.modulus);
+            self.cells = &self.cells[1..];
+            self.number = 0;
+            (self.level, self.count) = first_cut(self.cells, &self.cuts);
         }
         Some(item)
     }
-}
-
-/// The level that a cell of this level is cut to: the least that is at least its own, is at least `min`, and differs
-/// from `min` by a multiple of `modulus`; 30 if there is none.
-pub fn level_to_cut(level: u8, min: u8, modulus: u8) -> u8
-    requires level { level ≤ GREATEST_LEVEL }
-    requires min { min ≤ GREATEST_LEVEL }
-    requires some { 0 < modulus }
-    requires modulus { modulus ≤ 3 }
-    ensures value { result ≡ cut_level level min modulus }
-    ensures meaning { IsCutLevel level min modulus result }
-    ensures own { level ≤ result }
-    ensures most { result ≤ GREATEST_LEVEL }
-{
-    let steps = (level.saturating_sub(min) + (modulus - 1)) / modulus;
-    (min + steps * modulus).min(GREATEST_LEVEL)
 }
 
 /// How many cells of a level a cell of another level has: 4 for each level between them.
@@ -122,7 +168,7 @@ impl CellUnion {
         ensures meaning { IsDenormalised min modulus self.now.cells result }
         ensures most { length result ≤ LEAVES }
     {
-        Denorm::over(self.cells(), min, modulus)
+        Denorm::over(self.cells(), CutLevels::new(min, modulus))
     }
 
     /// The cells that `denormalized` gives, as a list: quicker than the iterator if most cells are cut. Takes memory
@@ -139,7 +185,7 @@ impl CellUnion {
         ensures items { IfOk result (λ list. list.items ≡ denormalised min modulus self.now.cells) }
         ensures meaning { IfOk result (λ list. IsDenormalised min modulus self.now.cells list.items) }
     {
-        list_items(alloc, self.cells(), min, modulus)
+        list_items(alloc, self.cells(), &CutLevels::new(min, modulus))
     }
 
     /// How many cells `denormalized` gives, computed without going through them, under the same conditions.
@@ -149,45 +195,32 @@ impl CellUnion {
         requires modulus { modulus ≤ 3 }
         ensures { result ≡ length (denormalised min modulus self.now.cells) }
     {
-        count_items(self.cells(), min, modulus)
+        count_items(self.cells(), &CutLevels::new(min, modulus))
     }
 }
 
 /// How many cells the cells of a local list are cut into.
-fn count_items(cells: &[CellId], min: u8, modulus: u8) -> u64
-    requires local { IsLocal cells.now }
-    requires min { min ≤ GREATEST_LEVEL }
-    requires some { 0 < modulus }
-    requires modulus { modulus ≤ 3 }
-    ensures { result ≡ length (denormalised min modulus cells.now) }
+fn count_items(cells: &[CellId], cuts: &CutLevels) -> u64
+    requires { IsLocal cells.now }
+    ensures { result ≡ length (denormalised cuts.now.least cuts.now.modulus cells.now) }
 {
     let mut total = 0;
     for cell in cells {
         let own = cell.level();
-        let level = level_to_cut(own, min, modulus);
+        let level = cuts.of(own);
         total += count_descendants(own, level);
     }
     total
 }
 
 /// The cells that the cells of a local list are cut into.
-fn list_items(
-    alloc: Global,
-    cells: &[CellId],
-    min: u8,
-    modulus: u8,
-) -> Result<Vec<CellId>, AllocError>
-    requires local { IsLocal cells.now }
-    requires min { min ≤ GREATEST_LEVEL }
-    requires some { 0 < modulus }
-    requires modulus { modulus ≤ 3 }
-    ensures items { IfOk result (λ list. list.items ≡ denormalised min modulus cells.now) }
-    ensures meaning { IfOk result (λ list. IsDenormalised min modulus cells.now list.items) }
+fn list_items(alloc: Global, cells: &[CellId], cuts: &CutLevels) -> Result<Vec<CellId>, AllocError>
+    requires { IsLocal cells.now }
+    ensures { IfOk result (λ list. list.items ≡ denormalised cuts.now.least cuts.now.modulus cells.now) }
 {
-    let mut list = Vec::with_capacity(alloc, count_items(cells, min, modulus) as usize)?;
+    let mut list = Vec::with_capacity(alloc, count_items(cells, cuts) as usize)?;
     for cell in cells {
-        let level = level_to_cut(cell.level(), min, modulus);
-        push_descendants(&mut list, *cell, level);
+        push_descendants(&mut list, *cell, cuts.of(cell.level()));
     }
     Ok(list)
 }

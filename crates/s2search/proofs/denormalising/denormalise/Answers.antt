@@ -1,13 +1,10 @@
-use Rattle.std.proofs.Common.{◌∙◌, refl, get_or, arith}
-use Rattle.s2search.proofs.Cutting.{put_first_none, put_first_more, put_first_all}
+use Rattle.std.proofs.Common.{◌∙◌, refl, get_or, arith, subst}
+use Rattle.s2search.proofs.Cutting.{PutFirst, put_first_none, put_first_more, put_first_all}
 use Rattle.s2list.proofs.Packing.{reads}
 use Rattle.s2search.proofs.denormalising.denormalise.Goals as goal
 
 pub loop-id-init : goal.loop-id-init
-loop-id-init c = record {
-  len = refl;
-  put = λ local. put_first_none c.args.ids.now c.args.min c.args.modulus c.args.out.now;
-}
+loop-id-init c = record { len = refl; put = λ local. put_first_none c.args.ids.now _ _ c.args.out.now }
 
 pub loop-id-preserved : goal.loop-id-preserved
 loop-id-preserved c =
@@ -17,12 +14,17 @@ loop-id-preserved c =
     record {
       len = c.put_items-n.ensures.len ∙ c.loop-id.invariant.len;
       put = λ local.
-          put_first_more u c.args.min c.args.modulus i (get_or u i 0) c.args.out.now c.loop-id.out c.put_items-n.new.out
-          c.loop-id.n c.put_items-n.result (c.loop-id.invariant.put local) h (reads u i h)
+          put_first_more u _ _ i (get_or u i 0) c.args.out.now c.loop-id.out c.put_items-n.new.out c.loop-id.n
+          c.put_items-n.result (c.loop-id.invariant.put local) h (reads u i h)
           (c.put_items-n.ensures.put (local.cells i 0 h));
     }
 
 pub returns-clause-put : goal.returns-clause-put
 returns-clause-put c local =
-    put_first_all c.args.ids.now c.args.min c.args.modulus c.loop-id.id-index c.args.out.now c.loop-id.out c.loop-id.n
-    local c.requires.some (c.loop-id.invariant.put local) (omega arith)
+    let i = c.loop-id.id-index in
+    let least = subst (λ x. PutFirst c.args.ids.now x c.new-cuts.result.modulus i c.args.out.now c.loop-id.out
+    c.loop-id.n) c.new-cuts.ensures.min (c.loop-id.invariant.put local) in
+    let both = subst (λ x. PutFirst c.args.ids.now c.args.min x i c.args.out.now c.loop-id.out c.loop-id.n)
+    c.new-cuts.ensures.modulus least in
+    put_first_all c.args.ids.now c.args.min c.args.modulus i c.args.out.now c.loop-id.out c.loop-id.n local
+    c.requires.some both (omega arith)

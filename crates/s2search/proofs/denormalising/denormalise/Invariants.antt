@@ -6,5 +6,5 @@ use Rattle.s2search.proofs.denormalising.denormalise.Given as goal
 abbrev pub invariant-loop-id : goal.invariant-loop-id
 invariant-loop-id l = record {
   len : length l.out ≡ length l.fn.out;
-  put : IsLocal l.ids → PutFirst l.ids l.min l.modulus l.id-index l.fn.out l.out l.n;
+  put : IsLocal l.ids → PutFirst l.ids l.cuts.least l.cuts.modulus l.id-index l.fn.out l.out l.n;
 }

@@ -2,4 +2,4 @@ use Rattle.s2union.proofs.Items.{Totalling}
 use Rattle.s2union.proofs.denorm.count_items.Given as goal
 
 abbrev pub invariant-loop-cell : goal.invariant-loop-cell
-invariant-loop-cell l = Totalling l.cells l.min l.modulus l.cell-index l.total
+invariant-loop-cell l = Totalling l.cells l.cuts.least l.cuts.modulus l.cell-index l.total

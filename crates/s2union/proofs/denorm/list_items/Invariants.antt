@@ -6,6 +6,6 @@ use Rattle.s2union.proofs.denorm.list_items.Given as goal
 
 abbrev pub invariant-loop-cell : goal.invariant-loop-cell
 invariant-loop-cell l = record {
-  listed : Listing l.cells l.min l.modulus l.cell-index l.list.items;
-  room : length (denormalised l.min l.modulus l.cells) ≤ vec_capacity l.list;
+  listed : Listing l.cells l.cuts.least l.cuts.modulus l.cell-index l.list.items;
+  room : length (denormalised l.cuts.least l.cuts.modulus l.cells) ≤ vec_capacity l.list;
 }

@@ -28,15 +28,14 @@ returns-clause-steps c =
     ap (λ x. descendant_of x c.self.inside.level c.self.inside.number) c.index-self-0.is
     ∙ sym c.descendant-item.ensures.value in
     let now : c.args.self.now ≡ c.descendant-item.result ∷ drop (c.self.inside.number + 1)
-    (denormalised c.self.inside.min c.self.inside.modulus c.self.inside.cells.now) =
+    (denormalised c.self.inside.cuts.least c.self.inside.cuts.modulus c.self.inside.cells.now) =
     sym c.self.view_is ∙ items_next _ c.index-self-0.result c.self.invariant some c.index-self-0.is
     ∙ ap (λ x. x ∷ drop (c.self.inside.number + 1)
-    (denormalised c.self.inside.min c.self.inside.modulus c.self.inside.cells.now)) item in
+    (denormalised c.self.inside.cuts.least c.self.inside.cuts.modulus c.self.inside.cells.now)) item in
     elim c.if-self.branch [
       | then-self w ↦
           let rest = items_last _ c.self.invariant some w.if-self.true in
-          now ∙ ap (λ x. c.descendant-item.result ∷ x) (rest ∙ sym w.over.ensures ∙ sym w.self-then-self.view_is
-          ∙ sym w.self-is)
+          now ∙ ap (λ x. c.descendant-item.result ∷ x) (rest ∙ sym w.self-is)
       | else-self w ↦ now ∙ ap (λ x. c.descendant-item.result ∷ x) (sym w.self-is)
     ]
 
