@@ -6,6 +6,7 @@ pub mod FileName
 pub mod Named
 pub mod Misfits
 pub mod MisfitTexts
+pub mod Paths
 pub mod CellList
 pub mod Refusals
 pub mod Forms

@@ -6,10 +6,10 @@
 //! A command refers to the words that it was read from. `Cells` goes over the cells of an `add`, however many there
 //! are. `Name` is the name of a file as it is in the line, and `Word` is a word that does not fit.
 //!
-//! Modules: `words` has the words of a line; `number`, `named`, `name`, `cells`, `level`, `place` and `span` what words
-//! may mean; `forms` the words that a command may have; `table` the commands by their names, and the help on them.
-//! `command`, `misfit` and `refusal` are what a line may ask for, where it may not fit, and why it is then refused;
-//! `grammar` is what a line says. `limits` are the limits.
+//! Modules: `words` has the words of a line; `number`, `named`, `name`, `path`, `cells`, `level`, `place` and `span`
+//! what words may mean; `forms` the words that a command may have; `table` the commands by their names, and the help on
+//! them. `command`, `misfit` and `refusal` are what a line may ask for, where it may not fit, and why it is then
+//! refused; `grammar` is what a line says. `limits` are the limits.
 #![tactic(auto)]
 
 mod cells;
@@ -23,6 +23,7 @@ mod misfit_text;
 mod name;
 mod named;
 mod number;
+mod path;
 mod place;
 mod refusal;
 mod span;
@@ -38,6 +39,7 @@ pub use limits::{LONGEST_LINE, LONGEST_NAME};
 pub use misfit::{Misfit, Wanted};
 pub use name::{Name, name_in};
 pub use named::cell_in;
+pub use path::{Misnamed, misnamed_in};
 pub use place::Place;
 pub use refusal::Refusal;
 pub use span::Span;
