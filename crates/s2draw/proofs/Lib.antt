@@ -1,2 +1,4 @@
 pub mod Shapes
 pub mod Notes
+pub mod Boxes
+pub mod Depths

@@ -27,7 +27,7 @@ grid_square {c} ic =
     square_from_place c (across c) (along c) ic (at_within k (face_of c % 2) (place_of c % 4 ^ k) (omega arith)
     (mod_below (place_of c) (4 ^ k) (four_pos k)))
 
-face_small : {c : ℕ} → IsCell c → face_of c < 6
+pub face_small : {c : ℕ} → IsCell c → face_of c < 6
 unfolding face_of
 face_small {c} ic = let own = own_place c ic in
     div_below (place_of c) (4 ^ level_of c) 6 (four_pos (level_of c)) own.place

@@ -1,3 +1,4 @@
 pub mod Rectangles
 pub mod Picture
 pub mod Overlay
+pub mod Zoom

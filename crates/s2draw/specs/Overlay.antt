@@ -1,7 +1,7 @@
 -- Pictures of several lists of cells, each in a color of its own, as the bytes of an SVG image.
 use Rattle.std.specs.Prelude.{ℕ, ◌+◌, ◌-◌, ◌*◌, ◌%◌, Bool, ◌&&◌, cond, ◌==◌, nat_le, if◌then◌else◌, List, [], ◌∷◌, ◌++◌}
 use Rattle.std.specs.Prelude.{length, codes, decimal, flat_map}
-use Rattle.s2draw.specs.declared.fixed.TheConstants.{STYLE, COLORS, FACES, FOOT}
+use Rattle.s2draw.specs.declared.fixed.TheConstants.{STYLE, COLORS, DEEPER, FACES, FOOT}
 use Rattle.s2draw.specs.Rectangles.{drawn, left_of, top_of, side_of}
 use Rattle.s2draw.specs.Picture.{line}
 
@@ -28,12 +28,12 @@ unfoldable pub outlines : List ℕ → List ℕ
 unfolding outline
 outlines cells = codes "<path d='" ++ flat_map outline cells ++ codes "'/>\n"
 
--- the legend of the list with this index: a square in its color, its name, and how many cells it has
-unfoldable pub legend : ℕ → Layer → List ℕ
-legend k l =
-    codes "<rect x='2144' y='" ++ decimal (2240 + 96 * k) ++ codes "' width='64' height='64'/><text x='2240' y='"
-    ++ decimal (2296 + 96 * k) ++ codes "'>" ++ flat_map escaped_byte l.name ++ codes ": " ++ decimal (length l.cells)
-    ++ codes " cells</text>\n"
+-- the legend of a list at this place: a square in its color, its name, and how many cells it has
+unfoldable pub legend : ℕ → ℕ → Layer → List ℕ
+legend left top l =
+    codes "<rect x='" ++ decimal left ++ codes "' y='" ++ decimal top ++ codes "' width='64' height='64'/><text x='"
+    ++ decimal (left + 96) ++ codes "' y='" ++ decimal (top + 56) ++ codes "'>" ++ flat_map escaped_byte l.name
+    ++ codes ": " ++ decimal (length l.cells) ++ codes " cells</text>\n"
 
 -- all that is drawn of the list with this index, in the color of the index: the colors follow one another, and after
 -- the last comes the first
@@ -41,7 +41,8 @@ unfoldable pub layer : Bool → ℕ → Layer → List ℕ
 unfolding outlines line legend
 layer curve k l =
     codes "<g class='c" ++ decimal (k % 8) ++ codes "'>\n" ++ outlines (drawn l.cells)
-    ++ cond curve (line (drawn l.cells)) [] ++ legend k l ++ codes "</g>\n"
+    ++ cond curve (line (drawn l.cells)) [] ++ legend 2144 (2240 + 96 * k) l
+    ++ codes "</g>\n"
 
 -- the lists, one over another, counted from `k`
 abbrev pub layers_from : Bool → ℕ → List Layer → List ℕ
@@ -53,7 +54,7 @@ unfoldable pub overlay_head : ℕ → List ℕ
 overlay_head n =
     codes "<svg xmlns='http://www.w3.org/2000/svg' width='1072' height='" ++ decimal (824 + 24 * (n - 9))
     ++ codes "' viewBox='-96 -112 4288 " ++ decimal (3296 + 96 * (n - 9)) ++ codes "'>\n" ++ STYLE.now ++ COLORS.now
-    ++ FACES.now
+    ++ DEEPER.now ++ FACES.now
 
 -- what comes after the lists: the edges of the faces
 unfoldable pub overlay_foot : List ℕ

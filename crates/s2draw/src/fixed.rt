@@ -66,7 +66,11 @@ path,text{stroke:none}
 <rect class='paper' x='-96' y='-112' width='100%' height='100%'/>
 <text class='title' x='0' y='64'>S2 cells by file</text>
 <text x='0' y='176'>On each face i grows to the right and j upward.</text>
-<text x='0' y='272'>Cells deeper than level 9 are drawn as cells of level 9.</text>
+";
+
+/// What becomes of deeper cells.
+pub(crate) const DEEPER: &str =
+    "<text x='0' y='272'>Cells deeper than level 9 are drawn as cells of level 9.</text>
 ";
 
 /// The faces, below the cells.

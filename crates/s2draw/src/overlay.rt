@@ -1,17 +1,17 @@
 //! The picture of several lists of cells.
-ghost use Rattle.std.specs.Prelude.{◌≡◌, ◌≤◌, ◌++◌, ℕ, All, IfOk, codes, flat_map};
+ghost use Rattle.std.specs.Prelude.{◌≡◌, ◌≤◌, ◌++◌, ◌^◌, ℕ, All, IfOk, codes, flat_map};
 ghost use Rattle.s2cell.specs.Cell.{level_of, IsCell};
 ghost use Rattle.s2draw.specs.Rectangles.{seen, IsDrawnExactly};
 ghost use Rattle.s2draw.specs.Overlay.{escaped_byte, outline, outlines, legend, layer, overlay_head, overlay_foot};
 
-use crate::fixed::{COLORS, FACES, FOOT, STYLE};
+use crate::fixed::{COLORS, DEEPER, FACES, FOOT, STYLE};
 use crate::image::{cells_to_draw, put, put_curve, put_field};
 use crate::rectangle::rectangle_of;
 use s2cell::CellId;
 use std::alloc::{AllocError, Global};
 
 /// How many colors there are. After the last one comes the first again.
-const COLOR_COUNT: u16 = 8;
+pub(crate) const COLOR_COUNT: u16 = 8;
 
 /// How many lines the legend has room for without making the image longer.
 const LEGEND_ROOM: u16 = 9;
@@ -32,6 +32,7 @@ pub fn begin_overlay(alloc: Global, lists: u16) -> Result<Vec<u8>, AllocError>
     put(&mut text, b"'>\n")?;
     put(&mut text, STYLE.as_bytes())?;
     put(&mut text, COLORS.as_bytes())?;
+    put(&mut text, DEEPER.as_bytes())?;
     put(&mut text, FACES.as_bytes())?;
     Ok(text)
 }
@@ -61,7 +62,7 @@ pub fn add_layer(
     put(text, b"'>\n")?;
     put_outlines(text, list.as_slice())?;
     put_curve(text, list.as_slice(), curve)?;
-    put_legend(text, index, name, cells)?;
+    put_legend(text, 2144, 2240 + 96 * u64::from(index), name, cells)?;
     put(text, b"</g>\n")
 }
 
@@ -100,23 +101,22 @@ fn put_outline(text: &mut Vec<u8>, cell: CellId) -> Result<(), AllocError>
     put(text, b"z")
 }
 
-/// Adds a line of the legend.
-fn put_legend(
+/// Adds a line of the legend at a place.
+pub(crate) fn put_legend(
     text: &mut Vec<u8>,
-    index: u16,
+    left: u64,
+    top: u64,
     name: &[u8],
     cells: &[CellId],
 ) -> Result<(), AllocError>
+    requires { (left ≤ 2 ^ 32) × (top ≤ 2 ^ 32) }
     ensures { IfOk result (λ _. text.new.items
-        ≡ text.old.items ++ legend index (record { name = name.now; cells = cells.now })) }
+        ≡ text.old.items ++ legend left top (record { name = name.now; cells = cells.now })) }
 {
-    let down = 96 * u64::from(index);
-    put_field(text, b"<rect x='2144' y='", 2240 + down)?;
-    put_field(
-        text,
-        b"' width='64' height='64'/><text x='2240' y='",
-        2296 + down,
-    )?;
+    put_field(text, b"<rect x='", left)?;
+    put_field(text, b"' y='", top)?;
+    put_field(text, b"' width='64' height='64'/><text x='", left + 96)?;
+    put_field(text, b"' y='", top + 56)?;
     put(text, b"'>")?;
     put_name(text, name)?;
     put_field(text, b": ", cells.len() as u64)?;

@@ -8,5 +8,5 @@ unfolding overlay_head
 returns c =
     begun _ _ _ c.new-text.ensures.items
     c.in_ok-put_field.ensures c.in_ok-put_field-2.ensures c.in_ok-put.ensures c.in_ok-put-2.ensures
-    c.in_ok-put-3.ensures c.in_ok-put-4.ensures (omega arith) (omega arith) c.as_bytes.ensures.value
-    c.as_bytes-2.ensures.value c.as_bytes-3.ensures.value
+    c.in_ok-put-3.ensures c.in_ok-put-4.ensures c.in_ok-put-5.ensures (omega arith) (omega arith)
+    c.as_bytes.ensures.value c.as_bytes-2.ensures.value c.as_bytes-3.ensures.value c.as_bytes-4.ensures.value

@@ -1,0 +1,13 @@
+use Rattle.std.proofs.Common.{rules}
+use Rattle.std.proofs.lemmas.List.{take_all}
+use Rattle.std.proofs.lemmas.Result.{IfOk-weaker}
+use Rattle.s2draw.specs.Zoom.{piece, pieces}
+use Rattle.s2draw.proofs.Notes.{around}
+use Rattle.s2draw.proofs.zoom.put_pieces.Goals as goal
+
+pub returns : goal.returns
+unfolding pieces
+returns c =
+    IfOk-weaker c.put-2.result _ _
+    (λ u q. around (piece c.args.part) _ _ _ c.in_ok-put.ensures
+    c.loop-cell.invariant (take_all c.loop-cell.cell-index c.args.cells.now (search rules)) q) c.put-2.ensures
