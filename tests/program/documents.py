@@ -147,9 +147,9 @@ class Documents(unittest.TestCase):
                 if rest:
                     out = subprocess.run(rest, shell=True, input=out, stdout=subprocess.PIPE, check=True).stdout
                 self.assertEqual((out + error).decode(), text)
-                self.assertEqual(status, 2 if error else 0)
+                self.assertEqual(status, 1 if out.startswith(b"error") else 2 if error else 0)
                 shown += 1
-        self.assertEqual(shown, 6)
+        self.assertEqual(shown, 7)
 
     def test_each_command_has_an_example(self):
         text = self.texts["docs/SCRIPT.md"]

@@ -6,7 +6,7 @@ import subprocess
 import tempfile
 import unittest
 
-from process import FACE, PROGRAM, ran
+from process import FACE, PROGRAM, answered, ran
 from sessions import most_resident_after, number
 
 NOBODY = 65534
@@ -29,7 +29,7 @@ class UnionFiles(unittest.TestCase):
 
     def checks(self, name, answer):
         status = int(answer.startswith("error "))
-        self.assertEqual(ran("check", "--dir", self.folder, name), (status, answer.encode() + b"\n", b""))
+        self.assertEqual(answered("check", "--dir", self.folder, name), (status, answer.encode() + b"\n"))
 
     def test_absent_misnamed_and_not_a_file(self):
         os.mkdir(self.path("folder"))

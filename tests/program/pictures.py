@@ -12,7 +12,7 @@ import unittest
 from xml.etree import ElementTree
 
 import model
-from process import PROGRAM, TOP, ran
+from process import PROGRAM, TOP, answered, ran
 
 
 def cell_at(level, left, top, side):
@@ -175,8 +175,7 @@ class Pictures(unittest.TestCase):
             (("f", "a&b"), b"name"), (("", "f"), b"name"),
         ):
             with self.subTest(names=names):
-                answer = (1, b"error " + refusal + b"\n", b"")
-                self.assertEqual(ran("draw", "--dir", self.folder, *names), answer)
+                self.assertEqual(answered("draw", "--dir", self.folder, *names), (1, b"error " + refusal + b"\n"))
         many = ["f"] * 65536
         self.assertEqual(ran("draw", "--dir", self.folder, *many), (1, b"error too-many\n", b""))
 
@@ -200,8 +199,7 @@ class Pictures(unittest.TestCase):
             ("absent", b"missing"), ("short", b"format"), ("folder", b"file"), ("../f", b"name"), ("", b"name"),
         ):
             with self.subTest(name=name):
-                answer = (1, b"error " + refusal + b"\n", b"")
-                self.assertEqual(ran("draw", "--dir", self.folder, name), answer)
+                self.assertEqual(answered("draw", "--dir", self.folder, name), (1, b"error " + refusal + b"\n"))
         for words in (["X"], ["1", "3", "2"], [""], ["0/4", "1"]):
             with self.subTest(words=words):
                 self.assertEqual(ran("draw", "--cells", *words), (1, b"error cell\n", b""))

@@ -17,6 +17,13 @@ def ran(*words, script=b"", **how):
     return done.returncode, done.stdout, done.stderr
 
 
+def answered(*words, **how):
+    """The status and the answer. Standard error has a word to say only where a name is refused."""
+    status, out, error = ran(*words, **how)
+    assert bool(error) == (out == b"error name\n"), error
+    return status, out
+
+
 def ran_in_pieces(script, size, *options):
     """The status, standard output and standard error of a `run` that reads a number of bytes at a time."""
     ours, its = socket.socketpair(socket.AF_UNIX, socket.SOCK_SEQPACKET)

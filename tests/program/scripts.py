@@ -5,7 +5,7 @@ import re
 import tempfile
 import unittest
 
-from process import TOP, first_line, ran
+from process import TOP, answered, first_line, ran
 
 TABLE = os.path.join(TOP, "crates/script_rows/stdin")
 
@@ -113,8 +113,8 @@ class Scripts(unittest.TestCase):
                 self.assertEqual((it.read(), ["same"]), (bytes_of(digits), wanted))
         elif name in ("cell", "check"):
             options = [] if name == "cell" else ["--dir", folder]
-            status, out, error = ran(name, *options, words)
-            self.assertEqual((out.decode(), error), (wanted[0] + "\n", b""))
+            status, out = answered(name, *options, words)
+            self.assertEqual(out.decode(), wanted[0] + "\n")
             self.assertEqual(status, {"true": 0, "false": 1}[wanted[1]])
         elif name == "job" and " " in wanted[0] and wanted[0].split()[0] in ("help", "usage"):
             status, _, error = ran(*words.split())

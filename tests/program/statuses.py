@@ -29,7 +29,8 @@ class Statuses(unittest.TestCase):
             b"invalid value": ["run --limit 1000001", "run --limit 12345678901234567890123", "run --limit x",
                                "run --limit=", "run --depth 0"],
             b"a value is required": ["run --limit", "run --dir", "run --dir=", "check --dir", "draw --cells"],
-            b"cannot be used": ["run --limit 5 --limit 5", "draw f --cells 1", "draw --cells 1 -- f",
+            b"cannot be used": ["run --limit 5 --limit 5", "draw f --cells 1", "draw --fit --cells 1",
+                                "draw --fit f --curve", "draw --cells 1 -- f",
                                 "draw --dir d --cells 1"],
             b"unexpected argument": ["run --limit -5", "run --lim 5", "--limit 5 run", "run --colour", "run run",
                                      "run x", "-- run", "cell 1 2", "check f g", "check --limit f",
@@ -53,6 +54,7 @@ class Statuses(unittest.TestCase):
             ("run --limit 5 --depth=7 --dir x", 5, 7, "x", False),
             ("run --limit 1000000 --depth 10000 --dir -x", 1000000, 10000, "-x", False),
             ("run --dir x --limit=1 --explain --depth 1", 1, 1, "x", True),
+            ("run --prompt --dir x --limit=2", 2, 100, "x", True),
             ("run --limit +5 --depth 007 --dir --limit", 5, 7, "--limit", False),
             ("run --dir --explain", 10000, 100, "--explain", False),
         ):
@@ -82,7 +84,7 @@ class Statuses(unittest.TestCase):
                 self.assertEqual(ran(*words, cwd=room), (0, b"cells 0 leaves 0\n", b""))
             self.assertEqual(ran("draw", "--dir", "-d", "--", "f", cwd=room)[0], 0)
             for words in (["check", "-x"], ["check", ""], ["check", "--dir", "-d", "--", "-f"], ["draw", ""]):
-                self.assertEqual(ran(*words, cwd=room), (1, b"error name\n", b""))
+                self.assertEqual(ran(*words, cwd=room)[:2], (1, b"error name\n"))
 
     def test_greatest_options(self):
         self.assertEqual(ran("run", "--limit", "1000000", "--depth", "10000", script=b"add z 1\n"), (0, FACE, b""))

@@ -2,14 +2,19 @@
 #![tactic(auto)]
 
 ghost use Rattle.std.specs.Prelude.{◌≤◌, ◌≡◌, []};
+ghost use Rattle.s2calc.specs.Program.{IsInRange};
 ghost use Rattle.s2process.specs.Listed.{calls_of};
 
+mod prompt;
+
+use crate::prompt::PromptingReader;
 use s2calc::{
     AnswerBuffer, Job, NoteWriter, RunFault, Stop, Tally, answer_status, cell_answer, check_answer,
-    draw_answer, draw_cells_answer, job, overlay_answer, status,
+    draw_answer, draw_cells_answer, fit_answer, job, overlay_answer, status,
 };
 use s2edit::{Editor, MOST_CELLS, MOST_STATES};
 use s2process::{ListedReader, ListedWriter, Witness, run_explained_listed, run_listed};
+use s2script::misnamed_in;
 use s2shelf::DirShelf;
 use std::io::ErrorKind;
 use std::process::ExitCode;
@@ -30,30 +35,41 @@ fn main(rt: HostRuntime) -> ExitCode {
         Err(_) => return report_stop(&rt, &Stop::Memory),
     };
     match job(rt.alloc(), words) {
-        Ok(
-            Job::Run {
-                limit,
-                depth,
-                dir,
-                explain,
-            },
-        ) => run_script(&rt, limit, depth, &dir, explain),
-        Ok(Job::Cell { word }) => answer_cell(&rt, &word),
-        Ok(Job::Check { dir, name }) => answer_check(&rt, &dir, &name),
-        Ok(Job::Draw { dir, name, curve }) => answer_draw(&rt, &dir, &name, curve),
-        Ok(Job::Overlay { dir, names, curve }) => answer_overlay(
-            &rt,
-            &dir,
-            names.as_slice(),
-            curve,
-        ),
-        Ok(Job::DrawCells { words, curve }) => answer_draw_cells(&rt, words.as_slice(), curve),
+        Ok(job) => answer(&rt, job),
         Err(stop) => report_stop(&rt, &stop),
     }
 }
 
+/// Does what the program is asked for.
+fn answer(rt: &HostRuntime, job: Job) -> ExitCode
+    requires { IsInRange job }
+{
+    match job {
+        Job::Run {
+            limit,
+            depth,
+            dir,
+            explain,
+            prompt,
+        } => run_script(rt, limit, depth, &dir, explain, prompt),
+        Job::Cell { word } => answer_cell(rt, &word),
+        Job::Check { dir, name } => answer_check(rt, &dir, &name),
+        Job::Draw { dir, name, curve } => answer_draw(rt, &dir, &name, curve),
+        Job::Overlay { dir, names, curve } => answer_overlay(rt, &dir, names.as_slice(), curve),
+        Job::Fit { dir, names } => answer_fit(rt, &dir, names.as_slice()),
+        Job::DrawCells { words, curve } => answer_draw_cells(rt, words.as_slice(), curve),
+    }
+}
+
 /// Answers the script on standard input.
-fn run_script(rt: &HostRuntime, limit: usize, depth: usize, dir: &str, explain: bool) -> ExitCode
+fn run_script(
+    rt: &HostRuntime,
+    limit: usize,
+    depth: usize,
+    dir: &str,
+    explain: bool,
+    prompt: bool,
+) -> ExitCode
     requires limit { (1 ≤ limit) × (limit ≤ MOST_CELLS) }
     requires depth { (1 ≤ depth) × (depth ≤ MOST_STATES) }
 {
@@ -66,6 +82,7 @@ fn run_script(rt: &HostRuntime, limit: usize, depth: usize, dir: &str, explain: 
     let Ok(mut writer) = AnswerBuffer::new(rt.alloc(), standard_output(rt)) else {
         return report_end(rt, &Err(RunFault::Memory));
     };
+    let mut reader = ListedReader::new(PromptingReader::new(rt.reader(), rt.stderr(), prompt));
     let result = if explain {
         let Ok(mut notes) = NoteWriter::new(rt.alloc(), ListedWriter::new(rt.stderr())) else {
             return report_end(rt, &Err(RunFault::Memory));
@@ -73,7 +90,7 @@ fn run_script(rt: &HostRuntime, limit: usize, depth: usize, dir: &str, explain: 
         run_explained_listed(
             rt.alloc(),
             &mut editor,
-            &mut ListedReader::new(rt.reader()),
+            &mut reader,
             &mut writer,
             &mut shelf,
             &mut notes,
@@ -83,7 +100,7 @@ fn run_script(rt: &HostRuntime, limit: usize, depth: usize, dir: &str, explain: 
         run_listed(
             rt.alloc(),
             &mut editor,
-            &mut ListedReader::new(rt.reader()),
+            &mut reader,
             &mut writer,
             &mut shelf,
             &mut Witness::new(),
@@ -109,10 +126,9 @@ fn answer_check(rt: &HostRuntime, dir: &str, name: &str) -> ExitCode {
     let Ok(mut shelf) = DirShelf::at(rt, dir) else {
         return report_end(rt, &Err(RunFault::Memory));
     };
-    report_answer(
-        rt,
-        check_answer(rt.alloc(), &mut shelf, name, &mut standard_output(rt)),
-    )
+    let outcome = check_answer(rt.alloc(), &mut shelf, name, &mut standard_output(rt));
+    explain_name(rt, outcome, name);
+    report_answer(rt, outcome)
 }
 
 /// Answers one `draw FILE`.
@@ -120,16 +136,15 @@ fn answer_draw(rt: &HostRuntime, dir: &str, name: &str, curve: bool) -> ExitCode
     let Ok(mut shelf) = DirShelf::at(rt, dir) else {
         return report_end(rt, &Err(RunFault::Memory));
     };
-    report_answer(
-        rt,
-        draw_answer(
-            rt.alloc(),
-            &mut shelf,
-            name,
-            curve,
-            &mut standard_output(rt),
-        ),
-    )
+    let outcome = draw_answer(
+        rt.alloc(),
+        &mut shelf,
+        name,
+        curve,
+        &mut standard_output(rt),
+    );
+    explain_name(rt, outcome, name);
+    report_answer(rt, outcome)
 }
 
 /// Answers one `draw FILE FILE..`.
@@ -137,16 +152,25 @@ fn answer_overlay(rt: &HostRuntime, dir: &str, names: &[String], curve: bool) ->
     let Ok(mut shelf) = DirShelf::at(rt, dir) else {
         return report_end(rt, &Err(RunFault::Memory));
     };
-    report_answer(
-        rt,
-        overlay_answer(
-            rt.alloc(),
-            &mut shelf,
-            names,
-            curve,
-            &mut standard_output(rt),
-        ),
-    )
+    let outcome = overlay_answer(
+        rt.alloc(),
+        &mut shelf,
+        names,
+        curve,
+        &mut standard_output(rt),
+    );
+    explain_names(rt, outcome, names);
+    report_answer(rt, outcome)
+}
+
+/// Answers one `draw --fit FILE..`.
+fn answer_fit(rt: &HostRuntime, dir: &str, names: &[String]) -> ExitCode {
+    let Ok(mut shelf) = DirShelf::at(rt, dir) else {
+        return report_end(rt, &Err(RunFault::Memory));
+    };
+    let outcome = fit_answer(rt.alloc(), &mut shelf, names, &mut standard_output(rt));
+    explain_names(rt, outcome, names);
+    report_answer(rt, outcome)
 }
 
 /// Answers one `draw --cells CELL..`.
@@ -155,6 +179,21 @@ fn answer_draw_cells(rt: &HostRuntime, words: &[String], curve: bool) -> ExitCod
         rt,
         draw_cells_answer(rt.alloc(), words, curve, &mut standard_output(rt)),
     )
+}
+
+/// If an answer was refused, says on standard error of each word that is no file's name why, and what to write in place
+/// of a path.
+fn explain_names(rt: &impl Eprint, outcome: Result<bool, RunFault>, names: &[String]) {
+    for name in names {
+        explain_name(rt, outcome, name.as_str());
+    }
+}
+
+/// The same of one word.
+fn explain_name(rt: &impl Eprint, outcome: Result<bool, RunFault>, name: &str) {
+    if let (Ok(false), Some(misnamed)) = (outcome, misnamed_in(name.as_bytes())) {
+        let _ = eprintln!(rt; "s2calc: {misnamed}");
+    }
 }
 
 /// Shows a failed answer on standard error, and gives the exit status after it.

@@ -14,6 +14,7 @@ pub mod OneRun
 pub mod OrderLemmas
 pub mod OutputLemmas
 pub mod OverlayLemmas
+pub mod FitLemmas
 pub mod ReadLemmas
 pub mod RunLemmas
 pub mod ScriptLemmas

@@ -22,4 +22,5 @@ pub mod Program
 pub mod Check
 pub mod Draw
 pub mod Overlay
+pub mod Fit
 pub mod Working

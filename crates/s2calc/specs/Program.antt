@@ -10,7 +10,7 @@ use Rattle.s2calc.specs.declared.engine.Tally.{Tally}
 use Rattle.s2calc.specs.declared.fault.RunFault.{RunFault}
 use Rattle.s2calc.specs.declared.fault.RunFault.TheVariants.{Input, Output, Memory}
 use Rattle.s2calc.specs.declared.task.Job.{Job}
-use Rattle.s2calc.specs.declared.task.Job.TheVariants.{Run, Cell, Check, Draw, Overlay, DrawCells}
+use Rattle.s2calc.specs.declared.task.Job.TheVariants.{Run, Cell, Check, Draw, Overlay, Fit, DrawCells}
 use Rattle.s2calc.specs.declared.task.Stop.{Stop}
 use Rattle.s2calc.specs.declared.task.Stop.TheVariants.{Help, Usage, Memory as NoMemory}
 use Rattle.s2calc.specs.Output.{AppendsUnflushed}
@@ -59,9 +59,11 @@ status_of_stop NoMemory = 3
 
 -- the limit and the depth of a run are in range
 abbrev pub IsInRange : Job → Type 0
-IsInRange (Run limit depth dir explain) = (1 ≤ limit) × (limit ≤ MOST_CELLS) × (1 ≤ depth) × (depth ≤ MOST_STATES)
+IsInRange (Run limit depth dir explain prompt) =
+    (1 ≤ limit) × (limit ≤ MOST_CELLS) × (1 ≤ depth) × (depth ≤ MOST_STATES)
 IsInRange (Cell word) = Unit {0}
 IsInRange (Check dir name) = Unit {0}
 IsInRange (Draw dir name curve) = Unit {0}
 IsInRange (Overlay dir names curve) = Unit {0}
+IsInRange (Fit dir names) = Unit {0}
 IsInRange (DrawCells words curve) = Unit {0}

@@ -88,7 +88,8 @@ fn run_job(alloc: Global, run: &ArgMatches<'_>) -> Result<Option<Job>, AllocErro
         limit,
         depth,
         dir: text(alloc, run, "dir")?,
-        explain: run.get_flag("explain"),
+        explain: run.get_flag("explain") || run.get_flag("prompt"),
+        prompt: run.get_flag("prompt"),
     }))
 }
 
@@ -118,6 +119,10 @@ fn file_job(alloc: Global, draw: &ArgMatches<'_>, curve: bool) -> Result<Option<
 {
     let dir = text(alloc, draw, "dir")?;
     match draw.get_strs("FILE") {
+        Some(names) if draw.get_flag("fit") => Ok(Some(Job::Fit {
+            dir,
+            names: texts(alloc, names)?,
+        })),
         Some(names) if names.len() > 1 => Ok(Some(Job::Overlay {
             dir,
             names: texts(alloc, names)?,
@@ -179,7 +184,8 @@ fn run_command<'a>(alloc: Global) -> Result<Command<'a>, AllocError> {
             "The most states that undo can go back, 1 to 10000",
         ))?
         .arg(dir(alloc))?
-        .arg(explain(alloc))
+        .arg(explain(alloc))?
+        .arg(prompt(alloc))
 }
 
 /// The command `cell`.
@@ -210,6 +216,7 @@ fn draw_command<'a>(alloc: Global) -> Result<Command<'a>, AllocError> {
         .arg(dir(alloc).conflicts_with("cells")?)?
         .arg(cells(alloc))?
         .arg(curve(alloc))?
+        .arg(fit(alloc)?)?
         .arg(
             Arg::new(alloc, "FILE")
                 .help("The name of a file in the folder; of several, each has its own color")
@@ -235,6 +242,16 @@ fn curve<'a>(alloc: Global) -> Arg<'a> {
         .long("curve")
         .help("Joins the middles of the cells by a line, in their order")
         .action(ArgAction::SetTrue)
+}
+
+/// Whether only the part is drawn in which the files' unions lie.
+fn fit<'a>(alloc: Global) -> Result<Arg<'a>, AllocError> {
+    Arg::new(alloc, "fit")
+        .long("fit")
+        .help("Draws the part of the faces in which the files' cells lie, with a margin")
+        .action(ArgAction::SetTrue)
+        .conflicts_with("cells")?
+        .conflicts_with("curve")
 }
 
 /// A number from 1 on.
@@ -265,6 +282,16 @@ fn explain<'a>(alloc: Global) -> Arg<'a> {
     Arg::new(alloc, "explain")
         .long("explain")
         .help("Says on standard error why lines are refused")
+        .action(ArgAction::SetTrue)
+}
+
+/// The flag that asks for a prompt.
+fn prompt<'a>(alloc: Global) -> Arg<'a> {
+    Arg::new(alloc, "prompt")
+        .long("prompt")
+        .help(
+            "Shows a prompt on standard error, and explains; 'rlwrap s2calc run --prompt' edits lines",
+        )
         .action(ArgAction::SetTrue)
 }
 

@@ -22,7 +22,10 @@ pub(crate) const PICTURE: &str =
     "The picture is an SVG image of the six faces, with each cell as its square:
   $ s2calc draw parks > parks.svg
   $ s2calc draw land lakes > world.svg
+  $ s2calc draw --fit parks > near.svg
   $ s2calc draw --curve --cells 0/0 0/1 0/2 0/3 > curve.svg
 
 One file or cells are colored by level. Of several files each has a color of its own and is drawn over those before it.
-A cell deeper than level 9 is too small to be seen, and is drawn as the cell of level 9 that contains it.";
+A cell deeper than level 9 is too small to be seen, and is drawn as the cell of level 9 that contains it. With --fit
+the picture shows only where the files' cells lie, by file, and the deepest level is that of which fewer than 2048 cells
+lie along its longer side.";

@@ -9,8 +9,8 @@
 //! the writer is flushed, `observer` who sees in which order a run reads and carries out lines. `limits` are the
 //! limits, `laws` laws about the definitions.
 //!
-//! For the program: `command_line`, `help` and `task` (what it is asked for), `program`, `check`, `draw` and `overlay`
-//! (its other answers).
+//! For the program: `command_line`, `help` and `task` (what it is asked for), `program`, `check`, `draw`, `overlay` and
+//! `fit` (its other answers).
 #![tactic(auto)]
 
 mod answer;
@@ -25,6 +25,7 @@ mod execute;
 mod fault;
 mod fetch;
 mod files;
+mod fit;
 mod flushing;
 mod help;
 mod kept;
@@ -52,6 +53,7 @@ pub use engine::{
     run_promptly_observed,
 };
 pub use fault::RunFault;
+pub use fit::fit_answer;
 pub use notes::NoteWriter;
 pub use observer::Observer;
 pub use overlay::overlay_answer;

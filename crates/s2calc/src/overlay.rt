@@ -109,7 +109,7 @@ fn add_file<S: Shelf>(
 }
 
 /// Whether each of the words has the form of a file's name.
-fn all_are_names(names: &[String]) -> bool
+pub(crate) fn all_are_names(names: &[String]) -> bool
     ensures { result ≡ all_are_names (map string_bytes names.now) }
 {
     names.iter().all(|name| name_in(name.as_bytes()).is_some())

@@ -8,12 +8,13 @@ use std::alloc::Global;
 #[derive(Debug, PartialEq, Eq, Drop)]
 pub enum Job {
     /// To answer a script, with at most this many cells in a register and this many kept states, and files in a folder,
-    /// and if asked, to say why lines are refused.
+    /// and if asked, to say why lines are refused, and to show a prompt before each read.
     Run {
         limit: usize,
         depth: usize,
         dir: String,
         explain: bool,
+        prompt: bool,
     },
     /// To answer `cell WORD`.
     Cell {
@@ -36,6 +37,11 @@ pub enum Job {
         dir: String,
         names: Vec<String>,
         curve: bool,
+    },
+    /// To draw the part of the faces in which lies what several files of a folder stand for.
+    Fit {
+        dir: String,
+        names: Vec<String>,
     },
     /// To draw the cells that the words name, with the line through them if `curve`.
     DrawCells {

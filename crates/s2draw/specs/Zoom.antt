@@ -1,6 +1,6 @@
 -- Pictures of the part of the unfolded faces in which lists of cells lie, as the bytes of an SVG image. Lengths are in
 -- leaves, or in units of the picture, measured from the left and the top of the unfolded faces.
-use Rattle.std.specs.Prelude.{◌≡◌, ◌≤◌, ℕ, zero, suc, ◌+◌, ◌-◌, ◌*◌, ◌/◌, ◌%◌, ◌^◌, min, max, Bool, ◌&&◌, cond, ◌==◌}
+use Rattle.std.specs.Prelude.{◌≡◌, ◌≤◌, ℕ, zero, suc, ◌+◌, ◌-◌, ◌*◌, ◌/◌, ◌%◌, ◌^◌, min, max, ◌&&◌, cond, ◌==◌}
 use Rattle.std.specs.Prelude.{nat_le, nat_lt, if◌then◌else◌, List, [], ◌∷◌, ◌++◌, length, codes, decimal, flat_map}
 use Rattle.std.specs.Prelude.{map}
 use Rattle.std.specs.List.{dedup}

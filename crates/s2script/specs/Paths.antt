@@ -1,5 +1,5 @@
 -- Words that are no names of files, and may be paths.
-use Rattle.std.specs.Prelude.{ℕ, suc, Bool, ◌&&◌, not, List, [], ◌∷◌, ◌++◌, ◌==◌, nat_lt, if◌then◌else◌, cond}
+use Rattle.std.specs.Prelude.{ℕ, suc, Bool, ◌&&◌, List, [], ◌∷◌, ◌++◌, ◌==◌, nat_lt, if◌then◌else◌, cond}
 use Rattle.std.specs.Prelude.{length, take, drop, codes, flat_map, Option, Some, None}
 use Rattle.s2script.specs.declared.misfit.Wanted.TheVariants.{FileName}
 use Rattle.s2script.specs.FileName.{is_name}

@@ -1,4 +1,4 @@
-use Rattle.std.proofs.Common.{◌≡◌, ◌≤◌, ◌^◌, ◌-◌, ℕ}
+use Rattle.std.proofs.Common.{◌≡◌, ◌≤◌}
 use Rattle.s2draw.specs.Zoom.{depth_from, unit_at}
 use Rattle.s2draw.proofs.zoom.depth_of.Given as goal
 
