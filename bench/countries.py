@@ -16,7 +16,7 @@ from pathlib import Path
 import numpy
 from costs import Session
 from earth import points_of_the_sphere
-from leaves import leaves
+from s2union_geo import leaves
 
 POINTS, ROUNDS = 200000, 5
 RANGES = "JOIN points ON leaf BETWEEN s2_range_min(cell) AND s2_range_max(cell)"

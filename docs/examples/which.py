@@ -8,7 +8,7 @@ import sys
 from pathlib import Path
 
 import numpy
-from leaves import leaves
+from s2union_geo import leaves
 from s2union import Union
 from shapely.geometry import Point, shape
 from shapely.prepared import prep

@@ -119,6 +119,7 @@ step "Python: docs/PYTHON.md" env -C "$top/tests/python" bash -c "$(declare -f p
 
 extension() { # FOLDER FLAGS..
   cp -r "$top/databases/sqlite" "$work/$1" && # all anew: what lies there may be for x86-64
+    cp "$top/databases/sphere.h" "$work/$1/" &&
     make -B -C "$work/$1" CC=aarch64-linux-gnu-gcc PREFIX="$arm" "${@:2}"
 }
 in_sqlite() { # FOLDER TEST..

@@ -196,7 +196,7 @@ step "Python: the edges" python -m unittest -q test_edges
 step "Python: laws of sets, by hypothesis" python -m unittest -q test_laws
 /usr/bin/python3 -c 'import pandas' 2>/dev/null || echo "       pandas is not there: columns of it are not tested"
 step "Python: docs/PYTHON.md" python -m doctest "$top/docs/PYTHON.md"
-step "Python: examples of points and of maps" python -m unittest -q test_examples
+step "Python: s2union_geo, points, polygons and maps" python -m unittest -q test_geo
 without_numpy() {
   python -c 'import sys, unittest
 sys.modules["numpy"] = None

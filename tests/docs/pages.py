@@ -57,6 +57,7 @@ VERSIONS = [
     ("bindings/rust/Cargo.toml", r'\nversion = "', '"', "{0}.{1}.{2}"),
     ("bindings/js/package.json", r'\n  "version": "', '"', "{0}.{1}.{2}"),
     ("databases/postgres/s2union.control", "default_version = '", "'", "{0}.{1}"),
+    ("databases/postgres/s2union_geo.control", "default_version = '", "'", "{0}.{1}"),
 ]
 
 

@@ -20,7 +20,7 @@ def made(folder, count, points):
     """The files of the cells, of the region of each, and of the leaves."""
     import pywraps2 as s2
     from earth import points_of_the_sphere
-    from leaves import leaves
+    from s2union_geo import leaves
     random, coverer, cells, owners = Random(47), s2.S2RegionCoverer(), [], []
     coverer.set_max_cells(20)
     for region, center in enumerate(zip(*points_of_the_sphere(count))):

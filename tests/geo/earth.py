@@ -4,7 +4,7 @@ import random
 from pathlib import Path
 
 import numpy
-from leaves import leaves
+from s2union_geo import leaves
 
 POINTS = 100000
 

@@ -9,13 +9,20 @@ from random import Random
 import numpy
 import page
 import pywraps2 as s2
-import to_geojson
 from earth import points_of_the_sphere
-from leaves import leaves
 from s2union import Union, from_tokens, to_signed, tokens
+from s2union_geo import coverings, leaves, points
+from s2union_geo.geojson import rings
 from shapely.geometry import Point, shape
 from shapely.prepared import prep
 from which import covering, features_of, which
+
+
+def kilometers(x, y, to_x, to_y):
+    """How far the places of two lists are apart."""
+    x, y, to_x, to_y = map(numpy.radians, (x, y, to_x, to_y))
+    half = numpy.sin((to_y - y) / 2)**2 + numpy.cos(y) * numpy.cos(to_y) * numpy.sin((to_x - x) / 2)**2
+    return 2 * 6371.01 * numpy.arcsin(numpy.sqrt(half))
 
 
 def points_on_borders():
@@ -34,30 +41,39 @@ class Geo(page.Page):
         self.page_holds()
 
     def test_leaves_are_s2s(self):
-        longitude, latitude = numpy.append(points_of_the_sphere(200000), points_on_borders(), axis=1)
+        """Of a million points of the sphere and those on borders; and each is within 8 mm of the middle of its leaf."""
+        longitude, latitude = numpy.append(points_of_the_sphere(1000000), points_on_borders(), axis=1)
         text = "".join(f"{x!r} {y!r}\n" for x, y in zip(longitude.tolist(), latitude.tolist()))
         wanted = subprocess.run([self.file("leaf")], input=text, capture_output=True, text=True, check=True).stdout
-        self.assertEqual(tokens(leaves(longitude, latitude)), wanted.split())
+        cells = leaves(longitude, latitude)
+        self.assertEqual(tokens(cells), wanted.split())
         signed = [to_signed(cell) for cell in from_tokens(wanted)]
+        back = numpy.array(points(cells.tolist()))
+        self.assertLess(kilometers(longitude, latitude, *back).max(), 8e-6)
         for said in (self.in_sqlite(text), self.in_postgres(text)):
-            self.assertEqual([int(line) for line in said.split()], signed)
+            rows = [line.split("|") for line in said.split()]
+            self.assertEqual([int(row[0]) for row in rows], signed)
+            apart = numpy.abs(numpy.array([row[1:] for row in rows], float).T - back)
+            self.assertLess(numpy.minimum(apart, 360 - apart).max(), 1e-12)
 
     def in_sqlite(self, points):
         rows = "".join(f"{k} {line}\n" for k, line in enumerate(points.splitlines()))
         Path(self.file("rows")).write_text(rows)
-        command = """sqlite3 -cmd ".load $PREFIX/lib/sqlite3/mod_s2union" :memory: <<'SQL'
+        command = """sqlite3 -cmd ".load $PREFIX/lib/sqlite3/mod_s2union_geo" :memory: <<'SQL'
 CREATE TABLE places(name INTEGER, longitude REAL, latitude REAL);
 .separator " "
 .import world/rows places
-.read examples/leaf.sqlite.sql
-SELECT leaf FROM leaves ORDER BY name;
+.separator "|"
+SELECT leaf, printf('%!.17g', s2_longitude(leaf)), printf('%!.17g', s2_latitude(leaf))
+FROM (SELECT name, s2_leaf_at(longitude, latitude) AS leaf FROM places) ORDER BY name;
 SQL
 """
         return self.output(command)
 
     def in_postgres(self, points):
         command = """psql -XAqt regions -c "CREATE TABLE rows (place int, x float8, y float8)" \
-            -c "\\copy rows FROM 'world/rows' (DELIMITER ' ')" -c "SELECT s2_leaf_at(x, y) FROM rows ORDER BY place"
+            -c "\\copy rows FROM 'world/rows' (DELIMITER ' ')" \
+            -c "SELECT leaf, s2_longitude(leaf), s2_latitude(leaf) FROM rows, s2_leaf_at(x, y) AS leaf ORDER BY place"
 """
         return self.output(command)
 
@@ -73,8 +89,6 @@ SQL
             inside = numpy.array([polygon.contains(point) for point in points])
             plain[inside] = feature["properties"]["name"]
             for folder in ("countries", "python"):
-                if folder == "python" and feature["properties"]["name"] == "Sudan":
-                    continue
                 inner, outer = (covering(self.file(folder), feature, kind) for kind in ("inner", "outer"))
                 with self.subTest(folder=folder, name=feature["properties"]["name"]):
                     self.assertFalse((inner.contains_cells(cells) & ~inside).any())
@@ -95,18 +109,27 @@ SQL
             self.assertRegex(done.stderr, f"^{said}\n$")
 
     def test_both_programs_cover_the_same_polygons(self):
+        """Coverings by S2 in C++ and by s2union_geo: what is surely in a polygon by one is covered by the other, and
+        with as many cells both bound the polygon about as closely."""
+        ours, theirs = numpy.zeros(2), numpy.zeros(2)
         for feature in features_of(self.file("countries.geojson")):
-            if feature["properties"]["name"] != "Sudan":
-                with self.subTest(name=feature["properties"]["name"]):
-                    here, there = ({kind: covering(self.file(folder), feature, kind) for kind in ("inner", "outer")}
-                                   for folder in ("countries", "python"))
-                    self.assertTrue(here["inner"] <= there["outer"] and there["inner"] <= here["outer"])
+            with self.subTest(name=feature["properties"]["name"]):
+                here, there = ({kind: covering(self.file(folder), feature, kind) for kind in ("inner", "outer")}
+                               for folder in ("countries", "python"))
+                self.assertTrue(here["inner"] <= there["outer"] and there["inner"] <= here["outer"])
+                outer, inner = coverings(feature, 200)
+                self.assertTrue(here["inner"] <= outer and inner <= here["outer"] and inner <= outer)
+                self.assertTrue(len(outer) <= 200 and len(inner) <= 200)
+                ours += [outer.leaf_count(), inner.leaf_count()]
+                theirs += [here["outer"].leaf_count(), here["inner"].leaf_count()]
+        self.assertLess(ours[0] / theirs[0], 1.1)
+        self.assertGreater(ours[1] / theirs[1], 0.9)
 
     def test_corners_are_s2s(self):
         random = Random(7)
         cells = [s2.S2CellId.FromFacePosLevel(random.randrange(6), random.randrange(2**61), level).id()
                  for level in range(1, 31) for _ in range(50)]
-        for cell, ring in zip(cells, to_geojson.rings(cells)):
+        for cell, ring in zip(cells, rings(cells)):
             square = s2.S2Cell(s2.S2CellId(cell))
             corners = [s2.S2LatLng(square.GetVertex(k)) for k in range(4)]
             if all(abs(corner.lat().degrees()) < 89.9 for corner in corners):

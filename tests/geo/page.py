@@ -33,7 +33,7 @@ class Page(unittest.TestCase):
         os.symlink(os.path.join(TOP, "docs", "examples"), os.path.join(cls.room, "examples"))
         os.symlink(os.environ["S2CALC"], os.path.join(cls.room, "s2calc"))
         cls.output("psql -qc 'DROP DATABASE IF EXISTS regions' -c 'CREATE DATABASE regions'")
-        cls.output("psql -qd regions -c 'CREATE EXTENSION s2union'")
+        cls.output("psql -qd regions -c 'CREATE EXTENSION s2union_geo CASCADE'")
         cls.ran = [(command, wanted, cls.output(command)) for command, wanted in commands(cls.text)]
 
     @classmethod

@@ -7,7 +7,7 @@ from random import Random
 import numpy
 import page
 import pywraps2 as s2
-from leaves import leaves
+from s2union_geo import leaves
 from s2union import Union
 from shapely.geometry import Point, shape
 from which import covering, features_of, which

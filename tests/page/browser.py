@@ -19,6 +19,7 @@ from pathlib import Path
 from runpy import run_path
 
 from s2union import Union, debug, from_face_ij, from_token, level, parent, size, square, to_signed, token
+from s2union_geo import leaves, to_geojson
 from selenium import webdriver
 from selenium.webdriver.common.action_chains import ActionChains
 from selenium.webdriver.common.by import By
@@ -27,10 +28,7 @@ from selenium.webdriver.support.ui import Select
 
 HERE = Path(__file__).resolve().parent
 TOP = HERE.parents[1]
-sys.path += [str(TOP / "tests/python"), str(TOP / "docs/examples")]
-
-import to_geojson
-from leaves import leaves
+sys.path.append(str(TOP / "tests/python"))
 
 SIDE = 2**30
 FAULTS = {
@@ -580,13 +578,13 @@ class Trial:
             assert self.count() == 0
 
     def test_geojson_out(self):
-        """It is what docs/examples makes of the same union."""
+        """It is what s2union_geo makes of the same union."""
         self.begin()
         self.set("texts", "1 5 b 3c")
         self.click("add")
         for name, union in (("a", self.a), ("cells 3", Union.from_tokens("1 5 b 3c"))):
             made = json.loads(self.saved(f"GeoJSON {name}", f"{name.replace(' ', '_')}.geojson"))
-            wanted = list(to_geojson.features(name, union))
+            wanted = to_geojson(union, name=name)["features"]
             assert [it["properties"] for it in made["features"]] == [it["properties"] for it in wanted]
             for it, other in zip(made["features"], wanted):
                 ring, same = it["geometry"]["coordinates"][0], other["geometry"]["coordinates"][0]

@@ -29,15 +29,17 @@ built() { # FOLDER FLAGS..: the extension as it is
   local folder=$work/$1
   shift
   mkdir -p "$folder" &&
-    cp -r "$top"/databases/postgres/{Makefile,*.c,*.h,s2union.control,*.sql,sql,expected} "$folder" &&
+    cp -r "$top"/databases/postgres/{Makefile,*.c,*.h,*.control,*.sql,sql,expected} "$folder" &&
+    cp "$top/databases/sphere.h" "$folder" &&
     make -C "$folder" PREFIX="$work/usr" PG_CONFIG="$config" "$@"
 }
 
 guarded() { # FOLDER SOURCES FLAGS..: the extension over the allocator of guarded.c
   local folder=$work/$1 sources=$2
   shift 2
-  mkdir -p "$folder" && cp "$top"/databases/postgres/{Makefile,s2union.control,*.sql} "$folder" &&
-    cp "$sources"/{planner.c,value.h} "$folder" && cp "$top/tests/postgres/guarded.c" "$folder/s2union.c" &&
+  mkdir -p "$folder" && cp "$top"/databases/postgres/{Makefile,*.control,*.sql,geo.c} "$folder" &&
+    cp "$sources"/{planner.c,value.h} "$top/databases/sphere.h" "$folder" &&
+    cp "$top/tests/postgres/guarded.c" "$folder/s2union.c" &&
     sed -E 's/Datum ([a-z0-9_]+)\(PG_FUNCTION_ARGS\)/GUARDED(\1)/' "$sources/s2union.c" >"$folder/rewritten.c" &&
     make -C "$folder" PREFIX="$work/usr" PG_CONFIG="$config" "$@"
 }
@@ -45,7 +47,7 @@ guarded() { # FOLDER SOURCES FLAGS..: the extension over the allocator of guarde
 put_in() { # FOLDER: sessions that begin from now on have the extension built there
   local to=$copy/usr/lib/postgresql/$server/lib extension=$copy/usr/share/postgresql/$server/extension
   install -m 755 "$work/$1/s2union.so" "$to/s2union.new" && mv "$to/s2union.new" "$to/s2union.so" &&
-    install -m 644 "$work/$1"/s2union.control "$work/$1"/*.sql "$extension/"
+    install -m 644 "$work/$1"/*.control "$work/$1"/*.sql "$extension/"
 }
 
 # A cluster's server under valgrind, with findings in $work/valgrind, or with the sanitizers, with findings in its log.

@@ -1144,14 +1144,12 @@ class DumpAndRestore(Tests):
         psql("DROP DATABASE dumped; ")
 
     def test_leaves_of_points_are_restored(self):
-        """With the function of docs/examples, and the column and the index that are built on it."""
-        example = os.path.join(os.path.dirname(os.path.abspath(__file__)), "../../docs/examples/leaf.postgres.sql")
+        """With the extension for points, and the column and the index that are built on it."""
         psql("DROP DATABASE IF EXISTS restored; ")
         psql("DROP DATABASE IF EXISTS dumped; ")
         psql("CREATE DATABASE dumped;")
         psql("CREATE DATABASE restored;")
-        psql(f"""CREATE EXTENSION s2union;
-             \\i {example}
+        psql("""CREATE EXTENSION s2union_geo CASCADE;
              CREATE TABLE places(x float8, y float8, leaf bigint GENERATED ALWAYS AS (s2_leaf_at(x, y)) STORED);
              INSERT INTO places VALUES (2.3522, 48.8566), (-58.3816, -34.6037);
              CREATE INDEX ON places (s2_leaf_at(y, x));
@@ -1173,6 +1171,31 @@ class DumpAndRestore(Tests):
         self.assertEqual(said, ["04"])
         psql("DROP DATABASE owned; ")
         psql("DROP ROLE owner, guest; ")
+
+
+class Points(Tests):
+    """The extension s2union_geo. tests/geo asks S2 about more points."""
+
+    def setUp(self):
+        psql("SET client_min_messages = error; CREATE EXTENSION IF NOT EXISTS s2union_geo CASCADE;")
+
+    def test_points(self):
+        self.assertEqual(psql("SELECT s2_token(s2_leaf_at(2.3522, 48.8566)), s2_leaf_at(-58.3816, -34.6037)"),
+                         ["47e66e1d8f8be23b|-7657022275671071089"])
+        self.assertEqual(psql("SELECT s2_longitude('1'), s2_latitude('5'), s2_latitude(s2_leaf_at(1, -90)) < -89.9999"),
+                         ["0|90|t"])
+        self.assertEqual(psql("SELECT s2_leaf_at(NULL, 0) IS NULL, s2_leaf_at(0, NULL) IS NULL,"
+                              " s2_longitude(NULL::bigint) IS NULL, s2_latitude(NULL::text) IS NULL"), ["t|t|t|t"])
+
+    def test_points_that_are_refused(self):
+        for call, said in (("s2_leaf_at(0, 91)", "s2union: a latitude is a number from -90 to 90: 91"),
+                           ("s2_leaf_at(0, 'NaN')", "s2union: a latitude is a number from -90 to 90: NaN"),
+                           ("s2_leaf_at('-Infinity', 0)", "a longitude is a number from -540 to 540: -Infinity"),
+                           ("s2_leaf_at(540.1, 0)", "s2union: a longitude is a number from -540 to 540: 540.1"),
+                           ("s2_longitude(2)", "s2union: not a cell: 2"), ("s2_latitude(0)", "s2union: not a cell: 0"),
+                           ("s2_latitude('zz')", 's2union: not a cell: "zz"')):
+            with self.subTest(call=call), self.assertRaisesRegex(AssertionError, said):
+                psql(f"SELECT {call}")
 
 
 class Exclusion(Tests):

@@ -30,7 +30,8 @@ step "at most 510 lines of C" short
 build() { # FOLDER FLAGS..
   local folder=$work/$1
   shift
-  mkdir -p "$folder" && cp "$source/s2union.c" "$source/Makefile" "$folder" && make -C "$folder" PREFIX="$work/usr" "$@"
+  mkdir -p "$folder" && cp "$source"/{s2union.c,s2union_geo.c,Makefile} "$top/databases/sphere.h" "$folder" &&
+    make -C "$folder" PREFIX="$work/usr" "$@"
 }
 step "build" build plain
 step "build, with the sanitizers" build sanitized CFLAGS="-O1 -g -fsanitize=address,undefined -fno-sanitize-recover"
@@ -73,8 +74,9 @@ any_name() { # and none that Python's import of the library's module would find
 step "the file loads under any name, and is not taken for the Python module" any_name
 step "against the model" tests plain test_sqlite.AgainstTheModel
 step "what is refused" tests plain test_sqlite.WhatIsRefused
+step "mod_s2union_geo: points, and what is refused" tests plain test_geo
 step "a union that is asked for each row is looked at once" tests counted test_sqlite.Steps
-step "under the sanitizers" sanitized test_sqlite.AgainstTheModel test_sqlite.WhatIsRefused
+step "under the sanitizers" sanitized test_sqlite.AgainstTheModel test_sqlite.WhatIsRefused test_geo
 
 refused() {
   gcc -std=c11 -D_DEFAULT_SOURCE -Wall -Wextra -Werror "$top"/tests/{sqlite/memory,refuse}.c -lsqlite3 \

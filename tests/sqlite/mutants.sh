@@ -8,7 +8,8 @@
 build() { # FOLDER FLAGS..
   local folder=$1
   shift
-  mkdir -p "$folder" && cp "$work"/mutant/{Makefile,s2union.c} "$folder" && make -C "$folder" -B PREFIX="$work/usr" "$@"
+  mkdir -p "$folder" && cp "$work"/mutant/{Makefile,s2union.c} "$folder" &&
+    make -C "$folder" -B mod_s2union.so PREFIX="$work/usr" "$@"
 }
 
 gcc -std=c11 -D_DEFAULT_SOURCE -O1 "$top"/tests/{sqlite/memory,refuse}.c -lsqlite3 -o "$work/memory" || exit 2

@@ -1,0 +1,18 @@
+"""Points and polygons, in degrees, for unions of S2 cells: by numpy, tested beside S2, and not proved.
+
+`leaves` takes longitudes and latitudes to S2's leaves and `points` goes back; `covering` and `interior` make unions of
+polygons, in GeoJSON or of shapely, and `to_geojson` makes GeoJSON of unions. The longitude comes first, as in GeoJSON.
+
+>>> from s2union_geo import covering, interior, leaf
+>>> square = {"type": "Polygon", "coordinates": [[[0, 0], [10, 0], [10, 10], [0, 10], [0, 0]]]}
+>>> outer, inner = covering(square), interior(square)
+>>> inner < outer, leaf(5, 5) in inner, leaf(11, 5) in outer, leaf(9.99, 5) in outer, leaf(9.999999, 5) in inner
+(True, True, False, True, False)
+"""
+
+from .polygons import MOST_CELLS, MOST_POSITIONS, covering, coverings, interior
+from .geojson import MOST_BYTES, read_geojson, to_geojson
+from .sphere import leaf, leaves, points
+
+__all__ = ["leaf", "leaves", "points", "covering", "interior", "coverings", "to_geojson", "read_geojson",
+           "MOST_CELLS", "MOST_POSITIONS", "MOST_BYTES"]

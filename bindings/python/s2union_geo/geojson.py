@@ -1,0 +1,116 @@
+"""GeoJSON in and out: rings that were looked at, and cells as polygons."""
+
+from __future__ import annotations
+
+import json
+import os
+from typing import Any, Iterator
+
+import numpy
+from s2union import Union, tokens
+
+from .sphere import MOST_LONGITUDE, geographic, on_cube, squares_of
+
+MOST_BYTES = 2**28  # of a text or a file
+MOST_POSITIONS = 1_000_000  # of all rings together
+PARTS = {"FeatureCollection": "features", "GeometryCollection": "geometries"}
+
+
+# ---- in
+
+
+def read_geojson(path: str | os.PathLike[str]) -> Any:
+    """The GeoJSON of a file, of at most MOST_BYTES bytes."""
+    with open(path, "rb") as file:
+        return parsed(file.read(MOST_BYTES + 1), os.fspath(path))
+
+
+def parsed(text: str | bytes, name: str = "the text") -> Any:
+    if len(text) > MOST_BYTES:
+        raise ValueError(f"{name} has more than {MOST_BYTES} bytes")
+    try:
+        return json.loads(text)
+    except (ValueError, RecursionError) as error:
+        raise ValueError(f"{name} is no GeoJSON: {error}") from None
+
+
+def polygons_of(shape: Any) -> list[list[Any]]:
+    """The rings of each polygon, as arrays of longitudes and latitudes: of GeoJSON, as objects of Python or as a text,
+    or of what has a __geo_interface__, as shapely's objects have."""
+    found: list[list[Any]] = []
+    waiting, positions = [shape], 0
+    while waiting:
+        it = waiting.pop()
+        it = parsed(it) if isinstance(it, (str, bytes)) else getattr(it, "__geo_interface__", it)
+        kind = it.get("type") if isinstance(it, dict) else None
+        if kind in PARTS:
+            waiting += reversed(_list_of(it, PARTS[kind], kind))
+        elif kind == "Feature":
+            waiting += [it["geometry"]] if it.get("geometry") is not None else []
+        elif kind in ("Polygon", "MultiPolygon"):
+            parts = _list_of(it, "coordinates", kind)
+            for rings in parts if kind == "MultiPolygon" else [parts]:
+                found.append([_ring_of(ring, f"polygon {len(found)}, ring {k}") for k, ring in enumerate(rings)])
+                positions += sum(map(len, found[-1]))
+                if positions > MOST_POSITIONS:
+                    raise ValueError(f"there are more than {MOST_POSITIONS} positions")
+        else:
+            raise ValueError(f"it is no polygon: {kind or type(it).__name__}")
+    return found
+
+
+def _list_of(it: Any, name: str, kind: str) -> list[Any]:
+    parts = it.get(name)
+    if not isinstance(parts, (list, tuple)):
+        raise ValueError(f"a {kind} has a list of {name}")
+    return list(parts)
+
+
+def _ring_of(ring: Any, what: str) -> Any:
+    """The positions of a closed ring, each once, with the first again at the end."""
+    try:
+        positions = numpy.array([[float(x) for x in position[:2]] for position in ring], "float64").reshape(-1, 2)
+    except (TypeError, ValueError, OverflowError):
+        raise ValueError(f"{what}: a position is a longitude and a latitude") from None
+    wrong = numpy.flatnonzero(~(numpy.abs(positions) <= (MOST_LONGITUDE, 90)).all(axis=1))
+    if wrong.size:
+        raise ValueError(f"{what}: position {wrong[0]} is out of range: {positions[wrong[0]].tolist()}")
+    if len(positions) < 4:
+        raise ValueError(f"{what} has fewer than four positions")
+    if (positions[0] != positions[-1]).any():
+        raise ValueError(f"{what} is open: its last position is not its first")
+    return positions[numpy.append(True, (positions[1:] != positions[:-1]).any(axis=1))]
+
+
+# ---- out
+
+
+def rings(cells: Any) -> Iterator[list[list[float]]]:
+    """For each cell the ring of its corners, counterclockwise."""
+    face, i, j, side = squares_of(cells)
+    corners = [geographic(*on_cube(face, i + side * right, j + side * up))
+               for right, up in ((0, 0), (1, 0), (1, 1), (0, 1))]
+    for ring in numpy.array(corners).transpose(2, 0, 1).tolist():
+        poles = [k for k, (_, latitude) in enumerate(ring) if abs(latitude) == 90]
+        for k in poles:  # has every longitude: those of the corners before and after it
+            ring[k:k + 1] = [[ring[k - 1][0], ring[k][1]], [ring[(k + 1) % 4][0], ring[k][1]]]
+        for corner in ring[1:]:  # the shorter way from the first
+            corner[0] += 360 * round((ring[0][0] - corner[0]) / 360)
+        yield ring + ring[:1]
+
+
+def to_geojson(union: Union, **properties: Any) -> dict[str, Any]:
+    """The cells of a union as polygons of GeoJSON, a feature for each, with these properties and its token, `cell`.
+
+    Faces are cut, since two of them have a pole inside. A cell across the date line goes on beyond 180 or -180 degrees.
+
+    >>> from s2union import Union
+    >>> found = to_geojson(Union.from_tokens("14"), name="pond")["features"]
+    >>> [(feature["properties"], feature["geometry"]["type"]) for feature in found]
+    [({'name': 'pond', 'cell': '14'}, 'Polygon')]
+    """
+    cells = numpy.array(union.denormalised(1), "uint64")
+    features = [{"type": "Feature", "properties": {**properties, "cell": token},
+                 "geometry": {"type": "Polygon", "coordinates": [ring]}}
+                for token, ring in zip(tokens(cells), rings(cells.tolist()))]
+    return {"type": "FeatureCollection", "features": features}

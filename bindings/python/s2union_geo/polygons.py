@@ -1,0 +1,211 @@
+"""Coverings of polygons whose edges are straight on the map of longitudes and latitudes.
+
+A cell is at the border if the distance of its middle from an edge on the sphere is no more than that of its farthest
+corner; a cell that is not lies wholly inside or outside, as its middle does. Cells at the border are divided, level by
+level, as far as the number of cells allows.
+"""
+
+from __future__ import annotations
+
+from typing import Any, NamedTuple
+
+import numpy
+from s2union import Union, from_points, parents
+
+from .crossings import look_for_crossings
+from .geojson import MOST_POSITIONS, polygons_of
+from .sphere import geographic, on_cube, sphere
+
+MOST_CELLS = 1_000_000
+STEP = 0.25  # degrees between two points of an edge. What is straight on the map bends less than 10 m between them
+NOISE = 4e-15  # of distances, in radii of the earth
+AT_ONCE = 2_000_000  # pairs that are looked at together
+CHILDREN = numpy.array([(0, 0), (0, 1), (1, 0), (1, 1)])
+CORNERS = ((0, 0), (0, 1), (1, 0), (1, 1))
+
+
+class Edges(NamedTuple):
+    """Short edges on the sphere: from where they go and by how much, how far from that the border may be, and the
+    number of the polygon of each."""
+
+    start: Any
+    way: Any
+    slack: Any
+    polygon: Any
+
+
+class Squares(NamedTuple):
+    """Squares of one level: their faces and their coordinates among the squares of the level."""
+
+    face: Any
+    i: Any
+    j: Any
+
+    def at(self, places: Any) -> Squares:
+        return Squares(*(part[places] for part in self))
+
+
+def covering(shape: Any, max_cells: int = 200, max_level: int = 30) -> Union:
+    """The cells, at most `max_cells` and none deeper than `max_level`, that contain all of the polygons."""
+    return _Walk(shape, max_cells, max_level).outer()
+
+
+def interior(shape: Any, max_cells: int = 200, max_level: int = 30) -> Union:
+    """Cells that lie in a polygon, at most `max_cells` and none deeper than `max_level`, the largest first."""
+    return _Walk(shape, max_cells, max_level).inner()
+
+
+def coverings(shape: Any, max_cells: int = 200, max_level: int = 30) -> tuple[Union, Union]:
+    """Both: `covering` and `interior`. The polygons are looked at once."""
+    walk = _Walk(shape, max_cells, max_level)
+    return walk.outer(), walk.inner()
+
+
+def _number(value: Any, most: int, what: str) -> int:
+    if isinstance(value, bool) or not isinstance(value, (int, numpy.integer)):
+        raise TypeError(f"{what} is an int, not {type(value).__name__}")
+    if not 0 <= value <= most:
+        raise ValueError(f"{what} is out of range: {value}")
+    return int(value)
+
+
+def _edges_of(polygons: list[list[Any]]) -> Edges:
+    start, way, slack, number = [], [], [], []
+    for polygon, rings in enumerate(polygons):
+        for ring in rings:
+            first, last = ring[:-1], ring[1:]
+            steps = numpy.maximum(1, numpy.ceil(numpy.abs(last - first).max(axis=1) / STEP)).astype("int64")
+            edge = numpy.repeat(numpy.arange(len(first)), steps)
+            step = numpy.arange(len(edge)) - numpy.repeat(numpy.cumsum(steps) - steps, steps)
+            across = (last - first)[edge] / steps[edge][:, None]
+            here = first[edge] + across * step[:, None]
+            there = numpy.where((step + 1 == steps[edge])[:, None], last[edge], here + across)
+            a, b = sphere(*here.T), sphere(*there.T)
+            start.append(a)
+            way.append(b - a)
+            slack.append(((b - a)**2).sum(axis=0) / 8 + numpy.radians(across[:, 0])**2 / 16 + NOISE)
+            number.append(numpy.full(len(edge), polygon))
+    return Edges(numpy.hstack(start), numpy.hstack(way), numpy.hstack(slack), numpy.hstack(number))
+
+
+def _middles(squares: Squares, level: int) -> Any:
+    """The middles of squares on the sphere, and the distance of the farthest corner of each."""
+    side = 2.0**(30 - level)
+
+    def at(right: float, up: float) -> Any:
+        point = numpy.array(on_cube(squares.face, (squares.i + right) * side, (squares.j + up) * side))
+        return point / numpy.sqrt((point**2).sum(axis=0))
+
+    middle = at(0.5, 0.5)
+    farthest = numpy.max([((at(*corner) - middle)**2).sum(axis=0) for corner in CORNERS], axis=0)
+    return middle, numpy.sqrt(farthest)
+
+
+def _is_inside(rings: list[Any], x: Any, y: Any) -> Any:
+    """Whether a way to the north from each place crosses the rings an odd number of times."""
+    edges = numpy.vstack([numpy.hstack([ring[:-1], ring[1:]]) for ring in rings])
+    edges = numpy.where((edges[:, 0] > edges[:, 2])[:, None], edges[:, [2, 3, 0, 1]], edges)
+    edges = edges[edges[:, 0] < edges[:, 2]]
+    west, south, east, north = edges.T
+    inside = numpy.zeros(len(x), bool)
+    for turn in (-360, 0, 360):
+        within = numpy.flatnonzero((x + turn >= west.min(initial=0)) & (x + turn < east.max(initial=0)))
+        many = max(1, AT_ONCE // max(1, len(west)))
+        for places in numpy.split(within, range(many, len(within), many)):
+            here, height = x[places, None] + turn, y[places, None]
+            crosses = (west <= here) & (here < east)
+            part = numpy.where(crosses, (here - west) / (east - west), 0)
+            inside[places] |= numpy.count_nonzero(crosses & (south + part * (north - south) > height), axis=1) % 2 == 1
+    return inside
+
+
+class _Walk:
+    """The polygons, and the way down from the faces."""
+
+    def __init__(self, shape: Any, max_cells: int, max_level: int) -> None:
+        self.most, self.deepest = _number(max_cells, MOST_CELLS, "max_cells"), _number(max_level, 30, "max_level")
+        self.polygons = polygons_of(shape)
+        for number, rings in enumerate(self.polygons):
+            look_for_crossings(rings, f"polygon {number}")
+        self.polygons = [rings for rings in self.polygons if rings]
+        self.edges = _edges_of(self.polygons) if self.polygons else None
+
+    def begin(self) -> Any:
+        faces = Squares(numpy.arange(6), numpy.zeros(6, "int64"), numpy.zeros(6, "int64"))
+        count = len(self.edges.slack)
+        return self.divided(faces, 0, numpy.repeat(numpy.arange(6), count), numpy.tile(numpy.arange(count), 6))
+
+    def divided(self, squares: Squares, level: int, of: Any, edge: Any) -> Any:
+        """Which of the squares lie in a polygon, which are at a border, and with which edges, by pairs."""
+        middle, radius = _middles(squares, level)
+        near = numpy.zeros(len(of), bool)
+        for at in range(0, len(of), AT_ONCE):
+            part = slice(at, at + AT_ONCE)
+            near[part] = self.is_near(middle[:, of[part]], radius[of[part]], edge[part])
+        known = len(self.polygons)
+        lost = numpy.setdiff1d(of * known + self.edges.polygon[edge], of[near] * known + self.edges.polygon[edge[near]])
+        inside = numpy.zeros(len(radius), bool)
+        x, y = geographic(*middle)
+        for polygon in numpy.unique(lost % known):
+            here = lost[lost % known == polygon] // known
+            inside[here] |= _is_inside(self.polygons[polygon], x[here], y[here])
+        left = near & ~inside[of]
+        return inside, of[left], edge[left]
+
+    def is_near(self, middle: Any, radius: Any, edge: Any) -> Any:
+        start, way = self.edges.start[:, edge], self.edges.way[:, edge]
+        length, along = (way**2).sum(axis=0), ((middle - start) * way).sum(axis=0)
+        part = numpy.clip(numpy.divide(along, length, out=numpy.zeros_like(length), where=length > 0), 0, 1)
+        return numpy.sqrt(((middle - start - part * way)**2).sum(axis=0)) <= radius + self.edges.slack[edge]
+
+    def children(self, squares: Squares, border: Any, of: Any, edge: Any) -> Any:
+        """The four children of the squares at the border, and the pairs of these with edges."""
+        ij = numpy.stack([squares.i[border], squares.j[border]])
+        i, j = (2 * ij[:, :, None] + CHILDREN.T[:, None, :]).reshape(2, -1)
+        place = numpy.searchsorted(border, of)
+        pairs = (4 * place[:, None] + numpy.arange(4)).ravel()
+        return Squares(numpy.repeat(squares.face[border], 4), i, j), pairs, numpy.repeat(edge, 4)
+
+    def ids(self, squares: Squares, level: int) -> Any:
+        leaves = from_points(squares.face, squares.i << (30 - level), squares.j << (30 - level))
+        return numpy.asarray(parents(numpy.asarray(leaves, "uint64"), level), "uint64")
+
+    def outer(self) -> Union:
+        if self.edges is None:
+            return Union()
+        squares = Squares(numpy.arange(6), numpy.zeros(6, "int64"), numpy.zeros(6, "int64"))
+        inside, of, edge = self.begin()
+        found, border = [self.ids(squares.at(inside), 0)], numpy.unique(of)
+        for level in range(1, self.deepest + 1):
+            below, pairs, edges = self.children(squares, border, of, edge)
+            inside, of, edge = self.divided(below, level, pairs, edges)
+            kept = inside.copy()
+            kept[of] = True
+            counts = kept.reshape(-1, 4).sum(axis=1)
+            room = self.most - sum(map(len, found)) - len(border)
+            if counts.sum() - len(border) > room:  # those that need the fewest cells are divided
+                first = numpy.argsort(counts, kind="stable")
+                first = first[numpy.cumsum(counts[first] - 1) <= room]
+                is_divided = numpy.zeros(len(border), bool)
+                is_divided[first] = True
+                found += [self.ids(squares.at(border[~is_divided]), level - 1),
+                          self.ids(below.at(kept & numpy.repeat(is_divided, 4)), level)]
+                return Union(numpy.concatenate(found))
+            found.append(self.ids(below.at(inside), level))
+            squares, border = below, numpy.unique(of)
+        return Union(numpy.concatenate([*found, self.ids(squares.at(border), self.deepest)]))
+
+    def inner(self) -> Union:
+        if self.edges is None:
+            return Union()
+        squares = Squares(numpy.arange(6), numpy.zeros(6, "int64"), numpy.zeros(6, "int64"))
+        inside, of, edge = self.begin()
+        found, border = [self.ids(squares.at(inside), 0)], numpy.unique(of)
+        for level in range(1, self.deepest + 1):
+            if not len(border) or len(border) > 8 * self.most or sum(map(len, found)) >= self.most:
+                break
+            squares, pairs, edges = self.children(squares, border, of, edge)
+            inside, of, edge = self.divided(squares, level, pairs, edges)
+            found.append(self.ids(squares.at(inside), level))
+            border = numpy.unique(of)
+        return Union(numpy.concatenate(found)[:self.most])

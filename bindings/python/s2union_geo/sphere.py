@@ -1,0 +1,114 @@
+"""Places on the sphere, in degrees, and S2's projection onto the cube: by numpy, in plain floating point."""
+
+from __future__ import annotations
+
+import math
+from typing import Any, Callable
+
+import numpy
+from s2union import from_points, square
+
+SIDE = 2**30  # of a face, in leaves
+MOST_LONGITUDE = 540  # in data from -180 to 180, from 0 to 360, and in rings that go on over the date line
+# The C library's, which S2 takes. The last bit of numpy's own may differ, and on the border of two leaves it matters.
+sine, cosine = (numpy.vectorize(function, otypes="d") for function in (math.sin, math.cos))
+
+
+def degrees_of(value: Any, what: str, most: float) -> Any:
+    """The numbers as an array of float64. What is no number, or not from -most to most, is refused by its place."""
+    given = numpy.asarray(value)
+    if given.dtype.kind not in "iuf" and given.size:
+        kind = given.flat[0]
+        raise TypeError(f"a {what} is a number, not {type(kind).__name__}: {kind!r}")
+    numbers = given.astype("float64")
+    wrong = numpy.flatnonzero(~(numpy.abs(numbers) <= most))
+    if wrong.size:
+        place = f" at place {wrong[0]}" if numbers.ndim else ""
+        raise ValueError(f"a {what} is from -{most} to {most}{place}: {numbers.flat[wrong[0]].item()!r}")
+    return numbers
+
+
+def places_of(longitude: Any, latitude: Any) -> Any:
+    """Both as arrays of one shape."""
+    x, y = degrees_of(longitude, "longitude", MOST_LONGITUDE), degrees_of(latitude, "latitude", 90)
+    try:
+        return numpy.broadcast_arrays(x, y)
+    except ValueError:
+        raise ValueError(f"{x.size} longitudes and {y.size} latitudes") from None
+
+
+def sphere(longitude: Any, latitude: Any) -> Any:
+    """The points of the sphere, as x, y and z, of places in degrees that were looked at."""
+    longitude, latitude = numpy.radians(longitude), numpy.radians(latitude)
+    across = cosine(latitude)
+    return numpy.array([cosine(longitude) * across, sine(longitude) * across, sine(latitude)])
+
+
+def geographic(x: Any, y: Any, z: Any) -> Any:
+    """The longitude and the latitude of points, in degrees."""
+    return numpy.degrees(numpy.arctan2(y, x)), numpy.degrees(numpy.arctan2(z, numpy.hypot(x, y)))
+
+
+def _place_on_face(u: Any) -> Any:
+    """How many leaves lie before the place u, from -1 to 1, of a face."""
+    root = 0.5 * numpy.sqrt(1 + 3 * numpy.abs(u))
+    place = numpy.where(u >= 0, root, 1 - root)
+    return numpy.minimum(numpy.rint(SIDE * place - 0.5), SIDE - 1).astype("int64")
+
+
+def face_ij(longitude: Any, latitude: Any) -> Any:
+    """The face, i and j of the leaf of each place: S2's own steps."""
+    x, y, z = point = sphere(longitude, latitude)
+    axis = 2 - numpy.argmax(numpy.abs(point[::-1]), axis=0)  # the longest; the last, if several are
+    face = numpy.where(numpy.choose(axis, point) < 0, axis + 3, axis)
+    with numpy.errstate(divide="ignore", invalid="ignore"):
+        u = numpy.choose(face, [y / x, -x / y, -x / z, z / x, z / y, -y / z])
+        v = numpy.choose(face, [z / x, z / y, -y / z, y / x, -x / y, -x / z])
+    return face, _place_on_face(u), _place_on_face(v)
+
+
+def on_cube(face: Any, i: Any, j: Any) -> Any:
+    """The points of the cube at the coordinates i and j of faces, in leaves: S2's projection, without its length."""
+    u, v = (numpy.where(s >= 0.5, 4 * s * s - 1, 1 - 4 * (1 - s) * (1 - s)) / 3 for s in (i / SIDE, j / SIDE))
+    one = numpy.ones_like(u)
+    x = numpy.choose(face, [one, -u, -u, -one, v, v])
+    y = numpy.choose(face, [u, one, -v, -v, -one, u])
+    z = numpy.choose(face, [v, v, one, -u, -u, -one])
+    return x, y, z
+
+
+def squares_of(cells: Any) -> Any:
+    """The face, i, j and side of the square of each cell."""
+    return numpy.array([square(cell) for cell in cells], "int64").reshape(-1, 4).T
+
+
+def leaves(longitude: Any, latitude: Any) -> Any:
+    """The leaf of each place, in degrees, as an array of S2's identifiers: those of S2 itself.
+
+    >>> leaves([2.3522, 180.0], [48.8566, -16.5])
+    array([5180949494577750587, 7935343058781468041], dtype=uint64)
+    """
+    longitude, latitude = places_of(longitude, latitude)
+    face, i, j = face_ij(longitude.ravel(), latitude.ravel())
+    return numpy.asarray(from_points(face, i, j), "uint64").reshape(longitude.shape)
+
+
+def leaf(longitude: float, latitude: float) -> int:
+    """The leaf of one place.
+
+    >>> from s2union import token
+    >>> token(leaf(2.3522, 48.8566))
+    '47e66e1d8f8be23b'
+    """
+    return int(leaves(float(longitude), float(latitude)))
+
+
+def points(cells: Any) -> Any:
+    """The longitudes and the latitudes of the middles of cells, as two arrays. That of a leaf is less than 8 mm from
+    each place in it.
+
+    >>> [float(round(found[0], 6)) for found in points([leaf(2.3522, 48.8566)])]
+    [2.3522, 48.8566]
+    """
+    face, i, j, side = squares_of(cells)
+    return geographic(*on_cube(face, i + side / 2, j + side / 2))

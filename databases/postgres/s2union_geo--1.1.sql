@@ -1,0 +1,33 @@
+-- s2union_geo 1.1. docs/GEO.md says what each function does, in the words of its comment.
+
+\echo Use "CREATE EXTENSION s2union_geo" to load this file. \quit
+
+CREATE FUNCTION s2_leaf_at(longitude float8, latitude float8)
+RETURNS bigint
+AS 'MODULE_PATHNAME'
+LANGUAGE C IMMUTABLE STRICT PARALLEL SAFE;
+COMMENT ON FUNCTION s2_leaf_at(float8, float8) IS 'the leaf of a place, in degrees: S2''s own';
+
+CREATE FUNCTION s2_longitude(bigint)
+RETURNS float8
+AS 'MODULE_PATHNAME'
+LANGUAGE C IMMUTABLE STRICT PARALLEL SAFE;
+COMMENT ON FUNCTION s2_longitude(bigint) IS 'the longitude of the middle of a cell, in degrees';
+
+CREATE FUNCTION s2_longitude(text)
+RETURNS float8
+LANGUAGE SQL IMMUTABLE STRICT PARALLEL SAFE
+RETURN s2_longitude(s2_cell($1));
+COMMENT ON FUNCTION s2_longitude(text) IS 'the longitude of the middle of a cell, in degrees';
+
+CREATE FUNCTION s2_latitude(bigint)
+RETURNS float8
+AS 'MODULE_PATHNAME'
+LANGUAGE C IMMUTABLE STRICT PARALLEL SAFE;
+COMMENT ON FUNCTION s2_latitude(bigint) IS 'the latitude of the middle of a cell, in degrees';
+
+CREATE FUNCTION s2_latitude(text)
+RETURNS float8
+LANGUAGE SQL IMMUTABLE STRICT PARALLEL SAFE
+RETURN s2_latitude(s2_cell($1));
+COMMENT ON FUNCTION s2_latitude(text) IS 'the latitude of the middle of a cell, in degrees';

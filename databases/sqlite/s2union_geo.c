@@ -1,0 +1,78 @@
+/* Points in degrees for unions of S2 cells in SQLite. docs/GEO.md says what each function does. */
+#include <s2union.h>
+#include <sqlite3ext.h>
+#include <string.h>
+#include "sphere.h"
+SQLITE_EXTENSION_INIT1
+
+static void refuse(sqlite3_context* c, const char* what, sqlite3_value* v) {
+  int type = sqlite3_value_type(v);
+  char* text = type == SQLITE_BLOB ? sqlite3_mprintf("s2: %s: a BLOB of length %d", what, sqlite3_value_bytes(v))
+               : type == SQLITE_TEXT ? sqlite3_mprintf("s2: %s: %!.40Q", what, sqlite3_value_text(v))
+                                     : sqlite3_mprintf("s2: %s: %s", what, sqlite3_value_text(v));
+  text ? sqlite3_result_error(c, text, -1) : sqlite3_result_error_nomem(c);
+  sqlite3_free(text);
+}
+
+static int is_number(sqlite3_value* v, double most) { /* SQLite has no NaN: it is NULL */
+  int type = sqlite3_value_type(v);
+  return (type == SQLITE_INTEGER || type == SQLITE_FLOAT) && fabs(sqlite3_value_double(v)) <= most;
+}
+
+static void leaf_at_function(sqlite3_context* c, int n, sqlite3_value** v) {
+  if (sqlite3_value_type(v[0]) == SQLITE_NULL || sqlite3_value_type(v[1]) == SQLITE_NULL) return;
+  if (!is_number(v[0], MOST_LONGITUDE)) refuse(c, "a longitude is a number from -540 to 540", v[0]);
+  else if (!is_number(v[1], MOST_LATITUDE)) refuse(c, "a latitude is a number from -90 to 90", v[1]);
+  else sqlite3_result_int64(c, (sqlite3_int64)leaf_at(sqlite3_value_double(v[0]), sqlite3_value_double(v[1])));
+}
+
+/* A cell is an INTEGER or a TEXT, as in the extension s2union. */
+static int32_t cell_of(sqlite3_value* v, uint64_t* cell) {
+  if (sqlite3_value_type(v) == SQLITE_TEXT) {
+    const char* text = (const char*)sqlite3_value_text(v);
+    size_t n = (size_t)sqlite3_value_bytes(v);
+    if (!text) return S2U_MEMORY;
+    return memchr(text, '/', n) ? s2u_from_debug(text, n, cell) : s2u_from_token(text, n, cell);
+  }
+  *cell = (uint64_t)sqlite3_value_int64(v);
+  return sqlite3_value_type(v) == SQLITE_INTEGER ? S2U_OK : S2U_NO_CELL;
+}
+
+static void coordinate(sqlite3_context* c, sqlite3_value* v, int is_latitude) {
+  uint64_t cell;
+  s2u_square square;
+  double longitude, latitude;
+  if (sqlite3_value_type(v) == SQLITE_NULL) return;
+  int32_t status = cell_of(v, &cell);
+  if (status == S2U_OK) status = s2u_square_of(cell, &square);
+  if (status == S2U_MEMORY) sqlite3_result_error_nomem(c);
+  else if (status != S2U_OK) refuse(c, "not a cell", v);
+  else {
+    middle(square, &longitude, &latitude);
+    sqlite3_result_double(c, is_latitude ? latitude : longitude);
+  }
+}
+
+static void longitude_function(sqlite3_context* c, int n, sqlite3_value** v) { coordinate(c, v[0], 0); }
+static void latitude_function(sqlite3_context* c, int n, sqlite3_value** v) { coordinate(c, v[0], 1); }
+
+__attribute__((visibility("default")))
+int sqlite3_sunion_geo_init(sqlite3* db, char** error, const sqlite3_api_routines* api) {
+  static const struct { const char* name; int n; void (*call)(sqlite3_context*, int, sqlite3_value**); } all[] = {
+    {"s2_leaf_at", 2, leaf_at_function},
+    {"s2_longitude", 1, longitude_function},
+    {"s2_latitude", 1, latitude_function},
+  };
+  SQLITE_EXTENSION_INIT2(api);
+  int status = SQLITE_OK;
+  for (size_t k = 0; status == SQLITE_OK && k < sizeof all / sizeof *all; k++)
+    status = sqlite3_create_function_v2(db, all[k].name, all[k].n,
+      SQLITE_UTF8 | SQLITE_DETERMINISTIC | SQLITE_INNOCUOUS, NULL, all[k].call, NULL, NULL, NULL);
+  return status;
+}
+
+/* SQLite asks for a name that it makes of the file's, and then for this one. */
+__attribute__((visibility("default")))
+int sqlite3_extension_init(sqlite3* db, char** error, const sqlite3_api_routines* api) {
+  return sqlite3_sunion_geo_init(db, error, api);
+}

@@ -1,0 +1,226 @@
+"""The module s2union_geo: points to leaves and back, polygons to unions, cells to polygons, and what is refused.
+tests/geo asks S2 about more."""
+
+import json
+import math
+import os
+import subprocess
+import sys
+import tempfile
+import unittest
+from random import Random
+
+import numpy
+import s2union_geo
+from s2union import Union, from_face_ij, from_token, level, tokens
+from s2union_geo import covering, coverings, interior, leaf, leaves, points, read_geojson, to_geojson
+from s2union_geo.geojson import rings
+from s2union_geo.sphere import geographic, on_cube
+
+# Longitude, latitude, and the token of S2CellId(S2LatLng::FromDegrees(latitude, longitude)): places, the date line, the
+# poles, and points on the borders of faces; on the last five, two coordinates on the sphere are equal.
+POINTS = """
+0 0 1000000000000001
+2.3522 48.8566 47e66e1d8f8be23b
+15.3136 -4.3276 1a6a36acb6594c23
+-58.3816 -34.6037 95bccacf155f668f
+139.6917 35.6895 60188cd4c86839b9
+-122.4194 37.7749 8085809e8e8d8c61
+151.2093 -33.8688 6b12ae3ff6290055
+180 -16.5 6e200077fd87f589
+-180 16.5 7b355532acd2b4cd
+0 90 5000000000000001
+0 -90 b000000000000001
+45 0 17ffffffffffffff
+45 30 1561d60209d602a1
+-45 15 09fdf57df8aa000b
+135 -30 2acb2cacb32cad4b
+-135 -15 9df8a078a9fe001f
+0 45 12aaaaaaaaaaaaab
+90 -45 2800000000000001
+-90 45 8800000000000001
+180 -45 6d55555555555555
+-135 -27.5 9fd62757fdf5f89d
+-45 27.5 8ad33352acb4accd
+-179.8 44.99982546672037 57ffe2761e2aa821
+179.3 44.99786191847826 58008275f58077d7
+179.8 -44.99982546672037 a8001d89e1d557df
+"""
+
+
+SQUARE = [[0, 0], [10, 0], [10, 10], [0, 10], [0, 0]]
+
+
+def polygon(*rings):
+    return {"type": "Polygon", "coordinates": list(rings)}
+
+
+class Points(unittest.TestCase):
+    def test_points(self):
+        longitude, latitude, wanted = zip(*map(str.split, POINTS.strip().splitlines()))
+        found = leaves(numpy.array(longitude, float), numpy.array(latitude, float))
+        self.assertEqual((found.dtype, tokens(found)), ("uint64", list(wanted)))
+        self.assertEqual([leaf(float(x), float(y)) for x, y in zip(longitude, latitude)], found.tolist())
+        self.assertEqual(leaves([[1, 2], [3, 4]], 5).tolist(), [[leaf(1, 5), leaf(2, 5)], [leaf(3, 5), leaf(4, 5)]])
+        self.assertEqual(leaves([], []).tolist(), [])
+        self.assertEqual(leaf(361, 1), leaf(1, 1))
+
+    def test_the_middle_of_a_leaf_lies_in_it(self):
+        random = Random(47)
+        places = numpy.array([[random.randrange(6), *random.choices(range(2**30), k=2)] for _ in range(2000)]).T
+        longitude, latitude = geographic(*on_cube(places[0], places[1] + 0.5, places[2] + 0.5))
+        cells = list(map(from_face_ij, *places.tolist()))
+        self.assertEqual(leaves(longitude, latitude).tolist(), cells)
+        self.assertEqual(numpy.array(points(cells)).tolist(), [longitude.tolist(), latitude.tolist()])
+
+    def test_what_is_refused(self):
+        for x, y, said in (([0, math.nan], [0, 0], "a longitude is from -540 to 540 at place 1: nan"),
+                           ([0, 0], [math.inf, 0], "a latitude is from -90 to 90 at place 0: inf"),
+                           (0, 91, "a latitude is from -90 to 90: 91.0"), ([1, 2], [1, 2, 3], "2 longitudes and 3 lat"),
+                           (541, 0, "a longitude is from -540 to 540: 541.0")):
+            with self.subTest(said=said), self.assertRaisesRegex(ValueError, said):
+                leaves(x, y)
+        for given in (["1", "2"], [None, None], [True, False]):
+            with self.subTest(given=given), self.assertRaisesRegex(TypeError, "a longitude is a number, not"):
+                leaves(given, [0, 0])
+        with self.assertRaisesRegex(ValueError, "not a cell"):
+            points([2])
+
+
+class Polygons(unittest.TestCase):
+    def test_coverings_bound_their_polygon(self):
+        """Of 20,000 points around a polygon with a hole: those in the interior are in it, and all in it are covered."""
+        random = Random(3)
+        x = numpy.array([random.uniform(-1, 12) for _ in range(20000)])
+        y = numpy.array([random.uniform(-1, 12) for _ in range(20000)])
+        hole = [[3, 3], [3, 7], [7, 7], [7, 3], [3, 3]]
+        inside = (x > 0) & (x < 10) & (y > 0) & (y < 10) & ~((x >= 3) & (x <= 7) & (y >= 3) & (y <= 7))
+        cells = leaves(x, y)
+        for most, deepest in ((0, 30), (1, 30), (8, 30), (200, 30), (5000, 30), (200, 6), (0, 0)):
+            outer, inner = coverings(polygon(SQUARE, hole), most, deepest)
+            with self.subTest(most=most, deepest=deepest):
+                self.assertFalse((inside & ~outer.contains_cells(cells)).any())
+                self.assertFalse((inner.contains_cells(cells) & ~inside).any())
+                self.assertTrue(inner <= outer)
+                self.assertLessEqual(len(inner), most)
+                self.assertLessEqual(len(outer), max(most, 6))
+                self.assertLessEqual(max([level(cell) for cell in (*outer, *inner)], default=0), deepest)
+        self.assertEqual((covering(polygon(SQUARE, hole)), interior(polygon(SQUARE, hole))),
+                         coverings(polygon(SQUARE, hole)))
+
+    def test_edges_are_straight_on_the_map(self):
+        """Between two points of the 49th parallel, 10 degrees apart, the shortest line lies 12 km to the north."""
+        outer, inner = coverings(polygon([[0, 40], [10, 40], [10, 49], [0, 49], [0, 40]]), 100000)
+        for height, lies in ((48.97, True), (49.03, False), (49.05, False)):
+            self.assertEqual((leaf(5, height) in outer, leaf(5, height) in inner), (lies, lies))
+
+    def test_the_date_line_and_the_poles(self):
+        wide = polygon([[170, -5], [190, -5], [190, 5], [170, 5], [170, -5]])
+        for x in (175, 180, -180, -175, 185):
+            self.assertIn(leaf(x, 0), interior(wide))
+        self.assertNotIn(leaf(-169, 0), covering(wide))
+        south = polygon([[-180, -90], [180, -90], [180, -60], [-180, -60], [-180, -90]])
+        outer, inner = coverings(south, 2000)
+        for x in range(-170, 171, 20):
+            self.assertIn(leaf(x, -61), inner)
+            self.assertIn(leaf(x, -90), outer)
+            self.assertNotIn(leaf(x, -59), outer)
+
+    def test_what_is_taken(self):
+        """GeoJSON as objects and as a text, with features and collections; and what has a __geo_interface__."""
+        class Shape:
+            __geo_interface__ = polygon(SQUARE)
+
+        feature = {"type": "Feature", "properties": {}, "geometry": polygon(SQUARE)}
+        wanted = covering(polygon(SQUARE))
+        for shape in (feature, json.dumps(feature), json.dumps(feature).encode(), Shape(),
+                      {"type": "FeatureCollection", "features": [feature, {"type": "Feature", "geometry": None}]},
+                      {"type": "GeometryCollection", "geometries": [polygon(SQUARE)]},
+                      {"type": "MultiPolygon", "coordinates": [[SQUARE]]},
+                      polygon([position + [7] for position in SQUARE]), polygon(SQUARE[::-1])):
+            self.assertEqual(covering(shape), wanted)
+        self.assertEqual(coverings({"type": "FeatureCollection", "features": []}), (Union(), Union()))
+
+    def test_what_is_refused(self):
+        for shape, said in ((polygon(SQUARE[:-1]), "polygon 0, ring 0 is open: its last position is not its first"),
+                            (polygon(SQUARE[:2] + SQUARE[:1]), "polygon 0, ring 0 has fewer than four positions"),
+                            (polygon([[0, 0], [10, 10], [10, 0], [0, 10], [0, 0]]), "ring 0 crosses or touches itself"),
+                            (polygon([[0, 0], [5, 5], [0, 10], [10, 10], [5, 5], [10, 0], [0, 0]]), "touches itself"),
+                            (polygon([[0, 0], [5, 0], [9, 0], [5, 0], [5, 5], [0, 0]]), "crosses or touches itself"),
+                            (polygon(SQUARE, [[5, 5], [15, 5], [15, 6], [5, 6], [5, 5]]), "rings 0 and 1 cross near"),
+                            (polygon([[0, 0], [1, 91], [1, 0], [0, 0]]), "ring 0: position 1 is out of range"),
+                            (polygon([[0, 0], [math.nan, 1], [1, 0], [0, 0]]), "ring 0: position 1 is out of range"),
+                            (polygon([[0, 0], ["x", 1], [1, 0], [0, 0]]), "a position is a longitude and a latitude"),
+                            (polygon([[0, 0], [10**400, 1], [1, 0], [0, 0]]), "a position is a longitude and a"),
+                            ({"type": "Point", "coordinates": [0, 0]}, "it is no polygon: Point"),
+                            ({"type": "Polygon"}, "a Polygon has a list of coordinates"), (7, "it is no polygon: int"),
+                            (None, "it is no polygon: NoneType"), ("{", "the text is no GeoJSON"),
+                            ("[" * 100000, "the text is no GeoJSON")):
+            with self.subTest(said=said), self.assertRaisesRegex(ValueError, said):
+                coverings(shape)
+        for most, deepest, error in ((-1, 30, ValueError), (10**7, 30, ValueError), (9, 31, ValueError),
+                                     (True, 3, TypeError), ("9", 3, TypeError)):
+            with self.assertRaises(error):
+                covering(polygon(SQUARE), most, deepest)
+
+    def test_too_much(self):
+        ring = numpy.stack([numpy.linspace(0, 300, 500001), numpy.zeros(500001)], axis=1).tolist()
+        with self.assertRaisesRegex(ValueError, "more than 1000000 positions"):
+            coverings({"type": "MultiPolygon", "coordinates": [[ring + ring[:1]], [ring + ring[:1]]]})
+        with tempfile.NamedTemporaryFile() as file:
+            file.truncate(s2union_geo.MOST_BYTES + 1)
+            with self.assertRaisesRegex(ValueError, "has more than 268435456 bytes"):
+                read_geojson(file.name)
+
+
+class Maps(unittest.TestCase):
+    def test_rings(self):
+        """Closed, counterclockwise, not torn at the date line; at a pole there are two corners."""
+        for token, count in (("04", 5), ("0000000000000001", 5), ("64", 5), ("5c", 6), ("b4", 6)):
+            ring, = rings([from_token(token)])
+            area = sum(x * to_y - to_x * y for (x, y), (to_x, to_y) in zip(ring, ring[1:]))
+            with self.subTest(token=token):
+                self.assertEqual((len(ring), ring[0]), (count, ring[-1]))
+                self.assertGreaterEqual(area, 0)
+                self.assertLessEqual(max(abs(corner[0] - ring[0][0]) for corner in ring), 180)
+
+    def test_there_and_back(self):
+        """The polygons of a union's cells, read again, lie in it and are covered by it and its neighbors."""
+        union = Union.from_tokens("47e7 47e1 64")
+        made = to_geojson(union, name="three")
+        self.assertEqual([feature["properties"] for feature in made["features"]],
+                         [{"name": "three", "cell": token} for token in union.tokens()])
+        for feature, cell in zip(made["features"], union):
+            x, y = points([cell])
+            self.assertIn(leaf(x[0], y[0]), interior(feature, 5000))
+
+    def test_the_command_line(self):
+        def said(*words, text=""):
+            return subprocess.run([sys.executable, "-m", "s2union_geo", *words], input=text, capture_output=True,
+                                  text=True)
+
+        self.assertEqual(said("leaves", text="2.3522 48.8566 Paris\n\n0 90 North Pole\n").stdout,
+                         "47e66e1d8f8be23b\n5000000000000001\n")
+        with tempfile.TemporaryDirectory() as folder:
+            features = [{"type": "Feature", "properties": {"file": name}, "geometry": polygon(ring)}
+                        for name, ring in (("good", SQUARE), ("open", SQUARE[:-1]))]
+            file = os.path.join(folder, "some.geojson")
+            with open(file, "w") as it:
+                json.dump({"type": "FeatureCollection", "features": features}, it)
+            done = said("cover", file, folder, "20", "12")
+            self.assertRegex(done.stdout, r"^2 features, \d+ and \d+ cells; left: open \(polygon 0, ring 0 .*\)$")
+            outer = covering(polygon(SQUARE), 20, 12)
+            with open(os.path.join(folder, "good.outer"), "rb") as it:
+                self.assertEqual(Union.from_bytes(it.read()), outer)
+            made = json.loads(said("geojson", os.path.join(folder, "good.outer")).stdout)
+            self.assertEqual(made, to_geojson(outer, name="good.outer"))
+        for words, text, wanted in ((("leaves",), "x 1\n", "s2union_geo: a line begins with a longitude and a lat"),
+                                    (("leaves",), "1 91\n", "a latitude is from -90 to 90 at place 0: 91.0\n"),
+                                    (("geojson", "none"), "", "s2union_geo: .*'none'\n"), ((), "", "Points, polygons")):
+            done = said(*words, text=text)
+            self.assertEqual((done.returncode, done.stdout), (1, ""))
+            self.assertRegex(done.stderr, wanted)
+
+
+if __name__ == "__main__":
+    unittest.main()

@@ -1,0 +1,66 @@
+"""The extension for points in SQLite: places, NULL, and what is refused. tests/geo asks S2 about more.
+
+S2UNION_SQLITE is the path of the extension for unions, beside which it lies."""
+
+import math
+import os
+import sqlite3
+import unittest
+
+EXTENSION = os.path.join(os.path.dirname(os.environ["S2UNION_SQLITE"]), "mod_s2union_geo.so")
+
+
+class Points(unittest.TestCase):
+    def setUp(self):
+        self.db = sqlite3.connect(":memory:")
+        self.addCleanup(self.db.close)
+        self.db.enable_load_extension(True)
+        self.db.load_extension(EXTENSION)
+
+    def said(self, text, *values):
+        return self.db.execute(f"SELECT {text}", values).fetchone()
+
+    def test_points(self):
+        self.assertEqual(self.said("s2_leaf_at(2.3522, 48.8566), s2_leaf_at(-58.3816, -34.6037), s2_leaf_at(0, 90)"),
+                         (0x47e66e1d8f8be23b, 0x95bccacf155f668f - 2**64, 0x5000000000000001))
+        self.assertEqual(self.said("s2_longitude('1'), s2_latitude('2/'), s2_latitude('b'), s2_longitude('7')"),
+                         (0, 90, -90, -180))
+        for face, token in enumerate("13579b"):
+            x, y = self.said(f"s2_longitude('{token}'), s2_latitude('{token}')")
+            (cell,) = self.said("s2_leaf_at(?, ?)", x, y)
+            self.assertEqual((cell & 2**64 - 1) >> 61, face)
+
+    def test_nothing(self):
+        for call in ("s2_leaf_at(NULL, 1)", "s2_leaf_at(1, NULL)", "s2_leaf_at(NULL, 91)", "s2_longitude(NULL)",
+                     "s2_latitude(NULL)"):
+            self.assertEqual(self.said(call), (None,))
+        self.assertEqual(self.said("s2_leaf_at(?, 1)", math.nan), (None,))  # which SQLite has as NULL
+
+    def test_what_is_refused(self):
+        longitude, latitude = ("s2: a longitude is a number from -540 to 540: ",
+                               "s2: a latitude is a number from -90 to 90: ")
+        for call, values, wanted in (("s2_leaf_at(0, 91)", (), latitude + "91"),
+                                     ("s2_leaf_at(0, ?)", (-90.5,), latitude + "-90.5"),
+                                     ("s2_leaf_at(?, 0)", (math.inf,), longitude + "Inf"),
+                                     ("s2_leaf_at(541, 0)", (), longitude + "541"),
+                                     ("s2_leaf_at('2', 0)", (), longitude + "'2'"),
+                                     ("s2_leaf_at(0, x'00')", (), latitude + "a BLOB of length 1"),
+                                     ("s2_longitude(2)", (), "s2: not a cell: 2"),
+                                     ("s2_latitude('zz')", (), "s2: not a cell: 'zz'"),
+                                     ("s2_latitude('0/4')", (), "s2: not a cell: '0/4'"),
+                                     ("s2_latitude(1.5)", (), "s2: not a cell: 1.5"),
+                                     ("s2_latitude(x'')", (), "s2: not a cell: a BLOB of length 0")):
+            with self.subTest(call=call), self.assertRaises(sqlite3.OperationalError) as caught:
+                self.said(call, *values)
+            self.assertEqual(str(caught.exception), wanted)
+
+    def test_an_index(self):
+        """The functions are deterministic, so an index and a generated column may have them."""
+        self.db.execute("CREATE TABLE places(x, y, leaf AS (s2_leaf_at(x, y)) STORED)")
+        self.db.execute("CREATE INDEX by_leaf ON places(s2_leaf_at(y, x))")
+        self.db.execute("INSERT INTO places VALUES (2.3522, 48.8566)")
+        self.assertEqual(self.said("leaf FROM places"), (0x47e66e1d8f8be23b,))
+
+
+if __name__ == "__main__":
+    unittest.main()
