@@ -161,7 +161,7 @@ export class CellUnion {
   /** The union of cells, which may be in any order, repeated, or inside one another. */
   constructor(cells = []) {
     const ids = numbersOf(cells);
-    this.#ids = cells instanceof CellUnion || !ids.length ? ids : calls().normalise(ids);
+    this.#ids = cells instanceof CellUnion ? ids : ids.length ? calls().normalise(ids) : new BigUint64Array();
   }
 
   /** The union of a list that is normalized already; any other is refused. */

@@ -17,7 +17,7 @@ module=$package/s2union.js
 questions() { PYTHONDONTWRITEBYTECODE=1 /usr/bin/python3 "$top/tests/python/vectors.py" >"$work/vectors"; }
 step "questions" questions
 step "against the model" node "$tests/vectors.mjs" "$module" "$work/vectors"
-step "what is refused, and what stays" node "$tests/refusals.mjs" "$module"
+step "what is refused, and what stays" node "$tests/refusals.mjs" "$module" "$(cat "$top/VERSION")"
 
 by_name() { # the page's program, in a package that has ours
   mkdir -p "$work/program/node_modules" && cp -r "$package" "$work/program/node_modules/s2union" &&

@@ -1,5 +1,5 @@
-// What the package for JavaScript refuses, and what stays as it is: refusals.mjs MODULE. The last line is 'N passed, M
-// failed'.
+// What the package for JavaScript refuses, and what stays as it is: refusals.mjs MODULE VERSION. The last line is 'N
+// passed, M failed'.
 import assert from "node:assert/strict";
 import {inspect} from "node:util";
 import {pathToFileURL} from "node:url";
@@ -32,6 +32,7 @@ const TESTS = {
       noCell(0, () => s2.contains(FACE, wrong));
       noCell(1, () => new CellUnion([FACE, wrong]));
       noCell(0, () => new CellUnion([FACE]).has(wrong));
+      noCell(0, () => new CellUnion([FACE]).intersectionWithCell(wrong));
       noCell(1, () => new CellUnion([FACE]).hasEach([FACE, wrong]));
       for (const call of ["levels", "rangeMins", "rangeMaxes", "tokens"]) noCell(1, () => s2[call]([FACE, wrong]));
     }
@@ -56,12 +57,22 @@ const TESTS = {
       outOfRange(() => union.denormalized(wrong, 1));
       outOfRange(() => s2.fromFaceIJ(wrong, 0, 0), 0);
     }
+    outOfRange(() => s2.child(FACE, 4));
     for (const wrong of [0, 4, 2 ** 32 + 1]) outOfRange(() => union.denormalized(3, wrong));
     for (const wrong of [[6, 0, 0], [0, 2 ** 30, 0], [0, 0, -1], [0, 0]]) {
       outOfRange(() => s2.fromPoints([[0, 0, 0], wrong]), 1);
     }
     outOfRange(() => s2.parents([LEAF, FACE], 3), 1);
     refused(-6, 0, "too many cells", () => union.denormalized(30));
+    refused(-6, 0, "too many cells", () => union.denormalized(1, 1, 3));
+  },
+  "what is left out": () => {
+    assert.deepEqual(s2.children(LEAF), []);
+    assert.deepEqual(s2.tokens([FACE, LEAF]), ["1", "0000000000000001"]);
+    const child = new CellUnion([s2.child(s2.child(FACE, 0), 0)]);
+    assert.deepEqual([...child.denormalized(1)], [...child]);
+    assert.equal(child.denormalizedSize(1), 1n);
+    assert.equal(new CellUnion([FACE]).denormalized(1, 1, 4).length, 4);
   },
   "lists that are not normalized": () => {
     for (const wrong of [[LEAF, FACE], [FACE, FACE], s2.children(FACE), [2n]]) {
@@ -82,7 +93,7 @@ const TESTS = {
     }
     const damaged = Uint8Array.of(...good.slice(0, 9), 2, ...good.slice(10, 16), 0);
     refused(-13, 0, "union file: a number that is not a cell", () => CellUnion.decode(damaged));
-    outOfRange(() => new UnionFile(good).at(1));
+    for (const wrong of [1, -1, 0.5, 2 ** 64, NaN]) outOfRange(() => new UnionFile(good).at(wrong));
     assert.equal(new UnionFile(good.buffer).at(0), FACE);
     assert.equal(new UnionFile(Buffer.from(good)).toUnion().equals(new CellUnion([FACE])), true);
   },
@@ -104,6 +115,10 @@ const TESTS = {
     given[0] = 3n;
     union.cells()[0] = 3n;
     for (const it of [union, checked]) assert.deepEqual([...it], [FACE]);
+    const buffer = new ArrayBuffer(0, {maxByteLength: 8});
+    const empty = new CellUnion(new BigUint64Array(buffer));
+    buffer.resize?.(8); // Node 20 and later
+    assert.equal(empty.size, 0);
     assert.throws(() => Object.assign(union, {size: 7}), TypeError);
     assert.equal(union.at(-1), FACE);
     assert.equal(union.at(1), undefined);
@@ -112,7 +127,8 @@ const TESTS = {
     const last = 0xb000000000000000n;
     const signed = BigInt.asIntN(64, last);
     assert.equal(s2.token(signed), "b");
-    for (const given of [[signed], BigInt64Array.of(signed), new Set([last]), new CellUnion([last])]) {
+    const part = BigInt64Array.of(0n, signed).subarray(1);
+    for (const given of [[signed], BigInt64Array.of(signed), part, new Set([last]), new CellUnion([last])]) {
       assert.deepEqual([...new CellUnion(given)], [last]);
     }
   },
@@ -122,7 +138,9 @@ const TESTS = {
     assert.equal(JSON.stringify({union}), '{"union":"1 2000000000000001"}');
     assert.equal(inspect(union), "CellUnion(2) { 1 2000000000000001 }");
     assert.equal(`${new CellUnion()}`, "");
-    assert.match(s2.version(), /^\d+\.\d+\.\d+$/);
+    assert.match(inspect(new CellUnion(Array.from({length: 101}, (_, k) => FACE + BigInt(4 * k + 1)))),
+      /^CellUnion\(101\) \{ 1152921504606846977n .. 1152921504606847377n \}$/);
+    assert.equal(s2.version(), process.argv[3]);
   },
   "unions of none and of many": () => {
     assert.equal(CellUnion.unionOf([]).size, 0);
