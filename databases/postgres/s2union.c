@@ -160,6 +160,7 @@ static bool is_constant(FmgrInfo* call, int k) {
  * arguments of the call that runs. A value of no more bytes than WORTH_KEEPING is checked as fast as it is compared. */
 
 enum { MOST_KEPT = 64, ALWAYS_KEPT = 2, WORTH_KEEPING = 2000, TEXT_WORTH_KEEPING = 100 };
+enum { WORDS_LOOKED_AT = 16, MOST_COMPARED = 2 };
 
 typedef S2Union* reader(Datum datum);
 
@@ -198,13 +199,26 @@ static Kept* latest(dlist_node* place) {
   return dlist_container(Kept, place, place);
 }
 
-/* What is kept of these bytes, which becomes the latest; or NULL. */
+/* Whether some words, which are spread over the bytes, are the same: all bytes, if these are the name of a value. */
+static bool are_alike(const void* some, const void* others, Size size) {
+  for (Size k = 0; k < WORDS_LOOKED_AT; k++) {
+    Size at = (size - sizeof(uint64_t)) * k / (WORDS_LOOKED_AT - 1);
+    if (memcmp((const char*)some + at, (const char*)others + at, sizeof(uint64_t)) != 0) return false;
+  }
+  return true;
+}
+
+/* What is kept of these bytes, which becomes the latest; or NULL. Values that are made in each row may all be alike:
+ * then it gives up before it has compared more bytes than it takes to read the value a few times. */
 static Kept* kept_of(const void* bytes, Size size, reader* read) {
   dlist_iter at;
+  int compared = 0;
   if (store.context == NULL) return NULL;
   dlist_foreach(at, &store.latest_first) {
     Kept* k = dlist_container(Kept, place, at.cur);
-    if (k->size == size && k->read == read && memcmp(k->bytes, bytes, size) == 0) return latest(at.cur);
+    if (k->size != size || k->read != read || !are_alike(k->bytes, bytes, size)) continue;
+    if (memcmp(k->bytes, bytes, size) == 0) return latest(at.cur);
+    if (++compared == MOST_COMPARED) return NULL;
   }
   return NULL;
 }

@@ -5,6 +5,7 @@
  *   - counts what a call leaves: s2_left(), the blocks of the call and the copies of its arguments that nobody freed,
  *   - takes as the most bytes of a value or a text those that s2_limit(n) names,
  *   - counts where a call may be cancelled: s2_chances(),
+ *   - counts the bytes that are compared with others: s2_compared(),
  *   - shows what a GIN index asks for and is answered: s2_keys(asked, strategy), s2_keys_found(strategy, found, exact).
  * The build has rewritten each 'Datum NAME(PG_FUNCTION_ARGS)' of s2union.c to GUARDED(NAME). */
 #include "postgres.h"
@@ -156,6 +157,18 @@ Datum s2_chances(PG_FUNCTION_ARGS) {
   PG_RETURN_INT64(were);
 }
 
+static int64 bytes_compared;
+
+/* How many bytes were compared with others, at most, since the last call of this. */
+PG_FUNCTION_INFO_V1(s2_compared);
+Datum s2_compared(PG_FUNCTION_ARGS) {
+  int64 were = bytes_compared;
+  bytes_compared = 0;
+  PG_RETURN_INT64(were);
+}
+
+#undef memcmp
+#define memcmp(some, others, n) (bytes_compared += (n), memcmp(some, others, n))
 #undef CHECK_FOR_INTERRUPTS
 #define CHECK_FOR_INTERRUPTS() \
   do { \

@@ -80,6 +80,16 @@ class AroundACall(Tests):
             few, many = psql(f"SET work_mem = '64kB'; {query} SET work_mem = '64MB'; {query}")
             self.assertEqual(few, many)
 
+    def test_values_that_differ_in_one_word(self):
+        """Of 1,000 cells and a leaf in their middle, each beside each other leaf, and each twice."""
+        cells = " ".join(model.token(model.identifier(20, k * (6 * 4**20 // 1000))) for k in range(1000))
+        said = psql(f"""
+            CREATE TEMP TABLE alike AS SELECT '{cells}'::s2union AS region;
+            SELECT count(*) FROM alike, generate_series(1, 9) AS k, generate_series(1, 9) AS j, generate_series(1, 2)
+                WHERE s2_union(region, s2_leaf(3, 2 * k, 0)::s2union) && s2_leaf(3, 2 * j, 0);
+        """)
+        self.assertEqual(said, ["18"])
+
     def test_values_of_an_earlier_transaction(self):
         """What is kept ends with its transaction, also in the middle of a procedure and after an error."""
         psql("""

@@ -1239,6 +1239,7 @@ class Guarded(Tests):
             CREATE OR REPLACE FUNCTION s2_left() RETURNS integer LANGUAGE C AS '$libdir/s2union';
             CREATE OR REPLACE FUNCTION s2_limit(bigint) RETURNS void LANGUAGE C AS '$libdir/s2union';
             CREATE OR REPLACE FUNCTION s2_chances() RETURNS bigint LANGUAGE C AS '$libdir/s2union';
+            CREATE OR REPLACE FUNCTION s2_compared() RETURNS bigint LANGUAGE C AS '$libdir/s2union';
             CREATE OR REPLACE FUNCTION s2_keys(s2union, integer) RETURNS text LANGUAGE C AS '$libdir/s2union';
             CREATE OR REPLACE FUNCTION s2_keys(bigint, integer) RETURNS text LANGUAGE C AS '$libdir/s2union';
             CREATE OR REPLACE FUNCTION s2_keys_found(integer, text, boolean) RETURNS text LANGUAGE C
@@ -1379,6 +1380,28 @@ class Guarded(Tests):
         """ for call in calls))
         for call, grown in zip(calls, said, strict=True):
             self.assertLess(int(grown), 100000, call)
+
+    def test_what_is_compared_with_what_is_kept(self):
+        """Values of 1,001 cells that are made in each of 60 rows: some differ in one word, which is not looked at
+        first, so each is compared with two others; some in all words; and some are the same."""
+        size, words = 8 + 8 * 1001, 64 * 16 * 8
+        cells = " ".join(model.token(model.identifier(20, k * (6 * 4**20 // 1000))) for k in range(1000))
+        values = ("s2_union(region, s2_leaf(3, 2 * k, 0)::s2union)",
+                  "(SELECT s2_union_agg(s2_leaf(3, 2 * n, 2 * k)) FROM generate_series(1, 1001) AS n)",
+                  "s2_union(region, s2_leaf(3, 2 + 0 * k, 0)::s2union)")
+        said = psql(f"""
+            SET max_parallel_workers_per_gather = 0;
+            CREATE TEMP TABLE base AS SELECT '{cells}'::s2union AS region;
+        """ + "".join(f"""
+            SELECT s2_compared() IS NULL;
+            SELECT count(*) FROM base, generate_series(1, 60) AS k WHERE s2_intersects({value}, s2_leaf(3, 2, 0));
+            SELECT s2_compared();
+        """ for value in values))
+        self.assertEqual(said[1::3], ["1", "0", "60"])
+        alike, apart, same = map(int, said[2::3])
+        self.assertTrue(57 * size < alike < 60 * (2 * size + words), alike)
+        self.assertLess(apart, 10 * size)
+        self.assertTrue(59 * size < same < 60 * (size + words), same)
 
     def test_limits_of_a_value(self):
         """Ten cells, or 87 bytes of text: 1 GB is more than a test should take."""
