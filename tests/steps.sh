@@ -40,12 +40,23 @@ need_packages() {
   [ "$failed" -eq 0 ] || { echo "these packages are needed"; finish; }
 }
 
-# libs2union, installed as a package would be, in $work/usr: the one in S2UNION_PREFIX, if that is set.
+# The headers of Python, for its module in C: the folder in which they are, or nothing.
+python_headers() {
+  local folder
+  folder=$(/usr/bin/python3 -c 'import sysconfig; print(sysconfig.get_path("include"))' 2>/dev/null)
+  [ ! -e "${folder:-.}/Python.h" ] || echo "$folder"
+}
+
+# libs2union and its module for Python, installed as a package would be, in $work/usr: what is in S2UNION_PREFIX, if
+# that is set.
 need_library() {
   if [ -n "${S2UNION_PREFIX:-}" ]; then
     cp -a "$S2UNION_PREFIX" "$work/usr"
     return
   fi
+  packages=()
+  [ ! -x /usr/bin/python3 ] || [ -n "$(python_headers)" ] || packages+=(libpython3-dev)
+  need_packages
   step "tools/library" "$top/tools/library" "$work/usr"
   [ "$failed" -eq 0 ] || finish
 }

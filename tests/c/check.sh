@@ -17,6 +17,7 @@ command -v pkg-config >/dev/null || packages+=(pkg-config)
 /usr/bin/python3 -c 'import numpy' 2>/dev/null || packages+=(python3-numpy)
 /usr/bin/python3 -c 'import hypothesis' 2>/dev/null || packages+=(python3-hypothesis)
 /usr/bin/python3 -c 'import pip, setuptools, wheel' 2>/dev/null || packages+=(python3-{pip,setuptools,wheel})
+[ -n "$(python_headers)" ] || packages+=(libpython3-dev)
 need_packages
 
 # ---- the library, installed as a package would be
@@ -185,6 +186,20 @@ step "s2union.pc, after the folder was moved" moved
 
 # ---- Python
 
+for compiler in gcc clang; do
+  step "Python: its module in C, by $compiler" "$compiler" -std=gnu11 -O2 -Wall -Wextra -Werror -fPIC -shared \
+    -I"$(python_headers)" -I"$include" "$top/bindings/python/s2union/_library.c" -o "$work/module-$compiler.so"
+done
+for file in _library.c calls.h; do
+  step "Python: no arithmetic on cells: $file" no_arithmetic "$top/bindings/python/s2union/$file"
+done
+of_module() { # what the module wants and offers: what each Python from 3.8 on has
+  local module=$work/usr/lib/python/s2union/_library.abi3.so
+  [ "$(nm -D --defined-only "$module" | awk '{ print $3 }')" = PyInit__library ] &&
+    ! nm -D --undefined-only "$module" | awk '$1 != "w" { print $2 }' |
+      grep -vE '^_?Py[A-Z_][A-Za-z_]+$|@GLIBC_2\.(2\.5|4|14)$'
+}
+step "Python: what its module wants of the system" of_module
 python() {
   (
     cd "$top/tests/python" && export PYTHONPATH=$work/usr/lib/python PYTHONDONTWRITEBYTECODE=1
@@ -192,6 +207,7 @@ python() {
   )
 }
 step "Python: against the model, and the module" python -m unittest -q test_library
+step "Python: the functions of its module in C" python -m unittest -q test_calls
 step "Python: the edges" python -m unittest -q test_edges
 step "Python: laws of sets, by hypothesis" python -m unittest -q test_laws
 /usr/bin/python3 -c 'import pandas' 2>/dev/null || echo "       pandas is not there: columns of it are not tested"
@@ -210,6 +226,13 @@ by_pip() { # the module where pip puts it, with the library elsewhere
       /usr/bin/python3 -m doctest "$top/docs/PYTHON.md") && [ -e "$work/site/s2union/py.typed" ]
 }
 step "Python: installed by pip" by_pip
+# The same module in each other Python that is there.
+for minor in 8 9 10 11 12 13 14; do
+  other=$(command -v "python3.$minor") && "$other" -c '' 2>/dev/null || continue
+  [ "$(realpath "$other")" != "$(realpath /usr/bin/python3)" ] || continue
+  step "Python: docs/PYTHON.md by Python 3.$minor" env PYTHONPATH="$work/usr/lib/python" PYTHONDONTWRITEBYTECODE=1 \
+    "$other" -m doctest "$top/docs/PYTHON.md"
+done
 
 # ---- Go and Rust, if they are there
 

@@ -6,16 +6,23 @@
 packages=()
 [ -x /usr/bin/python3 ] || packages+=(python3)
 /usr/bin/python3 -c 'import numpy' 2>/dev/null || packages+=(python3-numpy)
+/usr/bin/python3 -c 'import setuptools' 2>/dev/null || packages+=(python3-setuptools)
+[ -n "$(python_headers)" ] || packages+=(gcc libc6-dev libpython3-dev)
 need_packages
 need_library
 
 tests() (
   cd "$top/tests/python" && export PYTHONPATH=$work/mutant PYTHONDONTWRITEBYTECODE=1
-  S2UNION_LIBRARY=$work/usr/lib/libs2union.so timeout 600 /usr/bin/python3 -m unittest -q -f test_library test_edges
+  S2UNION_LIBRARY=$work/usr/lib/libs2union.so timeout 600 /usr/bin/python3 -m unittest -q -f test_library test_calls \
+    test_edges
 )
 
+compiled() (
+  cd "$work/mutant" && S2UNION_INCLUDE=$work/usr/include /usr/bin/python3 setup.py -q build_ext --inplace &&
+    /usr/bin/python3 -m compileall -q s2union
+)
 survives() { # EDIT
-  mutant "$1" "$top/bindings/python/s2union" && /usr/bin/python3 -m compileall -q "$work/mutant" || return 2
+  mutant "$1" "$top"/bindings/python/{s2union,setup.py,pyproject.toml} && compiled || return 2
   refuse
 }
 

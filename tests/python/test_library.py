@@ -527,12 +527,14 @@ class TheModule(unittest.TestCase):
 
     def test_room_is_taken_for_the_shorter_of_two(self):
         many, one, none = Union(range(1, 8 * 1000, 8)), Union([1]), Union()
-        for operation, x, y, room, want in ((operators.and_, many, one, 2, one), (operators.and_, one, many, 2, one),
-                                            (operators.sub, one, many, 92, none),
-                                            (operators.sub, many, one, 1091, Union(many[1:]))):
-            with mock.patch.object(s2union, "_room", wraps=s2union._room) as taken:
+        for operation, name, x, y, room, want in (
+                (operators.and_, "intersection", many, one, 2, one),
+                (operators.and_, "intersection", one, many, 2, one),
+                (operators.sub, "difference", one, many, 92, none),
+                (operators.sub, "difference", many, one, 1091, Union(many[1:]))):
+            with mock.patch.object(s2union._library, name, wraps=getattr(s2union._library, name)) as called:
                 self.assertEqual(operation(x, y), want)
-            taken.assert_called_once_with(room)
+            called.assert_called_once_with("", room, x._ids, y._ids)
         whole = Union([FACE])
         self.assertEqual((whole & many, many & whole), (many, many))  # more than twice the shorter one
 

@@ -1,0 +1,260 @@
+"""The functions of the module in C: what they refuse, what they leave behind, and the interpreter around them."""
+
+import gc
+import inspect
+import os
+import re
+import subprocess
+import sys
+import threading
+import tracemalloc
+import unittest
+from array import array
+from pathlib import Path
+
+import s2union
+from s2union import Union, UnionFile
+from worked import LEAF
+
+calls = s2union._library
+FACE = 0x1000000000000000
+CELL = s2union.from_token("14")
+LAST = 2**30 - 1
+CELLS = Union.from_tokens("04 0c 14 5")._ids
+FILE = Union.from_tokens("04 0c").to_bytes()
+RECT = (0, 0, 9, 0, 9)
+POINTS = memoryview(array("I", [0, 1, 2]))
+# What each function answers, by the names of what it takes, which _library.pyi has; a file is called as a list is.
+WORDS = {
+    "what": "", "room": 1, "bounds": RECT, "level": 0, "most": 99, "child": 3, "face": 5, "i": 1, "j": LAST, "k": 1,
+    "min": 3, "modulus": 1, "text": "14", "bytes": memoryview(FILE), "points": POINTS, "each": [CELL, 1],
+    "ends": memoryview(array("Q", [4])), "number": 5, "name": "n",
+    **dict.fromkeys(("id", "cell", "a", "b", "whole", "part", "first", "last"), CELL),
+    **dict.fromkeys(("ids", "xs", "ys", "cells"), CELLS),
+}
+OTHERS = {"from_debug": ("0/2",), "file_contains": (FILE, FILE), "file_intersects": (FILE, FILE)}
+TYPES = (Path(calls.__file__).parent / "_library.pyi").read_text()
+TAKEN = {name: OTHERS.get(name) or tuple(WORDS[word] for word in re.findall(r"\b__(\w+):", words))
+         for name, words in re.findall(r"^def (\w+)\((.*?)\) -> ", TYPES, re.M | re.S) if name != "refuse"}
+# Calls that are refused after they have taken memory, or while they look at what they are given.
+REFUSED = {
+    "level": (0,), "parent": (CELL, 31), "cell_contains": (CELL, 2), "from_token": ("x",), "from_tokens": ("14 x",),
+    "tokens": (bytes(8),), "normalise": (CELLS + bytes(8),), "list_of": ([CELL, "x"],), "number": (10, 9, "n"),
+    "range_": ("what", 1, CELL, 1), "outer": ("what", 1, RECT, 30, 1), "inner_in": ("what", 1, CELLS, RECT[:4], 30, 99),
+    "outer_of": ("what", 1, CELLS, 9, 1), "decode": ("what", 1, FILE[:-1]), "file_cell": (FILE, 2),
+    "union": ("", -1, CELLS, CELLS), "contains_cell": (CELLS, 0), "file_ancestors": ("what", 1, b""),
+    "union_of_many": (CELLS, memoryview(array("Q", [3]))),
+    "complement": ("", 2**62, CELLS), "refuse": (-5, "what"), "token": (object(),),
+}
+
+
+MAKES_LIST = {name for name, words in TAKEN.items() if words[:2] == ("", 1)}
+
+
+def is_refused(name, words):
+    try:
+        getattr(calls, name)(*words)
+    except (TypeError, ValueError, MemoryError, BufferError):
+        return True
+    return False
+
+
+class Taken(unittest.TestCase):
+    def test_each_function_is_asked(self):
+        there = {name for name, it in vars(calls).items() if inspect.isbuiltin(it)}
+        self.assertEqual(there, {*TAKEN, "refuse"})
+        for name, words in TAKEN.items():
+            getattr(calls, name)(*words)
+
+    def test_each_wrong_word(self):
+        """A word too few or too many, and each word in turn of another type, is an error; and whatever a word is, the
+        call comes back."""
+        for name, words in TAKEN.items():
+            for wrong in [(*words, 1), words[:-1]] if words else [(1,)]:
+                self.assertTrue(is_refused(name, wrong), (name, wrong))
+            for place, word in enumerate(words):
+                for other in (None, 1.5, object(), [None], 2**64, -1, "xyz", b"123", bytes(16), (),
+                              memoryview(bytes(24))):
+                    was_refused = is_refused(name, (*words[:place], other, *words[place + 1:]))
+                    is_said = name in MAKES_LIST and place == 0  # what a refusal would say may be anything
+                    if other is None or type(other) in (float, object):
+                        self.assertTrue(was_refused or is_said, (name, place, other))
+
+    def test_lists_that_are_none(self):
+        released, unaligned = memoryview(bytes(8)), memoryview(bytes(17))[1:]
+        released.release()
+        for wrong, error in ((bytes(7), TypeError), (unaligned, TypeError), (memoryview(bytes(32))[::2], BufferError),
+                             (released, ValueError), (bytearray(8), TypeError), (array("Q", [1]), TypeError)):
+            with self.assertRaises(error):
+                calls.is_union(wrong)
+        for text in ("is bytes or a memoryview, not int", "is bytes or a memoryview, not bytearray"):
+            with self.assertRaisesRegex(TypeError, f"a list {text}$"):
+                calls.is_union(3 if "int" in text else bytearray())
+
+    def test_what_a_refusal_says(self):
+        for call, message in (
+                (lambda: s2union.level(2), "not a cell: 0x2"), (lambda: s2union.contains(CELL, 0), "not a cell: 0x0"),
+                (lambda: s2union.contains(2, 0), "not a cell: 0x2"),
+                (lambda: s2union.contains(0, 2), "not a cell: 0x0"),
+                (lambda: s2union.common_ancestor(6, 2), "not a cell: 0x6"),
+                (lambda: s2union.level(True), "a cell is an int, not a bool"),
+                (lambda: s2union.level("1"), "a cell is an int, not str"),
+                (lambda: s2union.level(2**64), f"a cell is out of range: {2**64}"),
+                (lambda: s2union.child(CELL, 4), "a child's number is out of range: 4"),
+                (lambda: s2union.from_face_ij(0, 0, 2**30), f"j is out of range: {2**30}"),
+                (lambda: s2union.from_face_ij(6, 0, 0), "a face is out of range: 6"),
+                (lambda: s2union.parent(FACE), "a face has no parent: 0x1000000000000000"),
+                (lambda: s2union.parent(FACE, 1), "the level is below the cell's own: 1, of 0x1000000000000000"),
+                (lambda: s2union.child(1, 0), "a leaf has no children: 0x1"),
+                (lambda: s2union.from_token("é"), "not a cell: 'é'"),
+                (lambda: Union([1, 9, 17]).outer(30, most=1), "too many cells: level 30, at most 1 cells"),
+                (lambda: Union.covering(0, 0, 9, 0, 9, 31), "a level is out of range: 31"),
+                (lambda: Union.covering(0, 0, 2**30, 0, 9, 3), f"a coordinate is out of range: {2**30}"),
+                (lambda: Union([FACE]).outer(3, rectangle=(0, 1, 2)), "a rectangle has 5 numbers, not 3"),
+                (lambda: Union.from_range(CELL, 1), f"argument out of range: {CELL:#x} comes after 0x1"),
+                (lambda: Union.from_range(CELL, 2), "not a cell: 0x2"),
+                (lambda: Union([FACE, 2]), "not a cell at place 1: 0x2"),
+                (lambda: Union([FACE]).contains_cells([FACE, 0]), "not a cell at place 1: 0x0"),
+                (lambda: Union([FACE]).denormalised(3, 0), "a modulus is out of range: 0"),
+                (lambda: Union([FACE]).denormalised(3, 4), "a modulus is out of range: 4")):
+            with self.assertRaises((ValueError, TypeError)) as refusal:
+                call()
+            self.assertEqual(str(refusal.exception), message)
+
+    def test_an_index_that_raises(self):
+        class Wrong:
+            def __index__(self):
+                raise KeyError("mine")
+
+        class WrongType:
+            def __index__(self):
+                return FACE
+
+            @property
+            def dtype(self):
+                raise KeyError("mine")
+
+        for wrong in (Wrong(), WrongType()):
+            for call in (s2union.level, lambda it: it in Union([FACE]), lambda it: Union([FACE, it])):
+                self.assertRaises(KeyError, call, wrong)
+
+    def test_an_iterable_that_raises(self):
+        def cells():
+            yield from range(1, 2001, 2)
+            raise KeyError("mine")
+
+        self.assertRaises(KeyError, Union, cells())
+        self.assertEqual(len(Union(range(1, 2**14, 4))), 2**12)
+
+
+class LeftBehind(unittest.TestCase):
+    """No call keeps memory or a reference, whether it answers or refuses: not 8 bytes of each of 2,000 calls."""
+
+    def grown(self, call):
+        for _ in range(200):
+            call()
+        gc.collect()
+        before = tracemalloc.get_traced_memory()[0]
+        for _ in range(2000):
+            call()
+        gc.collect()
+        return tracemalloc.get_traced_memory()[0] - before
+
+    def test_memory(self):
+        tracemalloc.start()
+        try:
+            for name, words in TAKEN.items():
+                call = getattr(calls, name)
+                self.assertLess(self.grown(lambda: call(*words)), 16000, name)
+            for name, words in REFUSED.items():
+                self.assertTrue(is_refused(name, words), name)
+                self.assertLess(self.grown(lambda: is_refused(name, words)), 16000, name)
+        finally:
+            tracemalloc.stop()
+
+    def test_references(self):
+        for table in (TAKEN, REFUSED):
+            for name, words in table.items():
+                within = [it for word in words if isinstance(word, list) for it in word]
+                watched = [*words, *within, None, True, calls, calls.is_cell]
+                before = [sys.getrefcount(word) for word in watched]
+                for _ in range(1000):
+                    is_refused(name, words)
+                for word, were in zip(watched, before):
+                    self.assertLess(abs(sys.getrefcount(word) - were), 500, (name, word))
+
+
+class Around(unittest.TestCase):
+    def test_other_threads_run_during_a_call(self):
+        """One that is asleep wakes while the library works: none is asked to hand over the lock."""
+        many = array("Q", range(2**22 - 1, 0, -2))
+        ticks, ends = [0], threading.Event()
+
+        def tick():
+            while not ends.wait(0.001):
+                ticks[0] += 1
+
+        interval, thread = sys.getswitchinterval(), threading.Thread(target=tick)
+        sys.setswitchinterval(1000)
+        try:
+            thread.start()
+            data = many.tobytes()
+            before = ticks[0]
+            union = calls.normalise(data)
+            during = ticks[0] - before
+        finally:
+            sys.setswitchinterval(interval)
+            ends.set()
+            thread.join()
+        self.assertEqual(len(union) // 8, len(Union(many)))
+        self.assertGreater(during, 3)
+
+    def test_one_union_in_many_threads(self):
+        a, b = Union(range(1, 20001, 8)), Union(range(5, 20001, 16))
+        want, wrong = (a | b, a & b, a - b, a ^ b), []
+
+        def asked():
+            for _ in range(200):
+                if (a | b, a & b, a - b, a ^ b) != want or not all(cell in a for cell in a[:50]):
+                    wrong.append(1)
+
+        threads = [threading.Thread(target=asked) for _ in range(8)]
+        for thread in threads:
+            thread.start()
+        for thread in threads:
+            thread.join()
+        self.assertEqual(wrong, [])
+
+    def test_other_interpreters(self):
+        """Each has a module of its own; from 3.12 on also those with a lock of their own."""
+        folder = str(Path(s2union.__file__).parents[1])
+        script = f"import sys; sys.path.insert(0, {folder!r}); import s2union; " \
+            "assert s2union.Union.from_tokens('04 0c 14 1c').tokens() == ['1'] and s2union.level(1) == 30"
+        program = f"""
+try:
+    import _interpreters as interpreters
+except ImportError:
+    import _xxsubinterpreters as interpreters
+for _ in range(3):
+    one = interpreters.create()
+    failed = interpreters.run_string(one, {script!r})
+    assert not failed, failed
+    interpreters.destroy(one)
+import s2union
+print(s2union.level(1))
+"""
+        done = subprocess.run([sys.executable, "-c", program], text=True, stdout=subprocess.PIPE,
+                              stderr=subprocess.PIPE, env={**os.environ, "PYTHONPATH": folder}, check=False)
+        if "No module named" in done.stderr and "s2union" not in done.stderr:
+            self.skipTest("this Python has no module for interpreters")
+        self.assertEqual((done.stdout, done.stderr), ("30\n", ""))
+
+    def test_a_file_whose_bytes_are_gone(self):
+        file = UnionFile(Union.from_tokens("04").to_bytes())
+        file._bytes.release()
+        for question in (lambda: CELL in file, file.union, file.leaf_count, lambda: file[0]):
+            self.assertRaises(ValueError, question)
+
+
+if __name__ == "__main__":
+    unittest.main()
