@@ -138,6 +138,13 @@ class Page {
     });
   }
 
+  complement() {
+    this.compute("complement", () => {
+      const a = this.chosen("first");
+      return [`all but ${brief(a.name)}`, this.core.complement(a.union)];
+    });
+  }
+
   ofLevel(word, call) {
     this.compute(word, () => {
       const [a, level] = [this.chosen("first"), numberIn("level", 0, 30)];
@@ -379,7 +386,8 @@ class Page {
       add: () => this.addTexts(), undo: () => this.undo(), redo: () => this.redo(),
       sample: () => this.attempt("sample", () => this.add("land", this.core.decode(unpacked(SAMPLE)))),
       union: () => this.ofTwo("or", "union"), intersection: () => this.ofTwo("and", "intersection"),
-      difference: () => this.ofTwo("without", "difference"), outer: () => this.ofLevel("outer", "outer"),
+      difference: () => this.ofTwo("without", "difference"), complement: () => this.complement(),
+      symmetric: () => this.ofTwo("xor", "symmetricDifference"), outer: () => this.ofLevel("outer", "outer"),
       inner: () => this.ofLevel("inner", "inner"), denormalise: () => this.denormalise(),
       in: () => this.zoomBy(2), out: () => this.zoomBy(0.5), fit: () => this.showAll(), theme: () => this.turnTheme(),
       go: () => this.goToPlace(),

@@ -1,10 +1,11 @@
 """Drives the page in Chromium and compares what it answers with the library, by its module for Python:
 
-    browser.py FOLDER [--figures] [--pictures]
-    browser.py --short
+    browser.py FOLDER [--figures] [--pictures] [--screenshot]
+    browser.py --short [--screenshot]
 
 FOLDER has the page that tools/page made. With --short it is a page over standin.js, a plain stand-in for the proved
-module, and the tests that are slow there are left out. The last line is 'N passed, M failed'.
+module, and the tests that are slow there are left out. With --screenshot it makes docs/pictures/page.png anew. The last
+line is 'N passed, M failed'.
 """
 import base64
 import json
@@ -193,7 +194,8 @@ class Trial:
     # ---- the tests
 
     def test_operations(self):
-        wanted = {"union": self.a | self.b, "intersection": self.a & self.b, "difference": self.a - self.b}
+        wanted = {"union": self.a | self.b, "intersection": self.a & self.b, "difference": self.a - self.b,
+                  "symmetric": self.a ^ self.b, "complement": ~self.a}
         for name, union in wanted.items():
             self.begin()
             self.click(name)
@@ -205,8 +207,12 @@ class Trial:
         self.set("texts", "1 3 5 7 9 b")
         self.click("add")
         assert self.last() == Union.from_tokens("1 3 5 7 9 b").to_bytes()
-        self.click("difference")
+        self.click("complement")
         assert self.last() == Union().to_bytes() and "0 cells, 0 leaves" in self.status(), self.status()
+        self.choose(first="cells 1", second="cells 1")
+        for name in ("difference", "symmetric"):
+            self.click(name)
+            assert self.last() == Union().to_bytes() and "0 cells, 0 leaves" in self.status(), (name, self.status())
         self.run("s2page.view.draw()")
 
     def test_coverings(self):
@@ -248,9 +254,9 @@ class Trial:
     def test_computed_with(self):
         """What was computed with without being chosen stays too."""
         self.begin()
-        for name in ("union", "intersection", "difference"):
+        for name in ("union", "intersection", "difference", "symmetric", "complement"):
             self.click(name)
-        assert self.names()[2:] == ["a or b", "a and b", "a without b"]
+        assert self.names()[2:] == ["a or b", "a and b", "a without b", "a xor b", "all but a"]
 
     def test_many_files(self):
         """500 files at once are one step of the history, and are shown once; each has a table of its own size."""
@@ -867,7 +873,24 @@ class Trial:
         wrong = [entry for entry in self.driver.get_log("browser") if entry["level"] == "SEVERE"]
         assert not wrong, wrong
 
-    # ---- figures
+    # ---- what is shown elsewhere
+
+    def screenshot(self):
+        """The picture of docs/PAGE.md."""
+        self.driver.set_window_size(1280, 930)
+        self.open()
+        self.click("sample")
+        self.set("texts", "0/2 1/0 1/3 2/1 2/2")
+        self.click("add")
+        self.driver.find_element(By.CSS_SELECTOR, "input[value=map]").click()
+        self.choose(first="land", second="cells 2")
+        self.click("intersection")
+        picture = self.driver.find_element(By.ID, "picture")
+        ActionChains(self.driver).move_to_element_with_offset(picture, 200, 30).perform()
+        self.run("const said = document.getElementById('status'); "  # without the time, which a stand-in may have taken
+                 "said.textContent = said.textContent.replace(/ Computed.*/, '')")
+        time.sleep(1)
+        self.driver.save_screenshot(str(TOP / "docs/pictures/page.png"))
 
     def figures(self):
         """The times of a million cells, beside the same in BigInt."""
@@ -923,6 +946,8 @@ def main(folder):
                     traceback.print_exc(file=sys.stdout)
             if "--figures" in sys.argv:
                 trial.figures()
+            if "--screenshot" in sys.argv:
+                trial.screenshot()
         finally:
             driver.quit()
     print(f"{passed} passed, {failed} failed")

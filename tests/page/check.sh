@@ -1,7 +1,7 @@
 #!/usr/bin/env bash
 # The page in Chromium without a screen, beside the library: tests/run --tier full page. With -- --figures it prints the
-# figures of docs/PAGE.md too, and with -- --pictures it makes the stored pictures anew. It installs the Debian packages
-# that it needs.
+# figures of docs/PAGE.md too, with -- --pictures it makes the stored pictures anew, and with -- --screenshot that of
+# docs/PAGE.md. It installs the Debian packages that it needs.
 # With --short, as the gate has it, nothing is installed or proved: the page is driven over a plain stand-in for its
 # module, and if Chromium or its driver isn't there, a line says that it isn't tested.
 # Its last line is 'N passed, M failed'; the status is 1 if any failed.
@@ -32,7 +32,7 @@ in_browser() { # the library's module for Python answers beside the page
 if [ "${1:-}" = --short ]; then
   if [ ${#packages[@]} -eq 0 ]; then
     need_library
-    step "the page in Chromium, over a stand-in for its module" in_browser --short
+    step "the page in Chromium, over a stand-in for its module" in_browser "$@"
   else
     echo "       the page is not tested: ${packages[*]} are not there"
   fi

@@ -148,6 +148,8 @@ function standIn() {
     s2u_union: ofTwo((xs, ys) => [...xs, ...ys]),
     s2u_intersection: ofTwo(common),
     s2u_difference: ofTwo((xs, ys) => common(xs, rest(ys))),
+    s2u_symmetric_difference: ofTwo((xs, ys) => [...common(xs, rest(ys)), ...common(ys, rest(xs))]),
+    s2u_complement: (at, n, ...place) => made(normalForm(rest(cellsAt(at, n).map(runOf))), BigUint64Array, ...place),
     s2u_denormalised_len: (at, n, min, modulus, len) => {
       if (min > 30 || modulus < 1 || modulus > 3) return ARGUMENT;
       const counts = cellsAt(at, n).map((id) => 4n ** BigInt(wantedLevel(id, min, modulus) - level(id)));
