@@ -1,7 +1,7 @@
 #!/usr/bin/env bash
 # The tests of the library for C, and of the bindings for C++, Python, Go and Rust: tests/run bindings [-- SECONDS]. The
 # fuzzer runs for SECONDS, 20 if none are given.
-# It installs the Debian packages that it needs, but not Go (golang-go), Rust (cargo, or rustup's) and pandas
+# It installs the Debian packages that it needs, but not Go (golang-go), Rust (cargo, or rustup's), serde and pandas
 # (python3-pandas): what is for these is tested if they are there, and else a line says that it isn't. Its last line is
 # 'N passed, M failed'; the status is 1 if any failed.
 . "$(dirname "$0")/../steps.sh"
@@ -262,9 +262,23 @@ by_rust() (
       "s2union = { path = \"$work/for-rust\" }" >Cargo.toml &&
     CARGO_TARGET_DIR=$work/target cargo build -q --offline && says RUST.md rust "$work/target/debug/program"
 )
+with_serde() ( # by Debian's sources of serde, in place of a registry
+  cd "$work/for-rust/serde" && RUSTFLAGS=-Dwarnings CARGO_TARGET_DIR=$work/target timeout 300 cargo \
+    --config 'source.crates-io.replace-with="debian"' \
+    --config 'source.debian.directory="/usr/share/cargo/registry"' test -q --offline
+)
+has_serde() {
+  local name
+  for name in serde serde_derive serde_json bincode; do ls -d "/usr/share/cargo/registry/$name-1"* || return; done
+}
 if command -v cargo >/dev/null; then
   step "Rust: against the model, the edges, what is refused, and the examples" for_rust
   step "Rust: docs/RUST.md" by_rust
+  if has_serde >/dev/null 2>&1; then
+    step "Rust: with serde" with_serde
+  else
+    echo "       serde is not there (librust-{serde,serde-derive,serde-json,bincode}-dev): its crate is not tested"
+  fi
 else
   echo "       cargo is not there: the crate for Rust is not tested"
 fi

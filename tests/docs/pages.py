@@ -55,6 +55,7 @@ VERSIONS = [
     ("crates/s2union_c/include/s2union.h", "#define S2U_VERSION_PATCH ", "\n", "{2}"),
     ("bindings/python/s2union/__init__.py", r'\n__version__ = "', '"', "{0}.{1}.{2}"),
     ("bindings/rust/Cargo.toml", r'\nversion = "', '"', "{0}.{1}.{2}"),
+    ("bindings/rust/serde/Cargo.toml", r'\nversion = "', '"', "{0}.{1}.{2}"),
     ("bindings/js/package.json", r'\n  "version": "', '"', "{0}.{1}.{2}"),
     ("databases/postgres/s2union.control", "default_version = '", "'", "{0}.{1}"),
     ("databases/postgres/s2union_geo.control", "default_version = '", "'", "{0}.{1}"),
