@@ -1,5 +1,6 @@
 /* Calls that pass over many cells of a list by a search read few of its pages. The pages of the list are shut, and a
- * handler counts each that is read. */
+ * handler counts each that is read. Each call of calls.h is one of these, or READ_ALL has it. */
+#include "calls.h"
 #include "tests.h"
 #include <signal.h>
 
@@ -27,6 +28,26 @@ static const uint64_t* shut(void) {
 
 static int reads_few(void) { return pages_read > 0 && pages_read <= FEW; }
 
+/* The calls that read each cell: what they make has a part for each, or is cut at each. */
+static const char* const READ_ALL[] = {"symmetric_difference", "ancestors", "complement"};
+
+static int reads_all(const char* name) {
+  for (size_t k = 0; k < sizeof READ_ALL / sizeof *READ_ALL; k++)
+    if (strcmp(name, READ_ALL[k]) == 0) return 1;
+  return 0;
+}
+
+/* Asks each call that makes a list of two unions about the long one and a cell after it, and each of one union. */
+static void each_call(void) {
+#define OF_TWO(name, most) \
+  CHECK(s2u_##name(shut(), N, &next_face, 1, NULL, 0, &len) != S2U_NO_UNION && reads_few() != reads_all(#name)); \
+  CHECK(s2u_##name(&next_face, 1, shut(), N, NULL, 0, &len) != S2U_NO_UNION && reads_few() != reads_all(#name));
+#define OF_ONE(name, most) \
+  CHECK(s2u_##name(shut(), N, NULL, 0, &len) == S2U_ROOM && reads_few() != reads_all(#name));
+  CALLS_OF_TWO_UNIONS(OF_TWO)
+  CALLS_OF_A_UNION(OF_ONE)
+}
+
 int main(void) {
   struct sigaction action = {0};
   uint64_t out[4];
@@ -37,6 +58,7 @@ int main(void) {
   CHECK(s2u_is_union(list, N) == 1);
   action.sa_sigaction = open_page, action.sa_flags = SA_SIGINFO;
   sigaction(SIGSEGV, &action, NULL);
+  each_call();
   CHECK(s2u_difference(shut(), N, &face, 1, out, 4, &len) == S2U_OK && len == 0 && reads_few());
   CHECK(s2u_difference(shut(), N, &next_face, 1, out, 0, &len) == S2U_ROOM && len == N && reads_few());
   CHECK(s2u_intersection(shut(), N, &next_face, 1, out, 4, &len) == S2U_OK && len == 0 && reads_few());
