@@ -1,9 +1,9 @@
 #!/usr/bin/env bash
 # The tests of the library for C, and of the bindings for C++, Python, Go and Rust: tests/run bindings [-- SECONDS]. The
 # fuzzer runs for SECONDS, 20 if none are given.
-# It installs the Debian packages that it needs, but not Go (golang-go), Rust (cargo, or rustup's), serde and pandas
-# (python3-pandas): what is for these is tested if they are there, and else a line says that it isn't. Its last line is
-# 'N passed, M failed'; the status is 1 if any failed.
+# It installs the Debian packages that it needs, but not Go (golang-go), Rust (cargo, or rustup's), serde, mypy and
+# pandas (python3-pandas): what is for these is tested if they are there, and else a line says that it isn't. Its last
+# line is 'N passed, M failed'; the status is 1 if any failed.
 . "$(dirname "$0")/../steps.sh"
 tests=$top/tests/c
 
@@ -211,6 +211,15 @@ step "Python: the functions of its module in C" python -m unittest -q test_calls
 step "Python: the edges" python -m unittest -q test_edges
 step "Python: laws of sets, by hypothesis" python -m unittest -q test_laws
 /usr/bin/python3 -c 'import pandas' 2>/dev/null || echo "       pandas is not there: columns of it are not tested"
+typed() (
+  mkdir "$work/typed" && cp -r "$top/bindings/python/s2union" "$work/typed" && cd "$work/typed" &&
+    mypy --strict -p s2union
+)
+if command -v mypy >/dev/null; then
+  step "Python: types" typed
+else
+  echo "       mypy is not there: the types are not tested"
+fi
 step "Python: docs/PYTHON.md" python -m doctest "$top/docs/PYTHON.md"
 step "Python: s2union_geo, points, polygons and maps" python -m unittest -q test_geo
 without_numpy() {
