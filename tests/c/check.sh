@@ -209,6 +209,15 @@ python() {
 step "Python: against the model, and the module" python -m unittest -q test_library
 step "Python: the functions of its module in C" python -m unittest -q test_calls
 step "Python: the edges" python -m unittest -q test_edges
+sanitized() ( # the module in C with the sanitizers, and what C itself gives for memory
+  mkdir "$work/sanitized" && cp -r "$work/usr/lib/python/s2union" "$work/sanitized" &&
+    gcc -std=gnu11 -O1 -g -fsanitize=address,undefined -fno-sanitize-recover -fPIC -shared -I"$(python_headers)" \
+      -I"$include" "$top/bindings/python/s2union/_library.c" -o "$work/sanitized/s2union/_library.abi3.so" || return
+  cd "$top/tests/python" && export PYTHONMALLOC=malloc PYTHONDONTWRITEBYTECODE=1 ASAN_OPTIONS=detect_leaks=0
+  LD_PRELOAD="$(gcc -print-file-name=libasan.so) $(gcc -print-file-name=libubsan.so)" PYTHONPATH=$work/sanitized \
+    S2UNION_LIBRARY=$work/usr/lib/libs2union.so.1 timeout 600 /usr/bin/python3 -m unittest -q test_calls test_edges
+)
+step "Python: the same, and the edges, under the sanitizers" sanitized
 step "Python: laws of sets, by hypothesis" python -m unittest -q test_laws
 /usr/bin/python3 -c 'import pandas' 2>/dev/null || echo "       pandas is not there: columns of it are not tested"
 typed() (

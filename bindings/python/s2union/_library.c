@@ -63,8 +63,16 @@ static bool has(PyObject* words, Py_ssize_t n) {
   return false;
 }
 
+/* An attribute by one name for all calls: types keep the names that they were asked for. */
+static PyObject* attribute(PyObject* object, const char* name) {
+  PyObject* interned = PyUnicode_InternFromString(name);
+  PyObject* found = interned ? PyObject_GetAttr(object, interned) : NULL;
+  Py_XDECREF(interned);
+  return found;
+}
+
 static bool refuse_type(const char* what, const char* wanted, PyObject* given) {
-  PyObject* name = PyObject_GetAttrString((PyObject*)Py_TYPE(given), "__name__");
+  PyObject* name = attribute((PyObject*)Py_TYPE(given), "__name__");
   if (name) PyErr_Format(PyExc_TypeError, "%s is %s, not %U", what, wanted, name);
   Py_XDECREF(name);
   return false;
@@ -72,8 +80,8 @@ static bool refuse_type(const char* what, const char* wanted, PyObject* given) {
 
 /* Whether it is numpy's own bool, which has an __index__ in some versions. It may leave an error of the object. */
 static bool is_bool_of_numpy(PyObject* given) {
-  PyObject* type = PyObject_GetAttrString(given, "dtype");
-  PyObject* kind = type ? PyObject_GetAttrString(type, "kind") : NULL;
+  PyObject* type = attribute(given, "dtype");
+  PyObject* kind = type ? attribute(type, "kind") : NULL;
   bool is_bool = kind && PyUnicode_Check(kind) && PyUnicode_CompareWithASCIIString(kind, "b") == 0;
   if (!kind && PyErr_ExceptionMatches(PyExc_AttributeError)) PyErr_Clear();
   Py_XDECREF(kind);
