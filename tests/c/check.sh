@@ -18,6 +18,7 @@ command -v pkg-config >/dev/null || packages+=(pkg-config)
 /usr/bin/python3 -c 'import hypothesis' 2>/dev/null || packages+=(python3-hypothesis)
 /usr/bin/python3 -c 'import pip, setuptools, wheel' 2>/dev/null || packages+=(python3-{pip,setuptools,wheel})
 [ -n "$(python_headers)" ] || packages+=(libpython3-dev)
+command -v gcovr >/dev/null || packages+=(gcovr)
 need_packages
 
 # ---- the library, installed as a package would be

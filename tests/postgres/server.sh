@@ -8,6 +8,7 @@ headers=$(pg_config --includedir-server 2>/dev/null || true)
 [ -n "$headers" ] && [ -e "$headers/postgres.h" ] || packages+=(postgresql-server-dev-all)
 command -v pg_ctlcluster >/dev/null || packages+=(postgresql)
 [ -e /usr/include/valgrind/memcheck.h ] || packages+=(valgrind)
+command -v gcovr >/dev/null || packages+=(gcovr)
 [ -x /usr/bin/python3 ] || packages+=(python3)
 need_packages
 need_library

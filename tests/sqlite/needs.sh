@@ -6,6 +6,7 @@ command -v make >/dev/null || packages+=(make)
 command -v sqlite3 >/dev/null || packages+=(sqlite3)
 [ -e /usr/include/sqlite3ext.h ] || packages+=(libsqlite3-dev)
 command -v valgrind >/dev/null || packages+=(valgrind)
+command -v gcovr >/dev/null || packages+=(gcovr)
 [ -x /usr/bin/python3 ] || packages+=(python3)
 need_packages
 need_library
