@@ -5,6 +5,7 @@ use Rattle.std.proofs.Math.Nat.{mod-add-mod}
 use Rattle.std.proofs.lemmas.List.Sums.{sum_by-cons}
 use Rattle.s2edit.specs.History.{History}
 use Rattle.s2shelf.specs.Shelf.{Files}
+use Rattle.s2shelf.proofs.Opened.{get_fails_for_device, get_fails_for_memory}
 use Rattle.s2calc.specs.declared.refusal.Refusal.{Refusal}
 use Rattle.s2script.specs.declared.command.Question.{Question}
 use Rattle.s2script.specs.declared.command.Question.TheVariants.{Cell as OfCell, At, Square, Show, Count, Has, Touches}
@@ -72,8 +73,10 @@ rises a c x n e = inr (n, e)
 count_refused : (name : List ℕ) (a c : World) (refusal : Refusal) (x : Reply) →
     FetchesUnion name a.files (Err refusal) c.files → x ≡ Refuses refusal → IsCounted a c x
 count_refused name a c refusal x (inl (inl l)) e = stays a c x (ap is_failure e ∙ ap is_of_shelf l.0) l.1.same.1
-count_refused name a c refusal x (inl (inr (inl l))) e = rises a c x (ap is_failure e ∙ ap is_of_shelf l.0) l.1.1
-count_refused name a c refusal x (inl (inr (inr l))) e = stays a c x (ap is_failure e ∙ ap is_of_shelf l.0) l.1.1
+count_refused name a c refusal x (inl (inr (inl l))) e =
+    rises a c x (ap is_failure e ∙ ap is_of_shelf l.0) (get_fails_for_device a.files c.files name l.1).1
+count_refused name a c refusal x (inl (inr (inr l))) e =
+    stays a c x (ap is_failure e ∙ ap is_of_shelf l.0) (get_fails_for_memory a.files c.files name l.1).1
 count_refused name a c refusal x (inr (bytes, fetched, inl l)) e =
     stays a c x (ap is_failure e ∙ ap is_of_shelf l.3) fetched.same.1
 count_refused name a c refusal x (inr (bytes, fetched, inr l)) e =
@@ -88,14 +91,16 @@ count_write : (P : List ℕ → Type 0) (name : List ℕ) (a c : World) (x : Rep
     IsCounted a c x
 count_write P name a c x (inl l) = stays a c x (ap is_failure l.0) l.2.2.failures
 count_write P name a c x (inr (inl l)) = rises a c x (ap is_failure l.0) l.2.failed
-count_write P name a c x (inr (inr l)) = stays a c x (ap is_failure l.0) l.2.1
+count_write P name a c x (inr (inr l)) = stays a c x (ap is_failure l.0) l.2.0.1
 
 -- a refusal that is answered, of what was fetched
 count_no_state : (name : List ℕ) (a c : World) (refusal : Refusal) (x : Reply) →
     FetchesNoState name a.files a.state refusal c.files → x ≡ Refuses refusal → IsCounted a c x
 count_no_state name a c refusal x (inl (inl l)) e = stays a c x (ap is_failure e ∙ ap is_of_shelf l.0) l.1.same.1
-count_no_state name a c refusal x (inl (inr (inl l))) e = rises a c x (ap is_failure e ∙ ap is_of_shelf l.0) l.1.1
-count_no_state name a c refusal x (inl (inr (inr l))) e = stays a c x (ap is_failure e ∙ ap is_of_shelf l.0) l.1.1
+count_no_state name a c refusal x (inl (inr (inl l))) e =
+    rises a c x (ap is_failure e ∙ ap is_of_shelf l.0) (get_fails_for_device a.files c.files name l.1).1
+count_no_state name a c refusal x (inl (inr (inr l))) e =
+    stays a c x (ap is_failure e ∙ ap is_of_shelf l.0) (get_fails_for_memory a.files c.files name l.1).1
 count_no_state name a c refusal x (inr (bytes, fetched, inl l)) e =
     stays a c x (ap is_failure e ∙ ap is_of_shelf l.0) fetched.same.1
 count_no_state name a c refusal x (inr (bytes, fetched, inr (inl l))) e =

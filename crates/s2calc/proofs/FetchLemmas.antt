@@ -8,6 +8,7 @@ use Rattle.s2file.specs.File.{File, HasFault}
 use Rattle.s2file.proofs.Beginnings.{file_begins, fault_begins}
 use Rattle.s2file.proofs.Files.{same_leaves, no_fault}
 use Rattle.s2shelf.specs.Shelf.{Files, SameFiles, Finds, FindsBeginning}
+use Rattle.s2shelf.proofs.Opened.{get_fails_for_device, get_fails_for_memory}
 use Rattle.s2calc.specs.declared.refusal.Refusal.{Refusal}
 use Rattle.s2calc.specs.declared.refusal.Refusal.TheVariants.{File as NoFile, Memory}
 use Rattle.s2calc.specs.Fetch.{Fetches, Reads, FetchesUnion}
@@ -132,12 +133,12 @@ pub refusal_keeps : (a c : Files) (name : List ℕ) (x : Refusal) → FetchesUni
     SameFiles a c
 refusal_keeps a c name x (inl (inl l)) n = l.1.same
 refusal_keeps a c name x (inl (inr (inl l))) n = absurd (n l.0)
-refusal_keeps a c name x (inl (inr (inr l))) n = l.1
+refusal_keeps a c name x (inl (inr (inr l))) n = get_fails_for_memory a c name l.1
 refusal_keeps a c name x (inr l) n = l.1.same
 
 -- a shelf that exposes its contents goes on doing so
 pub refusal_tells : (a c : Files) (name : List ℕ) (x : Refusal) → FetchesUnion name a (Err x) c → c.tells ≡ a.tells
 refusal_tells a c name x (inl (inl l)) = l.1.same.0.tells
-refusal_tells a c name x (inl (inr (inl l))) = l.1.0.tells
-refusal_tells a c name x (inl (inr (inr l))) = l.1.0.tells
+refusal_tells a c name x (inl (inr (inl l))) = (get_fails_for_device a c name l.1).0.tells
+refusal_tells a c name x (inl (inr (inr l))) = (get_fails_for_memory a c name l.1).0.tells
 refusal_tells a c name x (inr l) = l.1.same.0.tells

@@ -328,7 +328,7 @@ still_writes : (P : List ℕ → Type 0) (name : List ℕ) (a c : World) (x : Re
     c.files.tells ≡ a.files.tells
 still_writes P name a c x (inl l) = l.2.2.tells
 still_writes P name a c x (inr (inl l)) = l.2.tells
-still_writes P name a c x (inr (inr l)) = l.2.0.tells
+still_writes P name a c x (inr (inr l)) = l.2.0.0.tells
 
 still_restores : (name : List ℕ) (a c : World) (x : Reply) → Restores name a x c → c.files.tells ≡ a.files.tells
 still_restores name a c x (inl l) = l.1.same.0.tells

@@ -1,17 +1,22 @@
 -- The bytes of a state, and what comes of them.
 use Rattle.std.proofs.Common.{◌≡◌, ◌≢◌, ℕ, ◌+◌, ◌≤◌, inl, inr, List, [], length, Option, None, Some, refl}
 use Rattle.std.proofs.Common.{Result, Ok, Err, sym, ap, ◌∙◌, subst, arith}
-use Rattle.std.specs.Prelude.{IfSome, MatchResult}
-use Rattle.s2file.specs.Session.{Content, IsContent, Spells, session_text}
+use Rattle.std.specs.Prelude.{IfOk, IfSome, MatchResult}
+use Rattle.s2file.specs.declared.session.Session.{Session as FileSession}
+use Rattle.s2file.specs.declared.session.ReadFault.{ReadFault}
+use Rattle.s2file.specs.declared.session.ReadFault.TheVariants.{Form, Device as NotRead, Memory as NotHeld}
+use Rattle.s2file.specs.Reading.{RefusesToRead}
+use Rattle.s2file.specs.Session.{Content, IsContent, Spells, session_text, content_of}
 use Rattle.s2file.proofs.Spelled.{one_spelled}
 use Rattle.s2edit.specs.History.{History, EachList}
 use Rattle.s2edit.specs.Session.{Records, Stored, Restored, IsTooDeep, IsTooMany}
 use Rattle.s2edit.proofs.Spelling.{one_history}
-use Rattle.s2shelf.specs.Shelf.{Files, SameFiles, Opens, FailsToGet}
-use Rattle.s2shelf.specs.declared.shelf.ShelfFault.TheVariants.{Device}
-use Rattle.s2shelf.proofs.Opened.{opened_keeps, same_and_fails}
+use Rattle.s2shelf.specs.Shelf.{Files, SameFiles, SameShelf, Opens, Fails}
+use Rattle.s2shelf.specs.declared.shelf.ShelfFault.TheVariants.{Device, Memory as NoRoom}
+use Rattle.s2shelf.proofs.Opened.{opened_fails, opened_closes, get_fails_for_device, get_fails_for_memory}
 use Rattle.s2calc.specs.declared.refusal.Refusal.{Refusal}
 use Rattle.s2calc.specs.declared.refusal.Refusal.TheVariants.{File as NoFile, Memory, Session}
+use Rattle.s2calc.specs.Working.Sessions.{ReadAs}
 use Rattle.s2calc.specs.Fetch.{Fetches}
 use Rattle.s2calc.specs.Sessions.{TakesOver, AreTooDeep, AreTooMany, RefusesBytes, FetchesNoState}
 use Rattle.s2calc.proofs.FetchLemmas.{TellSame, IsSettled, turned, same_bytes, bytes_or_none, same_fetch_refusal}
@@ -49,7 +54,8 @@ too_many bytes s old p d = record {
   many = d.many;
 }
 
--- ---- a session that is read from an opened file, of which reads will give the bytes `ahead`, if these are known
+-- ---- a session that is read from an opened file, of which reads will give the bytes `ahead`, if these are known, and
+-- which is closed afterwards
 
 -- no bytes spell no session
 nothing_spelled : (s : Content) → Spells [] s → ⊥
@@ -57,32 +63,77 @@ nothing_spelled s (inl f) = let text = f.text in cc
 nothing_spelled s (inr f) = absurd (omega (arith, f.file.is.version))
 
 -- a session that was read is that of a file that was found
-pub session_found : (old new : Files) (name : List ℕ) (ahead : Option (List ℕ)) (s : Content) →
-    Opens old name (Some ahead) new → IsContent s → IfSome ahead (λ bytes. Spells bytes s)
+pub session_found : (old opened new : Files) (name : List ℕ) (ahead : Option (List ℕ)) (s : Content) →
+    Opens old name (Some ahead) opened → SameShelf opened new → IsContent s → IfSome ahead (λ bytes. Spells bytes s)
     → (bytes : List ℕ) × Fetches name old (Ok bytes) new × Spells bytes s
-session_found old new name None s opens is spells =
-    (session_text s, opens (session_text s) tt, inl (record { content = is; text = refl }))
-session_found old new name (Some bytes) s opens is spells = (bytes, opens bytes refl, spells)
+session_found old opened new name None s opens same is spells = (
+  session_text s,
+  opened_closes old opened new name (Some (session_text s)) (opens (session_text s) tt) same,
+  inl (record { content = is; text = refl }),
+)
+session_found old opened new name (Some bytes) s opens same is spells =
+    (bytes, opened_closes old opened new name (Some bytes) (opens bytes refl) same, spells)
 
 -- no session was read, since the bytes spell none
-pub none_found : (old new : Files) (name : List ℕ) (ahead : Option (List ℕ)) (state : History (List ℕ)) →
-    Opens old name (Some ahead) new → IfSome ahead (λ bytes. (s : Content) → Spells bytes s → ⊥) →
-    FetchesNoState name old state Session new
-none_found old new name None state opens none =
-    inr ([], opens [] tt, inl (refl, λ h stored. nothing_spelled stored.content stored.spells))
-none_found old new name (Some bytes) state opens none =
-    inr (bytes, opens bytes refl, inl (refl, λ h stored. none stored.content stored.spells))
+pub none_found : (old opened new : Files) (name : List ℕ) (ahead : Option (List ℕ)) (state : History (List ℕ)) →
+    Opens old name (Some ahead) opened → SameShelf opened new
+    → IfSome ahead (λ bytes. (s : Content) → Spells bytes s → ⊥) → FetchesNoState name old state Session new
+none_found old opened new name None state opens same none = inr (
+  [],
+  opened_closes old opened new name (Some []) (opens [] tt) same,
+  inl (refl, λ h stored. nothing_spelled stored.content stored.spells),
+)
+none_found old opened new name (Some bytes) state opens same none = inr (
+  bytes,
+  opened_closes old opened new name (Some bytes) (opens bytes refl) same,
+  inl (refl, λ h stored. none stored.content stored.spells),
+)
 
 -- no session was read, since there was no memory
-pub none_for_memory : (old new : Files) (name : List ℕ) (ahead : Option (List ℕ)) (state : History (List ℕ)) →
-    Opens old name (Some ahead) new → FetchesNoState name old state Memory new
-none_for_memory old new name ahead state opens = inl (inr (inr (refl, opened_keeps old new name ahead opens)))
+pub none_for_memory : (old opened new : Files) (name : List ℕ) (ahead : Option (List ℕ)) (state : History (List ℕ)) →
+    Opens old name (Some ahead) opened → SameShelf opened new → FetchesNoState name old state Memory new
+none_for_memory old opened new name ahead state opens same =
+    inl (inr (inr (refl, opened_fails old opened new name ahead NoRoom opens same)))
 
--- no session was read, since the device failed, which was counted afterwards
-pub none_for_device : (old middle new : Files) (name : List ℕ) (ahead : Option (List ℕ)) (state : History (List ℕ)) →
-    Opens old name (Some ahead) middle → FailsToGet middle new Device → FetchesNoState name old state NoFile new
-none_for_device old middle new name ahead state opens fails =
-    inl (inr (inl (refl, same_and_fails old middle new (opened_keeps old middle name ahead opens) fails)))
+-- the session that was read is one that a file may hold
+pub kept_content : (read : Result FileSession ReadFault) (result : Result FileSession Refusal) → ReadAs read result →
+    IfOk read (λ session. IsContent (content_of session)) → IfOk result (λ session. IsContent (content_of session))
+kept_content (Ok session) result is content =
+    subst (λ r. IfOk r (λ session. IsContent (content_of session))) (sym is) content
+kept_content (Err Form) result is content =
+    subst (λ r. IfOk r (λ session. IsContent (content_of session))) (sym is) tt
+kept_content (Err NotRead) result is content =
+    subst (λ r. IfOk r (λ session. IsContent (content_of session))) (sym is) tt
+kept_content (Err NotHeld) result is content =
+    subst (λ r. IfOk r (λ session. IsContent (content_of session))) (sym is) tt
+
+-- what was read of a file that was opened and closed
+abbrev HasRead : Files → Files → List ℕ → Result FileSession Refusal → Type 0
+HasRead old new name result = MatchResult result
+    (λ session. (bytes : List ℕ) × Fetches name old (Ok bytes) new × Spells bytes (content_of session))
+    (λ refusal. (state : History (List ℕ)) → FetchesNoState name old state refusal new)
+
+pub read_and_closed : (read : Result FileSession ReadFault) (result : Result FileSession Refusal)
+    (old opened new : Files) (name : List ℕ) (ahead : Option (List ℕ)) → ReadAs read result →
+    Opens old name (Some ahead) opened → SameShelf opened new → IfOk read (λ session. IsContent (content_of session))
+    → MatchResult read (λ session. IfSome ahead (λ bytes. Spells bytes (content_of session)))
+    (λ fault. RefusesToRead fault ahead)
+    → HasRead old new name result
+read_and_closed (Ok session) result old opened new name ahead is opens same content spells =
+    subst (HasRead old new name) (sym is)
+    (session_found old opened new name ahead (content_of session) opens same content spells)
+read_and_closed (Err Form) result old opened new name ahead is opens same content none =
+    subst (HasRead old new name) (sym is) (λ state. none_found old opened new name ahead state opens same none)
+read_and_closed (Err NotRead) result old opened new name ahead is opens same content none =
+    subst (HasRead old new name) (sym is) (λ state. none_for_memory old opened new name ahead state opens same)
+read_and_closed (Err NotHeld) result old opened new name ahead is opens same content none =
+    subst (HasRead old new name) (sym is) (λ state. none_for_memory old opened new name ahead state opens same)
+
+-- no session was read, since the device failed
+pub none_for_device : (old opened new : Files) (name : List ℕ) (ahead : Option (List ℕ)) (state : History (List ℕ)) →
+    Opens old name (Some ahead) opened → Fails opened new Device → FetchesNoState name old state NoFile new
+none_for_device old opened new name ahead state opens fails =
+    inl (inr (inl (refl, opened_fails old opened new name ahead Device opens fails)))
 
 -- the session of bytes that were found is taken over, or the bytes are refused
 pub found_and_taken : {T : Type 0} (r : Result T Refusal) (a c : Files) (name bytes : List ℕ)
@@ -189,12 +240,12 @@ pub failure_keeps : (a c : Files) (name : List ℕ) (old : History (List ℕ)) (
     FetchesNoState name a old x c → x ≢ NoFile → SameFiles a c
 failure_keeps a c name old x (inl (inl l)) n = l.1.same
 failure_keeps a c name old x (inl (inr (inl l))) n = absurd (n l.0)
-failure_keeps a c name old x (inl (inr (inr l))) n = l.1
+failure_keeps a c name old x (inl (inr (inr l))) n = get_fails_for_memory a c name l.1
 failure_keeps a c name old x (inr l) n = l.1.same
 
 pub failure_tells : (a c : Files) (name : List ℕ) (old : History (List ℕ)) (x : Refusal) →
     FetchesNoState name a old x c → c.tells ≡ a.tells
 failure_tells a c name old x (inl (inl l)) = l.1.same.0.tells
-failure_tells a c name old x (inl (inr (inl l))) = l.1.0.tells
-failure_tells a c name old x (inl (inr (inr l))) = l.1.0.tells
+failure_tells a c name old x (inl (inr (inl l))) = (get_fails_for_device a c name l.1).0.tells
+failure_tells a c name old x (inl (inr (inr l))) = (get_fails_for_memory a c name l.1).0.tells
 failure_tells a c name old x (inr l) = l.1.same.0.tells

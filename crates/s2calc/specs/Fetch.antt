@@ -14,8 +14,8 @@ abbrev pub Fetches : List ℕ → Files → Result (List ℕ) Refusal → Files 
 Fetches name old (Ok bytes) new = Finds old name (Some bytes) new
 Fetches name old (Err refusal) new =
     ((refusal ≡ Missing) × Finds old name None new)
-    ⊎ ((refusal ≡ NoFile) × FailsToGet old new Device)
-    ⊎ ((refusal ≡ Memory) × FailsToGet old new NoRoom)
+    ⊎ ((refusal ≡ NoFile) × FailsToGet old name new Device)
+    ⊎ ((refusal ≡ Memory) × FailsToGet old name new NoRoom)
 
 -- the bytes are a file whose leaves are this set; or they are not a file; or there is no memory for its cells
 abbrev pub Reads : List ℕ → Result (ℕ → Bool) Refusal → Type 0

@@ -1,6 +1,6 @@
 -- What a line may do.
 use Rattle.std.specs.Prelude.{◌≡◌, ℕ, ◌⊎◌, Bool, true, false, List, Ok, Err}
-use Rattle.s2shelf.specs.Shelf.{SameFiles, PutsFile, LosesFile}
+use Rattle.s2shelf.specs.Shelf.{SameShelf, PutsFile, LosesFile}
 use Rattle.s2file.specs.File.{Bytes}
 use Rattle.s2script.specs.declared.command.Command.{Command}
 use Rattle.s2script.specs.declared.command.Command.TheVariants.{Edit, Load, Save, Dump, Restore, Undo, Redo, Ask}
@@ -33,7 +33,7 @@ WritesFile AreThose name old reply new =
     ((reply ≡ Says done_line) × (new.state ≡ old.state)
     × ((bytes : List ℕ) × AreThose bytes × PutsFile old.files new.files name bytes))
     ⊎ ((reply ≡ Refuses NoFile) × (new.state ≡ old.state) × LosesFile old.files new.files name)
-    ⊎ ((reply ≡ Refuses Memory) × (new.state ≡ old.state) × SameFiles old.files new.files)
+    ⊎ ((reply ≡ Refuses Memory) × (new.state ≡ old.state) × SameShelf old.files new.files)
 
 -- if nothing fails, the file becomes the text of the register's leaves
 abbrev pub Saves : ℕ → List ℕ → World → Reply → World → Type 0

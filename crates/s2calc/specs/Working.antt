@@ -12,3 +12,4 @@ pub mod Stands
 pub mod Desk
 pub mod Program
 pub mod Check
+pub mod Sessions

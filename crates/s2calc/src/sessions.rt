@@ -4,6 +4,7 @@ ghost use Rattle.s2file.specs.Session.{content_of, IsContent, Spells};
 ghost use Rattle.s2edit.specs.History.{History};
 ghost use Rattle.s2shelf.specs.Shelf.{Opens};
 ghost use Rattle.s2calc.specs.Working.Answer.{reply_of};
+ghost use Rattle.s2calc.specs.Working.Sessions.{ReadAs};
 ghost use Rattle.s2calc.specs.Fetch.{Fetches};
 ghost use Rattle.s2calc.specs.Sessions.{TakesOver, RefusesBytes, FetchesNoState};
 ghost use Rattle.s2calc.specs.Step.{Dumps, Restores};
@@ -81,14 +82,24 @@ fn fetch_session<S: Shelf>(alloc: Global, shelf: &mut S, name: &str) -> Result<S
         FetchesNoState name.now (S.files shelf.old) state refusal (S.files shelf.new)) }
 {
     let mut file = open_file(shelf, name)?;
-    match read_session(alloc, &mut file) {
+    let read = read_session(alloc, &mut file);
+    match shelf.close(file) {
+        Ok(()) => session_of(read),
+        Err(ShelfFault::Device) => Err(Refusal::File),
+        Err(ShelfFault::Memory) => Err(Refusal::Memory),
+    }
+}
+
+/// The session that was read, or why there is none. Where a read failed, and not for want of memory, the closing of the
+/// file has said so before.
+fn session_of(read: Result<Session, ReadFault>) -> Result<Session, Refusal>
+    ensures { ReadAs read result }
+{
+    match read {
         Ok(session) => Ok(session),
         Err(ReadFault::Form) => Err(Refusal::Session),
         Err(ReadFault::Memory) => Err(Refusal::Memory),
-        Err(ReadFault::Device) => {
-            shelf.count_failure();
-            Err(Refusal::File)
-        }
+        Err(ReadFault::Device) => Err(Refusal::Memory),
     }
 }
 

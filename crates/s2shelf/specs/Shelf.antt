@@ -1,5 +1,5 @@
 -- What is known of named files, and what a call on them may do.
-use Rattle.std.specs.Prelude.{◌≡◌, ◌≢◌, ℕ, ◌+◌, ◌%◌, ◌^◌, Bool, true, List, ◌∷◌, take, Option, None, Some}
+use Rattle.std.specs.Prelude.{◌≡◌, ◌≢◌, ℕ, ◌+◌, ◌%◌, ◌^◌, ◌⊎◌, Bool, true, List, ◌∷◌, take, Option, None, Some}
 use Rattle.std.specs.Prelude.{option_map, IfSome}
 use Rattle.s2shelf.specs.declared.shelf.ShelfFault.{ShelfFault}
 use Rattle.s2shelf.specs.declared.shelf.ShelfFault.TheVariants.{Device, Memory}
@@ -30,20 +30,26 @@ pub record KeepsFiles (old new : Files) : Type 0 where
 abbrev pub SameFiles : Files → Files → Type 0
 SameFiles old new = KeepsFiles old new × (new.failures ≡ old.failures)
 
+-- every file stays as it was, if the shelf exposes its contents, and so do the count and what was found
+abbrev pub SameShelf : Files → Files → Type 0
+SameShelf old new = SameFiles old new × (new.found ≡ old.found)
+
 -- a call failed on the file `name`, and the count rose: its content is not known, and every other file stays as it was,
--- if the shelf exposes its contents
+-- if the shelf exposes its contents; nothing more was found
 pub record LosesFile (old new : Files) (name : List ℕ) : Type 0 where
   pub tells : new.tells ≡ old.tells
   pub others : old.tells ≡ true → (other : List ℕ) → other ≢ name → new.at other ≡ old.at other
   pub failed : new.failures ≡ one_more old.failures
+  pub found : new.found ≡ old.found
 
--- if the shelf exposes its contents, the file `name` holds the bytes and every other file stays as it was; and so does
--- the count
+-- if the shelf exposes its contents, the file `name` holds the bytes and every other file stays as it was; and so do
+-- the count and what was found
 pub record PutsFile (old new : Files) (name bytes : List ℕ) : Type 0 where
   pub tells : new.tells ≡ old.tells
   pub there : old.tells ≡ true → new.at name ≡ Some bytes
   pub others : old.tells ≡ true → (other : List ℕ) → other ≢ name → new.at other ≡ old.at other
   pub failures : new.failures ≡ old.failures
+  pub found : new.found ≡ old.found
 
 -- if the shelf exposes its contents, `content` is what it holds under that name
 abbrev pub Holds : Files → List ℕ → Option (List ℕ) → Type 0
@@ -73,13 +79,19 @@ abbrev pub Opens : Files → List ℕ → Option (Option (List ℕ)) → Files �
 Opens old name None new = Finds old name None new
 Opens old name (Some ahead) new = (content : List ℕ) → MayHold ahead content → Finds old name (Some content) new
 
--- a file was not read: no content changes, and the count rises only if the fault is `Device`
-abbrev pub FailsToGet : Files → Files → ShelfFault → Type 0
-FailsToGet old new Device = KeepsFiles old new × (new.failures ≡ one_more old.failures)
-FailsToGet old new Memory = SameFiles old new
+-- a call failed: no content changes, and nothing more is found; the count rises only if the fault is `Device`
+abbrev pub Fails : Files → Files → ShelfFault → Type 0
+Fails old new Device = KeepsFiles old new × (new.failures ≡ one_more old.failures) × (new.found ≡ old.found)
+Fails old new Memory = SameShelf old new
+
+-- the shelf failed to open or to hand over the file of that name; or it opened it, and a read of it failed
+abbrev pub FailsToGet : Files → List ℕ → Files → ShelfFault → Type 0
+FailsToGet old name new fault =
+    Fails old new fault
+    ⊎ ((content : Option (List ℕ)) × (opened : Files) × Finds old name content opened × Fails opened new fault)
 
 -- a file was not written: if the fault is `Device`, the count rises and the content of that one file is not known; else
--- no content changes, and neither does the count
+-- nothing changes
 abbrev pub FailsToPut : Files → List ℕ → Files → ShelfFault → Type 0
 FailsToPut old name new Device = LosesFile old new name
-FailsToPut old name new Memory = SameFiles old new
+FailsToPut old name new Memory = SameShelf old new

@@ -1,10 +1,12 @@
 //! A folder as a shelf.
-ghost use Rattle.std.specs.Prelude.{◌≡◌, ◌≢◌, ◌⊎◌, IfErr, IfOk, IsOk, MatchResult, Some, None, Ok, Err};
-ghost use Rattle.std.specs.Prelude.{option_map, take};
+ghost use Rattle.std.specs.Prelude.{◌≡◌, ◌≢◌, ◌⊎◌, ◌↔◌, IfErr, IfOk, IsOk, IsErrOf, IsTrue, OnOk, MatchResult};
+ghost use Rattle.std.specs.Prelude.{Some, None, Ok, Err, true, false, option_map, take};
+ghost use Rattle.std.specs.Io.{ReadsAtMost};
+ghost use Rattle.std.specs.Io.KnownBytes.{ReadConsumes};
 ghost use Rattle.std.specs.IoError.{error_kind};
-ghost use Rattle.s2shelf.specs.Shelf.{MayHold, one_more};
+ghost use Rattle.s2shelf.specs.Shelf.{MayHold, SameShelf, Fails, one_more};
 ghost use Rattle.std.specs.String.{string_bytes};
-ghost use Rattle.s2shelf.specs.DirShelf.{folder_files, folder_path};
+ghost use Rattle.s2shelf.specs.DirShelf.{folder_files, folder_path, has_failed};
 ghost use Rattle.s2shelf.specs.Working.DirShelf.{path_to};
 
 use crate::shelf::{Shelf, ShelfFault, beginning_of};
@@ -13,6 +15,56 @@ use std::fs::{File, OpenFile};
 use std::io::{ErrorKind, Read};
 use std::rt::Files;
 use std::{fs, io};
+
+/// A file of a folder that was opened for reading. It remembers whether a read of it failed, other than for want of
+/// memory or because it was interrupted.
+#[derive(Drop)]
+pub struct OpenedFile<F> {
+    file: F,
+    failed: bool,
+}
+
+impl<F> OpenedFile<F> {
+    /// Nothing was read yet.
+    fn of(file: F) -> OpenedFile<F>
+        ensures file { result.file ≡ file }
+        ensures failed { has_failed result ≡ false }
+    {
+        OpenedFile {
+            file,
+            failed: false,
+        }
+    }
+}
+
+/// Whether a read that failed so tells of a failure of the device.
+fn is_failure(kind: ErrorKind) -> bool
+    ensures { IsTrue result ↔ ((kind ≢ ErrorKind.OutOfMemory) × (kind ≢ ErrorKind.Interrupted)) }
+{
+    !matches!(kind, ErrorKind::OutOfMemory | ErrorKind::Interrupted)
+}
+
+impl<F: Read> Read for OpenedFile<F> {
+    ghost remaining = { λ f. F.remaining f.file };
+
+    fn read(&mut self, buf: &mut [u8]) -> io::Result<usize>
+        ensures bound { ReadsAtMost result buf.new }
+        ensures bytes { ReadConsumes (F.remaining self.old.file) (F.remaining self.new.file) result buf.new }
+        ensures well { OnOk result (has_failed self.new ≡ has_failed self.old) }
+        ensures failed { IfErr result (λ error. error_kind error ≢ ErrorKind.OutOfMemory
+            → error_kind error ≢ ErrorKind.Interrupted → has_failed self.new ≡ true) }
+        ensures passed_over { IfErr result (λ error. (error_kind error ≡ ErrorKind.OutOfMemory)
+            ⊎ (error_kind error ≡ ErrorKind.Interrupted) → has_failed self.new ≡ has_failed self.old) }
+    {
+        let result = self.file.read(buf);
+        if let Err(error) = &result {
+            if is_failure(error.kind()) {
+                self.failed = true;
+            }
+        }
+        result
+    }
+}
 
 /// A folder of files. It doesn't expose its contents, which are what the system gives.
 ///
@@ -143,16 +195,25 @@ fn write_whole<R: Files>(rt: &R, path: &str, bytes: &[u8]) -> io::Result<()> {
 impl<R: Files + AllocGlobal> Shelf for DirShelf<R> {
     ghost files = { folder_files };
 
-    type Opened = R::File;
+    type Opened = OpenedFile<R::File>;
 
-    fn open(&mut self, name: &str) -> Result<Option<R::File>, ShelfFault> {
+    fn open(&mut self, name: &str) -> Result<Option<OpenedFile<R::File>>, ShelfFault> {
         let path = self.path_of(name)?;
         let answer = open_regular(&self.rt, path.as_str());
-        read_answer(answer, &mut self.failures)
+        let opened = read_answer(answer, &mut self.failures)?;
+        Ok(opened.map(OpenedFile::of))
     }
 
-    fn count_failure(&mut self) {
-        count_failure(&mut self.failures);
+    /// Answers `Device` if, and only if, a read of the file failed other than for want of memory or as interrupted.
+    fn close(&mut self, file: OpenedFile<R::File>) -> Result<(), ShelfFault>
+        ensures answer { MatchResult result (λ _. SameShelf (folder_files self.old) (folder_files self.new))
+            (λ fault. Fails (folder_files self.old) (folder_files self.new) fault) }
+        ensures device { IsErrOf result ShelfFault.Device ↔ (has_failed file ≡ true) }
+    {
+        if file.failed {
+            return Err(count_failure(&mut self.failures));
+        }
+        Ok(())
     }
 
     fn alloc(&self) -> Global {

@@ -1,8 +1,8 @@
 //! A shelf in memory.
-ghost use Rattle.std.specs.Prelude.{◌≡◌, ◌≤◌, ◌-◌, ◌≢◌, ◌↔◌, ℕ, List, None, IsErrOf, OnErr, MatchResult};
+ghost use Rattle.std.specs.Prelude.{◌≡◌, ◌≤◌, ◌-◌, ◌≢◌, ◌↔◌, ℕ, List, None, IsErrOf, IsOk, OnErr, MatchResult};
 ghost use Rattle.std.specs.Prelude.{is_ok, option_map, if◌then◌else◌};
 ghost use Rattle.s2shelf.specs.Shelf.{one_more, KeepsFiles, SameFiles, Finds, FindsBeginning, Opens, PutsFile};
-ghost use Rattle.s2shelf.specs.Shelf.{FailsToGet, FailsToPut};
+ghost use Rattle.s2shelf.specs.Shelf.{Fails, FailsToGet, FailsToPut};
 ghost use Rattle.s2shelf.specs.MemoryShelf.{files_of, failing_of};
 
 use crate::shelf::{Shelf, ShelfFault, beginning_of};
@@ -68,7 +68,7 @@ impl MemoryShelf {
     fn copy_of(&mut self, name: &str) -> Result<Option<Vec<u8>>, ShelfFault>
         ensures answer { MatchResult result
             (λ content. Finds (files_of self.old) name.now (option_map (λ v. v.items) content) (files_of self.new))
-            (λ fault. FailsToGet (files_of self.old) (files_of self.new) fault) }
+            (λ fault. Fails (files_of self.old) (files_of self.new) fault) }
         ensures turn { IsErrOf result ShelfFault.Device ↔ (failing_of self.old ≡ 1) }
         ensures failing { failing_of self.new ≡ failing_of self.old - 1 }
     {
@@ -90,7 +90,7 @@ impl Shelf for MemoryShelf {
         ensures answer { MatchResult result
             (λ opened. Opens (files_of self.old) name.now
             (option_map ⟦<Cursor<Vec<u8>> as Read>⟧.remaining opened) (files_of self.new))
-            (λ fault. FailsToGet (files_of self.old) (files_of self.new) fault) }
+            (λ fault. Fails (files_of self.old) (files_of self.new) fault) }
         ensures turn { IsErrOf result ShelfFault.Device ↔ (failing_of self.old ≡ 1) }
         ensures failing { failing_of self.new ≡ failing_of self.old - 1 }
     {
@@ -98,12 +98,12 @@ impl Shelf for MemoryShelf {
         Ok(copy.map(Cursor::new))
     }
 
-    /// Does not count as a call.
-    fn count_failure(&mut self)
-        ensures count { FailsToGet (files_of self.old) (files_of self.new) ShelfFault.Device }
-        ensures failing { failing_of self.new ≡ failing_of self.old }
+    /// Never fails, as no read of a copy does. Does not count as a call.
+    fn close(&mut self, _file: Cursor<Vec<u8>>) -> Result<(), ShelfFault>
+        ensures closed { IsOk result }
+        ensures shelf { self.new ≡ self.old }
     {
-        self.failures = self.failures.wrapping_add(1);
+        Ok(())
     }
 
     fn alloc(&self) -> Global {
@@ -114,7 +114,7 @@ impl Shelf for MemoryShelf {
     fn get(&mut self, name: &str) -> Result<Option<Vec<u8>>, ShelfFault>
         ensures answer { MatchResult result
             (λ content. Finds (files_of self.old) name.now (option_map (λ v. v.items) content) (files_of self.new))
-            (λ fault. FailsToGet (files_of self.old) (files_of self.new) fault) }
+            (λ fault. FailsToGet (files_of self.old) name.now (files_of self.new) fault) }
         ensures turn { IsErrOf result ShelfFault.Device ↔ (failing_of self.old ≡ 1) }
         ensures failing { failing_of self.new ≡ failing_of self.old - 1 }
     {
@@ -126,7 +126,7 @@ impl Shelf for MemoryShelf {
         ensures answer { MatchResult result
             (λ beginning. FindsBeginning (files_of self.old) name.now most (option_map (λ v. v.items) beginning)
             (files_of self.new))
-            (λ fault. FailsToGet (files_of self.old) (files_of self.new) fault) }
+            (λ fault. FailsToGet (files_of self.old) name.now (files_of self.new) fault) }
         ensures turn { IsErrOf result ShelfFault.Device ↔ (failing_of self.old ≡ 1) }
         ensures failing { failing_of self.new ≡ failing_of self.old - 1 }
     {

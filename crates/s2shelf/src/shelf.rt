@@ -1,10 +1,12 @@
 //! Named files that may fail.
-ghost use Rattle.std.specs.Prelude.{◌≡◌, ◌↔◌, IfOk, MatchResult, option_map, take};
-ghost use Rattle.s2shelf.specs.Shelf.{Files, Finds, FindsBeginning, MayHold, Opens, PutsFile, FailsToGet, FailsToPut};
-ghost use Rattle.s2shelf.specs.declared.shelf.ShelfFault.TheVariants.{Device, Memory};
+ghost use Rattle.std.specs.Prelude.{◌≡◌, IfOk, MatchResult, option_map, take};
+ghost use Rattle.s2shelf.specs.Shelf.{Files, SameShelf, Finds, FindsBeginning, MayHold, Opens, PutsFile, Fails};
+ghost use Rattle.s2shelf.specs.Shelf.{FailsToGet, FailsToPut};
+ghost use Rattle.s2shelf.specs.declared.shelf.ShelfFault.TheVariants.{Memory};
 
 use std::alloc::{AllocError, Global};
-use std::io::{ErrorKind, Read};
+use std::io;
+use std::io::Read;
 use thiserror::Error;
 
 /// Why a file was not read or not written.
@@ -35,73 +37,61 @@ pub(crate) fn beginning_of(content: Option<Vec<u8>>, most: usize) -> Option<Vec<
     Some(bytes)
 }
 
-/// All bytes that reads of an opened file give. Closes it.
-fn read_whole<R: Read + Drop>(alloc: Global, mut file: R) -> Result<Vec<u8>, ShelfFault>
-    ensures { IfOk result (λ bytes. MayHold (R.remaining file) bytes.items) }
+/// All bytes that reads of an opened file give.
+fn read_whole<R: Read>(alloc: Global, file: &mut R) -> io::Result<Vec<u8>>
+    ensures { IfOk result (λ bytes. MayHold (R.remaining file.old) bytes.items) }
 {
     let mut bytes = Vec::new(alloc);
-    match file.read_to_end(&mut bytes) {
-        Ok(_) => Ok(bytes),
-        Err(error) => Err(fault_of(error.kind())),
-    }
-}
-
-/// What a failed read means.
-fn fault_of(kind: ErrorKind) -> ShelfFault
-    ensures { (result ≡ ShelfFault.Memory) ↔ (kind ≡ ErrorKind.OutOfMemory) }
-{
-    match kind {
-        ErrorKind::OutOfMemory => ShelfFault::Memory,
-        _ => ShelfFault::Device,
-    }
+    file.read_to_end(&mut bytes)?;
+    Ok(bytes)
 }
 
 /// Files by their names.
 ///
 /// A contract sees a shelf as `Files`: whether it exposes its contents, those contents, what was found by asking, and
 /// how many failures of the device were counted (a u64, which starts again at 0 after its greatest value): each call
-/// that answers `Device` is one, and each call of `count_failure`. A shelf about which nothing is known doesn't expose
-/// its contents, and what was found is None. Code for any shelf can't know that: only the clauses of `open`, `get` and
-/// `get_beginning` show that a content was found, so the code has to call one of the three.
+/// that answers `Device` is one, and nothing else is, so code for any shelf can't count one by itself. A shelf about
+/// which nothing is known doesn't expose its contents, and what was found is None. Code for any shelf can't know that:
+/// only the clauses of `open`, `get` and `get_beginning` show that a content was found, so the code has to call one of
+/// the three.
 pub trait Shelf {
     ghost files: { Self → Files };
 
-    /// A file of the shelf that was opened for reading. Dropping it closes it.
+    /// A file of the shelf that was opened for reading. It remembers whether a read of it failed.
     type Opened: Read + Drop;
 
     /// Opens the file of that name for reading from its beginning, or answers None if there is none. The content that
     /// is found is what reads of the file give. No content changes; the count rises by one exactly when the answer is
-    /// `Device`. A read may fail later, which the shelf doesn't see: whoever reads calls `count_failure`.
+    /// `Device`. A read may fail later, which `close` tells.
     fn open(&mut self, name: &str) -> Result<Option<Self::Opened>, ShelfFault>
         ensures { MatchResult result
             (λ opened. Opens (files self.old) name.now (option_map Self.Opened.remaining opened) (files self.new))
-            (λ fault. FailsToGet (files self.old) (files self.new) fault) };
+            (λ fault. Fails (files self.old) (files self.new) fault) };
 
-    /// Counts a failure of the device that came while an opened file was read. No content changes, and the count rises
-    /// by one.
-    fn count_failure(&mut self)
-        ensures { FailsToGet (files self.old) (files self.new) Device };
+    /// Closes an opened file. Answers `Device` if a read of it failed for another reason than that memory ran out or
+    /// that it was interrupted. No content changes; the count rises by one exactly when the answer is `Device`.
+    fn close(&mut self, file: Self::Opened) -> Result<(), ShelfFault>
+        ensures { MatchResult result (λ _. SameShelf (files self.old) (files self.new))
+            (λ fault. Fails (files self.old) (files self.new) fault) };
 
     /// What the bytes that the shelf answers are allocated from.
     fn alloc(&self) -> Global;
 
-    /// All bytes of the file of that name, or None if there is none. No content changes; the
-    /// count rises by one exactly when the answer is `Device`. A failed read is `Device`, unless it says out of memory.
+    /// All bytes of the file of that name, or None if there is none. No content changes; the count rises by one exactly
+    /// when the answer is `Device`. After a failed read the answer is that of `close`, or else `Memory`.
     fn get(&mut self, name: &str) -> Result<Option<Vec<u8>>, ShelfFault>
         ensures { MatchResult result
             (λ content. Finds (files self.old) name.now (option_map (λ v. v.items) content) (files self.new))
-            (λ fault. FailsToGet (files self.old) (files self.new) fault) }
+            (λ fault. FailsToGet (files self.old) name.now (files self.new) fault) }
     {
-        let Some(file) = self.open(name)? else {
+        let Some(mut file) = self.open(name)? else {
             return Ok(None);
         };
-        match read_whole(self.alloc(), file) {
-            Ok(bytes) => Ok(Some(bytes)),
-            Err(ShelfFault::Memory) => Err(ShelfFault::Memory),
-            Err(ShelfFault::Device) => {
-                self.count_failure();
-                Err(ShelfFault::Device)
-            }
+        let whole = read_whole(self.alloc(), &mut file);
+        match (self.close(file), whole) {
+            (Err(fault), _) => Err(fault),
+            (Ok(()), Ok(bytes)) => Ok(Some(bytes)),
+            (Ok(()), Err(_)) => Err(ShelfFault::Memory),
         }
     }
 
@@ -111,7 +101,7 @@ pub trait Shelf {
         ensures { MatchResult result
             (λ beginning. FindsBeginning (files self.old) name.now most (option_map (λ v. v.items) beginning)
             (files self.new))
-            (λ fault. FailsToGet (files self.old) (files self.new) fault) };
+            (λ fault. FailsToGet (files self.old) name.now (files self.new) fault) };
 
     /// Overwrites the file of that name, so that it holds exactly these bytes; no other file changes. After `Device`
     /// the content of that one file is not known, and the count has risen by one.

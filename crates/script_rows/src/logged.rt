@@ -66,11 +66,7 @@ fn add_sight(alloc: Global, sight: &Sight, found: &mut Vec<u8>) -> Result<(), Al
 
 /// A shelf without files that logs its calls.
 fn shelf_with(alloc: Global, log: &RefCell<Vec<u8>>) -> LoggedShelf<'_> {
-    LoggedShelf {
-        alloc,
-        log,
-        failures: 0,
-    }
+    LoggedShelf { alloc, log }
 }
 
 /// Runs the script over a writer and a shelf that log their calls.
@@ -83,7 +79,9 @@ fn log_run(
     let script = script_of(alloc, lines)?;
     let mut editor = editor_of(alloc, lines)?;
     let mut reader = script.as_slice();
-    let mut writer = AnswerBuffer::new(alloc, LoggedWriter { log })?;
+    let Ok(mut writer) = AnswerBuffer::new(alloc, LoggedWriter { log }) else {
+        return Err(AllocError);
+    };
     let mut shelf = shelf_with(alloc, log);
     let _ = match flushing {
         Flushing::Promptly => {

@@ -19,4 +19,5 @@ returns-in-Ok-clause-answer c =
       others = λ _ other ne. put_elsewhere (λ b. b.items) (get_by_text old) (get_by_text new) _ _ other bytes after
           key ne;
       failures = search rules;
+      found = refl;
     }

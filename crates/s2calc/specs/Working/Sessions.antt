@@ -1,0 +1,14 @@
+-- What only private contracts need, beside Sessions.antt, which has what public contracts need.
+use Rattle.std.specs.Prelude.{◌≡◌, Result, Ok, Err}
+use Rattle.s2file.specs.declared.session.Session.{Session}
+use Rattle.s2file.specs.declared.session.ReadFault.{ReadFault}
+use Rattle.s2file.specs.declared.session.ReadFault.TheVariants.{Form, Device, Memory}
+use Rattle.s2calc.specs.declared.refusal.Refusal.{Refusal}
+use Rattle.s2calc.specs.declared.refusal.Refusal.TheVariants.{Session as NoSession, Memory as NoMemory}
+
+-- the session that was read, or the refusal for want of one, where no read of its file failed but for want of memory
+abbrev pub ReadAs : Result Session ReadFault → Result Session Refusal → Type 0
+ReadAs (Ok session) result = result ≡ Ok session
+ReadAs (Err Form) result = result ≡ Err NoSession
+ReadAs (Err Device) result = result ≡ Err NoMemory
+ReadAs (Err Memory) result = result ≡ Err NoMemory
