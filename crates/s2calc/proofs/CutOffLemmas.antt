@@ -31,15 +31,15 @@ read_one whole script other None p q = absurd p
 read_one whole script other (Some left) p q = append_cancel_right script other left (sym p ∙ q)
 
 pub one_end_of_input : (old old' new new' : Known) (script out : List ℕ) → SameStart old old' script out →
-    new.input ≡ new'.input → (run : Ran old new) (other : Ran old' new') → WholeLines run → WholeLines other
+    new.input.ahead ≡ new'.input.ahead → (run : Ran old new) (other : Ran old' new') → WholeLines run → WholeLines other
     → AllPlain run.replies → AllPlain other.replies → SameEnd new new' run.replies other.replies
 one_end_of_input old old' new new' script out start n run other w w' p p' =
-    let read : Consumes (Some script) new.input run.script =
-    subst (λ (known : Option (List ℕ)). Consumes known new.input run.script) start.input run.read in
-    let read' : Consumes (Some script) new'.input other.script =
-    subst (λ (known : Option (List ℕ)). Consumes known new'.input other.script) start.input' other.read in
+    let read : Consumes (Some script) new.input.ahead run.script =
+    subst (λ (known : Option (List ℕ)). Consumes known new.input.ahead run.script) start.input run.read.0 in
+    let read' : Consumes (Some script) new'.input.ahead other.script =
+    subst (λ (known : Option (List ℕ)). Consumes known new'.input.ahead other.script) start.input' other.read.0 in
     let same : run.script ≡ other.script =
-    read_one script run.script other.script new'.input
+    read_one script run.script other.script new'.input.ahead
     (subst (λ (left : Option (List ℕ)). Consumes (Some script) left run.script) n read) read' in
     let steps : Steps old.world other.done run.replies new.world =
     subst (λ (ls : List (List ℕ)). Steps old.world ls run.replies new.world)
@@ -199,12 +199,12 @@ pub one_end_of_output : (old old' new new' : Known) (script out : List ℕ) → 
     → AllPlain run.replies → AllPlain other.replies
     → SameEnd new new' run.replies other.replies × (run.done ≡ other.done)
 one_end_of_output old old' new new' script out start n run other s s' p p' =
-    let read : Consumes (Some script) new.input run.script =
-    subst (λ (known : Option (List ℕ)). Consumes known new.input run.script) start.input run.read in
-    let read' : Consumes (Some script) new'.input other.script =
-    subst (λ (known : Option (List ℕ)). Consumes known new'.input other.script) start.input' other.read in
-    let d = read_lines script run.script new.input run.done read s.0 in
-    let d' = read_lines script other.script new'.input other.done read' s'.0 in
+    let read : Consumes (Some script) new.input.ahead run.script =
+    subst (λ (known : Option (List ℕ)). Consumes known new.input.ahead run.script) start.input run.read.0 in
+    let read' : Consumes (Some script) new'.input.ahead other.script =
+    subst (λ (known : Option (List ℕ)). Consumes known new'.input.ahead other.script) start.input' other.read.0 in
+    let d = read_lines script run.script new.input.ahead run.done read s.0 in
+    let d' = read_lines script other.script new'.input.ahead other.done read' s'.0 in
     let w = written_is old.output new.output out run.written start.output run.appended in
     let w' = written_is old'.output new'.output out other.written start.output' other.appended in
     let known : Some (out ++ run.written) ≡ Some (out ++ other.written) = sym w ∙ n ∙ w' in

@@ -3,7 +3,7 @@ use Rattle.std.proofs.Common.{◌≡◌, ◌∙◌, ℕ, ◌+◌, ◌<◌, ◌�
 use Rattle.std.proofs.Common.{Option, None, Some, Result, Ok, Err, OnOk}
 use Rattle.std.proofs.Common.{refl, sym, ap, subst, append_assoc, append-nil, arith, length-append, inl, inr}
 use Rattle.std.proofs.lemmas.List.Concat.{flat_map-append}
-use Rattle.std.specs.Io.KnownBytes.{Appends, Consumes, IsAtEnd}
+use Rattle.std.specs.Io.KnownBytes.{Appends, IsAtEnd}
 use Rattle.std.proofs.KnownBytes.{Appends-kept, Appends-trans}
 use Rattle.s2shelf.specs.Shelf.{Files}
 use Rattle.s2script.specs.Line.{line_of}
@@ -18,7 +18,7 @@ use Rattle.s2calc.specs.Step.{asks_for_file}
 use Rattle.s2calc.specs.Run.{Steps, Known, Runs}
 use Rattle.s2calc.specs.Working.Stands.{Point}
 use Rattle.s2calc.specs.Calls.{Call, NoneFailed}
-use Rattle.s2calc.specs.Reads.{ReadsLast}
+use Rattle.s2calc.specs.Reads.{Gives, ReadsLast}
 use Rattle.s2calc.specs.Working.Calls.{FlushedIfOk}
 use Rattle.s2calc.specs.Working.Stands.{point, Stands, Answered, StandsAfter, Closes}
 use Rattle.s2calc.specs.Moments.{Event, Came, NotCame, LineBegins, LineEnds, Moment, moment, bytes_of}
@@ -657,7 +657,7 @@ module _ {W S : Type 0} (contents : W → Option (List ℕ)) (calls : W → Opti
   pub Runs-end : (Here : ℕ → ℕ → Type 0) (old new : Known) (script : List ℕ) (replies : List Reply) (first : W)
       (output : Option (List ℕ)) (a d : Option (List (Moment W S))) (mid : Option (List Call))
       (result : Result Tally RunFault) →
-      Consumes old.input new.input script → IsAtEnd new.input → Appends old.output output (texts replies)
+      Gives old.input new.input script → IsAtEnd new.input.ahead → Appends old.output output (texts replies)
       → ReadsLast old.reads new.reads (Some 0) → NoneFailed may_flush old.calls mid
       → Closes may_flush Here (point old.world old.noted) script replies (point new.world new.noted) output new.output
       result → FlushedIfOk may_flush mid new.calls result

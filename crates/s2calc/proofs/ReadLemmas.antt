@@ -3,28 +3,48 @@ use Rattle.std.proofs.Common.{◌≡◌, ◌∙◌, ◌<◌, ◌+◌, ℕ, List,
 use Rattle.std.proofs.Common.{length, take, refl, sym, ap, subst, append-nil, length-append, arith}
 use Rattle.std.proofs.Common.{◌⊎◌, inl, inr}
 use Rattle.std.proofs.lemmas.List.Concat.{flat_map-append}
-use Rattle.std.specs.Io.KnownBytes.{Appends, Consumes, IsAtEnd}
-use Rattle.std.proofs.KnownBytes.{Appends-nil, Appends-trans, Appends-kept, Consumes-nil, Consumes-trans}
+use Rattle.std.specs.Io.KnownBytes.{Appends, Keeps, IsAtEnd}
+use Rattle.std.proofs.KnownBytes.{Appends-nil, Appends-trans, Appends-kept, Consumes-nil, Consumes-trans, Consumes-kept}
 use Rattle.s2calc.specs.declared.engine.Tally.{Tally}
 use Rattle.s2calc.specs.declared.progress.Progress.{Progress}
 use Rattle.s2calc.specs.declared.fault.RunFault.TheVariants.{Input, Output, Memory}
 use Rattle.s2script.specs.Lines.{lines, whole_lines, but_last}
 use Rattle.s2calc.specs.Replies.{Reply, text_of, texts}
 use Rattle.s2calc.specs.Notes.{WritesNotes, notes_of}
-use Rattle.s2calc.specs.Calls.{NoneFailed, LastFlushed, LastFailed}
-use Rattle.s2calc.specs.Reads.{ReadsLast, ReadsStop, ReadsWell}
+use Rattle.s2calc.specs.Calls.{Gains, NoneFailed, LastFlushed, LastFailed}
+use Rattle.s2calc.specs.Reads.{ReaderState, Gives, ReadsLast, ReadsStop, ReadsWell}
 use Rattle.s2calc.specs.Run.{Steps, Known, Ran, came_out, BesideFile, Runs}
 use Rattle.s2calc.specs.Working.Stands.{Explains, IsCutOff, point, Stands, StopsIn, Ended}
 use Rattle.s2calc.specs.Working.Stands.{EndsInPart, EndsUnflushed, EndsBefore}
+use Rattle.s2calc.proofs.CallLemmas.{gains_nil, gains_more}
 use Rattle.s2calc.proofs.LineLemmas.{whole_lines_begun}
 use Rattle.s2calc.proofs.CloseLemmas.{IsCutOff-after}
 use Rattle.s2calc.proofs.NoteLemmas.{WritesNotes-none}
 
-pub Consumes-none : (a b c : Option (List ℕ)) (bs buf : List ℕ) (n : ℕ) → n ≡ 0 → Consumes a b bs →
-    Consumes b c (take n buf) → Consumes a c bs
-Consumes-none a b c bs buf n e p q =
+-- ---- what a reader gave
+
+pub Gives-nil : (a : ReaderState) → Gives a a []
+Gives-nil a = (Consumes-nil a.ahead, gains_nil a.given)
+
+pub Gives-trans : (a b c : ReaderState) (bs cs : List ℕ) → Gives a b bs → Gives b c cs → Gives a c (bs ++ cs)
+Gives-trans a b c bs cs p q = (
+  Consumes-trans a.ahead b.ahead c.ahead bs cs p.0 q.0,
+  gains_more a.given b.given c.given bs cs p.1 q.1,
+)
+
+pub Gives-none : (a b c : ReaderState) (bs buf : List ℕ) (n : ℕ) → n ≡ 0 → Gives a b bs → Gives b c (take n buf) →
+    Gives a c bs
+Gives-none a b c bs buf n e p q =
     let none : take n buf ≡ [] = ap (λ k. take k buf) e in
-    subst (Consumes a c) (append-nil bs) (Consumes-trans a b c bs [] p (subst (Consumes b c) none q))
+    subst (Gives a c) (append-nil bs) (Gives-trans a b c bs [] p (subst (Gives b c) none q))
+
+-- a read failed
+pub Gives-kept : (a b c : ReaderState) (bs : List ℕ) → Gives a b bs → Keeps b.ahead c.ahead → Gains b.given c.given [] →
+    Gives a c bs
+Gives-kept a b c bs p k g = (
+  Consumes-kept a.ahead b.ahead c.ahead bs p.0 k,
+  subst (Gains a.given c.given) (append-nil bs) (gains_more a.given b.given c.given bs [] p.1 g),
+)
 
 pub Appends-texts : (a b c : Option (List ℕ)) (before more : List Reply) → Appends a b (texts before) →
     Appends b c (texts more) → Appends a c (texts (before ++ more))
@@ -42,7 +62,7 @@ Fails Seen ran = (ended : ℕ) × Seen ran.script (length ran.done) ended
     × (((ended ≡ length ran.done) × (ran.left ≡ [])) ⊎ (ended + 1 ≡ length ran.done))
 
 module _ (old new : Known) where
-  module _ (script : List ℕ) (done : List (List ℕ)) (replies : List Reply) (read : Consumes old.input new.input script)
+  module _ (script : List ℕ) (done : List (List ℕ)) (replies : List Reply) (read : Gives old.input new.input script)
       (steps : Steps old.world done replies new.world) where
     -- all answers were written
     abbrev pub all_came : Appends old.output new.output (texts replies) →
@@ -101,7 +121,7 @@ module _ (old new : Known) where
       (sym (ran.texts_are ∙ ap (λ left. ran.written ++ left) e ∙ append-nil ran.written)) ran.appended
 
   module _ (may : Type 0) (script : List ℕ) (replies : List Reply) where
-    module _ (progress : Progress) (read : Consumes old.input new.input script)
+    module _ (progress : Progress) (read : Gives old.input new.input script)
         (s : Stands (point old.world old.noted) script replies (point new.world new.noted) progress)
         (w : Appends old.output new.output (texts replies)) where
       pub whole_done : whole_lines script ≡ s.done
@@ -126,14 +146,14 @@ module _ (old new : Known) where
     module _ (Here : ℕ → ℕ → Type 0) (Seen : List ℕ → ℕ → ℕ → Type 0) where
       -- a line that ends in the chunk stopped the run
       pub stops_in_chunk : ReadsWell old.reads new.reads → LastFailed may old.calls new.calls
-          → (input output : Option (List ℕ)) (chunk : List ℕ) →
-          Consumes old.input input script → Consumes input new.input chunk → Appends old.output output (texts replies)
+          → (input : ReaderState) (output : Option (List ℕ)) (chunk : List ℕ) →
+          Gives old.input input script → Gives input new.input chunk → Appends old.output output (texts replies)
           → ((begins ends : ℕ) → Here begins ends → Seen (script ++ chunk) begins ends)
           → StopsIn may Here (point old.world old.noted) script replies chunk (point new.world new.noted) output
           new.output
           → (run : Runs may old new (Err Output)) × Fails Seen run.ran
       stops_in_chunk reads calls input output chunk r q w seen (inl s) =
-          let read = Consumes-trans old.input input new.input script chunk r q in
+          let read = Gives-trans old.input input new.input script chunk r q in
           let cut = IsCutOff-after replies s.more s.bytes s.cut_off in (
             record {
               ran = last_cut (script ++ chunk) s.done (replies ++ s.more) read s.run (texts replies ++ s.bytes)
@@ -144,7 +164,7 @@ module _ (old new : Known) where
           )
       stops_in_chunk reads calls input output chunk r q w seen (inr f) =
           let s = f.1 in
-          let read = Consumes-trans old.input input new.input script chunk r q in
+          let read = Gives-trans old.input input new.input script chunk r q in
           let ran : Ran old new = all_came (script ++ chunk) s.done (replies ++ s.more) read s.run
           (Appends-texts old.output output new.output replies s.more w s.written) s.noted in
           let beside : BesideFile ran = record {
@@ -167,7 +187,7 @@ module _ (old new : Known) where
           )
 
       -- the last line or the last flush stopped the run
-      pub stops_at_end : (output : Option (List ℕ)) → Consumes old.input new.input script → IsAtEnd new.input →
+      pub stops_at_end : (output : Option (List ℕ)) → Gives old.input new.input script → IsAtEnd new.input.ahead →
           Appends old.output output (texts replies)
           → ReadsWell old.reads new.reads → LastFailed may old.calls new.calls
           → ((begins ends : ℕ) → Here begins ends → Seen script begins ends)
@@ -214,7 +234,7 @@ module _ (old new : Known) where
             (length s.before, seen (length s.before) (length s.before) s.seen, inl (refl, refl)),
           )
 
-    module _ (output : Option (List ℕ)) (read : Consumes old.input new.input script) (at_end : IsAtEnd new.input)
+    module _ (output : Option (List ℕ)) (read : Gives old.input new.input script) (at_end : IsAtEnd new.input.ahead)
         (w : Appends old.output output (texts replies)) where
       abbrev pub finishes : (tally : Tally) →
           Ended (point old.world old.noted) script replies (point new.world new.noted) output new.output tally
@@ -228,6 +248,6 @@ module _ (old new : Known) where
 -- no memory: nothing has happened
 abbrev pub never_begins : (may : Type 0) (at : Known) → Runs may at at (Err Memory)
 never_begins may at = record {
-  ran = all_came at at [] [] [] (Consumes-nil at.input) refl (Appends-nil at.output) (WritesNotes-none at.noted);
+  ran = all_came at at [] [] [] (Gives-nil at.input) refl (Appends-nil at.output) (WritesNotes-none at.noted);
   ends = (refl, refl);
 }

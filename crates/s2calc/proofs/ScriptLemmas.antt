@@ -12,10 +12,10 @@ use Rattle.s2calc.proofs.OneRun.{one_run_of}
 use Rattle.s2calc.proofs.ReadLemmas.{all_out}
 
 -- a script that was read to its end is all that the reader gave
-pub whole_steps : (old new : Known) (ran : Ran old new) (script : List ℕ) → AllLines ran → old.input ≡ Some script →
-    Steps old.world (lines script) ran.replies new.world
+pub whole_steps : (old new : Known) (ran : Ran old new) (script : List ℕ) → AllLines ran
+    → old.input.ahead ≡ Some script → Steps old.world (lines script) ran.replies new.world
 whole_steps old new ran script all e =
-    let known = Consumes-whole old.input new.input ran.script (λ b. ran.script ≡ b) ran.read all.1 refl in
+    let known = Consumes-whole old.input.ahead new.input.ahead ran.script (λ b. ran.script ≡ b) ran.read.0 all.1 refl in
     let same : ran.script ≡ script = subst (λ o. IfSome o (λ b. ran.script ≡ b)) e known in
     subst (λ ls. Steps old.world ls ran.replies new.world) (all.0 ∙ ap lines same) ran.steps
 

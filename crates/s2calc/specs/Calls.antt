@@ -1,5 +1,5 @@
 -- The calls of a reader and of a writer, as far as they are known.
-use Rattle.std.specs.Prelude.{◌≡◌, ℕ, List, [], ◌∷◌, ◌++◌, Option, Some, None}
+use Rattle.std.specs.Prelude.{◌≡◌, ℕ, List, [], ◌∷◌, ◌++◌, take, Option, Some, None}
 use Rattle.std.specs.Prelude.{Result, Ok, Err}
 
 -- A list that is known afterwards was known before, and has gained these at its end. It may be not known afterwards, as
@@ -39,6 +39,11 @@ pub record LastFailed (may_flush : Type 0) (old new : Option (List Call)) : Type
   pub calls : List Call
   pub gained : Gains old new (calls ++ Failed ∷ [])
   pub well : AllWell may_flush calls
+
+-- the bytes that a read gave, by its answer and by what its buffer holds after it
+abbrev pub bytes_given : {E : Type 0} → Result ℕ E → List ℕ → List ℕ
+bytes_given (Ok count) buffer = take count buffer
+bytes_given (Err error) buffer = []
 
 -- what a read gave: a number of bytes, or None if it failed
 abbrev pub what_came : {E : Type 0} → Result ℕ E → Option ℕ

@@ -14,7 +14,7 @@ use Rattle.s2calc.specs.Run.{Known, Ran, AllLines, Steps}
 -- a run that finishes has answered the lines of all bytes that its reader tells
 abbrev pub TellsWhole : Type 0
 TellsWhole =
-    (old new : Known) (ran : Ran old new) (script : List ℕ) → AllLines ran → old.input ≡ Some script
+    (old new : Known) (ran : Ran old new) (script : List ℕ) → AllLines ran → old.input.ahead ≡ Some script
     → Steps old.world (lines script) ran.replies new.world × Appends old.output new.output (texts ran.replies)
 
 -- where nothing waits in a buffer, all that was written has reached the writer below

@@ -22,8 +22,8 @@ use Rattle.s2calc.specs.Laws.{SameWorld, IsPlain, AllPlain}
 pub record SameStart (old old' : Known) (script out : List ℕ) : Type 0 where
   pub world : SameWorld old.world old'.world
   pub tells : old.world.files.tells ≡ true
-  pub input : old.input ≡ Some script
-  pub input' : old'.input ≡ Some script
+  pub input : old.input.ahead ≡ Some script
+  pub input' : old'.input.ahead ≡ Some script
   pub output : old.output ≡ Some out
   pub output' : old'.output ≡ Some out
 
@@ -47,7 +47,8 @@ OneEnd =
 -- was answered `error memory` or `error file`.
 abbrev pub OneEndOfInput : Type 0
 OneEndOfInput =
-    (old old' new new' : Known) (script out : List ℕ) → SameStart old old' script out → new.input ≡ new'.input
+    (old old' new new' : Known) (script out : List ℕ) → SameStart old old' script out →
+    new.input.ahead ≡ new'.input.ahead
     → (run : Ran old new) (other : Ran old' new') → WholeLines run → WholeLines other → AllPlain run.replies →
     AllPlain other.replies
     → SameEnd new new' run.replies other.replies

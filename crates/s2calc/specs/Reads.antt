@@ -1,6 +1,20 @@
 -- The reads of a run.
 use Rattle.std.specs.Prelude.{◌≡◌, ◌<◌, ◌-◌, ◌^◌, ℕ, List, [], ◌∷◌, ◌++◌, ◌⊎◌, length, Option, Some, None}
+use Rattle.std.specs.Io.KnownBytes.{Consumes}
 use Rattle.s2calc.specs.Calls.{Gains}
+
+-- what is known of a reader: the bytes that it will give, and all bytes that it gave so far
+pub record ReaderState : Type 0 where
+  pub ahead : Option (List ℕ)
+  pub given : Option (List ℕ)
+
+-- what is known of this reader
+abbrev pub input_of : {R : Type 0} → (R → Option (List ℕ)) → (R → Option (List ℕ)) → R → ReaderState
+input_of ahead given reader = record { ahead = ahead reader; given = given reader }
+
+-- the reader gave these bytes
+abbrev pub Gives : ReaderState → ReaderState → List ℕ → Type 0
+Gives old new bytes = Consumes old.ahead new.ahead bytes × Gains old.given new.given bytes
 
 -- each of these reads gave some bytes
 abbrev pub AllGave : List (Option ℕ) → Type 0

@@ -1,7 +1,7 @@
 -- What a run does: how far it came, and what its result says of that.
 use Rattle.std.specs.Prelude.{◌≡◌, ◌<◌, ℕ, ◌⊎◌, true, false, List, [], ◌∷◌, ◌++◌, length, Option, None, Some}
 use Rattle.std.specs.Prelude.{Result, Ok, Err}
-use Rattle.std.specs.Io.KnownBytes.{Appends, Consumes, IsAtEnd}
+use Rattle.std.specs.Io.KnownBytes.{Appends, IsAtEnd}
 use Rattle.s2calc.specs.World.{World}
 use Rattle.s2calc.specs.declared.engine.Tally.{Tally}
 use Rattle.s2calc.specs.declared.fault.RunFault.{RunFault}
@@ -12,7 +12,7 @@ use Rattle.s2calc.specs.Replies.{Reply, texts, tally_of}
 use Rattle.s2calc.specs.Notes.{Noted, WritesNotes, notes_of}
 use Rattle.s2calc.specs.Step.{Step, asks_for_file}
 use Rattle.s2calc.specs.Calls.{Call, NoneFailed, LastFlushed, LastFailed}
-use Rattle.s2calc.specs.Reads.{ReadsLast, ReadsStop, ReadsWell}
+use Rattle.s2calc.specs.Reads.{ReaderState, Gives, ReadsLast, ReadsStop, ReadsWell}
 
 -- these lines, carried out one after another, may have these replies
 abbrev pub Steps : World → List (List ℕ) → List Reply → World → Type 0
@@ -22,19 +22,18 @@ Steps old [] (reply ∷ replies) new = ⊥
 Steps old (line ∷ ls) [] new = ⊥
 
 -- What is known of a run before or after it: the state of the editor and the files; the bytes that the reader will
--- give, and what each read gave; the bytes that were written, and the calls of the writer; and the notes on refused
--- lines.
+-- give and those that it gave, and how each read ended; the bytes that were written, and the calls of the writer; and
+-- the notes on refused lines.
 pub record Known : Type 0 where
   pub world : World
-  pub input : Option (List ℕ)
+  pub input : ReaderState
   pub reads : Option (List (Option ℕ))
   pub output : Option (List ℕ)
   pub calls : Option (List Call)
   pub noted : Noted
 
 -- what is known, in the order of `Known`
-abbrev pub known : World → Option (List ℕ) → Option (List (Option ℕ)) → Option (List ℕ) → Option (List Call) → Noted →
-    Known
+abbrev pub known : World → ReaderState → Option (List (Option ℕ)) → Option (List ℕ) → Option (List Call) → Noted → Known
 known world input reads output calls noted =
     record { world = world; input = input; reads = reads; output = output; calls = calls; noted = noted }
 
@@ -55,7 +54,7 @@ pub record Ran (old new : Known) : Type 0 where
   pub replies : List Reply
   pub written : List ℕ
   pub left : List ℕ
-  pub read : Consumes old.input new.input script
+  pub read : Gives old.input new.input script
   pub steps : Steps old.world done replies new.world
   pub appended : Appends old.output new.output written
   pub texts_are : texts replies ≡ written ++ left
@@ -65,12 +64,12 @@ pub record Ran (old new : Known) : Type 0 where
 -- the lines are the first of those that were read to their end: each ends in a newline, or they are all lines and the
 -- script has ended
 abbrev pub WereReadWhole : Option (List ℕ) → List ℕ → List (List ℕ) → Type 0
-WereReadWhole input script ls = ((more : List ℕ) × BeginsWith script ls more) ⊎ ((ls ≡ lines script) × IsAtEnd input)
+WereReadWhole ahead script ls = ((more : List ℕ) × BeginsWith script ls more) ⊎ ((ls ≡ lines script) × IsAtEnd ahead)
 
 module _ {old new : Known} where
   -- the script has ended, all its lines were carried out, and all answers were written
   abbrev pub AllLines : Ran old new → Type 0
-  AllLines ran = (ran.done ≡ lines ran.script) × IsAtEnd new.input × (ran.left ≡ [])
+  AllLines ran = (ran.done ≡ lines ran.script) × IsAtEnd new.input.ahead × (ran.left ≡ [])
 
   -- exactly the lines that were read whole were carried out, and exactly their answers were written
   abbrev pub WholeLines : Ran old new → Type 0
@@ -78,14 +77,14 @@ module _ {old new : Known} where
 
   -- the last line that was carried out was read to its end, and some bytes of its answer are missing
   abbrev pub InsideAnswer : Ran old new → Type 0
-  InsideAnswer ran = WereReadWhole new.input ran.script ran.done × (0 < length ran.left)
+  InsideAnswer ran = WereReadWhole new.input.ahead ran.script ran.done × (0 < length ran.left)
 
   -- A command with a file was read to its end. The lines before it were carried out, or the command too, and exactly
   -- their answers were written.
   pub record BesideFile (ran : Ran old new) : Type 0 where
     pub before : List (List ℕ)
     pub line : List ℕ
-    pub read_whole : WereReadWhole new.input ran.script (before ++ line ∷ [])
+    pub read_whole : WereReadWhole new.input.ahead ran.script (before ++ line ∷ [])
     pub has_file : asks_for_file (line_of line) ≡ true
     pub done_are : (ran.done ≡ before) ⊎ (ran.done ≡ before ++ line ∷ [])
     pub none_left : ran.left ≡ []

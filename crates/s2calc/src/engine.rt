@@ -9,6 +9,7 @@ ghost use Rattle.s2calc.specs.Working.Execute.{IsOutcome};
 ghost use Rattle.s2script.specs.Lines.{IsUnbroken};
 ghost use Rattle.s2script.specs.Working.Lines.{EndsLineAt};
 ghost use Rattle.s2calc.specs.Run.{Runs, known, no_notes};
+ghost use Rattle.s2calc.specs.Reads.{input_of};
 ghost use Rattle.s2calc.specs.Buffered.{written_to};
 ghost use Rattle.s2calc.specs.World.{world};
 ghost use Rattle.s2calc.specs.Working.Calls.{FailedIfErr, FlushedIfOk};
@@ -131,9 +132,9 @@ pub fn run<R: Source, W: Sink, S: Shelf>(
     shelf: &mut S,
 ) -> Result<Tally, RunFault>
     ensures runs { Runs ⊥
-        (known (world editor.old (S.files shelf.old)) (R.remaining reader.old) (R.reads reader.old)
+        (known (world editor.old (S.files shelf.old)) (input_of R.remaining R.given reader.old) (R.reads reader.old)
         (W.contents writer.old) (W.calls writer.old) no_notes)
-        (known (world editor.new (S.files shelf.new)) (R.remaining reader.new) (R.reads reader.new)
+        (known (world editor.new (S.files shelf.new)) (input_of R.remaining R.given reader.new) (R.reads reader.new)
         (W.contents writer.new) (W.calls writer.new) no_notes) result }
     ensures before { EachList (λ u. IsNormalForm (has_leaf u) u) editor.old }
     ensures after { EachList (λ u. IsNormalForm (has_leaf u) u) editor.new }
@@ -157,9 +158,9 @@ pub fn run_observed<R: Source, W: Sink, S: Shelf, O: Observer<W, S>>(
     observer: &mut O,
 ) -> Result<Tally, RunFault>
     ensures runs { (run : Runs ⊥
-        (known (world editor.old (S.files shelf.old)) (R.remaining reader.old) (R.reads reader.old)
+        (known (world editor.old (S.files shelf.old)) (input_of R.remaining R.given reader.old) (R.reads reader.old)
         (W.contents writer.old) (W.calls writer.old) no_notes)
-        (known (world editor.new (S.files shelf.new)) (R.remaining reader.new) (R.reads reader.new)
+        (known (world editor.new (S.files shelf.new)) (input_of R.remaining R.given reader.new) (R.reads reader.new)
         (W.contents writer.new) (W.calls writer.new) no_notes) result)
         × Ordered W.contents W.calls (λ _. Unit {0}) S.files ⊥ (world editor.old (S.files shelf.old)) writer.old
         run.ran (O.seen observer.old) (O.seen observer.new) result }
@@ -199,9 +200,9 @@ pub fn run_promptly<R: Source, W: Sink, S: Shelf>(
     shelf: &mut S,
 ) -> Result<Tally, RunFault>
     ensures runs { Runs (Unit {0})
-        (known (world editor.old (S.files shelf.old)) (R.remaining reader.old) (R.reads reader.old)
+        (known (world editor.old (S.files shelf.old)) (input_of R.remaining R.given reader.old) (R.reads reader.old)
         (written_to W.contents writer.old) (W.calls writer.old.writer) no_notes)
-        (known (world editor.new (S.files shelf.new)) (R.remaining reader.new) (R.reads reader.new)
+        (known (world editor.new (S.files shelf.new)) (input_of R.remaining R.given reader.new) (R.reads reader.new)
         (written_to W.contents writer.new) (W.calls writer.new.writer) no_notes) result }
     ensures nothing_waits { MatchResult result (λ _. writer.new.waiting ≡ []) (λ fault. fault ≡ RunFault.Input →
         writer.new.waiting ≡ []) }
@@ -226,9 +227,9 @@ pub fn run_promptly_observed<R: Source, W: Sink, S: Shelf, O: Observer<AnswerBuf
     observer: &mut O,
 ) -> Result<Tally, RunFault>
     ensures runs { (run : Runs (Unit {0})
-        (known (world editor.old (S.files shelf.old)) (R.remaining reader.old) (R.reads reader.old)
+        (known (world editor.old (S.files shelf.old)) (input_of R.remaining R.given reader.old) (R.reads reader.old)
         (written_to W.contents writer.old) (W.calls writer.old.writer) no_notes)
-        (known (world editor.new (S.files shelf.new)) (R.remaining reader.new) (R.reads reader.new)
+        (known (world editor.new (S.files shelf.new)) (input_of R.remaining R.given reader.new) (R.reads reader.new)
         (written_to W.contents writer.new) (W.calls writer.new.writer) no_notes) result)
         × Ordered (written_to W.contents) (λ b. W.calls b.writer) (λ b. b.waiting ≡ []) S.files (Unit {0})
         (world editor.old (S.files shelf.old)) writer.old run.ran (O.seen observer.old) (O.seen observer.new) result }
@@ -267,9 +268,9 @@ pub fn run_explained<R: Source, W: Sink, S: Shelf, N: Sink>(
     notes: &mut NoteWriter<N>,
 ) -> Result<Tally, RunFault>
     ensures runs { Runs (Unit {0})
-        (known (world editor.old (S.files shelf.old)) (R.remaining reader.old) (R.reads reader.old)
+        (known (world editor.old (S.files shelf.old)) (input_of R.remaining R.given reader.old) (R.reads reader.old)
         (written_to W.contents writer.old) (W.calls writer.old.writer) (noted_by N.contents notes.old))
-        (known (world editor.new (S.files shelf.new)) (R.remaining reader.new) (R.reads reader.new)
+        (known (world editor.new (S.files shelf.new)) (input_of R.remaining R.given reader.new) (R.reads reader.new)
         (written_to W.contents writer.new) (W.calls writer.new.writer) (noted_by N.contents notes.new)) result }
     ensures nothing_waits { MatchResult result (λ _. writer.new.waiting ≡ []) (λ fault. fault ≡ RunFault.Input →
         writer.new.waiting ≡ []) }
@@ -298,9 +299,9 @@ pub fn run_explained_observed<
     observer: &mut O,
 ) -> Result<Tally, RunFault>
     ensures runs { (run : Runs (Unit {0})
-        (known (world editor.old (S.files shelf.old)) (R.remaining reader.old) (R.reads reader.old)
+        (known (world editor.old (S.files shelf.old)) (input_of R.remaining R.given reader.old) (R.reads reader.old)
         (written_to W.contents writer.old) (W.calls writer.old.writer) (noted_by N.contents notes.old))
-        (known (world editor.new (S.files shelf.new)) (R.remaining reader.new) (R.reads reader.new)
+        (known (world editor.new (S.files shelf.new)) (input_of R.remaining R.given reader.new) (R.reads reader.new)
         (written_to W.contents writer.new) (W.calls writer.new.writer) (noted_by N.contents notes.new)) result)
         × Ordered (written_to W.contents) (λ b. W.calls b.writer) (λ b. b.waiting ≡ []) S.files (Unit {0})
         (world editor.old (S.files shelf.old)) writer.old run.ran (O.seen observer.old) (O.seen observer.new) result }
@@ -329,9 +330,9 @@ fn run_with<R: Source, W: Sink, S: Shelf, F: Flushing<W>, N: Notes, O: Observer<
     observer: &mut O,
 ) -> Result<Tally, RunFault>
     ensures runs { (run : Runs F.may_fail
-        (known (world editor.old (S.files shelf.old)) (R.remaining reader.old) (R.reads reader.old)
+        (known (world editor.old (S.files shelf.old)) (input_of R.remaining R.given reader.old) (R.reads reader.old)
         (W.contents writer.old) (W.calls writer.old) (N.noted notes.old))
-        (known (world editor.new (S.files shelf.new)) (R.remaining reader.new) (R.reads reader.new)
+        (known (world editor.new (S.files shelf.new)) (input_of R.remaining R.given reader.new) (R.reads reader.new)
         (W.contents writer.new) (W.calls writer.new) (N.noted notes.new)) result)
         × Ordered W.contents W.calls F.is_sent S.files F.may_fail (world editor.old (S.files shelf.old)) writer.old
         run.ran (O.seen observer.old) (O.seen observer.new) result }
@@ -370,7 +371,8 @@ fn run_over<R: Source, W: Sink, S: Shelf, F: Flushing<W>, N: Notes, O: Observer<
     requires { 0 < length input.old }
     ensures same { SameReferences desk.old desk.new }
     ensures runs { RunsOver W.contents W.calls F.is_sent F.may_fail S.files N.noted O.seen desk.old
-        (R.remaining reader.old) (R.reads reader.old) desk.new (R.remaining reader.new) (R.reads reader.new) result }
+        (input_of R.remaining R.given reader.old) (R.reads reader.old) desk.new
+        (input_of R.remaining R.given reader.new) (R.reads reader.new) result }
     ensures sent { MatchResult result (λ _. F.is_sent desk.new.writer.now) (λ fault. fault ≡ RunFault.Input →
         F.is_sent desk.new.writer.now) }
 {

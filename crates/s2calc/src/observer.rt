@@ -3,7 +3,7 @@ ghost use Rattle.std.specs.Prelude.{◌≡◌, List, Option, None, MatchResult};
 ghost use Rattle.std.specs.Io.{ReadsAtMost};
 ghost use Rattle.std.specs.Io.KnownBytes.{ReadConsumes};
 ghost use Rattle.std.specs.Prelude.{[], ◌∷◌};
-ghost use Rattle.s2calc.specs.Calls.{Gains, what_came};
+ghost use Rattle.s2calc.specs.Calls.{Gains, bytes_given, what_came};
 ghost use Rattle.s2calc.specs.Working.Seen.{Settled, Unsettled};
 ghost use Rattle.s2calc.specs.Moments.{Moment, LineBegins, LineEnds, read_event, AddsOne};
 
@@ -29,6 +29,7 @@ pub trait Observer<W: Sink, S: Shelf> {
     ) -> io::Result<usize>
         ensures bound { ReadsAtMost result buf.new }
         ensures bytes { ReadConsumes (R.remaining reader.old) (R.remaining reader.new) result buf.new }
+        ensures given { Gains (R.given reader.old) (R.given reader.new) (bytes_given result buf.new) }
         ensures call { Gains (R.reads reader.old) (R.reads reader.new) (what_came result ∷ []) }
         ensures moment { AddsOne (seen self.old) (seen self.new) (read_event result buf.new) writer.now shelf.now };
 

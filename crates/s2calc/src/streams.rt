@@ -2,7 +2,7 @@
 ghost use Rattle.std.specs.Prelude.{◌≡◌, ◌<◌, ℕ, List, [], ◌∷◌, Option, None, OnOk, OnErr, IfOk, length};
 ghost use Rattle.std.specs.Io.{ReadsAtMost, WritesAtMost};
 ghost use Rattle.std.specs.Io.KnownBytes.{ReadConsumes, WriteAppends, Keeps};
-ghost use Rattle.s2calc.specs.Calls.{Call, Gains, NoneFailed, LastFlushed, LastFailed, what_came};
+ghost use Rattle.s2calc.specs.Calls.{Call, Gains, NoneFailed, LastFlushed, LastFailed, bytes_given, what_came};
 
 use std::io;
 use std::io::{Read, Write};
@@ -12,6 +12,9 @@ pub trait Source {
     // the bytes that reads will give from here on, if they are known
     ghost remaining: { Self → Option (List ℕ) } = { λ _. None };
 
+    // all bytes that its calls gave so far, if they are known
+    ghost given: { Self → Option (List ℕ) } = { λ _. None };
+
     // what each call gave so far, if that is known: a number of bytes, or None if it failed
     ghost reads: { Self → Option (List (Option ℕ)) } = { λ _. None };
 
@@ -19,6 +22,7 @@ pub trait Source {
     fn read(&mut self, buf: &mut [u8]) -> io::Result<usize>
         ensures bound { ReadsAtMost result buf.new }
         ensures bytes { ReadConsumes (remaining self.old) (remaining self.new) result buf.new }
+        ensures given { Gains (given self.old) (given self.new) (bytes_given result buf.new) }
         ensures call { Gains (reads self.old) (reads self.new) (what_came result ∷ []) };
 }
 

@@ -153,14 +153,18 @@ module _ {V S : Type 0} (taken : V → List ℕ) (called : V → List Call) (fil
   all_seen {P} old new none a =
       subst P (sym (a.3 ∙ ap (λ xs. xs ++ a.1) (sym (ap (inside []) a.2) ∙ none))) a.4
 
-  module _ (now : World) (last : Buffered V) (input_old input_new : Option (List ℕ)) (reads_old reads_new : List
-      (Option ℕ))
-      (noted_old noted_new : Noted) (not_read : reads_old ≡ []) where
+  module _ (now : World) (last : Buffered V) (ahead_old ahead_new : Option (List ℕ)) (given_old given_new : List ℕ)
+      (reads_old reads_new : List (Option ℕ)) (noted_old noted_new : Noted) (not_given : given_old ≡ [])
+      (not_read : reads_old ≡ []) where
     abbrev old : Known
-    old = known start input_old (Some reads_old) (contents first) (known_calls first) noted_old
+    old =
+        known start (record { ahead = ahead_old; given = Some given_old }) (Some reads_old) (contents first)
+        (known_calls first) noted_old
 
     abbrev new : Known
-    new = known now input_new (Some reads_new) (contents last) (known_calls last) noted_new
+    new =
+        known now (record { ahead = ahead_new; given = Some given_new }) (Some reads_new) (contents last)
+        (known_calls last) noted_new
 
     module _ (ran : Ran old new) where
       pub written_is : taken last.writer ++ last.waiting ≡ ran.written
@@ -177,30 +181,33 @@ module _ {V S : Type 0} (taken : V → List ℕ) (called : V → List Call) (fil
         all_but_last = (ran.all_but_last.0, written_is ∙ ran.all_but_last.1);
       }
 
-      module _ (script : List ℕ) (read : script ≡ ran.script) where
-        read_whole : (ls : List (List ℕ)) → run.WereReadWhole input_new ran.script ls → WereReadWhole script ls
-        read_whole ls (inl p) = inl (p.0, subst (λ (s : List ℕ). BeginsWith s ls p.0) (sym read) p.1)
-        read_whole ls (inr p) = inr (p.0 ∙ ap lines (sym read))
+      -- the script is what the reads gave
+      script_is : given_new ≡ ran.script
+      script_is = gained given_old given_new ran.script not_given ran.read.1
 
-        all_lines : run.AllLines ran → AllLines script did
-        all_lines a = (a.0 ∙ ap lines (sym read), a.2)
+      read_whole : (ls : List (List ℕ)) → run.WereReadWhole ahead_new ran.script ls → WereReadWhole given_new ls
+      read_whole ls (inl p) = inl (p.0, subst (λ (s : List ℕ). BeginsWith s ls p.0) (sym script_is) p.1)
+      read_whole ls (inr p) = inr (p.0 ∙ ap lines (sym script_is))
 
-        whole : run.WholeLines ran → WholeLines script did
-        whole w = (w.0 ∙ ap whole_lines (sym read), w.1)
+      all_lines : run.AllLines ran → AllLines given_new did
+      all_lines a = (a.0 ∙ ap lines (sym script_is), a.2)
 
-        stops : run.InsideAnswer ran ⊎ run.AllLines ran ⊎ (Unit {0} × (run.WholeLines ran ⊎ run.BesideFile ran))
-            → InsideAnswer script did ⊎ AllLines script did ⊎ WholeLines script did ⊎ BesideFile script did
-        stops (inl p) = inl (read_whole ran.done p.0, p.1)
-        stops (inr (inl a)) = inr (inl (all_lines a))
-        stops (inr (inr (_, inl w))) = inr (inr (inl (whole w)))
-        stops (inr (inr (_, inr b))) = inr (inr (inr (record {
-          before = b.before;
-          line = b.line;
-          read_whole = read_whole (b.before ++ b.line ∷ []) b.read_whole;
-          has_file = b.has_file;
-          done_are = b.done_are;
-          none_left = b.none_left;
-        })))
+      whole : run.WholeLines ran → WholeLines given_new did
+      whole w = (w.0 ∙ ap whole_lines (sym script_is), w.1)
+
+      stops : run.InsideAnswer ran ⊎ run.AllLines ran ⊎ (Unit {0} × (run.WholeLines ran ⊎ run.BesideFile ran))
+          → InsideAnswer given_new did ⊎ AllLines given_new did ⊎ WholeLines given_new did ⊎ BesideFile given_new did
+      stops (inl p) = inl (read_whole ran.done p.0, p.1)
+      stops (inr (inl a)) = inr (inl (all_lines a))
+      stops (inr (inr (_, inl w))) = inr (inr (inl (whole w)))
+      stops (inr (inr (_, inr b))) = inr (inr (inr (record {
+        before = b.before;
+        line = b.line;
+        read_whole = read_whole (b.before ++ b.line ∷ []) b.read_whole;
+        has_file = b.has_file;
+        done_are = b.done_are;
+        none_left = b.none_left;
+      })))
 
     counted : (moments : List (Moment (Buffered V) S)) (done : ℕ) (left : List ℕ) (ended : ℕ) →
         ended_in moments ≡ ended → ((ended ≡ done) × (left ≡ [])) ⊎ (ended + 1 ≡ done)
@@ -212,14 +219,15 @@ module _ {V S : Type 0} (taken : V → List ℕ) (called : V → List Call) (fil
         → (runs : (r : Runs (Unit {0}) old new result)
         × Ordered contents known_calls sent files (Unit {0}) start first r.ran (Some seen_old) (Some seen_new) result)
         → MatchResult result (λ _. last.waiting ≡ []) (λ fault. fault ≡ Input → last.waiting ≡ [])
-        → RunsListed taken called files reads_new start now seen_new last result
+        → RunsListed taken called files given_new reads_new start now seen_new last result
     process seen_old seen_new (Ok tally) none (r, ordered) waits =
         let s = all_seen seen_old seen_new none ordered in
         let e = r.ends in
         record {
           did = did r.ran;
+          read = s.0.read ∙ sym (script_is r.ran);
           ends = (
-            all_lines r.ran (bytes_read seen_new) s.0.read e.0,
+            all_lines r.ran e.0,
             e.1,
             waits,
             reads_last reads_old reads_new not_read (Some 0) e.2,
@@ -234,8 +242,9 @@ module _ {V S : Type 0} (taken : V → List ℕ) (called : V → List Call) (fil
         let e = r.ends in
         record {
           did = did r.ran;
+          read = s.read ∙ sym (script_is r.ran);
           ends = (
-            whole r.ran (bytes_read seen_new) s.read e.0,
+            whole r.ran e.0,
             waits refl,
             reads_stop reads_old reads_new not_read e.1,
             none_failed (called first.writer) (called last.writer) not_called e.2,
@@ -248,8 +257,9 @@ module _ {V S : Type 0} (taken : V → List ℕ) (called : V → List Call) (fil
         let e = r.ends in
         record {
           did = did r.ran;
+          read = s.read ∙ sym (script_is r.ran);
           ends = (
-            stops r.ran (bytes_read seen_new) s.read e.0,
+            stops r.ran e.0,
             reads_well reads_old reads_new not_read e.1,
             last_failed (called first.writer) (called last.writer) not_called e.2,
           );
@@ -261,6 +271,8 @@ module _ {V S : Type 0} (taken : V → List ℕ) (called : V → List Call) (fil
         let e = r.ends in
         record {
           did = did r.ran;
+          read = ap (λ (ms : List (Moment (Buffered V) S)). bytes_read ms) s
+              ∙ sym (ap (λ (k : Known). inside [] k.input.given) e.1 ∙ not_given);
           ends = (
             e.0,
             s,

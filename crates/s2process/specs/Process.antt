@@ -54,18 +54,18 @@ module _ {start now : World} {written : List ℕ} (script : List ℕ) where
     pub done_are : (did.done ≡ before) ⊎ (did.done ≡ before ++ line ∷ [])
     pub none_left : did.left ≡ []
 
--- `called` says how the calls of a writer ended, and `reads` what the reads gave
-module _ {V S : Type 0} (called : V → List Call) (reads : List (Option ℕ)) {start now : World} {written : List ℕ}
-    (did : Did start now written) (moments : List (Moment (Buffered V) S)) (buffer : Buffered V) where
+-- `called` says how the calls of a writer ended, `script` is what the reads gave, and `reads` how each of them ended
+module _ {V S : Type 0} (called : V → List Call) (script : List ℕ) (reads : List (Option ℕ)) {start now : World}
+    {written : List ℕ} (did : Did start now written) (moments : List (Moment (Buffered V) S))
+    (buffer : Buffered V) where
   -- What a run did, by its result: which lines were carried out, how the reads and the calls of the writer ended, and
   -- where nothing waits in the buffer. After `Memory` nothing was called.
   abbrev pub Ends : Result Tally RunFault → Type 0
-  Ends (Ok tally) = AllLines (bytes_read moments) did × (tally ≡ tally_of did.replies) × (buffer.waiting ≡ [])
+  Ends (Ok tally) = AllLines script did × (tally ≡ tally_of did.replies) × (buffer.waiting ≡ [])
       × ReadsLast (Some 0) reads × HasEnded moments × LastFlushed (called buffer.writer)
-  Ends (Err Input) = WholeLines (bytes_read moments) did × (buffer.waiting ≡ []) × ReadsStop reads
+  Ends (Err Input) = WholeLines script did × (buffer.waiting ≡ []) × ReadsStop reads
       × NoneFailed (called buffer.writer)
-  Ends (Err Output) = (InsideAnswer (bytes_read moments) did ⊎ AllLines (bytes_read moments) did
-      ⊎ WholeLines (bytes_read moments) did ⊎ BesideFile (bytes_read moments) did)
+  Ends (Err Output) = (InsideAnswer script did ⊎ AllLines script did ⊎ WholeLines script did ⊎ BesideFile script did)
       × ReadsWell reads × LastFailed (called buffer.writer)
   Ends (Err Memory) = (did.done ≡ []) × (moments ≡ []) × (reads ≡ []) × (called buffer.writer ≡ [])
 
@@ -76,13 +76,14 @@ module _ {V S : Type 0} (called : V → List Call) (reads : List (Option ℕ)) {
       × (((ended_in moments ≡ length did.done) × (did.left ≡ [])) ⊎ (ended_in moments + 1 ≡ length did.done))
   Counts result = (begun_in moments ≡ length did.done) × (ended_in moments ≡ length did.done)
 
--- What a run did that was carried out over a reader and a writer that had not been called: the bytes that its reads
--- gave are its script, `reads` says how each ended, each moment came where it may, and the run ended as its result
--- says.
+-- What a run did that was carried out over a reader and a writer that had not been called: `script` is all bytes that
+-- the reads gave, which are those that were seen, `reads` says how each ended, each moment came where it may, and the
+-- run ended as its result says.
 pub record RunsListed {V S : Type 0} (taken : V → List ℕ) (called : V → List Call) (files : S → Files)
-    (reads : List (Option ℕ)) (start now : World) (moments : List (Moment (Buffered V) S)) (buffer : Buffered V)
-    (result : Result Tally RunFault) : Type 0 where
+    (script : List ℕ) (reads : List (Option ℕ)) (start now : World) (moments : List (Moment (Buffered V) S))
+    (buffer : Buffered V) (result : Result Tally RunFault) : Type 0 where
   pub did : Did start now (taken buffer.writer ++ buffer.waiting)
-  pub ends : Ends called reads did moments buffer result
+  pub read : bytes_read moments ≡ script
+  pub ends : Ends called script reads did moments buffer result
   pub each : EachMay taken called files start [] moments
-  pub counts : Counts called reads did moments buffer result
+  pub counts : Counts called script reads did moments buffer result

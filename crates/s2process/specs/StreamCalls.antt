@@ -56,6 +56,19 @@ read_by TookNot = []
 read_by Flushed = []
 read_by FlushedNot = []
 
+-- the bytes that a read gave
+abbrev pub given_by : StreamCall → List ℕ
+given_by (Gave others bytes) = bytes
+given_by GaveNot = []
+given_by (Took bytes) = []
+given_by TookNot = []
+given_by Flushed = []
+given_by FlushedNot = []
+
+-- all bytes that the reads gave
+abbrev pub given_in : List StreamCall → List ℕ
+given_in list = flat_map given_by list
+
 -- all bytes that the writes took
 abbrev pub taken_in : List StreamCall → List ℕ
 taken_in list = flat_map taken_by list

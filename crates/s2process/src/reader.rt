@@ -2,9 +2,9 @@
 ghost use Rattle.std.specs.Prelude.{◌≡◌, ◌<◌, [], ◌∷◌, ◌++◌, Some, OnOk, length};
 ghost use Rattle.std.specs.Io.{ReadsAtMost};
 ghost use Rattle.std.specs.Io.KnownBytes.{ReadConsumes};
-ghost use Rattle.s2calc.specs.Calls.{Gains, what_came};
-ghost use Rattle.s2process.specs.StreamCalls.{read_call, reads_in};
-ghost use Rattle.s2process.specs.Listed.{calls_of_reader};
+ghost use Rattle.s2calc.specs.Calls.{Gains, bytes_given, what_came};
+ghost use Rattle.s2process.specs.StreamCalls.{read_call};
+ghost use Rattle.s2process.specs.Listed.{calls_of_reader, given, reads};
 
 use crate::calls::{CallList, OneCall};
 use s2calc::Source;
@@ -34,7 +34,9 @@ impl<R: Drop> ListedReader<R> {
 impl<R: Source> Source for ListedReader<R> {
     ghost remaining = { λ r. R.remaining r.reader };
 
-    ghost reads = { λ r. Some (reads_in (calls_of_reader r)) };
+    ghost given = { λ r. Some (given r) };
+
+    ghost reads = { λ r. Some (reads r) };
 
     fn read(&mut self, buf: &mut [u8]) -> io::Result<usize>
         ensures bound { ReadsAtMost result buf.new }
@@ -42,8 +44,8 @@ impl<R: Source> Source for ListedReader<R> {
         ensures listed { calls_of_reader self.new
             ≡ calls_of_reader self.old ++ read_call result (length buf.old) buf.new ∷ [] }
         ensures room { OnOk result (0 < length buf.old) }
-        ensures call { Gains (Some (reads_in (calls_of_reader self.old))) (Some (reads_in (calls_of_reader self.new)))
-            (what_came result ∷ []) }
+        ensures given { Gains (Some (given self.old)) (Some (given self.new)) (bytes_given result buf.new) }
+        ensures call { Gains (Some (reads self.old)) (Some (reads self.new)) (what_came result ∷ []) }
     {
         if buf.is_empty() {
             self.calls = self.calls.and(&OneCall::GaveNot);

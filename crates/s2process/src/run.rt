@@ -1,8 +1,7 @@
 //! A run over streams whose calls are all known.
 ghost use Rattle.std.specs.Prelude.{◌≡◌, false, []};
 ghost use Rattle.s2calc.specs.World.{world};
-ghost use Rattle.s2process.specs.StreamCalls.{reads_in};
-ghost use Rattle.s2process.specs.Listed.{calls_of_reader, calls_of, taken, called, moments_of};
+ghost use Rattle.s2process.specs.Listed.{calls_of_reader, given, reads, calls_of, taken, called, moments_of};
 ghost use Rattle.s2process.specs.Process.{RunsListed};
 ghost use Rattle.s2process.specs.Explained.{Explains};
 
@@ -33,7 +32,7 @@ pub fn run_listed<R: Source, W: Sink, S: Shelf>(
     requires nothing_written { calls_of writer.old.writer ≡ [] }
     requires nothing_waits { writer.old.waiting ≡ [] }
     requires nothing_seen { moments_of witness.old ≡ [] }
-    ensures { RunsListed taken called S.files (reads_in (calls_of_reader reader.new))
+    ensures { RunsListed taken called S.files (given reader.new) (reads reader.new)
         (world editor.old (S.files shelf.old)) (world editor.new (S.files shelf.new)) (moments_of witness.new)
         writer.new result }
 {
@@ -56,7 +55,7 @@ pub fn run_explained_listed<R: Source, W: Sink, S: Shelf, N: Sink>(
     requires no_notes { calls_of notes.old.writer ≡ [] }
     requires not_stopped { notes.old.stopped ≡ false }
     requires nothing_seen { moments_of witness.old ≡ [] }
-    ensures { (runs : RunsListed taken called S.files (reads_in (calls_of_reader reader.new))
+    ensures { (runs : RunsListed taken called S.files (given reader.new) (reads reader.new)
         (world editor.old (S.files shelf.old)) (world editor.new (S.files shelf.new)) (moments_of witness.new)
         writer.new result)
         × Explains runs.did (taken notes.new.writer) notes.new.stopped }

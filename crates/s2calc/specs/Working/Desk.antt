@@ -12,6 +12,7 @@ use Rattle.s2calc.specs.Replies.{Reply}
 use Rattle.s2calc.specs.Notes.{Noted}
 use Rattle.s2calc.specs.Step.{asks_for_file}
 use Rattle.s2calc.specs.Calls.{Call}
+use Rattle.s2calc.specs.Reads.{ReaderState}
 use Rattle.s2calc.specs.Moments.{Moment, Adds}
 use Rattle.s2calc.specs.Run.{Known, known, Runs}
 use Rattle.s2calc.specs.Order.{Ordered}
@@ -36,7 +37,7 @@ module _ {W S N O : Type 0} where
 
   -- what is known of a run, with what is known of its reader: the bytes to come, and the reads
   abbrev pub known_at : (W → Option (List ℕ)) → (W → Option (List Call)) → (S → Files) → (N → Noted) → Desk W S N O →
-      Option (List ℕ) → Option (List (Option ℕ)) → Known
+      ReaderState → Option (List (Option ℕ)) → Known
   known_at contents calls files noted desk input reads =
       known (world_at files desk) input reads (contents desk.writer.now) (calls desk.writer.now) (noted desk.notes.now)
 
@@ -88,7 +89,7 @@ module _ {W S N O : Type 0} where
         (Saw old (LastSeen contents calls is_sent files may_flush start.world script replies old.writer.now) new)
 
     -- what a run does, and in which order; of its reader the bytes to come and the reads are given, before it and after
-    abbrev pub RunsOver : Desk W S N O → Option (List ℕ) → Option (List (Option ℕ)) → Desk W S N O → Option (List ℕ) →
+    abbrev pub RunsOver : Desk W S N O → ReaderState → Option (List (Option ℕ)) → Desk W S N O → ReaderState →
         Option (List (Option ℕ)) → Result Tally RunFault → Type 0
     RunsOver old input reads new input_left reads_then result =
         (run : Runs may_flush (known_at contents calls files noted old input reads)

@@ -1,5 +1,5 @@
 use Rattle.std.proofs.Common.{ℕ, ◌+◌, [], ◌++◌, None, length, take, ap, refl, subst, arith, inl, inr}
-use Rattle.std.proofs.KnownBytes.{Consumes-nil, Appends-nil, Consumes-trans, Consumes-kept, Appends-kept}
+use Rattle.std.proofs.KnownBytes.{Appends-nil, Appends-kept}
 use Rattle.std.proofs.lemmas.Result.{err_from_is_err_and, MatchResult-weaker}
 use Rattle.s2script.specs.Lines.{whole_lines}
 use Rattle.s2calc.specs.Reads.{ReadsOn}
@@ -9,7 +9,8 @@ use Rattle.s2calc.specs.Working.Desk.{world_at}
 use Rattle.s2calc.proofs.CallLemmas.{none_failed_none, none_failed_more, last_failed_after}
 use Rattle.s2calc.proofs.CallLemmas.{reads_on_none, reads_on_more, reads_last, reads_end}
 use Rattle.s2calc.proofs.DeskLemmas.{SameReferences-trans}
-use Rattle.s2calc.proofs.ReadLemmas.{Consumes-none, Appends-texts, stops_reading, stops_before_read, stops_in_chunk}
+use Rattle.s2calc.proofs.ReadLemmas.{Gives-nil, Gives-none, Gives-trans, Gives-kept, Appends-texts}
+use Rattle.s2calc.proofs.ReadLemmas.{stops_reading, stops_before_read, stops_in_chunk}
 use Rattle.s2calc.proofs.TakeInLemmas.{Stands-start}
 use Rattle.s2calc.proofs.OrderLemmas.{Adds-none, Adds-trans, SeenSoFar-start, SeenSoFar-failed}
 use Rattle.s2calc.proofs.OrderLemmas.{InOrder-read, InOrder-end, Runs-end}
@@ -20,7 +21,7 @@ loop-init g c =
     let new = c.new-progress.ensures in (
       [],
       [],
-      Consumes-nil _,
+      Gives-nil _,
       Stands-start _ _ new.kept new.tally new.lines,
       Appends-nil _,
       none_failed_none _ _,
@@ -49,7 +50,8 @@ returns-in-Ok-eq0-clause-runs g c =
     let none = c.in-Ok-eq0.field-0-test in
     let ended = c.finish.ensures.finishes _ i.0 i.1 i.3 in
     Runs-end g.W.Sink.contents g.W.Sink.calls g.F.Flushing.is_sent g.S.Shelf.files g.F.Flushing.may_fail _ _ _ i.0 i.1 _
-    _ _ _ _ c.finish.result (Consumes-none _ _ _ i.0 _ c.in-Ok-eq0.field-0 none i.2 read.0)
+    _ _ _ _ c.finish.result (Gives-none _ _ _ i.0 _ c.in-Ok-eq0.field-0 none i.2
+    (read.0, c.in-Ok-eq0.ensures.given))
     (read.1 none (omega arith)) (Appends-kept _ _ _ _ i.4 gone_out.kept)
     (reads_end _ _ _ _ _ i.6 c.in-Ok-eq0.ensures.call none) (none_failed_more _ _ _ _ i.5 gone_out.none_failed) ended.0
     c.finish.ensures.calls ended.1
@@ -80,7 +82,7 @@ returns-in_err-take_in-in-Ok-clause-runs g c =
     (world_at g.S.Shelf.files c.args.desk.now) c.args.desk.now.writer.now b begins ends))
     (inl (c.loop.counter + 1, reads_on_more _ _ _ _ _ _ i.6 c.in-Ok.ensures.call (omega arith) refl))
     (last_failed_after _ _ _ _ (none_failed_more _ _ _ _ i.5 gone_out.none_failed) done.calls)
-    _ _ _ i.2 c.in-Ok.ensures.bytes.0 (Appends-kept _ _ _ _ i.4 gone_out.kept)
+    _ _ _ i.2 (c.in-Ok.ensures.bytes.0, c.in-Ok.ensures.given) (Appends-kept _ _ _ _ i.4 gone_out.kept)
     (λ begins ends here. InOrder-read g.W.Sink.contents g.W.Sink.calls g.F.Flushing.is_sent g.S.Shelf.files
     g.F.Flushing.may_fail _ i.0 i.1 _ _ i.3 _ _ _ _ i.4 i.5 gone_out _ _ _ _ _ begins ends i.7 c.in-Ok.ensures.moment
     here) stopped.1)
@@ -103,7 +105,7 @@ pub returns-in-Err-clause-runs : goal.returns-in-Err-clause-runs
 returns-in-Err-clause-runs g c =
     let i = c.loop.invariant in
     let gone_out = c.in_ok-in_between.ensures.settles in (
-      stops_reading _ _ _ i.0 i.1 _ (Consumes-kept _ _ _ i.0 i.2 c.in-Err.ensures.bytes) i.3
+      stops_reading _ _ _ i.0 i.1 _ (Gives-kept _ _ _ i.0 i.2 c.in-Err.ensures.bytes c.in-Err.ensures.given) i.3
           (Appends-kept _ _ _ _ i.4 gone_out.kept) (inl (reads_last _ _ _ _ None i.6 c.in-Err.ensures.call))
           (none_failed_more _ _ _ _ i.5 gone_out.none_failed),
       Adds-trans _ _ _ _ _ _ (λ ms ns seen e. SeenSoFar-failed g.W.Sink.contents g.W.Sink.calls
@@ -119,7 +121,7 @@ loop-preserved g c =
     let s = done.takes_in _ i.0 i.1 i.3 in (
       i.0 ++ take c.in-Ok.count c.read.new.buf,
       i.1 ++ s.0.more,
-      Consumes-trans _ _ _ i.0 _ i.2 c.in-Ok.ensures.bytes.0,
+      Gives-trans _ _ _ i.0 _ i.2 (c.in-Ok.ensures.bytes.0, c.in-Ok.ensures.given),
       s.0.stands,
       Appends-texts _ _ _ i.1 s.0.more (Appends-kept _ _ _ _ i.4 gone_out.kept) s.0.written,
       none_failed_more _ _ _ _ (none_failed_more _ _ _ _ i.5 gone_out.none_failed) done.calls,

@@ -1,10 +1,10 @@
 use Rattle.std.proofs.Common.{ℕ, List}
-use Rattle.std.specs.Io.KnownBytes.{Appends, Consumes}
+use Rattle.std.specs.Io.KnownBytes.{Appends}
 use Rattle.s2calc.specs.Replies.{Reply, texts}
 use Rattle.s2calc.specs.Working.Desk.{SameReferences, world_at, point_at}
 use Rattle.s2calc.specs.Working.Stands.{Stands}
 use Rattle.s2calc.specs.Calls.{NoneFailed}
-use Rattle.s2calc.specs.Reads.{ReadsOn}
+use Rattle.s2calc.specs.Reads.{Gives, input_of, ReadsOn}
 use Rattle.s2calc.specs.Moments.{Adds}
 use Rattle.s2calc.specs.Working.Seen.{SeenSoFar}
 use Rattle.s2calc.proofs.engine.run_over.Given as goal
@@ -13,8 +13,8 @@ use Rattle.s2calc.proofs.engine.run_over.Given as goal
 -- were observed
 abbrev pub invariant-loop : goal.invariant-loop
 invariant-loop g l =
-    (script : List ℕ) × (replies : List Reply) × Consumes (g.R.Source.remaining l.fn.reader)
-    (g.R.Source.remaining l.reader) script
+    (script : List ℕ) × (replies : List Reply) × Gives (input_of g.R.Source.remaining g.R.Source.given l.fn.reader)
+    (input_of g.R.Source.remaining g.R.Source.given l.reader) script
     × Stands (point_at g.S.Shelf.files g.N.Notes.noted l.fn.desk) script replies
     (point_at g.S.Shelf.files g.N.Notes.noted l.desk) l.progress
     × Appends (g.W.Sink.contents l.fn.desk.writer.now) (g.W.Sink.contents l.desk.writer.now) (texts replies)
