@@ -390,6 +390,61 @@ static void cell_questions(Lanes& lanes, const std::string& of, const List& list
   row("contains_cells_in_order_" + of, [&] { return peer_walk(peer, asked); }, all, walked);
 }
 
+// A question to one of many unions.
+struct Asked {
+  size_t list;
+  u64 cell;
+};
+
+// Where the cells lie that are asked for: on the whole sphere, between the first and the last leaf of the union that is
+// asked, or in one of its cells.
+enum Where { ANYWHERE, BETWEEN, INSIDE };
+
+static std::vector<Asked> questions_to(const Lists& lists, Where where) {
+  Random random(9);
+  std::vector<Asked> asked(400000);
+  for (Asked& it : asked) {
+    it.list = random.below(lists.size());
+    const List& list = lists[it.list];
+    size_t first = 0, last = list.size() - 1;
+    if (where == INSIDE) first = last = random.below(list.size());
+    u64 low = limit::least(list[first]), leaves = (limit::most(list[last]) - low) / 2 + 1;
+    u64 leaf = where == ANYWHERE ? random.leaf() : low + 2 * random.below(leaves);
+    it.cell = parent_of(leaf, 20 + static_cast<int>(random.below(11)));
+  }
+  return asked;
+}
+
+static void questions_to_many(Lanes& lanes, const std::string& of, const Lists& lists) {
+  std::vector<S2CellUnion> peers;
+  for (const List& list : lists) peers.push_back(peer_union(list));
+  const std::pair<const char*, Where> places[] = {{"anywhere", ANYWHERE}, {"between", BETWEEN}, {"inside", INSIDE}};
+  for (auto [place, where] : places) {
+    std::vector<Asked> asked = questions_to(lists, where);
+    u64 held[WAYS];
+    auto side = [&](Way way, auto ask) {
+      auto all = [&, way, ask](uint32_t) {
+        held[way] = 0;
+        for (const Asked& it : asked) held[way] += ask(it);
+      };
+      return Side{all, [&, way] { return held[way]; }};
+    };
+    std::string name = "contains_cell_of_" + of + "_" + place;
+    auto theirs = [&](const Asked& it) { return peers[it.list].Contains(S2CellId(it.cell)); };
+    auto call = [&](const Asked& it) {
+      const List& list = lists[it.list];
+      return s2u_contains_cell(list.data(), list.size(), it.cell) == 1;
+    };
+    lanes.row({name.c_str(), asked.size(), 0}, {side(PEER, theirs), Side{}, side(CALL, call), Side{}});
+  }
+}
+
+static Lists often(const Lists& lists, size_t times) {
+  Lists all;
+  while (times-- > 0) all.insert(all.end(), lists.begin(), lists.end());
+  return all;
+}
+
 static List shuffled(List list) {
   Random(5).shuffle(list);
   return list;
@@ -419,6 +474,8 @@ int main(int argc, char** argv) {
     both(lanes, std::string("neighbors_") + cells, Pairs::next(land));
     both(lanes, std::string("twins_") + cells, Pairs::of(land, twin));
     union_of_many(lanes, std::string("land_") + cells, land);
+    questions_to_many(lanes, std::string("200_of_") + cells, land);
+    if (std::string(cells) == "100") questions_to_many(lanes, "10000_of_100", often(land, 50));
   }
   Lists land = read_unions("land_10000");
   List all = union_of(land), turned = union_of(read_lists("twin_10000")), level = Chain(read_lists("level_10")).ids;
