@@ -7,6 +7,6 @@ use Rattle.s2process.proofs.run.run_listed.Goals as goal
 pub returns : goal.returns
 returns g c = process taken called _ _ c.args.writer.now (ap taken_in c.requires.nothing_written)
     c.requires.nothing_waits (ap ended_in c.requires.nothing_written) _ c.run_promptly_observed.new.writer
-    _ _ _ _ _ _ _ _ (ap given_in c.requires.nothing_read) (ap reads_in c.requires.nothing_read) (moments_of c.args.witness.now)
-    (moments_of c.run_promptly_observed.new.observer) _ c.requires.nothing_seen c.run_promptly_observed.ensures.runs
-    c.run_promptly_observed.ensures.nothing_waits
+    _ _ _ _ _ _ _ _ (ap given_in c.requires.nothing_read) (ap reads_in c.requires.nothing_read)
+    (moments_of c.args.witness.now) (moments_of c.run_promptly_observed.new.observer) _ c.requires.nothing_seen
+    c.run_promptly_observed.ensures.runs c.run_promptly_observed.ensures.nothing_waits
