@@ -7,7 +7,10 @@ import s2union.CellUnion;
 import s2union.Refusal;
 import s2union.UnionFile;
 
-/** What the package for Java refuses, and what stays as it is: java Refusals. The last line is 'N passed, M failed'. */
+/**
+ * What the package for Java refuses, and what stays as it is: java Refusals VERSION. The last line is 'N passed, M
+ * failed'.
+ */
 final class Refusals {
   private static final long FACE = 0x1000000000000000L;
   private static int passed;
@@ -58,6 +61,8 @@ final class Refusals {
       noCell(1, () -> CellUnion.of(FACE, wrong));
       noCell(0, () -> CellUnion.fromRange(FACE, wrong));
       noCell(0, () -> CellUnion.of(FACE).contains(wrong));
+      noCell(0, () -> CellUnion.of(FACE).intersects(wrong));
+      noCell(0, () -> CellUnion.of(FACE).intersection(wrong));
       noCell(0, () -> CellUnion.of(FACE).cellIdsAt(wrong));
       noCell(1, () -> CellUnion.of(FACE).containsEach(FACE, wrong));
       noCell(1, () -> CellId.levels(FACE, wrong));
@@ -77,11 +82,15 @@ final class Refusals {
       outOfRange(0, () -> CellId.fromFaceIJ(wrong, 0, 0));
       outOfRange(1, () -> CellId.fromPoints(0, 0, 0, wrong, 0, 0));
     }
+    outOfRange(0, () -> CellId.child(FACE, 4));
+    outOfRange(1, () -> CellId.fromPoints(0, 0, 0, 0, 0));
     outOfRange(1, () -> CellId.parents(new long[] {1, FACE}, 3));
     outOfRange(0, () -> CellUnion.of(FACE).denormalized(3, 4, 10));
     outOfRange(0, () -> CellUnion.outer(0, 5, 4, 0, 0, 30));
     refused(-6, 0, "too many cells", () -> CellUnion.of(FACE).denormalized(30, 1, 1_000_000));
     refused(-6, 0, "too many cells", () -> CellUnion.of(FACE).denormalized(30, 1, -1));
+    refused(-6, 0, "too many cells", () -> CellUnion.of(FACE).denormalized(1, 1, 3));
+    check(CellUnion.of(FACE).denormalized(1, 1, 4).length == 4, "a limit that is just met");
     refused(-4, 0, "not a normalized list of cells", () -> CellUnion.fromNormalized(FACE, FACE));
   }
 
@@ -89,10 +98,14 @@ final class Refusals {
     byte[] good = CellUnion.of(FACE).encode();
     byte[] version = good.clone();
     version[0] = 2;
+    byte[] damaged = good.clone();
+    damaged[9] = 2;
+    damaged[16] = 0;
     refused(-10, 0, "union file: bytes are missing", () -> CellUnion.decode(Arrays.copyOf(good, 12)));
     refused(-10, 0, "union file: bytes are missing", () -> new UnionFile(new byte[0]));
     refused(-11, 0, "union file: unknown version", () -> UnionFile.check(version));
     refused(-12, 0, "union file: bytes after the last cell", () -> new UnionFile(Arrays.copyOf(good, 18)));
+    refused(-13, 0, "union file: a number that is not a cell", () -> CellUnion.decode(damaged));
     outOfRange(0, () -> new UnionFile(good).cellId(1));
     outOfRange(0, () -> new UnionFile(good).cellId(-1));
     check(new UnionFile(good).toUnion().equals(CellUnion.of(FACE)), "a file's union");
@@ -107,7 +120,6 @@ final class Refusals {
     check(union.hashCode() == CellUnion.of(FACE).hashCode() && !union.equals(null), "equal unions");
     check(CellUnion.of().isEmpty() && CellUnion.of().toString().isEmpty(), "the empty union");
     check(CellUnion.fromTokens("04, 0c 14\n1c").toString().equals("1"), "texts");
-    check(CellId.version().matches("\\d+\\.\\d+\\.\\d+"), "the version");
   }
 
   /** Lists that are copied, and lists that are not, answer alike. */
@@ -136,6 +148,8 @@ final class Refusals {
   }
 
   public static void main(String[] words) {
+    check(CellId.version().equals(words[0]), "the version");
+    check(Arrays.equals(CellId.toTokens(FACE, 1), new String[] {"1", "0000000000000001"}), "tokens of many");
     numbersThatAreNoCells();
     numbersOutOfRange();
     files();

@@ -32,7 +32,7 @@ asked() { # CLASS WORD..: with Java's own checks of native code, which say what 
   ! grep -E 'WARNING|FATAL' "$work/said" && tail -1 "$work/said"
 }
 step "against the model" asked Vectors "$work/vectors"
-step "what is refused, what stays, and long lists" asked Refusals
+step "what is refused, what stays, and long lists" asked Refusals "$(cat "$top/VERSION")"
 by_page() {
   block JAVA.md java >"$work/Program.java" && block JAVA.md "text java" >"$work/wanted" && [ -s "$work/wanted" ] &&
     java -cp "$jar" "$work/Program.java" >"$work/printed" && diff "$work/wanted" "$work/printed"
