@@ -125,7 +125,7 @@ class Paths(unittest.TestCase):
         why = (b" is not a file name (1 to 64 letters, digits, '.', '_' or '-', the first no '.' and no '-'; --dir "
                b"names the folder): byte ")
         for word, byte, instead in (("world/France.outer", b"6 is '/'", b"; write --dir 'world/' France.outer"),
-                                    ("/tmp/x", b"1 is '/'", b"; write --dir '/tmp/' x"),
+                                    ("/srv/x", b"1 is '/'", b"; write --dir '/srv/' x"),
                                     ("/x", b"1 is '/'", b"; write --dir '/' x"), ("a/b/", b"2 is '/'", b""),
                                     ("a b/c", b"2 is ' '", b"; write --dir 'a b/' c"), (".x", b"1 is '.'", b"")):
             note = b"s2calc: '" + word.encode() + b"'" + why + byte + instead + b"\n"
