@@ -32,6 +32,7 @@ class Session:
         self.ours, its = pty.openpty()
 
         def take_terminal():
+            signal.signal(signal.SIGINT, signal.SIG_DFL)  # it is ignored in what a shell has put into the background
             fcntl.ioctl(0, termios.TIOCSCTTY, 0)
 
         self.process = subprocess.Popen([PROGRAM, *words], stdin=its, stdout=its, stderr=its, start_new_session=True,
