@@ -90,8 +90,8 @@ fn fetch_session<S: Shelf>(alloc: Global, shelf: &mut S, name: &str) -> Result<S
     }
 }
 
-/// The session that was read, or why there is none. Where a read failed, and not for want of memory, the closing of the
-/// file has said so before.
+/// The session that was read, or why there is none. If a read failed, and not because memory ran out, the closing of
+/// the file has said so before.
 fn session_of(read: Result<Session, ReadFault>) -> Result<Session, Refusal>
     ensures { ReadAs read result }
 {

@@ -13,6 +13,6 @@ folder_files shelf = record { tells = false; at = λ _. None; found = None; fail
 abbrev pub folder_path : {R F D : Type 0} → DirShelf R F D → List ℕ
 folder_path shelf = string_bytes shelf.path
 
--- whether a read of an opened file failed, other than for want of memory or because it was interrupted
+-- whether a read of an opened file failed, neither out of memory nor interrupted
 abbrev pub has_failed : {F : Type 0} → OpenedFile F → Bool
 has_failed file = file.failed

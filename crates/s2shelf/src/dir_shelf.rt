@@ -16,8 +16,8 @@ use std::io::{ErrorKind, Read};
 use std::rt::Files;
 use std::{fs, io};
 
-/// A file of a folder that was opened for reading. It remembers whether a read of it failed, other than for want of
-/// memory or because it was interrupted.
+/// A file of a folder that was opened for reading. It remembers whether a read of it failed, neither out of memory
+/// nor interrupted.
 #[derive(Drop)]
 pub struct OpenedFile<F> {
     file: F,
@@ -204,7 +204,7 @@ impl<R: Files + AllocGlobal> Shelf for DirShelf<R> {
         Ok(opened.map(OpenedFile::of))
     }
 
-    /// Answers `Device` if, and only if, a read of the file failed other than for want of memory or as interrupted.
+    /// Answers `Device` if, and only if, a read of the file failed, neither out of memory nor interrupted.
     fn close(&mut self, file: OpenedFile<R::File>) -> Result<(), ShelfFault>
         ensures answer { MatchResult result (λ _. SameShelf (folder_files self.old) (folder_files self.new))
             (λ fault. Fails (folder_files self.old) (folder_files self.new) fault) }

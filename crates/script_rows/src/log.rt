@@ -31,7 +31,7 @@ impl Sink for LoggedWriter<'_> {
     }
 }
 
-/// A shelf that logs its calls. It has no files, keeps none, and no call of it fails but for want of memory.
+/// A shelf that logs its calls. It has no files, keeps none, and no call of it fails unless memory runs out.
 #[derive(Clone, Copy)]
 pub struct LoggedShelf<'a> {
     pub alloc: Global,

@@ -6,7 +6,7 @@ use Rattle.s2file.specs.declared.session.ReadFault.TheVariants.{Form, Device, Me
 use Rattle.s2calc.specs.declared.refusal.Refusal.{Refusal}
 use Rattle.s2calc.specs.declared.refusal.Refusal.TheVariants.{Session as NoSession, Memory as NoMemory}
 
--- the session that was read, or the refusal for want of one, where no read of its file failed but for want of memory
+-- the session that was read, or why there is none, if no read of its file failed except by running out of memory
 abbrev pub ReadAs : Result Session ReadFault → Result Session Refusal → Type 0
 ReadAs (Ok session) result = result ≡ Ok session
 ReadAs (Err Form) result = result ≡ Err NoSession
