@@ -34,7 +34,7 @@ MISTAKES = [
             "s2u_is_union(const uint64_t* ids,", "s2u_is_union(uint64_t* ids,"),
     Mistake("a call of the header that the library lacks", HEADER,
             "int32_t s2u_is_cell(uint64_t id);",
-            "int32_t s2u_is_cell(uint64_t id);\nint32_t s2u_is_leaf(uint64_t id);"),
+            "int32_t s2u_is_cell(uint64_t id);\nint32_t s2u_is_no_call(uint64_t id);"),
     Mistake("a call that the header lacks", HEADER, "int32_t s2u_is_cell(uint64_t id);", ""),
     Mistake("two fields of a structure in the wrong order", HEADER,
             "uint32_t face, i0, i1, j0, j1;", "uint32_t face, i0, j0, i1, j1;"),
