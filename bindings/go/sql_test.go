@@ -30,6 +30,10 @@ func TestColumnsOfDatabases(t *testing.T) {
 		var found s2union.CellUnion
 		check(t, found.Scan(given) == nil && found.Equal(union), "a union is scanned")
 	}
+	for _, given := range []any{must(CellUnion{}.MarshalBinary()), "", []byte{}} {
+		found := union
+		check(t, found.Scan(given) == nil && found.Len() == 0, "the empty union is scanned, as PostgreSQL writes it too")
+	}
 }
 
 func TestColumnsThatAreRefused(t *testing.T) {
