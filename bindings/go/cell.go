@@ -13,14 +13,16 @@ type CellID uint64
 func CellIDFromToken(token string) (CellID, error) {
 	var id C.uint64_t
 	at, n := placeOfText([]byte(token))
-	return CellID(id), refused(C.s2u_from_token(at, n, &id))
+	status := C.s2u_from_token(at, n, &id) // on a line of its own: Go leaves open when `id` is read beside a call
+	return CellID(id), refused(status)
 }
 
 // CellIDFromString is the cell of a debug text, such as "4/032212".
 func CellIDFromString(text string) (CellID, error) {
 	var id C.uint64_t
 	at, n := placeOfText([]byte(text))
-	return CellID(id), refused(C.s2u_from_debug(at, n, &id))
+	status := C.s2u_from_debug(at, n, &id)
+	return CellID(id), refused(status)
 }
 
 // CellIDFromFace is the cell of a whole face, 0 to 5.
