@@ -228,6 +228,8 @@ static void unions() {
   CHECK(x == two && many == cells<Id>({3, 0, 1}));
   int32_t status = S2U_ROOM;
   CHECK(two.Contains(Id(first), &status) && status == S2U_OK);
+  status = S2U_ROOM;
+  CHECK(Union::UnionOf({two, face}, &status) == face && status == S2U_OK);
 
   std::string bytes;
   two.Encode(&bytes);
@@ -421,13 +423,15 @@ static void collections() {
   CHECK(Union::FromTokens("0/1, 04") == two && Union::FromTokens("").Tokens().empty());
   CHECK(two < face && !(face < two) && std::set<Union>({face, two, face}).size() == 2);
   CHECK(std::unordered_set<Union>({face, two, face}).size() == 2 && std::hash<Union>()(none) == std::hash<Union>()({}));
+  CHECK(std::hash<Union>()(two) != std::hash<Union>()(Union(cells<Id>({first, s2u_child(kFace, 2)}))));
   REFUSES(S2U_NO_CELL, two.ContainsCells(cells<Id>({first, 2}), status));
   REFUSES(S2U_NO_CELL, two.IntersectsCells(cells<Id>({0}), status));
   REFUSES(S2U_NO_CELL, Union::FromTokens("04 x", status));
   REFUSES(S2U_MANY, two.Covering(1, 1, status));
   REFUSES(S2U_ARGUMENT, two.InteriorCovering(31, 9, status));
   REFUSES(S2U_ARGUMENT, Union::CoveringOf(edge, -1, 9, status));
-  REFUSES(S2U_MANY, two.CoveringIn(edge, 30, 9, status));
+  REFUSES(S2U_MANY, Union::CoveringOf(edge, 1, 1, status));
+  REFUSES(S2U_MANY, two.CoveringIn(edge, 2, 1, status));
 
   std::string bytes, other;
   two.Encode(&bytes);
