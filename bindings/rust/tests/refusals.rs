@@ -79,6 +79,7 @@ fn files() {
     let bytes = union("04 0c").encode().unwrap();
     let file = UnionFile::new(&bytes).unwrap();
     assert_eq!((file.cell(2), file.cell(usize::MAX), file.is_empty()), (None, None, false));
+    assert!(!UnionFile::new(&union("1").encode().unwrap()).unwrap().is_empty());
     assert_eq!(file.cell(1 << 32), None);
     let mut exchanged = bytes.clone();
     exchanged[9..].rotate_left(8);
