@@ -14,6 +14,7 @@ import unittest
 import model
 import plain_sql
 import random_cells
+from places import MIDDLES, POINTS, apart
 from random_cells import signed
 
 ROUNDS = int(os.environ.get("S2UNION_ROUNDS", "1000"))
@@ -1180,10 +1181,16 @@ class Points(Tests):
         psql("SET client_min_messages = error; CREATE EXTENSION IF NOT EXISTS s2union_geo CASCADE;")
 
     def test_points(self):
-        self.assertEqual(psql("SELECT s2_token(s2_leaf_at(2.3522, 48.8566)), s2_leaf_at(-58.3816, -34.6037)"),
-                         ["47e66e1d8f8be23b|-7657022275671071089"])
-        self.assertEqual(psql("SELECT s2_longitude('1'), s2_latitude('5'), s2_latitude(s2_leaf_at(1, -90)) < -89.9999"),
-                         ["0|90|t"])
+        rows = ", ".join(f"({x!r}::float8, {y!r}::float8)" for x, y, _ in POINTS)
+        self.assertEqual(psql(f"SELECT s2_token(s2_leaf_at(x, y)) FROM (VALUES {rows}) AS places (x, y)"),
+                         [token for _, _, token in POINTS])
+        rows = ", ".join(f"('{token}')" for token, _, _ in MIDDLES)
+        found = psql(f"SELECT s2_longitude(cell), s2_latitude(cell) FROM (VALUES {rows}) AS cells (cell)")
+        for (token, *wanted), line in zip(MIDDLES, found, strict=True):
+            for number, other in zip(wanted, map(float, line.split("|"))):
+                self.assertLess(apart(number, other), 1e-10, token)
+        self.assertEqual(psql("SELECT s2_leaf_at(-58.3816, -34.6037), s2_face(s2_leaf_at(540, 1)),"
+                              " s2_face(s2_leaf_at(-540, 1))"), ["-7657022275671071089|3|3"])
         self.assertEqual(psql("SELECT s2_leaf_at(NULL, 0) IS NULL, s2_leaf_at(0, NULL) IS NULL,"
                               " s2_longitude(NULL::bigint) IS NULL, s2_latitude(NULL::text) IS NULL"), ["t|t|t|t"])
 

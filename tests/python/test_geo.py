@@ -17,36 +17,7 @@ from s2union_geo import covering, coverings, interior, leaf, leaves, points, rea
 from s2union_geo.geojson import rings
 from s2union_geo.sphere import geographic, on_cube
 
-# Longitude, latitude, and the token of S2CellId(S2LatLng::FromDegrees(latitude, longitude)): places, the date line, the
-# poles, and points on the borders of faces; on the last five, two coordinates on the sphere are equal.
-POINTS = """
-0 0 1000000000000001
-2.3522 48.8566 47e66e1d8f8be23b
-15.3136 -4.3276 1a6a36acb6594c23
--58.3816 -34.6037 95bccacf155f668f
-139.6917 35.6895 60188cd4c86839b9
--122.4194 37.7749 8085809e8e8d8c61
-151.2093 -33.8688 6b12ae3ff6290055
-180 -16.5 6e200077fd87f589
--180 16.5 7b355532acd2b4cd
-0 90 5000000000000001
-0 -90 b000000000000001
-45 0 17ffffffffffffff
-45 30 1561d60209d602a1
--45 15 09fdf57df8aa000b
-135 -30 2acb2cacb32cad4b
--135 -15 9df8a078a9fe001f
-0 45 12aaaaaaaaaaaaab
-90 -45 2800000000000001
--90 45 8800000000000001
-180 -45 6d55555555555555
--135 -27.5 9fd62757fdf5f89d
--45 27.5 8ad33352acb4accd
--179.8 44.99982546672037 57ffe2761e2aa821
-179.3 44.99786191847826 58008275f58077d7
-179.8 -44.99982546672037 a8001d89e1d557df
-"""
-
+from places import MIDDLES, POINTS, apart
 
 SQUARE = [[0, 0], [10, 0], [10, 10], [0, 10], [0, 0]]
 
@@ -57,13 +28,20 @@ def polygon(*rings):
 
 class Points(unittest.TestCase):
     def test_points(self):
-        longitude, latitude, wanted = zip(*map(str.split, POINTS.strip().splitlines()))
-        found = leaves(numpy.array(longitude, float), numpy.array(latitude, float))
+        longitude, latitude, wanted = zip(*POINTS)
+        found = leaves(longitude, latitude)
         self.assertEqual((found.dtype, tokens(found)), ("uint64", list(wanted)))
-        self.assertEqual([leaf(float(x), float(y)) for x, y in zip(longitude, latitude)], found.tolist())
+        self.assertEqual(list(map(leaf, longitude, latitude)), found.tolist())
         self.assertEqual(leaves([[1, 2], [3, 4]], 5).tolist(), [[leaf(1, 5), leaf(2, 5)], [leaf(3, 5), leaf(4, 5)]])
         self.assertEqual(leaves([], []).tolist(), [])
         self.assertEqual(leaf(361, 1), leaf(1, 1))
+        self.assertEqual([leaf(x, 1) >> 61 for x in (540, -540)], [3, 3])
+
+    def test_middles(self):
+        found = points([from_token(token) for token, _, _ in MIDDLES])
+        for (token, *wanted), *middle in zip(MIDDLES, *found):
+            for number, other in zip(wanted, middle):
+                self.assertLess(apart(number, other), 1e-10, token)
 
     def test_the_middle_of_a_leaf_lies_in_it(self):
         random = Random(47)
@@ -88,16 +66,22 @@ class Points(unittest.TestCase):
 
 
 class Polygons(unittest.TestCase):
-    def test_coverings_bound_their_polygon(self):
-        """Of 20,000 points around a polygon with a hole: those in the interior are in it, and all in it are covered."""
+    def test_coverings_bound_their_polygons(self):
+        """Of 20,000 points around a polygon with a hole, an island in that, and a polygon that goes beyond: those in
+        the interior are in one of them, and all in these are covered."""
         random = Random(3)
         x = numpy.array([random.uniform(-1, 12) for _ in range(20000)])
         y = numpy.array([random.uniform(-1, 12) for _ in range(20000)])
         hole = [[3, 3], [3, 7], [7, 7], [7, 3], [3, 3]]
+        island, beyond = ([[low, low], [high, low], [high, high], [low, high], [low, low]]
+                          for low, high in ((4, 5), (9, 11)))
+        shape = {"type": "MultiPolygon", "coordinates": [[SQUARE, hole], [island], [beyond]]}
         inside = (x > 0) & (x < 10) & (y > 0) & (y < 10) & ~((x >= 3) & (x <= 7) & (y >= 3) & (y <= 7))
+        for low, high in ((4, 5), (9, 11)):
+            inside |= (x > low) & (x < high) & (y > low) & (y < high)
         cells = leaves(x, y)
         for most, deepest in ((0, 30), (1, 30), (8, 30), (200, 30), (5000, 30), (200, 6), (0, 0)):
-            outer, inner = coverings(polygon(SQUARE, hole), most, deepest)
+            outer, inner = coverings(shape, most, deepest)
             with self.subTest(most=most, deepest=deepest):
                 self.assertFalse((inside & ~outer.contains_cells(cells)).any())
                 self.assertFalse((inner.contains_cells(cells) & ~inside).any())
@@ -105,8 +89,21 @@ class Polygons(unittest.TestCase):
                 self.assertLessEqual(len(inner), most)
                 self.assertLessEqual(len(outer), max(most, 6))
                 self.assertLessEqual(max([level(cell) for cell in (*outer, *inner)], default=0), deepest)
-        self.assertEqual((covering(polygon(SQUARE, hole)), interior(polygon(SQUARE, hole))),
-                         coverings(polygon(SQUARE, hole)))
+        self.assertEqual((covering(shape), interior(shape)), coverings(shape))
+
+    def test_edges_to_within_a_rounding(self):
+        """Of two strips, whose long edges bend by 7 m to the north, and by 15 m from the chords between their points:
+        what lies within a millimeter of them."""
+        low, high, near = 60, 60.001, 1e-8
+        strip = numpy.array([[0, low], [0.25, low], [0.25, high], [0, high], [0, low]])
+        along = numpy.linspace(0.001, 0.249, 997)
+        for turned in (False, True):
+            outer, inner = coverings(polygon((strip[:, ::-1] if turned else strip).tolist()), 100000, 21)
+            self.assertTrue(inner)
+            for across, lies in ((low + near, True), (low - near, False), (high - near, True), (high + near, False)):
+                cells = leaves(across, along) if turned else leaves(along, across)
+                found = outer.contains_cells(cells) if lies else inner.contains_cells(cells)
+                self.assertEqual(set(found.tolist()), {lies})
 
     def test_edges_are_straight_on_the_map(self):
         """Between two points of the 49th parallel, 10 degrees apart, the shortest line lies 12 km to the north."""
@@ -119,6 +116,7 @@ class Polygons(unittest.TestCase):
         for x in (175, 180, -180, -175, 185):
             self.assertIn(leaf(x, 0), interior(wide))
         self.assertNotIn(leaf(-169, 0), covering(wide))
+        self.assertEqual(interior(polygon([[x - 360, y] for x, y in wide["coordinates"][0]])), interior(wide))
         south = polygon([[-180, -90], [180, -90], [180, -60], [-180, -60], [-180, -90]])
         outer, inner = coverings(south, 2000)
         for x in range(-170, 171, 20):
@@ -137,9 +135,18 @@ class Polygons(unittest.TestCase):
                       {"type": "FeatureCollection", "features": [feature, {"type": "Feature", "geometry": None}]},
                       {"type": "GeometryCollection", "geometries": [polygon(SQUARE)]},
                       {"type": "MultiPolygon", "coordinates": [[SQUARE]]},
-                      polygon([position + [7] for position in SQUARE]), polygon(SQUARE[::-1])):
+                      polygon([position + [7] for position in SQUARE]), polygon(SQUARE[::-1]),
+                      polygon([position for position in SQUARE for _ in range(2)])):
             self.assertEqual(covering(shape), wanted)
         self.assertEqual(coverings({"type": "FeatureCollection", "features": []}), (Union(), Union()))
+
+    def test_rings_that_need_care(self):
+        """One that comes to within a rounding of itself and doesn't touch; and one with corners north and south of the
+        middle of a face."""
+        near = 0.0016666666666666668  # more than a third of 0.005, but three times it is 0.005 in floating point
+        self.assertTrue(covering(polygon([[0, 0], [3, 1], [3, 2], [0.005, near], [-1, 2], [0, 0]])))
+        wide = polygon([[-60, -60], [0, -70], [60, -60], [60, 60], [0, 70], [-60, 60], [-60, -60]])
+        self.assertIn(from_token("1"), interior(wide, 100, 3))
 
     def test_what_is_refused(self):
         for shape, said in ((polygon(SQUARE[:-1]), "polygon 0, ring 0 is open: its last position is not its first"),
@@ -147,6 +154,7 @@ class Polygons(unittest.TestCase):
                             (polygon([[0, 0], [10, 10], [10, 0], [0, 10], [0, 0]]), "ring 0 crosses or touches itself"),
                             (polygon([[0, 0], [5, 5], [0, 10], [10, 10], [5, 5], [10, 0], [0, 0]]), "touches itself"),
                             (polygon([[0, 0], [5, 0], [9, 0], [5, 0], [5, 5], [0, 0]]), "crosses or touches itself"),
+                            (polygon([[0, 0], [5, 0], [2, 0], [0, 0]]), "ring 0 crosses or touches itself"),
                             (polygon(SQUARE, [[5, 5], [15, 5], [15, 6], [5, 6], [5, 5]]), "rings 0 and 1 cross near"),
                             (polygon([[0, 0], [1, 91], [1, 0], [0, 0]]), "ring 0: position 1 is out of range"),
                             (polygon([[0, 0], [math.nan, 1], [1, 0], [0, 0]]), "ring 0: position 1 is out of range"),
@@ -194,6 +202,10 @@ class Maps(unittest.TestCase):
             x, y = points([cell])
             self.assertIn(leaf(x[0], y[0]), interior(feature, 5000))
 
+    def test_faces_are_cut(self):
+        found = to_geojson(Union.from_tokens("1 5"))["features"]
+        self.assertEqual([feature["properties"]["cell"] for feature in found], "04 0c 14 1c 44 4c 54 5c".split())
+
     def test_the_command_line(self):
         def said(*words, text=""):
             return subprocess.run([sys.executable, "-m", "s2union_geo", *words], input=text, capture_output=True,
@@ -216,7 +228,8 @@ class Maps(unittest.TestCase):
             self.assertEqual(made, to_geojson(outer, name="good.outer"))
         for words, text, wanted in ((("leaves",), "x 1\n", "s2union_geo: a line begins with a longitude and a lat"),
                                     (("leaves",), "1 91\n", "a latitude is from -90 to 90 at place 0: 91.0\n"),
-                                    (("geojson", "none"), "", "s2union_geo: .*'none'\n"), ((), "", "Points, polygons")):
+                                    (("geojson", "none"), "", "s2union_geo: .*'none'\n"), ((), "", "Points, polygons"),
+                                    (("leaves", "more"), "", "Points, polygons")):
             done = said(*words, text=text)
             self.assertEqual((done.returncode, done.stdout), (1, ""))
             self.assertRegex(done.stderr, wanted)

@@ -7,6 +7,8 @@ import os
 import sqlite3
 import unittest
 
+from places import MIDDLES, POINTS, apart
+
 EXTENSION = os.path.join(os.path.dirname(os.environ["S2UNION_SQLITE"]), "mod_s2union_geo.so")
 
 
@@ -21,8 +23,13 @@ class Points(unittest.TestCase):
         return self.db.execute(f"SELECT {text}", values).fetchone()
 
     def test_points(self):
-        self.assertEqual(self.said("s2_leaf_at(2.3522, 48.8566), s2_leaf_at(-58.3816, -34.6037), s2_leaf_at(0, 90)"),
-                         (0x47e66e1d8f8be23b, 0x95bccacf155f668f - 2**64, 0x5000000000000001))
+        for longitude, latitude, token in POINTS:
+            (cell,) = self.said("s2_leaf_at(?, ?)", longitude, latitude)
+            self.assertEqual(f"{cell & 2**64 - 1:016x}", token.ljust(16, "0"))
+        for token, *wanted in MIDDLES:
+            for number, other in zip(wanted, self.said(f"s2_longitude('{token}'), s2_latitude('{token}')")):
+                self.assertLess(apart(number, other), 1e-10, token)
+        self.assertEqual(self.said("s2_leaf_at(540, 1) >> 61, s2_leaf_at(-540, 1) >> 61"), (3, 3))
         self.assertEqual(self.said("s2_longitude('1'), s2_latitude('2/'), s2_latitude('b'), s2_longitude('7')"),
                          (0, 90, -90, -180))
         for face, token in enumerate("13579b"):
@@ -47,6 +54,7 @@ class Points(unittest.TestCase):
                                      ("s2_leaf_at(0, x'00')", (), latitude + "a BLOB of length 1"),
                                      ("s2_longitude(2)", (), "s2: not a cell: 2"),
                                      ("s2_latitude('zz')", (), "s2: not a cell: 'zz'"),
+                                     ("s2_latitude(?)", (50 * "é",), f"s2: not a cell: '{40 * 'é'}'"),
                                      ("s2_latitude('0/4')", (), "s2: not a cell: '0/4'"),
                                      ("s2_latitude(1.5)", (), "s2: not a cell: 1.5"),
                                      ("s2_latitude(x'')", (), "s2: not a cell: a BLOB of length 0")):
@@ -60,6 +68,12 @@ class Points(unittest.TestCase):
         self.db.execute("CREATE INDEX by_leaf ON places(s2_leaf_at(y, x))")
         self.db.execute("INSERT INTO places VALUES (2.3522, 48.8566)")
         self.assertEqual(self.said("leaf FROM places"), (0x47e66e1d8f8be23b,))
+
+    def test_a_schema_that_is_not_trusted(self):
+        """The functions are innocuous, so a view may have them whoever has made it."""
+        self.db.execute("PRAGMA trusted_schema = OFF")
+        self.db.execute("CREATE VIEW places AS SELECT s2_longitude(s2_leaf_at(0, 90)), s2_latitude('5')")
+        self.assertEqual(self.said("* FROM places"), (-135, 90))
 
 
 if __name__ == "__main__":
