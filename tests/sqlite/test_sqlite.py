@@ -795,10 +795,11 @@ COMPARED_FOR_EACH_ROW = {
 
 
 class Steps(Tests):
-    """On the build of counted.c: how many cells are looked at one by one, as a check and a decoding do."""
+    """On the build of counted.c: how many cells are looked at one by one, as a check and a decoding do, and whether
+    bytes are compared with others."""
 
     def test_a_union_that_is_asked_for_each_row(self):
-        steps = ctypes.c_uint64.in_dll(ctypes.CDLL(EXTENSION), "s2_steps")
+        steps, compared = (ctypes.c_uint64.in_dll(ctypes.CDLL(EXTENSION), name) for name in ("s2_steps", "s2_compared"))
         cells = [model.identifier(20, 3 * k) for k in range(20000)]
         self.db.execute("CREATE TABLE big(region)")
         self.db.execute("INSERT INTO big VALUES(?)", (model.file(cells),))
@@ -807,9 +808,10 @@ class Steps(Tests):
             self.db.execute("INSERT INTO regions VALUES(?)", (model.file(cells[k : k + 9]),))
         for name, query in [*PREPARED_ONCE.items(), *COMPARED_FOR_EACH_ROW.items()]:
             values = (model.file(cells[::-1]),) if "?" in query else ()
-            before = steps.value
+            before = steps.value, compared.value
             self.assertEqual(self.db.execute(query, values).fetchone(), (500,), name)
-            self.assertLessEqual((steps.value - before - 500 * 9) / len(cells), 5, name)
+            self.assertLessEqual((steps.value - before[0] - 500 * 9) / len(cells), 5, name)
+            self.assertEqual(compared.value > before[1], name in COMPARED_FOR_EACH_ROW, name)
 
 
 if __name__ == "__main__":
