@@ -1340,6 +1340,8 @@ class Guarded(Tests):
             ("SELECT pg_column_size('04'::s2union | '14')", 1), ("SELECT pg_column_size(s2_range(1, 3000000001))", 1),
             ("SELECT pg_column_size(s2_outer(0, 5, 90000, 7, 90000, 20))", 1),
             ("SELECT cardinality(s2_ancestors(part)) FROM parts WHERE id = 6", 3),
+            ("SELECT cardinality(s2_ancestors('0000000000000001 2000000000000001 4000000000000001'))", 2),
+            ("SELECT pg_column_size('04 0c'::text::s2union)", 1),
         ]
         said = psql("".join(f"{query};\nSELECT s2_left();\n" for query, _ in calls))
         self.assertEqual([(query, int(left)) for (query, _), left in zip(calls, said[1::2])], calls)
