@@ -103,10 +103,17 @@ class Taken(unittest.TestCase):
                 (lambda: s2union.child(CELL, 4), "a child's number is out of range: 4"),
                 (lambda: s2union.from_face_ij(0, 0, 2**30), f"j is out of range: {2**30}"),
                 (lambda: s2union.from_face_ij(6, 0, 0), "a face is out of range: 6"),
+                (lambda: Union.covering(6, 0, 0, 0, 0, 3), "a face is out of range: 6"),
+                (lambda: s2union.parent(2, "x"), "a level is an int, not str"),
+                (lambda: s2union.parent(2, 31), "not a cell: 0x2"),
                 (lambda: s2union.parent(FACE), "a face has no parent: 0x1000000000000000"),
                 (lambda: s2union.parent(FACE, 1), "the level is below the cell's own: 1, of 0x1000000000000000"),
                 (lambda: s2union.child(1, 0), "a leaf has no children: 0x1"),
                 (lambda: s2union.from_token("é"), "not a cell: 'é'"),
+                (lambda: s2union.from_tokens("1 " + 40 * "x"), f"not a cell: b'{32 * 'x'}' at place 2"),
+                (lambda: s2union.levels(5000 * [FACE] + [2]), "not a cell at place 5000: 0x2"),
+                (lambda: s2union.from_points([0, 0], [1], [2]), "there are not as many of each: 2, 1, 1"),
+                (lambda: s2union.from_token("\ud800"), "not a cell: '\\ud800'"),
                 (lambda: Union([1, 9, 17]).outer(30, most=1), "too many cells: level 30, at most 1 cells"),
                 (lambda: Union.covering(0, 0, 9, 0, 9, 31), "a level is out of range: 31"),
                 (lambda: Union.covering(0, 0, 2**30, 0, 9, 3), f"a coordinate is out of range: {2**30}"),
@@ -120,6 +127,8 @@ class Taken(unittest.TestCase):
             with self.assertRaises((ValueError, TypeError)) as refusal:
                 call()
             self.assertEqual(str(refusal.exception), message)
+        with self.assertRaisesRegex(MemoryError, "^s2union: out of memory: what$"):
+            calls.refuse(-2, "what")
 
     def test_an_index_that_raises(self):
         class Wrong:
@@ -147,6 +156,16 @@ class Taken(unittest.TestCase):
         self.assertEqual(len(Union(range(1, 2**14, 4))), 2**12)
 
 
+class Indexed:
+    """No int, but what gives a new one each time that its number is wanted."""
+
+    def __init__(self, number):
+        self.number = number
+
+    def __index__(self):
+        return self.number + 0
+
+
 class LeftBehind(unittest.TestCase):
     """No call keeps memory or a reference, whether it answers or refuses: not 8 bytes of each of 2,000 calls."""
 
@@ -163,9 +182,10 @@ class LeftBehind(unittest.TestCase):
     def test_memory(self):
         tracemalloc.start()
         try:
-            for name, words in TAKEN.items():
+            for name, given in TAKEN.items():
                 call = getattr(calls, name)
-                self.assertLess(self.grown(lambda: call(*words)), 16000, name)
+                for words in (given, [Indexed(it) if type(it) is int else it for it in given]):
+                    self.assertLess(self.grown(lambda: call(*words)), 16000, name)
             for name, words in REFUSED.items():
                 self.assertTrue(is_refused(name, words), name)
                 self.assertLess(self.grown(lambda: is_refused(name, words)), 16000, name)
