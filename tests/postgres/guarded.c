@@ -147,25 +147,17 @@ Datum s2_limit(PG_FUNCTION_ARGS) {
   PG_RETURN_VOID();
 }
 
-static int64 chances;
-
-/* How often a call has looked whether it is cancelled, since the last call of this. */
-PG_FUNCTION_INFO_V1(s2_chances);
-Datum s2_chances(PG_FUNCTION_ARGS) {
-  int64 were = chances;
-  chances = 0;
-  PG_RETURN_INT64(were);
-}
-
-static int64 bytes_compared;
-
-/* How many bytes were compared with others, at most, since the last call of this. */
-PG_FUNCTION_INFO_V1(s2_compared);
-Datum s2_compared(PG_FUNCTION_ARGS) {
-  int64 were = bytes_compared;
-  bytes_compared = 0;
-  PG_RETURN_INT64(were);
-}
+/* A count, and the function of SQL that answers what was counted since its last call. */
+#define COUNT(count, name) \
+  static int64 count; \
+  PG_FUNCTION_INFO_V1(name); \
+  Datum name(PG_FUNCTION_ARGS) { \
+    int64 were = count; \
+    count = 0; \
+    PG_RETURN_INT64(were); \
+  }
+COUNT(chances, s2_chances) /* how often a call has looked whether it is cancelled */
+COUNT(bytes_compared, s2_compared) /* how many bytes were compared with others, at most */
 
 #undef memcmp
 #define memcmp(some, others, n) (bytes_compared += (n), memcmp(some, others, n))
