@@ -46,7 +46,8 @@ class Squares(NamedTuple):
 
 
 def covering(shape: Any, max_cells: int = 200, max_level: int = 30) -> Union:
-    """The cells, at most `max_cells` and none deeper than `max_level`, that contain all of the polygons."""
+    """The cells, at most `max_cells` and none deeper than `max_level`, that contain all of the polygons. Where the
+    polygons meet more faces than `max_cells`, these are the cells."""
     return _Walk(shape, max_cells, max_level).outer()
 
 
@@ -131,9 +132,12 @@ class _Walk:
         self.edges = _edges_of(self.polygons) if self.polygons else None
 
     def begin(self) -> Any:
+        """The faces, the cells of those that lie in a polygon, and those at a border with their edges, by pairs."""
         faces = Squares(numpy.arange(6), numpy.zeros(6, "int64"), numpy.zeros(6, "int64"))
         count = len(self.edges.slack)
-        return self.divided(faces, 0, numpy.repeat(numpy.arange(6), count), numpy.tile(numpy.arange(count), 6))
+        pairs = numpy.repeat(numpy.arange(6), count), numpy.tile(numpy.arange(count), 6)
+        inside, of, edge = self.divided(faces, 0, *pairs)
+        return faces, [self.ids(faces.at(inside), 0)], of, edge
 
     def divided(self, squares: Squares, level: int, of: Any, edge: Any) -> Any:
         """Which of the squares lie in a polygon, which are at a border, and with which edges, by pairs."""
@@ -173,9 +177,8 @@ class _Walk:
     def outer(self) -> Union:
         if self.edges is None:
             return Union()
-        squares = Squares(numpy.arange(6), numpy.zeros(6, "int64"), numpy.zeros(6, "int64"))
-        inside, of, edge = self.begin()
-        found, border = [self.ids(squares.at(inside), 0)], numpy.unique(of)
+        squares, found, of, edge = self.begin()
+        border = numpy.unique(of)
         for level in range(1, self.deepest + 1):
             below, pairs, edges = self.children(squares, border, of, edge)
             inside, of, edge = self.divided(below, level, pairs, edges)
@@ -198,9 +201,8 @@ class _Walk:
     def inner(self) -> Union:
         if self.edges is None:
             return Union()
-        squares = Squares(numpy.arange(6), numpy.zeros(6, "int64"), numpy.zeros(6, "int64"))
-        inside, of, edge = self.begin()
-        found, border = [self.ids(squares.at(inside), 0)], numpy.unique(of)
+        squares, found, of, edge = self.begin()
+        border = numpy.unique(of)
         for level in range(1, self.deepest + 1):
             if not len(border) or len(border) > 8 * self.most or sum(map(len, found)) >= self.most:
                 break
