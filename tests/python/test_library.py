@@ -560,7 +560,8 @@ class TheModule(unittest.TestCase):
         self.assertEqual([s2union.to_signed(number) for number in signed], signed)
         a = Union(cells)
         self.assertEqual((Union(signed), Union(array("q", signed)), Union(set(signed))), (a, a, a))
-        self.assertEqual(Union(a.ids.cast("B").cast("q")), a)
+        for kind in "qlnQLN":
+            self.assertEqual(Union(a.ids.cast("B").cast(kind)), a)
         for cell, number in zip(cells, signed):
             self.assertEqual((s2union.level(number), s2union.token(number)), (s2union.level(cell), s2union.token(cell)))
             self.assertTrue(s2union.is_cell(number) and number in a and s2union.contains(number, cell))
