@@ -1038,6 +1038,21 @@ class TheModule(unittest.TestCase):
                                       cwd=folder, stderr=subprocess.PIPE).stderr
                 self.assertRegex(said, f"\nImportError: .*{message}")
 
+    def test_a_library_beside_the_module_and_in_the_two_folders_above(self):
+        library = s2union._where.path()
+        if not os.path.exists(library):
+            self.skipTest("the system has found the library")
+        with tempfile.TemporaryDirectory() as folder:
+            home = Path(folder) / "lib" / "python" / "s2union"
+            shutil.copytree(Path(s2union.__file__).parent, home, ignore=shutil.ignore_patterns("libs2union*"))
+            given = {"PATH": os.environ["PATH"], "PYTHONPATH": str(home.parent), "PYTHONDONTWRITEBYTECODE": "1"}
+            for place in (home, home.parent, home.parent.parent):
+                there = shutil.copy(library, place / "libs2union.so.1")
+                done = subprocess.run([sys.executable, "-c", "import s2union; print(s2union.level(1))"], env=given,
+                                      cwd=folder, text=True, stdout=subprocess.PIPE, stderr=subprocess.PIPE)
+                self.assertEqual((done.stdout, done.stderr), ("30\n", ""), place)
+                os.remove(there)
+
 
 def load_tests(loader, tests, pattern):
     tests.addTests(doctest.DocTestSuite(s2union))
