@@ -661,6 +661,8 @@ class TheModule(unittest.TestCase):
         self.assertRaises(ValueError, file.contains_cells, [FACE, 0])
         self.assertRaises(TypeError, file.contains_cells, ["x"])
         self.assertEqual((file.contains_cells([]), file.intersects_cells(())), ([], []))
+        for question in (file.contains, file.intersects):
+            self.assertRaisesRegex(TypeError, "a UnionFile is wanted, not Union", question, file.union())
 
     @unittest.skipUnless(numpy, "numpy is not installed")
     def test_answers_are_a_mask_for_numpy(self):

@@ -574,7 +574,7 @@ class WhatIsRefused(Tests):
                     what = {"c": "a cell is", "n": "a level, face or coordinate is"}.get(letter, "a union is")
                     marks = ", ".join("?" * len(values))
                     self.refused(f"s2: {what}", f"{name}({marks})", *values[:k], wrong, *values[k + 1 :])
-        for wrong in (1, 1.5, "1", b"", b"\1"):
+        for wrong in (1, 1.5, "1", b"", b"\1", EMPTY.decode()):
             self.assertEqual(self.ask("s2_is_union(?)", wrong), 0)
         for table in ("s2_cells", "s2_ancestors", "s2_prepared"):
             self.refused("s2: a union is", f"* FROM {table}(1.5)")
@@ -791,6 +791,8 @@ COMPARED_FOR_EACH_ROW = {
     "a CTE":
         "WITH b AS MATERIALIZED (SELECT region AS u FROM big) SELECT sum(s2_contains(u, region)) FROM b, regions",
     "a join": "SELECT sum(s2_contains(big.region, regions.region)) FROM big CROSS JOIN regions",
+    "two subqueries":
+        "SELECT sum(s2_contains((SELECT region FROM big), (SELECT region FROM other))) FROM regions",
 }
 
 
@@ -803,6 +805,8 @@ class Steps(Tests):
         cells = [model.identifier(20, 3 * k) for k in range(20000)]
         self.db.execute("CREATE TABLE big(region)")
         self.db.execute("INSERT INTO big VALUES(?)", (model.file(cells),))
+        self.db.execute("CREATE TABLE other(region)")
+        self.db.execute("INSERT INTO other VALUES(?)", (model.file(cells[1:]),))
         self.db.execute("CREATE TABLE regions(region)")
         for k in range(500):
             self.db.execute("INSERT INTO regions VALUES(?)", (model.file(cells[k : k + 9]),))
