@@ -290,10 +290,11 @@ class Trial:
     def test_many_refusals(self):
         """Of many refusals the first are said, and how many more there are."""
         self.open()
-        self.driver.execute_async_script("""const done = arguments[0];
-            s2page.open(Array.from({length: 100}, (_, k) => new File([''], `${k}`))).then(done);""")
-        said = self.status().split("; ")
-        assert said[0] == "0: refused: union file: bytes are missing" and said[5:] == ["and 95 more refused"], said
+        for count, more in ((100, ["and 95 more refused"]), (5, [])):
+            self.driver.execute_async_script("""const [count, done] = arguments;
+                s2page.open(Array.from({length: count}, (_, k) => new File([''], `${k}`))).then(done);""", count)
+            said = self.status().split("; ")
+            assert said[0] == "0: refused: union file: bytes are missing" and said[5:] == more, said
 
     def test_saving(self):
         self.begin()
@@ -488,6 +489,8 @@ class Trial:
             self.set("texts", text)
             self.click("add")
             assert self.status() == f"texts: refused: not a cell at place {place}" and self.count() == 1, self.status()
+        self.drop("lines", b"04\t0c\r\n14")
+        assert self.last() == Union.from_tokens("04 0c 14").to_bytes()
 
     def test_numbers(self):
         """Numbers of 17 digits and more, with a sign or without, among tokens; a list of cells may be a file too."""
@@ -702,10 +705,34 @@ class Trial:
                             said = "shares a part of it"
                         assert facts[name] == said
 
+    def test_the_union_on_top(self):
+        """The cell under the pointer is that of the topmost union that is shown. One that is hidden isn't drawn."""
+        self.open()
+        for name in ("3", "2c"):
+            self.drop(name, Union.from_tokens(name).to_bytes())
+        face, i, j, side = square(from_token("2c"))
+        self.run("s2page.view.center(...arguments)", face, (i + side / 2) / SIDE, (j + side / 2) / SIDE, 200)
+        looked = """const [done, {canvas, context}] = [arguments[0], s2page.view];
+            const [x, y] = [canvas.width / 2, canvas.height / 2];
+            s2page.draw();
+            requestAnimationFrame(() => setTimeout(() =>
+              done([Object.fromEntries(s2page.point(x, y)).token, [...context.getImageData(x - 9, y, 1, 1).data]])));"""
+        token_above, above = self.driver.execute_async_script(looked)
+        self.driver.find_element(By.CSS_SELECTOR, '#legend input[aria-label="show 2c"]').click()
+        token_below, below = self.driver.execute_async_script(looked.replace("s2page.draw();", ""))
+        assert (token_above, token_below) == ("2c", "3") and above != below, (above, below)
+
     def test_keys(self):
         self.begin()
         self.driver.find_element(By.ID, "picture").send_keys("++", Keys.ARROW_LEFT, "-", Keys.ENTER)
         assert "token" in self.status() or "no cell" in self.status(), self.status()
+        moved = """const place = () => JSON.stringify(s2page.view.place), before = place();
+            const event = new KeyboardEvent('keydown', {key: '+', ctrlKey: arguments[0], bubbles: true});
+            document.getElementById('picture').dispatchEvent(event);
+            return place() !== before;"""
+        assert self.run(moved, False) and not self.run(moved, True)  # with Ctrl it is the browser's own
+        self.driver.find_element(By.ID, "texts").send_keys("04", Keys.CONTROL, "z")
+        assert self.count() == 2  # what was undone is in the field
         assert self.driver.find_element(By.ID, "status").get_attribute("aria-live") == "polite"
         unnamed = self.run("""return [...document.querySelectorAll('button, input, select, textarea')].filter((it) =>
             !(it.textContent || it.getAttribute('aria-label') || it.labels?.length)).length""")
