@@ -1,5 +1,6 @@
 //! Cells and unions through JSON, which is for people, and through bincode, which isn't.
 
+use bincode::{DefaultOptions, Options};
 use s2union::{CellId, CellUnion};
 use serde::de::value::{BytesDeserializer, Error, U64Deserializer};
 use serde::de::IntoDeserializer;
@@ -46,6 +47,8 @@ fn what_json_is_refused() {
     }
     let said = serde_json::from_str::<Both>(r#"{"region":"04 x","cell":"1"}"#).unwrap_err().to_string();
     assert!(said.starts_with("not a cell"), "{said}");
+    let said = serde_json::from_str::<Both>(r#"{"region":1,"cell":"1"}"#).unwrap_err().to_string();
+    assert!(said.contains("expected the tokens or the file of a union"), "{said}");
 }
 
 #[test]
@@ -57,6 +60,8 @@ fn a_format_that_is_not_for_people() {
         let length = (file.len() as u64).to_le_bytes();
         assert_eq!(bytes, [&length[..], &file, &id].concat());
         assert_eq!(bincode::deserialize::<Both>(&bytes).unwrap(), one);
+        let packed = DefaultOptions::new().serialize(&one).unwrap(); // in which a sign takes a bit
+        assert_eq!(DefaultOptions::new().deserialize::<Both>(&packed).unwrap(), one);
         for place in [8, 9] {
             let mut wrong = bytes.clone();
             wrong[place] ^= 0xff; // the version of the file, the number of its cells
