@@ -47,6 +47,6 @@ static void middle_of(s2u_square q, double* x, double* y, double* z) {
 static void middle(s2u_square square, double* longitude, double* latitude) {
   double x, y, z;
   middle_of(square, &x, &y, &z);
-  *longitude = degrees(atan2(y, x));
+  *longitude = degrees(atan2(y + 0.0, x + 0.0)); /* as S2: -0 is 0, so it is 180 and not -180, and 0 at a pole */
   *latitude = degrees(atan2(z, hypot(x, y)));
 }

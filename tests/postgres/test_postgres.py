@@ -14,7 +14,7 @@ import unittest
 import model
 import plain_sql
 import random_cells
-from places import MIDDLES, POINTS, apart
+from places import MIDDLES, POINTS
 from random_cells import signed
 
 ROUNDS = int(os.environ.get("S2UNION_ROUNDS", "1000"))
@@ -1188,7 +1188,7 @@ class Points(Tests):
         found = psql(f"SELECT s2_longitude(cell), s2_latitude(cell) FROM (VALUES {rows}) AS cells (cell)")
         for (token, *wanted), line in zip(MIDDLES, found, strict=True):
             for number, other in zip(wanted, map(float, line.split("|"))):
-                self.assertLess(apart(number, other), 1e-10, token)
+                self.assertAlmostEqual(number, other, places=10, msg=token)
         self.assertEqual(psql("SELECT s2_leaf_at(-58.3816, -34.6037), s2_face(s2_leaf_at(540, 1)),"
                               " s2_face(s2_leaf_at(-540, 1))"), ["-7657022275671071089|3|3"])
         self.assertEqual(psql("SELECT s2_leaf_at(NULL, 0) IS NULL, s2_leaf_at(0, NULL) IS NULL,"

@@ -37,8 +37,10 @@ POINTS = """
 MIDDLES = """
 1 0 0
 3 90 0
+5 0 90
 7 180 0
 9 -90 0
+b 0 -90
 47e66e1d8f8be23b 2.3522000287531291 48.85659999854348
 1a6a36acb6594c23 15.313600008503842 -4.3275999871145778
 95bccacf155f668f -58.381599973285184 -34.603700023595415
@@ -57,11 +59,6 @@ b24 80.803344108371107 -61.013709706836771
 
 def numbers(text, *kinds):
     return [tuple(kind(word) for kind, word in zip(kinds, line.split())) for line in text.strip().splitlines()]
-
-
-def apart(one, other):
-    """How far two longitudes or two latitudes are from one another, in degrees."""
-    return abs((one - other + 180) % 360 - 180)
 
 
 POINTS = numbers(POINTS, float, float, str)

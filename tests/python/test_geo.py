@@ -17,7 +17,7 @@ from s2union_geo import covering, coverings, interior, leaf, leaves, points, rea
 from s2union_geo.geojson import rings
 from s2union_geo.sphere import geographic, on_cube
 
-from places import MIDDLES, POINTS, apart
+from places import MIDDLES, POINTS
 
 SQUARE = [[0, 0], [10, 0], [10, 10], [0, 10], [0, 0]]
 
@@ -41,7 +41,7 @@ class Points(unittest.TestCase):
         found = points([from_token(token) for token, _, _ in MIDDLES])
         for (token, *wanted), *middle in zip(MIDDLES, *found):
             for number, other in zip(wanted, middle):
-                self.assertLess(apart(number, other), 1e-10, token)
+                self.assertAlmostEqual(number, other, places=10, msg=token)
 
     def test_the_middle_of_a_leaf_lies_in_it(self):
         random = Random(47)

@@ -111,4 +111,5 @@ def points(cells: Any) -> Any:
     [2.3522, 48.8566]
     """
     face, i, j, side = squares_of(cells)
-    return geographic(*on_cube(face, i + side / 2, j + side / 2))
+    x, y, z = on_cube(face, i + side / 2, j + side / 2)
+    return geographic(x + 0.0, y + 0.0, z)  # as S2: -0 is 0, so it is 180 and not -180, and 0 at a pole
