@@ -89,6 +89,8 @@ final class Refusals {
     outOfRange(0, () -> CellUnion.outer(0, 5, 4, 0, 0, 30));
     refused(-6, 0, "too many cells", () -> CellUnion.of(FACE).denormalized(30, 1, 1_000_000));
     refused(-6, 0, "too many cells", () -> CellUnion.of(FACE).denormalized(30, 1, -1));
+    refused(-6, 0, "too many cells", () -> CellUnion.of(FACE).denormalized(1, 1, -1));
+    check(CellUnion.of().denormalized(1, 1, -1).length == 0, "a limit below 0, which is 0");
     refused(-6, 0, "too many cells", () -> CellUnion.of(FACE).denormalized(1, 1, 3));
     check(CellUnion.of(FACE).denormalized(1, 1, 4).length == 4, "a limit that is just met");
     refused(-4, 0, "not a normalized list of cells", () -> CellUnion.fromNormalized(FACE, FACE));

@@ -194,10 +194,13 @@ public final class CellUnion implements Comparable<CellUnion> {
     return Calls.made(Calls.ANCESTORS, ids, Calls.NONE, 2L * ids.length + Calls.LAST_LEVEL);
   }
 
-  /** Its cells cut to the least level that is at least `min`, and `min` plus a multiple of the modulus, 1 to 3. */
+  /**
+   * Its cells cut to the least level that is at least `min`, and `min` plus a multiple of the modulus, 1 to 3. More
+   * than `most` cells are refused; a number below 0 is 0.
+   */
   public long[] denormalized(int min, int modulus, int most) {
     long count = denormalizedSize(min, modulus);
-    if (Long.compareUnsigned(count, most) > 0) throw new Refusal(Calls.MANY, 0);
+    if (Long.compareUnsigned(count, Math.max(most, 0)) > 0) throw new Refusal(Calls.MANY, 0);
     return Calls.made(Calls.DENORMALISED, ids, Calls.NONE, count, min, modulus);
   }
 
