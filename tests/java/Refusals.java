@@ -1,3 +1,6 @@
+import java.io.IOException;
+import java.nio.file.Files;
+import java.nio.file.Path;
 import java.util.Arrays;
 import java.util.List;
 import java.util.stream.IntStream;
@@ -124,6 +127,16 @@ final class Refusals {
     check(CellUnion.fromTokens("04, 0c 14\n1c").toString().equals("1"), "texts");
   }
 
+  /** How many kilobytes of memory the process has. */
+  private static long resident() {
+    try {
+      return Files.readAllLines(Path.of("/proc/self/status")).stream().filter(line -> line.startsWith("VmRSS:"))
+          .mapToLong(line -> Long.parseLong(line.replaceAll("\\D", ""))).sum();
+    } catch (IOException error) {
+      throw new AssertionError(error);
+    }
+  }
+
   /** Lists that are copied, and lists that are not, answer alike. */
   private static void longLists() {
     long[] cells = IntStream.range(0, 1_200_000).mapToLong(k -> CellId.fromFaceIJ(k % 6, 17 * k, 31 * k)).toArray();
@@ -137,6 +150,9 @@ final class Refusals {
     boolean[] found = whole.containsEach(cells);
     check(IntStream.range(0, found.length).allMatch(k -> found[k]), "many questions");
     check(whole.leafCellsCovered() == LongStream.of(whole.cellIds()).map(CellId::leafCellsCovered).sum(), "leaves");
+    long before = resident();
+    for (int k = 0; k < 40; k++) whole.leafCellsCovered();
+    check(resident() - before < 200_000, "copies of 10 MB each are given back");
     List<Thread> threads = IntStream.range(0, 4)
         .mapToObj(k -> new Thread(() -> check(whole.intersection(half).equals(half), "threads"))).toList();
     threads.forEach(Thread::start);

@@ -29,7 +29,7 @@ questions() { PYTHONDONTWRITEBYTECODE=1 /usr/bin/python3 "$top/tests/python/vect
 step "questions" questions
 asked() { # CLASS WORD..: with Java's own checks of native code, which say what they find
   java -Xcheck:jni -cp "$jar:$work/tests" "$@" >"$work/said" 2>&1 || { tail -20 "$work/said" && return 1; }
-  ! grep -E 'WARNING|FATAL' "$work/said" && tail -1 "$work/said"
+  ! grep -Ei 'warning|fatal' "$work/said" && tail -1 "$work/said"
 }
 step "against the model" asked Vectors "$work/vectors"
 step "what is refused, what stays, and long lists" asked Refusals "$(cat "$top/VERSION")"
