@@ -106,20 +106,19 @@ final class Calls {
   static long[] entries(int call, long[] cells, int... numbers) {
     long[] out = new long[cells.length];
     long[] bad = new long[1];
-    make(call, cells, NONE, numbers, out, bad);
-    whole(cells, bad[0]);
+    whole(make(call, cells, NONE, numbers, out, bad), cells, bad[0]);
     return out;
   }
 
   static byte[] bytesOfEach(int call, long[] cells, int each) {
     byte[] out = new byte[roomOf((long) each * cells.length)];
     long[] bad = new long[1];
-    write(call, cells, NONE, out, bad);
-    whole(cells, bad[0]);
+    whole(write(call, cells, NONE, out, bad), cells, bad[0]);
     return out;
   }
 
-  private static void whole(long[] cells, long bad) {
+  private static void whole(int status, long[] cells, long bad) {
+    if (status == MEMORY) checked(status, bad);
     if (bad < cells.length) throw new Refusal(CellId.isCell(cells[(int) bad]) ? ARGUMENT : NO_CELL, bad);
   }
 
