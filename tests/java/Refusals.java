@@ -90,6 +90,8 @@ final class Refusals {
     outOfRange(1, () -> CellId.parents(new long[] {1, FACE}, 3));
     outOfRange(0, () -> CellUnion.of(FACE).denormalized(3, 4, 10));
     outOfRange(0, () -> CellUnion.outer(0, 5, 4, 0, 0, 30));
+    check(CellUnion.outer(0, 0, 999_999, 0, 0, 30).size() == 1_000_000, "the most cells of a covering");
+    refused(-6, 0, "too many cells", () -> CellUnion.outer(0, 0, 1_000_000, 0, 0, 30));
     refused(-6, 0, "too many cells", () -> CellUnion.of(FACE).denormalized(30, 1, 1_000_000));
     refused(-6, 0, "too many cells", () -> CellUnion.of(FACE).denormalized(30, 1, -1));
     refused(-6, 0, "too many cells", () -> CellUnion.of(FACE).denormalized(1, 1, -1));
@@ -123,6 +125,8 @@ final class Refusals {
     union.cellIds()[0] = 3;
     check(union.cellId(0) == FACE && union.size() == 1, "a union never changes");
     check(union.hashCode() == CellUnion.of(FACE).hashCode() && !union.equals(null), "equal unions");
+    CellUnion other = CellUnion.of(3 * FACE);
+    check(!union.equals(other) && !other.equals(union) && union.hashCode() != other.hashCode(), "unions of one length");
     check(CellUnion.of().isEmpty() && CellUnion.of().toString().isEmpty(), "the empty union");
     check(CellUnion.fromTokens("04, 0c 14\n1c").toString().equals("1"), "texts");
   }
