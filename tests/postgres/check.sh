@@ -83,10 +83,11 @@ covered() {
       planner.c=$sources/planner.c value.h=$sources/value.h
 }
 step "what these tests execute" covered
-sanitized() { stopped data && put_in sanitized && with_sanitizers data && again Planner; }
+in_one_session() { S2UNION_ONE_SESSION=yes again "$@"; }
+sanitized() { stopped data && put_in sanitized && with_sanitizers data && in_one_session Planner; }
 step "the same under the sanitizers" sanitized
 valgrind_finds_nothing() {
-  stopped data && put_in guarded && with_valgrind data && S2UNION_ROUNDS=30 again && stopped data &&
+  stopped data && put_in guarded && with_valgrind data && S2UNION_ROUNDS=30 in_one_session && stopped data &&
     ! cat "$work"/valgrind/* | grep .
 }
 step "the same under valgrind" valgrind_finds_nothing

@@ -1,13 +1,15 @@
 """The extension for PostgreSQL against the plain model, its indexes against scans, and what it refuses.
 
 The server is the one that PGHOST names, EXTENSIONS is its folder of extensions, and the model is in tests/python.
-S2UNION_ROUNDS is the number of random rows: 1,000 if it isn't set."""
+S2UNION_ROUNDS is the number of random rows: 1,000 if it isn't set. With S2UNION_ONE_SESSION most scripts share one
+session."""
 
 import bisect
 import hashlib
 import os
 import re
 import subprocess
+import tempfile
 import time
 import unittest
 
@@ -22,6 +24,7 @@ FLIPPED = min(100, ROUNDS // 10)
 QUESTIONS = min(2000, 2 * ROUNDS)
 AS_POSTGRES = ["runuser", "-u", "postgres", "--"] if os.geteuid() == 0 else []
 DATABASE = os.environ.get("PGDATABASE", "postgres")
+PSQL = ["psql", "-XAqt", "-v", "ON_ERROR_STOP=1", "-d"]
 TRY = """
 CREATE OR REPLACE FUNCTION try(query text) RETURNS text LANGUAGE plpgsql AS $$
 DECLARE answer text;
@@ -51,10 +54,43 @@ class Random(random_cells.Random):
         return blank.join(self.choice([model.token, model.debug])(cell) for cell in cells)
 
 
+class Session:
+    """One psql for script after script, of which each finds a session that looks new. Under valgrind and under the
+    sanitizers most of the time of a short script is what a new process of the server takes."""
+
+    END = "the script has ended"
+    STAYS = "s2_limit" # what outlives DISCARD ALL
+
+    def __init__(self):
+        self.process = self.errors = None
+
+    def lines(self, script):
+        if not self.process:
+            self.errors = tempfile.TemporaryFile("w+")
+            self.process = subprocess.Popen([*PSQL, DATABASE], stdin=subprocess.PIPE, stdout=subprocess.PIPE,
+                                            stderr=self.errors, text=True)
+        said = []
+        with tempfile.NamedTemporaryFile("w", suffix=".sql") as file:
+            print(script, file=file, flush=True)
+            print(f"\\i {file.name}\nDISCARD ALL;\n\\echo {self.END}", file=self.process.stdin, flush=True)
+            for line in self.process.stdout:
+                if line == f"{self.END}\n":
+                    return "".join(said).splitlines()
+                said.append(line)
+        self.process = None
+        self.errors.seek(0)
+        raise AssertionError(self.errors.read())
+
+
+SESSION = Session() if "S2UNION_ONE_SESSION" in os.environ else None
+
+
 def psql(script, database=DATABASE):
     """The lines that a script writes. An error of the server ends the script."""
-    command = ["psql", "-XAqt", "-v", "ON_ERROR_STOP=1", "-d", database]
-    run = subprocess.run(command, input=script, stdout=subprocess.PIPE, stderr=subprocess.PIPE, text=True, check=False)
+    if SESSION and database == DATABASE and SESSION.STAYS not in script:
+        return SESSION.lines(script)
+    run = subprocess.run([*PSQL, database], input=script, stdout=subprocess.PIPE, stderr=subprocess.PIPE, text=True,
+                         check=False)
     if run.returncode != 0:
         raise AssertionError(run.stderr)
     return run.stdout.splitlines()
