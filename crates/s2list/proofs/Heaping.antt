@@ -1,24 +1,21 @@
 -- A set of leaves that is put together from its intervals, from the first leaf to the last.
 use Rattle.std.proofs.Common.{◌≡◌, ℕ, ◌+◌, ◌-◌, ◌<◌, ◌≤◌, sym, ◌∙◌, arith, Bool, true, false, ◌||◌}
-use Rattle.std.proofs.Common.{refl, subst, inl, max, ap, List, [], ◌∷◌, ◌++◌, length, get_or}
+use Rattle.std.proofs.Common.{refl, subst, List, []}
 use Rattle.std.proofs.Math.Logic.{⊎_elim}
 use Rattle.std.proofs.lemmas.Bool.{cases_lt, false≢true}
 use Rattle.std.proofs.lemmas.Bool.Decides.{nat_tests}
-use Rattle.std.proofs.lemmas.List.{append-nil}
-use Rattle.s2cell.specs.Cell.{IsCell, first_leaf, size_of}
+use Rattle.s2cell.specs.Cell.{first_leaf, size_of}
 use Rattle.s2cell.specs.declared.TheConstants.{LEAVES}
-use Rattle.s2cell.proofs.CellLemmas.{cell_leaves}
 use Rattle.s2cell.proofs.Leaves.{covers_there, covers_from}
-use Rattle.s2list.specs.Union.{IsLocal, has_leaf, between}
+use Rattle.s2list.specs.Union.{has_leaf, between}
 use Rattle.s2list.specs.Working.Union.{EndsBy}
-use Rattle.s2list.specs.Working.Piles.{Brings, HeapIn, Heaping, IsAround, PileIn}
+use Rattle.s2list.specs.Working.Piles.{Brings, HeapIn, Heaping, PileIn}
 use Rattle.s2list.specs.declared.pile.Pile.{Pile}
-use Rattle.s2list.specs.Packed.{FillsGap, FirstEndBy}
+use Rattle.s2list.specs.Packed.{FillsGap}
 use Rattle.s2list.specs.Output.{Fills, Writes}
-use Rattle.s2list.proofs.Checking.{packed_from_local}
-use Rattle.s2list.proofs.Picking.{Picked, IsGap, picked_fill, picked_none, fill_leaves, between_ends}
-use Rattle.s2list.proofs.Tiling.{Tiling, or_true, or_false, none_between, tiling_done, tiling_step}
-use Rattle.s2list.proofs.Walking.{ended_later, ended_more, gap, leaf_there, not_true}
+use Rattle.s2list.proofs.Picking.{Picked, IsGap, picked_fill, fill_leaves, between_ends}
+use Rattle.s2list.proofs.Tiling.{or_true, or_false, none_between}
+use Rattle.s2list.proofs.Walking.{not_true}
 use Rattle.s2list.proofs.Writing.{Counts, written_normal}
 
 pub or_right : (a b : Bool) → b ≡ true → (a || b) ≡ true
@@ -46,12 +43,9 @@ heaping_none S = record {
   leaves = λ x h. absurd (omega arith);
 }
 
-pub pile_none : {S : ℕ → Bool} (Holds : ℕ → List ℕ → Type 0) (p : Pile) → p.n ≡ 0 → p.lo ≡ 0 → p.hi ≡ 0 → p.cell ≡ 0 →
-    Holds 0 [] → PileIn S Holds p 0
-pile_none {S} Holds p n lo hi cell held = record {
-  heap = rw (n, lo, hi) (record { list = []; held = held; heap = heaping_none S });
-  around = λ h. absurd (omega arith);
-}
+pub pile_none : {S : ℕ → Bool} (Holds : ℕ → List ℕ → Type 0) (p : Pile) → p.n ≡ 0 → p.lo ≡ 0 → p.hi ≡ 0 → Holds 0 [] →
+    PileIn S Holds p 0
+pile_none {S} Holds p n lo hi held = rw (n, lo, hi) (record { list = []; held = held; heap = heaping_none S })
 
 -- the set has no leaf up to `next`
 pub heaping_on : {S : ℕ → Bool} {list : List ℕ} {lo hi done : ℕ} (next : ℕ) → Heaping S list lo hi done → done ≤ next →
@@ -225,21 +219,3 @@ heap_done {S} {Holds} {More} {lo} {hi} {done} {n} counts s none put =
     ∙ sym (none x (omega arith)))
     (cases_lt x (done + 1)))
     held
-
--- a cell, as the normal form of its leaves
-pub one_cell : (list : List ℕ) (c lo hi : ℕ) → IsCell c → first_leaf c ≡ lo → first_leaf c + size_of c ≡ hi →
-    FillsGap list (list ++ c ∷ []) lo hi
-one_cell list c lo hi own first end =
-    let none : Tiling list list lo hi lo = record {
-      tiles = [];
-      is = sym (append-nil list);
-      picked = picked_none (between lo hi);
-      start = omega arith;
-      reach = inl refl;
-      below = λ x h. absurd (false≢true h);
-      leaves = λ x. sym (none_between lo x);
-      closed = λ q cq low high h. absurd (omega arith);
-    } in
-    tiling_done list (list ++ c ∷ []) lo hi (first_leaf c + size_of c)
-    (tiling_step list list (list ++ c ∷ []) lo hi lo c none own first (omega arith) (λ q cq at by. omega arith) refl)
-    (omega arith)

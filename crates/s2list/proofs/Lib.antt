@@ -28,6 +28,7 @@ mod Laying
 mod Leaping
 mod Leaving
 mod Sharing
+mod Uniting
 mod Marking
 mod Narrowing
 mod Running

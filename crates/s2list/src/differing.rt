@@ -1,29 +1,19 @@
 //! The leaves that exactly one of two lists of cells has, written to a list that grows or to a room.
-ghost use Rattle.std.specs.Prelude.{◌≡◌, ◌+◌, ◌<◌, ◌≤◌, [], ℕ, IfErr, IfOk, true, false, length};
+ghost use Rattle.std.specs.Prelude.{◌≡◌, ◌+◌, ◌<◌, ◌≤◌, [], IfErr, IfOk};
 ghost use Rattle.s2list.specs.Union.{IsLocal, has_leaf};
-ghost use Rattle.s2list.specs.Packed.{FirstEndBy};
 ghost use Rattle.s2list.specs.Sets.{in_one};
 ghost use Rattle.s2list.specs.Output.{Writes};
 
 use crate::cells::Cells;
-use crate::find::{end_of, first_of};
-use crate::output::Output;
-use crate::pile::{Pile, add, finish, lay_x, lay_y};
-use crate::stretch::{NEVER, run_to};
-use s2cell::LEAVES;
+use crate::output::Copies;
+use crate::pile::{Pile, add, finish, lay};
+use crate::stretch::{rest_of, run_to};
 use std::alloc::AllocError;
-
-/// The leaves from `first` to before `end`.
-#[derive(Clone, Copy)]
-struct Piece {
-    first: u64,
-    end: u64,
-}
 
 /// Writes the leaves that exactly one of two unions has, and answers how many cells they are. One pass over both lists:
 /// each turn passes the cell that ends first, or both if they end together. What only one of them has of its leaves
 /// comes before the other begins, and is added as one interval.
-pub fn write_symmetric_difference<X: Cells, Y: Cells, W: Output<X, Y>>(
+pub fn write_symmetric_difference<X: Cells, Y: Cells, W: Copies<X> + Copies<Y>>(
     xs: &X,
     ys: &Y,
     out: &mut W,
@@ -37,12 +27,7 @@ pub fn write_symmetric_difference<X: Cells, Y: Cells, W: Output<X, Y>>(
 {
     let x_len = xs.len();
     let y_len = ys.len();
-    let mut pile = Pile {
-        n: 0,
-        lo: 0,
-        hi: 0,
-        cell: 0,
-    };
+    let mut pile = Pile { n: 0, lo: 0, hi: 0 };
     let mut done = 0;
     let mut i = 0;
     let mut j = 0;
@@ -52,18 +37,18 @@ pub fn write_symmetric_difference<X: Cells, Y: Cells, W: Output<X, Y>>(
         let x_stop = run_to(xs, i, done, y.first);
         let y_stop = run_to(ys, j, done, x.first);
         if i < x_stop {
-            pile = lay_x(out, pile, xs, i, x_stop)?;
+            pile = lay(out, pile, xs, i, x_stop)?;
             done = pile.hi;
             i = x_stop;
         } else if j < y_stop {
-            pile = lay_y(out, pile, ys, j, y_stop)?;
+            pile = lay(out, pile, ys, j, y_stop)?;
             done = pile.hi;
             j = y_stop;
         } else {
             let end = x.end.min(y.end);
             let from = x.first.min(y.first);
             let to = x.first.max(y.first).min(end);
-            pile = add(out, pile, 0, from, to)?;
+            pile = add(out, pile, from, to)?;
             done = done.max(end);
             i = past(i, x_len, x.end, done);
             j = past(j, y_len, y.end, done);
@@ -83,31 +68,4 @@ fn past(i: usize, len: usize, end: u64, done: u64) -> usize
         return i + 1;
     }
     i
-}
-
-/// The leaves from `done` on of the cell at index `i`, if there is one; else none, after all others.
-#[inline(always)]
-fn rest_of<C: Cells>(cells: &C, i: usize, done: u64) -> Piece
-    ensures first { done ≤ result.first }
-    ensures free { IsLocal (C.ids cells.now) → FirstEndBy (C.ids cells.now) i done
-        → (x : ℕ) → done ≤ x → x < result.first → has_leaf (C.ids cells.now) x ≡ false }
-    ensures taken { IsLocal (C.ids cells.now) → (x : ℕ) → result.first ≤ x → x < result.end
-        → has_leaf (C.ids cells.now) x ≡ true }
-    ensures ended { IsLocal (C.ids cells.now) → i < length (C.ids cells.now)
-        → FirstEndBy (C.ids cells.now) i done → (lo : ℕ) → done ≤ lo → result.end ≤ lo
-        → FirstEndBy (C.ids cells.now) (i + 1) lo }
-    ensures within { IsLocal (C.ids cells.now) → i < length (C.ids cells.now) → result.end ≤ LEAVES }
-    ensures last { length (C.ids cells.now) ≤ i → result.end ≡ NEVER }
-{
-    if i < cells.len() {
-        let id = cells.id(i);
-        return Piece {
-            first: first_of(id).max(done),
-            end: end_of(id),
-        };
-    }
-    Piece {
-        first: NEVER,
-        end: NEVER,
-    }
 }

@@ -19,6 +19,7 @@ mod cells;
 mod differing;
 mod find;
 mod four;
+mod join;
 pub mod laws;
 mod looks;
 mod output;
@@ -44,8 +45,9 @@ pub use find::{
     NEARBY, end_of, find_counted, find_from, find_from_counted, find_id_counted, first_of,
 };
 pub use four::{Places, places_of_four, places_of_four_counted};
+pub use join::write_union;
 pub use looks::{Count, Counted, Looks, Uncounted, look};
-pub use output::Output;
+pub use output::{Copies, Output};
 pub use outside::write_complement;
 pub use run::cells_at;
 pub use share::write_shared;

@@ -13,26 +13,21 @@ use std::alloc::AllocError;
 
 /// Writes the leaves of the six faces that a union lacks, and answers how many cells they are. One pass, which fills
 /// the gaps between the cells.
-pub fn write_complement<X: Cells, W: Output<X, X>>(xs: &X, out: &mut W) -> Result<usize, AllocError>
+pub fn write_complement<X: Cells, W: Output>(xs: &X, out: &mut W) -> Result<usize, AllocError>
     requires empty { W.holds [] out.old out.old 0 }
     ensures place { W.place out.new ≡ W.place out.old }
     ensures made { IfOk result (λ n. IsLocal (X.ids xs.now)
         → Writes (outside (has_leaf (X.ids xs.now))) (λ list. W.holds list out.old out.new n) n) }
     ensures sure { IfErr result (λ _. W.refuses) }
 {
-    let mut pile = Pile {
-        n: 0,
-        lo: 0,
-        hi: 0,
-        cell: 0,
-    };
+    let mut pile = Pile { n: 0, lo: 0, hi: 0 };
     let mut done = 0;
     for i in 0..xs.len() {
         let id = xs.id(i);
-        pile = add(out, pile, 0, done, first_of(id))?;
+        pile = add(out, pile, done, first_of(id))?;
         done = end_of(id);
     }
-    let last = add(out, pile, 0, done, LEAVES)?;
+    let last = add(out, pile, done, LEAVES)?;
     let n = finish(out, last)?;
     Ok(n)
 }

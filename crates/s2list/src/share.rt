@@ -9,7 +9,7 @@ use crate::along::find_along;
 use crate::cells::Cells;
 use crate::find::{end_of, find_from_counted, first_of};
 use crate::looks::{Count, look};
-use crate::output::Output;
+use crate::output::Copies;
 use std::alloc::AllocError;
 
 /// Writes the leaves that two unions share, and answers how many cells they are. Whichever list is behind is searched
@@ -18,7 +18,7 @@ use std::alloc::AllocError;
 /// Let unions have `m` and `n` cells, which in the order of their first leaves are `d` runs of each, and the result `r`
 /// cells. Then it looks at most `8 (d + 1) (1 + log2((m + n) / (d + 1))) + 4 r` times at a number of either list, with
 /// the logarithm rounded up. What reads a cell to write it isn't counted.
-pub fn write_shared<X: Cells, Y: Cells, W: Output<X, Y>, K: Count>(
+pub fn write_shared<X: Cells, Y: Cells, W: Copies<X> + Copies<Y>, K: Count>(
     xs: &X,
     ys: &Y,
     out: &mut W,
@@ -55,12 +55,12 @@ pub fn write_shared<X: Cells, Y: Cells, W: Output<X, Y>, K: Count>(
             j = find_along(ys, j, j + 1, x_first, count);
         } else if is_within(x_first, x_end, y_first, y_end) {
             let next = find_from_counted(xs, i + 1, y_end, count);
-            n = out.put_x(n, xs, i, next)?;
+            n = out.put_run(n, xs, i, next)?;
             i = next;
             j += 1;
         } else {
             let next = find_from_counted(ys, j + 1, x_end, count);
-            n = out.put_y(n, ys, j, next)?;
+            n = out.put_run(n, ys, j, next)?;
             j = next;
             i += 1;
         }

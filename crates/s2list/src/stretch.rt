@@ -1,13 +1,23 @@
-//! A stretch of one list before the next cell of another, which an operation may copy whole.
-ghost use Rattle.std.specs.Prelude.{◌≡◌, ◌+◌, ◌-◌, ◌^◌, ◌<◌, ◌≤◌, IsTrue, length, slice_index};
+//! What comes next of a list on a walk along two: the leaves of its next cell, or a stretch of cells before the next
+//! cell of the other list, which an operation may copy whole.
+ghost use Rattle.std.specs.Prelude.{◌≡◌, ◌+◌, ◌-◌, ◌^◌, ◌<◌, ◌≤◌, ℕ, IsTrue, length, slice_index, true, false};
 ghost use Rattle.s2cell.specs.Cell.{IsCell, first_leaf, size_of};
-ghost use Rattle.s2list.specs.Union.{IsLocal};
+ghost use Rattle.s2list.specs.Union.{IsLocal, has_leaf};
+ghost use Rattle.s2list.specs.Packed.{FirstEndBy};
 
 use crate::cells::Cells;
 use crate::find::{end_of, find_from, first_of};
+use s2cell::LEAVES;
 
 /// The end of the leaves of cells that there are not, which no cell reaches.
 pub(crate) const NEVER: u64 = u64::MAX;
+
+/// The leaves from `first` to before `end`.
+#[derive(Clone, Copy)]
+pub(crate) struct Piece {
+    pub(crate) first: u64,
+    pub(crate) end: u64,
+}
 
 /// How many cells a run has at least, before it is looked for.
 const RUN: usize = 8;
@@ -47,6 +57,9 @@ fn cut_before<C: Cells>(cells: &C, i: usize, mark: u64) -> usize
         → first_leaf (slice_index (C.ids cells.now) (result - 1)) + size_of (slice_index (C.ids cells.now) (result - 1))
         < mark }
 {
+    if mark == NEVER {
+        return cells.len();
+    }
     let mut stop = find_from(cells, i + RUN, mark);
     while i < stop {
         if is_cut(cells, stop, mark) {
@@ -78,4 +91,31 @@ fn is_cut<C: Cells>(cells: &C, stop: usize, mark: u64) -> bool
     }
     let next = first_of(cells.id(stop));
     end < next
+}
+
+/// The leaves from `done` on of the cell at index `i`, if there is one; else none, after all others.
+#[inline(always)]
+pub(crate) fn rest_of<C: Cells>(cells: &C, i: usize, done: u64) -> Piece
+    ensures first { done ≤ result.first }
+    ensures free { IsLocal (C.ids cells.now) → FirstEndBy (C.ids cells.now) i done
+        → (x : ℕ) → done ≤ x → x < result.first → has_leaf (C.ids cells.now) x ≡ false }
+    ensures taken { IsLocal (C.ids cells.now) → (x : ℕ) → result.first ≤ x → x < result.end
+        → has_leaf (C.ids cells.now) x ≡ true }
+    ensures ended { IsLocal (C.ids cells.now) → i < length (C.ids cells.now)
+        → FirstEndBy (C.ids cells.now) i done → (lo : ℕ) → done ≤ lo → result.end ≤ lo
+        → FirstEndBy (C.ids cells.now) (i + 1) lo }
+    ensures within { IsLocal (C.ids cells.now) → i < length (C.ids cells.now) → result.end ≤ LEAVES }
+    ensures last { length (C.ids cells.now) ≤ i → result.end ≡ NEVER }
+{
+    if i < cells.len() {
+        let id = cells.id(i);
+        return Piece {
+            first: first_of(id).max(done),
+            end: end_of(id),
+        };
+    }
+    Piece {
+        first: NEVER,
+        end: NEVER,
+    }
 }

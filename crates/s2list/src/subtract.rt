@@ -10,14 +10,14 @@ use crate::ask::begins_at;
 use crate::cells::Cells;
 use crate::find::{end_of, find_from, first_of};
 use crate::looks::Uncounted;
-use crate::output::Output;
+use crate::output::Copies;
 use std::alloc::AllocError;
 
 /// Writes the leaves of the first union that the second doesn't have, and answers how many cells they are. Stops once
 /// they are more than `most`, and answers some number above it. Searches, in steps that leap, for the next cell of `ys`
 /// that ends after the leaves done, and for the next of `xs` that goes beyond it. The cells of `xs` before the next of
 /// `ys` are written as one run.
-pub fn write_difference<X: Cells, Y: Cells, W: Output<X, Y>>(
+pub fn write_difference<X: Cells, Y: Cells, W: Copies<X> + Copies<Y>>(
     xs: &X,
     ys: &Y,
     most: usize,
@@ -48,7 +48,7 @@ pub fn write_difference<X: Cells, Y: Cells, W: Output<X, Y>>(
             i = leap_if(end <= lo, xs, i, lo);
         } else if start == first {
             let next = free_until(xs, i, ys, j);
-            n = out.put_x(n, xs, i, next)?;
+            n = out.put_run(n, xs, i, next)?;
             lo = end_of(xs.id(next - 1));
             i = next;
         } else {

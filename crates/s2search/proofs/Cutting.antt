@@ -1,10 +1,8 @@
 -- The cells that a union is cut into, as they are put into a room one after the other.
-use Rattle.std.proofs.Common.{◌≡◌, ℕ, ◌+◌, ◌-◌, ◌*◌, ◌^◌, ◌<◌, ◌≤◌, refl, ap, ◌∙◌, arith, List, []}
-use Rattle.std.proofs.Common.{◌∷◌, ◌++◌, length, get_or, take, drop, map, add-one, append_assoc, drop-cons, drop-drop}
+use Rattle.std.proofs.Common.{◌≡◌, ℕ, ◌+◌, ◌-◌, ◌*◌, ◌^◌, ◌<◌, ◌≤◌, refl, sym, ap, ◌∙◌, arith, List, []}
+use Rattle.std.proofs.Common.{◌∷◌, ◌++◌, length, get_or, take, drop, map}
 use Rattle.std.specs.List.{range_with_len}
 use Rattle.std.proofs.Math.ListN.{set}
-use Rattle.std.proofs.Math.Seq.{set-append_seam, take-append_seam, drop-append-add}
-use Rattle.std.proofs.lemmas.List.{length-append, length-take-le}
 use Rattle.std.proofs.lemmas.List.FromFn.{length-map-range_with_len, map-range_with_len_more}
 use Rattle.s2cell.specs.Cell.{IsCell, level_of, size_of}
 use Rattle.s2cell.specs.Descendant.{descendant_of}
@@ -16,7 +14,7 @@ use Rattle.s2union.specs.Denorm.{cells_in, cut_level, denormalised}
 use Rattle.s2union.proofs.Items.{Listing, listing_start, listing_more, listing_done, length-denormalised-le}
 use Rattle.s2search.specs.Working.Room.{IsPut}
 use Rattle.s2search.specs.Room.{PutsOne}
-use Rattle.s2search.proofs.Putting.{put_none}
+use Rattle.s2search.proofs.Putting.{item_put, put_none}
 
 -- the cells of a level in a cell are one step apart
 pub record Stepped (n k i f s : ℕ) : Type 0 where
@@ -42,9 +40,7 @@ stepped n k i f s c own deep h e es =
     let is : f + i * (2 * s) ≡ descendant_of n k i = rw size (omega arith) in
     record { is = is; fits = omega arith }
 
--- ---- the cells of a level in a cell
-
--- the next one is written
+-- the next cell of a level in a cell is written
 pub item_more : (n k i level cell x : ℕ) (old out : List ℕ) → n + k < length old → i ≡ 0 →
     out ≡ (take n old ++ map (descendant_of cell level) (range_with_len i k)) ++ drop (n + k) old
     → x ≡ descendant_of cell level k
@@ -52,44 +48,9 @@ pub item_more : (n k i level cell x : ℕ) (old out : List ℕ) → n + k < leng
     ++ drop (n + (k + 1)) old
 item_more n k i level cell x old out h z e is =
     let items = map (descendant_of cell level) (range_with_len i k) in
-    let front = take n old ++ items in
-    let len_n : length (take n old) ≡ n = length-take-le n old (omega arith) in
-    let len_k : length items ≡ k = length-map-range_with_len (descendant_of cell level) i k in
-    let len_a : length front ≡ length (take n old) + length items = length-append (take n old) items in
-    let len : length front ≡ n + k = omega arith in
-    let d : drop (n + k) old ≡ get_or old (n + k) 0 ∷ drop (n + k + 1) old = rw (add-one, drop-cons old (n + k) 0) in
-    let seam : set (front ++ get_or old (n + k) 0 ∷ drop (n + k + 1) old) (length front) x
-    ≡ front ++ x ∷ drop (n + k + 1) old = set-append_seam front (get_or old (n + k) 0) (drop (n + k + 1) old) x in
-    let more : map (descendant_of cell level) (range_with_len i (k + 1)) ≡ items ++ descendant_of cell level k ∷ [] =
-    map-range_with_len_more (descendant_of cell level) i k k (omega arith) in
-    let outer : (front ++ x ∷ []) ++ drop (n + k + 1) old ≡ front ++ (x ∷ [] ++ drop (n + k + 1) old) =
-    append_assoc front (x ∷ []) (drop (n + k + 1) old) in
-    let inner : front ++ x ∷ [] ≡ take n old ++ (items ++ x ∷ []) = append_assoc (take n old) items (x ∷ []) in
-    let at : n + (k + 1) ≡ n + k + 1 = omega arith in
-    cc
-
--- all are written
-pub items_there : (list items room before out : List ℕ) (n count : ℕ) → IsPut list room before n →
-    n + count ≤ length before → length before < 2 ^ 64 → length out ≡ length before → length items ≡ count
-    → out ≡ (take n before ++ items) ++ drop (n + count) before → IsPut (list ++ items) room out (n + count)
-items_there list items room before out n count p h fits same len_i e =
-    let len : length (list ++ items) ≡ length list + length items = length-append list items in
-    let s = p.same_length in
-    record {
-      same_length = same ∙ p.same_length;
-      len_is = λ l. let a : n ≡ length list = p.len_is (omega arith) in omega arith;
-      front = λ l.
-          let k = length list in
-          let a : n ≡ k = p.len_is (omega arith) in
-          let f : before ≡ list ++ drop k room = p.front (omega arith) in
-          let t : take k (list ++ drop k room) ≡ list = take-append_seam list (drop k room) in
-          let d : drop (k + count) (list ++ drop k room) ≡ drop count (drop k room) =
-          drop-append-add list (drop k room) count in
-          let b : drop count (drop k room) ≡ drop (k + count) room = drop-drop count k room in
-          let at : length (list ++ items) ≡ k + count = omega arith in
-          let rest : drop (length (list ++ items)) room ≡ drop (k + count) room = ap (λ m. drop m room) at in
-          cc;
-    }
+    item_put items (map (descendant_of cell level) (range_with_len i (k + 1))) old out n k x h
+    (length-map-range_with_len (descendant_of cell level) i k)
+    (map-range_with_len_more (descendant_of cell level) i k k (omega arith) ∙ ap (λ v. items ++ v ∷ []) (sym is)) e
 
 -- ---- those of all cells
 

@@ -2,7 +2,7 @@
 use Rattle.std.proofs.Common.{◌≡◌, ℕ, zero, suc, ◌+◌, ◌-◌, ◌^◌, ◌<◌, ◌≤◌, ◌⊎◌, inl, inr, refl, sym}
 use Rattle.std.proofs.Common.{◌∙◌, ap, subst, arith}
 use Rattle.std.proofs.Common.{Bool, true, false, cond, List, [], ◌∷◌, ◌++◌, length}
-use Rattle.std.proofs.Common.{get_or, take, drop, Contains}
+use Rattle.std.proofs.Common.{get_or, take, drop, All, Contains}
 use Rattle.std.proofs.Math.Logic.{⊎_elim}
 use Rattle.std.proofs.lemmas.Bool.{cases_lt, cond-true, cond-false, le-leb, leb-true, false_from_ne_true}
 use Rattle.std.proofs.lemmas.List.{append-nil, get_or-map, length-append, length-map, take_all, take-append-drop}
@@ -25,7 +25,6 @@ use Rattle.s2list.proofs.Normal.{greatest_apart, member_greatest}
 use Rattle.s2search.specs.Cut.{reaches, cut_at, cells_cut, cells_kept}
 use Rattle.s2search.specs.Room.{PutsUpTo}
 use Rattle.s2search.specs.Working.Room.{IsPut}
-use Rattle.s2search.proofs.Piling.{Begins}
 
 -- ---- a cell, cut
 
@@ -118,6 +117,11 @@ cut_order k a b ca cb le =
     (cases_lt k (level_of b))
 
 -- ---- the cells of a union, cut
+
+-- the cells of `u` are in the order of their first leaves
+pub record Begins (u : List ℕ) : Type 0 where
+  pub cells : All IsCell u
+  pub order : (j k : ℕ) → j ≤ k → k < length u → first_leaf (get_or u j 0) ≤ first_leaf (get_or u k 0)
 
 pub begins_cut : (k : ℕ) (u : List ℕ) → IsPacked u → Begins (cells_cut k u)
 begins_cut k u p =

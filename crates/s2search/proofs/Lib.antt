@@ -2,11 +2,9 @@
 pub mod Numbers
 pub mod Levelling
 -- Of this crate alone.
-mod Laying
 mod Merging
 mod Cutting
 mod Holders
 mod Reaching
-mod Piling
 mod Rows
 mod Putting

@@ -1,18 +1,22 @@
 -- Two lists of cells, merged.
 use Rattle.std.proofs.Common.{◌≡◌, ℕ, ◌+◌, ◌<◌, refl, sym, ◌∙◌, ap, subst, Bool, true, false, ◌||◌}
 use Rattle.std.proofs.Common.{List, length, get_or, take, All}
+use Rattle.std.proofs.Math.Bool.{or_comm}
 use Rattle.std.proofs.Math.ListN.{set}
 use Rattle.std.proofs.lemmas.List.{take_more, take_more_set}
 use Rattle.std.proofs.lemmas.List.Elements.{All-push}
 use Rattle.s2cell.specs.Cell.{IsCell, covers}
 use Rattle.s2list.specs.Union.{has_leaf}
 use Rattle.s2list.proofs.Shared.{has_leaf-push}
-use Rattle.s2search.proofs.Piling.{or_last}
 
 -- the first `n` cells of `out` have the leaves of the first `i` of `xs` and the first `j` of `ys`
 pub record Merged (xs ys out : List ℕ) (i j n : ℕ) : Type 0 where
   pub cells : All IsCell (take n out)
   pub leaves : (x : ℕ) → has_leaf (take n out) x ≡ (has_leaf (take i xs) x || has_leaf (take j ys) x)
+
+or_last : (a b c : Bool) → ((a || b) || c) ≡ ((a || c) || b)
+or_last true b c = refl
+or_last false b c = or_comm b c
 
 or_second : (a b c : Bool) → ((a || b) || c) ≡ (a || (b || c))
 or_second true b c = refl

@@ -2,4 +2,4 @@
 -- docs/STATEMENT.md says what is.
 pub mod Room
 pub mod Ancestors
-pub mod Piles
+pub mod Rows

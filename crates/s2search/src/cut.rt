@@ -1,17 +1,18 @@
 //! The cells of a union cut to a level, written into a room or a list of their own: they are the coverings of the union
 //! at that level. Those that are replaced by ancestors are put together row by row.
-ghost use Rattle.std.specs.Prelude.{◌≡◌, ◌<◌, ◌≤◌, ℕ, List, IfNone, IfOk, IfSome, length, slice_index, take};
+ghost use Rattle.std.specs.Prelude.{◌≡◌, ◌<◌, ◌≤◌, [], ℕ, List, IfErr, IfNone, IfOk, IfSome, length, slice_index, take};
 ghost use Rattle.s2cell.specs.Cell.{IsCell, first_leaf, level_of};
 ghost use Rattle.s2list.specs.Union.{IsLocal, IsNormalForm, has_leaf};
+ghost use Rattle.s2list.specs.Output.{WritesUpTo};
 ghost use Rattle.s2search.specs.Cut.{cells_cut, cells_kept, cut_at};
 ghost use Rattle.s2search.specs.Room.{PutsUpTo};
-ghost use Rattle.s2search.specs.Working.Piles.{HasRow};
+ghost use Rattle.s2search.specs.Working.Rows.{HasRow};
 
 use crate::cells::cell_of;
-use crate::room::{put, put_gap};
+use crate::room::{Room, put};
 use s2cell::{CellId, GREATEST_LEVEL};
-use s2list::{Cells, end_of, find_from, first_of};
-use s2union::{CellUnion, fill_gap};
+use s2list::{Cells, Output, end_of, find_from, first_of};
+use s2union::{CellUnion, Grown};
 use std::alloc::{AllocError, Global};
 
 /// Leaves in a row, from `lo` to before `hi`, the place of the cell after those that have them, and that cell, cut to
@@ -34,16 +35,11 @@ pub fn put_cut<C: Cells>(cells: &C, level: u8, most: usize, out: &mut [u64]) -> 
     ensures made { IsLocal (C.ids cells.now)
         → PutsUpTo most (IsNormalForm (has_leaf (cells_cut level (C.ids cells.now)))) out.old out.new result }
 {
-    let mut n = 0;
-    let mut i = 0;
-    let mut first = first_cut(cells, level);
-    while i < cells.len() && n <= most {
-        let row = row_at(cells, i, first, level);
-        n = put_gap(out, n, row.lo, row.hi);
-        i = row.next;
-        first = row.after;
+    let mut room = Room { out };
+    match write_cut(cells, level, most, &mut room) {
+        Ok(n) => n,
+        Err(_) => unreachable!(),
     }
-    n
 }
 
 /// The same as a union of its own, if they are at most `most`. Takes memory for as many cells as the union has, and
@@ -65,18 +61,40 @@ pub fn union_cut<C: Cells>(
         IsNormalForm (has_leaf (cells_cut level (C.ids cells.now))) u → most < length u)) }
 {
     let mut list = Vec::with_capacity(alloc, cells.len())?;
-    let mut i = 0;
-    let mut first = first_cut(cells, level);
-    while i < cells.len() && list.len() <= most {
-        let row = row_at(cells, i, first, level);
-        fill_gap(&mut list, row.lo, row.hi)?;
-        i = row.next;
-        first = row.after;
-    }
-    if list.len() > most {
+    let mut grown = Grown {
+        list: &mut list,
+        most,
+    };
+    if write_cut(cells, level, most, &mut grown)? > most {
         return Ok(None);
     }
     Ok(Some(CellUnion::from_normalized(list)))
+}
+
+/// Writes the cells of a union, cut to a level and normalized, as `put_cut` says.
+fn write_cut<C: Cells, W: Output>(
+    cells: &C,
+    level: u8,
+    most: usize,
+    out: &mut W,
+) -> Result<usize, AllocError>
+    requires level { level ≤ GREATEST_LEVEL }
+    requires empty { W.holds [] out.old out.old 0 }
+    ensures place { W.place out.new ≡ W.place out.old }
+    ensures made { IfOk result (λ n. IsLocal (C.ids cells.now) → WritesUpTo most
+        (has_leaf (cells_cut level (C.ids cells.now))) (λ list. W.holds list out.old out.new n) n) }
+    ensures sure { IfErr result (λ _. W.refuses) }
+{
+    let mut n = 0;
+    let mut i = 0;
+    let mut first = first_cut(cells, level);
+    while i < cells.len() && n <= most {
+        let row = row_at(cells, i, first, level);
+        n = out.put_gap(n, row.lo, row.hi)?;
+        i = row.next;
+        first = row.after;
+    }
+    Ok(n)
 }
 
 /// The first cell, cut to the level; 0 if there is none.

@@ -19,7 +19,6 @@ pub mod laws;
 mod merge;
 mod normalising;
 mod outside;
-mod pile;
 mod room;
 mod share;
 mod subtract;

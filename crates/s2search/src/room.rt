@@ -3,7 +3,7 @@ ghost use Rattle.std.specs.Prelude.{◌≡◌, ◌+◌, ◌-◌, ◌<◌, ◌≤
 ghost use Rattle.s2search.specs.Working.Room.{IsPut, PutsGap};
 
 use s2cell::{CellId, LEAVES};
-use s2list::{Cells, Output};
+use s2list::{Cells, Copies, Output};
 use std::alloc::AllocError;
 
 /// A caller's room, into which a set operation writes.
@@ -12,31 +12,30 @@ pub(crate) struct Room<'a> {
     pub(crate) out: &'a mut [u64],
 }
 
-impl<'a, X: Cells, Y: Cells> Output<X, Y> for Room<'a> {
+impl<'a> Output for Room<'a> {
     ghost holds = { λ list old now n. IsPut list old.out.now now.out.now n };
 
     ghost place = { λ r. r.out.ghost_name };
 
     ghost refuses = { ⊥ };
 
-    fn put_x(&mut self, n: usize, xs: &X, from: usize, to: usize) -> Result<usize, AllocError> {
-        Ok(put_run(self.out, n, xs, from, to))
-    }
-
-    fn put_y(&mut self, n: usize, ys: &Y, from: usize, to: usize) -> Result<usize, AllocError> {
-        Ok(put_run(self.out, n, ys, from, to))
-    }
-
-    #[inline(always)]
-    fn put_cell(&mut self, n: usize, id: u64) -> Result<usize, AllocError> {
-        Ok(put(self.out, n, id))
-    }
-
     fn put_gap(&mut self, n: usize, lo: u64, hi: u64) -> Result<usize, AllocError> {
         Ok(put_gap(self.out, n, lo, hi))
     }
 
     ghost counts = { λ list old now n put few. put.len_is few };
+}
+
+impl<'a, C: Cells> Copies<C> for Room<'a> {
+    fn put_run(
+        &mut self,
+        n: usize,
+        cells: &C,
+        from: usize,
+        to: usize,
+    ) -> Result<usize, AllocError> {
+        Ok(put_run(self.out, n, cells, from, to))
+    }
 }
 
 /// Puts an identifier after the first `n`, if there is room, and answers how many they are then.

@@ -11,7 +11,7 @@ use Rattle.s2list.specs.Output.{Fills, Writes, WritesUpTo}
 use Rattle.s2list.proofs.Checking.{packed_from_local}
 use Rattle.s2list.proofs.Normal.{local_from_normal, normal_form_same, one_normal_form}
 use Rattle.s2list.proofs.Writing.{few_cells}
-use Rattle.s2union.specs.Working.Grown.{IsGrown}
+use Rattle.s2union.specs.Grown.{IsGrown}
 
 -- a gap that ends with the last leaf, unless it is empty
 gap_to : (items new : List ℕ) (lo hi end : ℕ) → FillsGap items new lo end → (lo < hi → end ≡ hi) → end ≤ hi →

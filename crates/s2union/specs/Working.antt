@@ -2,7 +2,6 @@
 -- docs/STATEMENT.md says what is.
 pub mod Cursor
 pub mod Denorm
-pub mod Grown
 pub mod Merge
 pub mod Sets
 pub mod Tail

@@ -1,85 +1,31 @@
 //! A list that grows, to which a set operation writes.
-ghost use Rattle.std.specs.Prelude.{◌≡◌, ◌-◌, ◌<◌, ◌≤◌, ◌++◌, ◌∷◌, [], ⊤, ℕ, IfErr, IfOk, List, length, take, drop};
-ghost use Rattle.s2cell.specs.Cell.{IsCell};
+ghost use Rattle.std.specs.Prelude.{◌≡◌, ◌-◌, ◌<◌, ◌≤◌, ◌++◌, ⊤, ℕ, IfErr, IfOk, List, length, take, drop};
 ghost use Rattle.s2list.specs.Output.{Fills};
-ghost use Rattle.s2union.specs.Working.Grown.{IsGrown};
+ghost use Rattle.s2union.specs.Grown.{IsGrown};
 ghost use Rattle.s2union.specs.declared.grown.Grown.{Grown};
 
 use crate::sets::extend;
 use crate::subtract::fill_gap;
 use s2cell::{CellId, LEAVES};
-use s2list::{CellList, Output};
+use s2list::{CellList, Copies, Output};
 use std::alloc::AllocError;
 
 /// A list that grows as a set operation writes to it, up to `most` cells and those of the gap with which it gets
 /// longer. A run that is too long for it is counted, and not copied.
 #[derive(Drop)]
-pub(crate) struct Grown<'a> {
-    pub(crate) list: &'a mut Vec<CellId>,
-    pub(crate) most: usize,
+pub struct Grown<'a> {
+    /// The list.
+    pub list: &'a mut Vec<CellId>,
+    /// How many cells it has at most.
+    pub most: usize,
 }
 
-impl<'a, 'b, 'c> Output<CellList<'b>, CellList<'c>> for Grown<'a> {
+impl<'a> Output for Grown<'a> {
     ghost holds = { λ list old now n. IsGrown list old.most now.most now.list.now.items n };
 
     ghost place = { λ g. g.list.ghost_name };
 
     ghost refuses = { ⊤ };
-
-    #[inline(always)]
-    fn put_x(
-        &mut self,
-        n: usize,
-        xs: &CellList<'b>,
-        from: usize,
-        to: usize,
-    ) -> Result<usize, AllocError>
-        requires order { from ≤ to }
-        requires within { to ≤ length xs.now.cells.now }
-        ensures place { self.new.list.ghost_name ≡ self.old.list.ghost_name }
-        ensures put { IfOk result (λ m. (list : List ℕ) (old : Grown)
-            → IsGrown list old.most self.old.most self.old.list.now.items n
-            → IsGrown (list ++ take (to - from) (drop from xs.now.cells.now)) old.most self.new.most
-            self.new.list.now.items m) }
-        ensures sure { IfErr result (λ _. ⊤) }
-    {
-        self.put(n, &xs.cells[from..to])
-    }
-
-    #[inline(always)]
-    fn put_y(
-        &mut self,
-        n: usize,
-        ys: &CellList<'c>,
-        from: usize,
-        to: usize,
-    ) -> Result<usize, AllocError>
-        requires order { from ≤ to }
-        requires within { to ≤ length ys.now.cells.now }
-        ensures place { self.new.list.ghost_name ≡ self.old.list.ghost_name }
-        ensures put { IfOk result (λ m. (list : List ℕ) (old : Grown)
-            → IsGrown list old.most self.old.most self.old.list.now.items n
-            → IsGrown (list ++ take (to - from) (drop from ys.now.cells.now)) old.most self.new.most
-            self.new.list.now.items m) }
-        ensures sure { IfErr result (λ _. ⊤) }
-    {
-        self.put(n, &ys.cells[from..to])
-    }
-
-    #[inline(always)]
-    fn put_cell(&mut self, n: usize, id: u64) -> Result<usize, AllocError>
-        ensures place { self.new.list.ghost_name ≡ self.old.list.ghost_name }
-        ensures put { IfOk result (λ m. IsCell id → (list : List ℕ) (old : Grown)
-            → IsGrown list old.most self.old.most self.old.list.now.items n
-            → IsGrown (list ++ id ∷ []) old.most self.new.most self.new.list.now.items m) }
-        ensures sure { IfErr result (λ _. ⊤) }
-    {
-        let Some(cell) = CellId::from_id(id) else {
-            return Ok(n);
-        };
-        let more = self.put(n, &[cell])?;
-        Ok(more)
-    }
 
     #[inline(always)]
     fn put_gap(&mut self, n: usize, lo: u64, hi: u64) -> Result<usize, AllocError>
@@ -97,18 +43,28 @@ impl<'a, 'b, 'c> Output<CellList<'b>, CellList<'c>> for Grown<'a> {
     ghost counts = { λ list old now n grown few. grown.len_is few };
 }
 
-impl<'a> Grown<'a> {
-    /// Appends cells after the first `n`, if the list is then not too long.
+impl<'a, 'b> Copies<CellList<'b>> for Grown<'a> {
     #[inline(always)]
-    fn put(&mut self, n: usize, cells: &[CellId]) -> Result<usize, AllocError>
+    fn put_run(
+        &mut self,
+        n: usize,
+        cells: &CellList<'b>,
+        from: usize,
+        to: usize,
+    ) -> Result<usize, AllocError>
+        requires order { from ≤ to }
+        requires within { to ≤ length cells.now.cells.now }
         ensures place { self.new.list.ghost_name ≡ self.old.list.ghost_name }
-        ensures put { IfOk result (λ m. (list : List ℕ) (most : ℕ)
-            → IsGrown list most self.old.most self.old.list.now.items n
-            → IsGrown (list ++ cells.now) most self.new.most self.new.list.now.items m) }
+        ensures put { IfOk result (λ m. (list : List ℕ) (old : Grown)
+            → IsGrown list old.most self.old.most self.old.list.now.items n
+            → IsGrown (list ++ take (to - from) (drop from cells.now.cells.now)) old.most self.new.most
+            self.new.list.now.items m) }
+        ensures sure { IfErr result (λ _. ⊤) }
     {
-        if n <= self.most && cells.len() <= self.most - n {
-            extend(self.list, cells)?;
+        let count = to - from;
+        if n <= self.most && count <= self.most - n {
+            extend(self.list, &cells.cells[from..to])?;
         }
-        Ok(n.saturating_add(cells.len()))
+        Ok(n.saturating_add(count))
     }
 }

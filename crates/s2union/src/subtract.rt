@@ -1,6 +1,6 @@
 //! How a difference is made: by a walk along both lists, or by a search for each cell of the first if it is much
 //! shorter. The gaps between cells are filled with the largest cells that fit.
-ghost use Rattle.std.specs.Prelude.{◌≡◌, ◌≤◌, ◌<◌, ◌+◌, ◌&&◌, All, MatchOption};
+ghost use Rattle.std.specs.Prelude.{◌≡◌, ◌≤◌, ◌<◌, ◌+◌, ◌&&◌, MatchOption};
 ghost use Rattle.std.specs.Prelude.{slice_index, ℕ, length, []};
 ghost use Rattle.std.specs.Prelude.{IfErr, List, OnOk, not};
 ghost use Rattle.s2cell.specs.Cell.{first_leaf};
@@ -171,7 +171,7 @@ fn cell_before(cells: &[CellId], at: usize, end: u64) -> Option<CellId>
 /// Adds the normal form of the leaves from `lo` to before `hi`: the largest cell that begins at `lo` and fits, then the
 /// largest that begins after it, and so on. Takes memory if the list has no room for them; refuses only if there is
 /// none. Then the list has some of these cells. A few steps for each cell.
-pub fn fill_gap(list: &mut Vec<CellId>, lo: u64, hi: u64) -> Result<(), AllocError>
+pub(crate) fn fill_gap(list: &mut Vec<CellId>, lo: u64, hi: u64) -> Result<(), AllocError>
     requires { hi ≤ LEAVES }
     ensures { OnOk result (FillsGap list.old.items list.new.items lo hi) }
 {

@@ -3,7 +3,7 @@ use Rattle.std.specs.Prelude.{◌≡◌, ℕ, ◌+◌, ◌-◌, ◌<◌, ◌≤�
 use Rattle.std.specs.Prelude.{length, slice_index}
 use Rattle.s2cell.specs.Cell.{IsCell, first_leaf, size_of}
 use Rattle.s2cell.specs.declared.TheConstants.{LEAVES}
-use Rattle.s2list.specs.Packed.{EndsBefore}
+use Rattle.s2list.specs.Packed.{EndsBefore, FirstEndBy}
 use Rattle.s2list.specs.Union.{IsGreatestIn, LiesIn, between, has_leaf}
 use Rattle.s2list.specs.Working.Union.{EndsBy}
 use Rattle.s2list.specs.declared.pile.Pile.{Pile}
@@ -20,10 +20,6 @@ pub record Heaping (S : ℕ → Bool) (list : List ℕ) (lo hi done : ℕ) : Typ
   pub edge : (p : ℕ) → IsCell p → LiesIn S p → first_leaf p < lo → first_leaf p + size_of p ≤ lo
   pub leaves : (x : ℕ) → x < done → S x ≡ (has_leaf list x || between lo hi x)
 
--- `cell` is none, or the cell that has the leaves from `lo` to before `hi`
-abbrev pub IsAround : (cell lo hi : ℕ) → Type 0
-IsAround cell lo hi = 0 < cell → IsCell cell × (first_leaf cell ≡ lo) × (first_leaf cell + size_of cell ≡ hi)
-
 -- the list of a heap was written
 pub record HeapIn (S : ℕ → Bool) (Holds : List ℕ → Type 0) (lo hi done : ℕ) : Type 0 where
   pub list : List ℕ
@@ -31,9 +27,8 @@ pub record HeapIn (S : ℕ → Bool) (Holds : List ℕ → Type 0) (lo hi done :
   pub heap : Heaping S list lo hi done
 
 -- the heap of a pile
-pub record PileIn (S : ℕ → Bool) (Holds : ℕ → List ℕ → Type 0) (p : Pile) (done : ℕ) : Type 0 where
-  pub heap : HeapIn S (Holds p.n) p.lo p.hi done
-  pub around : IsAround p.cell p.lo p.hi
+abbrev pub PileIn : (S : ℕ → Bool) (Holds : ℕ → List ℕ → Type 0) (p : Pile) (done : ℕ) → Type 0
+PileIn S Holds p done = HeapIn S (Holds p.n) p.lo p.hi done
 
 -- the leaves that `S` has from `done` to before `next` are those from `from` to before `to`
 pub record Brings (S : ℕ → Bool) (done from to next : ℕ) : Type 0 where
@@ -54,3 +49,11 @@ pub record IsRun (S : ℕ → Bool) (u : List ℕ) (done i stop : ℕ) : Type 0 
   pub same : (x : ℕ) → first_leaf (slice_index u i) ≤ x
       → x < first_leaf (slice_index u (stop - 1)) + size_of (slice_index u (stop - 1)) → S x ≡ has_leaf u x
   pub after : S (first_leaf (slice_index u (stop - 1)) + size_of (slice_index u (stop - 1))) ≡ false
+
+-- a union that is put together: the set `S` is that of both lists, and before the end of its pile lie all leaves of the
+-- first `i` cells of `xs` and of the first `j` of `ys`, and no others
+pub record Joins (S : ℕ → Bool) (Holds : ℕ → List ℕ → Type 0) (xs ys : List ℕ) (i j : ℕ) (p : Pile) : Type 0 where
+  pub same : (x : ℕ) → S x ≡ (has_leaf xs x || has_leaf ys x)
+  pub ended_x : FirstEndBy xs i p.hi
+  pub ended_y : FirstEndBy ys j p.hi
+  pub heap : PileIn S Holds p p.hi

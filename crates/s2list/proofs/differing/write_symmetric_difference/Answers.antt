@@ -21,7 +21,7 @@ loop-i-init g c =
       ended_x = λ lx ly k h. absurd (omega arith);
       ended_y = λ lx ly k h. absurd (omega arith);
       so_far = λ lx ly. pile_none (λ n list. g.W.Output.holds list c.args.out.now c.args.out.now n) _ refl refl refl
-          refl c.requires.empty;
+          c.requires.empty;
     }
 
 pub loop-i-smaller : goal.loop-i-smaller
@@ -58,7 +58,7 @@ loop-i-preserved-then-i-x_stop g c =
     record {
       in_x = within;
       in_y = v.in_y;
-      place = c.lay_x.ensures.place ∙ v.place;
+      place = c.lay.ensures.place ∙ v.place;
       ended_x = λ lx ly.
           let e = c.in_ok-pile.ensures.end lx in
           ended_run xs c.run_to-x_stop.result c.in_ok-pile.pile.hi lx within (omega arith);
@@ -85,7 +85,7 @@ loop-i-preserved-then-j-y_stop g c =
     record {
       in_x = v.in_x;
       in_y = within;
-      place = c.lay_y.ensures.place ∙ v.place;
+      place = c.lay-then-j-y_stop.ensures.place ∙ v.place;
       ended_x = λ lx ly.
           let e = c.in_ok-pile-2.ensures.end ly in
           let p = run_past ly (run lx ly) in
@@ -131,7 +131,7 @@ loop-i-preserved g c =
             | else-i-x_len+then-j-y_len w ↦ let b = y.ensures.within ly (omega (arith, w.if-j-y_len.true)) in
                 omega arith
           ]))
-          (λ _ _ h. absurd (omega arith)) (v.so_far lx ly);
+          (v.so_far lx ly);
     }
 
 pub returns-clause-made : goal.returns-clause-made
@@ -142,10 +142,10 @@ returns-clause-made g c lx ly =
     let nx = c.len-x_len.ensures in
     let ny = c.len-y_len.ensures in
     let s = v.so_far lx ly in
-    heap_done (λ list. g.met.W.Output.counts list c.args.out.now c.finish.new.out c.in_ok-n.n) s.heap
+    heap_done (λ list. g.met.W.Output.counts list c.args.out.now c.finish.new.out c.in_ok-n.n) s
     (λ x h. neither (has_leaf xs x) (has_leaf ys x)
     (gap c.loop-i.i c.loop-i.done (x + 1) x (packed_from_local xs lx) (v.ended_x lx ly)
     (λ l. absurd (omega (arith, c.if-i-x_len.false))) h (omega arith))
     (gap c.loop-i.j c.loop-i.done (x + 1) x (packed_from_local ys ly) (v.ended_y lx ly)
     (λ l. absurd (omega (arith, c.if-j-y_len.false))) h (omega arith)))
-    (λ few list. c.in_ok-n.ensures.put s.around few list c.args.out.now)
+    (λ few list. c.in_ok-n.ensures.put few list c.args.out.now)

@@ -32,7 +32,7 @@ loop-i-init g c = record {
   ended = λ l k h. absurd (omega arith);
   most = λ l. omega arith;
   start = λ l h. omega arith;
-  so_far = λ l. pile_none (λ n list. g.W.Output.holds list c.args.out.now c.args.out.now n) _ refl refl refl refl
+  so_far = λ l. pile_none (λ n list. g.W.Output.holds list c.args.out.now c.args.out.now n) _ refl refl refl
       c.requires.empty;
 }
 
@@ -86,7 +86,7 @@ loop-i-preserved g c =
             after = λ x a b d. taken (between 0 LEAVES x) (has_leaf u x)
                 (leaf_there u i x h (omega arith) (omega arith));
           })
-          (λ _ _ h. absurd (omega arith)) (v.so_far l);
+          (v.so_far l);
     }
 
 pub returns-clause-made : goal.returns-clause-made
@@ -110,9 +110,9 @@ returns-clause-made g c l =
           (omega arith));
       after = λ x a b d. absurd (omega arith);
     })
-    (λ _ _ h. absurd (omega arith)) (v.so_far l) in
-    heap_done (λ list. g.met.W.Output.counts list c.args.out.now c.finish.new.out c.in_ok-n.n) whole.heap
+    (v.so_far l) in
+    heap_done (λ list. g.met.W.Output.counts list c.args.out.now c.finish.new.out c.in_ok-n.n) whole
     (λ x a.
     let none : between 0 LEAVES x ≡ false = grind (arith, nat_tests) in
     beyond (between 0 LEAVES x) (has_leaf u x) none)
-    (λ few list. c.in_ok-n.ensures.put whole.around few list c.args.out.now)
+    (λ few list. c.in_ok-n.ensures.put few list c.args.out.now)

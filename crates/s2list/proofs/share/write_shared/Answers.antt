@@ -71,9 +71,9 @@ loop-i-preserved-then-is_within g c =
     record {
       in_x = f.within;
       in_y = omega arith;
-      place = c.put_x.ensures.place ∙ c.loop-i.invariant.place;
-      so_far = λ lx ly. shared_run (λ list. g.W.Output.holds list c.args.out.now c.put_x.new.self c.in_ok-n.n) a b lx ly
-          (c.loop-i.invariant.so_far lx ly) h t c.look-x.ensures.id c.look-y.ensures.id
+      place = c.put_run.ensures.place ∙ c.loop-i.invariant.place;
+      so_far = λ lx ly. shared_run (λ list. g.W.Output.holds list c.args.out.now c.put_run.new.self c.in_ok-n.n) a b lx
+          ly (c.loop-i.invariant.so_far lx ly) h t c.look-x.ensures.id c.look-y.ensures.id
           (inside_by lx ly h t c.look-x.ensures.id c.look-y.ensures.id c.first_of-x_first.ensures c.end_of-x_end.ensures
           c.first_of-y_first.ensures c.end_of-y_end.ensures among.0 among.1)
           c.end_of-y_end.ensures f.from f.within f.ended f.next
@@ -95,9 +95,9 @@ loop-i-preserved g c =
     record {
       in_x = omega arith;
       in_y = f.within;
-      place = c.put_y.ensures.place ∙ c.loop-i.invariant.place;
+      place = c.put_run-else-is_within.ensures.place ∙ c.loop-i.invariant.place;
       so_far = λ lx ly. shared_swap (shared_run
-          (λ list. g.W.Output.holds list c.args.out.now c.put_y.new.self c.in_ok-n-2.n) a b ly lx
+          (λ list. g.W.Output.holds list c.args.out.now c.put_run-else-is_within.new.self c.in_ok-n-2.n) a b ly lx
           (shared_swap (c.loop-i.invariant.so_far lx ly)) t h c.look-y.ensures.id c.look-x.ensures.id
           (inside_else lx ly h t c.look-x.ensures.id c.look-y.ensures.id c.first_of-x_first.ensures
           c.end_of-x_end.ensures c.first_of-y_first.ensures c.end_of-y_end.ensures c.if-x_end-y_first.false

@@ -54,14 +54,14 @@ loop-i-preserved-then-start-first g c =
     record {
       in_x = f.within;
       in_y = to.within;
-      place = c.put_x.ensures.place ∙ c.loop-i.invariant.place;
+      place = c.put_run.ensures.place ∙ c.loop-i.invariant.place;
       so_far = λ lx ly.
           let here = left_on lx ly (c.loop-i.invariant.so_far lx ly) h c.id-x.ensures c.first_of-first.ensures es
           to.within to.ended in
           let rx = c.id-x.ensures in
           let ex : c.end_of-end.result ≡ first_leaf (get_or xs c.loop-i.i 0) + size_of (get_or xs c.loop-i.i 0) =
           c.end_of-end.ensures (rw rx (lx.cells c.loop-i.i 0 h)) ∙ ap (λ v. first_leaf v + size_of v) rx in
-          left_run (λ list. g.W.Output.holds list c.args.out.now c.put_x.new.self c.in_ok-n-2.n) lx ly here h rx
+          left_run (λ list. g.W.Output.holds list c.args.out.now c.put_run.new.self c.in_ok-n-2.n) lx ly here h rx
           c.first_of-first.ensures (let t = c.if-start-first.true in omega arith) f.more f.within
           (λ there.
           let own = ly.cells c.find_from-j.result 0 there in

@@ -3,7 +3,7 @@ use Rattle.std.proofs.lemmas.List.{get_or-map, length-map}
 use Rattle.s2cell.specs.Cell.{IsCell, first_leaf, size_of}
 use Rattle.s2list.proofs.Checking.{packed_from_local}
 use Rattle.s2search.specs.Cut.{cells_cut, cut_at}
-use Rattle.s2search.specs.Working.Piles.{HasRow}
+use Rattle.s2search.specs.Working.Rows.{HasRow}
 use Rattle.s2search.proofs.Levelling.{begins_cut, cut_cell, ended_cut}
 use Rattle.s2search.proofs.Rows.{row_cut, row_more, row_start}
 use Rattle.s2search.proofs.cut.row_at.Goals as goal
@@ -34,7 +34,7 @@ loop-next-init g c =
           let row : HasRow v i (i + 1) c.first_of-lo.result c.end_of-hi.result =
           rw (lo, hi ∙ sym (ap (λ d. first_leaf d + size_of d) at)) start in
           row_cut k u i i c.find_from-next.result c.first_of-lo.result c.end_of-hi.result c.end_of-hi.result local row
-          (omega arith) (omega arith) f.within (omega arith) hi (f.ended p (ended_cut k u i c.end_of-hi.result p h hi));
+          (omega arith) f.within (omega arith) hi (f.ended p (ended_cut k u i c.end_of-hi.result p h hi));
     }
 
 pub loop-next-preserved : goal.loop-next-preserved
@@ -70,7 +70,7 @@ loop-next-preserved g c =
           let more = row_more v i m c.first_of-lo.result c.loop-next.hi c.max-hi.result b row (omega arith)
           (omega arith) (omega (arith, c.if-hi-first_of.false)) (omega arith) in
           row_cut k u i m c.find_from-next-in-loop-next.result c.first_of-lo.result c.max-hi.result c.end_of-end.result
-          local more (omega arith) (omega arith) f.within (omega arith) end
+          local more (omega arith) f.within (omega arith) end
           (f.ended p (ended_cut k u m c.end_of-end.result p h end));
     }
 

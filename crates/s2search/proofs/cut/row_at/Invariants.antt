@@ -1,7 +1,7 @@
 use Rattle.std.proofs.Common.{◌≤◌, ◌<◌, ◌-◌, length}
 use Rattle.s2list.specs.Union.{IsLocal}
 use Rattle.s2search.specs.Cut.{cells_cut}
-use Rattle.s2search.specs.Working.Piles.{HasRow}
+use Rattle.s2search.specs.Working.Rows.{HasRow}
 use Rattle.s2search.proofs.cut.row_at.Given as goal
 
 abbrev pub invariant-loop-next : goal.invariant-loop-next

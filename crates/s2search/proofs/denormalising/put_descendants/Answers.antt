@@ -6,8 +6,8 @@ use Rattle.s2cell.specs.Descendant.{descendant_of}
 use Rattle.s2cell.proofs.CellLemmas.{four_pos}
 use Rattle.s2union.specs.Denorm.{cells_in}
 use Rattle.s2union.proofs.Cutting.{length-cells_in}
-use Rattle.s2search.proofs.Cutting.{stepped, item_more, items_there}
-use Rattle.s2search.proofs.Putting.{put_past}
+use Rattle.s2search.proofs.Cutting.{stepped, item_more}
+use Rattle.s2search.proofs.Putting.{items_put, put_past}
 use Rattle.s2search.proofs.denormalising.put_descendants.Goals as goal
 use Rattle.s2search.proofs.denormalising.put_descendants.Goals.{else-n-out-via-then-n-out+else-count-out}
 use Rattle.s2search.proofs.denormalising.put_descendants.Goals.{else-n-out-via-else-n-out}
@@ -67,7 +67,7 @@ returns-then-count-out-clause-put c list room p =
     let four : count ≡ 4 ^ (c.args.level - level_of c.args.cell) =
     c.count_descendants-count.ensures ∙ ap (λ k. 4 ^ (c.args.level - k)) c.level.ensures.value in
     let done : c.loop-k.k ≡ count = omega arith in
-    items_there list (cells_in c.args.level c.args.cell) room before c.loop-k.out n count p (omega arith) (omega arith)
+    items_put list (cells_in c.args.level c.args.cell) room before c.loop-k.out n count p (omega arith) (omega arith)
     v.len (length-cells_in c.args.level c.args.cell ∙ sym four)
     (v.items ∙ ap (λ m. (take n before ++ items m) ++ drop (n + m) before) done
     ∙ ap (λ m. (take n before ++ items m) ++ drop (n + count) before) four)

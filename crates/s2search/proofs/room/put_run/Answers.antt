@@ -1,6 +1,6 @@
 use Rattle.std.proofs.Common.{◌≡◌, ◌+◌, ◌-◌, ◌∙◌, arith}
 use Rattle.std.proofs.lemmas.List.{length-set}
-use Rattle.s2search.proofs.Putting.{run_more, put_run_there}
+use Rattle.s2search.proofs.Putting.{run_more, run_put}
 use Rattle.s2search.proofs.room.put_run.Goals as goal
 
 pub loop-k-preserved : goal.loop-k-preserved
@@ -16,5 +16,5 @@ pub returns-then-count-out-clause-put : goal.returns-then-count-out-clause-put
 returns-then-count-out-clause-put g c list room p =
     let v = c.loop-k.invariant in
     let e : c.loop-k.k ≡ c.args.to - c.args.from = omega arith in
-    put_run_there list (g.C.Cells.ids c.args.cells.now) room c.args.out.now c.loop-k.out c.args.n
+    run_put list (g.C.Cells.ids c.args.cells.now) room c.args.out.now c.loop-k.out c.args.n
     (c.args.to - c.args.from) c.args.from p (omega arith) (omega arith) v.len (omega arith) (rw e at v.run)

@@ -1,18 +1,17 @@
 use Rattle.std.proofs.Common.{◌≡◌, ◌<◌, ◌≤◌, ◌+◌, ◌-◌, length}
-use Rattle.s2list.specs.Union.{IsLocal}
-use Rattle.s2search.specs.Working.Piles.{PilingIn}
-use Rattle.s2search.proofs.Piling.{any}
-use Rattle.s2search.proofs.join.put_union.Given as goal
+use Rattle.s2list.specs.Union.{IsLocal, has_leaf}
+use Rattle.s2list.specs.Sets.{either}
+use Rattle.s2list.specs.Working.Piles.{Joins}
+use Rattle.s2list.proofs.join.write_union.Given as goal
 
 abbrev pub invariant-loop-i : goal.invariant-loop-i
 invariant-loop-i g l = record {
   in_x : l.i ≤ length (g.X.Cells.ids l.xs);
   in_y : l.j ≤ length (g.Y.Cells.ids l.ys);
-  len : length l.out ≡ length l.fn.out;
+  place : g.W.Output.place l.out ≡ g.W.Output.place l.fn.out;
   so_far : IsLocal (g.X.Cells.ids l.xs) → IsLocal (g.Y.Cells.ids l.ys)
-      → PilingIn (any (g.X.Cells.ids l.xs) (g.Y.Cells.ids l.ys)) (g.X.Cells.ids l.xs) (g.Y.Cells.ids l.ys) l.fn.out
-      l.out
-      l.pile.n l.i l.j l.pile.lo l.pile.hi;
+      → Joins (either (has_leaf (g.X.Cells.ids l.xs)) (has_leaf (g.Y.Cells.ids l.ys)))
+      (λ n list. g.W.Output.holds list l.fn.out l.out n) (g.X.Cells.ids l.xs) (g.Y.Cells.ids l.ys) l.i l.j l.pile;
 }
 
 abbrev pub decreases-loop-i : goal.decreases-loop-i
@@ -23,11 +22,10 @@ invariant-loop-i-2 g l = record {
   in_x : l.i ≤ length (g.X.Cells.ids l.xs);
   in_y : l.j ≤ length (g.Y.Cells.ids l.ys);
   other : l.i < length (g.X.Cells.ids l.xs) → length (g.Y.Cells.ids l.ys) ≤ l.j;
-  len : length l.out ≡ length l.fn.out;
+  place : g.W.Output.place l.out ≡ g.W.Output.place l.fn.out;
   so_far : IsLocal (g.X.Cells.ids l.xs) → IsLocal (g.Y.Cells.ids l.ys)
-      → PilingIn (any (g.X.Cells.ids l.xs) (g.Y.Cells.ids l.ys)) (g.X.Cells.ids l.xs) (g.Y.Cells.ids l.ys) l.fn.out
-      l.out
-      l.pile.n l.i l.j l.pile.lo l.pile.hi;
+      → Joins (either (has_leaf (g.X.Cells.ids l.xs)) (has_leaf (g.Y.Cells.ids l.ys)))
+      (λ n list. g.W.Output.holds list l.fn.out l.out n) (g.X.Cells.ids l.xs) (g.Y.Cells.ids l.ys) l.i l.j l.pile;
 }
 
 abbrev pub decreases-loop-i-2 : goal.decreases-loop-i-2
@@ -37,11 +35,10 @@ abbrev pub invariant-loop-j : goal.invariant-loop-j
 invariant-loop-j g l = record {
   done : length (g.X.Cells.ids l.xs) ≤ l.i;
   in_y : l.j ≤ length (g.Y.Cells.ids l.ys);
-  len : length l.out ≡ length l.fn.out;
+  place : g.W.Output.place l.out ≡ g.W.Output.place l.fn.out;
   so_far : IsLocal (g.X.Cells.ids l.xs) → IsLocal (g.Y.Cells.ids l.ys)
-      → PilingIn (any (g.X.Cells.ids l.xs) (g.Y.Cells.ids l.ys)) (g.X.Cells.ids l.xs) (g.Y.Cells.ids l.ys) l.fn.out
-      l.out
-      l.pile.n l.i l.j l.pile.lo l.pile.hi;
+      → Joins (either (has_leaf (g.X.Cells.ids l.xs)) (has_leaf (g.Y.Cells.ids l.ys)))
+      (λ n list. g.W.Output.holds list l.fn.out l.out n) (g.X.Cells.ids l.xs) (g.Y.Cells.ids l.ys) l.i l.j l.pile;
 }
 
 abbrev pub decreases-loop-j : goal.decreases-loop-j

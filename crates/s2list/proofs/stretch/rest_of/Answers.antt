@@ -3,7 +3,7 @@ use Rattle.s2cell.specs.Cell.{first_leaf, size_of}
 use Rattle.s2cell.proofs.CellLemmas.{cell_leaves}
 use Rattle.s2list.proofs.Checking.{packed_from_local}
 use Rattle.s2list.proofs.Walking.{gap, leaf_there, ended_more}
-use Rattle.s2list.proofs.differing.rest_of.Goals as goal
+use Rattle.s2list.proofs.stretch.rest_of.Goals as goal
 
 pub returns-then-i-len-clause-free : goal.returns-then-i-len-clause-free
 returns-then-i-len-clause-free g c local ended x low high =

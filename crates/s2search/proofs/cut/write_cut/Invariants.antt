@@ -1,15 +1,15 @@
 use Rattle.std.proofs.Common.{◌≡◌, ◌<◌, ◌≤◌, ◌-◌, get_or, length}
 use Rattle.s2list.specs.Union.{IsLocal}
 use Rattle.s2search.specs.Cut.{cells_cut, cut_at}
-use Rattle.s2search.proofs.Rows.{RowsIn}
-use Rattle.s2search.proofs.cut.put_cut.Given as goal
+use Rattle.s2search.proofs.Rows.{Rows}
+use Rattle.s2search.proofs.cut.write_cut.Given as goal
 
 abbrev pub invariant-loop-i : goal.invariant-loop-i
 invariant-loop-i g l = record {
   within : l.i ≤ length (g.C.Cells.ids l.cells);
-  len : length l.out ≡ length l.fn.out;
+  place : g.W.Output.place l.out ≡ g.W.Output.place l.fn.out;
   so_far : IsLocal (g.C.Cells.ids l.cells) →
-      RowsIn (cells_cut l.level (g.C.Cells.ids l.cells)) l.fn.out l.out l.n l.i;
+      Rows (cells_cut l.level (g.C.Cells.ids l.cells)) (λ list. g.W.Output.holds list l.fn.out l.out l.n) l.i;
   first : IsLocal (g.C.Cells.ids l.cells) → l.i < length (g.C.Cells.ids l.cells) →
       l.first ≡ cut_at l.level (get_or (g.C.Cells.ids l.cells) l.i 0);
 }

@@ -1,6 +1,6 @@
 use Rattle.std.proofs.Common.{arith}
 use Rattle.s2union.proofs.Growing.{grown_gap}
-use Rattle.s2union.proofs.grown.GrownOutputCellListCellList.put_gap.Goals as goal
+use Rattle.s2union.proofs.grown.GrownOutput.put_gap.Goals as goal
 
 pub returns-clause-put : goal.returns-clause-put
 returns-clause-put c most list old grown =
