@@ -1,7 +1,8 @@
 -- What the place of a cell's first leaf says about the leaves of a union.
-use Rattle.std.proofs.Common.{◌≡◌, ℕ, ◌+◌, ◌<◌, ◌≤◌, ◌↔◌, refl, arith, Bool, List, length, get_or}
+use Rattle.std.proofs.Common.{◌≡◌, ℕ, ◌+◌, ◌<◌, ◌≤◌, ◌↔◌, refl, arith, Bool, true, false}
+use Rattle.std.proofs.Common.{not, IsTrue, List, length, get_or}
 use Rattle.std.proofs.Math.Logic.{⊎_elim}
-use Rattle.std.proofs.lemmas.Bool.{cases_lt}
+use Rattle.std.proofs.lemmas.Bool.{cases_lt, false≢true}
 use Rattle.s2cell.specs.Cell.{IsCell, IsInside, covers, first_leaf, size_of}
 use Rattle.s2cell.proofs.CellLemmas.{cell_leaves}
 use Rattle.s2cell.proofs.Leaves.{covers_there, inside_from_within}
@@ -53,21 +54,34 @@ ended_on xs ys at k j local h l b =
     (λ (a : j ≤ k). let e : k ≡ j = omega arith in rw e at b)
     (cases_lt k j)
 
--- a part is within a set of leaves exactly where its cells are
-pub part_within : (S : ℕ → Bool) (ys : List ℕ) (k : ℕ) → k < length ys → IsWithin (has_leaf ys) S →
-    IsWithin (covers (get_or ys k 0)) S
-part_within S ys k h w x v = w x (leaf_to ys (get_or ys k 0) x (member_at ys k (get_or ys k 0) h refl) v)
+-- a part is within a set of leaves if no cell of it decides that it is not
+pub none_lacks : (S : ℕ → Bool) (ys : List ℕ) (b : Bool) →
+    (b ≡ false → (k : ℕ) → k < length ys → IsWithin (covers (get_or ys k 0)) S) →
+    (b ≡ true → (k : ℕ) × (k < length ys) × (IsWithin (covers (get_or ys k 0)) S → ⊥)) →
+    IsTrue (not b) ↔ IsWithin (has_leaf ys) S
+none_lacks S ys true none found = (
+  λ e. absurd (false≢true e),
+  λ w. let (k, h, lacks) = found refl in
+      absurd (lacks (λ x v. w x (leaf_to ys (get_or ys k 0) x (member_at ys k (get_or ys k 0) h refl) v))),
+)
+none_lacks S ys false none found = (
+  λ _ x v. let l = leaf_at ys x v in none refl l.at l.below x (covers_there (get_or ys l.at 0) x l.low l.high),
+  λ _. refl,
+)
 
-pub all_within : (S : ℕ → Bool) (ys : List ℕ) → ((j : ℕ) → j < length ys → IsWithin (covers (get_or ys j 0)) S) →
-    IsWithin (has_leaf ys) S
-all_within S ys all x v = let l = leaf_at ys x v in all l.at l.below x (covers_there (get_or ys l.at 0) x l.low l.high)
-
--- and shares a leaf with it exactly where one of them does
-pub part_shares : (S : ℕ → Bool) (ys : List ℕ) (k : ℕ) → k < length ys → ShareSome (covers (get_or ys k 0)) S →
-    ShareSome S (has_leaf ys)
-part_shares S ys k h (x, v, s) = (x, s, leaf_to ys (get_or ys k 0) x (member_at ys k (get_or ys k 0) h refl) v)
-
-pub none_shares : (S : ℕ → Bool) (ys : List ℕ) → ((j : ℕ) → j < length ys → ShareSome (covers (get_or ys j 0)) S → ⊥)
-    → ShareSome S (has_leaf ys) → ⊥
-none_shares S ys none (x, s, v) = let l = leaf_at ys x v in
-    none l.at l.below (x, covers_there (get_or ys l.at 0) x l.low l.high, s)
+-- and shares a leaf with it if one of its cells does
+pub one_shares : (S : ℕ → Bool) (ys : List ℕ) (b : Bool) →
+    (b ≡ false → (k : ℕ) → k < length ys → ShareSome (covers (get_or ys k 0)) S → ⊥) →
+    (b ≡ true → (k : ℕ) × (k < length ys) × ShareSome (covers (get_or ys k 0)) S) →
+    IsTrue b ↔ ShareSome S (has_leaf ys)
+one_shares S ys true none found = (
+  λ _. let (k, h, shares) = found refl in
+      let (x, v, s) = shares in
+      (x, s, leaf_to ys (get_or ys k 0) x (member_at ys k (get_or ys k 0) h refl) v),
+  λ _. refl,
+)
+one_shares S ys false none found = (
+  λ e. absurd (false≢true e),
+  λ (x, s, v). let l = leaf_at ys x v in
+      absurd (none refl l.at l.below (x, covers_there (get_or ys l.at 0) x l.low l.high, s)),
+)

@@ -41,10 +41,6 @@ pub not_true : (b : Bool) → (b ≡ true → ⊥) → b ≡ false
 not_true true h = absurd (h refl)
 not_true false h = refl
 
-pub not_false : (b : Bool) → (b ≡ false → ⊥) → b ≡ true
-not_false true h = refl
-not_false false h = absurd (h refl)
-
 -- no leaf lies between the cells that end by `lo` and the next
 pub gap : {u : List ℕ} (n lo hi x : ℕ) → IsPacked u →
     FirstEndBy u n lo → (n < length u → hi ≤ first_leaf (get_or u n 0)) → lo ≤ x → x < hi → has_leaf u x ≡ false

@@ -52,5 +52,7 @@ pub use outside::write_complement;
 pub use run::cells_at;
 pub use share::write_shared;
 pub use subtract::write_difference;
-pub use walk::{contains, contains_counted, holds_all, intersects, intersects_counted, meets_any};
+pub use walk::{
+    Question, contains, contains_counted, holds_all, intersects, intersects_counted, meets_any,
+};
 pub use whole::{first_wrong, is_union, leaf_count, parent_of_family};

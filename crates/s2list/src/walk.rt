@@ -72,7 +72,7 @@ pub fn intersects_counted<X: Cells, Y: Cells>(xs: &X, ys: &Y) -> Counted
 
 /// A question about a union `xs` and a cell, or the cells of a union `ys`, of which one may decide it.
 #[derive(Clone, Copy, PartialEq, Eq)]
-pub(crate) enum Question {
+pub enum Question {
     /// Whether `xs` has all leaves of them. A cell that it lacks decides.
     Contains,
     /// Whether they share a leaf. A cell that meets `xs` decides.

@@ -1,21 +1,20 @@
 -- Questions about a short list in a much longer one.
-use Rattle.std.proofs.Common.{◌≡◌, ℕ, ◌+◌, ◌*◌, ◌^◌, ◌<◌, ◌≤◌, refl, ap, arith}
-use Rattle.std.proofs.Common.{Bool, true, false, ◌&&◌, ◌||◌, ◌↔◌, IsTrue, List, length, get_or, min, max}
+use Rattle.std.proofs.Common.{◌≡◌, ℕ, ◌+◌, ◌*◌, ◌^◌, ◌<◌, ◌≤◌, refl, sym, ap, arith}
+use Rattle.std.proofs.Common.{Bool, true, false, ◌||◌, List, length, get_or, min, max}
 use Rattle.std.proofs.Math.Logic.{⊎_elim}
 use Rattle.std.proofs.Math.Nat.{mul-le-mul_right}
 use Rattle.std.proofs.lemmas.Bool.{cases_lt, false≢true}
 use Rattle.std.proofs.lemmas.Nat.{pow_below}
 use Rattle.s2cell.specs.Cell.{IsInside, covers, first_leaf, size_of}
-use Rattle.s2cell.proofs.Leaves.{covers_there, covers_from, inside_from_within, within_from_inside}
-use Rattle.s2list.specs.Union.{has_leaf, IsLocal, IsWithin, ShareSome}
+use Rattle.s2cell.proofs.Leaves.{inside_from_within, within_from_inside}
+use Rattle.s2list.specs.Union.{has_leaf, IsLocal, ShareSome}
 use Rattle.s2list.specs.Packed.{IsPacked, FirstEndBy}
 use Rattle.s2list.specs.Looks.{FewForUnion}
 use Rattle.s2list.proofs.Finding.{shared_none, starts_later}
 use Rattle.s2list.proofs.Looking.{above, Sought}
-use Rattle.s2list.proofs.Walking.{leaf_there, leaf_at}
 
 -- what holds at four places in a row
-pub four_places : (P : ℕ → Type 0) (at k : ℕ) → P at → P (at + 1) → P (at + 2) → P (at + 3) → at ≤ k → k < at + 4 → P k
+four_places : (P : ℕ → Type 0) (at k : ℕ) → P at → P (at + 1) → P (at + 2) → P (at + 3) → at ≤ k → k < at + 4 → P k
 four_places P at k a b c d h l =
     ⊎_elim
     (λ (m : k < at + 1). let e : k ≡ at = omega arith in rw e a)
@@ -26,32 +25,24 @@ four_places P at k a b c d h l =
     (λ (o : at + 3 ≤ k). let e : k ≡ at + 3 = omega arith in rw e d) (cases_lt k (at + 3))) (cases_lt k (at + 2)))
     (cases_lt k (at + 1))
 
--- whether something holds at each of them
-pub all_of_four : (a b c d : Bool) (P : ℕ → Type 0) (at : ℕ) → (IsTrue a ↔ P at) → (IsTrue b ↔ P (at + 1)) → (IsTrue
-    c ↔ P (at + 2)) → (IsTrue d ↔ P (at + 3)) → (IsTrue (((a && b) && c) && d) ↔ ((k : ℕ) → at ≤ k → k < at + 4 → P k))
-all_of_four true true true true P at p q r s =
-    (λ _ k h l. four_places P at k (p.0 refl) (q.0 refl) (r.0 refl) (s.0 refl) h l, λ _. refl)
-all_of_four false b c d P at p q r s =
-    (λ t. absurd (false≢true t), λ all. absurd (false≢true (p.1 (all at (omega arith) (omega arith)))))
-all_of_four true false c d P at p q r s =
-    (λ t. absurd (false≢true t), λ all. absurd (false≢true (q.1 (all (at + 1) (omega arith) (omega arith)))))
-all_of_four true true false d P at p q r s =
-    (λ t. absurd (false≢true t), λ all. absurd (false≢true (r.1 (all (at + 2) (omega arith) (omega arith)))))
-all_of_four true true true false P at p q r s =
-    (λ t. absurd (false≢true t), λ all. absurd (false≢true (s.1 (all (at + 3) (omega arith) (omega arith)))))
+-- what is known of each of them, once an answer says whether one of them decides
+abbrev pub FourJudged : (P Q : ℕ → Type 0) (at : ℕ) (b : Bool) → Type 0
+FourJudged P Q at b = (b ≡ true → (k : ℕ) × (at ≤ k) × (k < at + 4) × P k)
+    × (b ≡ false → (k : ℕ) → at ≤ k → k < at + 4 → Q k)
 
--- or at one of them
-pub one_of_four : (a b c d : Bool) (P : ℕ → Type 0) (at : ℕ) → (IsTrue a ↔ P at) → (IsTrue b ↔ P (at + 1)) → (IsTrue c ↔
-    P (at + 2)) → (IsTrue d ↔ P (at + 3)) → (IsTrue (((a || b) || c) || d) ↔ ((k : ℕ) × (at ≤ k) × (k < at + 4) × P k))
-one_of_four true b c d P at p q r s = (λ _. (at, omega arith, omega arith, p.0 refl), λ _. refl)
-one_of_four false true c d P at p q r s = (λ _. (at + 1, omega arith, omega arith, q.0 refl), λ _. refl)
-one_of_four false false true d P at p q r s = (λ _. (at + 2, omega arith, omega arith, r.0 refl), λ _. refl)
-one_of_four false false false true P at p q r s = (λ _. (at + 3, omega arith, omega arith, s.0 refl), λ _. refl)
-one_of_four false false false false P at p q r s = (
-  λ t. absurd (false≢true t),
-  λ (k, h, l, x). absurd (four_places (λ n. P n → ⊥) at k (λ y. false≢true (p.1 y)) (λ y. false≢true (q.1 y))
-      (λ y. false≢true (r.1 y)) (λ y. false≢true (s.1 y)) h l x),
-)
+pub four_judged : (a b c d : Bool) (P Q : ℕ → Type 0) (at : ℕ) → (a ≡ true → P at) → (a ≡ false → Q at) →
+    (b ≡ true → P (at + 1)) → (b ≡ false → Q (at + 1)) → (c ≡ true → P (at + 2)) → (c ≡ false → Q (at + 2)) →
+    (d ≡ true → P (at + 3)) → (d ≡ false → Q (at + 3)) → FourJudged P Q at (((a || b) || c) || d)
+four_judged true b c d P Q at p pn q qn r rn s sn =
+    (λ _. (at, omega arith, omega arith, p refl), λ f. absurd (false≢true (sym f)))
+four_judged false true c d P Q at p pn q qn r rn s sn =
+    (λ _. (at + 1, omega arith, omega arith, q refl), λ f. absurd (false≢true (sym f)))
+four_judged false false true d P Q at p pn q qn r rn s sn =
+    (λ _. (at + 2, omega arith, omega arith, r refl), λ f. absurd (false≢true (sym f)))
+four_judged false false false true P Q at p pn q qn r rn s sn =
+    (λ _. (at + 3, omega arith, omega arith, s refl), λ f. absurd (false≢true (sym f)))
+four_judged false false false false P Q at p pn q qn r rn s sn =
+    (λ t. absurd (false≢true t), λ _ k h l. four_places Q at k (pn refl) (qn refl) (rn refl) (sn refl) h l)
 
 -- ---- looks
 
@@ -89,30 +80,6 @@ few_looks n m looks few most k h =
     omega arith)
     (λ (a : m ≤ 0). omega arith)
     (cases_lt 0 m)
-
--- ---- answers
-
--- all leaves of a list, if those of each of its cells
-pub within_each : (xs ys : List ℕ) → ((k : ℕ) → k < length ys → IsWithin (covers (get_or ys k 0)) (has_leaf xs)) →
-    IsWithin (has_leaf ys) (has_leaf xs)
-within_each xs ys each x l =
-    let p = leaf_at ys x l in
-    each p.at p.below x (covers_there (get_or ys p.at 0) x p.low p.high)
-
-pub each_within : (xs ys : List ℕ) (k : ℕ) → k < length ys → IsWithin (has_leaf ys) (has_leaf xs) →
-    IsWithin (covers (get_or ys k 0)) (has_leaf xs)
-each_within xs ys k h w x v = let r = covers_from (get_or ys k 0) x v in w x (leaf_there ys k x h r.0 r.1)
-
--- no leaf of a list, if none of each of its cells
-pub none_of_each : (xs ys : List ℕ) → ((k : ℕ) → k < length ys → ShareSome (covers (get_or ys k 0)) (has_leaf xs) → ⊥) →
-    ShareSome (has_leaf xs) (has_leaf ys) → ⊥
-none_of_each xs ys each (x, a, b) =
-    let p = leaf_at ys x b in
-    each p.at p.below (x, covers_there (get_or ys p.at 0) x p.low p.high, a)
-
-pub one_of_each : (xs ys : List ℕ) (k : ℕ) → k < length ys → ShareSome (covers (get_or ys k 0)) (has_leaf xs) →
-    ShareSome (has_leaf xs) (has_leaf ys)
-one_of_each xs ys k h (x, v, a) = let r = covers_from (get_or ys k 0) x v in (x, a, leaf_there ys k x h r.0 r.1)
 
 -- ---- cells that cost no search
 

@@ -1,30 +1,18 @@
-use Rattle.std.proofs.Common.{◌≡◌, ◌+◌, ◌-◌, ◌*◌, ◌<◌, ◌≤◌, Bool, true, false, not, length}
-use Rattle.std.proofs.Common.{get_or, refl, arith, inl, inr}
+use Rattle.std.proofs.Common.{◌+◌, ◌-◌, ◌*◌, ◌<◌, ◌≤◌, length}
+use Rattle.std.proofs.Common.{get_or, arith, inl, inr}
 use Rattle.std.proofs.Math.Logic.{⊎_elim}
-use Rattle.std.proofs.lemmas.Bool.{cases_lt, false≢true}
+use Rattle.std.proofs.lemmas.Bool.{cases_lt}
 use Rattle.s2list.specs.Union.{IsLocal, has_leaf}
 use Rattle.s2list.specs.Working.Walk.{Decides, FewLooks}
 use Rattle.s2list.specs.declared.walk.Question.TheVariants.{Contains}
-use Rattle.s2list.proofs.Asking.{all_within, part_within}
+use Rattle.s2list.proofs.Asking.{none_lacks}
 use Rattle.s2list.proofs.walk.holds_all.Given.{Over}
 use Rattle.s2list.proofs.walk.holds_all.Goals as goal
 
-not_from : (b : Bool) → not b ≡ true → b ≡ false
-not_from true h = absurd (false≢true h)
-not_from false h = refl
-
-not_to : (b : Bool) → (b ≡ true → ⊥) → not b ≡ true
-not_to true h = absurd (h refl)
-not_to false h = refl
-
 pub returns-clause-answer : goal.returns-clause-answer
 returns-clause-answer g c lx ly =
-    let xs = g.X.Cells.ids c.args.xs.now in
-    let ys = g.Y.Cells.ids c.args.ys.now in (
-      λ e. all_within (has_leaf xs) ys (c.is_decided.ensures.none lx ly (not_from c.is_decided.result e)),
-      λ w. not_to c.is_decided.result (λ e. let (k, h, lacks) = c.is_decided.ensures.found lx ly e in
-          lacks (part_within (has_leaf xs) ys k h w)),
-    )
+    none_lacks (has_leaf (g.X.Cells.ids c.args.xs.now)) (g.Y.Cells.ids c.args.ys.now) c.is_decided.result
+    (c.is_decided.ensures.none lx ly) (c.is_decided.ensures.found lx ly)
 
 -- the looks at both ends are no more than a walk may add
 looked : (g : Over) (c : goal.After-is_decided g) → IsLocal (g.X.Cells.ids c.args.xs.now) →

@@ -1,13 +1,12 @@
 use Rattle.std.proofs.Common.{arith}
-use Rattle.s2list.proofs.Asking.{part_shares, none_shares}
-use Rattle.s2list.proofs.Walking.{not_false}
+use Rattle.s2list.specs.Union.{has_leaf}
+use Rattle.s2list.proofs.Asking.{one_shares}
 use Rattle.s2list.proofs.walk.meets_any.Goals as goal
 
 pub returns-clause-answer : goal.returns-clause-answer
-returns-clause-answer g c lx ly = (
-  λ e. let (k, h, meets) = c.is_decided.ensures.found lx ly e in part_shares _ (g.Y.Cells.ids c.args.ys.now) k h meets,
-  λ s. not_false _ (λ e. none_shares _ (g.Y.Cells.ids c.args.ys.now) (c.is_decided.ensures.none lx ly e) s),
-)
+returns-clause-answer g c lx ly =
+    one_shares (has_leaf (g.X.Cells.ids c.args.xs.now)) (g.Y.Cells.ids c.args.ys.now) c.is_decided.result
+    (c.is_decided.ensures.none lx ly) (c.is_decided.ensures.found lx ly)
 
 pub returns-clause-looks : goal.returns-clause-looks
 returns-clause-looks g c lx ly d i j cut known k h =

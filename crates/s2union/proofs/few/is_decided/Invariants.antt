@@ -1,11 +1,11 @@
 use Rattle.std.proofs.Common.{◌-◌, ◌*◌, ◌<◌, ◌≤◌, length, min}
-use Rattle.s2union.specs.Working.Sets.{MissesBetween}
-use Rattle.s2union.proofs.few.meets_few.Given as goal
+use Rattle.s2union.specs.Working.Sets.{OpenBetween}
+use Rattle.s2union.proofs.few.is_decided.Given as goal
 
 abbrev pub invariant-loop-j : goal.invariant-loop-j
 invariant-loop-j g l = record {
   in_y : l.j ≤ length l.ys;
-  missed : MissesBetween l.xs l.ys 0 l.j;
+  left_open : OpenBetween l.question l.xs l.ys 0 l.j;
   few : g.K.Count.looks l.count ≤ 250 * l.j;
   some : 0 < l.j → min 2 g.K.Count.most ≤ g.K.Count.looks l.count;
 }
