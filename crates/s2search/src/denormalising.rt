@@ -1,5 +1,5 @@
 //! The cells of a union, cut to levels, written straight into a room.
-ghost use Rattle.std.specs.Prelude.{◌≡◌, ◌++◌, ◌-◌, ◌^◌, ◌<◌, ◌≤◌, ℕ, List, length};
+ghost use Rattle.std.specs.Prelude.{◌≡◌, ◌++◌, ◌-◌, ◌<◌, ◌≤◌, ℕ, List, length};
 ghost use Rattle.s2cell.specs.Cell.{IsCell, level_of};
 ghost use Rattle.s2list.specs.Union.{IsLocal};
 ghost use Rattle.s2union.specs.Denorm.{cells_in, cut_level, denormalised};

@@ -1,5 +1,5 @@
 //! Questions that are asked in order.
-ghost use Rattle.std.specs.Prelude.{◌≡◌, ◌≤◌, ◌*◌, ◌^◌, ◌↔◌, IsTrue, length};
+ghost use Rattle.std.specs.Prelude.{◌≡◌, ◌≤◌, ◌↔◌, IsTrue, length};
 ghost use Rattle.s2cell.specs.Cell.{covers, first_leaf};
 ghost use Rattle.s2list.specs.Union.{has_leaf, IsWithin, ShareSome};
 ghost use Rattle.s2list.specs.Packed.{IsPacked, FirstEndBy, EndsAfter};

@@ -1,5 +1,5 @@
 use Rattle.std.proofs.Common.{◌≡◌, ◌+◌, ◌-◌, ◌<◌, length, arith}
-use Rattle.s2list.specs.Packed.{FirstEndBy}
+use Rattle.s2list.specs.Packed.{FirstEndBy, IsPacked}
 use Rattle.s2list.specs.Working.Search.{IsFrom}
 use Rattle.s2list.proofs.Narrowing.{later, ended_up}
 use Rattle.s2list.proofs.Looking.{leapt_two, leapt_more, leapt_last}
@@ -40,47 +40,36 @@ loop-leap-preserved g c =
       least = omega arith;
     }
 
-pub returns-then-not-ends_by-clause-ended : goal.returns-then-not-ends_by-clause-ended
-returns-then-not-ends_by-clause-ended g c p b =
+pub returns-then-not-ends_by : goal.returns-then-not-ends_by
+returns-then-not-ends_by g c =
     let u = g.C.Cells.ids c.args.cells.now in
     let v = c.loop-leap.invariant in
+    let start = v.from in
     let leap = v.leap in
+    let seen = v.least in
     let k = c.loop-leap.base + (c.loop-leap.leap - 1) in
     let n = c.len-len.ensures in
-    let h : k < length u = omega arith in
-    let test = c.ends_by.ensures (rw c.look.ensures.id (p.cells k 0 h)) in
-    let from : IsFrom u c.args.lo c.loop-leap.base k =
-    record {
-      ended = v.ended p b;
-      next = λ _. rw c.look.ensures.id at (later _ _ _ test c.if-not-ends_by.true);
-    } in
-    c.narrow.ensures.ended p from
-
-pub returns-then-not-ends_by-clause-next : goal.returns-then-not-ends_by-clause-next
-returns-then-not-ends_by-clause-next g c p b =
-    let u = g.C.Cells.ids c.args.cells.now in
-    let v = c.loop-leap.invariant in
-    let leap = v.leap in
-    let k = c.loop-leap.base + (c.loop-leap.leap - 1) in
-    let n = c.len-len.ensures in
-    let h : k < length u = omega arith in
-    let test = c.ends_by.ensures (rw c.look.ensures.id (p.cells k 0 h)) in
-    let from : IsFrom u c.args.lo c.loop-leap.base k =
-    record {
-      ended = v.ended p b;
-      next = λ _. rw c.look.ensures.id at (later _ _ _ test c.if-not-ends_by.true);
-    } in
-    c.narrow.ensures.next p from
-
-pub returns-then-not-ends_by-clause-looks : goal.returns-then-not-ends_by-clause-looks
-returns-then-not-ends_by-clause-looks g c k h =
-    let v = c.loop-leap.invariant in
-    let from = v.from in
-    let leap = v.leap in
     let more = c.look.ensures.count in
-    let on = c.narrow.ensures.from in
-    leapt_last (c.loop-leap.leap - 1) (g.K.Count.looks c.look.new.count)
-    _ v.leapt (omega arith) (omega arith) (λ j f. c.narrow.ensures.looks j (omega arith)) _ k (omega arith) h
+    let h : k < length u = omega arith in
+    let f = c.narrow.ensures in
+    let on = f.from in
+    let to = f.to in
+    let least = f.least in
+    let place : IsPacked u → FirstEndBy u (c.args.start + 2) c.args.lo → IsFrom u c.args.lo c.loop-leap.base k =
+    λ p b. record {
+      ended = v.ended p b;
+      next = λ _. rw c.look.ensures.id at (later _ _ _ (c.ends_by.ensures (rw c.look.ensures.id (p.cells k 0 h)))
+          c.if-not-ends_by.true);
+    } in
+    record {
+      from = omega arith;
+      within = omega arith;
+      ended = λ p b. f.ended p (place p b);
+      next = λ p b. f.next p (place p b);
+      looks = λ j l. leapt_last (c.loop-leap.leap - 1) (g.K.Count.looks c.look.new.count) _ v.leapt (omega arith)
+          (omega arith) (λ i m. f.looks i (omega arith)) _ j (omega arith) l;
+      least = omega arith;
+    }
 
 pub returns-clause-looks : goal.returns-clause-looks
 returns-clause-looks g c k h =
