@@ -1,4 +1,3 @@
 pub mod KnownWords
 pub mod NameLemmas
 pub mod NamedLemmas
-pub mod WordLemmas

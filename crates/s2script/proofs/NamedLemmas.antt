@@ -1,9 +1,11 @@
 -- Which words name cells.
 use Rattle.std.proofs.Common.{◌≡◌, ℕ, ◌+◌, ◌-◌, ◌*◌, ◌/◌, ◌%◌, ◌^◌, ◌<◌, ◌≤◌, refl, sym}
-use Rattle.std.proofs.Common.{◌∙◌, ap, arith, subst, List, [], ◌∷◌, length, Bool, true, false, ◌&&◌, cond, Some, None}
+use Rattle.std.proofs.Common.{◌∙◌, ap, arith, subst, List, [], ◌∷◌, length, Bool, true, false, ◌&&◌, ◌||◌, cond}
+use Rattle.std.proofs.Common.{inl, inr, Some, None}
 use Rattle.std.proofs.Common.{nat_lt, nat_le, nat_eq}
 use Rattle.std.proofs.Math.Nat.{mul-le-mul_right, div-eq_of_lt-le}
-use Rattle.std.proofs.lemmas.Bool.{false≢true}
+use Rattle.std.proofs.Math.Logic.{⊎_elim}
+use Rattle.std.proofs.lemmas.Bool.{cases_Bool, false≢true}
 use Rattle.std.proofs.lemmas.Bool.Decides.{nat_tests}
 use Rattle.std.proofs.lemmas.Nat.{mod-mul-add, div_below}
 use Rattle.std.proofs.lemmas.Int.Digits.{digits_value-lt}
@@ -11,13 +13,16 @@ use Rattle.std.proofs.lemmas.Str.{digit_value_digit}
 use Rattle.std.proofs.lemmas.Str.Parse.{digit_from_value}
 use Rattle.std.specs.Char.{digit_value, is_digit}
 use Rattle.std.specs.List.{list_all}
+use Rattle.std.specs.Prelude.{MatchOption, Option}
+use Rattle.std.proofs.lemmas.List.Folds.{list_any_at}
 use Rattle.std.specs.Str.Parse.{AllDigits, digits_value}
 use Rattle.s2cell.specs.Cell.{IsCell, IsCellAt, level_of, place_of, face_of, id_at}
 use Rattle.s2cell.specs.Token.{IsReading}
 use Rattle.s2cell.specs.Debug.{IsDebug}
+use Rattle.s2cell.specs.Words.{NamesCell}
 use Rattle.s2cell.proofs.CellLemmas.{own_place, level_of_cell, place_of_cell, four_pos}
 use Rattle.s2script.specs.Named.{is_cell, is_hexadecimal, padded_value, token_cell, debug_cell, is_face_and_digits}
-use Rattle.s2script.specs.Named.{cell_below}
+use Rattle.s2script.specs.Named.{cell_below, has_slash}
 
 and_both : (a b : Bool) → (a && b) ≡ true → (a ≡ true) × (b ≡ true)
 and_both true b e = (refl, e)
@@ -209,3 +214,33 @@ debug_none [] none = refl
 debug_none (face ∷ []) none = refl
 debug_none (face ∷ slash ∷ digits) none = none_where (is_face_and_digits face slash digits)
     (cell_below face digits) (λ e. none (cell_below face digits) (debug_from face slash digits e))
+
+-- ---- either
+
+no_slash : (word : List ℕ) → AllDigits 16 word → has_slash word ≡ false
+no_slash [] a = refl
+no_slash (b ∷ bs) a =
+    let slash : digit_value 47 ≡ 36 = refl in
+    ⊎_elim
+    (λ (yes : nat_eq b 47 ≡ true).
+    let low : digit_value 47 < 16 = subst (λ x. digit_value x < 16) (equal_from b 47 yes) a.0 in
+    absurd (omega arith))
+    (λ (no : nat_eq b 47 ≡ false). ap (λ t. t || has_slash bs) no ∙ no_slash bs a.1)
+    (cases_Bool (nat_eq b 47))
+
+a_slash : (word : List ℕ) (n : ℕ) → IsDebug word n → has_slash word ≡ true
+a_slash word n d = list_any_at (λ b. nat_eq b 47) word 1 0 (omega (arith, d.length_is)) (is_equal _ 47 d.slash)
+
+pub names_by_debug : (word : List ℕ) (found : Option ℕ) → has_slash word ≡ true
+    → MatchOption found ((n : ℕ) → IsDebug word n → ⊥) (λ n. IsDebug word n)
+    → MatchOption found ((n : ℕ) → NamesCell word n → ⊥) (λ n. NamesCell word n)
+names_by_debug word None slash none = λ n. ⊎_elim
+    (λ r. absurd (false≢true (sym (no_slash word r.0.digits) ∙ slash))) (none n)
+names_by_debug word (Some n) slash d = inr d
+
+pub names_by_token : (word : List ℕ) (found : Option ℕ) → has_slash word ≡ false
+    → MatchOption found ((n : ℕ) → IsReading word n × IsCell n → ⊥) (λ n. IsReading word n × IsCell n)
+    → MatchOption found ((n : ℕ) → NamesCell word n → ⊥) (λ n. NamesCell word n)
+names_by_token word None plain none = λ n. ⊎_elim (none n)
+    (λ d. absurd (false≢true (sym plain ∙ a_slash word n d)))
+names_by_token word (Some n) plain r = inl r

@@ -1,12 +1,10 @@
 -- Words that name cells: a debug text if there is a slash, else a token.
-use Rattle.std.specs.Prelude.{ℕ, ◌+◌, ◌-◌, ◌*◌, ◌^◌, Bool, true, false, ◌&&◌, List, [], ◌∷◌, ◌==◌}
+use Rattle.std.specs.Prelude.{ℕ, ◌+◌, ◌-◌, ◌*◌, ◌^◌, Bool, ◌&&◌, List, [], ◌∷◌, ◌==◌}
 use Rattle.std.specs.Prelude.{nat_lt, nat_le, if◌then◌else◌, length, Option, Some, None}
 use Rattle.std.specs.List.{list_all, list_any}
 use Rattle.std.specs.Char.{is_digit}
 use Rattle.std.specs.Str.Parse.{digits_value}
-use Rattle.s2cell.specs.Cell.{IsCell, level_of, place_of, id_at}
-use Rattle.s2cell.specs.Token.{IsReading}
-use Rattle.s2cell.specs.Debug.{IsDebug}
+use Rattle.s2cell.specs.Cell.{level_of, place_of, id_at}
 
 -- whether `n` is the identifier of a cell, the one at the level and place computed from `n`
 unfoldable pub is_cell : ℕ → Bool
@@ -50,12 +48,3 @@ has_slash word = list_any (λ b. b == 47) word
 unfoldable pub cell_named : List ℕ → Option ℕ
 unfolding token_cell debug_cell
 cell_named word = if has_slash word then debug_cell word else token_cell word
-
--- the word names the cell as a debug text, or as a token
-abbrev pub NamesBy : Bool → List ℕ → ℕ → Type 0
-NamesBy true word n = IsDebug word n
-NamesBy false word n = IsReading word n × IsCell n
-
--- the word is the debug text of the cell if it has a slash, else a reading of its token
-abbrev pub Names : List ℕ → ℕ → Type 0
-Names word n = NamesBy (has_slash word) word n

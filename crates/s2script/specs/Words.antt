@@ -1,21 +1,15 @@
 -- The words of a line.
-use Rattle.std.specs.Prelude.{ℕ, Bool, false, true, ◌||◌, List, [], ◌∷◌, ◌==◌}
-use Rattle.std.specs.Prelude.{filter}
-use Rattle.std.specs.List.{slice_split}
+use Rattle.std.specs.Prelude.{ℕ, Bool, false, ◌||◌, List, [], ◌∷◌, ◌==◌}
 use Rattle.std.specs.Io.BufRead.{strip_last}
+use Rattle.s2cell.specs.Words.{words_between}
 
 -- a space or a tab
 abbrev pub is_blank : ℕ → Bool
 is_blank b = (b == 32) || (b == 9)
 
--- whether a word has any bytes
-abbrev pub is_nonempty : List ℕ → Bool
-is_nonempty [] = false
-is_nonempty (b ∷ bs) = true
-
 -- the words of a line: what spaces and tabs separate
 abbrev pub words : List ℕ → List (List ℕ)
-words bytes = filter is_nonempty (slice_split is_blank bytes)
+words bytes = words_between is_blank bytes
 
 -- the line without one CR at its end
 abbrev pub without_cr : List ℕ → List ℕ

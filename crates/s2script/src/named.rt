@@ -3,7 +3,8 @@ ghost use Rattle.std.specs.Prelude.{◌≡◌, MatchOption, ℕ};
 ghost use Rattle.s2cell.specs.Cell.{IsCell};
 ghost use Rattle.s2cell.specs.Token.{IsReading};
 ghost use Rattle.s2cell.specs.Debug.{IsDebug};
-ghost use Rattle.s2script.specs.Named.{cell_named, token_cell, debug_cell, has_slash, Names};
+ghost use Rattle.s2cell.specs.Words.{NamesCell};
+ghost use Rattle.s2script.specs.Named.{cell_named, token_cell, debug_cell, has_slash};
 
 use s2cell::CellId;
 
@@ -18,7 +19,7 @@ fn has_slash(word: &[u8]) -> bool
 #[tactic(auto, unfolding(crate::specs::Named::cell_named))]
 pub fn cell_in(word: &[u8]) -> Option<CellId>
     ensures value { result ≡ cell_named word.now }
-    ensures names { MatchOption result ((n : ℕ) → Names word.now n → ⊥) (λ c. Names word.now c) }
+    ensures names { MatchOption result ((n : ℕ) → NamesCell word.now n → ⊥) (λ c. NamesCell word.now c) }
 {
     if has_slash(word) {
         debug_in(word)

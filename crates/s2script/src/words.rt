@@ -2,7 +2,7 @@
 ghost use Rattle.std.specs.Prelude.{◌≡◌, ◌↔◌, IsTrue, [], ◌∷◌, IfSome, IfNone, MatchOption, false};
 ghost use Rattle.std.specs.List.{AllByRecursion};
 ghost use Rattle.s2script.specs.Words.{words, is_blank};
-ghost use Rattle.s2script.specs.Working.Words.{EndsWordAt};
+ghost use Rattle.s2cell.specs.Working.Words.{EndsWordAt};
 
 use std::marker::Model;
 
@@ -61,7 +61,7 @@ fn is_blank(byte: u8) -> bool
 /// Where the first blank is.
 fn blank_in(bytes: &[u8]) -> Option<usize>
     ensures none { IfNone result (AllByRecursion (λ b. is_blank b ≡ false) bytes.now) }
-    ensures some { IfSome result (λ at. EndsWordAt bytes.now at) }
+    ensures some { IfSome result (λ at. EndsWordAt is_blank bytes.now at) }
 {
     bytes.iter().position(|b| is_blank(*b))
 }

@@ -7,7 +7,8 @@ use Rattle.std.proofs.Math.ListN.{set}
 use Rattle.std.proofs.Math.Seq.{set-append_seam}
 use Rattle.std.proofs.lemmas.List.{length-drop}
 use Rattle.std.specs.List.{AllZip}
-use Rattle.s2union_c.specs.Texts.{AreNames, IsFirstNameless, NamesCell, words_of_text}
+use Rattle.s2cell.specs.Words.{NamesCell}
+use Rattle.s2union_c.specs.Texts.{AreNames, IsFirstNameless, words_of_text}
 use Rattle.s2union_c.specs.Working.Texts.{IsFilled, IsNextWord}
 
 -- the words up to the place `at` name these cells, `count` of them

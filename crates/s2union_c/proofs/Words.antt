@@ -1,52 +1,33 @@
 -- The words of a text, from place to place.
 use Rattle.std.proofs.Common.{◌≡◌, ℕ, zero, suc, ◌+◌, ◌-◌, ◌<◌, ◌≤◌, Bool, true, false, List, [], ◌∷◌}
-use Rattle.std.proofs.Common.{◌++◌, length}
+use Rattle.std.proofs.Common.{length}
 use Rattle.std.proofs.Common.{take, drop, slice_index}
 use Rattle.std.proofs.Math.Logic.{⊎_elim}
-use Rattle.std.proofs.Common.{◌*◌, subst, refl, sym, ap, ◌∙◌, take-append-drop, drop-cons, add-one, get_or, arith}
+use Rattle.std.proofs.Common.{◌*◌, subst, refl, sym, ap, ◌∙◌, drop-cons, add-one, get_or, arith}
 use Rattle.std.proofs.lemmas.Bool.{cases_Bool, false≢true}
 use Rattle.std.proofs.lemmas.List.{drop-drop, length-drop, length-take-le, take_all}
 use Rattle.std.proofs.lemmas.List.Splits.{slice_split-cons_yes, slice_split-cons_no}
 use Rattle.std.specs.List.{AllByRecursion, slice_split, onto_first, filter}
 use Rattle.std.proofs.Math.ListN.{drop_of_length-le}
-use Rattle.s2union_c.specs.Working.Texts.{EndsTextWordAt, IsNextWord}
-use Rattle.s2union_c.specs.Texts.{is_between, is_nonempty, words_of_text}
-
-split_at : (p : ℕ → Bool) (word : List ℕ) (b : ℕ) (more : List ℕ) → AllByRecursion (λ x. p x ≡ false) word → p b ≡ true
-    → slice_split p (word ++ b ∷ more) ≡ word ∷ slice_split p more
-split_at p [] b more u e = slice_split-cons_yes p b more e
-split_at p (x ∷ xs) b more u e = slice_split-cons_no p x (xs ++ b ∷ more) u.0
-    ∙ ap (onto_first x) (split_at p xs b more u.1 e)
-
-split_none : (p : ℕ → Bool) (word : List ℕ) → AllByRecursion (λ x. p x ≡ false) word → slice_split p word ≡ word ∷ []
-split_none p [] u = refl
-split_none p (x ∷ xs) u = slice_split-cons_no p x xs u.0 ∙ ap (onto_first x) (split_none p xs u.1)
-
-filter_some : (word : List ℕ) (parts : List (List ℕ)) → 0 < length word
-    → filter is_nonempty (word ∷ parts) ≡ word ∷ filter is_nonempty parts
-filter_some [] parts h = absurd (omega arith)
-filter_some (b ∷ bs) parts h = refl
+use Rattle.s2cell.specs.Words.{is_nonempty}
+use Rattle.s2cell.specs.Working.Words.{EndsWordAt}
+use Rattle.s2cell.proofs.Words.{with_word-some, words_at, words_last}
+use Rattle.s2union_c.specs.Working.Texts.{IsNextWord}
+use Rattle.s2union_c.specs.Texts.{is_between, words_of_text}
 
 -- what stands between words adds none
 pub words_skip : (b : ℕ) (more : List ℕ) → is_between b ≡ true → words_of_text (b ∷ more) ≡ words_of_text more
 words_skip b more e = ap (filter is_nonempty) (slice_split-cons_yes is_between b more e)
 
 -- a word ends at the first byte that stands between words
-pub words_at : (bytes : List ℕ) (at : ℕ) → EndsTextWordAt bytes at → 0 < length (take at bytes)
+ends_at : (bytes : List ℕ) (at : ℕ) → EndsWordAt is_between bytes at → 0 < length (take at bytes)
     → words_of_text bytes ≡ take at bytes ∷ words_of_text (drop at bytes)
-words_at bytes at h some =
+ends_at bytes at h some =
     let more = drop (at + 1) bytes in
     let skip : words_of_text (drop at bytes) ≡ words_of_text more = ap words_of_text h.here
     ∙ words_skip (slice_index bytes at) more h.between in
-    ap words_of_text (sym (take-append-drop at bytes) ∙ ap (λ s. take at bytes ++ s) h.here)
-    ∙ ap (filter is_nonempty) (split_at is_between (take at bytes) (slice_index bytes at) more h.before h.between)
-    ∙ filter_some (take at bytes) (slice_split is_between more) some
+    words_at is_between bytes at h ∙ with_word-some (take at bytes) (words_of_text more) some
     ∙ ap (λ ws. take at bytes ∷ ws) (sym skip)
-
--- or at the end of the text
-pub words_last : (bytes : List ℕ) → AllByRecursion (λ b. is_between b ≡ false) bytes → 0 < length bytes
-    → words_of_text bytes ≡ bytes ∷ []
-words_last bytes u some = ap (filter is_nonempty) (split_none is_between bytes u) ∙ filter_some bytes [] some
 
 -- ---- from a place of a text on
 
@@ -60,14 +41,14 @@ first_byte : (text : List ℕ) (k : ℕ) → k < length text → get_or (drop k 
 first_byte text k h = ap (λ u. get_or u 0 0) (front text k h)
 
 not_at_once : (text : List ℕ) (start len : ℕ) → start < length text → is_between (get_or text start 0) ≡ false
-    → EndsTextWordAt (drop start text) len → 0 < len
+    → EndsWordAt is_between (drop start text) len → 0 < len
 not_at_once text start zero h e ends =
     absurd (false≢true (sym e ∙ ap is_between (sym (first_byte text start h)) ∙ ends.between))
 not_at_once text start (suc len) h e ends = omega arith
 
 pub next_at : (text : List ℕ) (from start len : ℕ) → from ≤ start → start < length text
     → is_between (get_or text start 0) ≡ false → words_of_text (drop start text) ≡ words_of_text (drop from text)
-    → EndsTextWordAt (drop start text) len → IsNextWord text from start (start + len)
+    → EndsWordAt is_between (drop start text) len → IsNextWord text from start (start + len)
 next_at text from start len order h begins same ends =
     let some = not_at_once text start len h begins ends in
     let room : length (drop start text) ≡ length text - start = length-drop start text in
@@ -77,7 +58,7 @@ next_at text from start len order h begins same ends =
     let rest : drop len (drop start text) ≡ drop (start + len) text = drop-drop len start text in
     let first : words_of_text (drop start text) ≡ take len (drop start text)
     ∷ words_of_text (drop len (drop start text)) =
-    words_at (drop start text) len ends (omega arith) in
+    ends_at (drop start text) len ends (omega arith) in
     record {
       order = order;
       some = omega arith;
@@ -101,7 +82,8 @@ next_last text from start order h begins same none =
       within = omega arith;
       begins = begins;
       same = same;
-      first = rw (all, no_more) (words_last (drop start text) none (omega arith));
+      first = rw (all, no_more) (words_last is_between (drop start text) none
+          ∙ with_word-some (drop start text) [] (omega arith));
     }
 
 -- a test that is not true

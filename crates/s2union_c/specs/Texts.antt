@@ -1,11 +1,10 @@
 -- Lists of cells as texts.
-use Rattle.std.specs.Prelude.{◌≡◌, ℕ, ◌<◌, ◌⊎◌, Bool, false, true, ◌||◌}
+use Rattle.std.specs.Prelude.{◌≡◌, ℕ, ◌<◌, Bool, false, ◌||◌}
 use Rattle.std.specs.Prelude.{List, [], ◌∷◌, ◌++◌, ◌==◌, length}
-use Rattle.std.specs.Prelude.{drop, slice_index, filter}
-use Rattle.std.specs.List.{slice_split, AllByRecursion}
-use Rattle.s2cell.specs.Cell.{IsCell}
-use Rattle.s2cell.specs.Token.{IsReading, token_of}
-use Rattle.s2cell.specs.Debug.{IsDebug}
+use Rattle.std.specs.Prelude.{drop, slice_index}
+use Rattle.std.specs.List.{AllByRecursion}
+use Rattle.s2cell.specs.Token.{token_of}
+use Rattle.s2cell.specs.Words.{NamesCell, words_between}
 
 -- the tokens of the cells, with one space between two
 abbrev pub tokens_of : List ℕ → List ℕ
@@ -17,18 +16,9 @@ tokens_of (id ∷ next ∷ ids) = token_of id ++ 32 ∷ tokens_of (next ∷ ids)
 abbrev pub is_between : ℕ → Bool
 is_between b = (b == 32) || ((b == 9) || ((b == 10) || ((b == 13) || (b == 44))))
 
--- whether a word has any bytes
-abbrev pub is_nonempty : List ℕ → Bool
-is_nonempty [] = false
-is_nonempty (b ∷ bs) = true
-
 -- the words of a text
 abbrev pub words_of_text : List ℕ → List (List ℕ)
-words_of_text text = filter is_nonempty (slice_split is_between text)
-
--- the word names the cell: by its token, in upper or lower case and with any zeros at its end, or by its debug text
-abbrev pub NamesCell : List ℕ → ℕ → Type 0
-NamesCell word id = (IsReading word id × IsCell id) ⊎ IsDebug word id
+words_of_text text = words_between is_between text
 
 -- each word names a cell
 abbrev pub AreNames : List (List ℕ) → Type 0

@@ -5,10 +5,12 @@ ghost use Rattle.std.specs.Prelude.{true, false, ◌↔◌, IfNone, IfSome, IsTr
 ghost use Rattle.std.specs.List.{AllByRecursion, AllZip};
 ghost use Rattle.s2cell.specs.Cell.{IsCell};
 ghost use Rattle.s2cell.specs.Token.{token_of};
+ghost use Rattle.s2cell.specs.Words.{NamesCell};
+ghost use Rattle.s2cell.specs.Working.Words.{EndsWordAt};
 ghost use Rattle.s2union_c.specs.Results.{Made, Refused};
 ghost use Rattle.s2union_c.specs.Status.{no_cell, too_many};
-ghost use Rattle.s2union_c.specs.Working.Texts.{EndsTextWordAt, IsFilled, IsNextWord};
-ghost use Rattle.s2union_c.specs.Texts.{IsFirstNameless, NamesCell};
+ghost use Rattle.s2union_c.specs.Working.Texts.{IsFilled, IsNextWord};
+ghost use Rattle.s2union_c.specs.Texts.{IsFirstNameless};
 ghost use Rattle.s2union_c.specs.Texts.{is_between, tokens_of, words_of_text};
 ghost use Rattle.s2union_c.specs.Working.Texts.{piece};
 
@@ -202,7 +204,7 @@ fn stands_between(text: &[u8], place: usize) -> bool
 /// Where the first byte that separates words is.
 fn word_end(bytes: &[u8]) -> Option<usize>
     ensures none { IfNone result (AllByRecursion (λ b. is_between b ≡ false) bytes.now) }
-    ensures some { IfSome result (λ at. EndsTextWordAt bytes.now at) }
+    ensures some { IfSome result (λ at. EndsWordAt is_between bytes.now at) }
 {
     bytes.iter().position(|b| is_between(*b))
 }

@@ -1,8 +1,7 @@
 -- What only private contracts need, beside Texts.antt, which has what public contracts need.
-use Rattle.std.specs.Prelude.{◌≡◌, ℕ, zero, suc, ◌+◌, ◌-◌, ◌<◌, ◌≤◌, false, true}
+use Rattle.std.specs.Prelude.{◌≡◌, ℕ, zero, suc, ◌-◌, ◌<◌, ◌≤◌, false}
 use Rattle.std.specs.Prelude.{List, ◌∷◌, ◌++◌, length}
 use Rattle.std.specs.Prelude.{take, drop, slice_index}
-use Rattle.std.specs.List.{AllByRecursion}
 use Rattle.s2union_c.specs.Texts.{is_between, words_of_text}
 
 -- what a token adds to a text after `k` other tokens: a blank before it, unless it is the first
@@ -18,13 +17,6 @@ pub record IsNextWord (text : List ℕ) (from start end : ℕ) : Type 0 where
   pub begins : is_between (slice_index text start) ≡ false
   pub same : words_of_text (drop start text) ≡ words_of_text (drop from text)
   pub first : words_of_text (drop start text) ≡ take (end - start) (drop start text) ∷ words_of_text (drop end text)
-
--- the first byte between words is at index `at`
-pub record EndsTextWordAt (bytes : List ℕ) (at : ℕ) : Type 0 where
-  pub within : at < length bytes
-  pub before : AllByRecursion (λ b. is_between b ≡ false) (take at bytes)
-  pub between : is_between (slice_index bytes at) ≡ true
-  pub here : drop at bytes ≡ slice_index bytes at ∷ drop (at + 1) bytes
 
 -- `new` begins with `front`, and what comes after that is as it was in `old`
 abbrev pub IsFilled : {X : Type 0} → List X → List X → List X → Type 0

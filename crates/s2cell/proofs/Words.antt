@@ -1,10 +1,10 @@
--- Lemmas on the words of a line.
+-- The words of a text, one after another.
 use Rattle.std.proofs.Common.{◌≡◌, ℕ, ◌+◌, Bool, true, false, List, [], ◌∷◌, ◌++◌, length, take, drop, slice_index}
 use Rattle.std.proofs.Common.{refl, sym, ap, ◌∙◌, take-append-drop, arith, ◌<◌}
 use Rattle.std.proofs.lemmas.List.Splits.{slice_split-cons_yes, slice_split-cons_no}
 use Rattle.std.specs.List.{AllByRecursion, slice_split, onto_first, filter}
-use Rattle.s2script.specs.Words.{is_blank, is_nonempty, words}
-use Rattle.s2script.specs.Working.Words.{EndsWordAt}
+use Rattle.s2cell.specs.Words.{is_nonempty, words_between}
+use Rattle.s2cell.specs.Working.Words.{EndsWordAt}
 
 split_at : (p : ℕ → Bool) (word : List ℕ) (b : ℕ) (more : List ℕ) → AllByRecursion (λ x. p x ≡ false) word →
     p b ≡ true → slice_split p (word ++ b ∷ more) ≡ word ∷ slice_split p more
@@ -16,7 +16,7 @@ split_none : (p : ℕ → Bool) (word : List ℕ) → AllByRecursion (λ x. p x 
 split_none p [] u = refl
 split_none p (x ∷ xs) u = slice_split-cons_no p x xs u.0 ∙ ap (onto_first x) (split_none p xs u.1)
 
--- what the bytes before a blank add
+-- what the bytes before a separator add
 abbrev pub with_word : List ℕ → List (List ℕ) → List (List ℕ)
 with_word [] ws = ws
 with_word (b ∷ bs) ws = (b ∷ bs) ∷ ws
@@ -26,16 +26,17 @@ filter_cons : (word : List ℕ) (parts : List (List ℕ)) →
 filter_cons [] parts = refl
 filter_cons (b ∷ bs) parts = refl
 
-pub words_at : (bytes : List ℕ) (at : ℕ) → EndsWordAt bytes at →
-    words bytes ≡ with_word (take at bytes) (words (drop (at + 1) bytes))
-words_at bytes at h =
-    ap words (sym (take-append-drop at bytes) ∙ ap (λ s. take at bytes ++ s) h.here)
-    ∙ ap (filter is_nonempty) (split_at is_blank (take at bytes) (slice_index bytes at) (drop (at + 1) bytes)
-    h.before h.blank)
-    ∙ filter_cons (take at bytes) (slice_split is_blank (drop (at + 1) bytes))
+pub words_at : (p : ℕ → Bool) (bytes : List ℕ) (at : ℕ) → EndsWordAt p bytes at
+    → words_between p bytes ≡ with_word (take at bytes) (words_between p (drop (at + 1) bytes))
+words_at p bytes at h =
+    ap (words_between p) (sym (take-append-drop at bytes) ∙ ap (λ s. take at bytes ++ s) h.here)
+    ∙ ap (filter is_nonempty) (split_at p (take at bytes) (slice_index bytes at) (drop (at + 1) bytes) h.before
+    h.between)
+    ∙ filter_cons (take at bytes) (slice_split p (drop (at + 1) bytes))
 
-pub words_last : (bytes : List ℕ) → AllByRecursion (λ b. is_blank b ≡ false) bytes → words bytes ≡ with_word bytes []
-words_last bytes u = ap (filter is_nonempty) (split_none is_blank bytes u) ∙ filter_cons bytes []
+pub words_last : (p : ℕ → Bool) (bytes : List ℕ) → AllByRecursion (λ b. p b ≡ false) bytes
+    → words_between p bytes ≡ with_word bytes []
+words_last p bytes u = ap (filter is_nonempty) (split_none p bytes u) ∙ filter_cons bytes []
 
 pub with_word-some : (word : List ℕ) (ws : List (List ℕ)) → 0 < length word → with_word word ws ≡ word ∷ ws
 with_word-some [] ws h = absurd (omega arith)
