@@ -1,5 +1,5 @@
 //! The coverings of a union, which are its own cells cut to a level.
-ghost use Rattle.std.specs.Prelude.{◌≡◌, ◌<◌, ◌≤◌, length, IfOk, IfErr};
+ghost use Rattle.std.specs.Prelude.{◌≡◌, ◌<◌, ◌≤◌, drop, length, IfOk, IfErr};
 ghost use Rattle.s2list.specs.Union.{has_leaf, IsLocal, IsNormalForm};
 ghost use Rattle.s2cover.specs.Coverings.{HasLeavesOf, TooManyMeans, inner_set, outer_set};
 ghost use Rattle.s2search.specs.Room.{PutsUpTo};
@@ -19,6 +19,7 @@ pub fn put_outer<C: Cells>(cells: &C, level: u8, most: usize, out: &mut [u64]) -
     ensures len { length out.new ≡ length out.old }
     ensures made { IsLocal (C.ids cells.now)
         → PutsUpTo most (IsNormalForm (outer_set (has_leaf (C.ids cells.now)) level)) out.old out.new result }
+    ensures rest { drop result out.new ≡ drop result out.old }
 {
     put_cut(cells, level, most, out)
 }
@@ -29,6 +30,7 @@ pub fn put_inner<C: Cells>(cells: &C, level: u8, most: usize, out: &mut [u64]) -
     ensures len { length out.new ≡ length out.old }
     ensures made { IsLocal (C.ids cells.now)
         → PutsUpTo most (IsNormalForm (inner_set (has_leaf (C.ids cells.now)) level)) out.old out.new result }
+    ensures rest { drop result out.new ≡ drop result out.old }
 {
     put_kept(cells, level, most, out)
 }

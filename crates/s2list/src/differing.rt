@@ -23,6 +23,7 @@ pub fn write_symmetric_difference<X: Cells, Y: Cells, W: Copies<X> + Copies<Y>>(
     ensures made { IfOk result (λ n. IsLocal (X.ids xs.now) → IsLocal (Y.ids ys.now)
         → Writes (in_one (has_leaf (X.ids xs.now)) (has_leaf (Y.ids ys.now)))
         (λ list. W.holds list out.old out.new n) n) }
+    ensures rest { IfOk result (λ n. W.rest out.old out.old 0 → W.rest out.old out.new n) }
     ensures sure { IfErr result (λ _. W.refuses) }
 {
     let x_len = xs.len();

@@ -34,6 +34,7 @@ pub fn write_union<X: Cells, Y: Cells, W: Copies<X> + Copies<Y>>(
     ensures made { IfOk result (λ n. IsLocal (X.ids xs.now) → IsLocal (Y.ids ys.now)
         → Writes (either (has_leaf (X.ids xs.now)) (has_leaf (Y.ids ys.now)))
         (λ list. W.holds list out.old out.new n) n) }
+    ensures rest { IfOk result (λ n. W.rest out.old out.old 0 → W.rest out.old out.new n) }
     ensures sure { IfErr result (λ _. W.refuses) }
 {
     let x_len = xs.len();
@@ -86,6 +87,7 @@ fn add_next<X: Cells, Y: Cells, W: Copies<X>>(
         ≤ first_leaf (slice_index (Y.ids ys.now) j)) → (S : ℕ → Bool) (old : W)
         → Joins S (λ n list. W.holds list old out.old n) (X.ids xs.now) (Y.ids ys.now) i j pile
         → Joins S (λ n list. W.holds list old out.new n) (X.ids xs.now) (Y.ids ys.now) s.next j s.pile) }
+    ensures rest { IfOk result (λ s. (old : W) → W.rest old out.old pile.n → W.rest old out.new s.pile.n) }
     ensures sure { IfErr result (λ _. W.refuses) }
 {
     let x = xs.id(i);

@@ -6,10 +6,11 @@
 //! Anything that gives numbers by their indexes is a list of cells (`Cells`): numbers in a slice, the cells of a union,
 //! the bytes of a file at any address. No call copies anything or takes memory; what a set operation writes to
 //! (`Output`) is its caller's. Only `new_end` has a precondition on the numbers. Some calls have one on an index, and a
-//! set operation begins with nothing written and no look counted. Where that is met, each
-//! other call is safe and returns, whatever the numbers are. The answer is exact if they are the cells of a normalized
-//! union; for other numbers it means nothing; `is_union` and `first_wrong` are exact for all numbers. What counts the
-//! looks of a call is a type parameter (`Count`), so that a call that nobody counts has no code for it.
+//! set operation begins with nothing written and no look counted. Where that is met, each other call is safe and
+//! returns, whatever the numbers are, and leaves what its output has after what it writes. The answer is exact if they
+//! are the cells of a normalized union; for other numbers it means nothing; `is_union` and `first_wrong` are exact for
+//! all numbers. What counts the looks of a call is a type parameter (`Count`), so that a call that nobody counts has no
+//! code for it.
 #![tactic(auto)]
 
 mod along;

@@ -9,10 +9,13 @@ use std::alloc::AllocError;
 /// What a set operation writes to. It takes the cells of a gap, and runs of the lists that it is made for (`Copies`).
 ///
 /// A call is given how many cells were written before, and answers how many they are then, whether there is room for
-/// them or not. `holds` says which list was written since a moment before, `place` names the reference that an output
-/// holds, which stays, and `refuses` is false if it takes no memory.
+/// them or not. `holds` says which list was written since a moment before, `rest` that what comes after the cells that
+/// were written is as it was then, whatever they are, `place` names the reference that an output holds, which stays,
+/// and `refuses` is false if it takes no memory.
 pub trait Output {
     ghost holds: { List ℕ → Self → Self → ℕ → Type 0 };
+
+    ghost rest: { Self → Self → ℕ → Type 0 };
 
     ghost place: { Self → ℕ };
 
@@ -23,6 +26,7 @@ pub trait Output {
         ensures place { place self.new ≡ place self.old }
         ensures put { IfOk result (λ m. (lo < hi → hi ≤ LEAVES) → (list : List ℕ) (old : Self)
             → holds list old self.old n → Fills (λ l. holds l old self.new m) list lo hi) }
+        ensures rest { IfOk result (λ m. (old : Self) → rest old self.old n → rest old self.new m) }
         ensures sure { IfErr result (λ _. refuses) };
 
     ghost counts: { (list : List ℕ) (old new : Self) (n : ℕ) → holds list old new n → length list < 2 ^ 64
@@ -38,5 +42,6 @@ pub trait Copies<C: Cells>: Output {
         ensures place { Self.place self.new ≡ Self.place self.old }
         ensures put { IfOk result (λ m. (list : List ℕ) (old : Self) → Self.holds list old self.old n
             → Self.holds (list ++ take (to - from) (drop from (C.ids cells.now))) old self.new m) }
+        ensures rest { IfOk result (λ m. (old : Self) → Self.rest old self.old n → Self.rest old self.new m) }
         ensures sure { IfErr result (λ _. Self.refuses) };
 }

@@ -18,6 +18,7 @@ pub fn write_complement<X: Cells, W: Output>(xs: &X, out: &mut W) -> Result<usiz
     ensures place { W.place out.new ≡ W.place out.old }
     ensures made { IfOk result (λ n. IsLocal (X.ids xs.now)
         → Writes (outside (has_leaf (X.ids xs.now))) (λ list. W.holds list out.old out.new n) n) }
+    ensures rest { IfOk result (λ n. W.rest out.old out.old 0 → W.rest out.old out.new n) }
     ensures sure { IfErr result (λ _. W.refuses) }
 {
     let mut pile = Pile { n: 0, lo: 0, hi: 0 };

@@ -34,6 +34,7 @@ pub(crate) fn add<W: Output>(
     ensures added { IfOk result (λ p. (S : ℕ → Bool) (old : W) (done next : ℕ) → Brings S done from to next
         → PileIn S (λ n list. W.holds list old out.old n) pile done
         → PileIn S (λ n list. W.holds list old out.new n) p next) }
+    ensures rest { IfOk result (λ p. (old : W) → W.rest old out.old pile.n → W.rest old out.new p.n) }
     ensures sure { IfErr result (λ _. W.refuses) }
 {
     if to <= from {
@@ -60,6 +61,7 @@ pub(crate) fn finish<W: Output>(out: &mut W, pile: Pile) -> Result<usize, AllocE
     ensures place { W.place out.new ≡ W.place out.old }
     ensures put { IfOk result (λ m. (pile.lo < pile.hi → pile.hi ≤ LEAVES) → (list : List ℕ) (old : W)
         → W.holds list old out.old pile.n → Fills (λ l. W.holds l old out.new m) list pile.lo pile.hi) }
+    ensures rest { IfOk result (λ m. (old : W) → W.rest old out.old pile.n → W.rest old out.new m) }
     ensures sure { IfErr result (λ _. W.refuses) }
 {
     let n = out.put_gap(pile.n, pile.lo, pile.hi)?;
@@ -83,6 +85,7 @@ pub(crate) fn lay<C: Cells, W: Copies<C>>(
     ensures laid { IfOk result (λ p. IsLocal (C.ids cells.now) → (S : ℕ → Bool) (old : W) (done : ℕ)
         → IsRun S (C.ids cells.now) done i stop → PileIn S (λ n list. W.holds list old out.old n) pile done
         → PileIn S (λ n list. W.holds list old out.new n) p p.hi) }
+    ensures rest { IfOk result (λ p. (old : W) → W.rest old out.old pile.n → W.rest old out.new p.n) }
     ensures sure { IfErr result (λ _. W.refuses) }
 {
     let front = finish(out, pile)?;

@@ -30,6 +30,7 @@ pub fn write_shared<X: Cells, Y: Cells, W: Copies<X> + Copies<Y>, K: Count>(
     ensures made { IfOk result (λ n. IsLocal (X.ids xs.now) → IsLocal (Y.ids ys.now)
         → Writes (shared (has_leaf (X.ids xs.now)) (has_leaf (Y.ids ys.now)))
         (λ list. W.holds list out.old out.new n) n) }
+    ensures rest { IfOk result (λ n. W.rest out.old out.old 0 → W.rest out.old out.new n) }
     ensures looks { IfOk result (λ n. IsLocal (X.ids xs.now) → IsLocal (Y.ids ys.now) → (d : ℕ)
         → Alternates (X.ids xs.now) (Y.ids ys.now) d (length (X.ids xs.now)) (length (Y.ids ys.now))
         → FewForTurnsAndCells (length (X.ids xs.now) + length (Y.ids ys.now)) d n (K.looks count.new)) }

@@ -1,10 +1,11 @@
 -- A list that is put into a room, one number after another or a run at a time.
-use Rattle.std.proofs.Common.{◌≡◌, ℕ, ◌+◌, ◌^◌, ◌<◌, ◌≤◌}
+use Rattle.std.proofs.Common.{◌≡◌, ℕ, ◌+◌, ◌-◌, ◌^◌, ◌<◌, ◌≤◌}
 use Rattle.std.proofs.Common.{refl, sym, ap, ◌∙◌, arith, List, [], ◌∷◌, ◌++◌}
 use Rattle.std.proofs.Common.{length, get_or, take, drop, add-one, append_assoc, drop-cons, drop-drop}
 use Rattle.std.proofs.Math.ListN.{set}
 use Rattle.std.proofs.Math.Seq.{set-append_seam, take-append_seam, drop-append-add}
-use Rattle.std.proofs.lemmas.List.{take_more, get_or-drop, length-take-le, length-drop, length-append}
+use Rattle.std.proofs.lemmas.List.{take_more, drop-set-lt, get_or-drop, length-take-le, length-drop, length-append}
+use Rattle.std.proofs.lemmas.Slice.{drop-append-drop}
 use Rattle.s2search.specs.Working.Room.{IsPut}
 
 pub put_none : (room : List ℕ) → IsPut [] room room 0
@@ -86,3 +87,23 @@ run_put list ids room before out n count from p h fits same g e =
     let left = length-drop from ids in
     items_put list (take count (drop from ids)) room before out n count p h fits same
     (length-take-le count (drop from ids) (omega arith)) e
+
+-- what is as it was from a place on is so from a later one
+pub rest_later : (out room : List ℕ) (n m : ℕ) → n ≤ m → drop n out ≡ drop n room → drop m out ≡ drop m room
+rest_later out room n m more e =
+    let at : n + (m - n) ≡ m = omega arith in
+    rw (sym at) (sym (drop-drop (m - n) n out) ∙ ap (drop (m - n)) e ∙ drop-drop (m - n) n room)
+
+pub rest_put : (out room : List ℕ) (n x : ℕ) → n < length out → drop n out ≡ drop n room
+    → drop (n + 1) (set out n x) ≡ drop (n + 1) room
+rest_put out room n x h e = drop-set-lt (n + 1) out n x (omega arith) ∙ rest_later out room n (n + 1) (omega arith) e
+
+pub rest_run : (before room out run : List ℕ) (n count : ℕ) → n + count ≤ length before
+    → length run ≡ count → out ≡ (take n before ++ run) ++ drop (n + count) before → drop n before ≡ drop n room
+    → drop (n + count) out ≡ drop (n + count) room
+rest_run before room out run n count fits len is e =
+    let front = length-take-le n before (omega arith) in
+    let both = length-append (take n before) run in
+    ap (drop (n + count)) is
+    ∙ drop-append-drop (n + count) before (take n before ++ run) (n + count) (omega arith) (omega arith)
+    ∙ rest_later before room n (n + count) (omega arith) e

@@ -1,6 +1,7 @@
 //! The cells of a union cut to a level, written into a room or a list of their own: they are the coverings of the union
 //! at that level. Those that are replaced by ancestors are put together row by row.
 ghost use Rattle.std.specs.Prelude.{◌≡◌, ◌<◌, ◌≤◌, [], ℕ, List, IfErr, IfNone, IfOk, IfSome, length, slice_index, take};
+ghost use Rattle.std.specs.Prelude.{drop};
 ghost use Rattle.s2cell.specs.Cell.{IsCell, first_leaf, level_of};
 ghost use Rattle.s2list.specs.Union.{IsLocal, IsNormalForm, has_leaf};
 ghost use Rattle.s2list.specs.Output.{WritesUpTo};
@@ -34,6 +35,7 @@ pub fn put_cut<C: Cells>(cells: &C, level: u8, most: usize, out: &mut [u64]) -> 
     ensures len { length out.new ≡ length out.old }
     ensures made { IsLocal (C.ids cells.now)
         → PutsUpTo most (IsNormalForm (has_leaf (cells_cut level (C.ids cells.now)))) out.old out.new result }
+    ensures rest { drop result out.new ≡ drop result out.old }
 {
     let mut room = Room { out };
     match write_cut(cells, level, most, &mut room) {
@@ -83,6 +85,7 @@ fn write_cut<C: Cells, W: Output>(
     ensures place { W.place out.new ≡ W.place out.old }
     ensures made { IfOk result (λ n. IsLocal (C.ids cells.now) → WritesUpTo most
         (has_leaf (cells_cut level (C.ids cells.now))) (λ list. W.holds list out.old out.new n) n) }
+    ensures rest { IfOk result (λ n. W.rest out.old out.old 0 → W.rest out.old out.new n) }
     ensures sure { IfErr result (λ _. W.refuses) }
 {
     let mut n = 0;
@@ -159,6 +162,7 @@ pub fn put_kept<C: Cells>(cells: &C, level: u8, most: usize, out: &mut [u64]) ->
     ensures len { length out.new ≡ length out.old }
     ensures made { IsLocal (C.ids cells.now)
         → PutsUpTo most (λ list. list ≡ cells_kept level (C.ids cells.now)) out.old out.new result }
+    ensures rest { drop result out.new ≡ drop result out.old }
 {
     let len = cells.len();
     let mut n = 0;

@@ -1,9 +1,9 @@
 //! The cells of a union, cut to levels, written straight into a room.
-ghost use Rattle.std.specs.Prelude.{◌≡◌, ◌++◌, ◌-◌, ◌<◌, ◌≤◌, ℕ, List, length};
+ghost use Rattle.std.specs.Prelude.{◌≡◌, ◌++◌, ◌-◌, ◌<◌, ◌≤◌, ℕ, List, drop, length};
 ghost use Rattle.s2cell.specs.Cell.{IsCell, level_of};
 ghost use Rattle.s2list.specs.Union.{IsLocal};
 ghost use Rattle.s2union.specs.Denorm.{cells_in, cut_level, denormalised};
-ghost use Rattle.s2search.specs.Working.Room.{IsPut};
+ghost use Rattle.s2search.specs.Working.Room.{IsPut, LeavesRest};
 ghost use Rattle.s2search.specs.Room.{PutsOne};
 
 use s2cell::{CellId, GREATEST_LEVEL};
@@ -20,6 +20,7 @@ pub fn denormalise(ids: &[u64], min: u8, modulus: u8, out: &mut [u64]) -> usize
     ensures len { length out.new ≡ length out.old }
     ensures put { IsLocal ids.now
         → PutsOne (λ list. list ≡ denormalised min modulus ids.now) out.old out.new result }
+    ensures rest { drop result out.new ≡ drop result out.old }
 {
     let cuts = CutLevels::new(min, modulus);
     let mut n = 0;
@@ -35,6 +36,7 @@ fn put_items(out: &mut [u64], n: usize, id: u64, cuts: &CutLevels) -> usize
     ensures len { length out.new ≡ length out.old }
     ensures put { IsCell id → (list room : List ℕ) → IsPut list room out.old n
         → IsPut (list ++ cells_in (cut_level (level_of id) cuts.now.least cuts.now.modulus) id) room out.new result }
+    ensures rest { LeavesRest out.old out.new n result }
 {
     let Some(cell) = CellId::from_id(id) else {
         return n;
@@ -50,6 +52,7 @@ fn put_descendants(out: &mut [u64], n: usize, cell: CellId, level: u8) -> usize
     ensures len { length out.new ≡ length out.old }
     ensures put { (list room : List ℕ) → IsPut list room out.old n
         → IsPut (list ++ cells_in level cell) room out.new result }
+    ensures rest { LeavesRest out.old out.new n result }
 {
     let count = count_descendants(cell.level(), level) as usize;
     if n <= out.len() && count <= out.len() - n {

@@ -1,5 +1,5 @@
 //! The leaves that exactly one of two lists of cells has, written into a room.
-ghost use Rattle.std.specs.Prelude.{◌≡◌, length};
+ghost use Rattle.std.specs.Prelude.{◌≡◌, drop, length};
 ghost use Rattle.s2list.specs.Union.{IsLocal, IsNormalForm, has_leaf};
 ghost use Rattle.s2list.specs.Sets.{in_one};
 ghost use Rattle.s2search.specs.Room.{PutsOne};
@@ -14,6 +14,7 @@ pub fn put_symmetric_difference<X: Cells, Y: Cells>(xs: &X, ys: &Y, out: &mut [u
     ensures len { length out.new ≡ length out.old }
     ensures made { IsLocal (X.ids xs.now) → IsLocal (Y.ids ys.now)
         → PutsOne (IsNormalForm (in_one (has_leaf (X.ids xs.now)) (has_leaf (Y.ids ys.now)))) out.old out.new result }
+    ensures rest { drop result out.new ≡ drop result out.old }
 {
     let mut room = Room { out };
     match write_symmetric_difference(xs, ys, &mut room) {

@@ -3,13 +3,13 @@
 //! Identifiers in order are cells in order of their middles. So an ancestor comes before the first cell in it if that
 //! cell lies in its second half; otherwise it comes after the last cell in its first half.
 ghost use Rattle.std.specs.Prelude.{◌≡◌, ◌+◌, ◌-◌, ◌^◌, ◌<◌, ◌≤◌, ℕ, Contains, List, []};
-ghost use Rattle.std.specs.Prelude.{◌∷◌, ◌++◌, length, slice_index};
+ghost use Rattle.std.specs.Prelude.{◌∷◌, ◌++◌, drop, length, slice_index};
 ghost use Rattle.std.specs.List.Sorted.{IsStrictlyIncreasing};
 ghost use Rattle.s2cell.specs.Cell.{IsCell, IsInside, first_leaf, level_of, parent_of};
 ghost use Rattle.s2list.specs.Union.{IsLocal};
 ghost use Rattle.s2search.specs.Ancestors.{AreHolders};
 ghost use Rattle.s2search.specs.Working.Ancestors.{IsAfter, IsBefore, LeadsTo, PutsThose};
-ghost use Rattle.s2search.specs.Working.Room.{IsPut};
+ghost use Rattle.s2search.specs.Working.Room.{IsPut, LeavesRest};
 ghost use Rattle.s2search.specs.Room.{PutsOne};
 
 use crate::room::put;
@@ -22,6 +22,7 @@ use s2list::Cells;
 pub fn ancestors<C: Cells>(cells: &C, out: &mut [u64]) -> usize
     ensures len { length out.new ≡ length out.old }
     ensures put { IsLocal (C.ids cells.now) → PutsOne (AreHolders (C.ids cells.now)) out.old out.new result }
+    ensures rest { drop result out.new ≡ drop result out.old }
 {
     let mut n = 0;
     let mut from = 0;
@@ -55,6 +56,7 @@ fn put_before(out: &mut [u64], n: usize, cell: CellId, from: u64) -> usize
     ensures len { length out.new ≡ length out.old }
     ensures put { (list : List ℕ) → LeadsTo list cell from
         → PutsThose (IsBefore cell from) list out.old out.new n result }
+    ensures rest { LeavesRest out.old out.new n result }
 {
     let middle = cell.id();
     let mut count = n;
@@ -84,6 +86,7 @@ fn put_after(out: &mut [u64], n: usize, cell: CellId, next: u64) -> usize
     ensures len { length out.new ≡ length out.old }
     ensures put { (list : List ℕ) → IsStrictlyIncreasing list → ((c : ℕ) → Contains list c → c ≤ cell)
         → PutsThose (IsAfter cell next) list out.old out.new n result }
+    ensures rest { LeavesRest out.old out.new n result }
 {
     let middle = cell.id();
     let mut count = n;
@@ -105,6 +108,7 @@ fn put_between(out: &mut [u64], n: usize, cell: CellId, low: u64, high: u64) -> 
     ensures added { low < cell → cell < high
         → (list room : List ℕ) → IsPut list room out.old n → IsPut (list ++ cell ∷ []) room out.new result }
     ensures same { (low < cell → cell < high → ⊥) → (out.new ≡ out.old) × (result ≡ n) }
+    ensures rest { LeavesRest out.old out.new n result }
 {
     if low < cell.id() && cell.id() < high {
         put(out, n, cell.id())

@@ -1,5 +1,5 @@
 //! The leaves that a list of cells lacks, written into a room.
-ghost use Rattle.std.specs.Prelude.{◌≡◌, length};
+ghost use Rattle.std.specs.Prelude.{◌≡◌, drop, length};
 ghost use Rattle.s2list.specs.Union.{IsLocal, IsNormalForm, has_leaf};
 ghost use Rattle.s2list.specs.Sets.{outside};
 ghost use Rattle.s2search.specs.Room.{PutsOne};
@@ -13,6 +13,7 @@ pub fn put_complement<C: Cells>(cells: &C, out: &mut [u64]) -> usize
     ensures len { length out.new ≡ length out.old }
     ensures made { IsLocal (C.ids cells.now)
         → PutsOne (IsNormalForm (outside (has_leaf (C.ids cells.now)))) out.old out.new result }
+    ensures rest { drop result out.new ≡ drop result out.old }
 {
     let mut room = Room { out };
     match write_complement(cells, &mut room) {

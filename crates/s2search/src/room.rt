@@ -1,6 +1,6 @@
 //! Lists of identifiers that grow at the front of a room. What doesn't fit is counted, and not written.
 ghost use Rattle.std.specs.Prelude.{◌≡◌, ◌+◌, ◌-◌, ◌<◌, ◌≤◌, ◌++◌, ◌∷◌, [], ℕ, List, length, take, drop};
-ghost use Rattle.s2search.specs.Working.Room.{IsPut, PutsGap};
+ghost use Rattle.s2search.specs.Working.Room.{IsPut, LeavesRest, PutsGap};
 
 use s2cell::{CellId, LEAVES};
 use s2list::{Cells, Copies, Output};
@@ -14,6 +14,8 @@ pub(crate) struct Room<'a> {
 
 impl<'a> Output for Room<'a> {
     ghost holds = { λ list old now n. IsPut list old.out.now now.out.now n };
+
+    ghost rest = { λ old now n. drop n now.out.now ≡ drop n old.out.now };
 
     ghost place = { λ r. r.out.ghost_name };
 
@@ -43,6 +45,7 @@ impl<'a, C: Cells> Copies<C> for Room<'a> {
 pub(crate) fn put(out: &mut [u64], n: usize, id: u64) -> usize
     ensures len { length out.new ≡ length out.old }
     ensures put { (list room : List ℕ) → IsPut list room out.old n → IsPut (list ++ id ∷ []) room out.new result }
+    ensures rest { LeavesRest out.old out.new n result }
 {
     if n < out.len() {
         out[n] = id;
@@ -65,6 +68,7 @@ pub(crate) fn put_run<C: Cells>(
     ensures len { length out.new ≡ length out.old }
     ensures put { (list room : List ℕ) → IsPut list room out.old n
         → IsPut (list ++ take (to - from) (drop from (C.ids cells.now))) room out.new result }
+    ensures rest { LeavesRest out.old out.new n result }
 {
     let count = to - from;
     if n <= out.len() && count <= out.len() - n {
@@ -82,6 +86,7 @@ pub(crate) fn put_run<C: Cells>(
 pub(crate) fn put_gap(out: &mut [u64], n: usize, lo: u64, hi: u64) -> usize
     ensures len { length out.new ≡ length out.old }
     ensures put { (lo < hi → hi ≤ LEAVES) → PutsGap out.old out.new n result lo hi }
+    ensures rest { LeavesRest out.old out.new n result }
 {
     let end = hi.min(LEAVES);
     let mut count = n;

@@ -1,5 +1,5 @@
 //! The leaves that two lists of cells share, written into a room.
-ghost use Rattle.std.specs.Prelude.{◌≡◌, ◌+◌, ◌<◌, ◌≤◌, ℕ, min, length};
+ghost use Rattle.std.specs.Prelude.{◌≡◌, ◌+◌, ◌<◌, ◌≤◌, ℕ, min, drop, length};
 ghost use Rattle.s2list.specs.Union.{IsLocal, IsNormalForm, has_leaf};
 ghost use Rattle.s2list.specs.Sets.{shared};
 ghost use Rattle.s2list.specs.Looks.{Alternates, FewForTurnsAndCells};
@@ -24,6 +24,7 @@ pub fn put_intersection<X: Cells, Y: Cells>(xs: &X, ys: &Y, out: &mut [u64]) -> 
     ensures len { length out.new ≡ length out.old }
     ensures made { IsLocal (X.ids xs.now) → IsLocal (Y.ids ys.now)
         → PutsOne (IsNormalForm (shared (has_leaf (X.ids xs.now)) (has_leaf (Y.ids ys.now)))) out.old out.new result }
+    ensures rest { drop result out.new ≡ drop result out.old }
 {
     put_shared(xs, ys, out, &mut Uncounted)
 }
@@ -41,6 +42,7 @@ pub fn put_intersection_counted<X: Cells, Y: Cells>(
     ensures made { IsLocal (X.ids xs.now) → IsLocal (Y.ids ys.now)
         → PutsOne (IsNormalForm (shared (has_leaf (X.ids xs.now)) (has_leaf (Y.ids ys.now)))) out.old out.new
         result.len }
+    ensures rest { drop result.len out.new ≡ drop result.len out.old }
     ensures looks { IsLocal (X.ids xs.now) → IsLocal (Y.ids ys.now) → (d : ℕ)
         → Alternates (X.ids xs.now) (Y.ids ys.now) d (length (X.ids xs.now)) (length (Y.ids ys.now))
         → FewForTurnsAndCells (length (X.ids xs.now) + length (Y.ids ys.now)) d result.len result.looks }
@@ -60,6 +62,7 @@ fn put_shared<X: Cells, Y: Cells, K: Count>(xs: &X, ys: &Y, out: &mut [u64], cou
     ensures len { length out.new ≡ length out.old }
     ensures made { IsLocal (X.ids xs.now) → IsLocal (Y.ids ys.now)
         → PutsOne (IsNormalForm (shared (has_leaf (X.ids xs.now)) (has_leaf (Y.ids ys.now)))) out.old out.new result }
+    ensures rest { drop result out.new ≡ drop result out.old }
     ensures looks { IsLocal (X.ids xs.now) → IsLocal (Y.ids ys.now) → (d : ℕ)
         → Alternates (X.ids xs.now) (Y.ids ys.now) d (length (X.ids xs.now)) (length (Y.ids ys.now))
         → FewForTurnsAndCells (length (X.ids xs.now) + length (Y.ids ys.now)) d result (K.looks count.new) }

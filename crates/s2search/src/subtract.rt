@@ -1,5 +1,5 @@
 //! The leaves of one list of cells that another doesn't have, written into a room.
-ghost use Rattle.std.specs.Prelude.{◌≡◌, length};
+ghost use Rattle.std.specs.Prelude.{◌≡◌, drop, length};
 ghost use Rattle.s2list.specs.Union.{IsLocal, IsNormalForm, has_leaf};
 ghost use Rattle.s2list.specs.Sets.{without};
 ghost use Rattle.s2search.specs.Room.{PutsOne};
@@ -14,6 +14,7 @@ pub fn put_difference<X: Cells, Y: Cells>(xs: &X, ys: &Y, out: &mut [u64]) -> us
     ensures len { length out.new ≡ length out.old }
     ensures made { IsLocal (X.ids xs.now) → IsLocal (Y.ids ys.now)
         → PutsOne (IsNormalForm (without (has_leaf (X.ids xs.now)) (has_leaf (Y.ids ys.now)))) out.old out.new result }
+    ensures rest { drop result out.new ≡ drop result out.old }
 {
     let mut room = Room { out };
     match write_difference(xs, ys, usize::MAX, &mut room) {

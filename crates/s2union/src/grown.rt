@@ -23,6 +23,8 @@ pub struct Grown<'a> {
 impl<'a> Output for Grown<'a> {
     ghost holds = { λ list old now n. IsGrown list old.most now.most now.list.now.items n };
 
+    ghost rest = { λ old now n. ⊤ };
+
     ghost place = { λ g. g.list.ghost_name };
 
     ghost refuses = { ⊤ };
@@ -33,6 +35,7 @@ impl<'a> Output for Grown<'a> {
         ensures put { IfOk result (λ m. (lo < hi → hi ≤ LEAVES) → (list : List ℕ) (old : Grown)
             → IsGrown list old.most self.old.most self.old.list.now.items n
             → Fills (λ l. IsGrown l old.most self.new.most self.new.list.now.items m) list lo hi) }
+        ensures rest { IfOk result (λ m. (old : Grown) → ⊤ → ⊤) }
         ensures sure { IfErr result (λ _. ⊤) }
     {
         let before = self.list.len();
@@ -59,6 +62,7 @@ impl<'a, 'b> Copies<CellList<'b>> for Grown<'a> {
             → IsGrown list old.most self.old.most self.old.list.now.items n
             → IsGrown (list ++ take (to - from) (drop from cells.now.cells.now)) old.most self.new.most
             self.new.list.now.items m) }
+        ensures rest { IfOk result (λ m. (old : Grown) → ⊤ → ⊤) }
         ensures sure { IfErr result (λ _. ⊤) }
     {
         let count = to - from;

@@ -14,3 +14,7 @@ pub record IsPut (list old new : List ℕ) (n : ℕ) : Type 0 where
 abbrev pub PutsGap : List ℕ → List ℕ → ℕ → ℕ → ℕ → ℕ → Type 0
 PutsGap old new n m lo hi = (list room : List ℕ) → IsPut list room old n →
     (longer : List ℕ) × FillsGap list longer lo hi × IsPut longer room new m
+
+-- if what comes after `n` numbers in `old` is as in some room, what comes after `m` numbers in `new` is as there too
+abbrev pub LeavesRest : List ℕ → List ℕ → ℕ → ℕ → Type 0
+LeavesRest old new n m = (room : List ℕ) → drop n old ≡ drop n room → drop m new ≡ drop m room

@@ -18,6 +18,7 @@ loop-i-init g c =
       in_x = omega arith;
       in_y = omega arith;
       place = refl;
+      rest = λ h. h;
       ended_x = λ lx ly k h. absurd (omega arith);
       ended_y = λ lx ly k h. absurd (omega arith);
       so_far = λ lx ly. pile_none (λ n list. g.W.Output.holds list c.args.out.now c.args.out.now n) _ refl refl refl
@@ -59,6 +60,7 @@ loop-i-preserved-then-i-x_stop g c =
       in_x = within;
       in_y = v.in_y;
       place = c.lay.ensures.place ∙ v.place;
+      rest = λ h. c.in_ok-pile.ensures.rest c.args.out.now (v.rest h);
       ended_x = λ lx ly.
           let e = c.in_ok-pile.ensures.end lx in
           ended_run xs c.run_to-x_stop.result c.in_ok-pile.pile.hi lx within (omega arith);
@@ -86,6 +88,7 @@ loop-i-preserved-then-j-y_stop g c =
       in_x = v.in_x;
       in_y = within;
       place = c.lay-then-j-y_stop.ensures.place ∙ v.place;
+      rest = λ h. c.in_ok-pile-2.ensures.rest c.args.out.now (v.rest h);
       ended_x = λ lx ly.
           let e = c.in_ok-pile-2.ensures.end ly in
           let p = run_past ly (run lx ly) in
@@ -113,6 +116,7 @@ loop-i-preserved g c =
       in_y = past_within c.loop-i.j (length ys) y.result.end next c.past-j.result v.in_y
           (rw ny at c.past-j.ensures.next) (rw ny at c.past-j.ensures.same);
       place = c.add.ensures.place ∙ v.place;
+      rest = λ h. c.in_ok-pile-3.ensures.rest c.args.out.now (v.rest h);
       ended_x = λ lx ly. past_ended xs c.loop-i.i x.result.end c.loop-i.done next c.past-i.result (v.ended_x lx ly)
           (omega arith)
           (λ h. x.ensures.ended lx h (v.ended_x lx ly)) (rw nx at c.past-i.ensures.next)

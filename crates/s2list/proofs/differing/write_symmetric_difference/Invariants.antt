@@ -10,6 +10,7 @@ invariant-loop-i g l = record {
   in_x : l.i ≤ length (g.X.Cells.ids l.xs);
   in_y : l.j ≤ length (g.Y.Cells.ids l.ys);
   place : g.W.Output.place l.out ≡ g.W.Output.place l.fn.out;
+  rest : g.W.Output.rest l.fn.out l.fn.out 0 → g.W.Output.rest l.fn.out l.out l.pile.n;
   ended_x : IsLocal (g.X.Cells.ids l.xs) → IsLocal (g.Y.Cells.ids l.ys)
       → FirstEndBy (g.X.Cells.ids l.xs) l.i l.done;
   ended_y : IsLocal (g.X.Cells.ids l.xs) → IsLocal (g.Y.Cells.ids l.ys)

@@ -30,6 +30,7 @@ loop-i-init g c = record {
   in_x = omega arith;
   in_y = omega arith;
   place = refl;
+  rest = λ h. h;
   so_far = λ lx ly. joins_none _ _ (λ n list. g.W.Output.holds list c.args.out.now c.args.out.now n) _ refl refl refl
       c.requires.empty;
 }
@@ -39,6 +40,7 @@ loop-i-preserved-then-first_of g c = record {
   in_x = c.in_ok-by_x.ensures.within;
   in_y = c.loop-i.invariant.in_y;
   place = c.add_next.ensures.place ∙ c.loop-i.invariant.place;
+  rest = λ h. c.in_ok-by_x.ensures.rest c.args.out.now (c.loop-i.invariant.rest h);
   so_far = λ lx ly. c.in_ok-by_x.ensures.joined lx ly (λ t.
       let f = firsts g (goal.at.loop-i-preserved-then-first_of g c).After-first_of-in-loop-i lx ly in
       let fx = f.x in
@@ -52,6 +54,7 @@ loop-i-preserved g c = record {
   in_x = c.loop-i.invariant.in_x;
   in_y = c.in_ok-by_y.ensures.within;
   place = c.add_next-else-first_of.ensures.place ∙ c.loop-i.invariant.place;
+  rest = λ h. c.in_ok-by_y.ensures.rest c.args.out.now (c.loop-i.invariant.rest h);
   so_far = λ lx ly. joins_swap (c.in_ok-by_y.ensures.joined ly lx (λ t.
       let f = firsts g (goal.at.loop-i-preserved g c).After-first_of-in-loop-i lx ly in
       let fx = f.x in
@@ -68,6 +71,7 @@ loop-i-2-preserved g c =
       in_y = c.loop-i-2.invariant.in_y;
       other = λ t. ended;
       place = c.add_next-in-loop-i-2.ensures.place ∙ c.loop-i-2.invariant.place;
+      rest = λ h. c.in_ok-rest_x.ensures.rest c.args.out.now (c.loop-i-2.invariant.rest h);
       so_far = λ lx ly. c.in_ok-rest_x.ensures.joined lx ly (λ t. absurd (omega arith))
           (either (has_leaf (g.X.Cells.ids c.args.xs.now)) (has_leaf (g.Y.Cells.ids c.args.ys.now))) c.args.out.now
           (c.loop-i-2.invariant.so_far lx ly);
@@ -80,6 +84,7 @@ loop-j-preserved g c =
       done = done;
       in_y = c.in_ok-rest_y.ensures.within;
       place = c.add_next-in-loop-j.ensures.place ∙ c.loop-j.invariant.place;
+      rest = λ h. c.in_ok-rest_y.ensures.rest c.args.out.now (c.loop-j.invariant.rest h);
       so_far = λ lx ly. joins_swap (c.in_ok-rest_y.ensures.joined ly lx (λ t. absurd (omega arith))
           (either (has_leaf (g.X.Cells.ids c.args.xs.now)) (has_leaf (g.Y.Cells.ids c.args.ys.now))) c.args.out.now
           (joins_swap (c.loop-j.invariant.so_far lx ly)));

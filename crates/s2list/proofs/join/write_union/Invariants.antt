@@ -9,6 +9,7 @@ invariant-loop-i g l = record {
   in_x : l.i ≤ length (g.X.Cells.ids l.xs);
   in_y : l.j ≤ length (g.Y.Cells.ids l.ys);
   place : g.W.Output.place l.out ≡ g.W.Output.place l.fn.out;
+  rest : g.W.Output.rest l.fn.out l.fn.out 0 → g.W.Output.rest l.fn.out l.out l.pile.n;
   so_far : IsLocal (g.X.Cells.ids l.xs) → IsLocal (g.Y.Cells.ids l.ys)
       → Joins (either (has_leaf (g.X.Cells.ids l.xs)) (has_leaf (g.Y.Cells.ids l.ys)))
       (λ n list. g.W.Output.holds list l.fn.out l.out n) (g.X.Cells.ids l.xs) (g.Y.Cells.ids l.ys) l.i l.j l.pile;
@@ -23,6 +24,7 @@ invariant-loop-i-2 g l = record {
   in_y : l.j ≤ length (g.Y.Cells.ids l.ys);
   other : l.i < length (g.X.Cells.ids l.xs) → length (g.Y.Cells.ids l.ys) ≤ l.j;
   place : g.W.Output.place l.out ≡ g.W.Output.place l.fn.out;
+  rest : g.W.Output.rest l.fn.out l.fn.out 0 → g.W.Output.rest l.fn.out l.out l.pile.n;
   so_far : IsLocal (g.X.Cells.ids l.xs) → IsLocal (g.Y.Cells.ids l.ys)
       → Joins (either (has_leaf (g.X.Cells.ids l.xs)) (has_leaf (g.Y.Cells.ids l.ys)))
       (λ n list. g.W.Output.holds list l.fn.out l.out n) (g.X.Cells.ids l.xs) (g.Y.Cells.ids l.ys) l.i l.j l.pile;
@@ -36,6 +38,7 @@ invariant-loop-j g l = record {
   done : length (g.X.Cells.ids l.xs) ≤ l.i;
   in_y : l.j ≤ length (g.Y.Cells.ids l.ys);
   place : g.W.Output.place l.out ≡ g.W.Output.place l.fn.out;
+  rest : g.W.Output.rest l.fn.out l.fn.out 0 → g.W.Output.rest l.fn.out l.out l.pile.n;
   so_far : IsLocal (g.X.Cells.ids l.xs) → IsLocal (g.Y.Cells.ids l.ys)
       → Joins (either (has_leaf (g.X.Cells.ids l.xs)) (has_leaf (g.Y.Cells.ids l.ys)))
       (λ n list. g.W.Output.holds list l.fn.out l.out n) (g.X.Cells.ids l.xs) (g.Y.Cells.ids l.ys) l.i l.j l.pile;

@@ -29,6 +29,7 @@ beyond false b e = refl
 pub loop-i-init : goal.loop-i-init
 loop-i-init g c = record {
   place = refl;
+  rest = λ h. h;
   ended = λ l k h. absurd (omega arith);
   most = λ l. omega arith;
   start = λ l h. omega arith;
@@ -50,6 +51,7 @@ loop-i-preserved g c =
     ∙ ap (λ v. first_leaf v + size_of v) c.id-id.ensures in
     record {
       place = c.add.ensures.place ∙ v.place;
+      rest = λ h. c.in_ok-pile.ensures.rest c.args.out.now (v.rest h);
       ended = λ l.
           let e = ends l in
           let start = v.start l h in

@@ -11,6 +11,7 @@ use Rattle.s2list.proofs.outside.write_complement.Given as goal
 abbrev pub invariant-loop-i : goal.invariant-loop-i
 invariant-loop-i g l = record {
   place : g.W.Output.place l.out ≡ g.W.Output.place l.fn.out;
+  rest : g.W.Output.rest l.fn.out l.fn.out 0 → g.W.Output.rest l.fn.out l.out l.pile.n;
   ended : IsLocal (g.X.Cells.ids l.xs) → FirstEndBy (g.X.Cells.ids l.xs) l.i l.done;
   most : IsLocal (g.X.Cells.ids l.xs) → l.done ≤ LEAVES;
   start : IsLocal (g.X.Cells.ids l.xs) → l.i < length (g.X.Cells.ids l.xs)

@@ -9,6 +9,7 @@ loop-i-init g c = record {
   in_x = omega arith;
   in_y = omega arith;
   place = refl;
+  rest = λ h. h;
   so_far = λ lx ly. shared_none (g.X.Cells.ids c.args.xs.now) (g.Y.Cells.ids c.args.ys.now)
       (λ list. g.W.Output.holds list c.args.out.now c.args.out.now 0) _ c.requires.empty c.requires.count;
   some = λ h. absurd (omega arith);
@@ -29,6 +30,7 @@ loop-i-preserved-then-x_end-y_first g c =
       in_x = f.within;
       in_y = c.loop-i.invariant.in_y;
       place = c.loop-i.invariant.place;
+      rest = c.loop-i.invariant.rest;
       so_far = λ lx ly. shared_skip a b lx ly (c.loop-i.invariant.so_far lx ly) h t c.look-x.ensures.id
           c.look-y.ensures.id c.end_of-x_end.ensures c.first_of-y_first.ensures c.if-x_end-y_first.true f.from f.within
           f.ended f.next (omega arith) (omega arith) f.looks;
@@ -50,6 +52,7 @@ loop-i-preserved-then-y_end-x_first g c =
       in_x = c.loop-i.invariant.in_x;
       in_y = f.within;
       place = c.loop-i.invariant.place;
+      rest = c.loop-i.invariant.rest;
       so_far = λ lx ly. shared_swap (shared_skip a b ly lx (shared_swap (c.loop-i.invariant.so_far lx ly)) t h
           c.look-y.ensures.id c.look-x.ensures.id c.end_of-y_end.ensures c.first_of-x_first.ensures
           c.if-y_end-x_first.true f.from f.within f.ended f.next (omega arith) (omega arith) f.looks);
@@ -72,6 +75,7 @@ loop-i-preserved-then-is_within g c =
       in_x = f.within;
       in_y = omega arith;
       place = c.put_run.ensures.place ∙ c.loop-i.invariant.place;
+      rest = λ h. c.in_ok-n.ensures.rest c.args.out.now (c.loop-i.invariant.rest h);
       so_far = λ lx ly. shared_run (λ list. g.W.Output.holds list c.args.out.now c.put_run.new.self c.in_ok-n.n) a b lx
           ly (c.loop-i.invariant.so_far lx ly) h t c.look-x.ensures.id c.look-y.ensures.id
           (inside_by lx ly h t c.look-x.ensures.id c.look-y.ensures.id c.first_of-x_first.ensures c.end_of-x_end.ensures
@@ -96,6 +100,7 @@ loop-i-preserved g c =
       in_x = omega arith;
       in_y = f.within;
       place = c.put_run-else-is_within.ensures.place ∙ c.loop-i.invariant.place;
+      rest = λ h. c.in_ok-n-2.ensures.rest c.args.out.now (c.loop-i.invariant.rest h);
       so_far = λ lx ly. shared_swap (shared_run
           (λ list. g.W.Output.holds list c.args.out.now c.put_run-else-is_within.new.self c.in_ok-n-2.n) a b ly lx
           (shared_swap (c.loop-i.invariant.so_far lx ly)) t h c.look-y.ensures.id c.look-x.ensures.id

@@ -9,6 +9,7 @@ loop-i-init g c = record {
   in_x = omega arith;
   in_y = omega arith;
   place = refl;
+  rest = λ h. h;
   so_far = λ lx ly. left_none (g.X.Cells.ids c.args.xs.now) (g.Y.Cells.ids c.args.ys.now)
       (λ list. g.W.Output.holds list c.args.out.now c.args.out.now 0) c.requires.empty;
 }
@@ -27,6 +28,7 @@ loop-i-preserved-then-begins_at g c =
       in_x = f.within;
       in_y = omega arith;
       place = c.put_gap.ensures.place ∙ c.loop-i.invariant.place;
+      rest = λ h. c.in_ok-n.ensures.rest c.args.out.now (c.loop-i.invariant.rest h);
       so_far = λ lx ly.
           let here = left_on lx ly (c.loop-i.invariant.so_far lx ly) h c.id-x.ensures c.first_of-first.ensures es
           to.within to.ended in
@@ -55,6 +57,7 @@ loop-i-preserved-then-start-first g c =
       in_x = f.within;
       in_y = to.within;
       place = c.put_run.ensures.place ∙ c.loop-i.invariant.place;
+      rest = λ h. c.in_ok-n-2.ensures.rest c.args.out.now (c.loop-i.invariant.rest h);
       so_far = λ lx ly.
           let here = left_on lx ly (c.loop-i.invariant.so_far lx ly) h c.id-x.ensures c.first_of-first.ensures es
           to.within to.ended in
@@ -80,6 +83,7 @@ loop-i-preserved g c =
       in_x = omega arith;
       in_y = to.within;
       place = c.put_gap-else-start-first.ensures.place ∙ c.loop-i.invariant.place;
+      rest = λ h. c.in_ok-n-3.ensures.rest c.args.out.now (c.loop-i.invariant.rest h);
       so_far = λ lx ly.
           let here = left_on lx ly (c.loop-i.invariant.so_far lx ly) h c.id-x.ensures c.first_of-first.ensures es
           to.within to.ended in

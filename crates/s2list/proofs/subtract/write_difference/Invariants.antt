@@ -8,6 +8,7 @@ invariant-loop-i g l = record {
   in_x : l.i ≤ length (g.X.Cells.ids l.xs);
   in_y : l.j ≤ length (g.Y.Cells.ids l.ys);
   place : g.W.Output.place l.out ≡ g.W.Output.place l.fn.out;
+  rest : g.W.Output.rest l.fn.out l.fn.out 0 → g.W.Output.rest l.fn.out l.out l.n;
   so_far : IsLocal (g.X.Cells.ids l.xs) → IsLocal (g.Y.Cells.ids l.ys)
       → LeavingIn (g.X.Cells.ids l.xs) (g.Y.Cells.ids l.ys) (λ list. g.W.Output.holds list l.fn.out l.out l.n)
       l.i l.j l.lo;

@@ -16,6 +16,7 @@ loop-n-preserved g c =
     record {
       within = omega arith;
       len = c.put-n.ensures.len ∙ c.loop-n.invariant.len;
+      rest = c.put-n.ensures.rest c.args.out.now c.loop-n.invariant.rest;
       so_far = λ local.
           let e = ap level_of c.id.ensures in
           let deep = c.next_kept-at.ensures.kept local h in

@@ -1,4 +1,4 @@
-use Rattle.std.proofs.Common.{◌≡◌, ◌≤◌, ◌-◌, length, take}
+use Rattle.std.proofs.Common.{◌≡◌, ◌≤◌, ◌-◌, drop, length, take}
 use Rattle.s2list.specs.Union.{IsLocal}
 use Rattle.s2search.specs.Cut.{cells_kept}
 use Rattle.s2search.specs.Working.Room.{IsPut}
@@ -8,6 +8,7 @@ abbrev pub invariant-loop-n : goal.invariant-loop-n
 invariant-loop-n g l = record {
   within : l.i ≤ length (g.C.Cells.ids l.cells);
   len : length l.out ≡ length l.fn.out;
+  rest : drop l.n l.out ≡ drop l.n l.fn.out;
   so_far : IsLocal (g.C.Cells.ids l.cells) →
       IsPut (cells_kept l.level (take l.i (g.C.Cells.ids l.cells))) l.fn.out l.out l.n;
 }

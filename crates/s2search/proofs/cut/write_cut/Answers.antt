@@ -11,6 +11,7 @@ pub loop-i-init : goal.loop-i-init
 loop-i-init g c = record {
   within = omega arith;
   place = refl;
+  rest = λ h. h;
   so_far = λ local. rows_none _ (λ list. g.W.Output.holds list c.args.out.now c.args.out.now 0) c.requires.empty;
   first = c.first_cut-first.ensures;
 }
@@ -25,6 +26,7 @@ loop-i-preserved g c =
     record {
       within = r.within;
       place = c.put_gap.ensures.place ∙ c.loop-i.invariant.place;
+      rest = λ h. c.in_ok-n.ensures.rest c.args.out.now (c.loop-i.invariant.rest h);
       so_far = λ local. row_written n c.row_at-row.result.lo c.row_at-row.result.hi
           (begins_cut k u (packed_from_local u local)) (c.loop-i.invariant.so_far local) (r.row local) (omega arith)
           (λ h. let e = ap first_leaf (get_or-map (cut_at k) u n 0 0 (omega arith)) in

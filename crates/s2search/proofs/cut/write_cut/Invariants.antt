@@ -8,6 +8,7 @@ abbrev pub invariant-loop-i : goal.invariant-loop-i
 invariant-loop-i g l = record {
   within : l.i ≤ length (g.C.Cells.ids l.cells);
   place : g.W.Output.place l.out ≡ g.W.Output.place l.fn.out;
+  rest : g.W.Output.rest l.fn.out l.fn.out 0 → g.W.Output.rest l.fn.out l.out l.n;
   so_far : IsLocal (g.C.Cells.ids l.cells) →
       Rows (cells_cut l.level (g.C.Cells.ids l.cells)) (λ list. g.W.Output.holds list l.fn.out l.out l.n) l.i;
   first : IsLocal (g.C.Cells.ids l.cells) → l.i < length (g.C.Cells.ids l.cells) →

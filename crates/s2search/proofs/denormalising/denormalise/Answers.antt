@@ -4,7 +4,7 @@ use Rattle.s2list.proofs.Packing.{reads}
 use Rattle.s2search.proofs.denormalising.denormalise.Goals as goal
 
 pub loop-id-init : goal.loop-id-init
-loop-id-init c = record { len = refl; put = λ local. put_first_none c.args.ids.now _ _ c.args.out.now }
+loop-id-init c = record { len = refl; rest = refl; put = λ local. put_first_none c.args.ids.now _ _ c.args.out.now }
 
 pub loop-id-preserved : goal.loop-id-preserved
 loop-id-preserved c =
@@ -13,6 +13,7 @@ loop-id-preserved c =
     let h = c.loop-id-test.true in
     record {
       len = c.put_items-n.ensures.len ∙ c.loop-id.invariant.len;
+      rest = c.put_items-n.ensures.rest c.args.out.now c.loop-id.invariant.rest;
       put = λ local.
           put_first_more u _ _ i (get_or u i 0) c.args.out.now c.loop-id.out c.put_items-n.new.out c.loop-id.n
           c.put_items-n.result (c.loop-id.invariant.put local) h (reads u i h)

@@ -1,13 +1,14 @@
 use Rattle.std.proofs.Common.{◌≡◌, ◌∙◌, ℕ, ◌+◌, ◌-◌, ◌*◌, ◌^◌, ◌++◌, ap, sym, arith, map, take, drop}
 use Rattle.std.specs.List.{range_with_len}
 use Rattle.std.proofs.lemmas.List.{length-set}
+use Rattle.std.proofs.lemmas.List.FromFn.{length-map-range_with_len}
 use Rattle.s2cell.specs.Cell.{level_of, size_of}
 use Rattle.s2cell.specs.Descendant.{descendant_of}
 use Rattle.s2cell.proofs.CellLemmas.{four_pos}
 use Rattle.s2union.specs.Denorm.{cells_in}
 use Rattle.s2union.proofs.Cutting.{length-cells_in}
 use Rattle.s2search.proofs.Cutting.{stepped, item_more}
-use Rattle.s2search.proofs.Putting.{items_put, put_past}
+use Rattle.s2search.proofs.Putting.{items_put, put_past, rest_later, rest_run}
 use Rattle.s2search.proofs.denormalising.put_descendants.Goals as goal
 use Rattle.s2search.proofs.denormalising.put_descendants.Goals.{else-n-out-via-then-n-out+else-count-out}
 use Rattle.s2search.proofs.denormalising.put_descendants.Goals.{else-n-out-via-else-n-out}
@@ -83,3 +84,14 @@ returns-clause-put c list room p =
       | else-n-out-via-else-n-out w ↦ omega arith
     ])
     (omega arith) (λ h. omega arith)
+
+pub returns-then-count-out-clause-rest : goal.returns-then-count-out-clause-rest
+returns-then-count-out-clause-rest c room e =
+    let v = c.loop-k.invariant in
+    let items = map (descendant_of c.args.cell c.args.level) (range_with_len 0 c.loop-k.k) in
+    let done : c.loop-k.k ≡ c.count_descendants-count.result = omega arith in
+    let len = length-map-range_with_len (descendant_of c.args.cell c.args.level) 0 c.loop-k.k in
+    rw done at (rest_run c.args.out.now room c.loop-k.out items c.args.n c.loop-k.k (omega arith) len v.items e)
+
+pub returns-clause-rest : goal.returns-clause-rest
+returns-clause-rest c room e = rest_later c.args.out.now room c.args.n c.saturating_add.result (omega arith) e

@@ -10,6 +10,7 @@ pub loop-k-init : goal.loop-k-init
 loop-k-init g c =
     record {
       len = refl;
+      rest = refl;
       put = λ local. ([], reached_start (g.C.Cells.ids c.args.cells.now), put_none c.args.out.now);
     }
 
@@ -22,6 +23,11 @@ loop-k-preserved g c =
     let h : k < length u = omega (arith, c.loop-k-test.true) in
     record {
       len = c.match-from_id.auto.out ∙ v.len;
+      rest = elim c.match-from_id.branch [
+        | in-Some w ↦ rw (w.out-is, w.n-is) (w.put_after-n.ensures.rest c.args.out.now
+            (w.put-n.ensures.rest c.args.out.now (w.put_before-n.ensures.rest c.args.out.now v.rest)))
+        | in_default w ↦ rw (w.out-is, w.n-is) v.rest
+      ];
       put = λ local. elim c.match-from_id.branch [
         | in-Some w ↦
             let e : w.in-Some.cell ≡ get_or u k 0 = w.in-Some.ensures.1 ∙ c.id.ensures in

@@ -9,6 +9,7 @@ loop-level-init c =
     let v = c.level-level.ensures.value in
     record {
       len = refl;
+      rest = λ room e. e;
       within = omega arith;
       put = λ list rises most room p. (list, rw v (after_start c.args.cell c.args.next list cu rises), p);
     }
@@ -24,6 +25,7 @@ loop-level-preserved c =
     let e : level + 1 ≡ c.loop-level.level = omega (arith, c.loop-level-test.true) in
     record {
       len = c.put_between-count.ensures.len ∙ v.len;
+      rest = λ room e. c.put_between-count.ensures.rest room (v.rest room e);
       within = omega arith;
       put = λ list rises most room p.
           after_step u c.args.next level list room c.loop-level.out c.put_between-count.new.out c.loop-level.count

@@ -6,6 +6,7 @@ use Rattle.s2search.proofs.keys.put_before.Goals as goal
 pub loop-level-init : goal.loop-level-init
 loop-level-init c = record {
   len = refl;
+  rest = λ room e. e;
   within = c.outermost-level.ensures.within;
   start = c.outermost-level.ensures.start;
   put = λ list led room p. (
@@ -25,6 +26,7 @@ loop-level-preserved c =
     let h : level < level_of u = omega (arith, c.loop-level-test.true, top) in
     record {
       len = c.put_between-count.ensures.len ∙ v.len;
+      rest = λ room e. c.put_between-count.ensures.rest room (v.rest room e);
       within = omega arith;
       start = λ from. starts_later u c.args.from level (level + 1) cu (omega arith) (omega arith) (v.start from);
       put = λ list led room p.

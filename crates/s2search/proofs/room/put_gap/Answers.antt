@@ -8,6 +8,7 @@ use Rattle.s2search.proofs.room.put_gap.Goals as goal
 pub loop-first-preserved : goal.loop-first-preserved
 loop-first-preserved c = record {
   len = c.put-count.ensures.len ∙ c.loop-first.invariant.len;
+  rest = λ room e. c.put-count.ensures.rest room (c.loop-first.invariant.rest room e);
   tiled = λ list room most p.
       let (longer, tiling, put) = c.loop-first.invariant.tiled list room most p in
       let cell = c.tile-cell.result in
