@@ -14,29 +14,32 @@
  *      alignment;
  *   4. during the call no one else writes what it reads, or reads or writes what it writes: no other thread, no process
  *      that shares the memory, no signal handler.
+ * (Tested, not proved: what this header says of steps and costs; that a call prints, sets and keeps nothing, and uses
+ * no floating point; and, of a list that is no union, that the second call is not refused for room.)
  *
- * RESULTS. int32_t results are statuses: 0 or more is an answer, below 0 a refusal. Treat an unknown number below 0 as
- * a refusal; later versions may add statuses. Calls that answer a cell answer 0 if there is none (0 is no cell).
+ * RESULTS. int32_t results, but that of s2u_compare, are statuses: 0 or more is an answer, below 0 a refusal. Treat an
+ * unknown number below 0 as a refusal; later versions may add statuses. Calls that answer a cell answer 0 if there is
+ * none (0 is no cell).
  *
  * LISTS ARE NOT CHECKED (since 0.2). A call that takes a union does not check that the list is one, which would cost
  * more than the call itself. s2u_is_union checks it, once, when it comes in; what calls make of unions are unions. If a
- * list is not a union, the result means nothing: the status is S2U_OK or S2U_ROOM, or any answer, or what another
- * argument is refused for, or S2U_MEMORY of a call that takes memory. Even so *len is at most S2U_MOST_.., what lies
- * in the room behind that many elements is as it was, and the call is as safe as any other. (Tested, not proved: what
- * this header says of steps, and, of a list that is no union, that a call with the room that *len asks for is not
- * refused for room, and that nothing between the result and its bound is touched.)
+ * list is not a union, the result means nothing: the status is S2U_OK or S2U_ROOM, or S2U_MANY of a covering, or any
+ * answer, or what another argument is refused for, or S2U_MEMORY of a call that takes memory. Even so *len is at most
+ * S2U_MOST_.., room for that many elements is enough, what lies behind the result is as it was, and the call is as safe
+ * as any other.
  *
  * HOW LONG A RESULT IS. A call that makes a list takes `out`, `room` (how many elements it has) and `len`.
  *   S2U_OK     out[0 .. *len) is the result. What comes after it is not touched, but by s2u_decode.
  *   S2U_ROOM   room is too small, and *len is exactly how many elements the result has. Call again with that much room;
  *              the second call cannot be refused for room. What out holds then means nothing: results are written
  *              straight to it.
- *   otherwise  *len is 0 and out is not touched. (With S2U_NO_CELL, s2u_from_tokens and s2u_union_of_many report in
- *              *len where the first wrong word or number is.)
+ *   otherwise  *len is 0 and out is not touched, but by S2U_MANY of s2u_outer_of and s2u_inner_of for a list that is no
+ *              union. (With S2U_NO_CELL, s2u_from_tokens and s2u_union_of_many report in *len where the first wrong
+ *              word or number is.)
  * Only s2u_normalise works in the list that it is given, and it never needs more room. So `room` 0 (and out NULL) asks
- * for the length, which costs as much as the call itself. It is never necessary to ask: each call has a bound, given as
- * a macro S2U_MOST_.. if it is worth one, which is computed in 64 bits even from an int. Nothing that a call makes
- * belongs to the library: there is nothing to free, and no handle.
+ * for the length, which costs as much as the call itself. Only for s2u_denormalised is it ever necessary to ask: each
+ * other call has a bound, given as a macro S2U_MOST_.. if it is worth one, which is computed in 64 bits even from an
+ * int. Nothing that a call makes belongs to the library: there is nothing to free, and no handle.
  *
  * THREADS. The library has no state. Every call is reentrant; any number of calls may run at once in any threads, also
  * on the same lists as long as no call writes them. Calls marked [pure] take no memory, cannot run out of it, and may

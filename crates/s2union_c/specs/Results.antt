@@ -1,6 +1,6 @@
 -- What calls leave in the lists that they write to.
 use Rattle.std.specs.Prelude.{◌≡◌, ◌<◌, ◌≤◌, ◌⊎◌, ℕ, ℤ, List, ◌++◌, length, drop}
-use Rattle.s2union_c.specs.Status.{made, no_room, no_memory}
+use Rattle.s2union_c.specs.Status.{made, no_room, no_memory, too_many}
 
 -- the list `xs` fits in the room and is at its front, and what comes after it is unchanged
 pub record IsWritten {X : Type 0} (xs old new : List X) (len : ℕ) : Type 0 where
@@ -38,3 +38,16 @@ pub record ExceedsRoom {X : Type 0} (xs old new : List X) (len : ℕ) : Type 0 w
 abbrev pub MadeInPlace : {X : Type 0} → ℤ → (List X → Type 0) → List X → List X → ℕ → Type 0
 MadeInPlace {X} status P old new len = (xs : List X) × P xs × (((status ≡ made) × IsWritten xs old new len)
     ⊎ ((status ≡ no_room) × ExceedsRoom xs old new len))
+
+-- whatever the result means: `len` elements are in the room if they fit, and what comes after them is as it was
+pub record KeepsRest {X : Type 0} (status : ℤ) (old new : List X) (len : ℕ) : Type 0 where
+  pub same_length : length new ≡ length old
+  pub fits : len ≤ length old → (status ≡ made) × (drop len new ≡ drop len old)
+  pub short : length old < len → status ≡ no_room
+
+-- there would be more than `most` cells: the length is 0, and what comes after the first `most` is as it was
+pub record FindsMany (most : ℕ) (status : ℤ) (old new : List ℕ) (len : ℕ) : Type 0 where
+  pub status_is : status ≡ too_many
+  pub len_is : len ≡ 0
+  pub same_length : length new ≡ length old
+  pub rest : drop most new ≡ drop most old

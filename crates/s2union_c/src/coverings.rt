@@ -1,13 +1,13 @@
 //! The coverings of rectangles, of unions, and of what a union and a rectangle share, at one level.
 ghost use Rattle.std.specs.Prelude.{◌≡◌, ◌<◌, ◌≤◌, ◌⊎◌, ℕ, Bool, IfErr, IfOk, IsTrue, List, SomeIff};
-ghost use Rattle.std.specs.Prelude.{length, min};
+ghost use Rattle.std.specs.Prelude.{drop, length, min};
 ghost use Rattle.s2list.specs.Union.{IsLocal, IsNormalForm, has_leaf};
 ghost use Rattle.s2cover.specs.Coverings.{TooManyMeans, inner_set, outer_set};
 ghost use Rattle.s2cover.specs.Rectangles.{IsRect, clipped, rect_set};
 ghost use Rattle.s2search.specs.Room.{PutsUpTo};
 ghost use Rattle.s2union_c.specs.Rectangles.{rect_with};
-ghost use Rattle.s2union_c.specs.Results.{MadeInPlace, MadeOne, Refused};
-ghost use Rattle.s2union_c.specs.Status.{bad_argument, made, no_room, too_many};
+ghost use Rattle.s2union_c.specs.Results.{FindsMany, KeepsRest, MadeInPlace, MadeOne, Refused};
+ghost use Rattle.s2union_c.specs.Status.{bad_argument, too_many};
 ghost use Rattle.s2union_c.specs.Working.Coverings.{covering_of};
 
 use crate::results::{put_cells, room_status};
@@ -96,9 +96,8 @@ pub extern "C" fn s2u_outer_of(
         min most MOST_CELLS < length u)) }
     ensures few { IsLocal ids.now → len.new ≤ length ids.now }
     ensures most { len.new ≤ min most MOST_CELLS }
-    ensures status { level ≤ 30 → (result ≡ made) ⊎ ((result ≡ no_room) ⊎ (result ≡ too_many)) }
-    ensures fits { result ≡ made → len.new ≤ length out.new }
-    ensures same_length { length out.new ≡ length out.old }
+    ensures any { level ≤ 30 → KeepsRest result out.old out.new len.new
+        ⊎ FindsMany (min most MOST_CELLS) result out.old out.new len.new }
     ensures argument { 30 < level → Refused result bad_argument out.old out.new len.new }
 {
     *len = 0;
@@ -132,9 +131,8 @@ pub extern "C" fn s2u_inner_of(
         min most MOST_CELLS < length u)) }
     ensures few { IsLocal ids.now → len.new ≤ length ids.now }
     ensures most { len.new ≤ min most MOST_CELLS }
-    ensures status { level ≤ 30 → (result ≡ made) ⊎ ((result ≡ no_room) ⊎ (result ≡ too_many)) }
-    ensures fits { result ≡ made → len.new ≤ length out.new }
-    ensures same_length { length out.new ≡ length out.old }
+    ensures any { level ≤ 30 → KeepsRest result out.old out.new len.new
+        ⊎ FindsMany (min most MOST_CELLS) result out.old out.new len.new }
     ensures argument { 30 < level → Refused result bad_argument out.old out.new len.new }
 {
     *len = 0;
@@ -221,14 +219,13 @@ fn cover(side: Side, ids: &[u64], level: u8, bound: usize, out: &mut [u64], len:
         × ((u : List ℕ) → IsNormalForm (covering_of side level (has_leaf ids.now)) u → bound < length u)) }
     ensures few { IsLocal ids.now → len.new ≤ length ids.now }
     ensures most { len.new ≤ bound }
-    ensures status { (result ≡ made) ⊎ ((result ≡ no_room) ⊎ (result ≡ too_many)) }
-    ensures fits { result ≡ made → len.new ≤ length out.new }
-    ensures same_length { length out.new ≡ length out.old }
+    ensures any { KeepsRest result out.old out.new len.new ⊎ FindsMany bound result out.old out.new len.new }
 {
     if is_longer(side, ids, level, bound) {
         return TOO_MANY;
     }
-    let n = put_covering(side, ids, level, bound, out);
+    let room = bound.min(out.len());
+    let n = put_covering(side, ids, level, bound, &mut out[..room]);
     if n > bound {
         return TOO_MANY;
     }
@@ -253,6 +250,7 @@ fn put_covering(side: Side, ids: &[u64], level: u8, most: usize, out: &mut [u64]
     ensures len { length out.new ≡ length out.old }
     ensures made { IsLocal ids.now
         → PutsUpTo most (IsNormalForm (covering_of side level (has_leaf ids.now))) out.old out.new result }
+    ensures rest { drop result out.new ≡ drop result out.old }
 {
     match side {
         Side::Outer => put_outer(&IdList { ids }, level, most, out),

@@ -10,8 +10,8 @@ ghost use Rattle.s2search.specs.Ancestors.{AreHolders};
 ghost use Rattle.s2search.specs.Normalising.{IsNormalisedIn};
 ghost use Rattle.s2search.specs.Numbers.{numbers_in};
 ghost use Rattle.s2union_c.specs.Files.{Decoded, IsCellFile, IsFrameFault, IsFramed, file_ids};
-ghost use Rattle.s2union_c.specs.Results.{Made, MadeInPlace, MadeOne, Refused};
-ghost use Rattle.s2union_c.specs.Status.{IsAnswerTo, IsAnswer, bad_argument, made, no_cell, no_room, wrong_cell};
+ghost use Rattle.s2union_c.specs.Results.{KeepsRest, Made, MadeInPlace, MadeOne, Refused};
+ghost use Rattle.s2union_c.specs.Status.{IsAnswerTo, IsAnswer, bad_argument, made, no_cell, wrong_cell};
 
 use crate::lists::cells_of;
 use crate::results::{bound, put_cells, room_status};
@@ -32,7 +32,8 @@ use std::alloc::Global;
 /// Takes no memory, and checks nothing.
 #[unsafe(no_mangle)]
 pub extern "C" fn s2u_encode(ids: &[u64], out: &mut [u8], len: &mut usize) -> i32
-    ensures { Made result (file_text ids.now) out.old out.new len.new }
+    ensures made { Made result (file_text ids.now) out.old out.new len.new }
+    ensures size { len.new ≡ 9 + 8 * length ids.now }
 {
     let size = HEAD_SIZE + NUMBER_SIZE * ids.len();
     *len = size;
@@ -290,12 +291,8 @@ pub extern "C" fn s2u_file_intersects(xs: &[u8], ys: &[u8]) -> i32
 pub extern "C" fn s2u_file_ancestors(bytes: &[u8], out: &mut [u64], len: &mut usize) -> i32
     ensures made { IsFramed bytes.now → IsLocal (file_ids bytes.now)
         → MadeInPlace result (AreHolders (file_ids bytes.now)) out.old out.new len.new }
-    ensures status { IsFramed bytes.now → (result ≡ made) ⊎ (result ≡ no_room) }
-    ensures fits { result ≡ made → len.new ≤ length out.new }
-    ensures same_length { length out.new ≡ length out.old }
+    ensures any { IsFramed bytes.now → KeepsRest result out.old out.new len.new }
     ensures most { len.new ≤ 31 * length (file_ids bytes.now) }
-    ensures rest { drop (31 * length (file_ids bytes.now)) out.new
-        ≡ drop (31 * length (file_ids bytes.now)) out.old }
     ensures fault { (IsFramed bytes.now → ⊥) → IsFrameFault bytes.now result × (len.new ≡ 0) × (out.new ≡ out.old) }
 {
     *len = 0;

@@ -1,5 +1,5 @@
 //! Laws about the definitions, and what the calls for C have in common with those of `CellUnion` and of s2file.
-ghost use Rattle.std.specs.Prelude.{◌≡◌, ◌<◌, ◌≤◌, ℕ, ℤ, Bool, IfOk, List, length, take};
+ghost use Rattle.std.specs.Prelude.{◌≡◌, ◌<◌, ◌≤◌, ℕ, ℤ, Bool, IfOk, List, drop, length, take};
 ghost use Rattle.s2list.specs.Union.{IsLocal, IsNormalForm, has_leaf};
 ghost use Rattle.s2cover.specs.Coverings.{inner_set, outer_set};
 ghost use Rattle.s2file.specs.declared.union_file.TheConstants.{MOST_CELLS};
@@ -9,7 +9,7 @@ ghost use Rattle.s2search.specs.Normalising.{IsNormalisedIn};
 ghost use Rattle.s2search.specs.Room.{PutsOne};
 ghost use Rattle.s2union_c.specs.Files.{IsCellFile, file_ids};
 ghost use Rattle.s2union_c.specs.Laws.{AreCutTo, HasItsNumbers, IsStatusOf, OneReading, RefusesFile};
-ghost use Rattle.s2union_c.specs.Results.{MadeInPlace};
+ghost use Rattle.s2union_c.specs.Results.{KeepsRest, MadeInPlace};
 ghost use Rattle.s2union_c.specs.Status.{made, no_room};
 
 use crate::sets::{s2u_difference, s2u_intersection, s2u_symmetric_difference, s2u_union};
@@ -49,6 +49,16 @@ pub fn one_room()
         → MadeInPlace status (IsNormalForm S) old new len }
     ensures put { (S : ℕ → Bool) (status : ℤ) (old new : List ℕ) (len : ℕ)
         → MadeInPlace status (IsNormalForm S) old new len → PutsOne (IsNormalForm S) old new len }
+{}
+
+/// Room for the bound of a call is enough, whatever its lists are, and what lies behind the bound stays as it was. Room
+/// for the length that a call tells is enough for a second one that makes the same set.
+pub fn enough_room()
+    ensures bound { (most : ℕ) (status : ℤ) (old new : List ℕ) (len : ℕ) → KeepsRest status old new len → len ≤ most
+        → (drop most new ≡ drop most old) × (most ≤ length old → status ≡ made) }
+    ensures again { (S : ℕ → Bool) (status next : ℤ) (old new room after : List ℕ) (len again : ℕ)
+        → MadeInPlace status (IsNormalForm S) old new len → MadeInPlace next (IsNormalForm S) room after again
+        → len ≤ length room → (next ≡ made) × (again ≡ len) }
 {}
 
 /// What `s2u_decode`, `s2u_outer_of` and `s2u_inner_of` give, `s2u_normalise` gives too: of the numbers of a file,

@@ -2,11 +2,10 @@
 //!
 //! An operation is given as much of the room as its result can need, and answers no greater length: so both bounds hold
 //! of any list.
-ghost use Rattle.std.specs.Prelude.{◌≡◌, ◌+◌, ◌*◌, ◌≤◌, ◌⊎◌, drop, length};
+ghost use Rattle.std.specs.Prelude.{◌+◌, ◌*◌, ◌≤◌, length};
 ghost use Rattle.s2list.specs.Sets.{either, in_one, outside, shared, without};
 ghost use Rattle.s2list.specs.Union.{IsLocal, IsNormalForm, has_leaf};
-ghost use Rattle.s2union_c.specs.Results.{MadeInPlace};
-ghost use Rattle.s2union_c.specs.Status.{made, no_room};
+ghost use Rattle.s2union_c.specs.Results.{KeepsRest, MadeInPlace};
 
 use crate::results::{bound, room_status};
 use s2list::IdList;
@@ -22,11 +21,8 @@ const BESIDE: usize = 90;
 pub extern "C" fn s2u_union(xs: &[u64], ys: &[u64], out: &mut [u64], len: &mut usize) -> i32
     ensures made { IsLocal xs.now → IsLocal ys.now
         → MadeInPlace result (IsNormalForm (either (has_leaf xs.now) (has_leaf ys.now))) out.old out.new len.new }
-    ensures status { (result ≡ made) ⊎ (result ≡ no_room) }
-    ensures fits { result ≡ made → len.new ≤ length out.new }
-    ensures same_length { length out.new ≡ length out.old }
+    ensures any { KeepsRest result out.old out.new len.new }
     ensures most { len.new ≤ length xs.now + length ys.now }
-    ensures rest { drop (length xs.now + length ys.now) out.new ≡ drop (length xs.now + length ys.now) out.old }
 {
     let most = xs.len() + ys.len();
     let room = most.min(out.len());
@@ -40,11 +36,8 @@ pub extern "C" fn s2u_union(xs: &[u64], ys: &[u64], out: &mut [u64], len: &mut u
 pub extern "C" fn s2u_intersection(xs: &[u64], ys: &[u64], out: &mut [u64], len: &mut usize) -> i32
     ensures made { IsLocal xs.now → IsLocal ys.now
         → MadeInPlace result (IsNormalForm (shared (has_leaf xs.now) (has_leaf ys.now))) out.old out.new len.new }
-    ensures status { (result ≡ made) ⊎ (result ≡ no_room) }
-    ensures fits { result ≡ made → len.new ≤ length out.new }
-    ensures same_length { length out.new ≡ length out.old }
+    ensures any { KeepsRest result out.old out.new len.new }
     ensures most { len.new ≤ length xs.now + length ys.now }
-    ensures rest { drop (length xs.now + length ys.now) out.new ≡ drop (length xs.now + length ys.now) out.old }
 {
     let most = xs.len() + ys.len();
     let room = most.min(out.len());
@@ -58,12 +51,8 @@ pub extern "C" fn s2u_intersection(xs: &[u64], ys: &[u64], out: &mut [u64], len:
 pub extern "C" fn s2u_difference(xs: &[u64], ys: &[u64], out: &mut [u64], len: &mut usize) -> i32
     ensures made { IsLocal xs.now → IsLocal ys.now
         → MadeInPlace result (IsNormalForm (without (has_leaf xs.now) (has_leaf ys.now))) out.old out.new len.new }
-    ensures status { (result ≡ made) ⊎ (result ≡ no_room) }
-    ensures fits { result ≡ made → len.new ≤ length out.new }
-    ensures same_length { length out.new ≡ length out.old }
+    ensures any { KeepsRest result out.old out.new len.new }
     ensures most { len.new ≤ length xs.now + 90 * length ys.now }
-    ensures rest { drop (length xs.now + 90 * length ys.now) out.new
-        ≡ drop (length xs.now + 90 * length ys.now) out.old }
 {
     let most = bound(xs.len(), BESIDE, ys.len());
     let room = most.min(out.len());
@@ -82,12 +71,8 @@ pub extern "C" fn s2u_symmetric_difference(
 ) -> i32
     ensures made { IsLocal xs.now → IsLocal ys.now
         → MadeInPlace result (IsNormalForm (in_one (has_leaf xs.now) (has_leaf ys.now))) out.old out.new len.new }
-    ensures status { (result ≡ made) ⊎ (result ≡ no_room) }
-    ensures fits { result ≡ made → len.new ≤ length out.new }
-    ensures same_length { length out.new ≡ length out.old }
+    ensures any { KeepsRest result out.old out.new len.new }
     ensures most { len.new ≤ 90 * length xs.now + 90 * length ys.now }
-    ensures rest { drop (90 * length xs.now + 90 * length ys.now) out.new
-        ≡ drop (90 * length xs.now + 90 * length ys.now) out.old }
 {
     let most = bound(0, BESIDE, xs.len() + ys.len());
     let room = most.min(out.len());
@@ -101,11 +86,8 @@ pub extern "C" fn s2u_symmetric_difference(
 pub extern "C" fn s2u_complement(ids: &[u64], out: &mut [u64], len: &mut usize) -> i32
     ensures made { IsLocal ids.now
         → MadeInPlace result (IsNormalForm (outside (has_leaf ids.now))) out.old out.new len.new }
-    ensures status { (result ≡ made) ⊎ (result ≡ no_room) }
-    ensures fits { result ≡ made → len.new ≤ length out.new }
-    ensures same_length { length out.new ≡ length out.old }
+    ensures any { KeepsRest result out.old out.new len.new }
     ensures most { len.new ≤ 6 + 90 * length ids.now }
-    ensures rest { drop (6 + 90 * length ids.now) out.new ≡ drop (6 + 90 * length ids.now) out.old }
 {
     let most = bound(6, BESIDE, ids.len());
     let room = most.min(out.len());

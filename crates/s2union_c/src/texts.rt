@@ -1,5 +1,5 @@
 //! The texts of cells: tokens and debug texts.
-ghost use Rattle.std.specs.Prelude.{◌≡◌, ℕ};
+ghost use Rattle.std.specs.Prelude.{◌≡◌, ◌≤◌, ℕ};
 ghost use Rattle.s2cell.specs.Cell.{IsCell};
 ghost use Rattle.s2cell.specs.Debug.{IsDebug, debug_of};
 ghost use Rattle.s2cell.specs.Token.{IsReading, token_of};
@@ -15,6 +15,7 @@ use s2cell::CellId;
 pub extern "C" fn s2u_token(id: u64, text: &mut [u8], len: &mut usize) -> i32
     ensures made { IsCell id → Made result (token_of id) text.old text.new len.new }
     ensures no_cell { (IsCell id → ⊥) → Refused result no_cell text.old text.new len.new }
+    ensures most { len.new ≤ 16 }
 {
     match CellId::from_id(id) {
         Some(cell) => put(cell.token().as_slice(), text, len),
@@ -48,6 +49,7 @@ pub extern "C" fn s2u_from_token(text: &[u8], id: &mut u64) -> i32
 pub extern "C" fn s2u_debug(id: u64, text: &mut [u8], len: &mut usize) -> i32
     ensures made { IsCell id → Made result (debug_of id) text.old text.new len.new }
     ensures no_cell { (IsCell id → ⊥) → Refused result no_cell text.old text.new len.new }
+    ensures most { len.new ≤ 32 }
 {
     match CellId::from_id(id) {
         Some(cell) => put(cell.debug().as_slice(), text, len),

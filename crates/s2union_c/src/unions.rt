@@ -1,5 +1,5 @@
 //! Making unions from a list or a range, the ancestors of a union's cells, and its cells cut to levels.
-ghost use Rattle.std.specs.Prelude.{◌≡◌, ◌+◌, ◌*◌, ◌<◌, ◌≤◌, ◌⊎◌, ◌↔◌, ℕ, IsTrue, All, List, drop, length};
+ghost use Rattle.std.specs.Prelude.{◌≡◌, ◌+◌, ◌*◌, ◌<◌, ◌≤◌, ◌↔◌, ℕ, IsTrue, All, List, length};
 ghost use Rattle.s2cell.specs.Cell.{IsCell, first_leaf, size_of};
 ghost use Rattle.s2list.specs.Union.{IsLocal, IsNormalForm, between, has_leaf};
 ghost use Rattle.s2union.specs.Denorm.{denormalised};
@@ -7,9 +7,9 @@ ghost use Rattle.s2search.specs.Ancestors.{AreHolders};
 ghost use Rattle.s2search.specs.Normalising.{IsNormalisedIn};
 ghost use Rattle.s2list.specs.Search.{IsFirstWrong};
 ghost use Rattle.s2union_c.specs.Ends.{AreEnds};
-ghost use Rattle.s2union_c.specs.Results.{Made, MadeInPlace, MadeOne, Refused};
+ghost use Rattle.s2union_c.specs.Results.{KeepsRest, Made, MadeInPlace, MadeOne, Refused};
 ghost use Rattle.s2union_c.specs.Cutting.{IsCutting};
-ghost use Rattle.s2union_c.specs.Status.{bad_argument, made, no_cell, no_room};
+ghost use Rattle.s2union_c.specs.Status.{bad_argument, made, no_cell};
 
 use crate::results::{bound, put, put_cells, room_status};
 use crate::status::{BAD_ARGUMENT, MADE, NO_CELL, NO_MEMORY};
@@ -125,11 +125,8 @@ pub extern "C" fn s2u_range(
 #[unsafe(no_mangle)]
 pub extern "C" fn s2u_ancestors(ids: &[u64], out: &mut [u64], len: &mut usize) -> i32
     ensures made { IsLocal ids.now → MadeInPlace result (AreHolders ids.now) out.old out.new len.new }
-    ensures status { (result ≡ made) ⊎ (result ≡ no_room) }
-    ensures fits { result ≡ made → len.new ≤ length out.new }
-    ensures same_length { length out.new ≡ length out.old }
+    ensures any { KeepsRest result out.old out.new len.new }
     ensures most { len.new ≤ 31 * length ids.now }
-    ensures rest { drop (31 * length ids.now) out.new ≡ drop (31 * length ids.now) out.old }
 {
     let most = bound(0, LEVELS, ids.len());
     let room = most.min(out.len());
@@ -166,9 +163,7 @@ pub extern "C" fn s2u_denormalised(
 ) -> i32
     ensures made { IsLocal ids.now → IsCutting min modulus
         → MadeInPlace result (λ list. list ≡ denormalised min modulus ids.now) out.old out.new len.new }
-    ensures status { IsCutting min modulus → (result ≡ made) ⊎ (result ≡ no_room) }
-    ensures fits { result ≡ made → len.new ≤ length out.new }
-    ensures same_length { length out.new ≡ length out.old }
+    ensures any { IsCutting min modulus → KeepsRest result out.old out.new len.new }
     ensures argument { (IsCutting min modulus → ⊥) → Refused result bad_argument out.old out.new len.new }
 {
     *len = 0;

@@ -2,13 +2,13 @@ use Rattle.std.proofs.Common.{◌+◌, ◌*◌, ◌++◌, inl, inr, refl, sym, a
 use Rattle.s2union_c.proofs.Encoding.{length-file_text}
 use Rattle.s2union_c.proofs.files.s2u_encode.Goals as goal
 
-pub returns-then-size-out : goal.returns-then-size-out
-returns-then-size-out c =
+pub returns-then-size-out-clause-made : goal.returns-then-size-out-clause-made
+returns-then-size-out-clause-made c =
     let size = length-file_text c.args.ids.now in
     inr (refl, record { len_is = sym size; short = omega arith; same = refl })
 
-pub returns : goal.returns
-returns c =
+pub returns-clause-made : goal.returns-clause-made
+returns-clause-made c =
     let size = length-file_text c.args.ids.now in
     inl (
       refl,

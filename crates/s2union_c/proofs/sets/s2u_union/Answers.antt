@@ -3,7 +3,7 @@ use Rattle.std.specs.Int.{w32}
 use Rattle.std.proofs.lemmas.Int.{to_z-of_z}
 use mir.Val.{SFits}
 use Rattle.s2list.proofs.Lengths.{union_few}
-use Rattle.s2union_c.proofs.Placed.{placed_rest, placed_within}
+use Rattle.s2union_c.proofs.Placed.{placed_any, placed_within}
 use Rattle.s2union_c.proofs.sets.s2u_union.Goals as goal
 
 pub returns-clause-made : goal.returns-clause-made
@@ -16,7 +16,10 @@ returns-clause-made c lx ly =
     c.min.ensures (omega (arith, put.len_is, few)) refl
     c.room_status.ensures.fits c.room_status.ensures.short)
 
-pub returns-clause-rest : goal.returns-clause-rest
-returns-clause-rest c =
-    placed_rest c.args.out.now c.put_union-n.new.out _ c.put_union-n.ensures.len
-    c.min-room.ensures (omega arith)
+pub returns-clause-any : goal.returns-clause-any
+returns-clause-any c =
+    let fits : SFits w32 c.room_status.result = search rules in
+    rw (to_z-of_z w32 c.room_status.result fits)
+    (placed_any c.args.out.now c.put_union-n.new.out c.put_union-n.result _ _ c.room_status.result
+    c.put_union-n.ensures.len c.put_union-n.ensures.rest c.min-room.ensures c.min.ensures refl
+    c.room_status.ensures.fits c.room_status.ensures.short)

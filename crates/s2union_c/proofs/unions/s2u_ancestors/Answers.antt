@@ -3,7 +3,7 @@ use Rattle.std.specs.Int.{w32}
 use Rattle.std.proofs.lemmas.Int.{to_z-of_z}
 use mir.Val.{SFits}
 use Rattle.s2union_c.proofs.Held.{holders_few}
-use Rattle.s2union_c.proofs.Placed.{placed_rest, placed_status, placed_within}
+use Rattle.s2union_c.proofs.Placed.{placed_any, placed_within}
 use Rattle.s2union_c.proofs.unions.s2u_ancestors.Goals as goal
 
 pub returns-clause-made : goal.returns-clause-made
@@ -16,12 +16,10 @@ returns-clause-made c local =
     (c.bound-most.ensures.enough _ (omega arith) (omega (arith, put.len_is, few))) refl c.room_status.ensures.fits
     c.room_status.ensures.short)
 
-pub returns-clause-status : goal.returns-clause-status
-returns-clause-status c =
+pub returns-clause-any : goal.returns-clause-any
+returns-clause-any c =
     let fits : SFits w32 c.room_status.result = search rules in
     rw (to_z-of_z w32 c.room_status.result fits)
-    (placed_status c.min.result _ c.room_status.result c.room_status.ensures.fits c.room_status.ensures.short)
-
-pub returns-clause-rest : goal.returns-clause-rest
-returns-clause-rest c = placed_rest c.args.out.now c.ancestors-n.new.out _ c.ancestors-n.ensures.len c.min-room.ensures
-    (omega (arith, c.bound-most.ensures.most))
+    (placed_any c.args.out.now c.ancestors-n.new.out c.ancestors-n.result _ _ c.room_status.result
+    c.ancestors-n.ensures.len c.ancestors-n.ensures.rest c.min-room.ensures c.min.ensures refl
+    c.room_status.ensures.fits c.room_status.ensures.short)
