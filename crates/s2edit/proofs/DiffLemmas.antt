@@ -51,3 +51,8 @@ changes_list [] (p ∷ ps) u f l e =
     let h : has (applied [] (p ∷ ps) u) p ≡ has u p = ap (λ (l : List ℕ). has l p) e in
     false≢true (grind (arith, common_steps, has-applied [] (p ∷ ps) u p, n, h))
 changes_list [] [] u f l e = absurd (omega arith)
+
+-- a change of nothing
+pub nothing_applied : (out put us : List ℕ) → out ≡ [] → put ≡ [] → applied out put us ≡ us
+nothing_applied out put us e f = ap (λ (l : List ℕ). applied l put us) e ∙ ap (λ (l : List ℕ). applied [] l us) f
+    ∙ cells_without-nothing us

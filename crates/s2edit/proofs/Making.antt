@@ -19,8 +19,9 @@ use Rattle.s2edit.specs.declared.editor.EditFault.TheVariants.{TooMany}
 use Rattle.s2edit.specs.declared.TheConstants.{REGISTERS}
 use Rattle.s2edit.proofs.Assigning.{assigned_same}
 use Rattle.s2edit.proofs.Contents.{empty_list}
-use Rattle.s2edit.proofs.InTurn.{nothing_applied, length_without, length_applied}
+use Rattle.s2edit.proofs.DiffLemmas.{nothing_applied}
 use Rattle.s2edit.proofs.SetLemmas.{Assigned-sets}
+use Rattle.s2edit.proofs.Sizes.{length_without, length_applied}
 use Rattle.s2edit.proofs.Tables.{AllWithin-at}
 
 -- a change of a register, in the state that an editor holds

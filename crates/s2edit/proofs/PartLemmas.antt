@@ -1,6 +1,6 @@
 -- A change fits a list exactly when it fits the part of the list that it can concern.
-use Rattle.std.proofs.Common.{◌≡◌, ℕ, zero, suc, ◌-◌, ◌<◌, Bool, true, false, eqb, List, []}
-use Rattle.std.proofs.Common.{◌∷◌, get_or, Contains, refl, sym, ◌∙◌, subst, arith}
+use Rattle.std.proofs.Common.{◌≡◌, ℕ, zero, suc, ◌<◌, Bool, true, false, not, ◌&&◌, eqb, List, []}
+use Rattle.std.proofs.Common.{◌∷◌, get_or, Contains, refl, sym, ap, ◌∙◌, subst, arith}
 use Rattle.std.proofs.lemmas.Grind.{common_steps}
 use Rattle.std.proofs.lemmas.Bool.{false≢true}
 use Rattle.std.proofs.lemmas.List.Elements.{All-contains, Contains-get_or}
@@ -8,15 +8,14 @@ use Rattle.std.proofs.lemmas.List.Kept.{AllPairs-from_increasing}
 use Rattle.s2cell.specs.Cell.{IsCell, level_of, first_leaf, covers, child_of}
 use Rattle.s2cell.proofs.CellLemmas.{cell_leaves}
 use Rattle.s2cell.proofs.Calls.{IsCell-child_of}
-use Rattle.s2cell.proofs.Leaves.{covers_there, inside_from_within}
-use Rattle.s2cell.proofs.Family.{parent_around, child_within}
+use Rattle.s2cell.proofs.Leaves.{covers_there}
 use Rattle.s2list.specs.Union.{has_leaf, IsLocal, LiesIn}
-use Rattle.s2union.specs.Apply.{has, applied, Fits}
-use Rattle.s2list.proofs.Normal.{member_greatest, greatest_apart, parent_of_child}
-use Rattle.s2union.proofs.CellLists.{IsAscending, has-applied, IsAscending-applied, ascends_from, increasing_from}
+use Rattle.s2union.specs.Apply.{has, cells_without, applied, Fits}
+use Rattle.s2list.proofs.Normal.{leaf_from, leaf_to, member_greatest, greatest_apart, parent_of_child}
+use Rattle.s2union.proofs.CellLists.{IsAscending, same_cells, has-cells_without, has-applied, IsAscending-applied}
+use Rattle.s2union.proofs.CellLists.{IsAscending-cells_without, ascends_from, increasing_from}
 use Rattle.s2union.proofs.Applied.{local_ascends}
 use Rattle.s2edit.specs.Working.Part.{around, IsWatched, IsPart}
-use Rattle.s2edit.proofs.InTurn.{length_applied}
 
 pub by_bool : {A : Type 0} (b : Bool) → (b ≡ true → A) → (b ≡ false → A) → A
 by_bool true f g = f refl
@@ -34,12 +33,9 @@ member_had (y ∷ ys) c h = by_bool (eqb y c)
     (λ e. (zero, omega arith, grind (arith, common_steps, e)))
     (λ n. let m = member_had ys c (grind (arith, common_steps, n, h)) in (suc m.0, omega (arith, m.1), m.2))
 
--- a cell has leaves, and those around it too
+-- a cell has leaves
 pub leaf_there : (c : ℕ) → IsCell c → covers c (first_leaf c) ≡ true
 leaf_there c g = let some = (cell_leaves c g).some in covers_there c (first_leaf c) (omega arith) (omega arith)
-
-pub leaf_around : (c x : ℕ) → IsCell c → covers c x ≡ true → covers (around c) x ≡ true
-leaf_around c x g h = inside_from_within c (around c) (parent_around c (level_of c - 1) g (omega arith)) x h
 
 -- two cells of a local list that share a leaf are one
 pub one_cell : (u : List ℕ) (a b x : ℕ) → IsLocal u → has u a ≡ true → has u b ≡ true → covers a x ≡ true →
@@ -83,11 +79,11 @@ local_within u w l asc inside = local_from w asc
     (λ a b x ha hb va vb. one_cell u a b x l (inside a ha) (inside b hb) va vb)
     (λ p g d all. no_family u p l g d (λ i h. inside (child_of p i) (all i h)))
 
-module _ (S : ℕ → Bool) (u s n q : List ℕ) (part : IsPart S u s) (out : IsWatched S n) (put : IsWatched S q) where
+module _ (S : ℕ → Bool) (u s n q : List ℕ) (part : IsPart S u s) (out : (c : ℕ) → has n c ≡ true → IsWatched S u c)
+    (put : (c : ℕ) → has q c ≡ true → IsWatched S u c) where
   -- a cell of the list that a change names is in the part
-  named_there : (c : ℕ) → IsCell c → LiesIn S (around c) → has u c ≡ true → has s c ≡ true
-  named_there c g w h = let v = leaf_there c g in
-      part.rest c (first_leaf c) h v (w (first_leaf c) (leaf_around c (first_leaf c) g v))
+  named_there : (c : ℕ) → IsWatched S u c → has u c ≡ true → has s c ≡ true
+  named_there c w h = let v = leaf_there c w.cell in part.rest c (first_leaf c) h v (w.own (first_leaf c) v)
 
   -- the part of what the change makes
   within : (c : ℕ) → has (applied n q s) c ≡ true → has (applied n q u) c ≡ true
@@ -110,7 +106,7 @@ module _ (S : ℕ → Bool) (u s n q : List ℕ) (part : IsPart S u s) (out : Is
       record {
         out_ascends = f.out_ascends;
         put_ascends = f.put_ascends;
-        out_is_there = λ c h. named_there c (out c h).0 (out c h).1 (f.out_is_there c h);
+        out_is_there = λ c h. named_there c (out c h) (f.out_is_there c h);
         put_is_new = new;
         local = local_within (applied n q u) (applied n q s) f.local
             (IsAscending-applied n q s (ascends_from q f.put_ascends) (local_ascends s part.part_local) new)
@@ -121,15 +117,21 @@ module _ (S : ℕ → Bool) (u s n q : List ℕ) (part : IsPart S u s) (out : Is
   from_before : (c : ℕ) → has (applied n q u) c ≡ true → has q c ≡ false → has u c ≡ true
   from_before c h e = grind (arith, common_steps, has-applied n q u c, h, e)
 
+  -- what is watched in the list is watched after the change
+  pub watched_after : (c : ℕ) → IsWatched S u c → IsWatched S (applied n q u) c
+  watched_after c w = record {
+    cell = w.cell;
+    own = w.own;
+    siblings = λ i l h. by_bool (has q (child_of (around c) i))
+        (λ e. (put (child_of (around c) i) e).own)
+        (λ e. w.siblings i l (from_before (child_of (around c) i) h e));
+  }
+
   module _ (f : Fits n q s) where
     put_new : (c : ℕ) → has q c ≡ true → has u c ≡ false
     put_new c h = by_bool (has u c)
-        (λ e. absurd (false≢true (sym (f.put_is_new c h) ∙ named_there c (put c h).0 (put c h).1 e)))
+        (λ e. absurd (false≢true (sym (f.put_is_new c h) ∙ named_there c (put c h) e)))
         (λ e. e)
-
-    -- a leaf of a new cell is a leaf of the set
-    new_leaf : (c x : ℕ) → has q c ≡ true → covers c x ≡ true → S x ≡ true
-    new_leaf c x h v = (put c h).1 x (leaf_around c x (put c h).0 v)
 
     one : (a b x : ℕ) → has (applied n q u) a ≡ true → has (applied n q u) b ≡ true → covers a x ≡ true →
         covers b x ≡ true → a ≡ b
@@ -137,22 +139,24 @@ module _ (S : ℕ → Bool) (u s n q : List ℕ) (part : IsPart S u s) (out : Is
         let near : S x ≡ true → a ≡ b =
         λ w. one_cell (applied n q s) a b x f.local (beside a x ha va w) (beside b x hb vb w) va vb in
         by_bool (has q a)
-        (λ e. near (new_leaf a x e va))
+        (λ e. near ((put a e).own x va))
         (λ e. by_bool (has q b)
-        (λ k. near (new_leaf b x k vb))
+        (λ k. near ((put b k).own x vb))
         (λ k. one_cell u a b x part.local (from_before a ha e) (from_before b hb k) va vb))
 
-    -- four children of which one is new lie in the set
+    -- four children of which one is new are in the part
     no_new_family : (p i : ℕ) → IsCell p → level_of p < 30 → i < 4 → has q (child_of p i) ≡ true →
         ((j : ℕ) → j < 4 → has (applied n q u) (child_of p j) ≡ true) → ⊥
     no_new_family p i g d l h all =
+        let siblings : (j : ℕ) → j < 4 → has u (child_of p j) ≡ true → LiesIn S (child_of p j) =
+        subst (λ (r : ℕ). (j : ℕ) → j < 4 → has u (child_of r j) ≡ true → LiesIn S (child_of r j))
+        (parent_of_child p i g d l) (put (child_of p i) h).siblings in
         no_family (applied n q s) p f.local g d (λ j m.
         let k = child_of p j in
-        let kc : IsCell k = IsCell-child_of p j k g d m refl in
-        let v = leaf_there k kc in
-        beside k (first_leaf k) (all j m) v ((put (child_of p i) h).1 (first_leaf k)
-        (subst (λ (r : ℕ). covers r (first_leaf k) ≡ true) (sym (parent_of_child p i g d l))
-        (inside_from_within k p (child_within p j g d m) (first_leaf k) v))))
+        let v = leaf_there k (IsCell-child_of p j k g d m refl) in
+        by_bool (has q k)
+        (λ e. grind (arith, common_steps, has-applied n q s k, e))
+        (λ e. beside k (first_leaf k) (all j m) v (siblings j m (from_before k (all j m) e) (first_leaf k) v)))
 
     no_family_made : (p : ℕ) → IsCell p → level_of p < 30 →
         ((i : ℕ) → i < 4 → has (applied n q u) (child_of p i) ≡ true) → ⊥
@@ -171,15 +175,76 @@ module _ (S : ℕ → Bool) (u s n q : List ℕ) (part : IsPart S u s) (out : Is
       put_is_new = put_new;
       local = local_from (applied n q u)
           (IsAscending-applied n q u (ascends_from q f.put_ascends) (local_ascends u part.local) put_new)
-          (λ c h. by_bool (has q c) (λ e. (put c e).0) (λ e. is_cell u c part.local (from_before c h e)))
+          (λ c h. by_bool (has q c) (λ e. (put c e).cell) (λ e. is_cell u c part.local (from_before c h e)))
           one no_family_made;
     }
 
     pub part_after : IsPart S (applied n q u) (applied n q s)
-    part_after = record {
-      local = fits_whole.local;
-      part_local = f.local;
-      few = omega (arith, part.few, length_applied n q u part.local fits_whole, length_applied n q s part.part_local f);
-      inside = within;
-      rest = beside;
-    }
+    part_after = record { local = fits_whole.local; part_local = f.local; inside = within; rest = beside }
+
+    -- the cells outside the part stay
+    pub rest_after : (c : ℕ) →
+        (has (applied n q u) c && not (has (applied n q s) c)) ≡ (has u c && not (has s c))
+    rest_after c = grind (
+      arith,
+      common_steps,
+      has-applied n q s c,
+      has-applied n q u c,
+      f.out_is_there c,
+      f.put_is_new c,
+      put_new c,
+      part.inside c,
+    )
+
+-- what changes have made of a part, as one change of the list
+module _ (S : ℕ → Bool) (u s u' s' : List ℕ) (before : IsPart S u s) (after : IsPart S u' s')
+    (rest : (c : ℕ) → (has u' c && not (has s' c)) ≡ (has u c && not (has s c))) where
+  put_outside : (c : ℕ) → has (cells_without s' s) c ≡ true → has u c ≡ false
+  put_outside c h = grind (arith, common_steps, has-cells_without s' s c, rest c, h)
+
+  pub change_of_part : applied (cells_without s s') (cells_without s' s) u ≡ u'
+  change_of_part = same_cells (applied (cells_without s s') (cells_without s' s) u) u'
+      (IsAscending-applied (cells_without s s') (cells_without s' s) u
+      (IsAscending-cells_without s' s (local_ascends s' after.part_local)) (local_ascends u before.local) put_outside)
+      (local_ascends u' after.local)
+      (λ c. has-applied (cells_without s s') (cells_without s' s) u c ∙ grind (
+        arith,
+        common_steps,
+        has-cells_without s s' c,
+        has-cells_without s' s c,
+        before.inside c,
+        after.inside c,
+        rest c,
+      ))
+
+  pub change_fits : Fits (cells_without s s') (cells_without s' s) u
+  change_fits = record {
+    out_ascends = increasing_from (cells_without s s')
+        (IsAscending-cells_without s s' (local_ascends s before.part_local));
+    put_ascends = increasing_from (cells_without s' s)
+        (IsAscending-cells_without s' s (local_ascends s' after.part_local));
+    out_is_there = λ c h. before.inside c (grind (arith, common_steps, has-cells_without s s' c, h));
+    put_is_new = put_outside;
+    local = subst IsLocal (sym change_of_part) after.local;
+  }
+
+-- a list is a part of itself
+pub whole_part : (S : ℕ → Bool) (u : List ℕ) → IsLocal u → IsPart S u u
+whole_part S u l = record { local = l; part_local = l; inside = λ c h. h; rest = λ c x h v w. h }
+
+-- the cells of a list that have leaves of a set
+pub part_from : (S : ℕ → Bool) (u s : List ℕ) → IsLocal u → IsLocal s
+    → ((x : ℕ) → has_leaf s x ≡ (has_leaf u x && S x)) → Fits s [] u → IsPart S u s
+part_from S u s lu ls leaves f = record {
+  local = lu;
+  part_local = ls;
+  inside = f.out_is_there;
+  rest = λ c x h v w.
+      let there : has_leaf s x ≡ true =
+      leaves x ∙ ap (λ b. b && S x) (leaf_to u c x (member_had u c h) v) ∙ w in
+      let d = leaf_from s x there in
+      let hd : has s d.cell ≡ true = has_member s d.cell d.member in
+      let same : c ≡ d.cell = one_cell u c d.cell x lu h (f.out_is_there d.cell hd) v
+      (covers_there d.cell x d.low d.high) in
+      subst (λ (k : ℕ). has s k ≡ true) (sym same) hd;
+}

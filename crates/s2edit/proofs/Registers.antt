@@ -12,11 +12,11 @@ use Rattle.s2file.specs.declared.TheConstants.{SESSION_CELLS}
 use Rattle.s2edit.specs.Diff.{inverse, apply, FitsList}
 use Rattle.s2edit.specs.Leads.{list_at}
 use Rattle.s2edit.specs.Working.Chain.{list_after, table_after, FitsTable, FitAlong, AllWithin}
-use Rattle.s2edit.specs.Working.Layers.{FitInTurn, of_register}
+use Rattle.s2edit.specs.Working.InTurn.{FitInTurn, of_register}
 use Rattle.s2edit.specs.Working.Following.{MakesChanges}
 use Rattle.s2edit.specs.Working.Part.{resized, longest}
 use Rattle.s2edit.specs.declared.TheConstants.{REGISTERS}
-use Rattle.s2edit.proofs.InTurn.{length_applied}
+use Rattle.s2edit.proofs.Sizes.{length_applied}
 use Rattle.s2edit.proofs.Following.{applied_differs}
 use Rattle.s2edit.proofs.PartLemmas.{by_bool}
 use Rattle.s2edit.proofs.Tables.{AllWithin-at, within_after, list_at-table_after}

@@ -55,12 +55,6 @@ along_limit limit t (d ∷ ds) f a =
     )
 
 module _ (s : Content) (content : IsContent s) where
-  pasts : List Diff
-  pasts = map inverse (reverse s.past)
-
-  futures : List Diff
-  futures = s.future
-
   lists : AllWithin SESSION_CELLS s.registers
   lists = registers_within s.registers content.registers
 

@@ -4,7 +4,9 @@ use Rattle.std.proofs.Common.{Bool, true, false, if◌then◌else◌}
 use Rattle.std.proofs.lemmas.Bool.{cond_both}
 use Rattle.std.proofs.lemmas.Grind.{common_steps}
 use Rattle.std.specs.List.Sorted.{IsStrictlyIncreasing}
-use Rattle.s2union.specs.Apply.{has, cells_without, insert_cell, insert_cells}
+use Rattle.s2list.specs.Union.{IsLocal}
+use Rattle.s2union.specs.Apply.{has, cells_without, insert_cell, insert_cells, applied, Fits}
+use Rattle.s2union.proofs.Applied.{local_ascends}
 use Rattle.s2union.proofs.CellLists.{same_cells, has-cells_without, has-insert_cells, IsAscending-cells_without}
 use Rattle.s2union.proofs.CellLists.{IsAscending-insert_cells, ascends_from}
 
@@ -56,3 +58,21 @@ lacking_counts us vs a b =
       length-insert_cells (cells_without vs us) us,
       length-insert_cells (cells_without us vs) vs,
     )
+
+-- how many cells there are without those that are taken out
+module _ (out put us : List ℕ) (local : IsLocal us) (f : Fits out put us) where
+  put_back : insert_cells out (cells_without us out) ≡ us
+  put_back =
+      same_cells (insert_cells out (cells_without us out)) us
+      (IsAscending-insert_cells out (cells_without us out) (ascends_from out f.out_ascends)
+      (λ x h. grind (arith, common_steps, has-cells_without us out x))
+      (IsAscending-cells_without us out (local_ascends us local)))
+      (local_ascends us local)
+      (λ x. has-insert_cells out (cells_without us out) x
+      ∙ grind (arith, common_steps, has-cells_without us out x, f.out_is_there x))
+
+  pub length_without : length us ≡ length out + length (cells_without us out)
+  length_without = sym (ap length put_back) ∙ length-insert_cells out (cells_without us out)
+
+  pub length_applied : length us + length put ≡ length (applied out put us) + length out
+  length_applied = omega (arith, length_without, length-insert_cells put (cells_without us out))

@@ -5,6 +5,5 @@ pub mod Change
 pub mod Editor
 pub mod Named
 pub mod Following
-pub mod Followed
 pub mod Part
-pub mod Layers
+pub mod InTurn

@@ -1,15 +1,13 @@
 //! Whether the changes of a session can be made: what `restore` has to know before it takes one over.
 //!
-//! The changes of each register are followed by themselves, from its present list. Nothing has to be kept of the lists
-//! on the way, so three things save work:
+//! The changes of each register are followed by themselves, from its present list: each is tested, and then made, as an
+//! undo makes it. Two things save work:
 //!
-//! - **A part.** Whether a change can be made depends only on the cells of the list near those that it names: the cells
-//!   that share a leaf with their parents. If few cells are named, the list is cut to that part once (parts.rt).
-//! - **Layers.** Changes that lie apart can be made in any order, and as one. Each goes into the lowest layer above all
-//!   that it meets, and a layer is one change (layers.rt). Small layers are gathered before the list is changed, in its
-//!   own room (followed.rt, in_place.rt).
-//! - **Batches.** If many cells are named, the changes are followed in batches, so that little is held beside the
-//!   session (fitting.rt).
+//! - **A part.** Whether a change can be made depends on few cells of the list: those that share a leaf with a cell
+//!   that it names, and the siblings of these. So changes are followed in the part of the list that has them
+//!   (parts.rt).
+//! - **Batches.** Some changes at a time are followed in a part of their own. What they all do to this part is one
+//!   change, and that is made in the list (fitting.rt).
 //!
 //! How long the lists get on the way is counted, not measured (lengths.rt).
 ghost use Rattle.std.specs.Prelude.{◌≡◌, length, map, MatchResult};
@@ -19,9 +17,6 @@ ghost use Rattle.s2edit.specs.Working.Chain.{lists_of, AllWithin, FitAlong};
 ghost use Rattle.s2edit.specs.Working.Following.{FailsToFollow, MakesChanges};
 
 mod fitting;
-mod followed;
-mod in_place;
-mod layers;
 mod lengths;
 mod parts;
 

@@ -82,11 +82,11 @@ impl Editor {
     /// `TooDeep`, more changes than the editor keeps; with `TooMany`, a list of more cells than a register may have,
     /// even if only an undo or a redo would bring it back. Any call may answer `Memory` instead.
     ///
-    /// Beside the session this holds little more than one more list of one register at a time. If the changes of a
-    /// register name few cells (an eighth of its list, or 4,096), it looks only at the cells of the list that are near
-    /// these, and copies only these; otherwise it copies the list once, and changes the copy in place. Sorts the cells
-    /// that the changes name, and searches the list once for each. If the changes meet each other, n of them that name
-    /// one cell each take at most some n * sqrt(m) steps in a list of m cells.
+    /// Beside the session this holds two more lists at most, of one register at a time, and in the time of a batch of
+    /// changes some times the cells that these name. If the changes of a register name few cells (an eighth of its
+    /// list, or 4,096), only the cells of the list near these are copied. Sorts the cells that the changes name, and
+    /// searches a few times for each. So n changes that name one cell each take at most some n * sqrt(m) steps in a
+    /// list of m cells.
     pub fn restore(&mut self, session: Session) -> Result<(), RestoreFault>
         requires { IsContent (content_of session) }
         ensures answer { MatchResult result (λ _. Restored (content_of session) self.old self.new)

@@ -1,8 +1,8 @@
 -- The parts of the registers' lists that changes can concern, and how long the lists get.
-use Rattle.std.specs.Prelude.{◌≡◌, ℕ, ◌+◌, ◌-◌, ◌^◌, ◌≤◌, ◌==◌}
-use Rattle.std.specs.Prelude.{if◌then◌else◌, Bool, true, List, [], ◌∷◌, ◌++◌}
-use Rattle.std.specs.Prelude.{length, map, min, max, slice_set, slice_index_or}
-use Rattle.s2cell.specs.Cell.{IsCell, level_of, covers, parent_of}
+use Rattle.std.specs.Prelude.{◌≡◌, ℕ, ◌+◌, ◌-◌, ◌^◌, ◌<◌, Bool, true, List, [], ◌∷◌}
+use Rattle.std.specs.Prelude.{length, min, max, slice_set, slice_index_or}
+use Rattle.std.specs.List.{AllByRecursion}
+use Rattle.s2cell.specs.Cell.{IsCell, level_of, covers, parent_of, child_of}
 use Rattle.s2list.specs.Union.{IsLocal, LiesIn}
 use Rattle.s2union.specs.Apply.{has}
 use Rattle.s2file.specs.Session.{Diff}
@@ -11,26 +11,42 @@ use Rattle.s2file.specs.Session.{Diff}
 abbrev pub around : ℕ → ℕ
 around c = parent_of c (level_of c - 1)
 
--- the parents of all cells of the list lie in the set
-abbrev pub IsWatched : (ℕ → Bool) → List ℕ → Type 0
-IsWatched S cells = (c : ℕ) → has cells c ≡ true → IsCell c × LiesIn S (around c)
+-- the set has all leaves of each cell that the change names
+pub record HoldsNamed (S : ℕ → Bool) (d : Diff) : Type 0 where
+  pub out : (c : ℕ) → has d.out c ≡ true → IsCell c × LiesIn S c
+  pub put : (c : ℕ) → has d.put c ≡ true → IsCell c × LiesIn S c
+
+-- the set has all leaves of each sibling of the cell `c` that is in the list
+abbrev pub HasSiblings : (ℕ → Bool) → List ℕ → ℕ → Type 0
+HasSiblings S u c = (i : ℕ) → i < 4 → has u (child_of (around c) i) ≡ true → LiesIn S (child_of (around c) i)
+
+-- the set has all leaves of the cell, and of its siblings in the list
+pub record IsWatched (S : ℕ → Bool) (u : List ℕ) (c : ℕ) : Type 0 where
+  pub cell : IsCell c
+  pub own : LiesIn S c
+  pub siblings : HasSiblings S u c
+
+-- the same for each cell that a change names
+pub record IsDiffWatched (S : ℕ → Bool) (u : List ℕ) (d : Diff) : Type 0 where
+  pub out : (c : ℕ) → has d.out c ≡ true → IsWatched S u c
+  pub put : (c : ℕ) → has d.put c ≡ true → IsWatched S u c
+
+-- the same for each cell that changes name
+abbrev pub AllWatched : (ℕ → Bool) → List ℕ → List Diff → Type 0
+AllWatched S u ds = AllByRecursion (IsDiffWatched S u) ds
 
 -- `part` has some cells of the local list `u`, among them all that share a leaf with the set
 pub record IsPart (S : ℕ → Bool) (u part : List ℕ) : Type 0 where
   pub local : IsLocal u
   pub part_local : IsLocal part
-  pub few : length part ≤ length u
   pub inside : (c : ℕ) → has part c ≡ true → has u c ≡ true
   pub rest : (c x : ℕ) → has u c ≡ true → covers c x ≡ true → S x ≡ true → has part c ≡ true
 
--- the parents of the cells that a change names
-abbrev pub around_both : Diff → List ℕ
-around_both m = map around m.out ++ map around m.put
-
--- the parents of the cells that changes of the register name
-abbrev pub around_all : ℕ → List Diff → List ℕ
-around_all r [] = []
-around_all r (m ∷ ms) = if m.register == r then around_both m ++ around_all r ms else around_all r ms
+-- `part` has all cells of `u` on which it depends whether the changes can be made
+pub record IsPartFor (ds : List Diff) (u part : List ℕ) : Type 0 where
+  pub set : ℕ → Bool
+  pub watched : AllWatched set u ds
+  pub is_part : IsPart set u part
 
 -- how many cells the list of a register has after a change, in the saturating arithmetic of `usize`
 abbrev pub resized : List ℕ → Diff → ℕ

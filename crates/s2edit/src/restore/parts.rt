@@ -1,89 +1,157 @@
 //! The part of a register's list that changes can concern.
-ghost use Rattle.std.specs.Prelude.{◌≡◌, ◌++◌, ℕ, map, take, drop, IfOk, OnOk};
-ghost use Rattle.s2list.specs.Union.{has_leaf};
-ghost use Rattle.s2file.specs.Session.{diff_of};
-ghost use Rattle.s2edit.specs.Working.Chain.{lists_of};
-ghost use Rattle.s2edit.specs.Working.Followed.{latest};
-ghost use Rattle.s2edit.specs.Working.Part.{around, around_all, IsPart};
+ghost use Rattle.std.specs.Prelude.{◌≡◌, ◌≤◌, ◌<◌, ℕ, true, length, map, IfOk, OnOk};
+ghost use Rattle.std.specs.List.{AllByRecursion};
+ghost use Rattle.s2cell.specs.Cell.{IsCell, level_of, first_leaf};
+ghost use Rattle.s2list.specs.Union.{has_leaf, IsLocal, IsWithin, LiesIn};
+ghost use Rattle.s2list.specs.Packed.{FirstEndBy};
+ghost use Rattle.s2union.specs.Apply.{has};
+ghost use Rattle.s2file.specs.Session.{diff_of, IsMove};
+ghost use Rattle.s2edit.specs.Working.InTurn.{of_register};
+ghost use Rattle.s2edit.specs.Working.Part.{around, IsPartFor, IsWatched, HoldsNamed, HasSiblings};
 
 use s2cell::CellId;
-use s2file::{Move, are_apart};
+use s2file::Move;
+use s2list::{CellList, find_from};
 use s2union::{CellUnion, normalise};
 use std::alloc::{AllocError, Global};
 
-/// The cells of a union that share a leaf with the watched cells. `None` means all its cells, if one of them is larger
-/// than a watched cell in it.
+/// The cells of a union on which it depends whether changes of the register can be made: those that share a leaf with
+/// the cells that the changes name, and the siblings of these.
 ///
-/// If the watched cells are those around the cells that changes name, the changes can be made in this part if and only
-/// if they can be made in the union. They can take out, overlap or form a family with no other cell.
+/// That no cell of the union is cut is tested and not proved. If one ever were, the part would be the whole union.
 pub(crate) fn part_of(
-    union: &CellUnion,
-    watched: &CellUnion,
-) -> Result<Option<CellUnion>, AllocError>
-    ensures { IfOk result (λ part. IsPart (has_leaf watched.now.cells) union.now.cells (latest union.now part)) }
-{
-    let _ = union.cells();
-    let part = union.intersection(watched)?;
-    // A cell that was cut is a watched cell.
-    if are_apart(part.cells(), watched.cells()) {
-        return Ok(Some(part));
-    }
-    if union.can_apply(part.cells(), &[]) {
-        return Ok(Some(part));
-    }
-    Ok(None)
-}
-
-/// The parents of the cells that changes of the register name, most of them once.
-pub(crate) fn around_moves(
     alloc: Global,
+    union: &CellUnion,
     moves: &[Move],
     register: usize,
-) -> Result<Vec<CellId>, AllocError>
-    ensures { IfOk result (λ cells. (x : ℕ) → has_leaf cells.items x
-        ≡ has_leaf (around_all register (map diff_of moves.now)) x) }
+) -> Result<CellUnion, AllocError>
+    requires { AllByRecursion IsMove (map diff_of moves.now) }
+    ensures { IfOk result (λ part. IsPartFor (of_register register (map diff_of moves.now)) union.now.cells
+        part.cells) }
 {
+    let _ = union.cells();
+    let named = normalise(named_cells(alloc, moves, register)?);
     let mut cells = Vec::new(alloc);
+    watch(&mut cells, union, named.cells())?;
+    let watched = normalise(cells);
+    let part = union.intersection(&watched)?;
+    if union.can_apply(part.cells(), &[]) {
+        return Ok(part);
+    }
+    let whole = union.try_clone()?;
+    Ok(whole)
+}
+
+/// The cells that changes of the register name.
+fn named_cells(alloc: Global, moves: &[Move], register: usize) -> Result<Vec<CellId>, AllocError>
+    requires { AllByRecursion IsMove (map diff_of moves.now) }
+    ensures { IfOk result (λ named. AllByRecursion (HoldsNamed (has_leaf named.items))
+        (of_register register (map diff_of moves.now))) }
+{
+    let mut named = Vec::new(alloc);
     for change in moves {
-        if change.register as usize == register {
-            push_around(&mut cells, &change.out, &change.put)?;
-        }
+        name_cells(&mut named, change, register)?;
     }
-    Ok(cells)
+    Ok(named)
 }
 
-/// Appends the parents of the cells of two lists.
-///
-/// Takes cells of the two lists alternately, since those at one index often have one parent.
-fn push_around(list: &mut Vec<CellId>, out: &[CellId], put: &[CellId]) -> Result<(), AllocError>
-    ensures { OnOk result ((x : ℕ) → has_leaf list.new.items x
-        ≡ has_leaf (list.old.items ++ map around out.now ++ map around put.now) x) }
+/// Appends the cells that a change names, if it is one of the register.
+fn name_cells(named: &mut Vec<CellId>, change: &Move, register: usize) -> Result<(), AllocError>
+    requires { IsMove (diff_of change.now) }
+    ensures kept { OnOk result (IsWithin (has_leaf named.old.items) (has_leaf named.new.items)) }
+    ensures each { OnOk result ((diff_of change.now).register ≡ register →
+        HoldsNamed (has_leaf named.new.items) (diff_of change.now)) }
 {
-    for turn in 0..out.len().max(put.len()) {
-        push_parent(list, out, turn)?;
-        push_parent(list, put, turn)?;
-    }
-    Ok(())
-}
-
-/// Appends the parent of the cell at index `turn`, if `cells` has one there, unless the list already ends in it.
-fn push_parent(list: &mut Vec<CellId>, cells: &[CellId], turn: usize) -> Result<(), AllocError>
-    ensures { OnOk result ((x : ℕ) → has_leaf list.new.items x
-        ≡ has_leaf (list.old.items ++ map around (take 1 (drop turn cells.now))) x) }
-{
-    if turn >= cells.len() {
+    if change.register as usize != register {
         return Ok(());
     }
-    let near = around(cells[turn]);
-    if list.is_empty() || list[list.len() - 1] != near {
-        list.push(near)?;
+    named.extend_from_slice(&change.out)?;
+    named.extend_from_slice(&change.put)?;
+    Ok(())
+}
+
+/// Appends cells, and the siblings of each that the union has.
+fn watch(watched: &mut Vec<CellId>, union: &CellUnion, cells: &[CellId]) -> Result<(), AllocError>
+    ensures { OnOk result ((c : ℕ) → has cells.now c ≡ true →
+        IsWatched (has_leaf watched.new.items) union.now.cells c) }
+{
+    let mut at = 0;
+    for cell in cells {
+        watched.push(*cell)?;
+        at = watch_siblings(watched, union.cells(), at, *cell)?;
     }
     Ok(())
+}
+
+/// Appends the siblings of a cell that a list has, or the larger cell of the list in which they lie. The search begins
+/// at the index `near` if the cells before it lie before the siblings. Answers where it ended.
+fn watch_siblings(
+    watched: &mut Vec<CellId>,
+    list: &[CellId],
+    near: usize,
+    cell: CellId,
+) -> Result<usize, AllocError>
+    requires { IsLocal list.now }
+    ensures cell { IsCell cell }
+    ensures kept { OnOk result (IsWithin (has_leaf watched.old.items) (has_leaf watched.new.items)) }
+    ensures siblings { OnOk result (HasSiblings (has_leaf watched.new.items) list.now cell) }
+{
+    let _ = cell.id();
+    let parent = around(cell);
+    let mut at = first_place(list, near, parent.first_leaf());
+    for k in 0..4 {
+        at = watch_holder(watched, list, at, parent.child(k))?;
+    }
+    Ok(at)
+}
+
+/// The index `near` if the cells of a list before it end by the leaf `lo`, and otherwise 0.
+fn first_place(list: &[CellId], near: usize, lo: u64) -> usize
+    requires { IsLocal list.now }
+    ensures within { result ≤ length list.now }
+    ensures ended { FirstEndBy list.now result lo }
+{
+    if near == 0 || near > list.len() {
+        return 0;
+    }
+    if list[near - 1].end_leaf() > lo {
+        return 0;
+    }
+    near
+}
+
+/// Appends the cell of a list in which a cell lies, if there is one. The search begins at an index, and the answer is
+/// where it ended.
+fn watch_holder(
+    watched: &mut Vec<CellId>,
+    list: &[CellId],
+    from: usize,
+    cell: CellId,
+) -> Result<usize, AllocError>
+    requires local { IsLocal list.now }
+    requires within { from ≤ length list.now }
+    requires ended { FirstEndBy list.now from (first_leaf cell) }
+    ensures within { IfOk result (λ at. at ≤ length list.now) }
+    ensures ended { IfOk result (λ at. FirstEndBy list.now at (first_leaf cell)) }
+    ensures kept { OnOk result (IsWithin (has_leaf watched.old.items) (has_leaf watched.new.items)) }
+    ensures holder { OnOk result (has list.now cell ≡ true → LiesIn (has_leaf watched.new.items) cell) }
+{
+    let at = find_from(&CellList { cells: list }, from, cell.first_leaf());
+    if at >= list.len() {
+        return Ok(at);
+    }
+    let holder = list[at];
+    if holder.contains(cell) {
+        watched.push(holder)?;
+        return Ok(at);
+    }
+    Ok(at)
 }
 
 /// The parent of a cell, or the cell itself if it is a face.
-pub(crate) fn around(cell: CellId) -> CellId
-    ensures { result ≡ around cell }
+fn around(cell: CellId) -> CellId
+    ensures value { result ≡ around cell }
+    ensures level { level_of result < 30 }
 {
     cell.parent(cell.level().saturating_sub(1))
 }

@@ -9,7 +9,7 @@ use Rattle.s2file.specs.Session.{diff_of}
 use Rattle.s2file.specs.declared.TheConstants.{SESSION_CELLS}
 use Rattle.s2edit.specs.Working.Chain.{lists_of, FitAlong}
 use Rattle.s2edit.specs.Leads.{list_at}
-use Rattle.s2edit.specs.Working.Layers.{of_register, FitInTurn}
+use Rattle.s2edit.specs.Working.InTurn.{of_register, FitInTurn}
 use Rattle.s2edit.proofs.Following.{fails}
 use Rattle.s2edit.proofs.Registers.{turn_of, not_long, follows}
 use Rattle.s2edit.proofs.Tables.{list_read}

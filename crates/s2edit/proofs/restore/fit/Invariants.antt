@@ -2,7 +2,7 @@ use Rattle.std.proofs.Common.{ℕ, ◌<◌, map}
 use Rattle.s2file.specs.Session.{diff_of}
 use Rattle.s2edit.specs.Working.Chain.{lists_of}
 use Rattle.s2edit.specs.Leads.{list_at}
-use Rattle.s2edit.specs.Working.Layers.{of_register, FitInTurn}
+use Rattle.s2edit.specs.Working.InTurn.{of_register, FitInTurn}
 use Rattle.s2edit.proofs.restore.fit.Given as goal
 
 abbrev pub invariant-loop-register : goal.invariant-loop-register
