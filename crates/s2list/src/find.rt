@@ -14,6 +14,9 @@ use crate::looks::{Count, Uncounted, look};
 /// all cells.
 pub const NEARBY: usize = 15;
 
+/// A search among all cells goes on without branches once this many places are left: 256 bytes.
+const FEW: usize = 32;
+
 /// How many cells end by the leaf `lo`; these come first. Logarithmic.
 pub(crate) fn find<C: Cells>(cells: &C, lo: u64) -> usize
     ensures within { result ≤ length (C.ids cells.now) }
@@ -42,7 +45,7 @@ pub fn find_counted<C: Cells, K: Count>(cells: &C, lo: u64, count: &mut K) -> us
     if !ends_by(look(cells, 0, count), lo) {
         return 0;
     }
-    narrow(cells, 0, len - 1, lo, count)
+    narrow_until(FEW, cells, 0, len - 1, lo, count)
 }
 
 /// How many cells end by the leaf `lo`, if the first `start` are known to. Logarithmic in how many more do.
@@ -166,10 +169,38 @@ fn leap_on<C: Cells, K: Count>(cells: &C, start: usize, lo: u64, count: &mut K) 
     narrow(cells, base, len, lo, count)
 }
 
-/// How many cells end by the leaf `lo`, if they are known to be from `start` to `end`. Each look halves what is left. A
-/// number is first compared with twice the leaf, which is soon known: a branch on it is mispredicted half the time, and
-/// one on where the cell ends hardly ever.
+/// How many cells end by the leaf `lo`, if they are known to be from `start` to `end`. Each look halves what is left.
 pub(crate) fn narrow<C: Cells, K: Count>(
+    cells: &C,
+    start: usize,
+    end: usize,
+    lo: u64,
+    count: &mut K,
+) -> usize
+    requires order { start ≤ end }
+    requires within { end ≤ length (C.ids cells.now) }
+    ensures from { start ≤ result }
+    ensures to { result ≤ end }
+    ensures ended { IsPacked (C.ids cells.now) → IsFrom (C.ids cells.now) lo start end
+        → FirstEndBy (C.ids cells.now) result lo }
+    ensures next { IsPacked (C.ids cells.now) → IsFrom (C.ids cells.now) lo start end
+        → EndsAfter (C.ids cells.now) result lo }
+    ensures looks { (k : ℕ) → end - start < 2 ^ k → K.looks count.new ≤ K.looks count.old + k }
+    ensures least { min (K.looks count.old) K.most ≤ K.looks count.new }
+    ensures some { start < end → min (K.looks count.old + 1) K.most ≤ K.looks count.new }
+{
+    narrow_until(0, cells, start, end, lo, count)
+}
+
+/// The same. While more than `few` are left, a branch tells which half goes on: it is guessed, so that the next number
+/// is on its way from memory before this one is known. Few come from memory together, and a wrong guess costs more than
+/// they do.
+///
+/// A number is first compared with twice the leaf, which is soon known: a branch on it is mispredicted half the time,
+/// and one on where the cell ends hardly ever.
+#[inline(always)]
+fn narrow_until<C: Cells, K: Count>(
+    few: usize,
     cells: &C,
     start: usize,
     end: usize,
@@ -191,7 +222,7 @@ pub(crate) fn narrow<C: Cells, K: Count>(
     let mark = lo.saturating_mul(2);
     let mut first = start;
     let mut last = end;
-    while first < last {
+    while last - first > few {
         let middle = first + (last - first) / 2;
         let id = look(cells, middle, count);
         if id >= mark {
@@ -202,7 +233,65 @@ pub(crate) fn narrow<C: Cells, K: Count>(
             return middle;
         }
     }
-    first
+    among_few(cells, first, last, lo, count)
+}
+
+/// The same, with no branch on what is found. It keeps the last number below twice the leaf: of the cells before the
+/// places that are left only that one may end after the leaf.
+#[inline(always)]
+fn among_few<C: Cells, K: Count>(
+    cells: &C,
+    start: usize,
+    end: usize,
+    lo: u64,
+    count: &mut K,
+) -> usize
+    requires order { start ≤ end }
+    requires within { end ≤ length (C.ids cells.now) }
+    ensures from { start ≤ result }
+    ensures to { result ≤ end }
+    ensures ended { IsPacked (C.ids cells.now) → IsFrom (C.ids cells.now) lo start end
+        → FirstEndBy (C.ids cells.now) result lo }
+    ensures next { IsPacked (C.ids cells.now) → IsFrom (C.ids cells.now) lo start end
+        → EndsAfter (C.ids cells.now) result lo }
+    ensures looks { (k : ℕ) → end - start < 2 ^ k → K.looks count.new ≤ K.looks count.old + k }
+    ensures least { min (K.looks count.old) K.most ≤ K.looks count.new }
+    ensures some { start < end → min (K.looks count.old + 1) K.most ≤ K.looks count.new }
+{
+    let mark = lo.saturating_mul(2);
+    let mut base = start;
+    let mut size = end - start;
+    // The number at index `base - 1`, once one was looked at. 0 is the identifier of no cell.
+    let mut below = 0;
+    while size > 0 {
+        let half = size - size / 2;
+        let id = look(cells, base + (half - 1), count);
+        let is_on = is_below(id, mark);
+        base += half * is_on;
+        below = chosen(is_on, id, below);
+        size /= 2;
+    }
+    base - ends_after(below, lo)
+}
+
+/// `id` if `is_on` isn't 0, else `below`.
+#[inline(always)]
+fn chosen(is_on: usize, id: u64, below: u64) -> u64
+    ensures on { 0 < is_on → result ≡ id }
+    ensures off { is_on ≡ 0 → result ≡ below }
+{
+    if is_on > 0 { id } else { below }
+}
+
+/// 1 if the cell ends after the leaf `lo`, else 0. 0 if the number is 0.
+#[inline(always)]
+fn ends_after(id: u64, lo: u64) -> usize
+    ensures after { IsCell id → ((result ≡ 1) × (lo < first_leaf id + size_of id))
+        ⊎ ((result ≡ 0) × (first_leaf id + size_of id ≤ lo)) }
+    ensures few { result ≤ 1 }
+    ensures none { id ≡ 0 → result ≡ 0 }
+{
+    ((id > 0) & !ends_by(id, lo)) as usize
 }
 
 /// Where the quarter begins that has the index of `mark`, which is one of the `size` indexes from `base` on, or their

@@ -19,7 +19,7 @@ returns-then-not-ends_by-clause-next g c p h =
     rw c.look-2.ensures.id at (later _ _ _ test c.if-not-ends_by.true)
 
 -- the last cell doesn't end by the leaf, so the first that doesn't is there or before
-before_last : (g : Over) (c : goal.After-narrow g) →
+before_last : (g : Over) (c : goal.After-narrow_until g) →
     IsPacked (g.C.Cells.ids c.args.cells.now) →
     IsFrom (g.C.Cells.ids c.args.cells.now) c.args.lo 0 (c.len-len.result - 1)
 before_last g c p = record {
@@ -30,15 +30,15 @@ before_last g c p = record {
 }
 
 pub returns-clause-ended : goal.returns-clause-ended
-returns-clause-ended g c p = c.narrow.ensures.ended p (before_last g c p)
+returns-clause-ended g c p = c.narrow_until.ensures.ended p (before_last g c p)
 
 pub returns-clause-next : goal.returns-clause-next
-returns-clause-next g c p = c.narrow.ensures.next p (before_last g c p)
+returns-clause-next g c p = c.narrow_until.ensures.next p (before_last g c p)
 
 pub returns-clause-looks : goal.returns-clause-looks
 returns-clause-looks g c k h =
     let n = c.len-len.ensures in
-    let l = c.narrow.ensures.looks k (omega arith) in
+    let l = c.narrow_until.ensures.looks k (omega arith) in
     let a = c.look.ensures.count in
     let b = c.look-2.ensures.count in
     omega arith

@@ -2,10 +2,10 @@ use Rattle.std.proofs.Common.{ℕ, ◌+◌, ◌-◌, ◌^◌, ◌<◌, ◌≤◌
 use Rattle.s2list.specs.Packed.{IsPacked}
 use Rattle.s2list.specs.Working.Search.{IsFrom}
 use Rattle.s2list.proofs.Looking.{Halved}
-use Rattle.s2list.proofs.find.narrow.Given as goal
+use Rattle.s2list.proofs.find.narrow_until.Given as goal
 
-abbrev pub invariant-loop-first : goal.invariant-loop-first
-invariant-loop-first g l = record {
+abbrev pub invariant-loop-last : goal.invariant-loop-last
+invariant-loop-last g l = record {
   from : l.start ≤ l.first;
   order : l.first ≤ l.last;
   to : l.last ≤ l.end;
@@ -18,5 +18,5 @@ invariant-loop-first g l = record {
       min (g.K.Count.looks l.initial.count + 1) g.K.Count.most ≤ g.K.Count.looks l.count;
 }
 
-abbrev pub decreases-loop-first : goal.decreases-loop-first
-decreases-loop-first g l = l.last - l.first
+abbrev pub decreases-loop-last : goal.decreases-loop-last
+decreases-loop-last g l = l.last - l.first
