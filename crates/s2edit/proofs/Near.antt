@@ -1,5 +1,5 @@
 -- The change of a part of a list, made in the whole list.
-use Rattle.std.proofs.Common.{◌≡◌, ℕ, Bool, true, false, not, ◌||◌, ◌&&◌, List, sym, ◌∙◌, subst, inl, inr}
+use Rattle.std.proofs.Common.{◌≡◌, ℕ, Bool, true, false, not, ◌||◌, ◌&&◌, List, [], sym, ◌∙◌, subst, inl, inr}
 use Rattle.std.proofs.Common.{◌⊎◌, ⊎_elim, refl, arith}
 use Rattle.std.proofs.lemmas.Grind.{common_steps}
 use Rattle.std.proofs.lemmas.Bool.{false≢true}
@@ -143,12 +143,28 @@ module _ (u p w : List ℕ) (local : IsLocal u) (inside : (c : ℕ) → has p c 
       }
       )
 
+-- a cell of the part is in the list, if those that stay are, and the change takes the others out
+pub all_inside : (u p w : List ℕ) (r : ℕ) (d : Diff) → ((c : ℕ) → has p c ≡ true → has w c ≡ true → has u c ≡ true)
+    → d ≡ change_between r p w → Fits d.out d.put u → (c : ℕ) → has p c ≡ true → has u c ≡ true
+all_inside u p w r d stays e f c h = by_bool (has w c) (λ t. stays c h t) (λ n.
+    let g : Fits (cells_without p w) (cells_without w p) u = subst (λ (k : Diff). Fits k.out k.put u) e f in
+    g.out_is_there c (grind (arith, common_steps, has-cells_without p w c, h, n)))
+
 -- what joining a part adds to the whole list
 pub adds : (u p w s : Bool) → w ≡ (p || s) → (p ≡ true → u ≡ true) → (w || (u && not p)) ≡ (u || s)
 adds true true w s e f = grind (arith, common_steps, e)
 adds true false w s e f = grind (arith, common_steps, e)
 adds false true w s e f = absurd (false≢true (f refl))
 adds false false w s e f = grind (arith, common_steps, e)
+
+-- what putting cells in as they are adds, and what taking them out as they are takes away
+pub put_alone : (u n w : List ℕ) (x : ℕ) → n ≡ [] →
+    (has_leaf w x || (has_leaf u x && not (has_leaf n x))) ≡ (has_leaf u x || has_leaf w x)
+put_alone u n w x e = rw e (adds (has_leaf u x) false (has_leaf w x) (has_leaf w x) refl (λ f. absurd (false≢true f)))
+
+pub taken_alone : (u n w : List ℕ) (x : ℕ) → n ≡ [] →
+    (has_leaf n x || (has_leaf u x && not (has_leaf w x))) ≡ (has_leaf u x && not (has_leaf w x))
+taken_alone u n w x e = rw e refl
 
 -- what cutting a part takes out of the whole list, if what is taken out of the list lies in the part
 pub takes : (u p w s i : Bool) → w ≡ (p && not s) → (p ≡ true → u ≡ true) → i ≡ (u && s) → (i ≡ true → p ≡ true) →

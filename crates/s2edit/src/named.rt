@@ -138,6 +138,10 @@ fn adding(
     if union.len() / REGISTER_TO_NAMED < named.len() {
         return Ok(None);
     }
+    let nothing = CellUnion::empty(alloc);
+    if let Some(change) = change_of_part(alloc, register, union, &nothing, named)? {
+        return Ok(Some(change));
+    }
     if let Some(change) = adding_near(alloc, register, union, named, SIBLINGS)? {
         return Ok(Some(change));
     }
@@ -176,6 +180,10 @@ fn removing(
 {
     if union.len() / REGISTER_TO_NAMED < named.len() {
         return Ok(None);
+    }
+    let nothing = CellUnion::empty(alloc);
+    if let Some(change) = change_of_part(alloc, register, union, named, &nothing)? {
+        return Ok(Some(change));
     }
     let found = part_near(alloc, union, named, 1)?;
     let Some(part) = found else {
@@ -230,7 +238,8 @@ fn cells_near(
 }
 
 /// The change that puts new cells in the place of a part of the union's list, if it can be made. `S` is the set of
-/// leaves that the list then has.
+/// leaves that the list then has. The cells of the part that go are looked for in the list; those that stay must be in
+/// it.
 fn change_of_part(
     alloc: Global,
     register: Register,
@@ -238,7 +247,8 @@ fn change_of_part(
     part: &CellUnion,
     new: &CellUnion,
 ) -> Result<Option<Change>, AllocError>
-    requires { (c : ℕ) → has part.now.cells c ≡ true → has union.now.cells c ≡ true }
+    requires { (c : ℕ) → has part.now.cells c ≡ true → has new.now.cells c ≡ true
+        → has union.now.cells c ≡ true }
     ensures { (S : ℕ → Bool) → ((x : ℕ) → (has_leaf new.now.cells x
         || (has_leaf union.now.cells x && not (has_leaf part.now.cells x))) ≡ S x) →
         IfOk result (λ found. IfSome found (Gives S register union.now.cells)) }

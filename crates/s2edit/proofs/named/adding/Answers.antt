@@ -1,0 +1,11 @@
+use Rattle.s2list.specs.Union.{has_leaf}
+use Rattle.s2list.specs.Sets.{either}
+use Rattle.s2edit.proofs.Near.{put_alone}
+use Rattle.s2edit.proofs.named.adding.Goals as goal
+
+pub returns-in-Some : goal.returns-in-Some
+returns-in-Some c =
+    let u = c.args.union.now.cells in
+    let w = c.args.named.now.cells in
+    rw c.in-Some.is at c.in_ok-change.ensures (either (has_leaf u) (has_leaf w))
+    (λ x. put_alone u c.empty-nothing.result.cells w x c.empty-nothing.ensures.cells)
