@@ -1,6 +1,6 @@
 //! Answers: what they are, their texts, and how they are written.
 ghost use Rattle.std.specs.Prelude.{◌≡◌, ◌≤◌, ◌+◌, ◌-◌, ◌++◌, ◌∷◌, [], length, codes, decimal, OnOk, OnErr};
-ghost use Rattle.std.specs.Prelude.{IfErr};
+ghost use Rattle.std.specs.Prelude.{IfErr, ℕ, List, true};
 ghost use Rattle.std.specs.Io.KnownBytes.{Appends};
 ghost use Rattle.s2cell.specs.Token.{token_of};
 ghost use Rattle.s2cell.specs.Debug.{debug_of};
@@ -8,7 +8,8 @@ ghost use Rattle.s2calc.specs.Output.{AppendsPart};
 ghost use Rattle.s2calc.specs.Calls.{NoneFailed, LastFailed};
 ghost use Rattle.s2calc.specs.Refusals.{name_of};
 ghost use Rattle.s2calc.specs.Replies.{text_of};
-ghost use Rattle.s2calc.specs.Working.Answer.{reply_of, told};
+ghost use Rattle.s2edit.specs.History.{History};
+ghost use Rattle.s2calc.specs.Working.Answer.{reply_of, told, is_line};
 ghost use Rattle.s2calc.specs.Texts.{cell_line, square_line, ok_line, count_line, history_line, done_line};
 
 use crate::fault::RunFault;
@@ -78,27 +79,59 @@ pub(crate) fn write_answer<W: Sink>(
 {
     match answer {
         Answer::Nothing => Ok(()),
-        Answer::Cell(cell) => emit(writer, cell_line(*cell).as_slice()),
-        Answer::Square(square) => emit(writer, square_line(*square).as_slice()),
-        Answer::Moved { out, put } => emit(writer, ok_line(*out as u64, *put as u64).as_slice()),
-        Answer::Count { cells, leaves } => {
-            emit(writer, count_line(*cells as u64, *leaves).as_slice())
-        }
         Answer::YesOrNo(yes) => emit(writer, yes_or_no_line(*yes)),
+        Answer::Done => emit(writer, done_line()),
         Answer::Listing(register) => write_cells(writer, editor.register(*register).cells()),
         Answer::Cut {
             register,
             least,
             modulus,
         } => write_cut(writer, editor.register(*register), *least, *modulus),
-        Answer::Sides { undos, redos } => {
-            emit(
-                writer,
-                history_line(*undos as u64, *redos as u64).as_slice(),
-            )
-        }
-        Answer::Done => emit(writer, done_line()),
-        Answer::Refused(refusal) => emit(writer, error_line(*refusal).as_slice()),
+        Answer::Cell(_)
+        | Answer::Square(_)
+        | Answer::Moved { .. }
+        | Answer::Count { .. }
+        | Answer::Sides { .. }
+        | Answer::Refused(_) => write_line(writer, answer, editor),
+    }
+}
+
+/// Writes an answer that is one line of numbers or names. It stands apart, so that an answer of another kind doesn't
+/// pay for the room of a line.
+#[inline(never)]
+fn write_line<W: Sink>(writer: &mut W, answer: &Answer, editor: &Editor) -> Result<(), RunFault>
+    requires { is_line answer.now ≡ true }
+    ensures ok { OnOk result (Appends (W.contents writer.old) (W.contents writer.new)
+        (text_of (reply_of answer.now editor.now))) }
+    ensures err { OnErr result (AppendsPart (W.contents writer.old) (W.contents writer.new)
+        (text_of (reply_of answer.now editor.now))) }
+    ensures fault { IfErr result (λ fault. fault ≡ RunFault.Output) }
+    ensures none_failed { OnOk result (NoneFailed ⊥ (W.calls writer.old) (W.calls writer.new)) }
+    ensures failed { OnErr result (LastFailed ⊥ (W.calls writer.old) (W.calls writer.new)) }
+{
+    let _ = editor;
+    let line = line_of(answer);
+    emit(writer, line.as_slice())
+}
+
+/// The line of an answer that is one line of numbers or names.
+#[inline(never)]
+fn line_of(answer: &Answer) -> Line
+    requires { is_line answer.now ≡ true }
+    ensures { (state : History (List ℕ)) → result.items ≡ text_of (reply_of answer.now state) }
+{
+    match answer {
+        Answer::Cell(cell) => cell_line(*cell),
+        Answer::Square(square) => square_line(*square),
+        Answer::Moved { out, put } => ok_line(*out as u64, *put as u64),
+        Answer::Count { cells, leaves } => count_line(*cells as u64, *leaves),
+        Answer::Sides { undos, redos } => history_line(*undos as u64, *redos as u64),
+        Answer::Refused(refusal) => error_line(*refusal),
+        Answer::Nothing
+        | Answer::YesOrNo(_)
+        | Answer::Done
+        | Answer::Listing(_)
+        | Answer::Cut { .. } => unreachable!(),
     }
 }
 

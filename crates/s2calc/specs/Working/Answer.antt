@@ -28,3 +28,17 @@ reply_of (Cut r least modulus) state = Says (listing (denormalised least modulus
 reply_of (Sides undos redos) state = Says (history_line undos redos)
 reply_of Done state = Says done_line
 reply_of (Refused refusal) state = Refuses refusal
+
+-- whether the answer is one line of numbers or names
+abbrev pub is_line : Answer → Bool
+is_line Nothing = false
+is_line (Cell n) = true
+is_line (Square square) = true
+is_line (Moved out put) = true
+is_line (Count cells leaves) = true
+is_line (YesOrNo holds) = false
+is_line (Listing r) = false
+is_line (Cut r least modulus) = false
+is_line (Sides undos redos) = true
+is_line Done = false
+is_line (Refused refusal) = true
