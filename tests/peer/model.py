@@ -4,6 +4,7 @@ It is written only from docs/SCRIPT.md, docs/FORMATS.md and docs/STATEMENT.md an
 proved code: a set is a list of runs [first, end) of leaf numbers, ascending and apart; a normal form is computed from
 the set each time it is needed; the history keeps whole tables.
 """
+import functools
 import re
 import string
 
@@ -17,6 +18,10 @@ LONGEST_LINE = 4096
 MOST_IN_A_FILE = 1_000_000
 MOST_CHANGES = 10_000
 MOST_LISTED = 1_000_000
+COMMANDS = (
+    "add remove keep union subtract intersect copy clear range outer inner outerof innerof show count denorm has "
+    "touches covers meets cell at square load save undo redo history dump restore"
+).split()
 
 
 REASONS = {
@@ -459,6 +464,24 @@ EDITS_BY_REGISTER = {
 COMPARISONS = {"covers": lambda a, b: not without(b, a), "meets": shared}
 
 
+@functools.cache
+def edited(word):
+    """What one edit makes of a word of letters: each letter left out, exchanged with the next, or replaced by a byte;
+    and a byte put in at each place."""
+    halves = [(word[:at], word[at:]) for at in range(len(word) + 1)]
+    less = {left + right[1:] for left, right in halves if right}
+    exchanged = {left + right[1] + right[0] + right[2:] for left, right in halves if len(right) > 1}
+    more = {left + chr(byte) + rest for left, right in halves for rest in (right, right[1:]) for byte in range(256)}
+    return less | exchanged | more
+
+
+def question(word):
+    """The question whether another command is meant: one that begins with the word or with which the word begins, or
+    one edit away."""
+    near = [n for n in COMMANDS if n.startswith(word) or word.startswith(n) or word in edited(n)]
+    return "; did you mean " + ", ".join(f"'{name}'" for name in near) + "?" if near else ""
+
+
 class Calculator:
     """Registers, their history, and files by name; None in place of the bytes stands for a folder."""
 
@@ -496,7 +519,7 @@ class Calculator:
             return self.compare(Words(words[1:]), COMPARISONS[command])
         method = getattr(self, "do_" + command, None) if re.fullmatch("[a-z]+", command) else None
         if method is None:
-            raise Refused("syntax", f"{shown(words[0])} is not a command")
+            raise Refused("syntax", f"{shown(words[0])} is not a command{question(command)}")
         return method(Words(words[1:]))
 
     # Moves of the history.

@@ -9,7 +9,7 @@ import subprocess
 import sys
 import tempfile
 
-from model import COMPARISONS, EDITS_BY_REGISTER, LONGEST_LINE, REGISTERS, SIDE
+from model import COMMANDS, COMPARISONS, EDITS_BY_REGISTER, LONGEST_LINE, REGISTERS, SIDE
 from model import Calculator, debug, identifier, joined, file_text, run_of, square, token
 
 TOP = os.path.dirname(os.path.dirname(os.path.dirname(os.path.abspath(__file__))))
@@ -131,7 +131,9 @@ class Writer:
             return f"at {self.number(5)} {self.number(SIDE - 1)} {self.number(SIDE - 1)}"
         if kind == 27:
             too_long = "x" * (LONGEST_LINE + 1)
-            odd = ["# a comment", " # no comment", "", " \t ", "Add a 1", "cells", "add", "add a", too_long]
+            name = chance.choice(COMMANDS)
+            near = name[: chance.randrange(1, len(name) + 1)] + chance.choice(["", "", "a", "s", "é"])
+            odd = ["# a comment", " # no comment", "", " \t ", "Add a 1", "cells", "add", "add a", too_long, near]
             return chance.choice(odd)
         return f"show {register()}"
 

@@ -1,8 +1,9 @@
 """Lines that the grammar refuses: the name of the refusal, the word that does not fit, and what is wanted there."""
+import re
 import tempfile
 import unittest
 
-from model import LONGEST_LINE, REGISTERS
+from model import COMMANDS, LONGEST_LINE, REGISTERS, edited, question
 from process import ran
 
 NAME = b"a file name (1 to 64 letters, digits, '.', '_' or '-', the first no '.' and no '-'; --dir names the folder)"
@@ -10,9 +11,24 @@ LONG = b"line: more than 4096 bytes"
 
 # Refused lines, and what is said about them.
 REFUSED = [
-    (b"ad a 1", b"syntax: 'ad' is not a command"),
+    (b"ad a 1", b"syntax: 'ad' is not a command; did you mean 'add', 'at'?"),
     (b" # x", b"syntax: '#' is not a command"),
-    (b"Add a 1", b"syntax: 'Add' is not a command"),
+    (b"Add a 1", b"syntax: 'Add' is not a command; did you mean 'add'?"),
+    (b"ADD a 1", b"syntax: 'ADD' is not a command"),
+    # The commands that a word begins, or that begin a word; or from which one edit leads to it.
+    (b"c", b"syntax: 'c' is not a command; did you mean 'copy', 'clear', 'count', 'covers', 'cell'?"),
+    (b"un a b", b"syntax: 'un' is not a command; did you mean 'union', 'undo'?"),
+    (b"outerofs a b 3", b"syntax: 'outerofs' is not a command; did you mean 'outer', 'outerof'?"),
+    (b"shows\xff a", rb"syntax: 'shows\xff' is not a command; did you mean 'show'?"),
+    (b"cuont a", b"syntax: 'cuont' is not a command; did you mean 'count'?"),
+    (b"ocunt a", b"syntax: 'ocunt' is not a command; did you mean 'count'?"),
+    (b"cuotn a", b"syntax: 'cuotn' is not a command"),
+    (b"subtrat a b", b"syntax: 'subtrat' is not a command; did you mean 'subtract'?"),
+    (b"substract a b", b"syntax: 'substract' is not a command; did you mean 'subtract'?"),
+    (b"resrore f", b"syntax: 'resrore' is not a command; did you mean 'restore'?"),
+    (b"ta 0 0 0", b"syntax: 'ta' is not a command; did you mean 'at'?"),
+    (b"saev a f", b"syntax: 'saev' is not a command; did you mean 'save'?"),
+    (b"list a", b"syntax: 'list' is not a command"),
     # A word is missing at the end of the line, whatever is wanted there.
     (b"add", b"syntax: a register (a to z) is missing"),
     (b"add a", b"syntax: a cell (a token or a debug text) is missing"),
@@ -87,6 +103,17 @@ class Misfits(unittest.TestCase):
         notes = [b"line %d: error %b" % (number, said) for number, (_, said) in enumerate(REFUSED, 1)]
         status, out, error = ran("run", "--explain", script=script)
         self.assertEqual((status, out.splitlines(), error.split(b"\n")), (1, answers, notes + [b""]))
+
+    def test_every_command_is_asked_for(self):
+        """Each name that the help has, with one edit of each kind, as the plain model says it."""
+        names = re.findall(r"^  ([a-z]+)(?= )", ran("run", "--help")[1].decode().split("debug\ntext", 1)[1], re.M)
+        self.assertEqual(names, COMMANDS)
+        words = [word for name in names for word in sorted(edited(name)) if re.fullmatch("[a-z~]+", word)]
+        words = [word for word in words if word not in names]
+        said = ran("run", "--explain", script="".join(word + "\n" for word in words).encode())[2].splitlines()
+        for number, (word, note) in enumerate(zip(words, said, strict=True), 1):
+            self.assertTrue(any(f"'{name}'" in note.decode() for name in names), word)
+            self.assertEqual(note.decode().split(" is not ")[1], "a command" + question(word), (number, word))
 
     def test_of_a_line_that_is_not_refused_nothing_is_told(self):
         script = b"".join(line + b"\n" for line, _ in TAKEN)

@@ -1,3 +1,4 @@
 pub mod KnownWords
 pub mod NameLemmas
 pub mod NamedLemmas
+pub mod SimilarLemmas

@@ -4,6 +4,7 @@ pub mod Values
 pub mod Number
 pub mod FileName
 pub mod Named
+pub mod Similar
 pub mod Misfits
 pub mod MisfitTexts
 pub mod Paths

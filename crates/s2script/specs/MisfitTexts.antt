@@ -1,11 +1,12 @@
 -- What is printed for a line that does not fit.
-use Rattle.std.specs.Prelude.{ℕ, ◌+◌, List, [], ◌++◌, slice_index, codes, decimal, flat_map, encode_utf8_all}
+use Rattle.std.specs.Prelude.{ℕ, ◌+◌, List, [], ◌∷◌, ◌++◌, slice_index, codes, decimal, flat_map, encode_utf8_all}
 use Rattle.std.specs.Prelude.{Option, Some, None}
 use Rattle.std.specs.Char.Escape.{escape_ascii}
 use Rattle.s2script.specs.declared.misfit.Wanted.{Wanted}
 use Rattle.s2script.specs.declared.misfit.Wanted.TheVariants.{CommandName, EndOfLine, Register, Cell, RangeEnd, Level}
 use Rattle.s2script.specs.declared.misfit.Wanted.TheVariants.{Modulus, Face, Coordinate, FileName}
 use Rattle.s2script.specs.FileName.{unfit_index}
+use Rattle.s2script.specs.Similar.{commands_like}
 use Rattle.s2script.specs.declared.misfit.Misfit.{Misfit}
 use Rattle.s2script.specs.declared.misfit.Misfit.TheVariants.{LongLine, Missing, Unfit}
 use Rattle.s2script.specs.declared.limits.TheConstants.{GREATEST_FACE, GREATEST_LEVEL, GREATEST_MODULUS}
@@ -43,8 +44,21 @@ byte_text word None = []
 byte_text word (Some at) = codes ": byte " ++ decimal (at + 1) ++ codes " is '" ++ shown_byte (slice_index word at)
     ++ codes "'"
 
--- what is said about a word that is not what is wanted; of a word that is no file name, its first byte that doesn't fit
+-- another command that may be meant
+abbrev pub other_text : List ℕ → List ℕ
+other_text name = codes ", " ++ word_text name
+
+-- the question whether one of these commands is meant, if there is one
+abbrev pub question_text : List (List ℕ) → List ℕ
+question_text [] = []
+question_text (name ∷ names) =
+    codes "; did you mean " ++ word_text name ++ flat_map other_text names ++ codes "?"
+
+-- What is said about a word that is not what is wanted: of one that is no command, also the commands whose names it is
+-- like; of one that is no file name, its first byte that doesn't fit.
 abbrev pub unfit_text : List ℕ → Wanted → List ℕ
+unfit_text word CommandName =
+    word_text word ++ codes " is not " ++ wanted_text CommandName ++ question_text (commands_like word)
 unfit_text word EndOfLine = word_text word ++ codes " is a word too many"
 unfit_text word FileName =
     word_text word ++ codes " is not " ++ wanted_text FileName ++ byte_text word (unfit_index word)

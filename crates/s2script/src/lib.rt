@@ -8,8 +8,8 @@
 //!
 //! Modules: `words` has the words of a line; `number`, `named`, `name`, `path`, `cells`, `level`, `place` and `span`
 //! what words may mean; `forms` the words that a command may have; `table` the commands by their names, and the help on
-//! them. `command`, `misfit` and `refusal` are what a line may ask for, where it may not fit, and why it is then
-//! refused; `grammar` is what a line says. `limits` are the limits.
+//! them; `similar` the names that a word is like. `command`, `misfit` and `refusal` are what a line may ask for, where
+//! it may not fit, and why it is then refused; `grammar` is what a line says. `limits` are the limits.
 #![tactic(auto)]
 
 mod cells;
@@ -26,6 +26,7 @@ mod number;
 mod path;
 mod place;
 mod refusal;
+mod similar;
 mod span;
 mod table;
 mod words;

@@ -1,8 +1,9 @@
 //! What is printed for a line that does not fit. Each `Display` writes the text that the definitions give.
-ghost use Rattle.std.specs.Prelude.{flat_map};
+ghost use Rattle.std.specs.Prelude.{flat_map, filter};
 ghost use Rattle.std.specs.Fmt.{WritesOnOk};
 ghost use Rattle.s2script.specs.FileName.{unfit_index};
-ghost use Rattle.s2script.specs.MisfitTexts.{shown_byte, ranged, byte_text};
+ghost use Rattle.s2script.specs.MisfitTexts.{shown_byte, word_text, ranged, byte_text, other_text, question_text};
+ghost use Rattle.s2script.specs.Similar.{is_like, commands_like};
 
 use crate::limits::{
     GREATEST_COORDINATE, GREATEST_FACE, GREATEST_LEVEL, GREATEST_MODULUS, LONGEST_LINE,
@@ -10,7 +11,8 @@ use crate::limits::{
 };
 use crate::misfit::{Misfit, Wanted};
 use crate::name::unfit_index;
-use crate::words::Word;
+use crate::similar::{names, next_like};
+use crate::words::{Word, Words};
 use std::fmt;
 
 /// Writes a byte as `escape_ascii` does.
@@ -34,6 +36,15 @@ pub(crate) fn write_bytes<W: fmt::Write>(bytes: &[u8], f: &mut fmt::Formatter<W>
     Ok(())
 }
 
+/// Writes a word between quotes.
+fn write_word<W: fmt::Write>(word: &[u8], f: &mut fmt::Formatter<W>) -> fmt::Result
+    ensures { WritesOnOk W.write_str_gives f.old result (word_text word.now) f.new }
+{
+    f.write_str("'")?;
+    write_bytes(word, f)?;
+    f.write_str("'")
+}
+
 /// Writes which byte of a word is the first that may not stand there in a file's name, if there is one.
 fn write_unfit_byte<W: fmt::Write>(word: &[u8], f: &mut fmt::Formatter<W>) -> fmt::Result
     ensures { WritesOnOk W.write_str_gives f.old result (byte_text word.now (unfit_index word.now)) f.new }
@@ -46,6 +57,36 @@ fn write_unfit_byte<W: fmt::Write>(word: &[u8], f: &mut fmt::Formatter<W>) -> fm
             f.write_str("'")
         }
     }
+}
+
+/// Writes each of these names that a word is like, after a comma.
+fn write_others<W: fmt::Write>(
+    word: &[u8],
+    mut names: Words<'_>,
+    f: &mut fmt::Formatter<W>,
+) -> fmt::Result
+    ensures { WritesOnOk W.write_str_gives f.old result
+        (flat_map other_text (filter (is_like word.now) names.entry)) f.new }
+{
+    while let Some(name) = next_like(word, &mut names) {
+        f.write_str(", ")?;
+        write_word(name, f)?;
+    }
+    Ok(())
+}
+
+/// Writes the question whether a command is meant whose name a word is like, if there is one.
+fn write_question<W: fmt::Write>(word: &[u8], f: &mut fmt::Formatter<W>) -> fmt::Result
+    ensures { WritesOnOk W.write_str_gives f.old result (question_text (commands_like word.now)) f.new }
+{
+    let mut names = names();
+    let Some(name) = next_like(word, &mut names) else {
+        return Ok(());
+    };
+    f.write_str("; did you mean ")?;
+    write_word(name, f)?;
+    write_others(word, names, f)?;
+    f.write_str("?")
 }
 
 /// Writes what a number stands for, and its least and greatest value.
@@ -67,9 +108,7 @@ impl<'a> fmt::Display for Word<'a> {
     ghost output = { λ word. Some (word_text word) };
 
     fn fmt<W: fmt::Write>(&self, f: &mut fmt::Formatter<W>) -> fmt::Result {
-        f.write_str("'")?;
-        write_bytes(self.as_bytes(), f)?;
-        f.write_str("'")
+        write_word(self.as_bytes(), f)
     }
 }
 
@@ -113,6 +152,13 @@ impl<'a> fmt::Display for Misfit<'a> {
         match self {
             Misfit::LongLine => write!(f, "more than {LONGEST_LINE} bytes"),
             Misfit::Missing { wanted } => write!(f, "{wanted} is missing"),
+            Misfit::Unfit {
+                word,
+                wanted: Wanted::CommandName,
+            } => {
+                write!(f, "{word} is not {}", Wanted::CommandName)?;
+                write_question(word.as_bytes(), f)
+            }
             Misfit::Unfit {
                 word,
                 wanted: Wanted::EndOfLine,
